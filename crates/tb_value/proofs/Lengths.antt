@@ -1,0 +1,29 @@
+use Rattle.tb_value.specs.Same.{same, same_items}
+use Rattle.std.proofs.lemmas.List.{length-map}
+use Rattle.std.proofs.Common.{Bool, true, false, ◌&&◌, ◌≡◌, ◌∙◌, List, [], ◌∷◌, length, map, refl, ap, suc}
+use Rattle.tb_value.specs.Datum.{Datum, items_of}
+use Rattle.tb_value.specs.Kind.{Kind, Part, parts_of}
+use Rattle.tb_value.specs.SeeKind.{parts, part, kind_step, part_step, parts_step}
+use Rattle.tb_value.specs.declared.dtype.Fields.{Fields, out-Fields, fold_out-Fields}
+use Rattle.tb_value.specs.Typed.{AreEachOf}
+
+-- a struct has as many values as fields
+pub AreEachOf-length : (ps : List Part) (vs : List Datum) → AreEachOf (parts_of ps) (items_of vs) → length ps ≡ length vs
+AreEachOf-length [] [] h = refl
+AreEachOf-length [] (v ∷ vs) h = absurd h
+AreEachOf-length (p ∷ ps) [] h = absurd h
+AreEachOf-length (p ∷ ps) (v ∷ vs) h = ap (λ n. suc n) (AreEachOf-length ps vs h.1)
+
+pub length-parts : (f : Fields) → length (parts f) ≡ length (out-Fields f).items.items
+length-parts f = ap length (fold_out-Fields Kind Part (List Part) kind_step part_step parts_step f) ∙ length-map _ _
+
+false_and : (b c : Bool) → false ≡ c → false ≡ (b && c)
+false_and true c e = e
+false_and false c e = refl
+
+-- lists of different lengths are not the same
+pub lengths_differ : (xs ys : List Datum) → (length xs ≡ length ys → ⊥) → false ≡ same_items (items_of xs) (items_of ys)
+lengths_differ [] [] h = absurd (h refl)
+lengths_differ [] (y ∷ ys) h = refl
+lengths_differ (x ∷ xs) [] h = refl
+lengths_differ (x ∷ xs) (y ∷ ys) h = false_and (same x y) (same_items (items_of xs) (items_of ys)) (lengths_differ xs ys (λ e. h (ap (λ n. suc n) e)))

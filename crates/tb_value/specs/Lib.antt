@@ -1,0 +1,11 @@
+pub mod Datum
+pub mod DatumCode
+pub mod See
+pub mod Falls
+pub mod Kind
+pub mod KindCode
+pub mod SeeKind
+pub mod Typed
+pub mod Same
+pub mod Names
+pub mod Index

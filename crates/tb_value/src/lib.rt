@@ -1,0 +1,22 @@
+//! Values, types, row numbers and errors: what every other crate of Muigratu speaks of.
+#![tactic(auto)]
+
+mod any_value;
+mod bytes;
+mod dtype;
+mod error;
+mod index;
+mod limits;
+mod pl_str;
+mod same;
+mod sorted;
+mod typed;
+
+pub use any_value::{AnyValue, ValueRef, Values};
+pub use bytes::Bytes;
+pub use dtype::{DataType, Field, Fields, TimeUnit};
+pub use error::{ComputeCause, InvalidCause, OutOfMemory, PolarsError, PolarsResult, Side};
+pub use index::{IdxSize, JoinPair, NullableIdxSize};
+pub use limits::MAX_ROWS;
+pub use pl_str::PlSmallStr;
+pub use sorted::IsSorted;

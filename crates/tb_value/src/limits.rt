@@ -1,0 +1,5 @@
+//! The limits that several calls share.
+
+/// The most rows that a column or a table has, and the most pairs that a join lists: one number
+/// less than the greatest row number, since the greatest number of 32 bits stands for no row.
+pub const MAX_ROWS: usize = 4_294_967_294;

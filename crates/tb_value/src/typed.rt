@@ -1,0 +1,163 @@
+//! Which values are of a type.
+ghost use Rattle.std.specs.Prelude.{◌≡◌, ◌↔◌, ◌<◌, ◌≤ℤ◌, ◌^◌, IsTrue, IsSomeAnd, length};
+ghost use Rattle.tb_value.specs.Datum.{items_of};
+ghost use Rattle.tb_value.specs.Kind.{parts_of, boolean, string, binary};
+ghost use Rattle.tb_value.specs.See.{datum};
+ghost use Rattle.tb_value.specs.SeeKind.{kind_of, parts};
+ghost use Rattle.tb_value.specs.Typed.{HasType, AreOf, AreEachOf, ends};
+
+use crate::dtype::{DataType, Fields};
+use crate::any_value::{AnyValue, Values};
+
+impl DataType {
+    /// Whether the value is of this type.
+    pub fn is_of(&self, value: &AnyValue) -> bool
+        ensures { IsTrue result ↔ HasType (kind_of self.now) (datum value.now) }
+    {
+        is_of(self, value)
+    }
+}
+
+// The least and the greatest number of the type.
+fn ends_of(dtype: &DataType) -> Option<(i128, i128)>
+    ensures { result ≡ ends (kind_of dtype.now) }
+{
+    match dtype {
+        DataType::Int8 => Some((-128, 127)),
+        DataType::Int16 => Some((-32_768, 32_767)),
+        DataType::Int32 | DataType::Date => Some((-2_147_483_648, 2_147_483_647)),
+        DataType::Int64 | DataType::Datetime(_, _) | DataType::Duration(_) | DataType::Time => {
+            Some((-9_223_372_036_854_775_808, 9_223_372_036_854_775_807))
+        }
+        DataType::Int128 => Some((i128::MIN, i128::MAX)),
+        DataType::UInt8 => Some((0, 255)),
+        DataType::UInt16 => Some((0, 65_535)),
+        DataType::UInt32 => Some((0, 4_294_967_295)),
+        DataType::UInt64 => Some((0, 18_446_744_073_709_551_615)),
+        DataType::Null
+        | DataType::Boolean
+        | DataType::String
+        | DataType::Binary
+        | DataType::List(_)
+        | DataType::Struct(_) => None,
+    }
+}
+
+fn is_int_of(dtype: &DataType, i: i128) -> bool
+    ensures { IsTrue result ↔ IsSomeAnd (ends (kind_of dtype.now)) (λ e. (e.0 ≤ℤ i) × (i ≤ℤ e.1)) }
+{
+    match ends_of(dtype) {
+        Some((low, high)) => low <= i && i <= high,
+        None => false,
+    }
+}
+
+fn is_boolean(dtype: &DataType) -> bool
+    ensures { IsTrue result ↔ (kind_of dtype.now ≡ boolean) }
+{
+    match dtype {
+        DataType::Boolean => true,
+        _ => false,
+    }
+}
+
+fn is_string(dtype: &DataType) -> bool
+    ensures { IsTrue result ↔ (kind_of dtype.now ≡ string) }
+{
+    match dtype {
+        DataType::String => true,
+        _ => false,
+    }
+}
+
+fn is_binary(dtype: &DataType) -> bool
+    ensures { IsTrue result ↔ (kind_of dtype.now ≡ binary) }
+{
+    match dtype {
+        DataType::Binary => true,
+        _ => false,
+    }
+}
+
+#[cycle(is_of)]
+fn is_of(dtype: &DataType, value: &AnyValue) -> bool
+    ensures { IsTrue result ↔ HasType (kind_of dtype.now) (datum value.now) }
+{
+    match value {
+        AnyValue::Null => true,
+        AnyValue::Boolean(_) => is_boolean(dtype),
+        AnyValue::Int(i) => is_int_of(dtype, *i),
+        AnyValue::String(s) => is_string(dtype) && s.as_str().len() < 4_294_967_296,
+        AnyValue::Binary(s) => is_binary(dtype) && s.as_slice().len() < 4_294_967_296,
+        AnyValue::List(vs) => match dtype {
+            DataType::List(inner) => are_of(inner, vs),
+            DataType::Null
+            | DataType::Boolean
+            | DataType::Int8
+            | DataType::Int16
+            | DataType::Int32
+            | DataType::Int64
+            | DataType::Int128
+            | DataType::UInt8
+            | DataType::UInt16
+            | DataType::UInt32
+            | DataType::UInt64
+            | DataType::String
+            | DataType::Binary
+            | DataType::Date
+            | DataType::Datetime(_, _)
+            | DataType::Duration(_)
+            | DataType::Time
+            | DataType::Struct(_) => false,
+        },
+        AnyValue::Struct(vs) => match dtype {
+            DataType::Struct(fields) => are_each_of(fields, vs),
+            DataType::Null
+            | DataType::Boolean
+            | DataType::Int8
+            | DataType::Int16
+            | DataType::Int32
+            | DataType::Int64
+            | DataType::Int128
+            | DataType::UInt8
+            | DataType::UInt16
+            | DataType::UInt32
+            | DataType::UInt64
+            | DataType::String
+            | DataType::Binary
+            | DataType::Date
+            | DataType::Datetime(_, _)
+            | DataType::Duration(_)
+            | DataType::Time
+            | DataType::List(_) => false,
+        },
+    }
+}
+
+#[cycle(is_of)]
+fn are_of(dtype: &DataType, values: &Values) -> bool
+    ensures { IsTrue result ↔ AreOf (kind_of dtype.now) (items_of values.now) }
+{
+    for value in values.as_slice() {
+        if !is_of(dtype, value) {
+            return false;
+        }
+    }
+    true
+}
+
+#[cycle(is_of)]
+fn are_each_of(fields: &Fields, values: &Values) -> bool
+    ensures { IsTrue result ↔ AreEachOf (parts_of (parts fields.now)) (items_of values.now) }
+{
+    let values = values.as_slice();
+    if fields.items.len() != values.len() {
+        return false;
+    }
+    for (i, field) in fields.items.iter().enumerate() {
+        if !is_of(&field.dtype, &values[i]) {
+            return false;
+        }
+    }
+    true
+}
