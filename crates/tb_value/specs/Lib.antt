@@ -9,3 +9,6 @@ pub mod Typed
 pub mod Same
 pub mod Names
 pub mod Index
+pub mod Pairs
+pub mod Refusals
+pub mod SameKind

@@ -149,4 +149,3 @@ fn copy_values(values: &Values, alloc: Global) -> Result<Values, OutOfMemory>
     }
     Ok(Values { items })
 }
-

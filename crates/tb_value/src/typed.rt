@@ -6,8 +6,8 @@ ghost use Rattle.tb_value.specs.See.{datum};
 ghost use Rattle.tb_value.specs.SeeKind.{kind_of, parts};
 ghost use Rattle.tb_value.specs.Typed.{HasType, AreOf, AreEachOf, ends};
 
-use crate::dtype::{DataType, Fields};
 use crate::any_value::{AnyValue, Values};
+use crate::dtype::{DataType, Fields};
 
 impl DataType {
     /// Whether the value is of this type.

@@ -1,0 +1,246 @@
+-- A join request and its answers.
+use Rattle.std.specs.Prelude.{◌≡◌, ℕ, ◌+◌, ◌==◌, min, Bool, true, false, ◌&&◌, ◌||◌, not, if◌then◌else◌, List, [], ◌∷◌, ◌++◌, length, map, filter, Option, Some, None, unwrap_or, IsSorted, IsPermutation, ⊤, ℤ, pos, ◌+ℤ◌, int_lt, int_le, position, slice_index_or, codes}
+use Rattle.std.specs.List.{list_any, list_all, filter_map, find, enumerate_from}
+use Rattle.tb_value.specs.Datum.{Datum, null, is_null, is_present}
+use Rattle.tb_value.specs.Kind.{Kind}
+use Rattle.tb_value.specs.Names.{Name, same_name}
+use Rattle.tb_value.specs.Pairs.{row_numbers, both, matched, left_met, left_unmet, right_unmet, left_first, right_first}
+use Rattle.tb_value.specs.Same.{same}
+use Rattle.tb_value.specs.declared.index.JoinPair.{JoinPair}
+use Rattle.tb_frame.specs.declared.args.JoinArgs.{JoinArgs}
+use Rattle.tb_frame.specs.declared.args.JoinType.{JoinType}
+use Rattle.tb_frame.specs.declared.args.JoinType.TheVariants.{Inner, Left, Right, Full, Semi, Anti}
+use Rattle.tb_frame.specs.declared.args.JoinCoalesce.{JoinCoalesce}
+use Rattle.tb_frame.specs.declared.args.JoinCoalesce.TheVariants.{JoinSpecific, CoalesceColumns, KeepColumns}
+use Rattle.tb_frame.specs.declared.args.MaintainOrderJoin.{MaintainOrderJoin}
+use Rattle.tb_frame.specs.declared.args.MaintainOrderJoin.TheVariants as order
+use Rattle.tb_frame.specs.declared.args.Direction.{Direction}
+use Rattle.tb_frame.specs.declared.args.Direction.TheVariants.{Free, ByLeft, ByRight}
+use Rattle.tb_frame.specs.Table.{TableColumn, Table, height, IsTable, names_of, rows_of, schema_of}
+
+-- a request: two tables, the names and the columns of the keys, and the args
+pub record Request : Type 0 where
+  pub left : Table
+  pub right : Table
+  pub left_on : List Name
+  pub right_on : List Name
+  pub left_keys : List TableColumn
+  pub right_keys : List TableColumn
+  pub args : JoinArgs
+
+-- the column of that name
+abbrev pub named : Table → Name → Option TableColumn
+named t n = find (λ (c : TableColumn). same_name c.name n) t
+
+-- the request of `join`, whose keys are the tables' columns of these names
+abbrev pub by_names : Table → Table → List Name → List Name → JoinArgs → Request
+by_names left right left_on right_on args = record { left = left; right = right; left_on = left_on; right_on = right_on; left_keys = filter_map (named left) left_on; right_keys = filter_map (named right) right_on; args = args }
+
+-- the request of `_join_impl`, whose keys are given columns
+abbrev pub by_columns : Table → Table → List TableColumn → List TableColumn → JoinArgs → Request
+by_columns left right left_keys right_keys args = record { left = left; right = right; left_on = names_of left_keys; right_on = names_of right_keys; left_keys = left_keys; right_keys = right_keys; args = args }
+
+-- MATCHES
+
+-- the field of row i in the key at place p
+abbrev pub field : List TableColumn → ℕ → ℕ → Datum
+field keys p i = slice_index_or (slice_index_or (map (λ (c : TableColumn). c.values) keys) p []) i null
+
+-- whether Nulls match at place p
+abbrev pub nulls : Request → ℕ → Bool
+nulls q p = q.args.join_nulls
+
+-- two fields are present and equal, or both are Null and Nulls match
+abbrev pub agrees : Bool → Datum → Datum → Bool
+agrees null_matches a b = (is_present a && is_present b && same a b) || (is_null a && is_null b && null_matches)
+
+-- the places that both key lists have
+abbrev pub places : Request → List ℕ
+places q = row_numbers (min (length q.left_keys) (length q.right_keys))
+
+-- rows i and j match where the fields agree at every place
+abbrev pub matches : Request → ℕ → ℕ → Bool
+matches q i j = list_all (λ p. agrees (nulls q p) (field q.left_keys p i) (field q.right_keys p j)) (places q)
+
+-- THE LISTING
+
+abbrev pub listing_of : JoinType → ℕ → ℕ → (ℕ → ℕ → Bool) → List JoinPair
+listing_of Inner l r m = matched l r m
+listing_of Left l r m = matched l r m ++ left_unmet l r m
+listing_of Right l r m = matched l r m ++ right_unmet l r m
+listing_of Full l r m = matched l r m ++ left_unmet l r m ++ right_unmet l r m
+listing_of Semi l r m = left_met l r m
+listing_of Anti l r m = left_unmet l r m
+
+abbrev pub listing : Request → List JoinPair
+listing q = listing_of q.args.how (height q.left) (height q.right) (matches q)
+
+-- THE ORDER
+
+-- the columns None, Left and LeftRight, Right and RightLeft of a row of the table
+abbrev pub table_row : Direction → Direction → Direction → MaintainOrderJoin → Direction
+table_row n l r order.None = n
+table_row n l r order.Left = l
+table_row n l r order.LeftRight = l
+table_row n l r order.Right = r
+table_row n l r order.RightLeft = r
+
+abbrev pub direction : JoinType → MaintainOrderJoin → Direction
+direction Left o = table_row ByLeft ByLeft ByRight o
+direction Right o = table_row ByRight ByLeft ByRight o
+direction Inner o = table_row Free ByLeft ByRight o
+direction Full o = table_row Free ByLeft ByRight o
+direction Semi o = table_row ByLeft ByLeft ByLeft o
+direction Anti o = table_row ByLeft ByLeft ByLeft o
+
+abbrev pub Ascends : Direction → List JoinPair → Type 0
+Ascends Free ps = ⊤
+Ascends ByLeft ps = IsSorted left_first ps
+Ascends ByRight ps = IsSorted right_first ps
+
+-- ps is a permutation of the list, and ascends in the way that the table names
+pub record IsOrdered (how : JoinType) (o : MaintainOrderJoin) (ps list : List JoinPair) : Type 0 where
+  pub permutation : IsPermutation list ps
+  pub ascends : Ascends (direction how o) ps
+
+-- THE SLICE
+
+-- whether place p of n is kept: s <= p < s + len, where s is the offset, or offset + n where it is negative
+abbrev pub in_slice : ℕ → ℤ → ℕ → ℕ → Bool
+in_slice n offset len p = let s : ℤ = (if int_lt offset (pos 0) then offset +ℤ pos n else offset) in int_le s (pos p) && int_lt (pos p) (s +ℤ pos len)
+
+abbrev pub slice : {X : Type 0} → List X → ℤ → ℕ → List X
+slice {X} ps offset len = map (λ (x : ℕ × X). x.1) (filter (λ (x : ℕ × X). in_slice (length ps) offset len x.0) (enumerate_from 0 ps))
+
+-- without a slice it is ps
+abbrev pub cut : {X : Type 0} → Option (ℤ × ℕ) → List X → List X
+cut None ps = ps
+cut (Some s) ps = slice ps s.0 s.1
+
+-- NAMES, TYPES AND ROWS
+
+-- a column of the answer: its name, its type, and the field that it has for a pair
+pub record Out : Type 0 where
+  pub name : Name
+  pub kind : Kind
+  pub at : JoinPair → Datum
+
+-- whether the args coalesce the kind
+abbrev pub coalesce : JoinCoalesce → JoinType → Bool
+coalesce KeepColumns how = false
+coalesce CoalesceColumns Inner = true
+coalesce CoalesceColumns Left = true
+coalesce CoalesceColumns Right = true
+coalesce CoalesceColumns Full = true
+coalesce CoalesceColumns Semi = false
+coalesce CoalesceColumns Anti = false
+coalesce JoinSpecific Inner = true
+coalesce JoinSpecific Left = true
+coalesce JoinSpecific Right = true
+coalesce JoinSpecific Full = false
+coalesce JoinSpecific Semi = false
+coalesce JoinSpecific Anti = false
+
+abbrev pub coalesces : Request → Bool
+coalesces q = coalesce q.args.coalesce q.args.how
+
+abbrev pub is_among : List Name → Name → Bool
+is_among names n = list_any (same_name n) names
+
+abbrev pub without : List Name → Table → Table
+without names t = filter (λ (c : TableColumn). not (is_among names c.name)) t
+
+-- the kept columns, by kind: for Right and coalescing without the left keys, for Inner and Left and coalescing without the right keys
+abbrev pub keep_left : JoinType → Bool → List Name → Table → Table
+keep_left Right true keys t = without keys t
+keep_left Right false keys t = t
+keep_left Inner c keys t = t
+keep_left Left c keys t = t
+keep_left Full c keys t = t
+keep_left Semi c keys t = t
+keep_left Anti c keys t = t
+
+abbrev pub keep_right : JoinType → Bool → List Name → Table → Table
+keep_right Inner true keys t = without keys t
+keep_right Inner false keys t = t
+keep_right Left true keys t = without keys t
+keep_right Left false keys t = t
+keep_right Right c keys t = t
+keep_right Full c keys t = t
+keep_right Semi c keys t = []
+keep_right Anti c keys t = []
+
+abbrev pub kept_left : Request → Table
+kept_left q = keep_left q.args.how (coalesces q) q.left_on q.left
+
+abbrev pub kept_right : Request → Table
+kept_right q = keep_right q.args.how (coalesces q) q.right_on q.right
+
+abbrev pub default_suffix : Name
+default_suffix = codes "_right"
+
+-- a name that is taken is followed by the suffix
+abbrev pub right_name : List Name → Option Name → Name → Name
+right_name taken suffix n = (if is_among taken n then n ++ unwrap_or suffix default_suffix else n)
+
+-- a column's field in a row, Null where there is no row
+abbrev pub value_at : TableColumn → Option ℕ → Datum
+value_at c None = null
+value_at c (Some i) = slice_index_or c.values i null
+
+abbrev pub left_out : TableColumn → Out
+left_out c = record { name = c.name; kind = c.kind; at = λ pair. value_at c pair.left }
+
+abbrev pub right_out : List Name → Option Name → TableColumn → Out
+right_out taken suffix c = record { name = right_name taken suffix c.name; kind = c.kind; at = λ pair. value_at c pair.right }
+
+-- the kept left columns, followed by the kept right ones, whose names avoid those of the left
+abbrev pub joined : Request → List Out
+joined q = map left_out (kept_left q) ++ map (right_out (names_of (kept_left q)) q.args.suffix) (kept_right q)
+
+abbrev pub joined_names : Request → List Name
+joined_names q = map (λ (o : Out). o.name) (joined q)
+
+-- the first value, or the second where it is Null
+abbrev pub or_else : Datum → Datum → Datum
+or_else a b = (if is_null a then b else a)
+
+-- the field of a key in a row, Null where there is no row
+abbrev pub key_at : List TableColumn → ℕ → Option ℕ → Datum
+key_at keys p None = null
+key_at keys p (Some j) = field keys p j
+
+-- a left column of a coalesced Full join: a key's field becomes the right key's where it is Null
+abbrev pub merged_at : Request → TableColumn → Option ℕ → JoinPair → Datum
+merged_at q c None pair = value_at c pair.left
+merged_at q c (Some p) pair = or_else (value_at c pair.left) (key_at q.right_keys p pair.right)
+
+abbrev pub merged_out : Request → TableColumn → Out
+merged_out q c = record { name = c.name; kind = c.kind; at = merged_at q c (position (same_name c.name) q.left_on) }
+
+-- for Full and coalescing the right keys' columns go
+abbrev pub out_by : JoinType → Bool → Request → List Out
+out_by Full true q = map (merged_out q) q.left ++ map (right_out (names_of q.left) q.args.suffix) (without q.right_on q.right)
+out_by Full false q = joined q
+out_by Inner c q = joined q
+out_by Left c q = joined q
+out_by Right c q = joined q
+out_by Semi c q = joined q
+out_by Anti c q = joined q
+
+abbrev pub out : Request → List Out
+out q = out_by q.args.how (coalesces q) q
+
+abbrev pub out_columns : Request → List (Name × Kind)
+out_columns q = map (λ (o : Out). (o.name, o.kind)) (out q)
+
+abbrev pub out_row : Request → JoinPair → List Datum
+out_row q pair = map (λ (o : Out). o.at pair) (out q)
+
+-- THE ANSWER
+
+pub record IsAnswer (q : Request) (t : Table) : Type 0 where
+  pub columns : schema_of t ≡ out_columns q
+  pub pairs : List JoinPair
+  pub ordered : IsOrdered q.args.how q.args.maintain_order pairs (listing q)
+  pub rows : rows_of t ≡ map (out_row q) (cut q.args.slice pairs)

@@ -1,0 +1,4 @@
+pub mod Table
+pub mod Join
+pub mod Refusal
+pub mod Built

@@ -1,0 +1,48 @@
+-- Tables: what a column and a table are to a join. Chunks and flags don't show.
+use Rattle.std.specs.Prelude.{◌≡◌, ◌≢◌, ℕ, List, [], ◌∷◌, length, map, All, AllPairs, slice_index_or}
+use Rattle.tb_value.specs.Datum.{Datum, null}
+use Rattle.tb_value.specs.Kind.{Kind}
+use Rattle.tb_value.specs.Names.{Name}
+use Rattle.tb_value.specs.Pairs.{row_numbers}
+use Rattle.tb_store.specs.Col.{Col, values}
+
+-- a column is a name, a type and a list of values, where Null stands for absence
+pub record TableColumn : Type 0 where
+  pub name : Name
+  pub kind : Kind
+  pub values : List Datum
+
+-- a table is a list of columns
+abbrev pub Table : Type 0
+Table = List TableColumn
+
+-- the table of columns that are cut into chunks
+abbrev pub plain : Col → TableColumn
+plain c = record { name = c.name; kind = c.kind; values = values c }
+
+abbrev pub table_of : List Col → Table
+table_of cs = map plain cs
+
+-- the length of the columns, and 0 where there is none
+abbrev pub height : Table → ℕ
+height [] = 0
+height (c ∷ cs) = length c.values
+
+abbrev pub names_of : Table → List Name
+names_of t = map (λ (c : TableColumn). c.name) t
+
+-- names are distinct, and all lists have one length
+pub record IsTable (t : Table) : Type 0 where
+  pub distinct : AllPairs (λ (a b : Name). a ≢ b) (names_of t)
+  pub one_height : All (λ (c : TableColumn). length c.values ≡ height t) t
+
+-- the fields of row i, and the rows of the table in order
+abbrev pub row_at : Table → ℕ → List Datum
+row_at t i = map (λ (c : TableColumn). slice_index_or c.values i null) t
+
+abbrev pub rows_of : Table → List (List Datum)
+rows_of t = map (row_at t) (row_numbers (height t))
+
+-- the names and types
+abbrev pub schema_of : Table → List (Name × Kind)
+schema_of t = map (λ (c : TableColumn). (c.name, c.kind)) t

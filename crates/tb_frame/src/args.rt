@@ -1,0 +1,127 @@
+//! The arguments of a join.
+ghost use Rattle.std.specs.Prelude.{◌≡◌, None, false};
+
+use tb_value::PlSmallStr;
+
+/// Which rows a join puts side by side, and which it keeps alone.
+#[derive(Clone, Copy, PartialEq, Eq, Debug)]
+pub enum JoinType {
+    /// The matched pairs.
+    Inner,
+    /// The matched pairs, and the left rows without a match.
+    Left,
+    /// The matched pairs, and the right rows without a match.
+    Right,
+    /// The matched pairs, and the rows of both sides without a match.
+    Full,
+    /// The left rows with a match.
+    Semi,
+    /// The left rows without a match.
+    Anti,
+}
+
+/// How often a key may stand on each side.
+#[derive(Clone, Copy, PartialEq, Eq, Debug)]
+pub enum JoinValidation {
+    ManyToMany,
+    /// No two right rows have equal keys.
+    ManyToOne,
+    /// No two left rows have equal keys.
+    OneToMany,
+    /// No two rows of either side have equal keys.
+    OneToOne,
+}
+
+/// Whether the two key columns of a pair become one column of the answer.
+#[derive(Clone, Copy, PartialEq, Eq, Debug)]
+pub enum JoinCoalesce {
+    /// They do for Inner, Left and Right.
+    JoinSpecific,
+    /// They do for Inner, Left, Right and Full.
+    CoalesceColumns,
+    /// They never do.
+    KeepColumns,
+}
+
+/// The order of the answer's rows.
+#[derive(Clone, Copy, PartialEq, Eq, Debug)]
+pub enum MaintainOrderJoin {
+    None,
+    Left,
+    Right,
+    LeftRight,
+    RightLeft,
+}
+
+/// What is asked of a join, besides its tables and keys.
+#[derive(Drop)]
+pub struct JoinArgs {
+    pub how: JoinType,
+    pub validation: JoinValidation,
+    /// What follows the name of a right column that a left column has too; `_right` where there is none.
+    pub suffix: Option<PlSmallStr>,
+    /// The offset and the length of the rows that are kept, after all are in order. A negative offset counts from the end.
+    pub slice: Option<(i64, usize)>,
+    /// Whether absent keys match absent keys.
+    pub join_nulls: bool,
+    pub coalesce: JoinCoalesce,
+    pub maintain_order: MaintainOrderJoin,
+}
+
+impl JoinArgs {
+    /// A join of this kind with nothing else asked.
+    pub fn new(how: JoinType) -> JoinArgs
+        ensures { result ≡ record { how = how; validation = JoinValidation.ManyToMany; suffix = None; slice = None; join_nulls = false; coalesce = JoinCoalesce.JoinSpecific; maintain_order = MaintainOrderJoin.None } }
+    {
+        JoinArgs {
+            how,
+            validation: JoinValidation::default(),
+            suffix: None,
+            slice: None,
+            join_nulls: false,
+            coalesce: JoinCoalesce::default(),
+            maintain_order: MaintainOrderJoin::default(),
+        }
+    }
+}
+
+impl Default for JoinValidation {
+    ghost use Rattle.std.specs.Prelude.{◌≡◌};
+    ghost use Rattle.tb_frame.specs.declared.args.JoinValidation.TheVariants.{ManyToMany};
+
+    ghost is_default = { λ v. v ≡ ManyToMany };
+
+    fn default() -> JoinValidation {
+        JoinValidation::ManyToMany
+    }
+}
+
+impl Default for JoinCoalesce {
+    ghost use Rattle.std.specs.Prelude.{◌≡◌};
+    ghost use Rattle.tb_frame.specs.declared.args.JoinCoalesce.TheVariants.{JoinSpecific};
+
+    ghost is_default = { λ c. c ≡ JoinSpecific };
+
+    fn default() -> JoinCoalesce {
+        JoinCoalesce::JoinSpecific
+    }
+}
+
+impl Default for MaintainOrderJoin {
+    ghost use Rattle.std.specs.Prelude.{◌≡◌};
+    ghost use Rattle.tb_frame.specs.declared.args.MaintainOrderJoin.TheVariants.{None};
+
+    ghost is_default = { λ o. o ≡ None };
+
+    fn default() -> MaintainOrderJoin {
+        MaintainOrderJoin::None
+    }
+}
+
+/// The order of the pairs of a join.
+#[derive(Clone, Copy, PartialEq, Eq, Debug)]
+pub enum Direction {
+    Free,
+    ByLeft,
+    ByRight,
+}

@@ -1,0 +1,31 @@
+-- Facts on lists.
+use Rattle.std.proofs.Common.{◌≡◌, ℕ, ◌<◌, ◌+◌, suc, refl, List, [], ◌∷◌, ◌++◌, length, map, get_or, drop, replicate, subst, sym, ◌∙◌, ap, add-one, drop-cons}
+use Rattle.std.specs.List.{All, flat_map}
+use Rattle.tb_value.specs.Datum.{Datum, null}
+use Rattle.tb_store.specs.Col.{flat}
+use Rattle.std.proofs.lemmas.List.{length-map}
+use Rattle.std.proofs.Math.ListN.{get_or-map}
+use Rattle.std.proofs.lemmas.List.Elements.{All-get_or, All-head, All-tail}
+
+-- what holds of each image holds of the image of an element
+pub All-map-at : {X Y : Type 0} (P : Y → Type 0) (f : X → Y) (xs : List X) (i : ℕ) (x : X) → i < length xs → x ≡ get_or xs i x → All P (map f xs) → P (f x)
+All-map-at P f xs i x h e all = subst P (get_or-map f xs i x ∙ ap f (sym e)) (All-get_or P (map f xs) i (f x) (rw (length-map xs f) h) all)
+
+-- what is left is the next piece and then what is left after it
+pub flat_map_drop : {X Y : Type 0} (f : X → List Y) (xs : List X) (i : ℕ) (x : X) → i < length xs → x ≡ get_or xs i x → flat_map f (drop i xs) ≡ f x ++ flat_map f (drop (i + 1) xs)
+flat_map_drop f xs i x h e = rw (add-one, drop-cons xs i x) (ap (λ y. f y ++ flat_map f (drop (suc i) xs)) (sym e))
+
+pub flat_map_of_map : {X Y : Type 0} (f : X → List Y) (xs : List X) → flat_map (λ vs. vs) (map f xs) ≡ flat_map f xs
+flat_map_of_map f [] = refl
+flat_map_of_map f (x ∷ xs) = ap (λ ys. f x ++ ys) (flat_map_of_map f xs)
+
+pub flat_drop : {X : Type 0} (f : X → List Datum) (xs : List X) (i : ℕ) (x : X) → i < length xs → x ≡ get_or xs i x → flat (map f (drop i xs)) ≡ f x ++ flat (map f (drop (i + 1) xs))
+flat_drop f xs i x h e = rw (add-one, drop-cons xs i x) (ap (λ y. f y ++ flat (map f (drop (suc i) xs))) (sym e))
+
+-- a list of nulls, from its length
+pub replicate-nulls : (vs : List Datum) → All (λ v. v ≡ null) vs → replicate (length vs) null ≡ vs
+replicate-nulls [] all = refl
+replicate-nulls (v ∷ vs) all =
+    let h : null ≡ v = sym (All-head (λ x. x ≡ null) v vs all) in
+    let t : replicate (length vs) null ≡ vs = replicate-nulls vs (All-tail (λ x. x ≡ null) v vs all) in
+    λ i. h i ∷ t i

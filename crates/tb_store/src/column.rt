@@ -1,0 +1,102 @@
+//! Columns of a table.
+ghost use Rattle.std.specs.Prelude.{◌≡◌, ◌<◌, IfOk, length, get_or};
+ghost use Rattle.tb_value.specs.Datum.{null};
+ghost use Rattle.tb_value.specs.See.{lent};
+ghost use Rattle.tb_value.specs.SeeKind.{kind_of};
+ghost use Rattle.tb_store.specs.Col.{values, IsColumn};
+ghost use Rattle.tb_store.specs.Made.{lists_of, IsMade};
+
+use crate::series::Series;
+use std::alloc::Global;
+use std::marker::Model;
+use tb_value::{AnyValue, DataType, OutOfMemory, PlSmallStr, PolarsResult, ValueRef};
+
+/// A column of a table, which is a series.
+#[derive(Drop)]
+pub struct Column {
+    series: Series,
+}
+
+impl Model for Column {
+    ghost use Rattle.tb_store.specs.Col.{Col, IsColumn};
+    ghost use Rattle.tb_store.specs.ColCode.{coded_col};
+
+    ghost Value = { Col };
+
+    ghost coded = { coded_col };
+
+    ghost view = { λ c. c.series };
+}
+
+impl Series {
+    /// The column that this series is.
+    pub fn into_column(self) -> Column
+        ensures { result ≡ self }
+    {
+        Column { series: self }
+    }
+}
+
+impl Column {
+    pub fn from_chunks(
+        alloc: Global,
+        name: &str,
+        dtype: DataType,
+        chunks: Vec<Vec<AnyValue>>,
+    ) -> PolarsResult<Column>
+        ensures { IsMade name.now (kind_of dtype) (lists_of chunks.items) result }
+    {
+        match Series::from_chunks(alloc, name, dtype, chunks) {
+            Ok(series) => Ok(Column { series }),
+            Err(error) => Err(error),
+        }
+    }
+
+    /// The series that this column is.
+    pub fn as_materialized_series(&self) -> &Series
+        ensures { result.now ≡ self.now }
+    {
+        &self.series
+    }
+
+    pub fn name(&self) -> &PlSmallStr
+        ensures { result.now ≡ self.now.name }
+    {
+        self.series.name()
+    }
+
+    pub fn dtype(&self) -> &DataType
+        ensures { kind_of result.now ≡ self.now.kind }
+    {
+        self.series.dtype()
+    }
+
+    pub fn len(&self) -> usize
+        ensures len { result ≡ length (values self.now) }
+        ensures column { IsColumn self.now }
+    {
+        self.series.len()
+    }
+
+    pub fn get(&self, row: usize) -> ValueRef<'_>
+        requires { row < length (values self.now) }
+        ensures { lent result ≡ get_or (values self.now) row null }
+    {
+        self.series.get(row)
+    }
+
+    pub fn rename(&mut self, name: PlSmallStr)
+        ensures { self.new ≡ record self.old { name = name } }
+    {
+        self.series.rename(name);
+    }
+
+    /// An equal column.
+    pub fn copy(&self, alloc: Global) -> Result<Column, OutOfMemory>
+        ensures { IfOk result (λ c. c ≡ self.now) }
+    {
+        Ok(Column {
+            series: self.series.copy(alloc)?,
+        })
+    }
+}

@@ -1,0 +1,22 @@
+//! Columns: a name, a type, one or more chunks of values, and whether the values are known to be in order.
+#![tactic(auto)]
+
+mod cell;
+mod chunk;
+mod chunks;
+mod column;
+mod grow;
+mod make;
+mod series;
+
+pub use cell::{Cell, FieldValues};
+pub use chunk::{Cells, Chunk, StringChunk};
+pub use chunks::Chunks;
+pub use column::Column;
+pub use grow::Grow;
+pub use series::Series;
+pub use tb_value::{
+    AnyValue, Bytes, ComputeCause, DataType, Field, Fields, IdxSize, InvalidCause, IsSorted,
+    JoinPair, MAX_ROWS, NullableIdxSize, OutOfMemory, PlSmallStr, PolarsError, PolarsResult, Side,
+    TimeUnit, ValueRef, Values,
+};

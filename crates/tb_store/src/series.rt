@@ -1,0 +1,159 @@
+//! Columns.
+ghost use Rattle.std.specs.Prelude.{◌≡◌, ◌<◌, ◌≤◌, ◌∷◌, [], IfOk, length, get_or, map, take, drop, ◌+◌};
+ghost use Rattle.tb_value.specs.Datum.{null};
+ghost use Rattle.tb_value.specs.See.{lent};
+ghost use Rattle.tb_value.specs.SeeKind.{kind_of};
+ghost use Rattle.tb_store.specs.Col.{Col, values, IsColumn, physical};
+ghost use Rattle.tb_store.specs.Seen.{chunk_lists, storage};
+
+use crate::chunks::Chunks;
+use std::alloc::Global;
+use std::marker::Model;
+use tb_value::{DataType, IsSorted, OutOfMemory, PlSmallStr, ValueRef};
+
+/// A column: a name, a type, one or more chunks and a flag.
+#[derive(Drop)]
+pub struct Series {
+    name: PlSmallStr,
+    dtype: DataType,
+    chunks: Chunks,
+    flag: IsSorted,
+}
+
+impl Model for Series {
+    ghost use Rattle.std.specs.Prelude.{◌≡◌};
+    ghost use Rattle.tb_value.specs.SeeKind.{kind_of};
+    ghost use Rattle.tb_store.specs.Col.{Col, IsColumn, physical};
+    ghost use Rattle.tb_store.specs.ColCode.{coded_col};
+    ghost use Rattle.tb_store.specs.Seen.{chunk_lists, storage};
+
+    ghost Value = { Col };
+
+    ghost coded = { coded_col };
+
+    ghost view = { λ s. record { name = s.name; kind = kind_of s.dtype; chunks = chunk_lists s.chunks; flag = s.flag } };
+
+    ghost invariant = { λ s. (storage s.chunks ≡ physical (kind_of s.dtype)) × IsColumn record { name = s.name; kind = kind_of s.dtype; chunks = chunk_lists s.chunks; flag = s.flag } };
+}
+
+impl Series {
+    pub fn name(&self) -> &PlSmallStr
+        ensures { result.now ≡ self.now.name }
+    {
+        &self.name
+    }
+
+    pub fn dtype(&self) -> &DataType
+        ensures { kind_of result.now ≡ self.now.kind }
+    {
+        &self.dtype
+    }
+
+    pub fn n_chunks(&self) -> usize
+        ensures { result ≡ length self.now.chunks }
+    {
+        self.chunks.count()
+    }
+
+    pub fn rename(&mut self, name: PlSmallStr)
+        ensures { self.new ≡ record self.old { name = name } }
+    {
+        self.name = name;
+    }
+
+    pub fn is_sorted_flag(&self) -> IsSorted
+        ensures { result ≡ self.now.flag }
+    {
+        self.flag
+    }
+
+    pub fn len(&self) -> usize
+        ensures len { result ≡ length (values self.now) }
+        ensures column { IsColumn self.now }
+    {
+        self.chunks.rows()
+    }
+
+    pub fn chunk_len(&self, chunk: usize) -> usize
+        requires { chunk < length self.now.chunks }
+        ensures { result ≡ length (get_or self.now.chunks chunk []) }
+    {
+        self.chunks.rows_of(chunk)
+    }
+
+    pub fn get(&self, row: usize) -> ValueRef<'_>
+        requires { row < length (values self.now) }
+        ensures { lent result ≡ get_or (values self.now) row null }
+    {
+        self.chunks.value(row)
+    }
+
+    pub fn copy(&self, alloc: Global) -> Result<Series, OutOfMemory>
+        ensures { IfOk result (λ s. s ≡ self.now) }
+    {
+        let name = self.name.copy(alloc)?;
+        let dtype = self.dtype.copy(alloc)?;
+        let chunks = self.chunks.copy(alloc)?;
+        Ok(Series {
+            name,
+            dtype,
+            chunks,
+            flag: self.flag,
+        })
+    }
+
+    /// The same values in one chunk.
+    pub fn rechunk(&self, alloc: Global) -> Result<Series, OutOfMemory>
+        ensures { IfOk result (λ s. s ≡ record self.now { chunks = values self.now ∷ [] }) }
+    {
+        self.part(alloc, 0, self.len())
+    }
+
+    /// The values from `start` on, in one chunk.
+    pub fn part(&self, alloc: Global, start: usize, len: usize) -> Result<Series, OutOfMemory>
+        requires { start + len ≤ length (values self.now) }
+        ensures { IfOk result (λ s. s ≡ record self.now { chunks = take len (drop start (values self.now)) ∷ [] }) }
+    {
+        let name = self.name.copy(alloc)?;
+        let dtype = self.dtype.copy(alloc)?;
+        let chunks = self.chunks.joined(alloc, start, len)?;
+        Ok(Series {
+            name,
+            dtype,
+            chunks,
+            flag: self.flag,
+        })
+    }
+
+    pub(crate) fn into_parts(self) -> (PlSmallStr, DataType, Chunks, IsSorted)
+        ensures view { self ≡ record { name = result.0; kind = kind_of result.1; chunks = chunk_lists result.2; flag = result.3 } }
+        ensures storage { storage result.2 ≡ physical (kind_of result.1) }
+        ensures column { IsColumn self }
+    {
+        let Series {
+            name,
+            dtype,
+            chunks,
+            flag,
+        } = self;
+        (name, dtype, chunks, flag)
+    }
+
+    pub(crate) fn from_parts(
+        name: PlSmallStr,
+        dtype: DataType,
+        chunks: Chunks,
+        flag: IsSorted,
+    ) -> Series
+        requires storage { storage chunks ≡ physical (kind_of dtype) }
+        requires column { IsColumn record { name = name; kind = kind_of dtype; chunks = chunk_lists chunks; flag = flag } }
+        ensures { result ≡ record { name = name; kind = kind_of dtype; chunks = chunk_lists chunks; flag = flag } }
+    {
+        Series {
+            name,
+            dtype,
+            chunks,
+            flag,
+        }
+    }
+}

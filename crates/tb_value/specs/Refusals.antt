@@ -1,0 +1,18 @@
+-- Refusals: the first cause that holds, want of memory apart.
+use Rattle.std.specs.Prelude.{◌≡◌, ◌⊎◌, Bool, if◌then◌else◌, List, [], ◌∷◌, Option, Some, None, Result, MatchResult}
+use Rattle.tb_value.specs.declared.error.PolarsError.{PolarsError}
+use Rattle.tb_value.specs.declared.error.PolarsError.TheVariants.{OutOfMemory}
+
+-- the first that is there
+abbrev pub first_cause : List (Option PolarsError) → Option PolarsError
+first_cause [] = None
+first_cause (None ∷ cs) = first_cause cs
+first_cause (Some e ∷ cs) = Some e
+
+-- the error, where the test holds
+abbrev pub when : Bool → PolarsError → Option PolarsError
+when b e = (if b then Some e else None)
+
+-- A call settles a cause: it passes exactly where there is none, and else refuses by it. Want of memory may come at any time.
+abbrev pub Settles : {T : Type 0} → Result T PolarsError → Option PolarsError → Type 0
+Settles r cause = MatchResult r (λ _. cause ≡ None) (λ e. (e ≡ OutOfMemory) ⊎ (cause ≡ Some e))
