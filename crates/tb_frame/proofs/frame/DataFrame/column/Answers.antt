@@ -1,0 +1,9 @@
+use Rattle.std.proofs.Common.{◌≡◌, List, ap, sym, ◌∙◌, inr, Option, Some, None, is_none}
+use Rattle.tb_value.specs.Names.{Name}
+use Rattle.tb_value.specs.Refusals.{when}
+use Rattle.tb_value.specs.declared.error.PolarsError.TheVariants.{ColumnNotFound}
+use Rattle.tb_store.specs.Col.{Col}
+use Rattle.tb_frame.proofs.frame.DataFrame.column.Goals as goal
+
+pub returns-in_ok-from_str-in-None-clause-settles : goal.returns-in_ok-from_str-in-None-clause-settles
+returns-in_ok-from_str-in-None-clause-settles c = ?

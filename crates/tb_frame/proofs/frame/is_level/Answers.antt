@@ -1,0 +1,16 @@
+use Rattle.std.proofs.Common.{◌≡◌, ◌==◌, ℕ, List, [], ◌∷◌, length, ap, sym, ◌∙◌, refl, Option, Some, None}
+use Rattle.std.specs.List.{list_all, slice_get}
+use Rattle.std.proofs.lemmas.List.Folds.{list_all-map}
+use Rattle.tb_store.specs.Col.{Col, values}
+use Rattle.tb_frame.specs.Table.{TableColumn, plain, table_of, height}
+use Rattle.tb_frame.proofs.frame.is_level.Goals as goal
+
+first-height : (cs : List Col) (c : Col) → Some c ≡ slice_get cs 0 → length (values c) ≡ height (table_of cs)
+first-height [] c h = absurd (cc)
+first-height (d ∷ ds) c h = let same : c ≡ d = cc in ap (λ (x : Col). length (values x)) same
+
+pub returns-in-Some : goal.returns-in-Some
+returns-in-Some c =
+    let cs = c.args.columns.now in
+    c.have_len.ensures ∙ ap (λ (n : ℕ). list_all (λ (k : Col). length (values k) == n) cs) (c.len.ensures.len ∙ first-height cs c.in-Some.first.now c.in-Some.ensures.value)
+    ∙ sym (list_all-map (λ (k : TableColumn). length k.values == height (table_of cs)) plain cs)

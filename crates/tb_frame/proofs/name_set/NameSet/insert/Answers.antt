@@ -1,0 +1,9 @@
+use Rattle.std.proofs.Common.{◌≡◌, ◌||◌, ap, ◌∙◌}
+use Rattle.tb_value.specs.Names.{Name, same_name}
+use Rattle.tb_frame.specs.NameSets.{has_name}
+use Rattle.tb_frame.proofs.Tests.{cond_or}
+use Rattle.tb_frame.proofs.name_set.NameSet.insert.Goals as goal
+
+pub returns-clause-names : goal.returns-clause-names
+returns-clause-names c = λ n.
+    c.in_ok-insert.ensures.updates.0 (record { ref_ptr = (0, 0); now = n }) ∙ cond_or (same_name c.as_str.result.now n) (has_name c.args.self.now n) ∙ ap (λ (m : Name). same_name m n || has_name c.args.self.now n) c.as_str.ensures

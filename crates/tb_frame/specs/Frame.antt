@@ -1,0 +1,25 @@
+-- Which lists of columns make no table, and where a table has a name.
+use Rattle.std.specs.Prelude.{◌==◌, ℕ, Bool, not, List, [], ◌∷◌, length, map, filter, position, Option}
+use Rattle.std.specs.Option.{option_map}
+use Rattle.std.specs.List.{list_all}
+use Rattle.tb_value.specs.Datum.{null}
+use Rattle.tb_value.specs.Names.{Name, same_name}
+use Rattle.tb_value.specs.Refusals.{first_cause, when}
+use Rattle.tb_value.specs.declared.error.PolarsError.{PolarsError}
+use Rattle.tb_value.specs.declared.error.PolarsError.TheVariants.{Duplicate, ShapeMismatch}
+use Rattle.tb_store.specs.Col.{Col}
+use Rattle.tb_frame.specs.Table.{TableColumn, Table, height, names_of}
+use Rattle.tb_frame.specs.Join.{is_among}
+use Rattle.tb_frame.specs.Refusal.{first_repeated}
+
+-- all lists have one length
+abbrev pub are_level : Table → Bool
+are_level t = list_all (λ (c : TableColumn). length c.values == height t) t
+
+-- two lengths differ, or a name stood before
+abbrev pub frame_refusal : Table → Option PolarsError
+frame_refusal t = first_cause (when (not (are_level t)) ShapeMismatch ∷ option_map (λ n. Duplicate n) (first_repeated (names_of t)) ∷ [])
+
+-- the columns whose names are not among these
+abbrev pub without_names : List Name → List Col → List Col
+without_names names cs = filter (λ (c : Col). not (is_among names c.name)) cs

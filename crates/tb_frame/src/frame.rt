@@ -1,0 +1,183 @@
+//! Tables.
+ghost use Rattle.std.specs.Prelude.{◌≡◌, ◌==◌, ◌≤◌, ◌<◌, ◌∷◌, [], ◌++◌, All, IfOk, IfSome, length, map, option_map, position, slice_index_or, is_none, Some};
+ghost use Rattle.std.specs.Option.{option_copied};
+ghost use Rattle.std.specs.List.{find, list_all};
+ghost use Rattle.tb_value.specs.Names.{same_name};
+ghost use Rattle.tb_value.specs.Refusals.{Settles, when};
+ghost use Rattle.tb_value.specs.declared.error.PolarsError.TheVariants.{ColumnNotFound, Duplicate, ShapeMismatch};
+ghost use Rattle.tb_store.specs.Col.{Col, values};
+ghost use Rattle.tb_frame.specs.Table.{table_of, height, names_of, IsTable};
+ghost use Rattle.tb_frame.specs.Refusal.{first_repeated};
+ghost use Rattle.tb_frame.specs.Frame.{are_level, frame_refusal, without_names};
+
+use crate::name_set::NameSet;
+use std::alloc::Global;
+use std::marker::Model;
+use tb_store::Column;
+use tb_value::{OutOfMemory, PlSmallStr, PolarsError, PolarsResult};
+
+/// A table: columns of distinct names and one height.
+#[derive(Drop)]
+pub struct DataFrame {
+    columns: Vec<Column>,
+}
+
+impl Model for DataFrame {
+    ghost use Rattle.std.specs.Prelude.{List};
+    ghost use Rattle.std.specs.Coded.{coded_list};
+    ghost use Rattle.tb_store.specs.Col.{Col};
+    ghost use Rattle.tb_store.specs.ColCode.{coded_col};
+    ghost use Rattle.tb_frame.specs.Table.{table_of, IsTable};
+
+    ghost Value = { List Col };
+
+    ghost coded = { coded_list coded_col };
+
+    ghost view = { λ t. t.columns.items };
+
+    ghost invariant = { λ t. IsTable (table_of t.columns.items) };
+}
+
+/// What lends a table. Operations over it speak of the table that it lends.
+pub trait IntoDf {
+    ghost use Rattle.std.specs.Prelude.{List};
+    ghost use Rattle.tb_store.specs.Col.{Col};
+
+    /// The columns of the table.
+    ghost frame: { Self → List Col };
+
+    fn to_df(&self) -> &DataFrame
+        ensures { result.now ≡ frame self.now };
+}
+
+impl IntoDf for DataFrame {
+    ghost frame = { λ t. t };
+
+    fn to_df(&self) -> &DataFrame {
+        self
+    }
+}
+
+fn is_level(columns: &[Column]) -> bool
+    ensures { result ≡ are_level (table_of columns.now) }
+{
+    match columns.first() {
+        None => true,
+        Some(first) => have_len(columns, first.len()),
+    }
+}
+
+fn have_len(columns: &[Column], len: usize) -> bool
+    ensures { result ≡ list_all (λ (c : Col). length (values c) == len) columns.now }
+{
+    columns.iter().all(|column| column.len() == len)
+}
+
+fn find_column<'a>(columns: &'a [Column], name: &str) -> Option<&'a Column>
+    ensures { option_copied result ≡ find (λ (c : Col). same_name c.name name.now) columns.now }
+{
+    columns
+        .iter()
+        .find(|column| column.name().as_str() == name)
+}
+
+// Refuses the first name that stood before.
+fn check_distinct(alloc: Global, columns: &[Column]) -> PolarsResult<()>
+    ensures { Settles result (option_map (λ n. Duplicate n) (first_repeated (names_of (table_of columns.now)))) }
+{
+    let mut seen = NameSet::new(alloc);
+    for column in columns {
+        if !seen.insert(column.name())? {
+            return Err(PolarsError::Duplicate(column.name().copy(alloc)?));
+        }
+    }
+    Ok(())
+}
+
+fn check_columns(alloc: Global, columns: &[Column]) -> PolarsResult<()>
+    ensures { Settles result (frame_refusal (table_of columns.now)) }
+{
+    if !is_level(columns) {
+        return Err(PolarsError::ShapeMismatch);
+    }
+    check_distinct(alloc, columns)
+}
+
+impl DataFrame {
+    /// The table of these columns. Refuses, in this order, columns of two lengths (ShapeMismatch) and the first
+    /// name that stood before (Duplicate).
+    pub fn new(alloc: Global, columns: Vec<Column>) -> PolarsResult<DataFrame>
+        ensures settles { Settles result (frame_refusal (table_of columns.items)) }
+        ensures table { IfOk result (λ t. t ≡ columns.items) }
+    {
+        check_columns(alloc, &columns)?;
+        Ok(DataFrame { columns })
+    }
+
+    /// The number of rows, 0 where there is no column.
+    pub fn height(&self) -> usize
+        ensures height { result ≡ height (table_of self.now) }
+        ensures short { result ≤ 4294967294 }
+    {
+        match self.columns.first() {
+            None => 0,
+            Some(column) => column.len(),
+        }
+    }
+
+    /// The number of columns.
+    pub fn width(&self) -> usize
+        ensures { result ≡ length self.now }
+    {
+        self.columns.len()
+    }
+
+    /// The columns, in their order.
+    pub fn get_columns(&self) -> &[Column]
+        ensures columns { result.now ≡ self.now }
+        ensures table { IsTable (table_of self.now) }
+    {
+        self.columns.as_slice()
+    }
+
+    /// The place of the column of this name, counted from 0.
+    pub fn position(&self, name: &str) -> Option<usize>
+        ensures { result ≡ position (λ (c : Col). same_name c.name name.now) self.now }
+    {
+        self.columns
+            .iter()
+            .position(|column| column.name().as_str() == name)
+    }
+
+    /// The column of this name. Refuses a name that no column has (ColumnNotFound).
+    pub fn column(&self, alloc: Global, name: &str) -> PolarsResult<&Column>
+        ensures found { IfOk result (λ c. find (λ (c : Col). same_name c.name name.now) self.now ≡ Some c.now) }
+        ensures settles { Settles result (when (is_none (find (λ (c : Col). same_name c.name name.now) self.now)) (ColumnNotFound name.now)) }
+    {
+        match find_column(&self.columns, name) {
+            Some(column) => Ok(column),
+            None => Err(PolarsError::ColumnNotFound(PlSmallStr::from_str(
+                alloc, name,
+            )?)),
+        }
+    }
+
+    /// An equal table.
+    pub fn copy(&self, alloc: Global) -> Result<DataFrame, OutOfMemory>
+        ensures { IfOk result (λ t. t ≡ self.now) }
+    {
+        Ok(DataFrame {
+            columns: copy_columns(alloc, &self.columns)?,
+        })
+    }
+}
+
+fn copy_columns(alloc: Global, columns: &[Column]) -> Result<Vec<Column>, OutOfMemory>
+    ensures { IfOk result (λ v. v.items ≡ columns.now) }
+{
+    let mut copies = Vec::with_capacity(alloc, columns.len())?;
+    for column in columns {
+        copies.push(column.copy(alloc)?)?;
+    }
+    Ok(copies)
+}
