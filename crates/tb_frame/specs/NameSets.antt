@@ -2,7 +2,7 @@
 use Rattle.std.specs.Prelude.{Bool}
 use Rattle.std.specs.List.{list_any}
 use Rattle.tb_value.specs.Names.{Name, same_name}
-use Rattle.tb_frame.specs.declared.name_set.NameSet.{NameSet}
+use Rattle.tb_frame.specs.declared.names.NameSet.{NameSet}
 
 -- whether the name is in the set
 abbrev pub has_name : NameSet → Name → Bool

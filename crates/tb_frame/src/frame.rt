@@ -10,7 +10,7 @@ ghost use Rattle.tb_frame.specs.Table.{table_of, height, names_of, IsTable};
 ghost use Rattle.tb_frame.specs.Refusal.{first_repeated};
 ghost use Rattle.tb_frame.specs.Frame.{are_level, frame_refusal, without_names};
 
-use crate::name_set::NameSet;
+use crate::names::{check_distinct, name_set};
 use std::alloc::Global;
 use std::marker::Model;
 use tb_store::Column;
@@ -81,17 +81,15 @@ fn find_column<'a>(columns: &'a [Column], name: &str) -> Option<&'a Column>
         .find(|column| column.name().as_str() == name)
 }
 
-// Refuses the first name that stood before.
-fn check_distinct(alloc: Global, columns: &[Column]) -> PolarsResult<()>
-    ensures { Settles result (option_map (λ n. Duplicate n) (first_repeated (names_of (table_of columns.now)))) }
+/// The names of the columns, in their order.
+pub fn column_names(alloc: Global, columns: &[Column]) -> Result<Vec<&PlSmallStr>, OutOfMemory>
+    ensures { IfOk result (λ v. map (λ n. n.now) v.items ≡ names_of (table_of columns.now)) }
 {
-    let mut seen = NameSet::new(alloc);
+    let mut names = Vec::with_capacity(alloc, columns.len())?;
     for column in columns {
-        if !seen.insert(column.name())? {
-            return Err(PolarsError::Duplicate(column.name().copy(alloc)?));
-        }
+        names.push(column.name())?;
     }
-    Ok(())
+    Ok(names)
 }
 
 fn check_columns(alloc: Global, columns: &[Column]) -> PolarsResult<()>
@@ -100,7 +98,7 @@ fn check_columns(alloc: Global, columns: &[Column]) -> PolarsResult<()>
     if !is_level(columns) {
         return Err(PolarsError::ShapeMismatch);
     }
-    check_distinct(alloc, columns)
+    check_distinct(alloc, &column_names(alloc, columns)?)
 }
 
 impl DataFrame {
@@ -162,6 +160,15 @@ impl DataFrame {
         }
     }
 
+    /// The columns whose names are not among these. Names that no column has are ignored.
+    pub fn drop_many(&self, alloc: Global, names: &[PlSmallStr]) -> Result<DataFrame, OutOfMemory>
+        ensures { IfOk result (λ t. t ≡ without_names names.now self.now) }
+    {
+        Ok(DataFrame {
+            columns: other_columns(alloc, &self.columns, names)?,
+        })
+    }
+
     /// An equal table.
     pub fn copy(&self, alloc: Global) -> Result<DataFrame, OutOfMemory>
         ensures { IfOk result (λ t. t ≡ self.now) }
@@ -180,4 +187,21 @@ fn copy_columns(alloc: Global, columns: &[Column]) -> Result<Vec<Column>, OutOfM
         copies.push(column.copy(alloc)?)?;
     }
     Ok(copies)
+}
+
+fn other_columns(
+    alloc: Global,
+    columns: &[Column],
+    names: &[PlSmallStr],
+) -> Result<Vec<Column>, OutOfMemory>
+    ensures { IfOk result (λ v. v.items ≡ without_names names.now columns.now) }
+{
+    let gone = name_set(alloc, names)?;
+    let mut others = Vec::new(alloc);
+    for column in columns {
+        if !gone.contains(column.name()) {
+            others.push(column.copy(alloc)?)?;
+        }
+    }
+    Ok(others)
 }

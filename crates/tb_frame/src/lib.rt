@@ -3,8 +3,8 @@
 
 mod args;
 mod frame;
-mod name_set;
+mod names;
 
 pub use args::{Direction, JoinArgs, JoinCoalesce, JoinType, JoinValidation, MaintainOrderJoin};
-pub use frame::{DataFrame, IntoDf};
-pub use name_set::NameSet;
+pub use frame::{DataFrame, IntoDf, column_names};
+pub use names::{NameSet, check_distinct, name_set};

@@ -2,7 +2,7 @@ use Rattle.std.proofs.Common.{◌≡◌, ◌||◌, ap, ◌∙◌}
 use Rattle.tb_value.specs.Names.{Name, same_name}
 use Rattle.tb_frame.specs.NameSets.{has_name}
 use Rattle.tb_frame.proofs.Tests.{cond_or}
-use Rattle.tb_frame.proofs.name_set.NameSet.insert.Goals as goal
+use Rattle.tb_frame.proofs.names.NameSet.insert.Goals as goal
 
 pub returns-clause-names : goal.returns-clause-names
 returns-clause-names c = λ n.

@@ -1,11 +1,15 @@
-//! Sets of names.
-ghost use Rattle.std.specs.Prelude.{◌≡◌, ◌||◌, not, false, IfOk, OnOk, OnErr};
+//! Names, and sets of them.
+ghost use Rattle.std.specs.Prelude.{◌≡◌, ◌||◌, not, false, map, option_map, IfOk, OnOk, OnErr};
 ghost use Rattle.tb_value.specs.Names.{Name, same_name};
+ghost use Rattle.tb_value.specs.Refusals.{Settles};
+ghost use Rattle.tb_value.specs.declared.error.PolarsError.TheVariants.{Duplicate};
+ghost use Rattle.tb_frame.specs.Join.{is_among};
 ghost use Rattle.tb_frame.specs.NameSets.{has_name};
+ghost use Rattle.tb_frame.specs.Refusal.{first_repeated};
 
 use std::alloc::Global;
 use std::collections::HashSet;
-use tb_value::{OutOfMemory, PlSmallStr};
+use tb_value::{OutOfMemory, PlSmallStr, PolarsError, PolarsResult};
 
 /// A set of names, for asking whether a name is among many.
 #[derive(Drop)]
@@ -38,4 +42,28 @@ impl<'a> NameSet<'a> {
     {
         self.names.contains(name.as_str())
     }
+}
+
+/// The set of these names.
+pub fn name_set<'a>(alloc: Global, names: &'a [PlSmallStr]) -> Result<NameSet<'a>, OutOfMemory>
+    ensures { IfOk result (λ s. (n : Name) → has_name s n ≡ is_among names.now n) }
+{
+    let mut set = NameSet::new(alloc);
+    for name in names {
+        set.insert(name)?;
+    }
+    Ok(set)
+}
+
+/// Refuses the first name that stood before (Duplicate).
+pub fn check_distinct(alloc: Global, names: &[&PlSmallStr]) -> PolarsResult<()>
+    ensures { Settles result (option_map (λ n. Duplicate n) (first_repeated (map (λ n. n.now) names.now))) }
+{
+    let mut seen = NameSet::new(alloc);
+    for name in names {
+        if !seen.insert(name)? {
+            return Err(PolarsError::Duplicate(name.copy(alloc)?));
+        }
+    }
+    Ok(())
 }
