@@ -1,2 +1,13 @@
 pub mod Seen
 pub mod Tests
+pub mod Fields
+pub mod Tables
+pub mod Ordered
+pub mod Outs
+pub mod AnswerLemmas
+pub mod Listings
+pub mod Causes
+pub mod Turns
+pub mod Windows
+pub mod Ranges
+pub mod Assembled

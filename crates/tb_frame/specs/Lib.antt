@@ -4,3 +4,5 @@ pub mod Refusal
 pub mod Built
 pub mod Frame
 pub mod NameSets
+pub mod Answer
+pub mod Sides

@@ -1,6 +1,7 @@
 -- The pairs of two loops, and of one, ascend as they are listed.
 use Rattle.std.proofs.Common.{◌≡◌, ℕ, zero, suc, ◌+◌, ◌<◌, ◌≤◌, Bool, true, false, cond, not, List, [], ◌∷◌, ◌++◌, length, get_or, map, refl, ap, arith, sym, ◌∙◌, subst}
-use Rattle.std.specs.Prelude.{filter, IsSorted, All}
+use Rattle.std.specs.Prelude.{filter, IsSorted, All, AllPairs}
+use Rattle.std.proofs.lemmas.List.Kept.{AllPairs-cons}
 use Rattle.std.specs.List.{flat_map, list_any, range_with_len}
 use Rattle.std.specs.declared.cmp.Ordering.{Ordering}
 use Rattle.std.specs.declared.cmp.Ordering.TheVariants.{Less, Equal, Greater}
@@ -23,6 +24,44 @@ module _ {X : Type 0} (R : X → X → Type 0) where
 pub Ascends_by-map : {X Y : Type 0} (R : X → X → Type 0) (S : Y → Y → Type 0) (f : Y → X) → ((a b : Y) → S a b → R (f a) (f b)) → (ys : List Y) → Ascends_by S ys → Ascends_by R (map f ys)
 Ascends_by-map R S f h [] a = tt
 Ascends_by-map R S f h (y ∷ ys) a = (All-map (R (f y)) f ys (All-weaker (S y) (λ b. R (f y) (f b)) (h y) ys a.0), Ascends_by-map R S f h ys a.1)
+
+-- the pairs of places say the same
+pub Ascends_by-from_pairs : {X : Type 0} (R : X → X → Type 0) (xs : List X) → AllPairs R xs → Ascends_by R xs
+Ascends_by-from_pairs R [] h = tt
+Ascends_by-from_pairs R (x ∷ xs) h = (λ k d low. h 0 (suc k) d (omega arith) (omega arith), Ascends_by-from_pairs R xs (λ i j d low high. h (suc i) (suc j) d (omega arith) (omega arith)))
+
+pub pairs_from-Ascends_by : {X : Type 0} (R : X → X → Type 0) (xs : List X) → Ascends_by R xs → AllPairs R xs
+pairs_from-Ascends_by R [] a = λ i j d low high. absurd (omega arith)
+pairs_from-Ascends_by R (x ∷ xs) a = AllPairs-cons R x xs a.0 (pairs_from-Ascends_by R xs a.1)
+
+module _ {X Y : Type 0} (R : X → X → Type 0) (h : Y → X) (p : Y → Bool) where
+  All-thinned : (P : X → Type 0) (ys : List Y) → All P (map h ys) → All P (map h (filter p ys))
+  All-thinned P [] a = All-nil P
+  All-thinned P (y ∷ ys) a = at (p y) (All-thinned P ys (All-tail P (h y) (map h ys) a))
+    where
+      at : (b : Bool) → All P (map h (filter p ys)) → All P (map h (cond b (y ∷ filter p ys) (filter p ys)))
+      at true rest = All-cons P (h y) (map h (filter p ys)) (All-head P (h y) (map h ys) a) rest
+      at false rest = rest
+
+  Ascends_by-thinned : (ys : List Y) → Ascends_by R (map h ys) → Ascends_by R (map h (filter p ys))
+  Ascends_by-thinned [] a = tt
+  Ascends_by-thinned (y ∷ ys) a = at (p y) (Ascends_by-thinned ys a.1)
+    where
+      at : (b : Bool) → Ascends_by R (map h (filter p ys)) → Ascends_by R (map h (cond b (y ∷ filter p ys) (filter p ys)))
+      at true rest = (All-thinned (R (h y)) ys a.0, rest)
+      at false rest = rest
+
+  after_thinned : (us : List X) (ys : List Y) → Ascends_by R (us ++ map h ys) → Ascends_by R (us ++ map h (filter p ys))
+  after_thinned [] ys a = Ascends_by-thinned ys a
+  after_thinned (u ∷ us) ys a = (below us a.0, after_thinned us ys a.1)
+    where
+      below : (vs : List X) → All (R u) (vs ++ map h ys) → All (R u) (vs ++ map h (filter p ys))
+      below [] b = All-thinned (R u) ys b
+      below (v ∷ vs) b = All-cons (R u) v (vs ++ map h (filter p ys)) (All-head (R u) v (vs ++ map h ys) b) (below vs (All-tail (R u) v (vs ++ map h ys) b))
+
+  -- what holds of all pairs of a list holds where some of its last elements are left out
+  pub AllPairs-thinned : (us : List X) (ys : List Y) → AllPairs R (us ++ map h ys) → AllPairs R (us ++ map h (filter p ys))
+  AllPairs-thinned us ys a = pairs_from-Ascends_by R (us ++ map h (filter p ys)) (after_thinned us ys (Ascends_by-from_pairs R (us ++ map h ys) a))
 
 -- not below an earlier one
 abbrev pub NotBelow : {X : Type 0} → (X → X → Ordering) → X → X → Type 0

@@ -1,0 +1,53 @@
+-- The columns over the ordered and cut pairs are an answer.
+use Rattle.std.proofs.Common.{◌≡◌, ℕ, ◌<◌, List, [], ◌∷◌, length, get_or, map, ap, arith, sym, ◌∙◌, subst}
+use Rattle.std.specs.Prelude.{AllPairs, ◌≢◌}
+use Rattle.std.proofs.lemmas.List.{length-map, get_or-map, ext_get_or}
+use Rattle.std.proofs.lemmas.List.Elements.{All-map}
+use Rattle.tb_value.specs.declared.index.JoinPair.{JoinPair}
+use Rattle.tb_value.specs.Datum.{Datum}
+use Rattle.tb_value.specs.Datum.{null}
+use Rattle.tb_value.specs.Names.{Name}
+use Rattle.tb_frame.specs.Table.{TableColumn, Table, height, rows_of, row_at, names_of, IsTable}
+use Rattle.tb_value.specs.Pairs.{left_only}
+use Rattle.tb_frame.specs.Join.{Request, Out, out, cut, listing, IsOrdered, IsAnswer}
+use Rattle.tb_frame.specs.Answer.{fill}
+use Rattle.tb_value.proofs.Loops.{map-map}
+use Rattle.tb_frame.proofs.Tables.{length-rows_of, row_is}
+
+-- with a column, the table is as high as the pairs are many
+pub height-fill : (ps : List JoinPair) (os : List Out) → 0 < length os → height (map (fill ps) os) ≡ length ps
+height-fill ps [] h = absurd (omega arith)
+height-fill ps (o ∷ os) h = length-map ps o.at
+
+row-fill : (ps : List JoinPair) (os : List Out) (k : ℕ) → k < length ps → row_at (map (fill ps) os) k ≡ map (λ (o : Out). o.at (get_or ps k (left_only 0))) os
+row-fill ps os k low =
+    map-map (λ (c : TableColumn). get_or c.values k null) (fill ps) os
+    ∙ ap (λ (f : Out → Datum). map f os) (λ t o. get_or-map o.at ps k (left_only 0) null low t)
+
+pub rows-fill : (ps : List JoinPair) (os : List Out) → 0 < length os → rows_of (map (fill ps) os) ≡ map (λ pair. map (λ (o : Out). o.at pair) os) ps
+rows-fill ps os wide =
+    let t : Table = map (fill ps) os in
+    let f : JoinPair → List Datum = λ pair. map (λ (o : Out). o.at pair) os in
+    let high : height t ≡ length ps = height-fill ps os wide in
+    let long : length (rows_of t) ≡ length ps = length-rows_of t ∙ high in
+    ext_get_or [] (rows_of t) (map f ps) (long ∙ sym (length-map ps f)) (λ k low.
+    let in_t : k < height t = omega (arith, long, high) in
+    let in_ps : k < length ps = omega (arith, long) in
+    row_is t k in_t ∙ row-fill ps os k in_ps ∙ sym (get_or-map f ps k (left_only 0) [] in_ps))
+
+pub names-fill : (ps : List JoinPair) (os : List Out) → names_of (map (fill ps) os) ≡ map (λ (o : Out). o.name) os
+names-fill ps os = map-map (λ (c : TableColumn). c.name) (fill ps) os
+
+pub table-fill : (ps : List JoinPair) (os : List Out) → AllPairs (λ (a b : Name). a ≢ b) (map (λ (o : Out). o.name) os) → IsTable (map (fill ps) os)
+table-fill ps os apart = record {
+  distinct = subst (λ (ns : List Name). AllPairs (λ (a b : Name). a ≢ b) ns) (sym (names-fill ps os)) apart;
+  one_height = All-map (λ (c : TableColumn). length c.values ≡ height (map (fill ps) os)) (fill ps) os (λ k d low. length-map ps (get_or os k d).at ∙ sym (height-fill ps os (omega arith)));
+}
+
+pub answer_of : (q : Request) (ps : List JoinPair) → 0 < length (out q) → IsOrdered q.args.how q.args.maintain_order ps (listing q) → IsAnswer q (map (fill (cut q.args.slice ps)) (out q))
+answer_of q ps wide ordered = record {
+  columns = map-map (λ (c : TableColumn). (c.name, c.kind)) (fill (cut q.args.slice ps)) (out q);
+  pairs = ps;
+  ordered = ordered;
+  rows = rows-fill (cut q.args.slice ps) (out q) wide;
+}

@@ -1,0 +1,90 @@
+-- What follows where no cause holds.
+use Rattle.std.proofs.Common.{◌≡◌, ℕ, ◌<◌, Bool, true, false, cond, List, [], ◌∷◌, length, get_or, take, refl, ap, arith, sym, ◌∙◌, subst, Option, Some, None, Result, Ok, Err, inl, inr}
+use Rattle.std.specs.Prelude.{All, AllPairs, ◌≢◌, ◌⊎◌, IsErrAnd, ◌==◌, ◌||◌}
+use Rattle.std.specs.Option.{option_map}
+use Rattle.std.specs.List.{find, filter_map, cons_option}
+use Rattle.std.proofs.lemmas.List.{get_or-take, length-take, get_or_default}
+use Rattle.std.proofs.lemmas.List.Elements.{All-nil, All-cons, All-head, All-tail}
+use Rattle.std.proofs.lemmas.List.Folds.{list_any_at}
+use Rattle.std.proofs.lemmas.List.FromFn.{length-range_with_len, get_or-range_with_len}
+use Rattle.std.proofs.lemmas.Cmp.{nat_list_eq_equiv}
+use Rattle.tb_value.specs.declared.error.PolarsError.{PolarsError}
+use Rattle.tb_value.specs.declared.error.PolarsError.TheVariants.{OutOfMemory}
+use Rattle.tb_value.specs.Refusals.{Settles, first_cause, when}
+use Rattle.tb_value.specs.Names.{Name}
+use Rattle.tb_value.specs.Names.{same_name}
+use Rattle.tb_value.specs.Pairs.{row_numbers}
+use Rattle.tb_frame.specs.Table.{TableColumn, Table}
+use Rattle.tb_frame.specs.Join.{named, is_among}
+use Rattle.tb_frame.specs.Refusal.{first_repeated, first_unknown}
+
+pub map_none : {X Y : Type 0} (f : X → Y) (o : Option X) → option_map f o ≡ None → o ≡ None
+map_none f None h = refl
+map_none f (Some x) h = absurd (cc)
+
+pub first_none : (o : Option PolarsError) (os : List (Option PolarsError)) → first_cause (o ∷ os) ≡ None → (o ≡ None) × (first_cause os ≡ None)
+first_none None os h = (refl, h)
+first_none (Some e) os h = absurd (cc)
+
+-- none that was looked for is there
+none_at : {X : Type 0} (p : X → Bool) (x : X) (xs : List X) → (find p xs ≡ None → All (λ y. p y ≡ false) xs) → (b : Bool) → p x ≡ b → find p (x ∷ xs) ≡ None → All (λ y. p y ≡ false) (x ∷ xs)
+none_at {X} p x xs rest true e h = absurd (let c : cond true (Some x) (find p xs) ≡ None = ap (λ (b : Bool). cond b (Some x) (find p xs)) (sym e) ∙ h in cc)
+none_at {X} p x xs rest false e h = All-cons (λ y. p y ≡ false) x xs e (rest (ap (λ (b : Bool). cond b (Some x) (find p xs)) (sym e) ∙ h))
+
+pub find_none : {X : Type 0} (p : X → Bool) (xs : List X) → find p xs ≡ None → All (λ y. p y ≡ false) xs
+find_none p [] h = All-nil (λ y. p y ≡ false)
+find_none p (x ∷ xs) h = none_at p x xs (find_none p xs) (p x) refl h
+
+-- names of which none stood before are distinct
+pub distinct_names : (names : List Name) → first_repeated names ≡ None → AllPairs (λ (a b : Name). a ≢ b) names
+distinct_names names h = λ i j d low high same.
+    let before : ℕ → Bool = λ k. is_among (take k names) (get_or names k []) in
+    let long : length (row_numbers (length names)) ≡ length names = length-range_with_len 0 (length names) in
+    let fails : before (get_or (row_numbers (length names)) j 0) ≡ false = find_none before (row_numbers (length names)) (map_none (λ k. get_or names k []) (find before (row_numbers (length names))) h) j 0 (omega (arith, long)) in
+    let at : get_or (row_numbers (length names)) j 0 ≡ j = get_or-range_with_len 0 (length names) j 0 high ∙ omega arith in
+    let no_match : before j ≡ false = ap before (sym at) ∙ fails in
+    let size = length-take j names in
+    let here : get_or (take j names) i [] ≡ get_or names j [] = get_or-take j names i [] low ∙ get_or_default names i [] d (omega arith) ∙ same ∙ get_or_default names j d [] high in
+    let match : before j ≡ true = list_any_at (same_name (get_or names j [])) (take j names) i [] (omega (arith, size)) (ap (same_name (get_or names j [])) here ∙ nat_list_eq_equiv.refl (get_or names j [])) in
+    absurd (let c : false ≡ true = sym no_match ∙ match in cc)
+
+-- what holds of each column holds of those of given names
+pub found_holds : (P : TableColumn → Type 0) (p : TableColumn → Bool) (t : Table) → All P t → (c : TableColumn) → find p t ≡ Some c → P c
+found_holds P p [] h c e = absurd (cc)
+found_holds P p (x ∷ xs) h c e = at (p x) e (found_holds P p xs (All-tail P x xs h) c)
+  where
+    at : (b : Bool) → cond b (Some x) (find p xs) ≡ Some c → (find p xs ≡ Some c → P c) → P c
+    at true k rest = let same : x ≡ c = cc in subst P same (All-head P x xs h)
+    at false k rest = rest k
+
+pub selected_hold : (P : TableColumn → Type 0) (t : Table) → All P t → (names : List Name) → All P (filter_map (named t) names)
+selected_hold P t h [] = All-nil P
+selected_hold P t h (n ∷ ns) = at (named t n) refl (selected_hold P t h ns)
+  where
+    at : (o : Option TableColumn) → named t n ≡ o → All P (filter_map (named t) ns) → All P (cons_option o (filter_map (named t) ns))
+    at None e rest = rest
+    at (Some c) e rest = All-cons P c (filter_map (named t) ns) (found_holds P (λ (k : TableColumn). same_name k.name n) t h c e) rest
+
+-- a table that has a key has a column
+pub has_column : (t : Table) (names : List Name) → 0 < length names → first_unknown t names ≡ None → 0 < length t
+has_column [] [] h e = absurd (omega arith)
+has_column [] (n ∷ ns) h e = absurd (cc)
+has_column (c ∷ cs) names h e = omega arith
+
+-- the first of some causes is the first of more
+pub earlier : (a b c d : Option PolarsError) (rest : List (Option PolarsError)) (e : PolarsError) → first_cause (a ∷ b ∷ c ∷ d ∷ []) ≡ Some e → first_cause (a ∷ b ∷ c ∷ d ∷ rest) ≡ Some e
+earlier (Some x) b c d rest e h = h
+earlier None (Some x) c d rest e h = h
+earlier None None (Some x) d rest e h = h
+earlier None None None (Some x) rest e h = h
+earlier None None None None rest e h = absurd (cc)
+
+pub some_keys : (ls rs : List Name) (e : PolarsError) → when (length ls == 0 || length rs == 0) e ≡ None → 0 < length ls
+some_keys [] rs e h = absurd (cc)
+some_keys (l ∷ ls) rs e h = omega arith
+
+-- an error that `?` hands on, of the first causes
+pub carried : {T : Type 0} (r : Result T PolarsError) (e : PolarsError) (a b c d : Option PolarsError) (rest : List (Option PolarsError)) → IsErrAnd r (λ x. x ≡ e) → (e ≡ OutOfMemory) ⊎ (first_cause (a ∷ b ∷ c ∷ d ∷ []) ≡ Some e) → Settles r (first_cause (a ∷ b ∷ c ∷ d ∷ rest))
+carried (Ok x) e a b c d rest h k = absurd h
+carried (Err x) e a b c d rest h (inl k) = inl (h ∙ k)
+carried (Err x) e a b c d rest h (inr k) = inr (earlier a b c d rest e k ∙ ap (λ (y : PolarsError). Some y) (sym h))
