@@ -15,7 +15,8 @@ use crate::chunks::Chunks;
 use crate::series::Series;
 use std::alloc::Global;
 use tb_value::{
-    AnyValue, Bytes, ComputeCause, DataType, IsSorted, MAX_ROWS, OutOfMemory, PlSmallStr, PolarsError, Values,
+    AnyValue, Bytes, ComputeCause, DataType, IsSorted, MAX_ROWS, OutOfMemory, PlSmallStr,
+    PolarsError, Values,
 };
 
 #[tactic(auto, using(crate::proofs::Alls::all_next))]
