@@ -8,7 +8,7 @@ use Rattle.tb_value.specs.Typed.{HasType}
 use Rattle.tb_value.specs.declared.any_value.AnyValue.{AnyValue}
 use Rattle.std.specs.declared.vec.Vec.{Vec}
 use Rattle.std.specs.declared.alloc.Global.{Global}
-use Rattle.tb_store.specs.Col.{Col, flat}
+use Rattle.tb_store.specs.Col.{Col, flat, physical}
 use Rattle.tb_value.specs.declared.error.ComputeCause.TheVariants.{TooManyRows}
 use Rattle.tb_value.specs.declared.error.PolarsError.{PolarsError}
 use Rattle.tb_value.specs.declared.error.PolarsError.TheVariants.{ComputeError, SchemaMismatch, OutOfMemory}
@@ -29,10 +29,19 @@ IsTyped t cs = All (HasType t) (flat cs)
 abbrev pub IsShort : List (List Datum) → Type 0
 IsShort cs = length (flat cs) ≤ 4294967294
 
+-- why there is no column: a value of another type first, then too many values; want of memory at any time
+abbrev pub IsRefused : Type 0 → Type 0 → PolarsError → Type 0
+IsRefused typed short SchemaMismatch = ¬ typed
+IsRefused typed short (ComputeError TooManyRows) = typed × ¬ short
+IsRefused typed short OutOfMemory = Unit {0}
+IsRefused typed short _ = ⊥
+
 -- the column of this name and type and these chunks, or why there is none
 abbrev pub IsMade : List ℕ → Kind → List (List Datum) → Result Col PolarsError → Type 0
 IsMade n t cs (Ok c) = IsTyped t cs × IsShort cs × (c ≡ record { name = n; kind = t; chunks = at_least_one cs; flag = Not })
-IsMade n t cs (Err SchemaMismatch) = ¬ (IsTyped t cs)
-IsMade n t cs (Err (ComputeError TooManyRows)) = IsTyped t cs × ¬ (IsShort cs)
-IsMade n t cs (Err OutOfMemory) = Unit {0}
-IsMade n t cs (Err _) = ⊥
+IsMade n t cs (Err e) = IsRefused (IsTyped t cs) (IsShort cs) e
+
+-- the same of typed chunks, which are stored by the type s
+abbrev pub IsArranged : List ℕ → Kind → Kind → List (List Datum) → Result Col PolarsError → Type 0
+IsArranged n t s cs (Ok c) = (s ≡ physical t) × IsTyped t cs × IsShort cs × (c ≡ record { name = n; kind = t; chunks = at_least_one cs; flag = Not })
+IsArranged n t s cs (Err e) = IsRefused ((s ≡ physical t) × IsTyped t cs) (IsShort cs) e

@@ -1,12 +1,14 @@
 //! Columns: a name, a type, one or more chunks of values, and whether the values are known to be in order.
 #![tactic(auto)]
 
+mod arrange;
 mod cell;
 mod chunk;
 mod chunks;
 mod column;
 mod grow;
 mod make;
+mod marker;
 mod series;
 
 pub use cell::{Cell, FieldValues};
@@ -14,6 +16,7 @@ pub use chunk::{Cells, Chunk, StringChunk};
 pub use chunks::Chunks;
 pub use column::Column;
 pub use grow::Grow;
+pub use marker::{Physical, physical_of};
 pub use series::Series;
 pub use tb_value::{
     AnyValue, Bytes, ComputeCause, DataType, Field, Fields, IdxSize, InvalidCause, IsSorted,

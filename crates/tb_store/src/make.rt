@@ -15,10 +15,9 @@ use crate::chunks::Chunks;
 use crate::series::Series;
 use std::alloc::Global;
 use tb_value::{
-    AnyValue, Bytes, ComputeCause, DataType, IsSorted, OutOfMemory, PlSmallStr, PolarsError, Values,
+    AnyValue, Bytes, ComputeCause, DataType, IsSorted, MAX_ROWS, OutOfMemory, PlSmallStr,
+    PolarsError, Values,
 };
-
-const MAX_ROWS: usize = 4_294_967_294;
 
 #[tactic(auto, using(crate::proofs::Alls::all_next))]
 fn are_of(dtype: &DataType, values: &[AnyValue]) -> bool

@@ -55,6 +55,14 @@ impl Series {
         self.chunks.count()
     }
 
+    /// The chunks, by the type that the values are stored as.
+    pub fn chunks(&self) -> &Chunks
+        ensures lists { chunk_lists result.now ≡ self.now.chunks }
+        ensures storage { storage result.now ≡ physical self.now.kind }
+    {
+        &self.chunks
+    }
+
     pub fn rename(&mut self, name: PlSmallStr)
         ensures { self.new ≡ record self.old { name = name } }
     {

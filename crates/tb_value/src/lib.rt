@@ -17,6 +17,6 @@ pub use bytes::Bytes;
 pub use dtype::{DataType, Field, Fields, TimeUnit};
 pub use error::{ComputeCause, InvalidCause, OutOfMemory, PolarsError, PolarsResult, Side};
 pub use index::{IdxSize, JoinPair, NullableIdxSize};
-pub use limits::MAX_ROWS;
+pub use limits::{MAX_ROWS, TOO_LONG};
 pub use pl_str::PlSmallStr;
 pub use sorted::IsSorted;

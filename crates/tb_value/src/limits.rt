@@ -3,3 +3,6 @@
 /// The most rows that a column or a table has, and the most pairs that a join lists: one number
 /// less than the greatest row number, since the greatest number of 32 bits stands for no row.
 pub const MAX_ROWS: usize = 4_294_967_294;
+
+/// The length from which on a text or a list of bytes is too long to be a value.
+pub const TOO_LONG: usize = 4_294_967_296;

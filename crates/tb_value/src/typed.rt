@@ -2,12 +2,14 @@
 ghost use Rattle.std.specs.Prelude.{◌≡◌, ◌↔◌, ◌<◌, ◌≤ℤ◌, ◌^◌, IsTrue, IsSomeAnd, length};
 ghost use Rattle.tb_value.specs.Datum.{items_of};
 ghost use Rattle.tb_value.specs.Kind.{parts_of, boolean, string, binary};
-ghost use Rattle.tb_value.specs.See.{datum};
+ghost use Rattle.std.specs.Str.{IsUtf8};
+ghost use Rattle.tb_value.specs.See.{datum, lent};
 ghost use Rattle.tb_value.specs.SeeKind.{kind_of, parts};
-ghost use Rattle.tb_value.specs.Typed.{HasType, AreOf, AreEachOf, ends};
+ghost use Rattle.tb_value.specs.Typed.{HasType, AreOf, AreEachOf, IsListOf, IsStructOf, ends};
 
-use crate::any_value::{AnyValue, Values};
+use crate::any_value::{AnyValue, ValueRef, Values};
 use crate::dtype::{DataType, Fields};
+use crate::limits::TOO_LONG;
 
 impl DataType {
     /// Whether the value is of this type.
@@ -15,6 +17,21 @@ impl DataType {
         ensures { IsTrue result ↔ HasType (kind_of self.now) (datum value.now) }
     {
         is_of(self, value)
+    }
+
+    /// Whether the value that is lent is of this type.
+    pub fn is_of_ref(&self, value: ValueRef<'_>) -> bool
+        ensures { IsTrue result ↔ HasType (kind_of self.now) (lent value.entry) }
+    {
+        match value {
+            ValueRef::Null => true,
+            ValueRef::Boolean(_) => is_boolean(self),
+            ValueRef::Int(i) => is_int_of(self, i),
+            ValueRef::String(s) => is_string(self) && s.len() < TOO_LONG && is_text(s),
+            ValueRef::Binary(s) => is_binary(self) && s.len() < TOO_LONG,
+            ValueRef::List(values) => is_list_of(self, values),
+            ValueRef::Struct(values) => is_struct_of(self, values),
+        }
     }
 }
 
@@ -70,6 +87,12 @@ fn is_string(dtype: &DataType) -> bool
     }
 }
 
+fn is_text(bytes: &[u8]) -> bool
+    ensures { IsTrue result ↔ IsUtf8 bytes.now }
+{
+    str::from_utf8(bytes).is_ok()
+}
+
 fn is_binary(dtype: &DataType) -> bool
     ensures { IsTrue result ↔ (kind_of dtype.now ≡ binary) }
 {
@@ -87,50 +110,64 @@ fn is_of(dtype: &DataType, value: &AnyValue) -> bool
         AnyValue::Null => true,
         AnyValue::Boolean(_) => is_boolean(dtype),
         AnyValue::Int(i) => is_int_of(dtype, *i),
-        AnyValue::String(s) => is_string(dtype) && s.as_str().len() < 4_294_967_296,
-        AnyValue::Binary(s) => is_binary(dtype) && s.as_slice().len() < 4_294_967_296,
-        AnyValue::List(vs) => match dtype {
-            DataType::List(inner) => are_of(inner, vs),
-            DataType::Null
-            | DataType::Boolean
-            | DataType::Int8
-            | DataType::Int16
-            | DataType::Int32
-            | DataType::Int64
-            | DataType::Int128
-            | DataType::UInt8
-            | DataType::UInt16
-            | DataType::UInt32
-            | DataType::UInt64
-            | DataType::String
-            | DataType::Binary
-            | DataType::Date
-            | DataType::Datetime(_, _)
-            | DataType::Duration(_)
-            | DataType::Time
-            | DataType::Struct(_) => false,
-        },
-        AnyValue::Struct(vs) => match dtype {
-            DataType::Struct(fields) => are_each_of(fields, vs),
-            DataType::Null
-            | DataType::Boolean
-            | DataType::Int8
-            | DataType::Int16
-            | DataType::Int32
-            | DataType::Int64
-            | DataType::Int128
-            | DataType::UInt8
-            | DataType::UInt16
-            | DataType::UInt32
-            | DataType::UInt64
-            | DataType::String
-            | DataType::Binary
-            | DataType::Date
-            | DataType::Datetime(_, _)
-            | DataType::Duration(_)
-            | DataType::Time
-            | DataType::List(_) => false,
-        },
+        AnyValue::String(s) => is_string(dtype) && s.as_str().len() < TOO_LONG,
+        AnyValue::Binary(s) => is_binary(dtype) && s.as_slice().len() < TOO_LONG,
+        AnyValue::List(vs) => is_list_of(dtype, vs),
+        AnyValue::Struct(vs) => is_struct_of(dtype, vs),
+    }
+}
+
+#[cycle(is_of)]
+fn is_list_of(dtype: &DataType, values: &Values) -> bool
+    ensures { IsTrue result ↔ IsListOf (kind_of dtype.now) (λ t. AreOf t (items_of values.now)) }
+{
+    match dtype {
+        DataType::List(inner) => are_of(inner, values),
+        DataType::Null
+        | DataType::Boolean
+        | DataType::Int8
+        | DataType::Int16
+        | DataType::Int32
+        | DataType::Int64
+        | DataType::Int128
+        | DataType::UInt8
+        | DataType::UInt16
+        | DataType::UInt32
+        | DataType::UInt64
+        | DataType::String
+        | DataType::Binary
+        | DataType::Date
+        | DataType::Datetime(_, _)
+        | DataType::Duration(_)
+        | DataType::Time
+        | DataType::Struct(_) => false,
+    }
+}
+
+#[cycle(is_of)]
+fn is_struct_of(dtype: &DataType, values: &Values) -> bool
+    ensures { IsTrue result ↔ IsStructOf (kind_of dtype.now) (λ ps. AreEachOf ps (items_of values.now)) }
+{
+    match dtype {
+        DataType::Struct(fields) => are_each_of(fields, values),
+        DataType::Null
+        | DataType::Boolean
+        | DataType::Int8
+        | DataType::Int16
+        | DataType::Int32
+        | DataType::Int64
+        | DataType::Int128
+        | DataType::UInt8
+        | DataType::UInt16
+        | DataType::UInt32
+        | DataType::UInt64
+        | DataType::String
+        | DataType::Binary
+        | DataType::Date
+        | DataType::Datetime(_, _)
+        | DataType::Duration(_)
+        | DataType::Time
+        | DataType::List(_) => false,
     }
 }
 
