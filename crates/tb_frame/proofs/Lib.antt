@@ -1,3 +1,4 @@
+pub mod Frames
 pub mod Seen
 pub mod Tests
 pub mod Fields

@@ -1,0 +1,72 @@
+-- Lists of columns that make tables.
+use Rattle.std.proofs.Common.{◌≡◌, ◌==◌, ℕ, ◌<◌, Bool, true, false, cond, not, ◌&&◌, List, [], ◌∷◌, ◌++◌, length, get_or, map, take, refl, ap, sym, ◌∙◌, ◌+◌, append-nil, subst, Option, Some, None, arith}
+use Rattle.std.specs.Prelude.{All, AllPairs, ◌≢◌, filter}
+use Rattle.std.specs.Option.{option_map}
+use Rattle.std.specs.List.{list_all}
+use Rattle.std.proofs.lemmas.Bool.{eqb-true}
+use Rattle.std.proofs.lemmas.List.{length-map}
+use Rattle.std.proofs.lemmas.List.Elements.{All-nil, All-cons, All-weaker, All-filter, All-map, filter_more}
+use Rattle.tb_value.specs.Names.{Name}
+use Rattle.tb_value.specs.Refusals.{first_cause, when}
+use Rattle.tb_value.specs.declared.error.PolarsError.{PolarsError}
+use Rattle.tb_value.specs.declared.error.PolarsError.TheVariants.{ShapeMismatch, Duplicate}
+use Rattle.tb_value.proofs.Ascending.{AllPairs-thinned}
+use Rattle.tb_store.specs.Col.{Col, values}
+use Rattle.tb_frame.specs.Table.{TableColumn, Table, plain, table_of, height, names_of, IsTable}
+use Rattle.tb_frame.specs.Join.{is_among, without}
+use Rattle.tb_frame.specs.Frame.{are_level, frame_refusal, without_names}
+use Rattle.tb_frame.specs.Refusal.{first_repeated}
+use Rattle.tb_frame.proofs.Causes.{first_none, map_none, distinct_names}
+
+all_true : {X : Type 0} (p : X → Bool) (xs : List X) → list_all p xs ≡ true → All (λ x. p x ≡ true) xs
+all_true p [] h = All-nil (λ x. p x ≡ true)
+all_true {X} p (x ∷ xs) h = at (p x) refl h (all_true p xs)
+  where
+    at : (b : Bool) → p x ≡ b → (b && list_all p xs) ≡ true → (list_all p xs ≡ true → All (λ x. p x ≡ true) xs) → All (λ x. p x ≡ true) (x ∷ xs)
+    at true e k rest = All-cons (λ x. p x ≡ true) x xs e (rest k)
+    at false e k rest = absurd (cc)
+
+when_not : (b : Bool) (e : PolarsError) → when (not b) e ≡ None → b ≡ true
+when_not true e h = refl
+when_not false e h = absurd (cc)
+
+-- where nothing is refused, the columns make a table
+pub makes_frame : (t : Table) → frame_refusal t ≡ None → IsTable t
+makes_frame t h =
+    let a = first_none (when (not (are_level t)) ShapeMismatch) (option_map (λ n. Duplicate n) (first_repeated (names_of t)) ∷ []) h in
+    let b = first_none (option_map (λ n. Duplicate n) (first_repeated (names_of t))) [] a.1 in
+    record {
+      distinct = distinct_names (names_of t) (map_none (λ n. Duplicate n) (first_repeated (names_of t)) b.0);
+      one_height = All-weaker (λ (c : TableColumn). (length c.values == height t) ≡ true) (λ (c : TableColumn). length c.values ≡ height t) (λ c e. eqb-true (length c.values) (height t) e) t (all_true (λ (c : TableColumn). length c.values == height t) t (when_not (are_level t) ShapeMismatch a.0));
+    }
+
+-- columns left out before or after chunks and flags are
+pub without-table : (names : List Name) (cs : List Col) → table_of (without_names names cs) ≡ without names (table_of cs)
+without-table names [] = refl
+without-table names (c ∷ cs) = at (not (is_among names c.name)) (without-table names cs)
+  where
+    at : (b : Bool) → table_of (without_names names cs) ≡ without names (table_of cs) → table_of (cond b (c ∷ without_names names cs) (without_names names cs)) ≡ cond b (plain c ∷ without names (table_of cs)) (without names (table_of cs))
+    at true e = ap (λ (t : Table). plain c ∷ t) e
+    at false e = e
+
+level_height : (n : ℕ) (t : Table) → All (λ (c : TableColumn). length c.values ≡ n) t → All (λ (c : TableColumn). length c.values ≡ height t) t
+level_height n [] h = All-nil (λ (c : TableColumn). length c.values ≡ height [])
+level_height n (c ∷ cs) h = let first : length c.values ≡ n = h 0 c (omega arith) in All-weaker (λ (k : TableColumn). length k.values ≡ n) (λ (k : TableColumn). length k.values ≡ length c.values) (λ k e. e ∙ sym first) (c ∷ cs) h
+
+-- a table without some of its columns
+pub IsTable-without : (names : List Name) (t : Table) → IsTable t → IsTable (without names t)
+IsTable-without names t h = record {
+  distinct = AllPairs-thinned (λ (a b : Name). a ≢ b) (λ (c : TableColumn). c.name) (λ (c : TableColumn). not (is_among names c.name)) [] t h.distinct;
+  one_height = level_height (height t) (without names t) (All-filter (λ (c : TableColumn). not (is_among names c.name)) (λ (c : TableColumn). length c.values ≡ height t) t h.one_height);
+}
+
+-- a loop that keeps the columns that pass a test
+module _ {X : Type 0} (p : X → Bool) (xs : List X) (i : ℕ) (x : X) (low : i < length xs) (is : x ≡ get_or xs i x) (out : List X) (so_far : out ≡ filter p (take i xs)) where
+  grown : (b : Bool) → p x ≡ b → filter p (take (i + 1) xs) ≡ filter p (take i xs) ++ cond b (x ∷ []) []
+  grown b e = filter_more p xs i x low ∙ ap (λ (y : X). filter p (take i xs) ++ cond (p y) (y ∷ []) []) (sym is) ∙ ap (λ (c : Bool). filter p (take i xs) ++ cond c (x ∷ []) []) e
+
+  pub kept : (y : X) → y ≡ x → p x ≡ true → out ++ y ∷ [] ≡ filter p (take (i + 1) xs)
+  kept y e h = ap (λ (l : List X). l ++ y ∷ []) so_far ∙ ap (λ (z : X). filter p (take i xs) ++ z ∷ []) e ∙ sym (grown true h)
+
+  pub passed : p x ≡ false → out ≡ filter p (take (i + 1) xs)
+  passed h = so_far ∙ sym (grown false h ∙ append-nil (filter p (take i xs)))

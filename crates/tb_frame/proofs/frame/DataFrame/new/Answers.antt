@@ -1,0 +1,9 @@
+use Rattle.std.proofs.Common.{◌≡◌, List, ap, sym, ◌∙◌, subst, None}
+use Rattle.tb_store.specs.Col.{Col}
+use Rattle.tb_frame.specs.Table.{table_of}
+use Rattle.tb_frame.specs.Frame.{frame_refusal}
+use Rattle.tb_frame.proofs.Frames.{makes_frame}
+use Rattle.tb_frame.proofs.frame.DataFrame.new.Goals as goal
+
+pub invariant_of-result : goal.invariant_of-result
+invariant_of-result c = makes_frame (table_of c.args.columns.items) (subst (λ (cs : List Col). frame_refusal (table_of cs) ≡ None) c.deref.ensures.value c.in_ok-check_columns.ensures)
