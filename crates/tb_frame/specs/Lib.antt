@@ -4,3 +4,4 @@ pub mod Refusal
 pub mod Built
 pub mod Answer
 pub mod Sides
+pub mod Meaning
