@@ -12,3 +12,4 @@ pub mod Turns
 pub mod Windows
 pub mod Ranges
 pub mod Assembled
+pub mod Meaning

@@ -6,3 +6,4 @@ pub mod Frame
 pub mod NameSets
 pub mod Answer
 pub mod Sides
+pub mod Meaning

@@ -1,0 +1,66 @@
+-- The small requests' answers, by computation.
+use Rattle.std.proofs.Common.{◌≡◌, ℕ, zero, suc, ◌+◌, ◌<◌, ◌≤◌, Bool, true, false, not, List, [], ◌∷◌, length, get_or, Some, refl, arith, subst, sym, lit<, pos, negsuc}
+use Rattle.std.specs.Prelude.{IsSorted, ◌&&◌}
+use Rattle.std.specs.declared.cmp.Ordering.{Ordering}
+use Rattle.std.specs.Ordering.{is_lt}
+use Rattle.std.proofs.lemmas.Bool.{and_parts, not-true}
+use Rattle.std.proofs.lemmas.List.Sorted.{IsPermutation-refl}
+use Rattle.tb_value.specs.declared.index.JoinPair.{JoinPair}
+use Rattle.tb_value.specs.Datum.{null}
+use Rattle.tb_value.specs.Pairs.{both, left_only, right_only, left_first, right_first}
+use Rattle.tb_frame.specs.declared.args.JoinCoalesce.TheVariants.{JoinSpecific, CoalesceColumns}
+use Rattle.tb_frame.specs.Join.{IsAnswer, IsOrdered}
+use Rattle.tb_frame.specs.declared.args.JoinType.TheVariants.{Inner}
+use Rattle.tb_frame.specs.declared.args.MaintainOrderJoin.TheVariants as order
+use Rattle.tb_join.specs.Rows.{full_right_left, cut_thrice, number, numbers, keys, k_name, k_right_name}
+
+-- a test that computes whether a list is sorted
+abbrev pub ascends_test : {X : Type 0} → (X → X → Ordering) → List X → Bool
+ascends_test cmp [] = true
+ascends_test cmp (x ∷ []) = true
+ascends_test cmp (x ∷ y ∷ zs) = not (is_lt (cmp y x)) && ascends_test cmp (y ∷ zs)
+
+pub sorted_by_test : {X : Type 0} (cmp : X → X → Ordering) (xs : List X) → ascends_test cmp xs ≡ true → IsSorted cmp xs
+sorted_by_test cmp [] t = λ k d low high. absurd (omega arith)
+sorted_by_test cmp (x ∷ []) t = λ k d low high. absurd (omega arith)
+sorted_by_test {X} cmp (x ∷ y ∷ zs) t = at (sorted_by_test cmp (y ∷ zs) (and_parts (not (is_lt (cmp y x))) (ascends_test cmp (y ∷ zs)) t).1)
+  where
+    at : IsSorted cmp (y ∷ zs) → (k : ℕ) (d : X) → 0 ≤ k → k + 1 < length (x ∷ y ∷ zs) → is_lt (cmp (get_or (x ∷ y ∷ zs) (k + 1) d) (get_or (x ∷ y ∷ zs) k d)) ≡ false
+    at rest zero d low high = not-true (is_lt (cmp y x)) (and_parts (not (is_lt (cmp y x))) (ascends_test cmp (y ∷ zs)) t).0
+    at rest (suc k) d low high =
+        let e : suc k + 1 ≡ suc (k + 1) = omega arith in
+        subst (λ (n : ℕ). is_lt (cmp (get_or (x ∷ y ∷ zs) n d) (get_or (x ∷ y ∷ zs) (suc k) d)) ≡ false) (sym e) (rest k d (omega arith) (omega arith))
+
+pub full_apart : IsAnswer (full_right_left JoinSpecific) (numbers k_name (null ∷ number 1 ∷ number 3 ∷ []) ∷ numbers k_right_name (number 2 ∷ number 1 ∷ null ∷ []) ∷ [])
+full_apart = record {
+  columns = refl;
+  pairs = right_only 0 ∷ both 0 1 ∷ left_only 1 ∷ [];
+  ordered = record { permutation = record { moves = (1, 2) ∷ (0, 2) ∷ []; below = (lit< tt, lit< tt, (lit< tt, lit< tt, tt)); is = refl }; ascends = sorted_by_test right_first (right_only 0 ∷ both 0 1 ∷ left_only 1 ∷ []) refl };
+  rows = refl;
+}
+
+pub full_merged : IsAnswer (full_right_left CoalesceColumns) (keys (number 2 ∷ number 1 ∷ number 3 ∷ []))
+full_merged = record {
+  columns = refl;
+  pairs = right_only 0 ∷ both 0 1 ∷ left_only 1 ∷ [];
+  ordered = record { permutation = record { moves = (1, 2) ∷ (0, 2) ∷ []; below = (lit< tt, lit< tt, (lit< tt, lit< tt, tt)); is = refl }; ascends = sorted_by_test right_first (right_only 0 ∷ both 0 1 ∷ left_only 1 ∷ []) refl };
+  rows = refl;
+}
+
+abbrev three_pairs : List JoinPair
+three_pairs = both 0 0 ∷ both 1 1 ∷ both 2 2 ∷ []
+
+three_ordered : IsOrdered Inner order.LeftRight three_pairs three_pairs
+three_ordered = record { permutation = IsPermutation-refl three_pairs; ascends = sorted_by_test left_first three_pairs refl }
+
+pub begins_before : IsAnswer (cut_thrice (Some (negsuc 4, 3))) (keys (number 1 ∷ []))
+begins_before = record { columns = refl; pairs = three_pairs; ordered = three_ordered; rows = refl }
+
+pub has_no_length : IsAnswer (cut_thrice (Some (pos 0, 0))) (keys [])
+has_no_length = record { columns = refl; pairs = three_pairs; ordered = three_ordered; rows = refl }
+
+pub begins_after : IsAnswer (cut_thrice (Some (pos 3, 1))) (keys [])
+begins_after = record { columns = refl; pairs = three_pairs; ordered = three_ordered; rows = refl }
+
+pub ends_after : IsAnswer (cut_thrice (Some (negsuc 0, 18446744073709551615))) (keys (number 3 ∷ []))
+ends_after = record { columns = refl; pairs = three_pairs; ordered = three_ordered; rows = refl }

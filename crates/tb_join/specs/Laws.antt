@@ -1,0 +1,57 @@
+-- The laws over the definitions of the join.
+use Rattle.std.specs.Prelude.{◌≡◌, ◌≢◌, ◌↔◌, ℕ, ◌+◌, ◌<◌, ◌≤◌, min, true, false, List, [], ◌∷◌, map, length, pos, negsuc, Some, None, IsPermutation}
+use Rattle.std.specs.Bool.{Decides}
+use Rattle.tb_value.specs.declared.index.JoinPair.{JoinPair}
+use Rattle.tb_value.specs.Datum.{Datum, null}
+use Rattle.tb_value.specs.Pairs.{both, times, turn}
+use Rattle.tb_value.specs.Same.{same}
+use Rattle.tb_frame.specs.declared.args.Direction.TheVariants.{Free}
+use Rattle.tb_frame.specs.declared.args.JoinCoalesce.TheVariants.{JoinSpecific, CoalesceColumns}
+use Rattle.tb_frame.specs.declared.args.JoinType.TheVariants.{Left, Right, Semi, Anti}
+use Rattle.tb_frame.specs.declared.args.MaintainOrderJoin.{MaintainOrderJoin}
+use Rattle.tb_frame.specs.Table.{Table, IsTable, height}
+use Rattle.tb_frame.specs.Join.{Request, IsAnswer, IsOrdered, direction, field, listing, matches, nulls}
+use Rattle.tb_frame.specs.Refusal.{join_refusal}
+use Rattle.tb_frame.specs.Sides.{asking, exchanged, flip}
+use Rattle.tb_frame.specs.Meaning.{Agree}
+use Rattle.tb_join.specs.Rows.{null_keys, full_right_left, cut_thrice, number, numbers, keys, k_name, k_right_name}
+
+-- two answers to one request whose order is fixed are equal
+abbrev pub OneAnswer : Type 0
+OneAnswer = (q : Request) (s t : Table) → direction q.args.how q.args.maintain_order ≢ Free → IsTable s → IsTable t → IsAnswer q s → IsAnswer q t → s ≡ t
+
+-- each left row stands in exactly one of the Semi and Anti listings, and once
+abbrev pub Parts : Type 0
+Parts = (q : Request) (i : ℕ) → i < height q.left → times i (listing (asking Semi q)) + times i (listing (asking Anti q)) ≡ 1
+
+-- each left row stands in a pair of a Left listing, and in one alone if the listing is as long as the left table
+abbrev pub Kept : Type 0
+Kept = (q : Request) (i : ℕ) → q.args.how ≡ Left → i < height q.left → (1 ≤ times i (listing q)) × (length (listing q) ≡ height q.left → times i (listing q) ≡ 1)
+
+-- the Right listing is, up to order, the Left listing of the exchanged request with each pair turned round
+abbrev pub Turned : Type 0
+Turned = (q : Request) → IsPermutation (map turn (listing (asking Left (exchanged q)))) (listing (asking Right q))
+
+-- pairs are in an order for the one where they are, turned round, in the flipped order for the other
+abbrev pub TurnedOrder : Type 0
+TurnedOrder = (q : Request) (o : MaintainOrderJoin) (ps : List JoinPair) → IsOrdered Right o ps (listing (asking Right q)) ↔ IsOrdered Left (flip o) (map turn ps) (listing (asking Left (exchanged q)))
+
+-- two rows match exactly where their fields agree at every place that both key lists have
+abbrev pub MatchesMean : Type 0
+MatchesMean = (q : Request) (i j : ℕ) → Decides (matches q i j) ((p : ℕ) → p < min (length q.left_keys) (length q.right_keys) → Agree (nulls q p) (field q.left_keys p i) (field q.right_keys p j))
+
+-- the test of two values is their equality
+abbrev pub SameValue : Type 0
+SameValue = (a b : Datum) → Decides (same a b) (a ≡ b)
+
+-- Null matches no row, or Null alone where that is asked
+abbrev pub NullKeys : Type 0
+NullKeys = (listing (null_keys false) ≡ both 0 1 ∷ both 0 2 ∷ []) × (listing (null_keys true) ≡ both 0 1 ∷ both 0 2 ∷ both 1 0 ∷ [])
+
+-- a Full join in the order of the right table, with two key columns and with one
+abbrev pub FullRightLeft : Type 0
+FullRightLeft = IsAnswer (full_right_left JoinSpecific) (numbers k_name (null ∷ number 1 ∷ number 3 ∷ []) ∷ numbers k_right_name (number 2 ∷ number 1 ∷ null ∷ []) ∷ []) × IsAnswer (full_right_left CoalesceColumns) (keys (number 2 ∷ number 1 ∷ number 3 ∷ []))
+
+-- slices that begin before the first row, have no length, begin after the last row, and end after it; without one all rows are valid
+abbrev pub SlicedRows : Type 0
+SlicedRows = IsAnswer (cut_thrice (Some (negsuc 4, 3))) (keys (number 1 ∷ [])) × IsAnswer (cut_thrice (Some (pos 0, 0))) (keys []) × IsAnswer (cut_thrice (Some (pos 3, 1))) (keys []) × IsAnswer (cut_thrice (Some (negsuc 0, 18446744073709551615))) (keys (number 3 ∷ [])) × (join_refusal (cut_thrice None) ≡ None)
