@@ -1,11 +1,11 @@
 -- Facts on lists.
-use Rattle.std.proofs.Common.{◌≡◌, ℕ, ◌<◌, ◌+◌, suc, refl, List, [], ◌∷◌, ◌++◌, length, map, get_or, drop, replicate, subst, sym, ◌∙◌, ap, add-one, drop-cons}
+use Rattle.std.proofs.Common.{arith, ◌≡◌, ℕ, ◌<◌, ◌+◌, suc, refl, List, [], ◌∷◌, ◌++◌, length, map, get_or, drop, replicate, subst, sym, ◌∙◌, ap, add-one, drop-cons}
 use Rattle.std.specs.List.{All, flat_map}
 use Rattle.tb_value.specs.Datum.{Datum, null}
 use Rattle.tb_store.specs.Col.{flat}
-use Rattle.std.proofs.lemmas.List.{length-map}
+use Rattle.std.proofs.lemmas.List.{length-map, append-nil}
 use Rattle.std.proofs.Math.ListN.{get_or-map}
-use Rattle.std.proofs.lemmas.List.Elements.{All-get_or, All-head, All-tail}
+use Rattle.std.proofs.lemmas.List.Elements.{All-get_or, All-head, All-tail, All-map}
 
 -- what holds of each image holds of the image of an element
 pub All-map-at : {X Y : Type 0} (P : Y → Type 0) (f : X → Y) (xs : List X) (i : ℕ) (x : X) → i < length xs → x ≡ get_or xs i x → All P (map f xs) → P (f x)
@@ -29,3 +29,13 @@ replicate-nulls (v ∷ vs) all =
     let h : null ≡ v = sym (All-head (λ x. x ≡ null) v vs all) in
     let t : replicate (length vs) null ≡ vs = replicate-nulls vs (All-tail (λ x. x ≡ null) v vs all) in
     λ i. h i ∷ t i
+
+-- the only piece
+pub flat_one : {X : Type 0} (f : X → List Datum) (xs : List X) (x : X) → length xs ≡ 1 → x ≡ get_or xs 0 x → flat (map f xs) ≡ f x
+flat_one f [] x n e = absurd (cc)
+flat_one f (y ∷ []) x n e = append-nil (f y) ∙ ap f (sym e)
+flat_one f (y ∷ (z ∷ zs)) x n e = absurd (omega arith)
+
+-- what holds of each value holds of each that is picked
+pub All-picked : (P : Datum → Type 0) (xs : List Datum) (rows : List ℕ) → All P xs → All (λ r. r < length xs) rows → All P (map (λ r. get_or xs r null) rows)
+All-picked P xs rows all within = All-map P (λ r. get_or xs r null) rows (λ k d h. all (get_or rows k d) null (within k d h))

@@ -9,6 +9,7 @@ mod column;
 mod grow;
 mod make;
 mod marker;
+mod pick;
 mod series;
 
 pub use cell::{Cell, FieldValues};

@@ -1,0 +1,18 @@
+-- What columns made of others are.
+use Rattle.std.proofs.Common.{arith, ◌≡◌, ℕ, ◌<◌, ◌≤◌, List, [], ◌∷◌, length, map, get_or, ap, ◌∙◌}
+use Rattle.std.specs.List.{All}
+use Rattle.std.proofs.lemmas.List.{length-map, append-nil}
+use Rattle.tb_value.specs.Datum.{Datum, null}
+use Rattle.tb_value.specs.Typed.{HasType}
+use Rattle.tb_value.specs.declared.sorted.IsSorted.TheVariants.{Not}
+use Rattle.tb_store.specs.Col.{Col, IsColumn, flat, values}
+use Rattle.tb_store.proofs.Lists.{All-picked}
+
+pub picked_column : (c d : Col) (rows : List ℕ) → IsColumn c → All (λ r. r < length (values c)) rows → length rows ≤ 4294967294 → d.kind ≡ c.kind → d.chunks ≡ map (λ r. get_or (values c) r null) rows ∷ [] → d.flag ≡ Not → IsColumn d
+picked_column c d rows column within few same_kind picked not =
+    let all : values d ≡ map (λ r. get_or (values c) r null) rows = ap flat picked ∙ append-nil (map (λ r. get_or (values c) r null) rows) in
+    record {
+      chunked = omega (arith, ap length picked);
+      short = omega (arith, ap length all, length-map rows (λ r. get_or (values c) r null));
+      typed = rw (same_kind, all) (All-picked (HasType c.kind) (values c) rows column.typed within);
+    }
