@@ -49,7 +49,7 @@ without-table names (c ∷ cs) = at (not (is_among names c.name)) (without-table
     at true e = ap (λ (t : Table). plain c ∷ t) e
     at false e = e
 
-level_height : (n : ℕ) (t : Table) → All (λ (c : TableColumn). length c.values ≡ n) t → All (λ (c : TableColumn). length c.values ≡ height t) t
+pub level_height : (n : ℕ) (t : Table) → All (λ (c : TableColumn). length c.values ≡ n) t → All (λ (c : TableColumn). length c.values ≡ height t) t
 level_height n [] h = All-nil (λ (c : TableColumn). length c.values ≡ height [])
 level_height n (c ∷ cs) h = let first : length c.values ≡ n = h 0 c (omega arith) in All-weaker (λ (k : TableColumn). length k.values ≡ n) (λ (k : TableColumn). length k.values ≡ length c.values) (λ k e. e ∙ sym first) (c ∷ cs) h
 

@@ -1,5 +1,6 @@
 pub mod Frames
 pub mod Seen
+pub mod Taking
 pub mod Tests
 pub mod Fields
 pub mod Tables

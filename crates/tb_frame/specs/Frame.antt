@@ -1,13 +1,14 @@
 -- Which lists of columns make no table, and where a table has a name.
-use Rattle.std.specs.Prelude.{◌==◌, ℕ, Bool, not, List, [], ◌∷◌, length, map, filter, position, Option}
+use Rattle.std.specs.Prelude.{◌==◌, ℕ, Bool, not, List, [], ◌∷◌, length, map, filter, slice_index_or, Option}
 use Rattle.std.specs.Option.{option_map}
 use Rattle.std.specs.List.{list_all}
 use Rattle.tb_value.specs.Datum.{null}
-use Rattle.tb_value.specs.Names.{Name, same_name}
+use Rattle.tb_value.specs.Names.{Name}
 use Rattle.tb_value.specs.Refusals.{first_cause, when}
 use Rattle.tb_value.specs.declared.error.PolarsError.{PolarsError}
 use Rattle.tb_value.specs.declared.error.PolarsError.TheVariants.{Duplicate, ShapeMismatch}
-use Rattle.tb_store.specs.Col.{Col}
+use Rattle.tb_value.specs.declared.sorted.IsSorted.TheVariants.{Not}
+use Rattle.tb_store.specs.Col.{Col, values}
 use Rattle.tb_frame.specs.Table.{TableColumn, Table, height, names_of}
 use Rattle.tb_frame.specs.Join.{is_among}
 use Rattle.tb_frame.specs.Refusal.{first_repeated}
@@ -23,3 +24,7 @@ frame_refusal t = first_cause (when (not (are_level t)) ShapeMismatch ∷ option
 -- the columns whose names are not among these
 abbrev pub without_names : List Name → List Col → List Col
 without_names names cs = filter (λ (c : Col). not (is_among names c.name)) cs
+
+-- these rows of a column in this order, in one chunk
+abbrev pub taken : List ℕ → Col → Col
+taken rows c = record c { chunks = map (λ r. slice_index_or (values c) r null) rows ∷ []; flag = Not }

@@ -8,13 +8,13 @@ ghost use Rattle.tb_value.specs.declared.error.PolarsError.TheVariants.{ColumnNo
 ghost use Rattle.tb_store.specs.Col.{Col, values};
 ghost use Rattle.tb_frame.specs.Table.{table_of, height, names_of, IsTable};
 ghost use Rattle.tb_frame.specs.Refusal.{first_repeated};
-ghost use Rattle.tb_frame.specs.Frame.{are_level, frame_refusal, without_names};
+ghost use Rattle.tb_frame.specs.Frame.{are_level, frame_refusal, taken, without_names};
 
 use crate::names::{check_distinct, name_set};
 use std::alloc::Global;
 use std::marker::Model;
 use tb_store::Column;
-use tb_value::{OutOfMemory, PlSmallStr, PolarsError, PolarsResult};
+use tb_value::{IdxSize, OutOfMemory, PlSmallStr, PolarsError, PolarsResult};
 
 /// A table: columns of distinct names and one height.
 #[derive(Drop)]
@@ -76,9 +76,7 @@ fn have_len(columns: &[Column], len: usize) -> bool
 fn find_column<'a>(columns: &'a [Column], name: &str) -> Option<&'a Column>
     ensures { option_copied result ≡ find (λ (c : Col). same_name c.name name.now) columns.now }
 {
-    columns
-        .iter()
-        .find(|column| column.name().as_str() == name)
+    columns.iter().find(|column| column.name().as_str() == name)
 }
 
 /// The names of the columns, in their order.
@@ -154,9 +152,7 @@ impl DataFrame {
     {
         match find_column(&self.columns, name) {
             Some(column) => Ok(column),
-            None => Err(PolarsError::ColumnNotFound(PlSmallStr::from_str(
-                alloc, name,
-            )?)),
+            None => Err(PolarsError::ColumnNotFound(PlSmallStr::from_str(alloc, name)?)),
         }
     }
 
@@ -166,6 +162,17 @@ impl DataFrame {
     {
         Ok(DataFrame {
             columns: other_columns(alloc, &self.columns, names)?,
+        })
+    }
+
+    /// These rows in this order, each column in one chunk.
+    pub fn take(&self, alloc: Global, rows: &[IdxSize]) -> Result<DataFrame, OutOfMemory>
+        requires rows { All (λ r. r < height (table_of self.now)) rows.now }
+        requires few { length rows.now ≤ 4294967294 }
+        ensures { IfOk result (λ t. t ≡ map (taken rows.now) self.now) }
+    {
+        Ok(DataFrame {
+            columns: taken_columns(alloc, &self.columns, rows)?,
         })
     }
 
@@ -204,4 +211,20 @@ fn other_columns(
         }
     }
     Ok(others)
+}
+
+fn taken_columns(
+    alloc: Global,
+    columns: &[Column],
+    rows: &[IdxSize],
+) -> Result<Vec<Column>, OutOfMemory>
+    requires rows { All (λ (c : Col). All (λ r. r < length (values c)) rows.now) columns.now }
+    requires few { length rows.now ≤ 4294967294 }
+    ensures { IfOk result (λ v. v.items ≡ map (taken rows.now) columns.now) }
+{
+    let mut taken = Vec::with_capacity(alloc, columns.len())?;
+    for column in columns {
+        taken.push(column.take(alloc, rows)?)?;
+    }
+    Ok(taken)
 }
