@@ -6,7 +6,7 @@ use Rattle.tb_value.specs.Kind.{Kind}
 use Rattle.tb_value.specs.Kind as kind
 use Rattle.tb_value.specs.Typed.{HasType}
 use Rattle.tb_value.specs.declared.sorted.IsSorted.{IsSorted}
-use Rattle.tb_value.specs.declared.sorted.IsSorted.TheVariants.{Ascending, Descending, Not}
+use Rattle.tb_store.specs.Flag.{FlagHolds}
 
 -- a name, a type, the values of each chunk, and the flag
 pub record Col : Type 0 where
@@ -38,3 +38,4 @@ pub record IsColumn (c : Col) : Type 0 where
   pub chunked : 0 < length c.chunks
   pub short : length (values c) ≤ 4294967294
   pub typed : All (HasType c.kind) (values c)
+  pub flag_holds : FlagHolds c.flag c.kind (values c)

@@ -1,0 +1,13 @@
+use Rattle.std.proofs.Common.{◌∙◌, ap, refl, sym}
+use Rattle.tb_value.specs.SeeKind.{kind_of}
+use Rattle.tb_store.specs.Col.{Col, physical}
+use Rattle.tb_store.specs.Seen.{chunk_lists}
+use Rattle.tb_store.proofs.Columns.{part_column}
+use Rattle.tb_store.proofs.series.Series.part.Goals as goal
+
+pub invariant_of-result : goal.invariant_of-result
+invariant_of-result c =
+    let whole : Col = record { name = c.self.inside.name; kind = kind_of c.self.inside.dtype; chunks = chunk_lists c.self.inside.chunks; flag = c.self.inside.flag } in (
+      c.in_ok-chunks.ensures.storage ∙ (c.self.invariant.0 ∙ sym (ap physical c.in_ok-dtype.ensures)),
+      part_column whole _ c.args.start c.args.len c.self.invariant.1 c.in_ok-dtype.ensures c.in_ok-chunks.ensures.lists refl,
+    )

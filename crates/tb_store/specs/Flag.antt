@@ -1,0 +1,41 @@
+-- When the flag of a column is true of its values.
+use Rattle.std.specs.Prelude.{◌≡◌, ◌⊎◌, ◌++◌, List, filter, IsTrue}
+use Rattle.std.specs.Prelude.{IsSorted as IsInOrder}
+use Rattle.std.specs.Cmp.Lexicographic.{slice_cmp}
+use Rattle.std.specs.Ordering.{nat_cmp, int_cmp, bool_cmp, flip_args}
+use Rattle.std.specs.declared.cmp.Ordering.{Ordering}
+use Rattle.std.specs.declared.cmp.Ordering.TheVariants.{Equal}
+use Rattle.tb_value.specs.Datum.{Datum, boolean, int, string, binary, is_null, is_present}
+use Rattle.tb_value.specs.Kind.{Kind}
+use Rattle.tb_value.specs.SameKind.{is_key}
+use Rattle.tb_value.specs.declared.sorted.IsSorted.{IsSorted}
+use Rattle.tb_value.specs.declared.sorted.IsSorted.TheVariants.{Ascending, Descending, Not}
+
+-- numbers as numbers, false before true, texts and bytes by their bytes
+abbrev pub datum_cmp : Datum → Datum → Ordering
+datum_cmp (boolean a) (boolean b) = bool_cmp a b
+datum_cmp (int a) (int b) = int_cmp a b
+datum_cmp (string a) (string b) = slice_cmp nat_cmp a b
+datum_cmp (binary a) (binary b) = slice_cmp nat_cmp a b
+datum_cmp _ _ = Equal
+
+-- the values that are present, and the nulls
+abbrev pub present : List Datum → List Datum
+present = filter is_present
+
+abbrev pub nulls : List Datum → List Datum
+nulls = filter is_null
+
+-- the nulls stand all first, or all last
+abbrev pub HasNullsAtOneEnd : List Datum → Type 0
+HasNullsAtOneEnd vs = (vs ≡ nulls vs ++ present vs) ⊎ (vs ≡ present vs ++ nulls vs)
+
+-- the type has keys, the values that are present are in the order, and the nulls stand at one end
+abbrev pub IsOrdered : (Datum → Datum → Ordering) → Kind → List Datum → Type 0
+IsOrdered order t vs = IsTrue (is_key t) × IsInOrder order (present vs) × HasNullsAtOneEnd vs
+
+-- what the flag says of values of the type
+abbrev pub FlagHolds : IsSorted → Kind → List Datum → Type 0
+FlagHolds Ascending t vs = IsOrdered datum_cmp t vs
+FlagHolds Descending t vs = IsOrdered (flip_args datum_cmp) t vs
+FlagHolds Not t vs = Unit {0}
