@@ -2,5 +2,7 @@
 #![tactic(auto)]
 
 mod args;
+mod order;
 
 pub use args::{Direction, JoinArgs, JoinCoalesce, JoinType, JoinValidation, MaintainOrderJoin};
+pub use order::direction_of;
