@@ -4,7 +4,9 @@
 mod args;
 mod frame;
 mod names;
+mod order;
 
 pub use args::{Direction, JoinArgs, JoinCoalesce, JoinType, JoinValidation, MaintainOrderJoin};
 pub use frame::{DataFrame, IntoDf, column_names};
 pub use names::{NameSet, check_distinct, name_set};
+pub use order::direction_of;

@@ -1,7 +1,9 @@
 //! Row numbers, and the pairs of them that a join lists.
 ghost use Rattle.std.specs.Prelude.{◌≡◌, ◌<◌, ◌↔◌, Some, None, IsTrue, IsNone, IsSome, IfSome};
 ghost use Rattle.tb_value.specs.Index.{of_number, to_number, back};
+ghost use Rattle.tb_value.specs.Pairs.{row_cmp, left_first, right_first};
 
+use std::cmp::Ordering;
 use std::marker::Model;
 
 /// A row number. The greatest one, `u32::MAX`, stands for no row.
@@ -56,6 +58,29 @@ impl NullableIdxSize {
     {
         self.inner
     }
+
+    /// The row, where there is one.
+    pub fn row(&self) -> Option<IdxSize>
+        ensures { result ≡ self.now }
+    {
+        if self.is_null_idx() {
+            None
+        } else {
+            Some(self.inner)
+        }
+    }
+
+    /// The order of row numbers, where none is the greatest.
+    pub fn by_row(&self, other: &NullableIdxSize) -> Ordering
+        ensures { result ≡ row_cmp self.now other.now }
+    {
+        match (self.row(), other.row()) {
+            (None, None) => Ordering::Equal,
+            (None, Some(_)) => Ordering::Greater,
+            (Some(_), None) => Ordering::Less,
+            (Some(i), Some(j)) => i.cmp(&j),
+        }
+    }
 }
 
 /// A pair of a join's listing: a left row and a right row, or one of them alone.
@@ -63,4 +88,24 @@ impl NullableIdxSize {
 pub struct JoinPair {
     pub left: NullableIdxSize,
     pub right: NullableIdxSize,
+}
+
+impl JoinPair {
+    /// The order of pairs by left row and then by right row.
+    pub fn by_left(&self, other: &JoinPair) -> Ordering
+        ensures { result ≡ left_first self.now other.now }
+    {
+        self.left
+            .by_row(&other.left)
+            .then(self.right.by_row(&other.right))
+    }
+
+    /// The order of pairs by right row and then by left row.
+    pub fn by_right(&self, other: &JoinPair) -> Ordering
+        ensures { result ≡ right_first self.now other.now }
+    {
+        self.right
+            .by_row(&other.right)
+            .then(self.left.by_row(&other.left))
+    }
 }
