@@ -1,0 +1,18 @@
+-- The numbers by which work is run.
+use Rattle.std.specs.Prelude.{ℕ, ◌≤◌}
+
+-- how many workers and partitions there are, up to how many rows a table is small, and a factor num / den
+pub record Plan : Type 0 where
+  pub workers : ℕ
+  pub partitions : ℕ
+  pub small : ℕ
+  pub num : ℕ
+  pub den : ℕ
+
+-- 1 to 1,024
+abbrev pub MayCount : ℕ → Type 0
+MayCount n = (1 ≤ n) × (n ≤ 1024)
+
+-- there are 1 to 1,024 workers and partitions, and nothing is divided by 0
+abbrev pub MayStand : ℕ → ℕ → ℕ → Type 0
+MayStand workers partitions den = MayCount workers × MayCount partitions × (1 ≤ den)
