@@ -3,9 +3,9 @@ use Rattle.std.proofs.Common.{◌≡◌, ◌==◌, ℕ, ◌<◌, Bool, true, fal
 use Rattle.std.specs.Prelude.{All, AllPairs, ◌≢◌, filter}
 use Rattle.std.specs.Option.{option_map}
 use Rattle.std.specs.List.{list_all}
-use Rattle.std.proofs.lemmas.Bool.{eqb-true}
+use Rattle.std.proofs.lemmas.Bool.{eqb-true, eq-eqb}
 use Rattle.std.proofs.lemmas.List.{length-map}
-use Rattle.std.proofs.lemmas.List.Elements.{All-nil, All-cons, All-weaker, All-filter, All-map, filter_more}
+use Rattle.std.proofs.lemmas.List.Elements.{All-nil, All-cons, All-head, All-tail, All-weaker, All-filter, filter_more}
 use Rattle.tb_value.specs.Names.{Name}
 use Rattle.tb_value.specs.Refusals.{first_cause, when}
 use Rattle.tb_value.specs.declared.error.PolarsError.{PolarsError}
@@ -70,3 +70,17 @@ module _ {X : Type 0} (p : X → Bool) (xs : List X) (i : ℕ) (x : X) (low : i 
 
   pub passed : p x ≡ false → out ≡ filter p (take (i + 1) xs)
   passed h = so_far ∙ sym (grown false h ∙ append-nil (filter p (take i xs)))
+
+list_all-true : {X : Type 0} (p : X → Bool) (xs : List X) → All (λ x. p x ≡ true) xs → list_all p xs ≡ true
+list_all-true p [] h = refl
+list_all-true p (x ∷ xs) h = (λ t. All-head (λ y. p y ≡ true) x xs h t && list_all-true p xs (All-tail (λ y. p y ≡ true) x xs h) t)
+
+-- columns of one length and distinct names are not refused
+pub no_refusal : (t : Table) (n : ℕ) → All (λ (c : TableColumn). length c.values ≡ n) t → first_repeated (names_of t) ≡ None → frame_refusal t ≡ None
+no_refusal t n level fresh =
+    let h : are_level t ≡ true =
+        list_all-true (λ (c : TableColumn). length c.values == height t) t
+        (All-weaker (λ (c : TableColumn). length c.values ≡ height t) (λ (c : TableColumn). (length c.values == height t) ≡ true) (λ c e. eq-eqb (length c.values) (height t) e) t (level_height n t level))
+    in
+    ap (λ (b : Bool). first_cause (when (not b) ShapeMismatch ∷ option_map (λ n. Duplicate n) (first_repeated (names_of t)) ∷ [])) h
+    ∙ ap (λ (o : Option Name). first_cause (option_map (λ n. Duplicate n) o ∷ [])) fresh

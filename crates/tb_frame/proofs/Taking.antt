@@ -1,7 +1,7 @@
 -- Rows that are taken from the columns of a table.
 use Rattle.std.proofs.Common.{◌≡◌, ℕ, ◌<◌, List, [], ◌∷◌, ◌++◌, length, get_or, map, refl, ap, sym, ◌∙◌, subst, append-nil, arith}
 use Rattle.std.specs.Prelude.{All, AllPairs, ◌≢◌}
-use Rattle.std.proofs.lemmas.List.{length-map}
+use Rattle.std.proofs.lemmas.List.{length-map, get_or-map}
 use Rattle.std.proofs.lemmas.List.Elements.{All-nil, All-cons, All-head, All-tail, All-weaker}
 use Rattle.tb_value.specs.Datum.{Datum, null}
 use Rattle.tb_value.specs.Names.{Name}
@@ -23,11 +23,11 @@ rows_in_columns cs rows t within =
 pub values-taken : (rows : List ℕ) (c : Col) → values (taken rows c) ≡ map (λ r. get_or (values c) r null) rows
 values-taken rows c = append-nil (map (λ r. get_or (values c) r null) rows)
 
-names-taken : (rows : List ℕ) (cs : List Col) → names_of (table_of (map (taken rows) cs)) ≡ names_of (table_of cs)
+pub names-taken : (rows : List ℕ) (cs : List Col) → names_of (table_of (map (taken rows) cs)) ≡ names_of (table_of cs)
 names-taken rows [] = refl
 names-taken rows (c ∷ cs) = ap (λ (ns : List Name). c.name ∷ ns) (names-taken rows cs)
 
-level-taken : (rows : List ℕ) (cs : List Col) → All (λ (c : TableColumn). length c.values ≡ length rows) (table_of (map (taken rows) cs))
+pub level-taken : (rows : List ℕ) (cs : List Col) → All (λ (c : TableColumn). length c.values ≡ length rows) (table_of (map (taken rows) cs))
 level-taken rows [] = All-nil (λ (c : TableColumn). length c.values ≡ length rows)
 level-taken rows (c ∷ cs) =
     All-cons (λ (c : TableColumn). length c.values ≡ length rows) (plain (taken rows c)) (table_of (map (taken rows) cs))
@@ -38,3 +38,13 @@ IsTable-taken rows cs t = record {
   distinct = subst (λ (ns : List Name). AllPairs (λ (a b : Name). a ≢ b) ns) (sym (names-taken rows cs)) t.distinct;
   one_height = level_height (length rows) (table_of (map (taken rows) cs)) (level-taken rows cs);
 }
+
+-- NAMES OF COLUMNS
+
+pub length-names : (cs : List Col) → length (names_of (table_of cs)) ≡ length cs
+length-names cs = length-map (table_of cs) (λ (c : TableColumn). c.name) ∙ length-map cs plain
+
+pub name-at : (cs : List Col) (i : ℕ) (c : Col) → i < length cs → c ≡ get_or cs i c → c.name ≡ get_or (names_of (table_of cs)) i []
+name-at cs i c low is =
+    let long = length-map cs plain in
+    ap (λ (k : Col). k.name) is ∙ ap (λ (k : TableColumn). k.name) (sym (get_or-map plain cs i c (plain c) low)) ∙ sym (get_or-map (λ (k : TableColumn). k.name) (table_of cs) i (plain c) [] (omega (arith, long)))

@@ -2,15 +2,17 @@
 ghost use Rattle.std.specs.Prelude.{◌≡◌, ◌==◌, ◌≤◌, ◌<◌, ◌∷◌, [], ◌++◌, All, IfOk, IfSome, length, map, option_map, position, slice_index_or, is_none, Some};
 ghost use Rattle.std.specs.Option.{option_copied};
 ghost use Rattle.std.specs.List.{find, list_all};
-ghost use Rattle.tb_value.specs.Names.{same_name};
+ghost use Rattle.tb_value.specs.Names.{Name, same_name};
 ghost use Rattle.tb_value.specs.Refusals.{Settles, when};
 ghost use Rattle.tb_value.specs.declared.error.PolarsError.TheVariants.{ColumnNotFound, Duplicate, ShapeMismatch};
 ghost use Rattle.tb_store.specs.Col.{Col, values};
 ghost use Rattle.tb_frame.specs.Table.{table_of, height, names_of, IsTable};
 ghost use Rattle.tb_frame.specs.Refusal.{first_repeated};
+ghost use Rattle.tb_frame.specs.Join.{is_among};
+ghost use Rattle.tb_frame.specs.NameSets.{has_name};
 ghost use Rattle.tb_frame.specs.Frame.{are_level, frame_refusal, taken, without_names};
 
-use crate::names::{check_distinct, name_set};
+use crate::names::{NameSet, check_distinct, name_set};
 use std::alloc::Global;
 use std::marker::Model;
 use tb_store::Column;
@@ -77,6 +79,17 @@ fn find_column<'a>(columns: &'a [Column], name: &str) -> Option<&'a Column>
     ensures { option_copied result ≡ find (λ (c : Col). same_name c.name name.now) columns.now }
 {
     columns.iter().find(|column| column.name().as_str() == name)
+}
+
+/// The set of the columns' names.
+pub fn column_name_set(alloc: Global, columns: &[Column]) -> Result<NameSet<'_>, OutOfMemory>
+    ensures { IfOk result (λ s. (n : Name) → has_name s n ≡ is_among (names_of (table_of columns.now)) n) }
+{
+    let mut set = NameSet::new(alloc);
+    for column in columns {
+        set.insert(column.name())?;
+    }
+    Ok(set)
 }
 
 /// The names of the columns, in their order.
@@ -172,7 +185,7 @@ impl DataFrame {
         ensures { IfOk result (λ t. t ≡ map (taken rows.now) self.now) }
     {
         Ok(DataFrame {
-            columns: taken_columns(alloc, &self.columns, rows)?,
+            columns: take_columns(alloc, &self.columns, rows)?,
         })
     }
 
@@ -213,7 +226,8 @@ fn other_columns(
     Ok(others)
 }
 
-fn taken_columns(
+/// These rows of each column in this order, each in one chunk.
+pub fn take_columns(
     alloc: Global,
     columns: &[Column],
     rows: &[IdxSize],

@@ -7,6 +7,6 @@ mod names;
 mod order;
 
 pub use args::{Direction, JoinArgs, JoinCoalesce, JoinType, JoinValidation, MaintainOrderJoin};
-pub use frame::{DataFrame, IntoDf, column_names};
+pub use frame::{DataFrame, IntoDf, column_name_set, column_names, take_columns};
 pub use names::{NameSet, check_distinct, name_set};
 pub use order::direction_of;

@@ -1,1 +1,5 @@
 pub mod RowProofs
+pub mod Found
+pub mod KeyLemmas
+pub mod ColumnLemmas
+pub mod Finishing

@@ -1,4 +1,10 @@
 //! Joins of two tables, and the laws over their definitions.
 #![tactic(auto)]
 
+mod frame_join;
+mod general;
+mod keys;
 pub mod laws;
+mod matching;
+
+pub use frame_join::DataFrameJoinOps;
