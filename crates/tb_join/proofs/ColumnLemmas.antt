@@ -1,5 +1,6 @@
 -- The key columns and the other columns of a table, by their names.
-use Rattle.std.proofs.Common.{◌≡◌, ℕ, zero, suc, ◌<◌, Bool, true, false, cond, not, ◌||◌, List, [], ◌∷◌, ◌++◌, length, get_or, map, refl, ap, sym, ◌∙◌, subst, arith, Option, Some, None, is_none}
+use Rattle.std.proofs.Common.{◌≡◌, ℕ, zero, suc, ◌<◌, Bool, true, false, cond, not, ◌||◌, List, [], ◌∷◌, ◌++◌, length, get_or, map, refl, ap, sym, ◌∙◌, subst, arith, Option, Some, None, is_none, Result, Ok, Err}
+use Rattle.std.specs.Prelude.{IfOk}
 use Rattle.std.specs.Option.{option_map}
 use Rattle.std.specs.List.{find, filter_map, list_any, cons_option}
 use Rattle.std.proofs.lemmas.Cmp.{nat_list_eq_equiv}
@@ -58,3 +59,9 @@ one_found names name cs c h is e =
     ap (filter_map (named (table_of cs))) (one names h)
     ∙ ap (λ (n : Name). cons_option (named (table_of cs) n) []) (sym is)
     ∙ ap (λ (o : Option TableColumn). cons_option o []) (named-plain name cs ∙ ap (option_map plain) e)
+
+-- and where it is handed on
+pub all_found : {T E : Type 0} (names : List Name) (name : Name) (cs : List Col) → length names ≡ 1 → name ≡ get_or names 0 [] → (r : Result T E) (col : T → Col)
+    → IfOk r (λ t. found name cs ≡ Some (col t)) → IfOk r (λ t. filter_map (named (table_of cs)) names ≡ plain (col t) ∷ [])
+all_found names name cs h is (Ok t) col e = one_found names name cs (col t) h is e
+all_found names name cs h is (Err x) col e = tt

@@ -3,3 +3,4 @@ pub mod Found
 pub mod KeyLemmas
 pub mod ColumnLemmas
 pub mod Finishing
+pub mod PlainCauses

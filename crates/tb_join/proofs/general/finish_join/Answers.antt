@@ -1,4 +1,4 @@
-use Rattle.std.proofs.Common.{◌≡◌, ◌<◌, ◌++◌, ℕ, List, length, map, ap, sym, ◌∙◌, subst, None}
+use Rattle.std.proofs.Common.{◌≡◌, ◌<◌, ◌++◌, List, length, map, ap, sym, ◌∙◌, subst, None}
 use Rattle.std.specs.Prelude.{All}
 use Rattle.tb_store.specs.Col.{Col, values}
 use Rattle.tb_frame.specs.Table.{table_of, height, names_of}
@@ -19,4 +19,14 @@ push_right-requires-clause-rows c =
     subst (λ (cs : List Col). All (λ (k : Col). All (λ r. r < length (values k)) rows) cs) (sym c.get_columns-3.ensures.columns) (rows_in_columns c.args.right.now rows c.get_columns-3.ensures.table c.requires.right_rows)
 
 pub returns-clause-settles : goal.returns-clause-settles
-returns-clause-settles c = ?
+returns-clause-settles c =
+    let left = c.args.left.now in
+    let right = c.args.right.now in
+    let gone = c.args.gone.now in
+    let ls = c.args.left_rows.now in
+    let rs = c.args.right_rows.now in
+    let first : c.in_ok-columns.columns.items ≡ map (taken ls) left = c.in_ok-columns.ensures ∙ ap (map (taken ls)) c.get_columns.ensures.columns in
+    let is : c.push_right.new.columns.items ≡ map (taken ls) left ++ right_columns (names_of (table_of left)) gone rs right =
+        c.in_ok-push_right.ensures ∙ (λ t. first t ++ right_columns (names_of (table_of (c.get_columns-2.ensures.columns t))) gone rs (c.get_columns-3.ensures.columns t))
+    in
+    settled c.new.result _ None (ap (λ (cs : List Col). frame_refusal (table_of cs)) is ∙ none-finished left right gone ls rs c.requires.level c.requires.names) c.new.ensures.settles

@@ -1,0 +1,80 @@
+-- The columns of the listed pairs are the answer to a plain request.
+use Rattle.std.proofs.Common.{◌≡◌, ℕ, ◌<◌, ◌++◌, List, [], ◌∷◌, length, get_or, map, refl, ap, sym, ◌∙◌, subst, arith, Option, Some, None}
+use Rattle.std.specs.Prelude.{All, IsSome, filter}
+use Rattle.std.specs.List.{filter_map}
+use Rattle.std.specs.Option.{option_map}
+use Rattle.std.proofs.lemmas.List.{length-map}
+use Rattle.std.proofs.lemmas.List.Elements.{All-nil, All-cons, All-head, All-tail, All-map, All-weaker}
+use Rattle.std.proofs.lemmas.List.Sorted.{IsPermutation-refl}
+use Rattle.tb_value.specs.Datum.{Datum, null}
+use Rattle.tb_value.specs.Names.{Name}
+use Rattle.tb_value.specs.Pairs.{row_numbers, both, matched}
+use Rattle.tb_value.specs.declared.error.PolarsError.{PolarsError}
+use Rattle.tb_value.specs.declared.error.PolarsError.TheVariants.{Duplicate, ColumnNotFound}
+use Rattle.tb_value.specs.declared.index.JoinPair.{JoinPair}
+use Rattle.tb_value.proofs.Ascending.{All-flat_map, matched-sorted}
+use Rattle.tb_value.proofs.Loops.{map-map}
+use Rattle.tb_store.specs.Col.{Col, values}
+use Rattle.tb_frame.specs.Table.{TableColumn, Table, plain, table_of, height, names_of, IsTable}
+use Rattle.tb_frame.specs.Join.{Request, named, value_at, left_out, right_out, without, listing, matches, joined_names, IsAnswer}
+use Rattle.tb_frame.specs.Frame.{taken, without_names}
+use Rattle.tb_frame.specs.Answer.{fill, IsRowOf, IsPairOf, IsListed}
+use Rattle.tb_frame.specs.Refusal.{first_repeated, join_refusal, first_unknown, unknown_key, no_keys, key_counts, repeated_key, key_types, key_kind, repeated_name, broken_side, too_many_rows}
+use Rattle.tb_frame.proofs.Assembled.{made_columns, makes_table, makes_answer}
+use Rattle.tb_frame.proofs.Causes.{distinct_names, first_none, map_none, has_column}
+use Rattle.tb_frame.proofs.Frames.{without-table}
+use Rattle.tb_frame.proofs.Ranges.{listing_rows}
+use Rattle.tb_frame.proofs.Taking.{values-taken}
+use Rattle.tb_frame.specs.declared.args.JoinType.TheVariants.{Inner}
+use Rattle.tb_frame.specs.declared.args.MaintainOrderJoin.TheVariants.{LeftRight}
+use Rattle.tb_join.specs.Plain.{plain_args, plain_request, right_names, right_columns}
+use Rattle.tb_join.proofs.Finishing.{beside, table_of-append}
+use Rattle.tb_join.proofs.PlainCauses.{names-asked}
+
+-- MATCHED PAIRS
+
+-- what holds of each pair of two rows holds of the matched ones
+pub each_matched : (P : JoinPair → Type 0) → ((i j : ℕ) → P (both i j)) → (l r : ℕ) (m : ℕ → ℕ → Bool) → All P (matched l r m)
+each_matched P h l r m = All-flat_map P (λ i. map (both i) (filter (m i) (row_numbers r))) 0 0 l (omega arith) (λ i low. All-map P (both i) (filter (m i) (row_numbers r)) (λ k d at. h i (get_or (filter (m i) (row_numbers r)) k d)))
+
+all_some : (n : ℕ) (rows : List ℕ) → All (IsRowOf n) (map (λ r. Some r) rows) → All (λ r. r < n) rows
+all_some n [] h = All-nil (λ r. r < n)
+all_some n (r ∷ rs) h = All-cons (λ r. r < n) r rs (All-head (IsRowOf n) (Some r) (map (λ r. Some r) rs) h) (all_some n rs (All-tail (IsRowOf n) (Some r) (map (λ r. Some r) rs) h))
+
+-- the rows of a side of listed pairs are rows of its table
+pub rows_in_range : (side : JoinPair → Option ℕ) (n : ℕ) (ps : List JoinPair) (rows : List ℕ) → map (λ r. Some r) rows ≡ map side ps → All (λ p. IsRowOf n (side p)) ps → All (λ r. r < n) rows
+rows_in_range side n ps rows same h = all_some n rows (subst (λ (os : List (Option ℕ)). All (IsRowOf n) os) (sym same) (All-map (IsRowOf n) side ps h))
+
+pub as_many : (side : JoinPair → Option ℕ) (ps : List JoinPair) (rows : List ℕ) → map (λ r. Some r) rows ≡ map side ps → length rows ≡ length ps
+as_many side ps rows same = sym (length-map rows (λ r. Some r)) ∙ ap (λ (os : List (Option ℕ)). length os) same ∙ length-map ps side
+
+-- COLUMNS
+
+-- the values of the rows are those that the pairs have
+values-at : (side : JoinPair → Option ℕ) (ps : List JoinPair) (rows : List ℕ) → map (λ r. Some r) rows ≡ map side ps → (c : Col) → values (taken rows c) ≡ map (λ (p : JoinPair). value_at (plain c) (side p)) ps
+values-at side ps rows same c =
+    values-taken rows c ∙ sym (map-map (value_at (plain c)) (λ r. Some r) rows) ∙ ap (map (value_at (plain c))) same ∙ map-map (value_at (plain c)) side ps
+
+left-made : (ps : List JoinPair) (rows : List ℕ) → map (λ r. Some r) rows ≡ map (λ (p : JoinPair). p.left) ps → (cs : List Col) → table_of (map (taken rows) cs) ≡ map (λ (k : TableColumn). fill ps (left_out k)) (table_of cs)
+left-made ps rows same [] = refl
+left-made ps rows same (c ∷ cs) = λ t. record { name = c.name; kind = c.kind; values = values-at (λ p. p.left) ps rows same c t } ∷ left-made ps rows same cs t
+
+right-made : (names : List Name) (ps : List JoinPair) (rows : List ℕ) → map (λ r. Some r) rows ≡ map (λ (p : JoinPair). p.right) ps → (cs : List Col) → table_of (map (beside names rows) cs) ≡ map (λ (k : TableColumn). fill ps (right_out names None k)) (table_of cs)
+right-made names ps rows same [] = refl
+right-made names ps rows same (c ∷ cs) = λ t. record { name = (right_out names None (plain c)).name; kind = c.kind; values = values-at (λ p. p.right) ps rows same c t } ∷ right-made names ps rows same cs t
+
+module _ (left right : List Col) (lo ro : List Name) where
+  q : Request
+  q = plain_request left right lo ro
+
+  pub columns-made : (ps : List JoinPair) (ls rs : List ℕ) → map (λ r. Some r) ls ≡ map (λ (p : JoinPair). p.left) ps → map (λ r. Some r) rs ≡ map (λ (p : JoinPair). p.right) ps
+      → table_of (map (taken ls) left ++ right_columns (names_of (table_of left)) ro rs right) ≡ made_columns (plain_request left right lo ro) ps
+  columns-made ps ls rs same_l same_r =
+      let names = names_of (table_of left) in
+      ◌∙◌ {A = Table} (table_of-append (map (taken ls) left) (map (beside names rs) (without_names ro right)))
+      (λ t. left-made ps ls same_l left t ++ (right-made names ps rs same_r (without_names ro right) ∙ ap (map (λ (k : TableColumn). fill ps (right_out names None k))) (without-table ro right)) t)
+
+  module _ (valid : join_refusal (plain_request left right lo ro) ≡ None) where
+    after_unknown = first_none (unknown_key (plain_request left right lo ro)) _ valid
+    after_names = first_none _ _ (first_none _ _ (first_none _ _ (first_none _ _ (first_none _ _ (first_none _ _ after_unknown.1).1).1).1).1).1
+
