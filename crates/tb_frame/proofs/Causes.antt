@@ -83,6 +83,14 @@ pub some_keys : (ls rs : List Name) (e : PolarsError) → when (length ls == 0 |
 some_keys [] rs e h = absurd (cc)
 some_keys (l ∷ ls) rs e h = omega arith
 
+no_right_keys : (b : Bool) (e : PolarsError) → when (b || true) e ≡ None → ⊥
+no_right_keys true e h = absurd (cc)
+no_right_keys false e h = absurd (cc)
+
+pub some_right_keys : (ls rs : List Name) (e : PolarsError) → when (length ls == 0 || length rs == 0) e ≡ None → 0 < length rs
+some_right_keys ls [] e h = absurd (no_right_keys (length ls == 0) e h)
+some_right_keys ls (r ∷ rs) e h = omega arith
+
 -- an error that `?` hands on, of the first causes
 pub carried : {T : Type 0} (r : Result T PolarsError) (e : PolarsError) (a b c d : Option PolarsError) (rest : List (Option PolarsError)) → IsErrAnd r (λ x. x ≡ e) → (e ≡ OutOfMemory) ⊎ (first_cause (a ∷ b ∷ c ∷ d ∷ []) ≡ Some e) → Settles r (first_cause (a ∷ b ∷ c ∷ d ∷ rest))
 carried (Ok x) e a b c d rest h k = absurd h

@@ -14,3 +14,5 @@ pub mod Windows
 pub mod Ranges
 pub mod Assembled
 pub mod Meaning
+pub mod InOrder
+pub mod Validity

@@ -1,15 +1,15 @@
 -- A request with its sides exchanged lists the pairs turned round.
-use Rattle.std.proofs.Common.{◌≡◌, ℕ, ◌+◌, min, Bool, true, false, List, [], ◌∷◌, ◌++◌, length, get_or, map, refl, ap, arith, sym, ◌∙◌, subst}
-use Rattle.std.specs.Prelude.{filter, not, IsPermutation, IsSorted, ◌&&◌, ◌||◌}
+use Rattle.std.proofs.Common.{◌≡◌, ℕ, min, Bool, true, false, List, ◌++◌, length, map, refl, ap, arith, sym, ◌∙◌, subst}
+use Rattle.std.specs.Prelude.{filter, not, IsPermutation, ◌&&◌, ◌||◌}
 use Rattle.std.specs.List.{list_any, list_all}
-use Rattle.std.specs.Ordering.{is_lt}
-use Rattle.std.proofs.lemmas.List.{length-map, get_or-map, map-append}
+use Rattle.std.proofs.lemmas.List.{map-append}
 use Rattle.std.proofs.lemmas.List.Sorted.{IsPermutation-sym, IsPermutation-trans, IsPermutation-append_left, IsPermutation-map}
 use Rattle.tb_value.specs.declared.index.JoinPair.{JoinPair}
 use Rattle.tb_value.specs.Datum.{Datum, is_null, is_present}
 use Rattle.tb_value.specs.Same.{same_equiv}
-use Rattle.tb_value.specs.Pairs.{row_numbers, left_only, matched, left_unmet, right_unmet, left_first, right_first, turn}
+use Rattle.tb_value.specs.Pairs.{row_numbers, left_only, matched, left_unmet, right_unmet, turn}
 use Rattle.tb_value.proofs.Loops.{map-map, permuted, turned_matches}
+use Rattle.tb_value.proofs.Probes.{turn_twice, turned_to_left, turned_to_right}
 use Rattle.tb_frame.specs.declared.args.JoinType.TheVariants.{Left, Right}
 use Rattle.tb_frame.specs.declared.args.MaintainOrderJoin.{MaintainOrderJoin}
 use Rattle.tb_frame.specs.declared.args.MaintainOrderJoin.TheVariants as order
@@ -52,38 +52,20 @@ turned_request q = turned_listing (height q.left) (height q.right) (matches (ask
 
 -- ORDER
 
-turn_twice : (ps : List JoinPair) → map turn (map turn ps) ≡ ps
-turn_twice [] = refl
-turn_twice (p ∷ ps) = λ t. p ∷ turn_twice ps t
-
-sorted_turned : (ps : List JoinPair) → IsSorted right_first ps → IsSorted left_first (map turn ps)
-sorted_turned ps s = λ k d low high.
-    let long : length (map turn ps) ≡ length ps = length-map ps turn in
-    let next : get_or (map turn ps) (k + 1) d ≡ turn (get_or ps (k + 1) (turn d)) = get_or-map turn ps (k + 1) (turn d) d (omega (arith, long)) in
-    let this : get_or (map turn ps) k d ≡ turn (get_or ps k (turn d)) = get_or-map turn ps k (turn d) d (omega (arith, long)) in
-    (λ t. is_lt (left_first (next t) (this t))) ∙ s k (turn d) low (omega (arith, long))
-
-sorted_turned_back : (ps : List JoinPair) → IsSorted left_first ps → IsSorted right_first (map turn ps)
-sorted_turned_back ps s = λ k d low high.
-    let long : length (map turn ps) ≡ length ps = length-map ps turn in
-    let next : get_or (map turn ps) (k + 1) d ≡ turn (get_or ps (k + 1) (turn d)) = get_or-map turn ps (k + 1) (turn d) d (omega (arith, long)) in
-    let this : get_or (map turn ps) k d ≡ turn (get_or ps k (turn d)) = get_or-map turn ps k (turn d) d (omega (arith, long)) in
-    (λ t. is_lt (right_first (next t) (this t))) ∙ s k (turn d) low (omega (arith, long))
-
 -- what ascends in the order of a Right join ascends, turned round, in the flipped order of a Left join
 ascends_turned : (o : MaintainOrderJoin) (ps : List JoinPair) → Ascends (direction Right o) ps → Ascends (direction Left (flip o)) (map turn ps)
-ascends_turned order.None ps s = sorted_turned ps s
-ascends_turned order.Left ps s = sorted_turned_back ps s
-ascends_turned order.LeftRight ps s = sorted_turned_back ps s
-ascends_turned order.Right ps s = sorted_turned ps s
-ascends_turned order.RightLeft ps s = sorted_turned ps s
+ascends_turned order.None ps s = turned_to_left ps s
+ascends_turned order.Left ps s = turned_to_right ps s
+ascends_turned order.LeftRight ps s = turned_to_right ps s
+ascends_turned order.Right ps s = turned_to_left ps s
+ascends_turned order.RightLeft ps s = turned_to_left ps s
 
 ascends_back : (o : MaintainOrderJoin) (ps : List JoinPair) → Ascends (direction Left (flip o)) ps → Ascends (direction Right o) (map turn ps)
-ascends_back order.None ps s = sorted_turned_back ps s
-ascends_back order.Left ps s = sorted_turned ps s
-ascends_back order.LeftRight ps s = sorted_turned ps s
-ascends_back order.Right ps s = sorted_turned_back ps s
-ascends_back order.RightLeft ps s = sorted_turned_back ps s
+ascends_back order.None ps s = turned_to_right ps s
+ascends_back order.Left ps s = turned_to_left ps s
+ascends_back order.LeftRight ps s = turned_to_left ps s
+ascends_back order.Right ps s = turned_to_right ps s
+ascends_back order.RightLeft ps s = turned_to_right ps s
 
 pub order_turned : (q : Request) (o : MaintainOrderJoin) (ps : List JoinPair) → IsOrdered Right o ps (listing (asking Right q)) → IsOrdered Left (flip o) (map turn ps) (listing (asking Left (exchanged q)))
 order_turned q o ps h =

@@ -1,6 +1,6 @@
 -- The small requests' answers, by computation.
 use Rattle.std.proofs.Common.{◌≡◌, ℕ, zero, suc, ◌+◌, ◌<◌, ◌≤◌, Bool, true, false, not, List, [], ◌∷◌, length, get_or, Some, refl, arith, subst, sym, lit<, pos, negsuc}
-use Rattle.std.specs.Prelude.{IsSorted, ◌&&◌}
+use Rattle.std.specs.Prelude.{codes, IsSorted, ◌&&◌}
 use Rattle.std.specs.declared.cmp.Ordering.{Ordering}
 use Rattle.std.specs.Ordering.{is_lt}
 use Rattle.std.proofs.lemmas.Bool.{and_parts, not-true}
@@ -9,10 +9,10 @@ use Rattle.tb_value.specs.declared.index.JoinPair.{JoinPair}
 use Rattle.tb_value.specs.Datum.{null}
 use Rattle.tb_value.specs.Pairs.{both, left_only, right_only, left_first, right_first}
 use Rattle.tb_frame.specs.declared.args.JoinCoalesce.TheVariants.{JoinSpecific, CoalesceColumns}
-use Rattle.tb_frame.specs.Join.{IsAnswer, IsOrdered}
-use Rattle.tb_frame.specs.declared.args.JoinType.TheVariants.{Inner}
+use Rattle.tb_frame.specs.Join.{IsAnswer, IsOrdered, listing}
+use Rattle.tb_frame.specs.declared.args.JoinType.TheVariants.{Inner, Left}
 use Rattle.tb_frame.specs.declared.args.MaintainOrderJoin.TheVariants as order
-use Rattle.tb_join.specs.Rows.{full_right_left, cut_thrice, number, numbers, keys, k_name, k_right_name}
+use Rattle.tb_join.specs.Rows.{full_right_left, cut_thrice, left_by_right, two_keys, number, numbers, keys, k_name, k_right_name}
 
 -- a test that computes whether a list is sorted
 abbrev pub ascends_test : {X : Type 0} → (X → X → Ordering) → List X → Bool
@@ -64,3 +64,12 @@ begins_after = record { columns = refl; pairs = three_pairs; ordered = three_ord
 
 pub ends_after : IsAnswer (cut_thrice (Some (negsuc 0, 18446744073709551615))) (keys (number 3 ∷ []))
 ends_after = record { columns = refl; pairs = three_pairs; ordered = three_ordered; rows = refl }
+
+pub right_last : IsOrdered Left order.Right (both 2 0 ∷ both 1 1 ∷ left_only 0 ∷ []) (listing left_by_right)
+right_last = record { permutation = record { moves = (0, 1) ∷ []; below = (lit< tt, lit< tt, tt); is = refl }; ascends = sorted_by_test right_first (both 2 0 ∷ both 1 1 ∷ left_only 0 ∷ []) refl }
+
+abbrev right_pairs : List JoinPair
+right_pairs = both 0 0 ∷ right_only 1 ∷ []
+
+pub two_keys_answer : IsAnswer two_keys (numbers (codes "v") (number 9 ∷ null ∷ []) ∷ numbers (codes "c") (number 1 ∷ number 5 ∷ []) ∷ numbers (codes "d") (number 2 ∷ number 5 ∷ []) ∷ numbers (codes "w") (number 7 ∷ number 8 ∷ []) ∷ [])
+two_keys_answer = record { columns = refl; pairs = right_pairs; ordered = record { permutation = IsPermutation-refl right_pairs; ascends = sorted_by_test right_first right_pairs refl }; rows = refl }

@@ -1,20 +1,28 @@
 -- The laws over the definitions of the join.
-use Rattle.std.specs.Prelude.{◌≡◌, ◌≢◌, ◌↔◌, ℕ, ◌+◌, ◌<◌, ◌≤◌, min, true, false, List, [], ◌∷◌, map, length, pos, negsuc, Some, None, IsPermutation}
+use Rattle.std.specs.Prelude.{◌≡◌, ◌≢◌, ◌↔◌, ℕ, ◌+◌, ◌<◌, ◌≤◌, min, true, false, List, [], ◌∷◌, map, length, pos, negsuc, Some, None, IsPermutation, codes}
 use Rattle.std.specs.Bool.{Decides}
 use Rattle.tb_value.specs.declared.index.JoinPair.{JoinPair}
 use Rattle.tb_value.specs.Datum.{Datum, null}
-use Rattle.tb_value.specs.Pairs.{both, times, turn}
+use Rattle.tb_value.specs.Kind.{int32, int64}
+use Rattle.tb_value.specs.Kind as kind
+use Rattle.tb_value.specs.declared.error.Side.TheVariants as side
+use Rattle.tb_value.specs.declared.error.InvalidCause.TheVariants.{NoKeys, KeyCounts, KeyKind}
+use Rattle.tb_value.specs.declared.error.ComputeCause.TheVariants.{KeyTypes, Validation}
+use Rattle.tb_value.specs.declared.error.PolarsError.TheVariants.{ColumnNotFound, InvalidOperation, ComputeError, Duplicate}
+use Rattle.tb_value.specs.Pairs.{both, left_only, times, turn}
 use Rattle.tb_value.specs.Same.{same}
 use Rattle.tb_frame.specs.declared.args.Direction.TheVariants.{Free}
 use Rattle.tb_frame.specs.declared.args.JoinCoalesce.TheVariants.{JoinSpecific, CoalesceColumns}
-use Rattle.tb_frame.specs.declared.args.JoinType.TheVariants.{Left, Right, Semi, Anti}
+use Rattle.tb_frame.specs.declared.args.JoinType.TheVariants.{Inner, Left, Right, Semi, Anti}
+use Rattle.tb_frame.specs.declared.args.JoinValidation.TheVariants.{ManyToOne, OneToMany}
+use Rattle.tb_frame.specs.declared.args.MaintainOrderJoin.TheVariants as order
 use Rattle.tb_frame.specs.declared.args.MaintainOrderJoin.{MaintainOrderJoin}
 use Rattle.tb_frame.specs.Table.{Table, IsTable, height}
-use Rattle.tb_frame.specs.Join.{Request, IsAnswer, IsOrdered, direction, field, listing, matches, nulls}
-use Rattle.tb_frame.specs.Refusal.{join_refusal}
+use Rattle.tb_frame.specs.Join.{Request, IsAnswer, IsOrdered, cut, direction, field, listing, matches, nulls}
+use Rattle.tb_frame.specs.Refusal.{join_refusal, join_valid}
 use Rattle.tb_frame.specs.Sides.{asking, exchanged, flip}
 use Rattle.tb_frame.specs.Meaning.{Agree}
-use Rattle.tb_join.specs.Rows.{null_keys, full_right_left, cut_thrice, number, numbers, keys, k_name, k_right_name}
+use Rattle.tb_join.specs.Rows.{null_keys, full_right_left, cut_thrice, left_by_right, two_keys, split_texts, repeated_keys, validated, by_keys, of_kinds, taken_name, number, numbers, keys, k_name, k_right_name}
 
 -- two answers to one request whose order is fixed are equal
 abbrev pub OneAnswer : Type 0
@@ -55,3 +63,35 @@ FullRightLeft = IsAnswer (full_right_left JoinSpecific) (numbers k_name (null �
 -- slices that begin before the first row, have no length, begin after the last row, and end after it; without one all rows are valid
 abbrev pub SlicedRows : Type 0
 SlicedRows = IsAnswer (cut_thrice (Some (negsuc 4, 3))) (keys (number 1 ∷ [])) × IsAnswer (cut_thrice (Some (pos 0, 0))) (keys []) × IsAnswer (cut_thrice (Some (pos 3, 1))) (keys []) × IsAnswer (cut_thrice (Some (negsuc 0, 18446744073709551615))) (keys (number 3 ∷ [])) × (join_refusal (cut_thrice None) ≡ None)
+
+-- a request that is not refused has an answer, which is a table
+abbrev pub SomeAnswer : Type 0
+SomeAnswer = (q : Request) → join_valid q → (t : Table) × IsTable t × IsAnswer q t
+
+-- a left row without a match comes last in the order of the right table
+abbrev pub LeftByRight : Type 0
+LeftByRight = IsOrdered Left order.Right (both 2 0 ∷ both 1 1 ∷ left_only 0 ∷ []) (listing left_by_right)
+
+-- a Right join on two keys lacks the left keys, and has Null where there is no left row
+abbrev pub TwoKeys : Type 0
+TwoKeys = IsAnswer two_keys (numbers (codes "v") (number 9 ∷ null ∷ []) ∷ numbers (codes "c") (number 1 ∷ number 5 ∷ []) ∷ numbers (codes "d") (number 2 ∷ number 5 ∷ []) ∷ numbers (codes "w") (number 7 ∷ number 8 ∷ []) ∷ [])
+
+-- keys are compared one by one
+abbrev pub SplitTexts : Type 0
+SplitTexts = (listing (split_texts Inner) ≡ []) × (listing (split_texts Semi) ≡ []) × (listing (split_texts Anti) ≡ left_only 0 ∷ [])
+
+-- a left row with two matches stands once in a Semi join
+abbrev pub RepeatedKeys : Type 0
+RepeatedKeys = (listing (repeated_keys Semi) ≡ left_only 0 ∷ left_only 2 ∷ []) × (listing (repeated_keys Anti) ≡ left_only 1 ∷ left_only 3 ∷ []) × (cut (Some (pos 1, 5)) (listing (repeated_keys Anti)) ≡ left_only 3 ∷ [])
+
+-- validation asks one side, and does not count Null keys unless they match
+abbrev pub Validations : Type 0
+Validations = (join_refusal (validated (number 1 ∷ number 1 ∷ []) ManyToOne false) ≡ None) × (join_refusal (validated (number 1 ∷ number 1 ∷ []) OneToMany false) ≡ Some (ComputeError (Validation side.Left))) × (join_refusal (validated (null ∷ null ∷ []) OneToMany false) ≡ None) × (join_refusal (validated (null ∷ null ∷ []) OneToMany true) ≡ Some (ComputeError (Validation side.Left)))
+
+-- refused keys
+abbrev pub RefusedKeys : Type 0
+RefusedKeys = (join_refusal (by_keys (codes "z" ∷ []) (k_name ∷ [])) ≡ Some (ColumnNotFound (codes "z"))) × (join_refusal (by_keys [] []) ≡ Some (InvalidOperation NoKeys)) × (join_refusal (by_keys (k_name ∷ k_name ∷ []) (k_name ∷ [])) ≡ Some (InvalidOperation (KeyCounts 2 1))) × (join_refusal (by_keys (k_name ∷ k_name ∷ []) (k_name ∷ k_name ∷ [])) ≡ Some (Duplicate k_name))
+
+-- refused types and names
+abbrev pub RefusedColumns : Type 0
+RefusedColumns = (join_refusal (of_kinds int64 int32) ≡ Some (ComputeError (KeyTypes 0))) × (join_refusal (of_kinds (kind.list int64) (kind.list int64)) ≡ Some (InvalidOperation (KeyKind 0))) × (join_refusal taken_name ≡ Some (Duplicate (codes "x_right")))

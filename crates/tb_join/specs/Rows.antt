@@ -1,11 +1,13 @@
 -- Small requests, and the tables that answer them.
 use Rattle.std.specs.Prelude.{ℕ, Bool, false, List, [], ◌∷◌, Option, None, ℤ, pos, codes}
-use Rattle.tb_value.specs.Datum.{Datum, null, int}
-use Rattle.tb_value.specs.Kind.{int64}
+use Rattle.tb_value.specs.Datum.{Datum, null, int, string}
+use Rattle.tb_value.specs.Kind.{Kind, int32, int64}
+use Rattle.tb_value.specs.Kind as kind
 use Rattle.tb_value.specs.Names.{Name}
 use Rattle.tb_frame.specs.declared.args.JoinArgs.{JoinArgs}
 use Rattle.tb_frame.specs.declared.args.JoinType.{JoinType}
-use Rattle.tb_frame.specs.declared.args.JoinType.TheVariants.{Inner, Full}
+use Rattle.tb_frame.specs.declared.args.JoinType.TheVariants.{Inner, Left, Right, Full}
+use Rattle.tb_frame.specs.declared.args.JoinValidation.{JoinValidation}
 use Rattle.tb_frame.specs.declared.args.JoinValidation.TheVariants.{ManyToMany}
 use Rattle.tb_frame.specs.declared.args.JoinCoalesce.{JoinCoalesce}
 use Rattle.tb_frame.specs.declared.args.JoinCoalesce.TheVariants.{JoinSpecific}
@@ -48,3 +50,38 @@ full_right_left c = on_k (number 1 ∷ number 3 ∷ []) (number 2 ∷ number 1 �
 -- Inner in the order of the left table, [1, 2, 3] on both sides, cut
 abbrev pub cut_thrice : Option (ℤ × ℕ) → Request
 cut_thrice s = on_k (number 1 ∷ number 2 ∷ number 3 ∷ []) (number 1 ∷ number 2 ∷ number 3 ∷ []) (record (plainly Inner) { slice = s; maintain_order = order.LeftRight })
+
+-- Left in the order of the right table, [7, 5, 6] and [6, 5]
+abbrev pub left_by_right : Request
+left_by_right = on_k (number 7 ∷ number 5 ∷ number 6 ∷ []) (number 6 ∷ number 5 ∷ []) (record (plainly Left) { maintain_order = order.Right })
+
+-- Right on two keys of different names
+abbrev pub two_keys : Request
+two_keys = by_names (numbers (codes "a") (number 1 ∷ []) ∷ numbers (codes "b") (number 2 ∷ []) ∷ numbers (codes "v") (number 9 ∷ []) ∷ []) (numbers (codes "c") (number 1 ∷ number 5 ∷ []) ∷ numbers (codes "d") (number 2 ∷ number 5 ∷ []) ∷ numbers (codes "w") (number 7 ∷ number 8 ∷ []) ∷ []) (codes "a" ∷ codes "b" ∷ []) (codes "c" ∷ codes "d" ∷ []) (plainly Right)
+
+-- two text keys, where the texts of a row are alike only when joined
+abbrev pub texts : Name → List ℕ → TableColumn
+texts n v = record { name = n; kind = kind.string; values = string v ∷ [] }
+
+abbrev pub split_texts : JoinType → Request
+split_texts how = by_names (texts (codes "a") (codes "ab") ∷ texts (codes "b") (codes "c") ∷ []) (texts (codes "a") (codes "a") ∷ texts (codes "b") (codes "bc") ∷ []) (codes "a" ∷ codes "b" ∷ []) (codes "a" ∷ codes "b" ∷ []) (plainly how)
+
+-- [3, 1, 3, Null] and [3, 3]
+abbrev pub repeated_keys : JoinType → Request
+repeated_keys how = on_k (number 3 ∷ number 1 ∷ number 3 ∷ null ∷ []) (number 3 ∷ number 3 ∷ []) (plainly how)
+
+-- Right with keys that are to be single on some side
+abbrev pub validated : List Datum → JoinValidation → Bool → Request
+validated left v nulls = on_k left (number 1 ∷ []) (record (plainly Right) { validation = v; join_nulls = nulls })
+
+-- Inner of one table with itself, by names of keys
+abbrev pub by_keys : List Name → List Name → Request
+by_keys left_on right_on = by_names (keys (number 1 ∷ [])) (keys (number 1 ∷ [])) left_on right_on (plainly Inner)
+
+-- Inner of two columns `k` of these types
+abbrev pub of_kinds : Kind → Kind → Request
+of_kinds t u = by_names (record { name = k_name; kind = t; values = [] } ∷ []) (record { name = k_name; kind = u; values = [] } ∷ []) (k_name ∷ []) (k_name ∷ []) (plainly Inner)
+
+-- Inner where the right `x` would be called as a left column is
+abbrev pub taken_name : Request
+taken_name = by_names (numbers k_name [] ∷ numbers (codes "x") [] ∷ numbers (codes "x_right") [] ∷ []) (numbers k_name [] ∷ numbers (codes "x") [] ∷ []) (k_name ∷ []) (k_name ∷ []) (plainly Inner)

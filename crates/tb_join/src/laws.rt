@@ -1,9 +1,14 @@
 //! The laws over the definitions of the join: functions that do nothing, whose contracts are theorems.
-ghost use Rattle.tb_join.specs.Laws.{OneAnswer, Parts, Kept, Turned, TurnedOrder, MatchesMean, SameValue, NullKeys, FullRightLeft, SlicedRows};
+ghost use Rattle.tb_join.specs.Laws.{OneAnswer, SomeAnswer, Parts, Kept, Turned, TurnedOrder, MatchesMean, SameValue, NullKeys, FullRightLeft, SlicedRows, LeftByRight, TwoKeys, SplitTexts, RepeatedKeys, Validations, RefusedKeys, RefusedColumns};
 
 /// Two answers to one request whose order is fixed are equal tables.
 pub fn one_answer()
     ensures { OneAnswer }
+{}
+
+/// A request that is not refused has an answer, which is a table.
+pub fn some_answer()
+    ensures { SomeAnswer }
 {}
 
 /// Each left row stands in exactly one of the Semi and Anti listings, and once.
@@ -41,4 +46,35 @@ pub fn full_right_left()
 /// Slices that begin before the first row, have no length, begin after the last row, and end after it.
 pub fn sliced_rows()
     ensures { SlicedRows }
+{}
+
+/// A left row without a match comes last in the order of the right table.
+pub fn left_by_right()
+    ensures { LeftByRight }
+{}
+
+/// A Right join on two keys lacks the left keys, and has Null where there is no left row.
+pub fn two_keys()
+    ensures { TwoKeys }
+{}
+
+/// Keys are compared one by one.
+pub fn split_texts()
+    ensures { SplitTexts }
+{}
+
+/// A left row with two matches stands once in a Semi join.
+pub fn repeated_keys()
+    ensures { RepeatedKeys }
+{}
+
+/// Validation asks one side, and does not count Null keys unless they match.
+pub fn validations()
+    ensures { Validations }
+{}
+
+/// Unknown, absent, uneven and repeated keys; types that differ or have no keys, and a name that is taken.
+pub fn refusals()
+    ensures keys { RefusedKeys }
+    ensures columns { RefusedColumns }
 {}

@@ -118,7 +118,7 @@ nat_cmp_self i = cmp_self i (nat_cmp i i) refl
 later_left : (i j u v : ℕ) → i < j → NotBelow left_first (both i u) (both j v)
 later_left i j u v h = ap (λ (o : Ordering). is_lt (ordering_then o (nat_cmp v u))) (nat_cmp_above i j h)
 
-later_right : (i u v : ℕ) → u < v → NotBelow left_first (both i u) (both i v)
+pub later_right : (i u v : ℕ) → u < v → NotBelow left_first (both i u) (both i v)
 later_right i u v h = ap (λ (o : Ordering). is_lt (ordering_then o (nat_cmp v u))) (nat_cmp_self i) ∙ ap is_lt (nat_cmp_above u v h)
 
 later_alone : (i j : ℕ) → i < j → NotBelow left_first (left_only i) (left_only j)

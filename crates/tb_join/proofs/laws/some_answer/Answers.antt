@@ -1,0 +1,5 @@
+use Rattle.tb_frame.proofs.Validity.{some_answer}
+use Rattle.tb_join.proofs.laws.some_answer.Goals as goal
+
+pub returns : goal.returns
+returns c = some_answer
