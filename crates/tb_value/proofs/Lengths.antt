@@ -5,7 +5,7 @@ use Rattle.tb_value.specs.Datum.{Datum, items_of, data_in}
 use Rattle.tb_value.specs.See.{datum}
 use Rattle.tb_value.specs.declared.any_value.AnyValue.{AnyValue}
 use Rattle.tb_value.specs.Kind.{Kind, Part, parts_of}
-use Rattle.tb_value.specs.SeeKind.{parts, part, kind_step, part_step, parts_step}
+use Rattle.tb_value.specs.SeeKind.{parts, kind_step, part_step, parts_step}
 use Rattle.tb_value.specs.declared.dtype.Fields.{Fields, out-Fields, fold_out-Fields}
 use Rattle.tb_value.specs.Typed.{AreEachOf}
 

@@ -1,5 +1,5 @@
 -- How the logic stores a value.
-use Rattle.std.specs.Prelude.{◌≡◌, ℕ, ℤ, Bool, List}
+use Rattle.std.specs.Prelude.{◌≡◌, ℕ, List}
 use Rattle.std.proofs.Common.{ap, arith}
 use Rattle.std.specs.Coded.{Coded, coded_ℕ, coded_ℤ, coded_bool, coded_list}
 use base.Stored.{Gv, gnil, gnum, gcons}

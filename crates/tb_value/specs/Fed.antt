@@ -1,5 +1,5 @@
 -- What the hash of a value feeds a hasher.
-use Rattle.std.specs.Prelude.{List, [], ◌++◌, length}
+use Rattle.std.specs.Prelude.{[], ◌++◌, length}
 use Rattle.std.specs.Hash.{HashWrites}
 use Rattle.std.specs.Hash as fed
 use Rattle.tb_value.specs.Datum.{Datum, Items, data_in, null, boolean, int, string, binary, list, struct, end, more}

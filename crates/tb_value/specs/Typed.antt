@@ -1,5 +1,5 @@
 -- Which values are of a type.
-use Rattle.std.specs.Prelude.{◌≡◌, ◌<◌, ◌^◌, ◌≤ℤ◌, ℕ, ℤ, pos, negsuc, List, length, Option, Some, None, IsSomeAnd, Bool, is_some}
+use Rattle.std.specs.Prelude.{◌≡◌, ◌<◌, ◌^◌, ◌≤ℤ◌, ℤ, pos, negsuc, length, Option, Some, None, IsSomeAnd, Bool, is_some}
 use Rattle.std.specs.Str.{IsUtf8}
 use Rattle.tb_value.specs.Datum.{Datum, Items}
 use Rattle.tb_value.specs.Datum as value

@@ -12,6 +12,8 @@ mod limits;
 mod pl_str;
 mod same;
 mod sorted;
+#[cfg(test)]
+mod tests;
 mod typed;
 
 pub use any_value::{AnyValue, ValueRef, Values};

@@ -123,6 +123,7 @@ fn is_string(dtype: &DataType) -> bool
     }
 }
 
+// Whether the bytes are UTF-8.
 fn is_text(bytes: &[u8]) -> bool
     ensures { IsTrue result ↔ IsUtf8 bytes.now }
 {
