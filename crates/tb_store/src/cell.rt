@@ -8,19 +8,23 @@ ghost use Rattle.tb_store.specs.Fits.{Fits};
 use std::alloc::Global;
 use tb_value::{AnyValue, Bytes, OutOfMemory, PlSmallStr, ValueRef, Values};
 
+/// A value other than Null, as a typed column stores it.
 pub trait Cell: Drop {
     ghost shows: { Self → Datum };
 
     ghost fits: { Datum → Type 0 };
 
+    /// The value, lent.
     fn lend(&self) -> ValueRef<'_>
         ensures { lent result ≡ shows self.now };
 
+    /// The value, stored. It is not Null, and one that the column can hold.
     fn from_value(alloc: Global, value: &AnyValue) -> Result<Self, OutOfMemory>
         requires fits { fits (datum value.now) }
         requires some { datum value.now ≢ null }
         ensures { IfOk result (λ c. shows c ≡ datum value.now) };
 
+    /// A cell of the same value.
     fn copy(&self, alloc: Global) -> Result<Self, OutOfMemory>
         ensures { IfOk result (λ c. shows c ≡ shows self.now) };
 }

@@ -9,6 +9,8 @@ use crate::cell::Cell;
 use std::alloc::Global;
 use tb_value::{AnyValue, OutOfMemory, PlSmallStr, ValueRef};
 
+/// Values of a column that stand together. `shown` is what contracts see of them, and `fits` says
+/// which values it can be made of.
 pub trait Chunk: Drop {
     ghost use Rattle.std.specs.Prelude.{List};
 
@@ -16,22 +18,26 @@ pub trait Chunk: Drop {
 
     ghost fits: { Datum → Type 0 };
 
+    /// The number of values, nulls too.
     fn len(&self) -> usize
         ensures { result ≡ length (shown self.now) };
 
+    /// The value of a row, lent.
     fn value(&self, row: usize) -> ValueRef<'_>
         requires { row < length (shown self.now) }
         ensures { lent result ≡ get_or (shown self.now) row null };
 
+    /// The chunk of these values.
     fn from_values(alloc: Global, values: &[AnyValue]) -> Result<Self, OutOfMemory>
         requires { All fits (data_of values.now) }
         ensures { IfOk result (λ c. shown c ≡ data_of values.now) };
 
+    /// A chunk of the same values.
     fn copy(&self, alloc: Global) -> Result<Self, OutOfMemory>
         ensures { IfOk result (λ c. shown c ≡ shown self.now) };
 }
 
-/// Optional values, each stored as it is.
+/// Optional values, each stored as it is; `None` is Null.
 #[derive(Drop)]
 pub struct Cells<N> {
     pub cells: Vec<Option<N>>,

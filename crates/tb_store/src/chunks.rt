@@ -10,6 +10,8 @@ use crate::chunk::{Cells, Chunk, StringChunk};
 use std::alloc::Global;
 use tb_value::{Bytes, OutOfMemory, ValueRef, Values};
 
+/// The chunks of a column. A variant is the type by which the values are stored; `Null` holds the
+/// lengths of chunks of nulls alone.
 #[derive(Drop)]
 pub enum Chunks {
     BooleanType(Vec<Cells<bool>>),
@@ -71,6 +73,7 @@ pub fn copy_chunks<C: Chunk>(alloc: Global, chunks: &[C]) -> Result<Vec<C>, OutO
 }
 
 impl Chunks {
+    /// The number of chunks.
     pub fn count(&self) -> usize
         ensures { result ≡ length (chunk_lists self.now) }
     {
@@ -93,6 +96,7 @@ impl Chunks {
         }
     }
 
+    /// The number of values of all chunks.
     pub fn rows(&self) -> usize
         requires { length (flat (chunk_lists self.now)) < 2 ^ 64 }
         ensures { result ≡ length (flat (chunk_lists self.now)) }
@@ -116,6 +120,7 @@ impl Chunks {
         }
     }
 
+    /// The number of values of a chunk.
     pub fn rows_of(&self, chunk: usize) -> usize
         requires { chunk < length (chunk_lists self.now) }
         ensures { result ≡ length (get_or (chunk_lists self.now) chunk []) }
@@ -139,6 +144,7 @@ impl Chunks {
         }
     }
 
+    /// The value of a row, counted through all chunks.
     pub fn value(&self, row: usize) -> ValueRef<'_>
         requires { row < length (flat (chunk_lists self.now)) }
         ensures { lent result ≡ get_or (flat (chunk_lists self.now)) row null }
@@ -162,6 +168,7 @@ impl Chunks {
         }
     }
 
+    /// Chunks of the same values.
     pub fn copy(&self, alloc: Global) -> Result<Chunks, OutOfMemory>
         ensures lists { IfOk result (λ c. chunk_lists c ≡ chunk_lists self.now) }
         ensures storage { IfOk result (λ c. storage c ≡ storage self.now) }

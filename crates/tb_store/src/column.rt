@@ -38,6 +38,11 @@ impl Series {
 }
 
 impl Column {
+    /// As `Series::from_chunks`.
+    ///
+    /// # Errors
+    ///
+    /// Those of `Series::from_chunks`.
     pub fn from_chunks(
         alloc: Global,
         name: &str,
@@ -59,18 +64,21 @@ impl Column {
         &self.series
     }
 
+    /// The name.
     pub fn name(&self) -> &PlSmallStr
         ensures { result.now ≡ self.now.name }
     {
         self.series.name()
     }
 
+    /// The type of the values.
     pub fn dtype(&self) -> &DataType
         ensures { kind_of result.now ≡ self.now.kind }
     {
         self.series.dtype()
     }
 
+    /// The number of values, which is at most `MAX_ROWS`.
     pub fn len(&self) -> usize
         ensures len { result ≡ length (values self.now) }
         ensures column { IsColumn self.now }
@@ -78,6 +86,7 @@ impl Column {
         self.series.len()
     }
 
+    /// The value of a row, lent.
     pub fn get(&self, row: usize) -> ValueRef<'_>
         requires { row < length (values self.now) }
         ensures { lent result ≡ get_or (values self.now) row null }
@@ -85,6 +94,7 @@ impl Column {
         self.series.get(row)
     }
 
+    /// Changes the name alone.
     pub fn rename(&mut self, name: PlSmallStr)
         ensures { self.new ≡ record self.old { name = name } }
     {

@@ -10,10 +10,13 @@ use crate::chunks::Chunks;
 use std::alloc::Global;
 use tb_value::OutOfMemory;
 
+/// A chunk that takes rows of others of its kind.
 pub trait Grow: Chunk {
+    /// The chunk of no value. It takes no memory yet.
     fn empty(alloc: Global) -> Self
         ensures { Self.shown result ≡ [] };
 
+    /// Appends a row of another chunk.
     fn push_from(&mut self, alloc: Global, other: &Self, row: usize) -> Result<(), OutOfMemory>
         requires room { length (Self.shown self.old) < 2 ^ 63 }
         requires row { row < length (Self.shown other.now) }

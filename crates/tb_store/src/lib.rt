@@ -11,6 +11,8 @@ mod make;
 mod marker;
 mod pick;
 mod series;
+#[cfg(test)]
+mod tests;
 
 pub use cell::{Cell, FieldValues};
 pub use chunk::{Cells, Chunk, StringChunk};

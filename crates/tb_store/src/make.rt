@@ -117,6 +117,13 @@ fn or_one_empty(
 
 #[tactic(auto, using(crate::proofs::Fitting::fitting))]
 impl Series {
+    /// The column of this name and type and of these values, with the flag Not. No chunk at all makes
+    /// one empty chunk.
+    ///
+    /// # Errors
+    ///
+    /// 1 SchemaMismatch where a value is not of the type, 2 TooManyRows where the values number more
+    /// than `MAX_ROWS`, and OutOfMemory.
     pub fn from_chunks(
         alloc: Global,
         name: &str,

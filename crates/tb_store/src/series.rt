@@ -37,18 +37,21 @@ impl Model for Series {
 }
 
 impl Series {
+    /// The name.
     pub fn name(&self) -> &PlSmallStr
         ensures { result.now ≡ self.now.name }
     {
         &self.name
     }
 
+    /// The type of the values.
     pub fn dtype(&self) -> &DataType
         ensures { kind_of result.now ≡ self.now.kind }
     {
         &self.dtype
     }
 
+    /// The number of chunks, which is at least 1.
     pub fn n_chunks(&self) -> usize
         ensures { result ≡ length self.now.chunks }
     {
@@ -63,18 +66,21 @@ impl Series {
         &self.chunks
     }
 
+    /// Changes the name alone.
     pub fn rename(&mut self, name: PlSmallStr)
         ensures { self.new ≡ record self.old { name = name } }
     {
         self.name = name;
     }
 
+    /// The order that the values are known to have.
     pub fn is_sorted_flag(&self) -> IsSorted
         ensures { result ≡ self.now.flag }
     {
         self.flag
     }
 
+    /// The number of values, which is at most `MAX_ROWS`.
     pub fn len(&self) -> usize
         ensures len { result ≡ length (values self.now) }
         ensures column { IsColumn self.now }
@@ -82,6 +88,7 @@ impl Series {
         self.chunks.rows()
     }
 
+    /// The number of values of a chunk.
     pub fn chunk_len(&self, chunk: usize) -> usize
         requires { chunk < length self.now.chunks }
         ensures { result ≡ length (get_or self.now.chunks chunk []) }
@@ -89,6 +96,7 @@ impl Series {
         self.chunks.rows_of(chunk)
     }
 
+    /// The value of a row, lent. Its steps are at most the number of chunks.
     pub fn get(&self, row: usize) -> ValueRef<'_>
         requires { row < length (values self.now) }
         ensures { lent result ≡ get_or (values self.now) row null }
@@ -96,6 +104,7 @@ impl Series {
         self.chunks.value(row)
     }
 
+    /// An equal column.
     pub fn copy(&self, alloc: Global) -> Result<Series, OutOfMemory>
         ensures { IfOk result (λ s. s ≡ self.now) }
     {
@@ -110,14 +119,14 @@ impl Series {
         })
     }
 
-    /// The same values in one chunk.
+    /// The same values in one chunk, with the same flag.
     pub fn rechunk(&self, alloc: Global) -> Result<Series, OutOfMemory>
         ensures { IfOk result (λ s. s ≡ record self.now { chunks = values self.now ∷ [] }) }
     {
         self.part(alloc, 0, self.len())
     }
 
-    /// The values from `start` on, in one chunk.
+    /// The `len` values from `start` on, in one chunk, with the same flag.
     pub fn part(&self, alloc: Global, start: usize, len: usize) -> Result<Series, OutOfMemory>
         requires { start + len ≤ length (values self.now) }
         ensures { IfOk result (λ s. s ≡ record self.now { chunks = take len (drop start (values self.now)) ∷ [] }) }

@@ -1,9 +1,11 @@
 use Rattle.tb_value.specs.Same.{same, same_items}
 use Rattle.std.proofs.lemmas.List.{length-map}
 use Rattle.std.proofs.Common.{Bool, true, false, ◌&&◌, ◌≡◌, ◌∙◌, List, [], ◌∷◌, length, map, refl, ap, suc}
-use Rattle.tb_value.specs.Datum.{Datum, items_of}
+use Rattle.tb_value.specs.Datum.{Datum, items_of, data_in}
+use Rattle.tb_value.specs.See.{datum}
+use Rattle.tb_value.specs.declared.any_value.AnyValue.{AnyValue}
 use Rattle.tb_value.specs.Kind.{Kind, Part, parts_of}
-use Rattle.tb_value.specs.SeeKind.{parts, part, kind_step, part_step, parts_step}
+use Rattle.tb_value.specs.SeeKind.{parts, kind_step, part_step, parts_step}
 use Rattle.tb_value.specs.declared.dtype.Fields.{Fields, out-Fields, fold_out-Fields}
 use Rattle.tb_value.specs.Typed.{AreEachOf}
 
@@ -27,3 +29,7 @@ lengths_differ [] [] h = absurd (h refl)
 lengths_differ [] (y ∷ ys) h = refl
 lengths_differ (x ∷ xs) [] h = refl
 lengths_differ (x ∷ xs) (y ∷ ys) h = false_and (same x y) (same_items (items_of xs) (items_of ys)) (lengths_differ xs ys (λ e. h (ap (λ n. suc n) e)))
+
+pub length-data_in : (xs : List AnyValue) → length (data_in (items_of (map datum xs))) ≡ length xs
+length-data_in [] = refl
+length-data_in (x ∷ xs) = ap (λ n. suc n) (length-data_in xs)

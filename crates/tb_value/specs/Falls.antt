@@ -1,5 +1,5 @@
 -- Each list of values that stands in another is the lighter one.
-use Rattle.std.specs.Prelude.{◌+◌, ◌≤◌, max, List, [], ◌∷◌}
+use Rattle.std.specs.Prelude.{◌≤◌, max, List, [], ◌∷◌}
 use Rattle.std.proofs.Common.{arith}
 use denote.Param.Weighed.{most}
 use Rattle.tb_value.specs.Datum.{weight, weights, items_of}

@@ -2,6 +2,7 @@ pub mod Datum
 pub mod DatumCode
 pub mod See
 pub mod Falls
+pub mod Fed
 pub mod Kind
 pub mod KindCode
 pub mod SeeKind

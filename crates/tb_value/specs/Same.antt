@@ -1,14 +1,15 @@
 -- Whether two values are the same.
-use Rattle.std.specs.Prelude.{◌≡◌, ◌==◌, ℕ, ℤ, Bool, true, false, ◌&&◌, List, refl}
+use Rattle.std.specs.Prelude.{◌≡◌, Bool, true, false, ◌&&◌, refl}
 use Rattle.std.specs.Bool.{Decides}
 use Rattle.std.specs.Cmp.{booleans_Decides, signed_Decides, IsEquivalence, first_so, second_so}
 use Rattle.std.specs.Ordering.{int_eq}
-use Rattle.std.proofs.Common.{ap, sym, ◌∙◌}
+use Rattle.std.proofs.Common.{ap, sym}
 use Rattle.std.proofs.Math.Bool.{beq}
 use Rattle.std.proofs.lemmas.Slice.Eq.{bytes_eq-Decides}
 use Rattle.std.specs.Str.{bytes_eq}
 use Rattle.tb_value.specs.Datum.{Datum, Items, null, boolean, int, string, binary, list, struct, end, more}
 
+-- the same kind of value, and the same in it
 abbrev mutual
   pub same : Datum → Datum → Bool
   same null null = true
@@ -18,54 +19,12 @@ abbrev mutual
   same (binary a) (binary b) = bytes_eq a b
   same (list a) (list b) = same_items a b
   same (struct a) (struct b) = same_items a b
-  same null (boolean _) = false
-  same null (int _) = false
-  same null (string _) = false
-  same null (binary _) = false
-  same null (list _) = false
-  same null (struct _) = false
-  same (boolean _) null = false
-  same (boolean _) (int _) = false
-  same (boolean _) (string _) = false
-  same (boolean _) (binary _) = false
-  same (boolean _) (list _) = false
-  same (boolean _) (struct _) = false
-  same (int _) null = false
-  same (int _) (boolean _) = false
-  same (int _) (string _) = false
-  same (int _) (binary _) = false
-  same (int _) (list _) = false
-  same (int _) (struct _) = false
-  same (string _) null = false
-  same (string _) (boolean _) = false
-  same (string _) (int _) = false
-  same (string _) (binary _) = false
-  same (string _) (list _) = false
-  same (string _) (struct _) = false
-  same (binary _) null = false
-  same (binary _) (boolean _) = false
-  same (binary _) (int _) = false
-  same (binary _) (string _) = false
-  same (binary _) (list _) = false
-  same (binary _) (struct _) = false
-  same (list _) null = false
-  same (list _) (boolean _) = false
-  same (list _) (int _) = false
-  same (list _) (string _) = false
-  same (list _) (binary _) = false
-  same (list _) (struct _) = false
-  same (struct _) null = false
-  same (struct _) (boolean _) = false
-  same (struct _) (int _) = false
-  same (struct _) (string _) = false
-  same (struct _) (binary _) = false
-  same (struct _) (list _) = false
+  same _ _ = false
 
   pub same_items : Items → Items → Bool
   same_items end end = true
   same_items (more a xs) (more b ys) = same a b && same_items xs ys
-  same_items end (more _ _) = false
-  same_items (more _ _) end = false
+  same_items _ _ = false
 
 mutual
   pub same-Decides : (x y : Datum) → Decides (same x y) (x ≡ y)
@@ -76,59 +35,17 @@ mutual
   same-Decides (binary a) (binary b) = let d = bytes_eq-Decides a b in (λ h. ap binary (d.0 h), λ e. d.1 (cc))
   same-Decides (list a) (list b) = let d = items-Decides a b in (λ h. ap list (d.0 h), λ e. d.1 (cc))
   same-Decides (struct a) (struct b) = let d = items-Decides a b in (λ h. ap struct (d.0 h), λ e. d.1 (cc))
-  same-Decides null (boolean _) = (λ h. absurd (cc), λ e. absurd (cc))
-  same-Decides null (int _) = (λ h. absurd (cc), λ e. absurd (cc))
-  same-Decides null (string _) = (λ h. absurd (cc), λ e. absurd (cc))
-  same-Decides null (binary _) = (λ h. absurd (cc), λ e. absurd (cc))
-  same-Decides null (list _) = (λ h. absurd (cc), λ e. absurd (cc))
-  same-Decides null (struct _) = (λ h. absurd (cc), λ e. absurd (cc))
-  same-Decides (boolean _) null = (λ h. absurd (cc), λ e. absurd (cc))
-  same-Decides (boolean _) (int _) = (λ h. absurd (cc), λ e. absurd (cc))
-  same-Decides (boolean _) (string _) = (λ h. absurd (cc), λ e. absurd (cc))
-  same-Decides (boolean _) (binary _) = (λ h. absurd (cc), λ e. absurd (cc))
-  same-Decides (boolean _) (list _) = (λ h. absurd (cc), λ e. absurd (cc))
-  same-Decides (boolean _) (struct _) = (λ h. absurd (cc), λ e. absurd (cc))
-  same-Decides (int _) null = (λ h. absurd (cc), λ e. absurd (cc))
-  same-Decides (int _) (boolean _) = (λ h. absurd (cc), λ e. absurd (cc))
-  same-Decides (int _) (string _) = (λ h. absurd (cc), λ e. absurd (cc))
-  same-Decides (int _) (binary _) = (λ h. absurd (cc), λ e. absurd (cc))
-  same-Decides (int _) (list _) = (λ h. absurd (cc), λ e. absurd (cc))
-  same-Decides (int _) (struct _) = (λ h. absurd (cc), λ e. absurd (cc))
-  same-Decides (string _) null = (λ h. absurd (cc), λ e. absurd (cc))
-  same-Decides (string _) (boolean _) = (λ h. absurd (cc), λ e. absurd (cc))
-  same-Decides (string _) (int _) = (λ h. absurd (cc), λ e. absurd (cc))
-  same-Decides (string _) (binary _) = (λ h. absurd (cc), λ e. absurd (cc))
-  same-Decides (string _) (list _) = (λ h. absurd (cc), λ e. absurd (cc))
-  same-Decides (string _) (struct _) = (λ h. absurd (cc), λ e. absurd (cc))
-  same-Decides (binary _) null = (λ h. absurd (cc), λ e. absurd (cc))
-  same-Decides (binary _) (boolean _) = (λ h. absurd (cc), λ e. absurd (cc))
-  same-Decides (binary _) (int _) = (λ h. absurd (cc), λ e. absurd (cc))
-  same-Decides (binary _) (string _) = (λ h. absurd (cc), λ e. absurd (cc))
-  same-Decides (binary _) (list _) = (λ h. absurd (cc), λ e. absurd (cc))
-  same-Decides (binary _) (struct _) = (λ h. absurd (cc), λ e. absurd (cc))
-  same-Decides (list _) null = (λ h. absurd (cc), λ e. absurd (cc))
-  same-Decides (list _) (boolean _) = (λ h. absurd (cc), λ e. absurd (cc))
-  same-Decides (list _) (int _) = (λ h. absurd (cc), λ e. absurd (cc))
-  same-Decides (list _) (string _) = (λ h. absurd (cc), λ e. absurd (cc))
-  same-Decides (list _) (binary _) = (λ h. absurd (cc), λ e. absurd (cc))
-  same-Decides (list _) (struct _) = (λ h. absurd (cc), λ e. absurd (cc))
-  same-Decides (struct _) null = (λ h. absurd (cc), λ e. absurd (cc))
-  same-Decides (struct _) (boolean _) = (λ h. absurd (cc), λ e. absurd (cc))
-  same-Decides (struct _) (int _) = (λ h. absurd (cc), λ e. absurd (cc))
-  same-Decides (struct _) (string _) = (λ h. absurd (cc), λ e. absurd (cc))
-  same-Decides (struct _) (binary _) = (λ h. absurd (cc), λ e. absurd (cc))
-  same-Decides (struct _) (list _) = (λ h. absurd (cc), λ e. absurd (cc))
+  same-Decides _ _ = (λ h. absurd (cc), λ e. absurd (cc))
 
   pub items-Decides : (x y : Items) → Decides (same_items x y) (x ≡ y)
   items-Decides end end = (λ _. refl, λ _. refl)
-  items-Decides end (more _ _) = (λ h. absurd (cc), λ e. absurd (cc))
-  items-Decides (more _ _) end = (λ h. absurd (cc), λ e. absurd (cc))
   items-Decides (more a xs) (more b ys) =
       let d = same-Decides a b in
       let r = items-Decides xs ys in (
         λ h. λ i. more (d.0 (first_so (same a b) (same_items xs ys) h) i) (r.0 (second_so (same a b) (same_items xs ys) h) i),
         λ e. let p : same a b ≡ true = d.1 (cc) in let q : same_items xs ys ≡ true = r.1 (cc) in rw p q,
       )
+  items-Decides _ _ = (λ h. absurd (cc), λ e. absurd (cc))
 
 bool_ext : (a b : Bool) → (a ≡ true → b ≡ true) → (b ≡ true → a ≡ true) → a ≡ b
 bool_ext true true f g = refl

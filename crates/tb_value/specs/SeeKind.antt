@@ -1,9 +1,8 @@
 -- The type that a `DataType` stands for.
-use Rattle.std.specs.Prelude.{◌≡◌, refl, ℕ, List, [], ◌∷◌, map, Option, Some, None}
+use Rattle.std.specs.Prelude.{List}
 use Rattle.tb_value.specs.Kind as kind
 use Rattle.tb_value.specs.Kind.{Kind, Part, parts_of}
 use Rattle.tb_value.specs.declared.dtype.DataType.{DataType, fold-DataType}
-use Rattle.tb_value.specs.declared.dtype.DataType as the
 use Rattle.tb_value.specs.declared.dtype.DataType.TheOpen.{DataType-F, Field-F, Fields-F}
 use Rattle.tb_value.specs.declared.dtype.Field.{Field}
 use Rattle.tb_value.specs.declared.dtype.Fields.{Fields, fold-Fields}

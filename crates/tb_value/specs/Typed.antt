@@ -1,5 +1,5 @@
 -- Which values are of a type.
-use Rattle.std.specs.Prelude.{◌≡◌, ◌<◌, ◌^◌, ◌≤ℤ◌, ℕ, ℤ, pos, negsuc, List, length, Option, Some, None, IsSomeAnd}
+use Rattle.std.specs.Prelude.{◌≡◌, ◌<◌, ◌^◌, ◌≤ℤ◌, ℤ, pos, negsuc, length, Option, Some, None, IsSomeAnd, Bool, is_some}
 use Rattle.std.specs.Str.{IsUtf8}
 use Rattle.tb_value.specs.Datum.{Datum, Items}
 use Rattle.tb_value.specs.Datum as value
@@ -22,6 +22,10 @@ ends time = Some (negsuc 9223372036854775807, pos 9223372036854775807)
 ends (datetime u z) = Some (negsuc 9223372036854775807, pos 9223372036854775807)
 ends (duration u) = Some (negsuc 9223372036854775807, pos 9223372036854775807)
 ends _ = None
+
+-- whether values of the type are stored as whole numbers: of whole numbers themselves, dates and times
+abbrev pub is_whole_physical : Kind → Bool
+is_whole_physical t = is_some (ends t)
 
 -- a list type, and what holds of the type inside
 abbrev pub IsListOf : Kind → (Kind → Type 0) → Type 0

@@ -9,12 +9,14 @@ use crate::pl_str::PlSmallStr;
 use std::alloc::Global;
 use std::marker::Model;
 
+/// An own list of values.
 #[cycle(value)]
 #[derive(Drop)]
 pub struct Values {
     pub(crate) items: Vec<AnyValue>,
 }
 
+/// A value of a column. Dates and times are whole numbers, as they are stored.
 #[cycle(value)]
 #[derive(Drop)]
 pub enum AnyValue {
@@ -48,18 +50,21 @@ impl Model for Values {
 }
 
 impl Values {
+    /// The values as they are. It takes no memory.
     pub fn from_vec(values: Vec<AnyValue>) -> Values
         ensures { result ≡ data_of values.items }
     {
         Values { items: values }
     }
 
+    /// The values, lent.
     pub fn as_slice(&self) -> &[AnyValue]
         ensures { data_of result.now ≡ self.now }
     {
         self.items.as_slice()
     }
 
+    /// An equal list.
     pub fn copy(&self, alloc: Global) -> Result<Values, OutOfMemory>
         ensures { IfOk result (λ vs. vs ≡ self.now) }
     {
@@ -67,7 +72,7 @@ impl Values {
     }
 }
 
-/// A value that borrows its parts.
+/// A value that borrows its parts. A text is given as its bytes.
 #[derive(Clone, Copy)]
 pub enum ValueRef<'a> {
     Null,
@@ -80,6 +85,7 @@ pub enum ValueRef<'a> {
 }
 
 impl AnyValue {
+    /// The same value, lent. It takes no memory.
     pub fn as_ref(&self) -> ValueRef<'_>
         ensures { lent result ≡ datum self.now }
     {
@@ -96,6 +102,7 @@ impl AnyValue {
 }
 
 impl ValueRef<'_> {
+    /// The same value, owned. The bytes of a text are UTF-8.
     pub fn to_value(&self, alloc: Global) -> Result<AnyValue, OutOfMemory>
         requires { IsText self.now }
         ensures { IfOk result (λ v. datum v ≡ lent self.now) }

@@ -21,13 +21,14 @@ impl Model for Bytes {
 }
 
 impl Bytes {
-    /// The bytes as they are. The result is the one that a caller may want to hand on by `?`.
+    /// The bytes as they are. It takes no memory, and always answers `Ok`.
     pub fn from_vec(bytes: Vec<u8>) -> Result<Bytes, OutOfMemory>
         ensures { IfOk result (λ b. b ≡ bytes.items) }
     {
         Ok(Bytes { bytes })
     }
 
+    /// The bytes, lent.
     pub fn as_slice(&self) -> &[u8]
         ensures { result.now ≡ self.now }
     {

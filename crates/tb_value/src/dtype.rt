@@ -6,6 +6,7 @@ use crate::error::OutOfMemory;
 use crate::pl_str::PlSmallStr;
 use std::alloc::Global;
 
+/// What the whole number of a date and time or of a duration counts.
 #[derive(Clone, Copy, PartialEq, Eq, Debug)]
 pub enum TimeUnit {
     Nanoseconds,
@@ -13,6 +14,7 @@ pub enum TimeUnit {
     Milliseconds,
 }
 
+/// A type of columns. The time zone of a Datetime is a label that is only compared.
 #[cycle(dtype)]
 #[derive(Drop, PartialEq, Eq)]
 pub enum DataType {
@@ -37,6 +39,7 @@ pub enum DataType {
     Struct(Fields),
 }
 
+/// A field of a struct.
 #[cycle(dtype)]
 #[derive(Drop, PartialEq, Eq)]
 pub struct Field {
@@ -44,6 +47,7 @@ pub struct Field {
     pub dtype: DataType,
 }
 
+/// The fields of a struct, in order.
 #[cycle(dtype)]
 #[derive(Drop, PartialEq, Eq)]
 pub struct Fields {
@@ -51,18 +55,21 @@ pub struct Fields {
 }
 
 impl Fields {
+    /// The fields as they are. It takes no memory.
     pub fn from_vec(fields: Vec<Field>) -> Fields
         ensures { parts result ≡ map part fields.items }
     {
         Fields { items: fields }
     }
 
+    /// The fields, lent.
     pub fn as_slice(&self) -> &[Field]
         ensures { map part result.now ≡ parts self.now }
     {
         self.items.as_slice()
     }
 
+    /// Equal fields.
     pub fn copy(&self, alloc: Global) -> Result<Fields, OutOfMemory>
         ensures { IfOk result (λ f. parts f ≡ parts self.now) }
     {
@@ -71,6 +78,7 @@ impl Fields {
 }
 
 impl Field {
+    /// An equal field.
     pub fn copy(&self, alloc: Global) -> Result<Field, OutOfMemory>
         ensures { IfOk result (λ f. part f ≡ part self.now) }
     {
@@ -79,6 +87,7 @@ impl Field {
 }
 
 impl DataType {
+    /// An equal type.
     pub fn copy(&self, alloc: Global) -> Result<DataType, OutOfMemory>
         ensures { IfOk result (λ d. kind_of d ≡ kind_of self.now) }
     {

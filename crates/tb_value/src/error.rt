@@ -74,18 +74,25 @@ pub enum ComputeCause {
 /// Why an operation gave up: the first cause that holds, in the order that the operation states.
 #[derive(PartialEq, Eq, Debug, Drop, Error)]
 pub enum PolarsError {
+    /// A table has no column of this name.
     #[error("there is no column of that name")]
     ColumnNotFound(PlSmallStr),
+    /// The arguments are refused, whatever the values are.
     #[error("the arguments are refused")]
     InvalidOperation(InvalidCause),
+    /// The tables are refused.
     #[error("the tables cannot be computed with so")]
     ComputeError(ComputeCause),
+    /// A column of this name would stand twice.
     #[error("a name stands twice")]
     Duplicate(PlSmallStr),
+    /// Two lengths differ that must be the same.
     #[error("two lengths differ")]
     ShapeMismatch,
+    /// A value or a column is of another type than is asked.
     #[error("a value or a column is of another type")]
     SchemaMismatch,
+    /// Want of memory.
     #[error("out of memory")]
     OutOfMemory,
 }

@@ -5,11 +5,15 @@ mod any_value;
 mod bytes;
 mod dtype;
 mod error;
+mod hashed;
 mod index;
+pub mod laws;
 mod limits;
 mod pl_str;
 mod same;
 mod sorted;
+#[cfg(test)]
+mod tests;
 mod typed;
 
 pub use any_value::{AnyValue, ValueRef, Values};

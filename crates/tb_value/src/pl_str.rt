@@ -31,6 +31,7 @@ impl PlSmallStr {
         })
     }
 
+    /// The text, lent.
     pub fn as_str(&self) -> &str
         ensures { result.now ≡ self.now }
     {

@@ -3,9 +3,10 @@ ghost use Rattle.std.specs.Prelude.{◌≡◌, ◌↔◌, ◌<◌, ◌≤ℤ◌,
 ghost use Rattle.tb_value.specs.Datum.{items_of};
 ghost use Rattle.tb_value.specs.Kind.{parts_of, boolean, string, binary};
 ghost use Rattle.std.specs.Str.{IsUtf8};
+ghost use Rattle.tb_value.specs.SameKind.{is_key};
 ghost use Rattle.tb_value.specs.See.{datum, lent};
 ghost use Rattle.tb_value.specs.SeeKind.{kind_of, parts};
-ghost use Rattle.tb_value.specs.Typed.{HasType, AreOf, AreEachOf, IsListOf, IsStructOf, ends};
+ghost use Rattle.tb_value.specs.Typed.{HasType, AreOf, AreEachOf, IsListOf, IsStructOf, ends, is_whole_physical};
 
 use crate::any_value::{AnyValue, ValueRef, Values};
 use crate::dtype::{DataType, Fields};
@@ -32,6 +33,41 @@ impl DataType {
             ValueRef::List(values) => is_list_of(self, values),
             ValueRef::Struct(values) => is_struct_of(self, values),
         }
+    }
+}
+
+impl DataType {
+    /// Whether rows can be joined by values of this type: of each type but Null, List and Struct.
+    pub fn is_key(&self) -> bool
+        ensures { result ≡ is_key (kind_of self.now) }
+    {
+        match self {
+            DataType::Null | DataType::List(_) | DataType::Struct(_) => false,
+            DataType::Boolean
+            | DataType::Int8
+            | DataType::Int16
+            | DataType::Int32
+            | DataType::Int64
+            | DataType::Int128
+            | DataType::UInt8
+            | DataType::UInt16
+            | DataType::UInt32
+            | DataType::UInt64
+            | DataType::String
+            | DataType::Binary
+            | DataType::Date
+            | DataType::Datetime(_, _)
+            | DataType::Duration(_)
+            | DataType::Time => true,
+        }
+    }
+
+    /// Whether values of this type are stored as whole numbers: of the nine types of whole numbers,
+    /// Date, Datetime, Duration and Time.
+    pub fn is_whole_physical(&self) -> bool
+        ensures { result ≡ is_whole_physical (kind_of self.now) }
+    {
+        ends_of(self).is_some()
     }
 }
 
@@ -87,6 +123,7 @@ fn is_string(dtype: &DataType) -> bool
     }
 }
 
+// Whether the bytes are UTF-8.
 fn is_text(bytes: &[u8]) -> bool
     ensures { IsTrue result ↔ IsUtf8 bytes.now }
 {

@@ -1,7 +1,6 @@
-use Rattle.std.proofs.Common.{◌≡◌, length, ap, sym, arith, IsTrue, false, ◌∙◌}
+use Rattle.std.proofs.Common.{◌≡◌, length, ap, sym, arith, ◌∙◌}
 use Rattle.tb_value.specs.SeeKind.{parts}
 use Rattle.tb_value.specs.declared.dtype.Fields.{out-Fields}
-use Rattle.tb_value.specs.Datum.{items_of}
 use Rattle.tb_value.specs.See.{datum}
 use Rattle.std.proofs.lemmas.List.{length-map}
 use Rattle.tb_value.proofs.Lengths.{AreEachOf-length, length-parts}

@@ -1,10 +1,10 @@
-use Rattle.std.proofs.Common.{◌↔◌, map, drop, length, ◌≡◌}
+use Rattle.std.proofs.Common.{◌↔◌, map, drop}
 use Rattle.tb_value.specs.Datum.{items_of}
 use Rattle.tb_value.specs.Kind.{parts_of}
 use Rattle.tb_value.specs.See.{datum}
 use Rattle.tb_value.specs.SeeKind.{kind_of, part, parts}
 use Rattle.tb_value.specs.declared.dtype.Fields.{out-Fields}
-use Rattle.tb_value.specs.Typed.{HasType, AreOf, AreEachOf}
+use Rattle.tb_value.specs.Typed.{AreOf, AreEachOf}
 use Rattle.tb_value.proofs.typed.+is_of.Given as goal
 
 -- the values that are left decide

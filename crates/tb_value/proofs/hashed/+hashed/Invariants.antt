@@ -1,0 +1,9 @@
+use Rattle.std.proofs.Common.{◌≡◌, fold, map, drop}
+use Rattle.tb_value.specs.Datum.{items_of}
+use Rattle.tb_value.specs.Fed.{fed_each, fed_items}
+use Rattle.tb_value.specs.See.{datum}
+use Rattle.tb_value.proofs.hashed.+hashed.Given as goal
+
+-- what is left is fed to the state so far
+abbrev pub invariant-hash_values-loop-value : goal.invariant-hash_values-loop-value
+invariant-hash_values-loop-value g l = fold g.H.Hasher.write l.state (fed_each (items_of (map datum (drop l.value-index l.value-items)))) ≡ fold g.H.Hasher.write l.fn.state (fed_items (items_of (map datum l.value-items)))

@@ -1,0 +1,5 @@
+use Rattle.tb_value.proofs.TypeTests.{same_kind-Decides}
+use Rattle.tb_value.proofs.laws.same_kind.Goals as goal
+
+pub returns : goal.returns
+returns c = same_kind-Decides
