@@ -1,8 +1,9 @@
 -- What follows where no cause holds.
-use Rattle.std.proofs.Common.{◌≡◌, ℕ, ◌<◌, Bool, true, false, cond, List, [], ◌∷◌, length, get_or, take, refl, ap, arith, sym, ◌∙◌, subst, Option, Some, None, Result, Ok, Err, inl, inr}
+use Rattle.std.proofs.Common.{◌≡◌, ℕ, ◌<◌, ◌≤◌, nat_lt, Bool, true, false, cond, List, [], ◌∷◌, length, get_or, take, refl, ap, arith, sym, ◌∙◌, subst, Option, Some, None, Result, Ok, Err, inl, inr}
 use Rattle.std.specs.Prelude.{All, AllPairs, ◌≢◌, ◌⊎◌, IsErrAnd, ◌==◌, ◌||◌}
 use Rattle.std.specs.Option.{option_map}
 use Rattle.std.specs.List.{find, filter_map, cons_option}
+use Rattle.std.proofs.lemmas.Bool.{ltb-false}
 use Rattle.std.proofs.lemmas.List.{get_or-take, length-take, get_or_default}
 use Rattle.std.proofs.lemmas.List.Elements.{All-nil, All-cons, All-head, All-tail}
 use Rattle.std.proofs.lemmas.List.Folds.{list_any_at}
@@ -96,3 +97,11 @@ pub carried : {T : Type 0} (r : Result T PolarsError) (e : PolarsError) (a b c d
 carried (Ok x) e a b c d rest h k = absurd h
 carried (Err x) e a b c d rest h (inl k) = inl (h ∙ k)
 carried (Err x) e a b c d rest h (inr k) = inr (earlier a b c d rest e k ∙ ap (λ (y : PolarsError). Some y) (sym h))
+
+-- a cause that a number is too great for
+pub when_not_above : (most n : ℕ) (e : PolarsError) → when (nat_lt most n) e ≡ None → n ≤ most
+when_not_above most n e h = at (nat_lt most n) refl h
+  where
+    at : (b : Bool) → nat_lt most n ≡ b → when b e ≡ None → n ≤ most
+    at true k g = absurd (cc)
+    at false k g = ltb-false most n k

@@ -1,18 +1,19 @@
 -- What a request has that is not refused, and an answer to it.
-use Rattle.std.proofs.Common.{◌≡◌, ◌<◌, List, [], ◌∷◌, length, map, None}
+use Rattle.std.proofs.Common.{◌≡◌, ◌<◌, ◌≤◌, List, [], ◌∷◌, length, map, None}
 use Rattle.std.specs.Prelude.{AllPairs, ◌≢◌}
 use Rattle.std.specs.Option.{option_map}
 use Rattle.tb_value.specs.Names.{Name}
 use Rattle.tb_value.specs.Refusals.{first_cause}
 use Rattle.tb_value.specs.declared.error.InvalidCause.TheVariants.{NoKeys}
-use Rattle.tb_value.specs.declared.error.PolarsError.TheVariants.{ColumnNotFound, InvalidOperation, Duplicate}
+use Rattle.tb_value.specs.declared.error.PolarsError.TheVariants.{ColumnNotFound, InvalidOperation, Duplicate, ComputeError}
+use Rattle.tb_value.specs.declared.error.ComputeCause.TheVariants.{TooManyRows}
 use Rattle.tb_value.specs.declared.index.JoinPair.{JoinPair}
 use Rattle.tb_frame.specs.Answer.{fill}
-use Rattle.tb_frame.specs.Join.{Request, IsAnswer, cut, direction, joined_names, matches, out}
+use Rattle.tb_frame.specs.Join.{Request, IsAnswer, cut, direction, joined_names, listing, matches, out}
 use Rattle.tb_frame.specs.Refusal.{join_valid, unknown_key, no_keys, key_counts, repeated_key, key_types, key_kind, repeated_name, broken_side, too_many_rows, first_unknown, first_repeated}
 use Rattle.tb_frame.specs.Table.{Table, IsTable, height}
 use Rattle.tb_frame.proofs.AnswerLemmas.{answer_of, table-fill}
-use Rattle.tb_frame.proofs.Causes.{map_none, first_none, distinct_names, has_column, some_keys, some_right_keys}
+use Rattle.tb_frame.proofs.Causes.{map_none, first_none, distinct_names, has_column, some_keys, some_right_keys, when_not_above}
 use Rattle.tb_frame.proofs.InOrder.{in_order, in_order-ordered}
 use Rattle.tb_frame.proofs.Outs.{out_wide, names_distinct}
 
@@ -42,8 +43,18 @@ module _ (q : Request) (valid : join_valid q) where
       let two = first_none (option_map (λ n. ColumnNotFound n) (first_unknown q.right q.right_on)) [] one.1 in
       has_column q.right q.right_on (some_right_keys q.left_on q.right_on (InvalidOperation NoKeys) after_keys.0) (map_none (λ n. ColumnNotFound n) (first_unknown q.right q.right_on) two.0)
 
+  pub fresh_names : first_repeated (joined_names q) ≡ None
+  fresh_names = map_none (λ n. Duplicate n) (first_repeated (joined_names q)) last.0
+
+  -- no more pairs than a table has rows
+  pub few_pairs : length (listing q) ≤ 4294967294
+  few_pairs =
+      let a = first_none (broken_side q) (too_many_rows q ∷ []) last.1 in
+      let b = first_none (too_many_rows q) [] a.1 in
+      when_not_above 4294967294 (length (listing q)) (ComputeError TooManyRows) b.0
+
   pub names_apart : AllPairs (λ (a b : Name). a ≢ b) (joined_names q)
-  names_apart = distinct_names (joined_names q) (map_none (λ n. Duplicate n) (first_repeated (joined_names q)) last.0)
+  names_apart = distinct_names (joined_names q) fresh_names
 
   ordered_pairs : List JoinPair
   ordered_pairs = in_order (direction q.args.how q.args.maintain_order) q.args.how (height q.left) (height q.right) (matches q)

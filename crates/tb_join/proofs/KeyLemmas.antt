@@ -7,7 +7,7 @@ use Rattle.std.specs.declared.vec.Vec.{Vec}
 use Rattle.std.proofs.lemmas.List.{length-append, length-map}
 use Rattle.std.proofs.lemmas.List.Elements.{filter-append, All-filter}
 use Rattle.std.proofs.lemmas.Bool.Decides.{Decides-int_eq}
-use Rattle.std.proofs.lemmas.Bool.{ltb-true, ltb-false, lt-ltb}
+use Rattle.std.proofs.lemmas.Bool.{ltb-true, lt-ltb}
 use Rattle.tb_value.specs.Refusals.{when}
 use Rattle.tb_value.specs.declared.error.PolarsError.{PolarsError}
 use Rattle.tb_value.specs.declared.error.PolarsError.TheVariants.{OutOfMemory}
@@ -92,13 +92,6 @@ not_some None h = refl
 not_some (Some k) h = absurd (h k refl)
 
 -- TOO MANY PAIRS
-
-pub within_limit : (n : ℕ) (e : PolarsError) → when (nat_lt 4294967294 n) e ≡ None → n ≤ 4294967294
-within_limit n e h = at (nat_lt 4294967294 n) refl h
-  where
-    at : (b : Bool) → nat_lt 4294967294 n ≡ b → when b e ≡ None → n ≤ 4294967294
-    at true k g = absurd (cc)
-    at false k g = ltb-false 4294967294 n k
 
 pub still_too_many : (a b : ℕ) (e t : PolarsError) → a ≤ b → (e ≡ OutOfMemory) ⊎ (when (nat_lt 4294967294 a) t ≡ Some e) → (e ≡ OutOfMemory) ⊎ (when (nat_lt 4294967294 b) t ≡ Some e)
 still_too_many a b e t le (inl h) = inl h

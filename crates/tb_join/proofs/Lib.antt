@@ -4,3 +4,5 @@ pub mod KeyLemmas
 pub mod ColumnLemmas
 pub mod Finishing
 pub mod PlainCauses
+pub mod PlainAnswer
+pub mod PlainArgs

@@ -1,6 +1,6 @@
 -- The columns of the listed pairs are the answer to a plain request.
-use Rattle.std.proofs.Common.{◌≡◌, ℕ, ◌<◌, ◌++◌, List, [], ◌∷◌, length, get_or, map, refl, ap, sym, ◌∙◌, subst, arith, Option, Some, None}
-use Rattle.std.specs.Prelude.{All, IsSome, filter}
+use Rattle.std.proofs.Common.{◌≡◌, ℕ, ◌<◌, ◌++◌, List, [], ◌∷◌, length, get_or, map, refl, ap, sym, ◌∙◌, subst, arith, Bool, Option, Some, None, Result, Ok, Err}
+use Rattle.std.specs.Prelude.{All, IfOk, filter}
 use Rattle.std.specs.List.{filter_map}
 use Rattle.std.specs.Option.{option_map}
 use Rattle.std.proofs.lemmas.List.{length-map}
@@ -19,9 +19,9 @@ use Rattle.tb_frame.specs.Table.{TableColumn, Table, plain, table_of, height, na
 use Rattle.tb_frame.specs.Join.{Request, named, value_at, left_out, right_out, without, listing, matches, joined_names, IsAnswer}
 use Rattle.tb_frame.specs.Frame.{taken, without_names}
 use Rattle.tb_frame.specs.Answer.{fill, IsRowOf, IsPairOf, IsListed}
-use Rattle.tb_frame.specs.Refusal.{first_repeated, join_refusal, first_unknown, unknown_key, no_keys, key_counts, repeated_key, key_types, key_kind, repeated_name, broken_side, too_many_rows}
+use Rattle.tb_frame.specs.Refusal.{first_repeated, join_refusal}
 use Rattle.tb_frame.proofs.Assembled.{made_columns, makes_table, makes_answer}
-use Rattle.tb_frame.proofs.Causes.{distinct_names, first_none, map_none, has_column}
+use Rattle.tb_frame.proofs.Validity.{some_left, some_right, names_apart, fresh_names}
 use Rattle.tb_frame.proofs.Frames.{without-table}
 use Rattle.tb_frame.proofs.Ranges.{listing_rows}
 use Rattle.tb_frame.proofs.Taking.{values-taken}
@@ -48,6 +48,10 @@ rows_in_range side n ps rows same h = all_some n rows (subst (λ (os : List (Opt
 pub as_many : (side : JoinPair → Option ℕ) (ps : List JoinPair) (rows : List ℕ) → map (λ r. Some r) rows ≡ map side ps → length rows ≡ length ps
 as_many side ps rows same = sym (length-map rows (λ r. Some r)) ∙ ap (λ (os : List (Option ℕ)). length os) same ∙ length-map ps side
 
+pub if_ok_is : {T E : Type 0} (P : T → Type 0) (r : Result T E) (x : T) → IfOk r (λ t. t ≡ x) → P x → IfOk r P
+if_ok_is P (Ok t) x e h = subst P (sym e) h
+if_ok_is P (Err e) x k h = tt
+
 -- COLUMNS
 
 -- the values of the rows are those that the pairs have
@@ -64,9 +68,6 @@ right-made names ps rows same [] = refl
 right-made names ps rows same (c ∷ cs) = λ t. record { name = (right_out names None (plain c)).name; kind = c.kind; values = values-at (λ p. p.right) ps rows same c t } ∷ right-made names ps rows same cs t
 
 module _ (left right : List Col) (lo ro : List Name) where
-  q : Request
-  q = plain_request left right lo ro
-
   pub columns-made : (ps : List JoinPair) (ls rs : List ℕ) → map (λ r. Some r) ls ≡ map (λ (p : JoinPair). p.left) ps → map (λ r. Some r) rs ≡ map (λ (p : JoinPair). p.right) ps
       → table_of (map (taken ls) left ++ right_columns (names_of (table_of left)) ro rs right) ≡ made_columns (plain_request left right lo ro) ps
   columns-made ps ls rs same_l same_r =
@@ -74,7 +75,16 @@ module _ (left right : List Col) (lo ro : List Name) where
       ◌∙◌ {A = Table} (table_of-append (map (taken ls) left) (map (beside names rs) (without_names ro right)))
       (λ t. left-made ps ls same_l left t ++ (right-made names ps rs same_r (without_names ro right) ∙ ap (map (λ (k : TableColumn). fill ps (right_out names None k))) (without-table ro right)) t)
 
-  module _ (valid : join_refusal (plain_request left right lo ro) ≡ None) where
-    after_unknown = first_none (unknown_key (plain_request left right lo ro)) _ valid
-    after_names = first_none _ _ (first_none _ _ (first_none _ _ (first_none _ _ (first_none _ _ (first_none _ _ after_unknown.1).1).1).1).1).1
+  pub pairs_listed : (ps : List JoinPair) → ps ≡ listing (plain_request left right lo ro) → All (IsPairOf (height (table_of left)) (height (table_of right))) ps
+  pairs_listed ps is = subst (λ (x : List JoinPair). All (IsPairOf (height (table_of left)) (height (table_of right))) x) (sym is) (listing_rows Inner (height (table_of left)) (height (table_of right)) (matches (plain_request left right lo ro)))
 
+  module _ (valid : join_refusal (plain_request left right lo ro) ≡ None) where
+    -- the names of a request that is not refused are distinct, and its pairs no more than a table has rows
+    pub names_fresh : first_repeated (names_of (table_of left) ++ right_names (names_of (table_of left)) ro right) ≡ None
+    names_fresh = ap first_repeated (sym (names-asked left right lo ro (filter_map (named (table_of left)) lo) (filter_map (named (table_of right)) ro))) ∙ fresh_names (plain_request left right lo ro) valid
+
+    pub plain_answer : (t : Table) → t ≡ made_columns (plain_request left right lo ro) (listing (plain_request left right lo ro)) → IsAnswer (plain_request left right lo ro) t × IsTable t
+    plain_answer t made =
+        let q = plain_request left right lo ro in
+        let listed : IsListed Inner LeftRight None (listing q) (listing q) = record { pairs = listing q; ordered = record { permutation = IsPermutation-refl (listing q); ascends = matched-sorted (height (table_of left)) (height (table_of right)) (matches q) }; is = refl } in
+        (makes_answer q (listing q) t made (some_left q valid) (some_right q valid) listed, makes_table q (listing q) t made (names_apart q valid))

@@ -6,8 +6,9 @@ use Rattle.std.proofs.lemmas.Result.{err_from_is_err_and}
 use Rattle.tb_value.specs.declared.index.JoinPair.{JoinPair}
 use Rattle.tb_value.specs.Pairs.{row_numbers, both, matched}
 use Rattle.tb_value.proofs.RowNumbers.{matched_more}
+use Rattle.tb_frame.proofs.Causes.{when_not_above}
 use Rattle.tb_join.specs.KeyRows.{keys_match, rows_with}
-use Rattle.tb_join.proofs.KeyLemmas.{rows_at-is, rows_with-below, matched-grows, length-matched_more, within_limit, still_too_many}
+use Rattle.tb_join.proofs.KeyLemmas.{rows_at-is, rows_with-below, matched-grows, length-matched_more, still_too_many}
 use Rattle.tb_join.proofs.matching.match_rows.Goals as goal
 
 pub push_pairs-requires-clause-rows : goal.push_pairs-requires-clause-rows
@@ -49,7 +50,7 @@ loop-row-preserved c =
     let long : length c.push_pairs.new.pairs.items ≡ length (c.loop-row.pairs.items ++ map (both i) rows) = ap (λ (ps : List JoinPair). length ps) listed in
     let parts = length-append c.loop-row.pairs.items (map (both i) rows) in
     let each = length-map rows (both i) in
-    let fits = within_limit (length c.loop-row.pairs.items + length rows) _ c.in_ok-push_pairs.ensures.settles in
+    let fits = when_not_above 4294967294 (length c.loop-row.pairs.items + length rows) _ c.in_ok-push_pairs.ensures.settles in
     record {
       listed = listed ∙ (λ t. c.loop-row.invariant.listed t ++ map (both i) (is t)) ∙ sym (matched_more i r m);
       room = omega (arith, long, parts, each, fits);
