@@ -1,0 +1,6 @@
+mod Counting
+mod Moving
+mod WordTexts
+mod Frame
+mod OneStatus
+mod JoinIsDone

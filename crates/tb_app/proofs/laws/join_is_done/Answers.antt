@@ -1,0 +1,5 @@
+use Rattle.tb_app.proofs.JoinIsDone.{join_is_done}
+use Rattle.tb_app.proofs.laws.join_is_done.Goals as goal
+
+pub returns : goal.returns
+returns c = join_is_done

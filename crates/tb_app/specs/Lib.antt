@@ -1,0 +1,8 @@
+pub mod Ends
+pub mod Memory
+pub mod Reading
+pub mod Words
+pub mod Requests
+pub mod Due
+pub mod Run
+pub mod Headline

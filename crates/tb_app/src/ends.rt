@@ -1,0 +1,40 @@
+//! Where the program reads from and writes to, and what may be said of both.
+ghost use Rattle.std.specs.Prelude.{ℕ, ◌<◌, List, Option, length, IfOk};
+ghost use Rattle.std.specs.Io.{ReadsAtMost, WritesAtMost};
+ghost use Rattle.std.specs.Io.KnownBytes.{ReadConsumes, WriteAppends};
+ghost use Rattle.tb_app.specs.Ends.{Counts};
+
+/// A read or a write failed.
+#[derive(Clone, Copy, Debug, PartialEq, Eq)]
+pub struct Failed;
+
+/// Where the bytes of a request come from.
+pub trait Source {
+    /// The bytes still to come, where they are told.
+    ghost left: { Self → Option (List ℕ) };
+
+    /// How often a read has failed.
+    ghost faults: { Self → ℕ };
+
+    /// Puts the next bytes at the front of the room. None into a room that isn't empty is the end.
+    fn read(&mut self, room: &mut [u8]) -> Result<usize, Failed>
+        ensures bound { ReadsAtMost result room.new }
+        ensures bytes { ReadConsumes (left self.old) (left self.new) result room.new }
+        ensures count { Counts (faults self.old) (faults self.new) result };
+}
+
+/// Where the bytes of an answer go.
+pub trait Sink {
+    /// What was taken, where it is told.
+    ghost written: { Self → Option (List ℕ) };
+
+    /// How often a write has failed.
+    ghost faults: { Self → ℕ };
+
+    /// Takes the front of the piece. To take nothing of a piece that isn't empty is a failure.
+    fn write(&mut self, piece: &[u8]) -> Result<usize, Failed>
+        ensures bound { WritesAtMost result piece.now }
+        ensures some { 0 < length piece.now → IfOk result (λ n. 0 < n) }
+        ensures bytes { WriteAppends (written self.old) (written self.new) result piece.now }
+        ensures count { Counts (faults self.old) (faults self.new) result };
+}

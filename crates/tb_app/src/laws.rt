@@ -1,0 +1,19 @@
+//! Laws over what is due and what is done.
+ghost use Rattle.std.specs.Prelude.{◌≡◌, List, ℕ, Option};
+ghost use Rattle.tb_app.specs.declared.status.Status.{Status};
+ghost use Rattle.tb_app.specs.declared.words.Command.TheVariants.{Join};
+ghost use Rattle.tb_app.specs.Due.{due, DoneFor};
+ghost use Rattle.tb_app.specs.Headline.{JoinDone};
+
+use tb_value::PlSmallStr;
+
+/// One status alone is due for the same words and bytes.
+pub fn one_status(words: &[PlSmallStr], bytes: &[u8])
+    ensures { (s s' : Status) (text text' : List ℕ) → due words.now bytes.now s text → due words.now bytes.now s' text' → s ≡ s' }
+{}
+
+/// What `run` says of 0 under the word `join`, in the words of a join.
+pub fn join_is_done()
+    ensures { (left left' written written' : Option (List ℕ))
+        → DoneFor Join left left' written written' → JoinDone left left' written written' }
+{}

@@ -1,0 +1,237 @@
+-- A request that is read has the form that is built.
+use Rattle.std.proofs.Common.{◌≡◌, ◌==◌, List, [], ◌∷◌, length, Bool, true, false, cond, ◌&&◌, Option, Some, None, option_map, option_and_then, codes, refl, sym, ap, ◌∙◌, subst, true≢false}
+use Rattle.std.proofs.lemmas.Bool.{eqb-true}
+use Rattle.std.specs.Prelude.{ℕ, Result, Ok, Err, ok_or, ⊤, nat_le, MatchResult, IfOk}
+use Rattle.std.proofs.lemmas.List.Elements.{All-cons, All-head, All-tail}
+use Rattle.std.specs.List.{All, filter_map}
+use Rattle.std.specs.Str.{bytes_eq}
+use Rattle.serde_json.specs.Data.{Data}
+use Rattle.serde_json.specs.Find.{get, as_str}
+use Rattle.tb_value.specs.Datum.{Datum}
+use Rattle.tb_value.specs.Kind.{Kind, int64}
+use Rattle.tb_value.specs.Names.{Name, same_name}
+use Rattle.tb_store.specs.Col.{flat}
+use Rattle.tb_frame.specs.declared.args.JoinArgs.{JoinArgs}
+use Rattle.tb_frame.specs.declared.args.JoinType.{JoinType}
+use Rattle.tb_frame.specs.declared.args.JoinType.TheVariants.{Inner}
+use Rattle.tb_frame.specs.declared.args.JoinValidation.TheVariants.{ManyToMany}
+use Rattle.tb_frame.specs.declared.args.JoinCoalesce.TheVariants.{JoinSpecific}
+use Rattle.tb_frame.specs.declared.args.MaintainOrderJoin.{MaintainOrderJoin}
+use Rattle.tb_frame.specs.declared.args.MaintainOrderJoin.TheVariants.{LeftRight}
+use Rattle.tb_frame.specs.Built.{IsBuilt}
+use Rattle.tb_frame.specs.Table.{TableColumn, Table}
+use Rattle.tb_frame.specs.Join.{named, by_names}
+use Rattle.tb_json.specs.declared.request.Reason.{Reason}
+use Rattle.tb_json.specs.declared.request.Reason.TheVariants.{NotYet}
+use Rattle.tb_json.specs.Lists.{check, as_list, list_of, has_only}
+use Rattle.tb_json.specs.Lists as steps
+use Rattle.tb_json.specs.Written.{Written, WrittenJoin, kind_named, how_named, order_named, column_of, table_of, args_of, join_of}
+use Rattle.tb_json.specs.Columns.{values_in, values_of, table_from, tables_of}
+use Rattle.tb_json.specs.Reading.{JoinRequest, ◌>>=◌, only_if, are_tables, request_in, asked, request_view, FaultIs}
+use Rattle.tb_json.specs.declared.request.JoinRequest as rust
+use Rattle.tb_json.specs.declared.request.RequestFault.{RequestFault}
+use Rattle.tb_json.proofs.Steps.{some_same, All-none, each_have, found_has, filter_map_have}
+
+-- ---- the columns
+
+abbrev IsInteger : Written → Type 0
+IsInteger w = w.kind ≡ int64
+
+abbrev HasIntegers : TableColumn → Type 0
+HasIntegers c = c.kind ≡ int64
+
+word_is : {A : Type 0} (b : Bool) (a k : A) → cond b (Some a) None ≡ Some k → k ≡ a
+word_is true a k e = sym (some_same a k e)
+word_is false a k e = absurd (cc)
+
+kind_from : (s : Option (List ℕ)) (k : Kind) → option_and_then kind_named s ≡ Some k → k ≡ int64
+kind_from None k e = absurd (cc)
+kind_from (Some s) k e = word_is (bytes_eq s (codes "i64")) int64 k e
+
+abbrev made : List (List Data) → Name → Kind → Written
+made chunks name kind = record { name = name; kind = kind; chunks = chunks }
+
+column_kind : (known : Option ⊤) (chunks : Option (List (List Data))) (name : Option Name) (s : Option (List ℕ)) (w : Written)
+    → option_and_then (λ _. option_and_then (λ cs. option_and_then (λ n. option_and_then (λ k. Some (made cs n k)) (option_and_then kind_named s)) name) chunks) known ≡ Some w → IsInteger w
+column_kind None chunks name s w e = absurd (cc)
+column_kind (Some u) None name s w e = absurd (cc)
+column_kind (Some u) (Some cs) None s w e = absurd (cc)
+column_kind (Some u) (Some cs) (Some n) s w e = last (option_and_then kind_named s) (kind_from s) e where
+  last : (o : Option Kind) → ((k : Kind) → o ≡ Some k → k ≡ int64) → option_and_then (λ k. Some (made cs n k)) o ≡ Some w → IsInteger w
+  last None h d = absurd (cc)
+  last (Some k) h d = ap (λ v. v.kind) (sym (some_same (made cs n k) w d)) ∙ h k refl
+
+column_is : (d : Data) (w : Written) → column_of d ≡ Some w → IsInteger w
+unfolding column_of
+column_is d w e =
+    column_kind (check (has_only (codes "chunks" ∷ codes "name" ∷ codes "type" ∷ []) d)) (option_and_then (list_of as_list) (get (codes "chunks") d)) (option_and_then as_str (get (codes "name") d)) (option_and_then as_str (get (codes "type") d)) w e
+
+columns_are : (o : Option (List Data)) (ws : List Written) → option_and_then (steps.each column_of) o ≡ Some ws → All IsInteger ws
+columns_are None ws e = absurd (cc)
+columns_are (Some ds) ws e = each_have column_of IsInteger column_is ds ws e
+
+list_are : (o : Option Data) (ws : List Written) → option_and_then (list_of column_of) o ≡ Some ws → All IsInteger ws
+list_are None ws e = absurd (cc)
+list_are (Some d) ws e = columns_are (as_list d) ws e
+
+table_is : (d : Data) (ws : List Written) → table_of d ≡ Some ws → All IsInteger ws
+unfolding table_of
+table_is d ws e = pick (has_only (codes "columns" ∷ []) d) e where
+  pick : (b : Bool) → option_and_then (λ _. option_and_then (list_of column_of) (get (codes "columns") d)) (check b) ≡ Some ws → All IsInteger ws
+  pick true h = list_are (get (codes "columns") d) ws h
+  pick false h = absurd (cc)
+
+table_in : (o : Option Data) (ws : List Written) → option_and_then table_of o ≡ Some ws → All IsInteger ws
+table_in None ws e = absurd (cc)
+table_in (Some d) ws e = table_is d ws e
+
+-- ---- the arguments
+
+abbrev the_args : JoinArgs
+the_args = record { how = Inner; validation = ManyToMany; suffix = None; slice = None; join_nulls = false; coalesce = JoinSpecific; maintain_order = LeftRight }
+
+abbrev with_words : JoinType → MaintainOrderJoin → JoinArgs
+with_words how order = record { how = how; validation = ManyToMany; suffix = None; slice = None; join_nulls = false; coalesce = JoinSpecific; maintain_order = order }
+
+how_from : (s : Option (List ℕ)) (k : JoinType) → option_and_then how_named s ≡ Some k → k ≡ Inner
+how_from None k e = absurd (cc)
+how_from (Some s) k e = word_is (bytes_eq s (codes "inner")) Inner k e
+
+order_from : (s : Option (List ℕ)) (k : MaintainOrderJoin) → option_and_then order_named s ≡ Some k → k ≡ LeftRight
+order_from None k e = absurd (cc)
+order_from (Some s) k e = word_is (bytes_eq s (codes "left_right")) LeftRight k e
+
+args_from : (known : Option ⊤) (how : Option JoinType) (order : Option MaintainOrderJoin) (a : JoinArgs) → ((k : JoinType) → how ≡ Some k → k ≡ Inner) → ((k : MaintainOrderJoin) → order ≡ Some k → k ≡ LeftRight)
+    → option_and_then (λ _. option_and_then (λ h. option_and_then (λ o. Some (with_words h o)) order) how) known ≡ Some a → a ≡ the_args
+args_from None how order a p q e = absurd (cc)
+args_from (Some u) None order a p q e = absurd (cc)
+args_from (Some u) (Some h) None a p q e = absurd (cc)
+args_from (Some u) (Some h) (Some o) a p q e = sym (some_same (with_words h o) a e) ∙ ap (λ x. with_words x o) (p h refl) ∙ ap (λ x. with_words Inner x) (q o refl)
+
+args_are : (d : Data) (a : JoinArgs) → args_of d ≡ Some a → a ≡ the_args
+unfolding args_of
+args_are d a e =
+    args_from (check (has_only (codes "how" ∷ codes "maintain_order" ∷ []) d)) (option_and_then how_named (option_and_then as_str (get (codes "how") d))) (option_and_then order_named (option_and_then as_str (get (codes "maintain_order") d))) a
+    (how_from (option_and_then as_str (get (codes "how") d))) (order_from (option_and_then as_str (get (codes "maintain_order") d))) e
+
+args_in : (o : Option Data) (a : JoinArgs) → option_and_then args_of o ≡ Some a → a ≡ the_args
+args_in None a e = absurd (cc)
+args_in (Some d) a e = args_are d a e
+
+-- ---- the members
+
+record IsBuiltJoin (w : WrittenJoin) : Type 0 where
+  args_are : w.args ≡ the_args
+  left_are : All IsInteger w.left
+  right_are : All IsInteger w.right
+
+abbrev the_join : JoinArgs → List Written → List Name → List Written → List Name → WrittenJoin
+the_join args left left_on right right_on = record { args = args; left = left; left_on = left_on; right = right; right_on = right_on }
+
+join_from : (known : Option ⊤) (args : Option JoinArgs) (left : Option (List Written)) (left_on : Option (List Name)) (right : Option (List Written)) (right_on : Option (List Name)) (w : WrittenJoin)
+    → ((a : JoinArgs) → args ≡ Some a → a ≡ the_args) → ((ws : List Written) → left ≡ Some ws → All IsInteger ws) → ((ws : List Written) → right ≡ Some ws → All IsInteger ws)
+    → option_and_then (λ _. option_and_then (λ a. option_and_then (λ l. option_and_then (λ lo. option_and_then (λ r. option_and_then (λ ro. Some (the_join a l lo r ro)) right_on) right) left_on) left) args) known ≡ Some w
+    → IsBuiltJoin w
+join_from None args left left_on right right_on w p q r e = absurd (cc)
+join_from (Some u) None left left_on right right_on w p q r e = absurd (cc)
+join_from (Some u) (Some a) None left_on right right_on w p q r e = absurd (cc)
+join_from (Some u) (Some a) (Some l) None right right_on w p q r e = absurd (cc)
+join_from (Some u) (Some a) (Some l) (Some lo) None right_on w p q r e = absurd (cc)
+join_from (Some u) (Some a) (Some l) (Some lo) (Some r) None w p q s e = absurd (cc)
+join_from (Some u) (Some a) (Some l) (Some lo) (Some r) (Some ro) w p q s e =
+    subst IsBuiltJoin (some_same (the_join a l lo r ro) w e) (record { args_are = p a refl; left_are = q l refl; right_are = s r refl })
+
+join_is : (d : Data) (w : WrittenJoin) → join_of d ≡ Some w → IsBuiltJoin w
+unfolding join_of
+join_is d w e =
+    join_from (check (has_only (codes "args" ∷ codes "left" ∷ codes "left_on" ∷ codes "right" ∷ codes "right_on" ∷ []) d))
+    (option_and_then args_of (get (codes "args") d)) (option_and_then table_of (get (codes "left") d)) (option_and_then (list_of as_str) (get (codes "left_on") d))
+    (option_and_then table_of (get (codes "right") d)) (option_and_then (list_of as_str) (get (codes "right_on") d)) w
+    (args_in (get (codes "args") d)) (table_in (get (codes "left") d)) (table_in (get (codes "right") d)) e
+
+-- ---- the tables
+
+abbrev column_with : Written → List (List Datum) → TableColumn
+column_with w chunks = record { name = w.name; kind = w.kind; values = flat chunks }
+
+values_kind : (w : Written) (c : TableColumn) → values_of w ≡ Some c → c.kind ≡ w.kind
+unfolding values_of
+values_kind w c e = pick (values_in w.kind w.chunks) e where
+  pick : (o : Option (List (List Datum))) → option_and_then (λ chunks. option_and_then (λ _. Some (column_with w chunks)) (check (nat_le (length (flat chunks)) 4294967294))) o ≡ Some c → c.kind ≡ w.kind
+  pick None h = absurd (cc)
+  pick (Some chunks) h = short (nat_le (length (flat chunks)) 4294967294) h where
+    short : (b : Bool) → option_and_then (λ _. Some (column_with w chunks)) (check b) ≡ Some c → c.kind ≡ w.kind
+    short true k = ap (λ x. x.kind) (sym (some_same (column_with w chunks) c k))
+    short false k = absurd (cc)
+
+table_kinds : (ws : List Written) (t : Table) → All IsInteger ws → table_from ws ≡ Some t → All HasIntegers t
+table_kinds [] t all e = subst (All HasIntegers) (some_same [] t e) (All-none HasIntegers)
+table_kinds (w ∷ ws) t all e = more (values_of w) (table_from ws) (λ c h. values_kind w c h ∙ All-head IsInteger w ws all) (λ u h. table_kinds ws u (All-tail IsInteger w ws all) h) e where
+  more : (o : Option TableColumn) (r : Option Table) → ((c : TableColumn) → o ≡ Some c → HasIntegers c) → ((u : Table) → r ≡ Some u → All HasIntegers u) → option_and_then (λ y. option_map (λ ys. y ∷ ys) r) o ≡ Some t → All HasIntegers t
+  more None r p q h = absurd (cc)
+  more (Some c) None p q h = absurd (cc)
+  more (Some c) (Some u) p q h = subst (All HasIntegers) (some_same (c ∷ u) t h) (All-cons HasIntegers c u (p c refl) (q u refl))
+
+tables_kinds : (w : WrittenJoin) (ts : Table × Table) → IsBuiltJoin w → tables_of w ≡ Some ts → All HasIntegers ts.0 × All HasIntegers ts.1
+unfolding tables_of
+tables_kinds w ts b e = pick (table_from w.left) (table_from w.right) (λ t. table_kinds w.left t b.left_are) (λ t. table_kinds w.right t b.right_are) e where
+  pick : (l r : Option Table) → ((t : Table) → l ≡ Some t → All HasIntegers t) → ((t : Table) → r ≡ Some t → All HasIntegers t) → option_and_then (λ x. option_and_then (λ y. Some (x, y)) r) l ≡ Some ts → All HasIntegers ts.0 × All HasIntegers ts.1
+  pick None r p q h = absurd (cc)
+  pick (Some l) None p q h = absurd (cc)
+  pick (Some l) (Some r) p q h = subst (λ (us : Table × Table). All HasIntegers us.0 × All HasIntegers us.1) (some_same (l, r) ts h) (p l refl, q r refl)
+
+-- ---- the request
+
+ok_same : (r : Result JoinRequest Reason) (x y : JoinRequest) → r ≡ Ok x → r ≡ Ok y → x ≡ y
+ok_same r x y d e = cc
+
+keys_have : (t : Table) (names : List Name) → All HasIntegers t → All HasIntegers (filter_map (named t) names)
+keys_have t names all = filter_map_have (named t) HasIntegers (λ n c e. found_has HasIntegers (λ x. same_name x.name n) t c all e) names
+
+built_from : (w : WrittenJoin) (ts : Table × Table) → IsBuiltJoin w → All HasIntegers ts.0 × All HasIntegers ts.1 → length w.left_on ≡ 1 → length w.right_on ≡ 1 → IsBuilt (by_names ts.0 ts.1 w.left_on w.right_on w.args)
+built_from w ts b kinds one_left one_right = record {
+  how = ap (λ (a : JoinArgs). a.how) b.args_are;
+  validation = ap (λ (a : JoinArgs). a.validation) b.args_are;
+  suffix = ap (λ (a : JoinArgs). a.suffix) b.args_are;
+  slice = ap (λ (a : JoinArgs). a.slice) b.args_are;
+  nulls = ap (λ (a : JoinArgs). a.join_nulls) b.args_are;
+  coalesce = ap (λ (a : JoinArgs). a.coalesce) b.args_are;
+  order = ap (λ (a : JoinArgs). a.maintain_order) b.args_are;
+  one_left = one_left;
+  one_right = one_right;
+  left_kinds = keys_have ts.0 w.left_on kinds.0;
+  right_kinds = keys_have ts.1 w.right_on kinds.1;
+}
+
+both_true : (a b : Bool) → (a && b) ≡ true → (a ≡ true) × (b ≡ true)
+both_true true b h = (refl, h)
+both_true false b h = absurd (true≢false (sym h))
+
+abbrev whole_request : WrittenJoin → Table × Table → JoinRequest
+whole_request w ts = record { left = ts.0; right = ts.1; left_on = w.left_on; right_on = w.right_on; args = w.args }
+
+ends_built : (w : WrittenJoin) (ts : Table × Table) (r : JoinRequest) (valid : Result ⊤ Reason) (one : Bool) → IsBuiltJoin w → All HasIntegers ts.0 × All HasIntegers ts.1 → (one ≡ true → (length w.left_on ≡ 1) × (length w.right_on ≡ 1))
+    → (valid >>= λ _. only_if one NotYet >>= λ _. Ok (whole_request w ts)) ≡ Ok r → IsBuilt (asked r)
+ends_built w ts r (Err why) one b kinds keys e = absurd (cc)
+ends_built w ts r (Ok u) false b kinds keys e = absurd (cc)
+ends_built w ts r (Ok u) true b kinds keys e = let k = keys refl in subst (λ (q : JoinRequest). IsBuilt (asked q)) (ok_same (Ok (whole_request w ts)) (whole_request w ts) r refl e) (built_from w ts b kinds k.0 k.1)
+
+abbrev rest_of : WrittenJoin → Table × Table → Result JoinRequest Reason
+rest_of w ts = are_tables ts.0 ts.1 >>= λ _. only_if (length w.left_on == 1 && (length w.right_on == 1)) NotYet >>= λ _. Ok (whole_request w ts)
+
+request_built : (d : Data) (r : JoinRequest) → request_in d ≡ Ok r → IsBuilt (asked r)
+unfolding request_in
+request_built d r e = pick (join_of d) (join_is d) e where
+  pick : (o : Option WrittenJoin) → ((w : WrittenJoin) → o ≡ Some w → IsBuiltJoin w) → (ok_or o NotYet >>= λ w. ok_or (tables_of w) NotYet >>= rest_of w) ≡ Ok r → IsBuilt (asked r)
+  pick None p h = absurd (cc)
+  pick (Some w) p h = with_tables (tables_of w) (λ ts k. tables_kinds w ts (p w refl) k) h where
+    with_tables : (o : Option (Table × Table)) → ((ts : Table × Table) → o ≡ Some ts → All HasIntegers ts.0 × All HasIntegers ts.1) → (ok_or o NotYet >>= rest_of w) ≡ Ok r → IsBuilt (asked r)
+    with_tables None q k = absurd (cc)
+    with_tables (Some ts) q k =
+        ends_built w ts r (are_tables ts.0 ts.1) (length w.left_on == 1 && (length w.right_on == 1)) (p w refl) (q ts refl)
+        (λ one. let k = both_true (length w.left_on == 1) (length w.right_on == 1) one in (eqb-true _ _ k.0, eqb-true _ _ k.1)) k
+
+-- what is read of a value has the form that is built
+pub read_built : (d : Data) (r : Result rust.JoinRequest RequestFault) → MatchResult r (λ q. request_in d ≡ Ok (request_view q)) (λ e. FaultIs e (request_in d)) → IfOk r (λ q. IsBuilt (asked (request_view q)))
+read_built d (Ok q) h = request_built d (request_view q) h
+read_built d (Err e) h = tt

@@ -1,0 +1,13 @@
+pub mod Walks
+pub mod LentValues
+pub mod Flat
+pub mod Refused
+pub mod FromBytes
+pub mod Steps
+pub mod BuiltForm
+pub mod Plain
+pub mod Fields
+pub mod Narrow
+pub mod Nested
+pub mod PlainTables
+pub mod Runs

@@ -1,0 +1,6 @@
+pub mod Lists
+pub mod Written
+pub mod Columns
+pub mod Reading
+pub mod Lent
+pub mod Text

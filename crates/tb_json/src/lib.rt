@@ -1,0 +1,19 @@
+//! Requests read from JSON texts, and the texts that are written.
+#![tactic(auto)]
+
+mod cells;
+mod reading;
+mod refusals;
+mod request;
+mod shape;
+mod types;
+mod values;
+mod writing;
+
+pub use reading::request_of;
+pub use refusals::text_of_refusal;
+pub use request::{JoinRequest, Reason, RequestFault};
+pub use writing::text_of;
+
+#[cfg(test)]
+mod tests;
