@@ -1,5 +1,5 @@
 -- What holds of all values, from what holds of the next one and of the rest.
-use Rattle.std.proofs.Common.{arith, [], ◌≡◌, ◌↔◌, ℕ, ◌<◌, ◌≤◌, ◌+◌, suc, List, ◌∷◌, ◌++◌, length, map, get_or, drop, sym, ap, add-one, drop-cons, subst}
+use Rattle.std.proofs.Common.{arith, [], ◌≡◌, ◌↔◌, ℕ, ◌<◌, ◌≤◌, ◌+◌, suc, List, ◌∷◌, ◌++◌, length, map, get_or, drop, sym, ap, add-one, drop-cons}
 use Rattle.std.specs.List.{All}
 use Rattle.std.proofs.lemmas.List.Elements.{All-head, All-tail, All-cons, All-append}
 use Rattle.std.proofs.lemmas.List.{drop_all}

@@ -1,7 +1,6 @@
 -- A value of a type fits a chunk of its physical type.
-use Rattle.std.proofs.Common.{◌≡◌, List, [], ◌∷◌, refl, sym, subst, ap, ◌∙◌}
+use Rattle.std.proofs.Common.{◌≡◌, List, [], ◌∷◌, refl, ap}
 use Rattle.std.specs.List.{All}
-use Rattle.std.specs.Prelude.{IsSomeAnd}
 use Rattle.std.proofs.lemmas.List.Elements.{All-weaker}
 use Rattle.tb_value.specs.Datum.{Datum}
 use Rattle.tb_value.specs.Datum as value

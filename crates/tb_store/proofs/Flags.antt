@@ -1,10 +1,10 @@
 -- A part of values in order is in order.
-use Rattle.std.proofs.Common.{arith, ◌≡◌, ◌∙◌, ℕ, ◌<◌, ◌≤◌, ◌+◌, ◌-◌, ◌⊎◌, inl, inr, Bool, true, false, not, List, [], ◌∷◌, ◌++◌, length, take, drop, filter, refl, ap, sym, subst, get_or, length-take, length-drop}
+use Rattle.std.proofs.Common.{arith, ◌≡◌, ◌∙◌, ℕ, ◌<◌, ◌+◌, ◌-◌, inl, inr, Bool, true, false, not, List, [], ◌∷◌, ◌++◌, length, take, drop, refl, ap, sym, get_or, length-take, length-drop}
 use Rattle.std.proofs.lemmas.List.{get_or-take, get_or-drop, append-nil}
 use Rattle.std.proofs.lemmas.List.Elements.{All-head, All-tail, All-take, All-drop, filter-append, filter_passes}
 use Rattle.std.specs.List.{All}
 use Rattle.std.specs.Prelude.{IsSorted as IsInOrder}
-use Rattle.std.specs.Ordering.{is_lt, flip_args}
+use Rattle.std.specs.Ordering.{flip_args}
 use Rattle.std.specs.declared.cmp.Ordering.{Ordering}
 use Rattle.tb_value.specs.Datum.{Datum, is_null, is_present}
 use Rattle.tb_value.specs.Kind.{Kind}

@@ -1,6 +1,5 @@
 -- What a chunk shows.
-use Rattle.std.specs.Prelude.{◌≡◌, List, map, Option, Some, None, ◌≢◌}
-use Rattle.std.specs.List.{flat_map}
+use Rattle.std.specs.Prelude.{Option, Some, None}
 use Rattle.tb_value.specs.Datum.{Datum, null}
 
 -- an optional value, Null where there is none

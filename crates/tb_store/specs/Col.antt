@@ -1,7 +1,7 @@
 -- What contracts see of a column.
-use Rattle.std.specs.Prelude.{◌≡◌, ◌<◌, ◌≤◌, ◌≢◌, ◌++◌, ℕ, List, [], ◌∷◌, length, Bool, true, false, IsTrue, replicate, ◌⊎◌}
+use Rattle.std.specs.Prelude.{◌<◌, ◌≤◌, ℕ, List, length}
 use Rattle.std.specs.List.{flat_map, All}
-use Rattle.tb_value.specs.Datum.{Datum, null}
+use Rattle.tb_value.specs.Datum.{Datum}
 use Rattle.tb_value.specs.Kind.{Kind}
 use Rattle.tb_value.specs.Kind as kind
 use Rattle.tb_value.specs.Typed.{HasType}

@@ -1,5 +1,4 @@
 -- Which values a chunk can hold.
-use Rattle.std.specs.Prelude.{◌≡◌, refl}
 use Rattle.tb_value.specs.Datum.{Datum}
 use Rattle.tb_value.specs.Datum as value
 use Rattle.tb_value.specs.Kind.{Kind}

@@ -1,5 +1,5 @@
 -- What a column is that is made of lists of values.
-use Rattle.std.specs.Prelude.{◌≡◌, ◌<◌, ◌≤◌, ℕ, List, [], ◌∷◌, length, map, Result, Ok, Err}
+use Rattle.std.specs.Prelude.{◌≡◌, ◌≤◌, ℕ, List, [], ◌∷◌, length, map, Result, Ok, Err}
 use Rattle.std.specs.List.{All}
 use Rattle.tb_value.specs.Datum.{Datum}
 use Rattle.tb_value.specs.Kind.{Kind}

@@ -1,5 +1,4 @@
-use Rattle.std.proofs.Common.{arith, refl, subst, sym}
-use Rattle.std.specs.List.{All}
+use Rattle.std.proofs.Common.{arith, refl}
 use Rattle.tb_value.specs.See.{data_of}
 use Rattle.tb_value.specs.SeeKind.{kind_of}
 use Rattle.tb_value.specs.Typed.{HasType}

@@ -1,4 +1,4 @@
-use Rattle.std.proofs.Common.{arith, ◌≡◌, ◌↔◌}
+use Rattle.std.proofs.Common.{arith}
 use Rattle.tb_value.specs.See.{datum}
 use Rattle.tb_value.specs.SeeKind.{kind_of}
 use Rattle.tb_value.specs.Typed.{HasType}

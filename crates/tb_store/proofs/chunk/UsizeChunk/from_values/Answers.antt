@@ -1,4 +1,4 @@
-use Rattle.std.proofs.Common.{◌≡◌, ◌∙◌, ap, sym, length, replicate}
+use Rattle.std.proofs.Common.{◌∙◌, ap, sym, replicate}
 use Rattle.std.proofs.lemmas.List.{length-map}
 use Rattle.tb_value.specs.Datum.{null}
 use Rattle.tb_value.specs.See.{datum, data_of}

@@ -1,4 +1,4 @@
-use Rattle.std.proofs.Common.{◌≡◌, ◌∙◌, ap}
+use Rattle.std.proofs.Common.{◌∙◌, ap}
 use Rattle.tb_value.specs.SeeKind.{kind_of}
 use Rattle.tb_store.specs.Made.{lists_of}
 use Rattle.tb_store.proofs.Fitting.{fitting}

@@ -1,6 +1,5 @@
-use Rattle.std.proofs.Common.{◌≡◌, ◌∙◌, ap, refl, sym, map, get_or, ◌∷◌, [], List}
+use Rattle.std.proofs.Common.{◌∙◌, ap, refl, map, get_or, ◌∷◌, []}
 use Rattle.tb_value.specs.Datum.{null}
-use Rattle.tb_value.specs.SeeKind.{kind_of}
 use Rattle.tb_store.specs.Col.{flat}
 use Rattle.tb_store.proofs.Columns.{picked_column}
 use Rattle.tb_store.proofs.series.Series.take.Goals as goal
