@@ -16,26 +16,30 @@ use tb_pool::Exec;
 use tb_store::Column;
 use tb_value::{OutOfMemory, PlSmallStr, PolarsError};
 
-fn frame_of(columns: Vec<Column>) -> Result<DataFrame, RequestFault>
+fn frame_of(alloc: Global, columns: Vec<Column>) -> Result<DataFrame, RequestFault>
     ensures columns { IfOk result (λ t. t ≡ columns.items) }
     ensures passed { IfOk result (λ t. frame_refusal (table_of columns.items) ≡ None) }
     ensures refused { IfErr result (λ e. IsRefused e (table_of columns.items)) }
 {
-    match DataFrame::new(columns) {
+    match DataFrame::new(alloc, columns) {
         Ok(frame) => Ok(frame),
         Err(PolarsError::OutOfMemory) => Err(RequestFault::OutOfMemory),
         Err(_) => Err(RequestFault::NoRequest(Reason::NotYet)),
     }
 }
 
-fn frames_of(left: Vec<Column>, right: Vec<Column>) -> Result<(DataFrame, DataFrame), RequestFault>
+fn frames_of(
+    alloc: Global,
+    left: Vec<Column>,
+    right: Vec<Column>,
+) -> Result<(DataFrame, DataFrame), RequestFault>
     ensures columns { IfOk result (λ p. (p.0 ≡ left.items) × (p.1 ≡ right.items)) }
     ensures tables { MatchResult result
         (λ p. are_tables (table_of left.items) (table_of right.items) ≡ Ok tt)
         (λ e. FaultIs e (are_tables (table_of left.items) (table_of right.items))) }
 {
-    let left = frame_of(left)?;
-    let right = frame_of(right)?;
+    let left = frame_of(alloc, left)?;
+    let right = frame_of(alloc, right)?;
     Ok((left, right))
 }
 
@@ -63,7 +67,7 @@ fn request_in(alloc: Global, value: &Value) -> Result<JoinRequest, RequestFault>
     let Some(right) = columns_of(alloc, &written.right)? else {
         return Err(RequestFault::NoRequest(Reason::NotYet));
     };
-    let (left, right) = frames_of(left, right)?;
+    let (left, right) = frames_of(alloc, left, right)?;
     if written.left_on.len() != 1 || written.right_on.len() != 1 {
         return Err(RequestFault::NoRequest(Reason::NotYet));
     }

@@ -94,7 +94,7 @@ fn column_of(alloc: Global, written: &WrittenColumn<'_>) -> Result<Option<Column
     };
     let name = PlSmallStr::from_str(alloc, written.name)?;
     let dtype = written.dtype.copy(alloc)?;
-    match Series::from_arrays(name, dtype, arrays) {
+    match Series::from_arrays(alloc, name, dtype, arrays) {
         Ok(series) => Ok(Some(series.into_column())),
         Err(PolarsError::OutOfMemory) => Err(OutOfMemory),
         Err(_) => Ok(None),
