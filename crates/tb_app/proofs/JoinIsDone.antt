@@ -1,7 +1,7 @@
 -- What `done` says of the word `join`, in the words of a join.
 use Rattle.std.proofs.Common.{◌≡◌, ℕ, ◌≤◌, List, length, Option, None, Result, Ok, Err, subst}
 use Rattle.std.specs.Io.KnownBytes.{Consumes, Appends}
-use Rattle.tb_json.specs.declared.reading.Reason.{Reason}
+use Rattle.tb_json.specs.declared.request.Reason.{Reason}
 use Rattle.tb_json.specs.Reading.{JoinRequest, request_of as join_request_of}
 use Rattle.tb_app.specs.declared.words.Command.TheVariants.{Join}
 use Rattle.tb_app.specs.Due.{DoneFor, Tells}
