@@ -8,7 +8,7 @@ ghost use Rattle.tb_app.specs.Words.{word_from};
 
 mod answering;
 mod ends;
-mod laws;
+pub mod laws;
 mod memory;
 mod never;
 mod reading;
@@ -21,7 +21,6 @@ mod words;
 mod writing;
 
 pub use ends::{Failed, Sink, Source};
-pub use laws::{join_is_done, one_status};
 pub use memory::{MemorySink, MemorySource};
 pub use never::{NeverSink, NeverSource};
 pub use running::{run, run_calm};

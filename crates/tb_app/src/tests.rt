@@ -13,6 +13,20 @@ const CUT: &str =
 const ANSWER: &str =
     "{\"columns\":[{\"name\":\"k\",\"type\":\"i64\",\"values\":[1,3]},{\"name\":\"a\",\"type\":\"i64\",\"values\":[10,30]},{\"name\":\"b\",\"type\":\"i64\",\"values\":[8,7]}],\"height\":2}\n";
 
+// Each key of the left table that is met is met twice.
+const TWICE: &str =
+    "{\"args\":{\"how\":\"inner\",\"maintain_order\":\"left_right\"},\"left\":{\"columns\":[{\"chunks\":[[1,2],[1]],\"name\":\"k\",\"type\":\"i64\"},{\"chunks\":[[10,20,30]],\"name\":\"a\",\"type\":\"i64\"}]},\"left_on\":[\"k\"],\"right\":{\"columns\":[{\"chunks\":[[1,3,1]],\"name\":\"k\",\"type\":\"i64\"},{\"chunks\":[[7],[8,9]],\"name\":\"a\",\"type\":\"i64\"}]},\"right_on\":[\"k\"]}";
+
+const TWICE_ANSWER: &str =
+    "{\"columns\":[{\"name\":\"k\",\"type\":\"i64\",\"values\":[1,1,1,1]},{\"name\":\"a\",\"type\":\"i64\",\"values\":[10,10,30,30]},{\"name\":\"a_right\",\"type\":\"i64\",\"values\":[7,9,7,9]}],\"height\":4}\n";
+
+// A right column gets a name that the left table has.
+const CLASH: &str =
+    "{\"args\":{\"how\":\"inner\",\"maintain_order\":\"left_right\"},\"left\":{\"columns\":[{\"chunks\":[[1]],\"name\":\"k\",\"type\":\"i64\"},{\"chunks\":[[1]],\"name\":\"x\",\"type\":\"i64\"},{\"chunks\":[[1]],\"name\":\"x_right\",\"type\":\"i64\"}]},\"left_on\":[\"k\"],\"right\":{\"columns\":[{\"chunks\":[[1]],\"name\":\"k\",\"type\":\"i64\"},{\"chunks\":[[1]],\"name\":\"x\",\"type\":\"i64\"}]},\"right_on\":[\"k\"]}";
+
+const UNKNOWN: &str =
+    "{\"args\":{\"how\":\"inner\",\"maintain_order\":\"left_right\"},\"left\":{\"columns\":[{\"chunks\":[[1]],\"name\":\"k\",\"type\":\"i64\"}]},\"left_on\":[\"z\"],\"right\":{\"columns\":[{\"chunks\":[[1]],\"name\":\"k\",\"type\":\"i64\"}]},\"right_on\":[\"k\"]}";
+
 const NO_JSON: &str = "{\"error\":\"BadRequest\",\"reason\":\"Json\"}\n";
 
 fn words_of(alloc: Global, texts: &[&str]) -> Result<Vec<PlSmallStr>, OutOfMemory> {
@@ -66,6 +80,10 @@ fn runs_end_as_they_should(rt: HostRuntime) -> Result<(), Fail> {
         text: NO_JSON,
         ..plain
     };
+    let refused = Case {
+        status: Status::Refused,
+        ..plain
+    };
     let fault = Case {
         status: Status::ReadFault,
         text: "",
@@ -73,6 +91,26 @@ fn runs_end_as_they_should(rt: HostRuntime) -> Result<(), Fail> {
     };
     let cases = [
         plain,
+        Case {
+            input: TWICE,
+            text: TWICE_ANSWER,
+            ..plain
+        },
+        Case {
+            input: CLASH,
+            text: "{\"error\":\"Duplicate\",\"name\":\"x_right\"}\n",
+            ..refused
+        },
+        Case {
+            input: UNKNOWN,
+            text: "{\"error\":\"ColumnNotFound\",\"name\":\"z\"}\n",
+            ..refused
+        },
+        Case {
+            input: "{}",
+            text: "{\"error\":\"BadRequest\",\"reason\":\"NotYet\"}\n",
+            ..no_json
+        },
         Case {
             input: "",
             ..no_json
