@@ -48,6 +48,14 @@ rows_in_range side n ps rows same h = all_some n rows (subst (λ (os : List (Opt
 pub as_many : (side : JoinPair → Option ℕ) (ps : List JoinPair) (rows : List ℕ) → map (λ r. Some r) rows ≡ map side ps → length rows ≡ length ps
 as_many side ps rows same = sym (length-map rows (λ r. Some r)) ∙ ap (λ (os : List (Option ℕ)). length os) same ∙ length-map ps side
 
+-- the rows of a side, and the pairs, by other names
+pub same_rows : (side : JoinPair → Option ℕ) (ps listed : List JoinPair) (rows kept : List ℕ) → rows ≡ kept → map (λ r. Some r) kept ≡ map side ps → ps ≡ listed → map (λ r. Some r) rows ≡ map side listed
+same_rows side ps listed rows kept is h e = ap (map (λ (r : ℕ). Some r)) is ∙ h ∙ ap (map side) e
+
+pub if_ok_weaker : {T E : Type 0} (P Q : T → Type 0) → ((t : T) → P t → Q t) → (r : Result T E) → IfOk r P → IfOk r Q
+if_ok_weaker P Q h (Ok t) p = h t p
+if_ok_weaker P Q h (Err e) p = tt
+
 pub if_ok_is : {T E : Type 0} (P : T → Type 0) (r : Result T E) (x : T) → IfOk r (λ t. t ≡ x) → P x → IfOk r P
 if_ok_is P (Ok t) x e h = subst P (sym e) h
 if_ok_is P (Err e) x k h = tt
@@ -83,8 +91,12 @@ module _ (left right : List Col) (lo ro : List Name) where
     pub names_fresh : first_repeated (names_of (table_of left) ++ right_names (names_of (table_of left)) ro right) ≡ None
     names_fresh = ap first_repeated (sym (names-asked left right lo ro (filter_map (named (table_of left)) lo) (filter_map (named (table_of right)) ro))) ∙ fresh_names (plain_request left right lo ro) valid
 
-    pub plain_answer : (t : Table) → t ≡ made_columns (plain_request left right lo ro) (listing (plain_request left right lo ro)) → IsAnswer (plain_request left right lo ro) t × IsTable t
-    plain_answer t made =
+    -- the rows of the listed pairs, taken from both tables
+    pub plain_answer : (ls rs : List ℕ) → map (λ r. Some r) ls ≡ map (λ (p : JoinPair). p.left) (listing (plain_request left right lo ro)) → map (λ r. Some r) rs ≡ map (λ (p : JoinPair). p.right) (listing (plain_request left right lo ro))
+        → IsAnswer (plain_request left right lo ro) (table_of (map (taken ls) left ++ right_columns (names_of (table_of left)) ro rs right)) × IsTable (table_of (map (taken ls) left ++ right_columns (names_of (table_of left)) ro rs right))
+    plain_answer ls rs same_l same_r =
         let q = plain_request left right lo ro in
+        let t : Table = table_of (map (taken ls) left ++ right_columns (names_of (table_of left)) ro rs right) in
+        let made = columns-made (listing q) ls rs same_l same_r in
         let listed : IsListed Inner LeftRight None (listing q) (listing q) = record { pairs = listing q; ordered = record { permutation = IsPermutation-refl (listing q); ascends = matched-sorted (height (table_of left)) (height (table_of right)) (matches q) }; is = refl } in
         (makes_answer q (listing q) t made (some_left q valid) (some_right q valid) listed, makes_table q (listing q) t made (names_apart q valid))

@@ -90,8 +90,7 @@ fn join_in_order(
     requires left_kinds { All (λ (c : TableColumn). c.kind ≡ int64) (filter_map (named (table_of left.now)) left_on.now) }
     requires right_kinds { All (λ (c : TableColumn). c.kind ≡ int64) (filter_map (named (table_of right.now)) right_on.now) }
     ensures settles { Settles result (join_refusal (plain_request left.now right.now left_on.now right_on.now)) }
-    ensures answer { IfOk result (λ t. IsAnswer (plain_request left.now right.now left_on.now right_on.now) (table_of t)) }
-    ensures table { IfOk result (λ t. IsTable (table_of t)) }
+    ensures answer { IfOk result (λ t. IsAnswer (plain_request left.now right.now left_on.now right_on.now) (table_of t) × IsTable (table_of t)) }
 {
     let pairs = checked_pairs(alloc, left, right, left_on, right_on)?;
     let left_rows = left_rows(alloc, &pairs)?;

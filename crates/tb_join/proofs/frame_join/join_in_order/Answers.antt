@@ -1,17 +1,16 @@
-use Rattle.std.proofs.Common.{◌≡◌, ◌∙◌, ◌++◌, ℕ, List, Option, Some, None, length, map, ap, refl, sym, subst, arith}
+use Rattle.std.proofs.Common.{◌≡◌, ◌∙◌, ℕ, List, Some, None, length, map, ap, refl, sym, subst, arith}
 use Rattle.std.specs.Prelude.{All, IsSome}
 use Rattle.std.proofs.lemmas.List.Elements.{All-weaker}
 use Rattle.tb_value.specs.declared.index.JoinPair.{JoinPair}
 use Rattle.tb_store.specs.Col.{Col}
 use Rattle.tb_frame.specs.Answer.{IsRowOf, IsPairOf}
-use Rattle.tb_frame.specs.Frame.{taken}
-use Rattle.tb_frame.specs.Table.{table_of, height, names_of, IsTable}
+use Rattle.tb_frame.specs.Table.{table_of, height, IsTable}
 use Rattle.tb_frame.specs.Join.{listing, matches, IsAnswer}
 use Rattle.tb_frame.specs.Refusal.{join_refusal}
 use Rattle.tb_frame.proofs.Validity.{few_pairs}
-use Rattle.tb_join.specs.Plain.{plain_request, right_columns}
+use Rattle.tb_join.specs.Plain.{plain_request}
 use Rattle.tb_join.proofs.Finishing.{settled}
-use Rattle.tb_join.proofs.PlainAnswer.{each_matched, rows_in_range, as_many, pairs_listed, names_fresh, columns-made, plain_answer, if_ok_is}
+use Rattle.tb_join.proofs.PlainAnswer.{each_matched, rows_in_range, as_many, pairs_listed, names_fresh, plain_answer, same_rows, if_ok_is}
 use Rattle.tb_join.proofs.frame_join.join_in_order.Goals as goal
 
 pub left_rows-requires : goal.left_rows-requires
@@ -73,25 +72,6 @@ returns-clause-answer c =
     let lo = c.args.left_on.now in
     let ro = c.args.right_on.now in
     let q = plain_request left right lo ro in
-    let ls : List ℕ = c.deref-3.result.now in
-    let rs : List ℕ = c.deref-4.result.now in
-    let same_l : map (λ (i : ℕ). Some i) ls ≡ map (λ (p : JoinPair). p.left) (listing q) = ap (map (λ (i : ℕ). Some i)) c.deref-3.ensures.value ∙ c.in_ok-left_rows.ensures ∙ ap (map (λ (p : JoinPair). p.left)) (c.deref.ensures.value ∙ c.in_ok-pairs.ensures.pairs) in
-    let same_r : map (λ (i : ℕ). Some i) rs ≡ map (λ (p : JoinPair). p.right) (listing q) = ap (map (λ (i : ℕ). Some i)) c.deref-4.ensures.value ∙ c.in_ok-right_rows.ensures ∙ ap (map (λ (p : JoinPair). p.right)) (c.deref-2.ensures.value ∙ c.in_ok-pairs.ensures.pairs) in
-    let cols : List Col = map (taken ls) left ++ right_columns (names_of (table_of left)) ro rs right in
-    let both = plain_answer left right lo ro c.in_ok-pairs.ensures.settles (table_of cols) (columns-made left right lo ro (listing q) ls rs same_l same_r) in
-    if_ok_is (λ (t : List Col). IsAnswer q (table_of t)) c.finish_join.result cols c.finish_join.ensures.columns both.0
-
-pub returns-clause-table : goal.returns-clause-table
-returns-clause-table c =
-    let left = c.args.left.now in
-    let right = c.args.right.now in
-    let lo = c.args.left_on.now in
-    let ro = c.args.right_on.now in
-    let q = plain_request left right lo ro in
-    let ls : List ℕ = c.deref-3.result.now in
-    let rs : List ℕ = c.deref-4.result.now in
-    let same_l : map (λ (i : ℕ). Some i) ls ≡ map (λ (p : JoinPair). p.left) (listing q) = ap (map (λ (i : ℕ). Some i)) c.deref-3.ensures.value ∙ c.in_ok-left_rows.ensures ∙ ap (map (λ (p : JoinPair). p.left)) (c.deref.ensures.value ∙ c.in_ok-pairs.ensures.pairs) in
-    let same_r : map (λ (i : ℕ). Some i) rs ≡ map (λ (p : JoinPair). p.right) (listing q) = ap (map (λ (i : ℕ). Some i)) c.deref-4.ensures.value ∙ c.in_ok-right_rows.ensures ∙ ap (map (λ (p : JoinPair). p.right)) (c.deref-2.ensures.value ∙ c.in_ok-pairs.ensures.pairs) in
-    let cols : List Col = map (taken ls) left ++ right_columns (names_of (table_of left)) ro rs right in
-    let both = plain_answer left right lo ro c.in_ok-pairs.ensures.settles (table_of cols) (columns-made left right lo ro (listing q) ls rs same_l same_r) in
-    if_ok_is (λ (t : List Col). IsTable (table_of t)) c.finish_join.result cols c.finish_join.ensures.columns both.1
+    let same_l = same_rows (λ (p : JoinPair). p.left) c.deref.result.now (listing q) c.deref-3.result.now c.in_ok-left_rows.left_rows.items c.deref-3.ensures.value c.in_ok-left_rows.ensures (c.deref.ensures.value ∙ c.in_ok-pairs.ensures.pairs) in
+    let same_r = same_rows (λ (p : JoinPair). p.right) c.deref-2.result.now (listing q) c.deref-4.result.now c.in_ok-right_rows.right_rows.items c.deref-4.ensures.value c.in_ok-right_rows.ensures (c.deref-2.ensures.value ∙ c.in_ok-pairs.ensures.pairs) in
+    if_ok_is (λ (t : List Col). IsAnswer q (table_of t) × IsTable (table_of t)) c.finish_join.result _ c.finish_join.ensures.columns (plain_answer left right lo ro c.in_ok-pairs.ensures.settles c.deref-3.result.now c.deref-4.result.now same_l same_r)
