@@ -1,7 +1,7 @@
 -- The numbers by which work is run.
 use Rattle.std.specs.Prelude.{ℕ, ◌≤◌}
 
--- how many workers and partitions there are, up to how many rows a table is small, and a factor num / den
+-- how many workers and partitions there are, below how many rows a table is small, and a factor num / den
 pub record Plan : Type 0 where
   pub workers : ℕ
   pub partitions : ℕ

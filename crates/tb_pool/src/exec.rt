@@ -70,7 +70,7 @@ impl Exec {
         })
     }
 
-    /// Four workers, eight partitions, small up to 256 rows, and the factor 1.
+    /// Four workers, eight partitions, small below 256 rows, and the factor 1.
     pub fn standard() -> Exec
         ensures { result ≡ record { workers = 4; partitions = 8; small = 256; num = 1; den = 1 } }
     {
@@ -99,7 +99,7 @@ impl Exec {
         self.partitions
     }
 
-    /// The number of rows up to which a table is small.
+    /// A table of fewer rows than this is small.
     pub fn small(&self) -> u32
         ensures { result ≡ self.now.small }
     {
