@@ -13,7 +13,9 @@ ghost use Rattle.tb_frame.specs.Refusal.{first_repeated};
 ghost use Rattle.tb_join.specs.Plain.{right_names, right_columns};
 
 use std::alloc::Global;
-use tb_frame::{DataFrame, NameSet, check_distinct, column_name_set, column_names, name_set, take_columns};
+use tb_frame::{
+    DataFrame, NameSet, check_distinct, column_name_set, column_names, name_set, take_columns,
+};
 use tb_store::Column;
 use tb_value::{IdxSize, JoinPair, OutOfMemory, PlSmallStr, PolarsResult};
 
@@ -54,7 +56,10 @@ fn names_beside(
     Ok(names)
 }
 
-fn push_names<'a>(names: &mut Vec<&'a PlSmallStr>, more: &'a [PlSmallStr]) -> Result<(), OutOfMemory>
+fn push_names<'a>(
+    names: &mut Vec<&'a PlSmallStr>,
+    more: &'a [PlSmallStr],
+) -> Result<(), OutOfMemory>
     ensures { OnOk result (map (λ n. n.now) names.new.items ≡ map (λ n. n.now) names.old.items ++ more.now) }
 {
     for name in more {
@@ -161,6 +166,13 @@ pub(crate) fn finish_join(
     ensures columns { IfOk result (λ t. t ≡ map (rows_taken left_rows.now) left.now ++ right_columns (names_of (table_of left.now)) gone.now right_rows.now right.now) }
 {
     let mut columns = take_columns(alloc, left.get_columns(), left_rows)?;
-    push_right(alloc, &mut columns, left.get_columns(), right.get_columns(), gone, right_rows)?;
+    push_right(
+        alloc,
+        &mut columns,
+        left.get_columns(),
+        right.get_columns(),
+        gone,
+        right_rows,
+    )?;
     DataFrame::new(alloc, columns)
 }

@@ -9,7 +9,10 @@ ghost use Rattle.tb_join.specs.KeyRows.{keys_match, rows_with, rows_at, map_rows
 
 use std::alloc::Global;
 use std::collections::HashMap;
-use tb_value::{ComputeCause, IdxSize, JoinPair, MAX_ROWS, NullableIdxSize, OutOfMemory, PolarsError, PolarsResult};
+use tb_value::{
+    ComputeCause, IdxSize, JoinPair, MAX_ROWS, NullableIdxSize, OutOfMemory, PolarsError,
+    PolarsResult,
+};
 
 // Puts the row behind the rows of its key.
 fn add_row(

@@ -1,7 +1,7 @@
 use Rattle.std.proofs.Common.{◌≡◌, ◌<◌, ◌++◌, List, length, map, ap, sym, ◌∙◌, subst, None}
 use Rattle.std.specs.Prelude.{All}
 use Rattle.tb_store.specs.Col.{Col, values}
-use Rattle.tb_frame.specs.Table.{table_of, height, names_of}
+use Rattle.tb_frame.specs.Table.{table_of, names_of}
 use Rattle.tb_frame.specs.Frame.{taken, frame_refusal}
 use Rattle.tb_frame.proofs.Taking.{rows_in_columns}
 use Rattle.tb_join.specs.Plain.{right_columns}
@@ -27,6 +27,6 @@ returns-clause-settles c =
     let rs = c.args.right_rows.now in
     let first : c.in_ok-columns.columns.items ≡ map (taken ls) left = c.in_ok-columns.ensures ∙ ap (map (taken ls)) c.get_columns.ensures.columns in
     let is : c.push_right.new.columns.items ≡ map (taken ls) left ++ right_columns (names_of (table_of left)) gone rs right =
-        c.in_ok-push_right.ensures ∙ (λ t. first t ++ right_columns (names_of (table_of (c.get_columns-2.ensures.columns t))) gone rs (c.get_columns-3.ensures.columns t))
+    c.in_ok-push_right.ensures ∙ (λ t. first t ++ right_columns (names_of (table_of (c.get_columns-2.ensures.columns t))) gone rs (c.get_columns-3.ensures.columns t))
     in
     settled c.new.result _ None (ap (λ (cs : List Col). frame_refusal (table_of cs)) is ∙ none-finished left right gone ls rs c.requires.level c.requires.names) c.new.ensures.settles
