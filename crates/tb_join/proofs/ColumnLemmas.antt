@@ -1,15 +1,14 @@
 -- The key columns and the other columns of a table, by their names.
-use Rattle.std.proofs.Common.{◌≡◌, ℕ, zero, suc, ◌<◌, Bool, true, false, cond, not, ◌||◌, List, [], ◌∷◌, ◌++◌, length, get_or, map, refl, ap, sym, ◌∙◌, subst, arith, Option, Some, None, is_none, Result, Ok, Err}
+use Rattle.std.proofs.Common.{◌≡◌, Bool, true, false, cond, not, ◌||◌, List, [], ◌∷◌, length, get_or, refl, ap, sym, ◌∙◌, arith, Option, Some, None, is_none, Result, Ok, Err}
 use Rattle.std.specs.Prelude.{IfOk}
 use Rattle.std.specs.Option.{option_map}
-use Rattle.std.specs.List.{find, filter_map, list_any, cons_option}
+use Rattle.std.specs.List.{find, filter_map, cons_option}
 use Rattle.std.proofs.lemmas.Cmp.{nat_list_eq_equiv}
 use Rattle.tb_value.specs.Names.{Name, same_name}
 use Rattle.tb_value.specs.Refusals.{when}
-use Rattle.tb_value.specs.declared.error.PolarsError.{PolarsError}
 use Rattle.tb_value.specs.declared.error.PolarsError.TheVariants.{ColumnNotFound}
 use Rattle.tb_store.specs.Col.{Col}
-use Rattle.tb_frame.specs.Table.{TableColumn, Table, plain, table_of, names_of}
+use Rattle.tb_frame.specs.Table.{TableColumn, plain, table_of, names_of}
 use Rattle.tb_frame.specs.Join.{named, is_among}
 use Rattle.tb_frame.specs.Refusal.{first_unknown}
 

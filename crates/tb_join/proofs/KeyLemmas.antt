@@ -1,5 +1,5 @@
 -- The rows of equal keys, as a loop finds them, and the pairs that they make.
-use Rattle.std.proofs.Common.{◌≡◌, ℕ, zero, suc, ◌+◌, ◌<◌, ◌≤◌, Bool, true, false, cond, List, [], ◌∷◌, ◌++◌, length, get_or, map, refl, ap, sym, ◌∙◌, subst, arith, Option, Some, None, append-nil, nat_lt, ℤ, inl, inr, ◌⊎◌}
+use Rattle.std.proofs.Common.{◌≡◌, ℕ, zero, suc, ◌+◌, ◌<◌, ◌≤◌, Bool, true, false, cond, List, [], ◌∷◌, ◌++◌, length, get_or, map, refl, ap, sym, ◌∙◌, arith, Option, Some, None, append-nil, nat_lt, ℤ, inl, inr, ◌⊎◌}
 use Rattle.std.specs.Prelude.{All, filter}
 use Rattle.std.specs.Ordering.{int_eq}
 use Rattle.std.specs.HashMap.{HashMap}
@@ -15,7 +15,7 @@ use Rattle.tb_value.specs.declared.index.JoinPair.{JoinPair}
 use Rattle.tb_value.specs.Pairs.{row_numbers, both, matched}
 use Rattle.tb_value.proofs.RowNumbers.{row_numbers_more, matched_more}
 use Rattle.tb_frame.proofs.Ranges.{rows_below}
-use Rattle.tb_join.specs.KeyRows.{same_key, keys_match, rows_with, map_rows, rows_at}
+use Rattle.tb_join.specs.KeyRows.{same_key, rows_with, map_rows, rows_at}
 
 -- one more row
 pub rows_with-more : (keys : List (Option ℤ)) (key : Option ℤ) (n : ℕ) → rows_with keys key (n + 1) ≡ rows_with keys key n ++ cond (same_key key (get_or keys n None)) (n ∷ []) []

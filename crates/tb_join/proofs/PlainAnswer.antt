@@ -2,21 +2,17 @@
 use Rattle.std.proofs.Common.{◌≡◌, ℕ, ◌<◌, ◌++◌, List, [], ◌∷◌, length, get_or, map, refl, ap, sym, ◌∙◌, subst, arith, Bool, Option, Some, None, Result, Ok, Err}
 use Rattle.std.specs.Prelude.{All, IfOk, filter}
 use Rattle.std.specs.List.{filter_map}
-use Rattle.std.specs.Option.{option_map}
 use Rattle.std.proofs.lemmas.List.{length-map}
-use Rattle.std.proofs.lemmas.List.Elements.{All-nil, All-cons, All-head, All-tail, All-map, All-weaker}
+use Rattle.std.proofs.lemmas.List.Elements.{All-nil, All-cons, All-head, All-tail, All-map}
 use Rattle.std.proofs.lemmas.List.Sorted.{IsPermutation-refl}
-use Rattle.tb_value.specs.Datum.{Datum, null}
 use Rattle.tb_value.specs.Names.{Name}
 use Rattle.tb_value.specs.Pairs.{row_numbers, both, matched}
-use Rattle.tb_value.specs.declared.error.PolarsError.{PolarsError}
-use Rattle.tb_value.specs.declared.error.PolarsError.TheVariants.{Duplicate, ColumnNotFound}
 use Rattle.tb_value.specs.declared.index.JoinPair.{JoinPair}
 use Rattle.tb_value.proofs.Ascending.{All-flat_map, matched-sorted}
 use Rattle.tb_value.proofs.Loops.{map-map}
 use Rattle.tb_store.specs.Col.{Col, values}
 use Rattle.tb_frame.specs.Table.{TableColumn, Table, plain, table_of, height, names_of, IsTable}
-use Rattle.tb_frame.specs.Join.{Request, named, value_at, left_out, right_out, without, listing, matches, joined_names, IsAnswer}
+use Rattle.tb_frame.specs.Join.{named, value_at, left_out, right_out, listing, matches, IsAnswer}
 use Rattle.tb_frame.specs.Frame.{taken, without_names}
 use Rattle.tb_frame.specs.Answer.{fill, IsRowOf, IsPairOf, IsListed}
 use Rattle.tb_frame.specs.Refusal.{first_repeated, join_refusal}
@@ -27,7 +23,7 @@ use Rattle.tb_frame.proofs.Ranges.{listing_rows}
 use Rattle.tb_frame.proofs.Taking.{values-taken}
 use Rattle.tb_frame.specs.declared.args.JoinType.TheVariants.{Inner}
 use Rattle.tb_frame.specs.declared.args.MaintainOrderJoin.TheVariants.{LeftRight}
-use Rattle.tb_join.specs.Plain.{plain_args, plain_request, right_names, right_columns}
+use Rattle.tb_join.specs.Plain.{plain_request, right_names, right_columns}
 use Rattle.tb_join.proofs.Finishing.{beside, table_of-append}
 use Rattle.tb_join.proofs.PlainCauses.{names-asked}
 

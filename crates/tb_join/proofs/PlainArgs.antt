@@ -1,12 +1,10 @@
 -- The arguments of a join that is built are the plain ones.
 use Rattle.std.proofs.Common.{◌≡◌, List, sym}
 use Rattle.tb_value.specs.Names.{Name}
-use Rattle.tb_value.specs.Refusals.{Settles}
-use Rattle.tb_value.specs.declared.error.PolarsError.{PolarsError}
 use Rattle.tb_store.specs.Col.{Col}
 use Rattle.tb_frame.specs.declared.args.JoinArgs.{JoinArgs}
-use Rattle.tb_frame.specs.Table.{Table, table_of}
-use Rattle.tb_frame.specs.Join.{Request, by_names}
+use Rattle.tb_frame.specs.Table.{table_of}
+use Rattle.tb_frame.specs.Join.{by_names}
 use Rattle.tb_frame.specs.Built.{IsBuilt}
 use Rattle.tb_join.specs.Plain.{plain_args, plain_request}
 

@@ -1,5 +1,5 @@
 -- A join with nothing asked beside the kind and the order that are built so far, and the names of its answer.
-use Rattle.std.specs.Prelude.{ℕ, ◌++◌, Bool, false, not, List, map, filter, None, Some, Option, unwrap_or, if◌then◌else◌}
+use Rattle.std.specs.Prelude.{ℕ, false, List, map, None}
 use Rattle.tb_value.specs.Names.{Name}
 use Rattle.tb_store.specs.Col.{Col}
 use Rattle.tb_frame.specs.declared.args.JoinArgs.{JoinArgs}
@@ -7,8 +7,8 @@ use Rattle.tb_frame.specs.declared.args.JoinType.TheVariants.{Inner}
 use Rattle.tb_frame.specs.declared.args.JoinCoalesce.TheVariants.{JoinSpecific}
 use Rattle.tb_frame.specs.declared.args.JoinValidation.TheVariants.{ManyToMany}
 use Rattle.tb_frame.specs.declared.args.MaintainOrderJoin.TheVariants.{LeftRight}
-use Rattle.tb_frame.specs.Table.{Table, table_of, names_of}
-use Rattle.tb_frame.specs.Join.{Request, by_names, is_among, right_name}
+use Rattle.tb_frame.specs.Table.{table_of}
+use Rattle.tb_frame.specs.Join.{Request, by_names, right_name}
 use Rattle.tb_frame.specs.Frame.{taken, without_names}
 
 abbrev pub plain_args : JoinArgs

@@ -21,8 +21,16 @@ use tb_value::{JoinPair, PlSmallStr, PolarsResult};
 /// Joins of the table that `self` lends with another.
 pub trait DataFrameJoinOps: IntoDf {
     /// The rows that two nested loops over the tables list, each pair once, in an order that the arguments allow, under
-    /// the columns of the naming rule. Refuses by the first cause that holds. So far the arguments must be of the form
-    /// that is built.
+    /// the columns of the naming rule: those of the left table, and then those of the right one but for its key. So far
+    /// the arguments must be of the form that is built: an Inner join by one key of `Int64` on each side, by left row and
+    /// then right row.
+    ///
+    /// # Errors
+    ///
+    /// The first of these that holds, or OutOfMemory:
+    /// 1. ColumnNotFound: the left key is no column of the left table, and then the right key none of the right;
+    /// 2. Duplicate: two columns of the answer would have this name, which is the first that stood before;
+    /// 3. TooManyRows: the answer would have more than `MAX_ROWS` rows.
     fn join<R: Threads + Sync>(
         &self,
         rt: &R,

@@ -2,18 +2,12 @@ use Rattle.std.proofs.Common.{◌≡◌, ◌∙◌, List, Option, None, length, 
 use Rattle.std.specs.Prelude.{IfOk}
 use Rattle.std.proofs.lemmas.Result.{err_from_is_err_and}
 use Rattle.tb_value.specs.Datum.{int}
-use Rattle.tb_value.specs.Kind.{int64}
-use Rattle.tb_value.specs.Pairs.{matched}
 use Rattle.tb_value.specs.declared.error.PolarsError.{PolarsError}
 use Rattle.tb_value.specs.declared.index.JoinPair.{JoinPair}
 use Rattle.tb_store.specs.Chunk.{or_null}
 use Rattle.tb_frame.specs.Table.{TableColumn, plain, table_of}
-use Rattle.tb_frame.specs.Join.{listing}
-use Rattle.tb_frame.specs.Refusal.{join_refusal}
-use Rattle.tb_join.specs.KeyRows.{keys_match}
-use Rattle.tb_join.specs.Plain.{plain_request}
 use Rattle.tb_join.proofs.Finishing.{settled}
-use Rattle.tb_join.proofs.PlainCauses.{unknown, repeated, over, causes, listing-keys, kind_of, by_third, by_last}
+use Rattle.tb_join.proofs.PlainCauses.{repeated, over, causes, listing-keys, kind_of, by_third, by_last}
 use Rattle.tb_join.proofs.frame_join.checked_pairs.Goals as goal
 
 pub returns-in_err-check_names-clause-settles : goal.returns-in_err-check_names-clause-settles

@@ -1,7 +1,7 @@
 use Rattle.std.proofs.Common.{◌≡◌, ◌<◌, ◌++◌, List, length, map, ap, sym, ◌∙◌, subst, None}
 use Rattle.std.specs.Prelude.{All}
 use Rattle.tb_store.specs.Col.{Col, values}
-use Rattle.tb_frame.specs.Table.{table_of, height, names_of}
+use Rattle.tb_frame.specs.Table.{table_of, names_of}
 use Rattle.tb_frame.specs.Frame.{taken, frame_refusal}
 use Rattle.tb_frame.proofs.Taking.{rows_in_columns}
 use Rattle.tb_join.specs.Plain.{right_columns}

@@ -1,4 +1,4 @@
-use Rattle.std.proofs.Common.{◌≡◌, Bool, [], not, ap, sym, ◌∙◌, None}
+use Rattle.std.proofs.Common.{◌≡◌, ◌++◌, ◌∷◌, Bool, List, [], not, ap, sym, ◌∙◌, None}
 use Rattle.tb_value.specs.Names.{Name}
 use Rattle.tb_value.proofs.Kept.{made, skipped}
 use Rattle.tb_store.specs.Col.{Col}
@@ -18,9 +18,9 @@ loop-column-preserved c =
     elim c.if-not-contains.branch [
       | then-not-contains+in_ok-right_name+in_ok-push w ↦
           rw w.names-is
-          (w.in_ok-push.ensures.items
-          ∙ made f test c.args.right.now c.loop-column.column-index x c.loop-column-test.true c.column-item.is [] c.loop-column.names.items w.in_ok-right_name.field-0 c.loop-column.invariant (ap not (named ∙ w.if-not-contains.true))
-          (w.in_ok-right_name.ensures taken c.in_ok-taken.ensures ∙ ap (right_name taken None) w.name-then-not-contains.ensures))
+          (◌∙◌ {A = List Name} {b = c.loop-column.names.items ++ w.in_ok-right_name.field-0 ∷ []} w.in_ok-push.ensures.items
+          (made f test c.args.right.now c.loop-column.column-index x c.loop-column-test.true c.column-item.is [] c.loop-column.names.items w.in_ok-right_name.field-0 c.loop-column.invariant (ap not (named ∙ w.if-not-contains.true))
+          (◌∙◌ {A = Name} (w.in_ok-right_name.ensures taken c.in_ok-taken.ensures) (ap (right_name taken None) w.name-then-not-contains.ensures))))
       | else-not-contains w ↦
           rw w.names-is
           (skipped f test c.args.right.now c.loop-column.column-index x c.loop-column-test.true c.column-item.is [] c.loop-column.names.items c.loop-column.invariant (ap not (named ∙ w.if-not-contains.false)))

@@ -1,5 +1,4 @@
-use Rattle.std.proofs.Common.{◌≡◌, Bool, not, ap, sym, ◌∙◌}
-use Rattle.tb_value.specs.Names.{Name}
+use Rattle.std.proofs.Common.{◌≡◌, ◌++◌, ◌∷◌, Bool, List, [], not, ap, sym, ◌∙◌}
 use Rattle.tb_value.proofs.Kept.{made, skipped}
 use Rattle.tb_store.specs.Col.{Col}
 use Rattle.tb_frame.specs.Table.{table_of, names_of}
@@ -19,9 +18,9 @@ loop-column-preserved c =
     elim c.if-not-contains.branch [
       | then-not-contains+in_ok-right_column+in_ok-push w ↦
           rw w.columns-is
-          (w.in_ok-push.ensures.items
-          ∙ made f test c.args.right.now c.loop-column.column-index x c.loop-column-test.true c.column-item.is c.args.columns.now.items c.loop-column.columns.items w.in_ok-right_column.field-0 c.loop-column.invariant (ap not (named ∙ w.if-not-contains.true))
-          (w.in_ok-right_column.ensures taken c.in_ok-taken.ensures))
+          (◌∙◌ {A = List Col} {b = c.loop-column.columns.items ++ w.in_ok-right_column.field-0 ∷ []} w.in_ok-push.ensures.items
+          (made f test c.args.right.now c.loop-column.column-index x c.loop-column-test.true c.column-item.is c.args.columns.now.items c.loop-column.columns.items w.in_ok-right_column.field-0 c.loop-column.invariant (ap not (named ∙ w.if-not-contains.true))
+          (w.in_ok-right_column.ensures taken c.in_ok-taken.ensures)))
       | else-not-contains w ↦
           rw w.columns-is
           (skipped f test c.args.right.now c.loop-column.column-index x c.loop-column-test.true c.column-item.is c.args.columns.now.items c.loop-column.columns.items c.loop-column.invariant (ap not (named ∙ w.if-not-contains.false)))

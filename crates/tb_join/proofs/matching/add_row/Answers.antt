@@ -1,4 +1,4 @@
-use Rattle.std.proofs.Common.{◌≡◌, ◌∙◌, ap, rules, unwrap_or, ℤ, FitsSigned, to_z, of_z, w64}
+use Rattle.std.proofs.Common.{◌∙◌, ap, rules, unwrap_or, ℤ, FitsSigned, w64}
 use Rattle.std.specs.Ordering.{int_eq}
 use Rattle.std.specs.HashMap.{get}
 use Rattle.std.proofs.lemmas.Int.{to_z-of_z}

@@ -1,4 +1,4 @@
-use Rattle.std.proofs.Common.{◌≡◌, Some, length, ℤ}
+use Rattle.std.proofs.Common.{◌≡◌, Some, ℤ}
 use Rattle.tb_join.specs.KeyRows.{map_rows, rows_with}
 use Rattle.tb_join.proofs.matching.rows_by_key.Given as goal
 

@@ -1,4 +1,4 @@
-use Rattle.std.proofs.Common.{◌≡◌, ◌∙◌, ap, sym, rules, Some, None, ℤ, FitsSigned, to_z, of_z, w64}
+use Rattle.std.proofs.Common.{◌∙◌, ap, sym, rules, Some, None, ℤ, FitsSigned, w64}
 use Rattle.std.specs.Ordering.{int_eq}
 use Rattle.std.specs.HashMap.{get_by}
 use Rattle.std.proofs.lemmas.Int.{to_z-of_z}
