@@ -79,8 +79,8 @@ list_all-true p (x ∷ xs) h = (λ t. All-head (λ y. p y ≡ true) x xs h t && 
 pub no_refusal : (t : Table) (n : ℕ) → All (λ (c : TableColumn). length c.values ≡ n) t → first_repeated (names_of t) ≡ None → frame_refusal t ≡ None
 no_refusal t n level fresh =
     let h : are_level t ≡ true =
-        list_all-true (λ (c : TableColumn). length c.values == height t) t
-        (All-weaker (λ (c : TableColumn). length c.values ≡ height t) (λ (c : TableColumn). (length c.values == height t) ≡ true) (λ c e. eq-eqb (length c.values) (height t) e) t (level_height n t level))
+    list_all-true (λ (c : TableColumn). length c.values == height t) t
+    (All-weaker (λ (c : TableColumn). length c.values ≡ height t) (λ (c : TableColumn). (length c.values == height t) ≡ true) (λ c e. eq-eqb (length c.values) (height t) e) t (level_height n t level))
     in
     ap (λ (b : Bool). first_cause (when (not b) ShapeMismatch ∷ option_map (λ n. Duplicate n) (first_repeated (names_of t)) ∷ [])) h
     ∙ ap (λ (o : Option Name). first_cause (option_map (λ n. Duplicate n) o ∷ [])) fresh
