@@ -1,7 +1,7 @@
 pub mod Frames
 pub mod Seen
 pub mod Taking
-pub mod Tests
+pub mod Conds
 pub mod Fields
 pub mod Tables
 pub mod Ordered

@@ -5,6 +5,8 @@ mod args;
 mod frame;
 mod names;
 mod order;
+#[cfg(test)]
+mod tests;
 
 pub use args::{Direction, JoinArgs, JoinCoalesce, JoinType, JoinValidation, MaintainOrderJoin};
 pub use frame::{DataFrame, IntoDf, column_name_set, column_names, take_columns};

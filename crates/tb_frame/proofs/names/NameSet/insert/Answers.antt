@@ -1,7 +1,7 @@
 use Rattle.std.proofs.Common.{◌≡◌, ◌||◌, ap, ◌∙◌}
 use Rattle.tb_value.specs.Names.{Name, same_name}
 use Rattle.tb_frame.specs.NameSets.{has_name}
-use Rattle.tb_frame.proofs.Tests.{cond_or}
+use Rattle.tb_frame.proofs.Conds.{cond_or}
 use Rattle.tb_frame.proofs.names.NameSet.insert.Goals as goal
 
 pub returns-clause-names : goal.returns-clause-names

@@ -1,4 +1,4 @@
--- Facts on tests.
+-- Facts on conditions.
 use Rattle.std.proofs.Common.{◌≡◌, Bool, true, false, cond, ◌||◌, refl}
 
 pub cond_or : (a b : Bool) → cond a true b ≡ (a || b)
