@@ -1,17 +1,16 @@
 -- Lists of columns that make tables.
-use Rattle.std.proofs.Common.{◌≡◌, ◌==◌, ℕ, ◌<◌, Bool, true, false, cond, not, ◌&&◌, List, [], ◌∷◌, ◌++◌, length, get_or, map, take, refl, ap, sym, ◌∙◌, ◌+◌, append-nil, subst, Option, Some, None, arith}
-use Rattle.std.specs.Prelude.{All, AllPairs, ◌≢◌, filter}
+use Rattle.std.proofs.Common.{◌≡◌, ◌==◌, ℕ, ◌<◌, Bool, true, false, cond, not, ◌&&◌, List, [], ◌∷◌, ◌++◌, length, get_or, take, refl, ap, sym, ◌∙◌, ◌+◌, append-nil, Option, None, arith}
+use Rattle.std.specs.Prelude.{All, ◌≢◌, filter}
 use Rattle.std.specs.Option.{option_map}
 use Rattle.std.specs.List.{list_all}
 use Rattle.std.proofs.lemmas.Bool.{eqb-true, eq-eqb}
-use Rattle.std.proofs.lemmas.List.{length-map}
 use Rattle.std.proofs.lemmas.List.Elements.{All-nil, All-cons, All-head, All-tail, All-weaker, All-filter, filter_more}
 use Rattle.tb_value.specs.Names.{Name}
 use Rattle.tb_value.specs.Refusals.{first_cause, when}
 use Rattle.tb_value.specs.declared.error.PolarsError.{PolarsError}
 use Rattle.tb_value.specs.declared.error.PolarsError.TheVariants.{ShapeMismatch, Duplicate}
 use Rattle.tb_value.proofs.Ascending.{AllPairs-thinned}
-use Rattle.tb_store.specs.Col.{Col, values}
+use Rattle.tb_store.specs.Col.{Col}
 use Rattle.tb_frame.specs.Table.{TableColumn, Table, plain, table_of, height, names_of, IsTable}
 use Rattle.tb_frame.specs.Join.{is_among, without}
 use Rattle.tb_frame.specs.Frame.{are_level, frame_refusal, without_names}

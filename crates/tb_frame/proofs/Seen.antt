@@ -1,6 +1,6 @@
 -- Names that are looked at one after another, with a set of those seen so far.
-use Rattle.std.proofs.Common.{◌≡◌, ℕ, ◌+◌, ◌<◌, Bool, true, false, not, ◌||◌, List, [], length, get_or, take, map, refl, ap, sym, ◌∙◌, arith, Option, Some, None, cond}
-use Rattle.std.specs.List.{list_any, find}
+use Rattle.std.proofs.Common.{◌≡◌, ℕ, ◌+◌, ◌<◌, Bool, true, false, not, ◌||◌, List, [], length, get_or, take, refl, ap, sym, ◌∙◌, Some, None}
+use Rattle.std.specs.List.{find}
 use Rattle.std.specs.Option.{option_map}
 use Rattle.std.proofs.lemmas.List.Folds.{list_any_more}
 use Rattle.std.proofs.lemmas.Cmp.{nat_list_eq_equiv}

@@ -1,12 +1,12 @@
 -- Rows that are taken from the columns of a table.
-use Rattle.std.proofs.Common.{◌≡◌, ℕ, ◌<◌, List, [], ◌∷◌, ◌++◌, length, get_or, map, refl, ap, sym, ◌∙◌, subst, append-nil, arith}
+use Rattle.std.proofs.Common.{◌≡◌, ℕ, ◌<◌, List, [], ◌∷◌, length, get_or, map, refl, ap, sym, ◌∙◌, subst, append-nil, arith}
 use Rattle.std.specs.Prelude.{All, AllPairs, ◌≢◌}
 use Rattle.std.proofs.lemmas.List.{length-map, get_or-map}
 use Rattle.std.proofs.lemmas.List.Elements.{All-nil, All-cons, All-head, All-tail, All-weaker}
 use Rattle.tb_value.specs.Datum.{Datum, null}
 use Rattle.tb_value.specs.Names.{Name}
 use Rattle.tb_store.specs.Col.{Col, values}
-use Rattle.tb_frame.specs.Table.{TableColumn, Table, plain, table_of, height, names_of, IsTable}
+use Rattle.tb_frame.specs.Table.{TableColumn, plain, table_of, height, names_of, IsTable}
 use Rattle.tb_frame.specs.Frame.{taken}
 use Rattle.tb_frame.proofs.Frames.{level_height}
 

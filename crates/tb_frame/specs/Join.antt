@@ -1,10 +1,10 @@
 -- A join request and its answers.
-use Rattle.std.specs.Prelude.{◌≡◌, ℕ, ◌+◌, ◌==◌, min, Bool, true, false, ◌&&◌, ◌||◌, not, if◌then◌else◌, List, [], ◌∷◌, ◌++◌, length, map, filter, Option, Some, None, unwrap_or, IsSorted, IsPermutation, ⊤, ℤ, pos, ◌+ℤ◌, int_lt, int_le, position, slice_index_or, codes}
+use Rattle.std.specs.Prelude.{◌≡◌, ℕ, min, Bool, true, false, ◌&&◌, ◌||◌, not, if◌then◌else◌, List, [], ◌++◌, length, map, filter, Option, Some, None, unwrap_or, IsSorted, IsPermutation, ⊤, ℤ, pos, ◌+ℤ◌, int_lt, int_le, position, slice_index_or, codes}
 use Rattle.std.specs.List.{list_any, list_all, filter_map, find, enumerate_from}
 use Rattle.tb_value.specs.Datum.{Datum, null, is_null, is_present}
 use Rattle.tb_value.specs.Kind.{Kind}
 use Rattle.tb_value.specs.Names.{Name, same_name}
-use Rattle.tb_value.specs.Pairs.{row_numbers, both, matched, left_met, left_unmet, right_unmet, left_first, right_first}
+use Rattle.tb_value.specs.Pairs.{row_numbers, matched, left_met, left_unmet, right_unmet, left_first, right_first}
 use Rattle.tb_value.specs.Same.{same}
 use Rattle.tb_value.specs.declared.index.JoinPair.{JoinPair}
 use Rattle.tb_frame.specs.declared.args.JoinArgs.{JoinArgs}
@@ -16,7 +16,7 @@ use Rattle.tb_frame.specs.declared.args.MaintainOrderJoin.{MaintainOrderJoin}
 use Rattle.tb_frame.specs.declared.args.MaintainOrderJoin.TheVariants as order
 use Rattle.tb_frame.specs.declared.args.Direction.{Direction}
 use Rattle.tb_frame.specs.declared.args.Direction.TheVariants.{Free, ByLeft, ByRight}
-use Rattle.tb_frame.specs.Table.{TableColumn, Table, height, IsTable, names_of, rows_of, schema_of}
+use Rattle.tb_frame.specs.Table.{TableColumn, Table, height, names_of, rows_of, schema_of}
 
 -- a request: two tables, the names and the columns of the keys, and the args
 pub record Request : Type 0 where

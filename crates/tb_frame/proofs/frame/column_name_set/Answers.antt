@@ -1,8 +1,7 @@
-use Rattle.std.proofs.Common.{◌≡◌, ◌<◌, ◌||◌, List, [], length, get_or, ap, sym, ◌∙◌, subst, arith}
-use Rattle.std.proofs.lemmas.List.{length-map, get_or-map, take_all}
-use Rattle.tb_value.specs.Names.{Name, same_name}
-use Rattle.tb_store.specs.Col.{Col}
-use Rattle.tb_frame.specs.Table.{TableColumn, plain, table_of, names_of}
+use Rattle.std.proofs.Common.{◌<◌, List, length, ap, ◌∙◌, arith}
+use Rattle.std.proofs.lemmas.List.{take_all}
+use Rattle.tb_value.specs.Names.{Name}
+use Rattle.tb_frame.specs.Table.{table_of, names_of}
 use Rattle.tb_frame.specs.Join.{is_among}
 use Rattle.tb_frame.specs.NameSets.{has_name}
 use Rattle.tb_frame.proofs.Seen.{seen_more}

@@ -1,4 +1,4 @@
-use Rattle.std.proofs.Common.{◌≡◌, ◌++◌, Bool, true, false, not, ap, sym, ◌∙◌}
+use Rattle.std.proofs.Common.{◌≡◌, Bool, not, ap, sym, ◌∙◌}
 use Rattle.tb_store.specs.Col.{Col}
 use Rattle.tb_frame.specs.Join.{is_among}
 use Rattle.tb_frame.proofs.Frames.{kept, passed}

@@ -6,7 +6,6 @@ use Rattle.tb_value.specs.Names.{Name}
 use Rattle.tb_value.specs.Pairs.{row_numbers}
 use Rattle.tb_value.specs.declared.error.PolarsError.TheVariants.{Duplicate}
 use Rattle.tb_frame.specs.NameSets.{has_name}
-use Rattle.tb_frame.specs.Refusal.{first_repeated}
 use Rattle.tb_frame.proofs.Seen.{stood_before, seen_more, fresh_more, repeated_here}
 use Rattle.tb_frame.proofs.names.check_distinct.Goals as goal
 

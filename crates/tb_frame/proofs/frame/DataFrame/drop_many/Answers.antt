@@ -1,5 +1,4 @@
-use Rattle.std.proofs.Common.{◌≡◌, List, ap, sym, ◌∙◌, subst}
-use Rattle.tb_store.specs.Col.{Col}
+use Rattle.std.proofs.Common.{ap, sym, ◌∙◌, subst}
 use Rattle.tb_frame.specs.Table.{Table, table_of, IsTable}
 use Rattle.tb_frame.specs.Frame.{without_names}
 use Rattle.tb_frame.proofs.Frames.{IsTable-without, without-table}

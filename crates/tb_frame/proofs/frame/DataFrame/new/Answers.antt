@@ -1,4 +1,4 @@
-use Rattle.std.proofs.Common.{◌≡◌, List, ap, sym, ◌∙◌, subst, None}
+use Rattle.std.proofs.Common.{◌≡◌, List, subst, None}
 use Rattle.tb_store.specs.Col.{Col}
 use Rattle.tb_frame.specs.Table.{table_of}
 use Rattle.tb_frame.specs.Frame.{frame_refusal}
