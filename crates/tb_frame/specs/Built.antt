@@ -1,23 +1,44 @@
 -- The form of a join that is built so far: a condition on the caller until every form is.
-use Rattle.std.specs.Prelude.{◌≡◌, false, length, All, None}
-use Rattle.tb_value.specs.Kind.{int64}
-use Rattle.tb_frame.specs.declared.args.JoinType.TheVariants.{Inner}
-use Rattle.tb_frame.specs.declared.args.JoinCoalesce.TheVariants.{JoinSpecific}
+use Rattle.std.specs.Prelude.{◌≡◌, Bool, true, false, length, All, None}
+use Rattle.tb_value.specs.Kind.{Kind}
+use Rattle.tb_value.specs.Kind as kind
+use Rattle.tb_frame.specs.declared.args.JoinType.{JoinType}
+use Rattle.tb_frame.specs.declared.args.JoinType.TheVariants.{Inner, Left, Right, Full, Semi, Anti}
 use Rattle.tb_frame.specs.declared.args.JoinValidation.TheVariants.{ManyToMany}
-use Rattle.tb_frame.specs.declared.args.MaintainOrderJoin.TheVariants.{LeftRight}
+use Rattle.tb_frame.specs.declared.args.MaintainOrderJoin.{MaintainOrderJoin}
+use Rattle.tb_frame.specs.declared.args.MaintainOrderJoin.TheVariants as order
 use Rattle.tb_frame.specs.Table.{TableColumn}
 use Rattle.tb_frame.specs.Join.{Request}
 
--- an Inner join of one Int64 key on each side, in the order of the rows, with nothing else asked
+abbrev pub is_built_kind : JoinType → Bool
+is_built_kind Inner = true
+is_built_kind Left = true
+is_built_kind Right = false
+is_built_kind Full = false
+is_built_kind Semi = false
+is_built_kind Anti = false
+
+-- any order that is not by the right rows first
+abbrev pub is_built_order : MaintainOrderJoin → Bool
+is_built_order order.None = true
+is_built_order order.Left = true
+is_built_order order.LeftRight = true
+is_built_order order.Right = false
+is_built_order order.RightLeft = false
+
+abbrev pub is_built_key : Kind → Bool
+is_built_key kind.int64 = true
+is_built_key kind.string = true
+is_built_key _ = false
+
+-- an Inner or Left join of one key on each side, of whole numbers or texts, not in the order of the right rows
 pub record IsBuilt (q : Request) : Type 0 where
-  pub how : q.args.how ≡ Inner
+  pub how : is_built_kind q.args.how ≡ true
   pub validation : q.args.validation ≡ ManyToMany
-  pub suffix : q.args.suffix ≡ None
   pub slice : q.args.slice ≡ None
   pub nulls : q.args.join_nulls ≡ false
-  pub coalesce : q.args.coalesce ≡ JoinSpecific
-  pub order : q.args.maintain_order ≡ LeftRight
+  pub order : is_built_order q.args.maintain_order ≡ true
   pub one_left : length q.left_on ≡ 1
   pub one_right : length q.right_on ≡ 1
-  pub left_kinds : All (λ (c : TableColumn). c.kind ≡ int64) q.left_keys
-  pub right_kinds : All (λ (c : TableColumn). c.kind ≡ int64) q.right_keys
+  pub left_kinds : All (λ (c : TableColumn). is_built_key c.kind ≡ true) q.left_keys
+  pub right_kinds : All (λ (c : TableColumn). is_built_key c.kind ≡ true) q.right_keys
