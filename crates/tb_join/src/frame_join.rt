@@ -82,7 +82,7 @@ fn checked_pairs(
     check_names(alloc, left.get_columns(), right.get_columns(), right_on)?;
     let left_keys = int_keys(alloc, left_key)?;
     let right_keys = int_keys(alloc, right_key)?;
-    match_rows(alloc, &left_keys, &right_keys)
+    match_rows(alloc, &left_keys, &right_keys, false)
 }
 
 // The Inner join by one key of whole numbers on each side, by left row and then right row.
