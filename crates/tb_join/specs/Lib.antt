@@ -1,4 +1,5 @@
 pub mod Laws
 pub mod Rows
 pub mod KeyRows
-pub mod Plain
+pub mod KeyRefusal
+pub mod RightColumns

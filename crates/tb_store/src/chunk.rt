@@ -124,6 +124,15 @@ pub struct StringChunk {
     pub(crate) inner: Cells<PlSmallStr>,
 }
 
+impl StringChunk {
+    /// The texts, row by row; `None` is Null.
+    pub fn texts(&self) -> &[Option<PlSmallStr>]
+        ensures { result.now ≡ self.now.inner.cells.items }
+    {
+        &self.inner.cells
+    }
+}
+
 impl Chunk for StringChunk {
     ghost use Rattle.std.specs.Prelude.{map};
     ghost use Rattle.tb_value.specs.Datum.{string};
