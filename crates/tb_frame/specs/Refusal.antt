@@ -57,6 +57,10 @@ asks_right ManyToOne = true
 asks_right OneToMany = false
 asks_right OneToOne = true
 
+-- a side is asked to have no two rows of equal keys
+abbrev pub asks_a_side : JoinValidation → Bool
+asks_a_side v = asks_left v || asks_right v
+
 -- Semi and Anti look at no validation
 abbrev pub is_validated : JoinType → Bool
 is_validated Inner = true

@@ -1,5 +1,8 @@
 //! The arguments of a join.
 ghost use Rattle.std.specs.Prelude.{◌≡◌, None, false};
+ghost use Rattle.tb_frame.specs.Join.{coalesce};
+ghost use Rattle.tb_frame.specs.Refusal.{asks_a_side};
+ghost use Rattle.tb_frame.specs.Sides.{flip};
 
 use tb_value::PlSmallStr;
 
@@ -81,6 +84,61 @@ impl JoinArgs {
             join_nulls: false,
             coalesce: JoinCoalesce::default(),
             maintain_order: MaintainOrderJoin::default(),
+        }
+    }
+
+    /// Whether the two key columns of a pair become one column of the answer.
+    pub fn should_coalesce(&self) -> bool
+        ensures { result ≡ coalesce self.now.coalesce self.now.how }
+    {
+        self.coalesce.coalesce(&self.how)
+    }
+}
+
+impl JoinValidation {
+    /// Whether a side is asked to have no two rows of equal keys.
+    pub fn needs_checks(&self) -> bool
+        ensures { result ≡ asks_a_side self.now }
+    {
+        match self {
+            JoinValidation::ManyToMany => false,
+            JoinValidation::ManyToOne => true,
+            JoinValidation::OneToMany => true,
+            JoinValidation::OneToOne => true,
+        }
+    }
+}
+
+impl JoinCoalesce {
+    /// Whether the two key columns of a pair become one column of the answer to a join of this kind.
+    pub fn coalesce(&self, how: &JoinType) -> bool
+        ensures { result ≡ coalesce self.now how.now }
+    {
+        match how {
+            JoinType::Inner | JoinType::Left | JoinType::Right => match self {
+                JoinCoalesce::JoinSpecific | JoinCoalesce::CoalesceColumns => true,
+                JoinCoalesce::KeepColumns => false,
+            },
+            JoinType::Full => match self {
+                JoinCoalesce::CoalesceColumns => true,
+                JoinCoalesce::JoinSpecific | JoinCoalesce::KeepColumns => false,
+            },
+            JoinType::Semi | JoinType::Anti => false,
+        }
+    }
+}
+
+impl MaintainOrderJoin {
+    /// The same order, of the other side.
+    pub fn flip(&self) -> MaintainOrderJoin
+        ensures { result ≡ flip self.now }
+    {
+        match self {
+            MaintainOrderJoin::None => MaintainOrderJoin::None,
+            MaintainOrderJoin::Left => MaintainOrderJoin::Right,
+            MaintainOrderJoin::Right => MaintainOrderJoin::Left,
+            MaintainOrderJoin::LeftRight => MaintainOrderJoin::RightLeft,
+            MaintainOrderJoin::RightLeft => MaintainOrderJoin::LeftRight,
         }
     }
 }
