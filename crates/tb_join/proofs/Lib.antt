@@ -2,7 +2,8 @@ pub mod RowProofs
 pub mod Found
 pub mod KeyLemmas
 pub mod ColumnLemmas
+pub mod TypedKeys
+pub mod KeyCauses
+pub mod LeftOrder
 pub mod Finishing
-pub mod PlainCauses
-pub mod PlainAnswer
-pub mod PlainArgs
+pub mod AnswerMade

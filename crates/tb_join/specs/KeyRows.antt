@@ -1,11 +1,13 @@
 -- The rows of equal keys, by key, and the pairs that they make.
-use Rattle.std.specs.Prelude.{ℕ, Bool, false, if◌then◌else◌, List, [], ◌∷◌, Option, Some, None, unwrap_or, map, filter, slice_index_or}
+use Rattle.std.specs.Prelude.{ℕ, Bool, true, false, if◌then◌else◌, List, [], ◌∷◌, Option, Some, None, unwrap_or, map, filter, slice_index_or}
 use Rattle.std.specs.List.{flat_map}
 use Rattle.std.specs.Map.{lookup}
 use Rattle.std.specs.HashMap.{HashMap}
 use Rattle.std.specs.declared.vec.Vec.{Vec}
 use Rattle.tb_value.specs.Pairs.{row_numbers, both, left_only}
 use Rattle.tb_value.specs.declared.index.JoinPair.{JoinPair}
+use Rattle.tb_frame.specs.declared.args.JoinType.{JoinType}
+use Rattle.tb_frame.specs.declared.args.JoinType.TheVariants.{Inner, Left, Right, Full, Semi, Anti}
 
 module _ {K : Type 0} (eq : K → K → Bool) where
   -- two keys are the same where both are there and equal
@@ -34,6 +36,15 @@ map_rows eq m k = unwrap_or (lookup (eq k) (entries_of m)) []
 abbrev pub rows_at : {K S Z : Type 0} → (K → K → Bool) → HashMap K (Vec ℕ Z) S → Option K → List ℕ
 rows_at eq m None = []
 rows_at eq m (Some k) = map_rows eq m k
+
+-- Left and Full joins keep a left row without a match
+abbrev pub keeps_left : JoinType → Bool
+keeps_left Inner = false
+keeps_left Left = true
+keeps_left Right = false
+keeps_left Full = true
+keeps_left Semi = false
+keeps_left Anti = false
 
 -- the pairs of a left row: one for each of its right rows, or the left row alone where it is kept
 abbrev pub row_pairs : Bool → ℕ → List ℕ → List JoinPair

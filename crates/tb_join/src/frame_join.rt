@@ -1,36 +1,37 @@
 //! The join of two tables.
-ghost use Rattle.std.specs.Prelude.{◌≡◌, All, IfOk, length};
-ghost use Rattle.std.specs.List.{filter_map};
-ghost use Rattle.tb_value.specs.Kind.{int64};
+ghost use Rattle.std.specs.Prelude.{◌≡◌, ◌∷◌, [], IfOk};
 ghost use Rattle.tb_value.specs.Refusals.{Settles};
+ghost use Rattle.tb_frame.specs.Answer.{IsListed};
 ghost use Rattle.tb_frame.specs.Built.{IsBuilt};
-ghost use Rattle.tb_frame.specs.Join.{by_names, named, listing, IsAnswer};
+ghost use Rattle.tb_frame.specs.Join.{by_names, listing, IsAnswer};
 ghost use Rattle.tb_frame.specs.Refusal.{join_refusal};
-ghost use Rattle.tb_frame.specs.Table.{TableColumn, table_of, IsTable};
-ghost use Rattle.tb_join.specs.Plain.{plain_request};
+ghost use Rattle.tb_frame.specs.Table.{plain, table_of, IsTable};
+ghost use Rattle.tb_join.specs.KeyRefusal.{key_refusal};
+ghost use Rattle.tb_join.specs.KeyRows.{keeps_left};
 
-use crate::general::{check_names, finish_join, left_rows, right_rows};
-use crate::keys::{int_keys, key_column};
-use crate::matching::match_rows;
+use crate::general::{check_names, finish_join, gone_right, suffix_of};
+use crate::keys::{check_key_types, key_column, key_pairs};
 use std::alloc::Global;
 use std::thread::Threads;
-use tb_frame::{DataFrame, IntoDf, JoinArgs};
+use tb_frame::{DataFrame, IntoDf, JoinArgs, JoinType};
 use tb_pool::Exec;
+use tb_store::Column;
 use tb_value::{JoinPair, PlSmallStr, PolarsResult};
 
 /// Joins of the table that `self` lends with another.
 pub trait DataFrameJoinOps: IntoDf {
     /// The rows that two nested loops over the tables list, each pair once, in an order that the arguments allow, under
-    /// the columns of the naming rule: those of the left table, and then those of the right one but for its key. So far
-    /// the arguments must be of the form that is built: an Inner join by one key of `Int64` on each side, by left row and
-    /// then right row.
+    /// the columns of the naming rule: those of the left table, and then those of the right one, but for its key where
+    /// keys are coalesced. So far the arguments must be of the form that is built: an Inner or Left join by one key of
+    /// `Int64` or `String` on each side, in no order or by left rows.
     ///
     /// # Errors
     ///
     /// The first of these that holds, or OutOfMemory:
     /// 1. ColumnNotFound: the left key is no column of the left table, and then the right key none of the right;
-    /// 2. Duplicate: two columns of the answer would have this name, which is the first that stood before;
-    /// 3. TooManyRows: the answer would have more than `MAX_ROWS` rows.
+    /// 2. KeyTypes: the keys are of different types;
+    /// 3. Duplicate: two columns of the answer would have this name, which is the first that stood before;
+    /// 4. TooManyRows: the answer would have more than `MAX_ROWS` rows.
     fn join<R: Threads + Sync>(
         &self,
         rt: &R,
@@ -55,53 +56,81 @@ impl DataFrameJoinOps for DataFrame {
         other: &DataFrame,
         left_on: &[PlSmallStr],
         right_on: &[PlSmallStr],
-        _args: JoinArgs,
+        args: JoinArgs,
         _exec: &Exec,
     ) -> PolarsResult<DataFrame> {
-        join_in_order(alloc, self, other, left_on, right_on)
+        join_by_left(alloc, self, other, left_on, right_on, &args)
     }
 }
 
-// The pairs of an Inner join by one key of whole numbers on each side, by left row and then right row.
-fn checked_pairs(
+// The key columns, where no cause refuses the keys, their types and the names of the answer.
+fn checked_keys<'a>(
     alloc: Global,
-    left: &DataFrame,
-    right: &DataFrame,
+    left: &'a DataFrame,
+    right: &'a DataFrame,
     left_on: &[PlSmallStr],
     right_on: &[PlSmallStr],
-) -> PolarsResult<Vec<JoinPair>>
-    requires one_left { length left_on.now ≡ 1 }
-    requires one_right { length right_on.now ≡ 1 }
-    requires left_kinds { All (λ (c : TableColumn). c.kind ≡ int64) (filter_map (named (table_of left.now)) left_on.now) }
-    requires right_kinds { All (λ (c : TableColumn). c.kind ≡ int64) (filter_map (named (table_of right.now)) right_on.now) }
-    ensures settles { Settles result (join_refusal (plain_request left.now right.now left_on.now right_on.now)) }
-    ensures pairs { IfOk result (λ v. v.items ≡ listing (plain_request left.now right.now left_on.now right_on.now)) }
+    args: &JoinArgs,
+) -> PolarsResult<(&'a Column, &'a Column)>
+    requires { IsBuilt (by_names (table_of left.now) (table_of right.now) left_on.now right_on.now args.now) }
+    ensures settles { Settles result (key_refusal (by_names (table_of left.now) (table_of right.now) left_on.now right_on.now args.now)) }
+    ensures left { IfOk result (λ p. (by_names (table_of left.now) (table_of right.now) left_on.now right_on.now args.now).left_keys ≡ plain p.0.now ∷ []) }
+    ensures right { IfOk result (λ p. (by_names (table_of left.now) (table_of right.now) left_on.now right_on.now args.now).right_keys ≡ plain p.1.now ∷ []) }
 {
     let left_key = key_column(alloc, left, left_on)?;
     let right_key = key_column(alloc, right, right_on)?;
-    check_names(alloc, left.get_columns(), right.get_columns(), right_on)?;
-    let left_keys = int_keys(alloc, left_key)?;
-    let right_keys = int_keys(alloc, right_key)?;
-    match_rows(alloc, &left_keys, &right_keys, false)
+    check_key_types(left_key, right_key)?;
+    let gone = gone_right(args, right_on);
+    check_names(
+        alloc,
+        left.get_columns(),
+        right.get_columns(),
+        gone,
+        suffix_of(args),
+    )?;
+    Ok((left_key, right_key))
 }
 
-// The Inner join by one key of whole numbers on each side, by left row and then right row.
-fn join_in_order(
+// The pairs of the listing, by left row and then right row.
+fn listed_pairs(
     alloc: Global,
     left: &DataFrame,
     right: &DataFrame,
     left_on: &[PlSmallStr],
     right_on: &[PlSmallStr],
-) -> PolarsResult<DataFrame>
-    requires one_left { length left_on.now ≡ 1 }
-    requires one_right { length right_on.now ≡ 1 }
-    requires left_kinds { All (λ (c : TableColumn). c.kind ≡ int64) (filter_map (named (table_of left.now)) left_on.now) }
-    requires right_kinds { All (λ (c : TableColumn). c.kind ≡ int64) (filter_map (named (table_of right.now)) right_on.now) }
-    ensures settles { Settles result (join_refusal (plain_request left.now right.now left_on.now right_on.now)) }
-    ensures answer { IfOk result (λ t. IsAnswer (plain_request left.now right.now left_on.now right_on.now) (table_of t) × IsTable (table_of t)) }
+    args: &JoinArgs,
+) -> PolarsResult<Vec<JoinPair>>
+    requires { IsBuilt (by_names (table_of left.now) (table_of right.now) left_on.now right_on.now args.now) }
+    ensures settles { Settles result (join_refusal (by_names (table_of left.now) (table_of right.now) left_on.now right_on.now args.now)) }
+    ensures listed { IfOk result (λ v. IsListed args.now.how args.now.maintain_order args.now.slice (listing (by_names (table_of left.now) (table_of right.now) left_on.now right_on.now args.now)) v.items) }
 {
-    let pairs = checked_pairs(alloc, left, right, left_on, right_on)?;
-    let left_rows = left_rows(alloc, &pairs)?;
-    let right_rows = right_rows(alloc, &pairs)?;
-    finish_join(alloc, left, right, right_on, &left_rows, &right_rows)
+    let (left_key, right_key) = checked_keys(alloc, left, right, left_on, right_on, args)?;
+    key_pairs(alloc, left_key, right_key, keeps_left(args.how))
+}
+
+// Whether a left row without a match is kept.
+fn keeps_left(how: JoinType) -> bool
+    ensures { result ≡ keeps_left how }
+{
+    match how {
+        JoinType::Left | JoinType::Full => true,
+        JoinType::Inner | JoinType::Right | JoinType::Semi | JoinType::Anti => false,
+    }
+}
+
+fn join_by_left(
+    alloc: Global,
+    left: &DataFrame,
+    right: &DataFrame,
+    left_on: &[PlSmallStr],
+    right_on: &[PlSmallStr],
+    args: &JoinArgs,
+) -> PolarsResult<DataFrame>
+    requires { IsBuilt (by_names (table_of left.now) (table_of right.now) left_on.now right_on.now args.now) }
+    ensures settles { Settles result (join_refusal (by_names (table_of left.now) (table_of right.now) left_on.now right_on.now args.now)) }
+    ensures answer { IfOk result (λ t. IsAnswer (by_names (table_of left.now) (table_of right.now) left_on.now right_on.now args.now) (table_of t) × IsTable (table_of t)) }
+{
+    let pairs = listed_pairs(alloc, left, right, left_on, right_on, args)?;
+    let gone = gone_right(args, right_on);
+    finish_join(alloc, left, right, gone, suffix_of(args), &pairs)
 }

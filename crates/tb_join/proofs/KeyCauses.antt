@@ -1,0 +1,209 @@
+-- The causes of a request of the built form, whose key columns are found.
+use Rattle.std.proofs.Common.{◌≡◌, ◌==◌, Bool, true, false, cond, not, ◌&&◌, ◌||◌, List, [], ◌∷◌, ◌++◌, length, map, refl, ap, sym, ◌∙◌, subst, arith, Option, Some, None, inl, inr, ◌⊎◌, unwrap_or}
+use Rattle.std.specs.Prelude.{All}
+use Rattle.std.specs.Option.{option_map}
+use Rattle.std.specs.List.{filter_map}
+use Rattle.std.proofs.lemmas.List.{map-append}
+use Rattle.std.proofs.lemmas.List.Elements.{All-head}
+use Rattle.tb_value.specs.Kind.{Kind}
+use Rattle.tb_value.specs.Kind as kind
+use Rattle.tb_value.specs.Names.{Name}
+use Rattle.tb_value.specs.Refusals.{first_cause, when}
+use Rattle.tb_value.specs.SameKind.{same_kind, is_key}
+use Rattle.tb_value.specs.declared.error.Side.TheVariants as side
+use Rattle.tb_value.specs.declared.error.PolarsError.{PolarsError}
+use Rattle.tb_value.specs.declared.error.PolarsError.TheVariants.{ColumnNotFound, Duplicate, ComputeError, InvalidOperation, OutOfMemory}
+use Rattle.tb_value.specs.declared.error.ComputeCause.TheVariants.{KeyTypes, Validation}
+use Rattle.tb_value.specs.declared.error.InvalidCause.TheVariants.{NoKeys, KeyCounts, KeyKind}
+use Rattle.tb_value.proofs.Loops.{map-map}
+use Rattle.tb_store.specs.Col.{Col}
+use Rattle.tb_frame.specs.declared.args.JoinArgs.{JoinArgs}
+use Rattle.tb_frame.specs.declared.args.JoinType.{JoinType}
+use Rattle.tb_frame.specs.declared.args.JoinType.TheVariants.{Inner, Left, Right, Full, Semi, Anti}
+use Rattle.tb_frame.specs.declared.args.JoinValidation.{JoinValidation}
+use Rattle.tb_frame.specs.declared.args.JoinValidation.TheVariants.{ManyToMany}
+use Rattle.tb_frame.specs.Answer.{gone_right}
+use Rattle.tb_frame.specs.Built.{IsBuilt, is_built_kind, is_built_key}
+use Rattle.tb_frame.specs.Table.{TableColumn, Table, plain, table_of, height, names_of}
+use Rattle.tb_frame.specs.Join.{Request, Out, by_names, named, coalesce, coalesces, keep_left, keep_right, left_out, right_out, right_name, without, joined_names, default_suffix}
+use Rattle.tb_frame.specs.Frame.{without_names}
+use Rattle.tb_frame.specs.Refusal.{first_unknown, first_repeated, no_keys, key_counts, repeated_key, key_types, key_kind, repeated_name, unknown_key, broken_side, too_many_rows, join_refusal, is_validated, asks_left, asks_right, has_twins}
+use Rattle.tb_frame.proofs.Frames.{without-table}
+use Rattle.tb_frame.proofs.Outs.{without_none}
+use Rattle.tb_join.specs.KeyRefusal.{key_refusal}
+use Rattle.tb_join.specs.RightColumns.{right_names}
+
+-- FIRST CAUSES
+
+-- the first of some causes, and then of others
+firsts : (xs ys : List (Option PolarsError)) → first_cause (xs ++ ys) ≡ first_cause (first_cause xs ∷ ys)
+firsts [] ys = refl
+firsts (None ∷ xs) ys = firsts xs ys
+firsts (Some e ∷ xs) ys = refl
+
+flatten : (a b c d : Option PolarsError) → first_cause (first_cause (a ∷ b ∷ []) ∷ None ∷ None ∷ None ∷ c ∷ None ∷ d ∷ []) ≡ first_cause (a ∷ b ∷ c ∷ d ∷ [])
+flatten (Some a) b c d = refl
+flatten None (Some b) c d = refl
+flatten None None (Some c) d = refl
+flatten None None None (Some d) = refl
+flatten None None None None = refl
+
+last_cause : (a : Option PolarsError) → first_cause (a ∷ []) ≡ a
+last_cause (Some a) = refl
+last_cause None = refl
+
+-- an error of the third or the fourth cause, where those before don't hold
+module _ (a b c d j : Option PolarsError) (e : PolarsError) (is : j ≡ first_cause (a ∷ b ∷ c ∷ d ∷ [])) (x : a ≡ None) (y : b ≡ None) where
+  pub by_third : (e ≡ OutOfMemory) ⊎ (c ≡ Some e) → (e ≡ OutOfMemory) ⊎ (j ≡ Some e)
+  by_third (inl h) = inl h
+  by_third (inr h) = inr (is ∙ (λ t. first_cause (x t ∷ y t ∷ h t ∷ d ∷ [])))
+
+  pub by_fourth : c ≡ None → (e ≡ OutOfMemory) ⊎ (d ≡ Some e) → (e ≡ OutOfMemory) ⊎ (j ≡ Some e)
+  by_fourth z (inl h) = inl h
+  by_fourth z (inr h) = inr (is ∙ (λ t. first_cause (x t ∷ y t ∷ z t ∷ h t ∷ [])))
+
+-- where none of the four holds
+pub by_none : (a b c d j : Option PolarsError) → j ≡ first_cause (a ∷ b ∷ c ∷ d ∷ []) → a ≡ None → b ≡ None → c ≡ None → d ≡ None → j ≡ None
+by_none a b c d j is x y z w = is ∙ (λ t. first_cause (x t ∷ y t ∷ z t ∷ w t ∷ []))
+
+-- KINDS AND ORDERS
+
+-- what is built of the left columns, and of the right ones
+pub keeps_all : (how : JoinType) (c : Bool) (keys : List Name) (t : Table) → is_built_kind how ≡ true → keep_left how c keys t ≡ t
+keeps_all Inner c keys t h = refl
+keeps_all Left c keys t h = refl
+keeps_all Right c keys t h = cc
+keeps_all Full c keys t h = cc
+keeps_all Semi c keys t h = cc
+keeps_all Anti c keys t h = cc
+
+pub keeps_right : (how : JoinType) (c : Bool) (keys : List Name) (t : Table) → is_built_kind how ≡ true → keep_right how c keys t ≡ without (gone_right how c keys) t
+keeps_right Inner true keys t h = refl
+keeps_right Inner false keys t h = sym (without_none t)
+keeps_right Left true keys t h = refl
+keeps_right Left false keys t h = sym (without_none t)
+keeps_right Right c keys t h = cc
+keeps_right Full c keys t h = cc
+keeps_right Semi c keys t h = cc
+keeps_right Anti c keys t h = cc
+
+pub built_is_key : (k : Kind) → is_built_key k ≡ true → is_key k ≡ true
+built_is_key kind.int64 h = refl
+built_is_key kind.string h = refl
+built_is_key _ h = cc
+
+-- a key is of whole numbers where it is not of texts
+pub int_key : (k : Kind) → is_built_key k ≡ true → same_kind k kind.string ≡ false → k ≡ kind.int64
+int_key kind.int64 h n = refl
+int_key kind.string h n = cc
+int_key _ h n = cc
+
+-- keys are of one type where both are of texts or neither is
+pub one_type : (k l : Kind) → is_built_key k ≡ true → is_built_key l ≡ true → (a b : Bool) → a ≡ same_kind k kind.string → b ≡ same_kind l kind.string → a ≡ b → same_kind k l ≡ true
+one_type kind.int64 kind.int64 h g a b x y e = refl
+one_type kind.string kind.string h g a b x y e = refl
+one_type kind.int64 kind.string h g a b x y e = absurd (let c : false ≡ true = sym x ∙ e ∙ y in cc)
+one_type kind.string kind.int64 h g a b x y e = absurd (let c : true ≡ false = sym x ∙ e ∙ y in cc)
+one_type _ _ h g a b x y e = absurd (cc)
+
+-- NAMES
+
+-- the suffix that args give, and the names of the right columns that go
+abbrev pub suffix_in : JoinArgs → Name
+suffix_in a = unwrap_or a.suffix default_suffix
+
+abbrev pub gone_in : JoinArgs → List Name → List Name
+gone_in a ro = gone_right a.how (coalesce a.coalesce a.how) ro
+
+abbrev pub asked_names : List Col → List Col → List Name → JoinArgs → List Name
+asked_names left right ro a = names_of (table_of left) ++ right_names (names_of (table_of left)) (suffix_in a) (gone_in a ro) right
+
+module _ (left right : List Col) (lo ro : List Name) (a : JoinArgs) (how : is_built_kind a.how ≡ true) where
+  -- the names that the answer would have
+  pub names-asked : joined_names (by_names (table_of left) (table_of right) lo ro a) ≡ asked_names left right ro a
+  names-asked =
+      let q = by_names (table_of left) (table_of right) lo ro a in
+      let name : Out → Name = λ o. o.name in
+      let names = names_of (table_of left) in
+      let gone = gone_in a ro in
+      let called : TableColumn → Name = λ c. right_name names a.suffix c.name in
+      let all = keeps_all a.how (coalesces q) lo (table_of left) how in
+      let some = keeps_right a.how (coalesces q) ro (table_of right) how in
+      ◌∙◌ {A = List Name} (λ t. map name (map left_out (all t) ++ map (right_out (names_of (all t)) a.suffix) (some t)))
+      (map-append name (map left_out (table_of left)) (map (right_out names a.suffix) (without gone (table_of right)))
+      ∙ (λ t. map-map name left_out (table_of left) t ++ (map-map name (right_out names a.suffix) (without gone (table_of right)) ∙ ap (map called) (sym (without-table gone right)) ∙ map-map called plain (without_names gone right)) t))
+
+-- CAUSES
+
+abbrev pub unknown : List Col → List Name → Option PolarsError
+unknown cs names = option_map (λ n. ColumnNotFound n) (first_unknown (table_of cs) names)
+
+abbrev pub mixed : Kind → Kind → Option PolarsError
+mixed k l = when (not (same_kind k l)) (ComputeError (KeyTypes 0))
+
+abbrev pub repeated : List Name → Option PolarsError
+repeated names = option_map (λ n. Duplicate n) (first_repeated names)
+
+-- one name alone is not repeated
+one_fresh : (names : List Name) → length names ≡ 1 → first_repeated names ≡ None
+one_fresh [] h = absurd (omega arith)
+one_fresh (n ∷ []) h = refl
+one_fresh (n ∷ m ∷ ns) h = absurd (omega arith)
+
+first_place : (b : Bool) → option_map (λ p. ComputeError (KeyTypes p)) (cond b (Some 0) None) ≡ when b (ComputeError (KeyTypes 0))
+first_place true = refl
+first_place false = refl
+
+-- the request with these key columns
+abbrev keyed : Request → List TableColumn → List TableColumn → Request
+keyed q lk rk = record q { left_keys = lk; right_keys = rk }
+
+module _ (left right : List Col) (lo ro : List Name) (a : JoinArgs) (built : IsBuilt (by_names (table_of left) (table_of right) lo ro a)) (k l : TableColumn) (is_k : filter_map (named (table_of left)) lo ≡ k ∷ []) (is_l : filter_map (named (table_of right)) ro ≡ l ∷ []) where
+  pub left_key : is_built_key k.kind ≡ true
+  left_key = All-head (λ (c : TableColumn). is_built_key c.kind ≡ true) k [] (subst (λ (ks : List TableColumn). All (λ (c : TableColumn). is_built_key c.kind ≡ true) ks) is_k built.left_kinds)
+
+  pub right_key : is_built_key l.kind ≡ true
+  right_key = All-head (λ (c : TableColumn). is_built_key c.kind ≡ true) l [] (subst (λ (ks : List TableColumn). All (λ (c : TableColumn). is_built_key c.kind ≡ true) ks) is_l built.right_kinds)
+
+  -- the causes that remain where each side has one key
+  pub key_causes : key_refusal (by_names (table_of left) (table_of right) lo ro a) ≡ first_cause (unknown left lo ∷ unknown right ro ∷ mixed k.kind l.kind ∷ repeated (asked_names left right ro a) ∷ [])
+  key_causes =
+      let q = by_names (table_of left) (table_of right) lo ro a in
+      let some : no_keys q ≡ None = λ t. when (built.one_left t == 0 || built.one_right t == 0) (InvalidOperation NoKeys) in
+      let counts : key_counts q ≡ None = λ t. when (not (built.one_left t == built.one_right t)) (InvalidOperation (KeyCounts (built.one_left t) (built.one_right t))) in
+      let fresh : repeated_key q ≡ None = λ t. first_cause (repeated_by (one_fresh lo built.one_left t) ∷ repeated_by (one_fresh ro built.one_right t) ∷ []) in
+      let types : key_types q ≡ mixed k.kind l.kind = ◌∙◌ {A = Option PolarsError} (λ t. key_types (keyed q (is_k t) (is_l t))) (first_place (not (same_kind k.kind l.kind))) in
+      let kinds : key_kind q ≡ None = ◌∙◌ {A = Option PolarsError} (λ t. key_kind (keyed q (is_k t) (is_l t))) (λ t. option_map (λ p. InvalidOperation (KeyKind p)) (cond (not (built_is_key k.kind left_key t)) (Some 0) None)) in
+      let names : repeated_name q ≡ repeated (asked_names left right ro a) = ap repeated (names-asked left right lo ro a built.how) in
+      ◌∙◌ {A = Option PolarsError} (λ t. first_cause (unknown_key q ∷ some t ∷ counts t ∷ fresh t ∷ types t ∷ kinds t ∷ names t ∷ []))
+      (flatten (unknown left lo) (unknown right ro) (mixed k.kind l.kind) (repeated (asked_names left right ro a)))
+    where
+      repeated_by : Option Name → Option PolarsError
+      repeated_by o = option_map (λ n. Duplicate n) o
+
+-- VALIDATION
+
+asks_none : (b t : Bool) → (b && false && t) ≡ false
+asks_none true t = refl
+asks_none false t = refl
+
+not_asked : (q : Request) → q.args.validation ≡ ManyToMany → broken_side q ≡ None
+not_asked q h =
+    let how = q.args.how in
+    let in_left = has_twins q q.left_keys (height q.left) in
+    let in_right = has_twins q q.right_keys (height q.right) in
+    ◌∙◌ {A = Option PolarsError} (λ t. first_cause (when (is_validated how && asks_left (h t) && in_left) (ComputeError (Validation side.Left)) ∷ when (is_validated how && asks_right (h t) && in_right) (ComputeError (Validation side.Right)) ∷ []))
+    (λ t. first_cause (when (asks_none (is_validated how) in_left t) (ComputeError (Validation side.Left)) ∷ when (asks_none (is_validated how) in_right t) (ComputeError (Validation side.Right)) ∷ []))
+
+module _ (q : Request) where
+  by_keys : join_refusal q ≡ first_cause (key_refusal q ∷ broken_side q ∷ too_many_rows q ∷ [])
+  by_keys = firsts (unknown_key q ∷ no_keys q ∷ key_counts q ∷ repeated_key q ∷ key_types q ∷ key_kind q ∷ repeated_name q ∷ []) (broken_side q ∷ too_many_rows q ∷ [])
+
+  -- what keys and names refuse is refused
+  pub refused_by_keys : (e : PolarsError) → (e ≡ OutOfMemory) ⊎ (key_refusal q ≡ Some e) → (e ≡ OutOfMemory) ⊎ (join_refusal q ≡ Some e)
+  refused_by_keys e (inl h) = inl h
+  refused_by_keys e (inr h) = inr (by_keys ∙ (λ t. first_cause (h t ∷ broken_side q ∷ too_many_rows q ∷ [])))
+
+  -- and else the number of pairs decides
+  pub pairs_decide : q.args.validation ≡ ManyToMany → key_refusal q ≡ None → too_many_rows q ≡ join_refusal q
+  pairs_decide v h = sym (by_keys ∙ (λ t. first_cause (h t ∷ not_asked q v t ∷ too_many_rows q ∷ [])) ∙ last_cause (too_many_rows q))
