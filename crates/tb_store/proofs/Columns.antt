@@ -1,22 +1,22 @@
 -- What columns made of others are.
-use Rattle.std.proofs.Common.{arith, ◌≡◌, ℕ, ◌<◌, ◌≤◌, List, [], ◌∷◌, length, map, get_or, ap, ◌∙◌, take, drop, length-take, length-drop}
+use Rattle.std.proofs.Common.{arith, ◌≡◌, ℕ, ◌≤◌, List, [], ◌∷◌, length, map, Option, ap, ◌∙◌, take, drop, length-take, length-drop}
 use Rattle.std.specs.List.{All}
 use Rattle.std.proofs.lemmas.List.{length-map, append-nil}
-use Rattle.tb_value.specs.Datum.{null}
 use Rattle.tb_value.specs.Typed.{HasType}
 use Rattle.tb_value.specs.declared.sorted.IsSorted.TheVariants.{Not}
 use Rattle.tb_store.specs.Col.{Col, IsColumn, flat, values}
+use Rattle.tb_store.specs.Rows.{IsRowOf, value_or_null}
 use Rattle.tb_store.proofs.Flags.{flag_part}
 use Rattle.tb_store.proofs.Lists.{All-picked}
 use Rattle.std.proofs.lemmas.List.Elements.{All-take, All-drop}
 
-pub picked_column : (c d : Col) (rows : List ℕ) → IsColumn c → All (λ r. r < length (values c)) rows → length rows ≤ 4294967294 → d.kind ≡ c.kind → d.chunks ≡ map (λ r. get_or (values c) r null) rows ∷ [] → d.flag ≡ Not → IsColumn d
-picked_column c d rows column within few same_kind picked not =
-    let all : values d ≡ map (λ r. get_or (values c) r null) rows = ap flat picked ∙ append-nil (map (λ r. get_or (values c) r null) rows) in
+pub picked_column : {R : Type 0} (c d : Col) (number : R → Option ℕ) (rows : List R) → IsColumn c → All (λ r. IsRowOf (length (values c)) (number r)) rows → length rows ≤ 4294967294 → d.kind ≡ c.kind → d.chunks ≡ map (λ r. value_or_null (values c) (number r)) rows ∷ [] → d.flag ≡ Not → IsColumn d
+picked_column c d number rows column within few same_kind picked not =
+    let all : values d ≡ map (λ r. value_or_null (values c) (number r)) rows = ap flat picked ∙ append-nil (map (λ r. value_or_null (values c) (number r)) rows) in
     record {
       chunked = omega (arith, ap length picked);
-      short = omega (arith, ap length all, length-map rows (λ r. get_or (values c) r null));
-      typed = rw (same_kind, all) (All-picked (HasType c.kind) (values c) rows column.typed within);
+      short = omega (arith, ap length all, length-map rows (λ r. value_or_null (values c) (number r)));
+      typed = rw (same_kind, all) (All-picked (HasType c.kind) (values c) number rows tt column.typed within);
       flag_holds = rw not tt;
     }
 

@@ -1,8 +1,9 @@
 -- Facts on lists.
-use Rattle.std.proofs.Common.{arith, ◌≡◌, ℕ, ◌<◌, ◌+◌, suc, refl, List, [], ◌∷◌, ◌++◌, length, map, get_or, drop, replicate, subst, sym, ◌∙◌, ap, add-one, drop-cons}
+use Rattle.std.proofs.Common.{arith, ◌≡◌, ℕ, ◌<◌, ◌+◌, suc, refl, List, [], ◌∷◌, ◌++◌, length, map, get_or, drop, replicate, Option, Some, None, subst, sym, ◌∙◌, ap, add-one, drop-cons}
 use Rattle.std.specs.List.{All, flat_map}
 use Rattle.tb_value.specs.Datum.{Datum, null}
 use Rattle.tb_store.specs.Col.{flat}
+use Rattle.tb_store.specs.Rows.{IsRowOf, value_or_null}
 use Rattle.std.proofs.lemmas.List.{length-map, append-nil}
 use Rattle.std.proofs.Math.ListN.{get_or-map}
 use Rattle.std.proofs.lemmas.List.Elements.{All-get_or, All-head, All-tail, All-map}
@@ -36,6 +37,10 @@ flat_one f [] x n e = absurd (cc)
 flat_one f (y ∷ []) x n e = append-nil (f y) ∙ ap f (sym e)
 flat_one f (y ∷ (z ∷ zs)) x n e = absurd (omega arith)
 
--- what holds of each value holds of each that is picked
-pub All-picked : (P : Datum → Type 0) (xs : List Datum) (rows : List ℕ) → All P xs → All (λ r. r < length xs) rows → All P (map (λ r. get_or xs r null) rows)
-All-picked P xs rows all within = All-map P (λ r. get_or xs r null) rows (λ k d h. all (get_or rows k d) null (within k d h))
+-- what holds of Null and of each value holds of the value of a row, and of those of many
+value_of_row : (P : Datum → Type 0) (xs : List Datum) (row : Option ℕ) → P null → All P xs → IsRowOf (length xs) row → P (value_or_null xs row)
+value_of_row P xs None none all within = none
+value_of_row P xs (Some i) none all within = all i null within
+
+pub All-picked : {R : Type 0} (P : Datum → Type 0) (xs : List Datum) (number : R → Option ℕ) (rows : List R) → P null → All P xs → All (λ r. IsRowOf (length xs) (number r)) rows → All P (map (λ r. value_or_null xs (number r)) rows)
+All-picked P xs number rows none all within = All-map P (λ r. value_or_null xs (number r)) rows (λ k d h. value_of_row P xs (number (get_or rows k d)) none all (within k d h))

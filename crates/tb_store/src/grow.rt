@@ -21,6 +21,11 @@ pub trait Grow: Chunk {
         requires room { length (Self.shown self.old) < 2 ^ 63 }
         requires row { row < length (Self.shown other.now) }
         ensures { OnOk result (Self.shown self.new ≡ Self.shown self.old ++ get_or (Self.shown other.now) row null ∷ []) };
+
+    /// Appends a Null.
+    fn push_null(&mut self) -> Result<(), OutOfMemory>
+        requires { length (Self.shown self.old) < 2 ^ 63 }
+        ensures { OnOk result (Self.shown self.new ≡ Self.shown self.old ++ null ∷ []) };
 }
 
 impl<N: Cell> Grow for Cells<N> {
@@ -40,6 +45,11 @@ impl<N: Cell> Grow for Cells<N> {
         self.cells.push(cell)?;
         Ok(())
     }
+
+    fn push_null(&mut self) -> Result<(), OutOfMemory> {
+        self.cells.push(None)?;
+        Ok(())
+    }
 }
 
 impl Grow for StringChunk {
@@ -57,6 +67,10 @@ impl Grow for StringChunk {
     ) -> Result<(), OutOfMemory> {
         self.inner.push_from(alloc, &other.inner, row)
     }
+
+    fn push_null(&mut self) -> Result<(), OutOfMemory> {
+        self.inner.push_null()
+    }
 }
 
 impl Grow for usize {
@@ -65,6 +79,11 @@ impl Grow for usize {
     }
 
     fn push_from(&mut self, alloc: Global, other: &usize, row: usize) -> Result<(), OutOfMemory> {
+        *self += 1;
+        Ok(())
+    }
+
+    fn push_null(&mut self) -> Result<(), OutOfMemory> {
         *self += 1;
         Ok(())
     }

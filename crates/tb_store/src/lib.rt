@@ -10,6 +10,8 @@ mod grow;
 mod make;
 mod marker;
 mod pick;
+mod pick_opt;
+mod row_number;
 mod series;
 #[cfg(test)]
 mod tests;

@@ -4,34 +4,39 @@ ghost use Rattle.std.specs.List.{All};
 ghost use Rattle.tb_value.specs.Datum.{null};
 ghost use Rattle.tb_value.specs.declared.sorted.IsSorted.TheVariants.{Not};
 ghost use Rattle.tb_store.specs.Col.{flat, values};
+ghost use Rattle.tb_store.specs.Rows.{IsRowOf, value_or_null};
 ghost use Rattle.tb_store.specs.Seen.{chunk_lists, storage};
 
 use crate::chunks::{Chunks, rows_in};
 use crate::column::Column;
 use crate::grow::{Grow, join_rows};
+use crate::row_number::RowNumber;
 use crate::series::Series;
 use std::alloc::Global;
 use tb_value::{IdxSize, IsSorted, OutOfMemory};
 
 // The values of these rows of a chunk.
-fn pick_rows<C: Grow>(alloc: Global, chunk: &C, rows: &[IdxSize]) -> Result<C, OutOfMemory>
-    requires rows { All (λ r. r < length (C.shown chunk.now)) rows.now }
+fn pick_rows<C: Grow, R: RowNumber>(alloc: Global, chunk: &C, rows: &[R]) -> Result<C, OutOfMemory>
+    requires rows { All (λ r. IsRowOf (length (C.shown chunk.now)) (R.number r)) rows.now }
     requires few { length rows.now < 2 ^ 32 }
-    ensures { IfOk result (λ c. C.shown c ≡ map (λ r. slice_index_or (C.shown chunk.now) r null) rows.now) }
+    ensures { IfOk result (λ c. C.shown c ≡ map (λ r. value_or_null (C.shown chunk.now) (R.number r)) rows.now) }
 {
     let mut out = C::empty(alloc);
     for row in rows {
-        out.push_from(alloc, chunk, *row as usize)?;
+        match row.number() {
+            Some(row) => out.push_from(alloc, chunk, row as usize)?,
+            None => out.push_null()?,
+        }
     }
     Ok(out)
 }
 
 // The values of these rows of all chunks. One chunk is picked from as it is, and more are joined first.
-fn pick<C: Grow>(alloc: Global, chunks: &[C], rows: &[IdxSize]) -> Result<C, OutOfMemory>
-    requires rows { All (λ r. r < length (flat (map C.shown chunks.now))) rows.now }
+fn pick<C: Grow, R: RowNumber>(alloc: Global, chunks: &[C], rows: &[R]) -> Result<C, OutOfMemory>
+    requires rows { All (λ r. IsRowOf (length (flat (map C.shown chunks.now))) (R.number r)) rows.now }
     requires few { length rows.now < 2 ^ 32 }
     requires short { length (flat (map C.shown chunks.now)) < 2 ^ 32 }
-    ensures { IfOk result (λ c. C.shown c ≡ map (λ r. slice_index_or (flat (map C.shown chunks.now)) r null) rows.now) }
+    ensures { IfOk result (λ c. C.shown c ≡ map (λ r. value_or_null (flat (map C.shown chunks.now)) (R.number r)) rows.now) }
 {
     if chunks.len() == 1 {
         return pick_rows(alloc, &chunks[0], rows);
@@ -41,11 +46,15 @@ fn pick<C: Grow>(alloc: Global, chunks: &[C], rows: &[IdxSize]) -> Result<C, Out
 }
 
 // The values of these rows, as the only chunk.
-fn pick_one<C: Grow>(alloc: Global, chunks: &[C], rows: &[IdxSize]) -> Result<Vec<C>, OutOfMemory>
-    requires rows { All (λ r. r < length (flat (map C.shown chunks.now))) rows.now }
+fn pick_one<C: Grow, R: RowNumber>(
+    alloc: Global,
+    chunks: &[C],
+    rows: &[R],
+) -> Result<Vec<C>, OutOfMemory>
+    requires rows { All (λ r. IsRowOf (length (flat (map C.shown chunks.now))) (R.number r)) rows.now }
     requires few { length rows.now < 2 ^ 32 }
     requires short { length (flat (map C.shown chunks.now)) < 2 ^ 32 }
-    ensures { IfOk result (λ v. map C.shown v.items ≡ map (λ r. slice_index_or (flat (map C.shown chunks.now)) r null) rows.now ∷ []) }
+    ensures { IfOk result (λ v. map C.shown v.items ≡ map (λ r. value_or_null (flat (map C.shown chunks.now)) (R.number r)) rows.now ∷ []) }
 {
     let chunk = pick(alloc, chunks, rows)?;
     let mut one = Vec::new(alloc);
@@ -56,11 +65,11 @@ fn pick_one<C: Grow>(alloc: Global, chunks: &[C], rows: &[IdxSize]) -> Result<Ve
 impl Chunks {
     /// The values of these rows, in one chunk. It takes steps in the number of rows, and where there
     /// are more chunks than one, in the number of values too.
-    pub fn picked(&self, alloc: Global, rows: &[IdxSize]) -> Result<Chunks, OutOfMemory>
-        requires rows { All (λ r. r < length (flat (chunk_lists self.now))) rows.now }
+    pub fn picked<R: RowNumber>(&self, alloc: Global, rows: &[R]) -> Result<Chunks, OutOfMemory>
+        requires rows { All (λ r. IsRowOf (length (flat (chunk_lists self.now))) (R.number r)) rows.now }
         requires few { length rows.now < 2 ^ 32 }
         requires short { length (flat (chunk_lists self.now)) < 2 ^ 32 }
-        ensures lists { IfOk result (λ c. chunk_lists c ≡ map (λ r. slice_index_or (flat (chunk_lists self.now)) r null) rows.now ∷ []) }
+        ensures lists { IfOk result (λ c. chunk_lists c ≡ map (λ r. value_or_null (flat (chunk_lists self.now)) (R.number r)) rows.now ∷ []) }
         ensures storage { IfOk result (λ c. storage c ≡ storage self.now) }
     {
         match self {

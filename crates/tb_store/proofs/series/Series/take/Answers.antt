@@ -1,11 +1,11 @@
-use Rattle.std.proofs.Common.{◌∙◌, ap, refl, map, get_or, ◌∷◌, []}
-use Rattle.tb_value.specs.Datum.{null}
+use Rattle.std.proofs.Common.{◌∙◌, ap, refl, map, ◌∷◌, [], Some}
 use Rattle.tb_store.specs.Col.{flat}
+use Rattle.tb_store.specs.Rows.{value_or_null}
 use Rattle.tb_store.proofs.Columns.{picked_column}
 use Rattle.tb_store.proofs.series.Series.take.Goals as goal
 
 pub from_parts-requires-clause-column : goal.from_parts-requires-clause-column
 from_parts-requires-clause-column c =
-    picked_column c.args.self.now _ c.args.rows.now c.len-len.ensures.column c.requires.rows c.requires.few (c.in_ok-dtype.ensures ∙ c.dtype.ensures)
-    (c.in_ok-chunks.ensures.lists ∙ ap (λ cs. map (λ r. get_or (flat cs) r null) c.args.rows.now ∷ []) c.chunks.ensures.lists)
+    picked_column c.args.self.now _ Some c.args.rows.now c.len-len.ensures.column c.requires.rows c.requires.few (c.in_ok-dtype.ensures ∙ c.dtype.ensures)
+    (c.in_ok-chunks.ensures.lists ∙ ap (λ cs. map (λ r. value_or_null (flat cs) (Some r)) c.args.rows.now ∷ []) c.chunks.ensures.lists)
     refl

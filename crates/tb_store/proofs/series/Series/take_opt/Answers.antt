@@ -1,0 +1,11 @@
+use Rattle.std.proofs.Common.{◌∙◌, ap, refl, map, ◌∷◌, []}
+use Rattle.tb_store.specs.Col.{flat}
+use Rattle.tb_store.specs.Rows.{value_or_null}
+use Rattle.tb_store.proofs.Columns.{picked_column}
+use Rattle.tb_store.proofs.series.Series.take_opt.Goals as goal
+
+pub from_parts-requires-clause-column : goal.from_parts-requires-clause-column
+from_parts-requires-clause-column c =
+    picked_column c.args.self.now _ (λ row. row) c.args.rows.now c.len-len.ensures.column c.requires.rows c.requires.few (c.in_ok-dtype.ensures ∙ c.dtype.ensures)
+    (c.in_ok-chunks.ensures.lists ∙ ap (λ cs. map (value_or_null (flat cs)) c.args.rows.now ∷ []) c.chunks.ensures.lists)
+    refl
