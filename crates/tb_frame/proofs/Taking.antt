@@ -1,13 +1,14 @@
 -- Rows that are taken from the columns of a table.
-use Rattle.std.proofs.Common.{◌≡◌, ℕ, ◌<◌, List, [], ◌∷◌, length, get_or, map, refl, ap, sym, ◌∙◌, subst, append-nil, arith}
+use Rattle.std.proofs.Common.{◌≡◌, ℕ, ◌<◌, List, [], ◌∷◌, length, get_or, map, refl, ap, sym, ◌∙◌, subst, append-nil, arith, Option}
 use Rattle.std.specs.Prelude.{All, AllPairs, ◌≢◌}
 use Rattle.std.proofs.lemmas.List.{length-map, get_or-map}
 use Rattle.std.proofs.lemmas.List.Elements.{All-nil, All-cons, All-head, All-tail, All-weaker}
 use Rattle.tb_value.specs.Datum.{Datum, null}
 use Rattle.tb_value.specs.Names.{Name}
 use Rattle.tb_store.specs.Col.{Col, values}
+use Rattle.tb_store.specs.Rows.{IsRowOf, value_or_null}
 use Rattle.tb_frame.specs.Table.{TableColumn, plain, table_of, height, names_of, IsTable}
-use Rattle.tb_frame.specs.Frame.{taken}
+use Rattle.tb_frame.specs.Frame.{taken, opt_taken}
 use Rattle.tb_frame.proofs.Frames.{level_height}
 
 pub all_plain : (P : TableColumn → Type 0) (cs : List Col) → All P (table_of cs) → All (λ (c : Col). P (plain c)) cs
@@ -59,6 +60,28 @@ level-taken rows cs = level-made (taken rows) (λ c. refl) (length rows) cs (len
 
 pub IsTable-taken : (rows : List ℕ) (cs : List Col) → IsTable (table_of cs) → IsTable (table_of (map (taken rows) cs))
 IsTable-taken rows cs t = IsTable-made (taken rows) (λ c. refl) (length rows) cs (lengths-taken rows cs) t
+
+-- the same where rows may be absent
+pub rows_or_none : (cs : List Col) (rows : List (Option ℕ)) → IsTable (table_of cs) → All (IsRowOf (height (table_of cs))) rows → All (λ (c : Col). All (IsRowOf (length (values c))) rows) cs
+rows_or_none cs rows t within = of_each_length (λ n. All (IsRowOf n) rows) cs t within
+
+pub values-opt_taken : (rows : List (Option ℕ)) (c : Col) → values (opt_taken rows c) ≡ map (value_or_null (values c)) rows
+values-opt_taken rows c = append-nil (map (value_or_null (values c)) rows)
+
+length-opt_taken : (rows : List (Option ℕ)) (c : Col) → length (values (opt_taken rows c)) ≡ length rows
+length-opt_taken rows c = ap (λ (vs : List Datum). length vs) (values-opt_taken rows c) ∙ length-map rows (value_or_null (values c))
+
+lengths-opt_taken : (rows : List (Option ℕ)) (cs : List Col) → All (λ (c : Col). length (values (opt_taken rows c)) ≡ length rows) cs
+lengths-opt_taken rows cs = λ k d low. length-opt_taken rows (get_or cs k d)
+
+pub names-opt_taken : (rows : List (Option ℕ)) (cs : List Col) → names_of (table_of (map (opt_taken rows) cs)) ≡ names_of (table_of cs)
+names-opt_taken rows cs = names-made (opt_taken rows) (λ c. refl) cs
+
+pub level-opt_taken : (rows : List (Option ℕ)) (cs : List Col) → All (λ (c : TableColumn). length c.values ≡ length rows) (table_of (map (opt_taken rows) cs))
+level-opt_taken rows cs = level-made (opt_taken rows) (λ c. refl) (length rows) cs (lengths-opt_taken rows cs)
+
+pub IsTable-opt_taken : (rows : List (Option ℕ)) (cs : List Col) → IsTable (table_of cs) → IsTable (table_of (map (opt_taken rows) cs))
+IsTable-opt_taken rows cs t = IsTable-made (opt_taken rows) (λ c. refl) (length rows) cs (lengths-opt_taken rows cs) t
 
 -- NAMES OF COLUMNS
 

@@ -9,6 +9,7 @@ use Rattle.tb_value.specs.declared.error.PolarsError.{PolarsError}
 use Rattle.tb_value.specs.declared.error.PolarsError.TheVariants.{ColumnNotFound, Duplicate, ShapeMismatch}
 use Rattle.tb_value.specs.declared.sorted.IsSorted.TheVariants.{Not}
 use Rattle.tb_store.specs.Col.{Col, values}
+use Rattle.tb_store.specs.Rows.{value_or_null}
 use Rattle.tb_frame.specs.Table.{TableColumn, Table, height, names_of}
 use Rattle.tb_frame.specs.Join.{is_among}
 use Rattle.tb_frame.specs.Refusal.{first_repeated, first_unknown}
@@ -36,3 +37,7 @@ without_names names cs = filter (λ (c : Col). not (is_among names c.name)) cs
 -- these rows of a column in this order, in one chunk
 abbrev pub taken : List ℕ → Col → Col
 taken rows c = record c { chunks = map (λ r. slice_index_or (values c) r null) rows ∷ []; flag = Not }
+
+-- the same, with Null where there is no row
+abbrev pub opt_taken : List (Option ℕ) → Col → Col
+opt_taken rows c = record c { chunks = map (value_or_null (values c)) rows ∷ []; flag = Not }

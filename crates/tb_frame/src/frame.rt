@@ -6,17 +6,18 @@ ghost use Rattle.tb_value.specs.Names.{Name, same_name};
 ghost use Rattle.tb_value.specs.Refusals.{Settles, when};
 ghost use Rattle.tb_value.specs.declared.error.PolarsError.TheVariants.{ColumnNotFound, Duplicate, ShapeMismatch};
 ghost use Rattle.tb_store.specs.Col.{Col, values};
+ghost use Rattle.tb_store.specs.Rows.{IsRowOf};
 ghost use Rattle.tb_frame.specs.Table.{table_of, height, names_of, IsTable};
 ghost use Rattle.tb_frame.specs.Refusal.{first_repeated, first_unknown};
 ghost use Rattle.tb_frame.specs.Join.{is_among};
 ghost use Rattle.tb_frame.specs.NameSets.{has_name};
-ghost use Rattle.tb_frame.specs.Frame.{are_level, frame_refusal, select_refusal, selected, taken, without_names};
+ghost use Rattle.tb_frame.specs.Frame.{are_level, frame_refusal, opt_taken, select_refusal, selected, taken, without_names};
 
 use crate::names::{NameSet, check_distinct, name_set};
 use std::alloc::Global;
 use std::marker::Model;
 use tb_store::Column;
-use tb_value::{IdxSize, OutOfMemory, PlSmallStr, PolarsError, PolarsResult};
+use tb_value::{IdxSize, NullableIdxSize, OutOfMemory, PlSmallStr, PolarsError, PolarsResult};
 
 /// A table: columns of distinct names and one height.
 #[derive(Drop)]
@@ -217,6 +218,21 @@ impl DataFrame {
         })
     }
 
+    /// These rows in this order, each column in one chunk. An absent row gives Null in each column.
+    pub fn take_opt(
+        &self,
+        alloc: Global,
+        rows: &[NullableIdxSize],
+    ) -> Result<DataFrame, OutOfMemory>
+        requires rows { All (IsRowOf (height (table_of self.now))) rows.now }
+        requires few { length rows.now ≤ 4294967294 }
+        ensures { IfOk result (λ t. t ≡ map (opt_taken rows.now) self.now) }
+    {
+        Ok(DataFrame {
+            columns: take_opt_columns(alloc, &self.columns, rows)?,
+        })
+    }
+
     /// An equal table.
     pub fn copy(&self, alloc: Global) -> Result<DataFrame, OutOfMemory>
         ensures { IfOk result (λ t. t ≡ self.now) }
@@ -301,6 +317,23 @@ pub fn take_columns(
     let mut taken = Vec::with_capacity(alloc, columns.len())?;
     for column in columns {
         taken.push(column.take(alloc, rows)?)?;
+    }
+    Ok(taken)
+}
+
+/// These rows of each column in this order, each in one chunk. An absent row gives Null.
+pub fn take_opt_columns(
+    alloc: Global,
+    columns: &[Column],
+    rows: &[NullableIdxSize],
+) -> Result<Vec<Column>, OutOfMemory>
+    requires rows { All (λ (c : Col). All (IsRowOf (length (values c))) rows.now) columns.now }
+    requires few { length rows.now ≤ 4294967294 }
+    ensures { IfOk result (λ v. v.items ≡ map (opt_taken rows.now) columns.now) }
+{
+    let mut taken = Vec::with_capacity(alloc, columns.len())?;
+    for column in columns {
+        taken.push(column.take_opt(alloc, rows)?)?;
     }
     Ok(taken)
 }

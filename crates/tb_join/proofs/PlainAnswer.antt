@@ -14,7 +14,8 @@ use Rattle.tb_store.specs.Col.{Col, values}
 use Rattle.tb_frame.specs.Table.{TableColumn, Table, plain, table_of, height, names_of, IsTable}
 use Rattle.tb_frame.specs.Join.{named, value_at, left_out, right_out, listing, matches, IsAnswer}
 use Rattle.tb_frame.specs.Frame.{taken, without_names}
-use Rattle.tb_frame.specs.Answer.{fill, IsRowOf, IsPairOf, IsListed}
+use Rattle.tb_store.specs.Rows.{IsRowOf}
+use Rattle.tb_frame.specs.Answer.{fill, IsPairOf, IsListed}
 use Rattle.tb_frame.specs.Refusal.{first_repeated, join_refusal}
 use Rattle.tb_frame.proofs.Assembled.{made_columns, makes_table, makes_answer}
 use Rattle.tb_frame.proofs.Validity.{some_left, some_right, names_apart, fresh_names}
