@@ -74,12 +74,16 @@ list_all-true : {X : Type 0} (p : X → Bool) (xs : List X) → All (λ x. p x �
 list_all-true p [] h = refl
 list_all-true p (x ∷ xs) h = (λ t. All-head (λ y. p y ≡ true) x xs h t && list_all-true p xs (All-tail (λ y. p y ≡ true) x xs h) t)
 
--- columns of one length and distinct names are not refused
-pub no_refusal : (t : Table) (n : ℕ) → All (λ (c : TableColumn). length c.values ≡ n) t → first_repeated (names_of t) ≡ None → frame_refusal t ≡ None
-no_refusal t n level fresh =
+-- columns of one length are refused as their names are
+pub level_refusal : (t : Table) (n : ℕ) → All (λ (c : TableColumn). length c.values ≡ n) t → (names : List Name) → names_of t ≡ names → frame_refusal t ≡ first_cause (option_map (λ n. Duplicate n) (first_repeated names) ∷ [])
+level_refusal t n level names are =
     let h : are_level t ≡ true =
     list_all-true (λ (c : TableColumn). length c.values == height t) t
     (All-weaker (λ (c : TableColumn). length c.values ≡ height t) (λ (c : TableColumn). (length c.values == height t) ≡ true) (λ c e. eq-eqb (length c.values) (height t) e) t (level_height n t level))
     in
     ap (λ (b : Bool). first_cause (when (not b) ShapeMismatch ∷ option_map (λ n. Duplicate n) (first_repeated (names_of t)) ∷ [])) h
-    ∙ ap (λ (o : Option Name). first_cause (option_map (λ n. Duplicate n) o ∷ [])) fresh
+    ∙ ap (λ (ns : List Name). first_cause (option_map (λ n. Duplicate n) (first_repeated ns) ∷ [])) are
+
+-- columns of one length and distinct names are not refused
+pub no_refusal : (t : Table) (n : ℕ) → All (λ (c : TableColumn). length c.values ≡ n) t → first_repeated (names_of t) ≡ None → frame_refusal t ≡ None
+no_refusal t n level fresh = level_refusal t n level (names_of t) refl ∙ ap (λ (o : Option Name). first_cause (option_map (λ n. Duplicate n) o ∷ [])) fresh

@@ -6,13 +6,14 @@ use Rattle.std.proofs.lemmas.List.Elements.{All-nil, All-cons, All-head, All-tai
 use Rattle.std.proofs.lemmas.List.FromFn.{length-range_with_len, get_or-range_with_len}
 use Rattle.std.proofs.lemmas.List.Sorted.{All-permutation}
 use Rattle.tb_value.specs.declared.index.JoinPair.{JoinPair}
+use Rattle.tb_store.specs.Rows.{IsRowOf}
 use Rattle.tb_frame.specs.declared.args.JoinType.{JoinType}
 use Rattle.tb_frame.specs.declared.args.JoinType.TheVariants.{Inner, Left, Right, Full, Semi, Anti}
 use Rattle.tb_frame.specs.declared.args.MaintainOrderJoin.{MaintainOrderJoin}
 use Rattle.tb_frame.specs.Table.{TableColumn, Table, height, IsTable}
 use Rattle.tb_value.specs.Pairs.{row_numbers, both, left_only, right_only, matched, left_met, left_unmet, right_unmet}
 use Rattle.tb_frame.specs.Join.{listing_of, in_slice, cut}
-use Rattle.tb_frame.specs.Answer.{IsRowOf, IsPairOf, IsListed, AreLeftRows, AreRightRows}
+use Rattle.tb_frame.specs.Answer.{IsPairOf, IsListed, AreLeftRows, AreRightRows}
 
 pub rows_below : (n : ℕ) → All (λ i. i < n) (row_numbers n)
 rows_below n = λ k d low.

@@ -1,43 +1,87 @@
 -- Rows that are taken from the columns of a table.
-use Rattle.std.proofs.Common.{◌≡◌, ℕ, ◌<◌, List, [], ◌∷◌, length, get_or, map, refl, ap, sym, ◌∙◌, subst, append-nil, arith}
+use Rattle.std.proofs.Common.{◌≡◌, ℕ, ◌<◌, List, [], ◌∷◌, length, get_or, map, refl, ap, sym, ◌∙◌, subst, append-nil, arith, Option}
 use Rattle.std.specs.Prelude.{All, AllPairs, ◌≢◌}
 use Rattle.std.proofs.lemmas.List.{length-map, get_or-map}
 use Rattle.std.proofs.lemmas.List.Elements.{All-nil, All-cons, All-head, All-tail, All-weaker}
 use Rattle.tb_value.specs.Datum.{Datum, null}
 use Rattle.tb_value.specs.Names.{Name}
 use Rattle.tb_store.specs.Col.{Col, values}
+use Rattle.tb_store.specs.Rows.{IsRowOf, value_or_null}
 use Rattle.tb_frame.specs.Table.{TableColumn, plain, table_of, height, names_of, IsTable}
-use Rattle.tb_frame.specs.Frame.{taken}
+use Rattle.tb_frame.specs.Frame.{taken, opt_taken}
 use Rattle.tb_frame.proofs.Frames.{level_height}
 
 pub all_plain : (P : TableColumn → Type 0) (cs : List Col) → All P (table_of cs) → All (λ (c : Col). P (plain c)) cs
 all_plain P [] h = All-nil (λ (c : Col). P (plain c))
 all_plain P (c ∷ cs) h = All-cons (λ (c : Col). P (plain c)) c cs (All-head P (plain c) (table_of cs) h) (all_plain P cs (All-tail P (plain c) (table_of cs) h))
 
+-- what holds of the height of the table holds of each column's length
+pub of_each_length : (P : ℕ → Type 0) (cs : List Col) → IsTable (table_of cs) → P (height (table_of cs)) → All (λ (c : Col). P (length (values c))) cs
+of_each_length P cs t h =
+    All-weaker (λ (c : Col). length (values c) ≡ height (table_of cs)) (λ (c : Col). P (length (values c))) (λ c e. subst P (sym e) h) cs
+    (all_plain (λ (c : TableColumn). length c.values ≡ height (table_of cs)) cs t.one_height)
+
 -- each row of the table is one of each column
 pub rows_in_columns : (cs : List Col) (rows : List ℕ) → IsTable (table_of cs) → All (λ r. r < height (table_of cs)) rows → All (λ (c : Col). All (λ r. r < length (values c)) rows) cs
-rows_in_columns cs rows t within =
-    All-weaker (λ (c : Col). length (values c) ≡ height (table_of cs)) (λ (c : Col). All (λ r. r < length (values c)) rows) (λ c e. subst (λ (n : ℕ). All (λ r. r < n) rows) (sym e) within) cs
-    (all_plain (λ (c : TableColumn). length c.values ≡ height (table_of cs)) cs t.one_height)
+rows_in_columns cs rows t within = of_each_length (λ n. All (λ r. r < n) rows) cs t within
+
+-- each column made into one of its name
+module _ (f : Col → Col) (same : (c : Col) → (f c).name ≡ c.name) where
+  pub names-made : (cs : List Col) → names_of (table_of (map f cs)) ≡ names_of (table_of cs)
+  names-made [] = refl
+  names-made (c ∷ cs) = λ t. same c t ∷ names-made cs t
+
+  pub level-made : (n : ℕ) (cs : List Col) → All (λ (c : Col). length (values (f c)) ≡ n) cs → All (λ (c : TableColumn). length c.values ≡ n) (table_of (map f cs))
+  level-made n [] h = All-nil (λ (c : TableColumn). length c.values ≡ n)
+  level-made n (c ∷ cs) h =
+      All-cons (λ (k : TableColumn). length k.values ≡ n) (plain (f c)) (table_of (map f cs)) (All-head (λ (k : Col). length (values (f k)) ≡ n) c cs h)
+      (level-made n cs (All-tail (λ (k : Col). length (values (f k)) ≡ n) c cs h))
+
+  pub IsTable-made : (n : ℕ) (cs : List Col) → All (λ (c : Col). length (values (f c)) ≡ n) cs → IsTable (table_of cs) → IsTable (table_of (map f cs))
+  IsTable-made n cs h t = record {
+    distinct = subst (λ (ns : List Name). AllPairs (λ (a b : Name). a ≢ b) ns) (sym (names-made cs)) t.distinct;
+    one_height = level_height n (table_of (map f cs)) (level-made n cs h);
+  }
 
 pub values-taken : (rows : List ℕ) (c : Col) → values (taken rows c) ≡ map (λ r. get_or (values c) r null) rows
 values-taken rows c = append-nil (map (λ r. get_or (values c) r null) rows)
 
+length-taken : (rows : List ℕ) (c : Col) → length (values (taken rows c)) ≡ length rows
+length-taken rows c = ap (λ (vs : List Datum). length vs) (values-taken rows c) ∙ length-map rows (λ r. get_or (values c) r null)
+
+lengths-taken : (rows : List ℕ) (cs : List Col) → All (λ (c : Col). length (values (taken rows c)) ≡ length rows) cs
+lengths-taken rows cs = λ k d low. length-taken rows (get_or cs k d)
+
 pub names-taken : (rows : List ℕ) (cs : List Col) → names_of (table_of (map (taken rows) cs)) ≡ names_of (table_of cs)
-names-taken rows [] = refl
-names-taken rows (c ∷ cs) = ap (λ (ns : List Name). c.name ∷ ns) (names-taken rows cs)
+names-taken rows cs = names-made (taken rows) (λ c. refl) cs
 
 pub level-taken : (rows : List ℕ) (cs : List Col) → All (λ (c : TableColumn). length c.values ≡ length rows) (table_of (map (taken rows) cs))
-level-taken rows [] = All-nil (λ (c : TableColumn). length c.values ≡ length rows)
-level-taken rows (c ∷ cs) =
-    All-cons (λ (c : TableColumn). length c.values ≡ length rows) (plain (taken rows c)) (table_of (map (taken rows) cs))
-    (ap (λ (vs : List Datum). length vs) (values-taken rows c) ∙ length-map rows (λ r. get_or (values c) r null)) (level-taken rows cs)
+level-taken rows cs = level-made (taken rows) (λ c. refl) (length rows) cs (lengths-taken rows cs)
 
 pub IsTable-taken : (rows : List ℕ) (cs : List Col) → IsTable (table_of cs) → IsTable (table_of (map (taken rows) cs))
-IsTable-taken rows cs t = record {
-  distinct = subst (λ (ns : List Name). AllPairs (λ (a b : Name). a ≢ b) ns) (sym (names-taken rows cs)) t.distinct;
-  one_height = level_height (length rows) (table_of (map (taken rows) cs)) (level-taken rows cs);
-}
+IsTable-taken rows cs t = IsTable-made (taken rows) (λ c. refl) (length rows) cs (lengths-taken rows cs) t
+
+-- the same where rows may be absent
+pub rows_or_none : (cs : List Col) (rows : List (Option ℕ)) → IsTable (table_of cs) → All (IsRowOf (height (table_of cs))) rows → All (λ (c : Col). All (IsRowOf (length (values c))) rows) cs
+rows_or_none cs rows t within = of_each_length (λ n. All (IsRowOf n) rows) cs t within
+
+pub values-opt_taken : (rows : List (Option ℕ)) (c : Col) → values (opt_taken rows c) ≡ map (value_or_null (values c)) rows
+values-opt_taken rows c = append-nil (map (value_or_null (values c)) rows)
+
+length-opt_taken : (rows : List (Option ℕ)) (c : Col) → length (values (opt_taken rows c)) ≡ length rows
+length-opt_taken rows c = ap (λ (vs : List Datum). length vs) (values-opt_taken rows c) ∙ length-map rows (value_or_null (values c))
+
+lengths-opt_taken : (rows : List (Option ℕ)) (cs : List Col) → All (λ (c : Col). length (values (opt_taken rows c)) ≡ length rows) cs
+lengths-opt_taken rows cs = λ k d low. length-opt_taken rows (get_or cs k d)
+
+pub names-opt_taken : (rows : List (Option ℕ)) (cs : List Col) → names_of (table_of (map (opt_taken rows) cs)) ≡ names_of (table_of cs)
+names-opt_taken rows cs = names-made (opt_taken rows) (λ c. refl) cs
+
+pub level-opt_taken : (rows : List (Option ℕ)) (cs : List Col) → All (λ (c : TableColumn). length c.values ≡ length rows) (table_of (map (opt_taken rows) cs))
+level-opt_taken rows cs = level-made (opt_taken rows) (λ c. refl) (length rows) cs (lengths-opt_taken rows cs)
+
+pub IsTable-opt_taken : (rows : List (Option ℕ)) (cs : List Col) → IsTable (table_of cs) → IsTable (table_of (map (opt_taken rows) cs))
+IsTable-opt_taken rows cs t = IsTable-made (opt_taken rows) (λ c. refl) (length rows) cs (lengths-opt_taken rows cs) t
 
 -- NAMES OF COLUMNS
 

@@ -2,6 +2,7 @@
 use Rattle.std.specs.Prelude.{◌≡◌, ℕ, ◌<◌, Bool, true, false, List, [], map, All, Option, Some, None, ℤ}
 use Rattle.tb_value.specs.Names.{Name}
 use Rattle.tb_value.specs.declared.index.JoinPair.{JoinPair}
+use Rattle.tb_store.specs.Rows.{IsRowOf}
 use Rattle.tb_frame.specs.declared.args.JoinType.{JoinType}
 use Rattle.tb_frame.specs.declared.args.JoinType.TheVariants.{Inner, Left, Right, Full, Semi, Anti}
 use Rattle.tb_frame.specs.declared.args.MaintainOrderJoin.{MaintainOrderJoin}
@@ -62,11 +63,6 @@ answer_left Left c q k = left_out k
 answer_left Right c q k = left_out k
 answer_left Semi c q k = left_out k
 answer_left Anti c q k = left_out k
-
--- none, or one of n rows
-abbrev pub IsRowOf : ℕ → Option ℕ → Type 0
-IsRowOf n None = Unit {0}
-IsRowOf n (Some i) = i < n
 
 -- rows in range on both sides
 abbrev pub IsPairOf : ℕ → ℕ → JoinPair → Type 0

@@ -1,17 +1,18 @@
 -- Which lists of columns make no table, and where a table has a name.
 use Rattle.std.specs.Prelude.{◌==◌, ℕ, Bool, not, List, [], ◌∷◌, length, map, filter, slice_index_or, Option}
 use Rattle.std.specs.Option.{option_map}
-use Rattle.std.specs.List.{list_all}
+use Rattle.std.specs.List.{list_all, filter_map, find}
 use Rattle.tb_value.specs.Datum.{null}
-use Rattle.tb_value.specs.Names.{Name}
+use Rattle.tb_value.specs.Names.{Name, same_name}
 use Rattle.tb_value.specs.Refusals.{first_cause, when}
 use Rattle.tb_value.specs.declared.error.PolarsError.{PolarsError}
-use Rattle.tb_value.specs.declared.error.PolarsError.TheVariants.{Duplicate, ShapeMismatch}
+use Rattle.tb_value.specs.declared.error.PolarsError.TheVariants.{ColumnNotFound, Duplicate, ShapeMismatch}
 use Rattle.tb_value.specs.declared.sorted.IsSorted.TheVariants.{Not}
 use Rattle.tb_store.specs.Col.{Col, values}
+use Rattle.tb_store.specs.Rows.{value_or_null}
 use Rattle.tb_frame.specs.Table.{TableColumn, Table, height, names_of}
 use Rattle.tb_frame.specs.Join.{is_among}
-use Rattle.tb_frame.specs.Refusal.{first_repeated}
+use Rattle.tb_frame.specs.Refusal.{first_repeated, first_unknown}
 
 -- all lists have one length
 abbrev pub are_level : Table → Bool
@@ -21,6 +22,14 @@ are_level t = list_all (λ (c : TableColumn). length c.values == height t) t
 abbrev pub frame_refusal : Table → Option PolarsError
 frame_refusal t = first_cause (when (not (are_level t)) ShapeMismatch ∷ option_map (λ n. Duplicate n) (first_repeated (names_of t)) ∷ [])
 
+-- a name is of no column, or stood before
+abbrev pub select_refusal : List Name → Table → Option PolarsError
+select_refusal names t = first_cause (option_map (λ n. ColumnNotFound n) (first_unknown t names) ∷ option_map (λ n. Duplicate n) (first_repeated names) ∷ [])
+
+-- the columns of these names, in the order of the names
+abbrev pub selected : List Name → List Col → List Col
+selected names cs = filter_map (λ n. find (λ (c : Col). same_name c.name n) cs) names
+
 -- the columns whose names are not among these
 abbrev pub without_names : List Name → List Col → List Col
 without_names names cs = filter (λ (c : Col). not (is_among names c.name)) cs
@@ -28,3 +37,7 @@ without_names names cs = filter (λ (c : Col). not (is_among names c.name)) cs
 -- these rows of a column in this order, in one chunk
 abbrev pub taken : List ℕ → Col → Col
 taken rows c = record c { chunks = map (λ r. slice_index_or (values c) r null) rows ∷ []; flag = Not }
+
+-- the same, with Null where there is no row
+abbrev pub opt_taken : List (Option ℕ) → Col → Col
+opt_taken rows c = record c { chunks = map (value_or_null (values c)) rows ∷ []; flag = Not }

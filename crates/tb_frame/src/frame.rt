@@ -1,22 +1,23 @@
 //! Tables.
-ghost use Rattle.std.specs.Prelude.{◌≡◌, ◌==◌, ◌≤◌, ◌<◌, ◌∷◌, [], ◌++◌, All, IfOk, IfSome, length, map, option_map, position, slice_index_or, is_none, Some};
+ghost use Rattle.std.specs.Prelude.{◌≡◌, ◌==◌, ◌≤◌, ◌<◌, ◌∷◌, [], ◌++◌, All, IfOk, IfSome, OnOk, length, map, option_map, position, slice_index_or, is_none, Some};
 ghost use Rattle.std.specs.Option.{option_copied};
 ghost use Rattle.std.specs.List.{find, list_all};
 ghost use Rattle.tb_value.specs.Names.{Name, same_name};
 ghost use Rattle.tb_value.specs.Refusals.{Settles, when};
 ghost use Rattle.tb_value.specs.declared.error.PolarsError.TheVariants.{ColumnNotFound, Duplicate, ShapeMismatch};
 ghost use Rattle.tb_store.specs.Col.{Col, values};
+ghost use Rattle.tb_store.specs.Rows.{IsRowOf};
 ghost use Rattle.tb_frame.specs.Table.{table_of, height, names_of, IsTable};
-ghost use Rattle.tb_frame.specs.Refusal.{first_repeated};
+ghost use Rattle.tb_frame.specs.Refusal.{first_repeated, first_unknown};
 ghost use Rattle.tb_frame.specs.Join.{is_among};
 ghost use Rattle.tb_frame.specs.NameSets.{has_name};
-ghost use Rattle.tb_frame.specs.Frame.{are_level, frame_refusal, taken, without_names};
+ghost use Rattle.tb_frame.specs.Frame.{are_level, frame_refusal, opt_taken, select_refusal, selected, taken, without_names};
 
 use crate::names::{NameSet, check_distinct, name_set};
 use std::alloc::Global;
 use std::marker::Model;
 use tb_store::Column;
-use tb_value::{IdxSize, OutOfMemory, PlSmallStr, PolarsError, PolarsResult};
+use tb_value::{IdxSize, NullableIdxSize, OutOfMemory, PlSmallStr, PolarsError, PolarsResult};
 
 /// A table: columns of distinct names and one height.
 #[derive(Drop)]
@@ -79,6 +80,16 @@ fn find_column<'a>(columns: &'a [Column], name: &str) -> Option<&'a Column>
     ensures { option_copied result ≡ find (λ (c : Col). same_name c.name name.now) columns.now }
 {
     columns.iter().find(|column| column.name().as_str() == name)
+}
+
+fn named_column<'a>(alloc: Global, columns: &'a [Column], name: &str) -> PolarsResult<&'a Column>
+    ensures found { IfOk result (λ c. find (λ (c : Col). same_name c.name name.now) columns.now ≡ Some c.now) }
+    ensures settles { Settles result (when (is_none (find (λ (c : Col). same_name c.name name.now) columns.now)) (ColumnNotFound name.now)) }
+{
+    match find_column(columns, name) {
+        Some(column) => Ok(column),
+        None => Err(PolarsError::ColumnNotFound(PlSmallStr::from_str(alloc, name)?)),
+    }
 }
 
 /// The set of the columns' names.
@@ -163,10 +174,28 @@ impl DataFrame {
         ensures found { IfOk result (λ c. find (λ (c : Col). same_name c.name name.now) self.now ≡ Some c.now) }
         ensures settles { Settles result (when (is_none (find (λ (c : Col). same_name c.name name.now) self.now)) (ColumnNotFound name.now)) }
     {
-        match find_column(&self.columns, name) {
-            Some(column) => Ok(column),
-            None => Err(PolarsError::ColumnNotFound(PlSmallStr::from_str(alloc, name)?)),
-        }
+        named_column(alloc, &self.columns, name)
+    }
+
+    /// The columns of these names, in the order of the names. Refuses, in this order, the first name that no column
+    /// has (ColumnNotFound) and the first name that stood before (Duplicate).
+    pub fn select(&self, alloc: Global, names: &[PlSmallStr]) -> PolarsResult<DataFrame>
+        ensures settles { Settles result (select_refusal names.now (table_of self.now)) }
+        ensures table { IfOk result (λ t. t ≡ selected names.now self.now) }
+    {
+        let columns = select_columns(alloc, &self.columns, names)?;
+        DataFrame::new(alloc, columns)
+    }
+
+    /// The columns of the table, and then these. Refuses, in this order, columns of two lengths (ShapeMismatch) and
+    /// the first name that stood before (Duplicate).
+    pub fn hstack(&self, alloc: Global, columns: &[Column]) -> PolarsResult<DataFrame>
+        ensures settles { Settles result (frame_refusal (table_of (self.now ++ columns.now))) }
+        ensures table { IfOk result (λ t. t ≡ self.now ++ columns.now) }
+    {
+        let mut stacked = copy_columns(alloc, &self.columns)?;
+        push_copies(alloc, &mut stacked, columns)?;
+        DataFrame::new(alloc, stacked)
     }
 
     /// The columns whose names are not among these. Names that no column has are ignored.
@@ -189,6 +218,21 @@ impl DataFrame {
         })
     }
 
+    /// These rows in this order, each column in one chunk. An absent row gives Null in each column.
+    pub fn take_opt(
+        &self,
+        alloc: Global,
+        rows: &[NullableIdxSize],
+    ) -> Result<DataFrame, OutOfMemory>
+        requires rows { All (IsRowOf (height (table_of self.now))) rows.now }
+        requires few { length rows.now ≤ 4294967294 }
+        ensures { IfOk result (λ t. t ≡ map (opt_taken rows.now) self.now) }
+    {
+        Ok(DataFrame {
+            columns: take_opt_columns(alloc, &self.columns, rows)?,
+        })
+    }
+
     /// An equal table.
     pub fn copy(&self, alloc: Global) -> Result<DataFrame, OutOfMemory>
         ensures { IfOk result (λ t. t ≡ self.now) }
@@ -203,10 +247,44 @@ fn copy_columns(alloc: Global, columns: &[Column]) -> Result<Vec<Column>, OutOfM
     ensures { IfOk result (λ v. v.items ≡ columns.now) }
 {
     let mut copies = Vec::with_capacity(alloc, columns.len())?;
-    for column in columns {
-        copies.push(column.copy(alloc)?)?;
-    }
+    push_copies(alloc, &mut copies, columns)?;
     Ok(copies)
+}
+
+fn select_columns(
+    alloc: Global,
+    columns: &[Column],
+    names: &[PlSmallStr],
+) -> PolarsResult<Vec<Column>>
+    ensures settles { Settles result (option_map (λ n. ColumnNotFound n) (first_unknown (table_of columns.now) names.now)) }
+    ensures columns { IfOk result (λ v. v.items ≡ selected names.now columns.now) }
+{
+    let mut selected = Vec::new(alloc);
+    for name in names {
+        let column = named_column(alloc, columns, name.as_str())?;
+        push_copy(alloc, &mut selected, column)?;
+    }
+    Ok(selected)
+}
+
+fn push_copy(alloc: Global, copies: &mut Vec<Column>, column: &Column) -> Result<(), OutOfMemory>
+    ensures { OnOk result (copies.new.items ≡ copies.old.items ++ column.now ∷ []) }
+{
+    copies.push(column.copy(alloc)?)?;
+    Ok(())
+}
+
+fn push_copies(
+    alloc: Global,
+    copies: &mut Vec<Column>,
+    columns: &[Column],
+) -> Result<(), OutOfMemory>
+    ensures { OnOk result (copies.new.items ≡ copies.old.items ++ columns.now) }
+{
+    for column in columns {
+        push_copy(alloc, copies, column)?;
+    }
+    Ok(())
 }
 
 fn other_columns(
@@ -239,6 +317,23 @@ pub fn take_columns(
     let mut taken = Vec::with_capacity(alloc, columns.len())?;
     for column in columns {
         taken.push(column.take(alloc, rows)?)?;
+    }
+    Ok(taken)
+}
+
+/// These rows of each column in this order, each in one chunk. An absent row gives Null.
+pub fn take_opt_columns(
+    alloc: Global,
+    columns: &[Column],
+    rows: &[NullableIdxSize],
+) -> Result<Vec<Column>, OutOfMemory>
+    requires rows { All (λ (c : Col). All (IsRowOf (length (values c))) rows.now) columns.now }
+    requires few { length rows.now ≤ 4294967294 }
+    ensures { IfOk result (λ v. v.items ≡ map (opt_taken rows.now) columns.now) }
+{
+    let mut taken = Vec::with_capacity(alloc, columns.len())?;
+    for column in columns {
+        taken.push(column.take_opt(alloc, rows)?)?;
     }
     Ok(taken)
 }

@@ -9,6 +9,6 @@ mod order;
 mod tests;
 
 pub use args::{Direction, JoinArgs, JoinCoalesce, JoinType, JoinValidation, MaintainOrderJoin};
-pub use frame::{DataFrame, IntoDf, column_name_set, column_names, take_columns};
+pub use frame::{DataFrame, IntoDf, column_name_set, column_names, take_columns, take_opt_columns};
 pub use names::{NameSet, check_distinct, name_set};
 pub use order::direction_of;

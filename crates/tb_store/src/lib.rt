@@ -13,6 +13,7 @@ mod pick;
 mod pick_opt;
 mod row_number;
 mod series;
+mod slicing;
 #[cfg(test)]
 mod tests;
 
@@ -23,6 +24,7 @@ pub use column::Column;
 pub use grow::Grow;
 pub use marker::{Physical, physical_of};
 pub use series::Series;
+pub use slicing::slice_offsets;
 pub use tb_value::{
     AnyValue, Bytes, ComputeCause, DataType, Field, Fields, IdxSize, InvalidCause, IsSorted,
     JoinPair, MAX_ROWS, NullableIdxSize, OutOfMemory, PlSmallStr, PolarsError, PolarsResult, Side,

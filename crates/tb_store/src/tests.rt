@@ -1,6 +1,9 @@
-//! Columns made of values, of typed chunks and of rows.
+//! Columns made of values, of typed chunks and of rows, and parts of columns.
 
-use crate::{AnyValue, Cells, Chunks, DataType, PlSmallStr, PolarsError, Series, ValueRef};
+use crate::{
+    AnyValue, Cells, Chunks, DataType, NullableIdxSize, PlSmallStr, PolarsError, Series, ValueRef,
+    slice_offsets,
+};
 use std::alloc::Global;
 use std::test::Fail;
 
@@ -43,6 +46,59 @@ fn take(rt: HostRuntime) -> Result<(), Fail> {
     assert_eq!(rt; taken.n_chunks(), 1);
     assert!(rt; matches!(taken.get(0), ValueRef::Int(30)));
     assert!(rt; matches!(taken.get(1), ValueRef::Int(10)));
+    Ok(())
+}
+
+#[test]
+fn take_opt(rt: HostRuntime) -> Result<(), Fail> {
+    let alloc = rt.alloc();
+    let mut texts = Vec::new(alloc);
+    for text in ["a", "b"] {
+        texts.push(AnyValue::String(PlSmallStr::from_str(alloc, text)?))?;
+    }
+    for (dtype, values) in [
+        (DataType::Int64, ints(alloc, &[10, 20])?),
+        (DataType::String, texts),
+    ] {
+        let mut chunks = Vec::new(alloc);
+        chunks.push(values)?;
+        let series = Series::from_chunks(alloc, "s", dtype, chunks)?;
+        assert_eq!(rt; series.len(), 2);
+        let rows = [NullableIdxSize::some(1), NullableIdxSize::null()];
+        let taken = series.into_column().take_opt(alloc, &rows)?;
+        assert_eq!(rt; taken.len(), 2);
+        assert!(rt; matches!(taken.get(0), ValueRef::Int(20) | ValueRef::String(b"b")));
+        assert!(rt; matches!(taken.get(1), ValueRef::Null));
+    }
+    Ok(())
+}
+
+#[test]
+fn offsets(rt: HostRuntime) -> Result<(), Fail> {
+    let half = 1 << 63;
+    for (offset, len, array_len, start, count) in [
+        (-5, 3, 3, 0, 1),
+        (2, 9, 3, 2, 1),
+        (5, 1, 3, 3, 0),
+        (-1, usize::MAX, 3, 2, 1),
+        (i64::MAX, usize::MAX, usize::MAX, half - 1, half),
+        (i64::MIN, usize::MAX, usize::MAX, half - 1, half),
+    ] {
+        assert_eq!(rt; slice_offsets(offset, len, array_len), (start, count));
+    }
+    Ok(())
+}
+
+#[test]
+fn slice(rt: HostRuntime) -> Result<(), Fail> {
+    let alloc = rt.alloc();
+    let mut chunks = Vec::new(alloc);
+    chunks.push(ints(alloc, &[10, 20])?)?;
+    chunks.push(ints(alloc, &[30])?)?;
+    let series = Series::from_chunks(alloc, "s", DataType::Int64, chunks)?;
+    let part = series.into_column().slice(alloc, -2, 1)?;
+    assert_eq!(rt; part.len(), 1);
+    assert!(rt; matches!(part.get(0), ValueRef::Int(20)));
     Ok(())
 }
 

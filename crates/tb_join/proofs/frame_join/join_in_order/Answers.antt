@@ -3,7 +3,8 @@ use Rattle.std.specs.Prelude.{All, IsSome}
 use Rattle.std.proofs.lemmas.List.Elements.{All-weaker}
 use Rattle.tb_value.specs.declared.index.JoinPair.{JoinPair}
 use Rattle.tb_store.specs.Col.{Col}
-use Rattle.tb_frame.specs.Answer.{IsRowOf, IsPairOf}
+use Rattle.tb_store.specs.Rows.{IsRowOf}
+use Rattle.tb_frame.specs.Answer.{IsPairOf}
 use Rattle.tb_frame.specs.Table.{table_of, height, IsTable}
 use Rattle.tb_frame.specs.Join.{listing, matches, IsAnswer}
 use Rattle.tb_frame.specs.Refusal.{join_refusal}
