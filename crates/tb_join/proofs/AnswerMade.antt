@@ -2,7 +2,6 @@
 use Rattle.std.proofs.Common.{◌≡◌, ℕ, ◌≤◌, ◌++◌, Bool, true, List, [], ◌∷◌, length, map, refl, ap, sym, ◌∙◌, subst, arith, Option, Some, None, Result, Ok, Err}
 use Rattle.std.specs.Prelude.{IfOk}
 use Rattle.std.proofs.lemmas.List.Sorted.{length_permutation}
-use Rattle.tb_value.specs.Datum.{Datum}
 use Rattle.tb_value.specs.Names.{Name}
 use Rattle.tb_value.specs.declared.index.JoinPair.{JoinPair}
 use Rattle.tb_value.proofs.Loops.{map-map}
@@ -12,7 +11,7 @@ use Rattle.tb_frame.specs.declared.args.JoinArgs.{JoinArgs}
 use Rattle.tb_frame.specs.declared.args.JoinType.{JoinType}
 use Rattle.tb_frame.specs.declared.args.JoinType.TheVariants.{Inner, Left, Right, Full, Semi, Anti}
 use Rattle.tb_frame.specs.Table.{TableColumn, Table, plain, table_of, names_of, IsTable}
-use Rattle.tb_frame.specs.Join.{Request, Out, by_names, coalesces, value_at, left_out, right_out, keep_left, without, listing, cut, IsAnswer}
+use Rattle.tb_frame.specs.Join.{Request, by_names, coalesces, value_at, left_out, right_out, without, listing, cut, IsAnswer}
 use Rattle.tb_frame.specs.Frame.{opt_taken, without_names}
 use Rattle.tb_frame.specs.Answer.{fill, answer_left, answer_right, gone_right, IsListed}
 use Rattle.tb_frame.specs.Built.{IsBuilt, is_built_kind}
@@ -22,7 +21,8 @@ use Rattle.tb_frame.proofs.Validity.{some_left, some_right, names_apart, fresh_n
 use Rattle.tb_frame.proofs.Frames.{without-table}
 use Rattle.tb_frame.proofs.Outs.{answer_right_is}
 use Rattle.tb_join.specs.RightColumns.{right_column, right_columns}
-use Rattle.tb_join.proofs.Finishing.{values-opt, table_of-append}
+use Rattle.tb_frame.proofs.Taking.{values-opt_taken}
+use Rattle.tb_join.proofs.Finishing.{table_of-append}
 use Rattle.tb_join.proofs.KeyCauses.{keeps_all, names-asked, asked_names, suffix_in, gone_in}
 
 pub if_ok_is : {T E : Type 0} (P : T → Type 0) (r : Result T E) (x : T) → IfOk r (λ t. t ≡ x) → P x → IfOk r P
@@ -41,7 +41,7 @@ at_row c (Some i) = refl
 
 -- the values of the rows of a side are those that the pairs have
 values-at : (side : JoinPair → Option ℕ) (ps : List JoinPair) (c : Col) → values (opt_taken (map side ps) c) ≡ map (λ (p : JoinPair). value_at (plain c) (side p)) ps
-values-at side ps c = values-opt (map side ps) c ∙ map-map (value_or_null (values c)) side ps ∙ (λ t. map (λ (p : JoinPair). at_row c (side p) t) ps)
+values-at side ps c = values-opt_taken (map side ps) c ∙ map-map (value_or_null (values c)) side ps ∙ (λ t. map (λ (p : JoinPair). at_row c (side p) t) ps)
 
 left-made : (ps : List JoinPair) (cs : List Col) → table_of (map (opt_taken (map (λ (p : JoinPair). p.left) ps)) cs) ≡ map (λ (k : TableColumn). fill ps (left_out k)) (table_of cs)
 left-made ps [] = refl

@@ -1,5 +1,5 @@
 -- The names and the lengths of an answer's columns.
-use Rattle.std.proofs.Common.{◌≡◌, ℕ, List, [], ◌∷◌, ◌++◌, length, map, refl, ap, sym, ◌∙◌, subst, append-nil, Option, None, Some, Result}
+use Rattle.std.proofs.Common.{◌≡◌, ℕ, List, [], ◌∷◌, ◌++◌, length, map, refl, ap, sym, ◌∙◌, subst, Option, None, Some, Result}
 use Rattle.std.specs.Prelude.{All}
 use Rattle.std.proofs.lemmas.List.{map-append, length-map}
 use Rattle.std.proofs.lemmas.List.Elements.{All-nil, All-cons, All-append, All-map, All-weaker}
@@ -16,44 +16,23 @@ use Rattle.tb_frame.specs.Join.{right_name}
 use Rattle.tb_frame.specs.Frame.{opt_taken, frame_refusal, without_names}
 use Rattle.tb_frame.specs.Refusal.{first_repeated}
 use Rattle.tb_frame.proofs.Frames.{no_refusal}
-use Rattle.tb_frame.proofs.Taking.{all_plain}
+use Rattle.tb_frame.proofs.Taking.{rows_or_none, values-opt_taken, names-opt_taken, level-opt_taken}
 use Rattle.tb_join.specs.RightColumns.{right_names, right_column, right_columns}
 
 pub settled : {T : Type 0} (r : Result T PolarsError) (c d : Option PolarsError) → c ≡ d → Settles r c → Settles r d
 settled r c d e h = subst (λ (x : Option PolarsError). Settles r x) e h
 
--- ROWS THAT MAY BE ABSENT
-
-pub values-opt : (rows : List (Option ℕ)) (c : Col) → values (opt_taken rows c) ≡ map (value_or_null (values c)) rows
-values-opt rows c = append-nil (map (value_or_null (values c)) rows)
-
-names-opt : (rows : List (Option ℕ)) (cs : List Col) → names_of (table_of (map (opt_taken rows) cs)) ≡ names_of (table_of cs)
-names-opt rows [] = refl
-names-opt rows (c ∷ cs) = ap (λ (ns : List Name). c.name ∷ ns) (names-opt rows cs)
-
-level-opt : (rows : List (Option ℕ)) (cs : List Col) → All (λ (c : TableColumn). length c.values ≡ length rows) (table_of (map (opt_taken rows) cs))
-level-opt rows [] = All-nil (λ (c : TableColumn). length c.values ≡ length rows)
-level-opt rows (c ∷ cs) =
-    All-cons (λ (k : TableColumn). length k.values ≡ length rows) (plain (opt_taken rows c)) (table_of (map (opt_taken rows) cs))
-    (ap (λ (vs : List Datum). length vs) (values-opt rows c) ∙ length-map rows (value_or_null (values c))) (level-opt rows cs)
-
--- each row of the table is one of each column
-opt_rows_in_columns : (cs : List Col) (rows : List (Option ℕ)) → IsTable (table_of cs) → All (IsRowOf (height (table_of cs))) rows → All (λ (c : Col). All (IsRowOf (length (values c))) rows) cs
-opt_rows_in_columns cs rows t within =
-    All-weaker (λ (c : Col). length (values c) ≡ height (table_of cs)) (λ (c : Col). All (IsRowOf (length (values c))) rows) (λ c e. subst (λ (n : ℕ). All (IsRowOf n) rows) (sym e) within) cs
-    (all_plain (λ (c : TableColumn). length c.values ≡ height (table_of cs)) cs t.one_height)
-
 -- the rows of a side of pairs in range are rows of each column of its table
 module _ (l r : ℕ) (ps : List JoinPair) (within : All (IsPairOf l r) ps) where
   pub left_in_columns : (cs : List Col) → IsTable (table_of cs) → height (table_of cs) ≡ l → All (λ (c : Col). All (IsRowOf (length (values c))) (map (λ (p : JoinPair). p.left) ps)) cs
   left_in_columns cs t high =
-      opt_rows_in_columns cs (map (λ (p : JoinPair). p.left) ps) t
+      rows_or_none cs (map (λ (p : JoinPair). p.left) ps) t
       (subst (λ (n : ℕ). All (IsRowOf n) (map (λ (p : JoinPair). p.left) ps)) (sym high)
       (All-map (IsRowOf l) (λ (p : JoinPair). p.left) ps (All-weaker (IsPairOf l r) (λ (p : JoinPair). IsRowOf l p.left) (λ p h. h.0) ps within)))
 
   pub right_in_columns : (cs : List Col) → IsTable (table_of cs) → height (table_of cs) ≡ r → All (λ (c : Col). All (IsRowOf (length (values c))) (map (λ (p : JoinPair). p.right) ps)) cs
   right_in_columns cs t high =
-      opt_rows_in_columns cs (map (λ (p : JoinPair). p.right) ps) t
+      rows_or_none cs (map (λ (p : JoinPair). p.right) ps) t
       (subst (λ (n : ℕ). All (IsRowOf n) (map (λ (p : JoinPair). p.right) ps)) (sym high)
       (All-map (IsRowOf r) (λ (p : JoinPair). p.right) ps (All-weaker (IsPairOf l r) (λ (p : JoinPair). IsRowOf r p.right) (λ p h. h.1) ps within)))
 
@@ -71,7 +50,7 @@ module _ (taken : List Name) (suffix : Name) (rows : List (Option ℕ)) where
   level-beside [] = All-nil (λ (c : TableColumn). length c.values ≡ length rows)
   level-beside (c ∷ cs) =
       All-cons (λ (k : TableColumn). length k.values ≡ length rows) (plain (right_column taken suffix rows c)) (table_of (map (right_column taken suffix rows) cs))
-      (ap (λ (vs : List Datum). length vs) (values-opt rows c) ∙ length-map rows (value_or_null (values c))) (level-beside cs)
+      (ap (λ (vs : List Datum). length vs) (values-opt_taken rows c) ∙ length-map rows (value_or_null (values c))) (level-beside cs)
 
 module _ (left right : List Col) (suffix : Name) (gone : List Name) (ls rs : List (Option ℕ)) where
   finished : List Col
@@ -84,7 +63,7 @@ module _ (left right : List Col) (suffix : Name) (gone : List Name) (ls rs : Lis
       let kept = without_names gone right in
       ap names_of (table_of-append (map (opt_taken ls) left) (map (right_column names suffix rs) kept))
       ∙ map-append (λ (c : TableColumn). c.name) (table_of (map (opt_taken ls) left)) (table_of (map (right_column names suffix rs) kept))
-      ∙ (λ t. names-opt ls left t ++ names-beside names suffix rs kept t)
+      ∙ (λ t. names-opt_taken ls left t ++ names-beside names suffix rs kept t)
 
   level-finished : length rs ≡ length ls → All (λ (c : TableColumn). length c.values ≡ length ls) (table_of finished)
   unfolding finished
@@ -92,7 +71,7 @@ module _ (left right : List Col) (suffix : Name) (gone : List Name) (ls rs : Lis
       let names = names_of (table_of left) in
       let kept = without_names gone right in
       subst (λ (t : Table). All (λ (c : TableColumn). length c.values ≡ length ls) t) (sym (table_of-append (map (opt_taken ls) left) (map (right_column names suffix rs) kept)))
-      (All-append (λ (c : TableColumn). length c.values ≡ length ls) (table_of (map (opt_taken ls) left)) (table_of (map (right_column names suffix rs) kept)) (level-opt ls left) (subst (λ (n : ℕ). All (λ (c : TableColumn). length c.values ≡ n) (table_of (map (right_column names suffix rs) kept))) same (level-beside names suffix rs kept)))
+      (All-append (λ (c : TableColumn). length c.values ≡ length ls) (table_of (map (opt_taken ls) left)) (table_of (map (right_column names suffix rs) kept)) (level-opt_taken ls left) (subst (λ (n : ℕ). All (λ (c : TableColumn). length c.values ≡ n) (table_of (map (right_column names suffix rs) kept))) same (level-beside names suffix rs kept)))
 
   -- the columns of an answer whose names are distinct are not refused
   pub none-finished : length rs ≡ length ls → first_repeated (names_of (table_of left) ++ right_names (names_of (table_of left)) suffix gone right) ≡ None

@@ -16,11 +16,11 @@ use Rattle.tb_value.specs.declared.error.PolarsError.TheVariants.{ColumnNotFound
 use Rattle.tb_value.specs.declared.error.ComputeCause.TheVariants.{KeyTypes, Validation}
 use Rattle.tb_value.specs.declared.error.InvalidCause.TheVariants.{NoKeys, KeyCounts, KeyKind}
 use Rattle.tb_value.proofs.Loops.{map-map}
+use Rattle.tb_value.proofs.TypeTests.{same_kind-Decides}
 use Rattle.tb_store.specs.Col.{Col}
 use Rattle.tb_frame.specs.declared.args.JoinArgs.{JoinArgs}
 use Rattle.tb_frame.specs.declared.args.JoinType.{JoinType}
 use Rattle.tb_frame.specs.declared.args.JoinType.TheVariants.{Inner, Left, Right, Full, Semi, Anti}
-use Rattle.tb_frame.specs.declared.args.JoinValidation.{JoinValidation}
 use Rattle.tb_frame.specs.declared.args.JoinValidation.TheVariants.{ManyToMany}
 use Rattle.tb_frame.specs.Answer.{gone_right}
 use Rattle.tb_frame.specs.Built.{IsBuilt, is_built_kind, is_built_key}
@@ -53,14 +53,13 @@ last_cause (Some a) = refl
 last_cause None = refl
 
 -- an error of the third or the fourth cause, where those before don't hold
-module _ (a b c d j : Option PolarsError) (e : PolarsError) (is : j ≡ first_cause (a ∷ b ∷ c ∷ d ∷ [])) (x : a ≡ None) (y : b ≡ None) where
-  pub by_third : (e ≡ OutOfMemory) ⊎ (c ≡ Some e) → (e ≡ OutOfMemory) ⊎ (j ≡ Some e)
-  by_third (inl h) = inl h
-  by_third (inr h) = inr (is ∙ (λ t. first_cause (x t ∷ y t ∷ h t ∷ d ∷ [])))
+pub by_third : (a b c d j : Option PolarsError) (e : PolarsError) → j ≡ first_cause (a ∷ b ∷ c ∷ d ∷ []) → a ≡ None → b ≡ None → (e ≡ OutOfMemory) ⊎ (c ≡ Some e) → (e ≡ OutOfMemory) ⊎ (j ≡ Some e)
+by_third a b c d j e is x y (inl h) = inl h
+by_third a b c d j e is x y (inr h) = inr (is ∙ (λ t. first_cause (x t ∷ y t ∷ h t ∷ d ∷ [])))
 
-  pub by_fourth : c ≡ None → (e ≡ OutOfMemory) ⊎ (d ≡ Some e) → (e ≡ OutOfMemory) ⊎ (j ≡ Some e)
-  by_fourth z (inl h) = inl h
-  by_fourth z (inr h) = inr (is ∙ (λ t. first_cause (x t ∷ y t ∷ z t ∷ h t ∷ [])))
+pub by_fourth : (a b c d j other : Option PolarsError) (e : PolarsError) → j ≡ first_cause (a ∷ b ∷ c ∷ d ∷ []) → a ≡ None → b ≡ None → c ≡ None → other ≡ d → (e ≡ OutOfMemory) ⊎ (other ≡ Some e) → (e ≡ OutOfMemory) ⊎ (j ≡ Some e)
+by_fourth a b c d j other e is x y z same (inl h) = inl h
+by_fourth a b c d j other e is x y z same (inr h) = inr (is ∙ (λ t. first_cause (x t ∷ y t ∷ z t ∷ (sym same ∙ h) t ∷ [])))
 
 -- where none of the four holds
 pub by_none : (a b c d j : Option PolarsError) → j ≡ first_cause (a ∷ b ∷ c ∷ d ∷ []) → a ≡ None → b ≡ None → c ≡ None → d ≡ None → j ≡ None
@@ -105,6 +104,14 @@ one_type kind.string kind.string h g a b x y e = refl
 one_type kind.int64 kind.string h g a b x y e = absurd (let c : false ≡ true = sym x ∙ e ∙ y in cc)
 one_type kind.string kind.int64 h g a b x y e = absurd (let c : true ≡ false = sym x ∙ e ∙ y in cc)
 one_type _ _ h g a b x y e = absurd (cc)
+
+-- keys whose types are not refused are of one type
+pub not_mixed : (k l : Kind) → when (not (same_kind k l)) (ComputeError (KeyTypes 0)) ≡ None → k ≡ l
+not_mixed k l h = at (same_kind k l) refl h
+  where
+    at : (b : Bool) → same_kind k l ≡ b → when (not b) (ComputeError (KeyTypes 0)) ≡ None → k ≡ l
+    at true e g = (same_kind-Decides k l).0 e
+    at false e g = absurd (cc)
 
 -- NAMES
 

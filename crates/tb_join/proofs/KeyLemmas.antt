@@ -1,5 +1,5 @@
 -- The rows of equal keys, as a loop finds them, and the pairs that they make.
-use Rattle.std.proofs.Common.{◌≡◌, ℕ, zero, suc, ◌+◌, ◌<◌, ◌≤◌, Bool, true, false, cond, List, [], ◌∷◌, ◌++◌, length, get_or, map, refl, ap, sym, ◌∙◌, arith, Option, Some, None, append-nil, nat_lt, inl, inr, ◌⊎◌}
+use Rattle.std.proofs.Common.{◌≡◌, ℕ, zero, suc, ◌+◌, ◌<◌, ◌≤◌, Bool, true, false, cond, List, [], ◌∷◌, ◌++◌, length, get_or, refl, ap, sym, ◌∙◌, arith, Option, Some, None, append-nil, nat_lt, inl, inr, ◌⊎◌}
 use Rattle.std.specs.Prelude.{All, filter}
 use Rattle.std.specs.Cmp.{IsEquivalence}
 use Rattle.std.specs.List.{flat_map}

@@ -1,10 +1,10 @@
 -- The pairs by left row and then right row are the listing in an order that the arguments allow.
-use Rattle.std.proofs.Common.{◌≡◌, ℕ, Bool, true, false, ◌&&◌, min, List, [], ◌∷◌, length, get_or, map, refl, ap, sym, ◌∙◌, subst, None}
+use Rattle.std.proofs.Common.{◌≡◌, ℕ, Bool, true, false, ◌&&◌, min, List, [], ◌∷◌, length, get_or, map, refl, ap, sym, ◌∙◌, subst}
 use Rattle.std.specs.Prelude.{All, filter}
 use Rattle.std.specs.List.{filter_map, list_all}
 use Rattle.std.proofs.lemmas.List.Elements.{All-head}
 use Rattle.std.proofs.lemmas.List.Sorted.{length_permutation}
-use Rattle.tb_value.specs.Datum.{Datum, null}
+use Rattle.tb_value.specs.Datum.{null}
 use Rattle.tb_value.specs.Names.{Name}
 use Rattle.tb_value.specs.Pairs.{row_numbers, both, matched}
 use Rattle.tb_value.specs.declared.index.JoinPair.{JoinPair}
@@ -66,7 +66,7 @@ keys_agree : Bool → List TableColumn → List TableColumn → ℕ → ℕ → 
 keys_agree nulls ls rs i j = list_all (λ p. agrees nulls (field ls p i) (field rs p j)) (row_numbers (min (length ls) (length rs)))
 
 -- the key columns of a table are as high as it is
-key_high : (t : Table) (names : List Name) (k : TableColumn) → IsTable t → filter_map (named t) names ≡ k ∷ [] → length k.values ≡ height t
+pub key_high : (t : Table) (names : List Name) (k : TableColumn) → IsTable t → filter_map (named t) names ≡ k ∷ [] → length k.values ≡ height t
 key_high t names k table is =
     let high : TableColumn → Type 0 = λ c. length c.values ≡ height t in
     All-head high k [] (subst (λ (ks : List TableColumn). All high ks) is (selected_hold high t table.one_height names))

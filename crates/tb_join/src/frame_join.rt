@@ -1,11 +1,12 @@
 //! The join of two tables.
-ghost use Rattle.std.specs.Prelude.{◌≡◌, ◌∷◌, [], IfOk};
+ghost use Rattle.std.specs.Prelude.{◌≡◌, ◌∷◌, [], IfOk, length};
 ghost use Rattle.tb_value.specs.Refusals.{Settles};
+ghost use Rattle.tb_store.specs.Col.{values};
 ghost use Rattle.tb_frame.specs.Answer.{IsListed};
 ghost use Rattle.tb_frame.specs.Built.{IsBuilt};
 ghost use Rattle.tb_frame.specs.Join.{by_names, listing, IsAnswer};
 ghost use Rattle.tb_frame.specs.Refusal.{join_refusal};
-ghost use Rattle.tb_frame.specs.Table.{plain, table_of, IsTable};
+ghost use Rattle.tb_frame.specs.Table.{plain, table_of, height, IsTable};
 ghost use Rattle.tb_join.specs.KeyRefusal.{key_refusal};
 ghost use Rattle.tb_join.specs.KeyRows.{keeps_left};
 
@@ -76,6 +77,8 @@ fn checked_keys<'a>(
     ensures settles { Settles result (key_refusal (by_names (table_of left.now) (table_of right.now) left_on.now right_on.now args.now)) }
     ensures left { IfOk result (λ p. (by_names (table_of left.now) (table_of right.now) left_on.now right_on.now args.now).left_keys ≡ plain p.0.now ∷ []) }
     ensures right { IfOk result (λ p. (by_names (table_of left.now) (table_of right.now) left_on.now right_on.now args.now).right_keys ≡ plain p.1.now ∷ []) }
+    ensures same { IfOk result (λ p. p.0.now.kind ≡ p.1.now.kind) }
+    ensures heights { IfOk result (λ p. (length (values p.0.now) ≡ height (table_of left.now)) × (length (values p.1.now) ≡ height (table_of right.now))) }
 {
     let left_key = key_column(alloc, left, left_on)?;
     let right_key = key_column(alloc, right, right_on)?;
@@ -128,7 +131,8 @@ fn join_by_left(
 ) -> PolarsResult<DataFrame>
     requires { IsBuilt (by_names (table_of left.now) (table_of right.now) left_on.now right_on.now args.now) }
     ensures settles { Settles result (join_refusal (by_names (table_of left.now) (table_of right.now) left_on.now right_on.now args.now)) }
-    ensures answer { IfOk result (λ t. IsAnswer (by_names (table_of left.now) (table_of right.now) left_on.now right_on.now args.now) (table_of t) × IsTable (table_of t)) }
+    ensures answer { IfOk result (λ t. IsAnswer (by_names (table_of left.now) (table_of right.now) left_on.now right_on.now args.now) (table_of t)) }
+    ensures table { IfOk result (λ t. IsTable (table_of t)) }
 {
     let pairs = listed_pairs(alloc, left, right, left_on, right_on, args)?;
     let gone = gone_right(args, right_on);

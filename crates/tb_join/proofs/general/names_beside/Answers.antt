@@ -1,4 +1,4 @@
-use Rattle.std.proofs.Common.{◌≡◌, ◌++◌, ◌∷◌, Bool, List, [], not, ap, sym, ◌∙◌, None}
+use Rattle.std.proofs.Common.{◌≡◌, ◌++◌, ◌∷◌, Bool, List, [], not, ap, sym, ◌∙◌, Some}
 use Rattle.tb_value.specs.Names.{Name}
 use Rattle.tb_value.proofs.Kept.{made, skipped}
 use Rattle.tb_store.specs.Col.{Col}
@@ -11,7 +11,7 @@ pub loop-column-preserved : goal.loop-column-preserved
 loop-column-preserved c =
     let taken = names_of (table_of c.args.left.now) in
     let gone = c.args.gone.now in
-    let f : Col → Name = λ k. right_name taken None k.name in
+    let f : Col → Name = λ k. right_name taken (Some c.args.suffix.now) k.name in
     let test : Col → Bool = λ k. not (is_among gone k.name) in
     let x = c.column-item.result in
     let named : is_among gone x.name ≡ c.contains.result = sym (c.contains.ensures ∙ c.in_ok-gone.ensures c.name.result.now ∙ ap (is_among gone) c.name.ensures) in
@@ -20,7 +20,7 @@ loop-column-preserved c =
           rw w.names-is
           (◌∙◌ {A = List Name} {b = c.loop-column.names.items ++ w.in_ok-right_name.field-0 ∷ []} w.in_ok-push.ensures.items
           (made f test c.args.right.now c.loop-column.column-index x c.loop-column-test.true c.column-item.is [] c.loop-column.names.items w.in_ok-right_name.field-0 c.loop-column.invariant (ap not (named ∙ w.if-not-contains.true))
-          (◌∙◌ {A = Name} (w.in_ok-right_name.ensures taken c.in_ok-taken.ensures) (ap (right_name taken None) w.name-then-not-contains.ensures))))
+          (◌∙◌ {A = Name} (w.in_ok-right_name.ensures taken c.in_ok-taken.ensures) (ap (right_name taken (Some c.args.suffix.now)) w.name-then-not-contains.ensures))))
       | else-not-contains w ↦
           rw w.names-is
           (skipped f test c.args.right.now c.loop-column.column-index x c.loop-column-test.true c.column-item.is [] c.loop-column.names.items c.loop-column.invariant (ap not (named ∙ w.if-not-contains.false)))

@@ -1,4 +1,4 @@
-use Rattle.std.proofs.Common.{◌≡◌, ◌<◌, ◌∙◌, sym, arith, get_or, length, Some, None}
+use Rattle.std.proofs.Common.{◌≡◌, ◌<◌, ◌∙◌, sym, arith, get_or, length, None}
 use Rattle.std.proofs.lemmas.List.{get_or_default}
 use Rattle.tb_join.specs.KeyRows.{map_rows}
 use Rattle.tb_join.proofs.Found.{rows-empty}
