@@ -1,14 +1,15 @@
 -- Rows that are taken from the columns of a table.
-use Rattle.std.proofs.Common.{◌≡◌, ℕ, ◌<◌, List, [], ◌∷◌, length, get_or, map, refl, ap, sym, ◌∙◌, subst, append-nil, arith, Option}
-use Rattle.std.specs.Prelude.{All, AllPairs, ◌≢◌}
-use Rattle.std.proofs.lemmas.List.{length-map, get_or-map}
+use Rattle.std.proofs.Common.{◌≡◌, ℕ, ◌<◌, List, [], ◌∷◌, length, get_or, map, refl, ap, sym, ◌∙◌, subst, append-nil, arith, Option, take, drop}
+use Rattle.std.specs.Prelude.{All, AllPairs, ◌≢◌, ◌-◌, min, ℤ}
+use Rattle.std.proofs.lemmas.List.{length-map, get_or-map, length-take, length-drop}
 use Rattle.std.proofs.lemmas.List.Elements.{All-nil, All-cons, All-head, All-tail, All-weaker}
 use Rattle.tb_value.specs.Datum.{Datum, null}
 use Rattle.tb_value.specs.Names.{Name}
 use Rattle.tb_store.specs.Col.{Col, values}
 use Rattle.tb_store.specs.Rows.{IsRowOf, value_or_null}
+use Rattle.tb_store.specs.Window.{part_from, part_to}
 use Rattle.tb_frame.specs.Table.{TableColumn, plain, table_of, height, names_of, IsTable}
-use Rattle.tb_frame.specs.Frame.{taken, opt_taken}
+use Rattle.tb_frame.specs.Frame.{taken, opt_taken, sliced}
 use Rattle.tb_frame.proofs.Frames.{level_height}
 
 pub all_plain : (P : TableColumn → Type 0) (cs : List Col) → All P (table_of cs) → All (λ (c : Col). P (plain c)) cs
@@ -82,6 +83,30 @@ level-opt_taken rows cs = level-made (opt_taken rows) (λ c. refl) (length rows)
 
 pub IsTable-opt_taken : (rows : List (Option ℕ)) (cs : List Col) → IsTable (table_of cs) → IsTable (table_of (map (opt_taken rows) cs))
 IsTable-opt_taken rows cs t = IsTable-made (opt_taken rows) (λ c. refl) (length rows) cs (lengths-opt_taken rows cs) t
+
+-- how many of n values a slice keeps
+abbrev kept_of : ℤ → ℕ → ℕ → ℕ
+kept_of offset len n = min (part_to n offset len - part_from n offset) (n - part_from n offset)
+
+length-sliced : (offset : ℤ) (len : ℕ) (c : Col) → length (values (sliced offset len c)) ≡ kept_of offset len (length (values c))
+length-sliced offset len c =
+    let n = length (values c) in
+    let from = part_from n offset in
+    let count = part_to n offset len - from in
+    ap (λ (vs : List Datum). length vs) (append-nil (take count (drop from (values c)))) ∙ length-take count (drop from (values c)) ∙ ap (min count) (length-drop from (values c))
+
+IsTable-sliced : (offset : ℤ) (len : ℕ) (cs : List Col) → IsTable (table_of cs) → IsTable (table_of (map (sliced offset len) cs))
+IsTable-sliced offset len cs t =
+    let most : ℕ = kept_of offset len (height (table_of cs)) in
+    let lengths : All (λ (c : Col). length (values (sliced offset len c)) ≡ most) cs =
+    All-weaker (λ (c : Col). kept_of offset len (length (values c)) ≡ most) (λ (c : Col). length (values (sliced offset len c)) ≡ most) (λ c e. length-sliced offset len c ∙ e) cs
+    (of_each_length (λ n. kept_of offset len n ≡ most) cs t refl)
+    in
+    IsTable-made (sliced offset len) (λ c. refl) most cs lengths t
+
+pub IsTable-slices : (offset : ℤ) (len : ℕ) (made cs inside : List Col) → made ≡ map (sliced offset len) cs → cs ≡ inside → IsTable (table_of inside) → IsTable (table_of made)
+IsTable-slices offset len made cs inside is same t =
+    subst (λ (ks : List Col). IsTable (table_of ks)) (sym (is ∙ ap (λ (ks : List Col). map (sliced offset len) ks) same)) (IsTable-sliced offset len inside t)
 
 -- NAMES OF COLUMNS
 

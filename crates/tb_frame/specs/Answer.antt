@@ -1,5 +1,5 @@
 -- The columns of an answer, as they are made from the ordered and cut pairs.
-use Rattle.std.specs.Prelude.{◌≡◌, ℕ, ◌<◌, Bool, true, false, List, [], map, All, Option, Some, None, ℤ}
+use Rattle.std.specs.Prelude.{◌≡◌, ℕ, Bool, true, false, List, [], map, All, Option, ℤ}
 use Rattle.tb_value.specs.Names.{Name}
 use Rattle.tb_value.specs.declared.index.JoinPair.{JoinPair}
 use Rattle.tb_store.specs.Rows.{IsRowOf}

@@ -1,5 +1,5 @@
--- Which lists of columns make no table, and where a table has a name.
-use Rattle.std.specs.Prelude.{◌==◌, ℕ, Bool, not, List, [], ◌∷◌, length, map, filter, slice_index_or, Option}
+-- Which lists of columns make no table, and what becomes of the columns of a table.
+use Rattle.std.specs.Prelude.{◌==◌, ℕ, Bool, not, List, [], ◌∷◌, length, map, filter, slice_index_or, Option, ℤ}
 use Rattle.std.specs.Option.{option_map}
 use Rattle.std.specs.List.{list_all, filter_map, find}
 use Rattle.tb_value.specs.Datum.{null}
@@ -10,6 +10,7 @@ use Rattle.tb_value.specs.declared.error.PolarsError.TheVariants.{ColumnNotFound
 use Rattle.tb_value.specs.declared.sorted.IsSorted.TheVariants.{Not}
 use Rattle.tb_store.specs.Col.{Col, values}
 use Rattle.tb_store.specs.Rows.{value_or_null}
+use Rattle.tb_store.specs.Window.{window}
 use Rattle.tb_frame.specs.Table.{TableColumn, Table, height, names_of}
 use Rattle.tb_frame.specs.Join.{is_among}
 use Rattle.tb_frame.specs.Refusal.{first_repeated, first_unknown}
@@ -41,3 +42,7 @@ taken rows c = record c { chunks = map (λ r. slice_index_or (values c) r null) 
 -- the same, with Null where there is no row
 abbrev pub opt_taken : List (Option ℕ) → Col → Col
 opt_taken rows c = record c { chunks = map (value_or_null (values c)) rows ∷ []; flag = Not }
+
+-- the part of a column that an offset and a length name, in one chunk
+abbrev pub sliced : ℤ → ℕ → Col → Col
+sliced offset len c = record c { chunks = window (length (values c)) offset len (values c) ∷ [] }

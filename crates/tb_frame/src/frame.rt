@@ -11,7 +11,7 @@ ghost use Rattle.tb_frame.specs.Table.{table_of, height, names_of, IsTable};
 ghost use Rattle.tb_frame.specs.Refusal.{first_repeated, first_unknown};
 ghost use Rattle.tb_frame.specs.Join.{is_among};
 ghost use Rattle.tb_frame.specs.NameSets.{has_name};
-ghost use Rattle.tb_frame.specs.Frame.{are_level, frame_refusal, opt_taken, select_refusal, selected, taken, without_names};
+ghost use Rattle.tb_frame.specs.Frame.{are_level, frame_refusal, opt_taken, select_refusal, selected, sliced, taken, without_names};
 
 use crate::names::{NameSet, check_distinct, name_set};
 use std::alloc::Global;
@@ -233,6 +233,16 @@ impl DataFrame {
         })
     }
 
+    /// The `len` rows from `offset` on, as far as there are such rows, each column in one chunk. A negative offset
+    /// counts from the end.
+    pub fn slice(&self, alloc: Global, offset: i64, len: usize) -> Result<DataFrame, OutOfMemory>
+        ensures { IfOk result (λ t. t ≡ map (sliced offset len) self.now) }
+    {
+        Ok(DataFrame {
+            columns: slice_columns(alloc, &self.columns, offset, len)?,
+        })
+    }
+
     /// An equal table.
     pub fn copy(&self, alloc: Global) -> Result<DataFrame, OutOfMemory>
         ensures { IfOk result (λ t. t ≡ self.now) }
@@ -336,4 +346,19 @@ pub fn take_opt_columns(
         taken.push(column.take_opt(alloc, rows)?)?;
     }
     Ok(taken)
+}
+
+fn slice_columns(
+    alloc: Global,
+    columns: &[Column],
+    offset: i64,
+    len: usize,
+) -> Result<Vec<Column>, OutOfMemory>
+    ensures { IfOk result (λ v. v.items ≡ map (sliced offset len) columns.now) }
+{
+    let mut parts = Vec::with_capacity(alloc, columns.len())?;
+    for column in columns {
+        parts.push(column.slice(alloc, offset, len)?)?;
+    }
+    Ok(parts)
 }

@@ -3,6 +3,7 @@
 
 mod args;
 mod frame;
+pub mod laws;
 mod names;
 mod order;
 #[cfg(test)]

@@ -1,10 +1,13 @@
-//! Tables made, asked for a column and cut.
+//! Tables made, asked for columns, put beside columns and cut, and what arguments ask.
 
-use crate::DataFrame;
+use crate::laws::slice_is_window;
+use crate::{DataFrame, JoinArgs, JoinCoalesce, JoinType, JoinValidation, MaintainOrderJoin};
 use std::alloc::Global;
 use std::test::Fail;
 use tb_store::Column;
-use tb_value::{AnyValue, DataType, PlSmallStr, PolarsError, PolarsResult, ValueRef};
+use tb_value::{
+    AnyValue, DataType, NullableIdxSize, PlSmallStr, PolarsError, PolarsResult, ValueRef,
+};
 
 fn column(alloc: Global, name: &str, values: &[i128]) -> Result<Column, Fail> {
     let mut ints = Vec::new(alloc);
@@ -22,6 +25,26 @@ fn beside(alloc: Global, name: &str, values: &[i128]) -> Result<PolarsResult<Dat
     columns.push(column(alloc, "a", &[10, 20, 30])?)?;
     columns.push(column(alloc, name, values)?)?;
     Ok(DataFrame::new(alloc, columns))
+}
+
+fn texts(alloc: Global, words: &[&str]) -> Result<Vec<PlSmallStr>, Fail> {
+    let mut texts = Vec::new(alloc);
+    for word in words {
+        texts.push(PlSmallStr::from_str(alloc, word)?)?;
+    }
+    Ok(texts)
+}
+
+// the whole numbers of a column, where Null is 0
+fn ints_of(alloc: Global, column: &Column) -> Result<Vec<i128>, Fail> {
+    let mut ints = Vec::new(alloc);
+    for row in 0..column.len() {
+        match column.get(row) {
+            ValueRef::Int(int) => ints.push(int)?,
+            _ => ints.push(0)?,
+        }
+    }
+    Ok(ints)
 }
 
 #[test]
@@ -70,5 +93,103 @@ fn parts(rt: HostRuntime) -> Result<(), Fail> {
     names.push(PlSmallStr::from_str(alloc, "c")?)?;
     let others = table.drop_many(alloc, &names)?;
     assert!(rt; others.width() == 1 && others.position("b") == Some(0));
+    Ok(())
+}
+
+#[test]
+fn select(rt: HostRuntime) -> Result<(), Fail> {
+    let alloc = rt.alloc();
+    let table = beside(alloc, "b", &[1, 2, 3])??;
+    for (words, unknown, repeated) in [
+        (&["b", "a"][..], "", ""),
+        (&["a", "a"][..], "", "a"),
+        (&["a", "a", "c"][..], "c", ""),
+    ] {
+        match table.select(alloc, &texts(alloc, words)?) {
+            Ok(selected) => {
+                assert!(rt; unknown.is_empty() && repeated.is_empty());
+                assert!(rt; selected.width() == 2 && selected.position("b") == Some(0));
+            }
+            Err(PolarsError::ColumnNotFound(name)) => assert!(rt; name.as_str() == unknown),
+            Err(PolarsError::Duplicate(name)) => assert!(rt; name.as_str() == repeated),
+            Err(error) => assert!(rt; error == PolarsError::OutOfMemory),
+        }
+    }
+    Ok(())
+}
+
+#[test]
+fn hstack(rt: HostRuntime) -> Result<(), Fail> {
+    let alloc = rt.alloc();
+    let table = beside(alloc, "b", &[1, 2, 3])??;
+    let three = [4, 5, 6];
+    for (name, values, is_distinct, is_level) in [
+        ("c", &three[..], true, true),
+        ("b", &three[..], false, true),
+        ("b", &three[1..], false, false),
+    ] {
+        match table.hstack(alloc, &[column(alloc, name, values)?]) {
+            Ok(stacked) => {
+                assert!(rt; is_distinct && is_level);
+                assert!(rt; stacked.width() == 3 && stacked.position("c") == Some(2));
+            }
+            Err(PolarsError::Duplicate(name)) => {
+                assert!(rt; is_level && !is_distinct && name.as_str() == "b");
+            }
+            Err(error) => assert!(rt; !is_level && error == PolarsError::ShapeMismatch),
+        }
+    }
+    Ok(())
+}
+
+#[test]
+fn take_opt(rt: HostRuntime) -> Result<(), Fail> {
+    let alloc = rt.alloc();
+    let table = beside(alloc, "b", &[1, 2, 3])??;
+    assert_eq!(rt; table.height(), 3);
+    let rows = [NullableIdxSize::some(2), NullableIdxSize::null()];
+    let taken = table.take_opt(alloc, &rows)?;
+    for (name, wanted) in [("a", [30, 0]), ("b", [3, 0])] {
+        let ints = ints_of(alloc, taken.column(alloc, name)?)?;
+        assert!(rt; ints.as_slice() == &wanted[..]);
+    }
+    Ok(())
+}
+
+#[test]
+fn slice(rt: HostRuntime) -> Result<(), Fail> {
+    let alloc = rt.alloc();
+    slice_is_window::<AnyValue>();
+    let table = beside(alloc, "b", &[1, 2, 3])??;
+    let three = [10, 20, 30];
+    for (offset, len, wanted) in [
+        (1, 9, &three[1..]),
+        (-2, 1, &three[1..2]),
+        (-5, 3, &three[..1]),
+        (3, 1, &three[3..]),
+    ] {
+        let part = table.slice(alloc, offset, len)?;
+        let ints = ints_of(alloc, part.column(alloc, "a")?)?;
+        assert!(rt; part.width() == 2 && ints.as_slice() == wanted);
+    }
+    Ok(())
+}
+
+#[test]
+fn arguments(rt: HostRuntime) -> Result<(), Fail> {
+    for (how, coalesce, is_coalesced) in [
+        (JoinType::Inner, JoinCoalesce::JoinSpecific, true),
+        (JoinType::Full, JoinCoalesce::JoinSpecific, false),
+        (JoinType::Full, JoinCoalesce::CoalesceColumns, true),
+        (JoinType::Anti, JoinCoalesce::CoalesceColumns, false),
+        (JoinType::Left, JoinCoalesce::KeepColumns, false),
+    ] {
+        let mut args = JoinArgs::new(how);
+        args.coalesce = coalesce;
+        assert_eq!(rt; args.should_coalesce(), is_coalesced);
+    }
+    assert!(rt; JoinValidation::ManyToOne.needs_checks());
+    assert!(rt; !JoinValidation::ManyToMany.needs_checks());
+    assert!(rt; MaintainOrderJoin::LeftRight.flip() == MaintainOrderJoin::RightLeft);
     Ok(())
 }
