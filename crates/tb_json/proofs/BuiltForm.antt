@@ -8,24 +8,24 @@ use Rattle.std.specs.Str.{bytes_eq}
 use Rattle.serde_json.specs.Data.{Data}
 use Rattle.serde_json.specs.Find.{get, as_str}
 use Rattle.tb_value.specs.Datum.{Datum}
-use Rattle.tb_value.specs.Kind.{Kind, int64}
+use Rattle.tb_value.specs.Kind.{Kind, int64, string}
 use Rattle.tb_value.specs.Names.{Name, same_name}
 use Rattle.tb_store.specs.Col.{flat}
 use Rattle.tb_frame.specs.declared.args.JoinArgs.{JoinArgs}
 use Rattle.tb_frame.specs.declared.args.JoinType.{JoinType}
-use Rattle.tb_frame.specs.declared.args.JoinType.TheVariants.{Inner}
+use Rattle.tb_frame.specs.declared.args.JoinType.TheVariants.{Inner, Left}
 use Rattle.tb_frame.specs.declared.args.JoinValidation.TheVariants.{ManyToMany}
-use Rattle.tb_frame.specs.declared.args.JoinCoalesce.TheVariants.{JoinSpecific}
+use Rattle.tb_frame.specs.declared.args.JoinCoalesce.{JoinCoalesce}
 use Rattle.tb_frame.specs.declared.args.MaintainOrderJoin.{MaintainOrderJoin}
-use Rattle.tb_frame.specs.declared.args.MaintainOrderJoin.TheVariants.{LeftRight}
-use Rattle.tb_frame.specs.Built.{IsBuilt}
+use Rattle.tb_frame.specs.declared.args.MaintainOrderJoin.TheVariants as order
+use Rattle.tb_frame.specs.Built.{is_built_kind, is_built_order, is_built_key, IsBuilt}
 use Rattle.tb_frame.specs.Table.{TableColumn, Table}
 use Rattle.tb_frame.specs.Join.{named, by_names}
 use Rattle.tb_json.specs.declared.request.Reason.{Reason}
 use Rattle.tb_json.specs.declared.request.Reason.TheVariants.{NotYet}
 use Rattle.tb_json.specs.Lists.{check, as_list, list_of, has_only}
 use Rattle.tb_json.specs.Lists as steps
-use Rattle.tb_json.specs.Written.{Written, WrittenJoin, kind_named, how_named, order_named, column_of, table_of, args_of, join_of}
+use Rattle.tb_json.specs.Written.{Written, WrittenJoin, kind_named, how_named, order_named, text_or, how_of, suffix_of, coalesce_of, order_of, column_of, table_of, args_of, join_of}
 use Rattle.tb_json.specs.Columns.{values_in, values_of, table_from, tables_of}
 use Rattle.tb_json.specs.Reading.{JoinRequest, ◌>>=◌, only_if, are_tables, request_in, asked, request_view, FaultIs}
 use Rattle.tb_json.specs.declared.request.JoinRequest as rust
@@ -34,102 +34,117 @@ use Rattle.tb_json.proofs.Steps.{some_same, All-none, each_have, found_has, filt
 
 -- ---- the columns
 
-abbrev IsInteger : Written → Type 0
-IsInteger w = w.kind ≡ int64
+abbrev IsKey : Written → Type 0
+IsKey w = is_built_key w.kind ≡ true
 
-abbrev HasIntegers : TableColumn → Type 0
-HasIntegers c = c.kind ≡ int64
+abbrev HasKeys : TableColumn → Type 0
+HasKeys c = is_built_key c.kind ≡ true
 
-word_is : {A : Type 0} (b : Bool) (a k : A) → cond b (Some a) None ≡ Some k → k ≡ a
-word_is true a k e = sym (some_same a k e)
-word_is false a k e = absurd (cc)
+-- what a word names passes a test, if what any other word names passes it
+word_passes : {A : Type 0} (test : A → Bool) (b : Bool) (a : A) (other : Option A) (k : A) → test a ≡ true → (other ≡ Some k → test k ≡ true) → cond b (Some a) other ≡ Some k → test k ≡ true
+word_passes test true a other k p q e = ap test (sym (some_same a k e)) ∙ p
+word_passes test false a other k p q e = q e
 
-kind_from : (s : Option (List ℕ)) (k : Kind) → option_and_then kind_named s ≡ Some k → k ≡ int64
+kind_from : (s : Option (List ℕ)) (k : Kind) → option_and_then kind_named s ≡ Some k → is_built_key k ≡ true
 kind_from None k e = absurd (cc)
-kind_from (Some s) k e = word_is (bytes_eq s (codes "i64")) int64 k e
+kind_from (Some s) k e = word_passes is_built_key (bytes_eq s (codes "i64")) int64 _ k refl (word_passes is_built_key (bytes_eq s (codes "str")) string _ k refl (λ h. absurd (cc))) e
 
 abbrev made : List (List Data) → Name → Kind → Written
 made chunks name kind = record { name = name; kind = kind; chunks = chunks }
 
 column_kind : (known : Option ⊤) (chunks : Option (List (List Data))) (name : Option Name) (s : Option (List ℕ)) (w : Written)
-    → option_and_then (λ _. option_and_then (λ cs. option_and_then (λ n. option_and_then (λ k. Some (made cs n k)) (option_and_then kind_named s)) name) chunks) known ≡ Some w → IsInteger w
+    → option_and_then (λ _. option_and_then (λ cs. option_and_then (λ n. option_and_then (λ k. Some (made cs n k)) (option_and_then kind_named s)) name) chunks) known ≡ Some w → IsKey w
 column_kind None chunks name s w e = absurd (cc)
 column_kind (Some u) None name s w e = absurd (cc)
 column_kind (Some u) (Some cs) None s w e = absurd (cc)
 column_kind (Some u) (Some cs) (Some n) s w e = last (option_and_then kind_named s) (kind_from s) e where
-  last : (o : Option Kind) → ((k : Kind) → o ≡ Some k → k ≡ int64) → option_and_then (λ k. Some (made cs n k)) o ≡ Some w → IsInteger w
+  last : (o : Option Kind) → ((k : Kind) → o ≡ Some k → is_built_key k ≡ true) → option_and_then (λ k. Some (made cs n k)) o ≡ Some w → IsKey w
   last None h d = absurd (cc)
-  last (Some k) h d = ap (λ v. v.kind) (sym (some_same (made cs n k) w d)) ∙ h k refl
+  last (Some k) h d = subst IsKey (some_same (made cs n k) w d) (h k refl)
 
-column_is : (d : Data) (w : Written) → column_of d ≡ Some w → IsInteger w
+column_is : (d : Data) (w : Written) → column_of d ≡ Some w → IsKey w
 unfolding column_of
 column_is d w e =
     column_kind (check (has_only (codes "chunks" ∷ codes "name" ∷ codes "type" ∷ []) d)) (option_and_then (list_of as_list) (get (codes "chunks") d)) (option_and_then as_str (get (codes "name") d)) (option_and_then as_str (get (codes "type") d)) w e
 
-columns_are : (o : Option (List Data)) (ws : List Written) → option_and_then (steps.each column_of) o ≡ Some ws → All IsInteger ws
+columns_are : (o : Option (List Data)) (ws : List Written) → option_and_then (steps.each column_of) o ≡ Some ws → All IsKey ws
 columns_are None ws e = absurd (cc)
-columns_are (Some ds) ws e = each_have column_of IsInteger column_is ds ws e
+columns_are (Some ds) ws e = each_have column_of IsKey column_is ds ws e
 
-list_are : (o : Option Data) (ws : List Written) → option_and_then (list_of column_of) o ≡ Some ws → All IsInteger ws
+list_are : (o : Option Data) (ws : List Written) → option_and_then (list_of column_of) o ≡ Some ws → All IsKey ws
 list_are None ws e = absurd (cc)
 list_are (Some d) ws e = columns_are (as_list d) ws e
 
-table_is : (d : Data) (ws : List Written) → table_of d ≡ Some ws → All IsInteger ws
+table_is : (d : Data) (ws : List Written) → table_of d ≡ Some ws → All IsKey ws
 unfolding table_of
 table_is d ws e = pick (has_only (codes "columns" ∷ []) d) e where
-  pick : (b : Bool) → option_and_then (λ _. option_and_then (list_of column_of) (get (codes "columns") d)) (check b) ≡ Some ws → All IsInteger ws
+  pick : (b : Bool) → option_and_then (λ _. option_and_then (list_of column_of) (get (codes "columns") d)) (check b) ≡ Some ws → All IsKey ws
   pick true h = list_are (get (codes "columns") d) ws h
   pick false h = absurd (cc)
 
-table_in : (o : Option Data) (ws : List Written) → option_and_then table_of o ≡ Some ws → All IsInteger ws
+table_in : (o : Option Data) (ws : List Written) → option_and_then table_of o ≡ Some ws → All IsKey ws
 table_in None ws e = absurd (cc)
 table_in (Some d) ws e = table_is d ws e
 
 -- ---- the arguments
 
-abbrev the_args : JoinArgs
-the_args = record { how = Inner; validation = ManyToMany; suffix = None; slice = None; join_nulls = false; coalesce = JoinSpecific; maintain_order = LeftRight }
+record IsBuiltArgs (a : JoinArgs) : Type 0 where
+  how : is_built_kind a.how ≡ true
+  validation : a.validation ≡ ManyToMany
+  slice : a.slice ≡ None
+  nulls : a.join_nulls ≡ false
+  order : is_built_order a.maintain_order ≡ true
 
-abbrev with_words : JoinType → MaintainOrderJoin → JoinArgs
-with_words how order = record { how = how; validation = ManyToMany; suffix = None; slice = None; join_nulls = false; coalesce = JoinSpecific; maintain_order = order }
+abbrev with_words : JoinType → Option Name → JoinCoalesce → MaintainOrderJoin → JoinArgs
+with_words how suffix coalesce order = record { how = how; validation = ManyToMany; suffix = suffix; slice = None; join_nulls = false; coalesce = coalesce; maintain_order = order }
 
-how_from : (s : Option (List ℕ)) (k : JoinType) → option_and_then how_named s ≡ Some k → k ≡ Inner
+how_from : (s : Option (List ℕ)) (k : JoinType) → option_and_then how_named s ≡ Some k → is_built_kind k ≡ true
 how_from None k e = absurd (cc)
-how_from (Some s) k e = word_is (bytes_eq s (codes "inner")) Inner k e
+how_from (Some s) k e = word_passes is_built_kind (bytes_eq s (codes "inner")) Inner _ k refl (word_passes is_built_kind (bytes_eq s (codes "left")) Left _ k refl (λ h. absurd (cc))) e
 
-order_from : (s : Option (List ℕ)) (k : MaintainOrderJoin) → option_and_then order_named s ≡ Some k → k ≡ LeftRight
+order_from : (s : Option (List ℕ)) (k : MaintainOrderJoin) → option_and_then order_named s ≡ Some k → is_built_order k ≡ true
 order_from None k e = absurd (cc)
-order_from (Some s) k e = word_is (bytes_eq s (codes "left_right")) LeftRight k e
+order_from (Some s) k e =
+    word_passes is_built_order (bytes_eq s (codes "none")) order.None _ k refl
+    (word_passes is_built_order (bytes_eq s (codes "left")) order.Left _ k refl (word_passes is_built_order (bytes_eq s (codes "left_right")) order.LeftRight _ k refl (λ h. absurd (cc)))) e
 
-args_from : (known : Option ⊤) (how : Option JoinType) (order : Option MaintainOrderJoin) (a : JoinArgs) → ((k : JoinType) → how ≡ Some k → k ≡ Inner) → ((k : MaintainOrderJoin) → order ≡ Some k → k ≡ LeftRight)
-    → option_and_then (λ _. option_and_then (λ h. option_and_then (λ o. Some (with_words h o)) order) how) known ≡ Some a → a ≡ the_args
-args_from None how order a p q e = absurd (cc)
-args_from (Some u) None order a p q e = absurd (cc)
-args_from (Some u) (Some h) None a p q e = absurd (cc)
-args_from (Some u) (Some h) (Some o) a p q e = sym (some_same (with_words h o) a e) ∙ ap (λ x. with_words x o) (p h refl) ∙ ap (λ x. with_words Inner x) (q o refl)
+order_in : (o : Option Data) (k : MaintainOrderJoin) → text_or order.None order_named o ≡ Some k → is_built_order k ≡ true
+order_in None k e = ap is_built_order (sym (some_same order.None k e))
+order_in (Some d) k e = order_from (as_str d) k e
 
-args_are : (d : Data) (a : JoinArgs) → args_of d ≡ Some a → a ≡ the_args
+args_from : (known : Option ⊤) (how : Option JoinType) (suffix : Option (Option Name)) (coalesce : Option JoinCoalesce) (order : Option MaintainOrderJoin) (a : JoinArgs)
+    → ((k : JoinType) → how ≡ Some k → is_built_kind k ≡ true) → ((k : MaintainOrderJoin) → order ≡ Some k → is_built_order k ≡ true)
+    → option_and_then (λ _. option_and_then (λ h. option_and_then (λ s. option_and_then (λ c. option_and_then (λ o. Some (with_words h s c o)) order) coalesce) suffix) how) known ≡ Some a → IsBuiltArgs a
+args_from None how suffix coalesce order a p q e = absurd (cc)
+args_from (Some u) None suffix coalesce order a p q e = absurd (cc)
+args_from (Some u) (Some h) None coalesce order a p q e = absurd (cc)
+args_from (Some u) (Some h) (Some s) None order a p q e = absurd (cc)
+args_from (Some u) (Some h) (Some s) (Some c) None a p q e = absurd (cc)
+args_from (Some u) (Some h) (Some s) (Some c) (Some o) a p q e =
+    subst IsBuiltArgs (some_same (with_words h s c o) a e) (record { how = p h refl; validation = refl; slice = refl; nulls = refl; order = q o refl })
+
+args_are : (d : Data) (a : JoinArgs) → args_of d ≡ Some a → IsBuiltArgs a
 unfolding args_of
 args_are d a e =
-    args_from (check (has_only (codes "how" ∷ codes "maintain_order" ∷ []) d)) (option_and_then how_named (option_and_then as_str (get (codes "how") d))) (option_and_then order_named (option_and_then as_str (get (codes "maintain_order") d))) a
-    (how_from (option_and_then as_str (get (codes "how") d))) (order_from (option_and_then as_str (get (codes "maintain_order") d))) e
+    args_from (check (has_only (codes "coalesce" ∷ codes "how" ∷ codes "maintain_order" ∷ codes "suffix" ∷ []) d)) (how_of d) (suffix_of d) (coalesce_of d) (order_of d) a
+    (how_from (option_and_then as_str (get (codes "how") d))) (order_in (get (codes "maintain_order") d)) e
 
-args_in : (o : Option Data) (a : JoinArgs) → option_and_then args_of o ≡ Some a → a ≡ the_args
+args_in : (o : Option Data) (a : JoinArgs) → option_and_then args_of o ≡ Some a → IsBuiltArgs a
 args_in None a e = absurd (cc)
 args_in (Some d) a e = args_are d a e
 
 -- ---- the members
 
 record IsBuiltJoin (w : WrittenJoin) : Type 0 where
-  args_are : w.args ≡ the_args
-  left_are : All IsInteger w.left
-  right_are : All IsInteger w.right
+  args_are : IsBuiltArgs w.args
+  left_are : All IsKey w.left
+  right_are : All IsKey w.right
 
 abbrev the_join : JoinArgs → List Written → List Name → List Written → List Name → WrittenJoin
 the_join args left left_on right right_on = record { args = args; left = left; left_on = left_on; right = right; right_on = right_on }
 
 join_from : (known : Option ⊤) (args : Option JoinArgs) (left : Option (List Written)) (left_on : Option (List Name)) (right : Option (List Written)) (right_on : Option (List Name)) (w : WrittenJoin)
-    → ((a : JoinArgs) → args ≡ Some a → a ≡ the_args) → ((ws : List Written) → left ≡ Some ws → All IsInteger ws) → ((ws : List Written) → right ≡ Some ws → All IsInteger ws)
+    → ((a : JoinArgs) → args ≡ Some a → IsBuiltArgs a) → ((ws : List Written) → left ≡ Some ws → All IsKey ws) → ((ws : List Written) → right ≡ Some ws → All IsKey ws)
     → option_and_then (λ _. option_and_then (λ a. option_and_then (λ l. option_and_then (λ lo. option_and_then (λ r. option_and_then (λ ro. Some (the_join a l lo r ro)) right_on) right) left_on) left) args) known ≡ Some w
     → IsBuiltJoin w
 join_from None args left left_on right right_on w p q r e = absurd (cc)
@@ -164,39 +179,37 @@ values_kind w c e = pick (values_in w.kind w.chunks) e where
     short true k = ap (λ x. x.kind) (sym (some_same (column_with w chunks) c k))
     short false k = absurd (cc)
 
-table_kinds : (ws : List Written) (t : Table) → All IsInteger ws → table_from ws ≡ Some t → All HasIntegers t
-table_kinds [] t all e = subst (All HasIntegers) (some_same [] t e) (All-none HasIntegers)
-table_kinds (w ∷ ws) t all e = more (values_of w) (table_from ws) (λ c h. values_kind w c h ∙ All-head IsInteger w ws all) (λ u h. table_kinds ws u (All-tail IsInteger w ws all) h) e where
-  more : (o : Option TableColumn) (r : Option Table) → ((c : TableColumn) → o ≡ Some c → HasIntegers c) → ((u : Table) → r ≡ Some u → All HasIntegers u) → option_and_then (λ y. option_map (λ ys. y ∷ ys) r) o ≡ Some t → All HasIntegers t
+table_kinds : (ws : List Written) (t : Table) → All IsKey ws → table_from ws ≡ Some t → All HasKeys t
+table_kinds [] t all e = subst (All HasKeys) (some_same [] t e) (All-none HasKeys)
+table_kinds (w ∷ ws) t all e = more (values_of w) (table_from ws) (λ c h. ap is_built_key (values_kind w c h) ∙ All-head IsKey w ws all) (λ u h. table_kinds ws u (All-tail IsKey w ws all) h) e where
+  more : (o : Option TableColumn) (r : Option Table) → ((c : TableColumn) → o ≡ Some c → HasKeys c) → ((u : Table) → r ≡ Some u → All HasKeys u) → option_and_then (λ y. option_map (λ ys. y ∷ ys) r) o ≡ Some t → All HasKeys t
   more None r p q h = absurd (cc)
   more (Some c) None p q h = absurd (cc)
-  more (Some c) (Some u) p q h = subst (All HasIntegers) (some_same (c ∷ u) t h) (All-cons HasIntegers c u (p c refl) (q u refl))
+  more (Some c) (Some u) p q h = subst (All HasKeys) (some_same (c ∷ u) t h) (All-cons HasKeys c u (p c refl) (q u refl))
 
-tables_kinds : (w : WrittenJoin) (ts : Table × Table) → IsBuiltJoin w → tables_of w ≡ Some ts → All HasIntegers ts.0 × All HasIntegers ts.1
+tables_kinds : (w : WrittenJoin) (ts : Table × Table) → IsBuiltJoin w → tables_of w ≡ Some ts → All HasKeys ts.0 × All HasKeys ts.1
 unfolding tables_of
 tables_kinds w ts b e = pick (table_from w.left) (table_from w.right) (λ t. table_kinds w.left t b.left_are) (λ t. table_kinds w.right t b.right_are) e where
-  pick : (l r : Option Table) → ((t : Table) → l ≡ Some t → All HasIntegers t) → ((t : Table) → r ≡ Some t → All HasIntegers t) → option_and_then (λ x. option_and_then (λ y. Some (x, y)) r) l ≡ Some ts → All HasIntegers ts.0 × All HasIntegers ts.1
+  pick : (l r : Option Table) → ((t : Table) → l ≡ Some t → All HasKeys t) → ((t : Table) → r ≡ Some t → All HasKeys t) → option_and_then (λ x. option_and_then (λ y. Some (x, y)) r) l ≡ Some ts → All HasKeys ts.0 × All HasKeys ts.1
   pick None r p q h = absurd (cc)
   pick (Some l) None p q h = absurd (cc)
-  pick (Some l) (Some r) p q h = subst (λ (us : Table × Table). All HasIntegers us.0 × All HasIntegers us.1) (some_same (l, r) ts h) (p l refl, q r refl)
+  pick (Some l) (Some r) p q h = subst (λ (us : Table × Table). All HasKeys us.0 × All HasKeys us.1) (some_same (l, r) ts h) (p l refl, q r refl)
 
 -- ---- the request
 
 ok_same : (r : Result JoinRequest Reason) (x y : JoinRequest) → r ≡ Ok x → r ≡ Ok y → x ≡ y
 ok_same r x y d e = cc
 
-keys_have : (t : Table) (names : List Name) → All HasIntegers t → All HasIntegers (filter_map (named t) names)
-keys_have t names all = filter_map_have (named t) HasIntegers (λ n c e. found_has HasIntegers (λ x. same_name x.name n) t c all e) names
+keys_have : (t : Table) (names : List Name) → All HasKeys t → All HasKeys (filter_map (named t) names)
+keys_have t names all = filter_map_have (named t) HasKeys (λ n c e. found_has HasKeys (λ x. same_name x.name n) t c all e) names
 
-built_from : (w : WrittenJoin) (ts : Table × Table) → IsBuiltJoin w → All HasIntegers ts.0 × All HasIntegers ts.1 → length w.left_on ≡ 1 → length w.right_on ≡ 1 → IsBuilt (by_names ts.0 ts.1 w.left_on w.right_on w.args)
+built_from : (w : WrittenJoin) (ts : Table × Table) → IsBuiltJoin w → All HasKeys ts.0 × All HasKeys ts.1 → length w.left_on ≡ 1 → length w.right_on ≡ 1 → IsBuilt (by_names ts.0 ts.1 w.left_on w.right_on w.args)
 built_from w ts b kinds one_left one_right = record {
-  how = ap (λ (a : JoinArgs). a.how) b.args_are;
-  validation = ap (λ (a : JoinArgs). a.validation) b.args_are;
-  suffix = ap (λ (a : JoinArgs). a.suffix) b.args_are;
-  slice = ap (λ (a : JoinArgs). a.slice) b.args_are;
-  nulls = ap (λ (a : JoinArgs). a.join_nulls) b.args_are;
-  coalesce = ap (λ (a : JoinArgs). a.coalesce) b.args_are;
-  order = ap (λ (a : JoinArgs). a.maintain_order) b.args_are;
+  how = b.args_are.how;
+  validation = b.args_are.validation;
+  slice = b.args_are.slice;
+  nulls = b.args_are.nulls;
+  order = b.args_are.order;
   one_left = one_left;
   one_right = one_right;
   left_kinds = keys_have ts.0 w.left_on kinds.0;
@@ -210,7 +223,7 @@ both_true false b h = absurd (true≢false (sym h))
 abbrev whole_request : WrittenJoin → Table × Table → JoinRequest
 whole_request w ts = record { left = ts.0; right = ts.1; left_on = w.left_on; right_on = w.right_on; args = w.args }
 
-ends_built : (w : WrittenJoin) (ts : Table × Table) (r : JoinRequest) (valid : Result ⊤ Reason) (one : Bool) → IsBuiltJoin w → All HasIntegers ts.0 × All HasIntegers ts.1 → (one ≡ true → (length w.left_on ≡ 1) × (length w.right_on ≡ 1))
+ends_built : (w : WrittenJoin) (ts : Table × Table) (r : JoinRequest) (valid : Result ⊤ Reason) (one : Bool) → IsBuiltJoin w → All HasKeys ts.0 × All HasKeys ts.1 → (one ≡ true → (length w.left_on ≡ 1) × (length w.right_on ≡ 1))
     → (valid >>= λ _. only_if one NotYet >>= λ _. Ok (whole_request w ts)) ≡ Ok r → IsBuilt (asked r)
 ends_built w ts r (Err why) one b kinds keys e = absurd (cc)
 ends_built w ts r (Ok u) false b kinds keys e = absurd (cc)
@@ -225,7 +238,7 @@ request_built d r e = pick (join_of d) (join_is d) e where
   pick : (o : Option WrittenJoin) → ((w : WrittenJoin) → o ≡ Some w → IsBuiltJoin w) → (ok_or o NotYet >>= λ w. ok_or (tables_of w) NotYet >>= rest_of w) ≡ Ok r → IsBuilt (asked r)
   pick None p h = absurd (cc)
   pick (Some w) p h = with_tables (tables_of w) (λ ts k. tables_kinds w ts (p w refl) k) h where
-    with_tables : (o : Option (Table × Table)) → ((ts : Table × Table) → o ≡ Some ts → All HasIntegers ts.0 × All HasIntegers ts.1) → (ok_or o NotYet >>= rest_of w) ≡ Ok r → IsBuilt (asked r)
+    with_tables : (o : Option (Table × Table)) → ((ts : Table × Table) → o ≡ Some ts → All HasKeys ts.0 × All HasKeys ts.1) → (ok_or o NotYet >>= rest_of w) ≡ Ok r → IsBuilt (asked r)
     with_tables None q k = absurd (cc)
     with_tables (Some ts) q k =
         ends_built w ts r (are_tables ts.0 ts.1) (length w.left_on == 1 && (length w.right_on == 1)) (p w refl) (q ts refl)

@@ -85,6 +85,17 @@ fn request_in(alloc: Global, value: &Value) -> Result<JoinRequest, RequestFault>
 
 /// The request to join that the bytes are.
 ///
+/// They are a JSON object with exactly the members `left`, `right`, `left_on`, `right_on` and `args`.
+/// A table is an object with exactly `columns`, a list of objects with exactly `name`, a text, `type`
+/// and `chunks`, lists of values: whole numbers of 64 bits where the type is `"i64"`, and texts of
+/// fewer than 2^32 bytes where it is `"str"`. In a table the columns have one length, of at most
+/// `MAX_ROWS`, and distinct names. The keys are a list of one text on each side.
+///
+/// The arguments are an object with `how`, `"inner"` or `"left"`, and no others beside it than
+/// `suffix`, a text; `coalesce`, `"specific"`, `"coalesce"` or `"keep"`, where it is absent as
+/// `"specific"`; and `maintain_order`, `"none"`, `"left"` or `"left_right"`, where it is absent as
+/// `"none"`.
+///
 /// # Errors
 ///
 /// `OutOfMemory` may come at any time. Else the first reason that holds of the whole input: `Json`

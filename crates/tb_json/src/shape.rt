@@ -4,13 +4,13 @@ ghost use Rattle.serde_json.specs.View.{view};
 ghost use Rattle.serde_json.specs.Find.{as_str};
 ghost use Rattle.tb_value.specs.SeeKind.{kind_of};
 ghost use Rattle.tb_json.specs.Lists.{is_among, has_only, as_list, list_of};
-ghost use Rattle.tb_json.specs.Written.{kind_named, how_named, order_named, args_of, join_of, column_of, table_of};
+ghost use Rattle.tb_json.specs.Written.{kind_named, how_named, coalesce_named, order_named, how_of, coalesce_of, order_of, suffix_of, args_of, join_of, column_of, table_of};
 ghost use Rattle.tb_json.specs.Lent.{written_view, join_view};
 
 use serde_json::Value;
 use std::alloc::Global;
-use tb_frame::{JoinArgs, JoinType, MaintainOrderJoin};
-use tb_value::{DataType, OutOfMemory};
+use tb_frame::{JoinArgs, JoinCoalesce, JoinType, MaintainOrderJoin};
+use tb_value::{DataType, OutOfMemory, PlSmallStr};
 
 // A column whose values still stand in the request.
 #[derive(Drop)]
@@ -60,6 +60,7 @@ fn kind_named(text: &str) -> Option<DataType>
 {
     match text {
         "i64" => Some(DataType::Int64),
+        "str" => Some(DataType::String),
         _ => None,
     }
 }
@@ -169,6 +170,18 @@ fn how_named(text: &str) -> Option<JoinType>
 {
     match text {
         "inner" => Some(JoinType::Inner),
+        "left" => Some(JoinType::Left),
+        _ => None,
+    }
+}
+
+fn coalesce_named(text: &str) -> Option<JoinCoalesce>
+    ensures { result ≡ coalesce_named text.now }
+{
+    match text {
+        "specific" => Some(JoinCoalesce::JoinSpecific),
+        "coalesce" => Some(JoinCoalesce::CoalesceColumns),
+        "keep" => Some(JoinCoalesce::KeepColumns),
         _ => None,
     }
 }
@@ -177,23 +190,74 @@ fn order_named(text: &str) -> Option<MaintainOrderJoin>
     ensures { result ≡ order_named text.now }
 {
     match text {
+        "none" => Some(MaintainOrderJoin::None),
+        "left" => Some(MaintainOrderJoin::Left),
         "left_right" => Some(MaintainOrderJoin::LeftRight),
         _ => None,
     }
 }
 
-#[tactic(auto, unfolding(crate::specs::Written::args_of))]
-fn args_of(value: &Value) -> Option<JoinArgs>
-    ensures { result ≡ args_of (view value.now) }
+fn how_of(args: &Value) -> Option<JoinType>
+    ensures { result ≡ how_of (view args.now) }
 {
-    if !has_only(value, &["how", "maintain_order"]) {
-        return None;
+    how_named(args.get("how")?.as_str()?)
+}
+
+fn coalesce_of(args: &Value) -> Option<JoinCoalesce>
+    ensures { result ≡ coalesce_of (view args.now) }
+{
+    match args.get("coalesce") {
+        Some(member) => coalesce_named(member.as_str()?),
+        None => Some(JoinCoalesce::JoinSpecific),
     }
-    let how = how_named(value.get("how")?.as_str()?)?;
-    let maintain_order = order_named(value.get("maintain_order")?.as_str()?)?;
+}
+
+fn order_of(args: &Value) -> Option<MaintainOrderJoin>
+    ensures { result ≡ order_of (view args.now) }
+{
+    match args.get("maintain_order") {
+        Some(member) => order_named(member.as_str()?),
+        None => Some(MaintainOrderJoin::None),
+    }
+}
+
+// A suffix, none where it is absent, and None where it is no text.
+fn suffix_of(alloc: Global, args: &Value) -> Result<Option<Option<PlSmallStr>>, OutOfMemory>
+    ensures { IfOk result (λ o. o ≡ suffix_of (view args.now)) }
+{
+    let Some(member) = args.get("suffix") else {
+        return Ok(Some(None));
+    };
+    match member.as_str() {
+        Some(text) => Ok(Some(Some(PlSmallStr::from_str(alloc, text)?))),
+        None => Ok(None),
+    }
+}
+
+#[tactic(auto, unfolding(crate::specs::Written::args_of))]
+fn args_of(alloc: Global, value: &Value) -> Result<Option<JoinArgs>, OutOfMemory>
+    ensures { IfOk result (λ o. o ≡ args_of (view value.now)) }
+{
+    if !has_only(value, &["coalesce", "how", "maintain_order", "suffix"]) {
+        return Ok(None);
+    }
+    let Some(how) = how_of(value) else {
+        return Ok(None);
+    };
+    let Some(suffix) = suffix_of(alloc, value)? else {
+        return Ok(None);
+    };
+    let Some(coalesce) = coalesce_of(value) else {
+        return Ok(None);
+    };
+    let Some(maintain_order) = order_of(value) else {
+        return Ok(None);
+    };
     let mut args = JoinArgs::new(how);
+    args.suffix = suffix;
+    args.coalesce = coalesce;
     args.maintain_order = maintain_order;
-    Some(args)
+    Ok(Some(args))
 }
 
 /// The members of a request to join, or None where the value has not the form of one.
@@ -207,7 +271,10 @@ pub(crate) fn join_of<'v>(
     if !has_only(value, &["args", "left", "left_on", "right", "right_on"]) {
         return Ok(None);
     }
-    let Some(args) = value.get("args").and_then(args_of) else {
+    let Some(args) = value.get("args") else {
+        return Ok(None);
+    };
+    let Some(args) = args_of(alloc, args)? else {
         return Ok(None);
     };
     let Some(left) = value.get("left") else {

@@ -17,12 +17,82 @@ fn reasons(rt: HostRuntime) -> Result<(), Fail> {
         ("[1e400]", Reason::Json),
         ("{}", Reason::NotYet),
         (
-            r#"{"args":{"how":"left","maintain_order":"left_right"},"left":{"columns":[]},"left_on":["a"],"right":{"columns":[]},"right_on":["a"]}"#,
+            r#"{"args":{"how":"inner"},"left":{"columns":[]},"left_on":["a"],"right":{},"right_on":["a"]}"#,
             Reason::NotYet,
         ),
     ];
     for (text, reason) in &cases {
         assert!(rt; is_refused(rt.alloc(), text, *reason), "{text}");
+    }
+    Ok(())
+}
+
+const WHOLE: &str = r#""type":"i64","chunks":[[1,2],[3]]"#;
+
+const TEXTS: &str = r#""type":"str","chunks":[["x","\u00e9"],[],[""]]"#;
+
+// Whether a request with this left key and these arguments is read. Else it is NotYet.
+fn is_read(alloc: Global, key: &str, args: &str) -> Result<bool, Fail> {
+    let text = format!(in alloc;
+        r#"{{"args":{{{args}}},"left":{{"columns":[{{"name":"k",{key}}},{{"name":"a",{WHOLE}}}]}},"left_on":["k"],"right":{{"columns":[]}},"right_on":["k"]}}"#
+    )?;
+    match request_of(alloc, text.as_bytes()) {
+        Ok(_) => Ok(true),
+        Err(fault) if fault == RequestFault::NoRequest(Reason::NotYet) => Ok(false),
+        Err(_) => Err("another fault".into()),
+    }
+}
+
+#[test]
+fn forms(rt: HostRuntime) -> Result<(), Fail> {
+    let cases = [
+        (WHOLE, r#""how":"inner""#, true),
+        (TEXTS, r#""how":"left""#, true),
+        (WHOLE, r#""how":"left","maintain_order":"none""#, true),
+        (WHOLE, r#""how":"left","maintain_order":"left""#, true),
+        (
+            WHOLE,
+            r#""how":"inner","maintain_order":"left_right""#,
+            true,
+        ),
+        (WHOLE, r#""how":"inner","coalesce":"specific""#, true),
+        (WHOLE, r#""how":"left","coalesce":"coalesce""#, true),
+        (
+            WHOLE,
+            r#""how":"left","coalesce":"keep","suffix":"_r""#,
+            true,
+        ),
+        (WHOLE, r#""how":"inner","suffix":"""#, true),
+        (WHOLE, r#""maintain_order":"left""#, false),
+        (WHOLE, r#""how":"full""#, false),
+        (WHOLE, r#""how":"inner","maintain_order":"right""#, false),
+        (WHOLE, r#""how":"inner","maintain_order":null"#, false),
+        (WHOLE, r#""how":"inner","coalesce":null"#, false),
+        (WHOLE, r#""how":"inner","suffix":1"#, false),
+        (WHOLE, r#""how":"inner","slice":[0,1]"#, false),
+        (
+            r#""type":"str","chunks":[["x",2,"z"]]"#,
+            r#""how":"inner""#,
+            false,
+        ),
+        (
+            r#""type":"str","chunks":[["x",null,"z"]]"#,
+            r#""how":"inner""#,
+            false,
+        ),
+        (
+            r#""type":"i64","chunks":[[1,"y",3]]"#,
+            r#""how":"inner""#,
+            false,
+        ),
+        (
+            r#""type":"bin","chunks":[["x","y","z"]]"#,
+            r#""how":"inner""#,
+            false,
+        ),
+    ];
+    for (key, args, read) in &cases {
+        assert_eq!(rt; is_read(rt.alloc(), key, args)?, *read, "{key} {args}");
     }
     Ok(())
 }

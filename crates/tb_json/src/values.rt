@@ -1,9 +1,10 @@
 //! The values of a request.
-ghost use Rattle.std.specs.Prelude.{◌≡◌, map, option_map, IfOk, IfSome};
+ghost use Rattle.std.specs.Prelude.{◌≡◌, map, Option, option_map, IfOk, IfSome};
 ghost use Rattle.std.specs.List.{All};
+ghost use Rattle.serde_json.specs.Data.{Data};
 ghost use Rattle.serde_json.specs.View.{view};
-ghost use Rattle.tb_value.specs.Datum.{int};
-ghost use Rattle.tb_value.specs.Kind.{int64};
+ghost use Rattle.tb_value.specs.Datum.{Datum, string};
+ghost use Rattle.tb_value.specs.Kind.{Kind};
 ghost use Rattle.tb_value.specs.SeeKind.{kind_of};
 ghost use Rattle.tb_value.specs.Typed.{HasType};
 ghost use Rattle.tb_store.specs.Chunk.{or_null};
@@ -12,58 +13,104 @@ ghost use Rattle.tb_store.specs.Made.{IsTyped};
 ghost use Rattle.tb_store.specs.Seen.{chunk_lists, storage};
 ghost use Rattle.tb_frame.specs.Table.{plain, table_of};
 ghost use Rattle.tb_json.specs.Lists.{each};
-ghost use Rattle.tb_json.specs.Columns.{whole, values_in, values_of, table_from};
+ghost use Rattle.tb_json.specs.Columns.{values_in, values_of, table_from};
 ghost use Rattle.tb_json.specs.Lent.{written_view};
 
 use crate::shape::WrittenColumn;
 use serde_json::Value;
 use std::alloc::Global;
-use tb_store::{Cells, Chunks, Column, Series};
-use tb_value::{DataType, OutOfMemory, PlSmallStr, PolarsError};
+use tb_store::{Cell, Cells, Chunks, Column, Series, StringChunk};
+use tb_value::{DataType, OutOfMemory, PlSmallStr, PolarsError, TOO_LONG};
 
-// A whole number of 64 bits.
-fn integer_of(value: &Value) -> Option<Option<i64>>
-    ensures value { option_map (or_null int) result ≡ whole (view value.now) }
-    ensures typed { IfSome result (λ c. HasType int64 (or_null int c)) }
-{
-    match value.as_i64() {
-        Some(number) => Some(Some(number)),
-        None => None,
+// A value as a typed column stores it, read from JSON. `reads` says which value a JSON value is, if
+// it is one of the type `kind_read`.
+trait ReadCell: Cell {
+    ghost reads: { Data → Option Datum };
+
+    ghost kind_read: { Kind };
+
+    // The value, or None where it is none of the type.
+    fn read(alloc: Global, value: &Value) -> Result<Option<Self>, OutOfMemory>
+        ensures value { IfOk result (λ o. option_map Self.shows o ≡ reads (view value.now)) }
+        ensures typed { IfOk result (λ o. IfSome o (λ c. HasType kind_read (Self.shows c))) };
+}
+
+impl ReadCell for i64 {
+    ghost use Rattle.tb_value.specs.Kind as kind;
+    ghost use Rattle.tb_json.specs.Columns.{whole};
+
+    ghost reads = { whole };
+
+    ghost kind_read = { kind.int64 };
+
+    fn read(alloc: Global, value: &Value) -> Result<Option<i64>, OutOfMemory> {
+        Ok(value.as_i64())
     }
 }
 
-fn integers_of(alloc: Global, items: &Vec<Value>) -> Result<Option<Cells<i64>>, OutOfMemory>
-    ensures cells { IfOk result (λ o. option_map (λ c. map (or_null int) c.cells.items) o
-        ≡ each whole (map view items.now.items)) }
-    ensures typed { IfOk result (λ o. IfSome o (λ c. All (HasType int64) (map (or_null int) c.cells.items))) }
+impl ReadCell for PlSmallStr {
+    ghost use Rattle.tb_value.specs.Kind as kind;
+    ghost use Rattle.tb_json.specs.Columns.{text};
+
+    ghost reads = { text };
+
+    ghost kind_read = { kind.string };
+
+    fn read(alloc: Global, value: &Value) -> Result<Option<PlSmallStr>, OutOfMemory> {
+        match value.as_str() {
+            Some(text) if text.len() < TOO_LONG => Ok(Some(PlSmallStr::from_str(alloc, text)?)),
+            _ => Ok(None),
+        }
+    }
+}
+
+fn cells_of<N: ReadCell>(alloc: Global, items: &Vec<Value>) -> Result<Option<Cells<N>>, OutOfMemory>
+    ensures cells { IfOk result (λ o. option_map (λ c. map (or_null N.shows) c.cells.items) o
+        ≡ each N.reads (map view items.now.items)) }
+    ensures typed { IfOk result (λ o. IfSome o
+        (λ c. All (HasType N.kind_read) (map (or_null N.shows) c.cells.items))) }
 {
     let mut cells = Vec::with_capacity(alloc, items.len())?;
     for item in items {
-        let Some(cell) = integer_of(item) else {
+        let Some(cell) = N::read(alloc, item)? else {
             return Ok(None);
         };
-        cells.push(cell)?;
+        cells.push(Some(cell))?;
     }
     Ok(Some(Cells { cells }))
 }
 
-fn integer_chunks_of(
+fn chunks_of<N: ReadCell>(
     alloc: Global,
     written: &Vec<&Vec<Value>>,
-) -> Result<Option<Vec<Cells<i64>>>, OutOfMemory>
-    ensures chunks { IfOk result (λ o. option_map (λ v. map (λ c. map (or_null int) c.cells.items) v.items) o
-        ≡ each (each whole) (map (λ v. map view v.now.items) written.now.items)) }
+) -> Result<Option<Vec<Cells<N>>>, OutOfMemory>
+    ensures chunks { IfOk result (λ o. option_map (λ v. map (λ c. map (or_null N.shows) c.cells.items) v.items) o
+        ≡ each (each N.reads) (map (λ v. map view v.now.items) written.now.items)) }
     ensures typed { IfOk result (λ o. IfSome o
-        (λ v. IsTyped int64 (map (λ c. map (or_null int) c.cells.items) v.items))) }
+        (λ v. IsTyped N.kind_read (map (λ c. map (or_null N.shows) c.cells.items) v.items))) }
 {
     let mut chunks = Vec::with_capacity(alloc, written.len())?;
     for items in written {
-        let Some(cells) = integers_of(alloc, *items)? else {
+        let Some(cells) = cells_of(alloc, *items)? else {
             return Ok(None);
         };
         chunks.push(cells)?;
     }
     Ok(Some(chunks))
+}
+
+fn text_chunks(
+    alloc: Global,
+    chunks: Vec<Cells<PlSmallStr>>,
+) -> Result<Vec<StringChunk>, OutOfMemory>
+    ensures { IfOk result (λ v. map (λ c. map (or_null string) c.inner.cells.items) v.items
+        ≡ map (λ c. map (or_null string) c.cells.items) chunks.items) }
+{
+    let mut texts = Vec::with_capacity(alloc, chunks.len())?;
+    for cells in chunks {
+        texts.push(StringChunk::from_cells(cells))?;
+    }
+    Ok(texts)
 }
 
 fn arrays_of(
@@ -77,8 +124,12 @@ fn arrays_of(
     ensures stored { IfOk result (λ o. IfSome o (λ c. storage c ≡ physical (kind_of dtype.now))) }
 {
     match dtype {
-        DataType::Int64 => match integer_chunks_of(alloc, written)? {
+        DataType::Int64 => match chunks_of(alloc, written)? {
             Some(chunks) => Ok(Some(Chunks::Int64Type(chunks))),
+            None => Ok(None),
+        },
+        DataType::String => match chunks_of(alloc, written)? {
+            Some(chunks) => Ok(Some(Chunks::StringType(text_chunks(alloc, chunks)?))),
             None => Ok(None),
         },
         _ => Ok(None),

@@ -1,7 +1,7 @@
 //! A run of values of a column.
 ghost use Rattle.std.specs.Prelude.{◌≡◌, ◌<◌, IfOk, length, get_or, map, replicate};
 ghost use Rattle.std.specs.List.{All};
-ghost use Rattle.tb_value.specs.Datum.{Datum, null};
+ghost use Rattle.tb_value.specs.Datum.{Datum, null, string};
 ghost use Rattle.tb_value.specs.See.{data_of, datum, lent};
 ghost use Rattle.tb_store.specs.Chunk.{or_null};
 
@@ -130,6 +130,13 @@ impl StringChunk {
         ensures { result.now ≡ self.now.inner.cells.items }
     {
         &self.inner.cells
+    }
+
+    /// The chunk of these texts.
+    pub fn from_cells(texts: Cells<PlSmallStr>) -> StringChunk
+        ensures { map (or_null string) result.inner.cells.items ≡ map (or_null string) texts.cells.items }
+    {
+        StringChunk { inner: texts }
     }
 }
 

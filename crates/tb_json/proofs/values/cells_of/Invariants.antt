@@ -1,0 +1,13 @@
+use Rattle.std.proofs.Common.{map}
+use Rattle.std.specs.List.{All}
+use Rattle.serde_json.specs.View.{view}
+use Rattle.tb_value.specs.Typed.{HasType}
+use Rattle.tb_store.specs.Chunk.{or_null}
+use Rattle.tb_json.proofs.LentValues.{Walk}
+use Rattle.tb_json.proofs.values.cells_of.Given as goal
+
+abbrev pub invariant-loop-item : goal.invariant-loop-item
+invariant-loop-item g l = record {
+  walked : Walk view g.N.ReadCell.reads l.item-items (map (or_null g.N.Cell.shows) l.cells.items) l.item-index;
+  typed : All (HasType g.N.ReadCell.kind_read) (map (or_null g.N.Cell.shows) l.cells.items);
+}
