@@ -9,6 +9,8 @@ ghost use Rattle.tb_app.specs.Words.{word_from};
 mod answering;
 mod ends;
 pub mod laws;
+#[cfg(test)]
+mod left_tests;
 mod memory;
 mod never;
 mod reading;

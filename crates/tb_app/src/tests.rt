@@ -38,19 +38,19 @@ fn words_of(alloc: Global, texts: &[&str]) -> Result<Vec<PlSmallStr>, OutOfMemor
 }
 
 #[derive(Clone, Copy)]
-struct Case<'a> {
-    words: &'a [&'a str],
-    input: &'a str,
+pub(crate) struct Case<'a> {
+    pub words: &'a [&'a str],
+    pub input: &'a str,
     // The numbers of the reads and of the writes that fail.
-    reads: &'a [u64],
-    writes: &'a [u64],
-    room: usize,
-    status: Status,
-    text: &'a str,
+    pub reads: &'a [u64],
+    pub writes: &'a [u64],
+    pub room: usize,
+    pub status: Status,
+    pub text: &'a str,
 }
 
 // The status, and what was written.
-fn outcome(
+pub(crate) fn outcome(
     rt: &(impl Threads + Sync),
     alloc: Global,
     case: &Case,
