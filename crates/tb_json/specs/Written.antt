@@ -44,10 +44,18 @@ abbrev pub how_named : List ℕ → Option JoinType
 how_named s = if bytes_eq s (codes "inner") then Some Inner else if bytes_eq s (codes "left") then Some Left else None
 
 abbrev pub coalesce_named : List ℕ → Option JoinCoalesce
-coalesce_named s = if bytes_eq s (codes "specific") then Some JoinSpecific else if bytes_eq s (codes "coalesce") then Some CoalesceColumns else if bytes_eq s (codes "keep") then Some KeepColumns else None
+coalesce_named s =
+    if bytes_eq s (codes "specific") then Some JoinSpecific
+    else if bytes_eq s (codes "coalesce") then Some CoalesceColumns
+    else if bytes_eq s (codes "keep") then Some KeepColumns
+    else None
 
 abbrev pub order_named : List ℕ → Option MaintainOrderJoin
-order_named s = if bytes_eq s (codes "none") then Some order.None else if bytes_eq s (codes "left") then Some order.Left else if bytes_eq s (codes "left_right") then Some order.LeftRight else None
+order_named s =
+    if bytes_eq s (codes "none") then Some order.None
+    else if bytes_eq s (codes "left") then Some order.Left
+    else if bytes_eq s (codes "left_right") then Some order.LeftRight
+    else None
 
 -- a member that may be absent, which then means `absent`, and else is a text that f reads
 abbrev pub text_or : {A : Type 0} → A → (List ℕ → Option A) → Option Data → Option A

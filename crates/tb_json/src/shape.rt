@@ -221,7 +221,7 @@ fn order_of(args: &Value) -> Option<MaintainOrderJoin>
     }
 }
 
-// A suffix, none where it is absent, and None where it is no text.
+// The suffix, or no suffix where it is absent; None where it is no text.
 fn suffix_of(alloc: Global, args: &Value) -> Result<Option<Option<PlSmallStr>>, OutOfMemory>
     ensures { IfOk result (λ o. o ≡ suffix_of (view args.now)) }
 {
@@ -271,31 +271,25 @@ pub(crate) fn join_of<'v>(
     if !has_only(value, &["args", "left", "left_on", "right", "right_on"]) {
         return Ok(None);
     }
-    let Some(args) = value.get("args") else {
+    let (Some(args), Some(left), Some(left_on), Some(right), Some(right_on)) = (
+        value.get("args"),
+        value.get("left"),
+        value.get("left_on"),
+        value.get("right"),
+        value.get("right_on"),
+    ) else {
         return Ok(None);
     };
     let Some(args) = args_of(alloc, args)? else {
         return Ok(None);
     };
-    let Some(left) = value.get("left") else {
-        return Ok(None);
-    };
     let Some(left) = table_of(alloc, left)? else {
-        return Ok(None);
-    };
-    let Some(left_on) = value.get("left_on") else {
         return Ok(None);
     };
     let Some(left_on) = texts_of(alloc, left_on)? else {
         return Ok(None);
     };
-    let Some(right) = value.get("right") else {
-        return Ok(None);
-    };
     let Some(right) = table_of(alloc, right)? else {
-        return Ok(None);
-    };
-    let Some(right_on) = value.get("right_on") else {
         return Ok(None);
     };
     let Some(right_on) = texts_of(alloc, right_on)? else {
