@@ -20,7 +20,7 @@ use Rattle.tb_frame.specs.Table.{TableColumn, Table, height, IsTable}
 use Rattle.tb_frame.specs.Join.{Request, named, agrees, field, matches, listing, direction, cut, IsOrdered}
 use Rattle.tb_frame.proofs.Causes.{selected_hold}
 use Rattle.tb_frame.proofs.InOrder.{in_order, in_order-ordered}
-use Rattle.tb_join.specs.KeyRows.{keeps_left, row_pairs, pairs_by_left}
+use Rattle.tb_join.specs.KeyRows.{keeps_left, row_pairs, pairs_by_left, value_pairs}
 
 -- THE ORDER
 
@@ -78,20 +78,20 @@ module _ (q : Request) (built : IsBuilt q) (k l : TableColumn) (is_k : q.left_ke
       ◌∙◌ {A = ℕ → ℕ → Bool} (λ t. keys_agree (built.nulls t) (is_k t) (is_l t)) (λ t i j. and_true (agrees false (get_or k.values i null) (get_or l.values j null)) t)
 
   module _ (high_k : length k.values ≡ height q.left) (high_l : length l.values ≡ height q.right) where
-    pub same_pairs : pairs_by_left (keeps_left q.args.how) (length k.values) (length l.values) (λ i j. agrees false (get_or k.values i null) (get_or l.values j null)) ≡ in_order (direction q.args.how q.args.maintain_order) q.args.how (height q.left) (height q.right) (matches q)
+    pub same_pairs : value_pairs (keeps_left q.args.how) k.values l.values ≡ in_order (direction q.args.how q.args.maintain_order) q.args.how (height q.left) (height q.right) (matches q)
     same_pairs =
         ◌∙◌ {A = List JoinPair} (λ t. pairs_by_left (keeps_left q.args.how) (high_k t) (high_l t) (sym one_test t))
         (by_left (height q.left) (height q.right) (matches q) q.args.how q.args.maintain_order built.how built.order)
 
     -- and as many as the listing
-    pub as_many : length (pairs_by_left (keeps_left q.args.how) (length k.values) (length l.values) (λ i j. agrees false (get_or k.values i null) (get_or l.values j null))) ≡ length (listing q)
+    pub as_many : length (value_pairs (keeps_left q.args.how) k.values l.values) ≡ length (listing q)
     as_many =
         let how = q.args.how in
         let o = q.args.maintain_order in
         ap (λ (ps : List JoinPair). length ps) same_pairs ∙ length_permutation (listing q) (in_order (direction how o) how (height q.left) (height q.right) (matches q)) (in_order-ordered how o (height q.left) (height q.right) (matches q)).permutation
 
     -- the pairs of the keys are the listing in order
-    pub are_listed : (items : List JoinPair) → items ≡ pairs_by_left (keeps_left q.args.how) (length k.values) (length l.values) (λ i j. agrees false (get_or k.values i null) (get_or l.values j null)) → IsListed q.args.how q.args.maintain_order q.args.slice (listing q) items
+    pub are_listed : (items : List JoinPair) → items ≡ value_pairs (keeps_left q.args.how) k.values l.values → IsListed q.args.how q.args.maintain_order q.args.slice (listing q) items
     are_listed items is = record {
       pairs = items;
       ordered = subst (λ (ps : List JoinPair). IsOrdered q.args.how q.args.maintain_order ps (listing q)) (sym (is ∙ same_pairs)) (in_order-ordered q.args.how q.args.maintain_order (height q.left) (height q.right) (matches q));

@@ -6,7 +6,7 @@ use Rattle.tb_value.specs.Same.{same}
 use Rattle.tb_value.specs.declared.index.JoinPair.{JoinPair}
 use Rattle.tb_store.specs.Chunk.{or_null}
 use Rattle.tb_frame.specs.Join.{agrees}
-use Rattle.tb_join.specs.KeyRows.{same_key, keys_match, pairs_by_left}
+use Rattle.tb_join.specs.KeyRows.{same_key, keys_match, pairs_by_left, value_pairs}
 
 or_false : (b : Bool) → (b || false) ≡ b
 or_false true = refl
@@ -33,7 +33,7 @@ module _ {K : Type 0} (f : K → Datum) (eq : K → K → Bool) (there : (x : K)
     test i j = sym (◌∙◌ {A = Bool} (λ t. agrees false (fields a us is_a i t) (fields b vs is_b j t)) (agrees-key (get_or a i None) (get_or b j None)))
 
     -- the pairs of the keys are those of the values
-    pub typed-pairs : (keep : Bool) → pairs_by_left keep (length a) (length b) (keys_match eq a b) ≡ pairs_by_left keep (length us) (length vs) (λ i j. agrees false (get_or us i null) (get_or vs j null))
+    pub typed-pairs : (keep : Bool) → pairs_by_left keep (length a) (length b) (keys_match eq a b) ≡ value_pairs keep us vs
     typed-pairs keep =
         let long_a : length a ≡ length us = sym (length-map a (or_null f)) ∙ ap (λ (xs : List Datum). length xs) is_a in
         let long_b : length b ≡ length vs = sym (length-map b (or_null f)) ∙ ap (λ (xs : List Datum). length xs) is_b in

@@ -1,13 +1,15 @@
 -- The rows of equal keys, by key, and the pairs that they make.
-use Rattle.std.specs.Prelude.{ℕ, Bool, true, false, if◌then◌else◌, List, [], ◌∷◌, Option, Some, None, unwrap_or, map, filter, slice_index_or}
+use Rattle.std.specs.Prelude.{ℕ, Bool, true, false, if◌then◌else◌, List, [], ◌∷◌, length, Option, Some, None, unwrap_or, map, filter, slice_index_or}
 use Rattle.std.specs.List.{flat_map}
 use Rattle.std.specs.Map.{lookup}
 use Rattle.std.specs.HashMap.{HashMap}
 use Rattle.std.specs.declared.vec.Vec.{Vec}
+use Rattle.tb_value.specs.Datum.{Datum, null}
 use Rattle.tb_value.specs.Pairs.{row_numbers, both, left_only}
 use Rattle.tb_value.specs.declared.index.JoinPair.{JoinPair}
 use Rattle.tb_frame.specs.declared.args.JoinType.{JoinType}
 use Rattle.tb_frame.specs.declared.args.JoinType.TheVariants.{Inner, Left, Right, Full, Semi, Anti}
+use Rattle.tb_frame.specs.Join.{agrees}
 
 module _ {K : Type 0} (eq : K → K → Bool) where
   -- two keys are the same where both are there and equal
@@ -54,3 +56,7 @@ row_pairs keep i (j ∷ js) = map (both i) (j ∷ js)
 -- the pairs of all left rows, by left row and then right row
 abbrev pub pairs_by_left : Bool → ℕ → ℕ → (ℕ → ℕ → Bool) → List JoinPair
 pairs_by_left keep l r m = flat_map (λ i. row_pairs keep i (filter (m i) (row_numbers r))) (row_numbers l)
+
+-- the pairs of two key columns, whose rows match where their values are there and equal
+abbrev pub value_pairs : Bool → List Datum → List Datum → List JoinPair
+value_pairs keep us vs = pairs_by_left keep (length us) (length vs) (λ i j. agrees false (slice_index_or us i null) (slice_index_or vs j null))

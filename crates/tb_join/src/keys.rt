@@ -1,7 +1,7 @@
 //! The keys of a join, as they are stored.
-ghost use Rattle.std.specs.Prelude.{◌≡◌, ◌≤◌, ◌∷◌, [], ◌++◌, true, IfOk, OnOk, length, map, option_map, nat_lt, slice_index_or, not, false};
+ghost use Rattle.std.specs.Prelude.{◌≡◌, ◌≤◌, ◌∷◌, [], ◌++◌, true, IfOk, OnOk, length, map, option_map, nat_lt, not};
 ghost use Rattle.std.specs.List.{filter_map};
-ghost use Rattle.tb_value.specs.Datum.{int, string, null};
+ghost use Rattle.tb_value.specs.Datum.{int, string};
 ghost use Rattle.tb_value.specs.Kind as kind;
 ghost use Rattle.tb_value.specs.Refusals.{Settles, when};
 ghost use Rattle.tb_value.specs.SameKind.{same_kind};
@@ -11,9 +11,9 @@ ghost use Rattle.tb_store.specs.Chunk.{or_null};
 ghost use Rattle.tb_store.specs.Col.{flat, values};
 ghost use Rattle.tb_frame.specs.Built.{is_built_key};
 ghost use Rattle.tb_frame.specs.Table.{plain, table_of};
-ghost use Rattle.tb_frame.specs.Join.{named, agrees};
+ghost use Rattle.tb_frame.specs.Join.{named};
 ghost use Rattle.tb_frame.specs.Refusal.{first_unknown};
-ghost use Rattle.tb_join.specs.KeyRows.{pairs_by_left};
+ghost use Rattle.tb_join.specs.KeyRows.{value_pairs};
 
 use crate::matching::match_rows;
 use std::alloc::Global;
@@ -66,8 +66,8 @@ pub(crate) fn key_pairs(
 ) -> PolarsResult<Vec<JoinPair>>
     requires key { is_built_key left.now.kind ≡ true }
     requires same { left.now.kind ≡ right.now.kind }
-    ensures settles { Settles result (when (nat_lt 4294967294 (length (pairs_by_left keep (length (values left.now)) (length (values right.now)) (λ i j. agrees false (slice_index_or (values left.now) i null) (slice_index_or (values right.now) j null))))) (ComputeError TooManyRows)) }
-    ensures pairs { IfOk result (λ v. v.items ≡ pairs_by_left keep (length (values left.now)) (length (values right.now)) (λ i j. agrees false (slice_index_or (values left.now) i null) (slice_index_or (values right.now) j null))) }
+    ensures settles { Settles result (when (nat_lt 4294967294 (length (value_pairs keep (values left.now) (values right.now)))) (ComputeError TooManyRows)) }
+    ensures pairs { IfOk result (λ v. v.items ≡ value_pairs keep (values left.now) (values right.now)) }
 {
     if is_text(left) {
         text_pairs(alloc, left, right, keep)
@@ -84,8 +84,8 @@ fn text_pairs(
 ) -> PolarsResult<Vec<JoinPair>>
     requires left { left.now.kind ≡ kind.string }
     requires right { right.now.kind ≡ kind.string }
-    ensures settles { Settles result (when (nat_lt 4294967294 (length (pairs_by_left keep (length (values left.now)) (length (values right.now)) (λ i j. agrees false (slice_index_or (values left.now) i null) (slice_index_or (values right.now) j null))))) (ComputeError TooManyRows)) }
-    ensures pairs { IfOk result (λ v. v.items ≡ pairs_by_left keep (length (values left.now)) (length (values right.now)) (λ i j. agrees false (slice_index_or (values left.now) i null) (slice_index_or (values right.now) j null))) }
+    ensures settles { Settles result (when (nat_lt 4294967294 (length (value_pairs keep (values left.now) (values right.now)))) (ComputeError TooManyRows)) }
+    ensures pairs { IfOk result (λ v. v.items ≡ value_pairs keep (values left.now) (values right.now)) }
 {
     let left_keys = text_keys(alloc, left)?;
     let right_keys = text_keys(alloc, right)?;
@@ -100,8 +100,8 @@ fn int_pairs(
 ) -> PolarsResult<Vec<JoinPair>>
     requires left { left.now.kind ≡ kind.int64 }
     requires right { right.now.kind ≡ kind.int64 }
-    ensures settles { Settles result (when (nat_lt 4294967294 (length (pairs_by_left keep (length (values left.now)) (length (values right.now)) (λ i j. agrees false (slice_index_or (values left.now) i null) (slice_index_or (values right.now) j null))))) (ComputeError TooManyRows)) }
-    ensures pairs { IfOk result (λ v. v.items ≡ pairs_by_left keep (length (values left.now)) (length (values right.now)) (λ i j. agrees false (slice_index_or (values left.now) i null) (slice_index_or (values right.now) j null))) }
+    ensures settles { Settles result (when (nat_lt 4294967294 (length (value_pairs keep (values left.now) (values right.now)))) (ComputeError TooManyRows)) }
+    ensures pairs { IfOk result (λ v. v.items ≡ value_pairs keep (values left.now) (values right.now)) }
 {
     let left_keys = int_keys(alloc, left)?;
     let right_keys = int_keys(alloc, right)?;
