@@ -16,7 +16,7 @@ use Rattle.tb_value.specs.declared.error.PolarsError.TheVariants.{ColumnNotFound
 use Rattle.tb_value.specs.declared.error.ComputeCause.TheVariants.{KeyTypes, Validation}
 use Rattle.tb_value.specs.declared.error.InvalidCause.TheVariants.{NoKeys, KeyCounts, KeyKind}
 use Rattle.tb_value.proofs.Loops.{map-map}
-use Rattle.tb_value.proofs.TypeTests.{same_kind-Decides}
+use Rattle.tb_value.specs.TypeTests.{same_kind-Decides}
 use Rattle.tb_store.specs.Col.{Col}
 use Rattle.tb_frame.specs.declared.args.JoinArgs.{JoinArgs}
 use Rattle.tb_frame.specs.declared.args.JoinType.{JoinType}

@@ -1,5 +1,6 @@
 pub mod Laws
 pub mod Rows
 pub mod KeyRows
+pub mod KeyLaws
 pub mod KeyRefusal
 pub mod RightColumns

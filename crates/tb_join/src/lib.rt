@@ -6,5 +6,6 @@ mod general;
 mod keys;
 pub mod laws;
 mod matching;
+mod typed_keys;
 
 pub use frame_join::DataFrameJoinOps;

@@ -13,3 +13,4 @@ pub mod Index
 pub mod Pairs
 pub mod Refusals
 pub mod SameKind
+pub mod TypeTests

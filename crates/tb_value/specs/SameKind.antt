@@ -1,7 +1,7 @@
 -- Whether two types are the same, and which types have keys.
 use Rattle.std.specs.Prelude.{Bool, true, false, ◌&&◌, ℕ, List, Option, Some, None}
 use Rattle.tb_value.specs.Names.{same_name}
-use Rattle.tb_value.specs.Kind.{Kind, Parts, null, boolean, int8, int16, int32, int64, int128, uint8, uint16, uint32, uint64, string, binary, date, time, datetime, duration, list, struct, end, part}
+use Rattle.tb_value.specs.Kind.{Kind, Part, Parts, null, boolean, int8, int16, int32, int64, int128, uint8, uint16, uint32, uint64, string, binary, date, time, datetime, duration, list, struct, end, part}
 use Rattle.tb_value.specs.declared.dtype.TimeUnit.{TimeUnit}
 use Rattle.tb_value.specs.declared.dtype.TimeUnit.TheVariants.{Nanoseconds, Microseconds, Milliseconds}
 
@@ -44,6 +44,10 @@ abbrev mutual
   same_parts end end = true
   same_parts (part n t ps) (part m u qs) = same_name n m && same_kind t u && same_parts ps qs
   same_parts _ _ = false
+
+-- the same name and type
+abbrev pub same_part : Part → Part → Bool
+same_part p q = same_name p.0 q.0 && same_kind p.1 q.1
 
 -- true but for Null, List and Struct
 abbrev pub is_key : Kind → Bool

@@ -16,7 +16,7 @@ pub enum TimeUnit {
 
 /// A type of columns. The time zone of a Datetime is a label that is only compared.
 #[cycle(dtype)]
-#[derive(Drop, PartialEq, Eq)]
+#[derive(Drop)]
 pub enum DataType {
     Null,
     Boolean,
@@ -41,7 +41,7 @@ pub enum DataType {
 
 /// A field of a struct.
 #[cycle(dtype)]
-#[derive(Drop, PartialEq, Eq)]
+#[derive(Drop)]
 pub struct Field {
     pub name: PlSmallStr,
     pub dtype: DataType,
@@ -49,7 +49,7 @@ pub struct Field {
 
 /// The fields of a struct, in order.
 #[cycle(dtype)]
-#[derive(Drop, PartialEq, Eq)]
+#[derive(Drop)]
 pub struct Fields {
     pub(crate) items: Vec<Field>,
 }

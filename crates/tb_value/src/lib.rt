@@ -11,6 +11,7 @@ pub mod laws;
 mod limits;
 mod pl_str;
 mod same;
+mod same_type;
 mod sorted;
 #[cfg(test)]
 mod tests;

@@ -1,11 +1,12 @@
 -- The tests of types, units, zones and fields are their equality.
 use Rattle.std.proofs.Common.{◌≡◌, ℕ, true, ◌&&◌, List, Option, Some, None, refl, ap}
 use Rattle.std.specs.Bool.{Decides}
-use Rattle.std.specs.Cmp.{first_so, second_so}
+use Rattle.std.specs.Cmp.{IsEquivalence, first_so, second_so}
 use Rattle.std.proofs.lemmas.Slice.Eq.{bytes_eq-Decides}
-use Rattle.tb_value.specs.Kind.{Kind, Parts, null, boolean, int8, int16, int32, int64, int128, uint8, uint16, uint32, uint64, string, binary, date, time, datetime, duration, list, struct, end, part}
+use Rattle.tb_value.specs.Kind.{Kind, Part, Parts, null, boolean, int8, int16, int32, int64, int128, uint8, uint16, uint32, uint64, string, binary, date, time, datetime, duration, list, struct, end, part}
 use Rattle.tb_value.specs.Names.{same_name}
-use Rattle.tb_value.specs.SameKind.{same_unit, same_zone, same_kind, same_parts}
+use Rattle.tb_value.specs.Same.{from_decides}
+use Rattle.tb_value.specs.SameKind.{same_unit, same_zone, same_kind, same_parts, same_part}
 use Rattle.tb_value.specs.declared.dtype.TimeUnit.{TimeUnit}
 use Rattle.tb_value.specs.declared.dtype.TimeUnit.TheVariants.{Nanoseconds, Microseconds, Milliseconds}
 
@@ -64,3 +65,20 @@ mutual
             rw (p, q) r,
       )
   same_parts-Decides _ _ = (λ h. absurd (cc), λ e. absurd (cc))
+
+pub same_kind_equiv : IsEquivalence same_kind
+same_kind_equiv = from_decides same_kind same_kind-Decides
+
+pub same_parts_equiv : IsEquivalence same_parts
+same_parts_equiv = from_decides same_parts same_parts-Decides
+
+same_part-Decides : (p q : Part) → Decides (same_part p q) (p ≡ q)
+same_part-Decides p q =
+    let names = bytes_eq-Decides p.0 q.0 in
+    let types = same_kind-Decides p.1 q.1 in (
+      λ h i. (names.0 (first_so (same_name p.0 q.0) (same_kind p.1 q.1) h) i, types.0 (second_so (same_name p.0 q.0) (same_kind p.1 q.1) h) i),
+      λ e. let a : same_name p.0 q.0 ≡ true = names.1 (ap (λ (r : Part). r.0) e) in let b : same_kind p.1 q.1 ≡ true = types.1 (ap (λ (r : Part). r.1) e) in rw (a, b) refl,
+    )
+
+pub same_part_equiv : IsEquivalence same_part
+same_part_equiv = from_decides same_part same_part-Decides

@@ -1,0 +1,16 @@
+-- The test of whole numbers that are not negative is that of numbers.
+use Rattle.std.specs.Prelude.{◌≡◌, ◌==◌, ℕ, Bool, true, false, pos, refl}
+use Rattle.std.specs.Ordering.{int_eq}
+use Rattle.std.proofs.Common.{ap, sym, eqb-true, eq-eqb}
+use Rattle.std.proofs.lemmas.Bool.Decides.{Decides-int_eq}
+
+alike : (a b : Bool) → (a ≡ true → b ≡ true) → (b ≡ true → a ≡ true) → a ≡ b
+alike true true f g = refl
+alike true false f g = sym (f refl)
+alike false true f g = g refl
+alike false false f g = refl
+
+pub same_number : (x y : ℕ) → int_eq (pos x) (pos y) ≡ (x == y)
+same_number x y =
+    let d = Decides-int_eq (pos x) (pos y) in
+    alike (int_eq (pos x) (pos y)) (x == y) (λ h. let e : pos x ≡ pos y = d.0 h in eq-eqb x y (cc)) (λ h. d.1 (ap pos (eqb-true x y h)))
