@@ -1,13 +1,10 @@
 -- The form of a join that is built so far: a condition on the caller until every form is.
-use Rattle.std.specs.Prelude.{◌≡◌, Bool, true, false, length, All, None}
-use Rattle.tb_value.specs.Kind.{Kind}
-use Rattle.tb_value.specs.Kind as kind
+use Rattle.std.specs.Prelude.{◌≡◌, Bool, true, false, length, None}
 use Rattle.tb_frame.specs.declared.args.JoinType.{JoinType}
 use Rattle.tb_frame.specs.declared.args.JoinType.TheVariants.{Inner, Left, Right, Full, Semi, Anti}
 use Rattle.tb_frame.specs.declared.args.JoinValidation.TheVariants.{ManyToMany}
 use Rattle.tb_frame.specs.declared.args.MaintainOrderJoin.{MaintainOrderJoin}
 use Rattle.tb_frame.specs.declared.args.MaintainOrderJoin.TheVariants as order
-use Rattle.tb_frame.specs.Table.{TableColumn}
 use Rattle.tb_frame.specs.Join.{Request}
 
 abbrev pub is_built_kind : JoinType → Bool
@@ -26,12 +23,7 @@ is_built_order order.LeftRight = true
 is_built_order order.Right = false
 is_built_order order.RightLeft = false
 
-abbrev pub is_built_key : Kind → Bool
-is_built_key kind.int64 = true
-is_built_key kind.string = true
-is_built_key _ = false
-
--- an Inner or Left join of one key on each side, of whole numbers or texts, not in the order of the right rows
+-- an Inner or Left join of one key on each side, not in the order of the right rows
 pub record IsBuilt (q : Request) : Type 0 where
   pub how : is_built_kind q.args.how ≡ true
   pub validation : q.args.validation ≡ ManyToMany
@@ -40,5 +32,3 @@ pub record IsBuilt (q : Request) : Type 0 where
   pub order : is_built_order q.args.maintain_order ≡ true
   pub one_left : length q.left_on ≡ 1
   pub one_right : length q.right_on ≡ 1
-  pub left_kinds : All (λ (c : TableColumn). is_built_key c.kind ≡ true) q.left_keys
-  pub right_kinds : All (λ (c : TableColumn). is_built_key c.kind ≡ true) q.right_keys

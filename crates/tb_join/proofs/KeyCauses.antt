@@ -1,12 +1,11 @@
 -- The causes of a request of the built form, whose key columns are found.
-use Rattle.std.proofs.Common.{◌≡◌, ◌==◌, Bool, true, false, cond, not, ◌&&◌, ◌||◌, List, [], ◌∷◌, ◌++◌, length, map, refl, ap, sym, ◌∙◌, subst, arith, Option, Some, None, inl, inr, ◌⊎◌, unwrap_or}
+use Rattle.std.proofs.Common.{◌≡◌, ◌==◌, ℕ, Bool, true, false, cond, not, ◌&&◌, ◌||◌, List, [], ◌∷◌, ◌++◌, length, map, refl, ap, sym, ◌∙◌, subst, arith, Option, Some, None, inl, inr, ◌⊎◌, unwrap_or}
 use Rattle.std.specs.Prelude.{All}
 use Rattle.std.specs.Option.{option_map}
 use Rattle.std.specs.List.{filter_map}
 use Rattle.std.proofs.lemmas.List.{map-append}
 use Rattle.std.proofs.lemmas.List.Elements.{All-head}
 use Rattle.tb_value.specs.Kind.{Kind}
-use Rattle.tb_value.specs.Kind as kind
 use Rattle.tb_value.specs.Names.{Name}
 use Rattle.tb_value.specs.Refusals.{first_cause, when}
 use Rattle.tb_value.specs.SameKind.{same_kind, is_key}
@@ -23,7 +22,7 @@ use Rattle.tb_frame.specs.declared.args.JoinType.{JoinType}
 use Rattle.tb_frame.specs.declared.args.JoinType.TheVariants.{Inner, Left, Right, Full, Semi, Anti}
 use Rattle.tb_frame.specs.declared.args.JoinValidation.TheVariants.{ManyToMany}
 use Rattle.tb_frame.specs.Answer.{gone_right}
-use Rattle.tb_frame.specs.Built.{IsBuilt, is_built_kind, is_built_key}
+use Rattle.tb_frame.specs.Built.{IsBuilt, is_built_kind}
 use Rattle.tb_frame.specs.Table.{TableColumn, Table, plain, table_of, height, names_of}
 use Rattle.tb_frame.specs.Join.{Request, Out, by_names, named, coalesce, coalesces, keep_left, keep_right, left_out, right_out, right_name, without, joined_names, default_suffix}
 use Rattle.tb_frame.specs.Frame.{without_names}
@@ -41,29 +40,32 @@ firsts [] ys = refl
 firsts (None ∷ xs) ys = firsts xs ys
 firsts (Some e ∷ xs) ys = refl
 
-flatten : (a b c d : Option PolarsError) → first_cause (first_cause (a ∷ b ∷ []) ∷ None ∷ None ∷ None ∷ c ∷ None ∷ d ∷ []) ≡ first_cause (a ∷ b ∷ c ∷ d ∷ [])
-flatten (Some a) b c d = refl
-flatten None (Some b) c d = refl
-flatten None None (Some c) d = refl
-flatten None None None (Some d) = refl
-flatten None None None None = refl
+flatten : (a b c d e : Option PolarsError) → first_cause (first_cause (a ∷ b ∷ []) ∷ None ∷ None ∷ None ∷ c ∷ d ∷ e ∷ []) ≡ first_cause (a ∷ b ∷ c ∷ d ∷ e ∷ [])
+flatten (Some a) b c d e = refl
+flatten None (Some b) c d e = refl
+flatten None None c d e = refl
 
 last_cause : (a : Option PolarsError) → first_cause (a ∷ []) ≡ a
 last_cause (Some a) = refl
 last_cause None = refl
 
--- an error of the third or the fourth cause, where those before don't hold
-pub by_third : (a b c d j : Option PolarsError) (e : PolarsError) → j ≡ first_cause (a ∷ b ∷ c ∷ d ∷ []) → a ≡ None → b ≡ None → (e ≡ OutOfMemory) ⊎ (c ≡ Some e) → (e ≡ OutOfMemory) ⊎ (j ≡ Some e)
-by_third a b c d j e is x y (inl h) = inl h
-by_third a b c d j e is x y (inr h) = inr (is ∙ (λ t. first_cause (x t ∷ y t ∷ h t ∷ d ∷ [])))
+-- an error of the third cause or of a later one, where those before don't hold
+module _ (a b c d f j : Option PolarsError) (e : PolarsError) (is : j ≡ first_cause (a ∷ b ∷ c ∷ d ∷ f ∷ [])) (x : a ≡ None) (y : b ≡ None) where
+  pub by_third : (e ≡ OutOfMemory) ⊎ (c ≡ Some e) → (e ≡ OutOfMemory) ⊎ (j ≡ Some e)
+  by_third (inl h) = inl h
+  by_third (inr h) = inr (is ∙ (λ t. first_cause (x t ∷ y t ∷ h t ∷ d ∷ f ∷ [])))
 
-pub by_fourth : (a b c d j other : Option PolarsError) (e : PolarsError) → j ≡ first_cause (a ∷ b ∷ c ∷ d ∷ []) → a ≡ None → b ≡ None → c ≡ None → other ≡ d → (e ≡ OutOfMemory) ⊎ (other ≡ Some e) → (e ≡ OutOfMemory) ⊎ (j ≡ Some e)
-by_fourth a b c d j other e is x y z same (inl h) = inl h
-by_fourth a b c d j other e is x y z same (inr h) = inr (is ∙ (λ t. first_cause (x t ∷ y t ∷ z t ∷ (sym same ∙ h) t ∷ [])))
+  pub by_fourth : c ≡ None → (e ≡ OutOfMemory) ⊎ (d ≡ Some e) → (e ≡ OutOfMemory) ⊎ (j ≡ Some e)
+  by_fourth z (inl h) = inl h
+  by_fourth z (inr h) = inr (is ∙ (λ t. first_cause (x t ∷ y t ∷ z t ∷ h t ∷ f ∷ [])))
 
--- where none of the four holds
-pub by_none : (a b c d j : Option PolarsError) → j ≡ first_cause (a ∷ b ∷ c ∷ d ∷ []) → a ≡ None → b ≡ None → c ≡ None → d ≡ None → j ≡ None
-by_none a b c d j is x y z w = is ∙ (λ t. first_cause (x t ∷ y t ∷ z t ∷ w t ∷ []))
+  pub by_fifth : (other : Option PolarsError) → c ≡ None → d ≡ None → other ≡ f → (e ≡ OutOfMemory) ⊎ (other ≡ Some e) → (e ≡ OutOfMemory) ⊎ (j ≡ Some e)
+  by_fifth other z w same (inl h) = inl h
+  by_fifth other z w same (inr h) = inr (is ∙ (λ t. first_cause (x t ∷ y t ∷ z t ∷ w t ∷ (sym same ∙ h) t ∷ [])))
+
+-- where none of the five holds
+pub by_none : (a b c d f j : Option PolarsError) → j ≡ first_cause (a ∷ b ∷ c ∷ d ∷ f ∷ []) → a ≡ None → b ≡ None → c ≡ None → d ≡ None → f ≡ None → j ≡ None
+by_none a b c d f j is x y z w v = is ∙ (λ t. first_cause (x t ∷ y t ∷ z t ∷ w t ∷ v t ∷ []))
 
 -- KINDS AND ORDERS
 
@@ -86,31 +88,20 @@ keeps_right Full c keys t h = cc
 keeps_right Semi c keys t h = cc
 keeps_right Anti c keys t h = cc
 
-pub built_is_key : (k : Kind) → is_built_key k ≡ true → is_key k ≡ true
-built_is_key kind.int64 h = refl
-built_is_key kind.string h = refl
-built_is_key _ h = cc
-
--- a key is of whole numbers where it is not of texts
-pub int_key : (k : Kind) → is_built_key k ≡ true → same_kind k kind.string ≡ false → k ≡ kind.int64
-int_key kind.int64 h n = refl
-int_key kind.string h n = cc
-int_key _ h n = cc
-
--- keys are of one type where both are of texts or neither is
-pub one_type : (k l : Kind) → is_built_key k ≡ true → is_built_key l ≡ true → (a b : Bool) → a ≡ same_kind k kind.string → b ≡ same_kind l kind.string → a ≡ b → same_kind k l ≡ true
-one_type kind.int64 kind.int64 h g a b x y e = refl
-one_type kind.string kind.string h g a b x y e = refl
-one_type kind.int64 kind.string h g a b x y e = absurd (let c : false ≡ true = sym x ∙ e ∙ y in cc)
-one_type kind.string kind.int64 h g a b x y e = absurd (let c : true ≡ false = sym x ∙ e ∙ y in cc)
-one_type _ _ h g a b x y e = absurd (cc)
-
 -- keys whose types are not refused are of one type
 pub not_mixed : (k l : Kind) → when (not (same_kind k l)) (ComputeError (KeyTypes 0)) ≡ None → k ≡ l
 not_mixed k l h = at (same_kind k l) refl h
   where
     at : (b : Bool) → same_kind k l ≡ b → when (not b) (ComputeError (KeyTypes 0)) ≡ None → k ≡ l
     at true e g = (same_kind-Decides k l).0 e
+    at false e g = absurd (cc)
+
+-- a key whose kind is not refused is of a key type
+pub is_keyed : (k : Kind) → when (not (is_key k)) (InvalidOperation (KeyKind 0)) ≡ None → is_key k ≡ true
+is_keyed k h = at (is_key k) refl h
+  where
+    at : (b : Bool) → is_key k ≡ b → when (not b) (InvalidOperation (KeyKind 0)) ≡ None → is_key k ≡ true
+    at true e g = e
     at false e g = absurd (cc)
 
 -- NAMES
@@ -148,6 +139,9 @@ unknown cs names = option_map (λ n. ColumnNotFound n) (first_unknown (table_of 
 abbrev pub mixed : Kind → Kind → Option PolarsError
 mixed k l = when (not (same_kind k l)) (ComputeError (KeyTypes 0))
 
+abbrev pub unkeyed : Kind → Option PolarsError
+unkeyed k = when (not (is_key k)) (InvalidOperation (KeyKind 0))
+
 abbrev pub repeated : List Name → Option PolarsError
 repeated names = option_map (λ n. Duplicate n) (first_repeated names)
 
@@ -157,33 +151,27 @@ one_fresh [] h = absurd (omega arith)
 one_fresh (n ∷ []) h = refl
 one_fresh (n ∷ m ∷ ns) h = absurd (omega arith)
 
-first_place : (b : Bool) → option_map (λ p. ComputeError (KeyTypes p)) (cond b (Some 0) None) ≡ when b (ComputeError (KeyTypes 0))
-first_place true = refl
-first_place false = refl
+first_place : (f : ℕ → PolarsError) (b : Bool) → option_map f (cond b (Some 0) None) ≡ when b (f 0)
+first_place f true = refl
+first_place f false = refl
 
 -- the request with these key columns
 abbrev keyed : Request → List TableColumn → List TableColumn → Request
 keyed q lk rk = record q { left_keys = lk; right_keys = rk }
 
 module _ (left right : List Col) (lo ro : List Name) (a : JoinArgs) (built : IsBuilt (by_names (table_of left) (table_of right) lo ro a)) (k l : TableColumn) (is_k : filter_map (named (table_of left)) lo ≡ k ∷ []) (is_l : filter_map (named (table_of right)) ro ≡ l ∷ []) where
-  pub left_key : is_built_key k.kind ≡ true
-  left_key = All-head (λ (c : TableColumn). is_built_key c.kind ≡ true) k [] (subst (λ (ks : List TableColumn). All (λ (c : TableColumn). is_built_key c.kind ≡ true) ks) is_k built.left_kinds)
-
-  pub right_key : is_built_key l.kind ≡ true
-  right_key = All-head (λ (c : TableColumn). is_built_key c.kind ≡ true) l [] (subst (λ (ks : List TableColumn). All (λ (c : TableColumn). is_built_key c.kind ≡ true) ks) is_l built.right_kinds)
-
   -- the causes that remain where each side has one key
-  pub key_causes : key_refusal (by_names (table_of left) (table_of right) lo ro a) ≡ first_cause (unknown left lo ∷ unknown right ro ∷ mixed k.kind l.kind ∷ repeated (asked_names left right ro a) ∷ [])
+  pub key_causes : key_refusal (by_names (table_of left) (table_of right) lo ro a) ≡ first_cause (unknown left lo ∷ unknown right ro ∷ mixed k.kind l.kind ∷ unkeyed k.kind ∷ repeated (asked_names left right ro a) ∷ [])
   key_causes =
       let q = by_names (table_of left) (table_of right) lo ro a in
       let some : no_keys q ≡ None = λ t. when (built.one_left t == 0 || built.one_right t == 0) (InvalidOperation NoKeys) in
       let counts : key_counts q ≡ None = λ t. when (not (built.one_left t == built.one_right t)) (InvalidOperation (KeyCounts (built.one_left t) (built.one_right t))) in
       let fresh : repeated_key q ≡ None = λ t. first_cause (repeated_by (one_fresh lo built.one_left t) ∷ repeated_by (one_fresh ro built.one_right t) ∷ []) in
-      let types : key_types q ≡ mixed k.kind l.kind = ◌∙◌ {A = Option PolarsError} (λ t. key_types (keyed q (is_k t) (is_l t))) (first_place (not (same_kind k.kind l.kind))) in
-      let kinds : key_kind q ≡ None = ◌∙◌ {A = Option PolarsError} (λ t. key_kind (keyed q (is_k t) (is_l t))) (λ t. option_map (λ p. InvalidOperation (KeyKind p)) (cond (not (built_is_key k.kind left_key t)) (Some 0) None)) in
+      let types : key_types q ≡ mixed k.kind l.kind = ◌∙◌ {A = Option PolarsError} (λ t. key_types (keyed q (is_k t) (is_l t))) (first_place (λ p. ComputeError (KeyTypes p)) (not (same_kind k.kind l.kind))) in
+      let kinds : key_kind q ≡ unkeyed k.kind = ◌∙◌ {A = Option PolarsError} (λ t. key_kind (keyed q (is_k t) (is_l t))) (first_place (λ p. InvalidOperation (KeyKind p)) (not (is_key k.kind))) in
       let names : repeated_name q ≡ repeated (asked_names left right ro a) = ap repeated (names-asked left right lo ro a built.how) in
       ◌∙◌ {A = Option PolarsError} (λ t. first_cause (unknown_key q ∷ some t ∷ counts t ∷ fresh t ∷ types t ∷ kinds t ∷ names t ∷ []))
-      (flatten (unknown left lo) (unknown right ro) (mixed k.kind l.kind) (repeated (asked_names left right ro a)))
+      (flatten (unknown left lo) (unknown right ro) (mixed k.kind l.kind) (unkeyed k.kind) (repeated (asked_names left right ro a)))
     where
       repeated_by : Option Name → Option PolarsError
       repeated_by o = option_map (λ n. Duplicate n) o

@@ -1,6 +1,7 @@
 //! The join of two tables.
-ghost use Rattle.std.specs.Prelude.{◌≡◌, ◌∷◌, [], IfOk, length};
+ghost use Rattle.std.specs.Prelude.{◌≡◌, ◌∷◌, [], true, IfOk, length};
 ghost use Rattle.tb_value.specs.Refusals.{Settles};
+ghost use Rattle.tb_value.specs.SameKind.{is_key};
 ghost use Rattle.tb_store.specs.Col.{values};
 ghost use Rattle.tb_frame.specs.Answer.{IsListed};
 ghost use Rattle.tb_frame.specs.Built.{IsBuilt};
@@ -11,7 +12,7 @@ ghost use Rattle.tb_join.specs.KeyRefusal.{key_refusal};
 ghost use Rattle.tb_join.specs.KeyRows.{keeps_left};
 
 use crate::general::{check_names, finish_join, gone_right, suffix_of};
-use crate::keys::{check_key_types, key_column, key_pairs};
+use crate::keys::{check_key_kind, check_key_types, key_column, key_pairs};
 use std::alloc::Global;
 use std::thread::Threads;
 use tb_frame::{DataFrame, IntoDf, JoinArgs, JoinType};
@@ -23,16 +24,17 @@ use tb_value::{JoinPair, PlSmallStr, PolarsResult};
 pub trait DataFrameJoinOps: IntoDf {
     /// The rows that two nested loops over the tables list, each pair once, in an order that the arguments allow, under
     /// the columns of the naming rule: those of the left table, and then those of the right one, but for its key where
-    /// keys are coalesced. So far the arguments must be of the form that is built: an Inner or Left join by one key of
-    /// `Int64` or `String` on each side, in no order or by left rows.
+    /// keys are coalesced. So far the arguments must be of the form that is built: an Inner or Left join by one key on
+    /// each side, in no order or by left rows.
     ///
     /// # Errors
     ///
     /// The first of these that holds, or OutOfMemory:
     /// 1. ColumnNotFound: the left key is no column of the left table, and then the right key none of the right;
     /// 2. KeyTypes: the keys are of different types;
-    /// 3. Duplicate: two columns of the answer would have this name, which is the first that stood before;
-    /// 4. TooManyRows: the answer would have more than `MAX_ROWS` rows.
+    /// 3. KeyKind: the keys are of type List, Struct or Null;
+    /// 4. Duplicate: two columns of the answer would have this name, which is the first that stood before;
+    /// 5. TooManyRows: the answer would have more than `MAX_ROWS` rows.
     fn join<R: Threads + Sync>(
         &self,
         rt: &R,
@@ -77,12 +79,14 @@ fn checked_keys<'a>(
     ensures settles { Settles result (key_refusal (by_names (table_of left.now) (table_of right.now) left_on.now right_on.now args.now)) }
     ensures left { IfOk result (λ p. (by_names (table_of left.now) (table_of right.now) left_on.now right_on.now args.now).left_keys ≡ plain p.0.now ∷ []) }
     ensures right { IfOk result (λ p. (by_names (table_of left.now) (table_of right.now) left_on.now right_on.now args.now).right_keys ≡ plain p.1.now ∷ []) }
+    ensures key { IfOk result (λ p. is_key p.0.now.kind ≡ true) }
     ensures same { IfOk result (λ p. p.0.now.kind ≡ p.1.now.kind) }
     ensures heights { IfOk result (λ p. (length (values p.0.now) ≡ height (table_of left.now)) × (length (values p.1.now) ≡ height (table_of right.now))) }
 {
     let left_key = key_column(alloc, left, left_on)?;
     let right_key = key_column(alloc, right, right_on)?;
     check_key_types(left_key, right_key)?;
+    check_key_kind(left_key)?;
     let gone = gone_right(args, right_on);
     check_names(
         alloc,

@@ -18,7 +18,7 @@ use Rattle.tb_frame.specs.declared.args.JoinValidation.TheVariants.{ManyToMany}
 use Rattle.tb_frame.specs.declared.args.JoinCoalesce.{JoinCoalesce}
 use Rattle.tb_frame.specs.declared.args.MaintainOrderJoin.{MaintainOrderJoin}
 use Rattle.tb_frame.specs.declared.args.MaintainOrderJoin.TheVariants as order
-use Rattle.tb_frame.specs.Built.{is_built_kind, is_built_order, is_built_key, IsBuilt}
+use Rattle.tb_frame.specs.Built.{is_built_kind, is_built_order, IsBuilt}
 use Rattle.tb_frame.specs.Table.{TableColumn, Table}
 use Rattle.tb_frame.specs.Join.{named, by_names}
 use Rattle.tb_json.specs.declared.request.Reason.{Reason}
@@ -32,59 +32,10 @@ use Rattle.tb_json.specs.declared.request.JoinRequest as rust
 use Rattle.tb_json.specs.declared.request.RequestFault.{RequestFault}
 use Rattle.tb_json.proofs.Steps.{some_same, All-none, each_have, found_has, filter_map_have}
 
--- ---- the columns
-
-abbrev IsKey : Written → Type 0
-IsKey w = is_built_key w.kind ≡ true
-
-abbrev HasKeys : TableColumn → Type 0
-HasKeys c = is_built_key c.kind ≡ true
-
 -- what a word names passes a test, if what any other word names passes it
 word_passes : {A : Type 0} (test : A → Bool) (b : Bool) (a : A) (other : Option A) (k : A) → test a ≡ true → (other ≡ Some k → test k ≡ true) → cond b (Some a) other ≡ Some k → test k ≡ true
 word_passes test true a other k p q e = ap test (sym (some_same a k e)) ∙ p
 word_passes test false a other k p q e = q e
-
-kind_from : (s : Option (List ℕ)) (k : Kind) → option_and_then kind_named s ≡ Some k → is_built_key k ≡ true
-kind_from None k e = absurd (cc)
-kind_from (Some s) k e = word_passes is_built_key (bytes_eq s (codes "i64")) int64 _ k refl (word_passes is_built_key (bytes_eq s (codes "str")) string _ k refl (λ h. absurd (cc))) e
-
-abbrev made : List (List Data) → Name → Kind → Written
-made chunks name kind = record { name = name; kind = kind; chunks = chunks }
-
-column_kind : (known : Option ⊤) (chunks : Option (List (List Data))) (name : Option Name) (s : Option (List ℕ)) (w : Written)
-    → option_and_then (λ _. option_and_then (λ cs. option_and_then (λ n. option_and_then (λ k. Some (made cs n k)) (option_and_then kind_named s)) name) chunks) known ≡ Some w → IsKey w
-column_kind None chunks name s w e = absurd (cc)
-column_kind (Some u) None name s w e = absurd (cc)
-column_kind (Some u) (Some cs) None s w e = absurd (cc)
-column_kind (Some u) (Some cs) (Some n) s w e = last (option_and_then kind_named s) (kind_from s) e where
-  last : (o : Option Kind) → ((k : Kind) → o ≡ Some k → is_built_key k ≡ true) → option_and_then (λ k. Some (made cs n k)) o ≡ Some w → IsKey w
-  last None h d = absurd (cc)
-  last (Some k) h d = subst IsKey (some_same (made cs n k) w d) (h k refl)
-
-column_is : (d : Data) (w : Written) → column_of d ≡ Some w → IsKey w
-unfolding column_of
-column_is d w e =
-    column_kind (check (has_only (codes "chunks" ∷ codes "name" ∷ codes "type" ∷ []) d)) (option_and_then (list_of as_list) (get (codes "chunks") d)) (option_and_then as_str (get (codes "name") d)) (option_and_then as_str (get (codes "type") d)) w e
-
-columns_are : (o : Option (List Data)) (ws : List Written) → option_and_then (steps.each column_of) o ≡ Some ws → All IsKey ws
-columns_are None ws e = absurd (cc)
-columns_are (Some ds) ws e = each_have column_of IsKey column_is ds ws e
-
-list_are : (o : Option Data) (ws : List Written) → option_and_then (list_of column_of) o ≡ Some ws → All IsKey ws
-list_are None ws e = absurd (cc)
-list_are (Some d) ws e = columns_are (as_list d) ws e
-
-table_is : (d : Data) (ws : List Written) → table_of d ≡ Some ws → All IsKey ws
-unfolding table_of
-table_is d ws e = pick (has_only (codes "columns" ∷ []) d) e where
-  pick : (b : Bool) → option_and_then (λ _. option_and_then (list_of column_of) (get (codes "columns") d)) (check b) ≡ Some ws → All IsKey ws
-  pick true h = list_are (get (codes "columns") d) ws h
-  pick false h = absurd (cc)
-
-table_in : (o : Option Data) (ws : List Written) → option_and_then table_of o ≡ Some ws → All IsKey ws
-table_in None ws e = absurd (cc)
-table_in (Some d) ws e = table_is d ws e
 
 -- ---- the arguments
 
@@ -135,85 +86,44 @@ args_in (Some d) a e = args_are d a e
 
 -- ---- the members
 
-record IsBuiltJoin (w : WrittenJoin) : Type 0 where
-  args_are : IsBuiltArgs w.args
-  left_are : All IsKey w.left
-  right_are : All IsKey w.right
-
 abbrev the_join : JoinArgs → List Written → List Name → List Written → List Name → WrittenJoin
 the_join args left left_on right right_on = record { args = args; left = left; left_on = left_on; right = right; right_on = right_on }
 
 join_from : (known : Option ⊤) (args : Option JoinArgs) (left : Option (List Written)) (left_on : Option (List Name)) (right : Option (List Written)) (right_on : Option (List Name)) (w : WrittenJoin)
-    → ((a : JoinArgs) → args ≡ Some a → IsBuiltArgs a) → ((ws : List Written) → left ≡ Some ws → All IsKey ws) → ((ws : List Written) → right ≡ Some ws → All IsKey ws)
+    → ((a : JoinArgs) → args ≡ Some a → IsBuiltArgs a)
     → option_and_then (λ _. option_and_then (λ a. option_and_then (λ l. option_and_then (λ lo. option_and_then (λ r. option_and_then (λ ro. Some (the_join a l lo r ro)) right_on) right) left_on) left) args) known ≡ Some w
-    → IsBuiltJoin w
-join_from None args left left_on right right_on w p q r e = absurd (cc)
-join_from (Some u) None left left_on right right_on w p q r e = absurd (cc)
-join_from (Some u) (Some a) None left_on right right_on w p q r e = absurd (cc)
-join_from (Some u) (Some a) (Some l) None right right_on w p q r e = absurd (cc)
-join_from (Some u) (Some a) (Some l) (Some lo) None right_on w p q r e = absurd (cc)
-join_from (Some u) (Some a) (Some l) (Some lo) (Some r) None w p q s e = absurd (cc)
-join_from (Some u) (Some a) (Some l) (Some lo) (Some r) (Some ro) w p q s e =
-    subst IsBuiltJoin (some_same (the_join a l lo r ro) w e) (record { args_are = p a refl; left_are = q l refl; right_are = s r refl })
+    → IsBuiltArgs w.args
+join_from None args left left_on right right_on w p e = absurd (cc)
+join_from (Some u) None left left_on right right_on w p e = absurd (cc)
+join_from (Some u) (Some a) None left_on right right_on w p e = absurd (cc)
+join_from (Some u) (Some a) (Some l) None right right_on w p e = absurd (cc)
+join_from (Some u) (Some a) (Some l) (Some lo) None right_on w p e = absurd (cc)
+join_from (Some u) (Some a) (Some l) (Some lo) (Some r) None w p e = absurd (cc)
+join_from (Some u) (Some a) (Some l) (Some lo) (Some r) (Some ro) w p e =
+    subst (λ (v : WrittenJoin). IsBuiltArgs v.args) (some_same (the_join a l lo r ro) w e) (p a refl)
 
-join_is : (d : Data) (w : WrittenJoin) → join_of d ≡ Some w → IsBuiltJoin w
+join_is : (d : Data) (w : WrittenJoin) → join_of d ≡ Some w → IsBuiltArgs w.args
 unfolding join_of
 join_is d w e =
     join_from (check (has_only (codes "args" ∷ codes "left" ∷ codes "left_on" ∷ codes "right" ∷ codes "right_on" ∷ []) d))
     (option_and_then args_of (get (codes "args") d)) (option_and_then table_of (get (codes "left") d)) (option_and_then (list_of as_str) (get (codes "left_on") d))
     (option_and_then table_of (get (codes "right") d)) (option_and_then (list_of as_str) (get (codes "right_on") d)) w
-    (args_in (get (codes "args") d)) (table_in (get (codes "left") d)) (table_in (get (codes "right") d)) e
-
--- ---- the tables
-
-abbrev column_with : Written → List (List Datum) → TableColumn
-column_with w chunks = record { name = w.name; kind = w.kind; values = flat chunks }
-
-values_kind : (w : Written) (c : TableColumn) → values_of w ≡ Some c → c.kind ≡ w.kind
-unfolding values_of
-values_kind w c e = pick (values_in w.kind w.chunks) e where
-  pick : (o : Option (List (List Datum))) → option_and_then (λ chunks. option_and_then (λ _. Some (column_with w chunks)) (check (nat_le (length (flat chunks)) 4294967294))) o ≡ Some c → c.kind ≡ w.kind
-  pick None h = absurd (cc)
-  pick (Some chunks) h = short (nat_le (length (flat chunks)) 4294967294) h where
-    short : (b : Bool) → option_and_then (λ _. Some (column_with w chunks)) (check b) ≡ Some c → c.kind ≡ w.kind
-    short true k = ap (λ x. x.kind) (sym (some_same (column_with w chunks) c k))
-    short false k = absurd (cc)
-
-table_kinds : (ws : List Written) (t : Table) → All IsKey ws → table_from ws ≡ Some t → All HasKeys t
-table_kinds [] t all e = subst (All HasKeys) (some_same [] t e) (All-none HasKeys)
-table_kinds (w ∷ ws) t all e = more (values_of w) (table_from ws) (λ c h. ap is_built_key (values_kind w c h) ∙ All-head IsKey w ws all) (λ u h. table_kinds ws u (All-tail IsKey w ws all) h) e where
-  more : (o : Option TableColumn) (r : Option Table) → ((c : TableColumn) → o ≡ Some c → HasKeys c) → ((u : Table) → r ≡ Some u → All HasKeys u) → option_and_then (λ y. option_map (λ ys. y ∷ ys) r) o ≡ Some t → All HasKeys t
-  more None r p q h = absurd (cc)
-  more (Some c) None p q h = absurd (cc)
-  more (Some c) (Some u) p q h = subst (All HasKeys) (some_same (c ∷ u) t h) (All-cons HasKeys c u (p c refl) (q u refl))
-
-tables_kinds : (w : WrittenJoin) (ts : Table × Table) → IsBuiltJoin w → tables_of w ≡ Some ts → All HasKeys ts.0 × All HasKeys ts.1
-unfolding tables_of
-tables_kinds w ts b e = pick (table_from w.left) (table_from w.right) (λ t. table_kinds w.left t b.left_are) (λ t. table_kinds w.right t b.right_are) e where
-  pick : (l r : Option Table) → ((t : Table) → l ≡ Some t → All HasKeys t) → ((t : Table) → r ≡ Some t → All HasKeys t) → option_and_then (λ x. option_and_then (λ y. Some (x, y)) r) l ≡ Some ts → All HasKeys ts.0 × All HasKeys ts.1
-  pick None r p q h = absurd (cc)
-  pick (Some l) None p q h = absurd (cc)
-  pick (Some l) (Some r) p q h = subst (λ (us : Table × Table). All HasKeys us.0 × All HasKeys us.1) (some_same (l, r) ts h) (p l refl, q r refl)
+    (args_in (get (codes "args") d)) e
 
 -- ---- the request
 
 ok_same : (r : Result JoinRequest Reason) (x y : JoinRequest) → r ≡ Ok x → r ≡ Ok y → x ≡ y
 ok_same r x y d e = cc
 
-keys_have : (t : Table) (names : List Name) → All HasKeys t → All HasKeys (filter_map (named t) names)
-keys_have t names all = filter_map_have (named t) HasKeys (λ n c e. found_has HasKeys (λ x. same_name x.name n) t c all e) names
-
-built_from : (w : WrittenJoin) (ts : Table × Table) → IsBuiltJoin w → All HasKeys ts.0 × All HasKeys ts.1 → length w.left_on ≡ 1 → length w.right_on ≡ 1 → IsBuilt (by_names ts.0 ts.1 w.left_on w.right_on w.args)
-built_from w ts b kinds one_left one_right = record {
-  how = b.args_are.how;
-  validation = b.args_are.validation;
-  slice = b.args_are.slice;
-  nulls = b.args_are.nulls;
-  order = b.args_are.order;
+built_from : (w : WrittenJoin) (ts : Table × Table) → IsBuiltArgs w.args → length w.left_on ≡ 1 → length w.right_on ≡ 1 → IsBuilt (by_names ts.0 ts.1 w.left_on w.right_on w.args)
+built_from w ts b one_left one_right = record {
+  how = b.how;
+  validation = b.validation;
+  slice = b.slice;
+  nulls = b.nulls;
+  order = b.order;
   one_left = one_left;
   one_right = one_right;
-  left_kinds = keys_have ts.0 w.left_on kinds.0;
-  right_kinds = keys_have ts.1 w.right_on kinds.1;
 }
 
 both_true : (a b : Bool) → (a && b) ≡ true → (a ≡ true) × (b ≡ true)
@@ -223,11 +133,11 @@ both_true false b h = absurd (true≢false (sym h))
 abbrev whole_request : WrittenJoin → Table × Table → JoinRequest
 whole_request w ts = record { left = ts.0; right = ts.1; left_on = w.left_on; right_on = w.right_on; args = w.args }
 
-ends_built : (w : WrittenJoin) (ts : Table × Table) (r : JoinRequest) (valid : Result ⊤ Reason) (one : Bool) → IsBuiltJoin w → All HasKeys ts.0 × All HasKeys ts.1 → (one ≡ true → (length w.left_on ≡ 1) × (length w.right_on ≡ 1))
+ends_built : (w : WrittenJoin) (ts : Table × Table) (r : JoinRequest) (valid : Result ⊤ Reason) (one : Bool) → IsBuiltArgs w.args → (one ≡ true → (length w.left_on ≡ 1) × (length w.right_on ≡ 1))
     → (valid >>= λ _. only_if one NotYet >>= λ _. Ok (whole_request w ts)) ≡ Ok r → IsBuilt (asked r)
-ends_built w ts r (Err why) one b kinds keys e = absurd (cc)
-ends_built w ts r (Ok u) false b kinds keys e = absurd (cc)
-ends_built w ts r (Ok u) true b kinds keys e = let k = keys refl in subst (λ (q : JoinRequest). IsBuilt (asked q)) (ok_same (Ok (whole_request w ts)) (whole_request w ts) r refl e) (built_from w ts b kinds k.0 k.1)
+ends_built w ts r (Err why) one b keys e = absurd (cc)
+ends_built w ts r (Ok u) false b keys e = absurd (cc)
+ends_built w ts r (Ok u) true b keys e = let k = keys refl in subst (λ (q : JoinRequest). IsBuilt (asked q)) (ok_same (Ok (whole_request w ts)) (whole_request w ts) r refl e) (built_from w ts b k.0 k.1)
 
 abbrev rest_of : WrittenJoin → Table × Table → Result JoinRequest Reason
 rest_of w ts = are_tables ts.0 ts.1 >>= λ _. only_if (length w.left_on == 1 && (length w.right_on == 1)) NotYet >>= λ _. Ok (whole_request w ts)
@@ -235,13 +145,13 @@ rest_of w ts = are_tables ts.0 ts.1 >>= λ _. only_if (length w.left_on == 1 && 
 request_built : (d : Data) (r : JoinRequest) → request_in d ≡ Ok r → IsBuilt (asked r)
 unfolding request_in
 request_built d r e = pick (join_of d) (join_is d) e where
-  pick : (o : Option WrittenJoin) → ((w : WrittenJoin) → o ≡ Some w → IsBuiltJoin w) → (ok_or o NotYet >>= λ w. ok_or (tables_of w) NotYet >>= rest_of w) ≡ Ok r → IsBuilt (asked r)
+  pick : (o : Option WrittenJoin) → ((w : WrittenJoin) → o ≡ Some w → IsBuiltArgs w.args) → (ok_or o NotYet >>= λ w. ok_or (tables_of w) NotYet >>= rest_of w) ≡ Ok r → IsBuilt (asked r)
   pick None p h = absurd (cc)
-  pick (Some w) p h = with_tables (tables_of w) (λ ts k. tables_kinds w ts (p w refl) k) h where
-    with_tables : (o : Option (Table × Table)) → ((ts : Table × Table) → o ≡ Some ts → All HasKeys ts.0 × All HasKeys ts.1) → (ok_or o NotYet >>= rest_of w) ≡ Ok r → IsBuilt (asked r)
-    with_tables None q k = absurd (cc)
-    with_tables (Some ts) q k =
-        ends_built w ts r (are_tables ts.0 ts.1) (length w.left_on == 1 && (length w.right_on == 1)) (p w refl) (q ts refl)
+  pick (Some w) p h = with_tables (tables_of w) h where
+    with_tables : (o : Option (Table × Table)) → (ok_or o NotYet >>= rest_of w) ≡ Ok r → IsBuilt (asked r)
+    with_tables None k = absurd (cc)
+    with_tables (Some ts) k =
+        ends_built w ts r (are_tables ts.0 ts.1) (length w.left_on == 1 && (length w.right_on == 1)) (p w refl)
         (λ one. let k = both_true (length w.left_on == 1) (length w.right_on == 1) one in (eqb-true _ _ k.0, eqb-true _ _ k.1)) k
 
 -- what is read of a value has the form that is built

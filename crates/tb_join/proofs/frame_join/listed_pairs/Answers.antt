@@ -9,12 +9,9 @@ use Rattle.tb_frame.specs.Table.{plain, table_of}
 use Rattle.tb_join.specs.KeyRows.{value_pairs}
 use Rattle.tb_join.proofs.AnswerMade.{if_ok_weaker}
 use Rattle.tb_join.proofs.Finishing.{settled}
-use Rattle.tb_join.proofs.KeyCauses.{left_key, pairs_decide}
+use Rattle.tb_join.proofs.KeyCauses.{pairs_decide}
 use Rattle.tb_join.proofs.LeftOrder.{as_many, are_listed}
 use Rattle.tb_join.proofs.frame_join.listed_pairs.Goals as goal
-
-pub key_pairs-requires-clause-key : goal.key_pairs-requires-clause-key
-key_pairs-requires-clause-key c = left_key c.args.left.now c.args.right.now c.args.left_on.now c.args.right_on.now c.args.args.now c.requires (plain c.in_ok-left_key.left_key.now) (plain c.in_ok-left_key.right_key.now) c.in_ok-left_key.ensures.left c.in_ok-left_key.ensures.right
 
 pub returns-clause-settles : goal.returns-clause-settles
 returns-clause-settles c =

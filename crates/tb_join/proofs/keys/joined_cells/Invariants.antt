@@ -1,8 +1,0 @@
-use Rattle.std.proofs.Common.{◌≡◌, take, map}
-use Rattle.tb_value.specs.Datum.{int}
-use Rattle.tb_store.specs.Chunk.{or_null}
-use Rattle.tb_store.specs.Col.{flat}
-use Rattle.tb_join.proofs.keys.joined_cells.Given as goal
-
-abbrev pub invariant-loop-chunk : goal.invariant-loop-chunk
-invariant-loop-chunk l = map (or_null int) l.keys.items ≡ flat (map (λ c. map (or_null int) c.cells.items) (take l.chunk-index l.chunks))
