@@ -14,38 +14,38 @@ use Rattle.tb_store.specs.Flag.{datum_cmp, present, nulls, HasNullsAtOneEnd, IsO
 use Rattle.tb_store.proofs.Parts.{drop_two, take_two}
 
 -- values that are all null, and values of which none is
-abbrev AreNull : List Datum → Type 0
+abbrev pub AreNull : List Datum → Type 0
 AreNull = All (λ v. is_null v ≡ true)
 
-abbrev ArePresent : List Datum → Type 0
+abbrev pub ArePresent : List Datum → Type 0
 ArePresent = All (λ v. is_present v ≡ true)
 
-not_true : (b : Bool) → not b ≡ true → b ≡ false
+pub not_true : (b : Bool) → not b ≡ true → b ≡ false
 not_true true e = absurd (cc)
 not_true false e = refl
 
-present_of_nulls : (vs : List Datum) → AreNull vs → present vs ≡ []
+pub present_of_nulls : (vs : List Datum) → AreNull vs → present vs ≡ []
 present_of_nulls [] h = refl
 present_of_nulls (v ∷ vs) h = rw (All-head (λ x. is_null x ≡ true) v vs h) (present_of_nulls vs (All-tail (λ x. is_null x ≡ true) v vs h))
 
-nulls_of_nulls : (vs : List Datum) → AreNull vs → nulls vs ≡ vs
+pub nulls_of_nulls : (vs : List Datum) → AreNull vs → nulls vs ≡ vs
 nulls_of_nulls [] h = refl
 nulls_of_nulls (v ∷ vs) h = rw (All-head (λ x. is_null x ≡ true) v vs h) (ap (λ xs. v ∷ xs) (nulls_of_nulls vs (All-tail (λ x. is_null x ≡ true) v vs h)))
 
-present_of_present : (vs : List Datum) → ArePresent vs → present vs ≡ vs
+pub present_of_present : (vs : List Datum) → ArePresent vs → present vs ≡ vs
 present_of_present [] h = refl
 present_of_present (v ∷ vs) h =
     let e : is_null v ≡ false = not_true (is_null v) (All-head (λ x. is_present x ≡ true) v vs h) in
     rw e (ap (λ xs. v ∷ xs) (present_of_present vs (All-tail (λ x. is_present x ≡ true) v vs h)))
 
-nulls_of_present : (vs : List Datum) → ArePresent vs → nulls vs ≡ []
+pub nulls_of_present : (vs : List Datum) → ArePresent vs → nulls vs ≡ []
 nulls_of_present [] h = refl
 nulls_of_present (v ∷ vs) h =
     let e : is_null v ≡ false = not_true (is_null v) (All-head (λ x. is_present x ≡ true) v vs h) in
     rw e (nulls_of_present vs (All-tail (λ x. is_present x ≡ true) v vs h))
 
 module _ {X : Type 0} (order : X → X → Ordering) where
-  in_order_drop : (n : ℕ) (xs : List X) → IsInOrder order xs → IsInOrder order (drop n xs)
+  pub in_order_drop : (n : ℕ) (xs : List X) → IsInOrder order xs → IsInOrder order (drop n xs)
   in_order_drop n xs h =
       λ k d low high.
       let within : (n + k) + 1 < length xs = omega (arith, length-drop n xs) in

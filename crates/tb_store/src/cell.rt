@@ -1,6 +1,6 @@
 //! A value as a typed column stores it.
-ghost use Rattle.std.specs.Prelude.{◌≡◌, ◌≢◌, IfOk, pos};
-ghost use Rattle.tb_value.specs.Datum.{Datum, null, boolean, int, string, binary, list, struct, items_of};
+ghost use Rattle.std.specs.Prelude.{◌≡◌, ◌≢◌, IfOk, false, pos, refl};
+ghost use Rattle.tb_value.specs.Datum.{Datum, null, boolean, int, string, binary, list, struct, items_of, is_null};
 ghost use Rattle.tb_value.specs.Kind as kind;
 ghost use Rattle.tb_value.specs.See.{datum, lent};
 ghost use Rattle.tb_store.specs.Fits.{Fits};
@@ -13,6 +13,8 @@ pub trait Cell: Drop {
     ghost shows: { Self → Datum };
 
     ghost fits: { Datum → Type 0 };
+
+    ghost some: { (cell : Self) → is_null (shows cell) ≡ false };
 
     /// The value, lent.
     fn lend(&self) -> ValueRef<'_>
@@ -40,6 +42,8 @@ impl Cell for bool {
 
     ghost fits = { Fits kind.boolean };
 
+    ghost some = { λ _. refl };
+
     fn lend(&self) -> ValueRef<'_> {
         ValueRef::Boolean(*self)
     }
@@ -60,6 +64,8 @@ impl Cell for i8 {
     ghost shows = { int };
 
     ghost fits = { Fits kind.int8 };
+
+    ghost some = { λ _. refl };
 
     fn lend(&self) -> ValueRef<'_> {
         ValueRef::Int(*self as i128)
@@ -82,6 +88,8 @@ impl Cell for i16 {
 
     ghost fits = { Fits kind.int16 };
 
+    ghost some = { λ _. refl };
+
     fn lend(&self) -> ValueRef<'_> {
         ValueRef::Int(*self as i128)
     }
@@ -102,6 +110,8 @@ impl Cell for i32 {
     ghost shows = { int };
 
     ghost fits = { Fits kind.int32 };
+
+    ghost some = { λ _. refl };
 
     fn lend(&self) -> ValueRef<'_> {
         ValueRef::Int(*self as i128)
@@ -124,6 +134,8 @@ impl Cell for i64 {
 
     ghost fits = { Fits kind.int64 };
 
+    ghost some = { λ _. refl };
+
     fn lend(&self) -> ValueRef<'_> {
         ValueRef::Int(*self as i128)
     }
@@ -144,6 +156,8 @@ impl Cell for i128 {
     ghost shows = { int };
 
     ghost fits = { Fits kind.int128 };
+
+    ghost some = { λ _. refl };
 
     fn lend(&self) -> ValueRef<'_> {
         ValueRef::Int(*self)
@@ -166,6 +180,8 @@ impl Cell for u8 {
 
     ghost fits = { Fits kind.uint8 };
 
+    ghost some = { λ _. refl };
+
     fn lend(&self) -> ValueRef<'_> {
         ValueRef::Int(*self as i128)
     }
@@ -186,6 +202,8 @@ impl Cell for u16 {
     ghost shows = { λ n. int (pos n) };
 
     ghost fits = { Fits kind.uint16 };
+
+    ghost some = { λ _. refl };
 
     fn lend(&self) -> ValueRef<'_> {
         ValueRef::Int(*self as i128)
@@ -208,6 +226,8 @@ impl Cell for u32 {
 
     ghost fits = { Fits kind.uint32 };
 
+    ghost some = { λ _. refl };
+
     fn lend(&self) -> ValueRef<'_> {
         ValueRef::Int(*self as i128)
     }
@@ -228,6 +248,8 @@ impl Cell for u64 {
     ghost shows = { λ n. int (pos n) };
 
     ghost fits = { Fits kind.uint64 };
+
+    ghost some = { λ _. refl };
 
     fn lend(&self) -> ValueRef<'_> {
         ValueRef::Int(*self as i128)
@@ -250,6 +272,8 @@ impl Cell for PlSmallStr {
 
     ghost fits = { Fits kind.string };
 
+    ghost some = { λ _. refl };
+
     fn lend(&self) -> ValueRef<'_> {
         ValueRef::String(self.as_str().as_bytes())
     }
@@ -270,6 +294,8 @@ impl Cell for Bytes {
     ghost shows = { binary };
 
     ghost fits = { Fits kind.binary };
+
+    ghost some = { λ _. refl };
 
     fn lend(&self) -> ValueRef<'_> {
         ValueRef::Binary(self.as_slice())
@@ -292,6 +318,8 @@ impl Cell for Values {
 
     ghost fits = { Fits (kind.list kind.null) };
 
+    ghost some = { λ _. refl };
+
     fn lend(&self) -> ValueRef<'_> {
         ValueRef::List(self)
     }
@@ -312,6 +340,8 @@ impl Cell for FieldValues {
     ghost shows = { λ s. struct (items_of s.values) };
 
     ghost fits = { Fits (kind.struct kind.end) };
+
+    ghost some = { λ _. refl };
 
     fn lend(&self) -> ValueRef<'_> {
         ValueRef::Struct(&self.values)

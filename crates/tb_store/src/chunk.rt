@@ -1,9 +1,10 @@
 //! A run of values of a column.
-ghost use Rattle.std.specs.Prelude.{◌≡◌, ◌<◌, IfOk, length, get_or, map, replicate};
-ghost use Rattle.std.specs.List.{All};
+ghost use Rattle.std.specs.Prelude.{◌≡◌, ◌<◌, IfOk, is_none, length, get_or, map, replicate};
+ghost use Rattle.std.specs.List.{All, count_by};
 ghost use Rattle.tb_value.specs.Datum.{Datum, null, string};
 ghost use Rattle.tb_value.specs.See.{data_of, datum, lent};
 ghost use Rattle.tb_store.specs.Chunk.{or_null};
+ghost use Rattle.tb_store.specs.Flag.{nulls};
 
 use crate::cell::Cell;
 use std::alloc::Global;
@@ -21,6 +22,10 @@ pub trait Chunk: Drop {
     /// The number of values, nulls too.
     fn len(&self) -> usize
         ensures { result ≡ length (shown self.now) };
+
+    /// The number of nulls.
+    fn null_count(&self) -> usize
+        ensures { result ≡ length (nulls (shown self.now)) };
 
     /// The value of a row, lent.
     fn value(&self, row: usize) -> ValueRef<'_>
@@ -52,6 +57,10 @@ impl<N: Cell> Chunk for Cells<N> {
         self.cells.len()
     }
 
+    fn null_count(&self) -> usize {
+        absent_in(&self.cells)
+    }
+
     fn value(&self, row: usize) -> ValueRef<'_> {
         match &self.cells[row] {
             None => ValueRef::Null,
@@ -74,6 +83,12 @@ impl<N: Cell> Chunk for Cells<N> {
         }
         Ok(Cells { cells })
     }
+}
+
+fn absent_in<N>(cells: &[Option<N>]) -> usize
+    ensures { result ≡ count_by is_none cells.now }
+{
+    cells.iter().filter(|cell| cell.is_none()).count()
 }
 
 fn cell_of<N: Cell>(alloc: Global, value: &AnyValue) -> Result<Option<N>, OutOfMemory>
@@ -102,6 +117,10 @@ impl Chunk for usize {
     ghost fits = { λ v. v ≡ null };
 
     fn len(&self) -> usize {
+        *self
+    }
+
+    fn null_count(&self) -> usize {
         *self
     }
 
@@ -153,6 +172,10 @@ impl Chunk for StringChunk {
 
     fn len(&self) -> usize {
         self.inner.len()
+    }
+
+    fn null_count(&self) -> usize {
+        self.inner.null_count()
     }
 
     fn value(&self, row: usize) -> ValueRef<'_> {

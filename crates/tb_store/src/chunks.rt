@@ -3,6 +3,7 @@ ghost use Rattle.std.specs.Prelude.{◌≡◌, ◌<◌, ◌≤◌, ◌^◌, ◌�
 ghost use Rattle.tb_value.specs.Datum.{null};
 ghost use Rattle.tb_value.specs.See.{lent};
 ghost use Rattle.tb_store.specs.Col.{flat};
+ghost use Rattle.tb_store.specs.Flag.{nulls};
 ghost use Rattle.tb_store.specs.Seen.{chunk_lists, storage};
 
 use crate::cell::FieldValues;
@@ -42,6 +43,19 @@ pub fn rows_in<C: Chunk>(chunks: &[C]) -> usize
         rows += chunk.len();
     }
     rows
+}
+
+/// The number of nulls.
+#[tactic(auto, using(crate::proofs::Nulls::nulls_at_most, crate::proofs::Nulls::nulls_drop))]
+pub fn nulls_in<C: Chunk>(chunks: &[C]) -> usize
+    requires { length (flat (map C.shown chunks.now)) < 2 ^ 64 }
+    ensures { result ≡ length (nulls (flat (map C.shown chunks.now))) }
+{
+    let mut nulls = 0;
+    for chunk in chunks {
+        nulls += chunk.null_count();
+    }
+    nulls
 }
 
 /// The value of a row.
@@ -117,6 +131,30 @@ impl Chunks {
             Chunks::ListType(chunks) => rows_in(chunks),
             Chunks::StructType(chunks) => rows_in(chunks),
             Chunks::Null(chunks) => rows_in(chunks),
+        }
+    }
+
+    /// The number of nulls of all chunks.
+    pub fn nulls(&self) -> usize
+        requires { length (flat (chunk_lists self.now)) < 2 ^ 64 }
+        ensures { result ≡ length (nulls (flat (chunk_lists self.now))) }
+    {
+        match self {
+            Chunks::BooleanType(chunks) => nulls_in(chunks),
+            Chunks::Int8Type(chunks) => nulls_in(chunks),
+            Chunks::Int16Type(chunks) => nulls_in(chunks),
+            Chunks::Int32Type(chunks) => nulls_in(chunks),
+            Chunks::Int64Type(chunks) => nulls_in(chunks),
+            Chunks::Int128Type(chunks) => nulls_in(chunks),
+            Chunks::UInt8Type(chunks) => nulls_in(chunks),
+            Chunks::UInt16Type(chunks) => nulls_in(chunks),
+            Chunks::UInt32Type(chunks) => nulls_in(chunks),
+            Chunks::UInt64Type(chunks) => nulls_in(chunks),
+            Chunks::StringType(chunks) => nulls_in(chunks),
+            Chunks::BinaryType(chunks) => nulls_in(chunks),
+            Chunks::ListType(chunks) => nulls_in(chunks),
+            Chunks::StructType(chunks) => nulls_in(chunks),
+            Chunks::Null(chunks) => nulls_in(chunks),
         }
     }
 

@@ -1,15 +1,16 @@
 //! Columns of a table.
-ghost use Rattle.std.specs.Prelude.{◌≡◌, ◌<◌, IfOk, length, get_or};
+ghost use Rattle.std.specs.Prelude.{◌≡◌, ◌<◌, ◌∷◌, [], IfOk, length, get_or};
 ghost use Rattle.tb_value.specs.Datum.{null};
 ghost use Rattle.tb_value.specs.See.{lent};
 ghost use Rattle.tb_value.specs.SeeKind.{kind_of};
 ghost use Rattle.tb_store.specs.Col.{values, IsColumn};
+ghost use Rattle.tb_store.specs.Flag.{nulls, FlagHolds};
 ghost use Rattle.tb_store.specs.Made.{lists_of, IsMade};
 
 use crate::series::Series;
 use std::alloc::Global;
 use std::marker::Model;
-use tb_value::{AnyValue, DataType, OutOfMemory, PlSmallStr, PolarsResult, ValueRef};
+use tb_value::{AnyValue, DataType, IsSorted, OutOfMemory, PlSmallStr, PolarsResult, ValueRef};
 
 /// A column of a table, which is a series.
 #[derive(Drop)]
@@ -64,6 +65,13 @@ impl Column {
         &self.series
     }
 
+    /// The series that this column is, handed over.
+    pub fn take_materialized_series(self) -> Series
+        ensures { result ≡ self }
+    {
+        self.series
+    }
+
     /// The name.
     pub fn name(&self) -> &PlSmallStr
         ensures { result.now ≡ self.now.name }
@@ -76,6 +84,43 @@ impl Column {
         ensures { kind_of result.now ≡ self.now.kind }
     {
         self.series.dtype()
+    }
+
+    /// The number of chunks, which is at least 1.
+    pub fn n_chunks(&self) -> usize
+        ensures { result ≡ length self.now.chunks }
+    {
+        self.series.n_chunks()
+    }
+
+    /// The number of values of a chunk.
+    pub fn chunk_len(&self, chunk: usize) -> usize
+        requires { chunk < length self.now.chunks }
+        ensures { result ≡ length (get_or self.now.chunks chunk []) }
+    {
+        self.series.chunk_len(chunk)
+    }
+
+    /// The order that the values are known to have.
+    pub fn is_sorted_flag(&self) -> IsSorted
+        ensures { result ≡ self.now.flag }
+    {
+        self.series.is_sorted_flag()
+    }
+
+    /// Changes the flag alone.
+    pub fn set_sorted_flag(&mut self, flag: IsSorted)
+        requires { FlagHolds flag self.old.kind (values self.old) }
+        ensures { self.new ≡ record self.old { flag = flag } }
+    {
+        self.series.set_sorted_flag(flag);
+    }
+
+    /// The number of values that are Null.
+    pub fn null_count(&self) -> usize
+        ensures { result ≡ length (nulls (values self.now)) }
+    {
+        self.series.null_count()
     }
 
     /// The number of values, which is at most `MAX_ROWS`.
@@ -107,6 +152,14 @@ impl Column {
     {
         Ok(Column {
             series: self.series.copy(alloc)?,
+        })
+    }
+    /// The same values in one chunk, with the same flag.
+    pub fn rechunk(&self, alloc: Global) -> Result<Column, OutOfMemory>
+        ensures { IfOk result (λ c. c ≡ record self.now { chunks = values self.now ∷ [] }) }
+    {
+        Ok(Column {
+            series: self.series.rechunk(alloc)?,
         })
     }
 }

@@ -2,6 +2,7 @@
 #![tactic(auto)]
 
 mod arrange;
+mod ascending;
 mod cell;
 mod chunk;
 mod chunks;

@@ -4,6 +4,7 @@ ghost use Rattle.tb_value.specs.Datum.{null};
 ghost use Rattle.tb_value.specs.See.{lent};
 ghost use Rattle.tb_value.specs.SeeKind.{kind_of};
 ghost use Rattle.tb_store.specs.Col.{Col, values, IsColumn, physical};
+ghost use Rattle.tb_store.specs.Flag.{nulls, FlagHolds};
 ghost use Rattle.tb_store.specs.Seen.{chunk_lists, storage};
 
 use crate::chunks::Chunks;
@@ -78,6 +79,21 @@ impl Series {
         ensures { result ≡ self.now.flag }
     {
         self.flag
+    }
+
+    /// Changes the flag alone.
+    pub fn set_sorted_flag(&mut self, flag: IsSorted)
+        requires { FlagHolds flag self.old.kind (values self.old) }
+        ensures { self.new ≡ record self.old { flag = flag } }
+    {
+        self.flag = flag;
+    }
+
+    /// The number of values that are Null.
+    pub fn null_count(&self) -> usize
+        ensures { result ≡ length (nulls (values self.now)) }
+    {
+        self.chunks.nulls()
     }
 
     /// The number of values, which is at most `MAX_ROWS`.
