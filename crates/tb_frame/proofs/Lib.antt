@@ -1,6 +1,7 @@
 pub mod Frames
 pub mod Seen
 pub mod Taking
+pub mod Cuts
 pub mod Selected
 pub mod Conds
 pub mod Fields

@@ -1,8 +1,8 @@
 -- Which lists of columns make no table, and what becomes of the columns of a table.
-use Rattle.std.specs.Prelude.{◌==◌, ℕ, Bool, not, List, [], ◌∷◌, length, map, filter, slice_index_or, Option, ℤ}
+use Rattle.std.specs.Prelude.{◌≡◌, ◌==◌, ℕ, Bool, not, List, [], ◌∷◌, length, map, filter, slice_index_or, Option, ℤ}
 use Rattle.std.specs.Option.{option_map}
-use Rattle.std.specs.List.{list_all, filter_map, find}
-use Rattle.tb_value.specs.Datum.{null}
+use Rattle.std.specs.List.{AllPairs, list_all, filter_map, find}
+use Rattle.tb_value.specs.Datum.{Datum, null}
 use Rattle.tb_value.specs.Names.{Name, same_name}
 use Rattle.tb_value.specs.Refusals.{first_cause, when}
 use Rattle.tb_value.specs.declared.error.PolarsError.{PolarsError}
@@ -46,3 +46,15 @@ opt_taken rows c = record c { chunks = map (value_or_null (values c)) rows ∷ [
 -- the part of a column that an offset and a length name, in one chunk
 abbrev pub sliced : ℤ → ℕ → Col → Col
 sliced offset len c = record c { chunks = window (length (values c)) offset len (values c) ∷ [] }
+
+-- the number of values of each chunk of a column
+abbrev pub lens : Col → List ℕ
+lens c = map (λ (vs : List Datum). length vs) c.chunks
+
+-- any two columns are cut into chunks of the same lengths
+abbrev pub AreCutAlike : List Col → Type 0
+AreCutAlike cs = AllPairs (λ (a b : Col). lens a ≡ lens b) cs
+
+-- the values of a column in one chunk
+abbrev pub in_one_chunk : Col → Col
+in_one_chunk c = record c { chunks = values c ∷ [] }

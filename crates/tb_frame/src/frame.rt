@@ -22,7 +22,7 @@ use tb_value::{IdxSize, NullableIdxSize, OutOfMemory, PlSmallStr, PolarsError, P
 /// A table: columns of distinct names and one height.
 #[derive(Drop)]
 pub struct DataFrame {
-    columns: Vec<Column>,
+    pub(crate) columns: Vec<Column>,
 }
 
 impl Model for DataFrame {

@@ -2,6 +2,7 @@
 #![tactic(auto)]
 
 mod args;
+mod chunking;
 mod frame;
 pub mod laws;
 mod names;

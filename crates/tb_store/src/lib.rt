@@ -10,6 +10,7 @@ mod column;
 mod grow;
 mod make;
 mod marker;
+mod merged;
 mod pick;
 mod pick_opt;
 mod row_number;

@@ -1,0 +1,9 @@
+use Rattle.std.proofs.Common.{◌≡◌, take}
+use Rattle.std.specs.List.{All}
+use Rattle.tb_store.specs.Col.{Col}
+use Rattle.tb_frame.specs.Frame.{lens}
+use Rattle.tb_frame.proofs.chunking.are_cut_as.Given as goal
+
+-- the columns so far are cut as the first
+abbrev pub invariant-loop-column : goal.invariant-loop-column
+invariant-loop-column l = All (λ (c : Col). lens c ≡ lens l.fn.first) (take l.column-index l.columns)
