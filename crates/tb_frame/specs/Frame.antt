@@ -9,6 +9,7 @@ use Rattle.tb_value.specs.declared.error.PolarsError.{PolarsError}
 use Rattle.tb_value.specs.declared.error.PolarsError.TheVariants.{ColumnNotFound, Duplicate, ShapeMismatch}
 use Rattle.tb_value.specs.declared.sorted.IsSorted.TheVariants.{Not}
 use Rattle.tb_store.specs.Col.{Col, values}
+use Rattle.tb_store.specs.Merged.{merged}
 use Rattle.tb_store.specs.Rows.{value_or_null}
 use Rattle.tb_store.specs.Window.{window}
 use Rattle.tb_frame.specs.Table.{TableColumn, Table, height, names_of}
@@ -58,3 +59,7 @@ AreCutAlike cs = AllPairs (λ (a b : Col). lens a ≡ lens b) cs
 -- the values of a column in one chunk
 abbrev pub in_one_chunk : Col → Col
 in_one_chunk c = record c { chunks = values c ∷ [] }
+
+-- the first column, with the values of the second where its own are Null, in one chunk
+abbrev pub coalesced : Col → Col → Col
+coalesced c d = record c { chunks = merged (values c) (values d) ∷ []; flag = Not }

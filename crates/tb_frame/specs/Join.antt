@@ -7,6 +7,7 @@ use Rattle.tb_value.specs.Names.{Name, same_name}
 use Rattle.tb_value.specs.Pairs.{row_numbers, matched, left_met, left_unmet, right_unmet, left_first, right_first}
 use Rattle.tb_value.specs.Same.{same}
 use Rattle.tb_value.specs.declared.index.JoinPair.{JoinPair}
+pub use Rattle.tb_store.specs.Merged.{or_else}
 use Rattle.tb_frame.specs.declared.args.JoinArgs.{JoinArgs}
 use Rattle.tb_frame.specs.declared.args.JoinType.{JoinType}
 use Rattle.tb_frame.specs.declared.args.JoinType.TheVariants.{Inner, Left, Right, Full, Semi, Anti}
@@ -200,10 +201,6 @@ joined q = map left_out (kept_left q) ++ map (right_out (names_of (kept_left q))
 
 abbrev pub joined_names : Request → List Name
 joined_names q = map (λ (o : Out). o.name) (joined q)
-
--- the first value, or the second where it is Null
-abbrev pub or_else : Datum → Datum → Datum
-or_else a b = (if is_null a then b else a)
 
 -- the field of a key in a row, Null where there is no row
 abbrev pub key_at : List TableColumn → ℕ → Option ℕ → Datum

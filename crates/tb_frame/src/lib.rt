@@ -3,14 +3,19 @@
 
 mod args;
 mod chunking;
+mod coalescing;
+mod equality;
 mod frame;
 pub mod laws;
 mod names;
 mod order;
 #[cfg(test)]
 mod tests;
+mod types;
 
 pub use args::{Direction, JoinArgs, JoinCoalesce, JoinType, JoinValidation, MaintainOrderJoin};
+pub use coalescing::coalesce_columns;
 pub use frame::{DataFrame, IntoDf, column_name_set, column_names, take_columns, take_opt_columns};
 pub use names::{NameSet, check_distinct, name_set};
 pub use order::direction_of;
+pub use types::same_type;

@@ -1,0 +1,65 @@
+-- Columns and tables that are equal, and types with fields.
+use Rattle.std.proofs.Common.{◌≡◌, ◌↔◌, ℕ, zero, suc, ◌<◌, ◌≤◌, Bool, true, false, ◌&&◌, List, [], ◌∷◌, length, get_or, map, refl, ap, sym, ◌∙◌, arith, IsTrue}
+use Rattle.std.proofs.lemmas.List.{get_or-map}
+use Rattle.std.proofs.lemmas.Slice.Eq.{bytes_eq-Decides}
+use Rattle.tb_value.specs.Datum.{Datum}
+use Rattle.tb_value.specs.Kind.{Part, weight, weights, parts_of}
+use Rattle.tb_value.specs.Names.{Name, same_name}
+use Rattle.tb_value.specs.Same.{same, same-Decides}
+use Rattle.tb_value.specs.SameKind.{same_kind, same_parts}
+use Rattle.tb_value.proofs.TypeTests.{same_kind-Decides}
+use Rattle.tb_store.specs.Col.{Col, values}
+use Rattle.tb_frame.specs.Table.{TableColumn, plain, table_of}
+
+-- no field's type is heavier than all of them
+pub weight_at : (ps : List Part) (i : ℕ) (p : Part) → i < length ps → p ≡ get_or ps i p → weight p.1 ≤ weights (parts_of ps)
+weight_at [] i p h e = absurd (omega arith)
+weight_at (q ∷ ps) zero p h e = let f : weight p.1 ≡ weight q.1 = ap (λ r. weight r.1) e in omega arith
+weight_at (q ∷ ps) (suc i) p h e = omega (arith, weight_at ps i p (omega arith) e)
+
+-- lists of fields of different lengths are not the same
+false_and : (b c : Bool) → false ≡ c → false ≡ (b && c)
+false_and true c e = e
+false_and false c e = refl
+
+pub parts_differ : (ps qs : List Part) → (length ps ≡ length qs → ⊥) → false ≡ same_parts (parts_of ps) (parts_of qs)
+parts_differ [] [] h = absurd (h refl)
+parts_differ [] (q ∷ qs) h = refl
+parts_differ (p ∷ ps) [] h = refl
+parts_differ (p ∷ ps) (q ∷ qs) h = false_and (same_name p.0 q.0 && same_kind p.1 q.1) (same_parts (parts_of ps) (parts_of qs)) (parts_differ ps qs (λ e. h (ap (λ n. suc n) e)))
+
+-- what the test of two values says
+pub equal-same : (x y : Datum) → true ≡ same x y → x ≡ y
+equal-same x y h = (same-Decides x y).0 (sym h)
+
+pub differ-same : (x y : Datum) → false ≡ same x y → x ≡ y → ⊥
+differ-same x y h e = let t : same x y ≡ true = (same-Decides x y).1 e in cc
+
+-- columns of one name and one type are equal exactly where their values are
+pub plain-by_values : (a b : Col) (r : Bool) → same_name a.name b.name ≡ true → same_kind a.kind b.kind ≡ true → (IsTrue r ↔ (values a ≡ values b)) → (IsTrue r ↔ (plain a ≡ plain b))
+plain-by_values a b r n k h =
+    let names = (bytes_eq-Decides a.name b.name).0 n in
+    let kinds = (same_kind-Decides a.kind b.kind).0 k in (
+      λ t. let vs = h.0 t in λ i. record { name = names i; kind = kinds i; values = vs i },
+      λ e. h.1 (ap (λ (c : TableColumn). c.values) e),
+    )
+
+pub differ-names : (a b : Col) → same_name a.name b.name ≡ false → plain a ≡ plain b → ⊥
+differ-names a b h e = let t : same_name a.name b.name ≡ true = (bytes_eq-Decides a.name b.name).1 (ap (λ (c : TableColumn). c.name) e) in cc
+
+pub differ-kinds : (a b : Col) → same_kind a.kind b.kind ≡ false → plain a ≡ plain b → ⊥
+differ-kinds a b h e = let t : same_kind a.kind b.kind ≡ true = (same_kind-Decides a.kind b.kind).1 (ap (λ (c : TableColumn). c.kind) e) in cc
+
+-- tables are equal by their columns
+pub table-ext : (xs ys : List Col) → length xs ≡ length ys → ((k : ℕ) (d : Col) → k < length xs → plain (get_or xs k d) ≡ plain (get_or ys k d)) → table_of xs ≡ table_of ys
+table-ext [] [] e h = refl
+table-ext [] (y ∷ ys) e h = absurd (omega arith)
+table-ext (x ∷ xs) [] e h = absurd (omega arith)
+table-ext (x ∷ xs) (y ∷ ys) e h =
+    let first = h 0 x (omega arith) in
+    let rest = table-ext xs ys (omega arith) (λ k d low. h (suc k) d (omega arith)) in
+    λ i. first i ∷ rest i
+
+pub plain-at : (xs ys : List Col) (i : ℕ) (x y : Col) → i < length xs → i < length ys → x ≡ get_or xs i x → y ≡ get_or ys i y → table_of xs ≡ table_of ys → plain x ≡ plain y
+plain-at xs ys i x y low under is its e =
+    ap plain is ∙ sym (get_or-map plain xs i x (plain x) low) ∙ ap (λ (t : List TableColumn). get_or t i (plain x)) e ∙ get_or-map plain ys i y (plain x) under ∙ ap plain (sym its)

@@ -1,0 +1,22 @@
+//! Columns made of two, of which the second stands in where the first has Null.
+ghost use Rattle.std.specs.Prelude.{◌≡◌, IfOk, length};
+ghost use Rattle.tb_store.specs.Col.{values};
+ghost use Rattle.tb_frame.specs.Frame.{coalesced};
+
+use std::alloc::Global;
+use tb_store::Column;
+use tb_value::OutOfMemory;
+
+/// The values of the first column, and those of the second where they are Null, in one chunk. The name is that of the
+/// first. Both have one type and one length.
+pub fn coalesce_columns(
+    alloc: Global,
+    first: &Column,
+    second: &Column,
+) -> Result<Column, OutOfMemory>
+    requires one_type { first.now.kind ≡ second.now.kind }
+    requires one_length { length (values first.now) ≡ length (values second.now) }
+    ensures { IfOk result (λ c. c ≡ coalesced first.now second.now) }
+{
+    first.merged(alloc, second)
+}

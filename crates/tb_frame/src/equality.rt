@@ -1,0 +1,73 @@
+//! Whether two tables are equal.
+ghost use Rattle.std.specs.Prelude.{◌≡◌, ◌↔◌, IsTrue};
+ghost use Rattle.tb_value.specs.Same.{same};
+ghost use Rattle.tb_value.specs.See.{lent};
+ghost use Rattle.tb_store.specs.Col.{values};
+ghost use Rattle.tb_frame.specs.Table.{plain, table_of};
+
+use crate::frame::DataFrame;
+use crate::types::same_type;
+use tb_store::Column;
+use tb_value::ValueRef;
+
+impl DataFrame {
+    /// Whether the tables have the same names, types and values, column by column, where Null is equal to Null. How
+    /// the columns are cut into chunks, and their flags, don't matter.
+    pub fn equals_missing(&self, other: &DataFrame) -> bool
+        ensures { IsTrue result ↔ (table_of self.now ≡ table_of other.now) }
+    {
+        same_columns(&self.columns, &other.columns)
+    }
+}
+
+fn same_columns(first: &[Column], second: &[Column]) -> bool
+    ensures { IsTrue result ↔ (table_of first.now ≡ table_of second.now) }
+{
+    if first.len() != second.len() {
+        return false;
+    }
+    for i in 0..first.len() {
+        if !same_column(&first[i], &second[i]) {
+            return false;
+        }
+    }
+    true
+}
+
+fn same_column(first: &Column, second: &Column) -> bool
+    ensures { IsTrue result ↔ (plain first.now ≡ plain second.now) }
+{
+    first.name().as_str() == second.name().as_str()
+        && same_type(first.dtype(), second.dtype())
+        && same_values(first, second)
+}
+
+fn same_values(first: &Column, second: &Column) -> bool
+    ensures { IsTrue result ↔ (values first.now ≡ values second.now) }
+{
+    let len = first.len();
+    if second.len() != len {
+        return false;
+    }
+    for row in 0..len {
+        if !same_value(first.get(row), second.get(row)) {
+            return false;
+        }
+    }
+    true
+}
+
+fn same_value(first: ValueRef<'_>, second: ValueRef<'_>) -> bool
+    ensures { result ≡ same (lent first.entry) (lent second.entry) }
+{
+    match (first, second) {
+        (ValueRef::Null, ValueRef::Null) => true,
+        (ValueRef::Boolean(a), ValueRef::Boolean(b)) => a == b,
+        (ValueRef::Int(a), ValueRef::Int(b)) => a == b,
+        (ValueRef::String(a), ValueRef::String(b)) => a == b,
+        (ValueRef::Binary(a), ValueRef::Binary(b)) => a == b,
+        (ValueRef::List(a), ValueRef::List(b)) => a == b,
+        (ValueRef::Struct(a), ValueRef::Struct(b)) => a == b,
+        _ => false,
+    }
+}
