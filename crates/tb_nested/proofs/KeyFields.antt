@@ -1,9 +1,9 @@
 -- The fields and the types of the keys that a loop reads from their columns.
-use Rattle.std.proofs.Common.{◌≡◌, ℕ, ◌<◌, List, length, get_or, map, ap, sym, ◌∙◌, arith}
+use Rattle.std.proofs.Common.{◌≡◌, ℕ, ◌<◌, List, length, get_or, ap, sym, ◌∙◌, arith}
 use Rattle.std.proofs.lemmas.List.{get_or-map, length-map}
 use Rattle.tb_value.specs.Datum.{null}
 use Rattle.tb_store.specs.Col.{Col, values}
-use Rattle.tb_frame.specs.Table.{TableColumn, plain, table_of}
+use Rattle.tb_frame.specs.Table.{plain, table_of}
 use Rattle.tb_frame.specs.Join.{field}
 use Rattle.tb_frame.specs.Refusal.{kind_at}
 use Rattle.tb_frame.proofs.Fields.{field_at, kind_is}

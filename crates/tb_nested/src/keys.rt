@@ -52,9 +52,7 @@ pub(crate) fn check_kinds(keys: &[Column], places: usize) -> PolarsResult<()>
 {
     for place in 0..places {
         if !keys[place].dtype().is_key() {
-            return Err(PolarsError::InvalidOperation(InvalidCause::KeyKind {
-                place,
-            }));
+            return Err(PolarsError::InvalidOperation(InvalidCause::KeyKind { place }));
         }
     }
     Ok(())

@@ -3,9 +3,13 @@
 #![tactic(auto)]
 
 mod agreeing;
+mod columns;
 mod keys;
 mod listing;
 mod names;
+mod nested;
 mod ordering;
 mod types;
 mod validation;
+
+pub use nested::nested_join;

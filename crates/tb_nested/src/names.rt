@@ -8,14 +8,15 @@ ghost use Rattle.tb_frame.specs.Table.{table_of};
 ghost use Rattle.tb_nested.specs.Requests.{name_causes};
 
 use std::alloc::Global;
-use tb_frame::{DataFrame, check_distinct, column_name_set};
+use tb_frame::{check_distinct, column_name_set};
+use tb_store::Column;
 use tb_value::{InvalidCause, OutOfMemory, PlSmallStr, PolarsError, PolarsResult};
 
 // Refuses the first name that no column has (ColumnNotFound).
-fn check_known(alloc: Global, table: &DataFrame, names: &[PlSmallStr]) -> PolarsResult<()>
-    ensures { Settles result (option_map (λ n. ColumnNotFound n) (first_unknown (table_of table.now) names.now)) }
+fn check_known(alloc: Global, columns: &[Column], names: &[PlSmallStr]) -> PolarsResult<()>
+    ensures { Settles result (option_map (λ n. ColumnNotFound n) (first_unknown (table_of columns.now) names.now)) }
 {
-    let known = column_name_set(alloc, table.get_columns())?;
+    let known = column_name_set(alloc, columns)?;
     for name in names {
         if !known.contains(name) {
             return Err(PolarsError::ColumnNotFound(name.copy(alloc)?));
@@ -41,10 +42,7 @@ fn check_counts(left_on: &[PlSmallStr], right_on: &[PlSmallStr]) -> PolarsResult
     let left = left_on.len();
     let right = right_on.len();
     if left != right {
-        return Err(PolarsError::InvalidOperation(InvalidCause::KeyCounts {
-            left,
-            right,
-        }));
+        return Err(PolarsError::InvalidOperation(InvalidCause::KeyCounts { left, right }));
     }
     Ok(())
 }
@@ -70,8 +68,8 @@ fn check_repeated(alloc: Global, names: &[PlSmallStr]) -> PolarsResult<()>
 /// different numbers of keys (KeyCounts), and a key that stood before (Duplicate). The left side comes first.
 pub(crate) fn check_names(
     alloc: Global,
-    left: &DataFrame,
-    right: &DataFrame,
+    left: &[Column],
+    right: &[Column],
     left_on: &[PlSmallStr],
     right_on: &[PlSmallStr],
 ) -> PolarsResult<()>

@@ -160,7 +160,14 @@ fn check_left(keys: &[Column], places: usize, args: &JoinArgs, n: usize) -> Pola
     requires fits { places ≤ length keys.now }
     ensures { Settles result (when (is_validated args.now.how && asks_left args.now.validation && any_twins (table_of keys.now) places args.now.join_nulls n) (ComputeError (Validation side.Left))) }
 {
-    check_side(left_asked(args), keys, places, args.join_nulls, n, Side::Left)
+    check_side(
+        left_asked(args),
+        keys,
+        places,
+        args.join_nulls,
+        n,
+        Side::Left,
+    )
 }
 
 // The right side.
@@ -169,7 +176,14 @@ fn check_right(keys: &[Column], places: usize, args: &JoinArgs, n: usize) -> Pol
     requires fits { places ≤ length keys.now }
     ensures { Settles result (when (is_validated args.now.how && asks_right args.now.validation && any_twins (table_of keys.now) places args.now.join_nulls n) (ComputeError (Validation side.Right))) }
 {
-    check_side(right_asked(args), keys, places, args.join_nulls, n, Side::Right)
+    check_side(
+        right_asked(args),
+        keys,
+        places,
+        args.join_nulls,
+        n,
+        Side::Right,
+    )
 }
 
 /// Refuses the first side that is asked to have each key once and has a key twice (Validation), of `l` left rows and

@@ -1,4 +1,4 @@
-use Rattle.std.proofs.Common.{◌≡◌, ℕ, ◌<◌, length, arith, sym, ◌∙◌}
+use Rattle.std.proofs.Common.{◌≡◌, arith, sym, ◌∙◌}
 use Rattle.tb_value.proofs.RowNumbers.{all_more, all_stop}
 use Rattle.tb_frame.specs.Join.{agrees, field}
 use Rattle.tb_frame.specs.Table.{table_of}

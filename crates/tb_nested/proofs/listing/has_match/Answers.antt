@@ -1,4 +1,4 @@
-use Rattle.std.proofs.Common.{◌≡◌, sym, ◌∙◌}
+use Rattle.std.proofs.Common.{sym, ◌∙◌}
 use Rattle.tb_value.proofs.RowNumbers.{any_more, any_stop}
 use Rattle.tb_frame.specs.Table.{table_of}
 use Rattle.tb_nested.specs.KeyTests.{keys_match}

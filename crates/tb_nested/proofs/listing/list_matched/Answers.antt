@@ -1,4 +1,4 @@
-use Rattle.std.proofs.Common.{◌≡◌, ◌++◌, List, sym, ◌∙◌, ap, map}
+use Rattle.std.proofs.Common.{◌++◌, List, sym, ◌∙◌, ap, map}
 use Rattle.std.specs.Prelude.{filter}
 use Rattle.tb_value.specs.declared.index.JoinPair.{JoinPair}
 use Rattle.tb_value.specs.Pairs.{row_numbers, both}

@@ -5,4 +5,4 @@ use Rattle.tb_nested.proofs.names.check_known.Given as goal
 
 -- the names so far are known
 abbrev pub invariant-loop-name : goal.invariant-loop-name
-invariant-loop-name l = first_unknown (table_of l.table) (take l.name-index l.names) ≡ None
+invariant-loop-name l = first_unknown (table_of l.columns) (take l.name-index l.names) ≡ None

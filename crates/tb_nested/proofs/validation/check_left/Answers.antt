@@ -1,4 +1,4 @@
-use Rattle.std.proofs.Common.{◌≡◌, Option, subst}
+use Rattle.std.proofs.Common.{Option, subst}
 use Rattle.std.specs.Prelude.{◌&&◌}
 use Rattle.tb_value.specs.Refusals.{Settles, when}
 use Rattle.tb_value.specs.declared.error.PolarsError.{PolarsError}

@@ -1,6 +1,4 @@
-use Rattle.std.proofs.Common.{◌≡◌, sym, ◌∙◌}
-use Rattle.std.specs.List.{list_any}
-use Rattle.tb_value.specs.Pairs.{row_numbers}
+use Rattle.std.proofs.Common.{sym, ◌∙◌}
 use Rattle.tb_nested.specs.KeyTests.{twins}
 use Rattle.tb_frame.specs.Table.{table_of}
 use Rattle.tb_value.proofs.RowNumbers.{any_more, any_stop}

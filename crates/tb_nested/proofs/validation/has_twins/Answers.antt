@@ -1,4 +1,4 @@
-use Rattle.std.proofs.Common.{◌≡◌, sym, ◌∙◌}
+use Rattle.std.proofs.Common.{sym, ◌∙◌}
 use Rattle.std.specs.List.{list_any}
 use Rattle.tb_value.specs.Pairs.{row_numbers}
 use Rattle.tb_frame.specs.Table.{table_of}
