@@ -146,15 +146,13 @@ fn check_side(
     requires fits { places ≤ length keys.now }
     ensures { Settles result (when (is_asked && any_twins (table_of keys.now) places null_matches n) (ComputeError (Validation side))) }
 {
-    if is_asked {
-        if has_twins(keys, places, null_matches, n) {
-            return Err(PolarsError::ComputeError(ComputeCause::Validation(side)));
-        }
+    if is_asked && has_twins(keys, places, null_matches, n) {
+        return Err(PolarsError::ComputeError(ComputeCause::Validation(side)));
     }
     Ok(())
 }
 
-// The left side.
+// Refuses the left side, where the arguments ask each key once of it.
 fn check_left(keys: &[Column], places: usize, args: &JoinArgs, n: usize) -> PolarsResult<()>
     requires rows { HasRows n keys.now }
     requires fits { places ≤ length keys.now }
@@ -170,7 +168,7 @@ fn check_left(keys: &[Column], places: usize, args: &JoinArgs, n: usize) -> Pola
     )
 }
 
-// The right side.
+// Refuses the right side, where the arguments ask each key once of it.
 fn check_right(keys: &[Column], places: usize, args: &JoinArgs, n: usize) -> PolarsResult<()>
     requires rows { HasRows n keys.now }
     requires fits { places ≤ length keys.now }
