@@ -1,0 +1,4 @@
+pub mod KeyFields
+pub mod FieldTests
+pub mod AnswerTables
+pub mod Answering

@@ -1,0 +1,53 @@
+//! The order of a join's pairs, and the part of them that a slice keeps.
+ghost use Rattle.std.specs.Prelude.{◌≡◌, IfOk, OnOk};
+ghost use Rattle.tb_frame.specs.Answer.{IsListed};
+ghost use Rattle.tb_frame.specs.Join.{IsOrdered, cut};
+
+use std::alloc::{AllocError, Global};
+use tb_frame::{Direction, JoinArgs, JoinType, MaintainOrderJoin, direction_of};
+use tb_store::slice_offsets;
+use tb_value::{JoinPair, OutOfMemory};
+
+// Puts the pairs in the order that the arguments ask.
+fn order_pairs(
+    pairs: &mut Vec<JoinPair>,
+    how: JoinType,
+    order: MaintainOrderJoin,
+) -> Result<(), AllocError>
+    ensures { OnOk result (IsOrdered how order pairs.new.items pairs.old.items) }
+{
+    match direction_of(how, order) {
+        Direction::Free => Ok(()),
+        Direction::ByLeft => pairs.sort_by(|a, b| a.by_left(b)),
+        Direction::ByRight => pairs.sort_by(|a, b| a.by_right(b)),
+    }
+}
+
+// The pairs that a slice keeps.
+fn cut_pairs(
+    alloc: Global,
+    pairs: &[JoinPair],
+    slice: Option<(i64, usize)>,
+) -> Result<Vec<JoinPair>, AllocError>
+    ensures { IfOk result (λ v. v.items ≡ cut slice pairs.now) }
+{
+    match slice {
+        None => Vec::from_slice(alloc, pairs),
+        Some((offset, len)) => {
+            let (start, count) = slice_offsets(offset, len, pairs.len());
+            Vec::from_slice(alloc, &pairs[start..start + count])
+        }
+    }
+}
+
+/// The pairs of a listing in the order that the arguments ask, and of them those that the slice keeps.
+pub(crate) fn arrange(
+    alloc: Global,
+    mut pairs: Vec<JoinPair>,
+    args: &JoinArgs,
+) -> Result<Vec<JoinPair>, OutOfMemory>
+    ensures { IfOk result (λ v. IsListed args.now.how args.now.maintain_order args.now.slice pairs.items v.items) }
+{
+    order_pairs(&mut pairs, args.how, args.maintain_order)?;
+    Ok(cut_pairs(alloc, &pairs, args.slice)?)
+}
