@@ -3,7 +3,6 @@ pub mod Seen
 pub mod Taking
 pub mod Cuts
 pub mod Equal
-pub mod OtherKinds
 pub mod Selected
 pub mod Conds
 pub mod Fields

@@ -1,12 +1,12 @@
 //! Whether two tables are equal.
 ghost use Rattle.std.specs.Prelude.{◌≡◌, ◌↔◌, IsTrue};
 ghost use Rattle.tb_value.specs.Same.{same};
+ghost use Rattle.tb_value.specs.SameKind.{same_kind};
 ghost use Rattle.tb_value.specs.See.{lent};
 ghost use Rattle.tb_store.specs.Col.{values};
 ghost use Rattle.tb_frame.specs.Table.{plain, table_of};
 
 use crate::frame::DataFrame;
-use crate::types::same_type;
 use tb_store::Column;
 use tb_value::ValueRef;
 
@@ -38,8 +38,15 @@ fn same_column(first: &Column, second: &Column) -> bool
     ensures { IsTrue result ↔ (plain first.now ≡ plain second.now) }
 {
     first.name().as_str() == second.name().as_str()
-        && same_type(first.dtype(), second.dtype())
+        && same_type(first, second)
         && same_values(first, second)
+}
+
+/// Whether the columns are of one type.
+pub fn same_type(first: &Column, second: &Column) -> bool
+    ensures { result ≡ same_kind first.now.kind second.now.kind }
+{
+    first.dtype() == second.dtype()
 }
 
 fn same_values(first: &Column, second: &Column) -> bool
@@ -57,7 +64,8 @@ fn same_values(first: &Column, second: &Column) -> bool
     true
 }
 
-fn same_value(first: ValueRef<'_>, second: ValueRef<'_>) -> bool
+/// Whether two lent values are the same.
+pub fn same_value(first: ValueRef<'_>, second: ValueRef<'_>) -> bool
     ensures { result ≡ same (lent first.entry) (lent second.entry) }
 {
     match (first, second) {

@@ -11,11 +11,10 @@ mod names;
 mod order;
 #[cfg(test)]
 mod tests;
-mod types;
 
 pub use args::{Direction, JoinArgs, JoinCoalesce, JoinType, JoinValidation, MaintainOrderJoin};
 pub use coalescing::coalesce_columns;
+pub use equality::{same_type, same_value};
 pub use frame::{DataFrame, IntoDf, column_name_set, column_names, take_columns, take_opt_columns};
 pub use names::{NameSet, check_distinct, name_set};
 pub use order::direction_of;
-pub use types::same_type;

@@ -6,7 +6,6 @@ ghost use Rattle.tb_value.specs.SameKind.{is_key, same_kind};
 ghost use Rattle.tb_value.specs.declared.error.PolarsError.TheVariants.{ColumnNotFound, ComputeError, InvalidOperation};
 ghost use Rattle.tb_value.specs.declared.error.ComputeCause.TheVariants.{KeyTypes, TooManyRows};
 ghost use Rattle.tb_value.specs.declared.error.InvalidCause.TheVariants.{KeyKind};
-ghost use Rattle.tb_value.specs.SeeKind.{kind_of};
 ghost use Rattle.tb_store.specs.Col.{values};
 ghost use Rattle.tb_frame.specs.Table.{plain, table_of};
 ghost use Rattle.tb_frame.specs.Join.{named};
@@ -17,9 +16,7 @@ use crate::typed_keys::chunk_pairs;
 use std::alloc::Global;
 use tb_frame::DataFrame;
 use tb_store::Column;
-use tb_value::{
-    ComputeCause, DataType, InvalidCause, JoinPair, PlSmallStr, PolarsError, PolarsResult,
-};
+use tb_value::{ComputeCause, InvalidCause, JoinPair, PlSmallStr, PolarsError, PolarsResult};
 
 // The place of the one key of each side.
 const ONLY_PLACE: usize = 0;
@@ -42,9 +39,7 @@ pub(crate) fn check_key_types(left: &Column, right: &Column) -> PolarsResult<()>
     ensures { Settles result (when (not (same_kind left.now.kind right.now.kind)) (ComputeError (KeyTypes 0))) }
 {
     if left.dtype() != right.dtype() {
-        return Err(PolarsError::ComputeError(ComputeCause::KeyTypes {
-            place: ONLY_PLACE,
-        }));
+        return Err(PolarsError::ComputeError(ComputeCause::KeyTypes { place: ONLY_PLACE }));
     }
     Ok(())
 }
@@ -53,37 +48,10 @@ pub(crate) fn check_key_types(left: &Column, right: &Column) -> PolarsResult<()>
 pub(crate) fn check_key_kind(key: &Column) -> PolarsResult<()>
     ensures { Settles result (when (not (is_key key.now.kind)) (InvalidOperation (KeyKind 0))) }
 {
-    if !is_key(key.dtype()) {
-        return Err(PolarsError::InvalidOperation(InvalidCause::KeyKind {
-            place: ONLY_PLACE,
-        }));
+    if !key.dtype().is_key() {
+        return Err(PolarsError::InvalidOperation(InvalidCause::KeyKind { place: ONLY_PLACE }));
     }
     Ok(())
-}
-
-// Null, List and Struct are no key types.
-fn is_key(dtype: &DataType) -> bool
-    ensures { result ≡ is_key (kind_of dtype.now) }
-{
-    match dtype {
-        DataType::Null | DataType::List(_) | DataType::Struct(_) => false,
-        DataType::Boolean
-        | DataType::Int8
-        | DataType::Int16
-        | DataType::Int32
-        | DataType::Int64
-        | DataType::Int128
-        | DataType::UInt8
-        | DataType::UInt16
-        | DataType::UInt32
-        | DataType::UInt64
-        | DataType::String
-        | DataType::Binary
-        | DataType::Date
-        | DataType::Datetime(_, _)
-        | DataType::Duration(_)
-        | DataType::Time => true,
-    }
 }
 
 /// The pairs of rows whose keys are there and equal, by left row and then right row. A left row without a match

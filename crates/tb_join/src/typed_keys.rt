@@ -111,10 +111,7 @@ impl CellKey for u64 {
     ghost equal = { same_number };
 }
 
-fn push_cells<N: CellKey>(
-    keys: &mut Vec<Option<N>>,
-    cells: &[Option<N>],
-) -> Result<(), OutOfMemory>
+fn push_cells<N: CellKey>(keys: &mut Vec<Option<N>>, cells: &[Option<N>]) -> Result<(), OutOfMemory>
     ensures { OnOk result (map (or_null N.shows) keys.new.items ≡ map (or_null N.shows) keys.old.items ++ map (or_null N.shows) cells.now) }
 {
     keys.extend_from_slice(cells)?;
@@ -182,10 +179,7 @@ fn bytes_pairs(
     match_rows(alloc, &left_keys, &right_keys, keep)
 }
 
-fn joined_texts(
-    alloc: Global,
-    chunks: &[StringChunk],
-) -> Result<Vec<Option<&str>>, OutOfMemory>
+fn joined_texts(alloc: Global, chunks: &[StringChunk]) -> Result<Vec<Option<&str>>, OutOfMemory>
     ensures { IfOk result (λ v. map (or_null (λ s. string s.now)) v.items ≡ flat (map (λ c. map (or_null string) c.inner.cells.items) chunks.now)) }
 {
     let mut keys = Vec::new(alloc);
@@ -216,10 +210,7 @@ fn lent_text(text: &Option<PlSmallStr>) -> Option<&str>
     }
 }
 
-fn joined_bytes(
-    alloc: Global,
-    chunks: &[Cells<Bytes>],
-) -> Result<Vec<Option<&[u8]>>, OutOfMemory>
+fn joined_bytes(alloc: Global, chunks: &[Cells<Bytes>]) -> Result<Vec<Option<&[u8]>>, OutOfMemory>
     ensures { IfOk result (λ v. map (or_null (λ s. binary s.now)) v.items ≡ flat (map (λ c. map (or_null binary) c.cells.items) chunks.now)) }
 {
     let mut keys = Vec::new(alloc);

@@ -1,4 +1,3 @@
 pub mod KeyFields
-pub mod FieldTests
 pub mod AnswerTables
 pub mod Answering

@@ -1,12 +1,12 @@
 //! Whether the keys of two rows match.
 ghost use Rattle.std.specs.Prelude.{◌≡◌, ◌≤◌, All, length};
 ghost use Rattle.tb_value.specs.Datum.{is_null};
-ghost use Rattle.tb_value.specs.Same.{same};
 ghost use Rattle.tb_value.specs.See.{lent};
 ghost use Rattle.tb_frame.specs.Join.{agrees};
 ghost use Rattle.tb_frame.specs.Table.{table_of};
 ghost use Rattle.tb_nested.specs.KeyTests.{keys_match, HasRow};
 
+use tb_frame::same_value;
 use tb_store::Column;
 use tb_value::ValueRef;
 
@@ -15,22 +15,6 @@ pub(crate) fn is_null(value: ValueRef<'_>) -> bool
     ensures { result ≡ is_null (lent value.entry) }
 {
     matches!(value, ValueRef::Null)
-}
-
-/// Whether two lent values are the same.
-pub(crate) fn same_value(first: ValueRef<'_>, second: ValueRef<'_>) -> bool
-    ensures { result ≡ same (lent first.entry) (lent second.entry) }
-{
-    match (first, second) {
-        (ValueRef::Null, ValueRef::Null) => true,
-        (ValueRef::Boolean(a), ValueRef::Boolean(b)) => a == b,
-        (ValueRef::Int(a), ValueRef::Int(b)) => a == b,
-        (ValueRef::String(a), ValueRef::String(b)) => a == b,
-        (ValueRef::Binary(a), ValueRef::Binary(b)) => a == b,
-        (ValueRef::List(a), ValueRef::List(b)) => a == b,
-        (ValueRef::Struct(a), ValueRef::Struct(b)) => a == b,
-        _ => false,
-    }
 }
 
 // Whether two fields agree: both are there and the same, or both are absent where absent ones match.

@@ -11,9 +11,8 @@ ghost use Rattle.tb_frame.specs.Join.{named};
 ghost use Rattle.tb_frame.specs.Refusal.{first_unknown, first_repeated, kind_at};
 ghost use Rattle.tb_frame.specs.Table.{table_of};
 
-use crate::types::same_type;
 use std::alloc::Global;
-use tb_frame::DataFrame;
+use tb_frame::{DataFrame, same_type};
 use tb_store::Column;
 use tb_value::{ComputeCause, InvalidCause, PlSmallStr, PolarsError, PolarsResult};
 
@@ -38,7 +37,7 @@ pub(crate) fn check_types(left: &[Column], right: &[Column], places: usize) -> P
     ensures { Settles result (option_map (λ p. ComputeError (KeyTypes p)) (find (λ p. not (same_kind (kind_at (table_of left.now) p) (kind_at (table_of right.now) p))) (row_numbers places))) }
 {
     for place in 0..places {
-        if !same_type(left[place].dtype(), right[place].dtype()) {
+        if !same_type(&left[place], &right[place]) {
             return Err(PolarsError::ComputeError(ComputeCause::KeyTypes { place }));
         }
     }

@@ -9,7 +9,6 @@ mod listing;
 mod names;
 mod nested;
 mod ordering;
-mod types;
 mod validation;
 
 pub use nested::nested_join;

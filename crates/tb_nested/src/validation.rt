@@ -12,8 +12,8 @@ ghost use Rattle.tb_frame.specs.Refusal.{is_validated, asks_left, asks_right};
 ghost use Rattle.tb_frame.specs.Table.{table_of};
 ghost use Rattle.tb_nested.specs.KeyTests.{HasRow, HasRows, row_counts, keys_same, twins, any_twins};
 
-use crate::agreeing::{is_null, same_value};
-use tb_frame::{JoinArgs, JoinType, JoinValidation};
+use crate::agreeing::is_null;
+use tb_frame::{JoinArgs, JoinType, JoinValidation, same_value};
 use tb_store::Column;
 use tb_value::{ComputeCause, PolarsError, PolarsResult, Side, ValueRef};
 

@@ -12,8 +12,8 @@ use Rattle.tb_nested.proofs.keys.check_types.Goals.{After-same_type}
 
 here : (c : After-same_type) → c.same_type.result ≡ same_kind (kind_at (table_of c.args.left.now) c.loop-place.place) (kind_at (table_of c.args.right.now) c.loop-place.place)
 here c =
-    let l = c.dtype.ensures ∙ column_kind c.args.left.now c.loop-place.place c.index-left-place.result (omega arith) c.index-left-place.is in
-    let r = c.dtype-in-loop-place.ensures ∙ column_kind c.args.right.now c.loop-place.place c.index-right-place.result (omega arith) c.index-right-place.is in
+    let l = column_kind c.args.left.now c.loop-place.place c.index-left-place.result (omega arith) c.index-left-place.is in
+    let r = column_kind c.args.right.now c.loop-place.place c.index-right-place.result (omega arith) c.index-right-place.is in
     c.same_type.ensures ∙ (λ t. same_kind (l t) (r t))
 
 pub returns-then-not-same_type : goal.returns-then-not-same_type
