@@ -1,4 +1,4 @@
-use Rattle.std.proofs.Common.{◌∙◌, Bool, false, length, nat_lt, get_or, ap}
+use Rattle.std.proofs.Common.{◌∙◌, Bool, length, nat_lt, ap}
 use Rattle.tb_value.specs.Refusals.{when}
 use Rattle.tb_value.specs.declared.error.PolarsError.TheVariants.{ComputeError}
 use Rattle.tb_value.specs.declared.error.ComputeCause.TheVariants.{TooManyRows}

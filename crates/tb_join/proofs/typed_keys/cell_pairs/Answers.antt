@@ -1,4 +1,4 @@
-use Rattle.std.proofs.Common.{◌≡◌, ◌∙◌, List, map, length, nat_lt, ap, refl, subst}
+use Rattle.std.proofs.Common.{◌≡◌, ◌∙◌, List, map, length, nat_lt, ap, subst}
 use Rattle.std.specs.Prelude.{IfOk}
 use Rattle.tb_value.specs.declared.index.JoinPair.{JoinPair}
 use Rattle.tb_value.specs.Refusals.{when}
