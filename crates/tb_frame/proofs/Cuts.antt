@@ -1,5 +1,5 @@
 -- How columns are cut into chunks.
-use Rattle.std.proofs.Common.{◌≡◌, ◌↔◌, ℕ, zero, suc, ◌<◌, Bool, true, false, not, List, [], ◌∷◌, length, get_or, map, refl, ap, sym, ◌∙◌, subst, append-nil, arith, Some, None, IsTrue}
+use Rattle.std.proofs.Common.{◌≡◌, ◌↔◌, ℕ, zero, suc, ◌<◌, Bool, true, false, not, List, [], ◌∷◌, length, get_or, map, refl, ap, sym, ◌∙◌, subst, append-nil, arith, Some, IsTrue}
 use Rattle.std.specs.Prelude.{All}
 use Rattle.std.specs.List.{slice_get}
 use Rattle.std.proofs.lemmas.List.{ext_get_or, length-map, get_or-map}

@@ -1,10 +1,10 @@
 -- Columns and tables that are equal, and types with fields.
-use Rattle.std.proofs.Common.{◌≡◌, ◌↔◌, ℕ, zero, suc, ◌<◌, ◌≤◌, Bool, true, false, ◌&&◌, List, [], ◌∷◌, length, get_or, map, refl, ap, sym, ◌∙◌, arith, IsTrue}
+use Rattle.std.proofs.Common.{◌≡◌, ◌↔◌, ℕ, zero, suc, ◌<◌, ◌≤◌, Bool, true, false, ◌&&◌, List, [], ◌∷◌, length, get_or, refl, ap, sym, ◌∙◌, arith, IsTrue}
 use Rattle.std.proofs.lemmas.List.{get_or-map}
 use Rattle.std.proofs.lemmas.Slice.Eq.{bytes_eq-Decides}
 use Rattle.tb_value.specs.Datum.{Datum}
 use Rattle.tb_value.specs.Kind.{Part, weight, weights, parts_of}
-use Rattle.tb_value.specs.Names.{Name, same_name}
+use Rattle.tb_value.specs.Names.{same_name}
 use Rattle.tb_value.specs.Same.{same, same-Decides}
 use Rattle.tb_value.specs.SameKind.{same_kind, same_parts}
 use Rattle.tb_value.proofs.TypeTests.{same_kind-Decides}

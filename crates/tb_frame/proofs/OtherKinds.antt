@@ -1,5 +1,5 @@
 -- A type that is no Datetime, no Duration or no struct is not the same as one.
-use Rattle.std.proofs.Common.{◌≡◌, List, ℕ, Option, Bool, false, refl}
+use Rattle.std.proofs.Common.{◌≡◌, List, ℕ, Option, false, refl}
 use Rattle.tb_value.specs.Kind as kind
 use Rattle.tb_value.specs.Kind.{Kind, Part, parts_of}
 use Rattle.tb_value.specs.SameKind.{same_kind}

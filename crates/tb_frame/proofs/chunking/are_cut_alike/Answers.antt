@@ -1,4 +1,4 @@
-use Rattle.std.proofs.Common.{◌≡◌, ◌∙◌, sym, refl, arith, length}
+use Rattle.std.proofs.Common.{◌∙◌, sym, refl, arith}
 use Rattle.tb_frame.proofs.Cuts.{lens-alike, lens-at}
 use Rattle.tb_frame.proofs.chunking.are_cut_alike.Goals as goal
 

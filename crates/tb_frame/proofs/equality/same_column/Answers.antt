@@ -1,4 +1,4 @@
-use Rattle.std.proofs.Common.{◌≡◌, ◌∙◌, Bool, true, false, ap, sym, refl}
+use Rattle.std.proofs.Common.{◌≡◌, ◌∙◌, false, sym}
 use Rattle.tb_value.specs.Names.{same_name}
 use Rattle.tb_value.specs.SameKind.{same_kind}
 use Rattle.tb_frame.proofs.Equal.{plain-by_values, differ-names, differ-kinds}

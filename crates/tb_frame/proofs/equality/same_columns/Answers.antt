@@ -1,4 +1,4 @@
-use Rattle.std.proofs.Common.{◌≡◌, ◌∙◌, ℕ, ap, sym, refl, get_or, length, arith, below_more}
+use Rattle.std.proofs.Common.{◌≡◌, ◌∙◌, ℕ, ap, sym, refl, get_or, arith, below_more}
 use Rattle.std.proofs.lemmas.List.{get_or_default}
 use Rattle.tb_store.specs.Col.{Col}
 use Rattle.tb_frame.specs.Table.{plain}

@@ -1,6 +1,6 @@
-use Rattle.std.proofs.Common.{◌≡◌, ◌∙◌, ℕ, ap, sym, refl, get_or, length, arith, below_more}
+use Rattle.std.proofs.Common.{◌≡◌, ◌∙◌, ℕ, ap, sym, refl, get_or, arith, below_more}
 use Rattle.std.proofs.lemmas.List.{ext_get_or}
-use Rattle.tb_value.specs.Datum.{Datum, null}
+use Rattle.tb_value.specs.Datum.{null}
 use Rattle.tb_value.specs.See.{lent}
 use Rattle.tb_store.specs.Col.{values}
 use Rattle.tb_frame.proofs.Equal.{equal-same, differ-same}

@@ -1,4 +1,4 @@
-use Rattle.std.proofs.Common.{◌≡◌, ◌∙◌, ◌↔◌, List, IsTrue, ap, sym, subst, Some}
+use Rattle.std.proofs.Common.{◌≡◌, ◌∙◌, ◌↔◌, List, IsTrue, ap, subst}
 use Rattle.std.specs.Prelude.{All}
 use Rattle.std.specs.List.{slice_get}
 use Rattle.tb_store.specs.Col.{Col}
