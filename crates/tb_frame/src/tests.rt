@@ -1,7 +1,11 @@
-//! Tables made, asked for columns, put beside columns and cut, and what arguments ask.
+//! Tables made, asked for columns, put beside columns, cut, put into one chunk and compared, columns coalesced, and
+//! what arguments ask.
 
 use crate::laws::slice_is_window;
-use crate::{DataFrame, JoinArgs, JoinCoalesce, JoinType, JoinValidation, MaintainOrderJoin};
+use crate::{
+    DataFrame, JoinArgs, JoinCoalesce, JoinType, JoinValidation, MaintainOrderJoin,
+    coalesce_columns,
+};
 use std::alloc::Global;
 use std::test::Fail;
 use tb_store::Column;
@@ -9,14 +13,32 @@ use tb_value::{
     AnyValue, DataType, NullableIdxSize, PlSmallStr, PolarsError, PolarsResult, ValueRef,
 };
 
+// what stands for Null among the numbers of a column
+const NULL: i128 = -1;
+
 fn column(alloc: Global, name: &str, values: &[i128]) -> Result<Column, Fail> {
-    let mut ints = Vec::new(alloc);
-    for value in values {
-        ints.push(AnyValue::Int(*value))?;
-    }
+    cut_column(alloc, name, DataType::Int64, &[values])
+}
+
+fn cut_column(alloc: Global, name: &str, dtype: DataType, cut: &[&[i128]]) -> Result<Column, Fail> {
     let mut chunks = Vec::new(alloc);
-    chunks.push(ints)?;
-    Ok(Column::from_chunks(alloc, name, DataType::Int64, chunks)?)
+    for values in cut {
+        let mut ints = Vec::new(alloc);
+        for value in *values {
+            match *value {
+                NULL => ints.push(AnyValue::Null)?,
+                int => ints.push(AnyValue::Int(int))?,
+            }
+        }
+        chunks.push(ints)?;
+    }
+    Ok(Column::from_chunks(alloc, name, dtype, chunks)?)
+}
+
+fn table_of(alloc: Global, column: Column) -> Result<DataFrame, Fail> {
+    let mut columns = Vec::new(alloc);
+    columns.push(column)?;
+    Ok(DataFrame::new(alloc, columns)?)
 }
 
 // a column "a" of three rows beside one more
@@ -191,5 +213,77 @@ fn arguments(rt: HostRuntime) -> Result<(), Fail> {
     assert!(rt; JoinValidation::ManyToOne.needs_checks());
     assert!(rt; !JoinValidation::ManyToMany.needs_checks());
     assert!(rt; MaintainOrderJoin::LeftRight.flip() == MaintainOrderJoin::RightLeft);
+    Ok(())
+}
+
+#[test]
+fn one_chunk(rt: HostRuntime) -> Result<(), Fail> {
+    let alloc = rt.alloc();
+    let halves = [&[1][..], &[2, NULL][..]];
+    let others = [&[1, 2][..], &[NULL][..]];
+    let whole = [&[1, 2, NULL][..]];
+    for (first, second, is_uneven) in [
+        (&halves[..], &halves[..], false),
+        (&halves[..], &others[..], true),
+        (&halves[..], &whole[..], true),
+        (&whole[..], &whole[..], false),
+    ] {
+        let mut columns = Vec::new(alloc);
+        columns.push(cut_column(alloc, "a", DataType::Int64, first)?)?;
+        columns.push(cut_column(alloc, "b", DataType::Int8, second)?)?;
+        let mut table = DataFrame::new(alloc, columns)?;
+        assert_eq!(rt; table.should_rechunk(), is_uneven);
+        let before = table.copy(alloc)?;
+        table.as_single_chunk_par(alloc)?;
+        assert!(rt; !table.should_rechunk() && table.equals_missing(&before));
+        for column in table.get_columns() {
+            assert_eq!(rt; column.as_materialized_series().n_chunks(), 1);
+        }
+    }
+    Ok(())
+}
+
+#[test]
+fn equals_missing(rt: HostRuntime) -> Result<(), Fail> {
+    let alloc = rt.alloc();
+    let whole = [&[1, 2, NULL][..]];
+    let table = table_of(alloc, cut_column(alloc, "a", DataType::Int64, &whole)?)?;
+    for (name, is_wide, cut, is_equal) in [
+        ("a", true, &[&[1][..], &[2, NULL][..]], true),
+        ("b", true, &[&[1][..], &[2, NULL][..]], false),
+        ("a", false, &[&[1][..], &[2, NULL][..]], false),
+        ("a", true, &[&[1][..], &[3, NULL][..]], false),
+        ("a", true, &[&[1][..], &[2, 0][..]], false),
+        ("a", true, &[&[1][..], &[2][..]], false),
+    ] {
+        let dtype = if is_wide {
+            DataType::Int64
+        } else {
+            DataType::Int32
+        };
+        let other = table_of(alloc, cut_column(alloc, name, dtype, cut)?)?;
+        assert_eq!(rt; table.equals_missing(&other), is_equal);
+    }
+    Ok(())
+}
+
+#[test]
+fn coalesce(rt: HostRuntime) -> Result<(), Fail> {
+    let alloc = rt.alloc();
+    let first = cut_column(
+        alloc,
+        "a",
+        DataType::Int64,
+        &[&[1, NULL][..], &[3, NULL][..]],
+    )?;
+    let second = column(alloc, "b", &[9, 8, 7, NULL])?;
+    for (left, right, name, wanted) in [
+        (&first, &second, "a", [1, 8, 3, NULL]),
+        (&second, &first, "b", [9, 8, 7, NULL]),
+    ] {
+        let merged = table_of(alloc, coalesce_columns(alloc, left, right)?)?;
+        let expected = table_of(alloc, column(alloc, name, &wanted)?)?;
+        assert!(rt; merged.equals_missing(&expected));
+    }
     Ok(())
 }

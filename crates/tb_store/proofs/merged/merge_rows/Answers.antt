@@ -1,4 +1,4 @@
-use Rattle.std.proofs.Common.{◌≡◌, ◌<◌, ◌∙◌, ◌∷◌, ◌++◌, [], false, sym, ap, refl, arith, length, take, get_or}
+use Rattle.std.proofs.Common.{◌≡◌, ◌<◌, ◌∙◌, ◌∷◌, ◌++◌, [], false, sym, ap, refl, arith, length, get_or}
 use Rattle.std.proofs.lemmas.List.{take_all}
 use Rattle.tb_value.specs.Datum.{null, is_null}
 use Rattle.tb_store.specs.Merged.{or_else, merged}

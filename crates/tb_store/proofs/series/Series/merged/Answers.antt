@@ -1,4 +1,4 @@
-use Rattle.std.proofs.Common.{◌∙◌, ap, refl, ◌∷◌, []}
+use Rattle.std.proofs.Common.{◌∙◌, refl, ◌∷◌, []}
 use Rattle.tb_store.specs.Col.{flat}
 use Rattle.tb_store.specs.Merged.{merged}
 use Rattle.tb_store.proofs.Merging.{merged_column}
