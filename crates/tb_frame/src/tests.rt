@@ -17,21 +17,30 @@ use tb_value::{
 const NULL: i128 = -1;
 
 fn column(alloc: Global, name: &str, values: &[i128]) -> Result<Column, Fail> {
-    cut_column(alloc, name, DataType::Int64, &[values])
+    cut_column(alloc, name, DataType::Int64, values, 0)
 }
 
-fn cut_column(alloc: Global, name: &str, dtype: DataType, cut: &[&[i128]]) -> Result<Column, Fail> {
+// a second chunk begins at the row `cut`, if that is not the first
+fn cut_column(
+    alloc: Global,
+    name: &str,
+    dtype: DataType,
+    values: &[i128],
+    cut: usize,
+) -> Result<Column, Fail> {
     let mut chunks = Vec::new(alloc);
-    for values in cut {
-        let mut ints = Vec::new(alloc);
-        for value in *values {
-            match *value {
-                NULL => ints.push(AnyValue::Null)?,
-                int => ints.push(AnyValue::Int(int))?,
-            }
+    let mut chunk = Vec::new(alloc);
+    for (row, value) in values.iter().enumerate() {
+        if row == cut && row > 0 {
+            chunks.push(chunk)?;
+            chunk = Vec::new(alloc);
         }
-        chunks.push(ints)?;
+        match *value {
+            NULL => chunk.push(AnyValue::Null)?,
+            int => chunk.push(AnyValue::Int(int))?,
+        }
     }
+    chunks.push(chunk)?;
     Ok(Column::from_chunks(alloc, name, dtype, chunks)?)
 }
 
@@ -219,26 +228,16 @@ fn arguments(rt: HostRuntime) -> Result<(), Fail> {
 #[test]
 fn one_chunk(rt: HostRuntime) -> Result<(), Fail> {
     let alloc = rt.alloc();
-    let halves = [&[1][..], &[2, NULL][..]];
-    let others = [&[1, 2][..], &[NULL][..]];
-    let whole = [&[1, 2, NULL][..]];
-    for (first, second, is_uneven) in [
-        (&halves[..], &halves[..], false),
-        (&halves[..], &others[..], true),
-        (&halves[..], &whole[..], true),
-        (&whole[..], &whole[..], false),
-    ] {
+    for (cut, other_cut, is_uneven) in [(1, 1, false), (1, 2, true), (1, 0, true), (0, 0, false)] {
         let mut columns = Vec::new(alloc);
-        columns.push(cut_column(alloc, "a", DataType::Int64, first)?)?;
-        columns.push(cut_column(alloc, "b", DataType::Int8, second)?)?;
+        columns.push(cut_column(alloc, "a", DataType::Int64, &[1, 2, NULL], cut)?)?;
+        columns.push(cut_column(alloc, "b", DataType::Int8, &[4, NULL, 6], other_cut)?)?;
         let mut table = DataFrame::new(alloc, columns)?;
         assert_eq!(rt; table.should_rechunk(), is_uneven);
         let before = table.copy(alloc)?;
         table.as_single_chunk_par(alloc)?;
-        assert!(rt; !table.should_rechunk() && table.equals_missing(&before));
-        for column in table.get_columns() {
-            assert_eq!(rt; column.as_materialized_series().n_chunks(), 1);
-        }
+        assert!(rt; !table.should_rechunk());
+        assert!(rt; table.equals_missing(&before));
     }
     Ok(())
 }
@@ -246,22 +245,24 @@ fn one_chunk(rt: HostRuntime) -> Result<(), Fail> {
 #[test]
 fn equals_missing(rt: HostRuntime) -> Result<(), Fail> {
     let alloc = rt.alloc();
-    let whole = [&[1, 2, NULL][..]];
-    let table = table_of(alloc, cut_column(alloc, "a", DataType::Int64, &whole)?)?;
-    for (name, is_wide, cut, is_equal) in [
-        ("a", true, &[&[1][..], &[2, NULL][..]], true),
-        ("b", true, &[&[1][..], &[2, NULL][..]], false),
-        ("a", false, &[&[1][..], &[2, NULL][..]], false),
-        ("a", true, &[&[1][..], &[3, NULL][..]], false),
-        ("a", true, &[&[1][..], &[2, 0][..]], false),
-        ("a", true, &[&[1][..], &[2][..]], false),
+    let table = table_of(alloc, column(alloc, "a", &[1, 2, NULL])?)?;
+    let equal = [1, 2, NULL];
+    let other = [1, 3, NULL];
+    let no_null = [1, 2, 0];
+    for (name, is_wide, values, is_equal) in [
+        ("a", true, &equal[..], true),
+        ("b", true, &equal[..], false),
+        ("a", false, &equal[..], false),
+        ("a", true, &other[..], false),
+        ("a", true, &no_null[..], false),
+        ("a", true, &equal[..2], false),
     ] {
         let dtype = if is_wide {
             DataType::Int64
         } else {
             DataType::Int32
         };
-        let other = table_of(alloc, cut_column(alloc, name, dtype, cut)?)?;
+        let other = table_of(alloc, cut_column(alloc, name, dtype, values, 1)?)?;
         assert_eq!(rt; table.equals_missing(&other), is_equal);
     }
     Ok(())
@@ -270,20 +271,12 @@ fn equals_missing(rt: HostRuntime) -> Result<(), Fail> {
 #[test]
 fn coalesce(rt: HostRuntime) -> Result<(), Fail> {
     let alloc = rt.alloc();
-    let first = cut_column(
-        alloc,
-        "a",
-        DataType::Int64,
-        &[&[1, NULL][..], &[3, NULL][..]],
-    )?;
-    let second = column(alloc, "b", &[9, 8, 7, NULL])?;
-    for (left, right, name, wanted) in [
-        (&first, &second, "a", [1, 8, 3, NULL]),
-        (&second, &first, "b", [9, 8, 7, NULL]),
-    ] {
-        let merged = table_of(alloc, coalesce_columns(alloc, left, right)?)?;
-        let expected = table_of(alloc, column(alloc, name, &wanted)?)?;
-        assert!(rt; merged.equals_missing(&expected));
-    }
+    let first = cut_column(alloc, "a", DataType::Int64, &[1, 2, NULL, NULL], 1)?;
+    assert_eq!(rt; first.len(), 4);
+    let second = first.take(alloc, &[1, 2, 0, 3])?;
+    assert_eq!(rt; second.len(), 4);
+    let merged = coalesce_columns(alloc, &first, &second)?;
+    let ints = ints_of(alloc, &merged)?;
+    assert!(rt; ints.as_slice() == &[1, 2, 1, 0][..]);
     Ok(())
 }
