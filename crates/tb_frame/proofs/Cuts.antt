@@ -4,7 +4,7 @@ use Rattle.std.specs.Prelude.{All}
 use Rattle.std.specs.List.{slice_get}
 use Rattle.std.proofs.lemmas.List.{ext_get_or, length-map, get_or-map}
 use Rattle.tb_value.specs.Datum.{Datum}
-use Rattle.tb_store.specs.Col.{Col, values}
+use Rattle.tb_chunk.specs.Col.{Col, values}
 use Rattle.tb_frame.specs.Table.{TableColumn, plain, table_of, IsTable}
 use Rattle.tb_frame.specs.Frame.{lens, AreCutAlike, in_one_chunk}
 

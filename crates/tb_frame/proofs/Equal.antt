@@ -8,7 +8,7 @@ use Rattle.tb_value.specs.Names.{same_name}
 use Rattle.tb_value.specs.Same.{same, same-Decides}
 use Rattle.tb_value.specs.SameKind.{same_kind, same_parts}
 use Rattle.tb_value.specs.TypeTests.{same_kind-Decides}
-use Rattle.tb_store.specs.Col.{Col, values}
+use Rattle.tb_chunk.specs.Col.{Col, values}
 use Rattle.tb_frame.specs.Table.{TableColumn, plain, table_of}
 
 -- no field's type is heavier than all of them

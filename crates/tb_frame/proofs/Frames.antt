@@ -10,7 +10,7 @@ use Rattle.tb_value.specs.Refusals.{first_cause, when}
 use Rattle.tb_value.specs.declared.error.PolarsError.{PolarsError}
 use Rattle.tb_value.specs.declared.error.PolarsError.TheVariants.{ShapeMismatch, Duplicate}
 use Rattle.tb_value.proofs.Ascending.{AllPairs-thinned}
-use Rattle.tb_store.specs.Col.{Col}
+use Rattle.tb_chunk.specs.Col.{Col}
 use Rattle.tb_frame.specs.Table.{TableColumn, Table, plain, table_of, height, names_of, IsTable}
 use Rattle.tb_frame.specs.Join.{is_among, without}
 use Rattle.tb_frame.specs.Frame.{are_level, frame_refusal, without_names}

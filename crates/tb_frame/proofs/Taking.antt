@@ -5,9 +5,9 @@ use Rattle.std.proofs.lemmas.List.{length-map, get_or-map, length-take, length-d
 use Rattle.std.proofs.lemmas.List.Elements.{All-nil, All-cons, All-head, All-tail, All-weaker}
 use Rattle.tb_value.specs.Datum.{Datum, null}
 use Rattle.tb_value.specs.Names.{Name}
-use Rattle.tb_store.specs.Col.{Col, values}
-use Rattle.tb_store.specs.Rows.{IsRowOf, value_or_null}
-use Rattle.tb_store.specs.Window.{part_from, part_to}
+use Rattle.tb_chunk.specs.Col.{Col, values}
+use Rattle.tb_chunk.specs.Rows.{IsRowOf, value_or_null}
+use Rattle.tb_chunk.specs.Window.{part_from, part_to}
 use Rattle.tb_frame.specs.Table.{TableColumn, plain, table_of, height, names_of, IsTable}
 use Rattle.tb_frame.specs.Frame.{taken, opt_taken, sliced}
 use Rattle.tb_frame.proofs.Frames.{level_height}

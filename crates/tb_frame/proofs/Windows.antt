@@ -3,8 +3,8 @@ use Rattle.std.proofs.Common.{◌≡◌, ℕ, zero, suc, ◌+◌, ◌<◌, Bool,
 use Rattle.std.specs.Prelude.{filter, ◌&&◌, ◌-◌, ℤ}
 use Rattle.std.specs.List.{enumerate_from}
 use Rattle.std.proofs.lemmas.Bool.Decides.{nat_tests}
-use Rattle.tb_store.specs.Window.{part_from, part_to, place_of, window}
-use Rattle.tb_store.proofs.Windows.{in_part}
+use Rattle.tb_chunk.specs.Window.{part_from, part_to, place_of, window}
+use Rattle.tb_chunk.proofs.Windows.{in_part}
 use Rattle.tb_frame.specs.Join.{in_slice, slice}
 
 -- the test of a window, one place on

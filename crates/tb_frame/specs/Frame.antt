@@ -8,10 +8,10 @@ use Rattle.tb_value.specs.Refusals.{first_cause, when}
 use Rattle.tb_value.specs.declared.error.PolarsError.{PolarsError}
 use Rattle.tb_value.specs.declared.error.PolarsError.TheVariants.{ColumnNotFound, Duplicate, ShapeMismatch}
 use Rattle.tb_value.specs.declared.sorted.IsSorted.TheVariants.{Not}
-use Rattle.tb_store.specs.Col.{Col, values}
-use Rattle.tb_store.specs.Merged.{merged}
-use Rattle.tb_store.specs.Rows.{value_or_null}
-use Rattle.tb_store.specs.Window.{window}
+use Rattle.tb_chunk.specs.Col.{Col, values}
+use Rattle.tb_chunk.specs.Merged.{merged}
+use Rattle.tb_chunk.specs.Rows.{value_or_null}
+use Rattle.tb_chunk.specs.Window.{window}
 use Rattle.tb_frame.specs.Table.{TableColumn, Table, height, names_of}
 use Rattle.tb_frame.specs.Join.{is_among}
 use Rattle.tb_frame.specs.Refusal.{first_repeated, first_unknown}

@@ -4,7 +4,7 @@ use Rattle.tb_value.specs.Datum.{Datum, null}
 use Rattle.tb_value.specs.Kind.{Kind}
 use Rattle.tb_value.specs.Names.{Name}
 use Rattle.tb_value.specs.Pairs.{row_numbers}
-use Rattle.tb_store.specs.Col.{Col, values}
+use Rattle.tb_chunk.specs.Col.{Col, values}
 
 -- a column is a name, a type and a list of values, where Null stands for absence
 pub record TableColumn : Type 0 where

@@ -1,6 +1,6 @@
 //! How the columns of a table are cut into chunks.
 ghost use Rattle.std.specs.Prelude.{◌≡◌, ◌↔◌, All, IfOk, IsTrue, OnErr, OnOk, map};
-ghost use Rattle.tb_store.specs.Col.{Col};
+ghost use Rattle.tb_chunk.specs.Col.{Col};
 ghost use Rattle.tb_frame.specs.Frame.{lens, AreCutAlike, in_one_chunk};
 
 use crate::frame::DataFrame;

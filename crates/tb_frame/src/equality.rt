@@ -3,7 +3,7 @@ ghost use Rattle.std.specs.Prelude.{◌≡◌, ◌↔◌, IsTrue};
 ghost use Rattle.tb_value.specs.Same.{same};
 ghost use Rattle.tb_value.specs.SameKind.{same_kind};
 ghost use Rattle.tb_value.specs.See.{lent};
-ghost use Rattle.tb_store.specs.Col.{values};
+ghost use Rattle.tb_chunk.specs.Col.{values};
 ghost use Rattle.tb_frame.specs.Table.{plain, table_of};
 
 use crate::frame::DataFrame;

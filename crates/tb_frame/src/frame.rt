@@ -5,8 +5,8 @@ ghost use Rattle.std.specs.List.{find, list_all};
 ghost use Rattle.tb_value.specs.Names.{Name, same_name};
 ghost use Rattle.tb_value.specs.Refusals.{Settles, when};
 ghost use Rattle.tb_value.specs.declared.error.PolarsError.TheVariants.{ColumnNotFound, Duplicate, ShapeMismatch};
-ghost use Rattle.tb_store.specs.Col.{Col, values};
-ghost use Rattle.tb_store.specs.Rows.{IsRowOf};
+ghost use Rattle.tb_chunk.specs.Col.{Col, values};
+ghost use Rattle.tb_chunk.specs.Rows.{IsRowOf};
 ghost use Rattle.tb_frame.specs.Table.{table_of, height, names_of, IsTable};
 ghost use Rattle.tb_frame.specs.Refusal.{first_repeated, first_unknown};
 ghost use Rattle.tb_frame.specs.Join.{is_among};
@@ -28,8 +28,8 @@ pub struct DataFrame {
 impl Model for DataFrame {
     ghost use Rattle.std.specs.Prelude.{List};
     ghost use Rattle.std.specs.Coded.{coded_list};
-    ghost use Rattle.tb_store.specs.Col.{Col};
-    ghost use Rattle.tb_store.specs.ColCode.{coded_col};
+    ghost use Rattle.tb_chunk.specs.Col.{Col};
+    ghost use Rattle.tb_chunk.specs.ColCode.{coded_col};
     ghost use Rattle.tb_frame.specs.Table.{table_of, IsTable};
 
     ghost Value = { List Col };
@@ -44,7 +44,7 @@ impl Model for DataFrame {
 /// What lends a table. Operations over it speak of the table that it lends.
 pub trait IntoDf {
     ghost use Rattle.std.specs.Prelude.{List};
-    ghost use Rattle.tb_store.specs.Col.{Col};
+    ghost use Rattle.tb_chunk.specs.Col.{Col};
 
     /// The columns of the table.
     ghost frame: { Self → List Col };

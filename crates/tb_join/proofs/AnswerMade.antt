@@ -5,8 +5,8 @@ use Rattle.std.proofs.lemmas.List.Sorted.{length_permutation}
 use Rattle.tb_value.specs.Names.{Name}
 use Rattle.tb_value.specs.declared.index.JoinPair.{JoinPair}
 use Rattle.tb_value.proofs.Loops.{map-map}
-use Rattle.tb_store.specs.Col.{Col, values}
-use Rattle.tb_store.specs.Rows.{value_or_null}
+use Rattle.tb_chunk.specs.Col.{Col, values}
+use Rattle.tb_chunk.specs.Rows.{value_or_null}
 use Rattle.tb_frame.specs.declared.args.JoinArgs.{JoinArgs}
 use Rattle.tb_frame.specs.declared.args.JoinType.{JoinType}
 use Rattle.tb_frame.specs.declared.args.JoinType.TheVariants.{Inner, Left, Right, Full, Semi, Anti}

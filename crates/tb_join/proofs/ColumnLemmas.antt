@@ -7,7 +7,7 @@ use Rattle.std.proofs.lemmas.Cmp.{nat_list_eq_equiv}
 use Rattle.tb_value.specs.Names.{Name, same_name}
 use Rattle.tb_value.specs.Refusals.{when}
 use Rattle.tb_value.specs.declared.error.PolarsError.TheVariants.{ColumnNotFound}
-use Rattle.tb_store.specs.Col.{Col}
+use Rattle.tb_chunk.specs.Col.{Col}
 use Rattle.tb_frame.specs.Table.{TableColumn, plain, table_of, names_of}
 use Rattle.tb_frame.specs.Join.{named, is_among}
 use Rattle.tb_frame.specs.Refusal.{first_unknown}

@@ -8,8 +8,8 @@ use Rattle.tb_value.specs.Names.{Name}
 use Rattle.tb_value.specs.Refusals.{Settles}
 use Rattle.tb_value.specs.declared.error.PolarsError.{PolarsError}
 use Rattle.tb_value.specs.declared.index.JoinPair.{JoinPair}
-use Rattle.tb_store.specs.Col.{Col, values}
-use Rattle.tb_store.specs.Rows.{IsRowOf, value_or_null}
+use Rattle.tb_chunk.specs.Col.{Col, values}
+use Rattle.tb_chunk.specs.Rows.{IsRowOf, value_or_null}
 use Rattle.tb_frame.specs.Answer.{IsPairOf}
 use Rattle.tb_frame.specs.Table.{TableColumn, Table, plain, table_of, height, names_of, IsTable}
 use Rattle.tb_frame.specs.Join.{right_name}

@@ -14,7 +14,7 @@ use Rattle.tb_value.specs.declared.error.ComputeCause.TheVariants.{KeyTypes, Val
 use Rattle.tb_value.specs.declared.error.InvalidCause.TheVariants.{NoKeys, KeyCounts, KeyKind}
 use Rattle.tb_value.proofs.Loops.{map-map}
 use Rattle.tb_value.specs.TypeTests.{same_kind-Decides}
-use Rattle.tb_store.specs.Col.{Col}
+use Rattle.tb_chunk.specs.Col.{Col}
 use Rattle.tb_frame.specs.declared.args.JoinArgs.{JoinArgs}
 use Rattle.tb_frame.specs.declared.args.JoinType.{JoinType}
 use Rattle.tb_frame.specs.declared.args.JoinType.TheVariants.{Inner, Left, Right, Full, Semi, Anti}

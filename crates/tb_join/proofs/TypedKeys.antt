@@ -4,7 +4,7 @@ use Rattle.std.proofs.lemmas.List.{length-map}
 use Rattle.tb_value.specs.Datum.{Datum, null, is_null}
 use Rattle.tb_value.specs.Same.{same}
 use Rattle.tb_value.specs.declared.index.JoinPair.{JoinPair}
-use Rattle.tb_store.specs.Chunk.{or_null}
+use Rattle.tb_chunk.specs.Chunk.{or_null}
 use Rattle.tb_frame.specs.Join.{agrees}
 use Rattle.tb_join.specs.KeyRows.{same_key, keys_match, pairs_by_left, value_pairs}
 

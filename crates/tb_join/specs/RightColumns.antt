@@ -1,7 +1,7 @@
 -- The right columns of an answer, and their names.
 use Rattle.std.specs.Prelude.{ℕ, List, map, Option, Some}
 use Rattle.tb_value.specs.Names.{Name}
-use Rattle.tb_store.specs.Col.{Col}
+use Rattle.tb_chunk.specs.Col.{Col}
 use Rattle.tb_frame.specs.Join.{right_name}
 use Rattle.tb_frame.specs.Frame.{opt_taken, without_names}
 

@@ -6,7 +6,7 @@ ghost use Rattle.tb_value.specs.SameKind.{is_key, same_kind};
 ghost use Rattle.tb_value.specs.declared.error.PolarsError.TheVariants.{ColumnNotFound, ComputeError, InvalidOperation};
 ghost use Rattle.tb_value.specs.declared.error.ComputeCause.TheVariants.{KeyTypes, TooManyRows};
 ghost use Rattle.tb_value.specs.declared.error.InvalidCause.TheVariants.{KeyKind};
-ghost use Rattle.tb_store.specs.Col.{values};
+ghost use Rattle.tb_chunk.specs.Col.{values};
 ghost use Rattle.tb_frame.specs.Table.{plain, table_of};
 ghost use Rattle.tb_frame.specs.Join.{named};
 ghost use Rattle.tb_frame.specs.Refusal.{first_unknown};

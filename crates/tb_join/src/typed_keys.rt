@@ -5,15 +5,15 @@ ghost use Rattle.tb_value.specs.Refusals.{Settles, when};
 ghost use Rattle.tb_value.specs.SameKind.{is_key};
 ghost use Rattle.tb_value.specs.declared.error.PolarsError.TheVariants.{ComputeError};
 ghost use Rattle.tb_value.specs.declared.error.ComputeCause.TheVariants.{TooManyRows};
-ghost use Rattle.tb_store.specs.Chunk.{or_null};
-ghost use Rattle.tb_store.specs.Col.{flat};
-ghost use Rattle.tb_store.specs.Seen.{chunk_lists, storage};
+ghost use Rattle.tb_chunk.specs.Chunk.{or_null};
+ghost use Rattle.tb_chunk.specs.Col.{flat};
+ghost use Rattle.tb_chunk.specs.Seen.{chunk_lists, storage};
 ghost use Rattle.tb_join.specs.KeyRows.{value_pairs};
 
 use crate::matching::match_rows;
 use std::alloc::Global;
 use std::hash::Hash;
-use tb_store::{Cell, Cells, Chunks, StringChunk};
+use tb_store::{BinaryChunk, Cell, Cells, Chunks, StringChunk};
 use tb_value::{Bytes, JoinPair, OutOfMemory, PlSmallStr, PolarsResult};
 
 // A key that is stored as it is: two are equal exactly where their values are.
@@ -165,14 +165,14 @@ fn text_pairs(
 
 fn bytes_pairs(
     alloc: Global,
-    left: &[Cells<Bytes>],
-    right: &[Cells<Bytes>],
+    left: &[BinaryChunk],
+    right: &[BinaryChunk],
     keep: bool,
 ) -> PolarsResult<Vec<JoinPair>>
-    requires left { length (flat (map (λ c. map (or_null binary) c.cells.items) left.now)) ≤ 4294967294 }
-    requires right { length (flat (map (λ c. map (or_null binary) c.cells.items) right.now)) ≤ 4294967294 }
-    ensures settles { Settles result (when (nat_lt 4294967294 (length (value_pairs keep (flat (map (λ c. map (or_null binary) c.cells.items) left.now)) (flat (map (λ c. map (or_null binary) c.cells.items) right.now))))) (ComputeError TooManyRows)) }
-    ensures pairs { IfOk result (λ v. v.items ≡ value_pairs keep (flat (map (λ c. map (or_null binary) c.cells.items) left.now)) (flat (map (λ c. map (or_null binary) c.cells.items) right.now))) }
+    requires left { length (flat (map (λ c. map (or_null binary) c.inner.cells.items) left.now)) ≤ 4294967294 }
+    requires right { length (flat (map (λ c. map (or_null binary) c.inner.cells.items) right.now)) ≤ 4294967294 }
+    ensures settles { Settles result (when (nat_lt 4294967294 (length (value_pairs keep (flat (map (λ c. map (or_null binary) c.inner.cells.items) left.now)) (flat (map (λ c. map (or_null binary) c.inner.cells.items) right.now))))) (ComputeError TooManyRows)) }
+    ensures pairs { IfOk result (λ v. v.items ≡ value_pairs keep (flat (map (λ c. map (or_null binary) c.inner.cells.items) left.now)) (flat (map (λ c. map (or_null binary) c.inner.cells.items) right.now))) }
 {
     let left_keys = joined_bytes(alloc, left)?;
     let right_keys = joined_bytes(alloc, right)?;
@@ -210,12 +210,12 @@ fn lent_text(text: &Option<PlSmallStr>) -> Option<&str>
     }
 }
 
-fn joined_bytes(alloc: Global, chunks: &[Cells<Bytes>]) -> Result<Vec<Option<&[u8]>>, OutOfMemory>
-    ensures { IfOk result (λ v. map (or_null (λ s. binary s.now)) v.items ≡ flat (map (λ c. map (or_null binary) c.cells.items) chunks.now)) }
+fn joined_bytes(alloc: Global, chunks: &[BinaryChunk]) -> Result<Vec<Option<&[u8]>>, OutOfMemory>
+    ensures { IfOk result (λ v. map (or_null (λ s. binary s.now)) v.items ≡ flat (map (λ c. map (or_null binary) c.inner.cells.items) chunks.now)) }
 {
     let mut keys = Vec::new(alloc);
     for chunk in chunks {
-        push_bytes(&mut keys, &chunk.cells)?;
+        push_bytes(&mut keys, &chunk.inner.cells)?;
     }
     Ok(keys)
 }

@@ -10,7 +10,7 @@ use Rattle.serde_json.specs.Find.{get, as_str}
 use Rattle.tb_value.specs.Datum.{Datum}
 use Rattle.tb_value.specs.Kind.{Kind, int64, string}
 use Rattle.tb_value.specs.Names.{Name, same_name}
-use Rattle.tb_store.specs.Col.{flat}
+use Rattle.tb_chunk.specs.Col.{flat}
 use Rattle.tb_frame.specs.declared.args.JoinArgs.{JoinArgs}
 use Rattle.tb_frame.specs.declared.args.JoinType.{JoinType}
 use Rattle.tb_frame.specs.declared.args.JoinType.TheVariants.{Inner, Left}

@@ -1,7 +1,7 @@
 -- Lists, one after another.
 use Rattle.std.proofs.Common.{◌≡◌, List, [], ◌∷◌, ◌++◌, ap, ◌∙◌, sym, refl, append_assoc}
 use Rattle.tb_value.specs.Datum.{Datum}
-use Rattle.tb_store.specs.Col.{flat}
+use Rattle.tb_chunk.specs.Col.{flat}
 
 pub flat-push : (xss : List (List Datum)) (xs : List Datum) → flat (xss ++ xs ∷ []) ≡ flat xss ++ xs
 flat-push [] [] = refl

@@ -4,8 +4,8 @@ use Rattle.std.proofs.lemmas.List.{drop_all, map-append}
 use Rattle.serde_json.specs.Data.{Data}
 use Rattle.tb_value.specs.Datum.{Datum, null}
 use Rattle.tb_value.specs.Kind.{Kind}
-use Rattle.tb_store.specs.Col.{flat}
-use Rattle.tb_store.proofs.Lists.{flat_drop}
+use Rattle.tb_chunk.specs.Col.{flat}
+use Rattle.tb_chunk.proofs.Lists.{flat_drop}
 use Rattle.tb_json.specs.Text.{value_data}
 
 -- one value more is written, and is no longer left

@@ -5,7 +5,7 @@ use Rattle.serde_json.specs.Find.{as_number, as_i64, as_str}
 use Rattle.tb_value.specs.Datum as value
 use Rattle.tb_value.specs.Datum.{Datum}
 use Rattle.tb_value.specs.Kind.{Kind, int64, string}
-use Rattle.tb_store.specs.Col.{flat}
+use Rattle.tb_chunk.specs.Col.{flat}
 use Rattle.tb_frame.specs.Table.{TableColumn, Table}
 use Rattle.tb_json.specs.Lists.{◌>>=◌, check, each}
 use Rattle.tb_json.specs.Written.{Written, WrittenJoin}

@@ -5,8 +5,8 @@ ghost use Rattle.serde_json.specs.View.{view, items_view};
 ghost use Rattle.serde_json.specs.Data.{object, member, no_members, array, string};
 ghost use Rattle.tb_value.specs.SeeKind.{kind_of};
 ghost use Rattle.tb_value.specs.Typed.{HasType};
-ghost use Rattle.tb_store.specs.Col.{flat, values};
-ghost use Rattle.tb_store.specs.Seen.{chunk_lists};
+ghost use Rattle.tb_chunk.specs.Col.{flat, values};
+ghost use Rattle.tb_chunk.specs.Seen.{chunk_lists};
 ghost use Rattle.tb_frame.specs.Table.{plain, table_of};
 ghost use Rattle.tb_json.specs.Text.{value_data, column_data, table_data, text_of};
 

@@ -10,8 +10,8 @@ use Rattle.tb_value.specs.Refusals.{first_cause}
 use Rattle.tb_value.specs.declared.error.PolarsError.{PolarsError}
 use Rattle.tb_value.specs.declared.error.PolarsError.TheVariants.{Duplicate, OutOfMemory}
 use Rattle.tb_value.specs.declared.index.JoinPair.{JoinPair}
-use Rattle.tb_store.specs.Col.{Col}
-use Rattle.tb_store.specs.Window.{part_from, part_to}
+use Rattle.tb_chunk.specs.Col.{Col}
+use Rattle.tb_chunk.specs.Window.{part_from, part_to}
 use Rattle.tb_frame.specs.declared.args.JoinArgs.{JoinArgs}
 use Rattle.tb_frame.specs.declared.args.JoinType.{JoinType}
 use Rattle.tb_frame.specs.declared.args.JoinType.TheVariants.{Inner, Left, Right, Full, Semi, Anti}

@@ -2,7 +2,7 @@
 use Rattle.std.proofs.Common.{◌≡◌, ℕ, ◌<◌, List, length, get_or, ap, sym, ◌∙◌, arith}
 use Rattle.std.proofs.lemmas.List.{get_or-map, length-map}
 use Rattle.tb_value.specs.Datum.{null}
-use Rattle.tb_store.specs.Col.{Col, values}
+use Rattle.tb_chunk.specs.Col.{Col, values}
 use Rattle.tb_frame.specs.Table.{plain, table_of}
 use Rattle.tb_frame.specs.Join.{field}
 use Rattle.tb_frame.specs.Refusal.{kind_at}

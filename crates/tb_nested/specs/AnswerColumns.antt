@@ -1,7 +1,7 @@
 -- The columns of an Inner or a Left answer.
 use Rattle.std.specs.Prelude.{ℕ, List, ◌++◌, map, Option, Some, unwrap_or}
 use Rattle.tb_value.specs.Names.{Name}
-use Rattle.tb_store.specs.Col.{Col}
+use Rattle.tb_chunk.specs.Col.{Col}
 use Rattle.tb_frame.specs.declared.args.JoinArgs.{JoinArgs}
 use Rattle.tb_frame.specs.Answer.{gone_right}
 use Rattle.tb_frame.specs.Frame.{opt_taken, without_names}

@@ -4,7 +4,7 @@ use Rattle.std.specs.List.{list_all, list_any}
 use Rattle.tb_value.specs.Datum.{is_present}
 use Rattle.tb_value.specs.Pairs.{row_numbers}
 use Rattle.tb_value.specs.Same.{same}
-use Rattle.tb_store.specs.Col.{Col, values}
+use Rattle.tb_chunk.specs.Col.{Col, values}
 use Rattle.tb_frame.specs.Join.{agrees, field}
 use Rattle.tb_frame.specs.Table.{TableColumn}
 

@@ -4,10 +4,10 @@ use Rattle.std.specs.List.{All}
 use Rattle.std.proofs.lemmas.List.{length-map, append-nil}
 use Rattle.tb_value.specs.Typed.{HasType}
 use Rattle.tb_value.specs.declared.sorted.IsSorted.TheVariants.{Not}
-use Rattle.tb_store.specs.Col.{Col, IsColumn, flat, values}
-use Rattle.tb_store.specs.Rows.{IsRowOf, value_or_null}
-use Rattle.tb_store.proofs.Flags.{flag_part}
-use Rattle.tb_store.proofs.Lists.{All-picked}
+use Rattle.tb_chunk.specs.Col.{Col, IsColumn, flat, values}
+use Rattle.tb_chunk.specs.Rows.{IsRowOf, value_or_null}
+use Rattle.tb_chunk.proofs.Flags.{flag_part}
+use Rattle.tb_chunk.proofs.Lists.{All-picked}
 use Rattle.std.proofs.lemmas.List.Elements.{All-take, All-drop}
 
 pub picked_column : {R : Type 0} (c d : Col) (number : R → Option ℕ) (rows : List R) → IsColumn c → All (λ r. IsRowOf (length (values c)) (number r)) rows → length rows ≤ 4294967294 → d.kind ≡ c.kind → d.chunks ≡ map (λ r. value_or_null (values c) (number r)) rows ∷ [] → d.flag ≡ Not → IsColumn d

@@ -3,9 +3,9 @@ ghost use Rattle.std.specs.Prelude.{◌≡◌, ◌<◌, ◌∷◌, [], IfOk, len
 ghost use Rattle.tb_value.specs.Datum.{null};
 ghost use Rattle.tb_value.specs.See.{lent};
 ghost use Rattle.tb_value.specs.SeeKind.{kind_of};
-ghost use Rattle.tb_store.specs.Col.{values, IsColumn};
-ghost use Rattle.tb_store.specs.Flag.{nulls, FlagHolds};
-ghost use Rattle.tb_store.specs.Made.{lists_of, IsMade};
+ghost use Rattle.tb_chunk.specs.Col.{values, IsColumn};
+ghost use Rattle.tb_chunk.specs.Flag.{nulls, FlagHolds};
+ghost use Rattle.tb_chunk.specs.Made.{lists_of, IsMade};
 
 use crate::series::Series;
 use std::alloc::Global;
@@ -19,8 +19,8 @@ pub struct Column {
 }
 
 impl Model for Column {
-    ghost use Rattle.tb_store.specs.Col.{Col, IsColumn};
-    ghost use Rattle.tb_store.specs.ColCode.{coded_col};
+    ghost use Rattle.tb_chunk.specs.Col.{Col, IsColumn};
+    ghost use Rattle.tb_chunk.specs.ColCode.{coded_col};
 
     ghost Value = { Col };
 

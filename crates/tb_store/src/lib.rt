@@ -1,32 +1,29 @@
 //! Columns: a name, a type, one or more chunks of values, and whether the values are known to be in order.
 #![tactic(auto)]
 
-mod arrange;
-mod ascending;
-mod cell;
-mod chunk;
-mod chunks;
+mod chunked_array;
 mod column;
-mod grow;
-mod make;
-mod marker;
-mod merged;
-mod pick;
-mod pick_opt;
-mod row_number;
+mod data_type;
+mod making;
+mod merging;
+mod ordering;
 mod series;
 mod slicing;
+mod taking;
 #[cfg(test)]
 mod tests;
 
-pub use cell::{Cell, FieldValues};
-pub use chunk::{Cells, Chunk, StringChunk};
-pub use chunks::Chunks;
+pub use chunked_array::ChunkedArray;
 pub use column::Column;
-pub use grow::Grow;
-pub use marker::{Physical, physical_of};
+pub use data_type::{
+    BinaryType, BooleanType, Int8Type, Int16Type, Int32Type, Int64Type, Int128Type, ListType,
+    PolarsDataType, StringType, StructType, UInt8Type, UInt16Type, UInt32Type, UInt64Type,
+};
 pub use series::Series;
-pub use slicing::slice_offsets;
+pub use tb_chunk::{
+    BinaryChunk, Cell, Cells, Chunk, Chunks, FieldValues, Grow, ListChunk, Physical, StringChunk,
+    StructChunk, physical_of, slice_offsets,
+};
 pub use tb_value::{
     AnyValue, Bytes, ComputeCause, DataType, Field, Fields, IdxSize, InvalidCause, IsSorted,
     JoinPair, MAX_ROWS, NullableIdxSize, OutOfMemory, PlSmallStr, PolarsError, PolarsResult, Side,

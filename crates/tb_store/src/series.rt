@@ -3,9 +3,9 @@ ghost use Rattle.std.specs.Prelude.{◌≡◌, ◌<◌, ◌≤◌, ◌∷◌, []
 ghost use Rattle.tb_value.specs.Datum.{null};
 ghost use Rattle.tb_value.specs.See.{lent};
 ghost use Rattle.tb_value.specs.SeeKind.{kind_of};
-ghost use Rattle.tb_store.specs.Col.{Col, values, IsColumn, physical};
-ghost use Rattle.tb_store.specs.Flag.{nulls, FlagHolds};
-ghost use Rattle.tb_store.specs.Seen.{chunk_lists, storage};
+ghost use Rattle.tb_chunk.specs.Col.{Col, values, IsColumn, physical};
+ghost use Rattle.tb_chunk.specs.Flag.{nulls, FlagHolds};
+ghost use Rattle.tb_chunk.specs.Seen.{chunk_lists, storage};
 
 use crate::chunks::Chunks;
 use std::alloc::Global;
@@ -24,9 +24,9 @@ pub struct Series {
 impl Model for Series {
     ghost use Rattle.std.specs.Prelude.{◌≡◌};
     ghost use Rattle.tb_value.specs.SeeKind.{kind_of};
-    ghost use Rattle.tb_store.specs.Col.{Col, IsColumn, physical};
-    ghost use Rattle.tb_store.specs.ColCode.{coded_col};
-    ghost use Rattle.tb_store.specs.Seen.{chunk_lists, storage};
+    ghost use Rattle.tb_chunk.specs.Col.{Col, IsColumn, physical};
+    ghost use Rattle.tb_chunk.specs.ColCode.{coded_col};
+    ghost use Rattle.tb_chunk.specs.Seen.{chunk_lists, storage};
 
     ghost Value = { Col };
 

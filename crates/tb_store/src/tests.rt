@@ -1,8 +1,8 @@
-//! Columns made of values, of typed chunks and of rows, and parts of columns.
+//! Columns made of values, of typed chunks and of rows, parts of columns, and what is asked of columns.
 
 use crate::{
-    AnyValue, Cells, Chunks, DataType, NullableIdxSize, PlSmallStr, PolarsError, Series, ValueRef,
-    slice_offsets,
+    AnyValue, Cells, ChunkedArray, Chunks, DataType, Int64Type, IsSorted, NullableIdxSize,
+    PlSmallStr, PolarsError, Series, ValueRef, slice_offsets,
 };
 use std::alloc::Global;
 use std::test::Fail;
@@ -119,6 +119,70 @@ fn from_arrays(rt: HostRuntime) -> Result<(), Fail> {
         match Series::from_arrays(alloc, name, dtype, Chunks::Int64Type(arrays)) {
             Ok(series) => assert!(rt; is_made && series.len() == 2),
             Err(error) => assert!(rt; !is_made && error == PolarsError::SchemaMismatch),
+        }
+    }
+    Ok(())
+}
+
+// One chunk for each value.
+fn scattered(alloc: Global, values: &[Option<i128>]) -> Result<Vec<Vec<AnyValue>>, Fail> {
+    let mut chunks = Vec::new(alloc);
+    for value in values {
+        let mut chunk = Vec::new(alloc);
+        chunk.push(match value {
+            Some(value) => AnyValue::Int(*value),
+            None => AnyValue::Null,
+        })?;
+        chunks.push(chunk)?;
+    }
+    Ok(chunks)
+}
+
+#[test]
+fn nulls_and_order(rt: HostRuntime) -> Result<(), Fail> {
+    let alloc = rt.alloc();
+    for (values, nulls, is_ascending) in [
+        ([None, Some(1), Some(1)], 1, true),
+        ([Some(-1), Some(2), None], 1, true),
+        ([Some(1), None, Some(2)], 1, false),
+        ([None, Some(1), None], 2, false),
+        ([Some(2), Some(1), None], 1, false),
+        ([None, None, None], 3, true),
+    ] {
+        let chunks = scattered(alloc, &values)?;
+        let mut column = Series::from_chunks(alloc, "s", DataType::Int64, chunks)?.into_column();
+        assert_eq!(rt; column.null_count(), nulls);
+        assert_eq!(rt; column.is_ascending(), is_ascending);
+        if column.is_ascending() {
+            column.set_sorted_flag(IsSorted::Ascending);
+            assert!(rt; matches!(column.is_sorted_flag(), IsSorted::Ascending));
+        }
+        assert_eq!(rt;
+            column.rechunk(alloc)?.take_materialized_series().n_chunks(),
+            1
+        );
+    }
+    Ok(())
+}
+
+#[test]
+fn typed_columns(rt: HostRuntime) -> Result<(), Fail> {
+    let alloc = rt.alloc();
+    for (dtype, is_accepted) in [
+        (DataType::Int64, true),
+        (DataType::Time, true),
+        (DataType::Int32, false),
+    ] {
+        let chunks = scattered(alloc, &[Some(7), None])?;
+        let series = Series::from_chunks(alloc, "s", dtype, chunks)?;
+        match ChunkedArray::<Int64Type>::from_series(series) {
+            Ok(typed) => {
+                assert!(rt; is_accepted);
+                assert_eq!(rt; typed.n_chunks(), 2);
+                assert_eq!(rt; typed.slice(alloc, -1, 1)?.null_count(), 1);
+                assert_eq!(rt; typed.into_series().len(), 2);
+            }
+            Err(error) => assert!(rt; !is_accepted && error == PolarsError::SchemaMismatch),
         }
     }
     Ok(())

@@ -1,7 +1,7 @@
 use Rattle.std.proofs.Common.{◌≡◌, ◌==◌, ℕ, List, [], ◌∷◌, length, ap, sym, ◌∙◌, Some}
 use Rattle.std.specs.List.{list_all, slice_get}
 use Rattle.std.proofs.lemmas.List.Folds.{list_all-map}
-use Rattle.tb_store.specs.Col.{Col, values}
+use Rattle.tb_chunk.specs.Col.{Col, values}
 use Rattle.tb_frame.specs.Table.{TableColumn, plain, table_of, height}
 use Rattle.tb_frame.proofs.frame.is_level.Goals as goal
 

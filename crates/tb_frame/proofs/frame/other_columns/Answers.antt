@@ -1,5 +1,5 @@
 use Rattle.std.proofs.Common.{◌≡◌, Bool, not, ap, sym, ◌∙◌}
-use Rattle.tb_store.specs.Col.{Col}
+use Rattle.tb_chunk.specs.Col.{Col}
 use Rattle.tb_frame.specs.Join.{is_among}
 use Rattle.tb_frame.proofs.Frames.{kept, passed}
 use Rattle.tb_frame.proofs.frame.other_columns.Goals as goal

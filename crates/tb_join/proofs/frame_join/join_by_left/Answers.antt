@@ -1,7 +1,7 @@
 use Rattle.std.proofs.Common.{◌≡◌, ◌∙◌, ◌++◌, List, Option, map, sym, subst}
 use Rattle.tb_value.specs.Names.{Name}
 use Rattle.tb_value.specs.declared.index.JoinPair.{JoinPair}
-use Rattle.tb_store.specs.Col.{Col}
+use Rattle.tb_chunk.specs.Col.{Col}
 use Rattle.tb_frame.specs.Answer.{IsListed}
 use Rattle.tb_frame.specs.Frame.{opt_taken}
 use Rattle.tb_frame.specs.Join.{by_names, listing, IsAnswer}

@@ -3,7 +3,7 @@ use Rattle.tb_value.specs.Refusals.{when}
 use Rattle.tb_value.specs.declared.error.PolarsError.TheVariants.{ComputeError}
 use Rattle.tb_value.specs.declared.error.ComputeCause.TheVariants.{TooManyRows}
 use Rattle.tb_frame.specs.Answer.{IsListed}
-use Rattle.tb_store.specs.Col.{values}
+use Rattle.tb_chunk.specs.Col.{values}
 use Rattle.tb_frame.specs.Join.{by_names, listing}
 use Rattle.tb_frame.specs.Table.{plain, table_of}
 use Rattle.tb_join.specs.KeyRows.{value_pairs}

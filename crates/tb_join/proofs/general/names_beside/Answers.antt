@@ -1,7 +1,7 @@
 use Rattle.std.proofs.Common.{◌≡◌, ◌++◌, ◌∷◌, Bool, List, [], not, ap, sym, ◌∙◌, Some}
 use Rattle.tb_value.specs.Names.{Name}
 use Rattle.tb_value.proofs.Kept.{made, skipped}
-use Rattle.tb_store.specs.Col.{Col}
+use Rattle.tb_chunk.specs.Col.{Col}
 use Rattle.tb_frame.specs.Table.{table_of, names_of}
 use Rattle.tb_frame.specs.Join.{is_among, right_name}
 use Rattle.tb_join.proofs.general.names_beside.Goals as goal

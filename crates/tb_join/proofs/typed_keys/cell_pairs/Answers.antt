@@ -4,7 +4,7 @@ use Rattle.tb_value.specs.declared.index.JoinPair.{JoinPair}
 use Rattle.tb_value.specs.Refusals.{when}
 use Rattle.tb_value.specs.declared.error.PolarsError.TheVariants.{ComputeError}
 use Rattle.tb_value.specs.declared.error.ComputeCause.TheVariants.{TooManyRows}
-use Rattle.tb_store.specs.Chunk.{or_null}
+use Rattle.tb_chunk.specs.Chunk.{or_null}
 use Rattle.tb_join.proofs.Finishing.{settled}
 use Rattle.tb_join.proofs.TypedKeys.{typed-pairs}
 use Rattle.tb_join.proofs.typed_keys.cell_pairs.Goals as goal

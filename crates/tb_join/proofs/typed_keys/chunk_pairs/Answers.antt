@@ -4,10 +4,10 @@ use Rattle.tb_value.specs.Refusals.{Settles, when}
 use Rattle.tb_value.specs.declared.error.PolarsError.{PolarsError}
 use Rattle.tb_value.specs.declared.error.PolarsError.TheVariants.{ComputeError}
 use Rattle.tb_value.specs.declared.error.ComputeCause.TheVariants.{TooManyRows}
-use Rattle.tb_store.specs.Chunk.{or_null}
-use Rattle.tb_store.specs.Col.{flat}
-use Rattle.tb_store.specs.Seen.{chunk_lists}
-use Rattle.tb_store.specs.declared.chunks.Chunks.{Chunks}
+use Rattle.tb_chunk.specs.Chunk.{or_null}
+use Rattle.tb_chunk.specs.Col.{flat}
+use Rattle.tb_chunk.specs.Seen.{chunk_lists}
+use Rattle.tb_chunk.specs.declared.chunks.Chunks.{Chunks}
 use Rattle.tb_join.specs.KeyRows.{value_pairs}
 use Rattle.tb_join.proofs.Finishing.{settled}
 use Rattle.tb_join.proofs.typed_keys.chunk_pairs.Goals as goal
@@ -75,5 +75,5 @@ returns-in-StringType-StringType-clause-settles c =
 
 pub returns-in-BinaryType-BinaryType-clause-settles : goal.returns-in-BinaryType-BinaryType-clause-settles
 returns-in-BinaryType-BinaryType-clause-settles c =
-    as_many c.bytes_pairs.result c.args.keep (map (λ c. map (or_null binary) c.cells.items) c.deref-in-BinaryType-BinaryType.result.now) (map (λ c. map (or_null binary) c.cells.items) c.deref-in-BinaryType-BinaryType-2.result.now) c.args.left.now c.args.right.now
-    (ap (map (λ c. map (or_null binary) c.cells.items)) c.deref-in-BinaryType-BinaryType.ensures.value ∙ sym (ap chunk_lists c.in-BinaryType-BinaryType.is-0)) (ap (map (λ c. map (or_null binary) c.cells.items)) c.deref-in-BinaryType-BinaryType-2.ensures.value ∙ sym (ap chunk_lists c.in-BinaryType-BinaryType.is-1)) c.bytes_pairs.ensures.settles
+    as_many c.bytes_pairs.result c.args.keep (map (λ c. map (or_null binary) c.inner.cells.items) c.deref-in-BinaryType-BinaryType.result.now) (map (λ c. map (or_null binary) c.inner.cells.items) c.deref-in-BinaryType-BinaryType-2.result.now) c.args.left.now c.args.right.now
+    (ap (map (λ c. map (or_null binary) c.inner.cells.items)) c.deref-in-BinaryType-BinaryType.ensures.value ∙ sym (ap chunk_lists c.in-BinaryType-BinaryType.is-0)) (ap (map (λ c. map (or_null binary) c.inner.cells.items)) c.deref-in-BinaryType-BinaryType-2.ensures.value ∙ sym (ap chunk_lists c.in-BinaryType-BinaryType.is-1)) c.bytes_pairs.ensures.settles

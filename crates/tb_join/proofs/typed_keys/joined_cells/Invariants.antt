@@ -1,6 +1,6 @@
 use Rattle.std.proofs.Common.{◌≡◌, take, map}
-use Rattle.tb_store.specs.Chunk.{or_null}
-use Rattle.tb_store.specs.Col.{flat}
+use Rattle.tb_chunk.specs.Chunk.{or_null}
+use Rattle.tb_chunk.specs.Col.{flat}
 use Rattle.tb_join.proofs.typed_keys.joined_cells.Given as goal
 
 abbrev pub invariant-loop-chunk : goal.invariant-loop-chunk

@@ -1,6 +1,6 @@
 use Rattle.std.proofs.Common.{◌≡◌, ◌++◌, take, map}
 use Rattle.tb_value.specs.Datum.{binary}
-use Rattle.tb_store.specs.Chunk.{or_null}
+use Rattle.tb_chunk.specs.Chunk.{or_null}
 use Rattle.tb_join.proofs.typed_keys.push_bytes.Given as goal
 
 abbrev pub invariant-loop-cell : goal.invariant-loop-cell

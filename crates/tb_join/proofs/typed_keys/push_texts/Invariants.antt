@@ -1,6 +1,6 @@
 use Rattle.std.proofs.Common.{◌≡◌, ◌++◌, take, map}
 use Rattle.tb_value.specs.Datum.{string}
-use Rattle.tb_store.specs.Chunk.{or_null}
+use Rattle.tb_chunk.specs.Chunk.{or_null}
 use Rattle.tb_join.proofs.typed_keys.push_texts.Given as goal
 
 abbrev pub invariant-loop-text : goal.invariant-loop-text

@@ -2,7 +2,7 @@ use Rattle.std.proofs.Common.{map}
 use Rattle.std.specs.List.{All}
 use Rattle.serde_json.specs.View.{view}
 use Rattle.tb_value.specs.Typed.{HasType}
-use Rattle.tb_store.specs.Chunk.{or_null}
+use Rattle.tb_chunk.specs.Chunk.{or_null}
 use Rattle.tb_json.proofs.LentValues.{Walk}
 use Rattle.tb_json.proofs.values.cells_of.Given as goal
 

@@ -3,7 +3,7 @@ use Rattle.std.proofs.lemmas.List.{map_push}
 use Rattle.std.proofs.lemmas.List.Elements.{All-append}
 use Rattle.serde_json.specs.View.{view}
 use Rattle.tb_value.specs.Typed.{HasType}
-use Rattle.tb_store.specs.Chunk.{or_null}
+use Rattle.tb_chunk.specs.Chunk.{or_null}
 use Rattle.tb_json.specs.Lists.{each}
 use Rattle.tb_json.proofs.Flat.{flat-push}
 use Rattle.tb_json.proofs.LentValues.{Walk-more, Walk-fails}

@@ -1,7 +1,7 @@
 use Rattle.std.proofs.Common.{map}
 use Rattle.serde_json.specs.View.{view}
-use Rattle.tb_store.specs.Chunk.{or_null}
-use Rattle.tb_store.specs.Made.{IsTyped}
+use Rattle.tb_chunk.specs.Chunk.{or_null}
+use Rattle.tb_chunk.specs.Made.{IsTyped}
 use Rattle.tb_json.specs.Lists.{each}
 use Rattle.tb_json.proofs.LentValues.{Walk}
 use Rattle.tb_json.proofs.values.chunks_of.Given as goal

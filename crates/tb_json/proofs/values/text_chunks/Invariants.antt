@@ -1,6 +1,6 @@
 use Rattle.std.proofs.Common.{◌≡◌, map}
 use Rattle.tb_value.specs.Datum.{string}
-use Rattle.tb_store.specs.Chunk.{or_null}
+use Rattle.tb_chunk.specs.Chunk.{or_null}
 use Rattle.tb_json.proofs.values.text_chunks.Given as goal
 
 abbrev pub invariant-loop-cells : goal.invariant-loop-cells

@@ -3,7 +3,7 @@ use Rattle.std.specs.List.{All}
 use Rattle.serde_json.specs.View.{view}
 use Rattle.tb_value.specs.SeeKind.{kind_of}
 use Rattle.tb_value.specs.Typed.{HasType}
-use Rattle.tb_store.specs.Col.{flat}
+use Rattle.tb_chunk.specs.Col.{flat}
 use Rattle.tb_json.specs.Text.{value_data}
 use Rattle.tb_json.proofs.writing.push_chunks.Given as goal
 

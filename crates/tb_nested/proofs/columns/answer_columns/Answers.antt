@@ -2,8 +2,8 @@ use Rattle.std.proofs.Common.{◌≡◌, ◌++◌, ℕ, List, Option, length, ma
 use Rattle.std.specs.Prelude.{All}
 use Rattle.std.proofs.lemmas.List.{length-map}
 use Rattle.tb_value.specs.declared.index.JoinPair.{JoinPair}
-use Rattle.tb_store.specs.Col.{Col, values}
-use Rattle.tb_store.specs.Rows.{IsRowOf}
+use Rattle.tb_chunk.specs.Col.{Col, values}
+use Rattle.tb_chunk.specs.Rows.{IsRowOf}
 use Rattle.tb_frame.specs.Table.{table_of, height, names_of}
 use Rattle.tb_frame.specs.Frame.{opt_taken}
 use Rattle.tb_nested.specs.AnswerColumns.{right_columns}

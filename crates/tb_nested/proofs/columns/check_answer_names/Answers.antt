@@ -3,7 +3,7 @@ use Rattle.std.specs.Option.{option_map}
 use Rattle.tb_value.specs.Names.{Name}
 use Rattle.tb_value.specs.Refusals.{Settles}
 use Rattle.tb_value.specs.declared.error.PolarsError.TheVariants.{Duplicate}
-use Rattle.tb_store.specs.Col.{Col}
+use Rattle.tb_chunk.specs.Col.{Col}
 use Rattle.tb_frame.specs.Join.{Out}
 use Rattle.tb_frame.specs.Refusal.{first_repeated}
 use Rattle.tb_frame.specs.Table.{table_of, names_of}

@@ -1,8 +1,8 @@
 use Rattle.std.proofs.Common.{◌≡◌, ◌++◌, ◌∷◌, Bool, List, [], length, not, ap, sym, subst, ◌∙◌}
 use Rattle.std.specs.Prelude.{All}
 use Rattle.tb_value.proofs.Kept.{made, skipped}
-use Rattle.tb_store.specs.Col.{Col, values}
-use Rattle.tb_store.specs.Rows.{IsRowOf}
+use Rattle.tb_chunk.specs.Col.{Col, values}
+use Rattle.tb_chunk.specs.Rows.{IsRowOf}
 use Rattle.tb_frame.specs.Table.{table_of, names_of}
 use Rattle.tb_frame.specs.Join.{is_among}
 use Rattle.tb_nested.specs.AnswerColumns.{right_column}

@@ -1,5 +1,5 @@
 use Rattle.std.proofs.Common.{◌≡◌, List, subst, None}
-use Rattle.tb_store.specs.Col.{Col}
+use Rattle.tb_chunk.specs.Col.{Col}
 use Rattle.tb_frame.specs.Table.{table_of}
 use Rattle.tb_frame.specs.Frame.{frame_refusal}
 use Rattle.tb_frame.proofs.Frames.{makes_frame}

@@ -3,7 +3,7 @@ use Rattle.tb_value.specs.Names.{Name}
 use Rattle.tb_value.specs.Refusals.{Settles}
 use Rattle.tb_value.specs.declared.error.PolarsError.{PolarsError}
 use Rattle.tb_value.specs.declared.error.PolarsError.TheVariants.{ColumnNotFound}
-use Rattle.tb_store.specs.Col.{Col}
+use Rattle.tb_chunk.specs.Col.{Col}
 use Rattle.tb_frame.specs.Table.{table_of, IsTable}
 use Rattle.tb_frame.specs.Frame.{frame_refusal, select_refusal}
 use Rattle.tb_frame.specs.Refusal.{first_unknown}

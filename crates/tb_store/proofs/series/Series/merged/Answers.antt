@@ -1,7 +1,7 @@
 use Rattle.std.proofs.Common.{◌∙◌, refl, ◌∷◌, []}
-use Rattle.tb_store.specs.Col.{flat}
-use Rattle.tb_store.specs.Merged.{merged}
-use Rattle.tb_store.proofs.Merging.{merged_column}
+use Rattle.tb_chunk.specs.Col.{flat}
+use Rattle.tb_chunk.specs.Merged.{merged}
+use Rattle.tb_chunk.proofs.Merging.{merged_column}
 use Rattle.tb_store.proofs.series.Series.merged.Goals as goal
 
 pub from_parts-requires-clause-column : goal.from_parts-requires-clause-column

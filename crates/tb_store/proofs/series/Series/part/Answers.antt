@@ -1,7 +1,7 @@
 use Rattle.std.proofs.Common.{◌∙◌, ap, refl, sym}
 use Rattle.tb_value.specs.SeeKind.{kind_of}
-use Rattle.tb_store.specs.Col.{Col, physical}
-use Rattle.tb_store.specs.Seen.{chunk_lists}
+use Rattle.tb_chunk.specs.Col.{Col, physical}
+use Rattle.tb_chunk.specs.Seen.{chunk_lists}
 use Rattle.tb_store.proofs.Columns.{part_column}
 use Rattle.tb_store.proofs.series.Series.part.Goals as goal
 

@@ -1,6 +1,6 @@
 use Rattle.std.proofs.Common.{◌∙◌, ap, refl, map, ◌∷◌, [], Some}
-use Rattle.tb_store.specs.Col.{flat}
-use Rattle.tb_store.specs.Rows.{value_or_null}
+use Rattle.tb_chunk.specs.Col.{flat}
+use Rattle.tb_chunk.specs.Rows.{value_or_null}
 use Rattle.tb_store.proofs.Columns.{picked_column}
 use Rattle.tb_store.proofs.series.Series.take.Goals as goal
 

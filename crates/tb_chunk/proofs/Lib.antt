@@ -1,0 +1,9 @@
+pub mod Alls
+pub mod Fitting
+pub mod Flags
+pub mod Follow
+pub mod Lists
+pub mod Merging
+pub mod Nulls
+pub mod Parts
+pub mod Windows

@@ -1,0 +1,6 @@
+use Rattle.std.proofs.Common.{◌≡◌, map, take}
+use Rattle.tb_chunk.specs.Chunk.{or_null}
+use Rattle.tb_chunk.proofs.chunk.CellsChunk.copy.Given as goal
+
+abbrev pub invariant-loop-cell : goal.invariant-loop-cell
+invariant-loop-cell g l = map (or_null g.N.Cell.shows) l.cells.items ≡ map (or_null g.N.Cell.shows) (take l.cell-index l.cell-items)

@@ -1,0 +1,10 @@
+use Rattle.std.proofs.Common.{◌∙◌, ap}
+use Rattle.tb_value.specs.SeeKind.{kind_of}
+use Rattle.tb_chunk.specs.Made.{lists_of}
+use Rattle.tb_chunk.proofs.Fitting.{fitting}
+use Rattle.tb_chunk.proofs.chunks.Chunks.from_lists.Goals as goal
+
+pub build_chunks-requires : goal.build_chunks-requires
+build_chunks-requires c =
+    fitting (kind_of c.args.dtype.now) (lists_of c.args.lists.items) (lists_of c.deref-3.result.now) (ap lists_of c.deref-3.ensures.value ∙ c.in_ok-lists.ensures)
+    (rw c.deref.ensures.value at (c.all_are_of.ensures.0 c.if-not-all_are_of.false))

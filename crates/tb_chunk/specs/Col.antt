@@ -1,0 +1,41 @@
+-- What contracts see of a column.
+use Rattle.std.specs.Prelude.{◌<◌, ◌≤◌, ℕ, List, length}
+use Rattle.std.specs.List.{flat_map, All}
+use Rattle.tb_value.specs.Datum.{Datum}
+use Rattle.tb_value.specs.Kind.{Kind}
+use Rattle.tb_value.specs.Kind as kind
+use Rattle.tb_value.specs.Typed.{HasType}
+use Rattle.tb_value.specs.declared.sorted.IsSorted.{IsSorted}
+use Rattle.tb_chunk.specs.Flag.{FlagHolds}
+
+-- a name, a type, the values of each chunk, and the flag
+pub record Col : Type 0 where
+  pub name : List ℕ
+  pub kind : Kind
+  pub chunks : List (List Datum)
+  pub flag : IsSorted
+
+-- lists, one after another
+abbrev pub flat : List (List Datum) → List Datum
+flat = flat_map (λ vs. vs)
+
+-- the values of all chunks, in order
+abbrev pub values : Col → List Datum
+values c = flat c.chunks
+
+-- the type by which values are stored
+abbrev pub physical : Kind → Kind
+physical kind.date = kind.int32
+physical (kind.datetime u z) = kind.int64
+physical (kind.duration u) = kind.int64
+physical kind.time = kind.int64
+physical (kind.list t) = kind.list kind.null
+physical (kind.struct ps) = kind.struct kind.end
+physical t = t
+
+-- what is true of each column
+pub record IsColumn (c : Col) : Type 0 where
+  pub chunked : 0 < length c.chunks
+  pub short : length (values c) ≤ 4294967294
+  pub typed : All (HasType c.kind) (values c)
+  pub flag_holds : FlagHolds c.flag c.kind (values c)

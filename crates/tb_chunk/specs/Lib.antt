@@ -1,0 +1,13 @@
+pub mod Order
+pub mod Chunk
+pub mod Col
+pub mod ColCode
+pub mod Fits
+pub mod Flag
+pub mod Made
+pub mod Merged
+pub mod Physical
+pub mod Rows
+pub mod Seen
+pub mod Stored
+pub mod Window

@@ -1,0 +1,47 @@
+-- What a column is that is made of lists of values.
+use Rattle.std.specs.Prelude.{◌≡◌, ◌≤◌, ℕ, List, [], ◌∷◌, length, map, Result, Ok, Err}
+use Rattle.std.specs.List.{All}
+use Rattle.tb_value.specs.Datum.{Datum}
+use Rattle.tb_value.specs.Kind.{Kind}
+use Rattle.tb_value.specs.See.{data_of}
+use Rattle.tb_value.specs.Typed.{HasType}
+use Rattle.tb_value.specs.declared.any_value.AnyValue.{AnyValue}
+use Rattle.std.specs.declared.vec.Vec.{Vec}
+use Rattle.std.specs.declared.alloc.Global.{Global}
+use Rattle.tb_chunk.specs.Col.{Col, flat, physical}
+use Rattle.tb_value.specs.declared.error.ComputeCause.TheVariants.{TooManyRows}
+use Rattle.tb_value.specs.declared.error.PolarsError.{PolarsError}
+use Rattle.tb_value.specs.declared.error.PolarsError.TheVariants.{ComputeError, SchemaMismatch, OutOfMemory}
+use Rattle.tb_value.specs.declared.sorted.IsSorted.TheVariants.{Not}
+
+-- the values of each list
+abbrev pub lists_of : List (Vec AnyValue Global) → List (List Datum)
+lists_of vs = map (λ v. data_of v.items) vs
+
+-- no chunk at all makes one empty chunk
+abbrev pub at_least_one : List (List Datum) → List (List Datum)
+at_least_one [] = [] ∷ []
+at_least_one (c ∷ cs) = c ∷ cs
+
+abbrev pub IsTyped : Kind → List (List Datum) → Type 0
+IsTyped t cs = All (HasType t) (flat cs)
+
+abbrev pub IsShort : List (List Datum) → Type 0
+IsShort cs = length (flat cs) ≤ 4294967294
+
+-- why there is no column: a value of another type first, then too many values; want of memory at any time
+abbrev pub IsRefused : Type 0 → Type 0 → PolarsError → Type 0
+IsRefused typed short SchemaMismatch = ¬ typed
+IsRefused typed short (ComputeError TooManyRows) = typed × ¬ short
+IsRefused typed short OutOfMemory = Unit {0}
+IsRefused typed short _ = ⊥
+
+-- the column of this name and type and these chunks, or why there is none
+abbrev pub IsMade : List ℕ → Kind → List (List Datum) → Result Col PolarsError → Type 0
+IsMade n t cs (Ok c) = IsTyped t cs × IsShort cs × (c ≡ record { name = n; kind = t; chunks = at_least_one cs; flag = Not })
+IsMade n t cs (Err e) = IsRefused (IsTyped t cs) (IsShort cs) e
+
+-- the same of typed chunks, which are stored by the type s
+abbrev pub IsArranged : List ℕ → Kind → Kind → List (List Datum) → Result Col PolarsError → Type 0
+IsArranged n t s cs (Ok c) = (s ≡ physical t) × IsTyped t cs × IsShort cs × (c ≡ record { name = n; kind = t; chunks = at_least_one cs; flag = Not })
+IsArranged n t s cs (Err e) = IsRefused ((s ≡ physical t) × IsTyped t cs) (IsShort cs) e

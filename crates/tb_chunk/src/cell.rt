@@ -1,0 +1,364 @@
+//! A value as a typed column stores it.
+ghost use Rattle.std.specs.Prelude.{◌≡◌, ◌≢◌, IfOk, false, pos, refl};
+ghost use Rattle.tb_value.specs.Datum.{Datum, null, boolean, int, string, binary, list, struct, items_of, is_null};
+ghost use Rattle.tb_value.specs.Kind as kind;
+ghost use Rattle.tb_value.specs.See.{datum, lent};
+ghost use Rattle.tb_chunk.specs.Fits.{Fits};
+
+use std::alloc::Global;
+use tb_value::{AnyValue, Bytes, OutOfMemory, PlSmallStr, ValueRef, Values};
+
+/// A value other than Null, as a typed column stores it.
+pub trait Cell: Drop {
+    ghost shows: { Self → Datum };
+
+    ghost fits: { Datum → Type 0 };
+
+    ghost some: { (cell : Self) → is_null (shows cell) ≡ false };
+
+    /// The value, lent.
+    fn lend(&self) -> ValueRef<'_>
+        ensures { lent result ≡ shows self.now };
+
+    /// The value, stored. It is not Null, and one that the column can hold.
+    fn from_value(alloc: Global, value: &AnyValue) -> Result<Self, OutOfMemory>
+        requires fits { fits (datum value.now) }
+        requires some { datum value.now ≢ null }
+        ensures { IfOk result (λ c. shows c ≡ datum value.now) };
+
+    /// A cell of the same value.
+    fn copy(&self, alloc: Global) -> Result<Self, OutOfMemory>
+        ensures { IfOk result (λ c. shows c ≡ shows self.now) };
+}
+
+/// The values of a struct's fields.
+#[derive(Drop)]
+pub struct FieldValues {
+    values: Values,
+}
+
+impl Cell for bool {
+    ghost shows = { boolean };
+
+    ghost fits = { Fits kind.boolean };
+
+    ghost some = { λ _. refl };
+
+    fn lend(&self) -> ValueRef<'_> {
+        ValueRef::Boolean(*self)
+    }
+
+    fn from_value(alloc: Global, value: &AnyValue) -> Result<bool, OutOfMemory> {
+        match value {
+            AnyValue::Boolean(b) => Ok(*b),
+            _ => unreachable!(),
+        }
+    }
+
+    fn copy(&self, alloc: Global) -> Result<bool, OutOfMemory> {
+        Ok(*self)
+    }
+}
+
+impl Cell for i8 {
+    ghost shows = { int };
+
+    ghost fits = { Fits kind.int8 };
+
+    ghost some = { λ _. refl };
+
+    fn lend(&self) -> ValueRef<'_> {
+        ValueRef::Int(*self as i128)
+    }
+
+    fn from_value(alloc: Global, value: &AnyValue) -> Result<i8, OutOfMemory> {
+        match value {
+            AnyValue::Int(i) => Ok(*i as i8),
+            _ => unreachable!(),
+        }
+    }
+
+    fn copy(&self, alloc: Global) -> Result<i8, OutOfMemory> {
+        Ok(*self)
+    }
+}
+
+impl Cell for i16 {
+    ghost shows = { int };
+
+    ghost fits = { Fits kind.int16 };
+
+    ghost some = { λ _. refl };
+
+    fn lend(&self) -> ValueRef<'_> {
+        ValueRef::Int(*self as i128)
+    }
+
+    fn from_value(alloc: Global, value: &AnyValue) -> Result<i16, OutOfMemory> {
+        match value {
+            AnyValue::Int(i) => Ok(*i as i16),
+            _ => unreachable!(),
+        }
+    }
+
+    fn copy(&self, alloc: Global) -> Result<i16, OutOfMemory> {
+        Ok(*self)
+    }
+}
+
+impl Cell for i32 {
+    ghost shows = { int };
+
+    ghost fits = { Fits kind.int32 };
+
+    ghost some = { λ _. refl };
+
+    fn lend(&self) -> ValueRef<'_> {
+        ValueRef::Int(*self as i128)
+    }
+
+    fn from_value(alloc: Global, value: &AnyValue) -> Result<i32, OutOfMemory> {
+        match value {
+            AnyValue::Int(i) => Ok(*i as i32),
+            _ => unreachable!(),
+        }
+    }
+
+    fn copy(&self, alloc: Global) -> Result<i32, OutOfMemory> {
+        Ok(*self)
+    }
+}
+
+impl Cell for i64 {
+    ghost shows = { int };
+
+    ghost fits = { Fits kind.int64 };
+
+    ghost some = { λ _. refl };
+
+    fn lend(&self) -> ValueRef<'_> {
+        ValueRef::Int(*self as i128)
+    }
+
+    fn from_value(alloc: Global, value: &AnyValue) -> Result<i64, OutOfMemory> {
+        match value {
+            AnyValue::Int(i) => Ok(*i as i64),
+            _ => unreachable!(),
+        }
+    }
+
+    fn copy(&self, alloc: Global) -> Result<i64, OutOfMemory> {
+        Ok(*self)
+    }
+}
+
+impl Cell for i128 {
+    ghost shows = { int };
+
+    ghost fits = { Fits kind.int128 };
+
+    ghost some = { λ _. refl };
+
+    fn lend(&self) -> ValueRef<'_> {
+        ValueRef::Int(*self)
+    }
+
+    fn from_value(alloc: Global, value: &AnyValue) -> Result<i128, OutOfMemory> {
+        match value {
+            AnyValue::Int(i) => Ok(*i),
+            _ => unreachable!(),
+        }
+    }
+
+    fn copy(&self, alloc: Global) -> Result<i128, OutOfMemory> {
+        Ok(*self)
+    }
+}
+
+impl Cell for u8 {
+    ghost shows = { λ n. int (pos n) };
+
+    ghost fits = { Fits kind.uint8 };
+
+    ghost some = { λ _. refl };
+
+    fn lend(&self) -> ValueRef<'_> {
+        ValueRef::Int(*self as i128)
+    }
+
+    fn from_value(alloc: Global, value: &AnyValue) -> Result<u8, OutOfMemory> {
+        match value {
+            AnyValue::Int(i) => Ok(*i as u8),
+            _ => unreachable!(),
+        }
+    }
+
+    fn copy(&self, alloc: Global) -> Result<u8, OutOfMemory> {
+        Ok(*self)
+    }
+}
+
+impl Cell for u16 {
+    ghost shows = { λ n. int (pos n) };
+
+    ghost fits = { Fits kind.uint16 };
+
+    ghost some = { λ _. refl };
+
+    fn lend(&self) -> ValueRef<'_> {
+        ValueRef::Int(*self as i128)
+    }
+
+    fn from_value(alloc: Global, value: &AnyValue) -> Result<u16, OutOfMemory> {
+        match value {
+            AnyValue::Int(i) => Ok(*i as u16),
+            _ => unreachable!(),
+        }
+    }
+
+    fn copy(&self, alloc: Global) -> Result<u16, OutOfMemory> {
+        Ok(*self)
+    }
+}
+
+impl Cell for u32 {
+    ghost shows = { λ n. int (pos n) };
+
+    ghost fits = { Fits kind.uint32 };
+
+    ghost some = { λ _. refl };
+
+    fn lend(&self) -> ValueRef<'_> {
+        ValueRef::Int(*self as i128)
+    }
+
+    fn from_value(alloc: Global, value: &AnyValue) -> Result<u32, OutOfMemory> {
+        match value {
+            AnyValue::Int(i) => Ok(*i as u32),
+            _ => unreachable!(),
+        }
+    }
+
+    fn copy(&self, alloc: Global) -> Result<u32, OutOfMemory> {
+        Ok(*self)
+    }
+}
+
+impl Cell for u64 {
+    ghost shows = { λ n. int (pos n) };
+
+    ghost fits = { Fits kind.uint64 };
+
+    ghost some = { λ _. refl };
+
+    fn lend(&self) -> ValueRef<'_> {
+        ValueRef::Int(*self as i128)
+    }
+
+    fn from_value(alloc: Global, value: &AnyValue) -> Result<u64, OutOfMemory> {
+        match value {
+            AnyValue::Int(i) => Ok(*i as u64),
+            _ => unreachable!(),
+        }
+    }
+
+    fn copy(&self, alloc: Global) -> Result<u64, OutOfMemory> {
+        Ok(*self)
+    }
+}
+
+impl Cell for PlSmallStr {
+    ghost shows = { string };
+
+    ghost fits = { Fits kind.string };
+
+    ghost some = { λ _. refl };
+
+    fn lend(&self) -> ValueRef<'_> {
+        ValueRef::String(self.as_str().as_bytes())
+    }
+
+    fn from_value(alloc: Global, value: &AnyValue) -> Result<PlSmallStr, OutOfMemory> {
+        match value {
+            AnyValue::String(s) => s.copy(alloc),
+            _ => unreachable!(),
+        }
+    }
+
+    fn copy(&self, alloc: Global) -> Result<PlSmallStr, OutOfMemory> {
+        self.copy(alloc)
+    }
+}
+
+impl Cell for Bytes {
+    ghost shows = { binary };
+
+    ghost fits = { Fits kind.binary };
+
+    ghost some = { λ _. refl };
+
+    fn lend(&self) -> ValueRef<'_> {
+        ValueRef::Binary(self.as_slice())
+    }
+
+    fn from_value(alloc: Global, value: &AnyValue) -> Result<Bytes, OutOfMemory> {
+        match value {
+            AnyValue::Binary(s) => s.copy(alloc),
+            _ => unreachable!(),
+        }
+    }
+
+    fn copy(&self, alloc: Global) -> Result<Bytes, OutOfMemory> {
+        self.copy(alloc)
+    }
+}
+
+impl Cell for Values {
+    ghost shows = { λ vs. list (items_of vs) };
+
+    ghost fits = { Fits (kind.list kind.null) };
+
+    ghost some = { λ _. refl };
+
+    fn lend(&self) -> ValueRef<'_> {
+        ValueRef::List(self)
+    }
+
+    fn from_value(alloc: Global, value: &AnyValue) -> Result<Values, OutOfMemory> {
+        match value {
+            AnyValue::List(vs) => vs.copy(alloc),
+            _ => unreachable!(),
+        }
+    }
+
+    fn copy(&self, alloc: Global) -> Result<Values, OutOfMemory> {
+        self.copy(alloc)
+    }
+}
+
+impl Cell for FieldValues {
+    ghost shows = { λ s. struct (items_of s.values) };
+
+    ghost fits = { Fits (kind.struct kind.end) };
+
+    ghost some = { λ _. refl };
+
+    fn lend(&self) -> ValueRef<'_> {
+        ValueRef::Struct(&self.values)
+    }
+
+    fn from_value(alloc: Global, value: &AnyValue) -> Result<FieldValues, OutOfMemory> {
+        match value {
+            AnyValue::Struct(vs) => Ok(FieldValues {
+                values: vs.copy(alloc)?,
+            }),
+            _ => unreachable!(),
+        }
+    }
+
+    fn copy(&self, alloc: Global) -> Result<FieldValues, OutOfMemory> {
+        Ok(FieldValues {
+            values: self.values.copy(alloc)?,
+        })
+    }
+}

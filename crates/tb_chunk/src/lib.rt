@@ -1,0 +1,27 @@
+//! Runs of typed values: how a column's values are stored, made, joined, picked and put in order. The
+//! definitions of a column stand here too.
+#![tactic(auto)]
+
+mod arrange;
+mod cell;
+mod chunk;
+mod chunks;
+mod grow;
+mod make;
+mod marker;
+mod merged;
+mod ordering;
+mod owned_chunks;
+mod pick;
+mod row_number;
+mod slicing;
+
+pub use cell::{Cell, FieldValues};
+pub use chunk::{Cells, Chunk, StringChunk};
+pub use chunks::{Chunks, copy_chunks, nulls_in, rows_in, value_in};
+pub use grow::{Grow, join_one};
+pub use marker::{Physical, physical_of};
+pub use ordering::keeps_order;
+pub use owned_chunks::{BinaryChunk, ListChunk, StructChunk};
+pub use row_number::RowNumber;
+pub use slicing::slice_offsets;

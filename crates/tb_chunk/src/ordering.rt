@@ -1,0 +1,151 @@
+//! Whether values ascend, or descend.
+ghost use Rattle.std.specs.Prelude.{◌≡◌, ◌<◌, ◌≤◌, ◌^◌, ◌+◌, ◌↔◌, if◌then◌else◌, IsTrue, is_some, option_map, length, get_or, map, take, drop};
+ghost use Rattle.tb_value.specs.Datum.{null, is_null};
+ghost use Rattle.tb_value.specs.See.{lent};
+ghost use Rattle.tb_chunk.specs.Order.{order_of, may_follow, followed, keeps_order};
+ghost use Rattle.tb_chunk.specs.Col.{flat};
+ghost use Rattle.tb_chunk.specs.Flag.{datum_cmp};
+ghost use Rattle.tb_chunk.specs.Seen.{chunk_lists};
+
+use crate::chunk::Chunk;
+use crate::chunks::{Chunks, nulls_in, rows_in, value_in};
+use std::cmp::Ordering;
+use tb_value::ValueRef;
+
+// How two values of a key type compare.
+fn compare(first: ValueRef<'_>, second: ValueRef<'_>) -> Ordering
+    ensures { result ≡ datum_cmp (lent first.entry) (lent second.entry) }
+{
+    match (first, second) {
+        (ValueRef::Boolean(a), ValueRef::Boolean(b)) => a.cmp(&b),
+        (ValueRef::Int(a), ValueRef::Int(b)) => a.cmp(&b),
+        (ValueRef::String(a), ValueRef::String(b)) => a.cmp(b),
+        (ValueRef::Binary(a), ValueRef::Binary(b)) => a.cmp(b),
+        _ => Ordering::Equal,
+    }
+}
+
+// How they compare where values are to ascend, or to descend.
+fn compare_in(first: ValueRef<'_>, second: ValueRef<'_>, descending: bool) -> Ordering
+    ensures { result ≡ order_of descending (lent first.entry) (lent second.entry) }
+{
+    if descending {
+        compare(second, first)
+    } else {
+        compare(first, second)
+    }
+}
+
+fn may_follow(before: ValueRef<'_>, value: ValueRef<'_>, descending: bool) -> bool
+    ensures { result ≡ may_follow descending (lent before.entry) (lent value.entry) }
+{
+    match value {
+        ValueRef::Null => false,
+        _ => !compare_in(value, before, descending).is_lt(),
+    }
+}
+
+// The last of these rows of a chunk, or the value before them where there are none. None where the
+// rows are not in order.
+fn follow_chunk<'a, C: Chunk>(
+    chunk: &'a C,
+    from: usize,
+    count: usize,
+    before: ValueRef<'a>,
+    descending: bool,
+) -> Option<ValueRef<'a>>
+    requires { from + count ≤ length (C.shown chunk.now) }
+    ensures { option_map lent result ≡ followed descending (lent before.entry) (take count (drop from (C.shown chunk.now))) }
+{
+    let _rows = chunk.len();
+    let mut last = before;
+    for i in 0..count {
+        let value = chunk.value(from + i);
+        if !may_follow(last, value, descending) {
+            return None;
+        }
+        last = value;
+    }
+    Some(last)
+}
+
+// Whether the `len` rows from `start` on are in order.
+fn follow<C: Chunk>(chunks: &[C], start: usize, len: usize, descending: bool) -> bool
+    requires { start + len ≤ length (flat (map C.shown chunks.now)) }
+    ensures { result ≡ is_some (followed descending null (take len (drop start (flat (map C.shown chunks.now))))) }
+{
+    let mut skip = start;
+    let mut left = len;
+    let mut last = ValueRef::Null;
+    for chunk in chunks {
+        let rows = chunk.len();
+        let from = skip.min(rows);
+        let count = left.min(rows - from);
+        match follow_chunk(chunk, from, count, last, descending) {
+            Some(value) => last = value,
+            None => return false,
+        }
+        skip -= from;
+        left -= count;
+    }
+    true
+}
+
+fn starts_with_null<C: Chunk>(chunks: &[C]) -> bool
+    requires { length (flat (map C.shown chunks.now)) < 2 ^ 64 }
+    ensures { result ≡ is_null (get_or (flat (map C.shown chunks.now)) 0 null) }
+{
+    if rows_in(chunks) == 0 {
+        return true;
+    }
+    match value_in(chunks, 0) {
+        ValueRef::Null => true,
+        _ => false,
+    }
+}
+
+// Where the values start that are present, if the nulls stand at one end.
+fn present_from<C: Chunk>(chunks: &[C], nulls: usize) -> usize
+    requires { length (flat (map C.shown chunks.now)) < 2 ^ 64 }
+    ensures exact { result ≡ (if is_null (get_or (flat (map C.shown chunks.now)) 0 null) then nulls else 0) }
+    ensures within { result ≤ nulls }
+{
+    if starts_with_null(chunks) { nulls } else { 0 }
+}
+
+/// Whether the values that are present ascend, or descend, and the nulls stand at one end.
+#[tactic(auto, using(crate::proofs::Nulls::nulls_at_most), unfolding(crate::specs::Order::keeps_order))]
+pub fn keeps_order<C: Chunk>(chunks: &[C], descending: bool) -> bool
+    requires { length (flat (map C.shown chunks.now)) < 2 ^ 64 }
+    ensures { result ≡ keeps_order descending (flat (map C.shown chunks.now)) }
+{
+    let nulls = nulls_in(chunks);
+    let start = present_from(chunks, nulls);
+    follow(chunks, start, rows_in(chunks) - nulls, descending)
+}
+
+impl Chunks {
+    /// Whether the values that are present ascend, or descend, and the nulls stand at one end.
+    pub fn keeps_order(&self, descending: bool) -> bool
+        requires { length (flat (chunk_lists self.now)) < 2 ^ 64 }
+        ensures { result ≡ keeps_order descending (flat (chunk_lists self.now)) }
+    {
+        match self {
+            Chunks::BooleanType(chunks) => keeps_order(chunks, descending),
+            Chunks::Int8Type(chunks) => keeps_order(chunks, descending),
+            Chunks::Int16Type(chunks) => keeps_order(chunks, descending),
+            Chunks::Int32Type(chunks) => keeps_order(chunks, descending),
+            Chunks::Int64Type(chunks) => keeps_order(chunks, descending),
+            Chunks::Int128Type(chunks) => keeps_order(chunks, descending),
+            Chunks::UInt8Type(chunks) => keeps_order(chunks, descending),
+            Chunks::UInt16Type(chunks) => keeps_order(chunks, descending),
+            Chunks::UInt32Type(chunks) => keeps_order(chunks, descending),
+            Chunks::UInt64Type(chunks) => keeps_order(chunks, descending),
+            Chunks::StringType(chunks) => keeps_order(chunks, descending),
+            Chunks::BinaryType(chunks) => keeps_order(chunks, descending),
+            Chunks::ListType(chunks) => keeps_order(chunks, descending),
+            Chunks::StructType(chunks) => keeps_order(chunks, descending),
+            Chunks::Null(chunks) => keeps_order(chunks, descending),
+        }
+    }
+}

@@ -1,6 +1,0 @@
-use Rattle.std.proofs.Common.{◌≡◌, ◌+◌, ◌≤◌, length, map, drop}
-use Rattle.tb_store.specs.Col.{flat}
-use Rattle.tb_store.proofs.arrange.are_few.Given as goal
-
-abbrev pub invariant-loop-chunk : goal.invariant-loop-chunk
-invariant-loop-chunk g l = (length (flat (map g.C.Chunk.shown l.chunks)) + l.room ≡ length (flat (map g.C.Chunk.shown (drop l.chunk-index l.chunks))) + 4294967294) × (l.room ≤ 4294967294)

@@ -1,8 +1,0 @@
-use Rattle.std.proofs.Common.{◌≡◌, ◌-◌, ◌+◌, take, drop}
-use Rattle.tb_value.specs.See.{lent}
-use Rattle.tb_store.specs.Ascend.{climbed}
-use Rattle.tb_store.proofs.ascending.climb_chunk.Given as goal
-
--- the rows that are left decide
-abbrev pub invariant-loop-i : goal.invariant-loop-i
-invariant-loop-i g l = climbed (lent l.before) (take l.count (drop l.from (g.C.Chunk.shown l.chunk))) ≡ climbed (lent l.last) (take (l.count - l.i) (drop (l.from + l.i) (g.C.Chunk.shown l.chunk)))

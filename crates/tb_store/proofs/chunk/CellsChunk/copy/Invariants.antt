@@ -1,6 +1,0 @@
-use Rattle.std.proofs.Common.{◌≡◌, map, take}
-use Rattle.tb_store.specs.Chunk.{or_null}
-use Rattle.tb_store.proofs.chunk.CellsChunk.copy.Given as goal
-
-abbrev pub invariant-loop-cell : goal.invariant-loop-cell
-invariant-loop-cell g l = map (or_null g.N.Cell.shows) l.cells.items ≡ map (or_null g.N.Cell.shows) (take l.cell-index l.cell-items)

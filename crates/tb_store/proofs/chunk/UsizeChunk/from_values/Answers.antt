@@ -1,9 +1,0 @@
-use Rattle.std.proofs.Common.{◌∙◌, ap, sym, replicate}
-use Rattle.std.proofs.lemmas.List.{length-map}
-use Rattle.tb_value.specs.Datum.{null}
-use Rattle.tb_value.specs.See.{datum, data_of}
-use Rattle.tb_store.proofs.Lists.{replicate-nulls}
-use Rattle.tb_store.proofs.chunk.UsizeChunk.from_values.Goals as goal
-
-pub returns : goal.returns
-returns c = ap (λ n. replicate n null) (sym (length-map c.args.values.now datum)) ∙ replicate-nulls (data_of c.args.values.now) c.requires

@@ -1,6 +1,0 @@
-use Rattle.std.proofs.Common.{sym}
-use Rattle.tb_store.proofs.Nulls.{nulls_of_replicated}
-use Rattle.tb_store.proofs.chunk.UsizeChunk.null_count.Goals as goal
-
-pub returns : goal.returns
-returns c = sym (nulls_of_replicated c.args.self.now)

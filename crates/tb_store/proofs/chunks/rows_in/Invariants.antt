@@ -1,6 +1,0 @@
-use Rattle.std.proofs.Common.{◌≡◌, ◌+◌, length, map, drop}
-use Rattle.tb_store.specs.Col.{flat}
-use Rattle.tb_store.proofs.chunks.rows_in.Given as goal
-
-abbrev pub invariant-loop-chunk : goal.invariant-loop-chunk
-invariant-loop-chunk g l = l.rows + length (flat (map g.C.Chunk.shown (drop l.chunk-index l.chunks))) ≡ length (flat (map g.C.Chunk.shown l.chunks))

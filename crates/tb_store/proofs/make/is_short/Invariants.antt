@@ -1,7 +1,0 @@
-use Rattle.std.proofs.Common.{◌≡◌, ◌+◌, ◌≤◌, length, drop}
-use Rattle.tb_store.specs.Col.{flat}
-use Rattle.tb_store.specs.Made.{lists_of}
-use Rattle.tb_store.proofs.make.is_short.Given as goal
-
-abbrev pub invariant-loop-chunk : goal.invariant-loop-chunk
-invariant-loop-chunk l = (length (flat (lists_of l.chunks)) + l.room ≡ length (flat (lists_of (drop l.chunk-index l.chunks))) + 4294967294) × (l.room ≤ 4294967294)

@@ -1,6 +1,0 @@
-use Rattle.std.proofs.Common.{◌≡◌, take}
-use Rattle.tb_store.specs.Merged.{merged}
-use Rattle.tb_store.proofs.merged.merge_rows.Given as goal
-
-abbrev pub invariant-loop-row : goal.invariant-loop-row
-invariant-loop-row g l = g.C.Chunk.shown l.out ≡ take l.row (merged (g.C.Chunk.shown l.first) (g.C.Chunk.shown l.second))

@@ -1,0 +1,413 @@
+//! The markers of the types by which values are stored.
+ghost use Rattle.std.specs.Prelude.{◌≡◌, ◌≢◌, ◌↔◌, IsTrue, MatchOption, map};
+ghost use Rattle.tb_value.specs.Kind.{Kind};
+ghost use Rattle.tb_value.specs.Kind as kinds;
+ghost use Rattle.tb_value.specs.SeeKind.{kind_of};
+ghost use Rattle.tb_chunk.specs.Col.{physical};
+ghost use Rattle.tb_chunk.specs.Physical.{kind_for};
+ghost use Rattle.tb_chunk.specs.Seen.{chunk_lists, storage};
+
+use crate::chunk::{Cells, Chunk, StringChunk};
+use crate::chunks::Chunks;
+use crate::marker::{Physical, physical_of};
+use crate::owned_chunks::{BinaryChunk, ListChunk, StructChunk};
+use tb_value::DataType;
+
+/// A marker of a type by which values are stored, other than Null.
+pub trait PolarsDataType {
+    /// A chunk of such values.
+    type Array: Chunk;
+
+    ghost kind: { Kind };
+
+    /// Whether values of the type are stored by the marker's.
+    fn accepts(dtype: &DataType) -> bool
+        ensures { IsTrue result ↔ (physical (kind_of dtype.now) ≡ kind) };
+
+    /// The chunks as those of a column. It takes no memory.
+    fn wrap(arrays: Vec<Self::Array>) -> Chunks
+        ensures lists { chunk_lists result ≡ map Self.Array.shown arrays.items }
+        ensures storage { storage result ≡ kind };
+
+    /// The chunks of a column, None where they are not the marker's. It takes no memory.
+    fn unwrap(chunks: Chunks) -> Option<Vec<Self::Array>>
+        ensures { MatchOption result (storage chunks ≢ kind) (λ v. (storage chunks ≡ kind) × (chunk_lists chunks ≡ map Self.Array.shown v.items)) };
+}
+
+/// Marks truth values.
+pub struct BooleanType;
+
+impl PolarsDataType for BooleanType {
+    type Array = Cells<bool>;
+
+    ghost kind = { kinds.boolean };
+
+    fn accepts(dtype: &DataType) -> bool {
+        physical_of(dtype) == Physical::Boolean
+    }
+
+    fn wrap(arrays: Vec<Cells<bool>>) -> Chunks
+        ensures lists { chunk_lists result ≡ map ⟦<Cells<bool> as Chunk>⟧.shown arrays.items }
+        ensures storage { storage result ≡ kinds.boolean }
+    {
+        Chunks::BooleanType(arrays)
+    }
+
+    fn unwrap(chunks: Chunks) -> Option<Vec<Cells<bool>>> {
+        match chunks {
+            Chunks::BooleanType(arrays) => Some(arrays),
+            _ => None,
+        }
+    }
+}
+
+/// Marks whole numbers of 8 bits.
+pub struct Int8Type;
+
+impl PolarsDataType for Int8Type {
+    type Array = Cells<i8>;
+
+    ghost kind = { kinds.int8 };
+
+    fn accepts(dtype: &DataType) -> bool {
+        physical_of(dtype) == Physical::Int8
+    }
+
+    fn wrap(arrays: Vec<Cells<i8>>) -> Chunks
+        ensures lists { chunk_lists result ≡ map ⟦<Cells<i8> as Chunk>⟧.shown arrays.items }
+        ensures storage { storage result ≡ kinds.int8 }
+    {
+        Chunks::Int8Type(arrays)
+    }
+
+    fn unwrap(chunks: Chunks) -> Option<Vec<Cells<i8>>> {
+        match chunks {
+            Chunks::Int8Type(arrays) => Some(arrays),
+            _ => None,
+        }
+    }
+}
+
+/// Marks whole numbers of 16 bits.
+pub struct Int16Type;
+
+impl PolarsDataType for Int16Type {
+    type Array = Cells<i16>;
+
+    ghost kind = { kinds.int16 };
+
+    fn accepts(dtype: &DataType) -> bool {
+        physical_of(dtype) == Physical::Int16
+    }
+
+    fn wrap(arrays: Vec<Cells<i16>>) -> Chunks
+        ensures lists { chunk_lists result ≡ map ⟦<Cells<i16> as Chunk>⟧.shown arrays.items }
+        ensures storage { storage result ≡ kinds.int16 }
+    {
+        Chunks::Int16Type(arrays)
+    }
+
+    fn unwrap(chunks: Chunks) -> Option<Vec<Cells<i16>>> {
+        match chunks {
+            Chunks::Int16Type(arrays) => Some(arrays),
+            _ => None,
+        }
+    }
+}
+
+/// Marks whole numbers of 32 bits.
+pub struct Int32Type;
+
+impl PolarsDataType for Int32Type {
+    type Array = Cells<i32>;
+
+    ghost kind = { kinds.int32 };
+
+    fn accepts(dtype: &DataType) -> bool {
+        physical_of(dtype) == Physical::Int32
+    }
+
+    fn wrap(arrays: Vec<Cells<i32>>) -> Chunks
+        ensures lists { chunk_lists result ≡ map ⟦<Cells<i32> as Chunk>⟧.shown arrays.items }
+        ensures storage { storage result ≡ kinds.int32 }
+    {
+        Chunks::Int32Type(arrays)
+    }
+
+    fn unwrap(chunks: Chunks) -> Option<Vec<Cells<i32>>> {
+        match chunks {
+            Chunks::Int32Type(arrays) => Some(arrays),
+            _ => None,
+        }
+    }
+}
+
+/// Marks whole numbers of 64 bits.
+pub struct Int64Type;
+
+impl PolarsDataType for Int64Type {
+    type Array = Cells<i64>;
+
+    ghost kind = { kinds.int64 };
+
+    fn accepts(dtype: &DataType) -> bool {
+        physical_of(dtype) == Physical::Int64
+    }
+
+    fn wrap(arrays: Vec<Cells<i64>>) -> Chunks
+        ensures lists { chunk_lists result ≡ map ⟦<Cells<i64> as Chunk>⟧.shown arrays.items }
+        ensures storage { storage result ≡ kinds.int64 }
+    {
+        Chunks::Int64Type(arrays)
+    }
+
+    fn unwrap(chunks: Chunks) -> Option<Vec<Cells<i64>>> {
+        match chunks {
+            Chunks::Int64Type(arrays) => Some(arrays),
+            _ => None,
+        }
+    }
+}
+
+/// Marks whole numbers of 128 bits.
+pub struct Int128Type;
+
+impl PolarsDataType for Int128Type {
+    type Array = Cells<i128>;
+
+    ghost kind = { kinds.int128 };
+
+    fn accepts(dtype: &DataType) -> bool {
+        physical_of(dtype) == Physical::Int128
+    }
+
+    fn wrap(arrays: Vec<Cells<i128>>) -> Chunks
+        ensures lists { chunk_lists result ≡ map ⟦<Cells<i128> as Chunk>⟧.shown arrays.items }
+        ensures storage { storage result ≡ kinds.int128 }
+    {
+        Chunks::Int128Type(arrays)
+    }
+
+    fn unwrap(chunks: Chunks) -> Option<Vec<Cells<i128>>> {
+        match chunks {
+            Chunks::Int128Type(arrays) => Some(arrays),
+            _ => None,
+        }
+    }
+}
+
+/// Marks whole numbers of 8 bits, at least 0.
+pub struct UInt8Type;
+
+impl PolarsDataType for UInt8Type {
+    type Array = Cells<u8>;
+
+    ghost kind = { kinds.uint8 };
+
+    fn accepts(dtype: &DataType) -> bool {
+        physical_of(dtype) == Physical::UInt8
+    }
+
+    fn wrap(arrays: Vec<Cells<u8>>) -> Chunks
+        ensures lists { chunk_lists result ≡ map ⟦<Cells<u8> as Chunk>⟧.shown arrays.items }
+        ensures storage { storage result ≡ kinds.uint8 }
+    {
+        Chunks::UInt8Type(arrays)
+    }
+
+    fn unwrap(chunks: Chunks) -> Option<Vec<Cells<u8>>> {
+        match chunks {
+            Chunks::UInt8Type(arrays) => Some(arrays),
+            _ => None,
+        }
+    }
+}
+
+/// Marks whole numbers of 16 bits, at least 0.
+pub struct UInt16Type;
+
+impl PolarsDataType for UInt16Type {
+    type Array = Cells<u16>;
+
+    ghost kind = { kinds.uint16 };
+
+    fn accepts(dtype: &DataType) -> bool {
+        physical_of(dtype) == Physical::UInt16
+    }
+
+    fn wrap(arrays: Vec<Cells<u16>>) -> Chunks
+        ensures lists { chunk_lists result ≡ map ⟦<Cells<u16> as Chunk>⟧.shown arrays.items }
+        ensures storage { storage result ≡ kinds.uint16 }
+    {
+        Chunks::UInt16Type(arrays)
+    }
+
+    fn unwrap(chunks: Chunks) -> Option<Vec<Cells<u16>>> {
+        match chunks {
+            Chunks::UInt16Type(arrays) => Some(arrays),
+            _ => None,
+        }
+    }
+}
+
+/// Marks whole numbers of 32 bits, at least 0.
+pub struct UInt32Type;
+
+impl PolarsDataType for UInt32Type {
+    type Array = Cells<u32>;
+
+    ghost kind = { kinds.uint32 };
+
+    fn accepts(dtype: &DataType) -> bool {
+        physical_of(dtype) == Physical::UInt32
+    }
+
+    fn wrap(arrays: Vec<Cells<u32>>) -> Chunks
+        ensures lists { chunk_lists result ≡ map ⟦<Cells<u32> as Chunk>⟧.shown arrays.items }
+        ensures storage { storage result ≡ kinds.uint32 }
+    {
+        Chunks::UInt32Type(arrays)
+    }
+
+    fn unwrap(chunks: Chunks) -> Option<Vec<Cells<u32>>> {
+        match chunks {
+            Chunks::UInt32Type(arrays) => Some(arrays),
+            _ => None,
+        }
+    }
+}
+
+/// Marks whole numbers of 64 bits, at least 0.
+pub struct UInt64Type;
+
+impl PolarsDataType for UInt64Type {
+    type Array = Cells<u64>;
+
+    ghost kind = { kinds.uint64 };
+
+    fn accepts(dtype: &DataType) -> bool {
+        physical_of(dtype) == Physical::UInt64
+    }
+
+    fn wrap(arrays: Vec<Cells<u64>>) -> Chunks
+        ensures lists { chunk_lists result ≡ map ⟦<Cells<u64> as Chunk>⟧.shown arrays.items }
+        ensures storage { storage result ≡ kinds.uint64 }
+    {
+        Chunks::UInt64Type(arrays)
+    }
+
+    fn unwrap(chunks: Chunks) -> Option<Vec<Cells<u64>>> {
+        match chunks {
+            Chunks::UInt64Type(arrays) => Some(arrays),
+            _ => None,
+        }
+    }
+}
+
+/// Marks texts.
+pub struct StringType;
+
+impl PolarsDataType for StringType {
+    type Array = StringChunk;
+
+    ghost kind = { kinds.string };
+
+    fn accepts(dtype: &DataType) -> bool {
+        physical_of(dtype) == Physical::String
+    }
+
+    fn wrap(arrays: Vec<StringChunk>) -> Chunks
+        ensures lists { chunk_lists result ≡ map ⟦<StringChunk as Chunk>⟧.shown arrays.items }
+        ensures storage { storage result ≡ kinds.string }
+    {
+        Chunks::StringType(arrays)
+    }
+
+    fn unwrap(chunks: Chunks) -> Option<Vec<StringChunk>> {
+        match chunks {
+            Chunks::StringType(arrays) => Some(arrays),
+            _ => None,
+        }
+    }
+}
+
+/// Marks bytes.
+pub struct BinaryType;
+
+impl PolarsDataType for BinaryType {
+    type Array = BinaryChunk;
+
+    ghost kind = { kinds.binary };
+
+    fn accepts(dtype: &DataType) -> bool {
+        physical_of(dtype) == Physical::Binary
+    }
+
+    fn wrap(arrays: Vec<BinaryChunk>) -> Chunks
+        ensures lists { chunk_lists result ≡ map ⟦<BinaryChunk as Chunk>⟧.shown arrays.items }
+        ensures storage { storage result ≡ kinds.binary }
+    {
+        Chunks::BinaryType(arrays)
+    }
+
+    fn unwrap(chunks: Chunks) -> Option<Vec<BinaryChunk>> {
+        match chunks {
+            Chunks::BinaryType(arrays) => Some(arrays),
+            _ => None,
+        }
+    }
+}
+
+/// Marks lists.
+pub struct ListType;
+
+impl PolarsDataType for ListType {
+    type Array = ListChunk;
+
+    ghost kind = { kinds.list kinds.null };
+
+    fn accepts(dtype: &DataType) -> bool {
+        physical_of(dtype) == Physical::List
+    }
+
+    fn wrap(arrays: Vec<ListChunk>) -> Chunks
+        ensures lists { chunk_lists result ≡ map ⟦<ListChunk as Chunk>⟧.shown arrays.items }
+        ensures storage { storage result ≡ kinds.list kinds.null }
+    {
+        Chunks::ListType(arrays)
+    }
+
+    fn unwrap(chunks: Chunks) -> Option<Vec<ListChunk>> {
+        match chunks {
+            Chunks::ListType(arrays) => Some(arrays),
+            _ => None,
+        }
+    }
+}
+
+/// Marks structs.
+pub struct StructType;
+
+impl PolarsDataType for StructType {
+    type Array = StructChunk;
+
+    ghost kind = { kinds.struct kinds.end };
+
+    fn accepts(dtype: &DataType) -> bool {
+        physical_of(dtype) == Physical::Struct
+    }
+
+    fn wrap(arrays: Vec<StructChunk>) -> Chunks
+        ensures lists { chunk_lists result ≡ map ⟦<StructChunk as Chunk>⟧.shown arrays.items }
+        ensures storage { storage result ≡ kinds.struct kinds.end }
+    {
+        Chunks::StructType(arrays)
+    }
+
+    fn unwrap(chunks: Chunks) -> Option<Vec<StructChunk>> {
+        match chunks {
+            Chunks::StructType(arrays) => Some(arrays),
+            _ => None,
+        }
+    }
+}

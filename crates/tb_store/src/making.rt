@@ -1,0 +1,53 @@
+//! Columns made of values, and of typed chunks.
+ghost use Rattle.tb_value.specs.SeeKind.{kind_of};
+ghost use Rattle.tb_chunk.specs.Made.{lists_of, IsMade, IsArranged};
+ghost use Rattle.tb_chunk.specs.Seen.{chunk_lists, storage};
+
+use crate::series::Series;
+use std::alloc::Global;
+use tb_chunk::{Chunks, physical_of};
+use tb_value::{AnyValue, DataType, IsSorted, PlSmallStr, PolarsError, PolarsResult};
+
+impl Series {
+    /// The column of this name and type and of these values, with the flag Not. No chunk at all makes
+    /// one empty chunk.
+    ///
+    /// # Errors
+    ///
+    /// 1 SchemaMismatch where a value is not of the type, 2 TooManyRows where the values number more
+    /// than `MAX_ROWS`, and OutOfMemory.
+    pub fn from_chunks(
+        alloc: Global,
+        name: &str,
+        dtype: DataType,
+        chunks: Vec<Vec<AnyValue>>,
+    ) -> PolarsResult<Series>
+        ensures { IsMade name.now (kind_of dtype) (lists_of chunks.items) result }
+    {
+        let chunks = Chunks::from_lists(alloc, &dtype, chunks)?;
+        let name = PlSmallStr::from_str(alloc, name)?;
+        Ok(Series::from_parts(name, dtype, chunks, IsSorted::Not))
+    }
+
+    /// The column of these typed chunks, with the flag Not. No chunk at all makes one empty chunk,
+    /// and takes memory for it.
+    ///
+    /// # Errors
+    ///
+    /// 1 SchemaMismatch where the chunks are not those by which the type is stored, or a value is not of
+    /// the type, 2 TooManyRows where the values number more than `MAX_ROWS`, and OutOfMemory.
+    pub fn from_arrays(
+        alloc: Global,
+        name: PlSmallStr,
+        dtype: DataType,
+        arrays: Chunks,
+    ) -> PolarsResult<Series>
+        ensures { IsArranged name (kind_of dtype) (storage arrays) (chunk_lists arrays) result }
+    {
+        if arrays.physical() != physical_of(&dtype) {
+            return Err(PolarsError::SchemaMismatch);
+        }
+        let chunks = arrays.checked(alloc, &dtype)?;
+        Ok(Series::from_parts(name, dtype, chunks, IsSorted::Not))
+    }
+}

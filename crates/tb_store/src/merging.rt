@@ -1,0 +1,40 @@
+//! Columns made of two others, of which the second stands in where the first has no value.
+ghost use Rattle.std.specs.Prelude.{◌≡◌, ◌∷◌, [], IfOk, length};
+ghost use Rattle.tb_value.specs.declared.sorted.IsSorted.TheVariants.{Not};
+ghost use Rattle.tb_chunk.specs.Col.{values};
+ghost use Rattle.tb_chunk.specs.Merged.{merged};
+
+use crate::column::Column;
+use crate::series::Series;
+use std::alloc::Global;
+use tb_value::{IsSorted, OutOfMemory};
+
+impl Series {
+    /// The values, and those of another series of the same type and length where they are Null, in one chunk.
+    pub fn merged(&self, alloc: Global, other: &Series) -> Result<Series, OutOfMemory>
+        requires kind { self.now.kind ≡ other.now.kind }
+        requires len { length (values self.now) ≡ length (values other.now) }
+        ensures { IfOk result (λ s. s ≡ record self.now { chunks = merged (values self.now) (values other.now) ∷ []; flag = Not }) }
+    {
+        let _len = self.len();
+        let _other_len = other.len();
+        let name = self.name().copy(alloc)?;
+        let dtype = self.dtype().copy(alloc)?;
+        let chunks = self.chunks().merged(alloc, other.chunks())?;
+        Ok(Series::from_parts(name, dtype, chunks, IsSorted::Not))
+    }
+}
+
+impl Column {
+    /// As `Series::merged`.
+    pub fn merged(&self, alloc: Global, other: &Column) -> Result<Column, OutOfMemory>
+        requires kind { self.now.kind ≡ other.now.kind }
+        requires len { length (values self.now) ≡ length (values other.now) }
+        ensures { IfOk result (λ s. s ≡ record self.now { chunks = merged (values self.now) (values other.now) ∷ []; flag = Not }) }
+    {
+        let series = self
+            .as_materialized_series()
+            .merged(alloc, other.as_materialized_series())?;
+        Ok(series.into_column())
+    }
+}

@@ -1,0 +1,42 @@
+//! Whether the values of a column ascend, or descend.
+ghost use Rattle.std.specs.Prelude.{◌↔◌, IsTrue};
+ghost use Rattle.tb_value.specs.declared.sorted.IsSorted.TheVariants.{Ascending, Descending};
+ghost use Rattle.tb_chunk.specs.Col.{values};
+ghost use Rattle.tb_chunk.specs.Flag.{FlagHolds};
+
+use crate::column::Column;
+use crate::series::Series;
+
+impl Series {
+    /// Whether the flag Ascending would be true of the values. Its steps are in their number.
+    pub fn is_ascending(&self) -> bool
+        ensures { IsTrue result ↔ FlagHolds Ascending self.now.kind (values self.now) }
+    {
+        let _len = self.len();
+        self.dtype().is_key() && self.chunks().keeps_order(false)
+    }
+
+    /// Whether the flag Descending would be true of the values. Its steps are in their number.
+    pub fn is_descending(&self) -> bool
+        ensures { IsTrue result ↔ FlagHolds Descending self.now.kind (values self.now) }
+    {
+        let _len = self.len();
+        self.dtype().is_key() && self.chunks().keeps_order(true)
+    }
+}
+
+impl Column {
+    /// As `Series::is_ascending`.
+    pub fn is_ascending(&self) -> bool
+        ensures { IsTrue result ↔ FlagHolds Ascending self.now.kind (values self.now) }
+    {
+        self.as_materialized_series().is_ascending()
+    }
+
+    /// As `Series::is_descending`.
+    pub fn is_descending(&self) -> bool
+        ensures { IsTrue result ↔ FlagHolds Descending self.now.kind (values self.now) }
+    {
+        self.as_materialized_series().is_descending()
+    }
+}
