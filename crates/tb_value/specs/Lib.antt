@@ -10,6 +10,7 @@ pub mod Typed
 pub mod Same
 pub mod Names
 pub mod Index
+pub mod ChunkRow
 pub mod Pairs
 pub mod Refusals
 pub mod SameKind

@@ -3,6 +3,7 @@
 
 mod any_value;
 mod bytes;
+mod chunk_id;
 mod dtype;
 mod error;
 mod hashed;
@@ -19,6 +20,7 @@ mod typed;
 
 pub use any_value::{AnyValue, ValueRef, Values};
 pub use bytes::Bytes;
+pub use chunk_id::{ChunkId, StandardChunkId};
 pub use dtype::{DataType, Field, Fields, TimeUnit};
 pub use error::{ComputeCause, InvalidCause, OutOfMemory, PolarsError, PolarsResult, Side};
 pub use index::{IdxSize, JoinPair, NullableIdxSize};
