@@ -4,21 +4,20 @@ ghost use Rattle.tb_value.specs.Datum.{null};
 ghost use Rattle.tb_value.specs.See.{lent};
 ghost use Rattle.tb_value.specs.SeeKind.{kind_of};
 ghost use Rattle.tb_value.specs.declared.error.PolarsError.TheVariants.{SchemaMismatch};
-ghost use Rattle.tb_value.specs.declared.sorted.IsSorted.TheVariants.{Ascending};
+ghost use Rattle.tb_value.specs.declared.sorted.IsSorted.TheVariants.{Ascending, Descending};
 ghost use Rattle.tb_chunk.specs.Col.{values, physical, IsColumn};
-ghost use Rattle.tb_chunk.specs.Flag.{nulls, FlagHolds};
+ghost use Rattle.tb_chunk.specs.Flag.{nulls, FlagHolds, IsOrdered};
 ghost use Rattle.tb_chunk.specs.Made.{lists_of, IsArranged};
+ghost use Rattle.tb_chunk.specs.Order.{order_of};
 ghost use Rattle.tb_chunk.specs.Window.{window};
 
-use crate::ascending::keeps_order;
-use crate::chunk::Chunk;
-use crate::chunks::{copy_chunks, nulls_in, rows_in, value_in};
 use crate::data_type::PolarsDataType;
-use crate::grow::{Grow, join_one};
 use crate::series::Series;
-use crate::slicing::slice_offsets;
 use std::alloc::Global;
 use std::marker::Model;
+use tb_chunk::{
+    Chunk, Grow, copy_chunks, join_one, keeps_order, nulls_in, rows_in, slice_offsets, value_in,
+};
 use tb_value::{
     AnyValue, DataType, IsSorted, OutOfMemory, PlSmallStr, PolarsError, PolarsResult, ValueRef,
 };
@@ -155,8 +154,21 @@ impl<T: PolarsDataType> ChunkedArray<T> {
     pub fn is_ascending(&self) -> bool
         ensures { IsTrue result ↔ FlagHolds Ascending self.now.kind (values self.now) }
     {
+        self.is_ordered(false)
+    }
+
+    /// As `Series::is_descending`.
+    pub fn is_descending(&self) -> bool
+        ensures { IsTrue result ↔ FlagHolds Descending self.now.kind (values self.now) }
+    {
+        self.is_ordered(true)
+    }
+
+    fn is_ordered(&self, descending: bool) -> bool
+        ensures { IsTrue result ↔ IsOrdered (order_of descending) self.now.kind (values self.now) }
+    {
         let _len = self.len();
-        self.dtype().is_key() && keeps_order(self.chunks())
+        self.dtype().is_key() && keeps_order(self.chunks(), descending)
     }
 
     /// The number of values that are Null.

@@ -7,10 +7,9 @@ ghost use Rattle.tb_chunk.specs.Col.{physical};
 ghost use Rattle.tb_chunk.specs.Physical.{kind_for};
 ghost use Rattle.tb_chunk.specs.Seen.{chunk_lists, storage};
 
-use crate::chunk::{Cells, Chunk, StringChunk};
-use crate::chunks::Chunks;
-use crate::marker::{Physical, physical_of};
-use crate::owned_chunks::{BinaryChunk, ListChunk, StructChunk};
+use tb_chunk::{
+    BinaryChunk, Cells, Chunk, Chunks, ListChunk, Physical, StringChunk, StructChunk, physical_of,
+};
 use tb_value::DataType;
 
 /// A marker of a type by which values are stored, other than Null.

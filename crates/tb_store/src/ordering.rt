@@ -2,7 +2,8 @@
 ghost use Rattle.std.specs.Prelude.{◌↔◌, IsTrue};
 ghost use Rattle.tb_value.specs.declared.sorted.IsSorted.TheVariants.{Ascending, Descending};
 ghost use Rattle.tb_chunk.specs.Col.{values};
-ghost use Rattle.tb_chunk.specs.Flag.{FlagHolds};
+ghost use Rattle.tb_chunk.specs.Flag.{FlagHolds, IsOrdered};
+ghost use Rattle.tb_chunk.specs.Order.{order_of};
 
 use crate::column::Column;
 use crate::series::Series;
@@ -12,16 +13,21 @@ impl Series {
     pub fn is_ascending(&self) -> bool
         ensures { IsTrue result ↔ FlagHolds Ascending self.now.kind (values self.now) }
     {
-        let _len = self.len();
-        self.dtype().is_key() && self.chunks().keeps_order(false)
+        self.is_ordered(false)
     }
 
     /// Whether the flag Descending would be true of the values. Its steps are in their number.
     pub fn is_descending(&self) -> bool
         ensures { IsTrue result ↔ FlagHolds Descending self.now.kind (values self.now) }
     {
+        self.is_ordered(true)
+    }
+
+    fn is_ordered(&self, descending: bool) -> bool
+        ensures { IsTrue result ↔ IsOrdered (order_of descending) self.now.kind (values self.now) }
+    {
         let _len = self.len();
-        self.dtype().is_key() && self.chunks().keeps_order(true)
+        self.dtype().is_key() && self.chunks().keeps_order(descending)
     }
 }
 

@@ -7,9 +7,9 @@ ghost use Rattle.tb_chunk.specs.Col.{Col, values, IsColumn, physical};
 ghost use Rattle.tb_chunk.specs.Flag.{nulls, FlagHolds};
 ghost use Rattle.tb_chunk.specs.Seen.{chunk_lists, storage};
 
-use crate::chunks::Chunks;
 use std::alloc::Global;
 use std::marker::Model;
+use tb_chunk::Chunks;
 use tb_value::{DataType, IsSorted, OutOfMemory, PlSmallStr, ValueRef};
 
 /// A column: a name, a type, one or more chunks and a flag.
