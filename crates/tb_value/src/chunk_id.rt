@@ -6,7 +6,7 @@ use std::marker::Model;
 
 /// A row in a chunk, or none, in 64 bits: the low `B` bits hold the chunk, and the row stands above
 /// them. All ones stand for none. Contracts see the chunk and the row, where there is one.
-#[derive(Clone, Copy, PartialEq, Eq, Debug)]
+#[derive(Clone, Copy, Debug)]
 pub struct ChunkId<const B: u64> {
     swizzled: u64,
 }
@@ -65,4 +65,24 @@ impl<const B: u64> ChunkId<B> {
     {
         self.swizzled == u64::MAX
     }
+}
+
+impl<const B: u64> PartialEq for ChunkId<B> {
+    ghost use Rattle.std.specs.Cmp.{partial_equiv_from_equiv};
+    ghost use Rattle.std.specs.Option.{option_eq};
+    ghost use Rattle.tb_value.specs.ChunkRow.{same_row, ids_equiv};
+
+    ghost eq = { option_eq same_row };
+
+    ghost laws = { partial_equiv_from_equiv ids_equiv };
+
+    fn eq(&self, other: &ChunkId<B>) -> bool {
+        self.swizzled == other.swizzled
+    }
+}
+
+impl<const B: u64> Eq for ChunkId<B> {
+    ghost use Rattle.tb_value.specs.ChunkRow.{ids_equiv};
+
+    ghost laws = { ids_equiv };
 }

@@ -1,7 +1,7 @@
 //! Row numbers, and the pairs of them that a join lists.
 ghost use Rattle.std.specs.Prelude.{◌≡◌, ◌<◌, ◌↔◌, Some, None, IsTrue, IsNone, IsSome, IfSome};
 ghost use Rattle.tb_value.specs.Index.{of_number, to_number, back};
-ghost use Rattle.tb_value.specs.Pairs.{row_cmp, left_first, right_first};
+ghost use Rattle.tb_value.specs.Pairs.{both, left_only, right_only, row_cmp, left_first, right_first};
 
 use std::cmp::Ordering;
 use std::marker::Model;
@@ -10,7 +10,7 @@ use std::marker::Model;
 pub type IdxSize = u32;
 
 /// A row number, or none.
-#[derive(Clone, Copy, PartialEq, Eq, Debug)]
+#[derive(Clone, Copy, Debug)]
 pub struct NullableIdxSize {
     inner: IdxSize,
 }
@@ -83,6 +83,27 @@ impl NullableIdxSize {
     }
 }
 
+impl PartialEq for NullableIdxSize {
+    ghost use Rattle.std.specs.Prelude.{nat_eq};
+    ghost use Rattle.std.specs.Cmp.{partial_equiv_from_equiv};
+    ghost use Rattle.std.specs.Option.{option_eq};
+    ghost use Rattle.tb_value.specs.Index.{numbers_equiv};
+
+    ghost eq = { option_eq nat_eq };
+
+    ghost laws = { partial_equiv_from_equiv numbers_equiv };
+
+    fn eq(&self, other: &NullableIdxSize) -> bool {
+        self.inner == other.inner
+    }
+}
+
+impl Eq for NullableIdxSize {
+    ghost use Rattle.tb_value.specs.Index.{numbers_equiv};
+
+    ghost laws = { numbers_equiv };
+}
+
 /// A pair of a join's listing: a left row and a right row, or one of them alone.
 #[derive(Clone, Copy, PartialEq, Eq, Debug)]
 pub struct JoinPair {
@@ -91,6 +112,40 @@ pub struct JoinPair {
 }
 
 impl JoinPair {
+    /// These two rows.
+    pub fn both(left: IdxSize, right: IdxSize) -> JoinPair
+        requires left { left < 4294967295 }
+        requires right { right < 4294967295 }
+        ensures { result ≡ both left right }
+    {
+        JoinPair {
+            left: NullableIdxSize::some(left),
+            right: NullableIdxSize::some(right),
+        }
+    }
+
+    /// This left row alone.
+    pub fn left_only(left: IdxSize) -> JoinPair
+        requires { left < 4294967295 }
+        ensures { result ≡ left_only left }
+    {
+        JoinPair {
+            left: NullableIdxSize::some(left),
+            right: NullableIdxSize::null(),
+        }
+    }
+
+    /// This right row alone.
+    pub fn right_only(right: IdxSize) -> JoinPair
+        requires { right < 4294967295 }
+        ensures { result ≡ right_only right }
+    {
+        JoinPair {
+            left: NullableIdxSize::null(),
+            right: NullableIdxSize::some(right),
+        }
+    }
+
     /// The order of pairs by left row and then by right row.
     pub fn by_left(&self, other: &JoinPair) -> Ordering
         ensures { result ≡ left_first self.now other.now }

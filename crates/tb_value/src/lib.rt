@@ -5,6 +5,7 @@ mod any_value;
 mod bytes;
 mod chunk_id;
 mod dtype;
+pub mod equality;
 mod error;
 mod hashed;
 mod index;

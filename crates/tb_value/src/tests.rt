@@ -1,7 +1,8 @@
 //! Copies, values and row numbers.
 
 use crate::{
-    AnyValue, Bytes, DataType, Field, Fields, NullableIdxSize, PlSmallStr, ValueRef, Values,
+    AnyValue, Bytes, ChunkId, DataType, Field, Fields, NullableIdxSize, PlSmallStr,
+    StandardChunkId, ValueRef, Values,
 };
 use std::hash::{DefaultHasher, Hash, Hasher};
 use std::test::Fail;
@@ -52,6 +53,22 @@ fn row_numbers(rt: HostRuntime) {
     let row = NullableIdxSize::some(7);
     assert!(rt; !row.is_null_idx());
     assert_eq!(rt; row.idx(), 7);
+}
+
+#[test]
+fn chunk_ids(rt: HostRuntime) {
+    let id = StandardChunkId::store(7, 9);
+    assert_eq!(rt; id.extract(), (7, 9));
+    assert!(rt; id == ChunkId::store(7, 9) && id != ChunkId::store(9, 7) && !id.is_null());
+    assert!(rt; ChunkId::<1>::null().is_null());
+    assert_eq!(rt;
+        ChunkId::<1>::store(0, u32::MAX - 1).extract(),
+        (0, u32::MAX - 1)
+    );
+    assert_eq!(rt;
+        ChunkId::<32>::store(u32::MAX - 1, 3).extract(),
+        (u32::MAX - 1, 3)
+    );
 }
 
 #[test]
