@@ -7,13 +7,13 @@ use Rattle.tb_frame.specs.declared.args.MaintainOrderJoin.{MaintainOrderJoin}
 use Rattle.tb_frame.specs.declared.args.MaintainOrderJoin.TheVariants as order
 use Rattle.tb_frame.specs.Join.{Request}
 
-abbrev pub is_built_kind : JoinType → Bool
-is_built_kind Inner = true
-is_built_kind Left = true
-is_built_kind Right = false
-is_built_kind Full = false
-is_built_kind Semi = false
-is_built_kind Anti = false
+abbrev pub is_built_how : JoinType → Bool
+is_built_how Inner = true
+is_built_how Left = true
+is_built_how Right = false
+is_built_how Full = false
+is_built_how Semi = false
+is_built_how Anti = false
 
 -- any order that is not by the right rows first
 abbrev pub is_built_order : MaintainOrderJoin → Bool
@@ -25,7 +25,7 @@ is_built_order order.RightLeft = false
 
 -- an Inner or Left join of one key on each side, not in the order of the right rows
 pub record IsBuilt (q : Request) : Type 0 where
-  pub how : is_built_kind q.args.how ≡ true
+  pub how : is_built_how q.args.how ≡ true
   pub validation : q.args.validation ≡ ManyToMany
   pub slice : q.args.slice ≡ None
   pub nulls : q.args.join_nulls ≡ false

@@ -7,3 +7,4 @@ pub mod NameSets
 pub mod Answer
 pub mod Sides
 pub mod Meaning
+pub mod RightColumns

@@ -1,7 +1,7 @@
 //! The arguments of a join.
 ghost use Rattle.std.specs.Prelude.{◌≡◌, None, false};
 ghost use Rattle.tb_frame.specs.Join.{coalesce};
-ghost use Rattle.tb_frame.specs.Refusal.{asks_a_side};
+ghost use Rattle.tb_frame.specs.Refusal.{asks_left, asks_right, asks_a_side};
 ghost use Rattle.tb_frame.specs.Sides.{flip};
 
 use tb_value::PlSmallStr;
@@ -96,16 +96,31 @@ impl JoinArgs {
 }
 
 impl JoinValidation {
+    /// Whether the left side is asked to have no two rows of equal keys.
+    pub fn asks_left(&self) -> bool
+        ensures { result ≡ asks_left self.now }
+    {
+        match self {
+            JoinValidation::OneToMany | JoinValidation::OneToOne => true,
+            JoinValidation::ManyToMany | JoinValidation::ManyToOne => false,
+        }
+    }
+
+    /// Whether the right side is asked to have no two rows of equal keys.
+    pub fn asks_right(&self) -> bool
+        ensures { result ≡ asks_right self.now }
+    {
+        match self {
+            JoinValidation::ManyToOne | JoinValidation::OneToOne => true,
+            JoinValidation::ManyToMany | JoinValidation::OneToMany => false,
+        }
+    }
+
     /// Whether a side is asked to have no two rows of equal keys.
     pub fn needs_checks(&self) -> bool
         ensures { result ≡ asks_a_side self.now }
     {
-        match self {
-            JoinValidation::ManyToMany => false,
-            JoinValidation::ManyToOne => true,
-            JoinValidation::OneToMany => true,
-            JoinValidation::OneToOne => true,
-        }
+        self.asks_left() || self.asks_right()
     }
 }
 

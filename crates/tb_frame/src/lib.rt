@@ -9,6 +9,7 @@ mod frame;
 pub mod laws;
 mod names;
 mod order;
+mod right_columns;
 #[cfg(test)]
 mod tests;
 
@@ -18,3 +19,4 @@ pub use equality::{same_type, same_value};
 pub use frame::{DataFrame, IntoDf, column_name_set, column_names, take_columns, take_opt_columns};
 pub use names::{NameSet, check_distinct, name_set};
 pub use order::direction_of;
+pub use right_columns::{gone_right, left_rows, push_right, right_name, right_rows, suffix_of};

@@ -14,13 +14,13 @@ use Rattle.tb_frame.specs.Table.{TableColumn, Table, plain, table_of, names_of, 
 use Rattle.tb_frame.specs.Join.{Request, by_names, coalesces, value_at, left_out, right_out, without, listing, cut, IsAnswer}
 use Rattle.tb_frame.specs.Frame.{opt_taken, without_names}
 use Rattle.tb_frame.specs.Answer.{fill, answer_left, answer_right, gone_right, IsListed}
-use Rattle.tb_frame.specs.Built.{IsBuilt, is_built_kind}
+use Rattle.tb_frame.specs.Built.{IsBuilt, is_built_how}
 use Rattle.tb_frame.specs.Refusal.{first_repeated, join_refusal}
 use Rattle.tb_frame.proofs.Assembled.{made_columns, makes_table, makes_answer}
 use Rattle.tb_frame.proofs.Validity.{some_left, some_right, names_apart, fresh_names, few_pairs}
 use Rattle.tb_frame.proofs.Frames.{without-table}
 use Rattle.tb_frame.proofs.Outs.{answer_right_is}
-use Rattle.tb_join.specs.RightColumns.{right_column, right_columns}
+use Rattle.tb_frame.specs.RightColumns.{right_column, right_columns}
 use Rattle.tb_frame.proofs.Taking.{values-opt_taken}
 use Rattle.tb_join.proofs.Finishing.{table_of-append}
 use Rattle.tb_join.proofs.KeyCauses.{keeps_all, names-asked, asked_names, suffix_in, gone_in}
@@ -51,7 +51,7 @@ beside-made : (names : List Name) (suffix : Name) (ps : List JoinPair) (cs : Lis
 beside-made names suffix ps [] = refl
 beside-made names suffix ps (c ∷ cs) = λ t. record { name = (right_out names (Some suffix) (plain c)).name; kind = c.kind; values = values-at (λ (p : JoinPair). p.right) ps c t } ∷ beside-made names suffix ps cs t
 
-left_is : (how : JoinType) (c : Bool) (q : Request) → is_built_kind how ≡ true → answer_left how c q ≡ left_out
+left_is : (how : JoinType) (c : Bool) (q : Request) → is_built_how how ≡ true → answer_left how c q ≡ left_out
 left_is Inner c q h = refl
 left_is Left c q h = refl
 left_is Right c q h = cc
@@ -59,7 +59,7 @@ left_is Full c q h = cc
 left_is Semi c q h = cc
 left_is Anti c q h = cc
 
-right_is : (how : JoinType) (c : Bool) (keys : List Name) (t : Table) → is_built_kind how ≡ true → answer_right how c keys t ≡ without (gone_right how c keys) t
+right_is : (how : JoinType) (c : Bool) (keys : List Name) (t : Table) → is_built_how how ≡ true → answer_right how c keys t ≡ without (gone_right how c keys) t
 right_is Inner c keys t h = answer_right_is Inner c keys t refl
 right_is Left c keys t h = answer_right_is Left c keys t refl
 right_is Right c keys t h = cc

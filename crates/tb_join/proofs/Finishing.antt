@@ -17,7 +17,7 @@ use Rattle.tb_frame.specs.Frame.{opt_taken, frame_refusal, without_names}
 use Rattle.tb_frame.specs.Refusal.{first_repeated}
 use Rattle.tb_frame.proofs.Frames.{no_refusal}
 use Rattle.tb_frame.proofs.Taking.{rows_or_none, values-opt_taken, names-opt_taken, level-opt_taken}
-use Rattle.tb_join.specs.RightColumns.{right_names, right_column, right_columns}
+use Rattle.tb_frame.specs.RightColumns.{right_names, right_column, right_columns}
 
 pub settled : {T : Type 0} (r : Result T PolarsError) (c d : Option PolarsError) → c ≡ d → Settles r c → Settles r d
 settled r c d e h = subst (λ (x : Option PolarsError). Settles r x) e h

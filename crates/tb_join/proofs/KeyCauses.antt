@@ -20,7 +20,7 @@ use Rattle.tb_frame.specs.declared.args.JoinType.{JoinType}
 use Rattle.tb_frame.specs.declared.args.JoinType.TheVariants.{Inner, Left, Right, Full, Semi, Anti}
 use Rattle.tb_frame.specs.declared.args.JoinValidation.TheVariants.{ManyToMany}
 use Rattle.tb_frame.specs.Answer.{gone_right}
-use Rattle.tb_frame.specs.Built.{IsBuilt, is_built_kind}
+use Rattle.tb_frame.specs.Built.{IsBuilt, is_built_how}
 use Rattle.tb_frame.specs.Table.{TableColumn, Table, plain, table_of, height, names_of}
 use Rattle.tb_frame.specs.Join.{Request, Out, by_names, named, coalesce, coalesces, keep_left, keep_right, left_out, right_out, right_name, without, joined_names, default_suffix}
 use Rattle.tb_frame.specs.Frame.{without_names}
@@ -28,7 +28,7 @@ use Rattle.tb_frame.specs.Refusal.{first_unknown, first_repeated, no_keys, key_c
 use Rattle.tb_frame.proofs.Frames.{without-table}
 use Rattle.tb_frame.proofs.Outs.{without_none}
 use Rattle.tb_join.specs.KeyRefusal.{key_refusal}
-use Rattle.tb_join.specs.RightColumns.{right_names}
+use Rattle.tb_frame.specs.RightColumns.{right_names}
 
 -- FIRST CAUSES
 
@@ -68,7 +68,7 @@ by_none a b c d f j is x y z w v = is ∙ (λ t. first_cause (x t ∷ y t ∷ z 
 -- KINDS AND ORDERS
 
 -- what is built of the left columns, and of the right ones
-pub keeps_all : (how : JoinType) (c : Bool) (keys : List Name) (t : Table) → is_built_kind how ≡ true → keep_left how c keys t ≡ t
+pub keeps_all : (how : JoinType) (c : Bool) (keys : List Name) (t : Table) → is_built_how how ≡ true → keep_left how c keys t ≡ t
 keeps_all Inner c keys t h = refl
 keeps_all Left c keys t h = refl
 keeps_all Right c keys t h = cc
@@ -76,7 +76,7 @@ keeps_all Full c keys t h = cc
 keeps_all Semi c keys t h = cc
 keeps_all Anti c keys t h = cc
 
-pub keeps_right : (how : JoinType) (c : Bool) (keys : List Name) (t : Table) → is_built_kind how ≡ true → keep_right how c keys t ≡ without (gone_right how c keys) t
+pub keeps_right : (how : JoinType) (c : Bool) (keys : List Name) (t : Table) → is_built_how how ≡ true → keep_right how c keys t ≡ without (gone_right how c keys) t
 keeps_right Inner true keys t h = refl
 keeps_right Inner false keys t h = sym (without_none t)
 keeps_right Left true keys t h = refl
@@ -114,7 +114,7 @@ gone_in a ro = gone_right a.how (coalesce a.coalesce a.how) ro
 abbrev pub asked_names : List Col → List Col → List Name → JoinArgs → List Name
 asked_names left right ro a = names_of (table_of left) ++ right_names (names_of (table_of left)) (suffix_in a) (gone_in a ro) right
 
-module _ (left right : List Col) (lo ro : List Name) (a : JoinArgs) (how : is_built_kind a.how ≡ true) where
+module _ (left right : List Col) (lo ro : List Name) (a : JoinArgs) (how : is_built_how a.how ≡ true) where
   -- the names that the answer would have
   pub names-asked : joined_names (by_names (table_of left) (table_of right) lo ro a) ≡ asked_names left right ro a
   names-asked =

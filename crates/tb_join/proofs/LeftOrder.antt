@@ -15,7 +15,7 @@ use Rattle.tb_frame.specs.declared.args.JoinType.TheVariants.{Inner, Left, Right
 use Rattle.tb_frame.specs.declared.args.MaintainOrderJoin.{MaintainOrderJoin}
 use Rattle.tb_frame.specs.declared.args.MaintainOrderJoin.TheVariants as order
 use Rattle.tb_frame.specs.Answer.{IsListed}
-use Rattle.tb_frame.specs.Built.{IsBuilt, is_built_kind, is_built_order}
+use Rattle.tb_frame.specs.Built.{IsBuilt, is_built_how, is_built_order}
 use Rattle.tb_frame.specs.Table.{TableColumn, Table, height, IsTable}
 use Rattle.tb_frame.specs.Join.{Request, named, agrees, field, matches, listing, direction, cut, IsOrdered}
 use Rattle.tb_frame.proofs.Causes.{selected_hold}
@@ -39,7 +39,7 @@ module _ (l r : ℕ) (m : ℕ → ℕ → Bool) where
   all_kept : pairs_by_left true l r m ≡ each_left l r m
   all_kept = flat_map_agree (λ i. row_pairs true i (filter (m i) (row_numbers r))) (λ i. left_pairs i (filter (m i) (row_numbers r))) (λ i. kept_row i (filter (m i) (row_numbers r))) (row_numbers l)
 
-  by_left : (how : JoinType) (o : MaintainOrderJoin) → is_built_kind how ≡ true → is_built_order o ≡ true → pairs_by_left (keeps_left how) l r m ≡ in_order (direction how o) how l r m
+  by_left : (how : JoinType) (o : MaintainOrderJoin) → is_built_how how ≡ true → is_built_order o ≡ true → pairs_by_left (keeps_left how) l r m ≡ in_order (direction how o) how l r m
   by_left Inner order.None h g = matched_alone
   by_left Inner order.Left h g = matched_alone
   by_left Inner order.LeftRight h g = matched_alone

@@ -3,4 +3,3 @@ pub mod Rows
 pub mod KeyRows
 pub mod KeyLaws
 pub mod KeyRefusal
-pub mod RightColumns

@@ -11,11 +11,11 @@ ghost use Rattle.tb_frame.specs.Table.{plain, table_of, height, IsTable};
 ghost use Rattle.tb_join.specs.KeyRefusal.{key_refusal};
 ghost use Rattle.tb_join.specs.KeyRows.{keeps_left};
 
-use crate::general::{check_names, finish_join, gone_right, suffix_of};
+use crate::general::{check_names, finish_join};
 use crate::keys::{check_key_kind, check_key_types, key_column, key_pairs};
 use std::alloc::Global;
 use std::thread::Threads;
-use tb_frame::{DataFrame, IntoDf, JoinArgs, JoinType};
+use tb_frame::{DataFrame, IntoDf, JoinArgs, JoinType, gone_right, suffix_of};
 use tb_pool::Exec;
 use tb_store::Column;
 use tb_value::{JoinPair, PlSmallStr, PolarsResult};

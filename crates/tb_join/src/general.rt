@@ -12,56 +12,15 @@ ghost use Rattle.tb_frame.specs.Table.{table_of, height, names_of};
 ghost use Rattle.tb_frame.specs.Join.{is_among, right_name, coalesce, default_suffix};
 ghost use Rattle.tb_frame.specs.NameSets.{has_name};
 ghost use Rattle.tb_frame.specs.Refusal.{first_repeated};
-ghost use Rattle.tb_join.specs.RightColumns.{right_names, right_column, right_columns};
+ghost use Rattle.tb_frame.specs.RightColumns.{right_names, right_column, right_columns};
 
 use std::alloc::Global;
 use tb_frame::{
-    DataFrame, JoinArgs, JoinType, NameSet, check_distinct, column_name_set, column_names,
-    name_set, take_opt_columns,
+    DataFrame, check_distinct, column_name_set, column_names, left_rows, name_set, push_right,
+    right_name, right_rows, take_opt_columns,
 };
 use tb_store::Column;
-use tb_value::{JoinPair, NullableIdxSize, OutOfMemory, PlSmallStr, PolarsResult};
-
-/// What follows the name of a right column that a left column has too.
-pub(crate) fn suffix_of(args: &JoinArgs) -> &str
-    ensures { result.now ≡ unwrap_or args.now.suffix default_suffix }
-{
-    match &args.suffix {
-        Some(suffix) => suffix.as_str(),
-        None => "_right",
-    }
-}
-
-/// The names of the right columns that the answer lacks: those of coalesced keys.
-pub(crate) fn gone_right<'a>(args: &JoinArgs, right_on: &'a [PlSmallStr]) -> &'a [PlSmallStr]
-    ensures { result.now ≡ gone_right args.now.how (coalesce args.now.coalesce args.now.how) right_on.now }
-{
-    match args.how {
-        JoinType::Inner | JoinType::Left | JoinType::Full => {
-            if args.should_coalesce() {
-                right_on
-            } else {
-                &[]
-            }
-        }
-        JoinType::Right | JoinType::Semi | JoinType::Anti => &[],
-    }
-}
-
-fn right_name(
-    alloc: Global,
-    taken: &NameSet<'_>,
-    suffix: &str,
-    name: &PlSmallStr,
-) -> Result<PlSmallStr, OutOfMemory>
-    ensures { IfOk result (λ s. (ns : List Name) → ((n : Name) → has_name taken.now n ≡ is_among ns n) → s ≡ right_name ns (Some suffix.now) name.now) }
-{
-    if taken.contains(name) {
-        name.followed_by(alloc, suffix)
-    } else {
-        name.copy(alloc)
-    }
-}
+use tb_value::{JoinPair, OutOfMemory, PlSmallStr, PolarsResult};
 
 // The names of the right columns in the answer, but for those of the names that go.
 fn names_beside(
@@ -111,68 +70,6 @@ pub(crate) fn check_names(
     let mut names = column_names(alloc, left)?;
     push_names(&mut names, &beside)?;
     check_distinct(alloc, &names)
-}
-
-// The right column under its name in the answer.
-fn named_column(
-    alloc: Global,
-    taken: &NameSet<'_>,
-    suffix: &str,
-    column: &Column,
-    rows: &[NullableIdxSize],
-) -> Result<Column, OutOfMemory>
-    requires rows { All (IsRowOf (length (values column.now))) rows.now }
-    requires few { length rows.now ≤ 4294967294 }
-    ensures { IfOk result (λ c. (ns : List Name) → ((n : Name) → has_name taken.now n ≡ is_among ns n) → c ≡ right_column ns suffix.now rows.now column.now) }
-{
-    let name = right_name(alloc, taken, suffix, column.name())?;
-    let mut column = column.take_opt(alloc, rows)?;
-    column.rename(name);
-    Ok(column)
-}
-
-// Puts the right columns behind the left ones, but for those of the names that go.
-fn push_right(
-    alloc: Global,
-    columns: &mut Vec<Column>,
-    left: &[Column],
-    right: &[Column],
-    gone: &[PlSmallStr],
-    suffix: &str,
-    rows: &[NullableIdxSize],
-) -> Result<(), OutOfMemory>
-    requires rows { All (λ (c : Col). All (IsRowOf (length (values c))) rows.now) right.now }
-    requires few { length rows.now ≤ 4294967294 }
-    ensures { OnOk result (columns.new.items ≡ columns.old.items ++ right_columns (names_of (table_of left.now)) suffix.now gone.now rows.now right.now) }
-{
-    let taken = column_name_set(alloc, left)?;
-    let gone = name_set(alloc, gone)?;
-    for column in right {
-        if !gone.contains(column.name()) {
-            columns.push(named_column(alloc, &taken, suffix, column, rows)?)?;
-        }
-    }
-    Ok(())
-}
-
-fn left_rows(alloc: Global, pairs: &[JoinPair]) -> Result<Vec<NullableIdxSize>, OutOfMemory>
-    ensures { IfOk result (λ v. v.items ≡ map (λ (p : JoinPair). p.left) pairs.now) }
-{
-    let mut rows = Vec::with_capacity(alloc, pairs.len())?;
-    for pair in pairs {
-        rows.push(pair.left)?;
-    }
-    Ok(rows)
-}
-
-fn right_rows(alloc: Global, pairs: &[JoinPair]) -> Result<Vec<NullableIdxSize>, OutOfMemory>
-    ensures { IfOk result (λ v. v.items ≡ map (λ (p : JoinPair). p.right) pairs.now) }
-{
-    let mut rows = Vec::with_capacity(alloc, pairs.len())?;
-    for pair in pairs {
-        rows.push(pair.right)?;
-    }
-    Ok(rows)
 }
 
 /// The left columns and then the right ones over the pairs, with Null where a pair has no row of a side. The right

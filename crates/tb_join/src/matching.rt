@@ -76,27 +76,6 @@ fn put_pair(pairs: &mut Vec<JoinPair>, pair: JoinPair) -> Result<(), OutOfMemory
     Ok(())
 }
 
-fn pair_of(left: IdxSize, right: IdxSize) -> JoinPair
-    requires left { left < 4294967295 }
-    requires right { right < 4294967295 }
-    ensures { result ≡ both left right }
-{
-    JoinPair {
-        left: NullableIdxSize::some(left),
-        right: NullableIdxSize::some(right),
-    }
-}
-
-fn unmatched(left: IdxSize) -> JoinPair
-    requires { left < 4294967295 }
-    ensures { result ≡ left_only left }
-{
-    JoinPair {
-        left: NullableIdxSize::some(left),
-        right: NullableIdxSize::null(),
-    }
-}
-
 // Puts the matched pairs of one left row behind the others.
 fn push_matched(pairs: &mut Vec<JoinPair>, left: IdxSize, rows: &[IdxSize]) -> PolarsResult<()>
     requires left { left < 4294967295 }
@@ -106,7 +85,7 @@ fn push_matched(pairs: &mut Vec<JoinPair>, left: IdxSize, rows: &[IdxSize]) -> P
     ensures pairs { OnOk result (pairs.new.items ≡ pairs.old.items ++ map (both left) rows.now) }
 {
     for row in rows {
-        push_pair(pairs, pair_of(left, *row))?;
+        push_pair(pairs, JoinPair::both(left, *row))?;
     }
     Ok(())
 }
@@ -125,7 +104,7 @@ fn push_pairs(
     ensures pairs { OnOk result (pairs.new.items ≡ pairs.old.items ++ row_pairs keep left rows.now) }
 {
     if keep && rows.is_empty() {
-        return push_pair(pairs, unmatched(left));
+        return push_pair(pairs, JoinPair::left_only(left));
     }
     push_matched(pairs, left, rows)
 }

@@ -18,7 +18,7 @@ use Rattle.tb_frame.specs.declared.args.JoinValidation.TheVariants.{ManyToMany}
 use Rattle.tb_frame.specs.declared.args.JoinCoalesce.{JoinCoalesce}
 use Rattle.tb_frame.specs.declared.args.MaintainOrderJoin.{MaintainOrderJoin}
 use Rattle.tb_frame.specs.declared.args.MaintainOrderJoin.TheVariants as order
-use Rattle.tb_frame.specs.Built.{is_built_kind, is_built_order, IsBuilt}
+use Rattle.tb_frame.specs.Built.{is_built_how, is_built_order, IsBuilt}
 use Rattle.tb_frame.specs.Table.{TableColumn, Table}
 use Rattle.tb_frame.specs.Join.{named, by_names}
 use Rattle.tb_json.specs.declared.request.Reason.{Reason}
@@ -40,7 +40,7 @@ word_passes test false a other k p q e = q e
 -- ---- the arguments
 
 record IsBuiltArgs (a : JoinArgs) : Type 0 where
-  how : is_built_kind a.how ≡ true
+  how : is_built_how a.how ≡ true
   validation : a.validation ≡ ManyToMany
   slice : a.slice ≡ None
   nulls : a.join_nulls ≡ false
@@ -49,9 +49,9 @@ record IsBuiltArgs (a : JoinArgs) : Type 0 where
 abbrev with_words : JoinType → Option Name → JoinCoalesce → MaintainOrderJoin → JoinArgs
 with_words how suffix coalesce order = record { how = how; validation = ManyToMany; suffix = suffix; slice = None; join_nulls = false; coalesce = coalesce; maintain_order = order }
 
-how_from : (s : Option (List ℕ)) (k : JoinType) → option_and_then how_named s ≡ Some k → is_built_kind k ≡ true
+how_from : (s : Option (List ℕ)) (k : JoinType) → option_and_then how_named s ≡ Some k → is_built_how k ≡ true
 how_from None k e = absurd (cc)
-how_from (Some s) k e = word_passes is_built_kind (bytes_eq s (codes "inner")) Inner _ k refl (word_passes is_built_kind (bytes_eq s (codes "left")) Left _ k refl (λ h. absurd (cc))) e
+how_from (Some s) k e = word_passes is_built_how (bytes_eq s (codes "inner")) Inner _ k refl (word_passes is_built_how (bytes_eq s (codes "left")) Left _ k refl (λ h. absurd (cc))) e
 
 order_from : (s : Option (List ℕ)) (k : MaintainOrderJoin) → option_and_then order_named s ≡ Some k → is_built_order k ≡ true
 order_from None k e = absurd (cc)
@@ -64,7 +64,7 @@ order_in None k e = ap is_built_order (sym (some_same order.None k e))
 order_in (Some d) k e = order_from (as_str d) k e
 
 args_from : (known : Option ⊤) (how : Option JoinType) (suffix : Option (Option Name)) (coalesce : Option JoinCoalesce) (order : Option MaintainOrderJoin) (a : JoinArgs)
-    → ((k : JoinType) → how ≡ Some k → is_built_kind k ≡ true) → ((k : MaintainOrderJoin) → order ≡ Some k → is_built_order k ≡ true)
+    → ((k : JoinType) → how ≡ Some k → is_built_how k ≡ true) → ((k : MaintainOrderJoin) → order ≡ Some k → is_built_order k ≡ true)
     → option_and_then (λ _. option_and_then (λ h. option_and_then (λ s. option_and_then (λ c. option_and_then (λ o. Some (with_words h s c o)) order) coalesce) suffix) how) known ≡ Some a → IsBuiltArgs a
 args_from None how suffix coalesce order a p q e = absurd (cc)
 args_from (Some u) None suffix coalesce order a p q e = absurd (cc)

@@ -16,7 +16,8 @@ use Rattle.tb_frame.specs.Table.{TableColumn, Table, IsTable, plain, table_of, h
 use Rattle.tb_frame.proofs.AnswerLemmas.{names-fill}
 use Rattle.tb_frame.proofs.Frames.{no_refusal, without-table}
 use Rattle.tb_frame.proofs.Taking.{rows_or_none, values-opt_taken}
-use Rattle.tb_nested.specs.AnswerColumns.{answer_outs, right_column, right_columns}
+use Rattle.tb_nested.specs.AnswerColumns.{answer_outs}
+use Rattle.tb_frame.specs.RightColumns.{right_column, right_columns}
 
 -- the rows of a side of pairs in range are rows of each column of its table
 module _ (l r : ℕ) (ps : List JoinPair) (within : All (IsPairOf l r) ps) where

@@ -16,7 +16,7 @@ use Rattle.tb_frame.specs.declared.args.JoinArgs.{JoinArgs}
 use Rattle.tb_frame.specs.declared.args.JoinType.{JoinType}
 use Rattle.tb_frame.specs.declared.args.JoinType.TheVariants.{Inner, Left, Right, Full, Semi, Anti}
 use Rattle.tb_frame.specs.Answer.{IsListed, fill, gone_right}
-use Rattle.tb_frame.specs.Built.{is_built_kind}
+use Rattle.tb_frame.specs.Built.{is_built_how}
 use Rattle.tb_frame.specs.Join.{Request, Out, by_names, named, listing_of, coalesces, cut, joined, joined_names, keep_left, keep_right, left_out, listing, out, out_by, right_out, without, IsAnswer}
 use Rattle.tb_frame.specs.Refusal.{first_repeated, join_refusal, key_types, key_kind, repeated_name, broken_side, too_many_rows, unknown_key, no_keys, key_counts, repeated_key}
 use Rattle.tb_frame.specs.Table.{TableColumn, Table, IsTable, height, names_of, plain, table_of}
@@ -32,7 +32,7 @@ use Rattle.tb_nested.specs.Requests.{name_causes, later_causes}
 
 -- THE COLUMNS OF AN ANSWER
 
-out_joined : (how : JoinType) (c : Bool) (q : Request) → is_built_kind how ≡ true → out_by how c q ≡ joined q
+out_joined : (how : JoinType) (c : Bool) (q : Request) → is_built_how how ≡ true → out_by how c q ≡ joined q
 out_joined Inner c q h = refl
 out_joined Left c q h = refl
 out_joined Right c q h = cc
@@ -40,7 +40,7 @@ out_joined Full c q h = cc
 out_joined Semi c q h = cc
 out_joined Anti c q h = cc
 
-keeps_all : (how : JoinType) (c : Bool) (keys : List Name) (t : Table) → is_built_kind how ≡ true → keep_left how c keys t ≡ t
+keeps_all : (how : JoinType) (c : Bool) (keys : List Name) (t : Table) → is_built_how how ≡ true → keep_left how c keys t ≡ t
 keeps_all Inner c keys t h = refl
 keeps_all Left c keys t h = refl
 keeps_all Right c keys t h = cc
@@ -48,7 +48,7 @@ keeps_all Full c keys t h = cc
 keeps_all Semi c keys t h = cc
 keeps_all Anti c keys t h = cc
 
-keeps_right : (how : JoinType) (c : Bool) (keys : List Name) (t : Table) → is_built_kind how ≡ true → keep_right how c keys t ≡ without (gone_right how c keys) t
+keeps_right : (how : JoinType) (c : Bool) (keys : List Name) (t : Table) → is_built_how how ≡ true → keep_right how c keys t ≡ without (gone_right how c keys) t
 keeps_right Inner true keys t h = refl
 keeps_right Inner false keys t h = sym (without_none t)
 keeps_right Left true keys t h = refl
@@ -67,7 +67,7 @@ cut_short (Some s) ps =
     let is = ap (λ (xs : List JoinPair). length xs) (slice_window ps s.0 s.1) in
     omega (arith, is, length-take n rest, length-drop (part_from (length ps) s.0) ps)
 
-module _ (q : Request) (built : is_built_kind q.args.how ≡ true) where
+module _ (q : Request) (built : is_built_how q.args.how ≡ true) where
   asked : List Out
   asked = answer_outs q.left q.right (gone_in q.args q.right_on) (suffix_in q.args)
 
@@ -136,7 +136,7 @@ key_rows cs ks names t is =
     let P : TableColumn → Type 0 = λ c. length c.values ≡ height (table_of cs) in
     all_plain P ks (subst (λ (k : Table). All P k) (sym is) (selected_hold P (table_of cs) t.one_height names))
 
-module _ (left right lk rk : List Col) (lo ro : List Name) (a : JoinArgs) (places : ℕ) (built : is_built_kind a.how ≡ true)
+module _ (left right lk rk : List Col) (lo ro : List Name) (a : JoinArgs) (places : ℕ) (built : is_built_how a.how ≡ true)
     (is_lk : table_of lk ≡ filter_map (named (table_of left)) lo) (is_rk : table_of rk ≡ filter_map (named (table_of right)) ro) (is_places : places ≡ min (length lk) (length rk)) where
   at_places : places ≡ min (length (filter_map (named (table_of left)) lo)) (length (filter_map (named (table_of right)) ro))
   at_places = is_places ∙ (λ t. min ((sym (length-map lk plain) ∙ ap (λ (k : Table). length k) is_lk) t) ((sym (length-map rk plain) ∙ ap (λ (k : Table). length k) is_rk) t))

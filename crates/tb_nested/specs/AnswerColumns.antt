@@ -18,11 +18,3 @@ suffix_in a = unwrap_or a.suffix default_suffix
 
 abbrev pub gone_in : JoinArgs → List Name → List Name
 gone_in a right_on = gone_right a.how (coalesce a.coalesce a.how) right_on
-
--- a right column in the answer, with these rows
-abbrev pub right_column : List Name → Name → List (Option ℕ) → Col → Col
-right_column taken suffix rows c = record (opt_taken rows c) { name = right_name taken (Some suffix) c.name }
-
--- the right columns in the answer, with these rows, those that go left out
-abbrev pub right_columns : List Name → Name → List Name → List (Option ℕ) → List Col → List Col
-right_columns taken suffix gone rows cs = map (right_column taken suffix rows) (without_names gone cs)

@@ -2,7 +2,7 @@
 ghost use Rattle.std.specs.Prelude.{◌≡◌, ◌<◌, ◌≤◌, ◌++◌, true, All, IfOk, OnOk, length, map, filter};
 ghost use Rattle.std.specs.List.{list_any};
 ghost use Rattle.tb_value.specs.Pairs.{row_numbers, both, left_only, matched, left_unmet};
-ghost use Rattle.tb_frame.specs.Built.{is_built_kind};
+ghost use Rattle.tb_frame.specs.Built.{is_built_how};
 ghost use Rattle.tb_frame.specs.Join.{listing_of};
 ghost use Rattle.tb_frame.specs.Table.{table_of};
 ghost use Rattle.tb_nested.specs.KeyTests.{keys_match, HasRow, HasRows};
@@ -12,27 +12,6 @@ use std::alloc::Global;
 use tb_frame::JoinType;
 use tb_store::Column;
 use tb_value::{IdxSize, JoinPair, NullableIdxSize, OutOfMemory};
-
-fn pair_of(left: usize, right: usize) -> JoinPair
-    requires left { left < 4294967295 }
-    requires right { right < 4294967295 }
-    ensures { result ≡ both left right }
-{
-    JoinPair {
-        left: NullableIdxSize::some(left as IdxSize),
-        right: NullableIdxSize::some(right as IdxSize),
-    }
-}
-
-fn unmatched(left: usize) -> JoinPair
-    requires { left < 4294967295 }
-    ensures { result ≡ left_only left }
-{
-    JoinPair {
-        left: NullableIdxSize::some(left as IdxSize),
-        right: NullableIdxSize::null(),
-    }
-}
 
 // Puts the pairs of one left row behind the others.
 fn push_matches(
@@ -54,7 +33,7 @@ fn push_matches(
 {
     for j in 0..r {
         if rows_match(left, right, places, null_matches, i, j) {
-            pairs.push(pair_of(i, j))?;
+            pairs.push(JoinPair::both(i as IdxSize, j as IdxSize))?;
         }
     }
     Ok(())
@@ -128,7 +107,7 @@ fn list_left_unmet(
     let mut pairs = Vec::new(alloc);
     for i in 0..l {
         if !has_match(left, right, places, null_matches, i, r) {
-            pairs.push(unmatched(i))?;
+            pairs.push(JoinPair::left_only(i as IdxSize))?;
         }
     }
     Ok(pairs)
@@ -145,7 +124,7 @@ pub(crate) fn list_pairs(
     l: usize,
     r: usize,
 ) -> Result<Vec<JoinPair>, OutOfMemory>
-    requires built { is_built_kind how ≡ true }
+    requires built { is_built_how how ≡ true }
     requires left { HasRows l left.now }
     requires right { HasRows r right.now }
     requires left_places { places ≤ length left.now }

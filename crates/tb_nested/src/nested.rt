@@ -4,7 +4,7 @@ ghost use Rattle.tb_value.specs.Refusals.{Settles, when};
 ghost use Rattle.tb_value.specs.declared.error.PolarsError.TheVariants.{ComputeError};
 ghost use Rattle.tb_value.specs.declared.error.ComputeCause.TheVariants.{TooManyRows};
 ghost use Rattle.tb_frame.specs.Answer.{IsListed};
-ghost use Rattle.tb_frame.specs.Built.{is_built_kind};
+ghost use Rattle.tb_frame.specs.Built.{is_built_how};
 ghost use Rattle.tb_frame.specs.Join.{by_names, listing_of, IsAnswer};
 ghost use Rattle.tb_frame.specs.Refusal.{join_refusal};
 ghost use Rattle.tb_frame.specs.Table.{table_of, height, IsTable};
@@ -42,7 +42,7 @@ fn listed_pairs(
     l: usize,
     r: usize,
 ) -> PolarsResult<Vec<JoinPair>>
-    requires built { is_built_kind args.now.how ≡ true }
+    requires built { is_built_how args.now.how ≡ true }
     requires left { HasRows l left.now }
     requires right { HasRows r right.now }
     requires left_places { places ≤ length left.now }
@@ -68,7 +68,7 @@ fn checked_pairs(
     places: usize,
     args: &JoinArgs,
 ) -> PolarsResult<Vec<JoinPair>>
-    requires built { is_built_kind args.now.how ≡ true }
+    requires built { is_built_how args.now.how ≡ true }
     requires left_keys { HasRows (height (table_of left.now)) left_keys.now }
     requires right_keys { HasRows (height (table_of right.now)) right_keys.now }
     requires left_places { places ≤ length left_keys.now }
@@ -109,7 +109,7 @@ pub fn nested_join(
     right_on: &[PlSmallStr],
     args: &JoinArgs,
 ) -> PolarsResult<DataFrame>
-    requires built { is_built_kind args.now.how ≡ true }
+    requires built { is_built_how args.now.how ≡ true }
     ensures settles { Settles result (join_refusal (by_names (table_of left.now) (table_of right.now) left_on.now right_on.now args.now)) }
     ensures answer { IfOk result (λ t. IsAnswer (by_names (table_of left.now) (table_of right.now) left_on.now right_on.now args.now) (table_of t)) }
     ensures table { IfOk result (λ t. IsTable (table_of t)) }

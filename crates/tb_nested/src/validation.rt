@@ -101,36 +101,18 @@ fn is_validated(how: JoinType) -> bool
     }
 }
 
-fn asks_left(validation: JoinValidation) -> bool
-    ensures { result ≡ asks_left validation }
-{
-    match validation {
-        JoinValidation::OneToMany | JoinValidation::OneToOne => true,
-        JoinValidation::ManyToMany | JoinValidation::ManyToOne => false,
-    }
-}
-
-fn asks_right(validation: JoinValidation) -> bool
-    ensures { result ≡ asks_right validation }
-{
-    match validation {
-        JoinValidation::ManyToOne | JoinValidation::OneToOne => true,
-        JoinValidation::ManyToMany | JoinValidation::OneToMany => false,
-    }
-}
-
 // Whether the arguments ask each key once of the left side.
 fn left_asked(args: &JoinArgs) -> bool
     ensures { result ≡ (is_validated args.now.how && asks_left args.now.validation) }
 {
-    is_validated(args.how) && asks_left(args.validation)
+    is_validated(args.how) && args.validation.asks_left()
 }
 
 // Whether the arguments ask each key once of the right side.
 fn right_asked(args: &JoinArgs) -> bool
     ensures { result ≡ (is_validated args.now.how && asks_right args.now.validation) }
 {
-    is_validated(args.how) && asks_right(args.validation)
+    is_validated(args.how) && args.validation.asks_right()
 }
 
 // Refuses a side on which two counted rows have the same keys (Validation).

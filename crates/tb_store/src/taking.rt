@@ -9,14 +9,33 @@ ghost use Rattle.tb_chunk.specs.Rows.{IsRowOf, value_or_null};
 use crate::column::Column;
 use crate::series::Series;
 use std::alloc::Global;
+use tb_chunk::RowNumber;
 use tb_value::{IdxSize, IsSorted, NullableIdxSize, OutOfMemory};
 
 impl Series {
-    /// The values of these rows, in the order and as often as they are named, in one chunk.
+    /// The values of these rows, in the order and as often as they are named, in one chunk, with the
+    /// flag Not.
     pub fn take(&self, alloc: Global, rows: &[IdxSize]) -> Result<Series, OutOfMemory>
         requires rows { All (λ r. r < length (values self.now)) rows.now }
         requires few { length rows.now ≤ 4294967294 }
         ensures { IfOk result (λ s. s ≡ record self.now { chunks = map (λ r. slice_index_or (values self.now) r null) rows.now ∷ []; flag = Not }) }
+    {
+        self.picked(alloc, rows)
+    }
+
+    /// As `take`, where an absent row gives Null.
+    pub fn take_opt(&self, alloc: Global, rows: &[NullableIdxSize]) -> Result<Series, OutOfMemory>
+        requires rows { All (IsRowOf (length (values self.now))) rows.now }
+        requires few { length rows.now ≤ 4294967294 }
+        ensures { IfOk result (λ s. s ≡ record self.now { chunks = map (value_or_null (values self.now)) rows.now ∷ []; flag = Not }) }
+    {
+        self.picked(alloc, rows)
+    }
+
+    fn picked<R: RowNumber>(&self, alloc: Global, rows: &[R]) -> Result<Series, OutOfMemory>
+        requires rows { All (λ r. IsRowOf (length (values self.now)) (R.number r)) rows.now }
+        requires few { length rows.now ≤ 4294967294 }
+        ensures { IfOk result (λ s. s ≡ record self.now { chunks = map (λ r. value_or_null (values self.now) (R.number r)) rows.now ∷ []; flag = Not }) }
     {
         let _len = self.len();
         let name = self.name().copy(alloc)?;
@@ -27,7 +46,7 @@ impl Series {
 }
 
 impl Column {
-    /// The values of these rows, in the order and as often as they are named, in one chunk.
+    /// As `Series::take`.
     pub fn take(&self, alloc: Global, rows: &[IdxSize]) -> Result<Column, OutOfMemory>
         requires rows { All (λ r. r < length (values self.now)) rows.now }
         requires few { length rows.now ≤ 4294967294 }
@@ -36,25 +55,7 @@ impl Column {
         let series = self.as_materialized_series().take(alloc, rows)?;
         Ok(series.into_column())
     }
-}
 
-impl Series {
-    /// The values of these rows, in the order and as often as they are named, in one chunk. An absent
-    /// row gives Null.
-    pub fn take_opt(&self, alloc: Global, rows: &[NullableIdxSize]) -> Result<Series, OutOfMemory>
-        requires rows { All (IsRowOf (length (values self.now))) rows.now }
-        requires few { length rows.now ≤ 4294967294 }
-        ensures { IfOk result (λ c. c ≡ record self.now { chunks = map (value_or_null (values self.now)) rows.now ∷ []; flag = Not }) }
-    {
-        let _len = self.len();
-        let name = self.name().copy(alloc)?;
-        let dtype = self.dtype().copy(alloc)?;
-        let chunks = self.chunks().picked(alloc, rows)?;
-        Ok(Series::from_parts(name, dtype, chunks, IsSorted::Not))
-    }
-}
-
-impl Column {
     /// As `Series::take_opt`.
     pub fn take_opt(&self, alloc: Global, rows: &[NullableIdxSize]) -> Result<Column, OutOfMemory>
         requires rows { All (IsRowOf (length (values self.now))) rows.now }

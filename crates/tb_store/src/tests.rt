@@ -26,6 +26,7 @@ fn from_chunks(rt: HostRuntime) -> Result<(), Fail> {
     assert_eq!(rt; series.len(), 2);
     assert!(rt; matches!(series.get(0), ValueRef::Int(255)));
     assert!(rt; matches!(series.get(1), ValueRef::Null));
+    assert_eq!(rt; series.null_count(), 1);
     let mut chunks = Vec::new(alloc);
     chunks.push(ints(alloc, &[256])?)?;
     let refused = Series::from_chunks(alloc, "s", DataType::UInt8, chunks);
@@ -141,18 +142,19 @@ fn scattered(alloc: Global, values: &[Option<i128>]) -> Result<Vec<Vec<AnyValue>
 #[test]
 fn nulls_and_order(rt: HostRuntime) -> Result<(), Fail> {
     let alloc = rt.alloc();
-    for (values, nulls, is_ascending) in [
-        ([None, Some(1), Some(1)], 1, true),
-        ([Some(-1), Some(2), None], 1, true),
-        ([Some(1), None, Some(2)], 1, false),
-        ([None, Some(1), None], 2, false),
-        ([Some(2), Some(1), None], 1, false),
-        ([None, None, None], 3, true),
+    for (values, nulls, ascending, descending) in [
+        ([None, Some(1), Some(1)], 1, true, true),
+        ([Some(-1), Some(2), None], 1, true, false),
+        ([Some(1), None, Some(2)], 1, false, false),
+        ([None, Some(1), None], 2, false, false),
+        ([Some(2), Some(1), None], 1, false, true),
+        ([None, None, None], 3, true, true),
     ] {
         let chunks = scattered(alloc, &values)?;
         let mut column = Series::from_chunks(alloc, "s", DataType::Int64, chunks)?.into_column();
         assert_eq!(rt; column.null_count(), nulls);
-        assert_eq!(rt; column.is_ascending(), is_ascending);
+        assert_eq!(rt; column.is_ascending(), ascending);
+        assert_eq!(rt; column.is_descending(), descending);
         if column.is_ascending() {
             column.set_sorted_flag(IsSorted::Ascending);
             assert!(rt; matches!(column.is_sorted_flag(), IsSorted::Ascending));

@@ -2,7 +2,7 @@ use Rattle.std.proofs.Common.{◌≡◌, ◌∙◌, ◌++◌, Option, sym}
 use Rattle.std.proofs.lemmas.Result.{err_from_is_err_and}
 use Rattle.tb_value.specs.declared.error.PolarsError.{PolarsError}
 use Rattle.tb_frame.specs.Table.{plain, table_of, names_of}
-use Rattle.tb_join.specs.RightColumns.{right_names}
+use Rattle.tb_frame.specs.RightColumns.{right_names}
 use Rattle.tb_join.proofs.KeyCauses.{repeated, asked_names, key_causes, not_mixed, is_keyed, by_third, by_fourth, by_fifth, by_none}
 use Rattle.tb_join.proofs.LeftOrder.{key_high}
 use Rattle.tb_join.proofs.frame_join.checked_keys.Goals as goal

@@ -8,7 +8,7 @@ use Rattle.tb_frame.specs.Join.{by_names, listing, IsAnswer}
 use Rattle.tb_frame.specs.Refusal.{first_repeated}
 use Rattle.tb_frame.specs.Table.{table_of, names_of, IsTable}
 use Rattle.tb_frame.proofs.Assembled.{pairs_in_range}
-use Rattle.tb_join.specs.RightColumns.{right_names, right_columns}
+use Rattle.tb_frame.specs.RightColumns.{right_names, right_columns}
 use Rattle.tb_join.proofs.AnswerMade.{if_ok_is, answer_columns, names_fresh, few, built_answer}
 use Rattle.tb_join.proofs.frame_join.join_by_left.Goals as goal
 use Rattle.tb_join.proofs.frame_join.join_by_left.Goals.{After-deref}

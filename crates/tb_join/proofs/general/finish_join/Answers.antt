@@ -6,7 +6,7 @@ use Rattle.tb_chunk.specs.Col.{Col, values}
 use Rattle.tb_chunk.specs.Rows.{IsRowOf}
 use Rattle.tb_frame.specs.Table.{table_of, height, names_of}
 use Rattle.tb_frame.specs.Frame.{opt_taken, frame_refusal}
-use Rattle.tb_join.specs.RightColumns.{right_columns}
+use Rattle.tb_frame.specs.RightColumns.{right_columns}
 use Rattle.tb_join.proofs.Finishing.{left_in_columns, right_in_columns, none-finished, settled}
 use Rattle.tb_join.proofs.general.finish_join.Goals as goal
 

@@ -1,6 +1,6 @@
 use Rattle.std.proofs.Common.{◌≡◌, take}
 use Rattle.tb_frame.specs.Table.{table_of, names_of}
-use Rattle.tb_join.specs.RightColumns.{right_names}
+use Rattle.tb_frame.specs.RightColumns.{right_names}
 use Rattle.tb_join.proofs.general.names_beside.Given as goal
 
 abbrev pub invariant-loop-column : goal.invariant-loop-column

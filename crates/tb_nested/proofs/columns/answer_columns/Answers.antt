@@ -6,7 +6,7 @@ use Rattle.tb_chunk.specs.Col.{Col, values}
 use Rattle.tb_chunk.specs.Rows.{IsRowOf}
 use Rattle.tb_frame.specs.Table.{table_of, height, names_of}
 use Rattle.tb_frame.specs.Frame.{opt_taken}
-use Rattle.tb_nested.specs.AnswerColumns.{right_columns}
+use Rattle.tb_frame.specs.RightColumns.{right_columns}
 use Rattle.tb_nested.proofs.AnswerTables.{left_in_columns, right_in_columns, columns-made}
 use Rattle.tb_nested.proofs.columns.answer_columns.Goals as goal
 

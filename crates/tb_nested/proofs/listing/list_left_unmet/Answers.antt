@@ -12,7 +12,7 @@ loop-i-preserved c =
     let unmet : ℕ → Bool = λ k. not (list_any (keys_match (table_of c.args.left.now) (table_of c.args.right.now) c.args.places c.args.null_matches k) (row_numbers c.args.r)) in
     elim c.if-not-has_match.branch [
       | then-not-has_match+in_ok-push w ↦
-          let step = kept_push left_only unmet c.loop-i.i [] c.loop-i.pairs.items w.unmatched.result c.loop-i.invariant (ap not (sym c.has_match.ensures ∙ w.if-not-has_match.true)) w.unmatched.ensures in
+          let step = kept_push left_only unmet c.loop-i.i [] c.loop-i.pairs.items w.left_only.result c.loop-i.invariant (ap not (sym c.has_match.ensures ∙ w.if-not-has_match.true)) w.left_only.ensures in
           rw w.pairs-is (w.in_ok-push.ensures.items ∙ step)
       | else-not-has_match w ↦
           let step = kept_skip left_only unmet c.loop-i.i [] c.loop-i.pairs.items c.loop-i.invariant (ap not (sym c.has_match.ensures ∙ w.if-not-has_match.false)) in

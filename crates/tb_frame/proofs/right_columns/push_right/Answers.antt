@@ -5,9 +5,9 @@ use Rattle.tb_chunk.specs.Col.{Col, values}
 use Rattle.tb_chunk.specs.Rows.{IsRowOf}
 use Rattle.tb_frame.specs.Table.{table_of, names_of}
 use Rattle.tb_frame.specs.Join.{is_among}
-use Rattle.tb_join.specs.RightColumns.{right_column}
-use Rattle.tb_join.proofs.general.push_right.Goals as goal
-use Rattle.tb_join.proofs.general.push_right.Goals.{then-not-contains+in_ok-named_column+in_ok-push, else-not-contains}
+use Rattle.tb_frame.specs.RightColumns.{right_column}
+use Rattle.tb_frame.proofs.right_columns.push_right.Goals as goal
+use Rattle.tb_frame.proofs.right_columns.push_right.Goals.{then-not-contains+in_ok-named_column+in_ok-push, else-not-contains}
 
 pub named_column-requires-clause-rows : goal.named_column-requires-clause-rows
 named_column-requires-clause-rows c =

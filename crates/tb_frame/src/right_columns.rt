@@ -1,0 +1,125 @@
+//! The columns that an answer takes of the right table, and the rows that it takes of both.
+ghost use Rattle.std.specs.Prelude.{◌≡◌, ◌≤◌, ◌++◌, All, IfOk, OnOk, List, Some, length, map, unwrap_or};
+ghost use Rattle.tb_value.specs.Names.{Name};
+ghost use Rattle.tb_value.specs.declared.index.JoinPair.{JoinPair};
+ghost use Rattle.tb_chunk.specs.Col.{Col, values};
+ghost use Rattle.tb_chunk.specs.Rows.{IsRowOf};
+ghost use Rattle.tb_frame.specs.Answer.{gone_right};
+ghost use Rattle.tb_frame.specs.Join.{coalesce, default_suffix, is_among, right_name};
+ghost use Rattle.tb_frame.specs.NameSets.{has_name};
+ghost use Rattle.tb_frame.specs.RightColumns.{right_column, right_columns};
+ghost use Rattle.tb_frame.specs.Table.{names_of, table_of};
+
+use crate::args::{JoinArgs, JoinType};
+use crate::frame::column_name_set;
+use crate::names::{NameSet, name_set};
+use std::alloc::Global;
+use tb_store::Column;
+use tb_value::{JoinPair, NullableIdxSize, OutOfMemory, PlSmallStr};
+
+/// What follows the name of a right column that a left column has too.
+pub fn suffix_of(args: &JoinArgs) -> &str
+    ensures { result.now ≡ unwrap_or args.now.suffix default_suffix }
+{
+    match &args.suffix {
+        Some(suffix) => suffix.as_str(),
+        None => "_right",
+    }
+}
+
+/// The names of the right columns that the answer lacks: those of coalesced keys.
+pub fn gone_right<'a>(args: &JoinArgs, right_on: &'a [PlSmallStr]) -> &'a [PlSmallStr]
+    ensures { result.now ≡ gone_right args.now.how (coalesce args.now.coalesce args.now.how) right_on.now }
+{
+    match args.how {
+        JoinType::Inner | JoinType::Left | JoinType::Full => {
+            if args.should_coalesce() {
+                right_on
+            } else {
+                &[]
+            }
+        }
+        JoinType::Right | JoinType::Semi | JoinType::Anti => &[],
+    }
+}
+
+/// The name of a right column in the answer, beside left columns of the names that are taken.
+pub fn right_name(
+    alloc: Global,
+    taken: &NameSet<'_>,
+    suffix: &str,
+    name: &PlSmallStr,
+) -> Result<PlSmallStr, OutOfMemory>
+    ensures { IfOk result (λ s. (ns : List Name) → ((n : Name) → has_name taken.now n ≡ is_among ns n) → s ≡ right_name ns (Some suffix.now) name.now) }
+{
+    if taken.contains(name) {
+        name.followed_by(alloc, suffix)
+    } else {
+        name.copy(alloc)
+    }
+}
+
+// The right column under its name in the answer.
+fn named_column(
+    alloc: Global,
+    taken: &NameSet<'_>,
+    suffix: &str,
+    column: &Column,
+    rows: &[NullableIdxSize],
+) -> Result<Column, OutOfMemory>
+    requires rows { All (IsRowOf (length (values column.now))) rows.now }
+    requires few { length rows.now ≤ 4294967294 }
+    ensures { IfOk result (λ c. (ns : List Name) → ((n : Name) → has_name taken.now n ≡ is_among ns n) → c ≡ right_column ns suffix.now rows.now column.now) }
+{
+    let name = right_name(alloc, taken, suffix, column.name())?;
+    let mut column = column.take_opt(alloc, rows)?;
+    column.rename(name);
+    Ok(column)
+}
+
+/// Puts the right columns, with these rows, behind the others under their names in the answer, but for those
+/// of the names that go.
+pub fn push_right(
+    alloc: Global,
+    columns: &mut Vec<Column>,
+    left: &[Column],
+    right: &[Column],
+    gone: &[PlSmallStr],
+    suffix: &str,
+    rows: &[NullableIdxSize],
+) -> Result<(), OutOfMemory>
+    requires rows { All (λ (c : Col). All (IsRowOf (length (values c))) rows.now) right.now }
+    requires few { length rows.now ≤ 4294967294 }
+    ensures { OnOk result (columns.new.items ≡ columns.old.items ++ right_columns (names_of (table_of left.now)) suffix.now gone.now rows.now right.now) }
+{
+    let taken = column_name_set(alloc, left)?;
+    let gone = name_set(alloc, gone)?;
+    for column in right {
+        if !gone.contains(column.name()) {
+            columns.push(named_column(alloc, &taken, suffix, column, rows)?)?;
+        }
+    }
+    Ok(())
+}
+
+/// The left rows of the pairs, in order.
+pub fn left_rows(alloc: Global, pairs: &[JoinPair]) -> Result<Vec<NullableIdxSize>, OutOfMemory>
+    ensures { IfOk result (λ v. v.items ≡ map (λ (p : JoinPair). p.left) pairs.now) }
+{
+    let mut rows = Vec::with_capacity(alloc, pairs.len())?;
+    for pair in pairs {
+        rows.push(pair.left)?;
+    }
+    Ok(rows)
+}
+
+/// The right rows of the pairs, in order.
+pub fn right_rows(alloc: Global, pairs: &[JoinPair]) -> Result<Vec<NullableIdxSize>, OutOfMemory>
+    ensures { IfOk result (λ v. v.items ≡ map (λ (p : JoinPair). p.right) pairs.now) }
+{
+    let mut rows = Vec::with_capacity(alloc, pairs.len())?;
+    for pair in pairs {
+        rows.push(pair.right)?;
+    }
+    Ok(rows)
+}
