@@ -4,6 +4,7 @@
 mod chunked_array;
 mod column;
 mod data_type;
+pub mod laws;
 mod making;
 mod merging;
 mod ordering;
