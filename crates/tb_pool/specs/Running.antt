@@ -27,7 +27,8 @@ WordRule n s = (n < 2 ^ 32) × (s.words ≡ slice_index s.words 0 ∷ []) × Sta
 
 -- the seat has drawn the number that it found, which is greater than each that it had drawn
 abbrev pub Drew : {S : Type 0} → Me S Seat → ℕ → Me S Seat → Type 0
-Drew me found after = (after.0 ≡ seat_with (me.0.drawn ++ found ∷ []) me.0.weight) × (after.1 ≡ me.1) × All (λ y. y < found) me.0.drawn
+Drew me found after = (after.0 ≡ seat_with (me.0.drawn ++ found ∷ []) me.0.weight) × (after.1 ≡ me.1)
+    × All (λ y. y < found) me.0.drawn
 
 -- the seat after it gave a weight of 1 away
 abbrev pub lighter : Seat → Seat

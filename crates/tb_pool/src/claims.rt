@@ -24,18 +24,18 @@ impl TableRule<(), Seat, u32> for Counter {
 }
 
 // The step of `claim`: the seat draws the number that the word holds.
-struct ClaimStep;
+struct Draw;
 
-impl Play<(), Seat> for ClaimStep {
+impl Play<(), Seat> for Draw {
     ghost use Rattle.tb_pool.specs.Running.{Drew};
 
     ghost then = { λ _. Drew };
 }
 
 // The step of `split`: a seat gives a weight of 1 to a new one.
-struct SplitStep;
+struct SplitOff;
 
-impl Split<Seat> for SplitStep {
+impl Split<Seat> for SplitOff {
     ghost use Rattle.tb_pool.specs.Running.{lighter};
     ghost use Rattle.tb_pool.specs.Core.{seat_with};
 
@@ -45,9 +45,9 @@ impl Split<Seat> for SplitStep {
 }
 
 // The step of `join`: a seat takes another in, which is spent.
-struct JoinStep;
+struct TakeIn;
 
-impl Join<Seat> for JoinStep {
+impl Join<Seat> for TakeIn {
     ghost use Rattle.tb_pool.specs.Running.{together};
     ghost use Rattle.tb_pool.specs.Core.{seat_with};
 
@@ -71,7 +71,8 @@ impl Model for Claims {
 
     ghost view = { λ c. record { of = c.table.shared.table_id; bound = c.bound } };
 
-    ghost invariant = { λ c. (c.table.shared.table_id.words ≡ 1) × (c.table.shared.table_id.slots ≡ 0) × (c.table.shared.key ≡ c.bound) };
+    ghost invariant = { λ c. (c.table.shared.table_id.words ≡ 1) × (c.table.shared.table_id.slots ≡ 0)
+        × (c.table.shared.key ≡ c.bound) };
 }
 
 /// The right to draw from one `Claims`: a list of drawn numbers, and a weight, which bounds how many more seats may be
@@ -90,9 +91,15 @@ impl Model for ClaimSeat {
 
     ghost Value = { SeatView };
 
-    ghost view = { λ s. record { of = s.seat.table_id; bound = s.bound; drawn = s.seat.me.0.drawn; weight = s.seat.me.0.weight } };
+    ghost view = { λ s. record {
+      of = s.seat.table_id;
+      bound = s.bound;
+      drawn = s.seat.me.0.drawn;
+      weight = s.seat.me.0.weight;
+    } };
 
-    ghost invariant = { λ s. (s.seat.me.1 ≡ []) × (0 < s.seat.me.0.weight) × (s.past ≡ nat_lt 0 (late_count s.bound s.seat.me.0.drawn)) };
+    ghost invariant = { λ s. (s.seat.me.1 ≡ []) × (0 < s.seat.me.0.weight)
+        × (s.past ≡ nat_lt 0 (late_count s.bound s.seat.me.0.drawn)) };
 }
 
 impl Claims {
@@ -120,7 +127,7 @@ impl Claims {
             × (seat.new.weight ≡ seat.old.weight - 1) }
         ensures given { IsSeatOf self.now result × (result.drawn ≡ []) × (result.weight ≡ 1) }
     {
-        let other = self.table.shared.split_seat::<SplitStep>(&mut seat.seat);
+        let other = self.table.shared.split_seat::<SplitOff>(&mut seat.seat);
         ClaimSeat {
             seat: other,
             bound: self.bound,
@@ -128,7 +135,7 @@ impl Claims {
         }
     }
 
-    /// ClaimStep the next number.
+    /// Draw the next number.
     pub fn claim(&self, seat: &mut ClaimSeat) -> Option<u32>
         requires own { IsSeatOf self.now seat.old }
         requires early { ¬ (IsPast self.now.bound seat.old.drawn) }
@@ -136,7 +143,7 @@ impl Claims {
         ensures drawn { (x : ℕ) × (seat.new.drawn ≡ seat.old.drawn ++ x ∷ []) × All (λ y. y < x) seat.old.drawn
             × MatchOption result (self.now.bound ≤ x) (λ r. (r ≡ x) × (x < self.now.bound)) }
     {
-        let found = self.table.shared.fetch_add::<ClaimStep>(&mut seat.seat, 0, 1);
+        let found = self.table.shared.fetch_add::<Draw>(&mut seat.seat, 0, 1);
         if found < u64::from(self.bound) {
             Some(found as u32)
         } else {
@@ -158,7 +165,7 @@ impl Claims {
         } = other;
         self.table
             .shared
-            .join_seat::<JoinStep>(&mut seat.seat, theirs);
+            .join_seat::<TakeIn>(&mut seat.seat, theirs);
         seat.past = seat.past || past;
     }
 

@@ -71,9 +71,11 @@ fn take_in<P: Parts>(
     all: Gathered<P::Out>,
     worker: Worker<P::Out>,
 ) -> Result<Gathered<P::Out>, OutOfMemory>
-    requires all { IsGathered (P.gives work.now) claims.now all.seat (map (λ v. v.items) all.lists.items) all.found.items }
+    requires all { IsGathered (P.gives work.now) claims.now all.seat
+        (map (λ v. v.items) all.lists.items) all.found.items }
     requires worker { HasStopped (P.gives work.now) claims.now worker }
-    ensures gathered { IfOk result (λ g. IsGathered (P.gives work.now) claims.now g.seat (map (λ v. v.items) g.lists.items) g.found.items) }
+    ensures gathered { IfOk result (λ g. IsGathered (P.gives work.now) claims.now g.seat
+        (map (λ v. v.items) g.lists.items) g.found.items) }
     ensures weight { IfOk result (λ g. g.seat.weight ≡ all.seat.weight + worker.seat.weight) }
     ensures lists { IfOk result (λ g. length g.lists.items ≡ length all.lists.items + 1) }
 {
@@ -106,7 +108,8 @@ fn begin<P: Parts>(
     worker: Worker<P::Out>,
 ) -> Result<Gathered<P::Out>, OutOfMemory>
     requires { HasStopped (P.gives work.now) claims.now worker }
-    ensures gathered { IfOk result (λ g. IsGathered (P.gives work.now) claims.now g.seat (map (λ v. v.items) g.lists.items) g.found.items) }
+    ensures gathered { IfOk result (λ g. IsGathered (P.gives work.now) claims.now g.seat
+        (map (λ v. v.items) g.lists.items) g.found.items) }
     ensures weight { IfOk result (λ g. g.seat.weight ≡ worker.seat.weight) }
     ensures lists { IfOk result (λ g. length g.lists.items ≡ 1) }
 {
@@ -143,7 +146,8 @@ fn close_all<P: Parts>(
     ensures lists { IfOk result (λ r. length r.0.items ≡ length workers.items) }
     ensures given { IfOk result (λ r. All (λ p. P.gives work.now p.0 p.1) r.1.items) }
     ensures found { IfOk result (λ r. (x : ℕ) → times x (map (λ p. p.0) r.1.items) ≡ once_below x claims.bound) }
-    ensures claimed { IfOk result (λ r. (x : ℕ) → sum_by (λ l. times x l) (map (λ v. v.items) r.0.items) ≡ once_below x claims.bound) }
+    ensures claimed { IfOk result (λ r. (x : ℕ) →
+        sum_by (λ l. times x l) (map (λ v. v.items) r.0.items) ≡ once_below x claims.bound) }
 {
     let first = workers.remove(0);
     let mut all = begin(alloc, work, &claims, first)?;

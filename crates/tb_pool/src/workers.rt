@@ -29,7 +29,8 @@ fn run_part<P: Parts, G: Gate>(
     results: &mut Vec<(u32, P::Out)>,
 ) -> Result<(), OutOfMemory>
     requires { P.may_run work.now part }
-    ensures { IfOk result (λ _. (claimed.new.items ≡ claimed.old.items ++ part ∷ []) × ((out : P.Out) × P.gives work.now part out × (results.new.items ≡ results.old.items ++ (part, out) ∷ []))) }
+    ensures { IfOk result (λ _. (claimed.new.items ≡ claimed.old.items ++ part ∷ [])
+        × ((out : P.Out) × P.gives work.now part out × (results.new.items ≡ results.old.items ++ (part, out) ∷ []))) }
 {
     gate.enter(part);
     let out = work.run(part)?;
@@ -96,18 +97,21 @@ fn run_halves<R: Threads + Sync, O: Send + Drop, P: Parts<Out = O>, G: Gate>(
     ensures back { PlaceByPlace (HasWorked (P.gives work.now) claims.now) b.old b.new }
 {
     let mut front = ||
-        requires { IsSync R.row × IsSync P.row × IsSync G.row × IsSend O.row × All (IsReady claims.now) a.now × ((part : ℕ) → part < claims.now.bound → P.may_run work.now part) }
+        requires { IsSync R.row × IsSync P.row × IsSync G.row × IsSend O.row × All (IsReady claims.now) a.now
+            × ((part : ℕ) → part < claims.now.bound → P.may_run work.now part) }
         ensures { PlaceByPlace (HasWorked (P.gives work.entry.now) claims.entry.now) a.entry.now a.exit.now }
     { run_workers(rt, claims, work, gate, a) };
     let mut back = ||
-        requires { IsSync R.row × IsSync P.row × IsSync G.row × IsSend O.row × All (IsReady claims.now) b.now × ((part : ℕ) → part < claims.now.bound → P.may_run work.now part) }
+        requires { IsSync R.row × IsSync P.row × IsSync G.row × IsSend O.row × All (IsReady claims.now) b.now
+            × ((part : ℕ) → part < claims.now.bound → P.may_run work.now part) }
         ensures { PlaceByPlace (HasWorked (P.gives work.entry.now) claims.entry.now) b.entry.now b.exit.now }
     { run_workers(rt, claims, work, gate, b) };
     join_mut(rt, &mut front, &mut back);
 }
 
 fn new_worker<O>(alloc: Global, seat: ClaimSeat) -> Worker<O>
-    ensures { (result.seat ≡ seat) × (result.claimed.items ≡ []) × (result.results.items ≡ []) × (result.wanting ≡ false) }
+    ensures { (result.seat ≡ seat) × (result.claimed.items ≡ []) × (result.results.items ≡ [])
+        × (result.wanting ≡ false) }
 {
     Worker {
         seat,
@@ -126,7 +130,8 @@ pub(crate) fn seat_workers<O: Drop>(
 ) -> Result<Vec<Worker<O>>, OutOfMemory>
     requires opening { IsSeatOf claims.now first × (first.drawn ≡ []) × (first.weight ≡ 1024) }
     requires count { (1 ≤ count) × (count ≤ 1024) }
-    ensures { IfOk result (λ v. (length v.items ≡ count) × All (IsReady claims.now) v.items × (sum_by (λ w. w.seat.weight) v.items ≡ 1024)) }
+    ensures { IfOk result (λ v. (length v.items ≡ count) × All (IsReady claims.now) v.items
+        × (sum_by (λ w. w.seat.weight) v.items ≡ 1024)) }
 {
     let mut workers = Vec::new(alloc);
     for _i in 1..count {
