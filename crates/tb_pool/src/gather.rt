@@ -37,6 +37,7 @@ impl<O> Done<O> {
         self.results.as_slice()
     }
 
+    /// The results in part order, handed out.
     pub fn into_results(self) -> Vec<O>
         ensures { result.items ≡ self.results }
     {
@@ -47,7 +48,7 @@ impl<O> Done<O> {
         results
     }
 
-    /// The parts that one worker claimed.
+    /// The parts that one worker claimed. Workers count from 0.
     pub fn claimed(&self, worker: usize) -> &[u32]
         requires { worker < length self.now.claimed }
         ensures { result.now ≡ slice_index_or self.now.claimed worker [] }

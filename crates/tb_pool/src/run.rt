@@ -11,7 +11,9 @@ use std::alloc::Global;
 use std::thread::Threads;
 use tb_value::OutOfMemory;
 
-/// Runs each part below `n` once, by as many workers as `exec` has, each of which claims parts.
+/// Runs each part below `n` once, by as many workers as `exec` has, each of which claims parts until none is left.
+/// Nothing is said of which worker claims which part. Where a part or the calls around it want memory, the answer is
+/// OutOfMemory, and parts may be left.
 pub fn run_parts<P: Parts, G: Gate>(
     rt: &(impl Threads + Sync),
     alloc: Global,
