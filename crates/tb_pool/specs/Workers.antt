@@ -12,7 +12,8 @@ module _ {O : Type 0} where
     pub no_results : w.results.items ≡ []
     pub not_wanting : w.wanting ≡ false
 
-  -- its parts are below n, each has its result, and its seat has drawn them and one number more, of at least n
+  -- its parts are below n, each has a result that it gives, and its seat has drawn them and one number more, of at
+  -- least n
   pub record HasEnded (R : ℕ → O → Type 0) (n : ℕ) (w : Worker O) : Type 0 where
     pub last : ℕ
     pub is_late : n ≤ last

@@ -103,7 +103,7 @@ impl Model for ClaimSeat {
 }
 
 impl Claims {
-    /// Claims of `n` parts, of which nothing is drawn, with the seat that has all the weight.
+    /// Claims of `n` parts, with the seat that has all the weight. The word is 0, and nothing is drawn.
     pub fn new(alloc: Global, n: u32) -> Result<(Claims, ClaimSeat), OutOfMemory>
         ensures bound { IfOk result (λ c. c.0.bound ≡ n) }
         ensures opening { IfOk result (λ c. IsSeatOf c.0 c.1 × (c.1.drawn ≡ []) × (c.1.weight ≡ 1024)) }
@@ -135,7 +135,8 @@ impl Claims {
         }
     }
 
-    /// Draw the next number.
+    /// Draws the next number, by one atomic step. It is greater than each that the seat has drawn, and goes behind
+    /// them. The answer is the number where it is a part, and None exactly where it is at least the bound.
     pub fn claim(&self, seat: &mut ClaimSeat) -> Option<u32>
         requires own { IsSeatOf self.now seat.old }
         requires early { ¬ (IsPast self.now.bound seat.old.drawn) }
