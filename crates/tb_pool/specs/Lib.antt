@@ -1,2 +1,8 @@
 pub mod Plan
 pub mod Faults
+pub mod Portions
+pub mod Core
+pub mod Running
+pub mod Workers
+pub mod DoneView
+pub mod Gathering

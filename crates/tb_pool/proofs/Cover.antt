@@ -1,0 +1,63 @@
+-- Portions cover a list once, in order.
+use Rattle.std.proofs.Common.{◌≡◌, ℕ, zero, suc, ◌+◌, ◌-◌, ◌*◌, ◌/◌, ◌<◌, ◌≤◌, ◌==◌, cond, List, [], ◌∷◌, ◌++◌, map, sym, ap, ◌∙◌, arith}
+use Rattle.std.specs.List.{range_with_len, flat_map}
+use Rattle.std.proofs.lemmas.Bool.Decides.{nat_tests}
+use Rattle.std.proofs.lemmas.List.{append-nil}
+use Rattle.std.proofs.lemmas.List.FromFn.{map-range_with_len_more}
+use Rattle.std.proofs.lemmas.Grind.{flat_map-append}
+use Rattle.std.proofs.Math.Nat.{suc-mul, mul-div-le, zero-mul}
+use Rattle.tb_pool.specs.Portions.{portion_of, places_of}
+
+-- a run of numbers, cut in two
+runs : (a m k : ℕ) → range_with_len a m ++ range_with_len (a + m) k ≡ range_with_len a (m + k)
+runs a zero k = let here : a + 0 ≡ a = omega arith in let all : 0 + k ≡ k = omega arith in ap (λ b. range_with_len b k) here ∙ sym (ap (range_with_len a) all)
+runs a (suc m) k =
+    let here : a + suc m ≡ (a + 1) + m = omega arith in
+    let all : suc m + k ≡ suc (m + k) = omega arith in
+    ap (λ (b : ℕ). a ∷ (range_with_len (a + 1) m ++ range_with_len b k)) here ∙ ap (λ (l : List ℕ). a ∷ l) (runs (a + 1) m k) ∙ sym (ap (range_with_len a) all)
+
+not_last : (k n x y : ℕ) → k + 1 < n → cond {A = ℕ} (k + 1 == n) x y ≡ y
+not_last k n x y h = grind (arith, nat_tests)
+
+is_last : (k n x y : ℕ) → k + 1 ≡ n → cond {A = ℕ} (k + 1 == n) x y ≡ x
+is_last k n x y h = grind (arith, nat_tests)
+
+-- the places of the first k portions
+abbrev places : (len n k : ℕ) → List ℕ
+places len n k = flat_map places_of (map (portion_of len n) (range_with_len 0 k))
+
+-- one portion more
+one_more : (len n k : ℕ) → places len n (suc k) ≡ places len n k ++ places_of (portion_of len n k)
+one_more len n k =
+    let more : suc k ≡ k + 1 = omega arith in
+    ap (places len n) more
+    ∙ ap (flat_map places_of) (map-range_with_len_more (portion_of len n) 0 k k (omega arith))
+    ∙ flat_map-append places_of (map (portion_of len n) (range_with_len 0 k)) (portion_of len n k ∷ [])
+    ∙ ap (λ (l : List ℕ). places len n k ++ l) (append-nil (places_of (portion_of len n k)))
+
+-- portions before the last have len / n places each
+front : (len n k : ℕ) → k < n → places len n k ≡ range_with_len 0 (k * (len / n))
+front len n zero h = sym (ap (range_with_len 0) (zero-mul (len / n)))
+front len n (suc k) h =
+    let each = len / n in
+    let size : (portion_of len n k).1 ≡ each = not_last k n (len - k * each) each (omega arith) in
+    let sum : suc k * each ≡ k * each + each = suc-mul k each in
+    let offset : 0 + k * each ≡ k * each = omega arith in
+    one_more len n k
+    ∙ (λ i. front len n k (omega arith) i ++ range_with_len (sym offset i) (size i))
+    ∙ runs 0 (k * each) each
+    ∙ sym (ap (range_with_len 0) sum)
+
+pub cover : (len n : ℕ) → 1 ≤ n → flat_map places_of (map (portion_of len n) (range_with_len 0 n)) ≡ range_with_len 0 len
+cover len zero h = absurd (omega arith)
+cover len (suc k) h =
+    let each = len / suc k in
+    let size : (portion_of len (suc k) k).1 ≡ len - k * each = is_last k (suc k) (len - k * each) each (omega arith) in
+    let sum : suc k * each ≡ k * each + each = suc-mul k each in
+    let fits : suc k * each ≤ len = mul-div-le len (suc k) in
+    let offset : 0 + k * each ≡ k * each = omega arith in
+    let all : k * each + (len - k * each) ≡ len = omega arith in
+    one_more len (suc k) k
+    ∙ (λ i. front len (suc k) k (omega arith) i ++ range_with_len (sym offset i) (size i))
+    ∙ runs 0 (k * each) (len - k * each)
+    ∙ ap (range_with_len 0) all

@@ -1,0 +1,32 @@
+//! Runs all parts of some work.
+ghost use Rattle.std.specs.Prelude.{◌≡◌, ℕ, ◌<◌, IfOk};
+ghost use Rattle.tb_pool.specs.Gathering.{IsDone};
+
+use crate::claims::Claims;
+use crate::exec::Exec;
+use crate::gather::{Done, gather};
+use crate::parts::{Gate, Parts};
+use crate::workers::{run_workers, seat_workers};
+use std::alloc::Global;
+use std::thread::Threads;
+use tb_value::OutOfMemory;
+
+/// Runs each part below `n` once, by as many workers as `exec` has, each of which claims parts until none is left.
+/// Nothing is said of which worker claims which part. Where a part or the calls around it want memory, the answer is
+/// OutOfMemory, and parts may be left.
+pub fn run_parts<P: Parts, G: Gate>(
+    rt: &(impl Threads + Sync),
+    alloc: Global,
+    exec: &Exec,
+    n: u32,
+    work: &P,
+    gate: &G,
+) -> Result<Done<P::Out>, OutOfMemory>
+    requires { (part : ℕ) → part < n → P.may_run work.now part }
+    ensures { IfOk result (λ d. IsDone (P.gives work.now) n exec.now.workers d) }
+{
+    let (claims, first) = Claims::new(alloc, n)?;
+    let mut workers = seat_workers(alloc, &claims, first, exec.workers())?;
+    run_workers(rt, &claims, work, gate, workers.as_mut_slice());
+    gather(alloc, work, claims, workers, n)
+}
