@@ -64,6 +64,7 @@ fn joined(
         right_on,
         args,
         exec,
+        trace: _,
     } = request;
     match left.join(rt, alloc, &right, &left_on, &right_on, args, &exec) {
         Ok(table) => Ok(Answer {
@@ -92,6 +93,12 @@ fn bad_request_text(alloc: Global, reason: Reason) -> Result<String, OutOfMemory
 {
     let word = match reason {
         Reason::Json => "Json",
+        Reason::Shape => "Shape",
+        Reason::Value => "Value",
+        Reason::Exec => "Exec",
+        Reason::Heights => "Heights",
+        Reason::Name => "Name",
+        Reason::Flag => "Flag",
         Reason::NotYet => "NotYet",
     };
     let mut text = String::from_str(alloc, "{\"error\":\"BadRequest\",\"reason\":\"")?;

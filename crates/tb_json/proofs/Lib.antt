@@ -2,8 +2,8 @@ pub mod Walks
 pub mod LentValues
 pub mod Flat
 pub mod Refused
+pub mod FlagTests
 pub mod FromBytes
-pub mod Steps
 pub mod BuiltForm
 pub mod Plain
 pub mod Fields

@@ -1,11 +1,16 @@
 //! Requests read from JSON texts, and the texts that are written.
 #![tactic(auto)]
 
+mod arguments;
 mod cells;
+mod flags;
+pub mod laws;
+mod members;
 mod reading;
 mod refusals;
 mod request;
 mod shape;
+mod tables;
 mod types;
 mod values;
 mod writing;
