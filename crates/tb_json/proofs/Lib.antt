@@ -11,3 +11,5 @@ pub mod Narrow
 pub mod Nested
 pub mod PlainTables
 pub mod Runs
+pub mod FieldWalks
+pub mod ValueWalks

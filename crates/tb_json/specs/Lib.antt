@@ -4,3 +4,6 @@ pub mod Columns
 pub mod Reading
 pub mod Lent
 pub mod Text
+pub mod Kinds
+pub mod Wide
+pub mod Cells

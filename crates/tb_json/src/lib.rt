@@ -1,13 +1,17 @@
 //! Requests read from JSON texts, and the texts that are written.
 #![tactic(auto)]
 
+mod any_cells;
 mod cells;
+mod kinds;
+mod plain_cells;
 mod reading;
 mod refusals;
 mod request;
 mod shape;
 mod types;
 mod values;
+mod wide;
 mod writing;
 
 pub use reading::request_of;
