@@ -13,3 +13,4 @@ pub mod PlainTables
 pub mod Runs
 pub mod FieldWalks
 pub mod ValueWalks
+pub mod ArrayWalks

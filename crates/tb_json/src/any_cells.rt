@@ -59,8 +59,9 @@ pub(crate) fn value_of(
     }
 }
 
+/// Values of one type.
 #[cycle(any_cells)]
-fn each_value(
+pub(crate) fn each_value(
     alloc: Global,
     items: &Vec<Value>,
     dtype: &DataType,
@@ -80,9 +81,9 @@ fn each_value(
     Ok(Some(values))
 }
 
-// One value for each field.
+/// One value for each field.
 #[cycle(any_cells)]
-fn row_of(
+pub(crate) fn row_of(
     alloc: Global,
     items: &Vec<Value>,
     fields: &Fields,

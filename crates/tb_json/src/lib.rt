@@ -2,9 +2,11 @@
 #![tactic(auto)]
 
 mod any_cells;
+mod arrays;
 mod cells;
 mod kinds;
 mod plain_cells;
+mod read_cell;
 mod reading;
 mod refusals;
 mod request;
