@@ -52,8 +52,7 @@ form_is_built w l r h =
     let order = both (is_built_kind a.how && not (asks_a_side a.validation) && is_none a.slice && not a.join_nulls) (is_built_order a.maintain_order) left.0 in
     let nulls = both (is_built_kind a.how && not (asks_a_side a.validation) && is_none a.slice) (not a.join_nulls) order.0 in
     let slice = both (is_built_kind a.how && not (asks_a_side a.validation)) (is_none a.slice) nulls.0 in
-    let how = both (is_built_kind a.how) (not (asks_a_side a.validation)) slice.0 in
-    (
+    let how = both (is_built_kind a.how) (not (asks_a_side a.validation)) slice.0 in (
       record {
         how = how.0;
         validation = many_to_many a.validation how.1;

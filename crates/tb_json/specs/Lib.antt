@@ -5,3 +5,6 @@ pub mod Flags
 pub mod Reading
 pub mod Lent
 pub mod Text
+pub mod Kinds
+pub mod Wide
+pub mod Cells

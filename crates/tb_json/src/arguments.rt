@@ -144,7 +144,15 @@ pub(crate) fn args_of(alloc: Global, value: &Value) -> Result<Option<JoinArgs>, 
 {
     if !has_only(
         value,
-        &["coalesce", "how", "join_nulls", "maintain_order", "slice", "suffix", "validation"],
+        &[
+            "coalesce",
+            "how",
+            "join_nulls",
+            "maintain_order",
+            "slice",
+            "suffix",
+            "validation",
+        ],
     ) {
         return Ok(None);
     }

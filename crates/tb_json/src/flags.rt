@@ -56,8 +56,10 @@ pub(crate) fn flagged(
     claimed: Vec<ClaimedColumn>,
 ) -> Result<FlaggedColumns, OutOfMemory>
     ensures hold { IfOk result (λ f. f.hold ≡ flags_hold (map claimed_view claimed.items)) }
-    ensures flagged { IfOk result (λ f. IsTrue f.hold → f.columns.items ≡ map claimed_view claimed.items) }
-    ensures table { IfOk result (λ f. table_of f.columns.items ≡ table_of (map claimed_view claimed.items)) }
+    ensures flagged { IfOk result (λ f. IsTrue f.hold
+        → f.columns.items ≡ map claimed_view claimed.items) }
+    ensures table { IfOk result (λ f. table_of f.columns.items
+        ≡ table_of (map claimed_view claimed.items)) }
 {
     let mut columns = Vec::with_capacity(alloc, claimed.len())?;
     let mut hold = true;

@@ -236,12 +236,13 @@ pub(crate) fn join_of<'v>(
 {
     if !has_only(
         value,
-        &["args", "exec", "left", "left_on", "right", "right_on", "trace"],
+        &[
+            "args", "exec", "left", "left_on", "right", "right_on", "trace",
+        ],
     ) {
         return Ok(None);
     }
-    let (Some(args), Some(exec), Some(trace)) =
-        (value.get("args"), exec_of(value), trace_of(value))
+    let (Some(args), Some(exec), Some(trace)) = (value.get("args"), exec_of(value), trace_of(value))
     else {
         return Ok(None);
     };

@@ -75,7 +75,8 @@ pub(crate) fn tables_of(
     left: Vec<ClaimedColumn>,
     right: Vec<ClaimedColumn>,
 ) -> Result<(DataFrame, DataFrame), RequestFault>
-    ensures columns { IfOk result (λ p. (p.0 ≡ map claimed_view left.items) × (p.1 ≡ map claimed_view right.items)) }
+    ensures columns { IfOk result (λ p. (p.0 ≡ map claimed_view left.items)
+        × (p.1 ≡ map claimed_view right.items)) }
     ensures tables { MatchResult result
         (λ p. are_tables (map claimed_view left.items) (map claimed_view right.items) ≡ Ok tt)
         (λ e. FaultIs e (are_tables (map claimed_view left.items) (map claimed_view right.items))) }
