@@ -20,5 +20,6 @@ pub fn flag_tests()
 /// The test of a form says whether what is asked is built, and no trace is asked.
 pub fn built_forms()
     ensures { (w : WrittenJoin) (left right : Table)
-        → (IsTrue (is_built w) ↔ (IsBuilt (by_names left right w.left_on w.right_on w.args) × (w.trace ≡ false))) }
+        → (IsTrue (is_built w)
+        ↔ (IsBuilt (by_names left right w.left_on w.right_on w.args) × (w.trace ≡ false))) }
 {}

@@ -116,16 +116,17 @@ fn request_in(alloc: Global, value: &Value) -> Result<JoinRequest, RequestFault>
 
 /// The request to join that the bytes are.
 ///
-/// They are a JSON object with the members `left`, `right`, `left_on`, `right_on` and `args`, and perhaps `exec` and
-/// `trace`, a truth value. A table is an object with exactly `columns`, a list of objects with `name`, a text,
-/// `type`, `chunks`, lists of values of the type, and perhaps `sorted`, `"ascending"` or `"descending"`. The keys are
-/// lists of texts.
+/// They are a JSON object with the members `left`, `right`, `left_on`, `right_on` and `args`, and
+/// perhaps `exec` and `trace`, a truth value. A table is an object with exactly `columns`, a list of
+/// objects with `name`, a text, `type`, `chunks`, lists of values of the type, and perhaps `sorted`,
+/// `"ascending"` or `"descending"`. The keys are lists of texts.
 ///
-/// The arguments are an object with `how`, `"inner"`, `"left"`, `"right"`, `"full"`, `"semi"` or `"anti"`, and perhaps
-/// `validation`, `"m:m"`, `"m:1"`, `"1:m"` or `"1:1"`; `suffix`, a text; `slice`, an offset of 64 bits and a length of
-/// 64 bits without sign; `join_nulls`, a truth value; `coalesce`, `"specific"`, `"coalesce"` or `"keep"`; and
-/// `maintain_order`, `"none"`, `"left"`, `"right"`, `"left_right"` or `"right_left"`. `exec` is an object with exactly
-/// `workers`, `partitions`, `small`, `num` and `den`, whole numbers below 2^32.
+/// The arguments are an object with `how`, `"inner"`, `"left"`, `"right"`, `"full"`, `"semi"` or
+/// `"anti"`, and perhaps `validation`, `"m:m"`, `"m:1"`, `"1:m"` or `"1:1"`; `suffix`, a text;
+/// `slice`, a list of an offset of 64 bits and a length of 64 bits without sign; `join_nulls`, a truth
+/// value; `coalesce`, `"specific"`, `"coalesce"` or `"keep"`; and `maintain_order`, `"none"`,
+/// `"left"`, `"right"`, `"left_right"` or `"right_left"`. `exec` is an object with exactly `workers`,
+/// `partitions`, `small`, `num` and `den`, whole numbers below 2^32. No object has other members.
 ///
 /// # Errors
 ///
@@ -138,8 +139,9 @@ fn request_in(alloc: Global, value: &Value) -> Result<JoinRequest, RequestFault>
 /// 5. `Heights`: two columns of a table differ in length.
 /// 6. `Name`: two columns of a table have one name.
 /// 7. `Flag`: a column is not in the order that `sorted` claims.
-/// 8. `NotYet`: `how` is neither `"inner"` nor `"left"`, a list of keys has not one name, the validation is not
-///    `"m:m"`, there is a slice, `join_nulls` or `trace` is true, or the order is by the right rows.
+/// 8. `NotYet`: `how` is neither `"inner"` nor `"left"`, a list of keys has not exactly one name, the
+///    validation is not `"m:m"`, there is a slice, `join_nulls` or `trace` is true, or the order is by
+///    the right rows first.
 pub fn request_of(alloc: Global, bytes: &[u8]) -> Result<JoinRequest, RequestFault>
     ensures reading { MatchResult result (λ q. request_of bytes.now ≡ Ok (request_view q))
         (λ e. FaultIs e (request_of bytes.now)) }
