@@ -2,6 +2,7 @@
 ghost use Rattle.std.specs.Prelude.{◌≡◌, Err, IfOk, string_bytes};
 ghost use Rattle.tb_frame.specs.Built.{IsBuilt};
 ghost use Rattle.tb_json.specs.Reading.{asked, request_view, request_of as join_request_of};
+ghost use Rattle.tb_json.specs.Text.{reason_word};
 ghost use Rattle.tb_app.specs.Due.{DueOfReading, DueOfRequest, bad_request_text};
 ghost use Rattle.tb_app.specs.Requests.{request_of, as_join, join};
 
@@ -64,6 +65,7 @@ fn joined(
         right_on,
         args,
         exec,
+        trace: _,
     } = request;
     match left.join(rt, alloc, &right, &left_on, &right_on, args, &exec) {
         Ok(table) => Ok(Answer {
@@ -90,12 +92,23 @@ fn no_request(alloc: Global, reason: Reason) -> Result<Answer, OutOfMemory>
 fn bad_request_text(alloc: Global, reason: Reason) -> Result<String, OutOfMemory>
     ensures { IfOk result (λ t. string_bytes t ≡ bad_request_text reason) }
 {
-    let word = match reason {
-        Reason::Json => "Json",
-        Reason::NotYet => "NotYet",
-    };
     let mut text = String::from_str(alloc, "{\"error\":\"BadRequest\",\"reason\":\"")?;
-    text.push_str(word)?;
+    text.push_str(reason_word(reason))?;
     text.push_str("\"}\n")?;
     Ok(text)
+}
+
+fn reason_word(reason: Reason) -> &'static str
+    ensures { result.now ≡ reason_word reason }
+{
+    match reason {
+        Reason::Json => "Json",
+        Reason::Shape => "Shape",
+        Reason::Value => "Value",
+        Reason::Exec => "Exec",
+        Reason::Heights => "Heights",
+        Reason::Name => "Name",
+        Reason::Flag => "Flag",
+        Reason::NotYet => "NotYet",
+    }
 }

@@ -108,7 +108,7 @@ fn runs_end_as_they_should(rt: HostRuntime) -> Result<(), Fail> {
         },
         Case {
             input: "{}",
-            text: "{\"error\":\"BadRequest\",\"reason\":\"NotYet\"}\n",
+            text: "{\"error\":\"BadRequest\",\"reason\":\"Shape\"}\n",
             ..no_json
         },
         Case {

@@ -1,158 +1,110 @@
 -- A request that is read has the form that is built.
-use Rattle.std.proofs.Common.{◌≡◌, ◌==◌, List, [], ◌∷◌, length, Bool, true, false, cond, ◌&&◌, Option, Some, None, option_map, option_and_then, codes, refl, sym, ap, ◌∙◌, subst, true≢false}
+use Rattle.std.proofs.Common.{◌≡◌, ◌==◌, List, length, Bool, true, false, ◌&&◌, not, Option, Some, None, refl, sym, ap, subst, true≢false}
 use Rattle.std.proofs.lemmas.Bool.{eqb-true}
-use Rattle.std.specs.Prelude.{ℕ, Result, Ok, Err, ok_or, ⊤, nat_le, MatchResult, IfOk}
-use Rattle.std.proofs.lemmas.List.Elements.{All-cons, All-head, All-tail}
-use Rattle.std.specs.List.{All, filter_map}
-use Rattle.std.specs.Str.{bytes_eq}
+use Rattle.std.specs.Bool.{Decides}
+use Rattle.std.specs.Prelude.{is_none, Result, Ok, Err, ok_or, ⊤, MatchResult, IfOk}
 use Rattle.serde_json.specs.Data.{Data}
-use Rattle.serde_json.specs.Find.{get, as_str}
-use Rattle.tb_value.specs.Datum.{Datum}
-use Rattle.tb_value.specs.Kind.{Kind, int64, string}
-use Rattle.tb_value.specs.Names.{Name, same_name}
-use Rattle.tb_chunk.specs.Col.{flat}
+use Rattle.tb_chunk.specs.Col.{Col}
 use Rattle.tb_frame.specs.declared.args.JoinArgs.{JoinArgs}
-use Rattle.tb_frame.specs.declared.args.JoinType.{JoinType}
-use Rattle.tb_frame.specs.declared.args.JoinType.TheVariants.{Inner, Left}
-use Rattle.tb_frame.specs.declared.args.JoinValidation.TheVariants.{ManyToMany}
-use Rattle.tb_frame.specs.declared.args.JoinCoalesce.{JoinCoalesce}
-use Rattle.tb_frame.specs.declared.args.MaintainOrderJoin.{MaintainOrderJoin}
-use Rattle.tb_frame.specs.declared.args.MaintainOrderJoin.TheVariants as order
+use Rattle.tb_frame.specs.declared.args.JoinValidation.{JoinValidation}
+use Rattle.tb_frame.specs.declared.args.JoinValidation.TheVariants.{ManyToMany, ManyToOne, OneToMany, OneToOne}
 use Rattle.tb_frame.specs.Built.{is_built_how, is_built_order, IsBuilt}
-use Rattle.tb_frame.specs.Table.{TableColumn, Table}
-use Rattle.tb_frame.specs.Join.{named, by_names}
+use Rattle.tb_frame.specs.Join.{by_names}
+use Rattle.tb_frame.specs.Refusal.{asks_a_side}
+use Rattle.tb_frame.specs.Table.{Table, table_of}
 use Rattle.tb_json.specs.declared.request.Reason.{Reason}
-use Rattle.tb_json.specs.declared.request.Reason.TheVariants.{NotYet}
-use Rattle.tb_json.specs.Lists.{check, as_list, list_of, has_only}
-use Rattle.tb_json.specs.Lists as steps
-use Rattle.tb_json.specs.Written.{Written, WrittenJoin, kind_named, how_named, order_named, text_or, how_of, suffix_of, coalesce_of, order_of, column_of, table_of, args_of, join_of}
-use Rattle.tb_json.specs.Columns.{values_in, values_of, table_from, tables_of}
-use Rattle.tb_json.specs.Reading.{JoinRequest, ◌>>=◌, only_if, are_tables, request_in, asked, request_view, FaultIs}
+use Rattle.tb_json.specs.declared.request.Reason.TheVariants as why
 use Rattle.tb_json.specs.declared.request.JoinRequest as rust
 use Rattle.tb_json.specs.declared.request.RequestFault.{RequestFault}
-use Rattle.tb_json.proofs.Steps.{some_same, All-none, each_have, found_has, filter_map_have}
+use Rattle.tb_json.specs.Written.{WrittenJoin, join_of}
+use Rattle.tb_json.specs.Columns.{tables_of}
+use Rattle.tb_json.specs.Reading.{JoinRequest, ◌>>=◌, only_if, may_stand, are_tables, is_built_args, is_built, request_in, asked, request_view, FaultIs}
 
--- what a word names passes a test, if what any other word names passes it
-word_passes : {A : Type 0} (test : A → Bool) (b : Bool) (a : A) (other : Option A) (k : A) → test a ≡ true → (other ≡ Some k → test k ≡ true) → cond b (Some a) other ≡ Some k → test k ≡ true
-word_passes test true a other k p q e = ap test (sym (some_same a k e)) ∙ p
-word_passes test false a other k p q e = q e
+both : (a b : Bool) → (a && b) ≡ true → (a ≡ true) × (b ≡ true)
+both true b h = (refl, h)
+both false b h = absurd (true≢false (sym h))
 
--- ---- the arguments
+not_true : (b : Bool) → not b ≡ true → b ≡ false
+not_true true e = absurd (true≢false (sym e))
+not_true false e = refl
 
-record IsBuiltArgs (a : JoinArgs) : Type 0 where
-  how : is_built_how a.how ≡ true
-  validation : a.validation ≡ ManyToMany
-  slice : a.slice ≡ None
-  nulls : a.join_nulls ≡ false
-  order : is_built_order a.maintain_order ≡ true
+many_to_many : (v : JoinValidation) → not (asks_a_side v) ≡ true → v ≡ ManyToMany
+many_to_many ManyToMany e = refl
+many_to_many ManyToOne e = absurd (true≢false (sym e))
+many_to_many OneToMany e = absurd (true≢false (sym e))
+many_to_many OneToOne e = absurd (true≢false (sym e))
 
-abbrev with_words : JoinType → Option Name → JoinCoalesce → MaintainOrderJoin → JoinArgs
-with_words how suffix coalesce order = record { how = how; validation = ManyToMany; suffix = suffix; slice = None; join_nulls = false; coalesce = coalesce; maintain_order = order }
+is_none-None : {A : Type 0} (o : Option A) → is_none o ≡ true → o ≡ None
+is_none-None None e = refl
+is_none-None (Some x) e = absurd (true≢false (sym e))
 
-how_from : (s : Option (List ℕ)) (k : JoinType) → option_and_then how_named s ≡ Some k → is_built_how k ≡ true
-how_from None k e = absurd (cc)
-how_from (Some s) k e = word_passes is_built_how (bytes_eq s (codes "inner")) Inner _ k refl (word_passes is_built_how (bytes_eq s (codes "left")) Left _ k refl (λ h. absurd (cc))) e
+abbrev whole_request : WrittenJoin → List Col × List Col → JoinRequest
+whole_request w ts = record { left = ts.0; right = ts.1; left_on = w.left_on; right_on = w.right_on; args = w.args; exec = w.exec; trace = w.trace }
 
-order_from : (s : Option (List ℕ)) (k : MaintainOrderJoin) → option_and_then order_named s ≡ Some k → is_built_order k ≡ true
-order_from None k e = absurd (cc)
-order_from (Some s) k e =
-    word_passes is_built_order (bytes_eq s (codes "none")) order.None _ k refl
-    (word_passes is_built_order (bytes_eq s (codes "left")) order.Left _ k refl (word_passes is_built_order (bytes_eq s (codes "left_right")) order.LeftRight _ k refl (λ h. absurd (cc)))) e
+-- the form that is built, and no trace
+form_is_built : (w : WrittenJoin) (l r : Table) → is_built w ≡ true → IsBuilt (by_names l r w.left_on w.right_on w.args) × (w.trace ≡ false)
+unfolding is_built
+form_is_built w l r h =
+    let a = w.args in
+    let untraced = both (is_built_args a && (length w.left_on == 1) && (length w.right_on == 1)) (not w.trace) h in
+    let right = both (is_built_args a && (length w.left_on == 1)) (length w.right_on == 1) untraced.0 in
+    let left = both (is_built_args a) (length w.left_on == 1) right.0 in
+    let order = both (is_built_how a.how && not (asks_a_side a.validation) && is_none a.slice && not a.join_nulls) (is_built_order a.maintain_order) left.0 in
+    let nulls = both (is_built_how a.how && not (asks_a_side a.validation) && is_none a.slice) (not a.join_nulls) order.0 in
+    let slice = both (is_built_how a.how && not (asks_a_side a.validation)) (is_none a.slice) nulls.0 in
+    let how = both (is_built_how a.how) (not (asks_a_side a.validation)) slice.0 in (
+      record {
+        how = how.0;
+        validation = many_to_many a.validation how.1;
+        slice = is_none-None a.slice slice.1;
+        nulls = not_true a.join_nulls nulls.1;
+        order = order.1;
+        one_left = eqb-true _ _ left.1;
+        one_right = eqb-true _ _ right.1;
+      },
+      not_true w.trace untraced.1,
+    )
 
-order_in : (o : Option Data) (k : MaintainOrderJoin) → text_or order.None order_named o ≡ Some k → is_built_order k ≡ true
-order_in None k e = ap is_built_order (sym (some_same order.None k e))
-order_in (Some d) k e = order_from (as_str d) k e
+every : (a b c d e f g h : Bool) → a ≡ true → b ≡ true → c ≡ true → d ≡ true → e ≡ true → f ≡ true → g ≡ true → h ≡ true → (a && b && c && d && e && f && g && h) ≡ true
+every a b c d e f g h p q r s t u v w = rw (p, q, r, s, t, u, v, w) refl
 
-args_from : (known : Option ⊤) (how : Option JoinType) (suffix : Option (Option Name)) (coalesce : Option JoinCoalesce) (order : Option MaintainOrderJoin) (a : JoinArgs)
-    → ((k : JoinType) → how ≡ Some k → is_built_how k ≡ true) → ((k : MaintainOrderJoin) → order ≡ Some k → is_built_order k ≡ true)
-    → option_and_then (λ _. option_and_then (λ h. option_and_then (λ s. option_and_then (λ c. option_and_then (λ o. Some (with_words h s c o)) order) coalesce) suffix) how) known ≡ Some a → IsBuiltArgs a
-args_from None how suffix coalesce order a p q e = absurd (cc)
-args_from (Some u) None suffix coalesce order a p q e = absurd (cc)
-args_from (Some u) (Some h) None coalesce order a p q e = absurd (cc)
-args_from (Some u) (Some h) (Some s) None order a p q e = absurd (cc)
-args_from (Some u) (Some h) (Some s) (Some c) None a p q e = absurd (cc)
-args_from (Some u) (Some h) (Some s) (Some c) (Some o) a p q e =
-    subst IsBuiltArgs (some_same (with_words h s c o) a e) (record { how = p h refl; validation = refl; slice = refl; nulls = refl; order = q o refl })
+built_form : (w : WrittenJoin) (l r : Table) → IsBuilt (by_names l r w.left_on w.right_on w.args) → w.trace ≡ false → is_built w ≡ true
+unfolding is_built
+built_form w l r b t =
+    let a = w.args in
+    every (is_built_how a.how) (not (asks_a_side a.validation)) (is_none a.slice) (not a.join_nulls) (is_built_order a.maintain_order) (length w.left_on == 1) (length w.right_on == 1) (not w.trace)
+    b.how (ap (λ v. not (asks_a_side v)) b.validation) (ap is_none b.slice) (ap not b.nulls) b.order (ap (λ n. n == 1) b.one_left) (ap (λ n. n == 1) b.one_right) (ap not t)
 
-args_are : (d : Data) (a : JoinArgs) → args_of d ≡ Some a → IsBuiltArgs a
-unfolding args_of
-args_are d a e =
-    args_from (check (has_only (codes "coalesce" ∷ codes "how" ∷ codes "maintain_order" ∷ codes "suffix" ∷ []) d)) (how_of d) (suffix_of d) (coalesce_of d) (order_of d) a
-    (how_from (option_and_then as_str (get (codes "how") d))) (order_in (get (codes "maintain_order") d)) e
+pub is_built-Decides : (w : WrittenJoin) (l r : Table) → Decides (is_built w) (IsBuilt (by_names l r w.left_on w.right_on w.args) × (w.trace ≡ false))
+is_built-Decides w l r = (form_is_built w l r, λ h. built_form w l r h.0 h.1)
 
-args_in : (o : Option Data) (a : JoinArgs) → option_and_then args_of o ≡ Some a → IsBuiltArgs a
-args_in None a e = absurd (cc)
-args_in (Some d) a e = args_are d a e
+abbrev ok : JoinRequest → Result JoinRequest Reason
+ok x = Ok x
 
--- ---- the members
+ok_same : (x y : JoinRequest) → ok x ≡ ok y → x ≡ y
+ok_same x y e = cc
 
-abbrev the_join : JoinArgs → List Written → List Name → List Written → List Name → WrittenJoin
-the_join args left left_on right right_on = record { args = args; left = left; left_on = left_on; right = right; right_on = right_on }
+ends_built : (whole r : JoinRequest) (stands : Bool) (valid : Result ⊤ Reason) (built : Bool) → (built ≡ true → IsBuilt (asked whole))
+    → (only_if stands why.Exec >>= λ _. valid >>= λ _. only_if built why.NotYet >>= λ _. Ok whole) ≡ Ok r → IsBuilt (asked r)
+ends_built whole r false valid built p e = absurd (cc)
+ends_built whole r true (Err reason) built p e = absurd (cc)
+ends_built whole r true (Ok u) false p e = absurd (cc)
+ends_built whole r true (Ok u) true p e = subst (λ (q : JoinRequest). IsBuilt (asked q)) (ok_same whole r e) (p refl)
 
-join_from : (known : Option ⊤) (args : Option JoinArgs) (left : Option (List Written)) (left_on : Option (List Name)) (right : Option (List Written)) (right_on : Option (List Name)) (w : WrittenJoin)
-    → ((a : JoinArgs) → args ≡ Some a → IsBuiltArgs a)
-    → option_and_then (λ _. option_and_then (λ a. option_and_then (λ l. option_and_then (λ lo. option_and_then (λ r. option_and_then (λ ro. Some (the_join a l lo r ro)) right_on) right) left_on) left) args) known ≡ Some w
-    → IsBuiltArgs w.args
-join_from None args left left_on right right_on w p e = absurd (cc)
-join_from (Some u) None left left_on right right_on w p e = absurd (cc)
-join_from (Some u) (Some a) None left_on right right_on w p e = absurd (cc)
-join_from (Some u) (Some a) (Some l) None right right_on w p e = absurd (cc)
-join_from (Some u) (Some a) (Some l) (Some lo) None right_on w p e = absurd (cc)
-join_from (Some u) (Some a) (Some l) (Some lo) (Some r) None w p e = absurd (cc)
-join_from (Some u) (Some a) (Some l) (Some lo) (Some r) (Some ro) w p e =
-    subst (λ (v : WrittenJoin). IsBuiltArgs v.args) (some_same (the_join a l lo r ro) w e) (p a refl)
-
-join_is : (d : Data) (w : WrittenJoin) → join_of d ≡ Some w → IsBuiltArgs w.args
-unfolding join_of
-join_is d w e =
-    join_from (check (has_only (codes "args" ∷ codes "left" ∷ codes "left_on" ∷ codes "right" ∷ codes "right_on" ∷ []) d))
-    (option_and_then args_of (get (codes "args") d)) (option_and_then table_of (get (codes "left") d)) (option_and_then (list_of as_str) (get (codes "left_on") d))
-    (option_and_then table_of (get (codes "right") d)) (option_and_then (list_of as_str) (get (codes "right_on") d)) w
-    (args_in (get (codes "args") d)) e
-
--- ---- the request
-
-ok_same : (r : Result JoinRequest Reason) (x y : JoinRequest) → r ≡ Ok x → r ≡ Ok y → x ≡ y
-ok_same r x y d e = cc
-
-built_from : (w : WrittenJoin) (ts : Table × Table) → IsBuiltArgs w.args → length w.left_on ≡ 1 → length w.right_on ≡ 1 → IsBuilt (by_names ts.0 ts.1 w.left_on w.right_on w.args)
-built_from w ts b one_left one_right = record {
-  how = b.how;
-  validation = b.validation;
-  slice = b.slice;
-  nulls = b.nulls;
-  order = b.order;
-  one_left = one_left;
-  one_right = one_right;
-}
-
-both_true : (a b : Bool) → (a && b) ≡ true → (a ≡ true) × (b ≡ true)
-both_true true b h = (refl, h)
-both_true false b h = absurd (true≢false (sym h))
-
-abbrev whole_request : WrittenJoin → Table × Table → JoinRequest
-whole_request w ts = record { left = ts.0; right = ts.1; left_on = w.left_on; right_on = w.right_on; args = w.args }
-
-ends_built : (w : WrittenJoin) (ts : Table × Table) (r : JoinRequest) (valid : Result ⊤ Reason) (one : Bool) → IsBuiltArgs w.args → (one ≡ true → (length w.left_on ≡ 1) × (length w.right_on ≡ 1))
-    → (valid >>= λ _. only_if one NotYet >>= λ _. Ok (whole_request w ts)) ≡ Ok r → IsBuilt (asked r)
-ends_built w ts r (Err why) one b keys e = absurd (cc)
-ends_built w ts r (Ok u) false b keys e = absurd (cc)
-ends_built w ts r (Ok u) true b keys e = let k = keys refl in subst (λ (q : JoinRequest). IsBuilt (asked q)) (ok_same (Ok (whole_request w ts)) (whole_request w ts) r refl e) (built_from w ts b k.0 k.1)
-
-abbrev rest_of : WrittenJoin → Table × Table → Result JoinRequest Reason
-rest_of w ts = are_tables ts.0 ts.1 >>= λ _. only_if (length w.left_on == 1 && (length w.right_on == 1)) NotYet >>= λ _. Ok (whole_request w ts)
+abbrev rest_of : WrittenJoin → List Col × List Col → Result JoinRequest Reason
+rest_of w ts = only_if (may_stand w.exec) why.Exec >>= λ _. are_tables ts.0 ts.1 >>= λ _. only_if (is_built w) why.NotYet >>= λ _. Ok (whole_request w ts)
 
 request_built : (d : Data) (r : JoinRequest) → request_in d ≡ Ok r → IsBuilt (asked r)
 unfolding request_in
-request_built d r e = pick (join_of d) (join_is d) e where
-  pick : (o : Option WrittenJoin) → ((w : WrittenJoin) → o ≡ Some w → IsBuiltArgs w.args) → (ok_or o NotYet >>= λ w. ok_or (tables_of w) NotYet >>= rest_of w) ≡ Ok r → IsBuilt (asked r)
-  pick None p h = absurd (cc)
-  pick (Some w) p h = with_tables (tables_of w) h where
-    with_tables : (o : Option (Table × Table)) → (ok_or o NotYet >>= rest_of w) ≡ Ok r → IsBuilt (asked r)
-    with_tables None k = absurd (cc)
-    with_tables (Some ts) k =
-        ends_built w ts r (are_tables ts.0 ts.1) (length w.left_on == 1 && (length w.right_on == 1)) (p w refl)
-        (λ one. let k = both_true (length w.left_on == 1) (length w.right_on == 1) one in (eqb-true _ _ k.0, eqb-true _ _ k.1)) k
+request_built d r e = pick (join_of d) e
+  where
+    with_tables : (w : WrittenJoin) (o : Option (List Col × List Col)) → (ok_or o why.Value >>= rest_of w) ≡ Ok r → IsBuilt (asked r)
+    with_tables w None h = absurd (cc)
+    with_tables w (Some ts) h = ends_built (whole_request w ts) r (may_stand w.exec) (are_tables ts.0 ts.1) (is_built w) (λ b. (form_is_built w (table_of ts.0) (table_of ts.1) b).0) h
+
+    pick : (o : Option WrittenJoin) → (ok_or o why.Shape >>= λ w. ok_or (tables_of w) why.Value >>= rest_of w) ≡ Ok r → IsBuilt (asked r)
+    pick None h = absurd (cc)
+    pick (Some w) h = with_tables w (tables_of w) h
 
 -- what is read of a value has the form that is built
 pub read_built : (d : Data) (r : Result rust.JoinRequest RequestFault) → MatchResult r (λ q. request_in d ≡ Ok (request_view q)) (λ e. FaultIs e (request_in d)) → IfOk r (λ q. IsBuilt (asked (request_view q)))

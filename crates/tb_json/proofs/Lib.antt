@@ -2,6 +2,7 @@ pub mod Walks
 pub mod LentValues
 pub mod Flat
 pub mod Refused
+pub mod FlagTests
 pub mod FromBytes
 pub mod Steps
 pub mod BuiltForm
@@ -11,3 +12,6 @@ pub mod Narrow
 pub mod Nested
 pub mod PlainTables
 pub mod Runs
+pub mod FieldWalks
+pub mod ValueWalks
+pub mod ArrayWalks

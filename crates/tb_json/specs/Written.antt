@@ -1,37 +1,57 @@
 -- The members of a request, whose values aren't read yet.
-use Rattle.std.specs.Prelude.{ℕ, List, [], ◌∷◌, if◌then◌else◌, Option, Some, None, codes, false}
+use Rattle.std.specs.Prelude.{ℕ, ℤ, ◌^◌, List, [], ◌∷◌, if◌then◌else◌, Bool, Option, Some, None, option_map, codes, false, nat_lt}
 use Rattle.std.specs.Str.{bytes_eq}
 use Rattle.serde_json.specs.Data.{Data}
-use Rattle.serde_json.specs.Find.{get, as_str}
-use Rattle.tb_value.specs.Kind.{Kind, int64, string}
+use Rattle.serde_json.specs.Find.{get, as_bool, as_i64, as_number, as_str, as_u64}
+use Rattle.tb_value.specs.Kind.{Kind}
 use Rattle.tb_value.specs.Names.{Name}
+use Rattle.tb_value.specs.declared.sorted.IsSorted.{IsSorted}
+use Rattle.tb_value.specs.declared.sorted.IsSorted.TheVariants.{Ascending, Descending, Not}
+use Rattle.tb_pool.specs.Plan.{Plan}
 use Rattle.tb_frame.specs.declared.args.JoinArgs.{JoinArgs}
 use Rattle.tb_frame.specs.declared.args.JoinType.{JoinType}
-use Rattle.tb_frame.specs.declared.args.JoinType.TheVariants.{Inner, Left}
-use Rattle.tb_frame.specs.declared.args.JoinValidation.TheVariants.{ManyToMany}
+use Rattle.tb_frame.specs.declared.args.JoinType.TheVariants.{Inner, Left, Right, Full, Semi, Anti}
+use Rattle.tb_frame.specs.declared.args.JoinValidation.{JoinValidation}
+use Rattle.tb_frame.specs.declared.args.JoinValidation.TheVariants.{ManyToMany, ManyToOne, OneToMany, OneToOne}
 use Rattle.tb_frame.specs.declared.args.JoinCoalesce.{JoinCoalesce}
 use Rattle.tb_frame.specs.declared.args.JoinCoalesce.TheVariants.{JoinSpecific, CoalesceColumns, KeepColumns}
 use Rattle.tb_frame.specs.declared.args.MaintainOrderJoin.{MaintainOrderJoin}
 use Rattle.tb_frame.specs.declared.args.MaintainOrderJoin.TheVariants as order
+use Rattle.tb_json.specs.Kinds.{kind_in}
 use Rattle.tb_json.specs.Lists.{◌>>=◌, check, as_list, list_of, has_only}
 
--- a column with its values as they stand in the text
+-- a member that may be absent, which then means `absent`, and else is what f reads of it
+abbrev pub optional : {A : Type 0} → A → (Data → Option A) → Option Data → Option A
+optional absent f None = Some absent
+optional absent f (Some d) = f d
+
+-- the same, where it is a text that f reads
+abbrev pub text_or : {A : Type 0} → A → (List ℕ → Option A) → Option Data → Option A
+text_or absent f o = optional absent (λ d. as_str d >>= f) o
+
+-- ---- tables
+
+-- a column with its values as they stand in the text, and the flag that is claimed of them
 pub record Written : Type 0 where
   pub name : Name
   pub kind : Kind
   pub chunks : List (List Data)
+  pub flag : IsSorted
 
--- a type is the word of it
-abbrev pub kind_named : List ℕ → Option Kind
-kind_named s = if bytes_eq s (codes "i64") then Some int64 else if bytes_eq s (codes "str") then Some string else None
+abbrev pub flag_named : List ℕ → Option IsSorted
+flag_named s = if bytes_eq s (codes "ascending") then Some Ascending else if bytes_eq s (codes "descending") then Some Descending else None
+
+abbrev pub flag_of : Data → Option IsSorted
+flag_of d = text_or Not flag_named (get (codes "sorted") d)
 
 unfoldable pub column_of : Data → Option Written
 column_of d = do
-  known ← check (has_only (codes "chunks" ∷ codes "name" ∷ codes "type" ∷ []) d)
+  known ← check (has_only (codes "chunks" ∷ codes "name" ∷ codes "sorted" ∷ codes "type" ∷ []) d)
   chunks ← get (codes "chunks") d >>= list_of as_list
   name ← get (codes "name") d >>= as_str
-  kind ← (get (codes "type") d >>= as_str) >>= kind_named
-  Some (record { name = name; kind = kind; chunks = chunks })
+  flag ← flag_of d
+  kind ← get (codes "type") d >>= kind_in
+  Some (record { name = name; kind = kind; chunks = chunks; flag = flag })
 
 unfoldable pub table_of : Data → Option (List Written)
 table_of d = do
@@ -41,7 +61,23 @@ table_of d = do
 -- ---- the arguments, each by its word
 
 abbrev pub how_named : List ℕ → Option JoinType
-how_named s = if bytes_eq s (codes "inner") then Some Inner else if bytes_eq s (codes "left") then Some Left else None
+how_named s =
+    if bytes_eq s (codes "inner") then Some Inner
+    else if bytes_eq s (codes "left") then Some Left
+    else if bytes_eq s (codes "right") then Some Right
+    else if bytes_eq s (codes "full") then Some Full
+    else if bytes_eq s (codes "semi") then Some Semi
+    else if bytes_eq s (codes "anti") then Some Anti
+    else None
+
+-- the left side is named first
+abbrev pub validation_named : List ℕ → Option JoinValidation
+validation_named s =
+    if bytes_eq s (codes "m:m") then Some ManyToMany
+    else if bytes_eq s (codes "m:1") then Some ManyToOne
+    else if bytes_eq s (codes "1:m") then Some OneToMany
+    else if bytes_eq s (codes "1:1") then Some OneToOne
+    else None
 
 abbrev pub coalesce_named : List ℕ → Option JoinCoalesce
 coalesce_named s =
@@ -54,16 +90,39 @@ abbrev pub order_named : List ℕ → Option MaintainOrderJoin
 order_named s =
     if bytes_eq s (codes "none") then Some order.None
     else if bytes_eq s (codes "left") then Some order.Left
+    else if bytes_eq s (codes "right") then Some order.Right
     else if bytes_eq s (codes "left_right") then Some order.LeftRight
+    else if bytes_eq s (codes "right_left") then Some order.RightLeft
     else None
 
--- a member that may be absent, which then means `absent`, and else is a text that f reads
-abbrev pub text_or : {A : Type 0} → A → (List ℕ → Option A) → Option Data → Option A
-text_or absent f None = Some absent
-text_or absent f (Some d) = as_str d >>= f
+-- exactly two values, a whole number of 64 bits and one that isn't negative
+abbrev pub slice_from : List Data → Option (ℤ × ℕ)
+slice_from [] = None
+slice_from (a ∷ []) = None
+slice_from (a ∷ b ∷ []) = do
+  offset ← as_number a >>= as_i64
+  len ← as_number b >>= as_u64
+  Some (offset, len)
+slice_from (a ∷ b ∷ c ∷ more) = None
+
+abbrev pub slice_in : Data → Option (Option (ℤ × ℕ))
+slice_in d = option_map Some (as_list d >>= slice_from)
 
 abbrev pub how_of : Data → Option JoinType
 how_of d = (get (codes "how") d >>= as_str) >>= how_named
+
+abbrev pub validation_of : Data → Option JoinValidation
+validation_of d = text_or ManyToMany validation_named (get (codes "validation") d)
+
+-- any text is a suffix
+abbrev pub suffix_of : Data → Option (Option Name)
+suffix_of d = text_or None (λ s. Some (Some s)) (get (codes "suffix") d)
+
+abbrev pub slice_of : Data → Option (Option (ℤ × ℕ))
+slice_of d = optional None slice_in (get (codes "slice") d)
+
+abbrev pub nulls_of : Data → Option Bool
+nulls_of d = optional false as_bool (get (codes "join_nulls") d)
 
 abbrev pub coalesce_of : Data → Option JoinCoalesce
 coalesce_of d = text_or JoinSpecific coalesce_named (get (codes "coalesce") d)
@@ -71,32 +130,69 @@ coalesce_of d = text_or JoinSpecific coalesce_named (get (codes "coalesce") d)
 abbrev pub order_of : Data → Option MaintainOrderJoin
 order_of d = text_or order.None order_named (get (codes "maintain_order") d)
 
--- any text is a suffix
-abbrev pub suffix_of : Data → Option (Option Name)
-suffix_of d = text_or None (λ s. Some (Some s)) (get (codes "suffix") d)
-
 unfoldable pub args_of : Data → Option JoinArgs
 args_of d = do
-  known ← check (has_only (codes "coalesce" ∷ codes "how" ∷ codes "maintain_order" ∷ codes "suffix" ∷ []) d)
+  known ← check (has_only (codes "coalesce" ∷ codes "how" ∷ codes "join_nulls" ∷ codes "maintain_order" ∷ codes "slice" ∷ codes "suffix" ∷ codes "validation" ∷ []) d)
   how ← how_of d
+  validation ← validation_of d
   suffix ← suffix_of d
+  slice ← slice_of d
+  nulls ← nulls_of d
   coalesce ← coalesce_of d
   order ← order_of d
-  Some (record { how = how; validation = ManyToMany; suffix = suffix; slice = None; join_nulls = false; coalesce = coalesce; maintain_order = order })
+  Some (record { how = how; validation = validation; suffix = suffix; slice = slice; join_nulls = nulls; coalesce = coalesce; maintain_order = order })
+
+-- ---- how the work is run
+
+-- a whole number below 2^32
+abbrev pub count_of : Data → Option ℕ
+count_of d = do
+  n ← as_number d >>= as_u64
+  small ← check (nat_lt n (2 ^ 32))
+  Some n
+
+abbrev pub count_at : List ℕ → Data → Option ℕ
+count_at name d = get name d >>= count_of
+
+unfoldable pub plan_of : Data → Option Plan
+plan_of d = do
+  known ← check (has_only (codes "den" ∷ codes "num" ∷ codes "partitions" ∷ codes "small" ∷ codes "workers" ∷ []) d)
+  workers ← count_at (codes "workers") d
+  partitions ← count_at (codes "partitions") d
+  small ← count_at (codes "small") d
+  num ← count_at (codes "num") d
+  den ← count_at (codes "den") d
+  Some (record { workers = workers; partitions = partitions; small = small; num = num; den = den })
+
+-- the numbers of `Exec::standard`
+abbrev pub standard : Plan
+standard = record { workers = 4; partitions = 8; small = 256; num = 1; den = 1 }
+
+abbrev pub exec_of : Data → Option Plan
+exec_of d = optional standard plan_of (get (codes "exec") d)
+
+abbrev pub trace_of : Data → Option Bool
+trace_of d = optional false as_bool (get (codes "trace") d)
+
+-- ---- the request
 
 pub record WrittenJoin : Type 0 where
   pub args : JoinArgs
+  pub exec : Plan
   pub left : List Written
   pub left_on : List Name
   pub right : List Written
   pub right_on : List Name
+  pub trace : Bool
 
 unfoldable pub join_of : Data → Option WrittenJoin
 join_of d = do
-  known ← check (has_only (codes "args" ∷ codes "left" ∷ codes "left_on" ∷ codes "right" ∷ codes "right_on" ∷ []) d)
+  known ← check (has_only (codes "args" ∷ codes "exec" ∷ codes "left" ∷ codes "left_on" ∷ codes "right" ∷ codes "right_on" ∷ codes "trace" ∷ []) d)
   args ← get (codes "args") d >>= args_of
+  exec ← exec_of d
+  trace ← trace_of d
   left ← get (codes "left") d >>= table_of
   left_on ← get (codes "left_on") d >>= list_of as_str
   right ← get (codes "right") d >>= table_of
   right_on ← get (codes "right_on") d >>= list_of as_str
-  Some (record { args = args; left = left; left_on = left_on; right = right; right_on = right_on })
+  Some (record { args = args; exec = exec; left = left; left_on = left_on; right = right; right_on = right_on; trace = trace })

@@ -16,7 +16,8 @@ use serde_json::Value;
 use std::alloc::Global;
 use tb_value::{DataType, Fields, OutOfMemory, ValueRef, Values};
 
-fn is_wide(dtype: &DataType) -> bool
+/// Whether the type is that of the whole numbers of 128 bits.
+pub(crate) fn is_wide(dtype: &DataType) -> bool
     ensures { result ≡ is_wide (kind_of dtype.now) }
 {
     match dtype {

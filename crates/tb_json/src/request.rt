@@ -15,7 +15,10 @@ pub struct JoinRequest {
     /// The names of the right table's keys.
     pub right_on: Vec<PlSmallStr>,
     pub args: JoinArgs,
+    /// How the work is to be run.
     pub exec: Exec,
+    /// Whether it is asked how the work went.
+    pub trace: bool,
 }
 
 /// Why bytes are no request: the first of these that holds.
@@ -23,7 +26,19 @@ pub struct JoinRequest {
 pub enum Reason {
     /// They are no JSON text.
     Json,
-    /// They are a text of another form than is read so far.
+    /// A member is missing, unknown or of another form.
+    Shape,
+    /// A value is not of its column's type.
+    Value,
+    /// The numbers of `exec` make no `Exec`.
+    Exec,
+    /// Two columns of a table differ in length.
+    Heights,
+    /// Two columns of a table have one name.
+    Name,
+    /// A column is claimed to be in an order that it is not in.
+    Flag,
+    /// The join is of a form that is not built yet.
     NotYet,
 }
 

@@ -1,67 +1,66 @@
 //! The members of a request, before its values are read.
-ghost use Rattle.std.specs.Prelude.{◌≡◌, map, option_map, option_and_then, IfOk};
+ghost use Rattle.std.specs.Prelude.{◌≡◌, map, option_map, IfOk};
 ghost use Rattle.serde_json.specs.View.{view};
 ghost use Rattle.serde_json.specs.Find.{as_str};
-ghost use Rattle.tb_value.specs.SeeKind.{kind_of};
-ghost use Rattle.tb_json.specs.Lists.{is_among, has_only, as_list, list_of};
-ghost use Rattle.tb_json.specs.Written.{kind_named, how_named, coalesce_named, order_named, how_of, coalesce_of, order_of, suffix_of, args_of, join_of, column_of, table_of};
-ghost use Rattle.tb_json.specs.Lent.{written_view, join_view};
+ghost use Rattle.tb_json.specs.Lists.{as_list, list_of};
+ghost use Rattle.tb_json.specs.Written.{flag_named, flag_of, count_of, plan_of, exec_of, trace_of, join_of, column_of, table_of};
+ghost use Rattle.tb_json.specs.Lent.{written_view, plan_view, join_view};
 
+use crate::arguments::args_of;
+use crate::kinds::type_of;
+use crate::members::has_only;
 use serde_json::Value;
 use std::alloc::Global;
-use tb_frame::{JoinArgs, JoinCoalesce, JoinType, MaintainOrderJoin};
-use tb_value::{DataType, OutOfMemory, PlSmallStr};
+use tb_frame::JoinArgs;
+use tb_value::{DataType, IsSorted, OutOfMemory};
 
-// A column whose values still stand in the request.
+// A column whose values still stand in the request, and the flag that is claimed of them.
 #[derive(Drop)]
 pub(crate) struct WrittenColumn<'v> {
     pub name: &'v str,
     pub dtype: DataType,
     pub chunks: Vec<&'v Vec<Value>>,
+    pub flag: IsSorted,
+}
+
+// The numbers of an `Exec`, which may be such that they make none.
+#[derive(Clone, Copy)]
+pub(crate) struct ExecNumbers {
+    pub workers: u32,
+    pub partitions: u32,
+    pub small: u32,
+    pub num: u32,
+    pub den: u32,
 }
 
 // A request to join, whose values are not read yet.
 #[derive(Drop)]
 pub(crate) struct WrittenJoin<'v> {
     pub args: JoinArgs,
+    pub exec: ExecNumbers,
     pub left: Vec<WrittenColumn<'v>>,
     pub left_on: Vec<&'v str>,
     pub right: Vec<WrittenColumn<'v>>,
     pub right_on: Vec<&'v str>,
+    pub trace: bool,
 }
 
-fn is_among(name: &str, names: &[&str]) -> bool
-    ensures { result ≡ is_among name.now (map (λ n. n.now) names.now) }
-{
-    for known in names {
-        if name == *known {
-            return true;
-        }
-    }
-    false
-}
-
-fn has_only(value: &Value, names: &[&str]) -> bool
-    ensures { result ≡ has_only (map (λ n. n.now) names.now) (view value.now) }
-{
-    let Some(members) = value.as_object() else {
-        return false;
-    };
-    for name in members.keys() {
-        if !is_among(name.as_str(), names) {
-            return false;
-        }
-    }
-    true
-}
-
-fn kind_named(text: &str) -> Option<DataType>
-    ensures { option_map kind_of result ≡ kind_named text.now }
+fn flag_named(text: &str) -> Option<IsSorted>
+    ensures { result ≡ flag_named text.now }
 {
     match text {
-        "i64" => Some(DataType::Int64),
-        "str" => Some(DataType::String),
+        "ascending" => Some(IsSorted::Ascending),
+        "descending" => Some(IsSorted::Descending),
         _ => None,
+    }
+}
+
+fn flag_of(column: &Value) -> Option<IsSorted>
+    ensures { result ≡ flag_of (view column.now) }
+{
+    match column.get("sorted") {
+        Some(member) => flag_named(member.as_str()?),
+        None => Some(IsSorted::Not),
     }
 }
 
@@ -86,7 +85,7 @@ fn chunks_of(alloc: Global, value: &Value) -> Result<Option<Vec<&Vec<Value>>>, O
 fn column_of<'v>(alloc: Global, value: &'v Value) -> Result<Option<WrittenColumn<'v>>, OutOfMemory>
     ensures { IfOk result (λ o. option_map written_view o ≡ column_of (view value.now)) }
 {
-    if !has_only(value, &["chunks", "name", "type"]) {
+    if !has_only(value, &["chunks", "name", "sorted", "type"]) {
         return Ok(None);
     }
     let Some(chunks) = value.get("chunks") else {
@@ -98,16 +97,20 @@ fn column_of<'v>(alloc: Global, value: &'v Value) -> Result<Option<WrittenColumn
     let Some(name) = value.get("name").and_then(Value::as_str) else {
         return Ok(None);
     };
-    let Some(word) = value.get("type").and_then(Value::as_str) else {
+    let Some(flag) = flag_of(value) else {
         return Ok(None);
     };
-    let Some(dtype) = kind_named(word) else {
+    let Some(kind) = value.get("type") else {
+        return Ok(None);
+    };
+    let Some(dtype) = type_of(alloc, kind)? else {
         return Ok(None);
     };
     Ok(Some(WrittenColumn {
         name,
         dtype,
         chunks,
+        flag,
     }))
 }
 
@@ -165,99 +168,62 @@ fn texts_of<'v>(alloc: Global, value: &'v Value) -> Result<Option<Vec<&'v str>>,
     Ok(Some(texts))
 }
 
-fn how_named(text: &str) -> Option<JoinType>
-    ensures { result ≡ how_named text.now }
+// A whole number below 2^32.
+fn count_of(value: &Value) -> Option<u32>
+    ensures { result ≡ count_of (view value.now) }
 {
-    match text {
-        "inner" => Some(JoinType::Inner),
-        "left" => Some(JoinType::Left),
-        _ => None,
+    let count = value.as_u64()?;
+    if count < 1 << 32 {
+        Some(count as u32)
+    } else {
+        None
     }
 }
 
-fn coalesce_named(text: &str) -> Option<JoinCoalesce>
-    ensures { result ≡ coalesce_named text.now }
+#[tactic(auto, unfolding(crate::specs::Written::plan_of))]
+fn numbers_of(value: &Value) -> Option<ExecNumbers>
+    ensures { option_map plan_view result ≡ plan_of (view value.now) }
 {
-    match text {
-        "specific" => Some(JoinCoalesce::JoinSpecific),
-        "coalesce" => Some(JoinCoalesce::CoalesceColumns),
-        "keep" => Some(JoinCoalesce::KeepColumns),
-        _ => None,
+    if !has_only(value, &["den", "num", "partitions", "small", "workers"]) {
+        return None;
+    }
+    let workers = count_of(value.get("workers")?)?;
+    let partitions = count_of(value.get("partitions")?)?;
+    let small = count_of(value.get("small")?)?;
+    let num = count_of(value.get("num")?)?;
+    let den = count_of(value.get("den")?)?;
+    Some(ExecNumbers {
+        workers,
+        partitions,
+        small,
+        num,
+        den,
+    })
+}
+
+// The numbers of `Exec::standard` where the member is absent.
+fn exec_of(request: &Value) -> Option<ExecNumbers>
+    ensures { option_map plan_view result ≡ exec_of (view request.now) }
+{
+    match request.get("exec") {
+        Some(member) => numbers_of(member),
+        None => Some(ExecNumbers {
+            workers: 4,
+            partitions: 8,
+            small: 256,
+            num: 1,
+            den: 1,
+        }),
     }
 }
 
-fn order_named(text: &str) -> Option<MaintainOrderJoin>
-    ensures { result ≡ order_named text.now }
+fn trace_of(request: &Value) -> Option<bool>
+    ensures { result ≡ trace_of (view request.now) }
 {
-    match text {
-        "none" => Some(MaintainOrderJoin::None),
-        "left" => Some(MaintainOrderJoin::Left),
-        "left_right" => Some(MaintainOrderJoin::LeftRight),
-        _ => None,
+    match request.get("trace") {
+        Some(member) => member.as_bool(),
+        None => Some(false),
     }
-}
-
-fn how_of(args: &Value) -> Option<JoinType>
-    ensures { result ≡ how_of (view args.now) }
-{
-    how_named(args.get("how")?.as_str()?)
-}
-
-fn coalesce_of(args: &Value) -> Option<JoinCoalesce>
-    ensures { result ≡ coalesce_of (view args.now) }
-{
-    match args.get("coalesce") {
-        Some(member) => coalesce_named(member.as_str()?),
-        None => Some(JoinCoalesce::JoinSpecific),
-    }
-}
-
-fn order_of(args: &Value) -> Option<MaintainOrderJoin>
-    ensures { result ≡ order_of (view args.now) }
-{
-    match args.get("maintain_order") {
-        Some(member) => order_named(member.as_str()?),
-        None => Some(MaintainOrderJoin::None),
-    }
-}
-
-// The suffix, or no suffix where it is absent; None where it is no text.
-fn suffix_of(alloc: Global, args: &Value) -> Result<Option<Option<PlSmallStr>>, OutOfMemory>
-    ensures { IfOk result (λ o. o ≡ suffix_of (view args.now)) }
-{
-    let Some(member) = args.get("suffix") else {
-        return Ok(Some(None));
-    };
-    match member.as_str() {
-        Some(text) => Ok(Some(Some(PlSmallStr::from_str(alloc, text)?))),
-        None => Ok(None),
-    }
-}
-
-#[tactic(auto, unfolding(crate::specs::Written::args_of))]
-fn args_of(alloc: Global, value: &Value) -> Result<Option<JoinArgs>, OutOfMemory>
-    ensures { IfOk result (λ o. o ≡ args_of (view value.now)) }
-{
-    if !has_only(value, &["coalesce", "how", "maintain_order", "suffix"]) {
-        return Ok(None);
-    }
-    let Some(how) = how_of(value) else {
-        return Ok(None);
-    };
-    let Some(suffix) = suffix_of(alloc, value)? else {
-        return Ok(None);
-    };
-    let Some(coalesce) = coalesce_of(value) else {
-        return Ok(None);
-    };
-    let Some(maintain_order) = order_of(value) else {
-        return Ok(None);
-    };
-    let mut args = JoinArgs::new(how);
-    args.suffix = suffix;
-    args.coalesce = coalesce;
-    args.maintain_order = maintain_order;
-    Ok(Some(args))
 }
 
 /// The members of a request to join, or None where the value has not the form of one.
@@ -268,19 +234,27 @@ pub(crate) fn join_of<'v>(
 ) -> Result<Option<WrittenJoin<'v>>, OutOfMemory>
     ensures { IfOk result (λ o. option_map join_view o ≡ join_of (view value.now)) }
 {
-    if !has_only(value, &["args", "left", "left_on", "right", "right_on"]) {
+    if !has_only(
+        value,
+        &[
+            "args", "exec", "left", "left_on", "right", "right_on", "trace",
+        ],
+    ) {
         return Ok(None);
     }
-    let (Some(args), Some(left), Some(left_on), Some(right), Some(right_on)) = (
-        value.get("args"),
+    let (Some(args), Some(exec), Some(trace)) = (value.get("args"), exec_of(value), trace_of(value))
+    else {
+        return Ok(None);
+    };
+    let Some(args) = args_of(alloc, args)? else {
+        return Ok(None);
+    };
+    let (Some(left), Some(left_on), Some(right), Some(right_on)) = (
         value.get("left"),
         value.get("left_on"),
         value.get("right"),
         value.get("right_on"),
     ) else {
-        return Ok(None);
-    };
-    let Some(args) = args_of(alloc, args)? else {
         return Ok(None);
     };
     let Some(left) = table_of(alloc, left)? else {
@@ -297,9 +271,11 @@ pub(crate) fn join_of<'v>(
     };
     Ok(Some(WrittenJoin {
         args,
+        exec,
         left,
         left_on,
         right,
         right_on,
+        trace,
     }))
 }

@@ -1,0 +1,60 @@
+-- Columns of nulls alone.
+use Rattle.std.proofs.Common.{◌≡◌, ℕ, ℤ, zero, suc, List, [], ◌∷◌, length, map, replicate, Bool, true, false, cond, ◌&&◌, Option, Some, None, option_map, option_and_then, refl, sym, ap, ◌∙◌}
+use Rattle.std.specs.Prelude.{is_some, IsSomeAnd, MatchOption}
+use Rattle.std.specs.List.{All, list_all}
+use Rattle.std.proofs.lemmas.List.Elements.{All-cons, All-append}
+use Rattle.serde_json.specs.Data.{Data, null, boolean, number, string, array, object}
+use Rattle.serde_json.specs.Find.{as_null, as_integer}
+use Rattle.serde_json.specs.View.{view}
+use Rattle.serde_json.specs.declared.value.Value.{Value}
+use Rattle.tb_value.specs.Datum as value
+use Rattle.tb_value.specs.Datum.{Datum}
+use Rattle.tb_value.specs.Kind as kind
+use Rattle.tb_value.specs.Typed.{HasType}
+use Rattle.tb_chunk.specs.Col.{flat}
+use Rattle.tb_chunk.specs.Made.{IsTyped}
+use Rattle.tb_json.specs.Lists.{each}
+use Rattle.tb_json.specs.Cells.{ranged, cell_in}
+use Rattle.tb_json.proofs.Steps.{All-none}
+
+no_number : (o : Option ℤ) → option_and_then (ranged kind.null) o ≡ None
+no_number None = refl
+no_number (Some z) = refl
+
+only_null : (d : Data) → cell_in kind.null d ≡ cond (is_some (as_null d)) (Some value.null) None
+only_null null = refl
+only_null (boolean b) = refl
+only_null (number n) = no_number (as_integer n)
+only_null (string s) = refl
+only_null (array ds) = refl
+only_null (object ms) = refl
+
+one_more : (b all : Bool) (n : ℕ) (o : Option Datum) (r : Option (List Datum)) → o ≡ cond b (Some value.null) None → cond all (Some (replicate n value.null)) None ≡ r
+    → cond (b && all) (Some (replicate (suc n) value.null)) None ≡ option_and_then (λ v. option_map (λ vs. v ∷ vs) r) o
+one_more true all n o r e rest = more all rest ∙ sym (ap (option_and_then (λ v. option_map (λ vs. v ∷ vs) r)) e) where
+  more : (all : Bool) → cond all (Some (replicate n value.null)) None ≡ r → cond all (Some (replicate (suc n) value.null)) None ≡ option_map (λ vs. value.null ∷ vs) r
+  more true k = ap (option_map (λ vs. value.null ∷ vs)) k
+  more false k = ap (option_map (λ vs. value.null ∷ vs)) k
+one_more false all n o r e rest = sym (ap (option_and_then (λ v. option_map (λ vs. v ∷ vs) r)) e)
+
+-- as many nulls as there are values, where each is null
+pub nulls-each : (vs : List Value) → cond (list_all (λ v. is_some (as_null (view v))) vs) (Some (replicate (length vs) value.null)) None ≡ each (cell_in kind.null) (map view vs)
+nulls-each [] = refl
+nulls-each (v ∷ vs) =
+    one_more (is_some (as_null (view v))) (list_all (λ u. is_some (as_null (view u))) vs) (length vs) (cell_in kind.null (view v)) (each (cell_in kind.null) (map view vs)) (only_null (view v)) (nulls-each vs)
+
+nulls_typed : (n : ℕ) → All (HasType kind.null) (replicate n value.null)
+nulls_typed zero = All-none (HasType kind.null)
+nulls_typed (suc n) = All-cons (HasType kind.null) value.null (replicate n value.null) tt (nulls_typed n)
+
+-- nulls are of the type Null
+pub nulls-IsTyped : (ns : List ℕ) → IsTyped kind.null (map (λ n. replicate n value.null) ns)
+nulls-IsTyped [] = All-none (HasType kind.null)
+nulls-IsTyped (n ∷ ns) = All-append (HasType kind.null) (replicate n value.null) (flat (map (λ m. replicate m value.null) ns)) (nulls_typed n) (nulls-IsTyped ns)
+
+-- ---- chunks of a variant
+
+pub mapped : {A B L : Type 0} (h : B → L) (k : A → L) (g : A → B) (o : Option A) (r : Option B) (e : Option L) → ((x : A) → h (g x) ≡ k x) → option_map k o ≡ e → MatchOption o (r ≡ None) (λ x. IsSomeAnd r (λ y. y ≡ g x)) → option_map h r ≡ e
+mapped h k g None r e same is m = ap (option_map h) m ∙ is
+mapped h k g (Some x) None e same is m = absurd m
+mapped h k g (Some x) (Some y) e same is m = ap Some (ap h m ∙ same x) ∙ is

@@ -1,0 +1,273 @@
+//! Values as typed columns store them, read from JSON.
+ghost use Rattle.std.specs.Prelude.{◌≡◌, ◌≢◌, option_map, option_and_then, IfOk, IfSome};
+ghost use Rattle.serde_json.specs.Data.{null};
+ghost use Rattle.serde_json.specs.Find.{as_number, as_integer};
+ghost use Rattle.serde_json.specs.View.{view};
+ghost use Rattle.tb_value.specs.Datum.{list, struct, items_of};
+ghost use Rattle.tb_value.specs.Kind as kind;
+ghost use Rattle.tb_value.specs.Kind.{Kind, parts_of};
+ghost use Rattle.tb_value.specs.SeeKind.{kind_of, parts};
+ghost use Rattle.tb_value.specs.Typed.{HasType, AreOf, AreEachOf};
+ghost use Rattle.tb_chunk.specs.Col.{physical};
+ghost use Rattle.tb_json.specs.Cells.{cell_in};
+
+use crate::any_cells::{each_value, row_of};
+use crate::plain_cells::{short_bytes, short_text};
+use crate::wide::wide_in;
+use serde_json::Value;
+use std::alloc::Global;
+use tb_store::{Cell, FieldValues};
+use tb_value::{AnyValue, Bytes, DataType, Fields, OutOfMemory, PlSmallStr, Values};
+
+/// A value as a typed column stores it, read from JSON. `stored` is the type that it is stored as.
+pub(crate) trait ReadCell: Cell {
+    ghost stored: { Kind };
+
+    /// The value, which is not Null, or None where it is none of the type.
+    fn read(alloc: Global, dtype: &DataType, value: &Value) -> Result<Option<Self>, OutOfMemory>
+        requires stored { physical (kind_of dtype.now) ≡ stored }
+        requires present { view value.now ≢ null }
+        ensures value { IfOk result (λ o. option_map Self.shows o ≡ cell_in (kind_of dtype.now) (view value.now)) }
+        ensures typed { IfOk result (λ o. IfSome o (λ c. HasType (kind_of dtype.now) (Self.shows c))) };
+}
+
+// A whole number of at most 64 bits.
+fn whole(value: &Value) -> Option<i128>
+    ensures { result ≡ option_and_then as_integer (as_number (view value.now)) }
+{
+    match value.as_number() {
+        Some(number) => number.as_i128(),
+        None => None,
+    }
+}
+
+impl ReadCell for bool {
+    ghost stored = { kind.boolean };
+
+    fn read(alloc: Global, dtype: &DataType, value: &Value) -> Result<Option<bool>, OutOfMemory> {
+        Ok(value.as_bool())
+    }
+}
+
+impl ReadCell for i8 {
+    ghost stored = { kind.int8 };
+
+    fn read(alloc: Global, dtype: &DataType, value: &Value) -> Result<Option<i8>, OutOfMemory> {
+        match whole(value) {
+            Some(integer) => Ok(i8::try_from(integer).ok()),
+            None => Ok(None),
+        }
+    }
+}
+
+impl ReadCell for i16 {
+    ghost stored = { kind.int16 };
+
+    fn read(alloc: Global, dtype: &DataType, value: &Value) -> Result<Option<i16>, OutOfMemory> {
+        match whole(value) {
+            Some(integer) => Ok(i16::try_from(integer).ok()),
+            None => Ok(None),
+        }
+    }
+}
+
+impl ReadCell for i32 {
+    ghost stored = { kind.int32 };
+
+    fn read(alloc: Global, dtype: &DataType, value: &Value) -> Result<Option<i32>, OutOfMemory> {
+        match whole(value) {
+            Some(integer) => Ok(i32::try_from(integer).ok()),
+            None => Ok(None),
+        }
+    }
+}
+
+impl ReadCell for i64 {
+    ghost stored = { kind.int64 };
+
+    fn read(alloc: Global, dtype: &DataType, value: &Value) -> Result<Option<i64>, OutOfMemory> {
+        match whole(value) {
+            Some(integer) => Ok(i64::try_from(integer).ok()),
+            None => Ok(None),
+        }
+    }
+}
+
+impl ReadCell for u8 {
+    ghost stored = { kind.uint8 };
+
+    fn read(alloc: Global, dtype: &DataType, value: &Value) -> Result<Option<u8>, OutOfMemory> {
+        match whole(value) {
+            Some(integer) => Ok(u8::try_from(integer).ok()),
+            None => Ok(None),
+        }
+    }
+}
+
+impl ReadCell for u16 {
+    ghost stored = { kind.uint16 };
+
+    fn read(alloc: Global, dtype: &DataType, value: &Value) -> Result<Option<u16>, OutOfMemory> {
+        match whole(value) {
+            Some(integer) => Ok(u16::try_from(integer).ok()),
+            None => Ok(None),
+        }
+    }
+}
+
+impl ReadCell for u32 {
+    ghost stored = { kind.uint32 };
+
+    fn read(alloc: Global, dtype: &DataType, value: &Value) -> Result<Option<u32>, OutOfMemory> {
+        match whole(value) {
+            Some(integer) => Ok(u32::try_from(integer).ok()),
+            None => Ok(None),
+        }
+    }
+}
+
+impl ReadCell for u64 {
+    ghost stored = { kind.uint64 };
+
+    fn read(alloc: Global, dtype: &DataType, value: &Value) -> Result<Option<u64>, OutOfMemory> {
+        match whole(value) {
+            Some(integer) => Ok(u64::try_from(integer).ok()),
+            None => Ok(None),
+        }
+    }
+}
+
+impl ReadCell for i128 {
+    ghost stored = { kind.int128 };
+
+    fn read(alloc: Global, dtype: &DataType, value: &Value) -> Result<Option<i128>, OutOfMemory> {
+        match value.as_str() {
+            Some(text) => Ok(wide_in(text)),
+            None => Ok(None),
+        }
+    }
+}
+
+impl ReadCell for PlSmallStr {
+    ghost stored = { kind.string };
+
+    fn read(
+        alloc: Global,
+        dtype: &DataType,
+        value: &Value,
+    ) -> Result<Option<PlSmallStr>, OutOfMemory> {
+        match value.as_str() {
+            Some(text) => short_text(alloc, text),
+            None => Ok(None),
+        }
+    }
+}
+
+impl ReadCell for Bytes {
+    ghost stored = { kind.binary };
+
+    fn read(alloc: Global, dtype: &DataType, value: &Value) -> Result<Option<Bytes>, OutOfMemory> {
+        match value.as_str() {
+            Some(text) => short_bytes(alloc, text),
+            None => Ok(None),
+        }
+    }
+}
+
+fn list_of(alloc: Global, value: &Value, inner: &DataType) -> Result<Option<Values>, OutOfMemory>
+    requires { view value.now ≢ null }
+    ensures value { IfOk result (λ o. option_map (λ vs. list (items_of vs)) o
+        ≡ cell_in (kind.list (kind_of inner.now)) (view value.now)) }
+    ensures typed { IfOk result (λ o. IfSome o (λ vs. AreOf (kind_of inner.now) (items_of vs))) }
+{
+    let Some(items) = value.as_array() else {
+        return Ok(None);
+    };
+    match each_value(alloc, items, inner)? {
+        Some(values) => Ok(Some(Values::from_vec(values))),
+        None => Ok(None),
+    }
+}
+
+fn struct_of(
+    alloc: Global,
+    value: &Value,
+    fields: &Fields,
+) -> Result<Option<FieldValues>, OutOfMemory>
+    requires { view value.now ≢ null }
+    ensures value { IfOk result (λ o. option_map (λ s. struct (items_of s.values)) o
+        ≡ cell_in (kind.struct (parts_of (parts fields.now))) (view value.now)) }
+    ensures typed { IfOk result (λ o. IfSome o
+        (λ s. AreEachOf (parts_of (parts fields.now)) (items_of s.values))) }
+{
+    let Some(items) = value.as_array() else {
+        return Ok(None);
+    };
+    match row_of(alloc, items, fields)? {
+        Some(values) => {
+            let row = AnyValue::Struct(Values::from_vec(values));
+            Ok(Some(FieldValues::from_value(alloc, &row)?))
+        }
+        None => Ok(None),
+    }
+}
+
+impl ReadCell for Values {
+    ghost stored = { kind.list kind.null };
+
+    fn read(alloc: Global, dtype: &DataType, value: &Value) -> Result<Option<Values>, OutOfMemory> {
+        match dtype {
+            DataType::List(inner) => list_of(alloc, value, inner),
+            DataType::Null
+            | DataType::Boolean
+            | DataType::Int8
+            | DataType::Int16
+            | DataType::Int32
+            | DataType::Int64
+            | DataType::Int128
+            | DataType::UInt8
+            | DataType::UInt16
+            | DataType::UInt32
+            | DataType::UInt64
+            | DataType::String
+            | DataType::Binary
+            | DataType::Date
+            | DataType::Datetime(_, _)
+            | DataType::Duration(_)
+            | DataType::Time
+            | DataType::Struct(_) => unreachable!(),
+        }
+    }
+}
+
+impl ReadCell for FieldValues {
+    ghost stored = { kind.struct kind.end };
+
+    fn read(
+        alloc: Global,
+        dtype: &DataType,
+        value: &Value,
+    ) -> Result<Option<FieldValues>, OutOfMemory> {
+        match dtype {
+            DataType::Struct(fields) => struct_of(alloc, value, fields),
+            DataType::Null
+            | DataType::Boolean
+            | DataType::Int8
+            | DataType::Int16
+            | DataType::Int32
+            | DataType::Int64
+            | DataType::Int128
+            | DataType::UInt8
+            | DataType::UInt16
+            | DataType::UInt32
+            | DataType::UInt64
+            | DataType::String
+            | DataType::Binary
+            | DataType::Date
+            | DataType::Datetime(_, _)
+            | DataType::Duration(_)
+            | DataType::Time
+            | DataType::List(_) => unreachable!(),
+        }
+    }
+}
