@@ -13,7 +13,9 @@ ghost use Rattle.tb_chunk.specs.Stored.{AreMade};
 use crate::chunk::Chunk;
 use crate::chunks::Chunks;
 use std::alloc::Global;
-use tb_value::{AnyValue, ComputeCause, DataType, MAX_ROWS, OutOfMemory, PolarsError, PolarsResult};
+use tb_value::{
+    AnyValue, ComputeCause, DataType, MAX_ROWS, OutOfMemory, PolarsError, PolarsResult,
+};
 
 #[tactic(auto, using(crate::proofs::Alls::all_next))]
 fn are_of(dtype: &DataType, values: &[AnyValue]) -> bool

@@ -15,8 +15,8 @@ ghost use Rattle.tb_nested.specs.AnswerColumns.{answer_outs, suffix_in, gone_in}
 
 use std::alloc::Global;
 use tb_frame::{
-    DataFrame, JoinArgs, check_distinct, column_names, gone_right, left_rows, push_right, right_rows,
-    suffix_of, take_opt_columns,
+    DataFrame, JoinArgs, check_distinct, column_names, gone_right, left_rows, push_right,
+    right_rows, suffix_of, take_opt_columns,
 };
 use tb_store::Column;
 use tb_value::{JoinPair, OutOfMemory, PlSmallStr, PolarsResult};
