@@ -1,5 +1,5 @@
 -- Columns of nulls alone.
-use Rattle.std.proofs.Common.{◌≡◌, ℕ, ℤ, zero, suc, List, [], ◌∷◌, length, map, replicate, Bool, true, false, cond, ◌&&◌, Option, Some, None, option_map, option_and_then, refl, sym, ap, ◌∙◌}
+use Rattle.std.proofs.Common.{◌≡◌, ℕ, ℤ, zero, suc, List, [], ◌∷◌, length, map, replicate, Bool, true, false, cond, ◌&&◌, Option, Some, None, option_map, option_and_then, refl, sym, ap, ◌∙◌, arith}
 use Rattle.std.specs.Prelude.{is_some, IsSomeAnd, MatchOption}
 use Rattle.std.specs.List.{All, list_all}
 use Rattle.std.proofs.lemmas.List.Elements.{All-cons, All-append}
@@ -15,7 +15,9 @@ use Rattle.tb_chunk.specs.Col.{flat}
 use Rattle.tb_chunk.specs.Made.{IsTyped}
 use Rattle.tb_json.specs.Lists.{each}
 use Rattle.tb_json.specs.Cells.{ranged, cell_in}
-use Rattle.tb_json.proofs.Steps.{All-none}
+
+All-none : {A : Type 0} (P : A → Type 0) → All P []
+All-none P k d h = absurd (omega arith)
 
 no_number : (o : Option ℤ) → option_and_then (ranged kind.null) o ≡ None
 no_number None = refl

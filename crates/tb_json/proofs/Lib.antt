@@ -4,7 +4,6 @@ pub mod Flat
 pub mod Refused
 pub mod FlagTests
 pub mod FromBytes
-pub mod Steps
 pub mod BuiltForm
 pub mod Plain
 pub mod Fields
