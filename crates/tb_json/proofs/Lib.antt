@@ -15,3 +15,7 @@ pub mod FieldWalks
 pub mod ValueWalks
 pub mod ArrayWalks
 pub mod KindsBack
+pub mod ReadBack
+pub mod TextPlain
+pub mod ValuesBack
+pub mod OneToOne

@@ -7,3 +7,4 @@ pub mod Text
 pub mod Kinds
 pub mod Wide
 pub mod Cells
+pub mod Writable

@@ -11,6 +11,7 @@ mod reading;
 mod refusals;
 mod request;
 mod shape;
+pub mod text_laws;
 mod types;
 mod values;
 mod wide;
