@@ -1,22 +1,21 @@
 -- The JSON value of a table has no float, whole numbers of 64 bits, and members in order.
-use Rattle.std.proofs.Common.{◌≡◌, ◌≤◌, ◌<◌, ◌^◌, ℕ, ℤ, pos, negsuc, List, [], ◌∷◌, map, Bool, true, false, Option, Some, None, refl, arith}
+use Rattle.std.proofs.Common.{ℕ, ℤ, pos, negsuc, List, [], ◌∷◌, map, Option, Some, None, refl, arith}
 use Rattle.std.proofs.lemmas.Int.{ints}
 use Rattle.std.proofs.lemmas.List.Elements.{All-head, All-tail}
 use Rattle.std.specs.List.{All}
-use Rattle.std.specs.Fmt.{signed_decimal}
-use Rattle.serde_json.specs.Data.{Data, number, string}
 use Rattle.serde_json.specs.Find.{of_integer}
 use Rattle.serde_json.specs.View.{items_of}
 use Rattle.tb_value.specs.Datum as value
 use Rattle.tb_value.specs.Datum.{Datum}
 use Rattle.tb_value.specs.Kind as kind
 use Rattle.tb_value.specs.Kind.{Kind, Parts}
-use Rattle.tb_value.specs.Typed.{HasType, AreOf, AreEachOf, IsListOf, IsStructOf}
+use Rattle.tb_value.specs.Typed.{HasType, AreOf, AreEachOf}
 use Rattle.tb_frame.specs.Table.{TableColumn, Table}
-use Rattle.tb_json.specs.Text.{zone_data, kind_data, parts_data, is_wide, inner_kind, fields_in, number_data, value_data, items_data, fields_data, column_data, table_data}
+use Rattle.tb_json.specs.Text.{zone_data, kind_data, parts_data, inner_kind, fields_in, number_data, value_data, items_data, fields_data, column_data, table_data}
 use Rattle.tb_json.specs.Writable.{IsWritable}
 use Rattle.tb_json.proofs.Narrow.{IsNarrow, narrow}
 use Rattle.tb_json.proofs.ReadBack.{IsKept, IsPlain, ArePlain}
+use Rattle.tb_json.proofs.ValuesBack.{list_of, struct_of}
 
 IsPlain-zone : (z : Option (List ℕ)) → IsPlain (zone_data z)
 IsPlain-zone None = tt
@@ -42,14 +41,6 @@ IsPlain-number : (t : Kind) (z : ℤ) → HasType t (value.int z) → IsPlain (n
 IsPlain-number kind.int128 z h = tt
 IsPlain-number t z h = IsKept-narrow z (narrow t z refl h)
 
-list_of : (t : Kind) (P : Kind → Type 0) → IsListOf t P → P (inner_kind t)
-list_of (kind.list t) P h = h
-list_of _ P h = absurd h
-
-struct_of : (t : Kind) (P : Parts → Type 0) → IsStructOf t P → P (fields_in t)
-struct_of (kind.struct ps) P h = h
-struct_of _ P h = absurd h
-
 mutual
   IsPlain-value : (t : Kind) (v : Datum) → HasType t v → IsPlain (value_data t v)
   IsPlain-value t value.null h = tt
@@ -57,8 +48,8 @@ mutual
   IsPlain-value t (value.int z) h = IsPlain-number t z h
   IsPlain-value t (value.string s) h = tt
   IsPlain-value t (value.binary s) h = tt
-  IsPlain-value t (value.list vs) h = ArePlain-items (inner_kind t) vs (list_of t (λ u. AreOf u vs) h)
-  IsPlain-value t (value.struct vs) h = ArePlain-fields (fields_in t) vs (struct_of t (λ ps. AreEachOf ps vs) h)
+  IsPlain-value t (value.list vs) h = ArePlain-items (inner_kind t) vs (list_of t (λ u. AreOf u vs) h).1
+  IsPlain-value t (value.struct vs) h = ArePlain-fields (fields_in t) vs (struct_of t (λ ps. AreEachOf ps vs) h).1
 
   ArePlain-items : (t : Kind) (vs : value.Items) → AreOf t vs → ArePlain (items_data t vs)
   ArePlain-items t value.end h = tt

@@ -1,5 +1,5 @@
 -- A value is told by its type and its text.
-use Rattle.std.proofs.Common.{◌≡◌, ◌<◌, ◌^◌, ℕ, ℤ, pos, negsuc, suc, neg_ℤ, List, [], ◌∷◌, Bool, true, false, cond, eqb, ne_eqb, Option, Some, None, unwrap_or, Result, refl, sym, ap, subst, ◌∙◌, arith}
+use Rattle.std.proofs.Common.{◌≡◌, ℕ, ℤ, pos, negsuc, suc, neg_ℤ, List, [], ◌∷◌, Bool, true, false, cond, eqb, ne_eqb, unwrap_or, refl, sym, ap, subst, ◌∙◌, arith}
 use Rattle.std.specs.Fmt.{decimal, signed_decimal}
 use Rattle.std.specs.Prelude.{◌≤ℤ◌}
 use Rattle.std.specs.Result.{result_ok}
@@ -100,11 +100,11 @@ binary_is t s e h =
     let P : Kind → Type 0 = λ k. text_back k (encode_lower s) ≡ value.binary s in
     subst P (sym e) (ap (λ r. value.binary (unwrap_or (result_ok r) [])) (decode_of-encode_lower s h))
 
-list_of : (t : Kind) (P : Kind → Type 0) → IsListOf t P → (is_list t ≡ true) × P (inner_kind t)
+pub list_of : (t : Kind) (P : Kind → Type 0) → IsListOf t P → (is_list t ≡ true) × P (inner_kind t)
 list_of (kind.list t) P h = (refl, h)
 list_of _ P h = absurd h
 
-struct_of : (t : Kind) (P : Parts → Type 0) → IsStructOf t P → (is_list t ≡ false) × P (fields_in t)
+pub struct_of : (t : Kind) (P : Parts → Type 0) → IsStructOf t P → (is_list t ≡ false) × P (fields_in t)
 struct_of (kind.struct ps) P h = (refl, h)
 struct_of _ P h = absurd h
 
