@@ -47,8 +47,8 @@ same_column c d h i k l e =
     let items : items_of (map (value_data c.kind) c.values) ≡ items_of (map (value_data d.kind) d.values) = cc in
     let kind = same_kind c.kind d.kind word in
     let values : c.values ≡ d.values =
-        sym (values_are c.kind c.values h i) ∙ ap (values_back c.kind) items
-        ∙ ap (λ t. values_back t (items_of (map (value_data d.kind) d.values))) kind ∙ values_are d.kind d.values k l in
+    sym (values_are c.kind c.values h i) ∙ ap (values_back c.kind) items
+    ∙ ap (λ t. values_back t (items_of (map (value_data d.kind) d.values))) kind ∙ values_are d.kind d.values k l in
     ap (λ n. column n c.kind c.values) name ∙ ap (λ t. column d.name t c.values) kind ∙ ap (column d.name d.kind) values
 
 same_columns : (s t : Table) → All IsTyped s → All AreBytes s → All IsTyped t → All AreBytes t → items_of (map column_data s) ≡ items_of (map column_data t) → s ≡ t

@@ -7,5 +7,4 @@ ghost use Rattle.tb_json.specs.Writable.{IsWritable};
 /// Two tables with one text are equal, in their names, types and values. Nesting has no limit.
 pub fn text_one_to_one()
     ensures { (s t : Table) → IsWritable s → IsWritable t → text_of s ≡ text_of t → s ≡ t }
-{
-}
+{}
