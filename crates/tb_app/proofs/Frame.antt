@@ -11,7 +11,7 @@ use Rattle.tb_app.specs.declared.words.Form.TheVariants.{Reads, Unknown}
 use Rattle.tb_app.specs.declared.status.Status.{Status}
 use Rattle.tb_app.specs.declared.status.Status.TheVariants as status
 use Rattle.tb_value.specs.declared.error.PolarsError.{PolarsError}
-use Rattle.tb_json.specs.declared.request.Reason.{Reason}
+use Rattle.tb_request.specs.declared.request.Reason.{Reason}
 use Rattle.tb_app.specs.Ends.{Rose, AppendsPart}
 use Rattle.tb_app.specs.Reading.{limit}
 use Rattle.tb_app.specs.Requests.{Request, request_of, refusal_of, IsAnswerText, text_of_refusal}

@@ -1,8 +1,8 @@
 -- What `done` says of the word `join`, in the words of a join.
 use Rattle.std.proofs.Common.{◌≡◌, ℕ, ◌≤◌, List, length, Option, None, Result, Ok, Err, subst}
 use Rattle.std.specs.Io.KnownBytes.{Consumes, Appends}
-use Rattle.tb_json.specs.declared.request.Reason.{Reason}
-use Rattle.tb_json.specs.Reading.{JoinRequest, request_of as join_request_of}
+use Rattle.tb_request.specs.declared.request.Reason.{Reason}
+use Rattle.tb_request.specs.Reading.{JoinRequest, request_of as join_request_of}
 use Rattle.tb_app.specs.declared.words.Command.TheVariants.{Join}
 use Rattle.tb_app.specs.Due.{DoneFor, Tells}
 use Rattle.tb_app.specs.Headline.{JoinDone}

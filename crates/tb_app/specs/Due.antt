@@ -1,8 +1,8 @@
 -- What is due for the words and the bytes, and what one run has done of it.
 use Rattle.std.specs.Prelude.{◌≡◌, ℕ, ◌+◌, ◌++◌, List, [], ◌∷◌, take, length, codes, Option, Some, None, Result, Ok, Err, MatchOption, MatchBool, IsSomeAnd, nat_lt, ◌≤◌, ⊤}
 use Rattle.std.specs.Io.KnownBytes.{Consumes, Appends}
-use Rattle.tb_json.specs.declared.request.Reason.{Reason}
-use Rattle.tb_json.specs.Text.{reason_word}
+use Rattle.tb_request.specs.declared.request.Reason.{Reason}
+use Rattle.tb_request.specs.Reasons.{reason_word}
 use Rattle.tb_app.specs.declared.words.Command.{Command}
 use Rattle.tb_app.specs.declared.words.Form.{Form}
 use Rattle.tb_app.specs.declared.words.Form.TheVariants.{Reads, Unknown}

@@ -4,7 +4,7 @@ use Rattle.std.specs.Io.KnownBytes.{Consumes, Appends}
 use Rattle.tb_frame.specs.Join.{IsAnswer}
 use Rattle.tb_frame.specs.Refusal.{join_valid}
 use Rattle.tb_frame.specs.Table.{Table, IsTable}
-use Rattle.tb_json.specs.Reading.{JoinRequest, asked, request_of}
+use Rattle.tb_request.specs.Reading.{JoinRequest, asked, request_of}
 use Rattle.tb_json.specs.Text.{text_of}
 use Rattle.tb_app.specs.Due.{Tells}
 use Rattle.tb_app.specs.Reading.{limit}

@@ -4,8 +4,8 @@ use Rattle.tb_value.specs.declared.error.PolarsError.{PolarsError}
 use Rattle.tb_frame.specs.Join.{IsAnswer}
 use Rattle.tb_frame.specs.Refusal.{join_refusal}
 use Rattle.tb_frame.specs.Table.{Table, IsTable}
-use Rattle.tb_json.specs.declared.request.Reason.{Reason}
-use Rattle.tb_json.specs.Reading.{JoinRequest, asked, request_of as join_request_of}
+use Rattle.tb_request.specs.declared.request.Reason.{Reason}
+use Rattle.tb_request.specs.Reading.{JoinRequest, asked, request_of as join_request_of}
 use Rattle.tb_json.specs.Text.{text_of}
 use Rattle.tb_json.specs.Text as texts
 use Rattle.tb_app.specs.declared.words.Command.{Command}

@@ -1,8 +1,8 @@
 //! A request that is read is answered: the one door to the commands.
 ghost use Rattle.std.specs.Prelude.{◌≡◌, Err, IfOk, string_bytes};
 ghost use Rattle.tb_frame.specs.Built.{IsBuilt};
-ghost use Rattle.tb_json.specs.Reading.{asked, request_view, request_of as join_request_of};
-ghost use Rattle.tb_json.specs.Text.{reason_word};
+ghost use Rattle.tb_request.specs.Reading.{asked, request_view, request_of as join_request_of};
+ghost use Rattle.tb_request.specs.Reasons.{reason_word};
 ghost use Rattle.tb_app.specs.Due.{DueOfReading, DueOfRequest, bad_request_text};
 ghost use Rattle.tb_app.specs.Requests.{request_of, as_join, join};
 
@@ -11,7 +11,8 @@ use crate::words::Command;
 use std::alloc::Global;
 use std::thread::Threads;
 use tb_join::DataFrameJoinOps;
-use tb_json::{JoinRequest, Reason, RequestFault, request_of, text_of, text_of_refusal};
+use tb_json::{text_of, text_of_refusal};
+use tb_request::{JoinRequest, Reason, RequestFault, request_of};
 use tb_value::{OutOfMemory, PolarsError};
 
 /// What is written, and the status that goes with it.

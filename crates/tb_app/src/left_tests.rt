@@ -2,8 +2,9 @@ use crate::Status;
 use crate::tests::{Case, outcome};
 use std::alloc::Global;
 use std::test::Fail;
-use tb_json::{request_of, text_of, text_of_refusal};
+use tb_json::{text_of, text_of_refusal};
 use tb_nested::nested_join;
+use tb_request::request_of;
 
 const K12: &str = r#"{"chunks":[[1],[2]],"name":"k","type":"i64"}"#;
 

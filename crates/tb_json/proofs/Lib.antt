@@ -1,10 +1,6 @@
 pub mod Walks
 pub mod LentValues
 pub mod Flat
-pub mod Refused
-pub mod FlagTests
-pub mod FromBytes
-pub mod BuiltForm
 pub mod Plain
 pub mod Fields
 pub mod Narrow
@@ -14,3 +10,8 @@ pub mod Runs
 pub mod FieldWalks
 pub mod ValueWalks
 pub mod ArrayWalks
+pub mod KindsBack
+pub mod ReadBack
+pub mod TextPlain
+pub mod ValuesBack
+pub mod OneToOne

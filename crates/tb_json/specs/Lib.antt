@@ -1,10 +1,6 @@
 pub mod Lists
-pub mod Written
-pub mod Columns
-pub mod Flags
-pub mod Reading
-pub mod Lent
 pub mod Text
 pub mod Kinds
 pub mod Wide
 pub mod Cells
+pub mod Writable

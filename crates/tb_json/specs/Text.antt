@@ -21,8 +21,6 @@ use Rattle.tb_value.specs.declared.error.ComputeCause.{ComputeCause}
 use Rattle.tb_value.specs.declared.error.ComputeCause.TheVariants.{KeyTypes, Validation, TooManyRows, EmptyIndex, EmptyOn, BraceName, ManyInGroup, SumRange, EvaluateLength, Evaluate}
 use Rattle.tb_value.specs.declared.error.PolarsError.{PolarsError}
 use Rattle.tb_value.specs.declared.error.PolarsError.TheVariants.{ColumnNotFound, InvalidOperation, ComputeError, Duplicate, ShapeMismatch, SchemaMismatch, OutOfMemory}
-use Rattle.tb_json.specs.declared.request.Reason.{Reason}
-use Rattle.tb_json.specs.declared.request.Reason.TheVariants as why
 use Rattle.tb_frame.specs.Table.{TableColumn, Table, height}
 
 -- ---- types. The members of an object stand in the order of their names.
@@ -173,14 +171,3 @@ error_data OutOfMemory = plain_error (codes "OutOfMemory")
 -- the compact text and a newline
 unfoldable pub text_of_refusal : PolarsError → List ℕ
 text_of_refusal e = compact_text (error_data e) ++ 10 ∷ []
-
--- why bytes are no request
-abbrev pub reason_word : Reason → List ℕ
-reason_word why.Json = codes "Json"
-reason_word why.Shape = codes "Shape"
-reason_word why.Value = codes "Value"
-reason_word why.Exec = codes "Exec"
-reason_word why.Heights = codes "Heights"
-reason_word why.Name = codes "Name"
-reason_word why.Flag = codes "Flag"
-reason_word why.NotYet = codes "NotYet"

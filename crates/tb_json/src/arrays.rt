@@ -248,7 +248,7 @@ fn struct_arrays(
 }
 
 /// The chunks of a column, or None where a value is none of the type.
-pub(crate) fn arrays_in(
+pub fn arrays_in(
     alloc: Global,
     dtype: &DataType,
     written: &Vec<&Vec<Value>>,

@@ -129,7 +129,7 @@ fn struct_type(fields: Option<Vec<Field>>) -> Option<DataType>
 
 /// The type that a value stands for, or None where it stands for none.
 #[cycle(kinds)]
-pub(crate) fn type_of(alloc: Global, value: &Value) -> Result<Option<DataType>, OutOfMemory>
+pub fn type_of(alloc: Global, value: &Value) -> Result<Option<DataType>, OutOfMemory>
     ensures { IfOk result (λ o. option_map kind_of o ≡ kind_in (view value.now)) }
 {
     match value {

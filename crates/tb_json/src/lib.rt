@@ -1,30 +1,19 @@
-//! Requests read from JSON texts, and the texts that are written.
+//! JSON: types and values read from it, and the texts of tables and refusals.
 #![tactic(auto)]
 
 mod any_cells;
-mod arguments;
 mod arrays;
 mod cells;
-mod flags;
 mod kinds;
 pub mod laws;
-mod members;
 mod plain_cells;
 mod read_cell;
-mod reading;
 mod refusals;
-mod request;
-mod shape;
-mod tables;
 mod types;
-mod values;
 mod wide;
 mod writing;
 
-pub use reading::request_of;
+pub use arrays::arrays_in;
+pub use kinds::type_of;
 pub use refusals::text_of_refusal;
-pub use request::{JoinRequest, Reason, RequestFault};
 pub use writing::text_of;
-
-#[cfg(test)]
-mod tests;

@@ -1,5 +1,0 @@
-use Rattle.tb_json.proofs.FlagTests.{flag_Decides}
-use Rattle.tb_json.proofs.laws.flag_tests.Goals as goal
-
-pub returns : goal.returns
-returns c = flag_Decides

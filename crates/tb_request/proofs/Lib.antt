@@ -1,0 +1,4 @@
+pub mod Refused
+pub mod FlagTests
+pub mod FromBytes
+pub mod BuiltForm

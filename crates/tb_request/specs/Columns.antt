@@ -1,0 +1,24 @@
+-- The values of a written column.
+use Rattle.std.specs.Prelude.{length, List, nat_le, Option, Some}
+use Rattle.tb_chunk.specs.Col.{Col, flat}
+use Rattle.tb_chunk.specs.Made.{at_least_one}
+use Rattle.tb_json.specs.Cells.{cell_in}
+use Rattle.tb_json.specs.Lists.{◌>>=◌, check, each}
+use Rattle.tb_request.specs.Written.{Written, WrittenJoin}
+
+-- the column with the flag that is claimed, where its values are of its type and there are few enough of them
+unfoldable pub values_of : Written → Option Col
+values_of w = do
+  chunks ← each (each (cell_in w.kind)) w.chunks
+  short ← check (nat_le (length (flat chunks)) 4294967294)
+  Some (record { name = w.name; kind = w.kind; chunks = at_least_one chunks; flag = w.flag })
+
+abbrev pub columns_from : List Written → Option (List Col)
+columns_from ws = each values_of ws
+
+-- the columns of the left table and of the right one
+unfoldable pub tables_of : WrittenJoin → Option (List Col × List Col)
+tables_of w = do
+  left ← columns_from w.left
+  right ← columns_from w.right
+  Some (left, right)

@@ -1,0 +1,189 @@
+//! The arguments of a join.
+ghost use Rattle.std.specs.Prelude.{◌≡◌, IfOk};
+ghost use Rattle.serde_json.specs.View.{view};
+ghost use Rattle.tb_request.specs.Written.{how_named, validation_named, coalesce_named, order_named, how_of, validation_of, suffix_of, slice_in, slice_of, nulls_of, coalesce_of, order_of, args_of};
+
+use crate::members::has_only;
+use serde_json::Value;
+use std::alloc::Global;
+use tb_frame::{JoinArgs, JoinCoalesce, JoinType, JoinValidation, MaintainOrderJoin};
+use tb_value::{OutOfMemory, PlSmallStr};
+
+fn how_named(text: &str) -> Option<JoinType>
+    ensures { result ≡ how_named text.now }
+{
+    match text {
+        "inner" => Some(JoinType::Inner),
+        "left" => Some(JoinType::Left),
+        "right" => Some(JoinType::Right),
+        "full" => Some(JoinType::Full),
+        "semi" => Some(JoinType::Semi),
+        "anti" => Some(JoinType::Anti),
+        _ => None,
+    }
+}
+
+fn validation_named(text: &str) -> Option<JoinValidation>
+    ensures { result ≡ validation_named text.now }
+{
+    match text {
+        "m:m" => Some(JoinValidation::ManyToMany),
+        "m:1" => Some(JoinValidation::ManyToOne),
+        "1:m" => Some(JoinValidation::OneToMany),
+        "1:1" => Some(JoinValidation::OneToOne),
+        _ => None,
+    }
+}
+
+fn coalesce_named(text: &str) -> Option<JoinCoalesce>
+    ensures { result ≡ coalesce_named text.now }
+{
+    match text {
+        "specific" => Some(JoinCoalesce::JoinSpecific),
+        "coalesce" => Some(JoinCoalesce::CoalesceColumns),
+        "keep" => Some(JoinCoalesce::KeepColumns),
+        _ => None,
+    }
+}
+
+fn order_named(text: &str) -> Option<MaintainOrderJoin>
+    ensures { result ≡ order_named text.now }
+{
+    match text {
+        "none" => Some(MaintainOrderJoin::None),
+        "left" => Some(MaintainOrderJoin::Left),
+        "right" => Some(MaintainOrderJoin::Right),
+        "left_right" => Some(MaintainOrderJoin::LeftRight),
+        "right_left" => Some(MaintainOrderJoin::RightLeft),
+        _ => None,
+    }
+}
+
+fn how_of(args: &Value) -> Option<JoinType>
+    ensures { result ≡ how_of (view args.now) }
+{
+    how_named(args.get("how")?.as_str()?)
+}
+
+fn validation_of(args: &Value) -> Option<JoinValidation>
+    ensures { result ≡ validation_of (view args.now) }
+{
+    match args.get("validation") {
+        Some(member) => validation_named(member.as_str()?),
+        None => Some(JoinValidation::ManyToMany),
+    }
+}
+
+fn coalesce_of(args: &Value) -> Option<JoinCoalesce>
+    ensures { result ≡ coalesce_of (view args.now) }
+{
+    match args.get("coalesce") {
+        Some(member) => coalesce_named(member.as_str()?),
+        None => Some(JoinCoalesce::JoinSpecific),
+    }
+}
+
+fn order_of(args: &Value) -> Option<MaintainOrderJoin>
+    ensures { result ≡ order_of (view args.now) }
+{
+    match args.get("maintain_order") {
+        Some(member) => order_named(member.as_str()?),
+        None => Some(MaintainOrderJoin::None),
+    }
+}
+
+fn nulls_of(args: &Value) -> Option<bool>
+    ensures { result ≡ nulls_of (view args.now) }
+{
+    match args.get("join_nulls") {
+        Some(member) => member.as_bool(),
+        None => Some(false),
+    }
+}
+
+// The offset and the length, or None where the value is no list of these two.
+fn slice_in(value: &Value) -> Option<Option<(i64, usize)>>
+    ensures { result ≡ slice_in (view value.now) }
+{
+    let items = value.as_array()?;
+    if items.len() != 2 {
+        return None;
+    }
+    let offset = items[0].as_i64()?;
+    let len = items[1].as_u64()?;
+    Some(Some((offset, len as usize)))
+}
+
+// No slice where the member is absent.
+fn slice_of(args: &Value) -> Option<Option<(i64, usize)>>
+    ensures { result ≡ slice_of (view args.now) }
+{
+    match args.get("slice") {
+        Some(member) => slice_in(member),
+        None => Some(None),
+    }
+}
+
+// The suffix, or no suffix where it is absent; None where it is no text.
+fn suffix_of(alloc: Global, args: &Value) -> Result<Option<Option<PlSmallStr>>, OutOfMemory>
+    ensures { IfOk result (λ o. o ≡ suffix_of (view args.now)) }
+{
+    let Some(member) = args.get("suffix") else {
+        return Ok(Some(None));
+    };
+    match member.as_str() {
+        Some(text) => Ok(Some(Some(PlSmallStr::from_str(alloc, text)?))),
+        None => Ok(None),
+    }
+}
+
+/// The arguments of a join, or None where the value has not the form of them.
+#[tactic(auto, unfolding(crate::specs::Written::args_of))]
+pub(crate) fn args_of(alloc: Global, value: &Value) -> Result<Option<JoinArgs>, OutOfMemory>
+    ensures { IfOk result (λ o. o ≡ args_of (view value.now)) }
+{
+    if !has_only(
+        value,
+        &[
+            "coalesce",
+            "how",
+            "join_nulls",
+            "maintain_order",
+            "slice",
+            "suffix",
+            "validation",
+        ],
+    ) {
+        return Ok(None);
+    }
+    let Some(how) = how_of(value) else {
+        return Ok(None);
+    };
+    let Some(validation) = validation_of(value) else {
+        return Ok(None);
+    };
+    let Some(suffix) = suffix_of(alloc, value)? else {
+        return Ok(None);
+    };
+    let Some(slice) = slice_of(value) else {
+        return Ok(None);
+    };
+    let Some(join_nulls) = nulls_of(value) else {
+        return Ok(None);
+    };
+    let Some(coalesce) = coalesce_of(value) else {
+        return Ok(None);
+    };
+    let Some(maintain_order) = order_of(value) else {
+        return Ok(None);
+    };
+    Ok(Some(JoinArgs {
+        how,
+        validation,
+        suffix,
+        slice,
+        join_nulls,
+        coalesce,
+        maintain_order,
+    }))
+}

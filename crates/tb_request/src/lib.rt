@@ -1,0 +1,18 @@
+//! Requests read from JSON texts.
+#![tactic(auto)]
+
+mod arguments;
+mod flags;
+pub mod laws;
+mod members;
+mod reading;
+mod request;
+mod shape;
+mod tables;
+mod values;
+
+pub use reading::request_of;
+pub use request::{JoinRequest, Reason, RequestFault};
+
+#[cfg(test)]
+mod tests;

@@ -1,0 +1,72 @@
+//! A request to join, and why bytes are none.
+
+use std::alloc::AllocError;
+use tb_frame::{DataFrame, JoinArgs};
+use tb_pool::Exec;
+use tb_value::{OutOfMemory, PlSmallStr};
+
+/// A request to join.
+#[derive(Drop)]
+pub struct JoinRequest {
+    pub left: DataFrame,
+    pub right: DataFrame,
+    /// The names of the left table's keys.
+    pub left_on: Vec<PlSmallStr>,
+    /// The names of the right table's keys.
+    pub right_on: Vec<PlSmallStr>,
+    pub args: JoinArgs,
+    /// How the work is to be run.
+    pub exec: Exec,
+    /// Whether it is asked how the work went.
+    pub trace: bool,
+}
+
+/// Why bytes are no request: the first of these that holds.
+#[derive(Clone, Copy, PartialEq, Eq, Debug)]
+pub enum Reason {
+    /// They are no JSON text.
+    Json,
+    /// A member is missing, unknown or of another form.
+    Shape,
+    /// A value is not of its column's type.
+    Value,
+    /// The numbers of `exec` make no `Exec`.
+    Exec,
+    /// Two columns of a table differ in length.
+    Heights,
+    /// Two columns of a table have one name.
+    Name,
+    /// A column is claimed to be in an order that it is not in.
+    Flag,
+    /// The join is of a form that is not built yet.
+    NotYet,
+}
+
+/// Why no request was read.
+#[derive(Clone, Copy, PartialEq, Eq, Debug)]
+pub enum RequestFault {
+    OutOfMemory,
+    NoRequest(Reason),
+}
+
+impl From<AllocError> for RequestFault {
+    ghost use Rattle.std.specs.Prelude.{◌≡◌};
+    ghost use Rattle.tb_request.specs.declared.request.RequestFault.{RequestFault};
+
+    ghost from_gives = { λ _ f. f ≡ RequestFault.OutOfMemory };
+
+    fn from(_want: AllocError) -> RequestFault {
+        RequestFault::OutOfMemory
+    }
+}
+
+impl From<OutOfMemory> for RequestFault {
+    ghost use Rattle.std.specs.Prelude.{◌≡◌};
+    ghost use Rattle.tb_request.specs.declared.request.RequestFault.{RequestFault};
+
+    ghost from_gives = { λ _ f. f ≡ RequestFault.OutOfMemory };
+
+    fn from(_want: OutOfMemory) -> RequestFault {
+        RequestFault::OutOfMemory
+    }
+}

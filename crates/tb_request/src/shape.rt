@@ -1,0 +1,281 @@
+//! The members of a request, before its values are read.
+ghost use Rattle.std.specs.Prelude.{◌≡◌, map, option_map, IfOk};
+ghost use Rattle.serde_json.specs.View.{view};
+ghost use Rattle.serde_json.specs.Find.{as_str};
+ghost use Rattle.tb_json.specs.Lists.{as_list, list_of};
+ghost use Rattle.tb_request.specs.Written.{flag_named, flag_of, count_of, plan_of, exec_of, trace_of, join_of, column_of, table_of};
+ghost use Rattle.tb_request.specs.Lent.{written_view, plan_view, join_view};
+
+use crate::arguments::args_of;
+use crate::members::has_only;
+use serde_json::Value;
+use std::alloc::Global;
+use tb_frame::JoinArgs;
+use tb_json::type_of;
+use tb_value::{DataType, IsSorted, OutOfMemory};
+
+// A column whose values still stand in the request, and the flag that is claimed of them.
+#[derive(Drop)]
+pub(crate) struct WrittenColumn<'v> {
+    pub name: &'v str,
+    pub dtype: DataType,
+    pub chunks: Vec<&'v Vec<Value>>,
+    pub flag: IsSorted,
+}
+
+// The numbers of an `Exec`, which may be such that they make none.
+#[derive(Clone, Copy)]
+pub(crate) struct ExecNumbers {
+    pub workers: u32,
+    pub partitions: u32,
+    pub small: u32,
+    pub num: u32,
+    pub den: u32,
+}
+
+// A request to join, whose values are not read yet.
+#[derive(Drop)]
+pub(crate) struct WrittenJoin<'v> {
+    pub args: JoinArgs,
+    pub exec: ExecNumbers,
+    pub left: Vec<WrittenColumn<'v>>,
+    pub left_on: Vec<&'v str>,
+    pub right: Vec<WrittenColumn<'v>>,
+    pub right_on: Vec<&'v str>,
+    pub trace: bool,
+}
+
+fn flag_named(text: &str) -> Option<IsSorted>
+    ensures { result ≡ flag_named text.now }
+{
+    match text {
+        "ascending" => Some(IsSorted::Ascending),
+        "descending" => Some(IsSorted::Descending),
+        _ => None,
+    }
+}
+
+fn flag_of(column: &Value) -> Option<IsSorted>
+    ensures { result ≡ flag_of (view column.now) }
+{
+    match column.get("sorted") {
+        Some(member) => flag_named(member.as_str()?),
+        None => Some(IsSorted::Not),
+    }
+}
+
+fn chunks_of(alloc: Global, value: &Value) -> Result<Option<Vec<&Vec<Value>>>, OutOfMemory>
+    ensures { IfOk result (λ o. option_map (λ v. map (λ c. map view c.now.items) v.items) o
+        ≡ list_of as_list (view value.now)) }
+{
+    let Some(items) = value.as_array() else {
+        return Ok(None);
+    };
+    let mut chunks = Vec::new(alloc);
+    for item in items {
+        let Some(chunk) = item.as_array() else {
+            return Ok(None);
+        };
+        chunks.push(chunk)?;
+    }
+    Ok(Some(chunks))
+}
+
+#[tactic(auto, unfolding(crate::specs::Written::column_of))]
+fn column_of<'v>(alloc: Global, value: &'v Value) -> Result<Option<WrittenColumn<'v>>, OutOfMemory>
+    ensures { IfOk result (λ o. option_map written_view o ≡ column_of (view value.now)) }
+{
+    if !has_only(value, &["chunks", "name", "sorted", "type"]) {
+        return Ok(None);
+    }
+    let Some(chunks) = value.get("chunks") else {
+        return Ok(None);
+    };
+    let Some(chunks) = chunks_of(alloc, chunks)? else {
+        return Ok(None);
+    };
+    let Some(name) = value.get("name").and_then(Value::as_str) else {
+        return Ok(None);
+    };
+    let Some(flag) = flag_of(value) else {
+        return Ok(None);
+    };
+    let Some(kind) = value.get("type") else {
+        return Ok(None);
+    };
+    let Some(dtype) = type_of(alloc, kind)? else {
+        return Ok(None);
+    };
+    Ok(Some(WrittenColumn {
+        name,
+        dtype,
+        chunks,
+        flag,
+    }))
+}
+
+fn columns_of<'v>(
+    alloc: Global,
+    value: &'v Value,
+) -> Result<Option<Vec<WrittenColumn<'v>>>, OutOfMemory>
+    ensures { IfOk result (λ o. option_map (λ v. map written_view v.items) o
+        ≡ list_of column_of (view value.now)) }
+{
+    let Some(items) = value.as_array() else {
+        return Ok(None);
+    };
+    let mut columns = Vec::new(alloc);
+    for item in items {
+        let Some(column) = column_of(alloc, item)? else {
+            return Ok(None);
+        };
+        columns.push(column)?;
+    }
+    Ok(Some(columns))
+}
+
+#[tactic(auto, unfolding(crate::specs::Written::table_of))]
+fn table_of<'v>(
+    alloc: Global,
+    value: &'v Value,
+) -> Result<Option<Vec<WrittenColumn<'v>>>, OutOfMemory>
+    ensures { IfOk result (λ o. option_map (λ v. map written_view v.items) o
+        ≡ table_of (view value.now)) }
+{
+    if !has_only(value, &["columns"]) {
+        return Ok(None);
+    }
+    match value.get("columns") {
+        Some(columns) => columns_of(alloc, columns),
+        None => Ok(None),
+    }
+}
+
+fn texts_of<'v>(alloc: Global, value: &'v Value) -> Result<Option<Vec<&'v str>>, OutOfMemory>
+    ensures { IfOk result (λ o. option_map (λ v. map (λ s. s.now) v.items) o
+        ≡ list_of as_str (view value.now)) }
+{
+    let Some(items) = value.as_array() else {
+        return Ok(None);
+    };
+    let mut texts = Vec::new(alloc);
+    for item in items {
+        let Some(text) = item.as_str() else {
+            return Ok(None);
+        };
+        texts.push(text)?;
+    }
+    Ok(Some(texts))
+}
+
+// A whole number below 2^32.
+fn count_of(value: &Value) -> Option<u32>
+    ensures { result ≡ count_of (view value.now) }
+{
+    let count = value.as_u64()?;
+    if count < 1 << 32 {
+        Some(count as u32)
+    } else {
+        None
+    }
+}
+
+#[tactic(auto, unfolding(crate::specs::Written::plan_of))]
+fn numbers_of(value: &Value) -> Option<ExecNumbers>
+    ensures { option_map plan_view result ≡ plan_of (view value.now) }
+{
+    if !has_only(value, &["den", "num", "partitions", "small", "workers"]) {
+        return None;
+    }
+    let workers = count_of(value.get("workers")?)?;
+    let partitions = count_of(value.get("partitions")?)?;
+    let small = count_of(value.get("small")?)?;
+    let num = count_of(value.get("num")?)?;
+    let den = count_of(value.get("den")?)?;
+    Some(ExecNumbers {
+        workers,
+        partitions,
+        small,
+        num,
+        den,
+    })
+}
+
+// The numbers of `Exec::standard` where the member is absent.
+fn exec_of(request: &Value) -> Option<ExecNumbers>
+    ensures { option_map plan_view result ≡ exec_of (view request.now) }
+{
+    match request.get("exec") {
+        Some(member) => numbers_of(member),
+        None => Some(ExecNumbers {
+            workers: 4,
+            partitions: 8,
+            small: 256,
+            num: 1,
+            den: 1,
+        }),
+    }
+}
+
+fn trace_of(request: &Value) -> Option<bool>
+    ensures { result ≡ trace_of (view request.now) }
+{
+    match request.get("trace") {
+        Some(member) => member.as_bool(),
+        None => Some(false),
+    }
+}
+
+/// The members of a request to join, or None where the value has not the form of one.
+#[tactic(auto, unfolding(crate::specs::Written::join_of))]
+pub(crate) fn join_of<'v>(
+    alloc: Global,
+    value: &'v Value,
+) -> Result<Option<WrittenJoin<'v>>, OutOfMemory>
+    ensures { IfOk result (λ o. option_map join_view o ≡ join_of (view value.now)) }
+{
+    if !has_only(
+        value,
+        &[
+            "args", "exec", "left", "left_on", "right", "right_on", "trace",
+        ],
+    ) {
+        return Ok(None);
+    }
+    let (Some(args), Some(exec), Some(trace)) = (value.get("args"), exec_of(value), trace_of(value))
+    else {
+        return Ok(None);
+    };
+    let Some(args) = args_of(alloc, args)? else {
+        return Ok(None);
+    };
+    let (Some(left), Some(left_on), Some(right), Some(right_on)) = (
+        value.get("left"),
+        value.get("left_on"),
+        value.get("right"),
+        value.get("right_on"),
+    ) else {
+        return Ok(None);
+    };
+    let Some(left) = table_of(alloc, left)? else {
+        return Ok(None);
+    };
+    let Some(left_on) = texts_of(alloc, left_on)? else {
+        return Ok(None);
+    };
+    let Some(right) = table_of(alloc, right)? else {
+        return Ok(None);
+    };
+    let Some(right_on) = texts_of(alloc, right_on)? else {
+        return Ok(None);
+    };
+    Ok(Some(WrittenJoin {
+        args,
+        exec,
+        left,
+        left_on,
+        right,
+        right_on,
+        trace,
+    }))
+}
