@@ -14,3 +14,4 @@ pub mod Runs
 pub mod FieldWalks
 pub mod ValueWalks
 pub mod ArrayWalks
+pub mod KindsBack
