@@ -40,20 +40,12 @@ const EXEC: &str = r#","exec":{"den":1,"num":1,"partitions":2,"small":0,"workers
 const NUMBERS: &str = r#"{"name":"k","type":"i64","chunks":[[1,2],[3]]}"#;
 
 #[test]
-fn columns_and_their_reasons(rt: HostRuntime) -> Result<(), Fail> {
+fn columns_in_their_form(rt: HostRuntime) -> Result<(), Fail> {
     let cases = [
         (NUMBERS, None),
         (r#"{"name":"k","type":"i64","chunks":[]}"#, None),
         (
             r#"{"name":"k","type":"str","chunks":[["x","\u00e9"],[],[null]]}"#,
-            None,
-        ),
-        (
-            r#"{"name":"k","type":"i64","chunks":[[null,1,1,2]],"sorted":"ascending"}"#,
-            None,
-        ),
-        (
-            r#"{"name":"k","type":"i64","chunks":[[2,1]],"sorted":"descending"}"#,
             None,
         ),
         (r#"{"name":2,"type":"i64","chunks":[[1]],"name":"k"}"#, None),
@@ -82,6 +74,20 @@ fn columns_and_their_reasons(rt: HostRuntime) -> Result<(), Fail> {
             r#"{"name":"k","type":{"list":"i64","of":1},"chunks":[]}"#,
             Some(Reason::Shape),
         ),
+    ];
+    for (left, reason) in &cases {
+        assert_eq!(rt;
+            reason_of(rt.alloc(), left, INNER, EXEC)?,
+            *reason,
+            "{left}"
+        );
+    }
+    Ok(())
+}
+
+#[test]
+fn values_and_their_types(rt: HostRuntime) -> Result<(), Fail> {
+    let cases = [
         (
             r#"{"name":"k","type":"i64","chunks":[[1.5]]}"#,
             Some(Reason::Value),
@@ -117,6 +123,28 @@ fn columns_and_their_reasons(rt: HostRuntime) -> Result<(), Fail> {
         (
             r#"{"name":"k","type":{"struct":[{"name":"a","type":"i64"},{"name":"b","type":"str"}]},"chunks":[[[1]]]}"#,
             Some(Reason::Value),
+        ),
+    ];
+    for (left, reason) in &cases {
+        assert_eq!(rt;
+            reason_of(rt.alloc(), left, INNER, EXEC)?,
+            *reason,
+            "{left}"
+        );
+    }
+    Ok(())
+}
+
+#[test]
+fn flags_names_and_heights(rt: HostRuntime) -> Result<(), Fail> {
+    let cases = [
+        (
+            r#"{"name":"k","type":"i64","chunks":[[null,1,1,2]],"sorted":"ascending"}"#,
+            None,
+        ),
+        (
+            r#"{"name":"k","type":"i64","chunks":[[2,1]],"sorted":"descending"}"#,
+            None,
         ),
         (
             r#"{"name":"k","type":{"list":"i64"},"chunks":[[[1]]],"sorted":"ascending"}"#,
