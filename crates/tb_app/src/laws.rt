@@ -5,9 +5,8 @@ ghost use Rattle.tb_app.specs.declared.words.Command.TheVariants.{Join};
 ghost use Rattle.tb_app.specs.Due.{due, DoneFor};
 ghost use Rattle.tb_app.specs.Headline.{JoinDone};
 
-use tb_value::PlSmallStr;
-
 pub use tb_json::laws::text_one_to_one;
+use tb_value::PlSmallStr;
 
 /// One status alone is due for the same words and bytes.
 pub fn one_status(words: &[PlSmallStr], bytes: &[u8])

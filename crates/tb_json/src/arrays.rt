@@ -18,7 +18,8 @@ use crate::read_cell::ReadCell;
 use serde_json::Value;
 use std::alloc::Global;
 use tb_store::{
-    BinaryChunk, Cells, Chunks, FieldValues, ListChunk, Physical, StringChunk, StructChunk, physical_of,
+    BinaryChunk, Cells, Chunks, FieldValues, ListChunk, Physical, StringChunk, StructChunk,
+    physical_of,
 };
 use tb_value::{Bytes, DataType, OutOfMemory, PlSmallStr, Values};
 
@@ -97,10 +98,7 @@ fn text_chunks(
     Ok(texts)
 }
 
-fn binary_chunks(
-    alloc: Global,
-    chunks: Vec<Cells<Bytes>>,
-) -> Result<Vec<BinaryChunk>, OutOfMemory>
+fn binary_chunks(alloc: Global, chunks: Vec<Cells<Bytes>>) -> Result<Vec<BinaryChunk>, OutOfMemory>
     ensures { IfOk result (λ v. map (λ c. map (or_null binary) c.inner.cells.items) v.items
         ≡ map (λ c. map (or_null binary) c.cells.items) chunks.items) }
 {
