@@ -1,0 +1,8 @@
+//! Equality joins of two lists of optional keys, by hash tables of one of them.
+#![tactic(auto)]
+
+mod keys;
+#[cfg(test)]
+mod tests;
+
+pub use keys::{JoinKey, KeyBytes, code_of, partition_of};
