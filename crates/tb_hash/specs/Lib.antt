@@ -1,2 +1,4 @@
 pub mod Codes
 pub mod CodeLaws
+pub mod Keys
+pub mod TableView

@@ -2,7 +2,9 @@
 #![tactic(auto)]
 
 mod keys;
+mod tables;
 #[cfg(test)]
 mod tests;
 
 pub use keys::{JoinKey, KeyBytes, code_of, partition_of};
+pub use tables::{Built, Tables, build_tables};
