@@ -1,3 +1,5 @@
 pub mod Found
 pub mod Rows
 pub mod Parts
+pub mod PairLists
+pub mod Listed

@@ -2,3 +2,4 @@ pub mod Codes
 pub mod CodeLaws
 pub mod Keys
 pub mod TableView
+pub mod Probing

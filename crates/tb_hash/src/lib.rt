@@ -2,9 +2,11 @@
 #![tactic(auto)]
 
 mod keys;
+mod probing;
 mod tables;
 #[cfg(test)]
 mod tests;
 
 pub use keys::{JoinKey, KeyBytes, code_of, partition_of};
+pub use probing::{Probed, probe};
 pub use tables::{Built, Tables, build_tables};
