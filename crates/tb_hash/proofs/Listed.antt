@@ -1,12 +1,11 @@
 -- What probing lists is the listing of the built and the probed keys.
-use Rattle.std.proofs.Common.{◌≡◌, ℕ, ◌<◌, Bool, true, false, not, ◌||◌, ◌&&◌, cond, nat_eq, List, [], ◌∷◌, ◌++◌, length, get_or, map, Option, Some, None, sym, refl, ap, ◌∙◌, subst, arith}
+use Rattle.std.proofs.Common.{◌≡◌, ℕ, ◌<◌, Bool, true, false, not, ◌||◌, ◌&&◌, cond, nat_eq, List, [], ◌∷◌, ◌++◌, length, get_or, map, Option, Some, None, sym, refl, ap, ◌∙◌}
 use Rattle.std.specs.Prelude.{filter}
-use Rattle.std.specs.List.{flat_map, list_any}
+use Rattle.std.specs.List.{list_any}
 use Rattle.std.specs.Cmp.{IsEquivalence}
 use Rattle.std.proofs.lemmas.Bool.{eq-eqb, eqb-true}
 use Rattle.std.proofs.lemmas.List.{map-append}
 use Rattle.std.proofs.lemmas.List.Sorted.{length_permutation}
-use Rattle.tb_value.specs.declared.index.JoinPair.{JoinPair}
 use Rattle.tb_value.specs.Pairs.{row_numbers, both, left_only, right_only, matched, left_met, left_unmet, right_unmet, turn}
 use Rattle.tb_value.proofs.Ascending.{kept_same}
 use Rattle.tb_value.proofs.Loops.{flat_map_agree, map-flat_map, map-map}
@@ -17,7 +16,7 @@ use Rattle.tb_frame.specs.declared.args.JoinType.TheVariants.{Inner, Left, Right
 use Rattle.tb_frame.specs.Join.{Ascends}
 use Rattle.tb_frame.proofs.InOrder.{left_way, right_way, left_way-permutation, left_way-sorted, right_way-permutation, right_way-sorted}
 use Rattle.tb_hash.specs.Keys.{keys_match, rows_match, rows_with, probe_listing}
-use Rattle.tb_hash.specs.Probing.{AllowsSide, AreMet, IsProbed, probed_order, probed_pair, probed_only, row_pairs, is_kept, probed_pairs, kept_rows, unmet_rows, unmarked_rows, kind_pairs}
+use Rattle.tb_hash.specs.Probing.{AllowsSide, AreMet, IsProbed, probed_order, probed_only, row_pairs, is_kept, probed_pairs, kept_rows, unmet_rows, unmarked_rows, kind_pairs}
 
 -- ROWS AMONG THOSE THAT PASS A TEST
 

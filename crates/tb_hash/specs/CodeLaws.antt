@@ -1,5 +1,5 @@
 -- Equal keys have equal codes, and a code fits 64 bits.
-use Rattle.std.specs.Prelude.{◌≡◌, ℕ, ◌*◌, ◌%◌, ◌^◌, ◌==◌, ◌<◌, Bool, true, false, IsTrue, bit_xor, List, [], ◌∷◌, fold, refl, ℤ, nat_eq}
+use Rattle.std.specs.Prelude.{◌≡◌, ℕ, ◌*◌, ◌%◌, ◌^◌, ◌<◌, Bool, true, false, IsTrue, bit_xor, List, [], ◌∷◌, fold, refl, ℤ, nat_eq}
 use Rattle.std.specs.Ordering.{int_eq}
 use Rattle.std.specs.Cmp.Lexicographic.{pointwise, bytes_decides}
 use Rattle.std.proofs.Common.{ap, arith, lit<, eqb-true}

@@ -1,4 +1,4 @@
-use Rattle.std.proofs.Common.{◌≡◌, ◌+◌, ◌∷◌, [], ◌∙◌, length, map, ap, arith, false, not, get_or, length-append}
+use Rattle.std.proofs.Common.{◌+◌, ◌∷◌, [], ◌∙◌, length, map, ap, arith, false, not, get_or, length-append}
 use Rattle.std.specs.Prelude.{filter}
 use Rattle.std.proofs.lemmas.Result.{err_from_is_err_and}
 use Rattle.tb_value.specs.Pairs.{row_numbers}

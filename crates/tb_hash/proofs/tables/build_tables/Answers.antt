@@ -1,4 +1,4 @@
-use Rattle.std.proofs.Common.{◌≡◌, ◌∙◌, ◌++◌, ◌∷◌, [], ap}
+use Rattle.std.proofs.Common.{◌∙◌, ◌++◌, ◌∷◌, [], ap}
 use Rattle.tb_hash.proofs.Parts.{one_part-table, one_part-small}
 use Rattle.tb_hash.proofs.tables.build_tables.Goals as goal
 

@@ -1,4 +1,4 @@
-use Rattle.std.proofs.Common.{◌≡◌, ◌<◌, ◌∙◌, ◌++◌, ◌∷◌, [], sym, ap, arith, get_or, length, None, true, false}
+use Rattle.std.proofs.Common.{◌≡◌, ◌<◌, ◌∙◌, ◌++◌, ◌∷◌, [], sym, ap, arith, get_or, length, None, true}
 use Rattle.std.proofs.lemmas.List.{get_or_default}
 use Rattle.tb_hash.specs.Keys.{keys_match}
 use Rattle.tb_hash.proofs.Rows.{rows_with-at, rows_with-skip}

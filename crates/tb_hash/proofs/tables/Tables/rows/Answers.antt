@@ -1,5 +1,4 @@
-use Rattle.std.proofs.Common.{◌≡◌, ℕ, ◌*◌, ◌/◌, ◌^◌, ◌<◌, sym, ◌∙◌, ap, length, arith, Some, None}
-use Rattle.std.specs.List.{All}
+use Rattle.std.proofs.Common.{◌≡◌, ◌*◌, ◌/◌, ◌^◌, ◌<◌, sym, ◌∙◌, ap, length, arith, Some, None}
 use Rattle.std.proofs.lemmas.List.Elements.{All-same}
 use Rattle.tb_hash.specs.Codes.{part_of}
 use Rattle.tb_hash.proofs.Parts.{found-in_part}
