@@ -3,3 +3,4 @@ pub mod Rows
 pub mod Parts
 pub mod PairLists
 pub mod Listed
+pub mod Hashed

@@ -3,3 +3,5 @@ pub mod CodeLaws
 pub mod Keys
 pub mod TableView
 pub mod Probing
+pub mod Hashing
+pub mod KeyCells
