@@ -202,18 +202,19 @@ pub fn hash_pairs<G: Gate>(
     kind: JoinType,
     left: &Series,
     right: &Series,
-    _validate: JoinValidation,
+    validate: JoinValidation,
     join_nulls: bool,
     exec: &Exec,
     gate: &G,
 ) -> PolarsResult<(Probed, Built)>
     requires key { is_key left.now.kind ≡ true }
     requires same { left.now.kind ≡ right.now.kind }
-    requires many { _validate ≡ JoinValidation.ManyToMany }
+    requires many { validate ≡ JoinValidation.ManyToMany }
     ensures settles { Settles result (too_many (length (value_listing join_nulls kind (values left.now) (values right.now)))) }
     ensures listed { let side = builds_left kind (length (values left.now)) (length (values right.now)) in IfOk result (λ r. IsProbed kind side (value_listing join_nulls kind (values left.now) (values right.now)) r.0) }
     ensures built { let side = builds_left kind (length (values left.now)) (length (values right.now)) in IfOk result (λ r. r.1 ≡ one_part side (if side then length (values left.now) else length (values right.now))) }
 {
+    prove!(validate == JoinValidation::ManyToMany);
     let _lengths = (left.len(), right.len());
     hash_chunks(
         rt,
