@@ -1,0 +1,6 @@
+pub mod Found
+pub mod Rows
+pub mod Parts
+pub mod PairLists
+pub mod Listed
+pub mod Hashed

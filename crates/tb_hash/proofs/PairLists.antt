@@ -1,0 +1,169 @@
+-- The pairs of probed rows, one row more at a time.
+use Rattle.std.proofs.Common.{◌≡◌, ◌⊎◌, inl, inr, ℕ, zero, suc, ◌+◌, ◌-◌, ◌<◌, ◌≤◌, ◌==◌, nat_eq, nat_lt, Bool, true, false, not, cond, ◌||◌, List, [], ◌∷◌, ◌++◌, length, map, get_or, sym, refl, ap, ◌∙◌, arith, Some, None, append-nil, length-append}
+use Rattle.std.specs.Prelude.{filter}
+use Rattle.std.specs.List.{flat_map, list_any}
+use Rattle.std.proofs.lemmas.Bool.{ltb-true, lt-ltb}
+use Rattle.std.proofs.lemmas.List.Concat.{flat_map-append}
+use Rattle.std.proofs.lemmas.List.Folds.{list_any-append}
+use Rattle.std.proofs.Math.Dec.{eqb-suc-zero}
+use mathlib.Core.Bool.{beq}
+use Rattle.tb_value.specs.declared.error.PolarsError.{PolarsError}
+use Rattle.tb_value.specs.declared.error.PolarsError.TheVariants.{OutOfMemory, ComputeError}
+use Rattle.tb_value.specs.declared.error.ComputeCause.TheVariants.{TooManyRows}
+use Rattle.tb_value.specs.declared.index.JoinPair.{JoinPair}
+use Rattle.tb_value.specs.Pairs.{row_numbers, left_only}
+use Rattle.tb_value.specs.Refusals.{when}
+use Rattle.tb_value.proofs.RowNumbers.{row_numbers_more, kept_more}
+use Rattle.tb_frame.proofs.Causes.{when_not_above}
+use Rattle.tb_hash.specs.Probing.{AreMet, too_many, row_pairs, is_kept, probed_pairs, kept_rows}
+
+-- TOO MANY
+
+over_case : (a b : ℕ) (e : PolarsError) → a ≤ b → (x : Bool) → nat_lt 4294967294 a ≡ x → when x (ComputeError TooManyRows) ≡ Some e → too_many b ≡ Some e
+over_case a b e le true k h =
+    let over : 4294967294 < a = ltb-true 4294967294 a k in
+    let far : 4294967294 < b = omega arith in
+    ap (λ (x : Bool). when x (ComputeError TooManyRows)) (lt-ltb 4294967294 b far) ∙ h
+over_case a b e le false k h = absurd (cc)
+
+-- where some pairs are too many, so are more
+pub still_too_many : (a b : ℕ) (e : PolarsError) → a ≤ b → (e ≡ OutOfMemory) ⊎ (too_many a ≡ Some e) → (e ≡ OutOfMemory) ⊎ (too_many b ≡ Some e)
+still_too_many a b e le (inl h) = inl h
+still_too_many a b e le (inr h) = inr (over_case a b e le (nat_lt 4294967294 a) refl h)
+
+few_case : (n : ℕ) → n ≤ 4294967294 → (x : Bool) → nat_lt 4294967294 n ≡ x → when x (ComputeError TooManyRows) ≡ None
+few_case n few true k = let over : 4294967294 < n = ltb-true 4294967294 n k in absurd (omega arith)
+few_case n few false k = refl
+
+pub not_too_many : (n : ℕ) → n ≤ 4294967294 → too_many n ≡ None
+not_too_many n few = few_case n few (nat_lt 4294967294 n) refl
+
+-- ROW AFTER ROW
+
+module _ (f : ℕ → List JoinPair) where
+  flat_more : (n : ℕ) → flat_map f (row_numbers (n + 1)) ≡ flat_map f (row_numbers n) ++ f n
+  flat_more n =
+      ap (flat_map f) (row_numbers_more n) ∙ flat_map-append f (row_numbers n) (n ∷ [])
+      ∙ ap (λ (x : List JoinPair). flat_map f (row_numbers n) ++ x) (append-nil (f n))
+
+  length-flat_more : (n : ℕ) → length (flat_map f (row_numbers (n + 1))) ≡ length (flat_map f (row_numbers n)) + length (f n)
+  length-flat_more n = ap (λ (ps : List JoinPair). length ps) (flat_more n) ∙ length-append (flat_map f (row_numbers n)) (f n)
+
+  -- more rows make no fewer pairs
+  flat_grows : (k d : ℕ) → length (flat_map f (row_numbers k)) ≤ length (flat_map f (row_numbers (k + d)))
+  flat_grows k zero = let e : k + 0 ≡ k = omega arith in let s : length (flat_map f (row_numbers (k + 0))) ≡ length (flat_map f (row_numbers k)) = ap (λ (n : ℕ). length (flat_map f (row_numbers n))) e in omega (arith, s)
+  flat_grows k (suc d) =
+      let e : k + suc d ≡ (k + d) + 1 = omega arith in
+      let s : length (flat_map f (row_numbers (k + suc d))) ≡ length (flat_map f (row_numbers ((k + d) + 1))) = ap (λ (n : ℕ). length (flat_map f (row_numbers n))) e in
+      let g = length-flat_more (k + d) in
+      let rest = flat_grows k d in
+      omega (arith, s, g, rest)
+
+-- a loop's step at row i, whose built rows are rs
+module _ (rows : ℕ → List ℕ) (left_built keep : Bool) (i : ℕ) (rs : List ℕ) (same : rs ≡ rows i) (side : Bool) (same_side : side ≡ left_built) (old : List JoinPair) (so_far : old ≡ probed_pairs rows left_built keep i) where
+  here : row_pairs side keep i rs ≡ row_pairs left_built keep i (rows i)
+  here = λ t. row_pairs (same_side t) keep i (same t)
+
+  pub pairs-step : (new : List JoinPair) → new ≡ old ++ row_pairs side keep i rs → new ≡ probed_pairs rows left_built keep (i + 1)
+  pairs-step new step = step ∙ (λ t. so_far t ++ here t) ∙ sym (flat_more (λ p. row_pairs left_built keep p (rows p)) i)
+
+  -- where the row's pairs are too many, all are
+  pub too_many-step : (n : ℕ) → i < n → (e : PolarsError) → (e ≡ OutOfMemory) ⊎ (too_many (length old + length (row_pairs side keep i rs)) ≡ Some e) → (e ≡ OutOfMemory) ⊎ (too_many (length (probed_pairs rows left_built keep n)) ≡ Some e)
+  too_many-step n low e h =
+      let f : ℕ → List JoinPair = λ p. row_pairs left_built keep p (rows p) in
+      let before = ap (λ (ps : List JoinPair). length ps) so_far in
+      let more = ap (λ (ps : List JoinPair). length ps) here in
+      let next = length-flat_more f i in
+      let grows = flat_grows f (i + 1) (n - (i + 1)) in
+      let all : (i + 1) + (n - (i + 1)) ≡ n = omega arith in
+      let whole : length (flat_map f (row_numbers ((i + 1) + (n - (i + 1))))) ≡ length (flat_map f (row_numbers n)) = ap (λ (k : ℕ). length (flat_map f (row_numbers k))) all in
+      still_too_many (length old + length (row_pairs side keep i rs)) (length (flat_map f (row_numbers n))) e (omega (arith, before, more, next, grows, whole)) h
+
+-- pairs that were put behind others had room
+pub room-step : (old more new : List JoinPair) → new ≡ old ++ more → too_many (length old + length more) ≡ None → length new ≤ 4294967294
+room-step old more new e h =
+    let long = ap (λ (ps : List JoinPair). length ps) e in
+    let parts = length-append old more in
+    let fits = when_not_above 4294967294 (length old + length more) (ComputeError TooManyRows) h in
+    omega (arith, long, parts, fits)
+
+-- MARKS
+
+-- the marks of the rows so far, with those of row i
+pub marks-step : (rows : ℕ → List ℕ) (i : ℕ) (rs : List ℕ) → rs ≡ rows i → (old new : List Bool) → length new ≡ length old
+    → ((k : ℕ) → k < length old → get_or new k false ≡ (get_or old k false || list_any (nat_eq k) rs)) → AreMet rows i old → AreMet rows (i + 1) new
+marks-step rows i rs same old new len marks was k low =
+    let low' : k < length old = omega (arith, len, low) in
+    let p : ℕ → Bool = λ p. list_any (nat_eq k) (rows p) in
+    marks k low' ∙ ap (λ b. b || list_any (nat_eq k) rs) (was k low') ∙ ap (λ r. list_any p (row_numbers i) || list_any (nat_eq k) r) same
+    ∙ ap (λ b. list_any p (row_numbers i) || b) (sym (or_false (p i)))
+    ∙ sym (ap (list_any p) (row_numbers_more i) ∙ list_any-append p (row_numbers i) (i ∷ []))
+  where
+    or_false : (b : Bool) → (b || false) ≡ b
+    or_false true = refl
+    or_false false = refl
+
+-- ROWS ALONE
+
+module _ (f : ℕ → JoinPair) (p : ℕ → Bool) where
+  alone : ℕ → List JoinPair
+  alone n = map f (filter p (row_numbers n))
+
+  alone_more : (n : ℕ) (b : Bool) → p n ≡ b → length (alone (n + 1)) ≡ length (alone n) + length (cond b (f n ∷ []) [])
+  unfolding alone
+  alone_more n b e = ap (λ (ps : List JoinPair). length ps) (kept_more f p n b e) ∙ length-append (map f (filter p (row_numbers n))) (cond b (f n ∷ []) [])
+
+  alone_step : (n : ℕ) → (length (alone n) ≤ length (alone (n + 1))) × (length (alone (n + 1)) ≤ length (alone n) + 1)
+  alone_step n = at (p n) refl
+    where
+      at : (b : Bool) → p n ≡ b → (length (alone n) ≤ length (alone (n + 1))) × (length (alone (n + 1)) ≤ length (alone n) + 1)
+      at true e = let m = alone_more n true e in (omega (arith, m), omega (arith, m))
+      at false e = let m = alone_more n false e in (omega (arith, m), omega (arith, m))
+
+  alone_grows : (k d : ℕ) → length (alone k) ≤ length (alone (k + d))
+  alone_grows k zero = let e : k + 0 ≡ k = omega arith in let s = ap (λ (n : ℕ). length (alone n)) e in omega (arith, s)
+  alone_grows k (suc d) =
+      let e : k + suc d ≡ (k + d) + 1 = omega arith in
+      let s = ap (λ (n : ℕ). length (alone n)) e in
+      let g = (alone_step (k + d)).0 in
+      let rest = alone_grows k d in
+      omega (arith, s, g, rest)
+
+  -- rows alone are no more than rows
+  alone_few : (n : ℕ) → length (alone n) ≤ n
+  unfolding alone
+  alone_few zero = omega arith
+  alone_few (suc n) =
+      let e : suc n ≡ n + 1 = omega arith in
+      let s = ap (λ (k : ℕ). length (map f (filter p (row_numbers k)))) e in
+      let g = (alone_step n).1 in
+      let rest = alone_few n in
+      omega (arith, s, g, rest)
+
+  -- the rows alone so far, and one more, are no more than all
+  pub alone_fits : (i n : ℕ) → i < n → p i ≡ true → length (map f (filter p (row_numbers i))) + 1 ≤ length (map f (filter p (row_numbers n)))
+  unfolding alone
+  alone_fits i n low e =
+      let m = alone_more i true e in
+      let g = alone_grows (i + 1) (n - (i + 1)) in
+      let all : (i + 1) + (n - (i + 1)) ≡ n = omega arith in
+      let whole = ap (λ (k : ℕ). length (map f (filter p (row_numbers k)))) all in
+      omega (arith, m, g, whole)
+
+pub kept-few : (rows : ℕ → List ℕ) (wanted : Bool) (n : ℕ) → length (kept_rows rows wanted n) ≤ n
+unfolding alone
+kept-few rows wanted n = alone_few left_only (λ p. is_kept wanted (rows p)) n
+
+no_length : {X : Type 0} (x : X) (xs : List X) → true ≡ (length (x ∷ xs) == 0) → true ≡ false
+no_length x xs h = h ∙ eqb-suc-zero (length xs)
+
+-- whether a row is kept, told by whether it has built rows
+pub is_kept-is : (wanted : Bool) (rs : List ℕ) (e : Bool) → e ≡ (length rs == 0) → is_kept wanted rs ≡ not (beq e wanted)
+is_kept-is true [] true h = refl
+is_kept-is true [] false h = cc
+is_kept-is true (r ∷ rs) true h = let k : true ≡ false = no_length r rs h in cc
+is_kept-is true (r ∷ rs) false h = refl
+is_kept-is false [] true h = refl
+is_kept-is false [] false h = cc
+is_kept-is false (r ∷ rs) true h = let k : true ≡ false = no_length r rs h in cc
+is_kept-is false (r ∷ rs) false h = refl

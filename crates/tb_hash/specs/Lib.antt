@@ -1,0 +1,7 @@
+pub mod Codes
+pub mod CodeLaws
+pub mod Keys
+pub mod TableView
+pub mod Probing
+pub mod Hashing
+pub mod KeyCells

@@ -1,0 +1,200 @@
+//! The keys of a column, read as they are stored.
+ghost use Rattle.std.specs.Prelude.{◌≡◌, ◌++◌, IfOk, OnOk, map};
+ghost use Rattle.tb_value.specs.Datum.{binary, string};
+ghost use Rattle.tb_chunk.specs.Chunk.{or_null};
+ghost use Rattle.tb_chunk.specs.Col.{flat};
+
+use crate::keys::{JoinKey, KeyBytes};
+use std::alloc::Global;
+use tb_store::{BinaryChunk, Cell, Cells, StringChunk};
+use tb_value::{Bytes, OutOfMemory, PlSmallStr};
+
+/// A key that is stored as it is: two are equal exactly where their values are.
+pub(crate) trait KeyCell: Cell + JoinKey {
+    ghost use Rattle.std.specs.Prelude.{◌≡◌, false};
+    ghost use Rattle.tb_value.specs.Datum.{is_null};
+    ghost use Rattle.tb_value.specs.Same.{same};
+
+    ghost there: { (x : Self) → is_null (Self.shows x) ≡ false };
+
+    ghost equal: { (x y : Self) → same (Self.shows x) (Self.shows y) ≡ Self.eq x y };
+}
+
+impl KeyCell for bool {
+    ghost use Rattle.std.specs.Prelude.{refl};
+
+    ghost there = { λ x. refl };
+
+    ghost equal = { λ x y. refl };
+}
+
+impl KeyCell for i8 {
+    ghost use Rattle.std.specs.Prelude.{refl};
+
+    ghost there = { λ x. refl };
+
+    ghost equal = { λ x y. refl };
+}
+
+impl KeyCell for i16 {
+    ghost use Rattle.std.specs.Prelude.{refl};
+
+    ghost there = { λ x. refl };
+
+    ghost equal = { λ x y. refl };
+}
+
+impl KeyCell for i32 {
+    ghost use Rattle.std.specs.Prelude.{refl};
+
+    ghost there = { λ x. refl };
+
+    ghost equal = { λ x y. refl };
+}
+
+impl KeyCell for i64 {
+    ghost use Rattle.std.specs.Prelude.{refl};
+
+    ghost there = { λ x. refl };
+
+    ghost equal = { λ x y. refl };
+}
+
+impl KeyCell for i128 {
+    ghost use Rattle.std.specs.Prelude.{refl};
+
+    ghost there = { λ x. refl };
+
+    ghost equal = { λ x y. refl };
+}
+
+impl KeyCell for u8 {
+    ghost use Rattle.std.specs.Prelude.{refl};
+    ghost use Rattle.tb_hash.specs.KeyCells.{same_number};
+
+    ghost there = { λ x. refl };
+
+    ghost equal = { same_number };
+}
+
+impl KeyCell for u16 {
+    ghost use Rattle.std.specs.Prelude.{refl};
+    ghost use Rattle.tb_hash.specs.KeyCells.{same_number};
+
+    ghost there = { λ x. refl };
+
+    ghost equal = { same_number };
+}
+
+impl KeyCell for u32 {
+    ghost use Rattle.std.specs.Prelude.{refl};
+    ghost use Rattle.tb_hash.specs.KeyCells.{same_number};
+
+    ghost there = { λ x. refl };
+
+    ghost equal = { same_number };
+}
+
+impl KeyCell for u64 {
+    ghost use Rattle.std.specs.Prelude.{refl};
+    ghost use Rattle.tb_hash.specs.KeyCells.{same_number};
+
+    ghost there = { λ x. refl };
+
+    ghost equal = { same_number };
+}
+
+fn push_cells<N: KeyCell>(keys: &mut Vec<Option<N>>, cells: &[Option<N>]) -> Result<(), OutOfMemory>
+    ensures { OnOk result (map (or_null N.shows) keys.new.items ≡ map (or_null N.shows) keys.old.items ++ map (or_null N.shows) cells.now) }
+{
+    keys.extend_from_slice(cells)?;
+    Ok(())
+}
+
+/// The keys of these chunks, in order.
+pub(crate) fn joined_cells<N: KeyCell>(
+    alloc: Global,
+    chunks: &[Cells<N>],
+) -> Result<Vec<Option<N>>, OutOfMemory>
+    ensures { IfOk result (λ v. map (or_null N.shows) v.items ≡ flat (map (λ c. map (or_null N.shows) c.cells.items) chunks.now)) }
+{
+    let mut keys = Vec::new(alloc);
+    for chunk in chunks {
+        push_cells(&mut keys, &chunk.cells)?;
+    }
+    Ok(keys)
+}
+
+/// The texts of these chunks, in order.
+pub(crate) fn joined_texts(
+    alloc: Global,
+    chunks: &[StringChunk],
+) -> Result<Vec<Option<KeyBytes<'_>>>, OutOfMemory>
+    ensures { IfOk result (λ v. map (or_null (λ k. string k.bytes.now)) v.items ≡ flat (map (λ c. map (or_null string) c.inner.cells.items) chunks.now)) }
+{
+    let mut keys = Vec::new(alloc);
+    for chunk in chunks {
+        push_texts(&mut keys, chunk.texts())?;
+    }
+    Ok(keys)
+}
+
+fn push_texts<'a>(
+    keys: &mut Vec<Option<KeyBytes<'a>>>,
+    texts: &'a [Option<PlSmallStr>],
+) -> Result<(), OutOfMemory>
+    ensures { OnOk result (map (or_null (λ k. string k.bytes.now)) keys.new.items ≡ map (or_null (λ k. string k.bytes.now)) keys.old.items ++ map (or_null string) texts.now) }
+{
+    for text in texts {
+        keys.push(lent_text(text))?;
+    }
+    Ok(())
+}
+
+fn lent_text(text: &Option<PlSmallStr>) -> Option<KeyBytes<'_>>
+    ensures { or_null (λ k. string k.bytes.now) result ≡ or_null string text.now }
+{
+    match text {
+        Some(text) => Some(KeyBytes {
+            bytes: text.as_str().as_bytes(),
+        }),
+        None => None,
+    }
+}
+
+/// The binary values of these chunks, in order.
+pub(crate) fn joined_bytes(
+    alloc: Global,
+    chunks: &[BinaryChunk],
+) -> Result<Vec<Option<KeyBytes<'_>>>, OutOfMemory>
+    ensures { IfOk result (λ v. map (or_null (λ k. binary k.bytes.now)) v.items ≡ flat (map (λ c. map (or_null binary) c.inner.cells.items) chunks.now)) }
+{
+    let mut keys = Vec::new(alloc);
+    for chunk in chunks {
+        push_bytes(&mut keys, &chunk.inner.cells)?;
+    }
+    Ok(keys)
+}
+
+fn push_bytes<'a>(
+    keys: &mut Vec<Option<KeyBytes<'a>>>,
+    cells: &'a [Option<Bytes>],
+) -> Result<(), OutOfMemory>
+    ensures { OnOk result (map (or_null (λ k. binary k.bytes.now)) keys.new.items ≡ map (or_null (λ k. binary k.bytes.now)) keys.old.items ++ map (or_null binary) cells.now) }
+{
+    for cell in cells {
+        keys.push(lent_bytes(cell))?;
+    }
+    Ok(())
+}
+
+fn lent_bytes(cell: &Option<Bytes>) -> Option<KeyBytes<'_>>
+    ensures { or_null (λ k. binary k.bytes.now) result ≡ or_null binary cell.now }
+{
+    match cell {
+        Some(bytes) => Some(KeyBytes {
+            bytes: bytes.as_slice(),
+        }),
+        None => None,
+    }
+}
