@@ -172,7 +172,8 @@ impl Series {
         (name, dtype, chunks, flag)
     }
 
-    pub(crate) fn from_parts(
+    /// The column of these parts.
+    pub fn from_parts(
         name: PlSmallStr,
         dtype: DataType,
         chunks: Chunks,
