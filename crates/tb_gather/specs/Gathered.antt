@@ -28,9 +28,17 @@ gathered_flag Descending Ascending = Descending
 gathered_flag Descending Descending = Ascending
 gathered_flag _ _ = Not
 
--- the rows of a column that ids name, which run so, in one chunk
+-- the rows of a column that ids name, in one chunk, with this flag
+abbrev pub named_rows : List Id → IsSorted → Col → Col
+named_rows ids flag c = record c { chunks = map (value_at c.chunks) ids ∷ []; flag = flag }
+
+-- the rows that ids name which run so
 abbrev pub gathered : List Id → IsSorted → Col → Col
-gathered ids sorted c = record c { chunks = map (value_at c.chunks) ids ∷ []; flag = gathered_flag c.flag sorted }
+gathered ids sorted c = named_rows ids (gathered_flag c.flag sorted) c
+
+-- the rows that ids name, whatever their order
+abbrev pub opt_gathered : List Id → Col → Col
+opt_gathered ids c = named_rows ids Not c
 
 -- each id is none or names a row of the column
 abbrev pub NameRows : List Id → Col → Type 0

@@ -2,3 +2,4 @@
 #![tactic(auto)]
 
 mod gather;
+pub mod laws;
