@@ -92,3 +92,7 @@ pub gathered-flag : (c : Col) (ids : List Id) (sorted : IsSorted) → IsColumn c
 gathered-flag c ids sorted column some named runs =
     subst (FlagHolds (gathered_flag c.flag sorted) c.kind) (sym (append-nil (map (value_at c.chunks) ids)))
     (flag-picked c.chunks ids some named c.kind c.flag sorted column.typed column.flag_holds runs)
+
+pub flag-of-named : (c : Col) (ids : List Id) (sorted flag : IsSorted) → IsColumn c → All (λ (id : Id). IsSome id) ids → NameRows ids c → RunsBy sorted ids → flag ≡ gathered_flag c.flag sorted → FlagHolds flag c.kind (map (value_at c.chunks) ids)
+flag-of-named c ids sorted flag column some named runs is =
+    subst (λ (f : IsSorted). FlagHolds f c.kind (map (value_at c.chunks) ids)) (sym is) (flag-picked c.chunks ids some named c.kind c.flag sorted column.typed column.flag_holds runs)

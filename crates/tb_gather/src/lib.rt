@@ -1,5 +1,14 @@
 //! Rows of columns and tables, gathered by the chunk and the row in it.
 #![tactic(auto)]
 
-mod gather;
+mod arrays;
+mod directions;
+mod gathering;
 pub mod laws;
+mod series;
+mod tables;
+mod take_chunked;
+
+pub use directions::gathered_flag;
+pub use gathering::{gather, gather_chunks};
+pub use take_chunked::TakeChunked;
