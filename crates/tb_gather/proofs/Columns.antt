@@ -3,6 +3,7 @@ use Rattle.std.proofs.Common.{arith, ◌≡◌, ◌∙◌, ℕ, ◌≤◌, List,
 use Rattle.std.specs.Prelude.{IsSome}
 use Rattle.std.specs.List.{All}
 use Rattle.std.proofs.lemmas.List.{length-map, append-nil}
+use Rattle.std.proofs.lemmas.List.Elements.{All-nil, All-cons}
 use Rattle.tb_value.specs.Datum.{Datum}
 use Rattle.tb_value.specs.Typed.{HasType}
 use Rattle.tb_value.specs.declared.sorted.IsSorted.{IsSorted}
@@ -29,3 +30,7 @@ IsColumn-named c d ids flag column named few holds same_kind picked same_flag =
       typed = rw (same_kind, all) (All-picked (HasType c.kind) (values c) (row_or_none (lengths c.chunks)) ids tt column.typed (λ k d low. named-row c.chunks _ (named k d low)));
       flag_holds = rw (same_kind, same_flag, all) holds;
     }
+
+-- ids that name rows of a column name rows of each column of it alone
+pub NameRows-one : (ids : List Id) (c : Col) → NameRows ids c → All (NameRows ids) (c ∷ [])
+NameRows-one ids c named = All-cons (NameRows ids) c [] named (All-nil (NameRows ids))

@@ -1,5 +1,6 @@
 //! Rows of a table, gathered by ids.
 ghost use Rattle.std.specs.Prelude.{◌≡◌, ◌≤◌, All, IfOk, IsSome, length, map};
+ghost use Rattle.tb_value.specs.declared.error.PolarsError.TheVariants as errors;
 ghost use Rattle.tb_frame.specs.Table.{table_of, IsTable};
 ghost use Rattle.tb_gather.specs.Ids.{Id, RunsBy};
 ghost use Rattle.tb_gather.specs.Gathered.{NameRows, gathered, opt_gathered};
@@ -47,6 +48,15 @@ fn gather_opt_columns<const B: u64>(
     Ok(gathered)
 }
 
+fn want_of_memory(error: PolarsError) -> OutOfMemory
+    requires { error ≡ errors.OutOfMemory }
+{
+    match error {
+        PolarsError::OutOfMemory => OutOfMemory,
+        _ => unreachable!(),
+    }
+}
+
 // The table of columns that make one.
 pub(crate) fn made_table(alloc: Global, columns: Vec<Column>) -> Result<DataFrame, OutOfMemory>
     requires { IsTable (table_of columns.items) }
@@ -54,8 +64,7 @@ pub(crate) fn made_table(alloc: Global, columns: Vec<Column>) -> Result<DataFram
 {
     match DataFrame::new(alloc, columns) {
         Ok(table) => Ok(table),
-        Err(PolarsError::OutOfMemory) => Err(OutOfMemory),
-        Err(_) => unreachable!(),
+        Err(error) => Err(want_of_memory(error)),
     }
 }
 
