@@ -30,3 +30,8 @@ abbrev pub RunsBy : IsSorted → List Id → Type 0
 RunsBy Ascending ids = AllPairs IsUpTo ids
 RunsBy Descending ids = AllPairs (λ (a b : Id). IsUpTo b a) ids
 RunsBy Not ids = Unit {0}
+
+-- where each chunk of these lengths starts, as a row number
+pub record AreStarts (lens starts : List ℕ) : Type 0 where
+  pub whole : length starts ≡ length lens
+  pub each : (k : ℕ) → k < length lens → slice_index_or starts k 0 ≡ sum (take k lens)

@@ -4,6 +4,7 @@
 mod arrays;
 mod directions;
 mod gathering;
+mod ids;
 pub mod laws;
 mod series;
 mod side_by_side;
@@ -12,5 +13,6 @@ mod take_chunked;
 
 pub use directions::gathered_flag;
 pub use gathering::{gather, gather_chunks};
+pub use ids::ids_of;
 pub use side_by_side::TakeChunkedHorPar;
 pub use take_chunked::TakeChunked;
