@@ -1,17 +1,15 @@
 -- What gathered columns are.
-use Rattle.std.proofs.Common.{arith, ◌≡◌, ◌∙◌, ℕ, ◌≤◌, List, [], ◌∷◌, length, map, ap, sym, subst}
-use Rattle.std.specs.Prelude.{IsSome}
+use Rattle.std.proofs.Common.{arith, ◌≡◌, ◌∙◌, ◌≤◌, List, [], ◌∷◌, length, map, ap}
 use Rattle.std.specs.List.{All}
 use Rattle.std.proofs.lemmas.List.{length-map, append-nil}
 use Rattle.std.proofs.lemmas.List.Elements.{All-nil, All-cons}
-use Rattle.tb_value.specs.Datum.{Datum}
 use Rattle.tb_value.specs.Typed.{HasType}
 use Rattle.tb_value.specs.declared.sorted.IsSorted.{IsSorted}
 use Rattle.tb_chunk.specs.Col.{Col, IsColumn, flat, values}
 use Rattle.tb_chunk.specs.Flag.{FlagHolds}
 use Rattle.tb_chunk.proofs.Lists.{All-picked}
-use Rattle.tb_gather.specs.Ids.{Id, row_or_none, RunsBy}
-use Rattle.tb_gather.specs.Gathered.{lengths, value_at, gathered_flag, named_rows, NameRows}
+use Rattle.tb_gather.specs.Ids.{Id, row_or_none}
+use Rattle.tb_gather.specs.Gathered.{lengths, value_at, named_rows, NameRows}
 use Rattle.tb_gather.proofs.Rows.{named-row}
 
 pub values-named : (ids : List Id) (flag : IsSorted) (c : Col) → values (named_rows ids flag c) ≡ map (value_at c.chunks) ids

@@ -1,11 +1,10 @@
 -- Rows of chunks that are cut anew.
-use Rattle.std.proofs.Common.{arith, ◌≡◌, ◌∙◌, ℕ, ◌<◌, ◌≤◌, ◌+◌, ◌-◌, suc, zero, inl, inr, ◌⊎◌, List, [], ◌∷◌, length, map, get_or, take, ap, sym, refl, Some, None}
+use Rattle.std.proofs.Common.{arith, ◌≡◌, ◌∙◌, ℕ, ◌<◌, ◌≤◌, ◌-◌, suc, zero, inl, inr, ◌⊎◌, List, [], ◌∷◌, map, get_or, take, ap, sym, refl, Some, None}
 use Rattle.std.specs.List.{sum}
 use Rattle.std.proofs.lemmas.Bool.{cases_lt}
 use Rattle.tb_value.specs.Datum.{Datum}
 use Rattle.tb_value.specs.declared.sorted.IsSorted.{IsSorted}
 use Rattle.tb_chunk.specs.Col.{Col, flat, values}
-use Rattle.tb_chunk.specs.Rows.{value_or_null}
 use Rattle.tb_frame.specs.Frame.{lens}
 use Rattle.tb_gather.specs.Ids.{Id, NamesRow, row_of, row_or_none}
 use Rattle.tb_gather.specs.Gathered.{gathered, gathered_flag, lengths, pick, value_at}

@@ -1,6 +1,6 @@
 -- The flag of gathered values.
-use Rattle.std.proofs.Common.{◌≡◌, ◌∙◌, ℕ, ◌<◌, ◌≤◌, inl, inr, not, Bool, true, false, List, length, map, get_or, refl, ap, sym, subst, Some, None, arith}
-use Rattle.std.specs.Prelude.{IsSome, IsSorted as IsInOrder}
+use Rattle.std.proofs.Common.{◌≡◌, ◌∙◌, ℕ, ◌<◌, ◌≤◌, inl, inr, not, Bool, true, false, List, length, map, get_or, sym, subst, None, arith}
+use Rattle.std.specs.Prelude.{IsSome}
 use Rattle.std.specs.List.{All, AllPairs}
 use Rattle.std.specs.Ordering.{flip_args}
 use Rattle.std.specs.declared.cmp.Ordering.{Ordering}
@@ -12,7 +12,7 @@ use Rattle.tb_value.specs.Typed.{HasType}
 use Rattle.tb_value.specs.declared.sorted.IsSorted.{IsSorted}
 use Rattle.tb_value.specs.declared.sorted.IsSorted.TheVariants.{Ascending, Descending, Not}
 use Rattle.tb_chunk.specs.Col.{Col, flat, values, IsColumn}
-use Rattle.tb_chunk.specs.Flag.{datum_cmp, present, nulls, HasNullsAtOneEnd, IsOrdered, FlagHolds}
+use Rattle.tb_chunk.specs.Flag.{datum_cmp, present, nulls, IsOrdered, FlagHolds}
 use Rattle.tb_gather.specs.Ids.{Id, NamesRow, IsUpTo, RunsBy}
 use Rattle.tb_gather.specs.Gathered.{lengths, value_at, gathered_flag, gathered, NameRows}
 use Rattle.tb_gather.proofs.Comparing.{IsOf, Orders, ascending-orders, descending-orders}
@@ -29,8 +29,8 @@ module _ (order : Datum → Datum → Ordering) (t : Kind) (o : Orders order (Is
   all-stand vs typed h =
       let fit : All (IsOf t) (present vs) = λ k d low. (All-filter is_present (HasType t) vs typed k d low, filter_passes is_present vs k d low) in
       elim h.2 [
-        inl e ↦ (true, subst (AllStand true order) (sym e) (nulls-first order (IsOf t) o (nulls vs) (present vs) (filter_passes is_null vs) (filter_passes is_present vs) fit h.1))
-      | inr e ↦ (false, subst (AllStand false order) (sym e) (nulls-last order (IsOf t) o (nulls vs) (present vs) (filter_passes is_null vs) (filter_passes is_present vs) fit h.1))
+        | inl e ↦ (true, subst (AllStand true order) (sym e) (nulls-first order (IsOf t) o (nulls vs) (present vs) (filter_passes is_null vs) (filter_passes is_present vs) fit h.1))
+        | inr e ↦ (false, subst (AllStand false order) (sym e) (nulls-last order (IsOf t) o (nulls vs) (present vs) (filter_passes is_null vs) (filter_passes is_present vs) fit h.1))
       ]
 
 module _ (chunks : List (List Datum)) (ids : List Id) (some : All (λ (id : Id). IsSome id) ids) (named : All (NamesRow (lengths chunks)) ids) where

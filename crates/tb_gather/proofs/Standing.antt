@@ -1,9 +1,9 @@
 -- Values in order, seen pair by pair, and what is picked from them.
-use Rattle.std.proofs.Common.{arith, ◌≡◌, ◌∙◌, ℕ, ◌<◌, ◌≤◌, ◌+◌, ◌-◌, suc, zero, inl, inr, ◌⊎◌, not, Bool, true, false, List, [], ◌∷◌, ◌++◌, length, map, get_or, refl, ap, sym, subst, length-append}
+use Rattle.std.proofs.Common.{arith, ◌≡◌, ◌∙◌, ℕ, ◌<◌, ◌≤◌, ◌+◌, ◌-◌, suc, zero, inl, inr, ◌⊎◌, not, Bool, true, false, List, [], ◌∷◌, ◌++◌, length, get_or, refl, ap, sym, subst, length-append}
 use Rattle.std.proofs.lemmas.Bool.{cases_lt}
 use Rattle.std.proofs.Math.Seq.{get_or-append_right}
-use Rattle.std.proofs.lemmas.List.{get_or_append_left, get_or-map, length-map}
-use Rattle.std.proofs.lemmas.List.Elements.{All-head, All-tail, All-nil, All-cons, filter_passes}
+use Rattle.std.proofs.lemmas.List.{get_or_append_left}
+use Rattle.std.proofs.lemmas.List.Elements.{filter_passes}
 use Rattle.std.proofs.lemmas.List.Kept.{AllPairs-filter}
 use Rattle.std.specs.List.{All, AllPairs}
 use Rattle.std.specs.Prelude.{IsSorted as IsInOrder}
@@ -117,7 +117,7 @@ module _ (order : Datum → Datum → Ordering) (P : Datum → Type 0) (o : Orde
         by_place (inl h) = (λ n. first-null i h, λ p q. absurd (clash (get_or (ns ++ ps) i null) (first-null i h) p))
         by_place (inr h) = (
           λ n. absurd (clash (get_or (ns ++ ps) j null) n (first-some j (omega arith) high)),
-          λ p q. rw (get_or-append_right ns ps i null h, get_or-append_right ns ps j null (omega arith)) (apart ps fit sorted (i - length ns) (j - length ns) (omega arith) (omega (arith, length-append ns ps)))
+          λ p q. rw (get_or-append_right ns ps i null h, get_or-append_right ns ps j null (omega arith)) (apart ps fit sorted (i - length ns) (j - length ns) (omega arith) (omega (arith, length-append ns ps))),
         )
 
     -- values in order, and then nulls
@@ -134,5 +134,5 @@ module _ (order : Datum → Datum → Ordering) (P : Datum → Type 0) (o : Orde
         by_place (inr h) = (λ n. last-null j h high, λ p q. absurd (clash (get_or (ps ++ ns) j null) (last-null j h high) q))
         by_place (inl h) = (
           λ n. absurd (clash (get_or (ps ++ ns) i null) n (last-some i (omega arith))),
-          λ p q. rw (get_or_append_left ps ns null i (omega arith), get_or_append_left ps ns null j h) (apart ps fit sorted i j low h)
+          λ p q. rw (get_or_append_left ps ns null i (omega arith), get_or_append_left ps ns null j h) (apart ps fit sorted i j low h),
         )

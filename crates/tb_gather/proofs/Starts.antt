@@ -1,5 +1,5 @@
 -- Where chunks start.
-use Rattle.std.proofs.Common.{arith, ◌≡◌, ◌∙◌, ℕ, ◌<◌, ◌≤◌, ◌+◌, ◌-◌, suc, zero, inl, inr, ◌⊎◌, true, false, List, [], ◌∷◌, ◌++◌, length, map, get_or, take, ap, sym, refl, length-append}
+use Rattle.std.proofs.Common.{arith, ◌≡◌, ◌∙◌, ℕ, ◌<◌, ◌≤◌, ◌+◌, ◌-◌, suc, zero, inl, inr, ◌⊎◌, true, false, List, [], ◌∷◌, ◌++◌, length, get_or, take, ap, refl, length-append}
 use Rattle.std.specs.Prelude.{nat_le}
 use Rattle.std.specs.List.{sum}
 use Rattle.std.specs.List.Sorted.{IsPartitionedBy, IsPartitionPoint}
@@ -7,7 +7,7 @@ use Rattle.std.proofs.lemmas.Bool.{cases_lt, leb-true, leb-false, le-leb}
 use Rattle.std.proofs.lemmas.List.{get_or_append_left, get_or-map, get_or_default, length-map, take_all}
 use Rattle.std.proofs.Math.Seq.{get_or-append_seam}
 use Rattle.tb_value.specs.Datum.{Datum}
-use Rattle.tb_chunk.specs.Col.{Col, flat, values}
+use Rattle.tb_chunk.specs.Col.{Col, flat}
 use Rattle.tb_frame.specs.Frame.{lens}
 use Rattle.tb_gather.specs.Ids.{AreStarts}
 use Rattle.tb_gather.specs.Gathered.{lengths}

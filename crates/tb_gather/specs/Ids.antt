@@ -1,5 +1,5 @@
 -- Ids of rows in chunks: a chunk and a row in it, or none.
-use Rattle.std.specs.Prelude.{◌≡◌, ◌<◌, ◌≤◌, ◌+◌, ◌⊎◌, ℕ, List, Option, Some, None, length, map, take, slice_index_or}
+use Rattle.std.specs.Prelude.{◌≡◌, ◌<◌, ◌≤◌, ◌+◌, ◌⊎◌, ℕ, List, Option, Some, None, length, take, slice_index_or}
 use Rattle.std.specs.List.{AllPairs, sum}
 use Rattle.std.specs.Option.{option_map}
 use Rattle.tb_value.specs.declared.sorted.IsSorted.{IsSorted}

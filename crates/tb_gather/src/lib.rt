@@ -13,6 +13,6 @@ mod take_chunked;
 
 pub use directions::gathered_flag;
 pub use gathering::{gather, gather_chunks};
-pub use ids::ids_of;
+pub use ids::{ids_of, name_rows};
 pub use side_by_side::TakeChunkedHorPar;
 pub use take_chunked::TakeChunked;

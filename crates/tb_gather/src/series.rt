@@ -66,9 +66,11 @@ impl<const B: u64> TakeChunked<B> for Column {
         sorted: IsSorted,
     ) -> Result<Column, OutOfMemory> {
         let series = self.as_materialized_series();
-        Ok(series
-            .take_chunked_unchecked(alloc, by, sorted)?
-            .into_column())
+        Ok(
+            series
+                .take_chunked_unchecked(alloc, by, sorted)?
+                .into_column(),
+        )
     }
 
     fn take_opt_chunked_unchecked(

@@ -1,4 +1,4 @@
-use Rattle.std.proofs.Common.{arith, rules, of_calls, ◌≡◌, ◌<◌, length}
+use Rattle.std.proofs.Common.{arith, rules, of_calls, ◌<◌}
 use Rattle.std.specs.Prelude.{nat_le}
 use Rattle.std.specs.List.{sum}
 use Rattle.std.proofs.lemmas.Fn.{always_returns_same}

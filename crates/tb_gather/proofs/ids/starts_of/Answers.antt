@@ -1,4 +1,4 @@
-use Rattle.std.proofs.Common.{arith, ◌≡◌, ◌∙◌, ◌<◌, ◌++◌, ◌+◌, ◌∷◌, [], length, get_or, ap, length-append, sym, subst, List, ℕ}
+use Rattle.std.proofs.Common.{arith, ◌≡◌, ◌∙◌, ◌<◌, ◌++◌, ◌+◌, ◌∷◌, [], length, get_or, ap, length-append, List, ℕ}
 use Rattle.tb_frame.specs.Frame.{lens}
 use Rattle.tb_gather.proofs.Starts.{sum-total, sum-next, sum-below, lens-at, lens-count, starts-more}
 use Rattle.tb_gather.proofs.ids.starts_of.Goals as goal
