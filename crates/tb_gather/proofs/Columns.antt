@@ -1,0 +1,34 @@
+-- What gathered columns are.
+use Rattle.std.proofs.Common.{arith, ◌≡◌, ◌∙◌, ◌≤◌, List, [], ◌∷◌, length, map, ap}
+use Rattle.std.specs.List.{All}
+use Rattle.std.proofs.lemmas.List.{length-map, append-nil}
+use Rattle.std.proofs.lemmas.List.Elements.{All-nil, All-cons}
+use Rattle.tb_value.specs.Typed.{HasType}
+use Rattle.tb_value.specs.declared.sorted.IsSorted.{IsSorted}
+use Rattle.tb_chunk.specs.Col.{Col, IsColumn, flat, values}
+use Rattle.tb_chunk.specs.Flag.{FlagHolds}
+use Rattle.tb_chunk.proofs.Lists.{All-picked}
+use Rattle.tb_gather.specs.Ids.{Id, row_or_none}
+use Rattle.tb_gather.specs.Gathered.{lengths, value_at, named_rows, NameRows}
+use Rattle.tb_gather.proofs.Rows.{named-row}
+
+pub values-named : (ids : List Id) (flag : IsSorted) (c : Col) → values (named_rows ids flag c) ≡ map (value_at c.chunks) ids
+values-named ids flag c = append-nil (map (value_at c.chunks) ids)
+
+pub length-named : (ids : List Id) (flag : IsSorted) (c : Col) → length (values (named_rows ids flag c)) ≡ length ids
+length-named ids flag c = ap length (values-named ids flag c) ∙ length-map ids (value_at c.chunks)
+
+-- what is gathered is a column, where its flag is true
+pub IsColumn-named : (c d : Col) (ids : List Id) (flag : IsSorted) → IsColumn c → NameRows ids c → length ids ≤ 4294967294 → FlagHolds flag c.kind (map (value_at c.chunks) ids) → d.kind ≡ c.kind → d.chunks ≡ map (value_at c.chunks) ids ∷ [] → d.flag ≡ flag → IsColumn d
+IsColumn-named c d ids flag column named few holds same_kind picked same_flag =
+    let all : values d ≡ map (value_at c.chunks) ids = ap flat picked ∙ append-nil (map (value_at c.chunks) ids) in
+    record {
+      chunked = omega (arith, ap length picked);
+      short = omega (arith, ap length all, length-map ids (value_at c.chunks));
+      typed = rw (same_kind, all) (All-picked (HasType c.kind) (values c) (row_or_none (lengths c.chunks)) ids tt column.typed (λ k d low. named-row c.chunks _ (named k d low)));
+      flag_holds = rw (same_kind, same_flag, all) holds;
+    }
+
+-- ids that name rows of a column name rows of each column of it alone
+pub NameRows-one : (ids : List Id) (c : Col) → NameRows ids c → All (NameRows ids) (c ∷ [])
+NameRows-one ids c named = All-cons (NameRows ids) c [] named (All-nil (NameRows ids))

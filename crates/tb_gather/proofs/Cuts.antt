@@ -1,0 +1,46 @@
+-- Rows of chunks that are cut anew.
+use Rattle.std.proofs.Common.{arith, ◌≡◌, ◌∙◌, ℕ, ◌<◌, ◌≤◌, ◌-◌, suc, zero, inl, inr, ◌⊎◌, List, [], ◌∷◌, map, get_or, take, ap, sym, refl, Some, None}
+use Rattle.std.specs.List.{sum}
+use Rattle.std.proofs.lemmas.Bool.{cases_lt}
+use Rattle.tb_value.specs.Datum.{Datum}
+use Rattle.tb_value.specs.declared.sorted.IsSorted.{IsSorted}
+use Rattle.tb_chunk.specs.Col.{Col, flat, values}
+use Rattle.tb_frame.specs.Frame.{lens}
+use Rattle.tb_gather.specs.Ids.{Id, NamesRow, row_of, row_or_none}
+use Rattle.tb_gather.specs.Gathered.{gathered, gathered_flag, lengths, pick, value_at}
+use Rattle.tb_gather.proofs.Rows.{sum-cons}
+
+-- what is gathered is picked by the numbers of the rows
+pub gathered-pick : (chunks : List (List Datum)) (ids : List Id) → map (value_at chunks) ids ≡ pick (flat chunks) (map (row_or_none (lengths chunks)) ids)
+gathered-pick chunks [] = refl
+gathered-pick chunks (id ∷ ids) = ap (λ vs. value_at chunks id ∷ vs) (gathered-pick chunks ids)
+
+pub gathered-along : (c : Col) (chunks : List (List Datum)) (ids along : List Id) (sorted : IsSorted) → flat chunks ≡ values c → map (row_or_none (lengths chunks)) along ≡ map (row_or_none (lens c)) ids → gathered along sorted (record c { chunks = chunks }) ≡ gathered ids sorted c
+gathered-along c chunks ids along sorted whole same =
+    let picked : map (value_at chunks) along ≡ map (value_at c.chunks) ids =
+    gathered-pick chunks along ∙ ((λ i. pick (whole i) (same i)) ∙ sym (gathered-pick c.chunks ids))
+    in
+    ap (λ (vs : List Datum). record c { chunks = vs ∷ []; flag = gathered_flag c.flag sorted }) picked
+
+-- the row that a number is of
+row-at : (ns : List ℕ) (r : ℕ) → r < sum ns → (p : ℕ × ℕ) × NamesRow ns (Some p) × (row_of ns p ≡ r)
+row-at [] r low = absurd (omega arith)
+row-at (n ∷ ns) r low = by_chunk (cases_lt r n) (λ behind. row-at ns (r - n) (omega (arith, low, sum-cons n ns, behind)))
+  where
+    by_chunk : (r < n) ⊎ (n ≤ r) → (n ≤ r → (p : ℕ × ℕ) × NamesRow ns (Some p) × (row_of ns p ≡ r - n)) → (p : ℕ × ℕ) × NamesRow (n ∷ ns) (Some p) × (row_of (n ∷ ns) p ≡ r)
+    by_chunk (inl here) later = ((0, r), (omega arith, here), omega arith)
+    by_chunk (inr behind) later =
+        let rest = later behind in
+        let p = rest.0 in
+        ((suc p.0, p.1), (omega (arith, rest.1.0), rest.1.1), omega (arith, sum-cons n (take p.0 ns), rest.2))
+
+row-low : (ns : List ℕ) (c r : ℕ) → r < get_or ns c 0 → row_of ns (c, r) < sum ns
+row-low [] c r h = absurd (omega arith)
+row-low (n ∷ ns) zero r h = omega (arith, h, sum-cons n ns)
+row-low (n ∷ ns) (suc c) r h = omega (arith, sum-cons n (take c ns), sum-cons n ns, row-low ns c r h)
+
+pub along-id : (before after : List ℕ) (id : Id) → sum before ≡ sum after → NamesRow before id → (along : Id) × NamesRow after along × (row_or_none after along ≡ row_or_none before id)
+along-id before after None same named = (None, tt, refl)
+along-id before after (Some p) same named =
+    let rest = row-at after (row_of before p) (omega (arith, same, row-low before p.0 p.1 named.1)) in
+    (Some rest.0, rest.1, ap Some rest.2)

@@ -1,0 +1,18 @@
+use Rattle.std.proofs.Common.{arith, List, map, ap, sym, subst, ◌∙◌}
+use Rattle.std.specs.List.{All}
+use Rattle.tb_chunk.specs.Col.{Col}
+use Rattle.tb_frame.specs.Table.{table_of, IsTable}
+use Rattle.tb_gather.specs.Gathered.{NameRows, opt_gathered}
+use Rattle.tb_gather.proofs.Frames.{IsTable-opt_gathered}
+use Rattle.tb_gather.proofs.tables.DataFrameTakeChunked.take_opt_chunked_unchecked.Goals as goal
+
+pub gather_opt_columns-requires : goal.gather_opt_columns-requires
+gather_opt_columns-requires g c =
+    let by = c.args.by.now in
+    let named = subst (λ (cs : List Col). All (NameRows by) cs) (sym c.get_columns.ensures.columns) c.requires.named in
+    (omega arith, (named, c.requires.few))
+
+pub made_table-requires : goal.made_table-requires
+made_table-requires g c =
+    let by = c.args.by.now in
+    subst (λ (cs : List Col). IsTable (table_of cs)) (sym (c.in_ok-columns.ensures ∙ ap (map (opt_gathered by)) c.get_columns.ensures.columns)) (IsTable-opt_gathered by c.args.self.now c.get_columns.ensures.table)

@@ -1,0 +1,45 @@
+-- What is gathered by ids of rows.
+use Rattle.std.specs.Prelude.{◌∷◌, [], ℕ, List, Option, length, map, All}
+use Rattle.tb_value.specs.Datum.{Datum}
+use Rattle.tb_value.specs.declared.sorted.IsSorted.{IsSorted}
+use Rattle.tb_value.specs.declared.sorted.IsSorted.TheVariants.{Ascending, Descending, Not}
+use Rattle.tb_chunk.specs.Col.{Col, flat}
+use Rattle.tb_chunk.specs.Rows.{value_or_null}
+use Rattle.tb_frame.specs.Frame.{lens}
+use Rattle.tb_gather.specs.Ids.{Id, row_or_none, NamesRow}
+
+-- the lengths of chunks
+abbrev pub lengths : List (List Datum) → List ℕ
+lengths chunks = map (λ (vs : List Datum). length vs) chunks
+
+-- the values at these numbers, Null for none
+abbrev pub pick : List Datum → List (Option ℕ) → List Datum
+pick vs numbers = map (value_or_null vs) numbers
+
+-- the value that an id names in chunks, Null for none
+abbrev pub value_at : List (List Datum) → Id → Datum
+value_at chunks id = value_or_null (flat chunks) (row_or_none (lengths chunks) id)
+
+-- where a column runs in one direction, and the rows are taken in another
+abbrev pub gathered_flag : IsSorted → IsSorted → IsSorted
+gathered_flag Ascending Ascending = Ascending
+gathered_flag Ascending Descending = Descending
+gathered_flag Descending Ascending = Descending
+gathered_flag Descending Descending = Ascending
+gathered_flag _ _ = Not
+
+-- the rows of a column that ids name, in one chunk, with this flag
+abbrev pub named_rows : List Id → IsSorted → Col → Col
+named_rows ids flag c = record c { chunks = map (value_at c.chunks) ids ∷ []; flag = flag }
+
+-- the rows that ids name which run so
+abbrev pub gathered : List Id → IsSorted → Col → Col
+gathered ids sorted c = named_rows ids (gathered_flag c.flag sorted) c
+
+-- the rows that ids name, whatever their order
+abbrev pub opt_gathered : List Id → Col → Col
+opt_gathered ids c = named_rows ids Not c
+
+-- each id is none or names a row of the column
+abbrev pub NameRows : List Id → Col → Type 0
+NameRows ids c = All (NamesRow (lens c)) ids

@@ -1,0 +1,37 @@
+-- Ids of rows in chunks: a chunk and a row in it, or none.
+use Rattle.std.specs.Prelude.{◌≡◌, ◌<◌, ◌≤◌, ◌+◌, ◌⊎◌, ℕ, List, Option, Some, None, length, take, slice_index_or}
+use Rattle.std.specs.List.{AllPairs, sum}
+use Rattle.std.specs.Option.{option_map}
+use Rattle.tb_value.specs.declared.sorted.IsSorted.{IsSorted}
+use Rattle.tb_value.specs.declared.sorted.IsSorted.TheVariants.{Ascending, Descending, Not}
+
+abbrev pub Id : Type 0
+Id = Option (ℕ × ℕ)
+
+-- the number of a row through all chunks of these lengths
+abbrev pub row_of : List ℕ → ℕ × ℕ → ℕ
+row_of lens p = sum (take p.0 lens) + p.1
+
+abbrev pub row_or_none : List ℕ → Id → Option ℕ
+row_or_none lens id = option_map (row_of lens) id
+
+-- none, or a chunk and a row of it
+abbrev pub NamesRow : List ℕ → Id → Type 0
+NamesRow lens None = Unit {0}
+NamesRow lens (Some p) = (p.0 < length lens) × (p.1 < slice_index_or lens p.0 0)
+
+-- not behind the other, by chunk and then by row
+abbrev pub IsUpTo : Id → Id → Type 0
+IsUpTo (Some p) (Some q) = (p.0 < q.0) ⊎ ((p.0 ≡ q.0) × (p.1 ≤ q.1))
+IsUpTo _ _ = Unit {0}
+
+-- what a direction says of ids that are not none
+abbrev pub RunsBy : IsSorted → List Id → Type 0
+RunsBy Ascending ids = AllPairs IsUpTo ids
+RunsBy Descending ids = AllPairs (λ (a b : Id). IsUpTo b a) ids
+RunsBy Not ids = Unit {0}
+
+-- where each chunk of these lengths starts, as a row number
+pub record AreStarts (lens starts : List ℕ) : Type 0 where
+  pub whole : length starts ≡ length lens
+  pub each : (k : ℕ) → k < length lens → slice_index_or starts k 0 ≡ sum (take k lens)

@@ -1,0 +1,119 @@
+//! Ids made from row numbers.
+ghost use Rattle.std.specs.Prelude.{◌≡◌, ◌<◌, ◌≤◌, ◌^◌, ◌-◌, ◌↔◌, All, IfOk, IsTrue, Some, length, map, nat_le, slice_index_or};
+ghost use Rattle.tb_chunk.specs.Col.{values};
+ghost use Rattle.tb_chunk.specs.Rows.{IsRowOf};
+ghost use Rattle.tb_frame.specs.Frame.{lens};
+ghost use Rattle.tb_gather.specs.Ids.{AreStarts, NamesRow, row_or_none};
+ghost use Rattle.tb_gather.specs.Gathered.{NameRows};
+
+use std::alloc::Global;
+use tb_store::Column;
+use tb_value::{ChunkId, IdxSize, NullableIdxSize, OutOfMemory};
+
+// Where each chunk starts, as a row number.
+fn starts_of(alloc: Global, column: &Column) -> Result<Vec<usize>, OutOfMemory>
+    ensures { IfOk result (λ v. AreStarts (lens column.now) v.items) }
+{
+    let _len = column.len();
+    let count = column.n_chunks();
+    let mut starts = Vec::with_capacity(alloc, count)?;
+    let mut start = 0;
+    for chunk in 0..count {
+        starts.push(start)?;
+        start += column.chunk_len(chunk);
+    }
+    Ok(starts)
+}
+
+// The last chunk that starts at the row or before it.
+fn chunk_of(column: &Column, starts: &[usize], row: usize) -> usize
+    requires starts { AreStarts (lens column.now) starts.now }
+    requires row { row < length (values column.now) }
+    ensures start { slice_index_or starts.now result 0 ≤ row }
+    ensures named { NamesRow (lens column.now) (Some (result, row - slice_index_or starts.now result 0)) }
+{
+    let _len = column.len();
+    let after = starts.partition_point(
+        |start: &usize| -> bool
+            ensures { result ≡ nat_le start.now row }
+        { *start <= row },
+    );
+    after - 1
+}
+
+// The id of a row.
+fn id_of<const B: u64>(column: &Column, starts: &[usize], row: IdxSize) -> ChunkId<B>
+    requires bits { (0 < B) × (B ≤ 32) }
+    requires few { length column.now.chunks < 2 ^ B - 1 }
+    requires starts { AreStarts (lens column.now) starts.now }
+    requires row { row < length (values column.now) }
+    ensures named { NamesRow (lens column.now) result }
+    ensures row { row_or_none (lens column.now) result ≡ Some row }
+{
+    let _len = column.len();
+    let chunk = chunk_of(column, starts, row as usize);
+    ChunkId::store(chunk as u32, (row as usize - starts[chunk]) as u32)
+}
+
+fn id_or_null<const B: u64>(column: &Column, starts: &[usize], row: &NullableIdxSize) -> ChunkId<B>
+    requires bits { (0 < B) × (B ≤ 32) }
+    requires few { length column.now.chunks < 2 ^ B - 1 }
+    requires starts { AreStarts (lens column.now) starts.now }
+    requires row { IsRowOf (length (values column.now)) row.now }
+    ensures named { NamesRow (lens column.now) result }
+    ensures row { row_or_none (lens column.now) result ≡ row.now }
+{
+    match row.row() {
+        None => ChunkId::null(),
+        Some(row) => id_of(column, starts, row),
+    }
+}
+
+/// The ids that name these rows in a column, and in each column that is cut into chunks alike; null for none. It takes
+/// steps in the number of chunks, and for each row in the number of digits of that number.
+pub fn ids_of<const B: u64>(
+    alloc: Global,
+    column: &Column,
+    rows: &[NullableIdxSize],
+) -> Result<Vec<ChunkId<B>>, OutOfMemory>
+    requires bits { (0 < B) × (B ≤ 32) }
+    requires few { length column.now.chunks < 2 ^ B - 1 }
+    requires rows { All (IsRowOf (length (values column.now))) rows.now }
+    ensures named { IfOk result (λ v. NameRows v.items column.now) }
+    ensures rows { IfOk result (λ v. map (row_or_none (lens column.now)) v.items ≡ rows.now) }
+{
+    let starts = starts_of(alloc, column)?;
+    let mut ids = Vec::with_capacity(alloc, rows.len())?;
+    for row in rows {
+        ids.push(id_or_null(column, &starts, row))?;
+    }
+    Ok(ids)
+}
+
+/// Whether each id is null or names a row of the column.
+pub fn name_rows<const B: u64>(column: &Column, ids: &[ChunkId<B>]) -> bool
+    ensures { IsTrue result ↔ NameRows ids.now column.now }
+{
+    for id in ids {
+        if !names_row(column, id) {
+            return false;
+        }
+    }
+    true
+}
+
+fn names_row<const B: u64>(column: &Column, id: &ChunkId<B>) -> bool
+    ensures { IsTrue result ↔ NamesRow (lens column.now) id.now }
+{
+    if id.is_null() {
+        return true;
+    }
+    let (chunk, row) = id.extract();
+    has_row(column, chunk as usize, row as usize)
+}
+
+fn has_row(column: &Column, chunk: usize, row: usize) -> bool
+    ensures { IsTrue result ↔ NamesRow (lens column.now) (Some (chunk, row)) }
+{
+    chunk < column.n_chunks() && row < column.chunk_len(chunk)
+}

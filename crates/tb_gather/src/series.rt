@@ -1,0 +1,85 @@
+//! Rows of a series and of a column, gathered by ids.
+ghost use Rattle.std.specs.Prelude.{◌≡◌, ◌≤◌, IfOk, length, map};
+ghost use Rattle.tb_chunk.specs.Flag.{FlagHolds};
+ghost use Rattle.tb_gather.specs.Gathered.{NameRows, named_rows, value_at};
+
+use crate::directions::gathered_flag;
+use crate::gathering::gather_chunks;
+use crate::parts::column_of;
+use crate::take_chunked::TakeChunked;
+use std::alloc::Global;
+use tb_store::{Column, Series};
+use tb_value::{ChunkId, IsSorted, OutOfMemory};
+
+// The rows that the ids name, in one chunk, with this flag.
+fn gather_series<const B: u64>(
+    alloc: Global,
+    series: &Series,
+    by: &[ChunkId<B>],
+    flag: IsSorted,
+) -> Result<Series, OutOfMemory>
+    requires named { NameRows by.now series.now }
+    requires few { length by.now ≤ 4294967294 }
+    requires flag { FlagHolds flag series.now.kind (map (value_at series.now.chunks) by.now) }
+    ensures { IfOk result (λ s. s ≡ named_rows by.now flag series.now) }
+{
+    let _len = series.len();
+    let name = series.name().copy(alloc)?;
+    let dtype = series.dtype().copy(alloc)?;
+    let chunks = gather_chunks(alloc, series.chunks(), by)?;
+    column_of(alloc, name, dtype, chunks, flag)
+}
+
+impl<const B: u64> TakeChunked<B> for Series {
+    ghost use Rattle.std.specs.Prelude.{◌∷◌, []};
+
+    ghost columns = { λ s. s ∷ [] };
+
+    fn take_chunked_unchecked(
+        &self,
+        alloc: Global,
+        by: &[ChunkId<B>],
+        sorted: IsSorted,
+    ) -> Result<Series, OutOfMemory> {
+        let _len = self.len();
+        let flag = gathered_flag(self.is_sorted_flag(), sorted);
+        gather_series(alloc, self, by, flag)
+    }
+
+    fn take_opt_chunked_unchecked(
+        &self,
+        alloc: Global,
+        by: &[ChunkId<B>],
+    ) -> Result<Series, OutOfMemory> {
+        gather_series(alloc, self, by, IsSorted::Not)
+    }
+}
+
+impl<const B: u64> TakeChunked<B> for Column {
+    ghost use Rattle.std.specs.Prelude.{◌∷◌, []};
+
+    ghost columns = { λ c. c ∷ [] };
+
+    fn take_chunked_unchecked(
+        &self,
+        alloc: Global,
+        by: &[ChunkId<B>],
+        sorted: IsSorted,
+    ) -> Result<Column, OutOfMemory> {
+        let series = self.as_materialized_series();
+        Ok(
+            series
+                .take_chunked_unchecked(alloc, by, sorted)?
+                .into_column(),
+        )
+    }
+
+    fn take_opt_chunked_unchecked(
+        &self,
+        alloc: Global,
+        by: &[ChunkId<B>],
+    ) -> Result<Column, OutOfMemory> {
+        let series = self.as_materialized_series();
+        Ok(series.take_opt_chunked_unchecked(alloc, by)?.into_column())
+    }
+}

@@ -1,0 +1,83 @@
+//! Rows of a table, gathered by ids.
+ghost use Rattle.std.specs.Prelude.{◌≡◌, ◌≤◌, All, IfOk, IsSome, length, map};
+ghost use Rattle.tb_frame.specs.Table.{table_of, IsTable};
+ghost use Rattle.tb_gather.specs.Ids.{Id, RunsBy};
+ghost use Rattle.tb_gather.specs.Gathered.{NameRows, gathered, opt_gathered};
+
+use crate::parts::want_of_memory;
+use crate::take_chunked::TakeChunked;
+use std::alloc::Global;
+use tb_frame::DataFrame;
+use tb_store::Column;
+use tb_value::{ChunkId, IsSorted, OutOfMemory};
+
+// The rows of each column that the ids name.
+fn gather_columns<const B: u64>(
+    alloc: Global,
+    columns: &[Column],
+    by: &[ChunkId<B>],
+    sorted: IsSorted,
+) -> Result<Vec<Column>, OutOfMemory>
+    requires present { All (λ (id : Id). IsSome id) by.now }
+    requires named { All (NameRows by.now) columns.now }
+    requires runs { RunsBy sorted by.now }
+    requires few { length by.now ≤ 4294967294 }
+    ensures { IfOk result (λ v. v.items ≡ map (gathered by.now sorted) columns.now) }
+{
+    let mut gathered = Vec::with_capacity(alloc, columns.len())?;
+    for column in columns {
+        gathered.push(column.take_chunked_unchecked(alloc, by, sorted)?)?;
+    }
+    Ok(gathered)
+}
+
+// The same, where a null id gives Null.
+fn gather_opt_columns<const B: u64>(
+    alloc: Global,
+    columns: &[Column],
+    by: &[ChunkId<B>],
+) -> Result<Vec<Column>, OutOfMemory>
+    requires named { All (NameRows by.now) columns.now }
+    requires few { length by.now ≤ 4294967294 }
+    ensures { IfOk result (λ v. v.items ≡ map (opt_gathered by.now) columns.now) }
+{
+    let mut gathered = Vec::with_capacity(alloc, columns.len())?;
+    for column in columns {
+        gathered.push(column.take_opt_chunked_unchecked(alloc, by)?)?;
+    }
+    Ok(gathered)
+}
+
+// The table of columns that make one.
+pub(crate) fn made_table(alloc: Global, columns: Vec<Column>) -> Result<DataFrame, OutOfMemory>
+    requires { IsTable (table_of columns.items) }
+    ensures { IfOk result (λ t. t ≡ columns.items) }
+{
+    match DataFrame::new(alloc, columns) {
+        Ok(table) => Ok(table),
+        Err(error) => Err(want_of_memory(error)),
+    }
+}
+
+impl<const B: u64> TakeChunked<B> for DataFrame {
+    ghost columns = { λ t. t };
+
+    fn take_chunked_unchecked(
+        &self,
+        alloc: Global,
+        by: &[ChunkId<B>],
+        sorted: IsSorted,
+    ) -> Result<DataFrame, OutOfMemory> {
+        let columns = gather_columns(alloc, self.get_columns(), by, sorted)?;
+        made_table(alloc, columns)
+    }
+
+    fn take_opt_chunked_unchecked(
+        &self,
+        alloc: Global,
+        by: &[ChunkId<B>],
+    ) -> Result<DataFrame, OutOfMemory> {
+        let columns = gather_opt_columns(alloc, self.get_columns(), by)?;
+        made_table(alloc, columns)
+    }
+}

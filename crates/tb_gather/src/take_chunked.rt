@@ -1,0 +1,41 @@
+//! What rows are gathered from, by ids.
+ghost use Rattle.std.specs.Prelude.{◌≡◌, ◌≤◌, All, IfOk, IsSome, length, map};
+ghost use Rattle.tb_gather.specs.Ids.{Id, RunsBy};
+ghost use Rattle.tb_gather.specs.Gathered.{NameRows, gathered, opt_gathered};
+
+use std::alloc::Global;
+use tb_value::{ChunkId, IsSorted, OutOfMemory};
+
+/// A column, or columns side by side, whose rows are gathered by ids. An id names a chunk and a row in it, the same in
+/// each column.
+pub trait TakeChunked<const B: u64>: Sized {
+    ghost use Rattle.std.specs.Prelude.{List};
+    ghost use Rattle.tb_chunk.specs.Col.{Col};
+
+    /// The columns, in their order.
+    ghost columns: { Self → List Col };
+
+    /// The rows that the ids name, in the order and as often as they are named, in one chunk. `sorted` says how the
+    /// ids run, by chunk and then by row, and with the flag of a column makes the flag of what is gathered from it.
+    fn take_chunked_unchecked(
+        &self,
+        alloc: Global,
+        by: &[ChunkId<B>],
+        sorted: IsSorted,
+    ) -> Result<Self, OutOfMemory>
+        requires present { All (λ (id : Id). IsSome id) by.now }
+        requires named { All (NameRows by.now) (columns self.now) }
+        requires runs { RunsBy sorted by.now }
+        requires few { length by.now ≤ 4294967294 }
+        ensures { IfOk result (λ r. columns r ≡ map (gathered by.now sorted) (columns self.now)) };
+
+    /// As `take_chunked_unchecked`, where a null id gives Null, with the flag Not.
+    fn take_opt_chunked_unchecked(
+        &self,
+        alloc: Global,
+        by: &[ChunkId<B>],
+    ) -> Result<Self, OutOfMemory>
+        requires named { All (NameRows by.now) (columns self.now) }
+        requires few { length by.now ≤ 4294967294 }
+        ensures { IfOk result (λ r. columns r ≡ map (opt_gathered by.now) (columns self.now)) };
+}
