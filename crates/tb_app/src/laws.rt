@@ -8,8 +8,6 @@ ghost use Rattle.tb_app.specs.Headline.{JoinDone};
 pub use tb_json::laws::text_one_to_one;
 use tb_value::PlSmallStr;
 
-pub use tb_json::laws::text_one_to_one;
-
 /// One status alone is due for the same words and bytes.
 pub fn one_status(words: &[PlSmallStr], bytes: &[u8])
     ensures { (s s' : Status) (text text' : List ℕ) → due words.now bytes.now s text → due words.now bytes.now s' text' → s ≡ s' }
