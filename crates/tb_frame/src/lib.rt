@@ -2,6 +2,7 @@
 #![tactic(auto)]
 
 mod args;
+mod arranging;
 mod chunking;
 mod coalescing;
 mod equality;
@@ -14,6 +15,7 @@ mod right_columns;
 mod tests;
 
 pub use args::{Direction, JoinArgs, JoinCoalesce, JoinType, JoinValidation, MaintainOrderJoin};
+pub use arranging::arrange;
 pub use coalescing::coalesce_columns;
 pub use equality::{same_type, same_value};
 pub use frame::{DataFrame, IntoDf, column_name_set, column_names, take_columns, take_opt_columns};

@@ -8,7 +8,6 @@ mod keys;
 mod listing;
 mod names;
 mod nested;
-mod ordering;
 mod validation;
 
 pub use nested::nested_join;

@@ -15,10 +15,9 @@ use crate::columns::{answer_table, check_answer_names};
 use crate::keys::{check_kinds, check_types, key_table};
 use crate::listing::list_pairs;
 use crate::names::check_names;
-use crate::ordering::arrange;
 use crate::validation::check_sides;
 use std::alloc::Global;
-use tb_frame::{DataFrame, JoinArgs};
+use tb_frame::{DataFrame, JoinArgs, arrange};
 use tb_store::Column;
 use tb_value::{ComputeCause, JoinPair, MAX_ROWS, PlSmallStr, PolarsError, PolarsResult};
 

@@ -5,7 +5,7 @@ use Rattle.std.proofs.lemmas.Result.{IfOk-weaker}
 use Rattle.tb_chunk.specs.Window.{window, part_from, part_to}
 use Rattle.tb_frame.specs.Join.{cut, slice}
 use Rattle.tb_frame.proofs.Windows.{slice_window}
-use Rattle.tb_nested.proofs.ordering.cut_pairs.Goals as goal
+use Rattle.tb_frame.proofs.arranging.cut_pairs.Goals as goal
 
 pub returns-in-Some : goal.returns-in-Some
 returns-in-Some c =

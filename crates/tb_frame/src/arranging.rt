@@ -3,8 +3,9 @@ ghost use Rattle.std.specs.Prelude.{◌≡◌, IfOk, OnOk};
 ghost use Rattle.tb_frame.specs.Answer.{IsListed};
 ghost use Rattle.tb_frame.specs.Join.{IsOrdered, cut};
 
+use crate::args::{Direction, JoinArgs, JoinType, MaintainOrderJoin};
+use crate::order::direction_of;
 use std::alloc::{AllocError, Global};
-use tb_frame::{Direction, JoinArgs, JoinType, MaintainOrderJoin, direction_of};
 use tb_store::slice_offsets;
 use tb_value::{JoinPair, OutOfMemory};
 
@@ -41,7 +42,7 @@ fn cut_pairs(
 }
 
 /// The pairs of a listing in the order that the arguments ask, and of them those that the slice keeps.
-pub(crate) fn arrange(
+pub fn arrange(
     alloc: Global,
     mut pairs: Vec<JoinPair>,
     args: &JoinArgs,

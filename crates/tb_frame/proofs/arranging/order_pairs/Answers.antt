@@ -6,7 +6,7 @@ use Rattle.tb_value.proofs.Sorting.{sorted_by_order}
 use Rattle.tb_frame.specs.declared.args.Direction.{Direction}
 use Rattle.tb_frame.specs.declared.args.Direction.TheVariants.{ByLeft, ByRight}
 use Rattle.tb_frame.specs.Join.{Ascends, direction}
-use Rattle.tb_nested.proofs.ordering.order_pairs.Goals as goal
+use Rattle.tb_frame.proofs.arranging.order_pairs.Goals as goal
 
 pub returns-in-ByLeft : goal.returns-in-ByLeft
 returns-in-ByLeft c =
