@@ -15,10 +15,12 @@ mod right_columns;
 mod tests;
 
 pub use args::{Direction, JoinArgs, JoinCoalesce, JoinType, JoinValidation, MaintainOrderJoin};
-pub use arranging::arrange;
+pub use arranging::{arrange, cut_pairs};
 pub use coalescing::coalesce_columns;
 pub use equality::{same_type, same_value};
 pub use frame::{DataFrame, IntoDf, column_name_set, column_names, take_columns, take_opt_columns};
 pub use names::{NameSet, check_distinct, name_set};
 pub use order::direction_of;
-pub use right_columns::{gone_right, left_rows, push_right, right_name, right_rows, suffix_of};
+pub use right_columns::{
+    gone_left, gone_right, has_right, left_rows, push_right, right_name, right_rows, suffix_of,
+};

@@ -14,6 +14,7 @@ use Rattle.tb_frame.specs.declared.args.JoinCoalesce.TheVariants.{JoinSpecific}
 use Rattle.tb_frame.specs.declared.args.MaintainOrderJoin.TheVariants as order
 use Rattle.tb_frame.specs.Table.{TableColumn, Table}
 use Rattle.tb_frame.specs.Join.{Request, by_names}
+use Rattle.tb_join.specs.Asked.{plainly}
 
 abbrev pub k_name : Name
 k_name = codes "k"
@@ -30,10 +31,6 @@ keys vs = numbers k_name vs ∷ []
 
 abbrev pub number : ℕ → Datum
 number n = int (pos n)
-
--- a kind with nothing else asked
-abbrev pub plainly : JoinType → JoinArgs
-plainly how = record { how = how; validation = ManyToMany; suffix = None; slice = None; join_nulls = false; coalesce = JoinSpecific; maintain_order = order.None }
 
 -- two tables of one key `k` each
 abbrev pub on_k : List Datum → List Datum → JoinArgs → Request
