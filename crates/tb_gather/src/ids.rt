@@ -1,9 +1,10 @@
 //! Ids made from row numbers.
 ghost use Rattle.std.specs.Prelude.{◌≡◌, ◌<◌, ◌≤◌, ◌^◌, ◌-◌, ◌↔◌, All, IfOk, IsTrue, Some, length, map, nat_le, slice_index_or};
+ghost use Rattle.tb_value.specs.declared.sorted.IsSorted.{IsSorted};
 ghost use Rattle.tb_chunk.specs.Col.{values};
 ghost use Rattle.tb_chunk.specs.Rows.{IsRowOf};
 ghost use Rattle.tb_frame.specs.Frame.{lens};
-ghost use Rattle.tb_gather.specs.Ids.{AreStarts, NamesRow, row_or_none};
+ghost use Rattle.tb_gather.specs.Ids.{AreStarts, NamesRow, RowsRunBy, RunsBy, row_or_none};
 ghost use Rattle.tb_gather.specs.Gathered.{NameRows};
 
 use std::alloc::Global;
@@ -81,6 +82,7 @@ pub fn ids_of<const B: u64>(
     requires rows { All (IsRowOf (length (values column.now))) rows.now }
     ensures named { IfOk result (λ v. NameRows v.items column.now) }
     ensures rows { IfOk result (λ v. map (row_or_none (lens column.now)) v.items ≡ rows.now) }
+    ensures runs { IfOk result (λ v. (sorted : IsSorted) → RowsRunBy sorted rows.now → RunsBy sorted v.items) }
 {
     let starts = starts_of(alloc, column)?;
     let mut ids = Vec::with_capacity(alloc, rows.len())?;

@@ -55,11 +55,11 @@ row-low [] c r h = absurd (omega arith)
 row-low (vs ∷ rest) zero r h = omega (arith, h, length-append vs (flat rest))
 row-low (vs ∷ rest) (suc c) r h = omega (arith, sum-cons (length vs) (take c (lengths rest)), row-low rest c r h, length-append vs (flat rest))
 
-row-up : (lens : List ℕ) (c d r s : ℕ) → c < d → d < length lens → r < get_or lens c 0 → row_of lens (c, r) ≤ row_of lens (d, s)
-row-up [] c d r s less high h = absurd (omega arith)
-row-up (n ∷ ns) c zero r s less high h = absurd (omega arith)
-row-up (n ∷ ns) zero (suc d) r s less high h = omega (arith, h, sum-cons n (take d ns))
-row-up (n ∷ ns) (suc c) (suc d) r s less high h = omega (arith, sum-cons n (take c ns), sum-cons n (take d ns), row-up ns c d r s (omega arith) (omega arith) h)
+pub row-before : (lens : List ℕ) (c d r s : ℕ) → c < d → d < length lens → r < get_or lens c 0 → row_of lens (c, r) < row_of lens (d, s)
+row-before [] c d r s less high h = absurd (omega arith)
+row-before (n ∷ ns) c zero r s less high h = absurd (omega arith)
+row-before (n ∷ ns) zero (suc d) r s less high h = omega (arith, h, sum-cons n (take d ns))
+row-before (n ∷ ns) (suc c) (suc d) r s less high h = omega (arith, sum-cons n (take c ns), sum-cons n (take d ns), row-before ns c d r s (omega arith) (omega arith) h)
 
 pub number-value : (chunks : List (List Datum)) (id : Id) → IsSome id → value_at chunks id ≡ get_or (flat chunks) (number (lengths chunks) id) null
 number-value chunks None some = absurd (cc)
@@ -72,7 +72,7 @@ number-low chunks (Some p) some named = row-low chunks p.0 p.1 named.1
 pub number-up : (lens : List ℕ) (a b : Id) → IsSome a → IsSome b → NamesRow lens a → NamesRow lens b → IsUpTo a b → number lens a ≤ number lens b
 number-up lens None b some other named too up = absurd (cc)
 number-up lens (Some p) None some other named too up = absurd (cc)
-number-up lens (Some p) (Some q) some other named too (inl less) = row-up lens p.0 q.0 p.1 q.1 less too.0 named.1
+number-up lens (Some p) (Some q) some other named too (inl less) = omega (arith, row-before lens p.0 q.0 p.1 q.1 less too.0 named.1)
 number-up lens (Some p) (Some q) some other named too (inr same) = omega (arith, ap (λ k. sum (take k lens)) same.0, same.1)
 
 -- the rows that ids name are rows of the values of all chunks
