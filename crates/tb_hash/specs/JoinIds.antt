@@ -4,13 +4,15 @@ use Rattle.std.specs.declared.vec.Vec.{Vec}
 use Rattle.either.specs.declared.Either.{Either}
 use Rattle.either.specs.declared.Either.TheVariants.{Left, Right}
 use Rattle.tb_value.specs.Typed.{is_whole_physical}
+use Rattle.tb_value.specs.declared.error.PolarsError.{PolarsError}
 use Rattle.tb_value.specs.declared.index.JoinPair.{JoinPair}
-use Rattle.tb_chunk.specs.Col.{Col}
+use Rattle.tb_chunk.specs.Col.{Col, values}
 use Rattle.tb_frame.specs.declared.args.JoinType.{JoinType}
 use Rattle.tb_frame.specs.Frame.{lens}
 use Rattle.tb_gather.specs.Ids.{Id, row_or_none}
 use Rattle.tb_gather.specs.Gathered.{NameRows}
-use Rattle.tb_hash.specs.Probing.{IsProbed}
+use Rattle.tb_hash.specs.Hashing.{builds_left, value_listing}
+use Rattle.tb_hash.specs.Probing.{IsProbed, too_many}
 
 -- THE IDS OF A SIDE
 
@@ -31,9 +33,17 @@ module _ {R Y Z : Type 0} where
 
 -- BOTH SIDES
 
--- these are the left rows and the right rows of the list's pairs, in the order of the probed rows
-pub record AreRowsOf (how : JoinType) (left_built : Bool) (list : List JoinPair) (left right : List (Option ℕ)) : Type 0 where
+-- the pairs that a join of two columns lists are too many
+abbrev pub too_many_pairs : JoinType → Bool → Col → Col → Option PolarsError
+too_many_pairs how nulls left right = too_many (length (value_listing nulls how (values left) (values right)))
+
+-- whether the left one of two columns is built
+abbrev pub builds_left_of : JoinType → Col → Col → Bool
+builds_left_of how left right = builds_left how (length (values left)) (length (values right))
+
+-- these are the left rows and the right rows of the pairs that a join of two columns lists, in the order of the probed rows
+pub record AreRowsOf (how : JoinType) (nulls : Bool) (left right : Col) (left_rows right_rows : List (Option ℕ)) : Type 0 where
   pub pairs : List JoinPair
-  pub probed : IsProbed how left_built list pairs
-  pub left_rows : left ≡ map (λ (p : JoinPair). p.left) pairs
-  pub right_rows : right ≡ map (λ (p : JoinPair). p.right) pairs
+  pub probed : IsProbed how (builds_left_of how left right) (value_listing nulls how (values left) (values right)) pairs
+  pub lefts : left_rows ≡ map (λ (p : JoinPair). p.left) pairs
+  pub rights : right_rows ≡ map (λ (p : JoinPair). p.right) pairs

@@ -1,12 +1,11 @@
 //! The rows that joins by one key column of each side give, as ids.
-ghost use Rattle.std.specs.Prelude.{◌≡◌, IfOk, None, Some, true, false, if◌then◌else◌, length, map, not};
+ghost use Rattle.std.specs.Prelude.{◌≡◌, IfOk, None, Some, true, false, if◌then◌else◌, map, not};
 ghost use Rattle.tb_value.specs.Pairs.{left_only};
 ghost use Rattle.tb_value.specs.Refusals.{Settles};
 ghost use Rattle.tb_value.specs.SameKind.{is_key};
 ghost use Rattle.tb_chunk.specs.Col.{values};
-ghost use Rattle.tb_hash.specs.Hashing.{builds_left, value_listing};
-ghost use Rattle.tb_hash.specs.JoinIds.{AreIdsOf, AreRowsOf, rows_of_ids};
-ghost use Rattle.tb_hash.specs.Probing.{too_many};
+ghost use Rattle.tb_hash.specs.Hashing.{value_listing};
+ghost use Rattle.tb_hash.specs.JoinIds.{AreIdsOf, AreRowsOf, builds_left_of, rows_of_ids, too_many_pairs};
 
 use crate::hashing::hash_pairs;
 use crate::join_ids::{
@@ -46,8 +45,8 @@ pub trait SeriesJoin: Sized {
         requires key { is_key (column self.now).kind ≡ true }
         requires same { (column self.now).kind ≡ other.now.kind }
         requires many { validate ≡ JoinValidation.ManyToMany }
-        ensures settles { Settles result (too_many (length (value_listing join_nulls JoinType.Left (values (column self.now)) (values other.now)))) }
-        ensures rows { IfOk result (λ r. AreRowsOf JoinType.Left false (value_listing join_nulls JoinType.Left (values (column self.now)) (values other.now)) (rows_of_ids Some (column self.now) r.0) (rows_of_ids (λ row. row) other.now r.1)) }
+        ensures settles { Settles result (too_many_pairs JoinType.Left join_nulls (column self.now) other.now) }
+        ensures rows { IfOk result (λ r. AreRowsOf JoinType.Left join_nulls (column self.now) other.now (rows_of_ids Some (column self.now) r.0) (rows_of_ids (λ row. row) other.now r.1)) }
         ensures left_ids { IfOk result (λ r. AreIdsOf (column self.now) r.0) }
         ensures right_ids { IfOk result (λ r. AreIdsOf other.now r.1) }
     {
@@ -73,9 +72,9 @@ pub trait SeriesJoin: Sized {
         requires key { is_key (column self.now).kind ≡ true }
         requires same { (column self.now).kind ≡ other.now.kind }
         requires many { validate ≡ JoinValidation.ManyToMany }
-        ensures settles { Settles result (too_many (length (value_listing join_nulls JoinType.Inner (values (column self.now)) (values other.now)))) }
-        ensures rows { let side = builds_left JoinType.Inner (length (values (column self.now))) (length (values other.now)) in IfOk result (λ r. AreRowsOf JoinType.Inner side (value_listing join_nulls JoinType.Inner (values (column self.now)) (values other.now)) (map Some r.0.0.items) (map Some r.0.1.items)) }
-        ensures built { let side = builds_left JoinType.Inner (length (values (column self.now))) (length (values other.now)) in IfOk result (λ r. r.1 ≡ not side) }
+        ensures settles { Settles result (too_many_pairs JoinType.Inner join_nulls (column self.now) other.now) }
+        ensures rows { IfOk result (λ r. AreRowsOf JoinType.Inner join_nulls (column self.now) other.now (map Some r.0.0.items) (map Some r.0.1.items)) }
+        ensures built { IfOk result (λ r. r.1 ≡ not (builds_left_of JoinType.Inner (column self.now) other.now)) }
     {
         let left = self.as_series();
         let kind = JoinType::Inner;
@@ -98,8 +97,8 @@ pub trait SeriesJoin: Sized {
         requires key { is_key (column self.now).kind ≡ true }
         requires same { (column self.now).kind ≡ other.now.kind }
         requires many { validate ≡ JoinValidation.ManyToMany }
-        ensures settles { Settles result (too_many (length (value_listing join_nulls JoinType.Full (values (column self.now)) (values other.now)))) }
-        ensures rows { let side = builds_left JoinType.Full (length (values (column self.now))) (length (values other.now)) in IfOk result (λ r. AreRowsOf JoinType.Full side (value_listing join_nulls JoinType.Full (values (column self.now)) (values other.now)) r.0.items r.1.items) }
+        ensures settles { Settles result (too_many_pairs JoinType.Full join_nulls (column self.now) other.now) }
+        ensures rows { IfOk result (λ r. AreRowsOf JoinType.Full join_nulls (column self.now) other.now r.0.items r.1.items) }
     {
         let left = self.as_series();
         let kind = JoinType::Full;
@@ -171,9 +170,9 @@ fn joined_rows(
     requires key { is_key left.now.kind ≡ true }
     requires same { left.now.kind ≡ right.now.kind }
     requires many { validate ≡ JoinValidation.ManyToMany }
-    ensures settles { Settles result (too_many (length (value_listing join_nulls kind (values left.now) (values right.now)))) }
-    ensures rows { let side = builds_left kind (length (values left.now)) (length (values right.now)) in IfOk result (λ r. AreRowsOf kind side (value_listing join_nulls kind (values left.now) (values right.now)) r.left.items r.right.items) }
-    ensures built { IfOk result (λ r. r.left_built ≡ builds_left kind (length (values left.now)) (length (values right.now))) }
+    ensures settles { Settles result (too_many_pairs kind join_nulls left.now right.now) }
+    ensures rows { IfOk result (λ r. AreRowsOf kind join_nulls left.now right.now r.left.items r.right.items) }
+    ensures built { IfOk result (λ r. r.left_built ≡ builds_left_of kind left.now right.now) }
 {
     let (probed, built) = hash_pairs(
         rt, alloc, kind, left, right, validate, join_nulls, exec, &OpenGate,

@@ -119,22 +119,18 @@ fn columns_with_absent_keys(rt: HostRuntime) -> Result<(), Fail> {
     let alloc = rt.alloc();
     let left = column(alloc, &[&[Some(1), None], &[Some(1)]])?;
     let right = column(alloc, &[&[Some(1), None]])?;
-    let apart = [
-        JoinPair::both(0, 0),
-        JoinPair::both(2, 0),
-        JoinPair::right_only(1),
-    ];
-    let met = [
-        JoinPair::both(0, 0),
-        JoinPair::both(2, 0),
-        JoinPair::both(1, 1),
-    ];
     let exec = Exec::standard();
     let (how, many) = (JoinType::Right, JoinValidation::ManyToMany);
-    for (join_nulls, wanted) in [(false, apart), (true, met)] {
+    for join_nulls in [false, true] {
         let (probed, built) = hash_pairs(
             &rt, alloc, how, &left, &right, many, join_nulls, &exec, &OpenGate,
         )?;
+        let last = if join_nulls {
+            JoinPair::both(1, 1)
+        } else {
+            JoinPair::right_only(1)
+        };
+        let wanted = [JoinPair::both(0, 0), JoinPair::both(2, 0), last];
         assert_eq!(rt; probed.pairs(), wanted.as_slice());
         assert!(rt; built.left_built());
         assert_eq!(rt; built.sizes(), [3].as_slice());
