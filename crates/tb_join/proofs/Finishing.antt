@@ -1,6 +1,6 @@
 -- What calls answer, and the rows of pairs.
-use Rattle.std.proofs.Common.{◌≡◌, ℕ, List, ◌++◌, length, map, subst, Option, Result, Ok, Err}
-use Rattle.std.specs.Prelude.{All, IfOk}
+use Rattle.std.proofs.Common.{◌≡◌, ℕ, List, map, subst, Option, Result}
+use Rattle.std.specs.Prelude.{All}
 use Rattle.std.proofs.lemmas.List.Elements.{All-map, All-weaker}
 use Rattle.tb_value.specs.Refusals.{Settles}
 use Rattle.tb_value.specs.declared.error.PolarsError.{PolarsError}

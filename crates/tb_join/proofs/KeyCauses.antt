@@ -1,8 +1,7 @@
 -- The causes of a request of the built form, whose key columns are found.
-use Rattle.std.proofs.Common.{◌≡◌, ◌==◌, ℕ, Bool, true, false, cond, not, ◌&&◌, ◌||◌, List, [], ◌∷◌, ◌++◌, length, map, refl, ap, sym, ◌∙◌, arith, Option, Some, None, inl, inr, ◌⊎◌, unwrap_or}
+use Rattle.std.proofs.Common.{◌≡◌, ◌==◌, ℕ, Bool, true, false, cond, not, ◌&&◌, ◌||◌, List, [], ◌∷◌, ◌++◌, length, refl, sym, ◌∙◌, arith, Option, Some, None, inl, inr, ◌⊎◌}
 use Rattle.std.specs.Option.{option_map}
 use Rattle.std.specs.List.{filter_map}
-use Rattle.std.proofs.lemmas.List.{map-append}
 use Rattle.tb_value.specs.Kind.{Kind}
 use Rattle.tb_value.specs.Names.{Name}
 use Rattle.tb_value.specs.Refusals.{first_cause, when}
@@ -12,23 +11,15 @@ use Rattle.tb_value.specs.declared.error.PolarsError.{PolarsError}
 use Rattle.tb_value.specs.declared.error.PolarsError.TheVariants.{ColumnNotFound, Duplicate, ComputeError, InvalidOperation, OutOfMemory}
 use Rattle.tb_value.specs.declared.error.ComputeCause.TheVariants.{KeyTypes, Validation}
 use Rattle.tb_value.specs.declared.error.InvalidCause.TheVariants.{NoKeys, KeyCounts, KeyKind}
-use Rattle.tb_value.proofs.Loops.{map-map}
 use Rattle.tb_value.specs.TypeTests.{same_kind-Decides}
 use Rattle.tb_chunk.specs.Col.{Col}
 use Rattle.tb_frame.specs.declared.args.JoinArgs.{JoinArgs}
-use Rattle.tb_frame.specs.declared.args.JoinType.{JoinType}
-use Rattle.tb_frame.specs.declared.args.JoinType.TheVariants.{Inner, Left, Right, Full, Semi, Anti}
 use Rattle.tb_frame.specs.declared.args.JoinValidation.TheVariants.{ManyToMany}
-use Rattle.tb_frame.specs.Answer.{gone_right}
-use Rattle.tb_frame.specs.Built.{IsBuilt, is_built_how}
-use Rattle.tb_frame.specs.Table.{TableColumn, Table, plain, table_of, height, names_of}
-use Rattle.tb_frame.specs.Join.{Request, Out, by_names, named, coalesce, coalesces, keep_left, keep_right, left_out, right_out, right_name, without, joined_names, default_suffix}
-use Rattle.tb_frame.specs.Frame.{without_names}
+use Rattle.tb_frame.specs.Built.{IsBuilt}
+use Rattle.tb_frame.specs.Table.{TableColumn, table_of, height}
+use Rattle.tb_frame.specs.Join.{Request, by_names, named}
 use Rattle.tb_frame.specs.Refusal.{first_unknown, first_repeated, no_keys, key_counts, repeated_key, key_types, key_kind, repeated_name, unknown_key, broken_side, too_many_rows, join_refusal, is_validated, asks_left, asks_right, has_twins}
-use Rattle.tb_frame.proofs.Frames.{without-table}
-use Rattle.tb_frame.proofs.Outs.{without_none}
 use Rattle.tb_join.specs.KeyRefusal.{key_refusal}
-use Rattle.tb_frame.specs.RightColumns.{right_names}
 
 -- FIRST CAUSES
 

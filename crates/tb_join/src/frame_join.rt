@@ -39,9 +39,9 @@ pub trait DataFrameJoinOps: IntoDf {
     /// 3. KeyKind: the keys are of type List, Struct or Null;
     /// 4. Duplicate: two columns of the answer would have this name, which is the first that stood before;
     /// 5. TooManyRows: the answer would have more than `MAX_ROWS` rows.
-    fn join<R: Threads + Sync>(
+    final fn join(
         &self,
-        rt: &R,
+        rt: &(impl Threads + Sync),
         alloc: Global,
         other: &DataFrame,
         left_on: &[PlSmallStr],
@@ -52,16 +52,28 @@ pub trait DataFrameJoinOps: IntoDf {
         requires built { IsBuilt (by_names (table_of (Self.frame self.now)) (table_of other.now) left_on.now right_on.now args) }
         ensures settles { Settles result (join_refusal (by_names (table_of (Self.frame self.now)) (table_of other.now) left_on.now right_on.now args)) }
         ensures answer { IfOk result (λ t. IsAnswer (by_names (table_of (Self.frame self.now)) (table_of other.now) left_on.now right_on.now args) (table_of t)) }
-        ensures table { IfOk result (λ t. IsTable (table_of t)) };
+        ensures table { IfOk result (λ t. IsTable (table_of t)) }
+    {
+        join_tables(
+            rt,
+            alloc,
+            self.to_df(),
+            other,
+            left_on,
+            right_on,
+            &args,
+            exec,
+        )
+    }
 
     /// The Inner join by one key on each side, with nothing else asked: `join` with `JoinArgs::new`.
     ///
     /// # Errors
     ///
     /// Those of `join`.
-    fn inner_join<R: Threads + Sync>(
+    final fn inner_join(
         &self,
-        rt: &R,
+        rt: &(impl Threads + Sync),
         alloc: Global,
         other: &DataFrame,
         left_on: &[PlSmallStr],
@@ -83,9 +95,9 @@ pub trait DataFrameJoinOps: IntoDf {
     /// # Errors
     ///
     /// Those of `join`.
-    fn left_join<R: Threads + Sync>(
+    final fn left_join(
         &self,
-        rt: &R,
+        rt: &(impl Threads + Sync),
         alloc: Global,
         other: &DataFrame,
         left_on: &[PlSmallStr],
@@ -107,9 +119,9 @@ pub trait DataFrameJoinOps: IntoDf {
     /// # Errors
     ///
     /// Those of `join`.
-    fn full_join<R: Threads + Sync>(
+    final fn full_join(
         &self,
-        rt: &R,
+        rt: &(impl Threads + Sync),
         alloc: Global,
         other: &DataFrame,
         left_on: &[PlSmallStr],
@@ -127,20 +139,7 @@ pub trait DataFrameJoinOps: IntoDf {
     }
 }
 
-impl DataFrameJoinOps for DataFrame {
-    fn join<R: Threads + Sync>(
-        &self,
-        rt: &R,
-        alloc: Global,
-        other: &DataFrame,
-        left_on: &[PlSmallStr],
-        right_on: &[PlSmallStr],
-        args: JoinArgs,
-        exec: &Exec,
-    ) -> PolarsResult<DataFrame> {
-        join_tables(rt, alloc, self, other, left_on, right_on, &args, exec)
-    }
-}
+impl DataFrameJoinOps for DataFrame {}
 
 // The key columns, where no cause refuses the keys, their types and the names of the answer.
 fn checked_keys<'a>(

@@ -90,7 +90,13 @@ fn names_beside(
     let kept = kept_names(alloc, left, gone_left(args, left_on))?;
     let taken = lent_name_set(alloc, &kept)?;
     let gone = gone_right(args, right_on);
-    called_names(alloc, &taken, right_side(args.how, right), gone, suffix_of(args))
+    called_names(
+        alloc,
+        &taken,
+        right_side(args.how, right),
+        gone,
+        suffix_of(args),
+    )
 }
 
 fn push_names<'a>(

@@ -1,4 +1,4 @@
-use Rattle.std.proofs.Common.{◌≡◌, ◌∙◌, List, Option, ℕ, sym, subst}
+use Rattle.std.proofs.Common.{◌∙◌, List, Option, ℕ, sym, subst}
 use Rattle.std.specs.Prelude.{All}
 use Rattle.tb_chunk.specs.Rows.{IsRowOf}
 use Rattle.tb_frame.specs.Table.{table_of, height}

@@ -1,8 +1,8 @@
-use Rattle.std.proofs.Common.{◌≡◌, ◌∙◌, Bool, List, map, not, ap, rules}
+use Rattle.std.proofs.Common.{◌∙◌, Bool, List, map, not, ap, rules}
 use Rattle.std.specs.Prelude.{filter}
 use Rattle.std.proofs.lemmas.Fn.{filter_same}
 use Rattle.tb_chunk.specs.Col.{Col}
-use Rattle.tb_frame.specs.Frame.{opt_taken, without_names}
+use Rattle.tb_frame.specs.Frame.{opt_taken}
 use Rattle.tb_frame.specs.NameSets.{has_name}
 use Rattle.tb_join.proofs.Naming.{without-opt_taken}
 use Rattle.tb_join.proofs.general.kept_columns.Goals as goal

@@ -1,4 +1,4 @@
-use Rattle.std.proofs.Common.{◌≡◌, ◌++◌, ◌∷◌, Bool, List, [], not, map, ap, sym, ◌∙◌, Bor}
+use Rattle.std.proofs.Common.{◌≡◌, ◌∷◌, Bool, [], not, map, ap, sym, ◌∙◌, Bor}
 use Rattle.std.proofs.lemmas.List.{map-append}
 use Rattle.tb_value.specs.Names.{Name}
 use Rattle.tb_value.proofs.Kept.{made, skipped}
