@@ -17,6 +17,7 @@ mod tests;
 
 pub use args::{Direction, JoinArgs, JoinCoalesce, JoinType, JoinValidation, MaintainOrderJoin};
 pub use arranging::{arrange, cut_pairs};
+pub use chunking::rechunk_columns;
 pub use coalescing::coalesce_columns;
 pub use equality::{same_type, same_value};
 pub use frame::{DataFrame, IntoDf, column_name_set, column_names, take_columns, take_opt_columns};

@@ -5,7 +5,8 @@ mod frame_join;
 mod general;
 mod keys;
 pub mod laws;
-mod matching;
-mod typed_keys;
+mod names;
+mod pairs;
+mod rows;
 
 pub use frame_join::DataFrameJoinOps;
