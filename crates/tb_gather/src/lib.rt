@@ -11,6 +11,8 @@ mod series;
 mod side_by_side;
 mod tables;
 mod take_chunked;
+#[cfg(test)]
+mod tests;
 
 pub use ids::{ids_of, name_rows};
 pub use rows::gather_rows;
