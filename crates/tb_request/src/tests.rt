@@ -1,8 +1,6 @@
 use crate::{Reason, RequestFault, request_of};
 use std::alloc::Global;
 use std::test::Fail;
-use tb_json::text_of_refusal;
-use tb_value::{ComputeCause, InvalidCause, PlSmallStr, PolarsError, Side};
 
 // Why a request with this left table, these arguments and these further members is none. None where it is one.
 fn reason_of(alloc: Global, left: &str, args: &str, further: &str) -> Result<Option<Reason>, Fail> {
@@ -250,32 +248,5 @@ fn arguments_and_their_reasons(rt: HostRuntime) -> Result<(), Fail> {
             "{args} {further}"
         );
     }
-    Ok(())
-}
-
-#[test]
-fn refusals(rt: HostRuntime) -> Result<(), Fail> {
-    let name = PlSmallStr::from_str(rt.alloc(), "a\"b")
-        .ok()
-        .ok_or("memory")?;
-    let text = text_of_refusal(rt.alloc(), &PolarsError::Duplicate(name))
-        .ok()
-        .ok_or("memory")?;
-    assert_eq!(rt;
-        text.as_str(),
-        "{\"error\":\"Duplicate\",\"name\":\"a\\\"b\"}\n"
-    );
-    let error = PolarsError::InvalidOperation(InvalidCause::KeyCounts { left: 2, right: 1 });
-    let text = text_of_refusal(rt.alloc(), &error).ok().ok_or("memory")?;
-    assert_eq!(rt;
-        text.as_str(),
-        "{\"cause\":\"KeyCounts\",\"error\":\"InvalidOperation\",\"left\":2,\"right\":1}\n"
-    );
-    let error = PolarsError::ComputeError(ComputeCause::Validation(Side::Right));
-    let text = text_of_refusal(rt.alloc(), &error).ok().ok_or("memory")?;
-    assert_eq!(rt;
-        text.as_str(),
-        "{\"cause\":\"Validation\",\"error\":\"ComputeError\",\"side\":\"right\"}\n"
-    );
     Ok(())
 }
