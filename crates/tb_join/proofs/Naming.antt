@@ -1,6 +1,8 @@
 -- The columns that stand in an answer, and their names.
-use Rattle.std.proofs.Common.{◌≡◌, ℕ, Bool, true, false, cond, not, List, [], ◌∷◌, ◌++◌, map, refl, ap, sym, ◌∙◌, Option}
+use Rattle.std.proofs.Common.{◌≡◌, ◌<◌, Bool, true, false, cond, not, List, [], ◌∷◌, ◌++◌, length, map, refl, ap, sym, ◌∙◌, subst, arith}
+use Rattle.std.specs.Prelude.{All}
 use Rattle.std.proofs.lemmas.List.{map-append}
+use Rattle.std.proofs.lemmas.List.Elements.{All-filter, All-head}
 use Rattle.tb_value.specs.Names.{Name}
 use Rattle.tb_value.proofs.Loops.{map-map}
 use Rattle.tb_chunk.specs.Col.{Col}
@@ -10,23 +12,28 @@ use Rattle.tb_frame.specs.declared.args.JoinType.{JoinType}
 use Rattle.tb_frame.specs.declared.args.JoinType.TheVariants.{Inner, Left, Right, Full, Semi, Anti}
 use Rattle.tb_frame.specs.Answer.{gone_right, has_right}
 use Rattle.tb_frame.specs.Built.{is_built_coalesce}
-use Rattle.tb_frame.specs.Frame.{opt_taken, without_names}
+use Rattle.tb_frame.specs.Frame.{without_names}
 use Rattle.tb_frame.specs.Join.{Out, by_names, coalesce, is_among, keep_right, kept_left, kept_right, left_out, right_out, right_name, without, joined_names}
 use Rattle.tb_frame.specs.RightColumns.{right_names}
-use Rattle.tb_frame.specs.Table.{TableColumn, Table, plain, table_of, names_of}
+use Rattle.tb_frame.specs.Table.{TableColumn, Table, plain, table_of, height, names_of, IsTable}
 use Rattle.tb_frame.proofs.Frames.{without-table}
 use Rattle.tb_frame.proofs.Outs.{keep_left_is, without_none}
 use Rattle.tb_join.specs.AnswerColumns.{gone_left_in, gone_right_in, suffix_in, right_side}
 
--- columns left out before or after their rows are taken
-pub without-opt_taken : (names : List Name) (rows : List (Option ℕ)) (cs : List Col) → without_names names (map (opt_taken rows) cs) ≡ map (opt_taken rows) (without_names names cs)
-without-opt_taken names rows [] = refl
-without-opt_taken names rows (c ∷ cs) = at (not (is_among names c.name)) (without-opt_taken names rows cs)
+-- no names leave none out
+pub without_names_none : (cs : List Col) → without_names [] cs ≡ cs
+without_names_none [] = refl
+without_names_none (c ∷ cs) = ap (λ (ks : List Col). c ∷ ks) (without_names_none cs)
+
+-- a table that keeps a column keeps its height
+pub height-without : (names : List Name) (cs : List Col) → IsTable (table_of cs) → 0 < length (without_names names cs) → height (table_of (without_names names cs)) ≡ height (table_of cs)
+height-without names cs t some =
+    let high : TableColumn → Type 0 = λ c. length c.values ≡ height (table_of cs) in
+    first (without_names names cs) some (subst (λ (k : Table). All high k) (sym (without-table names cs)) (All-filter (λ (c : TableColumn). not (is_among names c.name)) high (table_of cs) t.one_height))
   where
-    at : (b : Bool) → without_names names (map (opt_taken rows) cs) ≡ map (opt_taken rows) (without_names names cs)
-        → cond b (opt_taken rows c ∷ without_names names (map (opt_taken rows) cs)) (without_names names (map (opt_taken rows) cs)) ≡ map (opt_taken rows) (cond b (c ∷ without_names names cs) (without_names names cs))
-    at true e = ap (λ (ks : List Col). opt_taken rows c ∷ ks) e
-    at false e = e
+    first : (ks : List Col) → 0 < length ks → All (λ (c : TableColumn). length c.values ≡ height (table_of cs)) (table_of ks) → height (table_of ks) ≡ height (table_of cs)
+    first [] h all = absurd (omega arith)
+    first (k ∷ ks) h all = All-head (λ (c : TableColumn). length c.values ≡ height (table_of cs)) (plain k) (table_of ks) all
 
 -- no Full join is coalesced
 abbrev pub is_apart : JoinType → Bool → Bool
