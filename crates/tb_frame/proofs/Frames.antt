@@ -25,7 +25,7 @@ all_true {X} p (x ∷ xs) h = at (p x) refl h (all_true p xs)
     at true e k rest = All-cons (λ x. p x ≡ true) x xs e (rest k)
     at false e k rest = absurd (cc)
 
-when_not : (b : Bool) (e : PolarsError) → when (not b) e ≡ None → b ≡ true
+pub when_not : (b : Bool) (e : PolarsError) → when (not b) e ≡ None → b ≡ true
 when_not true e h = refl
 when_not false e h = absurd (cc)
 

@@ -7,7 +7,7 @@ ghost use Rattle.tb_chunk.specs.Rows.{IsRowOf};
 ghost use Rattle.tb_frame.specs.Answer.{gone_left, gone_right, has_right};
 ghost use Rattle.tb_frame.specs.Join.{coalesce, default_suffix, is_among, right_name};
 ghost use Rattle.tb_frame.specs.NameSets.{has_name};
-ghost use Rattle.tb_frame.specs.RightColumns.{right_column, right_columns};
+ghost use Rattle.tb_frame.specs.RightColumns.{right_column, right_columns, right_side};
 ghost use Rattle.tb_frame.specs.Table.{names_of, table_of};
 
 use crate::args::{JoinArgs, JoinType};
@@ -35,6 +35,13 @@ pub fn has_right(how: JoinType) -> bool
         JoinType::Inner | JoinType::Left | JoinType::Right | JoinType::Full => true,
         JoinType::Semi | JoinType::Anti => false,
     }
+}
+
+/// The right columns, of which a Semi or Anti join has none.
+pub fn right_side<'a>(how: JoinType, right: &'a [Column]) -> &'a [Column]
+    ensures { result.now ≡ right_side how right.now }
+{
+    if has_right(how) { right } else { &[] }
 }
 
 /// The names of the left columns that the answer lacks: those of coalesced keys of a Right join.

@@ -10,13 +10,13 @@ ghost use Rattle.tb_frame.specs.Refusal.{join_refusal};
 ghost use Rattle.tb_frame.specs.Table.{height, names_of, table_of, IsTable};
 ghost use Rattle.tb_join.specs.AnswerColumns.{answer_columns, called, right_part};
 
-use crate::rows::gather_rows;
 use std::alloc::Global;
 use std::thread::Threads;
 use tb_frame::{
     DataFrame, JoinArgs, column_name_set, gone_left, gone_right, has_right, left_rows, right_name,
     right_rows, suffix_of,
 };
+use tb_gather::gather_rows;
 use tb_store::Column;
 use tb_value::{JoinPair, NullableIdxSize, OutOfMemory, PlSmallStr, PolarsResult};
 

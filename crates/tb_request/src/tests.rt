@@ -213,7 +213,12 @@ fn arguments_and_their_reasons(rt: HostRuntime) -> Result<(), Fail> {
             r#","exec":{"den":0,"num":1,"partitions":2,"small":0,"workers":1}"#,
             Some(Reason::Exec),
         ),
-        (r#""how":"full""#, "", Some(Reason::NotYet)),
+        (r#""how":"full","join_nulls":true"#, "", None),
+        (
+            r#""how":"full","coalesce":"coalesce""#,
+            "",
+            Some(Reason::NotYet),
+        ),
         (
             r#""how":"inner","validation":"1:m""#,
             "",
@@ -225,15 +230,16 @@ fn arguments_and_their_reasons(rt: HostRuntime) -> Result<(), Fail> {
             Some(Reason::NotYet),
         ),
         (
-            r#""how":"inner","join_nulls":true"#,
-            "",
-            Some(Reason::NotYet),
-        ),
-        (
             r#""how":"left","maintain_order":"right_left""#,
             "",
             Some(Reason::NotYet),
         ),
+        (
+            r#""how":"right","maintain_order":"left""#,
+            "",
+            Some(Reason::NotYet),
+        ),
+        (r#""how":"anti","maintain_order":"right""#, "", None),
         (INNER, r#","left_on":["k","k"]"#, Some(Reason::NotYet)),
         (INNER, r#","trace":true"#, Some(Reason::NotYet)),
     ];

@@ -6,7 +6,7 @@ use Rattle.tb_chunk.specs.Col.{Col}
 use Rattle.tb_chunk.specs.Rows.{IsRowOf}
 use Rattle.tb_frame.specs.Frame.{opt_taken, without_names}
 use Rattle.tb_frame.specs.Table.{height, table_of}
-use Rattle.tb_join.proofs.Naming.{height-without, without_names_none}
+use Rattle.tb_join.proofs.KeptColumns.{height-without, without_names_none}
 use Rattle.tb_join.proofs.general.kept_columns.Goals as goal
 
 pub returns-then-is_empty : goal.returns-then-is_empty
