@@ -15,14 +15,15 @@ use Rattle.tb_frame.specs.Frame.{opt_taken, without_names}
 use Rattle.tb_frame.specs.Answer.{fill, answer_left, answer_right, gone_right, has_right, IsListed}
 use Rattle.tb_frame.specs.Built.{is_built_coalesce}
 use Rattle.tb_frame.specs.Refusal.{join_refusal}
-use Rattle.tb_frame.specs.RightColumns.{right_column}
+use Rattle.tb_frame.specs.RightColumns.{right_column, right_side}
 use Rattle.tb_frame.proofs.Assembled.{made_columns, makes_table, makes_answer}
 use Rattle.tb_frame.proofs.Frames.{without-table}
+use Rattle.tb_frame.proofs.JoinedNames.{left-kept, side_table}
 use Rattle.tb_frame.proofs.Outs.{answer_right_is}
 use Rattle.tb_frame.proofs.Taking.{names-opt_taken, values-opt_taken}
 use Rattle.tb_frame.proofs.Validity.{some_left, some_right, names_apart}
-use Rattle.tb_join.specs.AnswerColumns.{answer_columns, gone_left_in, gone_right_in, left_part, right_part, right_side, suffix_in}
-use Rattle.tb_join.proofs.Naming.{is_apart, built_apart, left-kept, side_table}
+use Rattle.tb_join.specs.AnswerColumns.{answer_columns, gone_left_in, gone_right_in, left_part, right_part, suffix_in}
+use Rattle.tb_join.proofs.KeptColumns.{is_apart, built_apart}
 
 -- COLUMNS
 

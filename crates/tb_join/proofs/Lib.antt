@@ -2,6 +2,6 @@ pub mod RowProofs
 pub mod ColumnLemmas
 pub mod KeyCauses
 pub mod Finishing
-pub mod Naming
+pub mod KeptColumns
 pub mod Listed
 pub mod AnswerMade

@@ -1,14 +1,13 @@
 -- The columns of an answer, as they are gathered over its pairs.
-use Rattle.std.specs.Prelude.{if◌then◌else◌, List, [], ◌++◌, map, Some, unwrap_or}
+use Rattle.std.specs.Prelude.{List, ◌++◌, map, Some, unwrap_or}
 use Rattle.tb_value.specs.Names.{Name}
 use Rattle.tb_value.specs.declared.index.JoinPair.{JoinPair}
 use Rattle.tb_chunk.specs.Col.{Col}
 use Rattle.tb_frame.specs.declared.args.JoinArgs.{JoinArgs}
-use Rattle.tb_frame.specs.declared.args.JoinType.{JoinType}
-use Rattle.tb_frame.specs.Answer.{gone_left, gone_right, has_right}
+use Rattle.tb_frame.specs.Answer.{gone_left, gone_right}
 use Rattle.tb_frame.specs.Frame.{opt_taken, without_names}
 use Rattle.tb_frame.specs.Join.{coalesce, default_suffix, right_name}
-use Rattle.tb_frame.specs.RightColumns.{right_columns}
+use Rattle.tb_frame.specs.RightColumns.{right_columns, right_side}
 use Rattle.tb_frame.specs.Table.{names_of, table_of}
 
 -- the names of the left columns that go, and of the right ones, and the suffix
@@ -20,10 +19,6 @@ gone_right_in a right_on = gone_right a.how (coalesce a.coalesce a.how) right_on
 
 abbrev pub suffix_in : JoinArgs → Name
 suffix_in a = unwrap_or a.suffix default_suffix
-
--- the right columns of which some stand in the answer: none in a Semi or Anti join
-abbrev pub right_side : JoinType → List Col → List Col
-right_side how cs = (if has_right how then cs else [])
 
 -- a column under its name beside columns of the names that are taken
 abbrev pub called : List Name → Name → Col → Col

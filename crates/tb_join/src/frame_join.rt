@@ -13,11 +13,10 @@ ghost use Rattle.tb_join.specs.KeyRefusal.{key_refusal};
 
 use crate::general::finish_join;
 use crate::keys::{check_key_kind, check_key_types, key_column};
-use crate::names::check_names;
 use crate::pairs::key_pairs;
 use std::alloc::Global;
 use std::thread::Threads;
-use tb_frame::{DataFrame, IntoDf, JoinArgs, JoinType};
+use tb_frame::{DataFrame, IntoDf, JoinArgs, JoinType, check_joined_names};
 use tb_pool::Exec;
 use tb_store::Column;
 use tb_value::{JoinPair, PlSmallStr, PolarsResult};
@@ -162,7 +161,7 @@ fn checked_keys<'a>(
     let right_key = key_column(alloc, right, right_on)?;
     check_key_types(left_key, right_key)?;
     check_key_kind(left_key)?;
-    check_names(
+    check_joined_names(
         alloc,
         left.get_columns(),
         right.get_columns(),

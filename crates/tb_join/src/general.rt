@@ -10,17 +10,18 @@ ghost use Rattle.tb_frame.specs.Refusal.{join_refusal};
 ghost use Rattle.tb_frame.specs.Table.{height, names_of, table_of, IsTable};
 ghost use Rattle.tb_join.specs.AnswerColumns.{answer_columns, called, right_part};
 
-use crate::rows::gather_rows;
 use std::alloc::Global;
 use std::thread::Threads;
 use tb_frame::{
-    DataFrame, JoinArgs, column_name_set, gone_left, gone_right, has_right, left_rows, name_set,
-    right_name, right_rows, suffix_of,
+    DataFrame, JoinArgs, column_name_set, gone_left, gone_right, has_right, left_rows, right_name,
+    right_rows, suffix_of,
 };
+use tb_gather::gather_rows;
 use tb_store::Column;
 use tb_value::{JoinPair, NullableIdxSize, OutOfMemory, PlSmallStr, PolarsResult};
 
-// The columns of a table over these rows, but for those of the names that go.
+// The columns of a table over these rows, but for those of the names that go, which are left out before the rest is
+// gathered.
 fn kept_columns(
     rt: &(impl Threads + Sync),
     alloc: Global,
@@ -32,10 +33,15 @@ fn kept_columns(
     requires few { length rows.now ≤ 4294967294 }
     ensures { IfOk result (λ v. v.items ≡ map (opt_taken rows.now) (without_names gone.now table.now)) }
 {
-    let gone = name_set(alloc, gone)?;
-    let mut columns = gather_rows(rt, alloc, table, rows)?.into_columns();
-    columns.retain(|column| !gone.contains(column.name()));
-    Ok(columns)
+    if gone.is_empty() {
+        return Ok(gather_rows(rt, alloc, table, rows)?.into_columns());
+    }
+    let _columns = table.get_columns();
+    let kept = table.drop_many(alloc, gone)?;
+    if kept.width() == 0 {
+        return Ok(kept.into_columns());
+    }
+    Ok(gather_rows(rt, alloc, &kept, rows)?.into_columns())
 }
 
 // The right columns under their names in the answer, beside these left columns.

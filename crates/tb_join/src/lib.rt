@@ -5,8 +5,6 @@ mod frame_join;
 mod general;
 mod keys;
 pub mod laws;
-mod names;
 mod pairs;
-mod rows;
 
 pub use frame_join::DataFrameJoinOps;

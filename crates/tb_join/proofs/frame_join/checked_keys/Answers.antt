@@ -20,14 +20,14 @@ returns-in_err-check_key_kind-clause-settles c =
     let p = err_from_is_err_and c.from_residual-in_err-check_key_kind.result c.from_residual-in_err-check_key_kind.ensures.1 in
     rw (p.1, p.2) (by_fourth _ _ _ _ _ _ _ all c.in_ok-left_key.ensures.settles c.in_ok-right_key.ensures.settles c.in_ok-check_key_types.ensures c.in_err-check_key_kind.ensures)
 
-pub returns-in_err-check_names-clause-settles : goal.returns-in_err-check_names-clause-settles
-returns-in_err-check_names-clause-settles c =
+pub returns-in_err-check_joined_names-clause-settles : goal.returns-in_err-check_joined_names-clause-settles
+returns-in_err-check_joined_names-clause-settles c =
     let all = key_causes c.args.left.now c.args.right.now c.args.left_on.now c.args.right_on.now c.args.args.now c.requires (plain c.in_ok-left_key.left_key.now) (plain c.in_ok-right_key.right_key.now) c.in_ok-left_key.ensures.found c.in_ok-right_key.ensures.found in
     let same : repeated_name (by_names (table_of c.get_columns.result.now) (table_of c.get_columns-2.result.now) c.args.left_on.now c.args.right_on.now c.args.args.now) ≡ repeated_name (by_names (table_of c.args.left.now) (table_of c.args.right.now) c.args.left_on.now c.args.right_on.now c.args.args.now) =
     λ t. repeated_name (by_names (table_of (c.get_columns.ensures.columns t)) (table_of (c.get_columns-2.ensures.columns t)) c.args.left_on.now c.args.right_on.now c.args.args.now)
     in
-    let p = err_from_is_err_and c.from_residual-in_err-check_names.result c.from_residual-in_err-check_names.ensures.1 in
-    rw (p.1, p.2) (by_fifth _ _ _ _ _ _ _ all c.in_ok-left_key.ensures.settles c.in_ok-right_key.ensures.settles _ c.in_ok-check_key_types.ensures c.in_ok-check_key_kind.ensures same c.in_err-check_names.ensures)
+    let p = err_from_is_err_and c.from_residual-in_err-check_joined_names.result c.from_residual-in_err-check_joined_names.ensures.1 in
+    rw (p.1, p.2) (by_fifth _ _ _ _ _ _ _ all c.in_ok-left_key.ensures.settles c.in_ok-right_key.ensures.settles _ c.in_ok-check_key_types.ensures c.in_ok-check_key_kind.ensures same c.in_err-check_joined_names.ensures)
 
 pub returns-clause-settles : goal.returns-clause-settles
 returns-clause-settles c =
@@ -35,7 +35,7 @@ returns-clause-settles c =
     let same : repeated_name (by_names (table_of c.get_columns.result.now) (table_of c.get_columns-2.result.now) c.args.left_on.now c.args.right_on.now c.args.args.now) ≡ repeated_name (by_names (table_of c.args.left.now) (table_of c.args.right.now) c.args.left_on.now c.args.right_on.now c.args.args.now) =
     λ t. repeated_name (by_names (table_of (c.get_columns.ensures.columns t)) (table_of (c.get_columns-2.ensures.columns t)) c.args.left_on.now c.args.right_on.now c.args.args.now)
     in
-    by_none _ _ _ _ _ _ all c.in_ok-left_key.ensures.settles c.in_ok-right_key.ensures.settles c.in_ok-check_key_types.ensures c.in_ok-check_key_kind.ensures (◌∙◌ {A = Option PolarsError} (sym same) c.in_ok-check_names.ensures)
+    by_none _ _ _ _ _ _ all c.in_ok-left_key.ensures.settles c.in_ok-right_key.ensures.settles c.in_ok-check_key_types.ensures c.in_ok-check_key_kind.ensures (◌∙◌ {A = Option PolarsError} (sym same) c.in_ok-check_joined_names.ensures)
 
 pub returns-clause-key : goal.returns-clause-key
 returns-clause-key c = is_keyed _ c.in_ok-check_key_kind.ensures

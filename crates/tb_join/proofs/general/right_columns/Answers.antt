@@ -6,9 +6,9 @@ use Rattle.tb_value.proofs.Loops.{map-map}
 use Rattle.tb_chunk.specs.Rows.{IsRowOf}
 use Rattle.tb_frame.specs.Answer.{has_right}
 use Rattle.tb_frame.specs.Frame.{opt_taken, without_names}
-use Rattle.tb_frame.specs.RightColumns.{right_column}
+use Rattle.tb_frame.specs.RightColumns.{right_column, right_side}
 use Rattle.tb_frame.specs.Table.{table_of, height, names_of}
-use Rattle.tb_join.specs.AnswerColumns.{called, right_side, suffix_in}
+use Rattle.tb_join.specs.AnswerColumns.{called, suffix_in}
 use Rattle.tb_join.proofs.Finishing.{right_within}
 use Rattle.tb_join.proofs.general.right_columns.Goals as goal
 
