@@ -1,4 +1,5 @@
 pub mod Alls
+pub mod Crossing
 pub mod Fitting
 pub mod Flags
 pub mod Follow

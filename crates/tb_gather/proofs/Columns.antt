@@ -10,7 +10,7 @@ use Rattle.tb_chunk.specs.Flag.{FlagHolds}
 use Rattle.tb_chunk.proofs.Lists.{All-picked}
 use Rattle.tb_gather.specs.Ids.{Id, row_or_none}
 use Rattle.tb_gather.specs.Gathered.{lengths, value_at, named_rows, NameRows}
-use Rattle.tb_gather.proofs.Rows.{named-row}
+use Rattle.tb_gather.proofs.Naming.{named-row}
 
 pub values-named : (ids : List Id) (flag : IsSorted) (c : Col) → values (named_rows ids flag c) ≡ map (value_at c.chunks) ids
 values-named ids flag c = append-nil (map (value_at c.chunks) ids)

@@ -8,7 +8,7 @@ use Rattle.tb_chunk.specs.Col.{Col, flat, values}
 use Rattle.tb_frame.specs.Frame.{lens}
 use Rattle.tb_gather.specs.Ids.{Id, NamesRow, row_of, row_or_none}
 use Rattle.tb_gather.specs.Gathered.{gathered, gathered_flag, lengths, pick, value_at}
-use Rattle.tb_gather.proofs.Rows.{sum-cons}
+use Rattle.tb_gather.proofs.Naming.{sum-cons}
 
 -- what is gathered is picked by the numbers of the rows
 pub gathered-pick : (chunks : List (List Datum)) (ids : List Id) → map (value_at chunks) ids ≡ pick (flat chunks) (map (row_or_none (lengths chunks)) ids)

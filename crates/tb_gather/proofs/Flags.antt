@@ -16,7 +16,7 @@ use Rattle.tb_chunk.specs.Flag.{datum_cmp, present, nulls, IsOrdered, FlagHolds}
 use Rattle.tb_gather.specs.Ids.{Id, NamesRow, IsUpTo, RunsBy}
 use Rattle.tb_gather.specs.Gathered.{lengths, value_at, gathered_flag, gathered, NameRows}
 use Rattle.tb_gather.proofs.Comparing.{IsOf, Orders, ascending-orders, descending-orders}
-use Rattle.tb_gather.proofs.Rows.{number, number-value, number-low, number-up}
+use Rattle.tb_gather.proofs.Naming.{number, number-value, number-low, number-up}
 use Rattle.tb_gather.proofs.Standing.{Stands, turned, nulls-first, nulls-last, ends-of-pairs, in-order-of-pairs}
 
 -- any value stands right before any later one

@@ -11,7 +11,7 @@ use Rattle.tb_chunk.specs.Col.{Col, flat}
 use Rattle.tb_frame.specs.Frame.{lens}
 use Rattle.tb_gather.specs.Ids.{AreStarts}
 use Rattle.tb_gather.specs.Gathered.{lengths}
-use Rattle.tb_gather.proofs.Rows.{sum-cons}
+use Rattle.tb_gather.proofs.Naming.{sum-cons}
 
 pub sum-total : (chunks : List (List Datum)) → sum (lengths chunks) ≡ length (flat chunks)
 sum-total [] = refl

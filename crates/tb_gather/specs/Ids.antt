@@ -1,9 +1,11 @@
 -- Ids of rows in chunks: a chunk and a row in it, or none.
 use Rattle.std.specs.Prelude.{◌≡◌, ◌<◌, ◌≤◌, ◌+◌, ◌⊎◌, ℕ, List, Option, Some, None, length, take, slice_index_or}
-use Rattle.std.specs.List.{AllPairs, sum}
+use Rattle.std.specs.List.{All, AllPairs, sum}
 use Rattle.std.specs.Option.{option_map}
 use Rattle.tb_value.specs.declared.sorted.IsSorted.{IsSorted}
 use Rattle.tb_value.specs.declared.sorted.IsSorted.TheVariants.{Ascending, Descending, Not}
+use Rattle.tb_chunk.specs.Col.{Col}
+use Rattle.tb_frame.specs.Frame.{AreCutAlike}
 
 abbrev pub Id : Type 0
 Id = Option (ℕ × ℕ)
@@ -31,7 +33,23 @@ RunsBy Ascending ids = AllPairs IsUpTo ids
 RunsBy Descending ids = AllPairs (λ (a b : Id). IsUpTo b a) ids
 RunsBy Not ids = Unit {0}
 
+-- not behind the other, where both are there
+abbrev pub IsRowUpTo : Option ℕ → Option ℕ → Type 0
+IsRowUpTo (Some i) (Some j) = i ≤ j
+IsRowUpTo _ _ = Unit {0}
+
+-- what a direction says of row numbers that are not none
+abbrev pub RowsRunBy : IsSorted → List (Option ℕ) → Type 0
+RowsRunBy Ascending rows = AllPairs IsRowUpTo rows
+RowsRunBy Descending rows = AllPairs (λ (i j : Option ℕ). IsRowUpTo j i) rows
+RowsRunBy Not rows = Unit {0}
+
 -- where each chunk of these lengths starts, as a row number
 pub record AreStarts (lens starts : List ℕ) : Type 0 where
   pub whole : length starts ≡ length lens
   pub each : (k : ℕ) → k < length lens → slice_index_or starts k 0 ≡ sum (take k lens)
+
+-- the columns are cut alike, into chunks that ids of 24 bits for the chunk can name
+pub record AreCutForIds (cs : List Col) : Type 0 where
+  pub alike : AreCutAlike cs
+  pub few : All (λ (c : Col). length c.chunks < 16777215) cs

@@ -6,7 +6,6 @@ ghost use Rattle.tb_gather.specs.Gathered.{NameRows, named_rows, value_at};
 
 use crate::directions::gathered_flag;
 use crate::gathering::gather_one;
-use crate::parts::column_of;
 use crate::take_chunked::TakeChunked;
 use std::alloc::Global;
 use tb_store::{ChunkedArray, Grow, PolarsDataType, Series};
@@ -30,8 +29,7 @@ where
     let name = array.name().copy(alloc)?;
     let dtype = array.dtype().copy(alloc)?;
     let chunks = gather_one(alloc, array.chunks(), by)?;
-    let series = column_of(alloc, name, dtype, T::wrap(chunks), flag)?;
-    Ok(as_array(series))
+    Ok(as_array(Series::from_parts(name, dtype, T::wrap(chunks), flag)))
 }
 
 // A series of a type that the marker accepts.

@@ -6,7 +6,7 @@ use tb_value::IsSorted;
 
 /// How the values of a column run that are taken by ids which run so: Ascending where both run in one direction,
 /// Descending where in opposite ones, Not where either is Not.
-pub fn gathered_flag(column: IsSorted, ids: IsSorted) -> IsSorted
+pub(crate) fn gathered_flag(column: IsSorted, ids: IsSorted) -> IsSorted
     ensures { result ≡ gather.gathered_flag column ids }
 {
     match (column, ids) {

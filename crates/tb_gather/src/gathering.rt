@@ -26,8 +26,8 @@ fn push_named<C: Grow, const B: u64>(
     out.push_from(alloc, &chunks[chunk as usize], row as usize)
 }
 
-/// The rows that the ids name, Null for none. It takes steps in the number of ids.
-pub fn gather<C: Grow, const B: u64>(
+// The rows that the ids name, Null for none. It takes steps in the number of ids.
+fn gather<C: Grow, const B: u64>(
     alloc: Global,
     chunks: &[C],
     ids: &[ChunkId<B>],
@@ -44,7 +44,7 @@ pub fn gather<C: Grow, const B: u64>(
 }
 
 /// The rows that the ids name, as the only chunk.
-pub fn gather_one<C: Grow, const B: u64>(
+pub(crate) fn gather_one<C: Grow, const B: u64>(
     alloc: Global,
     chunks: &[C],
     ids: &[ChunkId<B>],
@@ -60,7 +60,7 @@ pub fn gather_one<C: Grow, const B: u64>(
 }
 
 /// The rows that the ids name, in one chunk of the same kind, Null for none.
-pub fn gather_chunks<const B: u64>(
+pub(crate) fn gather_chunks<const B: u64>(
     alloc: Global,
     chunks: &Chunks,
     ids: &[ChunkId<B>],

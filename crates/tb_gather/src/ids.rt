@@ -1,9 +1,10 @@
 //! Ids made from row numbers.
 ghost use Rattle.std.specs.Prelude.{◌≡◌, ◌<◌, ◌≤◌, ◌^◌, ◌-◌, ◌↔◌, All, IfOk, IsTrue, Some, length, map, nat_le, slice_index_or};
-ghost use Rattle.tb_chunk.specs.Col.{values};
+ghost use Rattle.tb_value.specs.declared.sorted.IsSorted.{IsSorted};
+ghost use Rattle.tb_chunk.specs.Col.{values, IsColumn};
 ghost use Rattle.tb_chunk.specs.Rows.{IsRowOf};
 ghost use Rattle.tb_frame.specs.Frame.{lens};
-ghost use Rattle.tb_gather.specs.Ids.{AreStarts, NamesRow, row_or_none};
+ghost use Rattle.tb_gather.specs.Ids.{AreStarts, NamesRow, RowsRunBy, RunsBy, row_or_none};
 ghost use Rattle.tb_gather.specs.Gathered.{NameRows};
 
 use std::alloc::Global;
@@ -27,12 +28,12 @@ fn starts_of(alloc: Global, column: &Series) -> Result<Vec<usize>, OutOfMemory>
 
 // The last chunk that starts at the row or before it.
 fn chunk_of(column: &Series, starts: &[usize], row: usize) -> usize
+    requires column { IsColumn column.now }
     requires starts { AreStarts (lens column.now) starts.now }
     requires row { row < length (values column.now) }
     ensures start { slice_index_or starts.now result 0 ≤ row }
     ensures named { NamesRow (lens column.now) (Some (result, row - slice_index_or starts.now result 0)) }
 {
-    let _len = column.len();
     let after = starts.partition_point(
         |start: &usize| -> bool
             ensures { result ≡ nat_le start.now row }
@@ -44,19 +45,20 @@ fn chunk_of(column: &Series, starts: &[usize], row: usize) -> usize
 // The id of a row.
 fn id_of<const B: u64>(column: &Series, starts: &[usize], row: IdxSize) -> ChunkId<B>
     requires bits { (0 < B) × (B ≤ 32) }
+    requires column { IsColumn column.now }
     requires few { length column.now.chunks < 2 ^ B - 1 }
     requires starts { AreStarts (lens column.now) starts.now }
     requires row { row < length (values column.now) }
     ensures named { NamesRow (lens column.now) result }
     ensures row { row_or_none (lens column.now) result ≡ Some row }
 {
-    let _len = column.len();
     let chunk = chunk_of(column, starts, row as usize);
     ChunkId::store(chunk as u32, (row as usize - starts[chunk]) as u32)
 }
 
 fn id_or_null<const B: u64>(column: &Series, starts: &[usize], row: &NullableIdxSize) -> ChunkId<B>
     requires bits { (0 < B) × (B ≤ 32) }
+    requires column { IsColumn column.now }
     requires few { length column.now.chunks < 2 ^ B - 1 }
     requires starts { AreStarts (lens column.now) starts.now }
     requires row { IsRowOf (length (values column.now)) row.now }
@@ -81,7 +83,9 @@ pub fn ids_of<const B: u64>(
     requires rows { All (IsRowOf (length (values column.now))) rows.now }
     ensures named { IfOk result (λ v. NameRows v.items column.now) }
     ensures rows { IfOk result (λ v. map (row_or_none (lens column.now)) v.items ≡ rows.now) }
+    ensures runs { IfOk result (λ v. (sorted : IsSorted) → RowsRunBy sorted rows.now → RunsBy sorted v.items) }
 {
+    let _len = column.len();
     let starts = starts_of(alloc, column)?;
     let mut ids = Vec::with_capacity(alloc, rows.len())?;
     for row in rows {

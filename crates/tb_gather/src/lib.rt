@@ -6,14 +6,15 @@ mod directions;
 mod gathering;
 mod ids;
 pub mod laws;
-mod parts;
+mod rows;
 mod series;
 mod side_by_side;
 mod tables;
 mod take_chunked;
+#[cfg(test)]
+mod tests;
 
-pub use directions::gathered_flag;
-pub use gathering::{gather, gather_chunks};
 pub use ids::{ids_of, name_rows};
+pub use rows::gather_rows;
 pub use side_by_side::TakeChunkedHorPar;
 pub use take_chunked::TakeChunked;

@@ -5,7 +5,6 @@ ghost use Rattle.tb_gather.specs.Gathered.{NameRows, named_rows, value_at};
 
 use crate::directions::gathered_flag;
 use crate::gathering::gather_chunks;
-use crate::parts::column_of;
 use crate::take_chunked::TakeChunked;
 use std::alloc::Global;
 use tb_store::{Column, Series};
@@ -27,7 +26,7 @@ fn gather_series<const B: u64>(
     let name = series.name().copy(alloc)?;
     let dtype = series.dtype().copy(alloc)?;
     let chunks = gather_chunks(alloc, series.chunks(), by)?;
-    column_of(alloc, name, dtype, chunks, flag)
+    Ok(Series::from_parts(name, dtype, chunks, flag))
 }
 
 impl<const B: u64> TakeChunked<B> for Series {

@@ -1,19 +1,21 @@
-//! Rows of a table, gathered from its columns.
+//! Rows of a table, gathered from its columns side by side.
 ghost use Rattle.std.specs.Prelude.{◌≡◌, ◌≤◌, All, IfOk, IsSome, length, map};
 ghost use Rattle.tb_gather.specs.Ids.{Id, RunsBy};
 ghost use Rattle.tb_gather.specs.Gathered.{NameRows, gathered, opt_gathered};
 
+use crate::tables::made_table;
 use crate::take_chunked::TakeChunked;
+use rayon::prelude::*;
 use std::alloc::Global;
 use std::thread::Threads;
 use tb_frame::{DataFrame, IntoDf};
+use tb_store::Column;
 use tb_value::{ChunkId, IsSorted, OutOfMemory};
 
-/// A table that is gathered from column by column. The columns are gathered one after another so far, and `rt` is not
-/// used.
+/// A table whose columns are gathered from side by side, by as many threads as there are processors.
 pub trait TakeChunkedHorPar<const B: u64>: IntoDf {
     /// As `TakeChunked::take_chunked_unchecked`.
-    fn _take_chunked_unchecked_hor_par(
+    final fn _take_chunked_unchecked_hor_par(
         &self,
         rt: &(impl Threads + Sync),
         alloc: Global,
@@ -26,11 +28,12 @@ pub trait TakeChunkedHorPar<const B: u64>: IntoDf {
         requires few { length idx.now ≤ 4294967294 }
         ensures { IfOk result (λ t. t ≡ map (gathered idx.now sorted) (Self.frame self.now)) }
     {
-        self.to_df().take_chunked_unchecked(alloc, idx, sorted)
+        let columns = gather_side_by_side(rt, alloc, self.to_df().get_columns(), idx, sorted)?;
+        made_table(alloc, columns)
     }
 
     /// As `TakeChunked::take_opt_chunked_unchecked`.
-    fn _take_opt_chunked_unchecked_hor_par(
+    final fn _take_opt_chunked_unchecked_hor_par(
         &self,
         rt: &(impl Threads + Sync),
         alloc: Global,
@@ -40,8 +43,60 @@ pub trait TakeChunkedHorPar<const B: u64>: IntoDf {
         requires few { length idx.now ≤ 4294967294 }
         ensures { IfOk result (λ t. t ≡ map (opt_gathered idx.now) (Self.frame self.now)) }
     {
-        self.to_df().take_opt_chunked_unchecked(alloc, idx)
+        let columns = gather_opt_side_by_side(rt, alloc, self.to_df().get_columns(), idx)?;
+        made_table(alloc, columns)
     }
 }
 
 impl<const B: u64> TakeChunkedHorPar<B> for DataFrame {}
+
+// The rows of each column that the ids name.
+fn gather_side_by_side<const B: u64>(
+    rt: &(impl Threads + Sync),
+    alloc: Global,
+    columns: &[Column],
+    by: &[ChunkId<B>],
+    sorted: IsSorted,
+) -> Result<Vec<Column>, OutOfMemory>
+    requires present { All (λ (id : Id). IsSome id) by.now }
+    requires named { All (NameRows by.now) columns.now }
+    requires runs { RunsBy sorted by.now }
+    requires few { length by.now ≤ 4294967294 }
+    ensures { IfOk result (λ v. v.items ≡ map (gathered by.now sorted) columns.now) }
+{
+    columns
+        .par_iter()
+        .map(
+            |column: &Column| -> Result<Column, OutOfMemory>
+                requires present { All (λ (id : Id). IsSome id) by.now }
+                requires named { NameRows by.now column.now }
+                requires runs { RunsBy sorted by.now }
+                requires few { length by.now ≤ 4294967294 }
+                ensures { IfOk result (λ c. c ≡ gathered by.entry.now sorted column.now) }
+            { column.take_chunked_unchecked(alloc, by, sorted) },
+        )
+        .collect(rt, alloc)?
+}
+
+// The same, where a null id gives Null.
+fn gather_opt_side_by_side<const B: u64>(
+    rt: &(impl Threads + Sync),
+    alloc: Global,
+    columns: &[Column],
+    by: &[ChunkId<B>],
+) -> Result<Vec<Column>, OutOfMemory>
+    requires named { All (NameRows by.now) columns.now }
+    requires few { length by.now ≤ 4294967294 }
+    ensures { IfOk result (λ v. v.items ≡ map (opt_gathered by.now) columns.now) }
+{
+    columns
+        .par_iter()
+        .map(
+            |column: &Column| -> Result<Column, OutOfMemory>
+                requires named { NameRows by.now column.now }
+                requires few { length by.now ≤ 4294967294 }
+                ensures { IfOk result (λ c. c ≡ opt_gathered by.entry.now column.now) }
+            { column.take_opt_chunked_unchecked(alloc, by) },
+        )
+        .collect(rt, alloc)?
+}

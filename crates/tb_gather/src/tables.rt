@@ -1,15 +1,15 @@
 //! Rows of a table, gathered by ids.
 ghost use Rattle.std.specs.Prelude.{◌≡◌, ◌≤◌, All, IfOk, IsSome, length, map};
+ghost use Rattle.tb_value.specs.declared.error.PolarsError.TheVariants as errors;
 ghost use Rattle.tb_frame.specs.Table.{table_of, IsTable};
 ghost use Rattle.tb_gather.specs.Ids.{Id, RunsBy};
 ghost use Rattle.tb_gather.specs.Gathered.{NameRows, gathered, opt_gathered};
 
-use crate::parts::want_of_memory;
 use crate::take_chunked::TakeChunked;
 use std::alloc::Global;
 use tb_frame::DataFrame;
 use tb_store::Column;
-use tb_value::{ChunkId, IsSorted, OutOfMemory};
+use tb_value::{ChunkId, IsSorted, OutOfMemory, PolarsError};
 
 // The rows of each column that the ids name.
 fn gather_columns<const B: u64>(
@@ -56,6 +56,16 @@ pub(crate) fn made_table(alloc: Global, columns: Vec<Column>) -> Result<DataFram
     match DataFrame::new(alloc, columns) {
         Ok(table) => Ok(table),
         Err(error) => Err(want_of_memory(error)),
+    }
+}
+
+// The error, where it is want of memory.
+fn want_of_memory(error: PolarsError) -> OutOfMemory
+    requires { error ≡ errors.OutOfMemory }
+{
+    match error {
+        PolarsError::OutOfMemory => OutOfMemory,
+        _ => unreachable!(),
     }
 }
 

@@ -172,12 +172,8 @@ impl Series {
         (name, dtype, chunks, flag)
     }
 
-    pub(crate) fn from_parts(
-        name: PlSmallStr,
-        dtype: DataType,
-        chunks: Chunks,
-        flag: IsSorted,
-    ) -> Series
+    /// The column of this name, type, chunks and flag. It looks at no value, and takes no memory.
+    pub fn from_parts(name: PlSmallStr, dtype: DataType, chunks: Chunks, flag: IsSorted) -> Series
         requires storage { storage chunks ≡ physical (kind_of dtype) }
         requires column { IsColumn record { name = name; kind = kind_of dtype; chunks = chunk_lists chunks; flag = flag } }
         ensures { result ≡ record { name = name; kind = kind_of dtype; chunks = chunk_lists chunks; flag = flag } }

@@ -3,8 +3,8 @@ use Rattle.tb_gather.specs.Gathered.{value_at}
 use Rattle.tb_gather.proofs.Columns.{IsColumn-named}
 use Rattle.tb_gather.proofs.series.gather_series.Goals as goal
 
-pub column_of-requires-clause-column : goal.column_of-requires-clause-column
-column_of-requires-clause-column g c =
+pub from_parts-requires-clause-column : goal.from_parts-requires-clause-column
+from_parts-requires-clause-column g c =
     IsColumn-named c.args.series.now _ c.args.by.now c.args.flag c.len-len.ensures.column c.requires.named c.requires.few c.requires.flag (c.in_ok-dtype.ensures ∙ c.dtype.ensures)
     (c.in_ok-chunks.ensures.lists ∙ ap (λ cs. map (value_at cs) c.args.by.now ∷ []) c.chunks.ensures.lists)
     refl
