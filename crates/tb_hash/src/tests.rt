@@ -8,12 +8,13 @@ use crate::{
     partition_of, probe,
 };
 use std::alloc::Global;
+use std::process::Abort;
 use std::test::Fail;
 use std::thread::Threads;
 use tb_frame::{JoinType, JoinValidation};
 use tb_pool::{Exec, OpenGate};
 use tb_store::{Cells, Chunks, DataType, Series};
-use tb_value::{IdxSize, JoinPair, PlSmallStr, PolarsResult, StandardChunkId};
+use tb_value::{IdxSize, JoinPair, PlSmallStr, StandardChunkId};
 
 #[test]
 fn whole_numbers_have_the_stated_codes(rt: HostRuntime) -> Result<(), Fail> {
@@ -138,33 +139,83 @@ fn columns_with_absent_keys(rt: HostRuntime) -> Result<(), Fail> {
     Ok(())
 }
 
-// The ids of the two columns by each call: Left, Inner, Full, Semi and Anti.
-type AllIds = (
-    LeftJoinIds,
-    (InnerJoinIds, bool),
-    (Vec<Option<IdxSize>>, Vec<Option<IdxSize>>),
-    Vec<IdxSize>,
-    Vec<IdxSize>,
-);
+fn are_rows(rt: &impl Abort, rows: &[IdxSize], wanted: &[IdxSize]) {
+    assert_eq!(rt; rows, wanted);
+}
 
-fn all_ids<S: SeriesJoin>(
-    rt: &(impl Threads + Sync),
+fn are_opt_rows(rt: &impl Abort, rows: &[Option<IdxSize>], wanted: &[Option<IdxSize>]) {
+    assert_eq!(rt; rows, wanted);
+}
+
+fn check_left<S: SeriesJoin>(
+    rt: &(impl Threads + Sync + Abort),
     alloc: Global,
     left: &S,
     right: &Series,
-) -> PolarsResult<AllIds>
+    wanted: (&[IdxSize], &[Option<IdxSize>]),
+) -> Result<(), Fail>
+    requires key { is_key (S.column left.now).kind ≡ true }
+    requires same { (S.column left.now).kind ≡ right.now.kind }
+{
+    let (exec, many) = (Exec::standard(), JoinValidation::ManyToMany);
+    let (lefts, rights) = left.hash_join_left(rt, alloc, right, many, false, &exec)?;
+    are_rows(rt, &lefts.left().ok_or("row numbers")?, wanted.0);
+    let rights = opt_row_numbers(alloc, &rights.left().ok_or("row numbers")?)?;
+    are_opt_rows(rt, &rights, wanted.1);
+    Ok(())
+}
+
+fn check_inner<S: SeriesJoin>(
+    rt: &(impl Threads + Sync + Abort),
+    alloc: Global,
+    left: &S,
+    right: &Series,
+    wanted: (&[IdxSize], &[IdxSize], bool),
+) -> Result<(), Fail>
+    requires key { is_key (S.column left.now).kind ≡ true }
+    requires same { (S.column left.now).kind ≡ right.now.kind }
+{
+    let (exec, many) = (Exec::standard(), JoinValidation::ManyToMany);
+    let (rows, right_built) = left.hash_join_inner(rt, alloc, right, many, false, &exec)?;
+    are_rows(rt, &rows.0, wanted.0);
+    are_rows(rt, &rows.1, wanted.1);
+    assert_eq!(rt; right_built, wanted.2);
+    Ok(())
+}
+
+fn check_outer<S: SeriesJoin>(
+    rt: &(impl Threads + Sync + Abort),
+    alloc: Global,
+    left: &S,
+    right: &Series,
+    wanted: (&[Option<IdxSize>], &[Option<IdxSize>]),
+) -> Result<(), Fail>
+    requires key { is_key (S.column left.now).kind ≡ true }
+    requires same { (S.column left.now).kind ≡ right.now.kind }
+{
+    let (exec, many) = (Exec::standard(), JoinValidation::ManyToMany);
+    let rows = left.hash_join_outer(rt, alloc, right, many, false, &exec)?;
+    are_opt_rows(rt, &rows.0, wanted.0);
+    are_opt_rows(rt, &rows.1, wanted.1);
+    Ok(())
+}
+
+fn check_alone<S: SeriesJoin>(
+    rt: &(impl Threads + Sync + Abort),
+    alloc: Global,
+    left: &S,
+    right: &Series,
+    wanted: (&[IdxSize], &[IdxSize]),
+) -> Result<(), Fail>
     requires key { is_key (S.column left.now).kind ≡ true }
     requires same { (S.column left.now).kind ≡ right.now.kind }
 {
     let exec = Exec::standard();
-    let many = JoinValidation::ManyToMany;
-    Ok((
-        left.hash_join_left(rt, alloc, right, many, false, &exec)?,
-        left.hash_join_inner(rt, alloc, right, many, false, &exec)?,
-        left.hash_join_outer(rt, alloc, right, many, false, &exec)?,
-        left.hash_join_semi_anti(rt, alloc, right, false, false, &exec)?,
-        left.hash_join_semi_anti(rt, alloc, right, true, false, &exec)?,
-    ))
+    let semi = left.hash_join_semi_anti(rt, alloc, right, false, false, &exec)?;
+    are_rows(rt, &semi, wanted.0);
+    let anti = left.hash_join_semi_anti(rt, alloc, right, true, false, &exec)?;
+    are_rows(rt, &anti, wanted.1);
+    Ok(())
 }
 
 #[test]
@@ -172,27 +223,18 @@ fn rows_by_each_call(rt: HostRuntime) -> Result<(), Fail> {
     let alloc = rt.alloc();
     let left = column(alloc, &[&[Some(1), Some(2), Some(1)]])?;
     let right = column(alloc, &[&[Some(1), Some(1)]])?;
-    let (left_ids, inner, full, semi, anti) = all_ids(&rt, alloc, &left, &right)?;
-    let lefts = left_ids.0.left().ok_or("row numbers")?;
-    let rights = left_ids.1.left().ok_or("row numbers")?;
-    let opt_rights = [Some(0), Some(1), None, Some(0), Some(1)];
-    assert_eq!(rt; lefts.as_slice(), [0, 0, 1, 2, 2].as_slice());
-    assert_eq!(rt;
-        opt_row_numbers(alloc, &rights)?.as_slice(),
-        opt_rights.as_slice()
-    );
-    let ((lefts, rights), right_built) = inner;
-    assert_eq!(rt; lefts.as_slice(), [0, 0, 2, 2].as_slice());
-    assert_eq!(rt; rights.as_slice(), [0, 1, 0, 1].as_slice());
-    assert!(rt; right_built);
-    assert_eq!(rt;
-        full.0.as_slice(),
-        [Some(0), Some(0), Some(1), Some(2), Some(2)].as_slice()
-    );
-    assert_eq!(rt; full.1.as_slice(), opt_rights.as_slice());
-    assert_eq!(rt; semi.as_slice(), [0, 2].as_slice());
-    assert_eq!(rt; anti.as_slice(), [1].as_slice());
-    Ok(())
+    let rights = [Some(0), Some(1), None, Some(0), Some(1)];
+    check_left(&rt, alloc, &left, &right, (&[0, 0, 1, 2, 2], &rights))?;
+    check_inner(
+        &rt,
+        alloc,
+        &left,
+        &right,
+        (&[0, 0, 2, 2], &[0, 1, 0, 1], true),
+    )?;
+    let lefts = [Some(0), Some(0), Some(1), Some(2), Some(2)];
+    check_outer(&rt, alloc, &left, &right, (&lefts, &rights))?;
+    check_alone(&rt, alloc, &left, &right, (&[0, 2], &[1]))
 }
 
 #[test]
@@ -200,11 +242,7 @@ fn the_left_side_is_built(rt: HostRuntime) -> Result<(), Fail> {
     let alloc = rt.alloc();
     let left = column(alloc, &[&[Some(2), Some(1)]])?;
     let right = column(alloc, &[&[Some(1), Some(2)]])?;
-    let (_, ((lefts, rights), right_built), ..) = all_ids(&rt, alloc, &left, &right)?;
-    assert_eq!(rt; lefts.as_slice(), [1, 0].as_slice());
-    assert_eq!(rt; rights.as_slice(), [0, 1].as_slice());
-    assert!(rt; !right_built);
-    Ok(())
+    check_inner(&rt, alloc, &left, &right, (&[1, 0], &[0, 1], false))
 }
 
 #[test]
@@ -213,7 +251,8 @@ fn ids_by_chunk(rt: HostRuntime) -> Result<(), Fail> {
     let left = [Some(480), Some(650), Some(577), Some(1201), Some(100)];
     let left = column(alloc, &[&left[..2], &left[2..]])?;
     let right = column(alloc, &[&[Some(480), Some(577), Some(650)]])?;
-    let ((lefts, rights), ..) = all_ids(&rt, alloc, &left, &right)?;
+    let (exec, many) = (Exec::standard(), JoinValidation::ManyToMany);
+    let (lefts, rights) = left.hash_join_left(&rt, alloc, &right, many, false, &exec)?;
     let wanted = [
         StandardChunkId::store(0, 0),
         StandardChunkId::store(0, 1),
@@ -224,9 +263,6 @@ fn ids_by_chunk(rt: HostRuntime) -> Result<(), Fail> {
     let lefts = lefts.right().ok_or("ids by chunk")?;
     assert_eq!(rt; lefts.as_slice(), wanted.as_slice());
     let rights = opt_row_numbers(alloc, &rights.left().ok_or("row numbers")?)?;
-    assert_eq!(rt;
-        rights.as_slice(),
-        [Some(0), Some(2), Some(1), None, None].as_slice()
-    );
+    are_opt_rows(&rt, &rights, &[Some(0), Some(2), Some(1), None, None]);
     Ok(())
 }
