@@ -8,9 +8,9 @@ ghost use Rattle.tb_app.specs.Words.{word_from};
 
 mod answering;
 mod ends;
-pub mod laws;
 #[cfg(test)]
-mod left_tests;
+mod join_tests;
+pub mod laws;
 mod memory;
 mod never;
 mod reading;

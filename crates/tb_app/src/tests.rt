@@ -2,7 +2,8 @@ use crate::{MemorySink, MemorySource, Status, run};
 use std::alloc::Global;
 use std::test::Fail;
 use std::thread::Threads;
-use tb_value::{OutOfMemory, PlSmallStr};
+use tb_json::text_of_refusal;
+use tb_value::{ComputeCause, InvalidCause, OutOfMemory, PlSmallStr, PolarsError, Side};
 
 const STORED: &str =
     "{\"args\":{\"how\":\"inner\",\"maintain_order\":\"left_right\"},\"left\":{\"columns\":[{\"chunks\":[[1,2],[3]],\"name\":\"k\",\"type\":\"i64\"},{\"chunks\":[[10,20],[30]],\"name\":\"a\",\"type\":\"i64\"}]},\"left_on\":[\"k\"],\"right\":{\"columns\":[{\"chunks\":[[3,1]],\"name\":\"k\",\"type\":\"i64\"},{\"chunks\":[[7,8]],\"name\":\"b\",\"type\":\"i64\"}]},\"right_on\":[\"k\"]}";
@@ -150,6 +151,30 @@ fn runs_end_as_they_should(rt: HostRuntime) -> Result<(), Fail> {
         let (status, text) = outcome(&rt, rt.alloc(), case)?;
         assert_eq!(rt; status, case.status);
         assert_eq!(rt; text.as_slice(), case.text.as_bytes());
+    }
+    Ok(())
+}
+
+#[test]
+fn refusals_and_their_texts(rt: HostRuntime) -> Result<(), Fail> {
+    let name = PlSmallStr::from_str(rt.alloc(), "a\"b")?;
+    let cases = [
+        (
+            PolarsError::Duplicate(name),
+            "{\"error\":\"Duplicate\",\"name\":\"a\\\"b\"}\n",
+        ),
+        (
+            PolarsError::InvalidOperation(InvalidCause::KeyCounts { left: 2, right: 1 }),
+            "{\"cause\":\"KeyCounts\",\"error\":\"InvalidOperation\",\"left\":2,\"right\":1}\n",
+        ),
+        (
+            PolarsError::ComputeError(ComputeCause::Validation(Side::Right)),
+            "{\"cause\":\"Validation\",\"error\":\"ComputeError\",\"side\":\"right\"}\n",
+        ),
+    ];
+    for (error, text) in &cases {
+        let written = text_of_refusal(rt.alloc(), error)?;
+        assert_eq!(rt; written.as_str(), *text);
     }
     Ok(())
 }

@@ -79,7 +79,7 @@ fits t value.null h = tt
 fits t (value.boolean b) h = ap physical h
 fits t (value.int i) h = rw (ends-physical t) h
 fits t (value.string s) h = (ap physical h.0, h.1, h.2)
-fits t (value.binary s) h = (ap physical h.0, h.1)
+fits t (value.binary s) h = (ap physical h.0, h.1, h.2)
 fits t (value.list vs) h = listed _ t h
 fits t (value.struct vs) h = structured _ t h
 

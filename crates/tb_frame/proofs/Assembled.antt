@@ -1,14 +1,20 @@
 -- What a function has that put the listed pairs into columns.
-use Rattle.std.proofs.Common.{◌≡◌, ℕ, ◌<◌, List, ◌++◌, length, map, sym, ◌∙◌, ap, subst}
+use Rattle.std.proofs.Common.{◌≡◌, ℕ, ◌<◌, ◌≤◌, ◌-◌, List, ◌++◌, length, drop, map, sym, ◌∙◌, ap, subst, arith, Option, Some, None, ℤ}
 use Rattle.std.specs.Prelude.{All, AllPairs, ◌≢◌}
+use Rattle.std.proofs.lemmas.List.{length-take, length-drop}
+use Rattle.std.proofs.lemmas.List.Sorted.{length_permutation}
 use Rattle.tb_value.specs.Names.{Name}
 use Rattle.tb_value.specs.declared.index.JoinPair.{JoinPair}
+use Rattle.tb_chunk.specs.Window.{part_from, part_to}
 use Rattle.tb_frame.specs.Table.{TableColumn, Table, height, names_of, IsTable}
 use Rattle.tb_frame.specs.Join.{Request, out, joined_names, coalesces, kept_left, right_out, matches, listing, listing_of, IsAnswer, cut}
 use Rattle.tb_frame.specs.Answer.{fill, answer_left, answer_right, IsListed, IsPairOf}
 use Rattle.tb_frame.proofs.Ranges.{listed_rows}
 use Rattle.tb_frame.proofs.Outs.{made_is, names_distinct, out_wide}
+use Rattle.tb_frame.specs.Refusal.{join_valid}
 use Rattle.tb_frame.proofs.AnswerLemmas.{answer_of, table-fill}
+use Rattle.tb_frame.proofs.Validity.{few_pairs}
+use Rattle.tb_frame.proofs.Windows.{slice_window}
 
 -- the columns of the answer over the pairs: the left ones, and then the right ones
 abbrev pub made_columns : Request → List JoinPair → List TableColumn
@@ -36,3 +42,19 @@ listed_at q items l r is_l is_r h =
 -- the pairs are pairs of the tables' rows
 pub pairs_in_range : (q : Request) (items : List JoinPair) → IsListed q.args.how q.args.maintain_order q.args.slice (listing q) items → All (IsPairOf (height q.left) (height q.right)) items
 pairs_in_range q items h = listed_rows q.args.how q.args.maintain_order q.args.slice (height q.left) (height q.right) (matches q) items h
+
+-- no more pairs are kept than there were
+cut_short : (s : Option (ℤ × ℕ)) (ps : List JoinPair) → length (cut s ps) ≤ length ps
+cut_short None ps = omega arith
+cut_short (Some s) ps =
+    let n = part_to (length ps) s.0 s.1 - part_from (length ps) s.0 in
+    let rest = drop (part_from (length ps) s.0) ps in
+    let is = ap (λ (xs : List JoinPair). length xs) (slice_window ps s.0 s.1) in
+    omega (arith, is, length-take n rest, length-drop (part_from (length ps) s.0) ps)
+
+-- and of a request that is not refused no more than a table has rows
+pub few_listed : (q : Request) (items : List JoinPair) → join_valid q → IsListed q.args.how q.args.maintain_order q.args.slice (listing q) items → length items ≤ 4294967294
+few_listed q items valid h =
+    let long = ap (λ (xs : List JoinPair). length xs) h.is in
+    let same = length_permutation (listing q) h.pairs h.ordered.permutation in
+    omega (arith, long, same, cut_short q.args.slice h.pairs, few_pairs q valid)

@@ -6,9 +6,10 @@ use Rattle.std.specs.List.{find, filter_map, cons_option}
 use Rattle.std.proofs.lemmas.Bool.{ltb-false}
 use Rattle.std.proofs.lemmas.List.{get_or-take, length-take, get_or_default}
 use Rattle.std.proofs.lemmas.List.Elements.{All-nil, All-cons, All-head, All-tail}
-use Rattle.std.proofs.lemmas.List.Folds.{list_any_at}
+use Rattle.std.proofs.lemmas.List.Folds.{list_any_at, list_any_none}
 use Rattle.std.proofs.lemmas.List.FromFn.{length-range_with_len, get_or-range_with_len}
 use Rattle.std.proofs.lemmas.Cmp.{nat_list_eq_equiv}
+use Rattle.std.proofs.lemmas.Slice.Eq.{bytes_eq-Decides}
 use Rattle.tb_value.specs.declared.error.PolarsError.{PolarsError}
 use Rattle.tb_value.specs.declared.error.PolarsError.TheVariants.{OutOfMemory}
 use Rattle.tb_value.specs.Refusals.{Settles, first_cause, when}
@@ -48,6 +49,31 @@ distinct_names names h = λ i j d low high same.
     let here : get_or (take j names) i [] ≡ get_or names j [] = get_or-take j names i [] low ∙ get_or_default names i [] d (omega arith) ∙ same ∙ get_or_default names j d [] high in
     let match : before j ≡ true = list_any_at (same_name (get_or names j [])) (take j names) i [] (omega (arith, size)) (ap (same_name (get_or names j [])) here ∙ nat_list_eq_equiv.refl (get_or names j [])) in
     absurd (let c : false ≡ true = sym no_match ∙ match in cc)
+
+-- and of distinct names none stood before
+find-none : {X : Type 0} (p : X → Bool) (xs : List X) → All (λ x. p x ≡ false) xs → find p xs ≡ None
+find-none p [] h = refl
+find-none p (x ∷ xs) h = rw (All-head (λ y. p y ≡ false) x xs h) (find-none p xs (All-tail (λ y. p y ≡ false) x xs h))
+
+apart : (m n : Name) (b : Bool) → same_name m n ≡ b → (m ≡ n → ⊥) → b ≡ false
+apart m n true e h = absurd (h ((bytes_eq-Decides m n).0 e))
+apart m n false e h = refl
+
+pub unrepeated_names : (names : List Name) → AllPairs (λ (a b : Name). a ≢ b) names → first_repeated names ≡ None
+unrepeated_names names h = ap (option_map (λ k. get_or names k [])) (find-none (λ k. is_among (take k names) (get_or names k [])) (row_numbers (length names)) stood)
+  where
+    long : length (row_numbers (length names)) ≡ length names
+    long = length-range_with_len 0 (length names)
+
+    stood : All (λ k. is_among (take k names) (get_or names k []) ≡ false) (row_numbers (length names))
+    stood = λ i d low.
+        let high : i < length names = omega (arith, long) in
+        let at : get_or (row_numbers (length names)) i d ≡ i = get_or-range_with_len 0 (length names) i d high ∙ omega arith in
+        subst (λ (k : ℕ). is_among (take k names) (get_or names k []) ≡ false) (sym at)
+        (list_any_none (same_name (get_or names i [])) (take i names) (λ j e under.
+        let before : j < i = omega (arith, length-take i names) in
+        let here : get_or (take i names) j e ≡ get_or names j [] = get_or-take i names j e before ∙ get_or_default names j e [] (omega arith) in
+        apart (get_or names i []) (get_or (take i names) j e) (same_name (get_or names i []) (get_or (take i names) j e)) refl (λ same. h j i [] before high (sym (same ∙ here)))))
 
 -- what holds of each column holds of those of given names
 pub found_holds : (P : TableColumn → Type 0) (p : TableColumn → Bool) (t : Table) → All P t → (c : TableColumn) → find p t ≡ Some c → P c

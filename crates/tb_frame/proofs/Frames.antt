@@ -15,7 +15,7 @@ use Rattle.tb_frame.specs.Table.{TableColumn, Table, plain, table_of, height, na
 use Rattle.tb_frame.specs.Join.{is_among, without}
 use Rattle.tb_frame.specs.Frame.{are_level, frame_refusal, without_names}
 use Rattle.tb_frame.specs.Refusal.{first_repeated}
-use Rattle.tb_frame.proofs.Causes.{first_none, map_none, distinct_names}
+use Rattle.tb_frame.proofs.Causes.{first_none, map_none, distinct_names, unrepeated_names}
 
 all_true : {X : Type 0} (p : X → Bool) (xs : List X) → list_all p xs ≡ true → All (λ x. p x ≡ true) xs
 all_true p [] h = All-nil (λ x. p x ≡ true)
@@ -25,7 +25,7 @@ all_true {X} p (x ∷ xs) h = at (p x) refl h (all_true p xs)
     at true e k rest = All-cons (λ x. p x ≡ true) x xs e (rest k)
     at false e k rest = absurd (cc)
 
-when_not : (b : Bool) (e : PolarsError) → when (not b) e ≡ None → b ≡ true
+pub when_not : (b : Bool) (e : PolarsError) → when (not b) e ≡ None → b ≡ true
 when_not true e h = refl
 when_not false e h = absurd (cc)
 
@@ -87,3 +87,7 @@ level_refusal t n level names are =
 -- columns of one length and distinct names are not refused
 pub no_refusal : (t : Table) (n : ℕ) → All (λ (c : TableColumn). length c.values ≡ n) t → first_repeated (names_of t) ≡ None → frame_refusal t ≡ None
 no_refusal t n level fresh = level_refusal t n level (names_of t) refl ∙ ap (λ (o : Option Name). first_cause (option_map (λ n. Duplicate n) o ∷ [])) fresh
+
+-- and so are those of a table
+pub IsTable-refusal : (t : Table) → IsTable t → frame_refusal t ≡ None
+IsTable-refusal t h = no_refusal t (height t) h.one_height (unrepeated_names (names_of t) h.distinct)

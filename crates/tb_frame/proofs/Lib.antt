@@ -19,3 +19,4 @@ pub mod Assembled
 pub mod Meaning
 pub mod InOrder
 pub mod Validity
+pub mod JoinedNames

@@ -1,10 +1,11 @@
 -- What a request has that is not refused, and an answer to it.
-use Rattle.std.proofs.Common.{◌≡◌, ◌<◌, ◌≤◌, List, [], ◌∷◌, length, map, None}
+use Rattle.std.proofs.Common.{◌≡◌, ◌==◌, ◌<◌, ◌≤◌, List, [], ◌∷◌, length, map, None}
 use Rattle.std.specs.Prelude.{AllPairs, ◌≢◌}
 use Rattle.std.specs.Option.{option_map}
+use Rattle.std.proofs.lemmas.Bool.{eqb-true}
 use Rattle.tb_value.specs.Names.{Name}
 use Rattle.tb_value.specs.Refusals.{first_cause}
-use Rattle.tb_value.specs.declared.error.InvalidCause.TheVariants.{NoKeys}
+use Rattle.tb_value.specs.declared.error.InvalidCause.TheVariants.{NoKeys, KeyCounts}
 use Rattle.tb_value.specs.declared.error.PolarsError.TheVariants.{ColumnNotFound, InvalidOperation, Duplicate, ComputeError}
 use Rattle.tb_value.specs.declared.error.ComputeCause.TheVariants.{TooManyRows}
 use Rattle.tb_value.specs.declared.index.JoinPair.{JoinPair}
@@ -14,6 +15,7 @@ use Rattle.tb_frame.specs.Refusal.{join_valid, unknown_key, no_keys, key_counts,
 use Rattle.tb_frame.specs.Table.{Table, IsTable, height}
 use Rattle.tb_frame.proofs.AnswerLemmas.{answer_of, table-fill}
 use Rattle.tb_frame.proofs.Causes.{map_none, first_none, distinct_names, has_column, some_keys, some_right_keys, when_not_above}
+use Rattle.tb_frame.proofs.Frames.{when_not}
 use Rattle.tb_frame.proofs.InOrder.{in_order, in_order-ordered}
 use Rattle.tb_frame.proofs.Outs.{out_wide, names_distinct}
 
@@ -24,24 +26,44 @@ module _ (q : Request) (valid : join_valid q) where
   after_keys : (no_keys q ≡ None) × (first_cause (key_counts q ∷ repeated_key q ∷ key_types q ∷ key_kind q ∷ repeated_name q ∷ broken_side q ∷ too_many_rows q ∷ []) ≡ None)
   after_keys = first_none (no_keys q) (key_counts q ∷ repeated_key q ∷ key_types q ∷ key_kind q ∷ repeated_name q ∷ broken_side q ∷ too_many_rows q ∷ []) after_names.1
 
+  after_counts : (key_counts q ≡ None) × (first_cause (repeated_key q ∷ key_types q ∷ key_kind q ∷ repeated_name q ∷ broken_side q ∷ too_many_rows q ∷ []) ≡ None)
+  after_counts = first_none (key_counts q) (repeated_key q ∷ key_types q ∷ key_kind q ∷ repeated_name q ∷ broken_side q ∷ too_many_rows q ∷ []) after_keys.1
+
+  after_types : (key_types q ≡ None) × (first_cause (key_kind q ∷ repeated_name q ∷ broken_side q ∷ too_many_rows q ∷ []) ≡ None)
+  after_types =
+      let a = first_none (repeated_key q) (key_types q ∷ key_kind q ∷ repeated_name q ∷ broken_side q ∷ too_many_rows q ∷ []) after_counts.1 in
+      first_none (key_types q) (key_kind q ∷ repeated_name q ∷ broken_side q ∷ too_many_rows q ∷ []) a.1
+
   last : (repeated_name q ≡ None) × (first_cause (broken_side q ∷ too_many_rows q ∷ []) ≡ None)
   last =
-      let a = first_none (key_counts q) (repeated_key q ∷ key_types q ∷ key_kind q ∷ repeated_name q ∷ broken_side q ∷ too_many_rows q ∷ []) after_keys.1 in
-      let b = first_none (repeated_key q) (key_types q ∷ key_kind q ∷ repeated_name q ∷ broken_side q ∷ too_many_rows q ∷ []) a.1 in
-      let c = first_none (key_types q) (key_kind q ∷ repeated_name q ∷ broken_side q ∷ too_many_rows q ∷ []) b.1 in
-      let d = first_none (key_kind q) (repeated_name q ∷ broken_side q ∷ too_many_rows q ∷ []) c.1 in
-      first_none (repeated_name q) (broken_side q ∷ too_many_rows q ∷ []) d.1
+      let a = first_none (key_kind q) (repeated_name q ∷ broken_side q ∷ too_many_rows q ∷ []) after_types.1 in
+      first_none (repeated_name q) (broken_side q ∷ too_many_rows q ∷ []) a.1
 
-  pub some_left : 0 < length q.left
-  some_left =
+  -- there are as many keys on each side
+  pub same_counts : length q.left_on ≡ length q.right_on
+  same_counts = eqb-true (length q.left_on) (length q.right_on) (when_not (length q.left_on == length q.right_on) (InvalidOperation (KeyCounts (length q.left_on) (length q.right_on))) after_counts.0)
+
+  -- the types of the keys agree
+  pub same_types : key_types q ≡ None
+  same_types = after_types.0
+
+  -- the keys are columns of their tables
+  pub known_left : first_unknown q.left q.left_on ≡ None
+  known_left =
       let one = first_none (option_map (λ n. ColumnNotFound n) (first_unknown q.left q.left_on)) (option_map (λ n. ColumnNotFound n) (first_unknown q.right q.right_on) ∷ []) after_names.0 in
-      has_column q.left q.left_on (some_keys q.left_on q.right_on (InvalidOperation NoKeys) after_keys.0) (map_none (λ n. ColumnNotFound n) (first_unknown q.left q.left_on) one.0)
+      map_none (λ n. ColumnNotFound n) (first_unknown q.left q.left_on) one.0
 
-  pub some_right : 0 < length q.right
-  some_right =
+  pub known_right : first_unknown q.right q.right_on ≡ None
+  known_right =
       let one = first_none (option_map (λ n. ColumnNotFound n) (first_unknown q.left q.left_on)) (option_map (λ n. ColumnNotFound n) (first_unknown q.right q.right_on) ∷ []) after_names.0 in
       let two = first_none (option_map (λ n. ColumnNotFound n) (first_unknown q.right q.right_on)) [] one.1 in
-      has_column q.right q.right_on (some_right_keys q.left_on q.right_on (InvalidOperation NoKeys) after_keys.0) (map_none (λ n. ColumnNotFound n) (first_unknown q.right q.right_on) two.0)
+      map_none (λ n. ColumnNotFound n) (first_unknown q.right q.right_on) two.0
+
+  pub some_left : 0 < length q.left
+  some_left = has_column q.left q.left_on (some_keys q.left_on q.right_on (InvalidOperation NoKeys) after_keys.0) known_left
+
+  pub some_right : 0 < length q.right
+  some_right = has_column q.right q.right_on (some_right_keys q.left_on q.right_on (InvalidOperation NoKeys) after_keys.0) known_right
 
   pub fresh_names : first_repeated (joined_names q) ≡ None
   fresh_names = map_none (λ n. Duplicate n) (first_repeated (joined_names q)) last.0

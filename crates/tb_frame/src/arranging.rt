@@ -24,16 +24,16 @@ fn order_pairs(
     }
 }
 
-// The pairs that a slice keeps.
-fn cut_pairs(
+/// The pairs that a slice keeps, in their order; all of them where there is none.
+pub fn cut_pairs(
     alloc: Global,
-    pairs: &[JoinPair],
+    pairs: Vec<JoinPair>,
     slice: Option<(i64, usize)>,
 ) -> Result<Vec<JoinPair>, AllocError>
-    ensures { IfOk result (λ v. v.items ≡ cut slice pairs.now) }
+    ensures { IfOk result (λ v. v.items ≡ cut slice pairs.items) }
 {
     match slice {
-        None => Vec::from_slice(alloc, pairs),
+        None => Ok(pairs),
         Some((offset, len)) => {
             let (start, count) = slice_offsets(offset, len, pairs.len());
             Vec::from_slice(alloc, &pairs[start..start + count])
@@ -50,5 +50,5 @@ pub fn arrange(
     ensures { IfOk result (λ v. IsListed args.now.how args.now.maintain_order args.now.slice pairs.items v.items) }
 {
     order_pairs(&mut pairs, args.how, args.maintain_order)?;
-    Ok(cut_pairs(alloc, &pairs, args.slice)?)
+    Ok(cut_pairs(alloc, pairs, args.slice)?)
 }

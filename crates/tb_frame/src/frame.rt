@@ -160,6 +160,14 @@ impl DataFrame {
         self.columns.as_slice()
     }
 
+    /// The columns, in their order, handed over.
+    pub fn into_columns(self) -> Vec<Column>
+        ensures { result.items ≡ self }
+    {
+        let DataFrame { columns } = self;
+        columns
+    }
+
     /// The place of the column of this name, counted from 0.
     pub fn position(&self, name: &str) -> Option<usize>
         ensures { result ≡ position (λ (c : Col). same_name c.name name.now) self.now }

@@ -7,6 +7,7 @@ mod chunking;
 mod coalescing;
 mod equality;
 mod frame;
+mod joined_names;
 pub mod laws;
 mod names;
 mod order;
@@ -15,11 +16,15 @@ mod right_columns;
 mod tests;
 
 pub use args::{Direction, JoinArgs, JoinCoalesce, JoinType, JoinValidation, MaintainOrderJoin};
-pub use arranging::arrange;
+pub use arranging::{arrange, cut_pairs};
 pub use chunking::rechunk_columns;
 pub use coalescing::coalesce_columns;
 pub use equality::{same_type, same_value};
 pub use frame::{DataFrame, IntoDf, column_name_set, column_names, take_columns, take_opt_columns};
+pub use joined_names::check_joined_names;
 pub use names::{NameSet, check_distinct, name_set};
 pub use order::direction_of;
-pub use right_columns::{gone_right, left_rows, push_right, right_name, right_rows, suffix_of};
+pub use right_columns::{
+    gone_left, gone_right, has_right, left_rows, push_right, right_name, right_rows, right_side,
+    suffix_of,
+};

@@ -1,13 +1,13 @@
-//! The columns that an answer takes of the right table, and the rows that it takes of both.
+//! The columns that an answer takes of the two tables, and their rows.
 ghost use Rattle.std.specs.Prelude.{◌≡◌, ◌≤◌, ◌++◌, All, IfOk, OnOk, List, Some, length, map, unwrap_or};
 ghost use Rattle.tb_value.specs.Names.{Name};
 ghost use Rattle.tb_value.specs.declared.index.JoinPair.{JoinPair};
 ghost use Rattle.tb_chunk.specs.Col.{Col, values};
 ghost use Rattle.tb_chunk.specs.Rows.{IsRowOf};
-ghost use Rattle.tb_frame.specs.Answer.{gone_right};
+ghost use Rattle.tb_frame.specs.Answer.{gone_left, gone_right, has_right};
 ghost use Rattle.tb_frame.specs.Join.{coalesce, default_suffix, is_among, right_name};
 ghost use Rattle.tb_frame.specs.NameSets.{has_name};
-ghost use Rattle.tb_frame.specs.RightColumns.{right_column, right_columns};
+ghost use Rattle.tb_frame.specs.RightColumns.{right_column, right_columns, right_side};
 ghost use Rattle.tb_frame.specs.Table.{names_of, table_of};
 
 use crate::args::{JoinArgs, JoinType};
@@ -24,6 +24,33 @@ pub fn suffix_of(args: &JoinArgs) -> &str
     match &args.suffix {
         Some(suffix) => suffix.as_str(),
         None => "_right",
+    }
+}
+
+/// Whether the answer has right columns. A Semi or Anti join's has none.
+pub fn has_right(how: JoinType) -> bool
+    ensures { result ≡ has_right how }
+{
+    match how {
+        JoinType::Inner | JoinType::Left | JoinType::Right | JoinType::Full => true,
+        JoinType::Semi | JoinType::Anti => false,
+    }
+}
+
+/// The right columns, of which a Semi or Anti join has none.
+pub fn right_side<'a>(how: JoinType, right: &'a [Column]) -> &'a [Column]
+    ensures { result.now ≡ right_side how right.now }
+{
+    if has_right(how) { right } else { &[] }
+}
+
+/// The names of the left columns that the answer lacks: those of coalesced keys of a Right join.
+pub fn gone_left<'a>(args: &JoinArgs, left_on: &'a [PlSmallStr]) -> &'a [PlSmallStr]
+    ensures { result.now ≡ gone_left args.now.how (coalesce args.now.coalesce args.now.how) left_on.now }
+{
+    match args.how {
+        JoinType::Right if args.should_coalesce() => left_on,
+        _ => &[],
     }
 }
 

@@ -8,11 +8,11 @@ ghost use Rattle.tb_gather.specs.Ids.{AreStarts, NamesRow, RowsRunBy, RunsBy, ro
 ghost use Rattle.tb_gather.specs.Gathered.{NameRows};
 
 use std::alloc::Global;
-use tb_store::Column;
+use tb_store::{Column, Series};
 use tb_value::{ChunkId, IdxSize, NullableIdxSize, OutOfMemory};
 
 // Where each chunk starts, as a row number.
-fn starts_of(alloc: Global, column: &Column) -> Result<Vec<usize>, OutOfMemory>
+fn starts_of(alloc: Global, column: &Series) -> Result<Vec<usize>, OutOfMemory>
     ensures { IfOk result (λ v. AreStarts (lens column.now) v.items) }
 {
     let _len = column.len();
@@ -27,7 +27,7 @@ fn starts_of(alloc: Global, column: &Column) -> Result<Vec<usize>, OutOfMemory>
 }
 
 // The last chunk that starts at the row or before it.
-fn chunk_of(column: &Column, starts: &[usize], row: usize) -> usize
+fn chunk_of(column: &Series, starts: &[usize], row: usize) -> usize
     requires column { IsColumn column.now }
     requires starts { AreStarts (lens column.now) starts.now }
     requires row { row < length (values column.now) }
@@ -43,7 +43,7 @@ fn chunk_of(column: &Column, starts: &[usize], row: usize) -> usize
 }
 
 // The id of a row.
-fn id_of<const B: u64>(column: &Column, starts: &[usize], row: IdxSize) -> ChunkId<B>
+fn id_of<const B: u64>(column: &Series, starts: &[usize], row: IdxSize) -> ChunkId<B>
     requires bits { (0 < B) × (B ≤ 32) }
     requires column { IsColumn column.now }
     requires few { length column.now.chunks < 2 ^ B - 1 }
@@ -56,7 +56,7 @@ fn id_of<const B: u64>(column: &Column, starts: &[usize], row: IdxSize) -> Chunk
     ChunkId::store(chunk as u32, (row as usize - starts[chunk]) as u32)
 }
 
-fn id_or_null<const B: u64>(column: &Column, starts: &[usize], row: &NullableIdxSize) -> ChunkId<B>
+fn id_or_null<const B: u64>(column: &Series, starts: &[usize], row: &NullableIdxSize) -> ChunkId<B>
     requires bits { (0 < B) × (B ≤ 32) }
     requires column { IsColumn column.now }
     requires few { length column.now.chunks < 2 ^ B - 1 }
@@ -75,7 +75,7 @@ fn id_or_null<const B: u64>(column: &Column, starts: &[usize], row: &NullableIdx
 /// steps in the number of chunks, and for each row in the number of digits of that number.
 pub fn ids_of<const B: u64>(
     alloc: Global,
-    column: &Column,
+    column: &Series,
     rows: &[NullableIdxSize],
 ) -> Result<Vec<ChunkId<B>>, OutOfMemory>
     requires bits { (0 < B) × (B ≤ 32) }

@@ -76,7 +76,7 @@ fn gather_by_ids(
     match table.get_columns().first() {
         None => table.copy(alloc),
         Some(column) => {
-            let ids: Vec<StandardChunkId> = ids_of(alloc, column, rows)?;
+            let ids: Vec<StandardChunkId> = ids_of(alloc, column.as_materialized_series(), rows)?;
             table._take_opt_chunked_unchecked_hor_par(rt, alloc, &ids)
         }
     }

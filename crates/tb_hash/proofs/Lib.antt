@@ -4,3 +4,4 @@ pub mod Parts
 pub mod PairLists
 pub mod Listed
 pub mod Hashed
+pub mod JoinRows

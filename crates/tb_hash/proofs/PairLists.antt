@@ -11,11 +11,11 @@ use Rattle.tb_value.specs.declared.error.PolarsError.{PolarsError}
 use Rattle.tb_value.specs.declared.error.PolarsError.TheVariants.{OutOfMemory, ComputeError}
 use Rattle.tb_value.specs.declared.error.ComputeCause.TheVariants.{TooManyRows}
 use Rattle.tb_value.specs.declared.index.JoinPair.{JoinPair}
-use Rattle.tb_value.specs.Pairs.{row_numbers, left_only}
+use Rattle.tb_value.specs.Pairs.{row_numbers}
 use Rattle.tb_value.specs.Refusals.{when}
 use Rattle.tb_value.proofs.RowNumbers.{row_numbers_more, kept_more}
 use Rattle.tb_frame.proofs.Causes.{when_not_above}
-use Rattle.tb_hash.specs.Probing.{AreMet, too_many, row_pairs, is_kept, probed_pairs, kept_rows}
+use Rattle.tb_hash.specs.Probing.{AreMet, too_many, row_pairs, is_kept, probed_pairs}
 
 -- TOO MANY
 
@@ -130,7 +130,7 @@ module _ (f : ℕ → JoinPair) (p : ℕ → Bool) where
       omega (arith, s, g, rest)
 
   -- rows alone are no more than rows
-  alone_few : (n : ℕ) → length (alone n) ≤ n
+  pub alone_few : (n : ℕ) → length (map f (filter p (row_numbers n))) ≤ n
   unfolding alone
   alone_few zero = omega arith
   alone_few (suc n) =
@@ -149,10 +149,6 @@ module _ (f : ℕ → JoinPair) (p : ℕ → Bool) where
       let all : (i + 1) + (n - (i + 1)) ≡ n = omega arith in
       let whole = ap (λ (k : ℕ). length (map f (filter p (row_numbers k)))) all in
       omega (arith, m, g, whole)
-
-pub kept-few : (rows : ℕ → List ℕ) (wanted : Bool) (n : ℕ) → length (kept_rows rows wanted n) ≤ n
-unfolding alone
-kept-few rows wanted n = alone_few left_only (λ p. is_kept wanted (rows p)) n
 
 no_length : {X : Type 0} (x : X) (xs : List X) → true ≡ (length (x ∷ xs) == 0) → true ≡ false
 no_length x xs h = h ∙ eqb-suc-zero (length xs)

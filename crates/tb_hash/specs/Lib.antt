@@ -4,4 +4,5 @@ pub mod Keys
 pub mod TableView
 pub mod Probing
 pub mod Hashing
+pub mod JoinIds
 pub mod KeyCells

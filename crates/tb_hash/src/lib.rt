@@ -2,14 +2,18 @@
 #![tactic(auto)]
 
 mod hashing;
+mod join_ids;
 mod keys;
 mod probing;
+mod series_join;
 mod tables;
 #[cfg(test)]
 mod tests;
 mod typed;
 
 pub use hashing::hash_pairs;
+pub use join_ids::{ChunkJoinIds, ChunkJoinOptIds, InnerJoinIds, LeftJoinIds, default_join_ids};
 pub use keys::{JoinKey, KeyBytes, code_of, partition_of};
 pub use probing::{Probed, probe};
+pub use series_join::SeriesJoin;
 pub use tables::{Built, Tables, build_tables};

@@ -15,13 +15,6 @@ use tb_frame::JoinType;
 use tb_pool::{Exec, Gate};
 use tb_value::{ComputeCause, IdxSize, JoinPair, MAX_ROWS, OutOfMemory, PolarsError, PolarsResult};
 
-fn put_pair(pairs: &mut Vec<JoinPair>, pair: JoinPair) -> Result<(), OutOfMemory>
-    ensures { OnOk result (pairs.new.items ≡ pairs.old.items ++ pair ∷ []) }
-{
-    pairs.push(pair)?;
-    Ok(())
-}
-
 // Puts a pair behind the others, where there is room.
 fn push_pair(pairs: &mut Vec<JoinPair>, pair: JoinPair) -> PolarsResult<()>
     requires room { length pairs.old.items ≤ 4294967294 }
@@ -31,7 +24,7 @@ fn push_pair(pairs: &mut Vec<JoinPair>, pair: JoinPair) -> PolarsResult<()>
     if pairs.len() >= MAX_ROWS {
         return Err(PolarsError::ComputeError(ComputeCause::TooManyRows));
     }
-    put_pair(pairs, pair)?;
+    pairs.push(pair).map_err(OutOfMemory::from)?;
     Ok(())
 }
 

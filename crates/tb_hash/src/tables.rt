@@ -63,13 +63,6 @@ impl<K: JoinKey> Tables<K> {
     {
         self.left_built
     }
-
-    /// Whether absent keys match.
-    pub fn join_nulls(&self) -> bool
-        ensures { result ≡ self.now.join_nulls }
-    {
-        self.join_nulls
-    }
 }
 
 /// How tables were built. `build_tables` alone makes one.

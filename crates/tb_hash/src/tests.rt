@@ -1,13 +1,20 @@
-ghost use Rattle.std.specs.Prelude.{◌≤◌, length};
-ghost use Rattle.tb_hash.specs.Probing.{AllowsSide};
+ghost use Rattle.std.specs.Prelude.{◌≡◌, IfOk, true};
+ghost use Rattle.tb_value.specs.Kind.{int64};
+ghost use Rattle.tb_value.specs.SameKind.{is_key};
 
-use crate::{JoinKey, KeyBytes, build_tables, code_of, partition_of, probe};
+use crate::join_ids::opt_row_numbers;
+use crate::{
+    InnerJoinIds, KeyBytes, LeftJoinIds, SeriesJoin, build_tables, code_of, hash_pairs,
+    partition_of, probe,
+};
 use std::alloc::Global;
+use std::process::Abort;
 use std::test::Fail;
 use std::thread::Threads;
-use tb_frame::JoinType;
+use tb_frame::{JoinType, JoinValidation};
 use tb_pool::{Exec, OpenGate};
-use tb_value::JoinPair;
+use tb_store::{Cells, Chunks, DataType, Series};
+use tb_value::{IdxSize, JoinPair, PlSmallStr, StandardChunkId};
 
 #[test]
 fn whole_numbers_have_the_stated_codes(rt: HostRuntime) -> Result<(), Fail> {
@@ -29,79 +36,46 @@ fn whole_numbers_have_the_stated_codes(rt: HostRuntime) -> Result<(), Fail> {
 }
 
 #[test]
-fn texts_have_the_stated_codes(rt: HostRuntime) -> Result<(), Fail> {
-    let empty = code_of(Some(KeyBytes { bytes: b"" }));
-    assert_eq!(rt; empty, 0xcbf2_9ce4_8422_2325);
-    assert_eq!(rt; partition_of(empty, 2), 1);
-    assert_eq!(rt; partition_of(empty, 8), 6);
-    let letter = code_of(Some(KeyBytes { bytes: b"a" }));
-    assert_eq!(rt; letter, 0xaf63_dc4c_8601_ec8c);
-    assert_eq!(rt; partition_of(letter, 2), 1);
-    assert_eq!(rt; partition_of(letter, 8), 5);
-    Ok(())
-}
-
-#[test]
-fn wide_numbers_truth_values_and_no_key(rt: HostRuntime) -> Result<(), Fail> {
+fn other_keys_have_the_stated_codes(rt: HostRuntime) -> Result<(), Fail> {
     let one = 0x9E37_79B9_7F4A_7C15;
     let minus_one: i128 = -1;
-    assert_eq!(rt; code_of(Some(1i128)), one);
-    assert_eq!(rt; code_of(Some(minus_one)), 0);
-    assert_eq!(rt; code_of(Some(true)), one);
-    assert_eq!(rt; code_of(Some(false)), 0);
     let none: Option<u8> = None;
-    assert_eq!(rt; code_of(none), 0);
-    Ok(())
-}
-
-// The pairs of a join, one side of which is built.
-fn joined<K: JoinKey>(
-    rt: &(impl Threads + Sync),
-    alloc: Global,
-    kind: JoinType,
-    left_built: bool,
-    built: &[Option<K>],
-    probed: &[Option<K>],
-) -> Result<Vec<JoinPair>, Fail>
-    requires side { AllowsSide kind left_built }
-    requires built { length built.now ≤ 4294967294 }
-    requires probed { length probed.now ≤ 4294967294 }
-{
-    let exec = Exec::standard();
-    let (tables, _built) = build_tables(rt, alloc, built, false, left_built, &exec, &OpenGate)?;
-    let pairs = probe(rt, alloc, kind, &tables, probed, &exec, &OpenGate)?;
-    Ok(pairs.into_pairs())
-}
-
-#[test]
-fn matched_pairs_of_numbers(rt: HostRuntime) -> Result<(), Fail> {
-    let left = [Some(1i64), Some(2), Some(1)];
-    let right = [Some(1i64), Some(1)];
-    let pairs = joined(&rt, rt.alloc(), JoinType::Inner, false, &right, &left)?;
-    let wanted = [
-        JoinPair::both(0, 0),
-        JoinPair::both(0, 1),
-        JoinPair::both(2, 0),
-        JoinPair::both(2, 1),
+    let cases = [
+        (
+            code_of(Some(KeyBytes { bytes: b"" })),
+            0xcbf2_9ce4_8422_2325,
+            1,
+            6,
+        ),
+        (
+            code_of(Some(KeyBytes { bytes: b"a" })),
+            0xaf63_dc4c_8601_ec8c,
+            1,
+            5,
+        ),
+        (code_of(Some(1i128)), one, 1, 4),
+        (code_of(Some(minus_one)), 0, 0, 0),
+        (code_of(Some(true)), one, 1, 4),
+        (code_of(Some(false)), 0, 0, 0),
+        (code_of(none), 0, 0, 0),
     ];
-    assert_eq!(rt; pairs.as_slice(), wanted.as_slice());
-    let turned = joined(&rt, rt.alloc(), JoinType::Right, true, &left, &right)?;
-    let wanted = [
-        JoinPair::both(0, 0),
-        JoinPair::both(2, 0),
-        JoinPair::both(0, 1),
-        JoinPair::both(2, 1),
-    ];
-    assert_eq!(rt; turned.as_slice(), wanted.as_slice());
+    for (code, wanted, of_two, of_eight) in cases {
+        assert_eq!(rt; code, wanted);
+        assert_eq!(rt; partition_of(code, 2), of_two);
+        assert_eq!(rt; partition_of(code, 8), of_eight);
+    }
     Ok(())
 }
 
 #[test]
-fn matched_pairs_of_texts(rt: HostRuntime) -> Result<(), Fail> {
+fn texts_are_probed(rt: HostRuntime) -> Result<(), Fail> {
     let one = Some(KeyBytes { bytes: b"1" });
     let left = [one, Some(KeyBytes { bytes: b"2" }), one];
     let right = [one, one];
-    let pairs = joined(&rt, rt.alloc(), JoinType::Full, false, &right, &left)?;
+    let exec = Exec::standard();
+    let alloc = rt.alloc();
+    let (tables, _built) = build_tables(&rt, alloc, &right, false, false, &exec, &OpenGate)?;
+    let probed = probe(&rt, alloc, JoinType::Full, &tables, &left, &exec, &OpenGate)?;
     let wanted = [
         JoinPair::both(0, 0),
         JoinPair::both(0, 1),
@@ -109,21 +83,7 @@ fn matched_pairs_of_texts(rt: HostRuntime) -> Result<(), Fail> {
         JoinPair::both(2, 0),
         JoinPair::both(2, 1),
     ];
-    assert_eq!(rt; pairs.as_slice(), wanted.as_slice());
-    Ok(())
-}
-
-#[test]
-fn rows_with_and_without_a_match(rt: HostRuntime) -> Result<(), Fail> {
-    let left = [Some(1i64), Some(2), Some(1)];
-    let right = [Some(1i64), Some(1)];
-    let semi = joined(&rt, rt.alloc(), JoinType::Semi, false, &right, &left)?;
-    assert_eq!(rt;
-        semi.as_slice(),
-        [JoinPair::left_only(0), JoinPair::left_only(2)].as_slice()
-    );
-    let anti = joined(&rt, rt.alloc(), JoinType::Anti, false, &right, &left)?;
-    assert_eq!(rt; anti.as_slice(), [JoinPair::left_only(1)].as_slice());
+    assert_eq!(rt; probed.into_pairs().as_slice(), wanted.as_slice());
     Ok(())
 }
 
@@ -138,5 +98,171 @@ fn one_part_is_built(rt: HostRuntime) -> Result<(), Fail> {
     assert_eq!(rt; built.parts(), 1);
     assert_eq!(rt; built.sizes(), [3].as_slice());
     assert!(rt; built.left_built());
+    Ok(())
+}
+
+// A column of these keys, in these chunks.
+fn column(alloc: Global, chunks: &[&[Option<i64>]]) -> Result<Series, Fail>
+    ensures { IfOk result (λ s. s.kind ≡ int64) }
+{
+    let mut lists = Vec::new(alloc);
+    for keys in chunks {
+        let cells = keys.to_vec(alloc)?;
+        lists.push(Cells { cells })?;
+    }
+    let name = PlSmallStr::from_str(alloc, "k")?;
+    let lists = Chunks::Int64Type(lists);
+    Ok(Series::from_arrays(alloc, name, DataType::Int64, lists)?)
+}
+
+#[test]
+fn columns_with_absent_keys(rt: HostRuntime) -> Result<(), Fail> {
+    let alloc = rt.alloc();
+    let left = column(alloc, &[&[Some(1), None], &[Some(1)]])?;
+    let right = column(alloc, &[&[Some(1), None]])?;
+    let exec = Exec::standard();
+    let (how, many) = (JoinType::Right, JoinValidation::ManyToMany);
+    for join_nulls in [false, true] {
+        let (probed, built) = hash_pairs(
+            &rt, alloc, how, &left, &right, many, join_nulls, &exec, &OpenGate,
+        )?;
+        let last = if join_nulls {
+            JoinPair::both(1, 1)
+        } else {
+            JoinPair::right_only(1)
+        };
+        let wanted = [JoinPair::both(0, 0), JoinPair::both(2, 0), last];
+        assert_eq!(rt; probed.pairs(), wanted.as_slice());
+        assert!(rt; built.left_built());
+        assert_eq!(rt; built.sizes(), [3].as_slice());
+    }
+    Ok(())
+}
+
+fn are_rows(rt: &impl Abort, rows: &[IdxSize], wanted: &[IdxSize]) {
+    assert_eq!(rt; rows, wanted);
+}
+
+fn are_opt_rows(rt: &impl Abort, rows: &[Option<IdxSize>], wanted: &[Option<IdxSize>]) {
+    assert_eq!(rt; rows, wanted);
+}
+
+fn check_left<S: SeriesJoin>(
+    rt: &(impl Threads + Sync + Abort),
+    alloc: Global,
+    left: &S,
+    right: &Series,
+    wanted: (&[IdxSize], &[Option<IdxSize>]),
+) -> Result<(), Fail>
+    requires key { is_key (S.column left.now).kind ≡ true }
+    requires same { (S.column left.now).kind ≡ right.now.kind }
+{
+    let (exec, many) = (Exec::standard(), JoinValidation::ManyToMany);
+    let (lefts, rights) = left.hash_join_left(rt, alloc, right, many, false, &exec)?;
+    are_rows(rt, &lefts.left().ok_or("row numbers")?, wanted.0);
+    let rights = opt_row_numbers(alloc, &rights.left().ok_or("row numbers")?)?;
+    are_opt_rows(rt, &rights, wanted.1);
+    Ok(())
+}
+
+fn check_inner<S: SeriesJoin>(
+    rt: &(impl Threads + Sync + Abort),
+    alloc: Global,
+    left: &S,
+    right: &Series,
+    wanted: (&[IdxSize], &[IdxSize], bool),
+) -> Result<(), Fail>
+    requires key { is_key (S.column left.now).kind ≡ true }
+    requires same { (S.column left.now).kind ≡ right.now.kind }
+{
+    let (exec, many) = (Exec::standard(), JoinValidation::ManyToMany);
+    let (rows, right_built) = left.hash_join_inner(rt, alloc, right, many, false, &exec)?;
+    are_rows(rt, &rows.0, wanted.0);
+    are_rows(rt, &rows.1, wanted.1);
+    assert_eq!(rt; right_built, wanted.2);
+    Ok(())
+}
+
+fn check_outer<S: SeriesJoin>(
+    rt: &(impl Threads + Sync + Abort),
+    alloc: Global,
+    left: &S,
+    right: &Series,
+    wanted: (&[Option<IdxSize>], &[Option<IdxSize>]),
+) -> Result<(), Fail>
+    requires key { is_key (S.column left.now).kind ≡ true }
+    requires same { (S.column left.now).kind ≡ right.now.kind }
+{
+    let (exec, many) = (Exec::standard(), JoinValidation::ManyToMany);
+    let rows = left.hash_join_outer(rt, alloc, right, many, false, &exec)?;
+    are_opt_rows(rt, &rows.0, wanted.0);
+    are_opt_rows(rt, &rows.1, wanted.1);
+    Ok(())
+}
+
+fn check_alone<S: SeriesJoin>(
+    rt: &(impl Threads + Sync + Abort),
+    alloc: Global,
+    left: &S,
+    right: &Series,
+    wanted: (&[IdxSize], &[IdxSize]),
+) -> Result<(), Fail>
+    requires key { is_key (S.column left.now).kind ≡ true }
+    requires same { (S.column left.now).kind ≡ right.now.kind }
+{
+    let exec = Exec::standard();
+    let semi = left.hash_join_semi_anti(rt, alloc, right, false, false, &exec)?;
+    are_rows(rt, &semi, wanted.0);
+    let anti = left.hash_join_semi_anti(rt, alloc, right, true, false, &exec)?;
+    are_rows(rt, &anti, wanted.1);
+    Ok(())
+}
+
+#[test]
+fn rows_by_each_call(rt: HostRuntime) -> Result<(), Fail> {
+    let alloc = rt.alloc();
+    let left = column(alloc, &[&[Some(1), Some(2), Some(1)]])?;
+    let right = column(alloc, &[&[Some(1), Some(1)]])?;
+    let rights = [Some(0), Some(1), None, Some(0), Some(1)];
+    check_left(&rt, alloc, &left, &right, (&[0, 0, 1, 2, 2], &rights))?;
+    check_inner(
+        &rt,
+        alloc,
+        &left,
+        &right,
+        (&[0, 0, 2, 2], &[0, 1, 0, 1], true),
+    )?;
+    let lefts = [Some(0), Some(0), Some(1), Some(2), Some(2)];
+    check_outer(&rt, alloc, &left, &right, (&lefts, &rights))?;
+    check_alone(&rt, alloc, &left, &right, (&[0, 2], &[1]))
+}
+
+#[test]
+fn the_left_side_is_built(rt: HostRuntime) -> Result<(), Fail> {
+    let alloc = rt.alloc();
+    let left = column(alloc, &[&[Some(2), Some(1)]])?;
+    let right = column(alloc, &[&[Some(1), Some(2)]])?;
+    check_inner(&rt, alloc, &left, &right, (&[1, 0], &[0, 1], false))
+}
+
+#[test]
+fn ids_by_chunk(rt: HostRuntime) -> Result<(), Fail> {
+    let alloc = rt.alloc();
+    let left = [Some(480), Some(650), Some(577), Some(1201), Some(100)];
+    let left = column(alloc, &[&left[..2], &left[2..]])?;
+    let right = column(alloc, &[&[Some(480), Some(577), Some(650)]])?;
+    let (exec, many) = (Exec::standard(), JoinValidation::ManyToMany);
+    let (lefts, rights) = left.hash_join_left(&rt, alloc, &right, many, false, &exec)?;
+    let wanted = [
+        StandardChunkId::store(0, 0),
+        StandardChunkId::store(0, 1),
+        StandardChunkId::store(1, 0),
+        StandardChunkId::store(1, 1),
+        StandardChunkId::store(1, 2),
+    ];
+    let lefts = lefts.right().ok_or("ids by chunk")?;
+    assert_eq!(rt; lefts.as_slice(), wanted.as_slice());
+    let rights = opt_row_numbers(alloc, &rights.left().ok_or("row numbers")?)?;
+    are_opt_rows(&rt, &rights, &[Some(0), Some(2), Some(1), None, None]);
     Ok(())
 }

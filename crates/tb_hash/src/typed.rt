@@ -104,13 +104,6 @@ impl KeyCell for u64 {
     ghost equal = { same_number };
 }
 
-fn push_cells<N: KeyCell>(keys: &mut Vec<Option<N>>, cells: &[Option<N>]) -> Result<(), OutOfMemory>
-    ensures { OnOk result (map (or_null N.shows) keys.new.items ≡ map (or_null N.shows) keys.old.items ++ map (or_null N.shows) cells.now) }
-{
-    keys.extend_from_slice(cells)?;
-    Ok(())
-}
-
 /// The keys of these chunks, in order.
 pub(crate) fn joined_cells<N: KeyCell>(
     alloc: Global,
@@ -120,7 +113,7 @@ pub(crate) fn joined_cells<N: KeyCell>(
 {
     let mut keys = Vec::new(alloc);
     for chunk in chunks {
-        push_cells(&mut keys, &chunk.cells)?;
+        keys.extend_from_slice(&chunk.cells)?;
     }
     Ok(keys)
 }
@@ -145,6 +138,7 @@ fn push_texts<'a>(
 ) -> Result<(), OutOfMemory>
     ensures { OnOk result (map (or_null (λ k. string k.bytes.now)) keys.new.items ≡ map (or_null (λ k. string k.bytes.now)) keys.old.items ++ map (or_null string) texts.now) }
 {
+    keys.reserve(texts.len())?;
     for text in texts {
         keys.push(lent_text(text))?;
     }
@@ -182,6 +176,7 @@ fn push_bytes<'a>(
 ) -> Result<(), OutOfMemory>
     ensures { OnOk result (map (or_null (λ k. binary k.bytes.now)) keys.new.items ≡ map (or_null (λ k. binary k.bytes.now)) keys.old.items ++ map (or_null binary) cells.now) }
 {
+    keys.reserve(cells.len())?;
     for cell in cells {
         keys.push(lent_bytes(cell))?;
     }

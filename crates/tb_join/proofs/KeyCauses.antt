@@ -1,8 +1,7 @@
 -- The causes of a request of the built form, whose key columns are found.
-use Rattle.std.proofs.Common.{◌≡◌, ◌==◌, ℕ, Bool, true, false, cond, not, ◌&&◌, ◌||◌, List, [], ◌∷◌, ◌++◌, length, map, refl, ap, sym, ◌∙◌, arith, Option, Some, None, inl, inr, ◌⊎◌, unwrap_or}
+use Rattle.std.proofs.Common.{◌≡◌, ◌==◌, ℕ, Bool, true, false, cond, not, ◌&&◌, ◌||◌, List, [], ◌∷◌, ◌++◌, length, refl, sym, ◌∙◌, arith, Option, Some, None, inl, inr, ◌⊎◌}
 use Rattle.std.specs.Option.{option_map}
 use Rattle.std.specs.List.{filter_map}
-use Rattle.std.proofs.lemmas.List.{map-append}
 use Rattle.tb_value.specs.Kind.{Kind}
 use Rattle.tb_value.specs.Names.{Name}
 use Rattle.tb_value.specs.Refusals.{first_cause, when}
@@ -12,23 +11,15 @@ use Rattle.tb_value.specs.declared.error.PolarsError.{PolarsError}
 use Rattle.tb_value.specs.declared.error.PolarsError.TheVariants.{ColumnNotFound, Duplicate, ComputeError, InvalidOperation, OutOfMemory}
 use Rattle.tb_value.specs.declared.error.ComputeCause.TheVariants.{KeyTypes, Validation}
 use Rattle.tb_value.specs.declared.error.InvalidCause.TheVariants.{NoKeys, KeyCounts, KeyKind}
-use Rattle.tb_value.proofs.Loops.{map-map}
 use Rattle.tb_value.specs.TypeTests.{same_kind-Decides}
 use Rattle.tb_chunk.specs.Col.{Col}
 use Rattle.tb_frame.specs.declared.args.JoinArgs.{JoinArgs}
-use Rattle.tb_frame.specs.declared.args.JoinType.{JoinType}
-use Rattle.tb_frame.specs.declared.args.JoinType.TheVariants.{Inner, Left, Right, Full, Semi, Anti}
 use Rattle.tb_frame.specs.declared.args.JoinValidation.TheVariants.{ManyToMany}
-use Rattle.tb_frame.specs.Answer.{gone_right}
-use Rattle.tb_frame.specs.Built.{IsBuilt, is_built_how}
-use Rattle.tb_frame.specs.Table.{TableColumn, Table, plain, table_of, height, names_of}
-use Rattle.tb_frame.specs.Join.{Request, Out, by_names, named, coalesce, coalesces, keep_left, keep_right, left_out, right_out, right_name, without, joined_names, default_suffix}
-use Rattle.tb_frame.specs.Frame.{without_names}
+use Rattle.tb_frame.specs.Built.{IsBuilt}
+use Rattle.tb_frame.specs.Table.{TableColumn, table_of, height}
+use Rattle.tb_frame.specs.Join.{Request, by_names, named}
 use Rattle.tb_frame.specs.Refusal.{first_unknown, first_repeated, no_keys, key_counts, repeated_key, key_types, key_kind, repeated_name, unknown_key, broken_side, too_many_rows, join_refusal, is_validated, asks_left, asks_right, has_twins}
-use Rattle.tb_frame.proofs.Frames.{without-table}
-use Rattle.tb_frame.proofs.Outs.{without_none}
 use Rattle.tb_join.specs.KeyRefusal.{key_refusal}
-use Rattle.tb_frame.specs.RightColumns.{right_names}
 
 -- FIRST CAUSES
 
@@ -65,26 +56,7 @@ module _ (a b c d f j : Option PolarsError) (e : PolarsError) (is : j ≡ first_
 pub by_none : (a b c d f j : Option PolarsError) → j ≡ first_cause (a ∷ b ∷ c ∷ d ∷ f ∷ []) → a ≡ None → b ≡ None → c ≡ None → d ≡ None → f ≡ None → j ≡ None
 by_none a b c d f j is x y z w v = is ∙ (λ t. first_cause (x t ∷ y t ∷ z t ∷ w t ∷ v t ∷ []))
 
--- KINDS AND ORDERS
-
--- what is built of the left columns, and of the right ones
-pub keeps_all : (how : JoinType) (c : Bool) (keys : List Name) (t : Table) → is_built_how how ≡ true → keep_left how c keys t ≡ t
-keeps_all Inner c keys t h = refl
-keeps_all Left c keys t h = refl
-keeps_all Right c keys t h = cc
-keeps_all Full c keys t h = cc
-keeps_all Semi c keys t h = cc
-keeps_all Anti c keys t h = cc
-
-pub keeps_right : (how : JoinType) (c : Bool) (keys : List Name) (t : Table) → is_built_how how ≡ true → keep_right how c keys t ≡ without (gone_right how c keys) t
-keeps_right Inner true keys t h = refl
-keeps_right Inner false keys t h = sym (without_none t)
-keeps_right Left true keys t h = refl
-keeps_right Left false keys t h = sym (without_none t)
-keeps_right Right c keys t h = cc
-keeps_right Full c keys t h = cc
-keeps_right Semi c keys t h = cc
-keeps_right Anti c keys t h = cc
+-- KINDS
 
 -- keys whose types are not refused are of one type
 pub not_mixed : (k l : Kind) → when (not (same_kind k l)) (ComputeError (KeyTypes 0)) ≡ None → k ≡ l
@@ -102,33 +74,6 @@ is_keyed k h = at (is_key k) refl h
     at true e g = e
     at false e g = absurd (cc)
 
--- NAMES
-
--- the suffix that args give, and the names of the right columns that go
-abbrev pub suffix_in : JoinArgs → Name
-suffix_in a = unwrap_or a.suffix default_suffix
-
-abbrev pub gone_in : JoinArgs → List Name → List Name
-gone_in a ro = gone_right a.how (coalesce a.coalesce a.how) ro
-
-abbrev pub asked_names : List Col → List Col → List Name → JoinArgs → List Name
-asked_names left right ro a = names_of (table_of left) ++ right_names (names_of (table_of left)) (suffix_in a) (gone_in a ro) right
-
-module _ (left right : List Col) (lo ro : List Name) (a : JoinArgs) (how : is_built_how a.how ≡ true) where
-  -- the names that the answer would have
-  pub names-asked : joined_names (by_names (table_of left) (table_of right) lo ro a) ≡ asked_names left right ro a
-  names-asked =
-      let q = by_names (table_of left) (table_of right) lo ro a in
-      let name : Out → Name = λ o. o.name in
-      let names = names_of (table_of left) in
-      let gone = gone_in a ro in
-      let called : TableColumn → Name = λ c. right_name names a.suffix c.name in
-      let all = keeps_all a.how (coalesces q) lo (table_of left) how in
-      let some = keeps_right a.how (coalesces q) ro (table_of right) how in
-      ◌∙◌ {A = List Name} (λ t. map name (map left_out (all t) ++ map (right_out (names_of (all t)) a.suffix) (some t)))
-      (map-append name (map left_out (table_of left)) (map (right_out names a.suffix) (without gone (table_of right)))
-      ∙ (λ t. map-map name left_out (table_of left) t ++ (map-map name (right_out names a.suffix) (without gone (table_of right)) ∙ ap (map called) (sym (without-table gone right)) ∙ map-map called plain (without_names gone right)) t))
-
 -- CAUSES
 
 abbrev pub unknown : List Col → List Name → Option PolarsError
@@ -139,9 +84,6 @@ mixed k l = when (not (same_kind k l)) (ComputeError (KeyTypes 0))
 
 abbrev pub unkeyed : Kind → Option PolarsError
 unkeyed k = when (not (is_key k)) (InvalidOperation (KeyKind 0))
-
-abbrev pub repeated : List Name → Option PolarsError
-repeated names = option_map (λ n. Duplicate n) (first_repeated names)
 
 -- one name alone is not repeated
 one_fresh : (names : List Name) → length names ≡ 1 → first_repeated names ≡ None
@@ -159,7 +101,7 @@ keyed q lk rk = record q { left_keys = lk; right_keys = rk }
 
 module _ (left right : List Col) (lo ro : List Name) (a : JoinArgs) (built : IsBuilt (by_names (table_of left) (table_of right) lo ro a)) (k l : TableColumn) (is_k : filter_map (named (table_of left)) lo ≡ k ∷ []) (is_l : filter_map (named (table_of right)) ro ≡ l ∷ []) where
   -- the causes that remain where each side has one key
-  pub key_causes : key_refusal (by_names (table_of left) (table_of right) lo ro a) ≡ first_cause (unknown left lo ∷ unknown right ro ∷ mixed k.kind l.kind ∷ unkeyed k.kind ∷ repeated (asked_names left right ro a) ∷ [])
+  pub key_causes : key_refusal (by_names (table_of left) (table_of right) lo ro a) ≡ first_cause (unknown left lo ∷ unknown right ro ∷ mixed k.kind l.kind ∷ unkeyed k.kind ∷ repeated_name (by_names (table_of left) (table_of right) lo ro a) ∷ [])
   key_causes =
       let q = by_names (table_of left) (table_of right) lo ro a in
       let some : no_keys q ≡ None = λ t. when (built.one_left t == 0 || built.one_right t == 0) (InvalidOperation NoKeys) in
@@ -167,9 +109,8 @@ module _ (left right : List Col) (lo ro : List Name) (a : JoinArgs) (built : IsB
       let fresh : repeated_key q ≡ None = λ t. first_cause (repeated_by (one_fresh lo built.one_left t) ∷ repeated_by (one_fresh ro built.one_right t) ∷ []) in
       let types : key_types q ≡ mixed k.kind l.kind = ◌∙◌ {A = Option PolarsError} (λ t. key_types (keyed q (is_k t) (is_l t))) (first_place (λ p. ComputeError (KeyTypes p)) (not (same_kind k.kind l.kind))) in
       let kinds : key_kind q ≡ unkeyed k.kind = ◌∙◌ {A = Option PolarsError} (λ t. key_kind (keyed q (is_k t) (is_l t))) (first_place (λ p. InvalidOperation (KeyKind p)) (not (is_key k.kind))) in
-      let names : repeated_name q ≡ repeated (asked_names left right ro a) = ap repeated (names-asked left right lo ro a built.how) in
-      ◌∙◌ {A = Option PolarsError} (λ t. first_cause (unknown_key q ∷ some t ∷ counts t ∷ fresh t ∷ types t ∷ kinds t ∷ names t ∷ []))
-      (flatten (unknown left lo) (unknown right ro) (mixed k.kind l.kind) (unkeyed k.kind) (repeated (asked_names left right ro a)))
+      ◌∙◌ {A = Option PolarsError} (λ t. first_cause (unknown_key q ∷ some t ∷ counts t ∷ fresh t ∷ types t ∷ kinds t ∷ repeated_name q ∷ []))
+      (flatten (unknown left lo) (unknown right ro) (mixed k.kind l.kind) (unkeyed k.kind) (repeated_name q))
     where
       repeated_by : Option Name → Option PolarsError
       repeated_by o = option_map (λ n. Duplicate n) o

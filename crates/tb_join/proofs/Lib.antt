@@ -1,9 +1,7 @@
 pub mod RowProofs
-pub mod Found
-pub mod KeyLemmas
 pub mod ColumnLemmas
-pub mod TypedKeys
 pub mod KeyCauses
-pub mod LeftOrder
 pub mod Finishing
+pub mod KeptColumns
+pub mod Listed
 pub mod AnswerMade

@@ -1,5 +1,6 @@
+pub mod Asked
 pub mod Laws
 pub mod Rows
-pub mod KeyRows
-pub mod KeyLaws
+pub mod AnswerColumns
+pub mod Directions
 pub mod KeyRefusal

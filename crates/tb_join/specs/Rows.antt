@@ -1,5 +1,5 @@
 -- Small requests, and the tables that answer them.
-use Rattle.std.specs.Prelude.{ℕ, Bool, false, List, [], ◌∷◌, Option, None, ℤ, pos, codes}
+use Rattle.std.specs.Prelude.{ℕ, Bool, List, [], ◌∷◌, Option, ℤ, pos, codes}
 use Rattle.tb_value.specs.Datum.{Datum, null, int, string}
 use Rattle.tb_value.specs.Kind.{Kind, int32, int64}
 use Rattle.tb_value.specs.Kind as kind
@@ -8,12 +8,11 @@ use Rattle.tb_frame.specs.declared.args.JoinArgs.{JoinArgs}
 use Rattle.tb_frame.specs.declared.args.JoinType.{JoinType}
 use Rattle.tb_frame.specs.declared.args.JoinType.TheVariants.{Inner, Left, Right, Full}
 use Rattle.tb_frame.specs.declared.args.JoinValidation.{JoinValidation}
-use Rattle.tb_frame.specs.declared.args.JoinValidation.TheVariants.{ManyToMany}
 use Rattle.tb_frame.specs.declared.args.JoinCoalesce.{JoinCoalesce}
-use Rattle.tb_frame.specs.declared.args.JoinCoalesce.TheVariants.{JoinSpecific}
 use Rattle.tb_frame.specs.declared.args.MaintainOrderJoin.TheVariants as order
 use Rattle.tb_frame.specs.Table.{TableColumn, Table}
 use Rattle.tb_frame.specs.Join.{Request, by_names}
+use Rattle.tb_join.specs.Asked.{plainly}
 
 abbrev pub k_name : Name
 k_name = codes "k"
@@ -30,10 +29,6 @@ keys vs = numbers k_name vs ∷ []
 
 abbrev pub number : ℕ → Datum
 number n = int (pos n)
-
--- a kind with nothing else asked
-abbrev pub plainly : JoinType → JoinArgs
-plainly how = record { how = how; validation = ManyToMany; suffix = None; slice = None; join_nulls = false; coalesce = JoinSpecific; maintain_order = order.None }
 
 -- two tables of one key `k` each
 abbrev pub on_k : List Datum → List Datum → JoinArgs → Request

@@ -8,24 +8,27 @@ ghost use Rattle.tb_frame.specs.Built.{IsBuilt};
 ghost use Rattle.tb_frame.specs.Join.{by_names, listing, IsAnswer};
 ghost use Rattle.tb_frame.specs.Refusal.{join_refusal};
 ghost use Rattle.tb_frame.specs.Table.{plain, table_of, height, IsTable};
+ghost use Rattle.tb_join.specs.Asked.{plainly};
 ghost use Rattle.tb_join.specs.KeyRefusal.{key_refusal};
-ghost use Rattle.tb_join.specs.KeyRows.{keeps_left};
 
-use crate::general::{check_names, finish_join};
-use crate::keys::{check_key_kind, check_key_types, key_column, key_pairs};
+use crate::general::finish_join;
+use crate::keys::{check_key_kind, check_key_types, key_column};
+use crate::pairs::key_pairs;
 use std::alloc::Global;
 use std::thread::Threads;
-use tb_frame::{DataFrame, IntoDf, JoinArgs, JoinType, gone_right, suffix_of};
+use tb_frame::{DataFrame, IntoDf, JoinArgs, JoinType, check_joined_names};
 use tb_pool::Exec;
 use tb_store::Column;
 use tb_value::{JoinPair, PlSmallStr, PolarsResult};
 
 /// Joins of the table that `self` lends with another.
 pub trait DataFrameJoinOps: IntoDf {
-    /// The rows that two nested loops over the tables list, each pair once, in an order that the arguments allow, under
-    /// the columns of the naming rule: those of the left table, and then those of the right one, but for its key where
-    /// keys are coalesced. So far the arguments must be of the form that is built: an Inner or Left join by one key on
-    /// each side, in no order or by left rows.
+    /// The rows that two nested loops over the tables list for the kind of join, each pair once, in an order that the
+    /// arguments allow, under the columns of the naming rule: those of the left table, and then those of the right one.
+    /// Coalesced keys of an Inner or Left join stand on the left alone, those of a Right join on the right alone. A
+    /// Semi or Anti join has the left columns alone. So far the arguments must be of the form that is built: one key
+    /// on each side, keys of a Full join that are not coalesced, no validation and no slice; and the order is None,
+    /// or by left rows first for an Inner or Left join, or any for a Semi or Anti join.
     ///
     /// # Errors
     ///
@@ -35,9 +38,9 @@ pub trait DataFrameJoinOps: IntoDf {
     /// 3. KeyKind: the keys are of type List, Struct or Null;
     /// 4. Duplicate: two columns of the answer would have this name, which is the first that stood before;
     /// 5. TooManyRows: the answer would have more than `MAX_ROWS` rows.
-    fn join<R: Threads + Sync>(
+    final fn join(
         &self,
-        rt: &R,
+        rt: &(impl Threads + Sync),
         alloc: Global,
         other: &DataFrame,
         left_on: &[PlSmallStr],
@@ -48,23 +51,94 @@ pub trait DataFrameJoinOps: IntoDf {
         requires built { IsBuilt (by_names (table_of (Self.frame self.now)) (table_of other.now) left_on.now right_on.now args) }
         ensures settles { Settles result (join_refusal (by_names (table_of (Self.frame self.now)) (table_of other.now) left_on.now right_on.now args)) }
         ensures answer { IfOk result (λ t. IsAnswer (by_names (table_of (Self.frame self.now)) (table_of other.now) left_on.now right_on.now args) (table_of t)) }
-        ensures table { IfOk result (λ t. IsTable (table_of t)) };
-}
+        ensures table { IfOk result (λ t. IsTable (table_of t)) }
+    {
+        join_tables(
+            rt,
+            alloc,
+            self.to_df(),
+            other,
+            left_on,
+            right_on,
+            &args,
+            exec,
+        )
+    }
 
-impl DataFrameJoinOps for DataFrame {
-    fn join<R: Threads + Sync>(
+    /// The Inner join by one key on each side, with nothing else asked: `join` with `JoinArgs::new`.
+    ///
+    /// # Errors
+    ///
+    /// Those of `join`.
+    final fn inner_join(
         &self,
-        _rt: &R,
+        rt: &(impl Threads + Sync),
         alloc: Global,
         other: &DataFrame,
         left_on: &[PlSmallStr],
         right_on: &[PlSmallStr],
-        args: JoinArgs,
-        _exec: &Exec,
-    ) -> PolarsResult<DataFrame> {
-        join_by_left(alloc, self, other, left_on, right_on, &args)
+        exec: &Exec,
+    ) -> PolarsResult<DataFrame>
+        requires left { length left_on.now ≡ 1 }
+        requires right { length right_on.now ≡ 1 }
+        ensures settles { Settles result (join_refusal (by_names (table_of (Self.frame self.now)) (table_of other.now) left_on.now right_on.now (plainly JoinType.Inner))) }
+        ensures answer { IfOk result (λ t. IsAnswer (by_names (table_of (Self.frame self.now)) (table_of other.now) left_on.now right_on.now (plainly JoinType.Inner)) (table_of t)) }
+        ensures table { IfOk result (λ t. IsTable (table_of t)) }
+    {
+        let args = JoinArgs::new(JoinType::Inner);
+        self.join(rt, alloc, other, left_on, right_on, args, exec)
+    }
+
+    /// The Left join by one key on each side, with nothing else asked.
+    ///
+    /// # Errors
+    ///
+    /// Those of `join`.
+    final fn left_join(
+        &self,
+        rt: &(impl Threads + Sync),
+        alloc: Global,
+        other: &DataFrame,
+        left_on: &[PlSmallStr],
+        right_on: &[PlSmallStr],
+        exec: &Exec,
+    ) -> PolarsResult<DataFrame>
+        requires left { length left_on.now ≡ 1 }
+        requires right { length right_on.now ≡ 1 }
+        ensures settles { Settles result (join_refusal (by_names (table_of (Self.frame self.now)) (table_of other.now) left_on.now right_on.now (plainly JoinType.Left))) }
+        ensures answer { IfOk result (λ t. IsAnswer (by_names (table_of (Self.frame self.now)) (table_of other.now) left_on.now right_on.now (plainly JoinType.Left)) (table_of t)) }
+        ensures table { IfOk result (λ t. IsTable (table_of t)) }
+    {
+        let args = JoinArgs::new(JoinType::Left);
+        self.join(rt, alloc, other, left_on, right_on, args, exec)
+    }
+
+    /// The Full join by one key on each side, with nothing else asked.
+    ///
+    /// # Errors
+    ///
+    /// Those of `join`.
+    final fn full_join(
+        &self,
+        rt: &(impl Threads + Sync),
+        alloc: Global,
+        other: &DataFrame,
+        left_on: &[PlSmallStr],
+        right_on: &[PlSmallStr],
+        exec: &Exec,
+    ) -> PolarsResult<DataFrame>
+        requires left { length left_on.now ≡ 1 }
+        requires right { length right_on.now ≡ 1 }
+        ensures settles { Settles result (join_refusal (by_names (table_of (Self.frame self.now)) (table_of other.now) left_on.now right_on.now (plainly JoinType.Full))) }
+        ensures answer { IfOk result (λ t. IsAnswer (by_names (table_of (Self.frame self.now)) (table_of other.now) left_on.now right_on.now (plainly JoinType.Full)) (table_of t)) }
+        ensures table { IfOk result (λ t. IsTable (table_of t)) }
+    {
+        let args = JoinArgs::new(JoinType::Full);
+        self.join(rt, alloc, other, left_on, right_on, args, exec)
     }
 }
+
+impl DataFrameJoinOps for DataFrame {}
 
 // The key columns, where no cause refuses the keys, their types and the names of the answer.
 fn checked_keys<'a>(
@@ -87,58 +161,51 @@ fn checked_keys<'a>(
     let right_key = key_column(alloc, right, right_on)?;
     check_key_types(left_key, right_key)?;
     check_key_kind(left_key)?;
-    let gone = gone_right(args, right_on);
-    check_names(
+    check_joined_names(
         alloc,
         left.get_columns(),
         right.get_columns(),
-        gone,
-        suffix_of(args),
+        left_on,
+        right_on,
+        args,
     )?;
     Ok((left_key, right_key))
 }
 
-// The pairs of the listing, by left row and then right row.
+// The pairs of the listing, in the order that is asked.
 fn listed_pairs(
+    rt: &(impl Threads + Sync),
     alloc: Global,
     left: &DataFrame,
     right: &DataFrame,
     left_on: &[PlSmallStr],
     right_on: &[PlSmallStr],
     args: &JoinArgs,
+    exec: &Exec,
 ) -> PolarsResult<Vec<JoinPair>>
     requires { IsBuilt (by_names (table_of left.now) (table_of right.now) left_on.now right_on.now args.now) }
     ensures settles { Settles result (join_refusal (by_names (table_of left.now) (table_of right.now) left_on.now right_on.now args.now)) }
     ensures listed { IfOk result (λ v. IsListed args.now.how args.now.maintain_order args.now.slice (listing (by_names (table_of left.now) (table_of right.now) left_on.now right_on.now args.now)) v.items) }
 {
     let (left_key, right_key) = checked_keys(alloc, left, right, left_on, right_on, args)?;
-    key_pairs(alloc, left_key, right_key, keeps_left(args.how))
+    key_pairs(rt, alloc, left_key, right_key, args, exec)
 }
 
-// Whether a left row without a match is kept.
-fn keeps_left(how: JoinType) -> bool
-    ensures { result ≡ keeps_left how }
-{
-    match how {
-        JoinType::Left | JoinType::Full => true,
-        JoinType::Inner | JoinType::Right | JoinType::Semi | JoinType::Anti => false,
-    }
-}
-
-fn join_by_left(
+fn join_tables(
+    rt: &(impl Threads + Sync),
     alloc: Global,
     left: &DataFrame,
     right: &DataFrame,
     left_on: &[PlSmallStr],
     right_on: &[PlSmallStr],
     args: &JoinArgs,
+    exec: &Exec,
 ) -> PolarsResult<DataFrame>
     requires { IsBuilt (by_names (table_of left.now) (table_of right.now) left_on.now right_on.now args.now) }
     ensures settles { Settles result (join_refusal (by_names (table_of left.now) (table_of right.now) left_on.now right_on.now args.now)) }
     ensures answer { IfOk result (λ t. IsAnswer (by_names (table_of left.now) (table_of right.now) left_on.now right_on.now args.now) (table_of t)) }
     ensures table { IfOk result (λ t. IsTable (table_of t)) }
 {
-    let pairs = listed_pairs(alloc, left, right, left_on, right_on, args)?;
-    let gone = gone_right(args, right_on);
-    finish_join(alloc, left, right, gone, suffix_of(args), &pairs)
+    let pairs = listed_pairs(rt, alloc, left, right, left_on, right_on, args, exec)?;
+    finish_join(rt, alloc, left, right, left_on, right_on, args, &pairs)
 }

@@ -1,104 +1,130 @@
-//! The columns of an answer, and their names.
-ghost use Rattle.std.specs.Prelude.{◌≡◌, ◌≤◌, ◌++◌, All, IfOk, OnOk, length, map, option_map, unwrap_or, Some, None, List};
-ghost use Rattle.tb_value.specs.Names.{Name};
+//! The columns of an answer.
+ghost use Rattle.std.specs.Prelude.{◌≡◌, ◌≤◌, All, IfOk, None, length, map};
 ghost use Rattle.tb_value.specs.Refusals.{Settles};
-ghost use Rattle.tb_value.specs.declared.error.PolarsError.TheVariants.{Duplicate};
-ghost use Rattle.tb_value.specs.declared.index.JoinPair.{JoinPair};
-ghost use Rattle.tb_chunk.specs.Col.{Col, values};
 ghost use Rattle.tb_chunk.specs.Rows.{IsRowOf};
-ghost use Rattle.tb_frame.specs.Answer.{IsPairOf, gone_right};
-ghost use Rattle.tb_frame.specs.Frame.{opt_taken};
-ghost use Rattle.tb_frame.specs.Table.{table_of, height, names_of};
-ghost use Rattle.tb_frame.specs.Join.{is_among, right_name, coalesce, default_suffix};
-ghost use Rattle.tb_frame.specs.NameSets.{has_name};
-ghost use Rattle.tb_frame.specs.Refusal.{first_repeated};
-ghost use Rattle.tb_frame.specs.RightColumns.{right_names, right_column, right_columns};
+ghost use Rattle.tb_frame.specs.Answer.{IsListed, IsPairOf};
+ghost use Rattle.tb_frame.specs.Built.{IsBuilt};
+ghost use Rattle.tb_frame.specs.Frame.{opt_taken, without_names};
+ghost use Rattle.tb_frame.specs.Join.{by_names, listing, IsAnswer};
+ghost use Rattle.tb_frame.specs.Refusal.{join_refusal};
+ghost use Rattle.tb_frame.specs.Table.{height, names_of, table_of, IsTable};
+ghost use Rattle.tb_join.specs.AnswerColumns.{answer_columns, called, right_part};
 
 use std::alloc::Global;
+use std::thread::Threads;
 use tb_frame::{
-    DataFrame, check_distinct, column_name_set, column_names, left_rows, name_set, push_right,
-    right_name, right_rows, take_opt_columns,
+    DataFrame, JoinArgs, column_name_set, gone_left, gone_right, has_right, left_rows, right_name,
+    right_rows, suffix_of,
 };
+use tb_gather::gather_rows;
 use tb_store::Column;
-use tb_value::{JoinPair, OutOfMemory, PlSmallStr, PolarsResult};
+use tb_value::{JoinPair, NullableIdxSize, OutOfMemory, PlSmallStr, PolarsResult};
 
-// The names of the right columns in the answer, but for those of the names that go.
-fn names_beside(
+// The columns of a table over these rows, but for those of the names that go, which are left out before the rest is
+// gathered.
+fn kept_columns(
+    rt: &(impl Threads + Sync),
+    alloc: Global,
+    table: &DataFrame,
+    gone: &[PlSmallStr],
+    rows: &[NullableIdxSize],
+) -> Result<Vec<Column>, OutOfMemory>
+    requires rows { All (IsRowOf (height (table_of table.now))) rows.now }
+    requires few { length rows.now ≤ 4294967294 }
+    ensures { IfOk result (λ v. v.items ≡ map (opt_taken rows.now) (without_names gone.now table.now)) }
+{
+    if gone.is_empty() {
+        return Ok(gather_rows(rt, alloc, table, rows)?.into_columns());
+    }
+    let _columns = table.get_columns();
+    let kept = table.drop_many(alloc, gone)?;
+    if kept.width() == 0 {
+        return Ok(kept.into_columns());
+    }
+    Ok(gather_rows(rt, alloc, &kept, rows)?.into_columns())
+}
+
+// The right columns under their names in the answer, beside these left columns.
+fn named_right(
     alloc: Global,
     left: &[Column],
-    right: &[Column],
-    gone: &[PlSmallStr],
+    right: Vec<Column>,
     suffix: &str,
-) -> Result<Vec<PlSmallStr>, OutOfMemory>
-    ensures { IfOk result (λ v. v.items ≡ right_names (names_of (table_of left.now)) suffix.now gone.now right.now) }
+) -> Result<Vec<Column>, OutOfMemory>
+    ensures { IfOk result (λ v. v.items ≡ map (called (names_of (table_of left.now)) suffix.now) right.items) }
 {
     let taken = column_name_set(alloc, left)?;
-    let gone = name_set(alloc, gone)?;
-    let mut names = Vec::new(alloc);
-    for column in right {
-        if !gone.contains(column.name()) {
-            names.push(right_name(alloc, &taken, suffix, column.name())?)?;
-        }
+    let mut named = Vec::with_capacity(alloc, right.len())?;
+    for mut column in right {
+        let name = right_name(alloc, &taken, suffix, column.name())?;
+        column.rename(name);
+        named.push(column)?;
     }
-    Ok(names)
+    Ok(named)
 }
 
-fn push_names<'a>(
-    names: &mut Vec<&'a PlSmallStr>,
-    more: &'a [PlSmallStr],
-) -> Result<(), OutOfMemory>
-    ensures { OnOk result (map (λ n. n.now) names.new.items ≡ map (λ n. n.now) names.old.items ++ more.now) }
-{
-    for name in more {
-        names.push(name)?;
-    }
-    Ok(())
-}
-
-/// Refuses the first name of the answer that stood before (Duplicate). The right columns of the names that go
-/// do not stand in the answer.
-pub(crate) fn check_names(
+// The right columns over the pairs, under their names beside these left columns.
+fn right_columns(
+    rt: &(impl Threads + Sync),
     alloc: Global,
     left: &[Column],
-    right: &[Column],
-    gone: &[PlSmallStr],
-    suffix: &str,
-) -> PolarsResult<()>
-    ensures { Settles result (option_map (λ n. Duplicate n) (first_repeated (names_of (table_of left.now) ++ right_names (names_of (table_of left.now)) suffix.now gone.now right.now))) }
+    right: &DataFrame,
+    right_on: &[PlSmallStr],
+    args: &JoinArgs,
+    pairs: &[JoinPair],
+) -> Result<Vec<Column>, OutOfMemory>
+    requires pairs { All (λ p. IsRowOf (height (table_of right.now)) p.right) pairs.now }
+    requires few { length pairs.now ≤ 4294967294 }
+    ensures { IfOk result (λ v. v.items ≡ right_part args.now right_on.now pairs.now left.now right.now) }
 {
-    let beside = names_beside(alloc, left, right, gone, suffix)?;
-    let mut names = column_names(alloc, left)?;
-    push_names(&mut names, &beside)?;
-    check_distinct(alloc, &names)
+    if !has_right(args.how) {
+        return Ok(Vec::new(alloc));
+    }
+    let rows = right_rows(alloc, pairs)?;
+    let columns = kept_columns(rt, alloc, right, gone_right(args, right_on), &rows)?;
+    named_right(alloc, left, columns, suffix_of(args))
 }
 
-/// The left columns and then the right ones over the pairs, with Null where a pair has no row of a side. The right
-/// columns of the names that go do not stand in it. Only memory may be wanting.
-pub(crate) fn finish_join(
+// The left columns over the pairs, and then the right ones.
+fn answer_columns(
+    rt: &(impl Threads + Sync),
     alloc: Global,
     left: &DataFrame,
     right: &DataFrame,
-    gone: &[PlSmallStr],
-    suffix: &str,
+    left_on: &[PlSmallStr],
+    right_on: &[PlSmallStr],
+    args: &JoinArgs,
     pairs: &[JoinPair],
-) -> PolarsResult<DataFrame>
+) -> Result<Vec<Column>, OutOfMemory>
     requires pairs { All (IsPairOf (height (table_of left.now)) (height (table_of right.now))) pairs.now }
     requires few { length pairs.now ≤ 4294967294 }
-    requires names { first_repeated (names_of (table_of left.now) ++ right_names (names_of (table_of left.now)) suffix.now gone.now right.now) ≡ None }
-    ensures settles { Settles result None }
-    ensures columns { IfOk result (λ t. t ≡ map (opt_taken (map (λ (p : JoinPair). p.left) pairs.now)) left.now ++ right_columns (names_of (table_of left.now)) suffix.now gone.now (map (λ (p : JoinPair). p.right) pairs.now) right.now) }
+    ensures { IfOk result (λ v. v.items ≡ answer_columns args.now left_on.now right_on.now pairs.now left.now right.now) }
 {
-    let left_rows = left_rows(alloc, pairs)?;
-    let right_rows = right_rows(alloc, pairs)?;
-    let mut columns = take_opt_columns(alloc, left.get_columns(), &left_rows)?;
-    push_right(
-        alloc,
-        &mut columns,
-        left.get_columns(),
-        right.get_columns(),
-        gone,
-        suffix,
-        &right_rows,
-    )?;
+    let rows = left_rows(alloc, pairs)?;
+    let mut columns = kept_columns(rt, alloc, left, gone_left(args, left_on), &rows)?;
+    let mut beside = right_columns(rt, alloc, &columns, right, right_on, args, pairs)?;
+    columns.append(&mut beside)?;
+    Ok(columns)
+}
+
+/// The table of the columns over the pairs of a request that is not refused. Only memory may be wanting.
+pub(crate) fn finish_join(
+    rt: &(impl Threads + Sync),
+    alloc: Global,
+    left: &DataFrame,
+    right: &DataFrame,
+    left_on: &[PlSmallStr],
+    right_on: &[PlSmallStr],
+    args: &JoinArgs,
+    pairs: &[JoinPair],
+) -> PolarsResult<DataFrame>
+    requires built { IsBuilt (by_names (table_of left.now) (table_of right.now) left_on.now right_on.now args.now) }
+    requires valid { join_refusal (by_names (table_of left.now) (table_of right.now) left_on.now right_on.now args.now) ≡ None }
+    requires listed { IsListed args.now.how args.now.maintain_order args.now.slice (listing (by_names (table_of left.now) (table_of right.now) left_on.now right_on.now args.now)) pairs.now }
+    ensures settles { Settles result None }
+    ensures answer { IfOk result (λ t. IsAnswer (by_names (table_of left.now) (table_of right.now) left_on.now right_on.now args.now) (table_of t)) }
+    ensures table { IfOk result (λ t. IsTable (table_of t)) }
+{
+    let columns = answer_columns(rt, alloc, left, right, left_on, right_on, args, pairs)?;
     DataFrame::new(alloc, columns)
 }

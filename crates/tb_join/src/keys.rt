@@ -1,22 +1,19 @@
 //! The keys of a join.
-ghost use Rattle.std.specs.Prelude.{◌≡◌, ◌∷◌, [], true, IfOk, length, option_map, nat_lt, not};
+ghost use Rattle.std.specs.Prelude.{◌≡◌, ◌∷◌, [], IfOk, length, option_map, not};
 ghost use Rattle.std.specs.List.{filter_map};
 ghost use Rattle.tb_value.specs.Refusals.{Settles, when};
 ghost use Rattle.tb_value.specs.SameKind.{is_key, same_kind};
 ghost use Rattle.tb_value.specs.declared.error.PolarsError.TheVariants.{ColumnNotFound, ComputeError, InvalidOperation};
-ghost use Rattle.tb_value.specs.declared.error.ComputeCause.TheVariants.{KeyTypes, TooManyRows};
+ghost use Rattle.tb_value.specs.declared.error.ComputeCause.TheVariants.{KeyTypes};
 ghost use Rattle.tb_value.specs.declared.error.InvalidCause.TheVariants.{KeyKind};
-ghost use Rattle.tb_chunk.specs.Col.{values};
 ghost use Rattle.tb_frame.specs.Table.{plain, table_of};
 ghost use Rattle.tb_frame.specs.Join.{named};
 ghost use Rattle.tb_frame.specs.Refusal.{first_unknown};
-ghost use Rattle.tb_join.specs.KeyRows.{value_pairs};
 
-use crate::typed_keys::chunk_pairs;
 use std::alloc::Global;
 use tb_frame::DataFrame;
 use tb_store::Column;
-use tb_value::{ComputeCause, InvalidCause, JoinPair, PlSmallStr, PolarsError, PolarsResult};
+use tb_value::{ComputeCause, InvalidCause, PlSmallStr, PolarsError, PolarsResult};
 
 // The place of the one key of each side.
 const ONLY_PLACE: usize = 0;
@@ -52,23 +49,4 @@ pub(crate) fn check_key_kind(key: &Column) -> PolarsResult<()>
         return Err(PolarsError::InvalidOperation(InvalidCause::KeyKind { place: ONLY_PLACE }));
     }
     Ok(())
-}
-
-/// The pairs of rows whose keys are there and equal, by left row and then right row. A left row without a match
-/// stands alone in its place where such rows are kept. Refuses more than `MAX_ROWS` pairs (TooManyRows).
-pub(crate) fn key_pairs(
-    alloc: Global,
-    left: &Column,
-    right: &Column,
-    keep: bool,
-) -> PolarsResult<Vec<JoinPair>>
-    requires key { is_key left.now.kind ≡ true }
-    requires same { left.now.kind ≡ right.now.kind }
-    ensures settles { Settles result (when (nat_lt 4294967294 (length (value_pairs keep (values left.now) (values right.now)))) (ComputeError TooManyRows)) }
-    ensures pairs { IfOk result (λ v. v.items ≡ value_pairs keep (values left.now) (values right.now)) }
-{
-    let left = left.as_materialized_series();
-    let right = right.as_materialized_series();
-    let _lengths = (left.len(), right.len());
-    chunk_pairs(alloc, left.chunks(), right.chunks(), keep)
 }

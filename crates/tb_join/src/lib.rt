@@ -5,7 +5,6 @@ mod frame_join;
 mod general;
 mod keys;
 pub mod laws;
-mod matching;
-mod typed_keys;
+mod pairs;
 
 pub use frame_join::DataFrameJoinOps;

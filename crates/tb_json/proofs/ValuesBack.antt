@@ -7,7 +7,7 @@ use Rattle.std.specs.Str.Parse.{AllDigits, digits_value}
 use Rattle.std.proofs.lemmas.Fmt.{decimal_is_IsNumeral_wide}
 use Rattle.std.proofs.lemmas.Int.{ints}
 use Rattle.std.proofs.lemmas.Str.Parse.{digit_from_value}
-use Rattle.hex.specs.Hex.{IsBytes, decode_of, encode_lower}
+use Rattle.hex.specs.Hex.{decode_of, encode_lower}
 use Rattle.hex.proofs.HexLemmas.{decode_of-encode_lower}
 use Rattle.serde_json.specs.Data.{Num, unsigned, negative, float, Data, null, boolean, number, string, array, object, Items, no_items, item}
 use Rattle.serde_json.specs.Find.{of_integer}
@@ -15,9 +15,8 @@ use Rattle.tb_value.specs.Datum as value
 use Rattle.tb_value.specs.Datum.{Datum}
 use Rattle.tb_value.specs.Kind as kind
 use Rattle.tb_value.specs.Kind.{Kind, Parts}
-use Rattle.tb_value.specs.Typed.{HasType, AreOf, AreEachOf, IsListOf, IsStructOf}
+use Rattle.tb_value.specs.Typed.{HasType, AreOf, AreEachOf, IsBytes, IsListOf, IsStructOf}
 use Rattle.tb_json.specs.Text.{inner_kind, fields_in, number_data, value_data, items_data, fields_data}
-use Rattle.tb_json.specs.Writable.{HasBytes, HaveBytes}
 
 -- ---- the value that a JSON value was written for
 
@@ -109,29 +108,29 @@ struct_of (kind.struct ps) P h = (refl, h)
 struct_of _ P h = absurd h
 
 mutual
-  pub value_back-value_data : (t : Kind) (v : Datum) → HasType t v → HasBytes v → value_back t (value_data t v) ≡ v
-  value_back-value_data t value.null h k = refl
-  value_back-value_data t (value.boolean b) h k = refl
-  value_back-value_data t (value.int z) h k = number_is t z h
-  value_back-value_data t (value.string s) h k = string_is t s h.0
-  value_back-value_data t (value.binary s) h k = binary_is t s h.0 k
-  value_back-value_data t (value.list vs) h k =
+  pub value_back-value_data : (t : Kind) (v : Datum) → HasType t v → value_back t (value_data t v) ≡ v
+  value_back-value_data t value.null h = refl
+  value_back-value_data t (value.boolean b) h = refl
+  value_back-value_data t (value.int z) h = number_is t z h
+  value_back-value_data t (value.string s) h = string_is t s h.0
+  value_back-value_data t (value.binary s) h = binary_is t s h.0 h.2
+  value_back-value_data t (value.list vs) h =
       let p = list_of t (λ u. AreOf u vs) h in
       ap (λ b. if_list b (items_back (inner_kind t) (items_data (inner_kind t) vs)) (fields_back (fields_in t) (items_data (inner_kind t) vs))) p.0
-      ∙ ap value.list (items_are (inner_kind t) vs p.1 k)
-  value_back-value_data t (value.struct vs) h k =
+      ∙ ap value.list (items_are (inner_kind t) vs p.1)
+  value_back-value_data t (value.struct vs) h =
       let p = struct_of t (λ ps. AreEachOf ps vs) h in
       ap (λ b. if_list b (items_back (inner_kind t) (fields_data (fields_in t) vs)) (fields_back (fields_in t) (fields_data (fields_in t) vs))) p.0
-      ∙ ap value.struct (fields_are (fields_in t) vs p.1 k)
+      ∙ ap value.struct (fields_are (fields_in t) vs p.1)
 
-  items_are : (t : Kind) (vs : value.Items) → AreOf t vs → HaveBytes vs → items_back t (items_data t vs) ≡ vs
-  items_are t value.end h k = refl
-  items_are t (value.more v vs) h k =
-      ap (λ w. value.more w (items_back t (items_data t vs))) (value_back-value_data t v h.0 k.0) ∙ ap (value.more v) (items_are t vs h.1 k.1)
+  items_are : (t : Kind) (vs : value.Items) → AreOf t vs → items_back t (items_data t vs) ≡ vs
+  items_are t value.end h = refl
+  items_are t (value.more v vs) h =
+      ap (λ w. value.more w (items_back t (items_data t vs))) (value_back-value_data t v h.0) ∙ ap (value.more v) (items_are t vs h.1)
 
-  fields_are : (ps : Parts) (vs : value.Items) → AreEachOf ps vs → HaveBytes vs → fields_back ps (fields_data ps vs) ≡ vs
-  fields_are kind.end value.end h k = refl
-  fields_are kind.end (value.more v vs) h k = absurd h
-  fields_are (kind.part n t ps) value.end h k = absurd h
-  fields_are (kind.part n t ps) (value.more v vs) h k =
-      ap (λ w. value.more w (fields_back ps (fields_data ps vs))) (value_back-value_data t v h.0 k.0) ∙ ap (value.more v) (fields_are ps vs h.1 k.1)
+  fields_are : (ps : Parts) (vs : value.Items) → AreEachOf ps vs → fields_back ps (fields_data ps vs) ≡ vs
+  fields_are kind.end value.end h = refl
+  fields_are kind.end (value.more v vs) h = absurd h
+  fields_are (kind.part n t ps) value.end h = absurd h
+  fields_are (kind.part n t ps) (value.more v vs) h =
+      ap (λ w. value.more w (fields_back ps (fields_data ps vs))) (value_back-value_data t v h.0) ∙ ap (value.more v) (fields_are ps vs h.1)

@@ -4,6 +4,7 @@ ghost use Rattle.std.specs.List.{All, list_all};
 ghost use Rattle.serde_json.specs.Find.{as_null};
 ghost use Rattle.serde_json.specs.View.{view};
 ghost use Rattle.tb_value.specs.Datum.{null, string, binary, list, struct, items_of};
+ghost use Rattle.tb_value.specs.Kind.{Kind};
 ghost use Rattle.tb_value.specs.Kind as kind;
 ghost use Rattle.tb_value.specs.SeeKind.{kind_of};
 ghost use Rattle.tb_value.specs.Typed.{HasType};
@@ -18,7 +19,7 @@ use crate::read_cell::ReadCell;
 use serde_json::Value;
 use std::alloc::Global;
 use tb_store::{
-    BinaryChunk, Cells, Chunks, FieldValues, ListChunk, Physical, StringChunk, StructChunk,
+    BinaryChunk, Cells, Chunk, Chunks, FieldValues, ListChunk, Physical, StringChunk, StructChunk,
     physical_of,
 };
 use tb_value::{Bytes, DataType, OutOfMemory, PlSmallStr, Values};
@@ -63,77 +64,6 @@ fn cells_of<N: ReadCell>(
     Ok(Some(Cells { cells }))
 }
 
-fn chunks_of<N: ReadCell>(
-    alloc: Global,
-    dtype: &DataType,
-    written: &Vec<&Vec<Value>>,
-) -> Result<Option<Vec<Cells<N>>>, OutOfMemory>
-    requires { physical (kind_of dtype.now) ≡ N.stored }
-    ensures chunks { IfOk result (λ o. option_map (λ v. map (λ c. map (or_null N.shows) c.cells.items) v.items) o
-        ≡ each (each (cell_in (kind_of dtype.now))) (map (λ v. map view v.now.items) written.now.items)) }
-    ensures typed { IfOk result (λ o. IfSome o
-        (λ v. IsTyped (kind_of dtype.now) (map (λ c. map (or_null N.shows) c.cells.items) v.items))) }
-{
-    let mut chunks = Vec::with_capacity(alloc, written.len())?;
-    for items in written {
-        let Some(cells) = cells_of(alloc, dtype, *items)? else {
-            return Ok(None);
-        };
-        chunks.push(cells)?;
-    }
-    Ok(Some(chunks))
-}
-
-fn text_chunks(
-    alloc: Global,
-    chunks: Vec<Cells<PlSmallStr>>,
-) -> Result<Vec<StringChunk>, OutOfMemory>
-    ensures { IfOk result (λ v. map (λ c. map (or_null string) c.inner.cells.items) v.items
-        ≡ map (λ c. map (or_null string) c.cells.items) chunks.items) }
-{
-    let mut texts = Vec::with_capacity(alloc, chunks.len())?;
-    for cells in chunks {
-        texts.push(StringChunk::from_cells(cells))?;
-    }
-    Ok(texts)
-}
-
-fn binary_chunks(alloc: Global, chunks: Vec<Cells<Bytes>>) -> Result<Vec<BinaryChunk>, OutOfMemory>
-    ensures { IfOk result (λ v. map (λ c. map (or_null binary) c.inner.cells.items) v.items
-        ≡ map (λ c. map (or_null binary) c.cells.items) chunks.items) }
-{
-    let mut binaries = Vec::with_capacity(alloc, chunks.len())?;
-    for cells in chunks {
-        binaries.push(BinaryChunk { inner: cells })?;
-    }
-    Ok(binaries)
-}
-
-fn list_chunks(alloc: Global, chunks: Vec<Cells<Values>>) -> Result<Vec<ListChunk>, OutOfMemory>
-    ensures { IfOk result (λ v. map (λ c. map (or_null (λ vs. list (items_of vs))) c.inner.cells.items) v.items
-        ≡ map (λ c. map (or_null (λ vs. list (items_of vs))) c.cells.items) chunks.items) }
-{
-    let mut lists = Vec::with_capacity(alloc, chunks.len())?;
-    for cells in chunks {
-        lists.push(ListChunk { inner: cells })?;
-    }
-    Ok(lists)
-}
-
-fn struct_chunks(
-    alloc: Global,
-    chunks: Vec<Cells<FieldValues>>,
-) -> Result<Vec<StructChunk>, OutOfMemory>
-    ensures { IfOk result (λ v. map (λ c. map (or_null (λ s. struct (items_of s.values))) c.inner.cells.items) v.items
-        ≡ map (λ c. map (or_null (λ s. struct (items_of s.values))) c.cells.items) chunks.items) }
-{
-    let mut structs = Vec::with_capacity(alloc, chunks.len())?;
-    for cells in chunks {
-        structs.push(StructChunk { inner: cells })?;
-    }
-    Ok(structs)
-}
-
 fn are_null(items: &[Value]) -> bool
     ensures { result ≡ list_all (λ v. is_some (as_null (view v))) items.now }
 {
@@ -151,98 +81,126 @@ fn nulls_of(items: &Vec<Value>) -> Option<usize>
     }
 }
 
-fn null_chunks(alloc: Global, written: &Vec<&Vec<Value>>) -> Result<Option<Vec<usize>>, OutOfMemory>
-    ensures { IfOk result (λ o. option_map (λ v. map (λ n. replicate n null) v.items) o
-        ≡ each (each (cell_in kind.null)) (map (λ v. map view v.now.items) written.now.items)) }
+/// A chunk that is made of cells of values that own memory.
+trait Wrapped: Chunk {
+    type Item: ReadCell;
+
+    /// The chunk of these cells. It takes no memory.
+    fn from_cells(cells: Cells<Self::Item>) -> Self
+        ensures { Self.shown result ≡ map (or_null Self.Item.shows) cells.cells.items };
+}
+
+impl Wrapped for StringChunk {
+    type Item = PlSmallStr;
+
+    fn from_cells(cells: Cells<PlSmallStr>) -> StringChunk
+        ensures { map (or_null string) result.inner.cells.items ≡ map (or_null string) cells.cells.items }
+    {
+        StringChunk::from_cells(cells)
+    }
+}
+
+impl Wrapped for BinaryChunk {
+    type Item = Bytes;
+
+    fn from_cells(cells: Cells<Bytes>) -> BinaryChunk
+        ensures { map (or_null binary) result.inner.cells.items ≡ map (or_null binary) cells.cells.items }
+    {
+        BinaryChunk { inner: cells }
+    }
+}
+
+impl Wrapped for ListChunk {
+    type Item = Values;
+
+    fn from_cells(cells: Cells<Values>) -> ListChunk
+        ensures { map (or_null (λ vs. list (items_of vs))) result.inner.cells.items
+            ≡ map (or_null (λ vs. list (items_of vs))) cells.cells.items }
+    {
+        ListChunk { inner: cells }
+    }
+}
+
+impl Wrapped for StructChunk {
+    type Item = FieldValues;
+
+    fn from_cells(cells: Cells<FieldValues>) -> StructChunk
+        ensures { map (or_null (λ s. struct (items_of s.values))) result.inner.cells.items
+            ≡ map (or_null (λ s. struct (items_of s.values))) cells.cells.items }
+    {
+        StructChunk { inner: cells }
+    }
+}
+
+/// A chunk of a column, read from JSON. `stored` is the type that its values are stored as.
+trait ReadChunk: Chunk {
+    ghost stored: { Kind };
+
+    /// The chunk of these values, or None where one of them is none of the type.
+    fn read(
+        alloc: Global,
+        dtype: &DataType,
+        items: &Vec<Value>,
+    ) -> Result<Option<Self>, OutOfMemory>
+        requires { physical (kind_of dtype.now) ≡ stored }
+        ensures values { IfOk result (λ o. option_map Self.shown o
+            ≡ each (cell_in (kind_of dtype.now)) (map view items.now.items)) }
+        ensures typed { IfOk result (λ o. IfSome o (λ c. All (HasType (kind_of dtype.now)) (Self.shown c))) };
+}
+
+impl<N: ReadCell> ReadChunk for Cells<N> {
+    ghost stored = { N.stored };
+
+    fn read(
+        alloc: Global,
+        dtype: &DataType,
+        items: &Vec<Value>,
+    ) -> Result<Option<Cells<N>>, OutOfMemory> {
+        cells_of(alloc, dtype, items)
+    }
+}
+
+impl<W: Wrapped> ReadChunk for W {
+    ghost stored = { W.Item.stored };
+
+    fn read(alloc: Global, dtype: &DataType, items: &Vec<Value>) -> Result<Option<W>, OutOfMemory> {
+        match cells_of(alloc, dtype, items)? {
+            Some(cells) => Ok(Some(W::from_cells(cells))),
+            None => Ok(None),
+        }
+    }
+}
+
+impl ReadChunk for usize {
+    ghost stored = { kind.null };
+
+    fn read(
+        alloc: Global,
+        dtype: &DataType,
+        items: &Vec<Value>,
+    ) -> Result<Option<usize>, OutOfMemory> {
+        Ok(nulls_of(items))
+    }
+}
+
+fn chunks_of<C: ReadChunk>(
+    alloc: Global,
+    dtype: &DataType,
+    written: &Vec<&Vec<Value>>,
+) -> Result<Option<Vec<C>>, OutOfMemory>
+    requires { physical (kind_of dtype.now) ≡ C.stored }
+    ensures chunks { IfOk result (λ o. option_map (λ v. map C.shown v.items) o
+        ≡ each (each (cell_in (kind_of dtype.now))) (map (λ v. map view v.now.items) written.now.items)) }
+    ensures typed { IfOk result (λ o. IfSome o (λ v. IsTyped (kind_of dtype.now) (map C.shown v.items))) }
 {
     let mut chunks = Vec::with_capacity(alloc, written.len())?;
     for items in written {
-        let Some(nulls) = nulls_of(*items) else {
+        let Some(chunk) = C::read(alloc, dtype, *items)? else {
             return Ok(None);
         };
-        chunks.push(nulls)?;
+        chunks.push(chunk)?;
     }
     Ok(Some(chunks))
-}
-
-fn null_arrays(alloc: Global, written: &Vec<&Vec<Value>>) -> Result<Option<Chunks>, OutOfMemory>
-    ensures chunks { IfOk result (λ o. option_map chunk_lists o
-        ≡ each (each (cell_in kind.null)) (map (λ v. map view v.now.items) written.now.items)) }
-    ensures typed { IfOk result (λ o. IfSome o (λ c. IsTyped kind.null (chunk_lists c))) }
-    ensures stored { IfOk result (λ o. IfSome o (λ c. storage c ≡ kind.null)) }
-{
-    match null_chunks(alloc, written)? {
-        Some(chunks) => Ok(Some(Chunks::Null(chunks))),
-        None => Ok(None),
-    }
-}
-
-fn string_arrays(
-    alloc: Global,
-    dtype: &DataType,
-    written: &Vec<&Vec<Value>>,
-) -> Result<Option<Chunks>, OutOfMemory>
-    requires { physical (kind_of dtype.now) ≡ kind.string }
-    ensures chunks { IfOk result (λ o. option_map chunk_lists o
-        ≡ each (each (cell_in (kind_of dtype.now))) (map (λ v. map view v.now.items) written.now.items)) }
-    ensures typed { IfOk result (λ o. IfSome o (λ c. IsTyped (kind_of dtype.now) (chunk_lists c))) }
-    ensures stored { IfOk result (λ o. IfSome o (λ c. storage c ≡ kind.string)) }
-{
-    match chunks_of(alloc, dtype, written)? {
-        Some(chunks) => Ok(Some(Chunks::StringType(text_chunks(alloc, chunks)?))),
-        None => Ok(None),
-    }
-}
-
-fn binary_arrays(
-    alloc: Global,
-    dtype: &DataType,
-    written: &Vec<&Vec<Value>>,
-) -> Result<Option<Chunks>, OutOfMemory>
-    requires { physical (kind_of dtype.now) ≡ kind.binary }
-    ensures chunks { IfOk result (λ o. option_map chunk_lists o
-        ≡ each (each (cell_in (kind_of dtype.now))) (map (λ v. map view v.now.items) written.now.items)) }
-    ensures typed { IfOk result (λ o. IfSome o (λ c. IsTyped (kind_of dtype.now) (chunk_lists c))) }
-    ensures stored { IfOk result (λ o. IfSome o (λ c. storage c ≡ kind.binary)) }
-{
-    match chunks_of(alloc, dtype, written)? {
-        Some(chunks) => Ok(Some(Chunks::BinaryType(binary_chunks(alloc, chunks)?))),
-        None => Ok(None),
-    }
-}
-
-fn list_arrays(
-    alloc: Global,
-    dtype: &DataType,
-    written: &Vec<&Vec<Value>>,
-) -> Result<Option<Chunks>, OutOfMemory>
-    requires { physical (kind_of dtype.now) ≡ kind.list kind.null }
-    ensures chunks { IfOk result (λ o. option_map chunk_lists o
-        ≡ each (each (cell_in (kind_of dtype.now))) (map (λ v. map view v.now.items) written.now.items)) }
-    ensures typed { IfOk result (λ o. IfSome o (λ c. IsTyped (kind_of dtype.now) (chunk_lists c))) }
-    ensures stored { IfOk result (λ o. IfSome o (λ c. storage c ≡ kind.list kind.null)) }
-{
-    match chunks_of(alloc, dtype, written)? {
-        Some(chunks) => Ok(Some(Chunks::ListType(list_chunks(alloc, chunks)?))),
-        None => Ok(None),
-    }
-}
-
-fn struct_arrays(
-    alloc: Global,
-    dtype: &DataType,
-    written: &Vec<&Vec<Value>>,
-) -> Result<Option<Chunks>, OutOfMemory>
-    requires { physical (kind_of dtype.now) ≡ kind.struct kind.end }
-    ensures chunks { IfOk result (λ o. option_map chunk_lists o
-        ≡ each (each (cell_in (kind_of dtype.now))) (map (λ v. map view v.now.items) written.now.items)) }
-    ensures typed { IfOk result (λ o. IfSome o (λ c. IsTyped (kind_of dtype.now) (chunk_lists c))) }
-    ensures stored { IfOk result (λ o. IfSome o (λ c. storage c ≡ kind.struct kind.end)) }
-{
-    match chunks_of(alloc, dtype, written)? {
-        Some(chunks) => Ok(Some(Chunks::StructType(struct_chunks(alloc, chunks)?))),
-        None => Ok(None),
-    }
 }
 
 /// The chunks of a column, or None where a value is none of the type.
@@ -257,7 +215,7 @@ pub fn arrays_in(
     ensures stored { IfOk result (λ o. IfSome o (λ c. storage c ≡ physical (kind_of dtype.now))) }
 {
     match physical_of(dtype) {
-        Physical::Null => null_arrays(alloc, written),
+        Physical::Null => Ok(chunks_of(alloc, dtype, written)?.map(Chunks::Null)),
         Physical::Boolean => Ok(chunks_of(alloc, dtype, written)?.map(Chunks::BooleanType)),
         Physical::Int8 => Ok(chunks_of(alloc, dtype, written)?.map(Chunks::Int8Type)),
         Physical::Int16 => Ok(chunks_of(alloc, dtype, written)?.map(Chunks::Int16Type)),
@@ -268,9 +226,9 @@ pub fn arrays_in(
         Physical::UInt16 => Ok(chunks_of(alloc, dtype, written)?.map(Chunks::UInt16Type)),
         Physical::UInt32 => Ok(chunks_of(alloc, dtype, written)?.map(Chunks::UInt32Type)),
         Physical::UInt64 => Ok(chunks_of(alloc, dtype, written)?.map(Chunks::UInt64Type)),
-        Physical::String => string_arrays(alloc, dtype, written),
-        Physical::Binary => binary_arrays(alloc, dtype, written),
-        Physical::List => list_arrays(alloc, dtype, written),
-        Physical::Struct => struct_arrays(alloc, dtype, written),
+        Physical::String => Ok(chunks_of(alloc, dtype, written)?.map(Chunks::StringType)),
+        Physical::Binary => Ok(chunks_of(alloc, dtype, written)?.map(Chunks::BinaryType)),
+        Physical::List => Ok(chunks_of(alloc, dtype, written)?.map(Chunks::ListType)),
+        Physical::Struct => Ok(chunks_of(alloc, dtype, written)?.map(Chunks::StructType)),
     }
 }

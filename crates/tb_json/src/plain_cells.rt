@@ -58,19 +58,27 @@ fn decoded(alloc: Global, digits: &str) -> Result<Option<Vec<u8>>, OutOfMemory>
     }
 }
 
+// The bytes, or None where there are too many for a value.
+fn short(bytes: Vec<u8>) -> Result<Option<Bytes>, OutOfMemory>
+    ensures value { IfOk result (λ o. o ≡ short bytes.items) }
+    ensures typed { IfOk result (λ o. IfSome o (λ s. HasType kind.binary (binary s))) }
+{
+    if bytes.len() < TOO_LONG {
+        Ok(Some(Bytes::from_vec(bytes)?))
+    } else {
+        Ok(None)
+    }
+}
+
 /// The bytes that lower-case hexadecimal digits stand for, or None where the text is none of those
 /// or there are too many bytes for a value.
 pub(crate) fn short_bytes(alloc: Global, digits: &str) -> Result<Option<Bytes>, OutOfMemory>
     ensures value { IfOk result (λ o. o ≡ option_and_then short (bytes_in digits.now)) }
     ensures typed { IfOk result (λ o. IfSome o (λ s. HasType kind.binary (binary s))) }
 {
-    let Some(bytes) = decoded(alloc, digits)? else {
-        return Ok(None);
-    };
-    if bytes.len() < TOO_LONG {
-        Ok(Some(Bytes::from_vec(bytes)?))
-    } else {
-        Ok(None)
+    match decoded(alloc, digits)? {
+        Some(bytes) => short(bytes),
+        None => Ok(None),
     }
 }
 

@@ -53,10 +53,7 @@ impl ReadCell for i8 {
     ghost stored = { kind.int8 };
 
     fn read(alloc: Global, dtype: &DataType, value: &Value) -> Result<Option<i8>, OutOfMemory> {
-        match whole(value) {
-            Some(integer) => Ok(i8::try_from(integer).ok()),
-            None => Ok(None),
-        }
+        Ok(whole(value).and_then(|integer| i8::try_from(integer).ok()))
     }
 }
 
@@ -64,10 +61,7 @@ impl ReadCell for i16 {
     ghost stored = { kind.int16 };
 
     fn read(alloc: Global, dtype: &DataType, value: &Value) -> Result<Option<i16>, OutOfMemory> {
-        match whole(value) {
-            Some(integer) => Ok(i16::try_from(integer).ok()),
-            None => Ok(None),
-        }
+        Ok(whole(value).and_then(|integer| i16::try_from(integer).ok()))
     }
 }
 
@@ -75,10 +69,7 @@ impl ReadCell for i32 {
     ghost stored = { kind.int32 };
 
     fn read(alloc: Global, dtype: &DataType, value: &Value) -> Result<Option<i32>, OutOfMemory> {
-        match whole(value) {
-            Some(integer) => Ok(i32::try_from(integer).ok()),
-            None => Ok(None),
-        }
+        Ok(whole(value).and_then(|integer| i32::try_from(integer).ok()))
     }
 }
 
@@ -86,10 +77,7 @@ impl ReadCell for i64 {
     ghost stored = { kind.int64 };
 
     fn read(alloc: Global, dtype: &DataType, value: &Value) -> Result<Option<i64>, OutOfMemory> {
-        match whole(value) {
-            Some(integer) => Ok(i64::try_from(integer).ok()),
-            None => Ok(None),
-        }
+        Ok(whole(value).and_then(|integer| i64::try_from(integer).ok()))
     }
 }
 
@@ -97,10 +85,7 @@ impl ReadCell for u8 {
     ghost stored = { kind.uint8 };
 
     fn read(alloc: Global, dtype: &DataType, value: &Value) -> Result<Option<u8>, OutOfMemory> {
-        match whole(value) {
-            Some(integer) => Ok(u8::try_from(integer).ok()),
-            None => Ok(None),
-        }
+        Ok(whole(value).and_then(|integer| u8::try_from(integer).ok()))
     }
 }
 
@@ -108,10 +93,7 @@ impl ReadCell for u16 {
     ghost stored = { kind.uint16 };
 
     fn read(alloc: Global, dtype: &DataType, value: &Value) -> Result<Option<u16>, OutOfMemory> {
-        match whole(value) {
-            Some(integer) => Ok(u16::try_from(integer).ok()),
-            None => Ok(None),
-        }
+        Ok(whole(value).and_then(|integer| u16::try_from(integer).ok()))
     }
 }
 
@@ -119,10 +101,7 @@ impl ReadCell for u32 {
     ghost stored = { kind.uint32 };
 
     fn read(alloc: Global, dtype: &DataType, value: &Value) -> Result<Option<u32>, OutOfMemory> {
-        match whole(value) {
-            Some(integer) => Ok(u32::try_from(integer).ok()),
-            None => Ok(None),
-        }
+        Ok(whole(value).and_then(|integer| u32::try_from(integer).ok()))
     }
 }
 
@@ -130,10 +109,7 @@ impl ReadCell for u64 {
     ghost stored = { kind.uint64 };
 
     fn read(alloc: Global, dtype: &DataType, value: &Value) -> Result<Option<u64>, OutOfMemory> {
-        match whole(value) {
-            Some(integer) => Ok(u64::try_from(integer).ok()),
-            None => Ok(None),
-        }
+        Ok(whole(value).and_then(|integer| u64::try_from(integer).ok()))
     }
 }
 
@@ -141,10 +117,7 @@ impl ReadCell for i128 {
     ghost stored = { kind.int128 };
 
     fn read(alloc: Global, dtype: &DataType, value: &Value) -> Result<Option<i128>, OutOfMemory> {
-        match value.as_str() {
-            Some(text) => Ok(wide_in(text)),
-            None => Ok(None),
-        }
+        Ok(value.as_str().and_then(|text| wide_in(text)))
     }
 }
 

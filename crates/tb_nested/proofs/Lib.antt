@@ -1,3 +1,4 @@
 pub mod KeyFields
+pub mod KeysNamed
 pub mod AnswerTables
-pub mod Answering
+pub mod Refusing

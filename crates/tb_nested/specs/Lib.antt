@@ -1,3 +1,6 @@
-pub mod KeyTests
-pub mod AnswerColumns
-pub mod Requests
+pub mod Rows
+pub mod Asked
+pub mod Causes
+pub mod Met
+pub mod Merging
+pub mod Twins

@@ -1,13 +1,13 @@
 //! Whether the keys of two rows match.
-ghost use Rattle.std.specs.Prelude.{◌≡◌, ◌≤◌, All, length};
+ghost use Rattle.std.specs.Prelude.{◌≡◌, ◌<◌};
 ghost use Rattle.tb_value.specs.Datum.{is_null};
 ghost use Rattle.tb_value.specs.See.{lent};
-ghost use Rattle.tb_frame.specs.Join.{agrees};
-ghost use Rattle.tb_frame.specs.Table.{table_of};
-ghost use Rattle.tb_nested.specs.KeyTests.{keys_match, HasRow};
+ghost use Rattle.tb_frame.specs.Join.{agrees, matches};
+ghost use Rattle.tb_frame.specs.Table.{table_of, height};
+ghost use Rattle.tb_nested.specs.Asked.{asked};
 
+use crate::request::LentRequest;
 use tb_frame::same_value;
-use tb_store::Column;
 use tb_value::ValueRef;
 
 /// Whether the value is absent.
@@ -28,23 +28,16 @@ fn agree(null_matches: bool, first: ValueRef<'_>, second: ValueRef<'_>) -> bool
     }
 }
 
-/// Whether the keys of a left row and a right row agree at each of the first places.
-pub(crate) fn rows_match(
-    left: &[Column],
-    right: &[Column],
-    places: usize,
-    null_matches: bool,
-    i: usize,
-    j: usize,
-) -> bool
-    requires left { All (HasRow i) left.now }
-    requires right { All (HasRow j) right.now }
-    requires left_places { places ≤ length left.now }
-    requires right_places { places ≤ length right.now }
-    ensures { result ≡ keys_match (table_of left.now) (table_of right.now) places null_matches i j }
+/// Whether a left row and a right row match.
+pub(crate) fn rows_match(request: &LentRequest<'_>, i: usize, j: usize) -> bool
+    requires left { i < height (table_of request.now.left.now) }
+    requires right { j < height (table_of request.now.right.now) }
+    ensures { result ≡ matches (asked request.now) i j }
 {
-    for p in 0..places {
-        if !agree(null_matches, left[p].get(i), right[p].get(j)) {
+    for p in 0..request.places() {
+        let left = request.left_keys[p].get(i);
+        let right = request.right_keys[p].get(j);
+        if !agree(request.args.join_nulls, left, right) {
             return false;
         }
     }

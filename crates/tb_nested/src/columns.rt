@@ -1,85 +1,144 @@
-//! The columns of an answer, and their names.
-ghost use Rattle.std.specs.Prelude.{◌≡◌, ◌≤◌, ◌++◌, All, IfOk, OnOk, length, map, option_map, Some, None, List};
-ghost use Rattle.tb_value.specs.Names.{Name};
+//! The columns of an answer.
+ghost use Rattle.std.specs.Prelude.{◌≡◌, ◌≤◌, All, IfOk, None, length, map, position};
+ghost use Rattle.std.specs.Option.{ForSome, option_copied};
+ghost use Rattle.tb_value.specs.Names.{same_name};
 ghost use Rattle.tb_value.specs.Refusals.{Settles};
-ghost use Rattle.tb_value.specs.declared.error.PolarsError.TheVariants.{Duplicate};
-ghost use Rattle.tb_value.specs.declared.index.JoinPair.{JoinPair};
 ghost use Rattle.tb_chunk.specs.Col.{Col, values};
 ghost use Rattle.tb_chunk.specs.Rows.{IsRowOf};
-ghost use Rattle.tb_frame.specs.Answer.{IsPairOf, fill};
-ghost use Rattle.tb_frame.specs.Join.{Out, is_among, right_name};
-ghost use Rattle.tb_frame.specs.NameSets.{has_name};
-ghost use Rattle.tb_frame.specs.Refusal.{first_repeated};
-ghost use Rattle.tb_frame.specs.Table.{table_of, height, names_of};
-ghost use Rattle.tb_nested.specs.AnswerColumns.{answer_outs, suffix_in, gone_in};
+ghost use Rattle.tb_frame.specs.Answer.{IsListed, IsPairOf, fill, gone_left};
+ghost use Rattle.tb_frame.specs.Frame.{without_names};
+ghost use Rattle.tb_frame.specs.Join.{IsAnswer, by_names, coalesce, coalesces, listing, out};
+ghost use Rattle.tb_frame.specs.Refusal.{join_valid};
+ghost use Rattle.tb_frame.specs.Table.{table_of, height};
+ghost use Rattle.tb_nested.specs.Asked.{asked};
+ghost use Rattle.tb_nested.specs.Merging.{merges, key_merged, left_column};
 
+use crate::request::LentRequest;
 use std::alloc::Global;
 use tb_frame::{
-    DataFrame, JoinArgs, check_distinct, column_names, gone_right, left_rows, push_right,
-    right_rows, suffix_of, take_opt_columns,
+    DataFrame, JoinArgs, JoinType, coalesce_columns, gone_left, gone_right, left_rows, push_right,
+    right_rows, right_side, suffix_of,
 };
 use tb_store::Column;
-use tb_value::{JoinPair, OutOfMemory, PlSmallStr, PolarsResult};
+use tb_value::{JoinPair, NullableIdxSize, OutOfMemory, PlSmallStr, PolarsResult};
 
-// The left columns and then the right ones over the pairs, but for the right ones of the names that go.
+// The left columns that stand in the answer.
+fn kept_left(alloc: Global, request: &LentRequest<'_>) -> Result<DataFrame, OutOfMemory>
+    ensures { IfOk result (λ t. t ≡ without_names (gone_left request.now.args.now.how (coalesces (asked request.now)) request.now.left_on.now) request.now.left.now) }
+{
+    request
+        .left
+        .drop_many(alloc, gone_left(request.args, request.left_on))
+}
+
+fn merges_keys(args: &JoinArgs) -> bool
+    ensures { result ≡ merges args.now.how (coalesce args.now.coalesce args.now.how) }
+{
+    args.how == JoinType::Full && args.should_coalesce()
+}
+
+fn place_of(names: &[PlSmallStr], name: &PlSmallStr) -> Option<usize>
+    ensures { result ≡ position (same_name name.now) names.now }
+{
+    names
+        .iter()
+        .position(|other| name.as_str() == other.as_str())
+}
+
+// The right key that a left column of this name is merged with: that of its place, in a coalesced Full join.
+fn merged_key<'a>(request: &LentRequest<'a>, name: &PlSmallStr) -> Option<&'a Column>
+    ensures { option_copied result ≡ key_merged request.now name.now }
+{
+    if !merges_keys(request.args) {
+        return None;
+    }
+    let place = place_of(request.left_on, name)?;
+    request.right_keys.get(place)
+}
+
+// A left column with its rows, and with the values of a right key where it has none.
+fn left_column(
+    alloc: Global,
+    column: &Column,
+    key: Option<&Column>,
+    left_rows: &[NullableIdxSize],
+    right_rows: &[NullableIdxSize],
+) -> Result<Column, OutOfMemory>
+    requires left_rows { All (IsRowOf (length (values column.now))) left_rows.now }
+    requires right_rows { ForSome (option_copied key) (λ k. All (IsRowOf (length (values k))) right_rows.now) }
+    requires level { length left_rows.now ≡ length right_rows.now }
+    requires few { length left_rows.now ≤ 4294967294 }
+    requires one_type { ForSome (option_copied key) (λ k. column.now.kind ≡ k.kind) }
+    ensures { IfOk result (λ c. c ≡ left_column left_rows.now right_rows.now (option_copied key.entry) column.now) }
+{
+    let column = column.take_opt(alloc, left_rows)?;
+    match key {
+        None => Ok(column),
+        Some(key) => coalesce_columns(alloc, &column, &key.take_opt(alloc, right_rows)?),
+    }
+}
+
+fn left_columns(
+    alloc: Global,
+    request: &LentRequest<'_>,
+    columns: &[Column],
+    left_rows: &[NullableIdxSize],
+    right_rows: &[NullableIdxSize],
+) -> Result<Vec<Column>, OutOfMemory>
+    requires left_rows { All (λ (c : Col). All (IsRowOf (length (values c))) left_rows.now) columns.now }
+    requires right_rows { All (λ (c : Col). All (IsRowOf (length (values c))) right_rows.now) request.now.right_keys.now }
+    requires level { length left_rows.now ≡ length right_rows.now }
+    requires few { length left_rows.now ≤ 4294967294 }
+    requires types { All (λ (c : Col). ForSome (key_merged request.now c.name) (λ k. c.kind ≡ k.kind)) columns.now }
+    ensures { IfOk result (λ v. v.items ≡ map (λ (c : Col). left_column left_rows.now right_rows.now (key_merged request.now c.name) c) columns.now) }
+{
+    let mut made = Vec::with_capacity(alloc, columns.len())?;
+    for column in columns {
+        let key = merged_key(request, column.name());
+        made.push(left_column(alloc, column, key, left_rows, right_rows)?)?;
+    }
+    Ok(made)
+}
+
 fn answer_columns(
     alloc: Global,
-    left: &DataFrame,
-    right: &DataFrame,
-    gone: &[PlSmallStr],
-    suffix: &str,
+    request: &LentRequest<'_>,
     pairs: &[JoinPair],
 ) -> Result<Vec<Column>, OutOfMemory>
-    requires pairs { All (IsPairOf (height (table_of left.now)) (height (table_of right.now))) pairs.now }
+    requires named { asked request.now ≡ by_names (table_of request.now.left.now) (table_of request.now.right.now) request.now.left_on.now request.now.right_on.now request.now.args.now }
+    requires valid { join_valid (asked request.now) }
+    requires pairs { All (IsPairOf (height (table_of request.now.left.now)) (height (table_of request.now.right.now))) pairs.now }
     requires few { length pairs.now ≤ 4294967294 }
-    ensures { IfOk result (λ v. table_of v.items ≡ map (fill pairs.now) (answer_outs (table_of left.now) (table_of right.now) gone.now suffix.now)) }
+    ensures { IfOk result (λ v. table_of v.items ≡ map (fill pairs.now) (out (asked request.now))) }
 {
-    let left_rows = left_rows(alloc, pairs)?;
-    let right_rows = right_rows(alloc, pairs)?;
-    let mut columns = take_opt_columns(alloc, left.get_columns(), &left_rows)?;
+    let kept = kept_left(alloc, request)?;
+    let left = left_rows(alloc, pairs)?;
+    let right = right_rows(alloc, pairs)?;
+    let mut columns = left_columns(alloc, request, kept.get_columns(), &left, &right)?;
     push_right(
         alloc,
         &mut columns,
-        left.get_columns(),
-        right.get_columns(),
-        gone,
-        suffix,
-        &right_rows,
+        kept.get_columns(),
+        right_side(request.args.how, request.right.get_columns()),
+        gone_right(request.args, request.right_on),
+        suffix_of(request.args),
+        &right,
     )?;
     Ok(columns)
 }
 
-/// Refuses the first name of the answer that stood before (Duplicate).
-pub(crate) fn check_answer_names(
-    alloc: Global,
-    left: &DataFrame,
-    right: &DataFrame,
-    right_on: &[PlSmallStr],
-    args: &JoinArgs,
-) -> PolarsResult<()>
-    ensures { Settles result (option_map (λ n. Duplicate n) (first_repeated (map (λ (o : Out). o.name) (answer_outs (table_of left.now) (table_of right.now) (gone_in args.now right_on.now) (suffix_in args.now))))) }
-{
-    let gone = gone_right(args, right_on);
-    let header = answer_columns(alloc, left, right, gone, suffix_of(args), &[])?;
-    check_distinct(alloc, &column_names(alloc, &header)?)
-}
-
-/// The table of the columns over the pairs. Only memory may be wanting.
+/// The table over these pairs. Only memory may be wanting.
 pub(crate) fn answer_table(
     alloc: Global,
-    left: &DataFrame,
-    right: &DataFrame,
-    right_on: &[PlSmallStr],
-    args: &JoinArgs,
+    request: &LentRequest<'_>,
     pairs: &[JoinPair],
 ) -> PolarsResult<DataFrame>
-    requires pairs { All (IsPairOf (height (table_of left.now)) (height (table_of right.now))) pairs.now }
-    requires few { length pairs.now ≤ 4294967294 }
-    requires names { first_repeated (map (λ (o : Out). o.name) (answer_outs (table_of left.now) (table_of right.now) (gone_in args.now right_on.now) (suffix_in args.now))) ≡ None }
+    requires named { asked request.now ≡ by_names (table_of request.now.left.now) (table_of request.now.right.now) request.now.left_on.now request.now.right_on.now request.now.args.now }
+    requires valid { join_valid (asked request.now) }
+    requires listed { IsListed request.now.args.now.how request.now.args.now.maintain_order request.now.args.now.slice (listing (asked request.now)) pairs.now }
     ensures settles { Settles result None }
-    ensures table { IfOk result (λ t. table_of t ≡ map (fill pairs.now) (answer_outs (table_of left.now) (table_of right.now) (gone_in args.now right_on.now) (suffix_in args.now))) }
+    ensures answer { IfOk result (λ t. IsAnswer (asked request.now) (table_of t)) }
 {
-    let gone = gone_right(args, right_on);
-    let columns = answer_columns(alloc, left, right, gone, suffix_of(args), pairs)?;
+    let columns = answer_columns(alloc, request, pairs)?;
     DataFrame::new(alloc, columns)
 }

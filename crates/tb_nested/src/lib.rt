@@ -8,6 +8,7 @@ mod keys;
 mod listing;
 mod names;
 mod nested;
+mod request;
 mod validation;
 
 pub use nested::nested_join;

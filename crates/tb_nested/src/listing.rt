@@ -1,142 +1,131 @@
 //! The pairs that two nested loops over row numbers list.
-ghost use Rattle.std.specs.Prelude.{◌≡◌, ◌<◌, ◌≤◌, ◌++◌, true, All, IfOk, OnOk, length, map, filter};
+ghost use Rattle.std.specs.Prelude.{◌≡◌, ◌<◌, ◌++◌, IfOk, OnOk, map, filter};
 ghost use Rattle.std.specs.List.{list_any};
-ghost use Rattle.tb_value.specs.Pairs.{row_numbers, both, left_only, matched, left_unmet};
-ghost use Rattle.tb_frame.specs.Built.{is_built_how};
-ghost use Rattle.tb_frame.specs.Join.{listing_of};
-ghost use Rattle.tb_frame.specs.Table.{table_of};
-ghost use Rattle.tb_nested.specs.KeyTests.{keys_match, HasRow, HasRows};
+ghost use Rattle.tb_value.specs.Pairs.{row_numbers, both, matched, right_unmet};
+ghost use Rattle.tb_frame.specs.Join.{matches, listing};
+ghost use Rattle.tb_frame.specs.Table.{table_of, height};
+ghost use Rattle.tb_nested.specs.Asked.{asked};
+ghost use Rattle.tb_nested.specs.Met.{left_alone};
 
 use crate::agreeing::rows_match;
+use crate::request::LentRequest;
 use std::alloc::Global;
 use tb_frame::JoinType;
-use tb_store::Column;
-use tb_value::{IdxSize, JoinPair, NullableIdxSize, OutOfMemory};
+use tb_value::{IdxSize, JoinPair, OutOfMemory};
 
 // Puts the pairs of one left row behind the others.
 fn push_matches(
     pairs: &mut Vec<JoinPair>,
-    left: &[Column],
-    right: &[Column],
-    places: usize,
-    null_matches: bool,
+    request: &LentRequest<'_>,
     i: usize,
-    r: usize,
 ) -> Result<(), OutOfMemory>
-    requires left { All (HasRow i) left.now }
-    requires right { HasRows r right.now }
-    requires left_places { places ≤ length left.now }
-    requires right_places { places ≤ length right.now }
-    requires small_left { i < 4294967295 }
-    requires small_right { r ≤ 4294967294 }
-    ensures { OnOk result (pairs.new.items ≡ pairs.old.items ++ map (both i) (filter (keys_match (table_of left.now) (table_of right.now) places null_matches i) (row_numbers r))) }
+    requires row { i < height (table_of request.now.left.now) }
+    requires small { i < 4294967295 }
+    ensures { OnOk result (pairs.new.items ≡ pairs.old.items ++ map (both i) (filter (matches (asked request.now) i) (row_numbers (height (table_of request.now.right.now))))) }
 {
-    for j in 0..r {
-        if rows_match(left, right, places, null_matches, i, j) {
+    for j in 0..request.right.height() {
+        if rows_match(request, i, j) {
             pairs.push(JoinPair::both(i as IdxSize, j as IdxSize))?;
         }
     }
     Ok(())
 }
 
-// The matched pairs, the left row outside and the right row inside.
-fn list_matched(
-    alloc: Global,
-    left: &[Column],
-    right: &[Column],
-    places: usize,
-    null_matches: bool,
-    l: usize,
-    r: usize,
-) -> Result<Vec<JoinPair>, OutOfMemory>
-    requires left { HasRows l left.now }
-    requires right { HasRows r right.now }
-    requires left_places { places ≤ length left.now }
-    requires right_places { places ≤ length right.now }
-    requires small_left { l ≤ 4294967294 }
-    requires small_right { r ≤ 4294967294 }
-    ensures { IfOk result (λ v. v.items ≡ matched l r (keys_match (table_of left.now) (table_of right.now) places null_matches)) }
+// Puts the matched pairs behind the others, the left row outside and the right row inside.
+fn push_matched(pairs: &mut Vec<JoinPair>, request: &LentRequest<'_>) -> Result<(), OutOfMemory>
+    ensures { OnOk result (pairs.new.items ≡ pairs.old.items ++ matched (height (table_of request.now.left.now)) (height (table_of request.now.right.now)) (matches (asked request.now))) }
 {
-    let mut pairs = Vec::new(alloc);
-    for i in 0..l {
-        push_matches(&mut pairs, left, right, places, null_matches, i, r)?;
+    for i in 0..request.left.height() {
+        push_matches(pairs, request, i)?;
     }
-    Ok(pairs)
+    Ok(())
 }
 
 // Whether a left row has a match.
-fn has_match(
-    left: &[Column],
-    right: &[Column],
-    places: usize,
-    null_matches: bool,
-    i: usize,
-    r: usize,
-) -> bool
-    requires left { All (HasRow i) left.now }
-    requires right { HasRows r right.now }
-    requires left_places { places ≤ length left.now }
-    requires right_places { places ≤ length right.now }
-    ensures { result ≡ list_any (keys_match (table_of left.now) (table_of right.now) places null_matches i) (row_numbers r) }
+fn is_left_met(request: &LentRequest<'_>, i: usize) -> bool
+    requires { i < height (table_of request.now.left.now) }
+    ensures { result ≡ list_any (matches (asked request.now) i) (row_numbers (height (table_of request.now.right.now))) }
 {
-    for j in 0..r {
-        if rows_match(left, right, places, null_matches, i, j) {
+    for j in 0..request.right.height() {
+        if rows_match(request, i, j) {
             return true;
         }
     }
     false
 }
 
-// The left rows with no match.
-fn list_left_unmet(
-    alloc: Global,
-    left: &[Column],
-    right: &[Column],
-    places: usize,
-    null_matches: bool,
-    l: usize,
-    r: usize,
-) -> Result<Vec<JoinPair>, OutOfMemory>
-    requires left { HasRows l left.now }
-    requires right { HasRows r right.now }
-    requires left_places { places ≤ length left.now }
-    requires right_places { places ≤ length right.now }
-    requires small_left { l ≤ 4294967294 }
-    ensures { IfOk result (λ v. v.items ≡ left_unmet l r (keys_match (table_of left.now) (table_of right.now) places null_matches)) }
+// Whether a right row has a match.
+fn is_right_met(request: &LentRequest<'_>, j: usize) -> bool
+    requires { j < height (table_of request.now.right.now) }
+    ensures { result ≡ list_any (λ i. matches (asked request.now) i j) (row_numbers (height (table_of request.now.left.now))) }
 {
-    let mut pairs = Vec::new(alloc);
-    for i in 0..l {
-        if !has_match(left, right, places, null_matches, i, r) {
+    for i in 0..request.left.height() {
+        if rows_match(request, i, j) {
+            return true;
+        }
+    }
+    false
+}
+
+// Puts the left rows that have a match behind the others, or those that have none.
+fn push_left(
+    pairs: &mut Vec<JoinPair>,
+    request: &LentRequest<'_>,
+    met: bool,
+) -> Result<(), OutOfMemory>
+    ensures { OnOk result (pairs.new.items ≡ pairs.old.items ++ left_alone met (height (table_of request.now.left.now)) (height (table_of request.now.right.now)) (matches (asked request.now))) }
+{
+    for i in 0..request.left.height() {
+        if is_left_met(request, i) == met {
             pairs.push(JoinPair::left_only(i as IdxSize))?;
         }
     }
-    Ok(pairs)
+    Ok(())
 }
 
-/// The listing of an Inner or a Left join of `l` left and `r` right rows.
+// Puts the right rows that have no match behind the others.
+fn push_right_unmet(pairs: &mut Vec<JoinPair>, request: &LentRequest<'_>) -> Result<(), OutOfMemory>
+    ensures { OnOk result (pairs.new.items ≡ pairs.old.items ++ right_unmet (height (table_of request.now.left.now)) (height (table_of request.now.right.now)) (matches (asked request.now))) }
+{
+    for j in 0..request.right.height() {
+        if !is_right_met(request, j) {
+            pairs.push(JoinPair::right_only(j as IdxSize))?;
+        }
+    }
+    Ok(())
+}
+
+fn push_pairs(pairs: &mut Vec<JoinPair>, request: &LentRequest<'_>) -> Result<(), OutOfMemory>
+    ensures { OnOk result (pairs.new.items ≡ pairs.old.items ++ listing (asked request.now)) }
+{
+    match request.args.how {
+        JoinType::Inner => push_matched(pairs, request),
+        JoinType::Left => {
+            push_matched(pairs, request)?;
+            push_left(pairs, request, false)
+        }
+        JoinType::Right => {
+            push_matched(pairs, request)?;
+            push_right_unmet(pairs, request)
+        }
+        JoinType::Full => {
+            push_matched(pairs, request)?;
+            push_left(pairs, request, false)?;
+            push_right_unmet(pairs, request)
+        }
+        JoinType::Semi => push_left(pairs, request, true),
+        JoinType::Anti => push_left(pairs, request, false),
+    }
+}
+
+/// The listing of the request.
 pub(crate) fn list_pairs(
     alloc: Global,
-    how: JoinType,
-    left: &[Column],
-    right: &[Column],
-    places: usize,
-    null_matches: bool,
-    l: usize,
-    r: usize,
+    request: &LentRequest<'_>,
 ) -> Result<Vec<JoinPair>, OutOfMemory>
-    requires built { is_built_how how ≡ true }
-    requires left { HasRows l left.now }
-    requires right { HasRows r right.now }
-    requires left_places { places ≤ length left.now }
-    requires right_places { places ≤ length right.now }
-    requires small_left { l ≤ 4294967294 }
-    requires small_right { r ≤ 4294967294 }
-    ensures { IfOk result (λ v. v.items ≡ listing_of how l r (keys_match (table_of left.now) (table_of right.now) places null_matches)) }
+    ensures { IfOk result (λ v. v.items ≡ listing (asked request.now)) }
 {
-    let mut pairs = list_matched(alloc, left, right, places, null_matches, l, r)?;
-    if how == JoinType::Left {
-        let unmet = list_left_unmet(alloc, left, right, places, null_matches, l, r)?;
-        pairs.extend_from_slice(&unmet)?;
-    }
+    let mut pairs = Vec::new(alloc);
+    push_pairs(&mut pairs, request)?;
     Ok(pairs)
 }

@@ -5,7 +5,7 @@ ghost use Rattle.tb_value.specs.declared.error.PolarsError.TheVariants.{ColumnNo
 ghost use Rattle.tb_value.specs.declared.error.InvalidCause.TheVariants.{NoKeys, KeyCounts};
 ghost use Rattle.tb_frame.specs.Refusal.{first_unknown, first_repeated};
 ghost use Rattle.tb_frame.specs.Table.{table_of};
-ghost use Rattle.tb_nested.specs.Requests.{name_causes};
+ghost use Rattle.tb_nested.specs.Causes.{name_causes};
 
 use std::alloc::Global;
 use tb_frame::{check_distinct, column_name_set};

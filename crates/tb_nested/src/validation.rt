@@ -1,19 +1,22 @@
 //! Whether a key stands on two rows of a side that is to have each key once.
-ghost use Rattle.std.specs.Prelude.{◌≡◌, ◌≤◌, ◌&&◌, ◌||◌, ◌∷◌, [], All, length};
+ghost use Rattle.std.specs.Prelude.{◌≡◌, ◌≤◌, ◌&&◌, ◌||◌, All, length};
 ghost use Rattle.std.specs.List.{list_any};
 ghost use Rattle.tb_value.specs.Datum.{is_present};
 ghost use Rattle.tb_value.specs.Pairs.{row_numbers};
-ghost use Rattle.tb_value.specs.Refusals.{Settles, first_cause, when};
+ghost use Rattle.tb_value.specs.Refusals.{Settles, when};
 ghost use Rattle.tb_value.specs.See.{lent};
 ghost use Rattle.tb_value.specs.declared.error.PolarsError.TheVariants.{ComputeError};
 ghost use Rattle.tb_value.specs.declared.error.ComputeCause.TheVariants.{Validation};
 ghost use Rattle.tb_value.specs.declared.error.Side.TheVariants as side;
-ghost use Rattle.tb_frame.specs.Refusal.{is_validated, asks_left, asks_right};
-ghost use Rattle.tb_frame.specs.Table.{table_of};
-ghost use Rattle.tb_nested.specs.KeyTests.{HasRow, HasRows, row_counts, keys_same, twins, any_twins};
+ghost use Rattle.tb_frame.specs.Refusal.{is_validated, asks_left, asks_right, is_counted, same_keys, has_twins, broken_side};
+ghost use Rattle.tb_frame.specs.Table.{table_of, height};
+ghost use Rattle.tb_nested.specs.Asked.{asked, place_count};
+ghost use Rattle.tb_nested.specs.Rows.{HasRow, HasRows};
+ghost use Rattle.tb_nested.specs.Twins.{are_twins};
 
 use crate::agreeing::is_null;
-use tb_frame::{JoinArgs, JoinType, JoinValidation, same_value};
+use crate::request::LentRequest;
+use tb_frame::{JoinType, same_value};
 use tb_store::Column;
 use tb_value::{ComputeCause, PolarsError, PolarsResult, Side, ValueRef};
 
@@ -24,13 +27,13 @@ fn counts(null_matches: bool, value: ValueRef<'_>) -> bool
 }
 
 // Whether a row's keys count.
-fn is_counted(keys: &[Column], places: usize, null_matches: bool, i: usize) -> bool
+fn is_counted(request: &LentRequest<'_>, keys: &[Column], i: usize) -> bool
     requires rows { All (HasRow i) keys.now }
-    requires fits { places ≤ length keys.now }
-    ensures { result ≡ row_counts (table_of keys.now) places null_matches i }
+    requires fits { place_count request.now ≤ length keys.now }
+    ensures { result ≡ is_counted (asked request.now) (table_of keys.now) i }
 {
-    for p in 0..places {
-        if !counts(null_matches, keys[p].get(i)) {
+    for p in 0..request.places() {
+        if !counts(request.args.join_nulls, keys[p].get(i)) {
             return false;
         }
     }
@@ -38,13 +41,13 @@ fn is_counted(keys: &[Column], places: usize, null_matches: bool, i: usize) -> b
 }
 
 // Whether two rows have the same keys.
-fn same_keys(keys: &[Column], places: usize, i: usize, j: usize) -> bool
+fn same_keys(request: &LentRequest<'_>, keys: &[Column], i: usize, j: usize) -> bool
     requires first { All (HasRow i) keys.now }
     requires second { All (HasRow j) keys.now }
-    requires fits { places ≤ length keys.now }
-    ensures { result ≡ keys_same (table_of keys.now) places i j }
+    requires fits { place_count request.now ≤ length keys.now }
+    ensures { result ≡ same_keys (asked request.now) (table_of keys.now) i j }
 {
-    for p in 0..places {
+    for p in 0..request.places() {
         if !same_value(keys[p].get(i), keys[p].get(j)) {
             return false;
         }
@@ -52,40 +55,42 @@ fn same_keys(keys: &[Column], places: usize, i: usize, j: usize) -> bool
     true
 }
 
-fn are_twins(keys: &[Column], places: usize, null_matches: bool, i: usize, j: usize) -> bool
+// Whether these rows are two counted ones, in this order, that have the same keys.
+fn are_twins(request: &LentRequest<'_>, keys: &[Column], i: usize, j: usize) -> bool
     requires first { All (HasRow i) keys.now }
     requires second { All (HasRow j) keys.now }
-    requires fits { places ≤ length keys.now }
-    ensures { result ≡ twins (table_of keys.now) places null_matches i j }
+    requires fits { place_count request.now ≤ length keys.now }
+    ensures { result ≡ are_twins (asked request.now) (table_of keys.now) i j }
 {
     i < j
-        && is_counted(keys, places, null_matches, i)
-        && is_counted(keys, places, null_matches, j)
-        && same_keys(keys, places, i, j)
+        && is_counted(request, keys, i)
+        && is_counted(request, keys, j)
+        && same_keys(request, keys, i, j)
 }
 
-fn has_twin(keys: &[Column], places: usize, null_matches: bool, i: usize, n: usize) -> bool
+// Whether a row has a twin among n rows.
+fn has_twin(request: &LentRequest<'_>, keys: &[Column], i: usize, n: usize) -> bool
     requires first { All (HasRow i) keys.now }
     requires rows { HasRows n keys.now }
-    requires fits { places ≤ length keys.now }
-    ensures { result ≡ list_any (twins (table_of keys.now) places null_matches i) (row_numbers n) }
+    requires fits { place_count request.now ≤ length keys.now }
+    ensures { result ≡ list_any (are_twins (asked request.now) (table_of keys.now) i) (row_numbers n) }
 {
     for j in 0..n {
-        if are_twins(keys, places, null_matches, i, j) {
+        if are_twins(request, keys, i, j) {
             return true;
         }
     }
     false
 }
 
-// Whether two counted rows have the same keys.
-fn has_twins(keys: &[Column], places: usize, null_matches: bool, n: usize) -> bool
+// Whether two counted rows of n have the same keys.
+fn has_twins(request: &LentRequest<'_>, keys: &[Column], n: usize) -> bool
     requires rows { HasRows n keys.now }
-    requires fits { places ≤ length keys.now }
-    ensures { result ≡ any_twins (table_of keys.now) places null_matches n }
+    requires fits { place_count request.now ≤ length keys.now }
+    ensures { result ≡ has_twins (asked request.now) (table_of keys.now) n }
 {
     for i in 0..n {
-        if has_twin(keys, places, null_matches, i, n) {
+        if has_twin(request, keys, i, n) {
             return true;
         }
     }
@@ -101,87 +106,54 @@ fn is_validated(how: JoinType) -> bool
     }
 }
 
-// Whether the arguments ask each key once of the left side.
-fn left_asked(args: &JoinArgs) -> bool
-    ensures { result ≡ (is_validated args.now.how && asks_left args.now.validation) }
-{
-    is_validated(args.how) && args.validation.asks_left()
-}
-
-// Whether the arguments ask each key once of the right side.
-fn right_asked(args: &JoinArgs) -> bool
-    ensures { result ≡ (is_validated args.now.how && asks_right args.now.validation) }
-{
-    is_validated(args.how) && args.validation.asks_right()
-}
-
-// Refuses a side on which two counted rows have the same keys (Validation).
+// Refuses a side that is asked to have each key once and has a key twice (Validation).
 fn check_side(
-    is_asked: bool,
+    request: &LentRequest<'_>,
     keys: &[Column],
-    places: usize,
-    null_matches: bool,
     n: usize,
+    is_asked: bool,
     side: Side,
 ) -> PolarsResult<()>
     requires rows { HasRows n keys.now }
-    requires fits { places ≤ length keys.now }
-    ensures { Settles result (when (is_asked && any_twins (table_of keys.now) places null_matches n) (ComputeError (Validation side))) }
+    requires fits { place_count request.now ≤ length keys.now }
+    ensures { Settles result (when (is_validated request.now.args.now.how && is_asked && has_twins (asked request.now) (table_of keys.now) n) (ComputeError (Validation side))) }
 {
-    if is_asked && has_twins(keys, places, null_matches, n) {
+    if is_validated(request.args.how) && is_asked && has_twins(request, keys, n) {
         return Err(PolarsError::ComputeError(ComputeCause::Validation(side)));
     }
     Ok(())
 }
 
-// Refuses the left side, where the arguments ask each key once of it.
-fn check_left(keys: &[Column], places: usize, args: &JoinArgs, n: usize) -> PolarsResult<()>
-    requires rows { HasRows n keys.now }
-    requires fits { places ≤ length keys.now }
-    ensures { Settles result (when (is_validated args.now.how && asks_left args.now.validation && any_twins (table_of keys.now) places args.now.join_nulls n) (ComputeError (Validation side.Left))) }
+fn check_left(request: &LentRequest<'_>) -> PolarsResult<()>
+    ensures { Settles result (when (is_validated request.now.args.now.how && asks_left request.now.args.now.validation && has_twins (asked request.now) (table_of request.now.left_keys.now) (height (table_of request.now.left.now))) (ComputeError (Validation side.Left))) }
 {
+    let is_asked = request.args.validation.asks_left();
     check_side(
-        left_asked(args),
-        keys,
-        places,
-        args.join_nulls,
-        n,
+        request,
+        request.left_keys,
+        request.left.height(),
+        is_asked,
         Side::Left,
     )
 }
 
-// Refuses the right side, where the arguments ask each key once of it.
-fn check_right(keys: &[Column], places: usize, args: &JoinArgs, n: usize) -> PolarsResult<()>
-    requires rows { HasRows n keys.now }
-    requires fits { places ≤ length keys.now }
-    ensures { Settles result (when (is_validated args.now.how && asks_right args.now.validation && any_twins (table_of keys.now) places args.now.join_nulls n) (ComputeError (Validation side.Right))) }
+fn check_right(request: &LentRequest<'_>) -> PolarsResult<()>
+    ensures { Settles result (when (is_validated request.now.args.now.how && asks_right request.now.args.now.validation && has_twins (asked request.now) (table_of request.now.right_keys.now) (height (table_of request.now.right.now))) (ComputeError (Validation side.Right))) }
 {
+    let is_asked = request.args.validation.asks_right();
     check_side(
-        right_asked(args),
-        keys,
-        places,
-        args.join_nulls,
-        n,
+        request,
+        request.right_keys,
+        request.right.height(),
+        is_asked,
         Side::Right,
     )
 }
 
-/// Refuses the first side that is asked to have each key once and has a key twice (Validation), of `l` left rows and
-/// `r` right rows.
-pub(crate) fn check_sides(
-    left: &[Column],
-    right: &[Column],
-    places: usize,
-    args: &JoinArgs,
-    l: usize,
-    r: usize,
-) -> PolarsResult<()>
-    requires left { HasRows l left.now }
-    requires right { HasRows r right.now }
-    requires left_places { places ≤ length left.now }
-    requires right_places { places ≤ length right.now }
-    ensures { Settles result (first_cause (when (is_validated args.now.how && asks_left args.now.validation && any_twins (table_of left.now) places args.now.join_nulls l) (ComputeError (Validation side.Left)) ∷ when (is_validated args.now.how && asks_right args.now.validation && any_twins (table_of right.now) places args.now.join_nulls r) (ComputeError (Validation side.Right)) ∷ [])) }
+/// Refuses the first side that is asked to have each key once and has a key twice (Validation), left first.
+pub(crate) fn check_sides(request: &LentRequest<'_>) -> PolarsResult<()>
+    ensures { Settles result (broken_side (asked request.now)) }
 {
-    check_left(left, places, args, l)?;
-    check_right(right, places, args, r)
+    check_left(request)?;
+    check_right(request)
 }

@@ -7,7 +7,7 @@ use Rattle.tb_value.specs.Names.{Name}
 use Rattle.tb_pool.specs.Plan.{Plan}
 use Rattle.tb_chunk.specs.Col.{Col}
 use Rattle.tb_frame.specs.declared.args.JoinArgs.{JoinArgs}
-use Rattle.tb_frame.specs.Built.{is_built_how, is_built_order}
+use Rattle.tb_frame.specs.Built.{is_built_order, is_built_coalesce}
 use Rattle.tb_frame.specs.Table.{Table, table_of, names_of}
 use Rattle.tb_frame.specs.Frame.{are_level}
 use Rattle.tb_frame.specs.Join.{Request, by_names}
@@ -62,7 +62,7 @@ are_tables left right = do
 
 -- the form that is answered so far: that of `IsBuilt`, and no trace
 abbrev pub is_built_args : JoinArgs → Bool
-is_built_args a = is_built_how a.how && not (asks_a_side a.validation) && is_none a.slice && not a.join_nulls && is_built_order a.maintain_order
+is_built_args a = is_built_order a.how a.maintain_order && is_built_coalesce a.how a.coalesce && not (asks_a_side a.validation) && is_none a.slice
 
 unfoldable pub is_built : WrittenJoin → Bool
 is_built w = is_built_args w.args && (length w.left_on == 1) && (length w.right_on == 1) && not w.trace

@@ -1,7 +1,7 @@
 //! The request that bytes are.
 ghost use Rattle.std.specs.Prelude.{◌≡◌, if◌then◌else◌, map, IfOk, MatchResult, Ok, Some, None};
 ghost use Rattle.serde_json.specs.View.{view};
-ghost use Rattle.tb_frame.specs.Built.{is_built_how, is_built_order, IsBuilt};
+ghost use Rattle.tb_frame.specs.Built.{is_none_or_left, is_built_order, is_built_coalesce, IsBuilt};
 ghost use Rattle.tb_request.specs.Lent.{join_view, plan_view};
 ghost use Rattle.tb_request.specs.Reading.{may_stand, is_built_args, is_built, request_in, request_of, asked, request_view, FaultIs};
 
@@ -11,7 +11,7 @@ use crate::tables::tables_of;
 use crate::values::columns_of;
 use serde_json::Value;
 use std::alloc::Global;
-use tb_frame::{JoinArgs, JoinType, MaintainOrderJoin};
+use tb_frame::{JoinArgs, JoinCoalesce, JoinType, MaintainOrderJoin};
 use tb_pool::Exec;
 use tb_value::{OutOfMemory, PlSmallStr};
 
@@ -31,17 +31,18 @@ fn exec_of(numbers: ExecNumbers) -> Option<Exec>
     }
 }
 
-fn is_built_how(how: JoinType) -> bool
-    ensures { result ≡ is_built_how how }
+fn is_built_order(how: JoinType, order: MaintainOrderJoin) -> bool
+    ensures { result ≡ is_built_order how order }
 {
     match how {
-        JoinType::Inner | JoinType::Left => true,
-        JoinType::Right | JoinType::Full | JoinType::Semi | JoinType::Anti => false,
+        JoinType::Inner | JoinType::Left => is_none_or_left(order),
+        JoinType::Right | JoinType::Full => order == MaintainOrderJoin::None,
+        JoinType::Semi | JoinType::Anti => true,
     }
 }
 
-fn is_built_order(order: MaintainOrderJoin) -> bool
-    ensures { result ≡ is_built_order order }
+fn is_none_or_left(order: MaintainOrderJoin) -> bool
+    ensures { result ≡ is_none_or_left order }
 {
     match order {
         MaintainOrderJoin::None | MaintainOrderJoin::Left | MaintainOrderJoin::LeftRight => true,
@@ -49,14 +50,19 @@ fn is_built_order(order: MaintainOrderJoin) -> bool
     }
 }
 
+fn is_built_coalesce(how: JoinType, coalesce: JoinCoalesce) -> bool
+    ensures { result ≡ is_built_coalesce how coalesce }
+{
+    how != JoinType::Full || !coalesce.coalesce(&how)
+}
+
 fn is_built_args(args: &JoinArgs) -> bool
     ensures { result ≡ is_built_args args.now }
 {
-    is_built_how(args.how)
+    is_built_order(args.how, args.maintain_order)
+        && is_built_coalesce(args.how, args.coalesce)
         && !args.validation.needs_checks()
         && args.slice.is_none()
-        && !args.join_nulls
-        && is_built_order(args.maintain_order)
 }
 
 // Whether the join is of the form that is answered so far.
@@ -139,9 +145,10 @@ fn request_in(alloc: Global, value: &Value) -> Result<JoinRequest, RequestFault>
 /// 5. `Heights`: two columns of a table differ in length.
 /// 6. `Name`: two columns of a table have one name.
 /// 7. `Flag`: a column is not in the order that `sorted` claims.
-/// 8. `NotYet`: `how` is neither `"inner"` nor `"left"`, a list of keys has not exactly one name, the
-///    validation is not `"m:m"`, there is a slice, `join_nulls` or `trace` is true, or the order is by
-///    the right rows first.
+/// 8. `NotYet`: a list of keys has not exactly one name, the validation is not `"m:m"`, there is a
+///    slice, `trace` is true, `how` is `"full"` and `coalesce` is `"coalesce"`, or the order is not one
+///    that is built: any but `"none"` for `"right"` and `"full"`, and `"right"` or `"right_left"` for
+///    `"inner"` and `"left"`.
 pub fn request_of(alloc: Global, bytes: &[u8]) -> Result<JoinRequest, RequestFault>
     ensures reading { MatchResult result (λ q. request_of bytes.now ≡ Ok (request_view q))
         (λ e. FaultIs e (request_of bytes.now)) }

@@ -1,8 +1,6 @@
 use crate::{Reason, RequestFault, request_of};
 use std::alloc::Global;
 use std::test::Fail;
-use tb_json::text_of_refusal;
-use tb_value::{ComputeCause, InvalidCause, PlSmallStr, PolarsError, Side};
 
 // Why a request with this left table, these arguments and these further members is none. None where it is one.
 fn reason_of(alloc: Global, left: &str, args: &str, further: &str) -> Result<Option<Reason>, Fail> {
@@ -213,7 +211,12 @@ fn arguments_and_their_reasons(rt: HostRuntime) -> Result<(), Fail> {
             r#","exec":{"den":0,"num":1,"partitions":2,"small":0,"workers":1}"#,
             Some(Reason::Exec),
         ),
-        (r#""how":"full""#, "", Some(Reason::NotYet)),
+        (r#""how":"full","join_nulls":true"#, "", None),
+        (
+            r#""how":"full","coalesce":"coalesce""#,
+            "",
+            Some(Reason::NotYet),
+        ),
         (
             r#""how":"inner","validation":"1:m""#,
             "",
@@ -225,15 +228,16 @@ fn arguments_and_their_reasons(rt: HostRuntime) -> Result<(), Fail> {
             Some(Reason::NotYet),
         ),
         (
-            r#""how":"inner","join_nulls":true"#,
-            "",
-            Some(Reason::NotYet),
-        ),
-        (
             r#""how":"left","maintain_order":"right_left""#,
             "",
             Some(Reason::NotYet),
         ),
+        (
+            r#""how":"right","maintain_order":"left""#,
+            "",
+            Some(Reason::NotYet),
+        ),
+        (r#""how":"anti","maintain_order":"right""#, "", None),
         (INNER, r#","left_on":["k","k"]"#, Some(Reason::NotYet)),
         (INNER, r#","trace":true"#, Some(Reason::NotYet)),
     ];
@@ -244,32 +248,5 @@ fn arguments_and_their_reasons(rt: HostRuntime) -> Result<(), Fail> {
             "{args} {further}"
         );
     }
-    Ok(())
-}
-
-#[test]
-fn refusals(rt: HostRuntime) -> Result<(), Fail> {
-    let name = PlSmallStr::from_str(rt.alloc(), "a\"b")
-        .ok()
-        .ok_or("memory")?;
-    let text = text_of_refusal(rt.alloc(), &PolarsError::Duplicate(name))
-        .ok()
-        .ok_or("memory")?;
-    assert_eq!(rt;
-        text.as_str(),
-        "{\"error\":\"Duplicate\",\"name\":\"a\\\"b\"}\n"
-    );
-    let error = PolarsError::InvalidOperation(InvalidCause::KeyCounts { left: 2, right: 1 });
-    let text = text_of_refusal(rt.alloc(), &error).ok().ok_or("memory")?;
-    assert_eq!(rt;
-        text.as_str(),
-        "{\"cause\":\"KeyCounts\",\"error\":\"InvalidOperation\",\"left\":2,\"right\":1}\n"
-    );
-    let error = PolarsError::ComputeError(ComputeCause::Validation(Side::Right));
-    let text = text_of_refusal(rt.alloc(), &error).ok().ok_or("memory")?;
-    assert_eq!(rt;
-        text.as_str(),
-        "{\"cause\":\"Validation\",\"error\":\"ComputeError\",\"side\":\"right\"}\n"
-    );
     Ok(())
 }

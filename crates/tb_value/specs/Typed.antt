@@ -1,5 +1,5 @@
 -- Which values are of a type.
-use Rattle.std.specs.Prelude.{◌≡◌, ◌<◌, ◌^◌, ◌≤ℤ◌, ℤ, pos, negsuc, length, Option, Some, None, IsSomeAnd, Bool, is_some}
+use Rattle.std.specs.Prelude.{◌≡◌, ◌<◌, ◌^◌, ◌≤ℤ◌, ℕ, ℤ, pos, negsuc, List, length, slice_index, Option, Some, None, IsSomeAnd, Bool, is_some}
 use Rattle.std.specs.Str.{IsUtf8}
 use Rattle.tb_value.specs.Datum.{Datum, Items}
 use Rattle.tb_value.specs.Datum as value
@@ -27,6 +27,10 @@ ends _ = None
 abbrev pub is_whole_physical : Kind → Bool
 is_whole_physical t = is_some (ends t)
 
+-- each of the numbers is a byte
+abbrev pub IsBytes : List ℕ → Type 0
+IsBytes s = (i : ℕ) → slice_index s i < 256
+
 -- a list type, and what holds of the type inside
 abbrev pub IsListOf : Kind → (Kind → Type 0) → Type 0
 IsListOf (kind.list t) P = P t
@@ -43,7 +47,7 @@ abbrev mutual
   HasType t (value.boolean b) = t ≡ kind.boolean
   HasType t (value.int i) = IsSomeAnd (ends t) (λ e. (e.0 ≤ℤ i) × (i ≤ℤ e.1))
   HasType t (value.string s) = (t ≡ kind.string) × (length s < 2 ^ 32) × IsUtf8 s
-  HasType t (value.binary s) = (t ≡ kind.binary) × (length s < 2 ^ 32)
+  HasType t (value.binary s) = (t ≡ kind.binary) × (length s < 2 ^ 32) × IsBytes s
   HasType t (value.list vs) = IsListOf t (λ u. AreOf u vs)
   HasType t (value.struct vs) = IsStructOf t (λ ps. AreEachOf ps vs)
 

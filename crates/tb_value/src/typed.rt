@@ -6,7 +6,7 @@ ghost use Rattle.std.specs.Str.{IsUtf8};
 ghost use Rattle.tb_value.specs.SameKind.{is_key};
 ghost use Rattle.tb_value.specs.See.{datum, lent};
 ghost use Rattle.tb_value.specs.SeeKind.{kind_of, parts};
-ghost use Rattle.tb_value.specs.Typed.{HasType, AreOf, AreEachOf, IsListOf, IsStructOf, ends, is_whole_physical};
+ghost use Rattle.tb_value.specs.Typed.{HasType, AreOf, AreEachOf, IsBytes, IsListOf, IsStructOf, ends, is_whole_physical};
 
 use crate::any_value::{AnyValue, ValueRef, Values};
 use crate::dtype::{DataType, Fields};
@@ -29,7 +29,7 @@ impl DataType {
             ValueRef::Boolean(_) => is_boolean(self),
             ValueRef::Int(i) => is_int_of(self, i),
             ValueRef::String(s) => is_string(self) && s.len() < TOO_LONG && is_text(s),
-            ValueRef::Binary(s) => is_binary(self) && s.len() < TOO_LONG,
+            ValueRef::Binary(s) => is_binary_of(self, s),
             ValueRef::List(values) => is_list_of(self, values),
             ValueRef::Struct(values) => is_struct_of(self, values),
         }
@@ -130,11 +130,11 @@ fn is_text(bytes: &[u8]) -> bool
     str::from_utf8(bytes).is_ok()
 }
 
-fn is_binary(dtype: &DataType) -> bool
-    ensures { IsTrue result ↔ (kind_of dtype.now ≡ binary) }
+fn is_binary_of(dtype: &DataType, bytes: &[u8]) -> bool
+    ensures { IsTrue result ↔ ((kind_of dtype.now ≡ binary) × (length bytes.now < 2 ^ 32) × IsBytes bytes.now) }
 {
     match dtype {
-        DataType::Binary => true,
+        DataType::Binary => bytes.len() < TOO_LONG,
         _ => false,
     }
 }
@@ -148,7 +148,7 @@ fn is_of(dtype: &DataType, value: &AnyValue) -> bool
         AnyValue::Boolean(_) => is_boolean(dtype),
         AnyValue::Int(i) => is_int_of(dtype, *i),
         AnyValue::String(s) => is_string(dtype) && s.as_str().len() < TOO_LONG,
-        AnyValue::Binary(s) => is_binary(dtype) && s.as_slice().len() < TOO_LONG,
+        AnyValue::Binary(s) => is_binary_of(dtype, s.as_slice()),
         AnyValue::List(vs) => is_list_of(dtype, vs),
         AnyValue::Struct(vs) => is_struct_of(dtype, vs),
     }

@@ -1,58 +1,33 @@
-use Rattle.std.proofs.Common.{◌≡◌, ◌++◌, ℕ, List, Option, length, map, ap, sym, ◌∙◌, subst, None, arith}
-use Rattle.std.specs.Prelude.{All}
-use Rattle.std.proofs.lemmas.List.{length-map}
-use Rattle.tb_value.specs.declared.index.JoinPair.{JoinPair}
-use Rattle.tb_chunk.specs.Col.{Col, values}
-use Rattle.tb_chunk.specs.Rows.{IsRowOf}
-use Rattle.tb_frame.specs.Table.{table_of, height, names_of}
-use Rattle.tb_frame.specs.Frame.{opt_taken, frame_refusal}
-use Rattle.tb_frame.specs.RightColumns.{right_columns}
-use Rattle.tb_join.proofs.Finishing.{left_in_columns, right_in_columns, none-finished, settled}
+use Rattle.std.proofs.Common.{◌∙◌, List, None, ap, sym, subst}
+use Rattle.std.proofs.lemmas.Result.{IfOk-weaker}
+use Rattle.tb_chunk.specs.Col.{Col}
+use Rattle.tb_frame.specs.Frame.{frame_refusal}
+use Rattle.tb_frame.specs.Join.{by_names, IsAnswer}
+use Rattle.tb_frame.specs.Table.{table_of, IsTable}
+use Rattle.tb_frame.proofs.Assembled.{few_listed, pairs_in_range}
+use Rattle.tb_frame.proofs.Frames.{IsTable-refusal}
+use Rattle.tb_join.proofs.AnswerMade.{is_answer}
+use Rattle.tb_join.proofs.Finishing.{settled}
 use Rattle.tb_join.proofs.general.finish_join.Goals as goal
 
-pub take_opt_columns-requires-clause-rows : goal.take_opt_columns-requires-clause-rows
-take_opt_columns-requires-clause-rows c =
-    let ps = c.args.pairs.now in
-    let rows : map (λ (p : JoinPair). p.left) ps ≡ c.deref.result.now = sym (c.deref.ensures.value ∙ c.in_ok-left_rows.ensures) in
-    subst (λ (cs : List Col). All (λ (k : Col). All (IsRowOf (length (values k))) c.deref.result.now) cs) (sym c.get_columns.ensures.columns)
-    (subst (λ (rs : List (Option ℕ)). All (λ (k : Col). All (IsRowOf (length (values k))) rs) c.args.left.now) rows
-    (left_in_columns (height (table_of c.args.left.now)) (height (table_of c.args.right.now)) ps c.requires.pairs c.args.left.now c.get_columns.ensures.table (λ _. height (table_of c.args.left.now))))
+pub answer_columns-requires-clause-pairs : goal.answer_columns-requires-clause-pairs
+answer_columns-requires-clause-pairs g c κs within = pairs_in_range (by_names (table_of c.args.left.now) (table_of c.args.right.now) c.args.left_on.now c.args.right_on.now c.args.args.now) c.args.pairs.now c.requires.listed
 
-pub take_opt_columns-requires-clause-few : goal.take_opt_columns-requires-clause-few
-take_opt_columns-requires-clause-few c =
-    let ps = c.args.pairs.now in
-    let long : length c.deref.result.now ≡ length ps = ap (λ (rs : List (Option ℕ)). length rs) (c.deref.ensures.value ∙ c.in_ok-left_rows.ensures) ∙ length-map ps (λ (p : JoinPair). p.left) in
-    let few = c.requires.few in
-    omega (arith, long, few)
-
-pub push_right-requires-clause-rows : goal.push_right-requires-clause-rows
-push_right-requires-clause-rows c =
-    let ps = c.args.pairs.now in
-    let rows : map (λ (p : JoinPair). p.right) ps ≡ c.deref-2.result.now = sym (c.deref-2.ensures.value ∙ c.in_ok-right_rows.ensures) in
-    subst (λ (cs : List Col). All (λ (k : Col). All (IsRowOf (length (values k))) c.deref-2.result.now) cs) (sym c.get_columns-3.ensures.columns)
-    (subst (λ (rs : List (Option ℕ)). All (λ (k : Col). All (IsRowOf (length (values k))) rs) c.args.right.now) rows
-    (right_in_columns (height (table_of c.args.left.now)) (height (table_of c.args.right.now)) ps c.requires.pairs c.args.right.now c.get_columns-3.ensures.table (λ _. height (table_of c.args.right.now))))
-
-pub push_right-requires-clause-few : goal.push_right-requires-clause-few
-push_right-requires-clause-few c =
-    let ps = c.args.pairs.now in
-    let long : length c.deref-2.result.now ≡ length ps = ap (λ (rs : List (Option ℕ)). length rs) (c.deref-2.ensures.value ∙ c.in_ok-right_rows.ensures) ∙ length-map ps (λ (p : JoinPair). p.right) in
-    let few = c.requires.few in
-    omega (arith, long, few)
+pub answer_columns-requires-clause-few : goal.answer_columns-requires-clause-few
+answer_columns-requires-clause-few g c κs within = few_listed (by_names (table_of c.args.left.now) (table_of c.args.right.now) c.args.left_on.now c.args.right_on.now c.args.args.now) c.args.pairs.now c.requires.valid c.requires.listed
 
 pub returns-clause-settles : goal.returns-clause-settles
-returns-clause-settles c =
-    let left = c.args.left.now in
-    let right = c.args.right.now in
-    let gone = c.args.gone.now in
-    let suffix = c.args.suffix.now in
-    let ps = c.args.pairs.now in
-    let ls : List (Option ℕ) = map (λ (p : JoinPair). p.left) ps in
-    let rs : List (Option ℕ) = map (λ (p : JoinPair). p.right) ps in
-    let is_l : c.deref.result.now ≡ ls = c.deref.ensures.value ∙ c.in_ok-left_rows.ensures in
-    let is_r : c.deref-2.result.now ≡ rs = c.deref-2.ensures.value ∙ c.in_ok-right_rows.ensures in
-    let first : c.in_ok-columns.columns.items ≡ map (opt_taken ls) left = c.in_ok-columns.ensures ∙ (λ t. map (opt_taken (is_l t)) (c.get_columns.ensures.columns t)) in
-    let is : c.push_right.new.columns.items ≡ map (opt_taken ls) left ++ right_columns (names_of (table_of left)) suffix gone rs right =
-    c.in_ok-push_right.ensures ∙ (λ t. first t ++ right_columns (names_of (table_of (c.get_columns-2.ensures.columns t))) suffix gone (is_r t) (c.get_columns-3.ensures.columns t))
-    in
-    settled c.new.result _ None (ap (λ (cs : List Col). frame_refusal (table_of cs)) is ∙ none-finished left right suffix gone ls rs (length-map ps (λ (p : JoinPair). p.right) ∙ sym (length-map ps (λ (p : JoinPair). p.left))) c.requires.names) c.new.ensures.settles
+returns-clause-settles g c =
+    let made = is_answer c.args.left.now c.args.right.now c.args.left_on.now c.args.right_on.now c.args.args.now c.requires.built.coalescing c.args.pairs.now c.requires.valid c.requires.listed in
+    settled c.new.result _ None (ap (λ (cs : List Col). frame_refusal (table_of cs)) c.in_ok-columns.ensures ∙ IsTable-refusal _ made.1) c.new.ensures.settles
+
+pub returns-clause-answer : goal.returns-clause-answer
+returns-clause-answer g c =
+    let q = by_names (table_of c.args.left.now) (table_of c.args.right.now) c.args.left_on.now c.args.right_on.now c.args.args.now in
+    let made = is_answer c.args.left.now c.args.right.now c.args.left_on.now c.args.right_on.now c.args.args.now c.requires.built.coalescing c.args.pairs.now c.requires.valid c.requires.listed in
+    IfOk-weaker c.new.result _ _ (λ t e. subst (λ (cs : List Col). IsAnswer q (table_of cs)) (sym (e ∙ c.in_ok-columns.ensures)) made.0) c.new.ensures.table
+
+pub returns-clause-table : goal.returns-clause-table
+returns-clause-table g c =
+    let made = is_answer c.args.left.now c.args.right.now c.args.left_on.now c.args.right_on.now c.args.args.now c.requires.built.coalescing c.args.pairs.now c.requires.valid c.requires.listed in
+    IfOk-weaker c.new.result _ _ (λ t e. subst (λ (cs : List Col). IsTable (table_of cs)) (sym (e ∙ c.in_ok-columns.ensures)) made.1) c.new.ensures.table

@@ -1,58 +1,92 @@
-use Rattle.std.proofs.Common.{◌≡◌, ◌++◌, ℕ, List, Option, length, map, ap, sym, ◌∙◌, subst, arith}
-use Rattle.std.specs.Prelude.{All}
-use Rattle.std.proofs.lemmas.List.{length-map}
+use Rattle.std.proofs.Common.{◌≡◌, ◌++◌, ℕ, Bool, List, Option, None, length, map, ap, sym, ◌∙◌, subst, arith}
+use Rattle.std.specs.Prelude.{All, not, unwrap_or}
+use Rattle.std.specs.List.{find}
+use Rattle.std.specs.Option.{ForSome}
+use Rattle.std.proofs.lemmas.List.Elements.{All-filter}
+use Rattle.tb_value.specs.Names.{Name}
+use Rattle.tb_value.specs.SameKind.{same_kind}
+use Rattle.tb_value.specs.declared.error.ComputeCause.TheVariants.{KeyTypes}
+use Rattle.tb_value.specs.declared.error.PolarsError.TheVariants.{ComputeError}
 use Rattle.tb_value.specs.declared.index.JoinPair.{JoinPair}
 use Rattle.tb_chunk.specs.Col.{Col, values}
 use Rattle.tb_chunk.specs.Rows.{IsRowOf}
-use Rattle.tb_frame.specs.Table.{table_of, height, names_of}
-use Rattle.tb_frame.specs.Frame.{opt_taken}
-use Rattle.tb_frame.specs.RightColumns.{right_columns}
-use Rattle.tb_nested.proofs.AnswerTables.{left_in_columns, right_in_columns, columns-made}
+use Rattle.tb_frame.specs.Answer.{gone_left, gone_right, has_right}
+use Rattle.tb_frame.specs.Join.{Request, coalesces, default_suffix, is_among, places}
+use Rattle.tb_frame.specs.Refusal.{key_types, kind_at}
+use Rattle.tb_frame.specs.RightColumns.{right_columns, right_side}
+use Rattle.tb_frame.specs.Table.{TableColumn, table_of, height, names_of}
+use Rattle.tb_frame.proofs.Causes.{map_none}
+use Rattle.tb_frame.proofs.Taking.{all_plain}
+use Rattle.tb_frame.proofs.Validity.{known_left, known_right, same_counts, same_types}
+use Rattle.tb_nested.specs.Asked.{asked}
+use Rattle.tb_nested.specs.Merging.{key_merged, left_column, merges}
+use Rattle.tb_nested.specs.Rows.{HasRows}
+use Rattle.tb_nested.proofs.AnswerTables.{columns-made, in_columns, left_rows_in, right_rows_in, side_level}
+use Rattle.tb_nested.proofs.KeysNamed.{keys_many, merged_kinds}
 use Rattle.tb_nested.proofs.columns.answer_columns.Goals as goal
 
-pub take_opt_columns-requires-clause-rows : goal.take_opt_columns-requires-clause-rows
-take_opt_columns-requires-clause-rows c =
-    let ps = c.args.pairs.now in
-    let rows : map (λ (p : JoinPair). p.left) ps ≡ c.deref.result.now = sym (c.deref.ensures.value ∙ c.in_ok-left_rows.ensures) in
-    subst (λ (cs : List Col). All (λ (k : Col). All (IsRowOf (length (values k))) c.deref.result.now) cs) (sym c.get_columns.ensures.columns)
-    (subst (λ (rs : List (Option ℕ)). All (λ (k : Col). All (IsRowOf (length (values k))) rs) c.args.left.now) rows
-    (left_in_columns (height (table_of c.args.left.now)) (height (table_of c.args.right.now)) ps c.requires.pairs c.args.left.now c.get_columns.ensures.table (λ _. height (table_of c.args.left.now))))
+-- where no cause is about types, no two differ
+not_mixed : (q : Request) → key_types q ≡ None → find (λ p. not (same_kind (kind_at q.left_keys p) (kind_at q.right_keys p))) (places q) ≡ None
+not_mixed q h = map_none (λ (p : ℕ). ComputeError (KeyTypes p)) (find (λ p. not (same_kind (kind_at q.left_keys p) (kind_at q.right_keys p))) (places q)) h
 
-pub take_opt_columns-requires-clause-few : goal.take_opt_columns-requires-clause-few
-take_opt_columns-requires-clause-few c =
-    let ps = c.args.pairs.now in
-    let long : length c.deref.result.now ≡ length ps = ap (λ (rs : List (Option ℕ)). length rs) (c.deref.ensures.value ∙ c.in_ok-left_rows.ensures) ∙ length-map ps (λ (p : JoinPair). p.left) in
-    let few = c.requires.few in
-    omega (arith, long, few)
+abbrev stays : List Name → Col → Bool
+stays gone k = not (is_among gone k.name)
+
+pub left_columns-requires-clause-left_rows : goal.left_columns-requires-clause-left_rows
+left_columns-requires-clause-left_rows c =
+    let r = c.args.request.now in
+    let h = height (table_of r.left.now) in
+    let gone = gone_left r.args.now.how (coalesces (asked r)) r.left_on.now in
+    let level : HasRows h r.left.now = all_plain (λ (k : TableColumn). length k.values ≡ h) r.left.now r.left_table.one_height in
+    let kept : HasRows h c.get_columns.result.now = subst (λ (cs : List Col). HasRows h cs) (sym (c.get_columns.ensures.columns ∙ c.in_ok-kept.ensures)) (All-filter (stays gone) (λ (k : Col). length (values k) ≡ h) r.left.now level) in
+    in_columns h c.deref.result.now c.get_columns.result.now (subst (λ (rows : List (Option ℕ)). All (IsRowOf h) rows) (sym (c.deref.ensures.value ∙ c.in_ok-left.ensures)) (left_rows_in h (height (table_of r.right.now)) c.args.pairs.now c.requires.pairs)) kept
+
+pub left_columns-requires-clause-right_rows : goal.left_columns-requires-clause-right_rows
+left_columns-requires-clause-right_rows c =
+    let r = c.args.request.now in
+    let h = height (table_of r.right.now) in
+    in_columns h c.deref-2.result.now r.right_keys.now (subst (λ (rows : List (Option ℕ)). All (IsRowOf h) rows) (sym (c.deref-2.ensures.value ∙ c.in_ok-right.ensures)) (right_rows_in (height (table_of r.left.now)) h c.args.pairs.now c.requires.pairs)) r.right_rows
+
+pub left_columns-requires-clause-types : goal.left_columns-requires-clause-types
+left_columns-requires-clause-types c =
+    let r = c.args.request.now in
+    let q = asked r in
+    let gone = gone_left r.args.now.how (coalesces q) r.left_on.now in
+    let P : Col → Type 0 = λ k. ForSome (key_merged r k.name) (λ x. k.kind ≡ x.kind) in
+    let is = ap (λ (q : Request). q.left_keys) c.requires.named in
+    let all = merged_kinds r.left.now r.left_keys.now r.right_keys.now r.left_on.now r.left_table is (known_left q c.requires.valid) (not_mixed q (same_types q c.requires.valid)) (merges r.args.now.how (coalesces q)) in
+    subst (λ (cs : List Col). All P cs) (sym (c.get_columns.ensures.columns ∙ c.in_ok-kept.ensures)) (All-filter (stays gone) P r.left.now all)
 
 pub push_right-requires-clause-rows : goal.push_right-requires-clause-rows
 push_right-requires-clause-rows c =
-    let ps = c.args.pairs.now in
-    let rows : map (λ (p : JoinPair). p.right) ps ≡ c.deref-2.result.now = sym (c.deref-2.ensures.value ∙ c.in_ok-right_rows.ensures) in
-    subst (λ (cs : List Col). All (λ (k : Col). All (IsRowOf (length (values k))) c.deref-2.result.now) cs) (sym c.get_columns-3.ensures.columns)
-    (subst (λ (rs : List (Option ℕ)). All (λ (k : Col). All (IsRowOf (length (values k))) rs) c.args.right.now) rows
-    (right_in_columns (height (table_of c.args.left.now)) (height (table_of c.args.right.now)) ps c.requires.pairs c.args.right.now c.get_columns-3.ensures.table (λ _. height (table_of c.args.right.now))))
-
-pub push_right-requires-clause-few : goal.push_right-requires-clause-few
-push_right-requires-clause-few c =
-    let ps = c.args.pairs.now in
-    let long : length c.deref-2.result.now ≡ length ps = ap (λ (rs : List (Option ℕ)). length rs) (c.deref-2.ensures.value ∙ c.in_ok-right_rows.ensures) ∙ length-map ps (λ (p : JoinPair). p.right) in
-    let few = c.requires.few in
-    omega (arith, long, few)
+    let r = c.args.request.now in
+    let h = height (table_of r.right.now) in
+    let level : HasRows h r.right.now = all_plain (λ (k : TableColumn). length k.values ≡ h) r.right.now r.right_table.one_height in
+    let side : HasRows h c.right_side.result.now =
+    subst (λ (cs : List Col). HasRows h cs) (sym (c.right_side.ensures ∙ ap (right_side r.args.now.how) c.get_columns-3.ensures.columns)) (side_level (has_right r.args.now.how) h r.right.now level)
+    in
+    in_columns h c.deref-3.result.now c.right_side.result.now (subst (λ (rows : List (Option ℕ)). All (IsRowOf h) rows) (sym (c.deref-3.ensures.value ∙ c.in_ok-right.ensures)) (right_rows_in (height (table_of r.left.now)) h c.args.pairs.now c.requires.pairs)) side
 
 pub returns : goal.returns
 returns c =
-    let left = c.args.left.now in
-    let right = c.args.right.now in
-    let gone = c.args.gone.now in
-    let suffix = c.args.suffix.now in
+    let r = c.args.request.now in
+    let q = asked r in
+    let how = r.args.now.how in
     let ps = c.args.pairs.now in
     let ls : List (Option ℕ) = map (λ (p : JoinPair). p.left) ps in
     let rs : List (Option ℕ) = map (λ (p : JoinPair). p.right) ps in
-    let is_l : c.deref.result.now ≡ ls = c.deref.ensures.value ∙ c.in_ok-left_rows.ensures in
-    let is_r : c.deref-2.result.now ≡ rs = c.deref-2.ensures.value ∙ c.in_ok-right_rows.ensures in
-    let first : c.in_ok-columns.columns.items ≡ map (opt_taken ls) left = c.in_ok-columns.ensures ∙ (λ t. map (opt_taken (is_l t)) (c.get_columns.ensures.columns t)) in
-    let is : c.push_right.new.columns.items ≡ map (opt_taken ls) left ++ right_columns (names_of (table_of left)) suffix gone rs right =
-    c.in_ok-push_right.ensures ∙ (λ t. first t ++ right_columns (names_of (table_of (c.get_columns-2.ensures.columns t))) suffix gone (is_r t) (c.get_columns-3.ensures.columns t))
+    let suffix : Name = unwrap_or r.args.now.suffix default_suffix in
+    let gone = gone_right how (coalesces q) r.right_on.now in
+    let kept = c.in_ok-kept.kept in
+    let made : List (Option ℕ) → List (Option ℕ) → Col → Col = λ xs ys k. left_column xs ys (key_merged r k.name) k in
+    let left : c.in_ok-columns.columns.items ≡ map (made ls rs) kept =
+    c.in_ok-columns.ensures ∙ (λ t. map (made ((c.deref.ensures.value ∙ c.in_ok-left.ensures) t) ((c.deref-2.ensures.value ∙ c.in_ok-right.ensures) t)) (c.get_columns.ensures.columns t))
     in
-    ap table_of is ∙ columns-made left right gone suffix ps
+    let all : c.push_right.new.columns.items ≡ map (made ls rs) kept ++ right_columns (names_of (table_of kept)) suffix gone rs (right_side how r.right.now) =
+    c.in_ok-push_right.ensures
+    ∙ (λ t. left t ++ right_columns (names_of (table_of (c.get_columns-2.ensures.columns t))) (c.suffix_of.ensures t) (c.gone_right.ensures t) ((c.deref-3.ensures.value ∙ c.in_ok-right.ensures) t) ((c.right_side.ensures ∙ ap (right_side how) c.get_columns-3.ensures.columns) t))
+    in
+    let is_r = ap (λ (q : Request). q.right_keys) c.requires.named in
+    let many = keys_many r.right.now r.right_keys.now r.right_on.now is_r (known_right q c.requires.valid) in
+    let counts = same_counts q c.requires.valid in
+    ap table_of all ∙ columns-made q r.right_keys.now (λ _. table_of r.right_keys.now) (omega (arith, many, counts)) ps r.left.now r.right.now kept (λ _. table_of r.left.now) (λ _. table_of r.right.now) c.in_ok-kept.ensures

@@ -8,4 +8,4 @@ use Rattle.tb_nested.proofs.keys.check_kinds.Given as goal
 
 -- the types at the places so far are key types
 abbrev pub invariant-loop-place : goal.invariant-loop-place
-invariant-loop-place l = find (λ p. not (is_key (kind_at (table_of l.keys) p))) (row_numbers l.place) ≡ None
+invariant-loop-place l = find (λ p. not (is_key (kind_at (table_of l.request.left_keys.now) p))) (row_numbers l.place) ≡ None

@@ -1,0 +1,27 @@
+use Rattle.std.proofs.Common.{◌≡◌, ◌∷◌, Bool, [], not, map, ap, sym, ◌∙◌, Bor}
+use Rattle.std.proofs.lemmas.List.{map-append}
+use Rattle.tb_value.specs.Names.{Name}
+use Rattle.tb_value.proofs.Kept.{made, skipped}
+use Rattle.tb_chunk.specs.Col.{Col}
+use Rattle.tb_frame.specs.Join.{is_among}
+use Rattle.tb_frame.proofs.joined_names.kept_names.Goals as goal
+use Rattle.tb_frame.proofs.joined_names.kept_names.Goals.{then-not-contains+in_ok-push, else-not-contains}
+
+pub loop-column-preserved : goal.loop-column-preserved
+loop-column-preserved c =
+    let now : Bor Name → Name = λ n. n.now in
+    let gone = c.args.gone.now in
+    let f : Col → Name = λ k. k.name in
+    let test : Col → Bool = λ k. not (is_among gone k.name) in
+    let x = c.column-item.result in
+    let names = c.loop-column.names.items in
+    let named : is_among gone x.name ≡ c.contains.result = sym (c.contains.ensures ∙ c.in_ok-gone.ensures c.name.result.now ∙ ap (is_among gone) c.name.ensures) in
+    elim c.if-not-contains.branch [
+      | then-not-contains+in_ok-push w ↦
+          rw w.names-is
+          (ap (map now) w.in_ok-push.ensures.items ∙ map-append now names (w.name-then-not-contains.result ∷ [])
+          ∙ made f test c.args.columns.now c.loop-column.column-index x c.loop-column-test.true c.column-item.is [] (map now names) w.name-then-not-contains.result.now c.loop-column.invariant (ap not (named ∙ w.if-not-contains.true)) w.name-then-not-contains.ensures)
+      | else-not-contains w ↦
+          rw w.names-is
+          (skipped f test c.args.columns.now c.loop-column.column-index x c.loop-column-test.true c.column-item.is [] (map now names) c.loop-column.invariant (ap not (named ∙ w.if-not-contains.false)))
+    ]

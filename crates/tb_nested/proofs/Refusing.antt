@@ -1,0 +1,51 @@
+-- The keys of a request, and the causes why it is refused.
+use Rattle.std.proofs.Common.{◌≡◌, List, [], ◌∷◌, length, refl, sym, ◌∙◌, subst, Option, Some, None, ◌⊎◌, inl, inr}
+use Rattle.std.specs.Prelude.{All}
+use Rattle.std.specs.List.{filter_map}
+use Rattle.tb_value.specs.Names.{Name}
+use Rattle.tb_value.specs.Refusals.{first_cause}
+use Rattle.tb_value.specs.declared.error.PolarsError.{PolarsError}
+use Rattle.tb_value.specs.declared.error.PolarsError.TheVariants.{OutOfMemory}
+use Rattle.tb_chunk.specs.Col.{Col}
+use Rattle.tb_frame.specs.Join.{Request, named}
+use Rattle.tb_frame.specs.Refusal.{join_refusal, key_types, key_kind, repeated_name, broken_side, too_many_rows, unknown_key, no_keys, key_counts, repeated_key}
+use Rattle.tb_frame.specs.Table.{TableColumn, Table, IsTable, height, table_of}
+use Rattle.tb_frame.proofs.Causes.{selected_hold}
+use Rattle.tb_frame.proofs.Taking.{all_plain}
+use Rattle.tb_nested.specs.Causes.{name_causes, later_causes}
+use Rattle.tb_nested.specs.Rows.{HasRows}
+
+-- the columns of keys are as long as their table is high
+pub key_rows : (cs ks : List Col) (names : List Name) → IsTable (table_of cs) → table_of ks ≡ filter_map (named (table_of cs)) names → HasRows (height (table_of cs)) ks
+key_rows cs ks names t is =
+    let P : TableColumn → Type 0 = λ c. length c.values ≡ height (table_of cs) in
+    all_plain P ks (subst (λ (k : Table). All P k) (sym is) (selected_hold P (table_of cs) t.one_height names))
+
+-- THE CAUSES
+
+one_cause : (a : Option PolarsError) → first_cause (a ∷ []) ≡ a
+one_cause (Some e) = refl
+one_cause None = refl
+
+-- the first of four causes and of the rest
+in_two : (a b c d : Option PolarsError) (rest : List (Option PolarsError)) → first_cause (a ∷ b ∷ c ∷ d ∷ rest) ≡ first_cause (first_cause (a ∷ b ∷ c ∷ d ∷ []) ∷ first_cause rest ∷ [])
+in_two (Some a) b c d rest = refl
+in_two None (Some b) c d rest = refl
+in_two None None (Some c) d rest = refl
+in_two None None None (Some d) rest = refl
+in_two None None None None rest = sym (one_cause (first_cause rest))
+
+pub two_causes : (q : Request) → join_refusal q ≡ first_cause (name_causes q.left q.right q.left_on q.right_on ∷ later_causes q ∷ [])
+two_causes q = in_two (unknown_key q) (no_keys q) (key_counts q) (repeated_key q) (key_types q ∷ key_kind q ∷ repeated_name q ∷ broken_side q ∷ too_many_rows q ∷ [])
+
+-- an error of the first part, one of the second, and none
+pub by_first : (j a b other : Option PolarsError) (e : PolarsError) → j ≡ first_cause (a ∷ b ∷ []) → other ≡ a → (e ≡ OutOfMemory) ⊎ (other ≡ Some e) → (e ≡ OutOfMemory) ⊎ (j ≡ Some e)
+by_first j a b other e is same (inl h) = inl h
+by_first j a b other e is same (inr h) = inr (is ∙ (λ t. first_cause ((sym same ∙ h) t ∷ b ∷ [])))
+
+pub by_second : (j a b : Option PolarsError) (e : PolarsError) → j ≡ first_cause (a ∷ b ∷ []) → a ≡ None → (e ≡ OutOfMemory) ⊎ (b ≡ Some e) → (e ≡ OutOfMemory) ⊎ (j ≡ Some e)
+by_second j a b e is x (inl h) = inl h
+by_second j a b e is x (inr h) = inr (is ∙ (λ t. first_cause (x t ∷ h t ∷ [])))
+
+pub by_none : (j a b : Option PolarsError) → j ≡ first_cause (a ∷ b ∷ []) → a ≡ None → b ≡ None → j ≡ None
+by_none j a b is x y = is ∙ (λ t. first_cause (x t ∷ y t ∷ []))

@@ -1,0 +1,37 @@
+//! A request to join whose parts are lent.
+ghost use Rattle.std.specs.Prelude.{◌≡◌, ◌≤◌, length};
+ghost use Rattle.tb_frame.specs.Table.{table_of, height, IsTable};
+ghost use Rattle.tb_nested.specs.Rows.{HasRows};
+
+use tb_frame::{DataFrame, JoinArgs};
+use tb_store::Column;
+use tb_value::PlSmallStr;
+
+/// Two tables, the names and the columns of their keys, and what else is asked of their join.
+#[derive(Drop)]
+pub(crate) struct LentRequest<'a> {
+    pub left: &'a DataFrame,
+    pub right: &'a DataFrame,
+    pub left_on: &'a [PlSmallStr],
+    pub right_on: &'a [PlSmallStr],
+    pub left_keys: &'a [Column],
+    pub right_keys: &'a [Column],
+    pub args: &'a JoinArgs,
+    ghost left_table: { IsTable (table_of left.now) },
+    ghost right_table: { IsTable (table_of right.now) },
+    ghost left_rows: { HasRows (height (table_of left.now)) left_keys.now },
+    ghost right_rows: { HasRows (height (table_of right.now)) right_keys.now },
+}
+
+impl LentRequest<'_> {
+    ghost use Rattle.tb_nested.specs.Asked.{place_count};
+
+    /// The number of places that both key lists have.
+    pub fn places(&self) -> usize
+        ensures exact { result ≡ place_count self.now }
+        ensures left { result ≤ length self.now.left_keys.now }
+        ensures right { result ≤ length self.now.right_keys.now }
+    {
+        self.left_keys.len().min(self.right_keys.len())
+    }
+}
