@@ -12,7 +12,10 @@ use tb_frame::{DataFrame, IntoDf};
 use tb_store::Column;
 use tb_value::{ChunkId, IsSorted, OutOfMemory};
 
-/// A table whose columns are gathered from side by side, by as many threads as there are processors.
+// A column of fewer rows is gathered in less time than a thread takes to start.
+const WORTH_A_THREAD: usize = 8_192;
+
+/// A table whose columns are gathered from side by side, by threads where there are many rows to gather.
 pub trait TakeChunkedHorPar<const B: u64>: IntoDf {
     /// As `TakeChunked::take_chunked_unchecked`.
     final fn _take_chunked_unchecked_hor_par(
@@ -50,6 +53,15 @@ pub trait TakeChunkedHorPar<const B: u64>: IntoDf {
 
 impl<const B: u64> TakeChunkedHorPar<B> for DataFrame {}
 
+// How many columns a thread gathers at least.
+fn columns_a_thread<const B: u64>(columns: &[Column], by: &[ChunkId<B>]) -> usize {
+    if by.len() < WORTH_A_THREAD {
+        columns.len()
+    } else {
+        1
+    }
+}
+
 // The rows of each column that the ids name.
 fn gather_side_by_side<const B: u64>(
     rt: &(impl Threads + Sync),
@@ -66,6 +78,7 @@ fn gather_side_by_side<const B: u64>(
 {
     columns
         .par_iter()
+        .with_min_len(columns_a_thread(columns, by))
         .map(
             |column: &Column| -> Result<Column, OutOfMemory>
                 requires present { All (λ (id : Id). IsSome id) by.now }
@@ -91,6 +104,7 @@ fn gather_opt_side_by_side<const B: u64>(
 {
     columns
         .par_iter()
+        .with_min_len(columns_a_thread(columns, by))
         .map(
             |column: &Column| -> Result<Column, OutOfMemory>
                 requires named { NameRows by.now column.now }

@@ -209,7 +209,7 @@ fn by_rows(
     table: &DataFrame,
     rows: &[NullableIdxSize],
 ) -> Result<DataFrame, Fail> {
-    if rows.len() <= TEXTS.len() && are_rows(table.height(), rows) {
+    if rows.len() <= 10_000 && are_rows(table.height(), rows) {
         Ok(gather_rows(rt, alloc, table, rows)?)
     } else {
         Err(Fail::from("a number is of no row"))
@@ -267,6 +267,21 @@ fn tables_by_ids(rt: HostRuntime) -> Result<(), Fail> {
     let by = ids(alloc, &[None, Some((0, 1)), Some((1, 1))])?;
     assert!(rt; are_all_texts(&of_table(alloc, &table, &by)?, &[7, 1, 3]));
     assert!(rt; are_all_texts(&of_sides(&rt, alloc, &table, &by)?, &[7, 1, 3]));
+    Ok(())
+}
+
+// More than are gathered by one thread.
+#[test]
+fn many_rows(rt: HostRuntime) -> Result<(), Fail> {
+    let alloc = rt.alloc();
+    let table = two_columns(alloc, &[2, 4], &[2, 4])?;
+    let mut rows = Vec::new(alloc);
+    let mut wanted = Vec::new(alloc);
+    for row in 0u32..9_000 {
+        rows.push(NullableIdxSize::some(row % 7))?;
+        wanted.push((row % 7) as usize)?;
+    }
+    assert!(rt; are_all_texts(&by_rows(&rt, alloc, &table, &rows)?, &wanted));
     Ok(())
 }
 

@@ -8,6 +8,12 @@ use Rattle.tb_gather.specs.Gathered.{NameRows, gathered}
 use Rattle.tb_gather.proofs.Chained.{chained}
 use Rattle.tb_gather.proofs.side_by_side.gather_side_by_side.Goals as goal
 
+pub with_min_len-requires-send-Self : goal.with_min_len-requires-send-Self
+with_min_len-requires-send-Self g c κs within = search (Column-sync, crosses, sendable) depth 60 fits 20000
+
+pub with_min_len-requires-send-Self-Item : goal.with_min_len-requires-send-Self-Item
+with_min_len-requires-send-Self-Item g c κs within = search (Column-sync, crosses, sendable) depth 60 fits 20000
+
 pub map-requires-send-Self : goal.map-requires-send-Self
 map-requires-send-Self g c κs within = search (Column-sync, crosses, sendable) depth 60 fits 20000
 
@@ -27,7 +33,7 @@ pub collect-requires-send-C : goal.collect-requires-send-C
 collect-requires-send-C g c κs within = search (Column-send, crosses, sendable) depth 60 fits 20000
 
 pub collect-requires-clause-ready : goal.collect-requires-clause-ready
-collect-requires-clause-ready g c κs within = rw (c.map.ensures.base, c.map.ensures.f, c.par_iter.ensures) λ k d low x is.
+collect-requires-clause-ready g c κs within = rw (c.map.ensures.base, c.map.ensures.f, c.with_min_len.ensures.base, c.par_iter.ensures) λ k d low x is.
     let named : NameRows c.args.by.now x.now = subst (λ (col : Col). NameRows c.args.by.now col) (sym is) (c.requires.named k d low) in
     ((search, (c.requires.present, (named, (c.requires.runs, c.requires.few)))), λ y h. tt)
 
@@ -35,7 +41,7 @@ pub returns : goal.returns
 returns g c =
     let by : c.map.result.f.1.now ≡ c.args.by.now = ap (λ f. f.1.now) c.map.ensures.f in
     let sorted : c.map.result.f.2.now ≡ c.args.sorted = ap (λ f. f.2.now) c.map.ensures.f in
-    let whole : c.map.result.base.slice.now ≡ c.args.columns.now = ap (λ it. it.slice.now) c.map.ensures.base ∙ c.par_iter.ensures in
+    let whole : c.map.result.base.base.slice.now ≡ c.args.columns.now = ap (λ it. it.base.slice.now) c.map.ensures.base ∙ (ap (λ it. it.slice.now) c.with_min_len.ensures.base ∙ c.par_iter.ensures) in
     let h = c.in_ok-collect.ensures in
     subst (λ m. IfOk c.in_ok-collect.field-0 (λ v. v.items ≡ m)) (λ i. map (gathered (by i) (sorted i)) (whole i))
-    (chained (gathered c.map.result.f.1.now c.map.result.f.2.now) (λ v. v.items) c.map.result.base.slice.now h.1.0 h.0 c.in_ok-collect.field-0 h.1.1 h.1.2 h.2)
+    (chained (gathered c.map.result.f.1.now c.map.result.f.2.now) (λ v. v.items) c.map.result.base.base.slice.now h.1.0 h.0 c.in_ok-collect.field-0 h.1.1 h.1.2 h.2)
