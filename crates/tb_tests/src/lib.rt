@@ -1,0 +1,11 @@
+//! Tests that cross crates. The library itself is empty.
+#![tactic(auto)]
+
+#[cfg(test)]
+mod columns;
+#[cfg(test)]
+mod pairs;
+#[cfg(test)]
+mod program;
+#[cfg(test)]
+mod tables;

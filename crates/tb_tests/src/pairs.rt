@@ -1,0 +1,1 @@
+// Tests of pairs of rows, of what gathers rows, and of workers.

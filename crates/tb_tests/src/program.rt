@@ -1,0 +1,1 @@
+// Tests of joins from a request's text to an answer's.
