@@ -5,6 +5,7 @@ use Rattle.tb_value.specs.Datum.{Datum}
 use Rattle.tb_value.specs.Kind.{Kind}
 use Rattle.tb_value.specs.Kind as kind
 use Rattle.tb_value.specs.Typed.{HasType}
+use Rattle.tb_value.specs.declared.limits.TheConstants.{MAX_ROWS}
 use Rattle.tb_value.specs.declared.sorted.IsSorted.{IsSorted}
 use Rattle.tb_chunk.specs.Flag.{FlagHolds}
 
@@ -36,6 +37,6 @@ physical t = t
 -- what is true of each column
 pub record IsColumn (c : Col) : Type 0 where
   pub chunked : 0 < length c.chunks
-  pub short : length (values c) ≤ 4294967294
+  pub short : length (values c) ≤ MAX_ROWS
   pub typed : All (HasType c.kind) (values c)
   pub flag_holds : FlagHolds c.flag c.kind (values c)

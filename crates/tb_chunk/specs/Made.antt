@@ -5,6 +5,7 @@ use Rattle.tb_value.specs.Datum.{Datum}
 use Rattle.tb_value.specs.Kind.{Kind}
 use Rattle.tb_value.specs.See.{data_of}
 use Rattle.tb_value.specs.Typed.{HasType}
+use Rattle.tb_value.specs.declared.limits.TheConstants.{MAX_ROWS}
 use Rattle.tb_value.specs.declared.any_value.AnyValue.{AnyValue}
 use Rattle.std.specs.declared.vec.Vec.{Vec}
 use Rattle.std.specs.declared.alloc.Global.{Global}
@@ -27,7 +28,7 @@ abbrev pub IsTyped : Kind → List (List Datum) → Type 0
 IsTyped t cs = All (HasType t) (flat cs)
 
 abbrev pub IsShort : List (List Datum) → Type 0
-IsShort cs = length (flat cs) ≤ 4294967294
+IsShort cs = length (flat cs) ≤ MAX_ROWS
 
 -- why there is no column: a value of another type first, then too many values; want of memory at any time
 abbrev pub IsRefused : Type 0 → Type 0 → PolarsError → Type 0

@@ -4,13 +4,14 @@ use Rattle.std.specs.List.{All}
 use Rattle.std.proofs.lemmas.List.{length-map, append-nil}
 use Rattle.tb_value.specs.Typed.{HasType}
 use Rattle.tb_value.specs.declared.sorted.IsSorted.TheVariants.{Not}
+use Rattle.tb_value.specs.declared.limits.TheConstants.{MAX_ROWS}
 use Rattle.tb_chunk.specs.Col.{Col, IsColumn, flat, values}
 use Rattle.tb_chunk.specs.Rows.{IsRowOf, value_or_null}
 use Rattle.tb_chunk.proofs.Flags.{flag_part}
 use Rattle.tb_chunk.proofs.Lists.{All-picked}
 use Rattle.std.proofs.lemmas.List.Elements.{All-take, All-drop}
 
-pub picked_column : {R : Type 0} (c d : Col) (number : R → Option ℕ) (rows : List R) → IsColumn c → All (λ r. IsRowOf (length (values c)) (number r)) rows → length rows ≤ 4294967294 → d.kind ≡ c.kind → d.chunks ≡ map (λ r. value_or_null (values c) (number r)) rows ∷ [] → d.flag ≡ Not → IsColumn d
+pub picked_column : {R : Type 0} (c d : Col) (number : R → Option ℕ) (rows : List R) → IsColumn c → All (λ r. IsRowOf (length (values c)) (number r)) rows → length rows ≤ MAX_ROWS → d.kind ≡ c.kind → d.chunks ≡ map (λ r. value_or_null (values c) (number r)) rows ∷ [] → d.flag ≡ Not → IsColumn d
 picked_column c d number rows column within few same_kind picked not =
     let all : values d ≡ map (λ r. value_or_null (values c) (number r)) rows = ap flat picked ∙ append-nil (map (λ r. value_or_null (values c) (number r)) rows) in
     record {

@@ -10,14 +10,14 @@ use crate::column::Column;
 use crate::series::Series;
 use std::alloc::Global;
 use tb_chunk::RowNumber;
-use tb_value::{IdxSize, IsSorted, NullableIdxSize, OutOfMemory};
+use tb_value::{IdxSize, IsSorted, MAX_ROWS, NullableIdxSize, OutOfMemory};
 
 impl Series {
     /// The values of these rows, in the order and as often as they are named, in one chunk, with the
     /// flag Not.
     pub fn take(&self, alloc: Global, rows: &[IdxSize]) -> Result<Series, OutOfMemory>
         requires rows { All (λ r. r < length (values self.now)) rows.now }
-        requires few { length rows.now ≤ 4294967294 }
+        requires few { length rows.now ≤ MAX_ROWS }
         ensures { IfOk result (λ s. s ≡ record self.now { chunks = map (λ r. slice_index_or (values self.now) r null) rows.now ∷ []; flag = Not }) }
     {
         self.picked(alloc, rows)
@@ -26,7 +26,7 @@ impl Series {
     /// As `take`, where an absent row gives Null.
     pub fn take_opt(&self, alloc: Global, rows: &[NullableIdxSize]) -> Result<Series, OutOfMemory>
         requires rows { All (IsRowOf (length (values self.now))) rows.now }
-        requires few { length rows.now ≤ 4294967294 }
+        requires few { length rows.now ≤ MAX_ROWS }
         ensures { IfOk result (λ s. s ≡ record self.now { chunks = map (value_or_null (values self.now)) rows.now ∷ []; flag = Not }) }
     {
         self.picked(alloc, rows)
@@ -34,7 +34,7 @@ impl Series {
 
     fn picked<R: RowNumber>(&self, alloc: Global, rows: &[R]) -> Result<Series, OutOfMemory>
         requires rows { All (λ r. IsRowOf (length (values self.now)) (R.number r)) rows.now }
-        requires few { length rows.now ≤ 4294967294 }
+        requires few { length rows.now ≤ MAX_ROWS }
         ensures { IfOk result (λ s. s ≡ record self.now { chunks = map (λ r. value_or_null (values self.now) (R.number r)) rows.now ∷ []; flag = Not }) }
     {
         let _len = self.len();
@@ -49,7 +49,7 @@ impl Column {
     /// As `Series::take`.
     pub fn take(&self, alloc: Global, rows: &[IdxSize]) -> Result<Column, OutOfMemory>
         requires rows { All (λ r. r < length (values self.now)) rows.now }
-        requires few { length rows.now ≤ 4294967294 }
+        requires few { length rows.now ≤ MAX_ROWS }
         ensures { IfOk result (λ c. c ≡ record self.now { chunks = map (λ r. slice_index_or (values self.now) r null) rows.now ∷ []; flag = Not }) }
     {
         let series = self.as_materialized_series().take(alloc, rows)?;
@@ -59,7 +59,7 @@ impl Column {
     /// As `Series::take_opt`.
     pub fn take_opt(&self, alloc: Global, rows: &[NullableIdxSize]) -> Result<Column, OutOfMemory>
         requires rows { All (IsRowOf (length (values self.now))) rows.now }
-        requires few { length rows.now ≤ 4294967294 }
+        requires few { length rows.now ≤ MAX_ROWS }
         ensures { IfOk result (λ c. c ≡ record self.now { chunks = map (value_or_null (values self.now)) rows.now ∷ []; flag = Not }) }
     {
         let series = self.as_materialized_series().take_opt(alloc, rows)?;

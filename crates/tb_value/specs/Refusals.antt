@@ -16,3 +16,7 @@ when b e = (if b then Some e else None)
 -- A call settles a cause: it passes exactly where there is none, and else refuses by it. Want of memory may come at any time.
 abbrev pub Settles : {T : Type 0} → Result T PolarsError → Option PolarsError → Type 0
 Settles r cause = MatchResult r (λ _. cause ≡ None) (λ e. (e ≡ OutOfMemory) ⊎ (cause ≡ Some e))
+
+-- The same of a call that takes no memory: it passes exactly where there is no cause, and else refuses by it.
+abbrev pub SettlesOutright : {T : Type 0} → Result T PolarsError → Option PolarsError → Type 0
+SettlesOutright r cause = MatchResult r (λ _. cause ≡ None) (λ e. cause ≡ Some e)

@@ -34,7 +34,7 @@ impl<const B: u64> ChunkId<B> {
     pub fn store(chunk: IdxSize, row: IdxSize) -> ChunkId<B>
         requires bits { (0 < B) × (B ≤ 32) }
         requires chunk { chunk < 2 ^ B - 1 }
-        requires row { row < 4294967295 }
+        requires row { row < u32.MAX }
         ensures { result ≡ Some (chunk, row) }
     {
         ChunkId {

@@ -38,7 +38,7 @@ impl NullableIdxSize {
 
     /// This row.
     pub fn some(row: IdxSize) -> NullableIdxSize
-        requires { row < 4294967295 }
+        requires { row < u32.MAX }
         ensures { result ≡ Some row }
     {
         NullableIdxSize { inner: row }
@@ -114,8 +114,8 @@ pub struct JoinPair {
 impl JoinPair {
     /// These two rows.
     pub fn both(left: IdxSize, right: IdxSize) -> JoinPair
-        requires left { left < 4294967295 }
-        requires right { right < 4294967295 }
+        requires left { left < u32.MAX }
+        requires right { right < u32.MAX }
         ensures { result ≡ both left right }
     {
         JoinPair {
@@ -126,7 +126,7 @@ impl JoinPair {
 
     /// This left row alone.
     pub fn left_only(left: IdxSize) -> JoinPair
-        requires { left < 4294967295 }
+        requires { left < u32.MAX }
         ensures { result ≡ left_only left }
     {
         JoinPair {
@@ -137,7 +137,7 @@ impl JoinPair {
 
     /// This right row alone.
     pub fn right_only(right: IdxSize) -> JoinPair
-        requires { right < 4294967295 }
+        requires { right < u32.MAX }
         ensures { result ≡ right_only right }
     {
         JoinPair {

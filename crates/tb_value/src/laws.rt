@@ -22,7 +22,7 @@ pub fn same_kind()
 pub fn chunk_round_trip<const B: u64>(chunk: IdxSize, row: IdxSize) -> (IdxSize, IdxSize)
     requires bits { (0 < B) × (B ≤ 32) }
     requires chunk { chunk < 2 ^ B - 1 }
-    requires row { row < 4294967295 }
+    requires row { row < u32.MAX }
     ensures { result ≡ (chunk, row) }
 {
     ChunkId::<B>::store(chunk, row).extract()

@@ -25,6 +25,6 @@ pub use chunk_id::{ChunkId, StandardChunkId};
 pub use dtype::{DataType, Field, Fields, TimeUnit};
 pub use error::{ComputeCause, InvalidCause, OutOfMemory, PolarsError, PolarsResult, Side};
 pub use index::{IdxSize, JoinPair, NullableIdxSize};
-pub use limits::{MAX_ROWS, TOO_LONG};
+pub use limits::{MAX_ROWS, TOO_LONG, TOO_MANY_CHUNKS};
 pub use pl_str::PlSmallStr;
 pub use sorted::IsSorted;
