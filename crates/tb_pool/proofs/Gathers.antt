@@ -1,22 +1,27 @@
 -- What the workers bring back, taken in one by one.
 use Rattle.std.proofs.Common.{◌≡◌, ℕ, ◌+◌, ◌<◌, ◌≤◌, ◌==◌, cond, List, [], ◌∷◌, ◌++◌, map, length, get_or, refl, sym, ap, ◌∙◌, subst, ⊎_elim, arith, sum_by}
-use Rattle.std.specs.Prelude.{All}
+use Rattle.std.specs.Prelude.{All, slice_index_or}
 use Rattle.std.specs.List.{remove}
 use Rattle.std.proofs.lemmas.List.Sums.{sum_by_push, sum_by-cons}
-use Rattle.std.proofs.lemmas.List.Elements.{All-head, All-tail, All-cons, All-nil, All-append}
+use Rattle.std.proofs.lemmas.List.Elements.{All-head, All-tail, All-cons, All-nil, All-push, All-append}
 use Rattle.std.proofs.lemmas.Bool.Decides.{nat_tests}
 use Rattle.std.proofs.lemmas.Bool.{cases_lt}
 use Rattle.tb_pool.specs.declared.workers.Worker.{Worker}
 use Rattle.tb_pool.specs.Core.{times, once_below}
 use Rattle.tb_pool.specs.Running.{ClaimsView, SeatView, IsSeatOf}
-use Rattle.tb_pool.specs.Workers.{HasEnded}
-use Rattle.tb_pool.specs.Gathering.{IsGathered}
+use Rattle.tb_pool.specs.Workers.{HasEnded, IsLetIn}
+use Rattle.tb_pool.specs.DoneView.{DoneView}
+use Rattle.tb_pool.specs.Gathering.{Ascend, IsDone, IsGathered}
 use Rattle.tb_pool.proofs.Keeps.{times-append}
 use Rattle.tb_pool.proofs.Steps.{below_next}
 
 pub map-append : {X Y : Type 0} (f : X → Y) (xs ys : List X) → map f (xs ++ ys) ≡ map f xs ++ map f ys
 map-append f [] ys = refl
 map-append f (x ∷ xs) ys = ap (λ l. f x ∷ l) (map-append f xs ys)
+
+pub map-map : {X Y Z : Type 0} (f : X → Y) (g : Y → Z) (xs : List X) → map g (map f xs) ≡ map (λ x. g (f x)) xs
+map-map f g [] = refl
+map-map f g (x ∷ xs) = ap (λ l. g (f x) ∷ l) (map-map f g xs)
 
 pub apart : (x y : ℕ) → x < y → times x (y ∷ []) ≡ 0
 apart x y h = grind (arith, nat_tests)
@@ -65,6 +70,7 @@ module _ {O : Type 0} where
     late_one = (e.last, e.is_late, (let t = times_drawn R c.bound w e e.last in let z : times e.last (e.last ∷ []) ≡ 1 = same e.last in omega arith));
     below = All-unmap c.bound w.results.items (subst (All (λ x. x < c.bound)) e.paired e.below);
     given = e.given;
+    ascend = All-cons Ascend w.claimed.items [] e.ascends (All-nil Ascend);
     listed = λ x. (let one = sum_by-cons (times x) w.claimed.items [] in let l : times x w.claimed.items ≡ times x (parts_of w.results.items) = ap (times x) e.paired in omega arith);
   }
 
@@ -86,6 +92,7 @@ module _ {O : Type 0} where
         late_one = (k.late_one.0, k.late_one.1, (let d = seat k.late_one.0 in let h = k.late_one.2 in omega arith));
         below = subst (All (λ p. p.0 < c.bound)) (sym all_is) (All-append (λ p. p.0 < c.bound) found w.results.items k.below (All-unmap c.bound w.results.items (subst (All (λ x. x < c.bound)) e.paired e.below)));
         given = subst (All (λ p. R p.0 p.1)) (sym all_is) (All-append (λ p. R p.0 p.1) found w.results.items k.given e.given);
+        ascend = subst (All Ascend) (sym more_is) (All-push Ascend lists w.claimed.items k.ascend e.ascends);
         listed = λ x. ap (sum_by (times x)) more_is ∙ sum_by_push (times x) lists w.claimed.items ∙ (λ i. k.listed x i + times x (e.paired i)) ∙ sym (parts x);
       }
 
@@ -105,3 +112,20 @@ module _ {O : Type 0} where
   pub first_out : (ws rest : List (Worker O)) (w : Worker O) → 0 < length ws → w ≡ get_or ws 0 w → rest ≡ remove ws 0 → ws ≡ w ∷ rest
   first_out [] rest w some is left = absurd (omega arith)
   first_out (x ∷ xs) rest w some is left = λ i. sym is i ∷ sym left i
+
+  -- each part was let in, where each has a result of a part that was
+  pub all_let_in : (L : ℕ → Type 0) (R : ℕ → O → Type 0) (n workers : ℕ) (d : DoneView O) → IsDone (IsLetIn L R) n workers d → (part : ℕ) → part < n → L part
+  all_let_in L R n workers d k part lt = from_some d.results k.count k.each
+    where
+      from_some : (xs : List O) → length xs ≡ n → ((p : ℕ) (x : O) → p < n → IsLetIn L R p (slice_index_or xs p x)) → L part
+      from_some [] count each = absurd (omega arith)
+      from_some (x ∷ xs) count each = (each part x lt).0
+
+  pub done_of_let_in : (L : ℕ → Type 0) (R : ℕ → O → Type 0) (n seated workers : ℕ) (d : DoneView O) → IsDone (IsLetIn L R) n seated d → seated ≡ workers → IsDone R n workers d
+  done_of_let_in L R n seated workers d k all = record {
+    count = k.count;
+    each = λ part x lt. (k.each part x lt).1;
+    lists = k.lists ∙ all;
+    ascend = k.ascend;
+    claimed_once = k.claimed_once;
+  }

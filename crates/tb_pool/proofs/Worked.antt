@@ -1,11 +1,12 @@
 -- A worker's loop, and workers in halves.
 use Rattle.std.proofs.Common.{◌≡◌, ℕ, ◌+◌, ◌<◌, ◌≤◌, false, List, [], ◌∷◌, ◌++◌, map, refl, sym, ap, ◌∙◌, subst, arith}
-use Rattle.std.specs.Prelude.{All, cond, nat_le}
+use Rattle.std.specs.Prelude.{All, AllPairs, cond, nat_le}
 use Rattle.std.proofs.lemmas.Bool.Decides.{nat_tests}
 use Rattle.tb_pool.specs.Core.{late_count, IsPast}
 use Rattle.std.specs.List.{fold}
 use Rattle.std.proofs.lemmas.List.Sums.{fold_push, sum_by-cons}
 use Rattle.std.proofs.lemmas.List.Elements.{All-head, All-tail, All-push}
+use Rattle.std.proofs.lemmas.List.Quantifiers.{all_pairs_push}
 use Rattle.tb_pool.specs.declared.workers.Worker.{Worker}
 use Rattle.tb_pool.specs.Running.{ClaimsView, IsSeatOf}
 
@@ -42,6 +43,7 @@ module _ {O : Type 0} where
     pub weight : v.seat.weight ≡ w.seat.weight
     pub drawn : v.seat.drawn ≡ v.claimed.items
     pub below : All (λ x. x < c.bound) v.claimed.items
+    pub ascends : AllPairs (λ x y. x < y) v.claimed.items
     pub paired : v.claimed.items ≡ map (λ p. p.0) v.results.items
     pub given : All (λ p. R p.0 p.1) v.results.items
     pub not_wanting : v.wanting ≡ false
@@ -51,13 +53,14 @@ module _ {O : Type 0} where
 
   -- a turn: v' is v with one part more, and its result
   pub goes_on : (R : ℕ → O → Type 0) (c : ClaimsView) (w v v' : Worker O) (part : ℕ) (out : O) → IsAtWork R c w v
-      → IsSeatOf c v'.seat → v'.seat.weight ≡ v.seat.weight → v'.seat.drawn ≡ v.seat.drawn ++ part ∷ [] → part < c.bound
+      → IsSeatOf c v'.seat → v'.seat.weight ≡ v.seat.weight → v'.seat.drawn ≡ v.seat.drawn ++ part ∷ [] → All (λ y. y < part) v.seat.drawn → part < c.bound
       → v'.claimed.items ≡ v.claimed.items ++ part ∷ [] → v'.results.items ≡ v.results.items ++ (part, out) ∷ [] → R part out → v'.wanting ≡ v.wanting → IsAtWork R c w v'
-  goes_on R c w v v' part out k own weight drawn small claimed results given wanting = record {
+  goes_on R c w v v' part out k own weight drawn above_all small claimed results given wanting = record {
     own = own;
     weight = weight ∙ k.weight;
     drawn = drawn ∙ ap (λ xs. xs ++ part ∷ []) k.drawn ∙ sym claimed;
     below = subst (All (λ x. x < c.bound)) (sym claimed) (All-push (λ x. x < c.bound) v.claimed.items part k.below small);
+    ascends = subst (AllPairs (λ x y. x < y)) (sym claimed) (all_pairs_push (λ x y. x < y) v.claimed.items part k.ascends (subst (All (λ y. y < part)) k.drawn above_all));
     paired = claimed ∙ ap (λ xs. xs ++ part ∷ []) k.paired ∙ sym (map-append v.results.items (part, out)) ∙ ap (map (λ p. p.0)) (sym results);
     given = subst (All (λ p. R p.0 p.1)) (sym results) (All-push (λ p. R p.0 p.1) v.results.items (part, out) k.given given);
     not_wanting = wanting ∙ k.not_wanting;

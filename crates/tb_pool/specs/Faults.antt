@@ -1,6 +1,6 @@
 -- Why numbers make no `Exec`.
 use Rattle.std.specs.Prelude.{◌≡◌, ℕ}
-use Rattle.tb_pool.specs.Plan.{MayCount}
+use Rattle.tb_pool.specs.ExecView.{MayCount}
 use Rattle.tb_pool.specs.declared.exec.ExecFault.{ExecFault}
 use Rattle.tb_pool.specs.declared.exec.ExecFault.TheVariants.{BadWorkers, BadPartitions, BadFactor}
 

@@ -1,4 +1,4 @@
-pub mod Plan
+pub mod ExecView
 pub mod Faults
 pub mod Portions
 pub mod Core

@@ -1,7 +1,11 @@
 -- What a worker has before and after it works.
-use Rattle.std.specs.Prelude.{◌≡◌, ℕ, ◌<◌, ◌≤◌, false, List, [], ◌∷◌, ◌++◌, map, length, slice_index_or, All}
+use Rattle.std.specs.Prelude.{◌≡◌, ℕ, ◌<◌, ◌≤◌, false, List, [], ◌∷◌, ◌++◌, map, length, slice_index_or, All, AllPairs}
 use Rattle.tb_pool.specs.declared.workers.Worker.{Worker}
 use Rattle.tb_pool.specs.Running.{ClaimsView, IsSeatOf}
+
+-- the part was let in, and it may give this
+abbrev pub IsLetIn : {O : Type 0} → (ℕ → Type 0) → (ℕ → O → Type 0) → ℕ → O → Type 0
+IsLetIn L R part out = L part × R part out
 
 module _ {O : Type 0} where
   -- it has claimed nothing
@@ -12,13 +16,14 @@ module _ {O : Type 0} where
     pub no_results : w.results.items ≡ []
     pub not_wanting : w.wanting ≡ false
 
-  -- its parts are below n, each has a result that it gives, and its seat has drawn them and one number more, of at
-  -- least n
+  -- its parts are below n and ascend, each has a result that it gives, and its seat has drawn them and one number more,
+  -- of at least n
   pub record HasEnded (R : ℕ → O → Type 0) (n : ℕ) (w : Worker O) : Type 0 where
     pub last : ℕ
     pub is_late : n ≤ last
     pub drawn : w.seat.drawn ≡ w.claimed.items ++ last ∷ []
     pub below : All (λ x. x < n) w.claimed.items
+    pub ascends : AllPairs (λ x y. x < y) w.claimed.items
     pub paired : w.claimed.items ≡ map (λ p. p.0) w.results.items
     pub given : All (λ p. R p.0 p.1) w.results.items
 

@@ -1,7 +1,7 @@
 //! How many workers and partitions there are, and the numbers that choose a path.
 ghost use Rattle.std.specs.Prelude.{◌≡◌, ◌≤◌, IfOk, IfErr};
 ghost use Rattle.tb_pool.specs.Faults.{IsFirstFault};
-ghost use Rattle.tb_pool.specs.Plan.{MayStand};
+ghost use Rattle.tb_pool.specs.ExecView.{MayStand};
 
 use std::marker::Model;
 use thiserror::Error;
@@ -17,9 +17,9 @@ pub struct Exec {
 }
 
 impl Model for Exec {
-    ghost use Rattle.tb_pool.specs.Plan.{Plan, MayStand};
+    ghost use Rattle.tb_pool.specs.ExecView.{ExecView, MayStand};
 
-    ghost Value = { Plan };
+    ghost Value = { ExecView };
 
     ghost view = { λ e. record { workers = e.workers; partitions = e.partitions; small = e.small; num = e.num; den = e.den } };
 

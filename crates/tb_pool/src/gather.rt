@@ -3,11 +3,11 @@ ghost use Rattle.std.specs.Prelude.{◌≡◌, ℕ, ◌+◌, ◌<◌, ◌≤◌,
 ghost use Rattle.std.specs.List.{Contains};
 ghost use Rattle.tb_pool.specs.Core.{times, once_below};
 ghost use Rattle.tb_pool.specs.Running.{ClaimsView, SeatView, IsSeatOf};
-ghost use Rattle.tb_pool.specs.Workers.{HasStopped, HasEnded};
-ghost use Rattle.tb_pool.specs.Gathering.{IsGathered, IsDone, ArePlaced, AreInOrder};
+ghost use Rattle.tb_pool.specs.Workers.{HasStopped, HasEnded, IsLetIn};
+ghost use Rattle.tb_pool.specs.Gathering.{Ascend, IsGathered, IsDone, ArePlaced, AreInOrder};
 
 use crate::claims::{ClaimSeat, Claims};
-use crate::parts::Parts;
+use crate::parts::{Gate, Parts};
 use crate::workers::Worker;
 use std::alloc::Global;
 use std::marker::Model;
@@ -48,7 +48,7 @@ impl<O> Done<O> {
         results
     }
 
-    /// The parts that one worker claimed. Workers count from 0.
+    /// The parts that one worker claimed, in the order in which it did. Workers count from 0.
     pub fn claimed(&self, worker: usize) -> &[u32]
         requires { worker < length self.now.claimed }
         ensures { result.now ≡ slice_index_or self.now.claimed worker [] }
@@ -66,21 +66,23 @@ struct Gathered<O> {
 }
 
 // Takes one more worker in.
-fn take_in<P: Parts>(
+fn take_in<P: Parts, G: Gate>(
     work: &P,
+    gate: &G,
     claims: &Claims,
     all: Gathered<P::Out>,
     worker: Worker<P::Out>,
 ) -> Result<Gathered<P::Out>, OutOfMemory>
-    requires all { IsGathered (P.gives work.now) claims.now all.seat
+    requires all { IsGathered (IsLetIn (G.lets_in gate.now) (P.gives work.now)) claims.now all.seat
         (map (λ v. v.items) all.lists.items) all.found.items }
-    requires worker { HasStopped (P.gives work.now) claims.now worker }
-    ensures gathered { IfOk result (λ g. IsGathered (P.gives work.now) claims.now g.seat
+    requires worker { HasStopped (IsLetIn (G.lets_in gate.now) (P.gives work.now)) claims.now worker }
+    ensures gathered { IfOk result (λ g. IsGathered (IsLetIn (G.lets_in gate.now) (P.gives work.now)) claims.now g.seat
         (map (λ v. v.items) g.lists.items) g.found.items) }
     ensures weight { IfOk result (λ g. g.seat.weight ≡ all.seat.weight + worker.seat.weight) }
-    ensures lists { IfOk result (λ g. length g.lists.items ≡ length all.lists.items + 1) }
+    ensures lists { IfOk result (λ g. g.lists.items ≡ all.lists.items ++ worker.claimed ∷ []) }
 {
     let _ = work;
+    let _ = gate;
     let Worker {
         seat: theirs,
         claimed,
@@ -102,19 +104,21 @@ fn take_in<P: Parts>(
 }
 
 // The first worker's part.
-fn begin<P: Parts>(
+fn begin<P: Parts, G: Gate>(
     alloc: Global,
     work: &P,
+    gate: &G,
     claims: &Claims,
     worker: Worker<P::Out>,
 ) -> Result<Gathered<P::Out>, OutOfMemory>
-    requires { HasStopped (P.gives work.now) claims.now worker }
-    ensures gathered { IfOk result (λ g. IsGathered (P.gives work.now) claims.now g.seat
+    requires { HasStopped (IsLetIn (G.lets_in gate.now) (P.gives work.now)) claims.now worker }
+    ensures gathered { IfOk result (λ g. IsGathered (IsLetIn (G.lets_in gate.now) (P.gives work.now)) claims.now g.seat
         (map (λ v. v.items) g.lists.items) g.found.items) }
     ensures weight { IfOk result (λ g. g.seat.weight ≡ worker.seat.weight) }
-    ensures lists { IfOk result (λ g. length g.lists.items ≡ 1) }
+    ensures lists { IfOk result (λ g. g.lists.items ≡ worker.claimed ∷ []) }
 {
     let _ = work;
+    let _ = gate;
     let _ = claims;
     let Worker {
         seat,
@@ -135,25 +139,27 @@ fn begin<P: Parts>(
 }
 
 // Joins all seats into the first, in worker order, and closes the claims.
-fn close_all<P: Parts>(
+fn close_all<P: Parts, G: Gate>(
     alloc: Global,
     work: &P,
+    gate: &G,
     claims: Claims,
     mut workers: Vec<Worker<P::Out>>,
 ) -> Result<(Vec<Vec<u32>>, Vec<(u32, P::Out)>), OutOfMemory>
     requires some { 0 < length workers.items }
-    requires stopped { All (HasStopped (P.gives work.now) claims) workers.items }
+    requires stopped { All (HasStopped (IsLetIn (G.lets_in gate.now) (P.gives work.now)) claims) workers.items }
     requires weights { sum_by (λ w. w.seat.weight) workers.items ≡ 1024 }
-    ensures lists { IfOk result (λ r. length r.0.items ≡ length workers.items) }
-    ensures given { IfOk result (λ r. All (λ p. P.gives work.now p.0 p.1) r.1.items) }
+    ensures lists { IfOk result (λ r. r.0.items ≡ map (λ w. w.claimed) workers.items) }
+    ensures ascend { IfOk result (λ r. All Ascend (map (λ v. v.items) r.0.items)) }
+    ensures given { IfOk result (λ r. All (λ p. IsLetIn (G.lets_in gate.now) (P.gives work.now) p.0 p.1) r.1.items) }
     ensures found { IfOk result (λ r. (x : ℕ) → times x (map (λ p. p.0) r.1.items) ≡ once_below x claims.bound) }
     ensures claimed { IfOk result (λ r. (x : ℕ) →
         sum_by (λ l. times x l) (map (λ v. v.items) r.0.items) ≡ once_below x claims.bound) }
 {
     let first = workers.remove(0);
-    let mut all = begin(alloc, work, &claims, first)?;
+    let mut all = begin(alloc, work, gate, &claims, first)?;
     for worker in workers {
-        all = take_in(work, &claims, all, worker)?;
+        all = take_in(work, gate, &claims, all, worker)?;
     }
     let Gathered { seat, lists, found } = all;
     claims.close(seat);
@@ -209,21 +215,23 @@ fn in_order<O: Drop>(alloc: Global, n: u32, found: Vec<(u32, O)>) -> Result<Vec<
     Ok(results)
 }
 
-/// All workers' parts and results, where no worker met want of memory.
-pub(crate) fn gather<P: Parts>(
+/// All workers' parts, the list of each at its place, and their results, where no worker met want of memory.
+pub(crate) fn gather<P: Parts, G: Gate>(
     alloc: Global,
     work: &P,
+    gate: &G,
     claims: Claims,
     workers: Vec<Worker<P::Out>>,
     n: u32,
 ) -> Result<Done<P::Out>, OutOfMemory>
     requires bound { n ≡ claims.bound }
     requires some { 0 < length workers.items }
-    requires stopped { All (HasStopped (P.gives work.now) claims) workers.items }
+    requires stopped { All (HasStopped (IsLetIn (G.lets_in gate.now) (P.gives work.now)) claims) workers.items }
     requires weights { sum_by (λ w. w.seat.weight) workers.items ≡ 1024 }
-    ensures { IfOk result (λ d. IsDone (P.gives work.now) n (length workers.items) d) }
+    ensures done { IfOk result (λ d. IsDone (IsLetIn (G.lets_in gate.now) (P.gives work.now)) n (length workers.items) d) }
+    ensures lists { IfOk result (λ d. d.claimed ≡ map (λ w. w.claimed.items) workers.items) }
 {
-    let (claimed, found) = close_all(alloc, work, claims, workers)?;
+    let (claimed, found) = close_all(alloc, work, gate, claims, workers)?;
     let results = in_order(alloc, n, found)?;
     Ok(Done { results, claimed })
 }

@@ -22,8 +22,12 @@ pub trait Parts: Sync {
 
 /// What is called before each part runs, by the worker that claimed it.
 pub trait Gate: Sync {
+    // Of a part: it has been let in.
+    ghost lets_in: { Self → ℕ → Type 0 };
+
     /// Lets the part of this number in when it returns.
-    fn enter(&self, part: u32);
+    fn enter(&self, part: u32)
+        ensures { lets_in self.now part };
 }
 
 /// A gate that lets each part in at once.
@@ -31,5 +35,7 @@ pub trait Gate: Sync {
 pub struct OpenGate;
 
 impl Gate for OpenGate {
+    ghost lets_in = { λ _ _. Unit {0} };
+
     fn enter(&self, _part: u32) {}
 }

@@ -11,9 +11,9 @@ use std::alloc::Global;
 use std::thread::Threads;
 use tb_value::OutOfMemory;
 
-/// Runs each part below `n` once, by as many workers as `exec` has, each of which claims parts until none is left.
-/// Nothing is said of which worker claims which part. Where a part or the calls around it want memory, the answer is
-/// OutOfMemory, and parts may be left.
+/// Runs each part below `n` once, when the gate has let it in, by as many workers as `exec` has, each of which claims
+/// parts, ascending, until none is left. Nothing more is said of which worker claims which part. Where a part or the
+/// calls around it want memory, the answer is OutOfMemory, and parts may be left.
 pub fn run_parts<P: Parts, G: Gate>(
     rt: &(impl Threads + Sync),
     alloc: Global,
@@ -22,11 +22,12 @@ pub fn run_parts<P: Parts, G: Gate>(
     work: &P,
     gate: &G,
 ) -> Result<Done<P::Out>, OutOfMemory>
-    requires { (part : ℕ) → part < n → P.may_run work.now part }
-    ensures { IfOk result (λ d. IsDone (P.gives work.now) n exec.now.workers d) }
+    requires { (part : ℕ) → part < n → G.lets_in gate.now part → P.may_run work.now part }
+    ensures done { IfOk result (λ d. IsDone (P.gives work.now) n exec.now.workers d) }
+    ensures let_in { IfOk result (λ _. (part : ℕ) → part < n → G.lets_in gate.now part) }
 {
     let (claims, first) = Claims::new(alloc, n)?;
     let mut workers = seat_workers(alloc, &claims, first, exec.workers())?;
     run_workers(rt, &claims, work, gate, workers.as_mut_slice());
-    gather(alloc, work, claims, workers, n)
+    gather(alloc, work, gate, claims, workers, n)
 }

@@ -2,7 +2,7 @@
 use Rattle.std.specs.Prelude.{map}
 use Rattle.serde_json.specs.View.{view}
 use Rattle.tb_value.specs.SeeKind.{kind_of}
-use Rattle.tb_pool.specs.Plan.{Plan}
+use Rattle.tb_pool.specs.ExecView.{ExecView}
 use Rattle.tb_chunk.specs.Col.{Col}
 use Rattle.tb_request.specs.declared.shape.ExecNumbers.{ExecNumbers}
 use Rattle.tb_request.specs.declared.shape.WrittenColumn.{WrittenColumn}
@@ -13,13 +13,13 @@ use Rattle.tb_request.specs.Written as written
 abbrev pub written_view : WrittenColumn → written.Written
 written_view c = record { name = c.name.now; kind = kind_of c.dtype; chunks = map (λ v. map view v.now.items) c.chunks.items; flag = c.flag }
 
-abbrev pub plan_view : ExecNumbers → Plan
-plan_view e = record { workers = e.workers; partitions = e.partitions; small = e.small; num = e.num; den = e.den }
+abbrev pub exec_view : ExecNumbers → ExecView
+exec_view e = record { workers = e.workers; partitions = e.partitions; small = e.small; num = e.num; den = e.den }
 
 abbrev pub join_view : WrittenJoin → written.WrittenJoin
 join_view w = record {
   args = w.args;
-  exec = plan_view w.exec;
+  exec = exec_view w.exec;
   left = map written_view w.left.items;
   left_on = map (λ s. s.now) w.left_on.items;
   right = map written_view w.right.items;

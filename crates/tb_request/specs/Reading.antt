@@ -4,7 +4,7 @@ use Rattle.std.specs.Str.{is_utf8}
 use Rattle.serde_json.specs.Data.{Data}
 use Rattle.serde_json.specs.Read.{read}
 use Rattle.tb_value.specs.Names.{Name}
-use Rattle.tb_pool.specs.Plan.{Plan}
+use Rattle.tb_pool.specs.ExecView.{ExecView}
 use Rattle.tb_chunk.specs.Col.{Col}
 use Rattle.tb_frame.specs.declared.args.JoinArgs.{JoinArgs}
 use Rattle.tb_frame.specs.Built.{is_built_order, is_built_coalesce}
@@ -27,7 +27,7 @@ pub record JoinRequest : Type 0 where
   pub left_on : List Name
   pub right_on : List Name
   pub args : JoinArgs
-  pub exec : Plan
+  pub exec : ExecView
   pub trace : Bool
 
 infixl 10 ◌>>=◌
@@ -42,7 +42,7 @@ only_if b reason = if b then Ok tt else Err reason
 abbrev pub may_count : ℕ → Bool
 may_count n = nat_le 1 n && nat_le n 1024
 
-abbrev pub may_stand : Plan → Bool
+abbrev pub may_stand : ExecView → Bool
 may_stand p = may_count p.workers && may_count p.partitions && nat_le 1 p.den
 
 abbrev pub are_distinct : List Name → Bool

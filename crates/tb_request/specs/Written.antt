@@ -7,7 +7,7 @@ use Rattle.tb_value.specs.Kind.{Kind}
 use Rattle.tb_value.specs.Names.{Name}
 use Rattle.tb_value.specs.declared.sorted.IsSorted.{IsSorted}
 use Rattle.tb_value.specs.declared.sorted.IsSorted.TheVariants.{Ascending, Descending, Not}
-use Rattle.tb_pool.specs.Plan.{Plan}
+use Rattle.tb_pool.specs.ExecView.{ExecView}
 use Rattle.tb_frame.specs.declared.args.JoinArgs.{JoinArgs}
 use Rattle.tb_frame.specs.declared.args.JoinType.{JoinType}
 use Rattle.tb_frame.specs.declared.args.JoinType.TheVariants.{Inner, Left, Right, Full, Semi, Anti}
@@ -154,7 +154,7 @@ count_of d = do
 abbrev pub count_at : List ℕ → Data → Option ℕ
 count_at name d = get name d >>= count_of
 
-unfoldable pub plan_of : Data → Option Plan
+unfoldable pub plan_of : Data → Option ExecView
 plan_of d = do
   known ← check (has_only (codes "den" ∷ codes "num" ∷ codes "partitions" ∷ codes "small" ∷ codes "workers" ∷ []) d)
   workers ← count_at (codes "workers") d
@@ -165,10 +165,10 @@ plan_of d = do
   Some (record { workers = workers; partitions = partitions; small = small; num = num; den = den })
 
 -- the numbers of `Exec::standard`
-abbrev pub standard : Plan
+abbrev pub standard : ExecView
 standard = record { workers = 4; partitions = 8; small = 256; num = 1; den = 1 }
 
-abbrev pub exec_of : Data → Option Plan
+abbrev pub exec_of : Data → Option ExecView
 exec_of d = optional standard plan_of (get (codes "exec") d)
 
 abbrev pub trace_of : Data → Option Bool
@@ -178,7 +178,7 @@ trace_of d = optional false as_bool (get (codes "trace") d)
 
 pub record WrittenJoin : Type 0 where
   pub args : JoinArgs
-  pub exec : Plan
+  pub exec : ExecView
   pub left : List Written
   pub left_on : List Name
   pub right : List Written

@@ -2,7 +2,7 @@
 ghost use Rattle.std.specs.Prelude.{◌≡◌, if◌then◌else◌, map, IfOk, MatchResult, Ok, Some, None};
 ghost use Rattle.serde_json.specs.View.{view};
 ghost use Rattle.tb_frame.specs.Built.{is_none_or_left, is_built_order, is_built_coalesce, IsBuilt};
-ghost use Rattle.tb_request.specs.Lent.{join_view, plan_view};
+ghost use Rattle.tb_request.specs.Lent.{join_view, exec_view};
 ghost use Rattle.tb_request.specs.Reading.{may_stand, is_built_args, is_built, request_in, request_of, asked, request_view, FaultIs};
 
 use crate::request::{JoinRequest, Reason, RequestFault};
@@ -16,7 +16,7 @@ use tb_pool::Exec;
 use tb_value::{OutOfMemory, PlSmallStr};
 
 fn exec_of(numbers: ExecNumbers) -> Option<Exec>
-    ensures { result ≡ (if may_stand (plan_view numbers) then Some (plan_view numbers) else None) }
+    ensures { result ≡ (if may_stand (exec_view numbers) then Some (exec_view numbers) else None) }
 {
     let made = Exec::new(
         numbers.workers,

@@ -4,7 +4,7 @@ ghost use Rattle.serde_json.specs.View.{view};
 ghost use Rattle.serde_json.specs.Find.{as_str};
 ghost use Rattle.tb_json.specs.Lists.{as_list, list_of};
 ghost use Rattle.tb_request.specs.Written.{flag_named, flag_of, count_of, plan_of, exec_of, trace_of, join_of, column_of, table_of};
-ghost use Rattle.tb_request.specs.Lent.{written_view, plan_view, join_view};
+ghost use Rattle.tb_request.specs.Lent.{written_view, exec_view, join_view};
 
 use crate::arguments::args_of;
 use crate::members::has_only;
@@ -182,7 +182,7 @@ fn count_of(value: &Value) -> Option<u32>
 
 #[tactic(auto, unfolding(crate::specs::Written::plan_of))]
 fn numbers_of(value: &Value) -> Option<ExecNumbers>
-    ensures { option_map plan_view result ≡ plan_of (view value.now) }
+    ensures { option_map exec_view result ≡ plan_of (view value.now) }
 {
     if !has_only(value, &["den", "num", "partitions", "small", "workers"]) {
         return None;
@@ -203,7 +203,7 @@ fn numbers_of(value: &Value) -> Option<ExecNumbers>
 
 // The numbers of `Exec::standard` where the member is absent.
 fn exec_of(request: &Value) -> Option<ExecNumbers>
-    ensures { option_map plan_view result ≡ exec_of (view request.now) }
+    ensures { option_map exec_view result ≡ exec_of (view request.now) }
 {
     match request.get("exec") {
         Some(member) => numbers_of(member),
