@@ -1,5 +1,5 @@
 -- A value of a type fits a chunk of its physical type.
-use Rattle.std.proofs.Common.{◌≡◌, List, [], ◌∷◌, refl, ap}
+use Rattle.std.proofs.Common.{◌≡◌, List, [], ◌∷◌, refl, ap, subst}
 use Rattle.std.specs.List.{All}
 use Rattle.std.proofs.lemmas.List.Elements.{All-weaker}
 use Rattle.tb_value.specs.Datum.{Datum}
@@ -82,6 +82,26 @@ fits t (value.string s) h = (ap physical h.0, h.1, h.2)
 fits t (value.binary s) h = (ap physical h.0, h.1, h.2)
 fits t (value.list vs) h = listed _ t h
 fits t (value.struct vs) h = structured _ t h
+
+-- values of a type that is stored as k fit a chunk of k
+pub fits_stored : (t k : Kind) (vs : List Datum) → physical t ≡ k → All (HasType t) vs → All (Fits k) vs
+fits_stored t k vs e all = subst (λ (j : Kind). All (Fits j) vs) e (All-weaker (HasType t) (Fits (physical t)) (fits t) vs all)
+
+-- a chunk of nulls holds nothing else
+pub null-only : (v : Datum) → Fits kind.null v → v ≡ value.null
+null-only value.null h = refl
+null-only (value.boolean b) h = cc
+null-only (value.int i) h = absurd h
+null-only (value.string s) h = absurd (differ h.0)
+  where
+    differ : kind.null ≡ kind.string → ⊥
+    differ e = cc
+null-only (value.binary s) h = absurd (differ h.0)
+  where
+    differ : kind.null ≡ kind.binary → ⊥
+    differ e = cc
+null-only (value.list vs) h = absurd h
+null-only (value.struct vs) h = absurd h
 
 flat-at_least_one : (cs : List (List Datum)) → flat (at_least_one cs) ≡ flat cs
 flat-at_least_one [] = refl

@@ -2,9 +2,9 @@
 use Rattle.std.specs.Prelude.{ℕ, List, refl}
 use Rattle.std.specs.Coded.{Coded, code_by, coded×, coded_ℕ, coded_list}
 use Rattle.tb_value.specs.Datum.{Datum}
-use Rattle.tb_value.specs.DatumCode.{coded_data}
+use Rattle.tb_value.specs.Proved.DatumCode.{coded_data}
 use Rattle.tb_value.specs.Kind.{Kind}
-use Rattle.tb_value.specs.KindCode.{coded_kind}
+use Rattle.tb_value.specs.Proved.KindCode.{coded_kind}
 use Rattle.tb_value.specs.declared.sorted.IsSorted.{IsSorted}
 use Rattle.tb_value.specs.contracts.sorted.IsSorted as sorted
 use Rattle.tb_chunk.specs.Col.{Col}

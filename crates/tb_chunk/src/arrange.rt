@@ -11,7 +11,7 @@ ghost use Rattle.tb_chunk.specs.Stored.{AreMade};
 
 use crate::chunk::Chunk;
 use crate::chunks::Chunks;
-use crate::grow::Grow;
+use crate::each::map_chunks;
 use crate::marker::{Physical, physical_of};
 use std::alloc::Global;
 use tb_value::{ComputeCause, DataType, MAX_ROWS, OutOfMemory, PolarsError, PolarsResult};
@@ -55,7 +55,7 @@ fn are_few<C: Chunk>(chunks: &[C]) -> bool
 }
 
 // No chunk at all makes one empty chunk.
-fn or_empty<C: Grow>(alloc: Global, chunks: Vec<C>) -> Result<Vec<C>, OutOfMemory>
+fn or_empty<C: Chunk>(alloc: Global, chunks: Vec<C>) -> Result<Vec<C>, OutOfMemory>
     ensures { IfOk result (λ v. map C.shown v.items ≡ at_least_one (map C.shown chunks.items)) }
 {
     if !chunks.is_empty() {
@@ -67,7 +67,7 @@ fn or_empty<C: Grow>(alloc: Global, chunks: Vec<C>) -> Result<Vec<C>, OutOfMemor
 }
 
 // One or more chunks of values of the type, few enough.
-fn checked<C: Grow>(alloc: Global, dtype: &DataType, chunks: Vec<C>) -> PolarsResult<Vec<C>>
+fn checked<C: Chunk>(alloc: Global, dtype: &DataType, chunks: Vec<C>) -> PolarsResult<Vec<C>>
     ensures { MatchResult result (λ v. IsTyped (kind_of dtype.now) (map C.shown chunks.items) × IsShort (map C.shown chunks.items) × (map C.shown v.items ≡ at_least_one (map C.shown chunks.items))) (λ e. IsRefused (IsTyped (kind_of dtype.now) (map C.shown chunks.items)) (IsShort (map C.shown chunks.items)) e) }
 {
     if !are_chunks_of(dtype, &chunks) {
@@ -112,22 +112,6 @@ impl Chunks {
     pub fn checked(self, alloc: Global, dtype: &DataType) -> PolarsResult<Chunks>
         ensures { AreMade (kind_of dtype.now) (storage self) (chunk_lists self) result }
     {
-        match self {
-            Chunks::BooleanType(arrays) => Ok(Chunks::BooleanType(checked(alloc, dtype, arrays)?)),
-            Chunks::Int8Type(arrays) => Ok(Chunks::Int8Type(checked(alloc, dtype, arrays)?)),
-            Chunks::Int16Type(arrays) => Ok(Chunks::Int16Type(checked(alloc, dtype, arrays)?)),
-            Chunks::Int32Type(arrays) => Ok(Chunks::Int32Type(checked(alloc, dtype, arrays)?)),
-            Chunks::Int64Type(arrays) => Ok(Chunks::Int64Type(checked(alloc, dtype, arrays)?)),
-            Chunks::Int128Type(arrays) => Ok(Chunks::Int128Type(checked(alloc, dtype, arrays)?)),
-            Chunks::UInt8Type(arrays) => Ok(Chunks::UInt8Type(checked(alloc, dtype, arrays)?)),
-            Chunks::UInt16Type(arrays) => Ok(Chunks::UInt16Type(checked(alloc, dtype, arrays)?)),
-            Chunks::UInt32Type(arrays) => Ok(Chunks::UInt32Type(checked(alloc, dtype, arrays)?)),
-            Chunks::UInt64Type(arrays) => Ok(Chunks::UInt64Type(checked(alloc, dtype, arrays)?)),
-            Chunks::StringType(arrays) => Ok(Chunks::StringType(checked(alloc, dtype, arrays)?)),
-            Chunks::BinaryType(arrays) => Ok(Chunks::BinaryType(checked(alloc, dtype, arrays)?)),
-            Chunks::ListType(arrays) => Ok(Chunks::ListType(checked(alloc, dtype, arrays)?)),
-            Chunks::StructType(arrays) => Ok(Chunks::StructType(checked(alloc, dtype, arrays)?)),
-            Chunks::Null(arrays) => Ok(Chunks::Null(checked(alloc, dtype, arrays)?)),
-        }
+        map_chunks!(self, arrays => checked(alloc, dtype, arrays)?)
     }
 }

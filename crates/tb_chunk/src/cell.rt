@@ -1,28 +1,31 @@
 //! A value as a typed column stores it.
 ghost use Rattle.std.specs.Prelude.{◌≡◌, ◌≢◌, IfOk, false, pos, refl};
 ghost use Rattle.tb_value.specs.Datum.{Datum, null, boolean, int, string, binary, list, struct, items_of, is_null};
-ghost use Rattle.tb_value.specs.Kind as kind;
-ghost use Rattle.tb_value.specs.See.{datum, lent};
+ghost use Rattle.tb_value.specs.Kind.{Kind};
+ghost use Rattle.tb_value.specs.Kind as kinds;
+ghost use Rattle.tb_value.specs.See.{datum, lent, IsText};
 ghost use Rattle.tb_chunk.specs.Fits.{Fits};
 
 use std::alloc::Global;
 use tb_value::{AnyValue, Bytes, OutOfMemory, PlSmallStr, ValueRef, Values};
 
-/// A value other than Null, as a typed column stores it.
+/// A value other than Null, as a typed column stores it. `shows` is what contracts see of it, and `kind` is the type by
+/// which it is stored.
 pub trait Cell: Drop {
     ghost shows: { Self → Datum };
 
-    ghost fits: { Datum → Type 0 };
+    ghost kind: { Kind };
 
     ghost some: { (cell : Self) → is_null (shows cell) ≡ false };
 
     /// The value, lent.
     fn lend(&self) -> ValueRef<'_>
-        ensures { lent result ≡ shows self.now };
+        ensures value { lent result ≡ shows self.now }
+        ensures text { IsText result };
 
     /// The value, stored. It is not Null, and one that the column can hold.
     fn from_value(alloc: Global, value: &AnyValue) -> Result<Self, OutOfMemory>
-        requires fits { fits (datum value.now) }
+        requires fits { Fits kind (datum value.now) }
         requires some { datum value.now ≢ null }
         ensures { IfOk result (λ c. shows c ≡ datum value.now) };
 
@@ -40,7 +43,7 @@ pub struct FieldValues {
 impl Cell for bool {
     ghost shows = { boolean };
 
-    ghost fits = { Fits kind.boolean };
+    ghost kind = { kinds.boolean };
 
     ghost some = { λ _. refl };
 
@@ -63,7 +66,7 @@ impl Cell for bool {
 impl Cell for i8 {
     ghost shows = { int };
 
-    ghost fits = { Fits kind.int8 };
+    ghost kind = { kinds.int8 };
 
     ghost some = { λ _. refl };
 
@@ -86,7 +89,7 @@ impl Cell for i8 {
 impl Cell for i16 {
     ghost shows = { int };
 
-    ghost fits = { Fits kind.int16 };
+    ghost kind = { kinds.int16 };
 
     ghost some = { λ _. refl };
 
@@ -109,7 +112,7 @@ impl Cell for i16 {
 impl Cell for i32 {
     ghost shows = { int };
 
-    ghost fits = { Fits kind.int32 };
+    ghost kind = { kinds.int32 };
 
     ghost some = { λ _. refl };
 
@@ -132,7 +135,7 @@ impl Cell for i32 {
 impl Cell for i64 {
     ghost shows = { int };
 
-    ghost fits = { Fits kind.int64 };
+    ghost kind = { kinds.int64 };
 
     ghost some = { λ _. refl };
 
@@ -155,7 +158,7 @@ impl Cell for i64 {
 impl Cell for i128 {
     ghost shows = { int };
 
-    ghost fits = { Fits kind.int128 };
+    ghost kind = { kinds.int128 };
 
     ghost some = { λ _. refl };
 
@@ -178,7 +181,7 @@ impl Cell for i128 {
 impl Cell for u8 {
     ghost shows = { λ n. int (pos n) };
 
-    ghost fits = { Fits kind.uint8 };
+    ghost kind = { kinds.uint8 };
 
     ghost some = { λ _. refl };
 
@@ -201,7 +204,7 @@ impl Cell for u8 {
 impl Cell for u16 {
     ghost shows = { λ n. int (pos n) };
 
-    ghost fits = { Fits kind.uint16 };
+    ghost kind = { kinds.uint16 };
 
     ghost some = { λ _. refl };
 
@@ -224,7 +227,7 @@ impl Cell for u16 {
 impl Cell for u32 {
     ghost shows = { λ n. int (pos n) };
 
-    ghost fits = { Fits kind.uint32 };
+    ghost kind = { kinds.uint32 };
 
     ghost some = { λ _. refl };
 
@@ -247,7 +250,7 @@ impl Cell for u32 {
 impl Cell for u64 {
     ghost shows = { λ n. int (pos n) };
 
-    ghost fits = { Fits kind.uint64 };
+    ghost kind = { kinds.uint64 };
 
     ghost some = { λ _. refl };
 
@@ -270,7 +273,7 @@ impl Cell for u64 {
 impl Cell for PlSmallStr {
     ghost shows = { string };
 
-    ghost fits = { Fits kind.string };
+    ghost kind = { kinds.string };
 
     ghost some = { λ _. refl };
 
@@ -293,7 +296,7 @@ impl Cell for PlSmallStr {
 impl Cell for Bytes {
     ghost shows = { binary };
 
-    ghost fits = { Fits kind.binary };
+    ghost kind = { kinds.binary };
 
     ghost some = { λ _. refl };
 
@@ -316,7 +319,7 @@ impl Cell for Bytes {
 impl Cell for Values {
     ghost shows = { λ vs. list (items_of vs) };
 
-    ghost fits = { Fits (kind.list kind.null) };
+    ghost kind = { kinds.list kinds.null };
 
     ghost some = { λ _. refl };
 
@@ -339,7 +342,7 @@ impl Cell for Values {
 impl Cell for FieldValues {
     ghost shows = { λ s. struct (items_of s.values) };
 
-    ghost fits = { Fits (kind.struct kind.end) };
+    ghost kind = { kinds.struct kinds.end };
 
     ghost some = { λ _. refl };
 

@@ -1,23 +1,26 @@
 //! A run of values of a column.
-ghost use Rattle.std.specs.Prelude.{◌≡◌, ◌<◌, IfOk, is_none, length, get_or, map, replicate};
+ghost use Rattle.std.specs.Prelude.{◌≡◌, ◌<◌, ◌^◌, ◌++◌, ◌∷◌, [], IfOk, OnOk, OnErr, is_none, length, get_or, map, replicate};
 ghost use Rattle.std.specs.List.{All, count_by};
 ghost use Rattle.tb_value.specs.Datum.{Datum, null, string};
-ghost use Rattle.tb_value.specs.See.{data_of, datum, lent};
+ghost use Rattle.tb_value.specs.Kind as kinds;
+ghost use Rattle.tb_value.specs.See.{data_of, datum, lent, IsText};
 ghost use Rattle.tb_chunk.specs.Chunk.{or_null};
+ghost use Rattle.tb_chunk.specs.Fits.{Fits};
 ghost use Rattle.tb_chunk.specs.Flag.{nulls};
 
 use crate::cell::Cell;
 use std::alloc::Global;
 use tb_value::{AnyValue, OutOfMemory, PlSmallStr, ValueRef};
 
-/// Values of a column that stand together. `shown` is what contracts see of them, and `fits` says
-/// which values it can be made of.
+/// Values of a column that stand together, and to which values can be appended. `shown` is what contracts see of them,
+/// and `kind` is the type by which they are stored.
 pub trait Chunk: Drop {
     ghost use Rattle.std.specs.Prelude.{List};
+    ghost use Rattle.tb_value.specs.Kind.{Kind};
 
     ghost shown: { Self → List Datum };
 
-    ghost fits: { Datum → Type 0 };
+    ghost kind: { Kind };
 
     /// The number of values, nulls too.
     fn len(&self) -> usize
@@ -30,16 +33,34 @@ pub trait Chunk: Drop {
     /// The value of a row, lent.
     fn value(&self, row: usize) -> ValueRef<'_>
         requires { row < length (shown self.now) }
-        ensures { lent result ≡ get_or (shown self.now) row null };
+        ensures value { lent result ≡ get_or (shown self.now) row null }
+        ensures text { IsText result };
 
-    /// The chunk of these values.
+    /// The chunk of these values. Each is Null or of a type that is stored so.
     fn from_values(alloc: Global, values: &[AnyValue]) -> Result<Self, OutOfMemory>
-        requires { All fits (data_of values.now) }
+        requires { All (Fits kind) (data_of values.now) }
         ensures { IfOk result (λ c. shown c ≡ data_of values.now) };
 
     /// A chunk of the same values.
     fn copy(&self, alloc: Global) -> Result<Self, OutOfMemory>
         ensures { IfOk result (λ c. shown c ≡ shown self.now) };
+
+    /// The chunk of no value. It takes no memory yet.
+    fn empty(alloc: Global) -> Self
+        ensures { shown result ≡ [] };
+
+    /// Appends a row of another chunk. After a refusal the chunk is as it was.
+    fn push_from(&mut self, alloc: Global, other: &Self, row: usize) -> Result<(), OutOfMemory>
+        requires room { length (shown self.old) < 2 ^ 63 }
+        requires row { row < length (shown other.now) }
+        ensures ok { OnOk result (shown self.new ≡ shown self.old ++ get_or (shown other.now) row null ∷ []) }
+        ensures err { OnErr result (shown self.new ≡ shown self.old) };
+
+    /// Appends a Null. After a refusal the chunk is as it was.
+    fn push_null(&mut self) -> Result<(), OutOfMemory>
+        requires { length (shown self.old) < 2 ^ 63 }
+        ensures ok { OnOk result (shown self.new ≡ shown self.old ++ null ∷ []) }
+        ensures err { OnErr result (shown self.new ≡ shown self.old) };
 }
 
 /// Optional values, each stored as it is; `None` is Null.
@@ -51,7 +72,7 @@ pub struct Cells<N> {
 impl<N: Cell> Chunk for Cells<N> {
     ghost shown = { λ c. map (or_null N.shows) c.cells.items };
 
-    ghost fits = { N.fits };
+    ghost kind = { N.kind };
 
     fn len(&self) -> usize {
         self.cells.len()
@@ -83,6 +104,28 @@ impl<N: Cell> Chunk for Cells<N> {
         }
         Ok(Cells { cells })
     }
+
+    fn empty(alloc: Global) -> Cells<N> {
+        Cells {
+            cells: Vec::new(alloc),
+        }
+    }
+
+    fn push_from(
+        &mut self,
+        alloc: Global,
+        other: &Cells<N>,
+        row: usize,
+    ) -> Result<(), OutOfMemory> {
+        let cell = copy_cell(alloc, &other.cells[row])?;
+        self.cells.push(cell)?;
+        Ok(())
+    }
+
+    fn push_null(&mut self) -> Result<(), OutOfMemory> {
+        self.cells.push(None)?;
+        Ok(())
+    }
 }
 
 fn absent_in<N>(cells: &[Option<N>]) -> usize
@@ -92,7 +135,7 @@ fn absent_in<N>(cells: &[Option<N>]) -> usize
 }
 
 fn cell_of<N: Cell>(alloc: Global, value: &AnyValue) -> Result<Option<N>, OutOfMemory>
-    requires { N.fits (datum value.now) }
+    requires { Fits N.kind (datum value.now) }
     ensures { IfOk result (λ c. or_null N.shows c ≡ datum value.now) }
 {
     match value {
@@ -114,7 +157,7 @@ pub(crate) fn copy_cell<N: Cell>(alloc: Global, cell: &Option<N>) -> Result<Opti
 impl Chunk for usize {
     ghost shown = { λ n. replicate n null };
 
-    ghost fits = { λ v. v ≡ null };
+    ghost kind = { kinds.null };
 
     fn len(&self) -> usize {
         *self
@@ -134,6 +177,20 @@ impl Chunk for usize {
 
     fn copy(&self, alloc: Global) -> Result<usize, OutOfMemory> {
         Ok(*self)
+    }
+
+    fn empty(alloc: Global) -> usize {
+        0
+    }
+
+    fn push_from(&mut self, alloc: Global, other: &usize, row: usize) -> Result<(), OutOfMemory> {
+        *self += 1;
+        Ok(())
+    }
+
+    fn push_null(&mut self) -> Result<(), OutOfMemory> {
+        *self += 1;
+        Ok(())
     }
 }
 
@@ -162,13 +219,12 @@ impl StringChunk {
 impl Chunk for StringChunk {
     ghost use Rattle.std.specs.Prelude.{map};
     ghost use Rattle.tb_value.specs.Datum.{string};
-    ghost use Rattle.tb_value.specs.Kind as kind;
+    ghost use Rattle.tb_value.specs.Kind as kinds;
     ghost use Rattle.tb_chunk.specs.Chunk.{or_null};
-    ghost use Rattle.tb_chunk.specs.Fits.{Fits};
 
     ghost shown = { λ c. map (or_null string) c.inner.cells.items };
 
-    ghost fits = { Fits kind.string };
+    ghost kind = { kinds.string };
 
     fn len(&self) -> usize {
         self.inner.len()
@@ -192,5 +248,24 @@ impl Chunk for StringChunk {
         Ok(StringChunk {
             inner: self.inner.copy(alloc)?,
         })
+    }
+
+    fn empty(alloc: Global) -> StringChunk {
+        StringChunk {
+            inner: Cells::empty(alloc),
+        }
+    }
+
+    fn push_from(
+        &mut self,
+        alloc: Global,
+        other: &StringChunk,
+        row: usize,
+    ) -> Result<(), OutOfMemory> {
+        self.inner.push_from(alloc, &other.inner, row)
+    }
+
+    fn push_null(&mut self) -> Result<(), OutOfMemory> {
+        self.inner.push_null()
     }
 }

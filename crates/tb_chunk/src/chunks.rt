@@ -1,12 +1,13 @@
 //! The chunks of a column, by the type that they are stored as.
 ghost use Rattle.std.specs.Prelude.{◌≡◌, ◌<◌, ◌≤◌, ◌^◌, ◌∷◌, [], IfOk, length, get_or, map};
 ghost use Rattle.tb_value.specs.Datum.{null};
-ghost use Rattle.tb_value.specs.See.{lent};
+ghost use Rattle.tb_value.specs.See.{lent, IsText};
 ghost use Rattle.tb_chunk.specs.Col.{flat};
 ghost use Rattle.tb_chunk.specs.Flag.{nulls};
 ghost use Rattle.tb_chunk.specs.Seen.{chunk_lists, storage};
 
 use crate::chunk::{Cells, Chunk, StringChunk};
+use crate::each::{for_chunks, map_chunks};
 use crate::owned_chunks::{BinaryChunk, ListChunk, StructChunk};
 use std::alloc::Global;
 use tb_value::{OutOfMemory, ValueRef};
@@ -62,7 +63,8 @@ pub fn nulls_in<C: Chunk>(chunks: &[C]) -> usize
 #[tactic(auto, using(crate::proofs::Lists::flat_drop))]
 pub fn value_in<C: Chunk>(chunks: &[C], row: usize) -> ValueRef<'_>
     requires { row < length (flat (map C.shown chunks.now)) }
-    ensures { lent result ≡ get_or (flat (map C.shown chunks.now)) row null }
+    ensures value { lent result ≡ get_or (flat (map C.shown chunks.now)) row null }
+    ensures text { IsText result }
 {
     let mut left = row;
     for chunk in chunks {
@@ -91,23 +93,7 @@ impl Chunks {
     pub fn count(&self) -> usize
         ensures { result ≡ length (chunk_lists self.now) }
     {
-        match self {
-            Chunks::BooleanType(chunks) => chunks.len(),
-            Chunks::Int8Type(chunks) => chunks.len(),
-            Chunks::Int16Type(chunks) => chunks.len(),
-            Chunks::Int32Type(chunks) => chunks.len(),
-            Chunks::Int64Type(chunks) => chunks.len(),
-            Chunks::Int128Type(chunks) => chunks.len(),
-            Chunks::UInt8Type(chunks) => chunks.len(),
-            Chunks::UInt16Type(chunks) => chunks.len(),
-            Chunks::UInt32Type(chunks) => chunks.len(),
-            Chunks::UInt64Type(chunks) => chunks.len(),
-            Chunks::StringType(chunks) => chunks.len(),
-            Chunks::BinaryType(chunks) => chunks.len(),
-            Chunks::ListType(chunks) => chunks.len(),
-            Chunks::StructType(chunks) => chunks.len(),
-            Chunks::Null(chunks) => chunks.len(),
-        }
+        for_chunks!(self, chunks => chunks.len())
     }
 
     /// The number of values of all chunks.
@@ -115,23 +101,7 @@ impl Chunks {
         requires { length (flat (chunk_lists self.now)) < 2 ^ 64 }
         ensures { result ≡ length (flat (chunk_lists self.now)) }
     {
-        match self {
-            Chunks::BooleanType(chunks) => rows_in(chunks),
-            Chunks::Int8Type(chunks) => rows_in(chunks),
-            Chunks::Int16Type(chunks) => rows_in(chunks),
-            Chunks::Int32Type(chunks) => rows_in(chunks),
-            Chunks::Int64Type(chunks) => rows_in(chunks),
-            Chunks::Int128Type(chunks) => rows_in(chunks),
-            Chunks::UInt8Type(chunks) => rows_in(chunks),
-            Chunks::UInt16Type(chunks) => rows_in(chunks),
-            Chunks::UInt32Type(chunks) => rows_in(chunks),
-            Chunks::UInt64Type(chunks) => rows_in(chunks),
-            Chunks::StringType(chunks) => rows_in(chunks),
-            Chunks::BinaryType(chunks) => rows_in(chunks),
-            Chunks::ListType(chunks) => rows_in(chunks),
-            Chunks::StructType(chunks) => rows_in(chunks),
-            Chunks::Null(chunks) => rows_in(chunks),
-        }
+        for_chunks!(self, chunks => rows_in(chunks))
     }
 
     /// The number of nulls of all chunks.
@@ -139,23 +109,7 @@ impl Chunks {
         requires { length (flat (chunk_lists self.now)) < 2 ^ 64 }
         ensures { result ≡ length (nulls (flat (chunk_lists self.now))) }
     {
-        match self {
-            Chunks::BooleanType(chunks) => nulls_in(chunks),
-            Chunks::Int8Type(chunks) => nulls_in(chunks),
-            Chunks::Int16Type(chunks) => nulls_in(chunks),
-            Chunks::Int32Type(chunks) => nulls_in(chunks),
-            Chunks::Int64Type(chunks) => nulls_in(chunks),
-            Chunks::Int128Type(chunks) => nulls_in(chunks),
-            Chunks::UInt8Type(chunks) => nulls_in(chunks),
-            Chunks::UInt16Type(chunks) => nulls_in(chunks),
-            Chunks::UInt32Type(chunks) => nulls_in(chunks),
-            Chunks::UInt64Type(chunks) => nulls_in(chunks),
-            Chunks::StringType(chunks) => nulls_in(chunks),
-            Chunks::BinaryType(chunks) => nulls_in(chunks),
-            Chunks::ListType(chunks) => nulls_in(chunks),
-            Chunks::StructType(chunks) => nulls_in(chunks),
-            Chunks::Null(chunks) => nulls_in(chunks),
-        }
+        for_chunks!(self, chunks => nulls_in(chunks))
     }
 
     /// The number of values of a chunk.
@@ -163,47 +117,16 @@ impl Chunks {
         requires { chunk < length (chunk_lists self.now) }
         ensures { result ≡ length (get_or (chunk_lists self.now) chunk []) }
     {
-        match self {
-            Chunks::BooleanType(chunks) => chunks[chunk].len(),
-            Chunks::Int8Type(chunks) => chunks[chunk].len(),
-            Chunks::Int16Type(chunks) => chunks[chunk].len(),
-            Chunks::Int32Type(chunks) => chunks[chunk].len(),
-            Chunks::Int64Type(chunks) => chunks[chunk].len(),
-            Chunks::Int128Type(chunks) => chunks[chunk].len(),
-            Chunks::UInt8Type(chunks) => chunks[chunk].len(),
-            Chunks::UInt16Type(chunks) => chunks[chunk].len(),
-            Chunks::UInt32Type(chunks) => chunks[chunk].len(),
-            Chunks::UInt64Type(chunks) => chunks[chunk].len(),
-            Chunks::StringType(chunks) => chunks[chunk].len(),
-            Chunks::BinaryType(chunks) => chunks[chunk].len(),
-            Chunks::ListType(chunks) => chunks[chunk].len(),
-            Chunks::StructType(chunks) => chunks[chunk].len(),
-            Chunks::Null(chunks) => chunks[chunk].len(),
-        }
+        for_chunks!(self, chunks => chunks[chunk].len())
     }
 
     /// The value of a row, counted through all chunks.
     pub fn value(&self, row: usize) -> ValueRef<'_>
         requires { row < length (flat (chunk_lists self.now)) }
-        ensures { lent result ≡ get_or (flat (chunk_lists self.now)) row null }
+        ensures value { lent result ≡ get_or (flat (chunk_lists self.now)) row null }
+        ensures text { IsText result }
     {
-        match self {
-            Chunks::BooleanType(chunks) => value_in(chunks, row),
-            Chunks::Int8Type(chunks) => value_in(chunks, row),
-            Chunks::Int16Type(chunks) => value_in(chunks, row),
-            Chunks::Int32Type(chunks) => value_in(chunks, row),
-            Chunks::Int64Type(chunks) => value_in(chunks, row),
-            Chunks::Int128Type(chunks) => value_in(chunks, row),
-            Chunks::UInt8Type(chunks) => value_in(chunks, row),
-            Chunks::UInt16Type(chunks) => value_in(chunks, row),
-            Chunks::UInt32Type(chunks) => value_in(chunks, row),
-            Chunks::UInt64Type(chunks) => value_in(chunks, row),
-            Chunks::StringType(chunks) => value_in(chunks, row),
-            Chunks::BinaryType(chunks) => value_in(chunks, row),
-            Chunks::ListType(chunks) => value_in(chunks, row),
-            Chunks::StructType(chunks) => value_in(chunks, row),
-            Chunks::Null(chunks) => value_in(chunks, row),
-        }
+        for_chunks!(self, chunks => value_in(chunks, row))
     }
 
     /// Chunks of the same values.
@@ -211,22 +134,6 @@ impl Chunks {
         ensures lists { IfOk result (λ c. chunk_lists c ≡ chunk_lists self.now) }
         ensures storage { IfOk result (λ c. storage c ≡ storage self.now) }
     {
-        match self {
-            Chunks::BooleanType(chunks) => Ok(Chunks::BooleanType(copy_chunks(alloc, chunks)?)),
-            Chunks::Int8Type(chunks) => Ok(Chunks::Int8Type(copy_chunks(alloc, chunks)?)),
-            Chunks::Int16Type(chunks) => Ok(Chunks::Int16Type(copy_chunks(alloc, chunks)?)),
-            Chunks::Int32Type(chunks) => Ok(Chunks::Int32Type(copy_chunks(alloc, chunks)?)),
-            Chunks::Int64Type(chunks) => Ok(Chunks::Int64Type(copy_chunks(alloc, chunks)?)),
-            Chunks::Int128Type(chunks) => Ok(Chunks::Int128Type(copy_chunks(alloc, chunks)?)),
-            Chunks::UInt8Type(chunks) => Ok(Chunks::UInt8Type(copy_chunks(alloc, chunks)?)),
-            Chunks::UInt16Type(chunks) => Ok(Chunks::UInt16Type(copy_chunks(alloc, chunks)?)),
-            Chunks::UInt32Type(chunks) => Ok(Chunks::UInt32Type(copy_chunks(alloc, chunks)?)),
-            Chunks::UInt64Type(chunks) => Ok(Chunks::UInt64Type(copy_chunks(alloc, chunks)?)),
-            Chunks::StringType(chunks) => Ok(Chunks::StringType(copy_chunks(alloc, chunks)?)),
-            Chunks::BinaryType(chunks) => Ok(Chunks::BinaryType(copy_chunks(alloc, chunks)?)),
-            Chunks::ListType(chunks) => Ok(Chunks::ListType(copy_chunks(alloc, chunks)?)),
-            Chunks::StructType(chunks) => Ok(Chunks::StructType(copy_chunks(alloc, chunks)?)),
-            Chunks::Null(chunks) => Ok(Chunks::Null(copy_chunks(alloc, chunks)?)),
-        }
+        map_chunks!(self, chunks => copy_chunks(alloc, chunks)?)
     }
 }

@@ -58,7 +58,7 @@ fn is_short(chunks: &[Vec<AnyValue>]) -> bool
 
 #[tactic(auto, using(crate::proofs::Alls::all_next_list))]
 fn build<C: Chunk>(alloc: Global, lists: &[Vec<AnyValue>]) -> Result<Vec<C>, OutOfMemory>
-    requires { All C.fits (flat (lists_of lists.now)) }
+    requires { All (Fits C.kind) (flat (lists_of lists.now)) }
     ensures { IfOk result (λ v. map C.shown v.items ≡ lists_of lists.now) }
 {
     let mut chunks = Vec::with_capacity(alloc, lists.len())?;

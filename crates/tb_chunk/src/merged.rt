@@ -5,13 +5,15 @@ ghost use Rattle.tb_chunk.specs.Col.{flat, values};
 ghost use Rattle.tb_chunk.specs.Merged.{merged};
 ghost use Rattle.tb_chunk.specs.Seen.{chunk_lists, storage};
 
+use crate::chunk::Chunk;
 use crate::chunks::{Chunks, rows_in};
-use crate::grow::{Grow, join_rows};
+use crate::each::for_pairs;
+use crate::grow::join_rows;
 use std::alloc::Global;
 use tb_value::{IsSorted, OutOfMemory, ValueRef};
 
 // The values of a chunk, and those of another where they are Null.
-fn merge_rows<C: Grow>(alloc: Global, first: &C, second: &C) -> Result<C, OutOfMemory>
+fn merge_rows<C: Chunk>(alloc: Global, first: &C, second: &C) -> Result<C, OutOfMemory>
     requires same_len { length (C.shown first.now) ≡ length (C.shown second.now) }
     requires short { length (C.shown first.now) < 2 ^ 32 }
     ensures { IfOk result (λ c. C.shown c ≡ merged (C.shown first.now) (C.shown second.now)) }
@@ -27,7 +29,7 @@ fn merge_rows<C: Grow>(alloc: Global, first: &C, second: &C) -> Result<C, OutOfM
 }
 
 // The values of all chunks, and those of others where they are Null, as the only chunk.
-fn merge_one<C: Grow>(alloc: Global, first: &[C], second: &[C]) -> Result<Vec<C>, OutOfMemory>
+fn merge_one<C: Chunk>(alloc: Global, first: &[C], second: &[C]) -> Result<Vec<C>, OutOfMemory>
     requires same_len { length (flat (map C.shown first.now)) ≡ length (flat (map C.shown second.now)) }
     requires short { length (flat (map C.shown first.now)) < 2 ^ 32 }
     ensures { IfOk result (λ v. map C.shown v.items ≡ merged (flat (map C.shown first.now)) (flat (map C.shown second.now)) ∷ []) }
@@ -49,51 +51,6 @@ impl Chunks {
         ensures lists { IfOk result (λ c. chunk_lists c ≡ merged (flat (chunk_lists self.now)) (flat (chunk_lists other.now)) ∷ []) }
         ensures storage { IfOk result (λ c. storage c ≡ storage self.now) }
     {
-        match (self, other) {
-            (Chunks::BooleanType(a), Chunks::BooleanType(b)) => Ok(Chunks::BooleanType(merge_one(
-                alloc, a, b,
-            )?)),
-            (Chunks::Int8Type(a), Chunks::Int8Type(b)) => Ok(Chunks::Int8Type(merge_one(
-                alloc, a, b,
-            )?)),
-            (Chunks::Int16Type(a), Chunks::Int16Type(b)) => Ok(Chunks::Int16Type(merge_one(
-                alloc, a, b,
-            )?)),
-            (Chunks::Int32Type(a), Chunks::Int32Type(b)) => Ok(Chunks::Int32Type(merge_one(
-                alloc, a, b,
-            )?)),
-            (Chunks::Int64Type(a), Chunks::Int64Type(b)) => Ok(Chunks::Int64Type(merge_one(
-                alloc, a, b,
-            )?)),
-            (Chunks::Int128Type(a), Chunks::Int128Type(b)) => Ok(Chunks::Int128Type(merge_one(
-                alloc, a, b,
-            )?)),
-            (Chunks::UInt8Type(a), Chunks::UInt8Type(b)) => Ok(Chunks::UInt8Type(merge_one(
-                alloc, a, b,
-            )?)),
-            (Chunks::UInt16Type(a), Chunks::UInt16Type(b)) => Ok(Chunks::UInt16Type(merge_one(
-                alloc, a, b,
-            )?)),
-            (Chunks::UInt32Type(a), Chunks::UInt32Type(b)) => Ok(Chunks::UInt32Type(merge_one(
-                alloc, a, b,
-            )?)),
-            (Chunks::UInt64Type(a), Chunks::UInt64Type(b)) => Ok(Chunks::UInt64Type(merge_one(
-                alloc, a, b,
-            )?)),
-            (Chunks::StringType(a), Chunks::StringType(b)) => Ok(Chunks::StringType(merge_one(
-                alloc, a, b,
-            )?)),
-            (Chunks::BinaryType(a), Chunks::BinaryType(b)) => Ok(Chunks::BinaryType(merge_one(
-                alloc, a, b,
-            )?)),
-            (Chunks::ListType(a), Chunks::ListType(b)) => Ok(Chunks::ListType(merge_one(
-                alloc, a, b,
-            )?)),
-            (Chunks::StructType(a), Chunks::StructType(b)) => Ok(Chunks::StructType(merge_one(
-                alloc, a, b,
-            )?)),
-            (Chunks::Null(a), Chunks::Null(b)) => Ok(Chunks::Null(merge_one(alloc, a, b)?)),
-            _ => unreachable!(),
-        }
+        for_pairs!(self, other, (a, b) => merge_one(alloc, a, b)?)
     }
 }

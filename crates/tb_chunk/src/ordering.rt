@@ -9,6 +9,7 @@ ghost use Rattle.tb_chunk.specs.Seen.{chunk_lists};
 
 use crate::chunk::Chunk;
 use crate::chunks::{Chunks, nulls_in, rows_in, value_in};
+use crate::each::for_chunks;
 use std::cmp::Ordering;
 use tb_value::ValueRef;
 
@@ -130,22 +131,6 @@ impl Chunks {
         requires { length (flat (chunk_lists self.now)) < 2 ^ 64 }
         ensures { result ≡ keeps_order descending (flat (chunk_lists self.now)) }
     {
-        match self {
-            Chunks::BooleanType(chunks) => keeps_order(chunks, descending),
-            Chunks::Int8Type(chunks) => keeps_order(chunks, descending),
-            Chunks::Int16Type(chunks) => keeps_order(chunks, descending),
-            Chunks::Int32Type(chunks) => keeps_order(chunks, descending),
-            Chunks::Int64Type(chunks) => keeps_order(chunks, descending),
-            Chunks::Int128Type(chunks) => keeps_order(chunks, descending),
-            Chunks::UInt8Type(chunks) => keeps_order(chunks, descending),
-            Chunks::UInt16Type(chunks) => keeps_order(chunks, descending),
-            Chunks::UInt32Type(chunks) => keeps_order(chunks, descending),
-            Chunks::UInt64Type(chunks) => keeps_order(chunks, descending),
-            Chunks::StringType(chunks) => keeps_order(chunks, descending),
-            Chunks::BinaryType(chunks) => keeps_order(chunks, descending),
-            Chunks::ListType(chunks) => keeps_order(chunks, descending),
-            Chunks::StructType(chunks) => keeps_order(chunks, descending),
-            Chunks::Null(chunks) => keeps_order(chunks, descending),
-        }
+        for_chunks!(self, chunks => keeps_order(chunks, descending))
     }
 }

@@ -1,13 +1,11 @@
 //! Runs of bytes, of lists and of structs.
 ghost use Rattle.std.specs.Prelude.{map};
 ghost use Rattle.tb_value.specs.Datum.{binary, list, struct, items_of};
-ghost use Rattle.tb_value.specs.Kind as kind;
+ghost use Rattle.tb_value.specs.Kind as kinds;
 ghost use Rattle.tb_chunk.specs.Chunk.{or_null};
-ghost use Rattle.tb_chunk.specs.Fits.{Fits};
 
 use crate::cell::FieldValues;
 use crate::chunk::{Cells, Chunk};
-use crate::grow::Grow;
 use std::alloc::Global;
 use tb_value::{AnyValue, Bytes, OutOfMemory, ValueRef, Values};
 
@@ -20,7 +18,7 @@ pub struct BinaryChunk {
 impl Chunk for BinaryChunk {
     ghost shown = { λ c. map (or_null binary) c.inner.cells.items };
 
-    ghost fits = { Fits kind.binary };
+    ghost kind = { kinds.binary };
 
     fn len(&self) -> usize {
         self.inner.len()
@@ -45,9 +43,7 @@ impl Chunk for BinaryChunk {
             inner: self.inner.copy(alloc)?,
         })
     }
-}
 
-impl Grow for BinaryChunk {
     fn empty(alloc: Global) -> BinaryChunk {
         BinaryChunk {
             inner: Cells::empty(alloc),
@@ -77,7 +73,7 @@ pub struct ListChunk {
 impl Chunk for ListChunk {
     ghost shown = { λ c. map (or_null (λ vs. list (items_of vs))) c.inner.cells.items };
 
-    ghost fits = { Fits (kind.list kind.null) };
+    ghost kind = { kinds.list kinds.null };
 
     fn len(&self) -> usize {
         self.inner.len()
@@ -102,9 +98,7 @@ impl Chunk for ListChunk {
             inner: self.inner.copy(alloc)?,
         })
     }
-}
 
-impl Grow for ListChunk {
     fn empty(alloc: Global) -> ListChunk {
         ListChunk {
             inner: Cells::empty(alloc),
@@ -134,7 +128,7 @@ pub struct StructChunk {
 impl Chunk for StructChunk {
     ghost shown = { λ c. map (or_null (λ s. struct (items_of s.values))) c.inner.cells.items };
 
-    ghost fits = { Fits (kind.struct kind.end) };
+    ghost kind = { kinds.struct kinds.end };
 
     fn len(&self) -> usize {
         self.inner.len()
@@ -159,9 +153,7 @@ impl Chunk for StructChunk {
             inner: self.inner.copy(alloc)?,
         })
     }
-}
 
-impl Grow for StructChunk {
     fn empty(alloc: Global) -> StructChunk {
         StructChunk {
             inner: Cells::empty(alloc),

@@ -7,14 +7,16 @@ ghost use Rattle.tb_chunk.specs.Col.{flat, values};
 ghost use Rattle.tb_chunk.specs.Rows.{IsRowOf, value_or_null};
 ghost use Rattle.tb_chunk.specs.Seen.{chunk_lists, storage};
 
+use crate::chunk::Chunk;
 use crate::chunks::{Chunks, rows_in};
-use crate::grow::{Grow, join_rows};
+use crate::each::map_chunks;
+use crate::grow::join_rows;
 use crate::row_number::RowNumber;
 use std::alloc::Global;
 use tb_value::{IdxSize, IsSorted, OutOfMemory};
 
 // The values of these rows of a chunk.
-fn pick_rows<C: Grow, R: RowNumber>(alloc: Global, chunk: &C, rows: &[R]) -> Result<C, OutOfMemory>
+fn pick_rows<C: Chunk, R: RowNumber>(alloc: Global, chunk: &C, rows: &[R]) -> Result<C, OutOfMemory>
     requires rows { All (λ r. IsRowOf (length (C.shown chunk.now)) (R.number r)) rows.now }
     requires few { length rows.now < 2 ^ 32 }
     ensures { IfOk result (λ c. C.shown c ≡ map (λ r. value_or_null (C.shown chunk.now) (R.number r)) rows.now) }
@@ -30,7 +32,7 @@ fn pick_rows<C: Grow, R: RowNumber>(alloc: Global, chunk: &C, rows: &[R]) -> Res
 }
 
 // The values of these rows of all chunks. One chunk is picked from as it is, and more are joined first.
-fn pick<C: Grow, R: RowNumber>(alloc: Global, chunks: &[C], rows: &[R]) -> Result<C, OutOfMemory>
+fn pick<C: Chunk, R: RowNumber>(alloc: Global, chunks: &[C], rows: &[R]) -> Result<C, OutOfMemory>
     requires rows { All (λ r. IsRowOf (length (flat (map C.shown chunks.now))) (R.number r)) rows.now }
     requires few { length rows.now < 2 ^ 32 }
     requires short { length (flat (map C.shown chunks.now)) < 2 ^ 32 }
@@ -44,7 +46,7 @@ fn pick<C: Grow, R: RowNumber>(alloc: Global, chunks: &[C], rows: &[R]) -> Resul
 }
 
 // The values of these rows, as the only chunk.
-fn pick_one<C: Grow, R: RowNumber>(
+fn pick_one<C: Chunk, R: RowNumber>(
     alloc: Global,
     chunks: &[C],
     rows: &[R],
@@ -70,22 +72,6 @@ impl Chunks {
         ensures lists { IfOk result (λ c. chunk_lists c ≡ map (λ r. value_or_null (flat (chunk_lists self.now)) (R.number r)) rows.now ∷ []) }
         ensures storage { IfOk result (λ c. storage c ≡ storage self.now) }
     {
-        match self {
-            Chunks::BooleanType(chunks) => Ok(Chunks::BooleanType(pick_one(alloc, chunks, rows)?)),
-            Chunks::Int8Type(chunks) => Ok(Chunks::Int8Type(pick_one(alloc, chunks, rows)?)),
-            Chunks::Int16Type(chunks) => Ok(Chunks::Int16Type(pick_one(alloc, chunks, rows)?)),
-            Chunks::Int32Type(chunks) => Ok(Chunks::Int32Type(pick_one(alloc, chunks, rows)?)),
-            Chunks::Int64Type(chunks) => Ok(Chunks::Int64Type(pick_one(alloc, chunks, rows)?)),
-            Chunks::Int128Type(chunks) => Ok(Chunks::Int128Type(pick_one(alloc, chunks, rows)?)),
-            Chunks::UInt8Type(chunks) => Ok(Chunks::UInt8Type(pick_one(alloc, chunks, rows)?)),
-            Chunks::UInt16Type(chunks) => Ok(Chunks::UInt16Type(pick_one(alloc, chunks, rows)?)),
-            Chunks::UInt32Type(chunks) => Ok(Chunks::UInt32Type(pick_one(alloc, chunks, rows)?)),
-            Chunks::UInt64Type(chunks) => Ok(Chunks::UInt64Type(pick_one(alloc, chunks, rows)?)),
-            Chunks::StringType(chunks) => Ok(Chunks::StringType(pick_one(alloc, chunks, rows)?)),
-            Chunks::BinaryType(chunks) => Ok(Chunks::BinaryType(pick_one(alloc, chunks, rows)?)),
-            Chunks::ListType(chunks) => Ok(Chunks::ListType(pick_one(alloc, chunks, rows)?)),
-            Chunks::StructType(chunks) => Ok(Chunks::StructType(pick_one(alloc, chunks, rows)?)),
-            Chunks::Null(chunks) => Ok(Chunks::Null(pick_one(alloc, chunks, rows)?)),
-        }
+        map_chunks!(self, chunks => pick_one(alloc, chunks, rows)?)
     }
 }

@@ -1,7 +1,7 @@
 //! Columns whose stored type is known by a marker.
 ghost use Rattle.std.specs.Prelude.{◌≡◌, ◌≢◌, ◌<◌, ◌≤◌, ◌+◌, ◌-◌, ◌↔◌, ◌∷◌, [], IfOk, IsTrue, MatchResult, length, get_or, map, take, drop};
 ghost use Rattle.tb_value.specs.Datum.{null};
-ghost use Rattle.tb_value.specs.See.{lent};
+ghost use Rattle.tb_value.specs.See.{lent, IsText};
 ghost use Rattle.tb_value.specs.SeeKind.{kind_of};
 ghost use Rattle.tb_value.specs.declared.error.PolarsError.TheVariants.{SchemaMismatch};
 ghost use Rattle.tb_value.specs.declared.sorted.IsSorted.TheVariants.{Ascending, Descending};
@@ -16,7 +16,7 @@ use crate::series::Series;
 use std::alloc::Global;
 use std::marker::Model;
 use tb_chunk::{
-    Chunk, Grow, copy_chunks, join_one, keeps_order, nulls_in, rows_in, slice_offsets, value_in,
+    Chunk, copy_chunks, join_one, keeps_order, nulls_in, rows_in, slice_offsets, value_in,
 };
 use tb_value::{
     AnyValue, DataType, IsSorted, OutOfMemory, PlSmallStr, PolarsError, PolarsResult, ValueRef,
@@ -43,7 +43,7 @@ impl<T: PolarsDataType> Model for ChunkedArray<T> {
 
     ghost view = { λ s. record { name = s.name; kind = kind_of s.dtype; chunks = map T.Array.shown s.chunks.items; flag = s.flag } };
 
-    ghost invariant = { λ s. (physical (kind_of s.dtype) ≡ T.kind) × IsColumn record { name = s.name; kind = kind_of s.dtype; chunks = map T.Array.shown s.chunks.items; flag = s.flag } };
+    ghost invariant = { λ s. (physical (kind_of s.dtype) ≡ T.Array.kind) × IsColumn record { name = s.name; kind = kind_of s.dtype; chunks = map T.Array.shown s.chunks.items; flag = s.flag } };
 }
 
 impl<T: PolarsDataType> ChunkedArray<T> {
@@ -53,7 +53,7 @@ impl<T: PolarsDataType> ChunkedArray<T> {
     ///
     /// SchemaMismatch where the marker doesn't accept the type.
     pub fn from_series(series: Series) -> PolarsResult<ChunkedArray<T>>
-        ensures { MatchResult result (λ a. (a ≡ series) × (physical series.kind ≡ T.kind)) (λ e. (e ≡ SchemaMismatch) × (physical series.kind ≢ T.kind)) }
+        ensures { MatchResult result (λ a. (a ≡ series) × (physical series.kind ≡ T.Array.kind)) (λ e. (e ≡ SchemaMismatch) × (physical series.kind ≢ T.Array.kind)) }
     {
         let (name, dtype, chunks, flag) = series.into_parts();
         match T::unwrap(chunks) {
@@ -79,7 +79,7 @@ impl<T: PolarsDataType> ChunkedArray<T> {
         dtype: DataType,
         chunks: Vec<Vec<AnyValue>>,
     ) -> PolarsResult<ChunkedArray<T>>
-        ensures { IsArranged name.now (kind_of dtype) T.kind (lists_of chunks.items) result }
+        ensures { IsArranged name.now (kind_of dtype) T.Array.kind (lists_of chunks.items) result }
     {
         if !T::accepts(&dtype) {
             return Err(PolarsError::SchemaMismatch);
@@ -182,7 +182,7 @@ impl<T: PolarsDataType> ChunkedArray<T> {
     pub fn len(&self) -> usize
         ensures len { result ≡ length (values self.now) }
         ensures column { IsColumn self.now }
-        ensures kind { physical self.now.kind ≡ T.kind }
+        ensures kind { physical self.now.kind ≡ T.Array.kind }
     {
         rows_in(&self.chunks)
     }
@@ -198,7 +198,8 @@ impl<T: PolarsDataType> ChunkedArray<T> {
     /// The value of a row, lent. Its steps are at most the number of chunks.
     pub fn get(&self, row: usize) -> ValueRef<'_>
         requires { row < length (values self.now) }
-        ensures { lent result ≡ get_or (values self.now) row null }
+        ensures value { lent result ≡ get_or (values self.now) row null }
+        ensures text { IsText result }
     {
         value_in(&self.chunks, row)
     }
@@ -217,12 +218,7 @@ impl<T: PolarsDataType> ChunkedArray<T> {
             flag: self.flag,
         })
     }
-}
 
-impl<T: PolarsDataType> ChunkedArray<T>
-where
-    T::Array: Grow,
-{
     /// The same values in one chunk, with the same flag.
     pub fn rechunk(&self, alloc: Global) -> Result<ChunkedArray<T>, OutOfMemory>
         ensures { IfOk result (λ a. a ≡ record self.now { chunks = values self.now ∷ [] }) }

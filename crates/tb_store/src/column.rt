@@ -1,7 +1,7 @@
 //! Columns of a table.
 ghost use Rattle.std.specs.Prelude.{◌≡◌, ◌<◌, ◌∷◌, [], IfOk, length, get_or};
 ghost use Rattle.tb_value.specs.Datum.{null};
-ghost use Rattle.tb_value.specs.See.{lent};
+ghost use Rattle.tb_value.specs.See.{lent, IsText};
 ghost use Rattle.tb_value.specs.SeeKind.{kind_of};
 ghost use Rattle.tb_chunk.specs.Col.{values, IsColumn};
 ghost use Rattle.tb_chunk.specs.Flag.{nulls, FlagHolds};
@@ -134,7 +134,8 @@ impl Column {
     /// The value of a row, lent.
     pub fn get(&self, row: usize) -> ValueRef<'_>
         requires { row < length (values self.now) }
-        ensures { lent result ≡ get_or (values self.now) row null }
+        ensures value { lent result ≡ get_or (values self.now) row null }
+        ensures text { IsText result }
     {
         self.series.get(row)
     }

@@ -1,6 +1,5 @@
 //! The markers of the types by which values are stored.
 ghost use Rattle.std.specs.Prelude.{◌≡◌, ◌≢◌, ◌↔◌, IsTrue, MatchOption, map};
-ghost use Rattle.tb_value.specs.Kind.{Kind};
 ghost use Rattle.tb_value.specs.Kind as kinds;
 ghost use Rattle.tb_value.specs.SeeKind.{kind_of};
 ghost use Rattle.tb_chunk.specs.Col.{physical};
@@ -12,25 +11,23 @@ use tb_chunk::{
 };
 use tb_value::DataType;
 
-/// A marker of a type by which values are stored, other than Null.
+/// A marker of a type by which values are stored, other than Null: of the type of its chunks.
 pub trait PolarsDataType {
     /// A chunk of such values.
     type Array: Chunk;
 
-    ghost kind: { Kind };
-
     /// Whether values of the type are stored by the marker's.
     fn accepts(dtype: &DataType) -> bool
-        ensures { IsTrue result ↔ (physical (kind_of dtype.now) ≡ kind) };
+        ensures { IsTrue result ↔ (physical (kind_of dtype.now) ≡ Self.Array.kind) };
 
     /// The chunks as those of a column. It takes no memory.
     fn wrap(arrays: Vec<Self::Array>) -> Chunks
         ensures lists { chunk_lists result ≡ map Self.Array.shown arrays.items }
-        ensures storage { storage result ≡ kind };
+        ensures storage { storage result ≡ Self.Array.kind };
 
     /// The chunks of a column, None where they are not the marker's. It takes no memory.
     fn unwrap(chunks: Chunks) -> Option<Vec<Self::Array>>
-        ensures { MatchOption result (storage chunks ≢ kind) (λ v. (storage chunks ≡ kind) × (chunk_lists chunks ≡ map Self.Array.shown v.items)) };
+        ensures { MatchOption result (storage chunks ≢ Self.Array.kind) (λ v. (storage chunks ≡ Self.Array.kind) × (chunk_lists chunks ≡ map Self.Array.shown v.items)) };
 }
 
 /// Marks truth values.
@@ -38,8 +35,6 @@ pub struct BooleanType;
 
 impl PolarsDataType for BooleanType {
     type Array = Cells<bool>;
-
-    ghost kind = { kinds.boolean };
 
     fn accepts(dtype: &DataType) -> bool {
         physical_of(dtype) == Physical::Boolean
@@ -66,8 +61,6 @@ pub struct Int8Type;
 impl PolarsDataType for Int8Type {
     type Array = Cells<i8>;
 
-    ghost kind = { kinds.int8 };
-
     fn accepts(dtype: &DataType) -> bool {
         physical_of(dtype) == Physical::Int8
     }
@@ -92,8 +85,6 @@ pub struct Int16Type;
 
 impl PolarsDataType for Int16Type {
     type Array = Cells<i16>;
-
-    ghost kind = { kinds.int16 };
 
     fn accepts(dtype: &DataType) -> bool {
         physical_of(dtype) == Physical::Int16
@@ -120,8 +111,6 @@ pub struct Int32Type;
 impl PolarsDataType for Int32Type {
     type Array = Cells<i32>;
 
-    ghost kind = { kinds.int32 };
-
     fn accepts(dtype: &DataType) -> bool {
         physical_of(dtype) == Physical::Int32
     }
@@ -146,8 +135,6 @@ pub struct Int64Type;
 
 impl PolarsDataType for Int64Type {
     type Array = Cells<i64>;
-
-    ghost kind = { kinds.int64 };
 
     fn accepts(dtype: &DataType) -> bool {
         physical_of(dtype) == Physical::Int64
@@ -174,8 +161,6 @@ pub struct Int128Type;
 impl PolarsDataType for Int128Type {
     type Array = Cells<i128>;
 
-    ghost kind = { kinds.int128 };
-
     fn accepts(dtype: &DataType) -> bool {
         physical_of(dtype) == Physical::Int128
     }
@@ -200,8 +185,6 @@ pub struct UInt8Type;
 
 impl PolarsDataType for UInt8Type {
     type Array = Cells<u8>;
-
-    ghost kind = { kinds.uint8 };
 
     fn accepts(dtype: &DataType) -> bool {
         physical_of(dtype) == Physical::UInt8
@@ -228,8 +211,6 @@ pub struct UInt16Type;
 impl PolarsDataType for UInt16Type {
     type Array = Cells<u16>;
 
-    ghost kind = { kinds.uint16 };
-
     fn accepts(dtype: &DataType) -> bool {
         physical_of(dtype) == Physical::UInt16
     }
@@ -254,8 +235,6 @@ pub struct UInt32Type;
 
 impl PolarsDataType for UInt32Type {
     type Array = Cells<u32>;
-
-    ghost kind = { kinds.uint32 };
 
     fn accepts(dtype: &DataType) -> bool {
         physical_of(dtype) == Physical::UInt32
@@ -282,8 +261,6 @@ pub struct UInt64Type;
 impl PolarsDataType for UInt64Type {
     type Array = Cells<u64>;
 
-    ghost kind = { kinds.uint64 };
-
     fn accepts(dtype: &DataType) -> bool {
         physical_of(dtype) == Physical::UInt64
     }
@@ -308,8 +285,6 @@ pub struct StringType;
 
 impl PolarsDataType for StringType {
     type Array = StringChunk;
-
-    ghost kind = { kinds.string };
 
     fn accepts(dtype: &DataType) -> bool {
         physical_of(dtype) == Physical::String
@@ -336,8 +311,6 @@ pub struct BinaryType;
 impl PolarsDataType for BinaryType {
     type Array = BinaryChunk;
 
-    ghost kind = { kinds.binary };
-
     fn accepts(dtype: &DataType) -> bool {
         physical_of(dtype) == Physical::Binary
     }
@@ -363,8 +336,6 @@ pub struct ListType;
 impl PolarsDataType for ListType {
     type Array = ListChunk;
 
-    ghost kind = { kinds.list kinds.null };
-
     fn accepts(dtype: &DataType) -> bool {
         physical_of(dtype) == Physical::List
     }
@@ -389,8 +360,6 @@ pub struct StructType;
 
 impl PolarsDataType for StructType {
     type Array = StructChunk;
-
-    ghost kind = { kinds.struct kinds.end };
 
     fn accepts(dtype: &DataType) -> bool {
         physical_of(dtype) == Physical::Struct

@@ -22,11 +22,11 @@ pub use data_type::{
 };
 pub use series::Series;
 pub use tb_chunk::{
-    BinaryChunk, Cell, Cells, Chunk, Chunks, FieldValues, Grow, ListChunk, Physical, StringChunk,
+    BinaryChunk, Cell, Cells, Chunk, Chunks, FieldValues, ListChunk, Physical, StringChunk,
     StructChunk, physical_of, slice_offsets,
 };
 pub use tb_value::{
-    AnyValue, Bytes, ComputeCause, DataType, Field, Fields, IdxSize, InvalidCause, IsSorted,
+    AnyValue, Bytes, ChunkId, ComputeCause, DataType, Field, Fields, IdxSize, InvalidCause, IsSorted,
     JoinPair, MAX_ROWS, NullableIdxSize, OutOfMemory, PlSmallStr, PolarsError, PolarsResult, Side,
-    TimeUnit, ValueRef, Values,
+    StandardChunkId, TimeUnit, ValueRef, Values,
 };

@@ -1,7 +1,7 @@
 //! Columns.
 ghost use Rattle.std.specs.Prelude.{◌≡◌, ◌<◌, ◌≤◌, ◌∷◌, [], IfOk, length, get_or, map, take, drop, ◌+◌};
 ghost use Rattle.tb_value.specs.Datum.{null};
-ghost use Rattle.tb_value.specs.See.{lent};
+ghost use Rattle.tb_value.specs.See.{lent, IsText};
 ghost use Rattle.tb_value.specs.SeeKind.{kind_of};
 ghost use Rattle.tb_chunk.specs.Col.{Col, values, IsColumn, physical};
 ghost use Rattle.tb_chunk.specs.Flag.{nulls, FlagHolds};
@@ -115,7 +115,8 @@ impl Series {
     /// The value of a row, lent. Its steps are at most the number of chunks.
     pub fn get(&self, row: usize) -> ValueRef<'_>
         requires { row < length (values self.now) }
-        ensures { lent result ≡ get_or (values self.now) row null }
+        ensures value { lent result ≡ get_or (values self.now) row null }
+        ensures text { IsText result }
     {
         self.chunks.value(row)
     }

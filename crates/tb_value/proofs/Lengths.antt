@@ -1,10 +1,10 @@
 use Rattle.tb_value.specs.Same.{same, same_items}
 use Rattle.std.proofs.lemmas.List.{length-map}
-use Rattle.std.proofs.Common.{Bool, true, false, ◌&&◌, ◌≡◌, ◌∙◌, List, [], ◌∷◌, length, map, refl, ap, suc}
+use Rattle.std.proofs.Common.{Bool, true, false, ◌&&◌, ◌≡◌, ◌∙◌, List, [], ◌∷◌, length, map, refl, ap, sym, suc}
 use Rattle.tb_value.specs.Datum.{Datum, items_of, data_in}
 use Rattle.tb_value.specs.See.{datum}
 use Rattle.tb_value.specs.declared.any_value.AnyValue.{AnyValue}
-use Rattle.tb_value.specs.Kind.{Kind, Part, parts_of}
+use Rattle.tb_value.specs.Kind.{Kind, Part, Parts, parts_of, end, part}
 use Rattle.tb_value.specs.SeeKind.{parts, kind_step, part_step, parts_step}
 use Rattle.tb_value.specs.declared.dtype.Fields.{Fields, out-Fields, fold_out-Fields}
 use Rattle.tb_value.specs.Typed.{AreEachOf}
@@ -33,3 +33,23 @@ lengths_differ (x ∷ xs) (y ∷ ys) h = false_and (same x y) (same_items (items
 pub length-data_in : (xs : List AnyValue) → length (data_in (items_of (map datum xs))) ≡ length xs
 length-data_in [] = refl
 length-data_in (x ∷ xs) = ap (λ n. suc n) (length-data_in xs)
+
+-- values as a chain, and as the list again
+data_in-items_of : (vs : List Datum) → data_in (items_of vs) ≡ vs
+data_in-items_of [] = refl
+data_in-items_of (v ∷ vs) = ap (λ ws. v ∷ ws) (data_in-items_of vs)
+
+pub items_of-inj : (xs ys : List Datum) → items_of xs ≡ items_of ys → xs ≡ ys
+items_of-inj xs ys e = sym (data_in-items_of xs) ∙ ap data_in e ∙ data_in-items_of ys
+
+-- fields as a chain, and as the list again
+abbrev parts_in : Parts → List Part
+parts_in end = []
+parts_in (part n t ps) = (n, t) ∷ parts_in ps
+
+parts_in-parts_of : (ps : List Part) → parts_in (parts_of ps) ≡ ps
+parts_in-parts_of [] = refl
+parts_in-parts_of (p ∷ ps) = ap (λ qs. p ∷ qs) (parts_in-parts_of ps)
+
+pub parts_of-inj : (ps qs : List Part) → parts_of ps ≡ parts_of qs → ps ≡ qs
+parts_of-inj ps qs e = sym (parts_in-parts_of ps) ∙ ap parts_in e ∙ parts_in-parts_of qs

@@ -1,10 +1,7 @@
 pub mod Datum
-pub mod DatumCode
 pub mod See
-pub mod Falls
 pub mod Fed
 pub mod Kind
-pub mod KindCode
 pub mod SeeKind
 pub mod Typed
 pub mod Same
@@ -14,4 +11,4 @@ pub mod ChunkRow
 pub mod Pairs
 pub mod Refusals
 pub mod SameKind
-pub mod TypeTests
+pub mod Proved

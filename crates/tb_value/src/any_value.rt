@@ -32,7 +32,7 @@ pub enum AnyValue {
 impl Model for Values {
     ghost use Rattle.std.specs.Prelude.{List};
     ghost use Rattle.tb_value.specs.Datum.{Datum, weights, items_of};
-    ghost use Rattle.tb_value.specs.DatumCode.{coded_data};
+    ghost use Rattle.tb_value.specs.Proved.DatumCode.{coded_data};
 
     ghost Value = { List Datum };
 
@@ -44,7 +44,7 @@ impl Model for Values {
 
     ghost size = { λ vs. weights (items_of vs) };
 
-    ghost use Rattle.tb_value.specs.Falls.{most_le-weights};
+    ghost use Rattle.tb_value.specs.Proved.Falls.{most_le-weights};
 
     ghost size_decreases = { λ a h. most_le-weights a.items.items };
 }
@@ -87,7 +87,8 @@ pub enum ValueRef<'a> {
 impl AnyValue {
     /// The same value, lent. It takes no memory.
     pub fn as_ref(&self) -> ValueRef<'_>
-        ensures { lent result ≡ datum self.now }
+        ensures value { lent result ≡ datum self.now }
+        ensures text { IsText result }
     {
         match self {
             AnyValue::Null => ValueRef::Null,
@@ -112,9 +113,10 @@ impl ValueRef<'_> {
             ValueRef::Boolean(b) => Ok(AnyValue::Boolean(b)),
             ValueRef::Int(i) => Ok(AnyValue::Int(i)),
             ValueRef::String(s) => Ok(AnyValue::String(copy_text(s, alloc)?)),
-            ValueRef::Binary(s) => Ok(AnyValue::Binary(Bytes::from_vec(Vec::from_slice(
-                alloc, s,
-            )?)?)),
+            ValueRef::Binary(s) => Ok(AnyValue::Binary(Bytes::from_vec(
+                alloc,
+                Vec::from_slice(alloc, s)?,
+            )?)),
             ValueRef::List(vs) => Ok(AnyValue::List(copy_values(vs, alloc)?)),
             ValueRef::Struct(vs) => Ok(AnyValue::Struct(copy_values(vs, alloc)?)),
         }

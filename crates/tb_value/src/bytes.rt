@@ -1,5 +1,5 @@
 //! Lists of bytes.
-ghost use Rattle.std.specs.Prelude.{◌≡◌, IfOk};
+ghost use Rattle.std.specs.Prelude.{◌≡◌, IfOk, IsOkAnd};
 
 use crate::error::OutOfMemory;
 use std::alloc::Global;
@@ -21,9 +21,9 @@ impl Model for Bytes {
 }
 
 impl Bytes {
-    /// The bytes as they are. It takes no memory, and always answers `Ok`.
-    pub fn from_vec(bytes: Vec<u8>) -> Result<Bytes, OutOfMemory>
-        ensures { IfOk result (λ b. b ≡ bytes.items) }
+    /// The bytes as they are. Today it takes no memory of the allocator, and always answers `Ok`.
+    pub fn from_vec(_alloc: Global, bytes: Vec<u8>) -> Result<Bytes, OutOfMemory>
+        ensures { IsOkAnd result (λ b. b ≡ bytes.items) }
     {
         Ok(Bytes { bytes })
     }

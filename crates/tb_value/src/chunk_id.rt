@@ -16,7 +16,8 @@ pub type StandardChunkId = ChunkId<24>;
 
 impl<const B: u64> Model for ChunkId<B> {
     ghost use Rattle.std.specs.Prelude.{ℕ, Option};
-    ghost use Rattle.tb_value.specs.ChunkRow.{of_swizzled, to_swizzled, IsSwizzled, back};
+    ghost use Rattle.tb_value.specs.ChunkRow.{of_swizzled, to_swizzled, IsSwizzled};
+    ghost use Rattle.tb_value.specs.Proved.RowTests.{swizzled_back};
 
     ghost Value = { Option (ℕ × ℕ) };
 
@@ -26,7 +27,7 @@ impl<const B: u64> Model for ChunkId<B> {
 
     ghost inverse = { λ o. record { swizzled = to_swizzled B o } };
 
-    ghost inverse_ok = { λ a h. λ i. record { swizzled = back B a.swizzled i } };
+    ghost inverse_ok = { λ a h. λ i. record { swizzled = swizzled_back B a.swizzled i } };
 }
 
 impl<const B: u64> ChunkId<B> {
@@ -70,7 +71,8 @@ impl<const B: u64> ChunkId<B> {
 impl<const B: u64> PartialEq for ChunkId<B> {
     ghost use Rattle.std.specs.Cmp.{partial_equiv_from_equiv};
     ghost use Rattle.std.specs.Option.{option_eq};
-    ghost use Rattle.tb_value.specs.ChunkRow.{same_row, ids_equiv};
+    ghost use Rattle.tb_value.specs.ChunkRow.{same_row};
+    ghost use Rattle.tb_value.specs.Proved.RowTests.{ids_equiv};
 
     ghost eq = { option_eq same_row };
 
@@ -82,7 +84,7 @@ impl<const B: u64> PartialEq for ChunkId<B> {
 }
 
 impl<const B: u64> Eq for ChunkId<B> {
-    ghost use Rattle.tb_value.specs.ChunkRow.{ids_equiv};
+    ghost use Rattle.tb_value.specs.Proved.RowTests.{ids_equiv};
 
     ghost laws = { ids_equiv };
 }

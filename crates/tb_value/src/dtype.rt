@@ -39,6 +39,29 @@ pub enum DataType {
     Struct(Fields),
 }
 
+// The types that hold nothing further, as a pattern.
+macro_rules! plain_type {
+    () => {
+        DataType::Null
+            | DataType::Boolean
+            | DataType::Int8
+            | DataType::Int16
+            | DataType::Int32
+            | DataType::Int64
+            | DataType::Int128
+            | DataType::UInt8
+            | DataType::UInt16
+            | DataType::UInt32
+            | DataType::UInt64
+            | DataType::String
+            | DataType::Binary
+            | DataType::Date
+            | DataType::Time
+    };
+}
+
+pub(crate) use plain_type;
+
 /// A field of a struct.
 #[cycle(dtype)]
 #[derive(Drop)]

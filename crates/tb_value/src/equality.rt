@@ -2,12 +2,12 @@
 //! body is the comparison.
 ghost use Rattle.std.specs.Prelude.{◌≡◌, ◌↔◌, IsTrue};
 ghost use Rattle.tb_value.specs.See.{datum};
-ghost use Rattle.tb_value.specs.SeeKind.{kind_of};
+ghost use Rattle.tb_value.specs.SeeKind.{kind_of, part, parts};
 
-use crate::any_value::AnyValue;
+use crate::any_value::{AnyValue, Values};
 use crate::bytes::Bytes;
 use crate::chunk_id::ChunkId;
-use crate::dtype::{DataType, TimeUnit};
+use crate::dtype::{DataType, Field, Fields, TimeUnit};
 use crate::error::{ComputeCause, InvalidCause, PolarsError, Side};
 use crate::index::{JoinPair, NullableIdxSize};
 use crate::pl_str::PlSmallStr;
@@ -33,6 +33,24 @@ pub fn same_values(a: &AnyValue, b: &AnyValue) -> bool
 
 pub fn same_types(a: &DataType, b: &DataType) -> bool
     ensures { IsTrue result ↔ (kind_of a.now ≡ kind_of b.now) }
+{
+    a == b
+}
+
+pub fn same_lists(a: &Values, b: &Values) -> bool
+    ensures { IsTrue result ↔ (a.now ≡ b.now) }
+{
+    a == b
+}
+
+pub fn same_fields(a: &Field, b: &Field) -> bool
+    ensures { IsTrue result ↔ (part a.now ≡ part b.now) }
+{
+    a == b
+}
+
+pub fn same_structs(a: &Fields, b: &Fields) -> bool
+    ensures { IsTrue result ↔ (parts a.now ≡ parts b.now) }
 {
     a == b
 }

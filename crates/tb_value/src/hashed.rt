@@ -53,7 +53,7 @@ fn hash_values<H: Hasher>(values: &Values, state: &mut H)
 impl Hash for AnyValue {
     ghost use Rattle.std.specs.Hash.{same_Alike, on_Alike};
     ghost use Rattle.tb_value.specs.Fed.{fed_datum};
-    ghost use Rattle.tb_value.specs.Same.{same-Decides};
+    ghost use Rattle.tb_value.specs.Proved.ValueTests.{same-Decides};
     ghost use Rattle.tb_value.specs.See.{datum};
 
     ghost hash_input = { λ v. fed_datum (datum v) };
@@ -69,7 +69,7 @@ impl Hash for Values {
     ghost use Rattle.std.specs.Hash.{same_Alike, on_Alike};
     ghost use Rattle.tb_value.specs.Datum.{items_of};
     ghost use Rattle.tb_value.specs.Fed.{fed_items};
-    ghost use Rattle.tb_value.specs.Same.{items-Decides};
+    ghost use Rattle.tb_value.specs.Proved.ValueTests.{items-Decides};
 
     ghost hash_input = { λ vs. fed_items (items_of vs) };
 

@@ -1,6 +1,5 @@
 //! Row numbers, and the pairs of them that a join lists.
 ghost use Rattle.std.specs.Prelude.{◌≡◌, ◌<◌, ◌↔◌, Some, None, IsTrue, IsNone, IsSome, IfSome};
-ghost use Rattle.tb_value.specs.Index.{of_number, to_number, back};
 ghost use Rattle.tb_value.specs.Pairs.{both, left_only, right_only, row_cmp, left_first, right_first};
 
 use std::cmp::Ordering;
@@ -17,7 +16,8 @@ pub struct NullableIdxSize {
 
 impl Model for NullableIdxSize {
     ghost use Rattle.std.specs.Prelude.{ℕ, Option};
-    ghost use Rattle.tb_value.specs.Index.{of_number, to_number, back};
+    ghost use Rattle.tb_value.specs.Index.{of_number, to_number};
+    ghost use Rattle.tb_value.specs.Proved.RowTests.{number_back};
 
     ghost Value = { Option ℕ };
 
@@ -25,7 +25,7 @@ impl Model for NullableIdxSize {
 
     ghost inverse = { λ o. record { inner = to_number o } };
 
-    ghost inverse_ok = { λ a h. λ i. record { inner = back a.inner i } };
+    ghost inverse_ok = { λ a h. λ i. record { inner = number_back a.inner i } };
 }
 
 impl NullableIdxSize {
@@ -87,7 +87,7 @@ impl PartialEq for NullableIdxSize {
     ghost use Rattle.std.specs.Prelude.{nat_eq};
     ghost use Rattle.std.specs.Cmp.{partial_equiv_from_equiv};
     ghost use Rattle.std.specs.Option.{option_eq};
-    ghost use Rattle.tb_value.specs.Index.{numbers_equiv};
+    ghost use Rattle.tb_value.specs.Proved.RowTests.{numbers_equiv};
 
     ghost eq = { option_eq nat_eq };
 
@@ -99,7 +99,7 @@ impl PartialEq for NullableIdxSize {
 }
 
 impl Eq for NullableIdxSize {
-    ghost use Rattle.tb_value.specs.Index.{numbers_equiv};
+    ghost use Rattle.tb_value.specs.Proved.RowTests.{numbers_equiv};
 
     ghost laws = { numbers_equiv };
 }

@@ -27,4 +27,5 @@ pub use error::{ComputeCause, InvalidCause, OutOfMemory, PolarsError, PolarsResu
 pub use index::{IdxSize, JoinPair, NullableIdxSize};
 pub use limits::{MAX_ROWS, TOO_LONG, TOO_MANY_CHUNKS};
 pub use pl_str::PlSmallStr;
+pub use same::same_value;
 pub use sorted::IsSorted;

@@ -2,9 +2,25 @@
 ghost use Rattle.std.specs.Prelude.{◌≡◌};
 ghost use Rattle.tb_value.specs.Datum.{items_of};
 ghost use Rattle.tb_value.specs.Same.{same, same_items};
-ghost use Rattle.tb_value.specs.See.{datum};
+ghost use Rattle.tb_value.specs.See.{datum, lent};
 
-use crate::any_value::{AnyValue, Values};
+use crate::any_value::{AnyValue, ValueRef, Values};
+
+/// Whether two lent values are the same.
+pub fn same_value(first: ValueRef<'_>, second: ValueRef<'_>) -> bool
+    ensures { result ≡ same (lent first.entry) (lent second.entry) }
+{
+    match (first, second) {
+        (ValueRef::Null, ValueRef::Null) => true,
+        (ValueRef::Boolean(a), ValueRef::Boolean(b)) => a == b,
+        (ValueRef::Int(a), ValueRef::Int(b)) => a == b,
+        (ValueRef::String(a), ValueRef::String(b)) => a == b,
+        (ValueRef::Binary(a), ValueRef::Binary(b)) => a == b,
+        (ValueRef::List(a), ValueRef::List(b)) => a == b,
+        (ValueRef::Struct(a), ValueRef::Struct(b)) => a == b,
+        _ => false,
+    }
+}
 
 #[cycle(same)]
 fn same_values(first: &AnyValue, second: &AnyValue) -> bool
@@ -39,7 +55,8 @@ fn same_lists(first: &Values, second: &Values) -> bool
 
 impl PartialEq for AnyValue {
     ghost use Rattle.std.specs.Cmp.{partial_equiv_from_equiv};
-    ghost use Rattle.tb_value.specs.Same.{same, same_equiv, pulled};
+    ghost use Rattle.tb_value.specs.Same.{same};
+    ghost use Rattle.tb_value.specs.Proved.ValueTests.{same_equiv, pulled};
     ghost use Rattle.tb_value.specs.See.{datum};
 
     ghost eq = { λ a b. same (datum a) (datum b) };
@@ -52,7 +69,7 @@ impl PartialEq for AnyValue {
 }
 
 impl Eq for AnyValue {
-    ghost use Rattle.tb_value.specs.Same.{same_equiv, pulled};
+    ghost use Rattle.tb_value.specs.Proved.ValueTests.{same_equiv, pulled};
     ghost use Rattle.tb_value.specs.See.{datum};
 
     ghost laws = { pulled datum same_equiv };
@@ -61,7 +78,8 @@ impl Eq for AnyValue {
 impl PartialEq for Values {
     ghost use Rattle.std.specs.Cmp.{partial_equiv_from_equiv};
     ghost use Rattle.tb_value.specs.Datum.{items_of};
-    ghost use Rattle.tb_value.specs.Same.{same_items, items_equiv, pulled};
+    ghost use Rattle.tb_value.specs.Same.{same_items};
+    ghost use Rattle.tb_value.specs.Proved.ValueTests.{items_equiv, pulled};
 
     ghost eq = { λ a b. same_items (items_of a) (items_of b) };
 
@@ -74,7 +92,7 @@ impl PartialEq for Values {
 
 impl Eq for Values {
     ghost use Rattle.tb_value.specs.Datum.{items_of};
-    ghost use Rattle.tb_value.specs.Same.{items_equiv, pulled};
+    ghost use Rattle.tb_value.specs.Proved.ValueTests.{items_equiv, pulled};
 
     ghost laws = { pulled items_of items_equiv };
 }

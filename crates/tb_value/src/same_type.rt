@@ -5,7 +5,7 @@ ghost use Rattle.tb_value.specs.Kind.{parts_of};
 ghost use Rattle.tb_value.specs.SameKind.{same_unit, same_zone, same_kind, same_parts};
 ghost use Rattle.tb_value.specs.SeeKind.{kind_of, parts};
 
-use crate::dtype::{DataType, Field, Fields, TimeUnit};
+use crate::dtype::{DataType, Field, Fields, TimeUnit, plain_type};
 use crate::pl_str::PlSmallStr;
 
 fn same_unit(first: TimeUnit, second: TimeUnit) -> bool
@@ -37,24 +37,7 @@ fn is_datetime(dtype: &DataType, unit: TimeUnit, zone: &Option<PlSmallStr>) -> b
         DataType::Datetime(other_unit, other_zone) => {
             same_unit(unit, *other_unit) && same_zone(zone, other_zone)
         }
-        DataType::Null
-        | DataType::Boolean
-        | DataType::Int8
-        | DataType::Int16
-        | DataType::Int32
-        | DataType::Int64
-        | DataType::Int128
-        | DataType::UInt8
-        | DataType::UInt16
-        | DataType::UInt32
-        | DataType::UInt64
-        | DataType::String
-        | DataType::Binary
-        | DataType::Date
-        | DataType::Duration(_)
-        | DataType::Time
-        | DataType::List(_)
-        | DataType::Struct(_) => false,
+        plain_type!() | DataType::Duration(_) | DataType::List(_) | DataType::Struct(_) => false,
     }
 }
 
@@ -64,24 +47,7 @@ fn is_duration(dtype: &DataType, unit: TimeUnit) -> bool
 {
     match dtype {
         DataType::Duration(other) => same_unit(unit, *other),
-        DataType::Null
-        | DataType::Boolean
-        | DataType::Int8
-        | DataType::Int16
-        | DataType::Int32
-        | DataType::Int64
-        | DataType::Int128
-        | DataType::UInt8
-        | DataType::UInt16
-        | DataType::UInt32
-        | DataType::UInt64
-        | DataType::String
-        | DataType::Binary
-        | DataType::Date
-        | DataType::Datetime(_, _)
-        | DataType::Time
-        | DataType::List(_)
-        | DataType::Struct(_) => false,
+        plain_type!() | DataType::Datetime(_, _) | DataType::List(_) | DataType::Struct(_) => false,
     }
 }
 
@@ -122,23 +88,9 @@ fn is_struct(dtype: &DataType, fields: &Fields) -> bool
 {
     match dtype {
         DataType::Struct(others) => same_fields(fields, others),
-        DataType::Null
-        | DataType::Boolean
-        | DataType::Int8
-        | DataType::Int16
-        | DataType::Int32
-        | DataType::Int64
-        | DataType::Int128
-        | DataType::UInt8
-        | DataType::UInt16
-        | DataType::UInt32
-        | DataType::UInt64
-        | DataType::String
-        | DataType::Binary
-        | DataType::Date
+        plain_type!()
         | DataType::Datetime(_, _)
         | DataType::Duration(_)
-        | DataType::Time
         | DataType::List(_) => false,
     }
 }
@@ -165,10 +117,10 @@ fn same_fields(first: &Fields, second: &Fields) -> bool
 
 impl PartialEq for DataType {
     ghost use Rattle.std.specs.Cmp.{partial_equiv_from_equiv};
-    ghost use Rattle.tb_value.specs.Same.{pulled};
+    ghost use Rattle.tb_value.specs.Proved.ValueTests.{pulled};
     ghost use Rattle.tb_value.specs.SameKind.{same_kind};
     ghost use Rattle.tb_value.specs.SeeKind.{kind_of};
-    ghost use Rattle.tb_value.specs.TypeTests.{same_kind_equiv};
+    ghost use Rattle.tb_value.specs.Proved.TypeTests.{same_kind_equiv};
 
     ghost eq = { λ a b. same_kind (kind_of a) (kind_of b) };
 
@@ -180,19 +132,19 @@ impl PartialEq for DataType {
 }
 
 impl Eq for DataType {
-    ghost use Rattle.tb_value.specs.Same.{pulled};
+    ghost use Rattle.tb_value.specs.Proved.ValueTests.{pulled};
     ghost use Rattle.tb_value.specs.SeeKind.{kind_of};
-    ghost use Rattle.tb_value.specs.TypeTests.{same_kind_equiv};
+    ghost use Rattle.tb_value.specs.Proved.TypeTests.{same_kind_equiv};
 
     ghost laws = { pulled kind_of same_kind_equiv };
 }
 
 impl PartialEq for Field {
     ghost use Rattle.std.specs.Cmp.{partial_equiv_from_equiv};
-    ghost use Rattle.tb_value.specs.Same.{pulled};
+    ghost use Rattle.tb_value.specs.Proved.ValueTests.{pulled};
     ghost use Rattle.tb_value.specs.SameKind.{same_part};
     ghost use Rattle.tb_value.specs.SeeKind.{part};
-    ghost use Rattle.tb_value.specs.TypeTests.{same_part_equiv};
+    ghost use Rattle.tb_value.specs.Proved.TypeTests.{same_part_equiv};
 
     ghost eq = { λ a b. same_part (part a) (part b) };
 
@@ -204,9 +156,9 @@ impl PartialEq for Field {
 }
 
 impl Eq for Field {
-    ghost use Rattle.tb_value.specs.Same.{pulled};
+    ghost use Rattle.tb_value.specs.Proved.ValueTests.{pulled};
     ghost use Rattle.tb_value.specs.SeeKind.{part};
-    ghost use Rattle.tb_value.specs.TypeTests.{same_part_equiv};
+    ghost use Rattle.tb_value.specs.Proved.TypeTests.{same_part_equiv};
 
     ghost laws = { pulled part same_part_equiv };
 }
@@ -214,10 +166,10 @@ impl Eq for Field {
 impl PartialEq for Fields {
     ghost use Rattle.std.specs.Cmp.{partial_equiv_from_equiv};
     ghost use Rattle.tb_value.specs.Kind.{parts_of};
-    ghost use Rattle.tb_value.specs.Same.{pulled};
+    ghost use Rattle.tb_value.specs.Proved.ValueTests.{pulled};
     ghost use Rattle.tb_value.specs.SameKind.{same_parts};
     ghost use Rattle.tb_value.specs.SeeKind.{parts};
-    ghost use Rattle.tb_value.specs.TypeTests.{same_parts_equiv};
+    ghost use Rattle.tb_value.specs.Proved.TypeTests.{same_parts_equiv};
 
     ghost eq = { λ a b. same_parts (parts_of (parts a)) (parts_of (parts b)) };
 
@@ -230,9 +182,9 @@ impl PartialEq for Fields {
 
 impl Eq for Fields {
     ghost use Rattle.tb_value.specs.Kind.{parts_of};
-    ghost use Rattle.tb_value.specs.Same.{pulled};
+    ghost use Rattle.tb_value.specs.Proved.ValueTests.{pulled};
     ghost use Rattle.tb_value.specs.SeeKind.{parts};
-    ghost use Rattle.tb_value.specs.TypeTests.{same_parts_equiv};
+    ghost use Rattle.tb_value.specs.Proved.TypeTests.{same_parts_equiv};
 
     ghost laws = { pulled (λ f. parts_of (parts f)) same_parts_equiv };
 }

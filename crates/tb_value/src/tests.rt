@@ -36,7 +36,7 @@ fn lent_values(rt: HostRuntime) -> Result<(), Fail> {
     assert!(rt; list == AnyValue::List(values.copy(alloc)?));
     assert!(rt; list != AnyValue::Struct(values.copy(alloc)?));
     assert_eq!(rt; hash_of(&list), hash_of(&AnyValue::List(values)));
-    let bytes = Bytes::from_vec([1, 2].to_vec(alloc)?)?;
+    let bytes = Bytes::from_vec(alloc, [1, 2].to_vec(alloc)?)?;
     assert!(rt; ValueRef::Binary(&[1, 2]).to_value(alloc)? == AnyValue::Binary(bytes));
     Ok(())
 }

@@ -9,7 +9,7 @@ ghost use Rattle.tb_value.specs.SeeKind.{kind_of, parts};
 ghost use Rattle.tb_value.specs.Typed.{HasType, AreOf, AreEachOf, IsBytes, IsListOf, IsStructOf, ends, is_whole_physical};
 
 use crate::any_value::{AnyValue, ValueRef, Values};
-use crate::dtype::{DataType, Fields};
+use crate::dtype::{DataType, Fields, plain_type};
 use crate::limits::TOO_LONG;
 
 impl DataType {
@@ -160,23 +160,9 @@ fn is_list_of(dtype: &DataType, values: &Values) -> bool
 {
     match dtype {
         DataType::List(inner) => are_of(inner, values),
-        DataType::Null
-        | DataType::Boolean
-        | DataType::Int8
-        | DataType::Int16
-        | DataType::Int32
-        | DataType::Int64
-        | DataType::Int128
-        | DataType::UInt8
-        | DataType::UInt16
-        | DataType::UInt32
-        | DataType::UInt64
-        | DataType::String
-        | DataType::Binary
-        | DataType::Date
+        plain_type!()
         | DataType::Datetime(_, _)
         | DataType::Duration(_)
-        | DataType::Time
         | DataType::Struct(_) => false,
     }
 }
@@ -187,23 +173,9 @@ fn is_struct_of(dtype: &DataType, values: &Values) -> bool
 {
     match dtype {
         DataType::Struct(fields) => are_each_of(fields, values),
-        DataType::Null
-        | DataType::Boolean
-        | DataType::Int8
-        | DataType::Int16
-        | DataType::Int32
-        | DataType::Int64
-        | DataType::Int128
-        | DataType::UInt8
-        | DataType::UInt16
-        | DataType::UInt32
-        | DataType::UInt64
-        | DataType::String
-        | DataType::Binary
-        | DataType::Date
+        plain_type!()
         | DataType::Datetime(_, _)
         | DataType::Duration(_)
-        | DataType::Time
         | DataType::List(_) => false,
     }
 }

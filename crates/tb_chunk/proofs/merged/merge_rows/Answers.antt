@@ -15,12 +15,12 @@ loop-row-preserved g c =
     let more = sym (merged-more xs ys i c.requires.same_len low) in
     elim c.match-value.branch [
       | in-Null+in_ok-push_from-in-Null w ↦
-          let here : get_or ys i null ≡ or_else (get_or xs i null) (get_or ys i null) = sym (or_else-null (get_or xs i null) (get_or ys i null) null refl w.in-Null.ensures) in
-          ap g.C.Chunk.shown w.out-is ∙ w.in_ok-push_from-in-Null.ensures ∙ (λ t. c.loop-row.invariant t ++ here t ∷ []) ∙ more
+          let here : get_or ys i null ≡ or_else (get_or xs i null) (get_or ys i null) = sym (or_else-null (get_or xs i null) (get_or ys i null) null refl w.in-Null.ensures.value) in
+          ap g.C.Chunk.shown w.out-is ∙ w.in_ok-push_from-in-Null.ensures.ok ∙ (λ t. c.loop-row.invariant t ++ here t ∷ []) ∙ more
       | in_default+in_ok-push_from-in_default w ↦
-          let some : is_null (get_or xs i null) ≡ false = ap is_null (sym c.value.ensures) ∙ lent-present c.value.result w.in_default.not-Null in
+          let some : is_null (get_or xs i null) ≡ false = ap is_null (sym c.value.ensures.value) ∙ lent-present c.value.result w.in_default.not-Null in
           let here : get_or xs i null ≡ or_else (get_or xs i null) (get_or ys i null) = sym (or_else-present (get_or xs i null) (get_or ys i null) some) in
-          ap g.C.Chunk.shown w.out-is ∙ w.in_ok-push_from-in_default.ensures ∙ (λ t. c.loop-row.invariant t ++ here t ∷ []) ∙ more
+          ap g.C.Chunk.shown w.out-is ∙ w.in_ok-push_from-in_default.ensures.ok ∙ (λ t. c.loop-row.invariant t ++ here t ∷ []) ∙ more
     ]
 
 pub returns : goal.returns

@@ -1,6 +1,6 @@
 use Rattle.std.proofs.Common.{◌∙◌, sym}
 use Rattle.tb_value.specs.SeeKind.{kind_of}
-use Rattle.tb_value.specs.TypeTests.{same_kind-Decides}
+use Rattle.tb_value.specs.Proved.TypeTests.{same_kind-Decides}
 use Rattle.tb_value.proofs.equality.same_types.Goals as goal
 
 pub returns : goal.returns

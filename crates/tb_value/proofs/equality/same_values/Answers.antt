@@ -1,6 +1,6 @@
 use Rattle.std.proofs.Common.{◌∙◌, sym}
 use Rattle.tb_value.specs.See.{datum}
-use Rattle.tb_value.specs.Same.{same-Decides}
+use Rattle.tb_value.specs.Proved.ValueTests.{same-Decides}
 use Rattle.tb_value.proofs.equality.same_values.Goals as goal
 
 pub returns : goal.returns

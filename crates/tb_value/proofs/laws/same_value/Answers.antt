@@ -1,4 +1,4 @@
-use Rattle.tb_value.specs.Same.{same-Decides}
+use Rattle.tb_value.specs.Proved.ValueTests.{same-Decides}
 use Rattle.tb_value.proofs.laws.same_value.Goals as goal
 
 pub returns : goal.returns

@@ -5,7 +5,7 @@ use Rattle.std.specs.Cmp.{IsEquivalence, first_so, second_so}
 use Rattle.std.proofs.lemmas.Slice.Eq.{bytes_eq-Decides}
 use Rattle.tb_value.specs.Kind.{Kind, Part, Parts, null, boolean, int8, int16, int32, int64, int128, uint8, uint16, uint32, uint64, string, binary, date, time, datetime, duration, list, struct, end, part}
 use Rattle.tb_value.specs.Names.{same_name}
-use Rattle.tb_value.specs.Same.{from_decides}
+use Rattle.tb_value.specs.Proved.ValueTests.{from_decides}
 use Rattle.tb_value.specs.SameKind.{same_unit, same_zone, same_kind, same_parts, same_part}
 use Rattle.tb_value.specs.declared.dtype.TimeUnit.{TimeUnit}
 use Rattle.tb_value.specs.declared.dtype.TimeUnit.TheVariants.{Nanoseconds, Microseconds, Milliseconds}
@@ -49,7 +49,7 @@ mutual
   same_kind-Decides (struct ps) (struct qs) = let d = same_parts-Decides ps qs in (λ h. ap struct (d.0 h), λ e. d.1 (cc))
   same_kind-Decides _ _ = (λ h. absurd (cc), λ e. absurd (cc))
 
-  same_parts-Decides : (ps qs : Parts) → Decides (same_parts ps qs) (ps ≡ qs)
+  pub same_parts-Decides : (ps qs : Parts) → Decides (same_parts ps qs) (ps ≡ qs)
   same_parts-Decides end end = (λ _. refl, λ _. refl)
   same_parts-Decides (part n t ps) (part m u qs) =
       let names = bytes_eq-Decides n m in
@@ -72,7 +72,7 @@ same_kind_equiv = from_decides same_kind same_kind-Decides
 pub same_parts_equiv : IsEquivalence same_parts
 same_parts_equiv = from_decides same_parts same_parts-Decides
 
-same_part-Decides : (p q : Part) → Decides (same_part p q) (p ≡ q)
+pub same_part-Decides : (p q : Part) → Decides (same_part p q) (p ≡ q)
 same_part-Decides p q =
     let names = bytes_eq-Decides p.0 q.0 in
     let types = same_kind-Decides p.1 q.1 in (
