@@ -70,4 +70,6 @@ macro_rules! for_pairs {
     };
 }
 
-pub(crate) use {for_chunks, for_pairs, map_chunks};
+pub(crate) use for_chunks;
+pub(crate) use for_pairs;
+pub(crate) use map_chunks;

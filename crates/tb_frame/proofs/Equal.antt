@@ -1,32 +1,15 @@
--- Columns and tables that are equal, and types with fields.
-use Rattle.std.proofs.Common.{◌≡◌, ◌↔◌, ℕ, zero, suc, ◌<◌, ◌≤◌, Bool, true, false, ◌&&◌, List, [], ◌∷◌, length, get_or, refl, ap, sym, ◌∙◌, arith, IsTrue}
+-- Columns and tables that are equal.
+use Rattle.std.proofs.Common.{◌≡◌, ◌↔◌, ℕ, suc, ◌<◌, Bool, true, false, List, [], ◌∷◌, length, get_or, refl, ap, sym, ◌∙◌, arith, IsTrue}
 use Rattle.std.proofs.lemmas.List.{get_or-map}
 use Rattle.std.proofs.lemmas.Slice.Eq.{bytes_eq-Decides}
 use Rattle.tb_value.specs.Datum.{Datum}
-use Rattle.tb_value.specs.Kind.{Part, weight, weights, parts_of}
 use Rattle.tb_value.specs.Names.{same_name}
-use Rattle.tb_value.specs.Same.{same, same-Decides}
-use Rattle.tb_value.specs.SameKind.{same_kind, same_parts}
-use Rattle.tb_value.specs.TypeTests.{same_kind-Decides}
+use Rattle.tb_value.specs.Same.{same}
+use Rattle.tb_value.specs.Proved.ValueTests.{same-Decides}
+use Rattle.tb_value.specs.SameKind.{same_kind}
+use Rattle.tb_value.specs.Proved.TypeTests.{same_kind-Decides}
 use Rattle.tb_chunk.specs.Col.{Col, values}
 use Rattle.tb_frame.specs.Table.{TableColumn, plain, table_of}
-
--- no field's type is heavier than all of them
-pub weight_at : (ps : List Part) (i : ℕ) (p : Part) → i < length ps → p ≡ get_or ps i p → weight p.1 ≤ weights (parts_of ps)
-weight_at [] i p h e = absurd (omega arith)
-weight_at (q ∷ ps) zero p h e = let f : weight p.1 ≡ weight q.1 = ap (λ r. weight r.1) e in omega arith
-weight_at (q ∷ ps) (suc i) p h e = omega (arith, weight_at ps i p (omega arith) e)
-
--- lists of fields of different lengths are not the same
-false_and : (b c : Bool) → false ≡ c → false ≡ (b && c)
-false_and true c e = e
-false_and false c e = refl
-
-pub parts_differ : (ps qs : List Part) → (length ps ≡ length qs → ⊥) → false ≡ same_parts (parts_of ps) (parts_of qs)
-parts_differ [] [] h = absurd (h refl)
-parts_differ [] (q ∷ qs) h = refl
-parts_differ (p ∷ ps) [] h = refl
-parts_differ (p ∷ ps) (q ∷ qs) h = false_and (same_name p.0 q.0 && same_kind p.1 q.1) (same_parts (parts_of ps) (parts_of qs)) (parts_differ ps qs (λ e. h (ap (λ n. suc n) e)))
 
 -- what the test of two values says
 pub equal-same : (x y : Datum) → true ≡ same x y → x ≡ y

@@ -6,7 +6,7 @@ use Rattle.std.proofs.lemmas.List.{map-append}
 use Rattle.std.proofs.lemmas.List.Sorted.{IsPermutation-sym, IsPermutation-trans, IsPermutation-append_left, IsPermutation-map}
 use Rattle.tb_value.specs.declared.index.JoinPair.{JoinPair}
 use Rattle.tb_value.specs.Datum.{Datum, is_null, is_present}
-use Rattle.tb_value.specs.Same.{same_equiv}
+use Rattle.tb_value.specs.Proved.ValueTests.{same_equiv}
 use Rattle.tb_value.specs.Pairs.{row_numbers, left_only, matched, left_unmet, right_unmet, turn}
 use Rattle.tb_value.proofs.Loops.{map-map, permuted, turned_matches}
 use Rattle.tb_value.proofs.Probes.{turn_twice, turned_to_left, turned_to_right}

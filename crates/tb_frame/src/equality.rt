@@ -1,14 +1,12 @@
 //! Whether two tables are equal.
 ghost use Rattle.std.specs.Prelude.{◌≡◌, ◌↔◌, IsTrue};
-ghost use Rattle.tb_value.specs.Same.{same};
 ghost use Rattle.tb_value.specs.SameKind.{same_kind};
-ghost use Rattle.tb_value.specs.See.{lent};
 ghost use Rattle.tb_chunk.specs.Col.{values};
 ghost use Rattle.tb_frame.specs.Table.{plain, table_of};
 
 use crate::frame::DataFrame;
 use tb_store::Column;
-use tb_value::ValueRef;
+use tb_value::same_value;
 
 impl DataFrame {
     /// Whether the tables have the same names, types and values, column by column, where Null is equal to Null. How
@@ -62,20 +60,4 @@ fn same_values(first: &Column, second: &Column) -> bool
         }
     }
     true
-}
-
-/// Whether two lent values are the same.
-pub fn same_value(first: ValueRef<'_>, second: ValueRef<'_>) -> bool
-    ensures { result ≡ same (lent first.entry) (lent second.entry) }
-{
-    match (first, second) {
-        (ValueRef::Null, ValueRef::Null) => true,
-        (ValueRef::Boolean(a), ValueRef::Boolean(b)) => a == b,
-        (ValueRef::Int(a), ValueRef::Int(b)) => a == b,
-        (ValueRef::String(a), ValueRef::String(b)) => a == b,
-        (ValueRef::Binary(a), ValueRef::Binary(b)) => a == b,
-        (ValueRef::List(a), ValueRef::List(b)) => a == b,
-        (ValueRef::Struct(a), ValueRef::Struct(b)) => a == b,
-        _ => false,
-    }
 }

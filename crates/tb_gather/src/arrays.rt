@@ -8,7 +8,7 @@ use crate::directions::gathered_flag;
 use crate::gathering::gather_one;
 use crate::take_chunked::TakeChunked;
 use std::alloc::Global;
-use tb_store::{ChunkedArray, Grow, PolarsDataType, Series};
+use tb_store::{ChunkedArray, PolarsDataType, Series};
 use tb_value::{ChunkId, IsSorted, OutOfMemory};
 
 // The rows that the ids name, in one chunk, with this flag.
@@ -18,8 +18,6 @@ fn gather_array<T: PolarsDataType, const B: u64>(
     by: &[ChunkId<B>],
     flag: IsSorted,
 ) -> Result<ChunkedArray<T>, OutOfMemory>
-where
-    T::Array: Grow,
     requires named { NameRows by.now array.now }
     requires few { length by.now ≤ 4294967294 }
     requires flag { FlagHolds flag array.now.kind (map (value_at array.now.chunks) by.now) }
@@ -34,7 +32,7 @@ where
 
 // A series of a type that the marker accepts.
 fn as_array<T: PolarsDataType>(series: Series) -> ChunkedArray<T>
-    requires { physical series.kind ≡ T.kind }
+    requires { physical series.kind ≡ T.Array.kind }
     ensures { result ≡ series }
 {
     match ChunkedArray::from_series(series) {
@@ -43,10 +41,7 @@ fn as_array<T: PolarsDataType>(series: Series) -> ChunkedArray<T>
     }
 }
 
-impl<T: PolarsDataType, const B: u64> TakeChunked<B> for ChunkedArray<T>
-where
-    T::Array: Grow,
-{
+impl<T: PolarsDataType, const B: u64> TakeChunked<B> for ChunkedArray<T> {
     ghost use Rattle.std.specs.Prelude.{◌∷◌, []};
 
     ghost columns = { λ a. a ∷ [] };

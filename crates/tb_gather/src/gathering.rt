@@ -5,11 +5,11 @@ ghost use Rattle.tb_gather.specs.Ids.{NamesRow};
 ghost use Rattle.tb_gather.specs.Gathered.{lengths, value_at};
 
 use std::alloc::Global;
-use tb_store::{Chunks, Grow};
+use tb_store::{Chunk, Chunks};
 use tb_value::{ChunkId, OutOfMemory};
 
 // Appends the row that an id names, Null for none.
-fn push_named<C: Grow, const B: u64>(
+fn push_named<C: Chunk, const B: u64>(
     alloc: Global,
     out: &mut C,
     chunks: &[C],
@@ -27,7 +27,7 @@ fn push_named<C: Grow, const B: u64>(
 }
 
 // The rows that the ids name, Null for none. It takes steps in the number of ids.
-fn gather<C: Grow, const B: u64>(
+fn gather<C: Chunk, const B: u64>(
     alloc: Global,
     chunks: &[C],
     ids: &[ChunkId<B>],
@@ -44,7 +44,7 @@ fn gather<C: Grow, const B: u64>(
 }
 
 /// The rows that the ids name, as the only chunk.
-pub(crate) fn gather_one<C: Grow, const B: u64>(
+pub(crate) fn gather_one<C: Chunk, const B: u64>(
     alloc: Global,
     chunks: &[C],
     ids: &[ChunkId<B>],

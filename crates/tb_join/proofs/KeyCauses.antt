@@ -11,7 +11,7 @@ use Rattle.tb_value.specs.declared.error.PolarsError.{PolarsError}
 use Rattle.tb_value.specs.declared.error.PolarsError.TheVariants.{ColumnNotFound, Duplicate, ComputeError, InvalidOperation, OutOfMemory}
 use Rattle.tb_value.specs.declared.error.ComputeCause.TheVariants.{KeyTypes, Validation}
 use Rattle.tb_value.specs.declared.error.InvalidCause.TheVariants.{NoKeys, KeyCounts, KeyKind}
-use Rattle.tb_value.specs.TypeTests.{same_kind-Decides}
+use Rattle.tb_value.specs.Proved.TypeTests.{same_kind-Decides}
 use Rattle.tb_chunk.specs.Col.{Col}
 use Rattle.tb_frame.specs.declared.args.JoinArgs.{JoinArgs}
 use Rattle.tb_frame.specs.declared.args.JoinValidation.TheVariants.{ManyToMany}

@@ -59,12 +59,12 @@ fn decoded(alloc: Global, digits: &str) -> Result<Option<Vec<u8>>, OutOfMemory>
 }
 
 // The bytes, or None where there are too many for a value.
-fn short(bytes: Vec<u8>) -> Result<Option<Bytes>, OutOfMemory>
+fn short(alloc: Global, bytes: Vec<u8>) -> Result<Option<Bytes>, OutOfMemory>
     ensures value { IfOk result (λ o. o ≡ short bytes.items) }
     ensures typed { IfOk result (λ o. IfSome o (λ s. HasType kind.binary (binary s))) }
 {
     if bytes.len() < TOO_LONG {
-        Ok(Some(Bytes::from_vec(bytes)?))
+        Ok(Some(Bytes::from_vec(alloc, bytes)?))
     } else {
         Ok(None)
     }
@@ -77,7 +77,7 @@ pub(crate) fn short_bytes(alloc: Global, digits: &str) -> Result<Option<Bytes>, 
     ensures typed { IfOk result (λ o. IfSome o (λ s. HasType kind.binary (binary s))) }
 {
     match decoded(alloc, digits)? {
-        Some(bytes) => short(bytes),
+        Some(bytes) => short(alloc, bytes),
         None => Ok(None),
     }
 }

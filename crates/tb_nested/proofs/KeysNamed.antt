@@ -12,7 +12,7 @@ use Rattle.std.proofs.lemmas.Slice.Eq.{bytes_eq-Decides}
 use Rattle.tb_value.specs.Names.{Name, same_name}
 use Rattle.tb_value.specs.Pairs.{row_numbers}
 use Rattle.tb_value.specs.SameKind.{same_kind}
-use Rattle.tb_value.specs.TypeTests.{same_kind-Decides}
+use Rattle.tb_value.specs.Proved.TypeTests.{same_kind-Decides}
 use Rattle.tb_chunk.specs.Col.{Col}
 use Rattle.tb_frame.specs.Join.{named}
 use Rattle.tb_frame.specs.Refusal.{first_unknown, kind_at}

@@ -7,8 +7,7 @@ ghost use Rattle.tb_frame.specs.Table.{table_of, height};
 ghost use Rattle.tb_nested.specs.Asked.{asked};
 
 use crate::request::LentRequest;
-use tb_frame::same_value;
-use tb_value::ValueRef;
+use tb_value::{ValueRef, same_value};
 
 /// Whether the value is absent.
 pub(crate) fn is_null(value: ValueRef<'_>) -> bool

@@ -11,8 +11,6 @@ mod ordering;
 mod series;
 mod slicing;
 mod taking;
-#[cfg(test)]
-mod tests;
 
 pub use chunked_array::ChunkedArray;
 pub use column::Column;
@@ -26,7 +24,7 @@ pub use tb_chunk::{
     StructChunk, physical_of, slice_offsets,
 };
 pub use tb_value::{
-    AnyValue, Bytes, ChunkId, ComputeCause, DataType, Field, Fields, IdxSize, InvalidCause, IsSorted,
-    JoinPair, MAX_ROWS, NullableIdxSize, OutOfMemory, PlSmallStr, PolarsError, PolarsResult, Side,
-    StandardChunkId, TimeUnit, ValueRef, Values,
+    AnyValue, Bytes, ChunkId, ComputeCause, DataType, Field, Fields, IdxSize, InvalidCause,
+    IsSorted, JoinPair, MAX_ROWS, NullableIdxSize, OutOfMemory, PlSmallStr, PolarsError,
+    PolarsResult, Side, StandardChunkId, TimeUnit, ValueRef, Values,
 };

@@ -1,18 +1,15 @@
 -- The fields of two structs, as lists.
-use Rattle.std.proofs.Common.{◌≡◌, ◌≤◌, ◌<◌, ℕ, zero, suc, Bool, true, false, ◌&&◌, List, [], ◌∷◌, length, get_or, refl, ap, arith}
+use Rattle.std.proofs.Common.{◌≡◌, ◌≤◌, ◌<◌, ℕ, zero, suc, false, ◌&&◌, List, [], ◌∷◌, length, get_or, refl, ap, arith}
 use Rattle.tb_value.specs.Kind.{Part, weight, weights, parts_of}
 use Rattle.tb_value.specs.Names.{same_name}
 use Rattle.tb_value.specs.SameKind.{same_kind, same_parts}
+use Rattle.tb_value.proofs.Lengths.{false_and}
 
 -- no field's type is heavier than all of them
 pub weight_at : (ps : List Part) (i : ℕ) (p : Part) → i < length ps → p ≡ get_or ps i p → weight p.1 ≤ weights (parts_of ps)
 weight_at [] i p h e = absurd (omega arith)
 weight_at (q ∷ ps) zero p h e = let f : weight p.1 ≡ weight q.1 = ap (λ r. weight r.1) e in omega arith
 weight_at (q ∷ ps) (suc i) p h e = omega (arith, weight_at ps i p (omega arith) e)
-
-false_and : (b c : Bool) → false ≡ c → false ≡ (b && c)
-false_and true c e = e
-false_and false c e = refl
 
 -- lists of different lengths are not the same
 pub parts_differ : (ps qs : List Part) → (length ps ≡ length qs → ⊥) → false ≡ same_parts (parts_of ps) (parts_of qs)

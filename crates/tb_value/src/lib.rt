@@ -15,8 +15,6 @@ mod pl_str;
 mod same;
 mod same_type;
 mod sorted;
-#[cfg(test)]
-mod tests;
 mod typed;
 
 pub use any_value::{AnyValue, ValueRef, Values};

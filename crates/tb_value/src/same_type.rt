@@ -88,10 +88,8 @@ fn is_struct(dtype: &DataType, fields: &Fields) -> bool
 {
     match dtype {
         DataType::Struct(others) => same_fields(fields, others),
-        plain_type!()
-        | DataType::Datetime(_, _)
-        | DataType::Duration(_)
-        | DataType::List(_) => false,
+        plain_type!() | DataType::Datetime(_, _) | DataType::Duration(_) | DataType::List(_) =>
+            false,
     }
 }
 

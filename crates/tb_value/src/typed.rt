@@ -160,10 +160,8 @@ fn is_list_of(dtype: &DataType, values: &Values) -> bool
 {
     match dtype {
         DataType::List(inner) => are_of(inner, values),
-        plain_type!()
-        | DataType::Datetime(_, _)
-        | DataType::Duration(_)
-        | DataType::Struct(_) => false,
+        plain_type!() | DataType::Datetime(_, _) | DataType::Duration(_) | DataType::Struct(_) =>
+            false,
     }
 }
 
@@ -173,10 +171,8 @@ fn is_struct_of(dtype: &DataType, values: &Values) -> bool
 {
     match dtype {
         DataType::Struct(fields) => are_each_of(fields, values),
-        plain_type!()
-        | DataType::Datetime(_, _)
-        | DataType::Duration(_)
-        | DataType::List(_) => false,
+        plain_type!() | DataType::Datetime(_, _) | DataType::Duration(_) | DataType::List(_) =>
+            false,
     }
 }
 

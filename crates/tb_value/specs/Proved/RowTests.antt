@@ -1,5 +1,5 @@
 -- Row numbers and ids as numbers and back, and their tests.
-use Rattle.std.specs.Prelude.{◌&&◌, nat_eq, ◌≡◌, ◌^◌, ◌/◌, ◌%◌, ℕ, Bool, true, false, Option, Some, None, cond}
+use Rattle.std.specs.Prelude.{◌&&◌, nat_eq, ◌≡◌, ◌^◌, ◌/◌, ◌%◌, ℕ, Bool, true, false, Some, None, cond}
 use Rattle.std.proofs.Common.{refl, sym, eqb}
 use Rattle.std.proofs.lemmas.Bool.{eqb-true}
 use Rattle.std.proofs.lemmas.Cmp.{nat_eq_equiv}

@@ -20,4 +20,4 @@ returns g c =
     let value : value_at (map shown chunks) c.args.id.now ≡ get_or (shown c.index-chunks-chunk.result) c.extract-chunk.result.1 null =
     ap (value_at (map shown chunks)) c.extract-chunk.ensures ∙ named-value shown chunks c.extract-chunk.result.0 c.index-chunks-chunk.result c.index-chunks-chunk.is c.extract-chunk.result.1 named
     in
-    rw value c.push_from.ensures
+    rw value c.push_from.ensures.ok

@@ -1,5 +1,5 @@
 use Rattle.std.proofs.Common.{length, min}
-use Rattle.tb_value.specs.Same.{same-Decides}
+use Rattle.tb_value.specs.Proved.ValueTests.{same-Decides}
 use Rattle.tb_frame.specs.Join.{agrees, field, nulls}
 use Rattle.tb_frame.proofs.Meaning.{rows_all, agrees-Decides}
 use Rattle.tb_join.proofs.laws.matches_mean.Goals as goal

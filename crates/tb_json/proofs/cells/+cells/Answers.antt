@@ -22,9 +22,9 @@ list_values-cell_value-requires t c =
     let at : datum x ≡ get_or (map datum listed) i (datum x) = sym (get_or-map datum listed i x (datum x) within ∙ ap datum (sym c.value-item.is)) in
     let light : weight (datum x) ≤ weights (items_of (map datum listed)) = weight_in (map datum listed) i (datum x) (rw length-map within) at in
     let same : weights (items_of (map datum listed)) ≡ weights (items_of c.args.values.now) = ap (λ vs. weights (items_of vs)) c.as_slice-listed.ensures in
-    let e : weight (lent c.as_ref.result) ≡ weight (datum x) = ap weight c.as_ref.ensures in (
+    let e : weight (lent c.as_ref.result) ≡ weight (datum x) = ap weight c.as_ref.ensures.value in (
       omega (arith, light, same, e, c.decreases),
-      rw c.as_ref.ensures
+      rw c.as_ref.ensures.value
           (AreOf_at (kind_of c.args.dtype.now) (map datum listed) i (datum x) (rw length-map within) at (subst (λ vs. AreOf (kind_of c.args.dtype.now) (items_of vs)) (sym c.as_slice-listed.ensures) c.requires)),
     )
 
@@ -58,11 +58,11 @@ struct_values-cell_value-requires t c =
     let of : part f ≡ get_or (map part members) i (part f) = sym (get_or-map part members i f (part f) among ∙ ap part (sym c.index-members-i.is)) in
     let light : weight (datum x) ≤ weights (items_of (map datum listed)) = weight_in (map datum listed) i (datum x) (rw length-map within) at in
     let same : weights (items_of (map datum listed)) ≡ weights (items_of c.args.values.now) = ap (λ vs. weights (items_of vs)) c.as_slice-listed.ensures in
-    let e : weight (lent c.as_ref.result) ≡ weight (datum x) = ap weight c.as_ref.ensures in
+    let e : weight (lent c.as_ref.result) ≡ weight (datum x) = ap weight c.as_ref.ensures.value in
     let typed : AreEachOf (parts_of (map part members)) (items_of (map datum listed)) =
     subst (λ vs. AreEachOf (parts_of (map part members)) (items_of vs)) (sym c.as_slice-listed.ensures) (subst (λ ps. AreEachOf (parts_of ps) (items_of c.args.values.now)) (sym c.as_slice-members.ensures) c.requires) in (
       omega (arith, light, same, e, c.decreases),
-      rw c.as_ref.ensures (AreEachOf_at (map part members) (map datum listed) i (part f) (datum x) (rw length-map among) (rw length-map within) of at typed),
+      rw c.as_ref.ensures.value (AreEachOf_at (map part members) (map datum listed) i (part f) (datum x) (rw length-map among) (rw length-map within) of at typed),
     )
 
 pub struct_values-loop-i-preserved : goal.struct_values-loop-i-preserved
@@ -81,7 +81,7 @@ struct_values-loop-i-preserved t c =
     let of : part f ≡ get_or (map part members) i (part f) = sym (get_or-map part members i f (part f) among ∙ ap part (sym c.index-members-i.is)) in
     let done : List Data = map view c.loop-i.items.items in
     let pushed : map view c.push.new.self.items ≡ done ++ value_data (kind_of f.dtype) (datum x) ∷ [] =
-    ap (map view) c.in_ok-push.ensures.items ∙ map_push view _ _ ∙ ap (λ v. done ++ v ∷ []) (c.in_ok-cell_value.ensures ∙ ap (value_data (kind_of f.dtype)) c.as_ref.ensures) in
+    ap (map view) c.in_ok-push.ensures.items ∙ map_push view _ _ ∙ ap (λ v. done ++ v ∷ []) (c.in_ok-cell_value.ensures ∙ ap (value_data (kind_of f.dtype)) c.as_ref.ensures.value) in
     subst (λ ds. RowSoFar (map part members) (map datum listed) ds (i + 1)) (sym pushed)
     (RowSoFar-more (map part members) (map datum listed) done i (part f) (datum x) (rw length-map among) (rw length-map within) of at c.loop-i.invariant)
 

@@ -4,7 +4,8 @@ use Rattle.serde_json.specs.View.{items_of}
 use Rattle.tb_value.specs.Kind.{weight, weights, parts_of}
 use Rattle.tb_value.specs.SeeKind.{kind_of, part, parts}
 use Rattle.tb_json.specs.Text.{parts_data}
-use Rattle.tb_json.proofs.Fields.{field_data, parts_data-map, weight_at}
+use Rattle.tb_value.proofs.FieldTests.{weight_at}
+use Rattle.tb_json.proofs.Fields.{field_data, parts_data-map}
 use Rattle.tb_json.proofs.types.+types.Goals as goal
 
 pub fields_value-type_value-requires : goal.fields_value-type_value-requires

@@ -10,8 +10,8 @@ use Rattle.tb_nested.proofs.agreeing.rows_match.Goals.{After-agree}
 here : (c : After-agree) → c.agree.result ≡ agrees_at (asked c.args.request.now) c.args.i c.args.j c.loop-p.p
 here c =
     let r = c.args.request.now in
-    let left = c.get-left.ensures ∙ place_field r.left_keys.now c.loop-p.p c.index-request-p.result (omega arith) c.args.i in
-    let right = c.get-right.ensures ∙ place_field r.right_keys.now c.loop-p.p c.index-request-p-in-loop-p.result (omega arith) c.args.j in
+    let left = c.get-left.ensures.value ∙ place_field r.left_keys.now c.loop-p.p c.index-request-p.result (omega arith) c.args.i in
+    let right = c.get-right.ensures.value ∙ place_field r.right_keys.now c.loop-p.p c.index-request-p-in-loop-p.result (omega arith) c.args.j in
     c.agree.ensures ∙ (λ t. agrees r.args.now.join_nulls (left t) (right t))
 
 pub returns-then-not-agree : goal.returns-then-not-agree

@@ -9,7 +9,7 @@ use Rattle.tb_nested.proofs.validation.is_counted.Goals as goal
 use Rattle.tb_nested.proofs.validation.is_counted.Goals.{After-counts}
 
 here : (c : After-counts) → c.counts.result ≡ counts_at (asked c.args.request.now) (table_of c.args.keys.now) c.args.i c.loop-p.p
-here c = c.counts.ensures ∙ ap (λ (v : Datum). is_present v || c.args.request.now.args.now.join_nulls) (c.get.ensures ∙ column_field c.args.keys.now c.loop-p.p c.index-keys-p.result (omega arith) c.index-keys-p.is c.args.i)
+here c = c.counts.ensures ∙ ap (λ (v : Datum). is_present v || c.args.request.now.args.now.join_nulls) (c.get.ensures.value ∙ column_field c.args.keys.now c.loop-p.p c.index-keys-p.result (omega arith) c.index-keys-p.is c.args.i)
 
 pub returns-then-not-counts : goal.returns-then-not-counts
 returns-then-not-counts c =

@@ -8,8 +8,8 @@ use Rattle.tb_nested.proofs.validation.same_keys.Goals.{After-same_value}
 
 here : (c : After-same_value) → c.same_value.result ≡ same_at (table_of c.args.keys.now) c.args.i c.args.j c.loop-p.p
 here c =
-    let a = c.get.ensures ∙ column_field c.args.keys.now c.loop-p.p c.index-keys-p.result (omega arith) c.index-keys-p.is c.args.i in
-    let b = c.get-in-loop-p.ensures ∙ column_field c.args.keys.now c.loop-p.p c.index-keys-p-in-loop-p.result (omega arith) c.index-keys-p-in-loop-p.is c.args.j in
+    let a = c.get.ensures.value ∙ column_field c.args.keys.now c.loop-p.p c.index-keys-p.result (omega arith) c.index-keys-p.is c.args.i in
+    let b = c.get-in-loop-p.ensures.value ∙ column_field c.args.keys.now c.loop-p.p c.index-keys-p-in-loop-p.result (omega arith) c.index-keys-p-in-loop-p.is c.args.j in
     c.same_value.ensures ∙ (λ t. same (a t) (b t))
 
 pub returns-then-not-same_value : goal.returns-then-not-same_value
