@@ -16,9 +16,9 @@ ghost use Rattle.tb_nested.specs.Twins.{are_twins};
 
 use crate::agreeing::is_null;
 use crate::request::LentRequest;
-use tb_frame::{JoinType, same_value};
+use tb_frame::JoinType;
 use tb_store::Column;
-use tb_value::{ComputeCause, PolarsError, PolarsResult, Side, ValueRef};
+use tb_value::{ComputeCause, PolarsError, PolarsResult, Side, ValueRef, same_value};
 
 fn counts(null_matches: bool, value: ValueRef<'_>) -> bool
     ensures { result ≡ (is_present (lent value.entry) || null_matches) }
