@@ -1,5 +1,5 @@
 -- From what was read and written to what a run has done. Nothing here looks into a command.
-use Rattle.std.proofs.Common.{◌≡◌, ℕ, ◌+◌, ◌≤◌, ◌<◌, ◌⊎◌, Bool, true, false, List, [], ◌++◌, length, take, Option, None, Some, Result, Ok, Err, MatchBool, MatchOption, nat_lt, refl, sym, ap, ◌∙◌, subst, append-nil, arith, length-append}
+use Rattle.std.proofs.Common.{◌≡◌, ◌≢◌, ℕ, ◌+◌, ◌≤◌, ◌<◌, ◌⊎◌, Bool, true, false, List, [], ◌++◌, length, take, Option, None, Some, Result, Ok, Err, MatchBool, MatchOption, nat_lt, refl, sym, ap, ◌∙◌, subst, append-nil, arith, length-append}
 use mathlib.Core.Logic.{inl, inr}
 use Rattle.std.proofs.lemmas.Bool.{lt-ltb, le-ltb, ltb-false}
 use Rattle.std.proofs.lemmas.List.{take_all, take-append-le}
@@ -141,11 +141,10 @@ no_want asked left left' written written' faults faults' s text result is_due re
 
 -- WHERE NOTHING FAILS
 
-pub replied_answer : (asked : Form) (left left' written written' : Option (List ℕ)) (faults faults' : ℕ) (s : Status) (text : List ℕ) (result : Status)
-    → IsDue asked left left' s text → IsReply written written' faults faults' s text result → ¬ (Rose faults faults') → HasText result ⊎ (result ≡ status.OutOfMemory)
-replied_answer asked left left' written written' faults faults' s text result is_due (inl done) calm =
-    inl (subst HasText (sym done.0) (due_has_text asked is_due.bytes s text is_due.due))
-replied_answer asked left left' written written' faults faults' s text result is_due (inr failed) calm = absurd (calm failed.1)
+pub replied_well : (written written' : Option (List ℕ)) (faults faults' : ℕ) (s : Status) (text : List ℕ) (result : Status)
+    → IsReply written written' faults faults' s text result → result ≢ status.WriteFault → faults' ≡ faults
+replied_well written written' faults faults' s text result (inl done) well = done.2
+replied_well written written' faults faults' s text result (inr failed) well = absurd (well failed.0)
 
 done_request : (refusal : Option PolarsError) (q : Request) (s : Status) (text : List ℕ) → refusal ≡ None
     → MatchOption refusal ((s ≡ status.Done) × IsAnswerText q text) (λ e. (s ≡ status.Refused) × (text ≡ text_of_refusal e)) → s ≡ status.Done
@@ -157,7 +156,7 @@ done_reading read q s text e none d =
     let P : Result Request _ → Type 0 = λ r. DueOfReading r s text in
     done_request (refusal_of q) q s text none (subst P e d)
 
-valid_is_done : (asked : Form) (left left' : Option (List ℕ)) (s : Status) (text : List ℕ) → IsValid asked left → IsDue asked left left' s text → s ≡ status.Done
+pub valid_is_done : (asked : Form) (left left' : Option (List ℕ)) (s : Status) (text : List ℕ) → IsValid asked left → IsDue asked left left' s text → s ≡ status.Done
 valid_is_done (Reads command) None left' s text valid is_due = absurd valid
 valid_is_done (Reads command) (Some known) left' s text valid is_due =
     let bytes = is_due.bytes in
@@ -166,11 +165,6 @@ valid_is_done (Reads command) (Some known) left' s text valid is_due =
     let P : Bool → Type 0 = λ b. MatchBool b ((s ≡ status.TooLong) × (text ≡ too_long_text)) (DueOfReading (request_of command bytes) s text) in
     done_reading (request_of command bytes) valid.1.0 s text read valid.1.2 (subst P (le-ltb limit (length bytes) short) is_due.due)
 valid_is_done Unknown left left' s text valid is_due = absurd valid
-
-pub replied_done : (asked : Form) (left left' written written' : Option (List ℕ)) (faults faults' : ℕ) (s : Status) (text : List ℕ) (result : Status)
-    → IsDue asked left left' s text → IsReply written written' faults faults' s text result → IsValid asked left → ¬ (Rose faults faults') → (result ≡ status.Done) ⊎ (result ≡ status.OutOfMemory)
-replied_done asked left left' written written' faults faults' s text result is_due (inl done) valid calm = inl (done.0 ∙ valid_is_done asked left left' s text valid is_due)
-replied_done asked left left' written written' faults faults' s text result is_due (inr failed) valid calm = absurd (calm failed.1)
 
 -- THE HEADLINE
 

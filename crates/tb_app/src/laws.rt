@@ -1,8 +1,10 @@
 //! Laws over what is due and what is done.
 ghost use Rattle.std.specs.Prelude.{◌≡◌, List, ℕ, Option};
 ghost use Rattle.tb_app.specs.declared.status.Status.{Status};
+ghost use Rattle.tb_app.specs.declared.status.Status.TheVariants.{Done};
 ghost use Rattle.tb_app.specs.declared.words.Command.TheVariants.{Join};
-ghost use Rattle.tb_app.specs.Due.{due, DoneFor};
+ghost use Rattle.tb_app.specs.declared.words.Form.{Form};
+ghost use Rattle.tb_app.specs.Due.{due, DoneFor, IsDue, IsValid};
 ghost use Rattle.tb_app.specs.Headline.{JoinDone};
 
 pub use tb_json::laws::text_one_to_one;
@@ -11,6 +13,12 @@ use tb_value::PlSmallStr;
 /// One status alone is due for the same words and bytes.
 pub fn one_status(words: &[PlSmallStr], bytes: &[u8])
     ensures { (s s' : Status) (text text' : List ℕ) → due words.now bytes.now s text → due words.now bytes.now s' text' → s ≡ s' }
+{}
+
+/// What is due for a valid request is an answer: nothing refuses it.
+pub fn valid_is_done()
+    ensures { (asked : Form) (left left' : Option (List ℕ)) (s : Status) (text : List ℕ)
+        → IsValid asked left → IsDue asked left left' s text → s ≡ Done }
 {}
 
 /// What `run` says of 0 under the word `join`, in the words of a join.

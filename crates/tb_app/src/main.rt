@@ -8,8 +8,6 @@ ghost use Rattle.tb_app.specs.Words.{word_from};
 
 mod answering;
 mod ends;
-#[cfg(test)]
-mod join_tests;
 pub mod laws;
 mod memory;
 mod never;

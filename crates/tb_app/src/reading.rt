@@ -1,8 +1,7 @@
 //! Reading a request to its end, within its limit.
-ghost use Rattle.std.specs.Prelude.{◌≡◌, ◌≤◌, IfOk, IsErrOf};
+ghost use Rattle.std.specs.Prelude.{◌≡◌, IfOk};
 ghost use Rattle.tb_app.specs.declared.reading.ReadError.TheVariants.{Failed, OutOfMemory};
-ghost use Rattle.tb_app.specs.Ends.{Rose};
-ghost use Rattle.tb_app.specs.Reading.{WasRead};
+ghost use Rattle.tb_app.specs.Reading.{WasRead, CountsReads};
 
 use crate::ends::{self, Source};
 use std::alloc::{AllocError, Global};
@@ -54,8 +53,7 @@ impl From<tb_value::OutOfMemory> for ReadError {
 
 pub(crate) fn read_request<S: Source>(alloc: Global, source: &mut S) -> Result<Input, ReadError>
     ensures read { IfOk result (WasRead (S.left source.old) (S.left source.new)) }
-    ensures failed { IsErrOf result ReadError.Failed → Rose (S.faults source.old) (S.faults source.new) }
-    ensures count { S.faults source.old ≤ S.faults source.new }
+    ensures count { CountsReads (S.faults source.old) (S.faults source.new) result }
 {
     let mut bytes = Vec::new(alloc);
     let mut room = [0u8; ROOM];

@@ -1,9 +1,10 @@
 //! One run of the program.
-ghost use Rattle.std.specs.Prelude.{◌≡◌, ◌≤◌, ◌<◌, ◌⊎◌, List, ℕ, IfOk, IsErrOf, OnOk, OnErr, string_bytes};
+ghost use Rattle.std.specs.Prelude.{◌≡◌, ◌≢◌, ◌⊎◌, List, ℕ, IfOk, string_bytes};
 ghost use Rattle.std.specs.Io.KnownBytes.{Appends};
 ghost use Rattle.tb_app.specs.declared.words.Command.{Command};
-ghost use Rattle.tb_app.specs.Due.{due, DoneFor, IsDue, HasText, IsCommand, IsKnown, IsValid};
+ghost use Rattle.tb_app.specs.Due.{due, DoneFor, IsDue, HasText, IsCommand, IsKnown};
 ghost use Rattle.tb_app.specs.Ends.{Rose, AppendsPart};
+ghost use Rattle.tb_app.specs.Reading.{CountsReads};
 ghost use Rattle.tb_app.specs.Words.{form};
 ghost use Rattle.tb_app.specs.Run.{IsReply};
 
@@ -53,17 +54,12 @@ pub fn run<S: Source, K: Sink>(
     // 6: at any time, but not for words of no form. Nothing was written.
     ensures out_of_memory { result ≡ Status.OutOfMemory → IsKnown (form words.now) × (sink.new ≡ sink.old) }
 
-    // Where no count rose, one of the first kind is answered, or 6; and 0 or 6 where the request is valid.
-    ensures complete { ¬ (Rose (S.faults source.old) (S.faults source.new)) → ¬ (Rose (K.faults sink.old) (K.faults sink.new))
-        → HasText result ⊎ (result ≡ Status.OutOfMemory) }
-    ensures valid { IsValid (form words.now) (S.left source.old)
-        → ¬ (Rose (S.faults source.old) (S.faults source.new)) → ¬ (Rose (K.faults sink.old) (K.faults sink.new))
-        → (result ≡ Status.Done) ⊎ (result ≡ Status.OutOfMemory) }
+    // No read failed but under 4, and no write but under 5: the counts are as they were.
+    ensures reads_well { result ≢ Status.ReadFault → S.faults source.new ≡ S.faults source.old }
+    ensures writes_well { result ≢ Status.WriteFault → K.faults sink.new ≡ K.faults sink.old }
 
-    // Words of no form answer 2 or 5, and nothing is read for them.
-    ensures no_form { ¬ (IsKnown (form words.now)) → (result ≡ Status.Usage) ⊎ (result ≡ Status.WriteFault) }
+    // Nothing is read for words of no form.
     ensures reads_for_a_command { IsCommand (form words.now) ⊎ (source.new ≡ source.old) }
-    ensures faults { (S.faults source.old ≤ S.faults source.new) × (K.faults sink.old ≤ K.faults sink.new) }
 {
     match form_of(words) {
         Form::Unknown => reply(sink, Status::Usage, USAGE),
@@ -83,8 +79,7 @@ fn respond<S: Source>(
     source: &mut S,
 ) -> Result<Answer, ReadError>
     ensures due { IfOk result (λ a. IsDue (Form.Reads command) (S.left source.old) (S.left source.new) a.status (string_bytes a.text)) }
-    ensures failed { IsErrOf result ReadError.Failed → Rose (S.faults source.old) (S.faults source.new) }
-    ensures count { S.faults source.old ≤ S.faults source.new }
+    ensures count { CountsReads (S.faults source.old) (S.faults source.new) result }
 {
     match read_request(alloc, source)? {
         Input::Whole(bytes) => Ok(answer_request(rt, alloc, command, &bytes)?),
@@ -97,8 +92,7 @@ fn respond<S: Source>(
 
 // Writes a text, and answers with its status.
 fn reply<K: Sink>(sink: &mut K, status: Status, text: &str) -> Status
-    ensures reply { IsReply (K.written sink.old) (K.written sink.new) (K.faults sink.old) (K.faults sink.new) status text.now result }
-    ensures count { K.faults sink.old ≤ K.faults sink.new }
+    ensures { IsReply (K.written sink.old) (K.written sink.new) (K.faults sink.old) (K.faults sink.new) status text.now result }
 {
     match write_text(sink, text.as_bytes()) {
         Ok(()) => status,

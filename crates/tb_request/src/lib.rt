@@ -13,6 +13,3 @@ mod values;
 
 pub use reading::request_of;
 pub use request::{JoinRequest, Reason, RequestFault};
-
-#[cfg(test)]
-mod tests;

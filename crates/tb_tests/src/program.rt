@@ -1,1 +1,146 @@
 // Tests of joins from a request's text to an answer's.
+ghost use Rattle.tb_frame.specs.Built.{IsBuilt};
+ghost use Rattle.tb_request.specs.Reading.{asked, request_view};
+
+use std::alloc::Global;
+use std::test::Fail;
+use std::thread::Threads;
+use tb_frame::{DataFrame, JoinArgs, JoinCoalesce, JoinType, MaintainOrderJoin};
+use tb_join::DataFrameJoinOps;
+use tb_json::{text_of, text_of_refusal};
+use tb_nested::nested_join;
+use tb_request::{JoinRequest, request_of};
+use tb_value::{ComputeCause, InvalidCause, PolarsError, PolarsResult, Side};
+
+// Absent keys on both sides, and one that matches twice.
+const TABLES: &str =
+    r#""left":{"columns":[{"name":"k","type":"i64","chunks":[[1,null],[2]]}]},"right":{"columns":[{"name":"k","type":"i64","chunks":[[null,1,1,3]]}]},"left_on":["k"],"right_on":["k"]"#;
+
+// The texts of an answer's rows, sorted.
+fn rows_of(alloc: Global, answer: PolarsResult<DataFrame>) -> Result<Vec<String>, Fail> {
+    let table = answer.ok().ok_or("no answer")?;
+    let mut rows = Vec::new(alloc);
+    for row in 0..table.height() {
+        let one_row = table.slice(alloc, row as i64, 1).ok().ok_or("memory")?;
+        rows.push(text_of(alloc, &one_row)?)?;
+    }
+    rows.sort()?;
+    Ok(rows)
+}
+
+fn by_nested_loops(
+    alloc: Global,
+    request: &JoinRequest,
+    args: &JoinArgs,
+) -> PolarsResult<DataFrame> {
+    let (left, right) = (&request.left, &request.right);
+    nested_join(
+        alloc,
+        left,
+        right,
+        &request.left_on,
+        &request.right_on,
+        args,
+    )
+}
+
+fn by_join(
+    rt: &(impl Threads + Sync),
+    alloc: Global,
+    request: JoinRequest,
+) -> PolarsResult<DataFrame>
+    requires { IsBuilt (asked (request_view request)) }
+{
+    let JoinRequest {
+        left,
+        right,
+        left_on,
+        right_on,
+        args,
+        exec,
+        trace: _,
+    } = request;
+    left.join(rt, alloc, &right, &left_on, &right_on, args, &exec)
+}
+
+#[test]
+fn each_kind_by_hash_tables_and_by_nested_loops(rt: HostRuntime) -> Result<(), Fail> {
+    let alloc = rt.alloc();
+    for how in ["inner", "left", "right", "full", "semi", "anti"] {
+        for nulls in [false, true] {
+            let text = format!(in alloc;
+                r#"{{"args":{{"how":"{how}","join_nulls":{nulls}}},{TABLES}}}"#
+            )?;
+            let Ok(request) = request_of(alloc, text.as_bytes()) else {
+                return Err("no request".into());
+            };
+            let slow = rows_of(alloc, by_nested_loops(alloc, &request, &request.args))?;
+            let fast = rows_of(alloc, by_join(&rt, alloc, request))?;
+            assert_eq!(rt; fast.as_slice(), slow.as_slice(), "{how} {nulls}");
+        }
+    }
+    Ok(())
+}
+
+// The join of a kind that has a call of its own.
+fn called(
+    rt: &(impl Threads + Sync),
+    alloc: Global,
+    request: &JoinRequest,
+    how: JoinType,
+) -> PolarsResult<DataFrame>
+    requires { IsBuilt (asked (request_view request.now)) }
+{
+    let (left, right) = (&request.left, &request.right);
+    let (left_on, right_on) = (&request.left_on, &request.right_on);
+    let exec = &request.exec;
+    match how {
+        JoinType::Inner => left.inner_join(rt, alloc, right, left_on, right_on, exec),
+        JoinType::Left => left.left_join(rt, alloc, right, left_on, right_on, exec),
+        _ => left.full_join(rt, alloc, right, left_on, right_on, exec),
+    }
+}
+
+// Also the join by nested loops of a form that the program does not answer yet.
+#[test]
+fn kinds_that_have_a_call(rt: HostRuntime) -> Result<(), Fail> {
+    let alloc = rt.alloc();
+    let text = format!(in alloc; r#"{{"args":{{"how":"inner"}},{TABLES}}}"#)?;
+    let Ok(request) = request_of(alloc, text.as_bytes()) else {
+        return Err("no request".into());
+    };
+    for how in [JoinType::Inner, JoinType::Left, JoinType::Full] {
+        let fast = rows_of(alloc, called(&rt, alloc, &request, how))?;
+        let slow = rows_of(alloc, by_nested_loops(alloc, &request, &JoinArgs::new(how)))?;
+        assert_eq!(rt; fast.as_slice(), slow.as_slice());
+    }
+    let mut args = JoinArgs::new(JoinType::Full);
+    args.coalesce = JoinCoalesce::CoalesceColumns;
+    args.maintain_order = MaintainOrderJoin::RightLeft;
+    let Ok(table) = by_nested_loops(alloc, &request, &args) else {
+        return Err("no answer".into());
+    };
+    let text = text_of(alloc, &table)?;
+    let line = r#"{"columns":[{"name":"k","type":"i64","values":[null,1,1,3,null,2]}],"height":6}"#;
+    assert_eq!(rt; text.trim_end(), line);
+    Ok(())
+}
+
+#[test]
+fn refusals_that_no_request_meets_yet(rt: HostRuntime) -> Result<(), Fail> {
+    let cases = [
+        (
+            PolarsError::InvalidOperation(InvalidCause::KeyCounts { left: 2, right: 1 }),
+            "{\"cause\":\"KeyCounts\",\"error\":\"InvalidOperation\",\"left\":2,\"right\":1}\n",
+        ),
+        (
+            PolarsError::ComputeError(ComputeCause::Validation(Side::Right)),
+            "{\"cause\":\"Validation\",\"error\":\"ComputeError\",\"side\":\"right\"}\n",
+        ),
+    ];
+    for (error, text) in &cases {
+        let written = text_of_refusal(rt.alloc(), error)?;
+        assert_eq!(rt; written.as_str(), *text);
+    }
+    Ok(())
+}
