@@ -9,6 +9,7 @@ use Rattle.tb_value.specs.Datum.{Datum}
 use Rattle.tb_value.specs.Kind.{Kind}
 use Rattle.tb_value.specs.Names.{Name}
 use Rattle.tb_value.specs.Typed.{HasType}
+use Rattle.tb_value.specs.declared.limits.TheConstants.{MAX_ROWS}
 use Rattle.tb_chunk.specs.Col.{Col, IsColumn, values}
 use Rattle.tb_frame.specs.Table.{TableColumn, Table, plain, table_of, height}
 use Rattle.tb_json.specs.Text.{kind_data, value_data, column_data, table_data, text_of}
@@ -74,7 +75,7 @@ text_of_one_to_one s t h k e =
 
 short_table : (cs : List Col) → All IsColumn cs → height (table_of cs) < 2 ^ 64
 short_table [] all = omega arith
-short_table (c ∷ cs) all = let first = All-head IsColumn c cs all in let short : length (values c) ≤ 4294967294 = first.short in omega arith
+short_table (c ∷ cs) all = let first = All-head IsColumn c cs all in let short : length (values c) ≤ MAX_ROWS = first.short in omega arith
 
 pub IsWritable-table_of : (cs : List Col) → All IsColumn cs → IsWritable (table_of cs)
 IsWritable-table_of cs all = record {

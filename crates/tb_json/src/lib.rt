@@ -1,19 +1,20 @@
 //! JSON: types and values read from it, and the texts of tables and refusals.
 #![tactic(auto)]
 
-mod any_cells;
-mod arrays;
-mod cells;
-mod kinds;
 pub mod laws;
-mod plain_cells;
+mod read_any_cells;
+mod read_arrays;
 mod read_cell;
-mod refusals;
-mod types;
-mod wide;
-mod writing;
+mod read_kinds;
+mod read_plain_cells;
+mod read_wide;
+mod scalar;
+mod write_cells;
+mod write_kinds;
+mod write_refusals;
+mod write_tables;
 
-pub use arrays::arrays_in;
-pub use kinds::type_of;
-pub use refusals::text_of_refusal;
-pub use writing::text_of;
+pub use read_arrays::arrays_in;
+pub use read_kinds::type_of;
+pub use write_refusals::text_of_refusal;
+pub use write_tables::text_of;

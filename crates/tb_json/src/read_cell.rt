@@ -11,9 +11,10 @@ ghost use Rattle.tb_value.specs.Typed.{HasType, AreOf, AreEachOf};
 ghost use Rattle.tb_chunk.specs.Col.{physical};
 ghost use Rattle.tb_json.specs.Cells.{cell_in};
 
-use crate::any_cells::{each_value, row_of};
-use crate::plain_cells::{short_bytes, short_text};
-use crate::wide::wide_in;
+use crate::read_any_cells::{each_value, row_of};
+use crate::read_plain_cells::{short_bytes, short_text};
+use crate::read_wide::wide_in;
+use crate::scalar::scalar_type;
 use serde_json::Value;
 use std::alloc::Global;
 use tb_store::{Cell, FieldValues};
@@ -191,24 +192,7 @@ impl ReadCell for Values {
     fn read(alloc: Global, dtype: &DataType, value: &Value) -> Result<Option<Values>, OutOfMemory> {
         match dtype {
             DataType::List(inner) => list_of(alloc, value, inner),
-            DataType::Null
-            | DataType::Boolean
-            | DataType::Int8
-            | DataType::Int16
-            | DataType::Int32
-            | DataType::Int64
-            | DataType::Int128
-            | DataType::UInt8
-            | DataType::UInt16
-            | DataType::UInt32
-            | DataType::UInt64
-            | DataType::String
-            | DataType::Binary
-            | DataType::Date
-            | DataType::Datetime(_, _)
-            | DataType::Duration(_)
-            | DataType::Time
-            | DataType::Struct(_) => unreachable!(),
+            scalar_type!() | DataType::Struct(_) => unreachable!(),
         }
     }
 }
@@ -223,24 +207,7 @@ impl ReadCell for FieldValues {
     ) -> Result<Option<FieldValues>, OutOfMemory> {
         match dtype {
             DataType::Struct(fields) => struct_of(alloc, value, fields),
-            DataType::Null
-            | DataType::Boolean
-            | DataType::Int8
-            | DataType::Int16
-            | DataType::Int32
-            | DataType::Int64
-            | DataType::Int128
-            | DataType::UInt8
-            | DataType::UInt16
-            | DataType::UInt32
-            | DataType::UInt64
-            | DataType::String
-            | DataType::Binary
-            | DataType::Date
-            | DataType::Datetime(_, _)
-            | DataType::Duration(_)
-            | DataType::Time
-            | DataType::List(_) => unreachable!(),
+            scalar_type!() | DataType::List(_) => unreachable!(),
         }
     }
 }

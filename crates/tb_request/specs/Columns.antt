@@ -2,6 +2,7 @@
 use Rattle.std.specs.Prelude.{length, List, nat_le, Option, Some}
 use Rattle.tb_chunk.specs.Col.{Col, flat}
 use Rattle.tb_chunk.specs.Made.{at_least_one}
+use Rattle.tb_value.specs.declared.limits.TheConstants.{MAX_ROWS}
 use Rattle.tb_json.specs.Cells.{cell_in}
 use Rattle.tb_json.specs.Lists.{◌>>=◌, check, each}
 use Rattle.tb_request.specs.Written.{Written, WrittenJoin}
@@ -10,7 +11,7 @@ use Rattle.tb_request.specs.Written.{Written, WrittenJoin}
 unfoldable pub values_of : Written → Option Col
 values_of w = do
   chunks ← each (each (cell_in w.kind)) w.chunks
-  short ← check (nat_le (length (flat chunks)) 4294967294)
+  short ← check (nat_le (length (flat chunks)) MAX_ROWS)
   Some (record { name = w.name; kind = w.kind; chunks = at_least_one chunks; flag = w.flag })
 
 abbrev pub columns_from : List Written → Option (List Col)

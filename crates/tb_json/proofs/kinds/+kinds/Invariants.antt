@@ -1,9 +1,0 @@
-use Rattle.std.proofs.Common.{map}
-use Rattle.serde_json.specs.View.{view}
-use Rattle.tb_value.specs.SeeKind.{part}
-use Rattle.tb_json.specs.Kinds.{part_in}
-use Rattle.tb_json.proofs.LentValues.{Walk}
-use Rattle.tb_json.proofs.kinds.+kinds.Given as goal
-
-abbrev pub invariant-each_field-loop-item : goal.invariant-each_field-loop-item
-invariant-each_field-loop-item l = Walk view part_in l.item-items (map part l.fields.items) l.item-index

@@ -1,0 +1,45 @@
+use Rattle.std.specs.Prelude.{is_some}
+use Rattle.std.specs.Str.{bytes_eq}
+use Rattle.std.specs.Map.Iter.{TakesFirst}
+use Rattle.serde_json.specs.Data.{Data, Members, member, no_members}
+use Rattle.std.proofs.Common.{◌≡◌, ℕ, List, [], ◌∷◌, Option, Some, None, true, false, codes, refl, rules, tests, string_bytes, map, option_map, ◌∙◌, sym, ap, arith}
+use Rattle.std.proofs.lemmas.List.{map_push}
+use Rattle.serde_json.specs.View.{view, items_view, members_view}
+use Rattle.tb_value.specs.Kind.{parts_of}
+use Rattle.tb_value.specs.SeeKind.{part}
+use Rattle.tb_json.specs.Kinds.{part_in, members_part, field_named, kind_in, each_part}
+use Rattle.tb_json.proofs.LentValues.{Walk-more, Walk-fails, Walk-all}
+use Rattle.tb_json.proofs.FieldWalks.{each_part-each}
+use Rattle.tb_json.proofs.read_kinds.+kinds.Goals as goal
+
+pub each_field-returns-in_default : goal.each_field-returns-in_default
+each_field-returns-in_default t c =
+    ap (option_map parts_of) (Walk-fails view part_in _ _ _ _ c.loop-item-test.true c.item-item.is (sym c.in_ok-field.ensures ∙ ap (option_map part) c.in_default.is) c.loop-item.invariant)
+    ∙ sym (each_part-each (map view c.deref-item-items.result.now)) ∙ ap (λ vs. each_part (items_view vs)) c.deref-item-items.ensures.value
+
+pub each_field-loop-item-preserved : goal.each_field-loop-item-preserved
+each_field-loop-item-preserved t c =
+    rw (c.in_ok-push.ensures.items, map_push)
+    (Walk-more view part_in _ _ _ _ _ c.loop-item-test.true c.item-item.is (sym c.in_ok-field.ensures ∙ ap (option_map part) c.in-Some.is) c.loop-item.invariant)
+
+pub each_field-returns : goal.each_field-returns
+each_field-returns t c =
+    ap (option_map parts_of) (Walk-all view part_in _ _ _ (omega arith) c.loop-item.invariant)
+    ∙ sym (each_part-each (map view c.deref-item-items.result.now)) ∙ ap (λ vs. each_part (items_view vs)) c.deref-item-items.ensures.value
+
+none_left : {A X : Type 0} (shows : A → X) (s t : List X) (r : Option A) → is_some r ≡ false → TakesFirst shows s r t → s ≡ []
+none_left shows s t None e h = h.0
+none_left shows s t (Some x) e h = cc
+
+two : (ms : Members) (k l : List ℕ) (n d : Data) → ms ≡ member k n (member l d no_members) → bytes_eq k (codes "name") ≡ true → bytes_eq l (codes "type") ≡ true → members_part ms ≡ field_named (kind_in d) n
+two ms k l n d e h g = ap members_part e ∙ rw (h, g) refl
+
+pub members_field-returns : goal.members_field-returns
+members_field-returns t c =
+    let none = none_left _ _ _ _ (sym c.is_some.ensures ∙ c.if-is_some.false) c.next-3.ensures.steps in
+    let all = c.in-Some.ensures.steps ∙ ap (λ es. (c.in-Some.first.now, c.in-Some.name.now) ∷ es) (c.in-Some-next.ensures.steps ∙ ap (λ es. (c.in-Some-next.second.now, c.in-Some-next.value.now) ∷ es) none) in
+    let seen = ap members_view (sym c.iter-iter.ensures.rest ∙ all) in
+    let first : bytes_eq (string_bytes c.in-Some.first.now) (codes "name") ≡ true = first_of (search (rules, tests), grind (arith, tests)) in
+    let second : bytes_eq (string_bytes c.in-Some-next.second.now) (codes "type") ≡ true = first_of (search (rules, tests), grind (arith, tests)) in
+    let whole = two _ _ _ _ _ seen first second ∙ ap (λ k. field_named k (view c.in-Some.name.now)) (sym c.in_ok-dtype.ensures) in
+    rw whole c.named.ensures

@@ -1,0 +1,169 @@
+//! Whole numbers, texts and bytes, read from JSON.
+ghost use Rattle.std.specs.Prelude.{◌≡◌, option_map, option_and_then, IfOk, IfSome};
+ghost use Rattle.std.specs.List.{list_all};
+ghost use Rattle.serde_json.specs.View.{number_view};
+ghost use Rattle.tb_value.specs.Datum.{int, string, binary};
+ghost use Rattle.tb_value.specs.Kind as kind;
+ghost use Rattle.tb_value.specs.See.{datum};
+ghost use Rattle.tb_value.specs.SeeKind.{kind_of};
+ghost use Rattle.tb_value.specs.Typed.{HasType};
+ghost use Rattle.tb_json.specs.Cells.{ranged, boolean_in, number_in, short, is_lower_digit, bytes_in, text_in};
+ghost use Rattle.tb_json.specs.Wide.{wide_in};
+
+use crate::read_wide::wide_in;
+use crate::write_cells::is_wide;
+use hex::FromHexError;
+use serde_json::Number;
+use std::alloc::Global;
+use tb_value::{AnyValue, Bytes, DataType, OutOfMemory, PlSmallStr, TOO_LONG};
+
+/// An own copy of a text, or None where the text is too long to be a value.
+pub(crate) fn short_text(alloc: Global, text: &str) -> Result<Option<PlSmallStr>, OutOfMemory>
+    ensures value { IfOk result (λ o. o ≡ short text.now) }
+    ensures typed { IfOk result (λ o. IfSome o (λ s. HasType kind.string (string s))) }
+{
+    if text.len() < TOO_LONG {
+        Ok(Some(PlSmallStr::from_str(alloc, text)?))
+    } else {
+        Ok(None)
+    }
+}
+
+fn is_lower_digit(c: u8) -> bool
+    ensures { result ≡ is_lower_digit c }
+{
+    c.is_ascii_digit() || (b'a' <= c && c <= b'f')
+}
+
+fn are_lower_digits(digits: &[u8]) -> bool
+    ensures { result ≡ list_all is_lower_digit digits.now }
+{
+    digits.iter().all(|c| is_lower_digit(*c))
+}
+
+fn decoded(alloc: Global, digits: &str) -> Result<Option<Vec<u8>>, OutOfMemory>
+    ensures { IfOk result (λ o. option_map (λ v. v.items) o ≡ bytes_in digits.now) }
+{
+    if !are_lower_digits(digits.as_bytes()) {
+        return Ok(None);
+    }
+    match hex::decode(alloc, digits) {
+        Ok(bytes) => Ok(Some(bytes)),
+        Err(error) => match error {
+            FromHexError::OutOfMemory => Err(OutOfMemory),
+            FromHexError::OddLength => Ok(None),
+            FromHexError::InvalidHexCharacter { c: _, index: _ } => Ok(None),
+            FromHexError::InvalidStringLength => Ok(None),
+        },
+    }
+}
+
+// The bytes, or None where there are too many for a value.
+fn short(alloc: Global, bytes: Vec<u8>) -> Result<Option<Bytes>, OutOfMemory>
+    ensures value { IfOk result (λ o. o ≡ short bytes.items) }
+    ensures typed { IfOk result (λ o. IfSome o (λ s. HasType kind.binary (binary s))) }
+{
+    if bytes.len() < TOO_LONG {
+        Ok(Some(Bytes::from_vec(alloc, bytes)?))
+    } else {
+        Ok(None)
+    }
+}
+
+/// The bytes that lower-case hexadecimal digits stand for, or None where the text is none of those
+/// or there are too many bytes for a value.
+pub(crate) fn short_bytes(alloc: Global, digits: &str) -> Result<Option<Bytes>, OutOfMemory>
+    ensures value { IfOk result (λ o. o ≡ option_and_then short (bytes_in digits.now)) }
+    ensures typed { IfOk result (λ o. IfSome o (λ s. HasType kind.binary (binary s))) }
+{
+    match decoded(alloc, digits)? {
+        Some(bytes) => short(alloc, bytes),
+        None => Ok(None),
+    }
+}
+
+/// The value that `true` or `false` is, or None where the type isn't Boolean.
+pub(crate) fn boolean_of(b: bool, dtype: &DataType) -> Option<AnyValue>
+    ensures value { option_map datum result ≡ boolean_in (kind_of dtype.now) b }
+    ensures typed { IfSome result (λ v. HasType (kind_of dtype.now) (datum v)) }
+{
+    match dtype {
+        DataType::Boolean => Some(AnyValue::Boolean(b)),
+        _ => None,
+    }
+}
+
+// A whole number, where it is of the type.
+fn ranged(integer: i128, dtype: &DataType) -> Option<AnyValue>
+    ensures value { option_map datum result ≡ ranged (kind_of dtype.now) integer }
+    ensures typed { IfSome result (λ v. HasType (kind_of dtype.now) (datum v)) }
+{
+    let value = AnyValue::Int(integer);
+    if dtype.is_of(&value) {
+        Some(value)
+    } else {
+        None
+    }
+}
+
+/// The value that a number is, or None where it is none of the type.
+pub(crate) fn number_of(number: &Number, dtype: &DataType) -> Option<AnyValue>
+    ensures value { option_map datum result ≡ number_in (kind_of dtype.now) (number_view number.now) }
+    ensures typed { IfSome result (λ v. HasType (kind_of dtype.now) (datum v)) }
+{
+    if is_wide(dtype) {
+        return None;
+    }
+    match number.as_i128() {
+        Some(integer) => ranged(integer, dtype),
+        None => None,
+    }
+}
+
+fn wide_of(text: &str) -> Option<AnyValue>
+    ensures value { option_map datum result ≡ option_map int (wide_in text.now) }
+    ensures typed { IfSome result (λ v. HasType kind.int128 (datum v)) }
+{
+    match wide_in(text) {
+        Some(integer) => Some(AnyValue::Int(integer)),
+        None => None,
+    }
+}
+
+fn string_of(alloc: Global, text: &str) -> Result<Option<AnyValue>, OutOfMemory>
+    ensures value { IfOk result (λ o. option_map datum o ≡ option_map string (short text.now)) }
+    ensures typed { IfOk result (λ o. IfSome o (λ v. HasType kind.string (datum v))) }
+{
+    match short_text(alloc, text)? {
+        Some(text) => Ok(Some(AnyValue::String(text))),
+        None => Ok(None),
+    }
+}
+
+fn binary_of(alloc: Global, text: &str) -> Result<Option<AnyValue>, OutOfMemory>
+    ensures value { IfOk result (λ o. option_map datum o
+        ≡ option_map binary (option_and_then short (bytes_in text.now))) }
+    ensures typed { IfOk result (λ o. IfSome o (λ v. HasType kind.binary (datum v))) }
+{
+    match short_bytes(alloc, text)? {
+        Some(bytes) => Ok(Some(AnyValue::Binary(bytes))),
+        None => Ok(None),
+    }
+}
+
+/// The value that a text is, or None where it is none of the type.
+pub(crate) fn text_of(
+    alloc: Global,
+    text: &str,
+    dtype: &DataType,
+) -> Result<Option<AnyValue>, OutOfMemory>
+    ensures value { IfOk result (λ o. option_map datum o ≡ text_in (kind_of dtype.now) text.now) }
+    ensures typed { IfOk result (λ o. IfSome o (λ v. HasType (kind_of dtype.now) (datum v))) }
+{
+    match dtype {
+        DataType::Int128 => Ok(wide_of(text)),
+        DataType::String => string_of(alloc, text),
+        DataType::Binary => binary_of(alloc, text),
+        _ => Ok(None),
+    }
+}
