@@ -1,17 +1,23 @@
 -- The columns over the ordered and cut pairs are an answer.
-use Rattle.std.proofs.Common.{◌≡◌, ℕ, ◌<◌, List, [], ◌∷◌, length, get_or, map, ap, arith, sym, ◌∙◌, subst}
-use Rattle.std.specs.Prelude.{AllPairs, ◌≢◌}
+use Rattle.std.proofs.Common.{◌≡◌, ℕ, ◌<◌, List, [], ◌∷◌, length, get_or, map, ap, arith, sym, ◌∙◌, subst, None}
+use Rattle.std.specs.Prelude.{All, AllPairs, ◌≢◌}
 use Rattle.std.proofs.lemmas.List.{length-map, get_or-map, ext_get_or}
 use Rattle.std.proofs.lemmas.List.Elements.{All-map}
 use Rattle.tb_value.specs.declared.index.JoinPair.{JoinPair}
 use Rattle.tb_value.specs.Datum.{Datum}
 use Rattle.tb_value.specs.Datum.{null}
 use Rattle.tb_value.specs.Names.{Name}
-use Rattle.tb_frame.specs.Table.{TableColumn, Table, height, rows_of, row_at, names_of, IsTable}
+use Rattle.tb_value.specs.Typed.{HasType}
+use Rattle.tb_frame.specs.Table.{TableColumn, Table, height, rows_of, row_at, names_of, IsTable, IsTyped}
 use Rattle.tb_value.specs.Pairs.{left_only}
 use Rattle.tb_frame.specs.Join.{Request, Out, out, cut, listing, IsOrdered, IsAnswer}
 use Rattle.tb_frame.specs.Answer.{fill}
 use Rattle.tb_value.proofs.Loops.{map-map}
+use Rattle.tb_frame.specs.Frame.{frame_refusal}
+use Rattle.tb_frame.specs.Refusal.{first_repeated}
+use Rattle.tb_frame.proofs.Causes.{unrepeated_names}
+use Rattle.tb_frame.proofs.Frames.{level_height, no_refusal}
+use Rattle.tb_frame.proofs.Outs.{HasTypedFields, schema-out}
 use Rattle.tb_frame.proofs.Tables.{length-rows_of, row_is}
 
 -- with a column, the table is as high as the pairs are many
@@ -38,15 +44,24 @@ rows-fill ps os wide =
 pub names-fill : (ps : List JoinPair) (os : List Out) → names_of (map (fill ps) os) ≡ map (λ (o : Out). o.name) os
 names-fill ps os = map-map (λ (c : TableColumn). c.name) (fill ps) os
 
-pub table-fill : (ps : List JoinPair) (os : List Out) → AllPairs (λ (a b : Name). a ≢ b) (map (λ (o : Out). o.name) os) → IsTable (map (fill ps) os)
-table-fill ps os apart = record {
+pub level-fill : (ps : List JoinPair) (os : List Out) → All (λ (c : TableColumn). length c.values ≡ length ps) (map (fill ps) os)
+level-fill ps os = All-map (λ (c : TableColumn). length c.values ≡ length ps) (fill ps) os (λ k d low. length-map ps (get_or os k d).at)
+
+pub table-fill : (ps : List JoinPair) (os : List Out) → AllPairs (λ (a b : Name). a ≢ b) (map (λ (o : Out). o.name) os) → All HasTypedFields os → IsTable (map (fill ps) os)
+table-fill ps os apart typed = record {
   distinct = subst (λ (ns : List Name). AllPairs (λ (a b : Name). a ≢ b) ns) (sym (names-fill ps os)) apart;
-  one_height = All-map (λ (c : TableColumn). length c.values ≡ height (map (fill ps) os)) (fill ps) os (λ k d low. length-map ps (get_or os k d).at ∙ sym (height-fill ps os (omega arith)));
+  one_height = level_height (length ps) (map (fill ps) os) (level-fill ps os);
+  typed = All-map IsTyped (fill ps) os (λ k d low. All-map (HasType (get_or os k d).kind) (get_or os k d).at ps (λ i e under. typed k d low (get_or ps i e)));
 }
 
-pub answer_of : (q : Request) (ps : List JoinPair) → 0 < length (out q) → IsOrdered q.args.how q.args.maintain_order ps (listing q) → IsAnswer q (map (fill (cut q.args.slice ps)) (out q))
-answer_of q ps wide ordered = record {
-  columns = map-map (λ (c : TableColumn). (c.name, c.kind)) (fill (cut q.args.slice ps)) (out q);
+-- where no name is repeated, the columns are not refused
+pub fill-refusal : (ps : List JoinPair) (os : List Out) → AllPairs (λ (a b : Name). a ≢ b) (map (λ (o : Out). o.name) os) → frame_refusal (map (fill ps) os) ≡ None
+fill-refusal ps os apart = no_refusal (map (fill ps) os) (length ps) (level-fill ps os) (ap first_repeated (names-fill ps os) ∙ unrepeated_names (map (λ (o : Out). o.name) os) apart)
+
+pub answer_of : (q : Request) (ps : List JoinPair) → IsTable (map (fill (cut q.args.slice ps)) (out q)) → 0 < length (out q) → IsOrdered q.args.how q.args.maintain_order ps (listing q) → IsAnswer q (map (fill (cut q.args.slice ps)) (out q))
+answer_of q ps table wide ordered = record {
+  table = table;
+  columns = map-map (λ (c : TableColumn). (c.name, c.kind)) (fill (cut q.args.slice ps)) (out q) ∙ schema-out q;
   pairs = ps;
   ordered = ordered;
   rows = rows-fill (cut q.args.slice ps) (out q) wide;

@@ -1,5 +1,5 @@
 -- What follows where no cause holds.
-use Rattle.std.proofs.Common.{◌≡◌, ℕ, ◌<◌, ◌≤◌, nat_lt, Bool, true, false, cond, List, [], ◌∷◌, length, get_or, take, refl, ap, arith, sym, ◌∙◌, subst, Option, Some, None, Result, Ok, Err, inl, inr}
+use Rattle.std.proofs.Common.{◌≡◌, ℕ, ◌<◌, ◌≤◌, nat_lt, Bool, true, false, cond, List, [], ◌∷◌, ◌++◌, length, get_or, take, refl, ap, arith, sym, ◌∙◌, subst, Option, Some, None, Result, Ok, Err, inl, inr}
 use Rattle.std.specs.Prelude.{All, AllPairs, ◌≢◌, ◌⊎◌, IsErrAnd, ◌==◌, ◌||◌}
 use Rattle.std.specs.Option.{option_map}
 use Rattle.std.specs.List.{find, filter_map, cons_option}
@@ -17,16 +17,29 @@ use Rattle.tb_value.specs.Names.{Name}
 use Rattle.tb_value.specs.Names.{same_name}
 use Rattle.tb_value.specs.Pairs.{row_numbers}
 use Rattle.tb_frame.specs.Table.{TableColumn, Table}
-use Rattle.tb_frame.specs.Join.{named, is_among}
-use Rattle.tb_frame.specs.Refusal.{first_repeated, first_unknown}
+use Rattle.tb_frame.specs.Join.{named}
+use Rattle.tb_frame.specs.Naming.{is_among}
+use Rattle.tb_frame.specs.Refusal.{first_repeated, first_unknown, name_at, repeats}
 
 pub map_none : {X Y : Type 0} (f : X → Y) (o : Option X) → option_map f o ≡ None → o ≡ None
 map_none f None h = refl
 map_none f (Some x) h = absurd (cc)
 
-pub first_none : (o : Option PolarsError) (os : List (Option PolarsError)) → first_cause (o ∷ os) ≡ None → (o ≡ None) × (first_cause os ≡ None)
-first_none None os h = (refl, h)
-first_none (Some e) os h = absurd (cc)
+-- where there is no first cause, none holds
+pub no_cause : (os : List (Option PolarsError)) → first_cause os ≡ None → All (λ o. o ≡ None) os
+no_cause [] h = All-nil (λ o. o ≡ None)
+no_cause (None ∷ os) h = All-cons (λ o. o ≡ None) None os refl (no_cause os h)
+no_cause (Some e ∷ os) h = absurd (cc)
+
+-- the first of some causes, and then of others
+pub first_cause-append : (xs ys : List (Option PolarsError)) → first_cause (xs ++ ys) ≡ first_cause (first_cause xs ∷ ys)
+first_cause-append [] ys = refl
+first_cause-append (None ∷ xs) ys = first_cause-append xs ys
+first_cause-append (Some e ∷ xs) ys = refl
+
+pub first_cause-one : (o : Option PolarsError) → first_cause (o ∷ []) ≡ o
+first_cause-one (Some e) = refl
+first_cause-one None = refl
 
 -- none that was looked for is there
 none_at : {X : Type 0} (p : X → Bool) (x : X) (xs : List X) → (find p xs ≡ None → All (λ y. p y ≡ false) xs) → (b : Bool) → p x ≡ b → find p (x ∷ xs) ≡ None → All (λ y. p y ≡ false) (x ∷ xs)
@@ -37,12 +50,12 @@ pub find_none : {X : Type 0} (p : X → Bool) (xs : List X) → find p xs ≡ No
 find_none p [] h = All-nil (λ y. p y ≡ false)
 find_none p (x ∷ xs) h = none_at p x xs (find_none p xs) (p x) refl h
 
--- names of which none stood before are distinct
+-- names of which none is repeated are distinct
 pub distinct_names : (names : List Name) → first_repeated names ≡ None → AllPairs (λ (a b : Name). a ≢ b) names
 distinct_names names h = λ i j d low high same.
-    let before : ℕ → Bool = λ k. is_among (take k names) (get_or names k []) in
+    let before : ℕ → Bool = repeats names in
     let long : length (row_numbers (length names)) ≡ length names = length-range_with_len 0 (length names) in
-    let fails : before (get_or (row_numbers (length names)) j 0) ≡ false = find_none before (row_numbers (length names)) (map_none (λ k. get_or names k []) (find before (row_numbers (length names))) h) j 0 (omega (arith, long)) in
+    let fails : before (get_or (row_numbers (length names)) j 0) ≡ false = find_none before (row_numbers (length names)) (map_none (name_at names) (find before (row_numbers (length names))) h) j 0 (omega (arith, long)) in
     let at : get_or (row_numbers (length names)) j 0 ≡ j = get_or-range_with_len 0 (length names) j 0 high ∙ omega arith in
     let no_match : before j ≡ false = ap before (sym at) ∙ fails in
     let size = length-take j names in
@@ -50,7 +63,7 @@ distinct_names names h = λ i j d low high same.
     let match : before j ≡ true = list_any_at (same_name (get_or names j [])) (take j names) i [] (omega (arith, size)) (ap (same_name (get_or names j [])) here ∙ nat_list_eq_equiv.refl (get_or names j [])) in
     absurd (let c : false ≡ true = sym no_match ∙ match in cc)
 
--- and of distinct names none stood before
+-- and of distinct names none is
 find-none : {X : Type 0} (p : X → Bool) (xs : List X) → All (λ x. p x ≡ false) xs → find p xs ≡ None
 find-none p [] h = refl
 find-none p (x ∷ xs) h = rw (All-head (λ y. p y ≡ false) x xs h) (find-none p xs (All-tail (λ y. p y ≡ false) x xs h))
@@ -60,7 +73,7 @@ apart m n true e h = absurd (h ((bytes_eq-Decides m n).0 e))
 apart m n false e h = refl
 
 pub unrepeated_names : (names : List Name) → AllPairs (λ (a b : Name). a ≢ b) names → first_repeated names ≡ None
-unrepeated_names names h = ap (option_map (λ k. get_or names k [])) (find-none (λ k. is_among (take k names) (get_or names k [])) (row_numbers (length names)) stood)
+unrepeated_names names h = ap (option_map (name_at names)) (find-none (repeats names) (row_numbers (length names)) stood)
   where
     long : length (row_numbers (length names)) ≡ length names
     long = length-range_with_len 0 (length names)
@@ -98,14 +111,6 @@ has_column [] [] h e = absurd (omega arith)
 has_column [] (n ∷ ns) h e = absurd (cc)
 has_column (c ∷ cs) names h e = omega arith
 
--- the first of some causes is the first of more
-pub earlier : (a b c d : Option PolarsError) (rest : List (Option PolarsError)) (e : PolarsError) → first_cause (a ∷ b ∷ c ∷ d ∷ []) ≡ Some e → first_cause (a ∷ b ∷ c ∷ d ∷ rest) ≡ Some e
-earlier (Some x) b c d rest e h = h
-earlier None (Some x) c d rest e h = h
-earlier None None (Some x) d rest e h = h
-earlier None None None (Some x) rest e h = h
-earlier None None None None rest e h = absurd (cc)
-
 pub some_keys : (ls rs : List Name) (e : PolarsError) → when (length ls == 0 || length rs == 0) e ≡ None → 0 < length ls
 some_keys [] rs e h = absurd (cc)
 some_keys (l ∷ ls) rs e h = omega arith
@@ -117,12 +122,6 @@ no_right_keys false e h = absurd (cc)
 pub some_right_keys : (ls rs : List Name) (e : PolarsError) → when (length ls == 0 || length rs == 0) e ≡ None → 0 < length rs
 some_right_keys ls [] e h = absurd (no_right_keys (length ls == 0) e h)
 some_right_keys ls (r ∷ rs) e h = omega arith
-
--- an error that `?` hands on, of the first causes
-pub carried : {T : Type 0} (r : Result T PolarsError) (e : PolarsError) (a b c d : Option PolarsError) (rest : List (Option PolarsError)) → IsErrAnd r (λ x. x ≡ e) → (e ≡ OutOfMemory) ⊎ (first_cause (a ∷ b ∷ c ∷ d ∷ []) ≡ Some e) → Settles r (first_cause (a ∷ b ∷ c ∷ d ∷ rest))
-carried (Ok x) e a b c d rest h k = absurd h
-carried (Err x) e a b c d rest h (inl k) = inl (h ∙ k)
-carried (Err x) e a b c d rest h (inr k) = inr (earlier a b c d rest e k ∙ ap (λ (y : PolarsError). Some y) (sym h))
 
 -- a cause that a number is too great for
 pub when_not_above : (most n : ℕ) (e : PolarsError) → when (nat_lt most n) e ≡ None → n ≤ most

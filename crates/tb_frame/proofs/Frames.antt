@@ -1,5 +1,5 @@
 -- Lists of columns that make tables.
-use Rattle.std.proofs.Common.{◌≡◌, ◌==◌, ℕ, ◌<◌, Bool, true, false, cond, not, ◌&&◌, List, [], ◌∷◌, ◌++◌, length, get_or, take, refl, ap, sym, ◌∙◌, ◌+◌, append-nil, Option, None, arith}
+use Rattle.std.proofs.Common.{◌≡◌, ◌==◌, ℕ, ◌<◌, Bool, true, false, cond, not, ◌&&◌, List, [], ◌∷◌, ◌++◌, length, get_or, map, take, refl, ap, sym, ◌∙◌, ◌+◌, append-nil, Option, None, arith}
 use Rattle.std.specs.Prelude.{All, ◌≢◌, filter}
 use Rattle.std.specs.Option.{option_map}
 use Rattle.std.specs.List.{list_all}
@@ -11,11 +11,12 @@ use Rattle.tb_value.specs.declared.error.PolarsError.{PolarsError}
 use Rattle.tb_value.specs.declared.error.PolarsError.TheVariants.{ShapeMismatch, Duplicate}
 use Rattle.tb_value.proofs.Ascending.{AllPairs-thinned}
 use Rattle.tb_chunk.specs.Col.{Col}
-use Rattle.tb_frame.specs.Table.{TableColumn, Table, plain, table_of, height, names_of, IsTable}
-use Rattle.tb_frame.specs.Join.{is_among, without}
+use Rattle.tb_frame.specs.Table.{TableColumn, Table, plain, table_of, height, names_of, IsTable, IsTyped}
+use Rattle.tb_frame.specs.Join.{columns_where}
+use Rattle.tb_frame.specs.Naming.{is_among}
 use Rattle.tb_frame.specs.Frame.{are_level, frame_refusal, without_names}
-use Rattle.tb_frame.specs.Refusal.{first_repeated}
-use Rattle.tb_frame.proofs.Causes.{first_none, map_none, distinct_names, unrepeated_names}
+use Rattle.tb_frame.specs.Refusal.{first_repeated, repeated_among}
+use Rattle.tb_frame.proofs.Causes.{no_cause, map_none, distinct_names, unrepeated_names}
 
 all_true : {X : Type 0} (p : X → Bool) (xs : List X) → list_all p xs ≡ true → All (λ x. p x ≡ true) xs
 all_true p [] h = All-nil (λ x. p x ≡ true)
@@ -29,34 +30,40 @@ pub when_not : (b : Bool) (e : PolarsError) → when (not b) e ≡ None → b �
 when_not true e h = refl
 when_not false e h = absurd (cc)
 
--- where nothing is refused, the columns make a table
-pub makes_frame : (t : Table) → frame_refusal t ≡ None → IsTable t
-makes_frame t h =
-    let a = first_none (when (not (are_level t)) ShapeMismatch) (option_map (λ n. Duplicate n) (first_repeated (names_of t)) ∷ []) h in
-    let b = first_none (option_map (λ n. Duplicate n) (first_repeated (names_of t))) [] a.1 in
+-- where nothing is refused, typed columns make a table
+pub makes_frame : (t : Table) → All IsTyped t → frame_refusal t ≡ None → IsTable t
+makes_frame t typed h =
+    let causes : List (Option PolarsError) = when (not (are_level t)) ShapeMismatch ∷ repeated_among (names_of t) ∷ [] in
+    let none : All (λ o. o ≡ None) causes = no_cause causes h in
     record {
-      distinct = distinct_names (names_of t) (map_none (λ n. Duplicate n) (first_repeated (names_of t)) b.0);
-      one_height = All-weaker (λ (c : TableColumn). (length c.values == height t) ≡ true) (λ (c : TableColumn). length c.values ≡ height t) (λ c e. eqb-true (length c.values) (height t) e) t (all_true (λ (c : TableColumn). length c.values == height t) t (when_not (are_level t) ShapeMismatch a.0));
+      distinct = distinct_names (names_of t) (map_none (λ n. Duplicate n) (first_repeated (names_of t)) (none 1 None (omega arith)));
+      one_height = All-weaker (λ (c : TableColumn). (length c.values == height t) ≡ true) (λ (c : TableColumn). length c.values ≡ height t) (λ c e. eqb-true (length c.values) (height t) e) t (all_true (λ (c : TableColumn). length c.values == height t) t (when_not (are_level t) ShapeMismatch (none 0 None (omega arith))));
+      typed = typed;
     }
 
--- columns left out before or after chunks and flags are
-pub without-table : (names : List Name) (cs : List Col) → table_of (without_names names cs) ≡ without names (table_of cs)
-without-table names [] = refl
-without-table names (c ∷ cs) = at (not (is_among names c.name)) (without-table names cs)
+-- what passes a test of names passes it before or after it is seen otherwise
+pub filter-map : {X Y : Type 0} (f : X → Y) (p : Y → Bool) (xs : List X) → filter p (map f xs) ≡ map f (filter (λ x. p (f x)) xs)
+filter-map f p [] = refl
+filter-map {X} {Y} f p (x ∷ xs) = at (p (f x)) (filter-map f p xs)
   where
-    at : (b : Bool) → table_of (without_names names cs) ≡ without names (table_of cs) → table_of (cond b (c ∷ without_names names cs) (without_names names cs)) ≡ cond b (plain c ∷ without names (table_of cs)) (without names (table_of cs))
-    at true e = ap (λ (t : Table). plain c ∷ t) e
+    at : (b : Bool) → filter p (map f xs) ≡ map f (filter (λ y. p (f y)) xs) → cond b (f x ∷ filter p (map f xs)) (filter p (map f xs)) ≡ map f (cond b (x ∷ filter (λ y. p (f y)) xs) (filter (λ y. p (f y)) xs))
+    at true e = ap (λ (l : List Y). f x ∷ l) e
     at false e = e
+
+-- columns left out before or after chunks and flags are
+pub without-table : (names : List Name) (cs : List Col) → table_of (without_names names cs) ≡ columns_where (λ n. not (is_among names n)) (table_of cs)
+without-table names cs = sym (filter-map plain (λ (c : TableColumn). not (is_among names c.name)) cs)
 
 pub level_height : (n : ℕ) (t : Table) → All (λ (c : TableColumn). length c.values ≡ n) t → All (λ (c : TableColumn). length c.values ≡ height t) t
 level_height n [] h = All-nil (λ (c : TableColumn). length c.values ≡ height [])
 level_height n (c ∷ cs) h = let first : length c.values ≡ n = h 0 c (omega arith) in All-weaker (λ (k : TableColumn). length k.values ≡ n) (λ (k : TableColumn). length k.values ≡ length c.values) (λ k e. e ∙ sym first) (c ∷ cs) h
 
--- a table without some of its columns
-pub IsTable-without : (names : List Name) (t : Table) → IsTable t → IsTable (without names t)
-IsTable-without names t h = record {
-  distinct = AllPairs-thinned (λ (a b : Name). a ≢ b) (λ (c : TableColumn). c.name) (λ (c : TableColumn). not (is_among names c.name)) [] t h.distinct;
-  one_height = level_height (height t) (without names t) (All-filter (λ (c : TableColumn). not (is_among names c.name)) (λ (c : TableColumn). length c.values ≡ height t) t h.one_height);
+-- the columns of a table whose names pass a test are a table
+pub IsTable-where : (test : Name → Bool) (t : Table) → IsTable t → IsTable (columns_where test t)
+IsTable-where test t h = record {
+  distinct = AllPairs-thinned (λ (a b : Name). a ≢ b) (λ (c : TableColumn). c.name) (λ (c : TableColumn). test c.name) [] t h.distinct;
+  one_height = level_height (height t) (columns_where test t) (All-filter (λ (c : TableColumn). test c.name) (λ (c : TableColumn). length c.values ≡ height t) t h.one_height);
+  typed = All-filter (λ (c : TableColumn). test c.name) IsTyped t h.typed;
 }
 
 -- a loop that keeps the columns that pass a test
@@ -75,14 +82,14 @@ list_all-true p [] h = refl
 list_all-true p (x ∷ xs) h = (λ t. All-head (λ y. p y ≡ true) x xs h t && list_all-true p xs (All-tail (λ y. p y ≡ true) x xs h) t)
 
 -- columns of one length are refused as their names are
-pub level_refusal : (t : Table) (n : ℕ) → All (λ (c : TableColumn). length c.values ≡ n) t → (names : List Name) → names_of t ≡ names → frame_refusal t ≡ first_cause (option_map (λ n. Duplicate n) (first_repeated names) ∷ [])
+pub level_refusal : (t : Table) (n : ℕ) → All (λ (c : TableColumn). length c.values ≡ n) t → (names : List Name) → names_of t ≡ names → frame_refusal t ≡ first_cause (repeated_among names ∷ [])
 level_refusal t n level names are =
     let h : are_level t ≡ true =
     list_all-true (λ (c : TableColumn). length c.values == height t) t
     (All-weaker (λ (c : TableColumn). length c.values ≡ height t) (λ (c : TableColumn). (length c.values == height t) ≡ true) (λ c e. eq-eqb (length c.values) (height t) e) t (level_height n t level))
     in
-    ap (λ (b : Bool). first_cause (when (not b) ShapeMismatch ∷ option_map (λ n. Duplicate n) (first_repeated (names_of t)) ∷ [])) h
-    ∙ ap (λ (ns : List Name). first_cause (option_map (λ n. Duplicate n) (first_repeated ns) ∷ [])) are
+    ap (λ (b : Bool). first_cause (when (not b) ShapeMismatch ∷ repeated_among (names_of t) ∷ [])) h
+    ∙ ap (λ (ns : List Name). first_cause (repeated_among ns ∷ [])) are
 
 -- columns of one length and distinct names are not refused
 pub no_refusal : (t : Table) (n : ℕ) → All (λ (c : TableColumn). length c.values ≡ n) t → first_repeated (names_of t) ≡ None → frame_refusal t ≡ None

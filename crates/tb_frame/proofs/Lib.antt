@@ -20,3 +20,4 @@ pub mod Meaning
 pub mod InOrder
 pub mod Validity
 pub mod JoinedNames
+pub mod Filled

@@ -1,122 +1,141 @@
--- The columns of an answer, in the order in which they are made: the left ones and then the right ones.
-use Rattle.std.proofs.Common.{◌≡◌, ◌<◌, Bool, true, false, List, [], ◌∷◌, ◌++◌, length, map, refl, ap, arith, sym, ◌∙◌, subst}
-use Rattle.std.specs.Prelude.{AllPairs, ◌≢◌, not}
+-- The columns of an answer: their names, their types, and that there is one.
+use Rattle.std.proofs.Common.{◌≡◌, ◌<◌, Bool, true, false, cond, not, ◌&&◌, List, [], ◌∷◌, ◌++◌, length, get_or, map, refl, ap, arith, sym, ◌∙◌, subst, ℕ, Option, Some, None}
+use Rattle.std.specs.Prelude.{All, AllPairs, ◌≢◌, filter, position}
+use Rattle.std.specs.Option.{ForSome, option_and_then}
 use Rattle.std.proofs.lemmas.List.{map-append, length-map, length-append}
+use Rattle.std.proofs.lemmas.List.Elements.{All-append, All-filter, All-map}
 use Rattle.tb_value.proofs.Ascending.{AllPairs-thinned}
 use Rattle.tb_value.proofs.Loops.{map-map}
-use Rattle.tb_value.specs.Names.{Name}
+use Rattle.tb_value.specs.Datum.{Datum, null, is_null}
+use Rattle.tb_value.specs.Kind.{Kind}
+use Rattle.tb_value.specs.Names.{Name, same_name}
+use Rattle.tb_value.specs.Typed.{HasType}
 use Rattle.tb_value.specs.declared.index.JoinPair.{JoinPair}
+use Rattle.tb_frame.specs.declared.args.JoinArgs.{JoinArgs}
 use Rattle.tb_frame.specs.declared.args.JoinType.{JoinType}
 use Rattle.tb_frame.specs.declared.args.JoinType.TheVariants.{Inner, Left, Right, Full, Semi, Anti}
-use Rattle.tb_frame.specs.Table.{TableColumn, Table, names_of}
-use Rattle.tb_frame.specs.Join.{Request, Out, keep_left, keep_right, without, is_among, coalesces, kept_left, left_out, right_out, merged_out, joined, joined_names, out, out_by}
-use Rattle.tb_frame.specs.Answer.{fill, gone_left, gone_right, has_right, answer_left, answer_right}
+use Rattle.tb_frame.specs.Table.{TableColumn, Table, IsTyped, names_of, schema_of}
+use Rattle.tb_frame.specs.Join.{Request, Out, kept_left, shown_right, named, partner, value_at, left_field, left_out, right_out, or_else, out, out_columns, MergesAlike}
+use Rattle.tb_frame.specs.Naming.{Field, answer_fields, coalesces, drops_left_keys, drops_right_keys, has_right, is_among, joined_names, keeps_left, keeps_right, left_names, merges_keys, right_name, shows_right}
+use Rattle.tb_frame.proofs.Causes.{found_holds}
+use Rattle.tb_frame.proofs.Frames.{filter-map}
+use Rattle.tb_frame.proofs.Taking.{at_place}
 
-pub without_none : (t : Table) → without [] t ≡ t
-without_none [] = refl
-without_none (c ∷ cs) = λ i. c ∷ without_none cs i
+-- TESTS
 
--- the left columns of the answer are those without some names
-pub keep_left_is : (how : JoinType) (c : Bool) (keys : List Name) (t : Table) → keep_left how c keys t ≡ without (gone_left how c keys) t
-keep_left_is Inner c keys t = sym (without_none t)
-keep_left_is Left c keys t = sym (without_none t)
-keep_left_is Right true keys t = refl
-keep_left_is Right false keys t = sym (without_none t)
-keep_left_is Full c keys t = sym (without_none t)
-keep_left_is Semi c keys t = sym (without_none t)
-keep_left_is Anti c keys t = sym (without_none t)
+filter-and : {X : Type 0} (p q : X → Bool) (xs : List X) → filter (λ x. p x && q x) xs ≡ filter q (filter p xs)
+filter-and p q [] = refl
+filter-and {X} p q (x ∷ xs) = at (p x) (filter-and p q xs)
+  where
+    at : (b : Bool) → filter (λ y. p y && q y) xs ≡ filter q (filter p xs) → cond (b && q x) (x ∷ filter (λ y. p y && q y) xs) (filter (λ y. p y && q y) xs) ≡ filter q (cond b (x ∷ filter p xs) (filter p xs))
+    at true e = ap (λ (l : List X). cond (q x) (x ∷ l) l) e
+    at false e = e
 
--- and so are the right ones
-pub answer_right_is : (how : JoinType) (c : Bool) (keys : List Name) (t : Table) → has_right how ≡ true → answer_right how c keys t ≡ without (gone_right how c keys) t
-answer_right_is Inner true keys t h = refl
-answer_right_is Inner false keys t h = sym (without_none t)
-answer_right_is Left true keys t h = refl
-answer_right_is Left false keys t h = sym (without_none t)
-answer_right_is Right c keys t h = sym (without_none t)
-answer_right_is Full true keys t h = refl
-answer_right_is Full false keys t h = sym (without_none t)
-answer_right_is Semi c keys t h = cc
-answer_right_is Anti c keys t h = cc
+-- NAMES AND TYPES
 
-pub answer_right_none : (how : JoinType) (c : Bool) (keys : List Name) (t : Table) → has_right how ≡ false → answer_right how c keys t ≡ []
-answer_right_none Inner c keys t h = cc
-answer_right_none Left c keys t h = cc
-answer_right_none Right c keys t h = cc
-answer_right_none Full c keys t h = cc
-answer_right_none Semi c keys t h = refl
-answer_right_none Anti c keys t h = refl
+module _ (q : Request) where
+  abbrev names : List Name
+  names = names_of (kept_left q)
 
--- the left columns, and the right columns with their names
-abbrev pub left_outs : JoinType → Bool → Request → List Out
-left_outs how c q = map (answer_left how c q) (keep_left how c q.left_on q.left)
+  -- the names of the kept left columns are the kept names of the left table
+  pub names-kept : names ≡ left_names q.args q.left_on (names_of q.left)
+  names-kept = sym (filter-map (λ (c : TableColumn). c.name) (keeps_left q.args q.left_on) q.left)
 
-abbrev pub right_outs : JoinType → Bool → Request → List Out
-right_outs how c q = map (right_out (names_of (keep_left how c q.left_on q.left)) q.args.suffix) (answer_right how c q.right_on q.right)
+  pub names-out : map (λ (o : Out). o.name) (out q) ≡ left_names q.args q.left_on (names_of q.left) ++ map (right_name (left_names q.args q.left_on (names_of q.left)) q.args.suffix) (filter (shows_right q.args q.right_on) (names_of q.right))
+  names-out =
+      let name : Out → Name = λ o. o.name in
+      let right : List Name → List Name = λ ns. map (right_name ns q.args.suffix) (map (λ (c : TableColumn). c.name) (shown_right q)) in
+      map-append name (map (left_out q) (kept_left q)) (map (right_out names q.args.suffix) (shown_right q))
+      ∙ (λ t. map-map name (left_out q) (kept_left q) t ++ (map-map name (right_out names q.args.suffix) (shown_right q) ∙ sym (map-map (right_name names q.args.suffix) (λ (c : TableColumn). c.name) (shown_right q))) t)
+      ∙ (λ t. names-kept t ++ map (right_name (names-kept t) q.args.suffix) (sym (filter-map (λ (c : TableColumn). c.name) (shows_right q.args q.right_on) q.right) t))
 
-abbrev joined_by : JoinType → Bool → Request → List Out
-joined_by how c q = map left_out (keep_left how c q.left_on q.left) ++ map (right_out (names_of (keep_left how c q.left_on q.left)) q.args.suffix) (keep_right how c q.right_on q.right)
+  pub schema-out : map (λ (o : Out). (o.name, o.kind)) (out q) ≡ out_columns q
+  schema-out =
+      let field : Out → Field = λ o. (o.name, o.kind) in
+      let own : TableColumn → Field = λ c. (c.name, c.kind) in
+      let called : List Name → Field → Field = λ ns f. (right_name ns q.args.suffix f.0, f.1) in
+      let taken : names ≡ left_names q.args q.left_on (map (λ (f : Field). f.0) (schema_of q.left)) = names-kept ∙ ap (left_names q.args q.left_on) (sym (map-map (λ (f : Field). f.0) own q.left)) in
+      map-append field (map (left_out q) (kept_left q)) (map (right_out names q.args.suffix) (shown_right q))
+      ∙ (λ t. map-map field (left_out q) (kept_left q) t ++ (map-map field (right_out names q.args.suffix) (shown_right q) ∙ sym (map-map (called names) own (shown_right q))) t)
+      ∙ (λ t. sym (filter-map own (λ (f : Field). keeps_left q.args q.left_on f.0) q.left) t ++ map (called (taken t)) (sym (filter-map own (λ (f : Field). shows_right q.args q.right_on f.0) q.right) t))
 
-out_at : (how : JoinType) (c : Bool) (q : Request) → joined q ≡ joined_by how c q → out_by how c q ≡ left_outs how c q ++ right_outs how c q
-out_at Inner c q e = e
-out_at Left c q e = e
-out_at Right c q e = e
-out_at Full true q e = refl
-out_at Full false q e = e
-out_at Semi c q e = e
-out_at Anti c q e = e
+  -- where the joined names are distinct, so are the answer's, which are some of them
+  pub names_distinct : AllPairs (λ (a b : Name). a ≢ b) (joined_names q.args q.left_on q.right_on (names_of q.left) (names_of q.right)) → AllPairs (λ (a b : Name). a ≢ b) (map (λ (o : Out). o.name) (out q))
+  names_distinct apart =
+      let distinct : List Name → Type 0 = λ ns. AllPairs (λ (a b : Name). a ≢ b) ns in
+      let left : List Name = left_names q.args q.left_on (names_of q.left) in
+      let stays : Name → Bool = λ n. not (merges_keys q.args.how (coalesces q.args) && is_among q.right_on n) in
+      let right : List Name = filter (keeps_right q.args q.right_on) (names_of q.right) in
+      let all : map (λ (o : Out). o.name) (out q) ≡ left ++ map (right_name left q.args.suffix) (filter stays right) =
+      names-out ∙ ap (λ (ns : List Name). left ++ map (right_name left q.args.suffix) ns) (filter-and (keeps_right q.args q.right_on) stays (names_of q.right))
+      in
+      subst distinct (sym all) (AllPairs-thinned (λ (a b : Name). a ≢ b) (right_name left q.args.suffix) stays left right apart)
 
-pub out_is : (q : Request) → out q ≡ left_outs q.args.how (coalesces q) q ++ right_outs q.args.how (coalesces q) q
-out_is q = out_at q.args.how (coalesces q) q refl
+-- SOME COLUMN
 
--- the same, filled over the pairs
-pub made_is : (q : Request) (ps : List JoinPair) → map (fill ps) (out q) ≡ map (λ (k : TableColumn). fill ps (answer_left q.args.how (coalesces q) q k)) (kept_left q) ++ map (λ (k : TableColumn). fill ps (right_out (names_of (kept_left q)) q.args.suffix k)) (answer_right q.args.how (coalesces q) q.right_on q.right)
-made_is q ps =
-    ap (map (fill ps)) (out_is q) ∙ map-append (fill ps) (left_outs q.args.how (coalesces q) q) (right_outs q.args.how (coalesces q) q)
-    ∙ (λ t. map-map (fill ps) (answer_left q.args.how (coalesces q) q) (kept_left q) t ++ map-map (fill ps) (right_out (names_of (kept_left q)) q.args.suffix) (answer_right q.args.how (coalesces q) q.right_on q.right) t)
+kept_some : (t : Table) → 0 < length t → 0 < length (filter (λ (c : TableColumn). true) t)
+kept_some [] h = h
+kept_some (c ∷ cs) h = omega arith
+
+-- the columns of each side, by the kind and whether it coalesces
+abbrev lefts : Request → JoinType → Bool → Table
+lefts q how c = filter (λ (k : TableColumn). not (drops_left_keys how c && is_among q.left_on k.name)) q.left
+
+abbrev rights : Request → JoinType → Bool → Table
+rights q how c = filter (λ (k : TableColumn). (has_right how && not (drops_right_keys how c && is_among q.right_on k.name)) && not (merges_keys how c && is_among q.right_on k.name)) q.right
+
+module _ (q : Request) (on_right : TableColumn → Out) where
+  first : (xs ys : Table) → 0 < length xs → 0 < length (map (left_out q) xs ++ map on_right ys)
+  first xs ys h = let a = length-append (map (left_out q) xs) (map on_right ys) in let b = length-map xs (left_out q) in omega (arith, a, b, h)
+
+  second : (xs ys : Table) → 0 < length ys → 0 < length (map (left_out q) xs ++ map on_right ys)
+  second xs ys h = let a = length-append (map (left_out q) xs) (map on_right ys) in let b = length-map ys on_right in omega (arith, a, b, h)
+
+  wide : 0 < length q.left → 0 < length q.right → (how : JoinType) (c : Bool) → 0 < length (map (left_out q) (lefts q how c) ++ map on_right (rights q how c))
+  wide l r Inner c = first (lefts q Inner c) (rights q Inner c) (kept_some q.left l)
+  wide l r Left c = first (lefts q Left c) (rights q Left c) (kept_some q.left l)
+  wide l r Right c = second (lefts q Right c) (rights q Right c) (kept_some q.right r)
+  wide l r Full c = first (lefts q Full c) (rights q Full c) (kept_some q.left l)
+  wide l r Semi c = first (lefts q Semi c) (rights q Semi c) (kept_some q.left l)
+  wide l r Anti c = first (lefts q Anti c) (rights q Anti c) (kept_some q.left l)
 
 -- with a column on each side the answer has one
 pub out_wide : (q : Request) → 0 < length q.left → 0 < length q.right → 0 < length (out q)
-out_wide q l r = subst (λ (os : List Out). 0 < length os) (sym (out_is q)) (at q.args.how (coalesces q))
+out_wide q l r = wide q (right_out (names_of (kept_left q)) q.args.suffix) l r q.args.how (coalesces q.args)
+
+-- TYPES OF FIELDS
+
+value_typed : (c : TableColumn) → IsTyped c → (o : Option ℕ) → HasType c.kind (value_at c o)
+value_typed c h None = tt
+value_typed c h (Some i) = at_place (HasType c.kind) c.values i tt h
+
+one_of_two : (P : Datum → Type 0) (b : Bool) (x y : Datum) → P x → P y → P (cond b y x)
+one_of_two P true x y p q = q
+one_of_two P false x y p q = p
+
+left_typed : (c : TableColumn) → IsTyped c → (o : Option TableColumn) → ForSome o IsTyped → ForSome o (λ k. c.kind ≡ k.kind) → (pair : JoinPair) → HasType c.kind (left_field o c pair)
+left_typed c h None typed alike pair = value_typed c h pair.left
+left_typed c h (Some k) typed alike pair =
+    one_of_two (HasType c.kind) (is_null (value_at c pair.left)) (value_at c pair.left) (value_at k pair.right) (value_typed c h pair.left)
+    (subst (λ (t : Kind). HasType t (value_at k pair.right)) (sym (alike k refl)) (value_typed k (typed k refl) pair.right))
+
+partner_typed : (q : Request) → All IsTyped q.right → (n : Name) → ForSome (partner q n) IsTyped
+partner_typed q typed n = λ k e. at (merges_keys q.args.how (coalesces q.args)) (position (same_name n) q.left_on) k e
   where
-    first : (xs ys : List Out) → 0 < length xs → 0 < length (xs ++ ys)
-    first xs ys h = let a = length-append xs ys in omega (arith, a, h)
+    at : (b : Bool) (o : Option ℕ) (k : TableColumn) → cond b (option_and_then (λ p. named q.right (get_or q.right_on p [])) o) None ≡ Some k → IsTyped k
+    at true (Some p) k e = found_holds IsTyped (λ (c : TableColumn). same_name c.name (get_or q.right_on p [])) q.right typed k e
+    at true None k e = absurd (cc)
+    at false o k e = absurd (cc)
 
-    second : (xs ys : List Out) → 0 < length ys → 0 < length (xs ++ ys)
-    second xs ys h = let a = length-append xs ys in omega (arith, a, h)
+-- a column of the answer has fields of its type
+abbrev pub HasTypedFields : Out → Type 0
+HasTypedFields o = (pair : JoinPair) → HasType o.kind (o.at pair)
 
-    some : (f : TableColumn → Out) (t : Table) → 0 < length t → 0 < length (map f t)
-    some f t h = let a = length-map t f in omega (arith, a, h)
-
-    at : (how : JoinType) (c : Bool) → 0 < length (left_outs how c q ++ right_outs how c q)
-    at Inner c = first (left_outs Inner c q) (right_outs Inner c q) (some (answer_left Inner c q) q.left l)
-    at Left c = first (left_outs Left c q) (right_outs Left c q) (some (answer_left Left c q) q.left l)
-    at Right c = second (left_outs Right c q) (right_outs Right c q) (some (right_out (names_of (keep_left Right c q.left_on q.left)) q.args.suffix) q.right r)
-    at Full c = first (left_outs Full c q) (right_outs Full c q) (some (answer_left Full c q) q.left l)
-    at Semi c = first (left_outs Semi c q) (right_outs Semi c q) (some (answer_left Semi c q) q.left l)
-    at Anti c = first (left_outs Anti c q) (right_outs Anti c q) (some (answer_left Anti c q) q.left l)
-
-abbrev out_names : List Out → List Name
-out_names os = map (λ (o : Out). o.name) os
-
--- the right columns of a coalesced Full join are some of those that are named
-full_distinct : (q : Request) → joined q ≡ joined_by Full true q → AllPairs (λ (a b : Name). a ≢ b) (joined_names q) → AllPairs (λ (a b : Name). a ≢ b) (out_names (out_by Full true q))
-full_distinct q e apart =
-    let ro : TableColumn → Out = right_out (names_of q.left) q.args.suffix in
-    let name : Out → Name = λ o. o.name in
-    let all : joined_names q ≡ names_of q.left ++ map (λ (k : TableColumn). (ro k).name) q.right = ap out_names e ∙ map-append name (map left_out q.left) (map ro q.right) ∙ (λ t. map-map name left_out q.left t ++ map-map name ro q.right t) in
-    let some : out_names (out_by Full true q) ≡ names_of q.left ++ map (λ (k : TableColumn). (ro k).name) (without q.right_on q.right) = map-append name (map (merged_out q) q.left) (map ro (without q.right_on q.right)) ∙ (λ t. map-map name (merged_out q) q.left t ++ map-map name ro (without q.right_on q.right) t) in
-    subst (λ (ns : List Name). AllPairs (λ (a b : Name). a ≢ b) ns) (sym some)
-    (AllPairs-thinned (λ (a b : Name). a ≢ b) (λ (k : TableColumn). (ro k).name) (λ (k : TableColumn). not (is_among q.right_on k.name)) (names_of q.left) q.right (subst (λ (ns : List Name). AllPairs (λ (a b : Name). a ≢ b) ns) all apart))
-
-distinct_at : (how : JoinType) (c : Bool) (q : Request) → joined q ≡ joined_by how c q → AllPairs (λ (a b : Name). a ≢ b) (joined_names q) → AllPairs (λ (a b : Name). a ≢ b) (out_names (out_by how c q))
-distinct_at Inner c q e apart = apart
-distinct_at Left c q e apart = apart
-distinct_at Right c q e apart = apart
-distinct_at Full true q e apart = full_distinct q e apart
-distinct_at Full false q e apart = apart
-distinct_at Semi c q e apart = apart
-distinct_at Anti c q e apart = apart
-
--- where the joined names are distinct, so are the answer's
-pub names_distinct : (q : Request) → AllPairs (λ (a b : Name). a ≢ b) (joined_names q) → AllPairs (λ (a b : Name). a ≢ b) (map (λ (o : Out). o.name) (out q))
-names_distinct q apart = distinct_at q.args.how (coalesces q) q refl apart
+pub outs_typed : (q : Request) → All IsTyped q.left → All IsTyped q.right → MergesAlike q → All HasTypedFields (out q)
+outs_typed q left right alike =
+    let on_right : TableColumn → Out = right_out (names_of (kept_left q)) q.args.suffix in
+    let each : All (λ (c : TableColumn). HasTypedFields (left_out q c)) q.left = λ i d low. left_typed (get_or q.left i d) (left i d low) (partner q (get_or q.left i d).name) (partner_typed q right (get_or q.left i d).name) (alike i d low) in
+    let other : All (λ (c : TableColumn). HasTypedFields (on_right c)) q.right = λ i d low pair. value_typed (get_or q.right i d) (right i d low) pair.right in
+    All-append HasTypedFields (map (left_out q) (kept_left q)) (map on_right (shown_right q))
+    (All-map HasTypedFields (left_out q) (kept_left q) (All-filter (λ (c : TableColumn). keeps_left q.args q.left_on c.name) (λ (c : TableColumn). HasTypedFields (left_out q c)) q.left each))
+    (All-map HasTypedFields on_right (shown_right q) (All-filter (λ (c : TableColumn). shows_right q.args q.right_on c.name) (λ (c : TableColumn). HasTypedFields (on_right c)) q.right other))

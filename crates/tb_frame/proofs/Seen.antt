@@ -7,8 +7,8 @@ use Rattle.std.proofs.lemmas.Cmp.{nat_list_eq_equiv}
 use Rattle.tb_value.specs.Names.{Name, same_name}
 use Rattle.tb_value.specs.Pairs.{row_numbers}
 use Rattle.tb_value.proofs.Finds.{find_row_more, find_row_stop}
-use Rattle.tb_frame.specs.Join.{is_among}
-use Rattle.tb_frame.specs.Refusal.{first_repeated}
+use Rattle.tb_frame.specs.Naming.{is_among}
+use Rattle.tb_frame.specs.Refusal.{first_repeated, name_at, repeats}
 
 or_comm : (a b : Bool) → (a || b) ≡ (b || a)
 or_comm true true = refl
@@ -24,10 +24,6 @@ not_false : (b : Bool) → false ≡ not b → b ≡ true
 not_false true h = refl
 not_false false h = absurd (cc)
 
--- whether the name at a place stood before
-abbrev pub stood_before : List Name → ℕ → Bool
-stood_before names k = is_among (take k names) (get_or names k [])
-
 module _ (names : List Name) (i : ℕ) (name : Name) (low : i < length names) (is : name ≡ get_or names i []) where
   -- the names seen after one more
   pub seen_more : (old new : Name → Bool) → ((n : Name) → old n ≡ is_among (take i names) n) → ((n : Name) → new n ≡ (same_name name n || old n)) → (n : Name) → new n ≡ is_among (take (i + 1) names) n
@@ -39,14 +35,14 @@ module _ (names : List Name) (i : ℕ) (name : Name) (low : i < length names) (i
       ∙ ap (λ (x : Name). is_among (take i names) n || same_name n x) is
       ∙ sym (list_any_more (same_name n) names i [] low)
 
-  here : (old : Name → Bool) → ((n : Name) → old n ≡ is_among (take i names) n) → old name ≡ stood_before names i
+  here : (old : Name → Bool) → ((n : Name) → old n ≡ is_among (take i names) n) → old name ≡ repeats names i
   here old was = was name ∙ ap (λ (x : Name). is_among (take i names) x) is
 
-  -- a new name leaves none that stood before
-  pub fresh_more : (old : Name → Bool) → ((n : Name) → old n ≡ is_among (take i names) n) → find (stood_before names) (row_numbers i) ≡ None → true ≡ not (old name) → find (stood_before names) (row_numbers (i + 1)) ≡ None
-  fresh_more old was none added = find_row_more (stood_before names) i (length names) low none (sym (here old was) ∙ not_true (old name) added)
+  -- a new name leaves none that is repeated
+  pub fresh_more : (old : Name → Bool) → ((n : Name) → old n ≡ is_among (take i names) n) → find (repeats names) (row_numbers i) ≡ None → true ≡ not (old name) → find (repeats names) (row_numbers (i + 1)) ≡ None
+  fresh_more old was none added = find_row_more (repeats names) i (length names) low none (sym (here old was) ∙ not_true (old name) added)
 
-  -- one that was seen is the first that stood before
-  pub repeated_here : (old : Name → Bool) → ((n : Name) → old n ≡ is_among (take i names) n) → find (stood_before names) (row_numbers i) ≡ None → false ≡ not (old name) → first_repeated names ≡ Some name
+  -- one that was seen is the first that is
+  pub repeated_here : (old : Name → Bool) → ((n : Name) → old n ≡ is_among (take i names) n) → find (repeats names) (row_numbers i) ≡ None → false ≡ not (old name) → first_repeated names ≡ Some name
   repeated_here old was none added =
-      ap (option_map (λ (k : ℕ). get_or names k [])) (find_row_stop (stood_before names) i (length names) low none (sym (here old was) ∙ not_false (old name) added)) ∙ ap (λ (x : Name). Some x) (sym is)
+      ap (option_map (name_at names)) (find_row_stop (repeats names) i (length names) low none (sym (here old was) ∙ not_false (old name) added)) ∙ ap (λ (x : Name). Some x) (sym is)

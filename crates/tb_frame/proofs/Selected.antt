@@ -1,5 +1,5 @@
 -- The columns that names select, and the columns of two lists.
-use Rattle.std.proofs.Common.{◌≡◌, ℕ, ◌<◌, Bool, true, false, cond, not, ◌||◌, List, [], ◌∷◌, ◌++◌, length, get_or, take, refl, ap, sym, ◌∙◌, ◌+◌, subst, Option, Some, None, is_none, inl, inr}
+use Rattle.std.proofs.Common.{◌≡◌, ℕ, zero, suc, arith, ◌<◌, Bool, true, false, cond, not, ◌||◌, List, [], ◌∷◌, ◌++◌, length, get_or, take, refl, ap, sym, ◌∙◌, ◌+◌, subst, Option, Some, None, is_none, inl, inr}
 use Rattle.std.specs.Prelude.{All, ◌⊎◌}
 use Rattle.std.specs.Option.{option_map}
 use Rattle.std.specs.List.{find, filter_map, cons_option}
@@ -15,9 +15,10 @@ use Rattle.tb_value.specs.declared.error.PolarsError.{PolarsError}
 use Rattle.tb_value.specs.declared.error.PolarsError.TheVariants.{ColumnNotFound, Duplicate, OutOfMemory}
 use Rattle.tb_chunk.specs.Col.{Col}
 use Rattle.tb_frame.specs.Table.{TableColumn, Table, plain, table_of, height, names_of, IsTable}
-use Rattle.tb_frame.specs.Join.{named, is_among}
+use Rattle.tb_frame.specs.Join.{named}
+use Rattle.tb_frame.specs.Naming.{is_among}
 use Rattle.tb_frame.specs.Frame.{frame_refusal, select_refusal, selected}
-use Rattle.tb_frame.specs.Refusal.{first_repeated, first_unknown}
+use Rattle.tb_frame.specs.Refusal.{first_unknown, repeated_among, unknown_key}
 use Rattle.tb_frame.proofs.Causes.{find_none, selected_hold}
 use Rattle.tb_frame.proofs.Frames.{level_refusal}
 
@@ -37,15 +38,33 @@ named-plain n (c ∷ cs) = at (same_name c.name n) (named-plain n cs)
     at false e = e
 
 -- there is none exactly where no column has the name
-pub unknown-is : (n : Name) (cs : List Col) → is_none (found n cs) ≡ unknown cs n
-unknown-is n [] = refl
-unknown-is n (c ∷ cs) = at (same_name c.name n) (same_name n c.name) (nat_list_eq_equiv.symm c.name n) (unknown-is n cs)
+pub unnamed-is : (n : Name) (t : Table) → is_none (named t n) ≡ not (is_among (names_of t) n)
+unnamed-is n [] = refl
+unnamed-is n (c ∷ cs) = at (same_name c.name n) (same_name n c.name) (nat_list_eq_equiv.symm c.name n) (unnamed-is n cs)
   where
-    at : (a b : Bool) → a ≡ b → is_none (found n cs) ≡ unknown cs n → is_none (cond a (Some c) (found n cs)) ≡ not (b || is_among (names_of (table_of cs)) n)
+    at : (a b : Bool) → a ≡ b → is_none (named cs n) ≡ not (is_among (names_of cs) n) → is_none (cond a (Some c) (named cs n)) ≡ not (b || is_among (names_of cs) n)
     at true true e h = refl
     at true false e h = absurd (cc)
     at false true e h = absurd (cc)
     at false false e h = h
+
+none-plain : (o : Option Col) → is_none o ≡ is_none (option_map plain o)
+none-plain None = refl
+none-plain (Some c) = refl
+
+pub unknown-is : (n : Name) (cs : List Col) → is_none (found n cs) ≡ unknown cs n
+unknown-is n cs = none-plain (found n cs) ∙ ap is_none (sym (named-plain n cs)) ∙ unnamed-is n (table_of cs)
+
+-- names that are all known name the columns at their places
+pub named-key : (t : Table) (names : List Name) → All (λ n. not (is_among (names_of t) n) ≡ false) names → (p : ℕ) (d : TableColumn) → p < length names → named t (get_or names p []) ≡ Some (get_or (filter_map (named t) names) p d)
+named-key t [] h p d low = absurd (omega arith)
+named-key t (n ∷ ns) h p d low = at (named t n) refl (unnamed-is n t ∙ All-head (λ m. not (is_among (names_of t) m) ≡ false) n ns h) (λ k. named-key t ns (All-tail (λ m. not (is_among (names_of t) m) ≡ false) n ns h) k d) p low
+  where
+    at : (o : Option TableColumn) → named t n ≡ o → is_none (named t n) ≡ false → ((k : ℕ) → k < length ns → named t (get_or ns k []) ≡ Some (get_or (filter_map (named t) ns) k d))
+        → (p : ℕ) → p < length (n ∷ ns) → named t (get_or (n ∷ ns) p []) ≡ Some (get_or (cons_option (named t n) (filter_map (named t) ns)) p d)
+    at None e k rest p low = absurd (let c : true ≡ false = ap is_none (sym e) ∙ k in cc)
+    at (Some c) e k rest zero low = e ∙ ap (λ (o : Option TableColumn). Some (get_or (cons_option o (filter_map (named t) ns)) 0 d)) (sym e)
+    at (Some c) e k rest (suc p) low = rest p (omega arith) ∙ ap (λ (o : Option TableColumn). Some (get_or (cons_option o (filter_map (named t) ns)) (suc p) d)) (sym e)
 
 found-name : (n : Name) (cs : List Col) (c : Col) → found n cs ≡ Some c → c.name ≡ n
 found-name n [] c e = absurd (cc)
@@ -66,11 +85,11 @@ module _ (cs : List Col) (names : List Name) (i : ℕ) (name : Name) (low : i < 
   pub selected_more : (out : List Col) → out ≡ selected (take i names) cs → (c : Col) → found name cs ≡ Some c → out ++ c ∷ [] ≡ selected (take (i + 1) names) cs
   selected_more out so_far c e = picked (λ (n : Name). found n cs) names i name low is out so_far c e
 
-  unknown_is : (b : Bool) → b ≡ unknown cs name → (e : PolarsError) → when b (ColumnNotFound name) ≡ Some e → option_map (λ (n : Name). ColumnNotFound n) (first_unknown (table_of cs) names) ≡ Some e
+  unknown_is : (b : Bool) → b ≡ unknown cs name → (e : PolarsError) → when b (ColumnNotFound name) ≡ Some e → unknown_key (table_of cs) names ≡ Some e
   unknown_is true k e g = ap (option_map (λ (n : Name). ColumnNotFound n)) (find_stop (unknown cs) names i name low is none (sym k)) ∙ g
   unknown_is false k e g = absurd (cc)
 
-  pub unknown_here : (e : PolarsError) → (e ≡ OutOfMemory) ⊎ (when (is_none (found name cs)) (ColumnNotFound name) ≡ Some e) → (e ≡ OutOfMemory) ⊎ (option_map (λ (n : Name). ColumnNotFound n) (first_unknown (table_of cs) names) ≡ Some e)
+  pub unknown_here : (e : PolarsError) → (e ≡ OutOfMemory) ⊎ (when (is_none (found name cs)) (ColumnNotFound name) ≡ Some e) → (e ≡ OutOfMemory) ⊎ (unknown_key (table_of cs) names ≡ Some e)
   unknown_here e (inl h) = inl h
   unknown_here e (inr h) = inr (unknown_is (is_none (found name cs)) (unknown-is name cs) e h)
 
@@ -100,4 +119,4 @@ select_refused names cs table none =
     let P : TableColumn → Type 0 = λ c. length c.values ≡ height (table_of cs) in
     let level = subst (λ (t : Table). All P t) (sym (selected-table names cs)) (selected_hold P (table_of cs) table.one_height names) in
     level_refusal (table_of (selected names cs)) (height (table_of cs)) level names (names-selected names cs none)
-    ∙ ap (λ (o : Option Name). first_cause (option_map (λ n. ColumnNotFound n) o ∷ option_map (λ n. Duplicate n) (first_repeated names) ∷ [])) (sym none)
+    ∙ ap (λ (o : Option Name). first_cause (option_map (λ n. ColumnNotFound n) o ∷ repeated_among names ∷ [])) (sym none)

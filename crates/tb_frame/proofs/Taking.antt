@@ -1,14 +1,15 @@
 -- Rows that are taken from the columns of a table.
-use Rattle.std.proofs.Common.{◌≡◌, ℕ, ◌<◌, List, [], ◌∷◌, length, get_or, map, refl, ap, sym, ◌∙◌, subst, append-nil, arith, Option, take, drop}
+use Rattle.std.proofs.Common.{◌≡◌, ℕ, zero, suc, ◌<◌, List, [], ◌∷◌, length, get_or, map, refl, ap, sym, ◌∙◌, subst, append-nil, arith, Option, Some, None, take, drop}
 use Rattle.std.specs.Prelude.{All, AllPairs, ◌≢◌, ◌-◌, min, ℤ}
 use Rattle.std.proofs.lemmas.List.{length-map, get_or-map, length-take, length-drop}
-use Rattle.std.proofs.lemmas.List.Elements.{All-nil, All-cons, All-head, All-tail, All-weaker}
+use Rattle.std.proofs.lemmas.List.Elements.{All-nil, All-cons, All-head, All-tail, All-map, All-weaker, All-take, All-drop}
 use Rattle.tb_value.specs.Datum.{Datum, null}
 use Rattle.tb_value.specs.Names.{Name}
+use Rattle.tb_value.specs.Typed.{HasType}
 use Rattle.tb_chunk.specs.Col.{Col, values}
 use Rattle.tb_chunk.specs.Rows.{IsRowOf, value_or_null}
 use Rattle.tb_chunk.specs.Window.{part_from, part_to}
-use Rattle.tb_frame.specs.Table.{TableColumn, plain, table_of, height, names_of, IsTable}
+use Rattle.tb_frame.specs.Table.{TableColumn, plain, table_of, height, names_of, IsTable, IsTyped}
 use Rattle.tb_frame.specs.Frame.{taken, opt_taken, sliced}
 use Rattle.tb_frame.proofs.Frames.{level_height}
 
@@ -38,11 +39,23 @@ module _ (f : Col → Col) (same : (c : Col) → (f c).name ≡ c.name) where
       All-cons (λ (k : TableColumn). length k.values ≡ n) (plain (f c)) (table_of (map f cs)) (All-head (λ (k : Col). length (values (f k)) ≡ n) c cs h)
       (level-made n cs (All-tail (λ (k : Col). length (values (f k)) ≡ n) c cs h))
 
-  pub IsTable-made : (n : ℕ) (cs : List Col) → All (λ (c : Col). length (values (f c)) ≡ n) cs → IsTable (table_of cs) → IsTable (table_of (map f cs))
-  IsTable-made n cs h t = record {
+  pub IsTable-made : (n : ℕ) (cs : List Col) → All (λ (c : Col). length (values (f c)) ≡ n) cs → ((c : Col) → IsTyped (plain c) → IsTyped (plain (f c))) → IsTable (table_of cs) → IsTable (table_of (map f cs))
+  IsTable-made n cs h keeps t = record {
     distinct = subst (λ (ns : List Name). AllPairs (λ (a b : Name). a ≢ b) ns) (sym (names-made cs)) t.distinct;
     one_height = level_height n (table_of (map f cs)) (level-made n cs h);
+    typed = All-map IsTyped plain (map f cs) (All-map (λ (c : Col). IsTyped (plain c)) f cs (All-weaker (λ (c : Col). IsTyped (plain c)) (λ (c : Col). IsTyped (plain (f c))) keeps cs (all_plain IsTyped cs t.typed)));
   }
+
+-- what holds of Null and of each value holds of the value at any place
+pub at_place : (P : Datum → Type 0) (vs : List Datum) (i : ℕ) → P null → All P vs → P (get_or vs i null)
+at_place P [] i e h = e
+at_place P (v ∷ vs) zero e h = All-head P v vs h
+at_place P (v ∷ vs) (suc i) e h = at_place P vs i e (All-tail P v vs h)
+
+-- and so of the value of a row that may be absent
+pub at_row : (P : Datum → Type 0) (vs : List Datum) (row : Option ℕ) → P null → All P vs → P (value_or_null vs row)
+at_row P vs None e h = e
+at_row P vs (Some i) e h = at_place P vs i e h
 
 pub values-taken : (rows : List ℕ) (c : Col) → values (taken rows c) ≡ map (λ r. get_or (values c) r null) rows
 values-taken rows c = append-nil (map (λ r. get_or (values c) r null) rows)
@@ -59,8 +72,11 @@ names-taken rows cs = names-made (taken rows) (λ c. refl) cs
 pub level-taken : (rows : List ℕ) (cs : List Col) → All (λ (c : TableColumn). length c.values ≡ length rows) (table_of (map (taken rows) cs))
 level-taken rows cs = level-made (taken rows) (λ c. refl) (length rows) cs (lengths-taken rows cs)
 
+typed-taken : (rows : List ℕ) (c : Col) → IsTyped (plain c) → IsTyped (plain (taken rows c))
+typed-taken rows c h = subst (λ (vs : List Datum). All (HasType c.kind) vs) (sym (values-taken rows c)) (All-map (HasType c.kind) (λ r. get_or (values c) r null) rows (λ k d low. at_place (HasType c.kind) (values c) (get_or rows k d) tt h))
+
 pub IsTable-taken : (rows : List ℕ) (cs : List Col) → IsTable (table_of cs) → IsTable (table_of (map (taken rows) cs))
-IsTable-taken rows cs t = IsTable-made (taken rows) (λ c. refl) (length rows) cs (lengths-taken rows cs) t
+IsTable-taken rows cs t = IsTable-made (taken rows) (λ c. refl) (length rows) cs (lengths-taken rows cs) (typed-taken rows) t
 
 -- the same where rows may be absent
 pub rows_or_none : (cs : List Col) (rows : List (Option ℕ)) → IsTable (table_of cs) → All (IsRowOf (height (table_of cs))) rows → All (λ (c : Col). All (IsRowOf (length (values c))) rows) cs
@@ -81,8 +97,11 @@ names-opt_taken rows cs = names-made (opt_taken rows) (λ c. refl) cs
 pub level-opt_taken : (rows : List (Option ℕ)) (cs : List Col) → All (λ (c : TableColumn). length c.values ≡ length rows) (table_of (map (opt_taken rows) cs))
 level-opt_taken rows cs = level-made (opt_taken rows) (λ c. refl) (length rows) cs (lengths-opt_taken rows cs)
 
+typed-opt_taken : (rows : List (Option ℕ)) (c : Col) → IsTyped (plain c) → IsTyped (plain (opt_taken rows c))
+typed-opt_taken rows c h = subst (λ (vs : List Datum). All (HasType c.kind) vs) (sym (values-opt_taken rows c)) (All-map (HasType c.kind) (value_or_null (values c)) rows (λ k d low. at_row (HasType c.kind) (values c) (get_or rows k d) tt h))
+
 pub IsTable-opt_taken : (rows : List (Option ℕ)) (cs : List Col) → IsTable (table_of cs) → IsTable (table_of (map (opt_taken rows) cs))
-IsTable-opt_taken rows cs t = IsTable-made (opt_taken rows) (λ c. refl) (length rows) cs (lengths-opt_taken rows cs) t
+IsTable-opt_taken rows cs t = IsTable-made (opt_taken rows) (λ c. refl) (length rows) cs (lengths-opt_taken rows cs) (typed-opt_taken rows) t
 
 -- how many of n values a slice keeps
 abbrev kept_of : ℤ → ℕ → ℕ → ℕ
@@ -95,6 +114,13 @@ length-sliced offset len c =
     let count = part_to n offset len - from in
     ap (λ (vs : List Datum). length vs) (append-nil (take count (drop from (values c)))) ∙ length-take count (drop from (values c)) ∙ ap (min count) (length-drop from (values c))
 
+typed-sliced : (offset : ℤ) (len : ℕ) (c : Col) → IsTyped (plain c) → IsTyped (plain (sliced offset len c))
+typed-sliced offset len c h =
+    let n = length (values c) in
+    let from = part_from n offset in
+    let count = part_to n offset len - from in
+    subst (λ (vs : List Datum). All (HasType c.kind) vs) (sym (append-nil (take count (drop from (values c))))) (All-take (HasType c.kind) count (drop from (values c)) (All-drop (HasType c.kind) from (values c) h))
+
 IsTable-sliced : (offset : ℤ) (len : ℕ) (cs : List Col) → IsTable (table_of cs) → IsTable (table_of (map (sliced offset len) cs))
 IsTable-sliced offset len cs t =
     let most : ℕ = kept_of offset len (height (table_of cs)) in
@@ -102,7 +128,7 @@ IsTable-sliced offset len cs t =
     All-weaker (λ (c : Col). kept_of offset len (length (values c)) ≡ most) (λ (c : Col). length (values (sliced offset len c)) ≡ most) (λ c e. length-sliced offset len c ∙ e) cs
     (of_each_length (λ n. kept_of offset len n ≡ most) cs t refl)
     in
-    IsTable-made (sliced offset len) (λ c. refl) most cs lengths t
+    IsTable-made (sliced offset len) (λ c. refl) most cs lengths (typed-sliced offset len) t
 
 pub IsTable-slices : (offset : ℤ) (len : ℕ) (made cs inside : List Col) → made ≡ map (sliced offset len) cs → cs ≡ inside → IsTable (table_of inside) → IsTable (table_of made)
 IsTable-slices offset len made cs inside is same t =

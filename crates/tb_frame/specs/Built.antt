@@ -6,7 +6,8 @@ use Rattle.tb_frame.specs.declared.args.JoinCoalesce.{JoinCoalesce}
 use Rattle.tb_frame.specs.declared.args.JoinValidation.TheVariants.{ManyToMany}
 use Rattle.tb_frame.specs.declared.args.MaintainOrderJoin.{MaintainOrderJoin}
 use Rattle.tb_frame.specs.declared.args.MaintainOrderJoin.TheVariants as order
-use Rattle.tb_frame.specs.Join.{Request, coalesce}
+use Rattle.tb_frame.specs.Join.{Request}
+use Rattle.tb_frame.specs.Naming.{coalesce}
 
 -- the orders that are built of a join: none, or one by the left rows first
 abbrev pub is_none_or_left : MaintainOrderJoin → Bool

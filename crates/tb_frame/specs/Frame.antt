@@ -1,32 +1,31 @@
 -- Which lists of columns make no table, and what becomes of the columns of a table.
 use Rattle.std.specs.Prelude.{◌≡◌, ◌==◌, ℕ, Bool, not, List, [], ◌∷◌, length, map, filter, slice_index_or, Option, ℤ}
-use Rattle.std.specs.Option.{option_map}
 use Rattle.std.specs.List.{AllPairs, list_all, filter_map, find}
 use Rattle.tb_value.specs.Datum.{Datum, null}
 use Rattle.tb_value.specs.Names.{Name, same_name}
 use Rattle.tb_value.specs.Refusals.{first_cause, when}
 use Rattle.tb_value.specs.declared.error.PolarsError.{PolarsError}
-use Rattle.tb_value.specs.declared.error.PolarsError.TheVariants.{ColumnNotFound, Duplicate, ShapeMismatch}
+use Rattle.tb_value.specs.declared.error.PolarsError.TheVariants.{ShapeMismatch}
 use Rattle.tb_value.specs.declared.sorted.IsSorted.TheVariants.{Not}
 use Rattle.tb_chunk.specs.Col.{Col, values}
 use Rattle.tb_chunk.specs.Merged.{merged}
 use Rattle.tb_chunk.specs.Rows.{value_or_null}
 use Rattle.tb_chunk.specs.Window.{window}
 use Rattle.tb_frame.specs.Table.{TableColumn, Table, height, names_of}
-use Rattle.tb_frame.specs.Join.{is_among}
-use Rattle.tb_frame.specs.Refusal.{first_repeated, first_unknown}
+use Rattle.tb_frame.specs.Naming.{is_among}
+use Rattle.tb_frame.specs.Refusal.{repeated_among, unknown_key}
 
 -- all lists have one length
 abbrev pub are_level : Table → Bool
 are_level t = list_all (λ (c : TableColumn). length c.values == height t) t
 
--- two lengths differ, or a name stood before
+-- two lengths differ, or a name is repeated
 abbrev pub frame_refusal : Table → Option PolarsError
-frame_refusal t = first_cause (when (not (are_level t)) ShapeMismatch ∷ option_map (λ n. Duplicate n) (first_repeated (names_of t)) ∷ [])
+frame_refusal t = first_cause (when (not (are_level t)) ShapeMismatch ∷ repeated_among (names_of t) ∷ [])
 
--- a name is of no column, or stood before
+-- a name is of no column, or is repeated
 abbrev pub select_refusal : List Name → Table → Option PolarsError
-select_refusal names t = first_cause (option_map (λ n. ColumnNotFound n) (first_unknown t names) ∷ option_map (λ n. Duplicate n) (first_repeated names) ∷ [])
+select_refusal names t = first_cause (unknown_key t names ∷ repeated_among names ∷ [])
 
 -- the columns of these names, in the order of the names
 abbrev pub selected : List Name → List Col → List Col

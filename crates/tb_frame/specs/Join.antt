@@ -1,6 +1,7 @@
 -- A join request and its answers.
-use Rattle.std.specs.Prelude.{◌≡◌, ℕ, min, Bool, true, false, ◌&&◌, ◌||◌, not, if◌then◌else◌, List, [], ◌++◌, length, map, filter, Option, Some, None, unwrap_or, IsSorted, IsPermutation, ⊤, ℤ, pos, ◌+ℤ◌, int_lt, int_le, position, slice_index_or, codes}
-use Rattle.std.specs.List.{list_any, list_all, filter_map, find, enumerate_from}
+use Rattle.std.specs.Prelude.{◌≡◌, ℕ, min, Bool, true, false, ◌&&◌, ◌||◌, not, if◌then◌else◌, List, [], ◌++◌, length, map, filter, Option, Some, None, IsSorted, IsPermutation, ⊤, ℤ, pos, ◌+ℤ◌, int_lt, int_le, position, slice_index_or, All}
+use Rattle.std.specs.List.{list_all, filter_map, find, enumerate_from}
+use Rattle.std.specs.Option.{ForSome, option_and_then}
 use Rattle.tb_value.specs.Datum.{Datum, null, is_null, is_present}
 use Rattle.tb_value.specs.Kind.{Kind}
 use Rattle.tb_value.specs.Names.{Name, same_name}
@@ -11,13 +12,12 @@ pub use Rattle.tb_chunk.specs.Merged.{or_else}
 use Rattle.tb_frame.specs.declared.args.JoinArgs.{JoinArgs}
 use Rattle.tb_frame.specs.declared.args.JoinType.{JoinType}
 use Rattle.tb_frame.specs.declared.args.JoinType.TheVariants.{Inner, Left, Right, Full, Semi, Anti}
-use Rattle.tb_frame.specs.declared.args.JoinCoalesce.{JoinCoalesce}
-use Rattle.tb_frame.specs.declared.args.JoinCoalesce.TheVariants.{JoinSpecific, CoalesceColumns, KeepColumns}
 use Rattle.tb_frame.specs.declared.args.MaintainOrderJoin.{MaintainOrderJoin}
 use Rattle.tb_frame.specs.declared.args.MaintainOrderJoin.TheVariants as order
 use Rattle.tb_frame.specs.declared.args.Direction.{Direction}
 use Rattle.tb_frame.specs.declared.args.Direction.TheVariants.{Free, ByLeft, ByRight}
-use Rattle.tb_frame.specs.Table.{TableColumn, Table, height, names_of, rows_of, schema_of}
+use Rattle.tb_frame.specs.Naming.{answer_fields, coalesces, keeps_left, merges_keys, right_name, shows_right}
+use Rattle.tb_frame.specs.Table.{TableColumn, Table, IsTable, height, names_of, rows_of, schema_of}
 
 -- a request: two tables, the names and the columns of the keys, and the args
 pub record Request : Type 0 where
@@ -118,7 +118,7 @@ abbrev pub cut : {X : Type 0} → Option (ℤ × ℕ) → List X → List X
 cut None ps = ps
 cut (Some s) ps = slice ps s.0 s.1
 
--- NAMES, TYPES AND ROWS
+-- COLUMNS AND ROWS
 
 -- a column of the answer: its name, its type, and the field that it has for a pair
 pub record Out : Type 0 where
@@ -126,117 +126,57 @@ pub record Out : Type 0 where
   pub kind : Kind
   pub at : JoinPair → Datum
 
--- whether the args coalesce the kind
-abbrev pub coalesce : JoinCoalesce → JoinType → Bool
-coalesce KeepColumns how = false
-coalesce CoalesceColumns Inner = true
-coalesce CoalesceColumns Left = true
-coalesce CoalesceColumns Right = true
-coalesce CoalesceColumns Full = true
-coalesce CoalesceColumns Semi = false
-coalesce CoalesceColumns Anti = false
-coalesce JoinSpecific Inner = true
-coalesce JoinSpecific Left = true
-coalesce JoinSpecific Right = true
-coalesce JoinSpecific Full = false
-coalesce JoinSpecific Semi = false
-coalesce JoinSpecific Anti = false
-
-abbrev pub coalesces : Request → Bool
-coalesces q = coalesce q.args.coalesce q.args.how
-
-abbrev pub is_among : List Name → Name → Bool
-is_among names n = list_any (same_name n) names
-
-abbrev pub without : List Name → Table → Table
-without names t = filter (λ (c : TableColumn). not (is_among names c.name)) t
-
--- the kept columns, by kind: for Right and coalescing without the left keys, for Inner and Left and coalescing without the right keys
-abbrev pub keep_left : JoinType → Bool → List Name → Table → Table
-keep_left Right true keys t = without keys t
-keep_left Right false keys t = t
-keep_left Inner c keys t = t
-keep_left Left c keys t = t
-keep_left Full c keys t = t
-keep_left Semi c keys t = t
-keep_left Anti c keys t = t
-
-abbrev pub keep_right : JoinType → Bool → List Name → Table → Table
-keep_right Inner true keys t = without keys t
-keep_right Inner false keys t = t
-keep_right Left true keys t = without keys t
-keep_right Left false keys t = t
-keep_right Right c keys t = t
-keep_right Full c keys t = t
-keep_right Semi c keys t = []
-keep_right Anti c keys t = []
-
-abbrev pub kept_left : Request → Table
-kept_left q = keep_left q.args.how (coalesces q) q.left_on q.left
-
-abbrev pub kept_right : Request → Table
-kept_right q = keep_right q.args.how (coalesces q) q.right_on q.right
-
-abbrev pub default_suffix : Name
-default_suffix = codes "_right"
-
--- a name that is taken is followed by the suffix
-abbrev pub right_name : List Name → Option Name → Name → Name
-right_name taken suffix n = (if is_among taken n then n ++ unwrap_or suffix default_suffix else n)
-
 -- a column's field in a row, Null where there is no row
 abbrev pub value_at : TableColumn → Option ℕ → Datum
 value_at c None = null
 value_at c (Some i) = slice_index_or c.values i null
 
-abbrev pub left_out : TableColumn → Out
-left_out c = record { name = c.name; kind = c.kind; at = λ pair. value_at c pair.left }
+-- the columns of a table whose names pass a test
+abbrev pub columns_where : (Name → Bool) → Table → Table
+columns_where test t = filter (λ (c : TableColumn). test c.name) t
 
+abbrev pub kept_left : Request → Table
+kept_left q = columns_where (keeps_left q.args q.left_on) q.left
+
+abbrev pub shown_right : Request → Table
+shown_right q = columns_where (shows_right q.args q.right_on) q.right
+
+-- the column of the right table that is merged into a left one of this name: where keys are merged, that of the right key beside the left key
+abbrev pub partner : Request → Name → Option TableColumn
+partner q n = (if merges_keys q.args.how (coalesces q.args) then option_and_then (λ p. named q.right (slice_index_or q.right_on p [])) (position (same_name n) q.left_on) else None)
+
+-- a left column's field, and the partner's where it is Null
+abbrev pub left_field : Option TableColumn → TableColumn → JoinPair → Datum
+left_field None c pair = value_at c pair.left
+left_field (Some k) c pair = or_else (value_at c pair.left) (value_at k pair.right)
+
+-- where columns are merged, they have one type
+abbrev pub MergesAlike : Request → Type 0
+MergesAlike q = All (λ (c : TableColumn). ForSome (partner q c.name) (λ k. c.kind ≡ k.kind)) q.left
+
+abbrev pub left_out : Request → TableColumn → Out
+left_out q c = record { name = c.name; kind = c.kind; at = left_field (partner q c.name) c }
+
+-- a right column, beside left ones of these names
 abbrev pub right_out : List Name → Option Name → TableColumn → Out
 right_out taken suffix c = record { name = right_name taken suffix c.name; kind = c.kind; at = λ pair. value_at c pair.right }
 
--- the kept left columns, followed by the kept right ones, whose names avoid those of the left
-abbrev pub joined : Request → List Out
-joined q = map left_out (kept_left q) ++ map (right_out (names_of (kept_left q)) q.args.suffix) (kept_right q)
-
-abbrev pub joined_names : Request → List Name
-joined_names q = map (λ (o : Out). o.name) (joined q)
-
--- the field of a key in a row, Null where there is no row
-abbrev pub key_at : List TableColumn → ℕ → Option ℕ → Datum
-key_at keys p None = null
-key_at keys p (Some j) = field keys p j
-
--- a left column of a coalesced Full join: a key's field becomes the right key's where it is Null
-abbrev pub merged_at : Request → TableColumn → Option ℕ → JoinPair → Datum
-merged_at q c None pair = value_at c pair.left
-merged_at q c (Some p) pair = or_else (value_at c pair.left) (key_at q.right_keys p pair.right)
-
-abbrev pub merged_out : Request → TableColumn → Out
-merged_out q c = record { name = c.name; kind = c.kind; at = merged_at q c (position (same_name c.name) q.left_on) }
-
--- for Full and coalescing the right keys' columns go
-abbrev pub out_by : JoinType → Bool → Request → List Out
-out_by Full true q = map (merged_out q) q.left ++ map (right_out (names_of q.left) q.args.suffix) (without q.right_on q.right)
-out_by Full false q = joined q
-out_by Inner c q = joined q
-out_by Left c q = joined q
-out_by Right c q = joined q
-out_by Semi c q = joined q
-out_by Anti c q = joined q
-
+-- the columns of the answer
 abbrev pub out : Request → List Out
-out q = out_by q.args.how (coalesces q) q
-
-abbrev pub out_columns : Request → List (Name × Kind)
-out_columns q = map (λ (o : Out). (o.name, o.kind)) (out q)
+out q = map (left_out q) (kept_left q) ++ map (right_out (names_of (kept_left q)) q.args.suffix) (shown_right q)
 
 abbrev pub out_row : Request → JoinPair → List Datum
 out_row q pair = map (λ (o : Out). o.at pair) (out q)
 
+-- their names and types
+abbrev pub out_columns : Request → List (Name × Kind)
+out_columns q = answer_fields q.args q.left_on q.right_on (schema_of q.left) (schema_of q.right)
+
 -- THE ANSWER
 
+-- a table of the answer's columns, whose rows are those of the listed pairs, in an order that is allowed and cut by the slice
 pub record IsAnswer (q : Request) (t : Table) : Type 0 where
+  pub table : IsTable t
   pub columns : schema_of t ≡ out_columns q
   pub pairs : List JoinPair
   pub ordered : IsOrdered q.args.how q.args.maintain_order pairs (listing q)

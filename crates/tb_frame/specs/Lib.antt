@@ -1,4 +1,5 @@
 pub mod Table
+pub mod Naming
 pub mod Join
 pub mod Refusal
 pub mod Built

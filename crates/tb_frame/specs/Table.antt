@@ -4,6 +4,7 @@ use Rattle.tb_value.specs.Datum.{Datum, null}
 use Rattle.tb_value.specs.Kind.{Kind}
 use Rattle.tb_value.specs.Names.{Name}
 use Rattle.tb_value.specs.Pairs.{row_numbers}
+use Rattle.tb_value.specs.Typed.{HasType}
 use Rattle.tb_chunk.specs.Col.{Col, values}
 
 -- a column is a name, a type and a list of values, where Null stands for absence
@@ -31,10 +32,15 @@ height (c ∷ cs) = length c.values
 abbrev pub names_of : Table → List Name
 names_of t = map (λ (c : TableColumn). c.name) t
 
--- names are distinct, and all lists have one length
+-- each value is of the column's type
+abbrev pub IsTyped : TableColumn → Type 0
+IsTyped c = All (HasType c.kind) c.values
+
+-- names are distinct, all lists have one length, and each value is of its column's type
 pub record IsTable (t : Table) : Type 0 where
   pub distinct : AllPairs (λ (a b : Name). a ≢ b) (names_of t)
   pub one_height : All (λ (c : TableColumn). length c.values ≡ height t) t
+  pub typed : All IsTyped t
 
 -- the fields of row i, and the rows of the table in order
 abbrev pub row_at : Table → ℕ → List Datum

@@ -1,6 +1,6 @@
 //! The arguments of a join.
 ghost use Rattle.std.specs.Prelude.{◌≡◌, None, false};
-ghost use Rattle.tb_frame.specs.Join.{coalesce};
+ghost use Rattle.tb_frame.specs.Naming.{coalesce, coalesces};
 ghost use Rattle.tb_frame.specs.Refusal.{asks_left, asks_right, asks_a_side};
 ghost use Rattle.tb_frame.specs.Sides.{flip};
 
@@ -89,7 +89,7 @@ impl JoinArgs {
 
     /// Whether the two key columns of a pair become one column of the answer.
     pub fn should_coalesce(&self) -> bool
-        ensures { result ≡ coalesce self.now.coalesce self.now.how }
+        ensures { result ≡ coalesces self.now }
     {
         self.coalesce.coalesce(&self.how)
     }

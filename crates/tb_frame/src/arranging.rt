@@ -29,14 +29,14 @@ pub fn cut_pairs(
     alloc: Global,
     pairs: Vec<JoinPair>,
     slice: Option<(i64, usize)>,
-) -> Result<Vec<JoinPair>, AllocError>
+) -> Result<Vec<JoinPair>, OutOfMemory>
     ensures { IfOk result (λ v. v.items ≡ cut slice pairs.items) }
 {
     match slice {
         None => Ok(pairs),
         Some((offset, len)) => {
             let (start, count) = slice_offsets(offset, len, pairs.len());
-            Vec::from_slice(alloc, &pairs[start..start + count])
+            Ok(Vec::from_slice(alloc, &pairs[start..start + count])?)
         }
     }
 }
@@ -50,5 +50,5 @@ pub fn arrange(
     ensures { IfOk result (λ v. IsListed args.now.how args.now.maintain_order args.now.slice pairs.items v.items) }
 {
     order_pairs(&mut pairs, args.how, args.maintain_order)?;
-    Ok(cut_pairs(alloc, pairs, args.slice)?)
+    cut_pairs(alloc, pairs, args.slice)
 }

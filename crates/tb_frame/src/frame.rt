@@ -1,5 +1,5 @@
 //! Tables.
-ghost use Rattle.std.specs.Prelude.{◌≡◌, ◌==◌, ◌≤◌, ◌<◌, ◌∷◌, [], ◌++◌, All, IfOk, IfSome, OnOk, length, map, option_map, position, slice_index_or, is_none, Some};
+ghost use Rattle.std.specs.Prelude.{◌≡◌, ◌==◌, ◌≤◌, ◌<◌, ◌∷◌, [], ◌++◌, All, IfOk, IfSome, IsTrue, OnOk, length, map, position, slice_index_or, is_none, Some};
 ghost use Rattle.std.specs.Option.{option_copied};
 ghost use Rattle.std.specs.List.{find, list_all};
 ghost use Rattle.tb_value.specs.Names.{Name, same_name};
@@ -7,9 +7,9 @@ ghost use Rattle.tb_value.specs.Refusals.{Settles, when};
 ghost use Rattle.tb_value.specs.declared.error.PolarsError.TheVariants.{ColumnNotFound, Duplicate, ShapeMismatch};
 ghost use Rattle.tb_chunk.specs.Col.{Col, values};
 ghost use Rattle.tb_chunk.specs.Rows.{IsRowOf};
-ghost use Rattle.tb_frame.specs.Table.{table_of, height, names_of, IsTable};
-ghost use Rattle.tb_frame.specs.Refusal.{first_repeated, first_unknown};
-ghost use Rattle.tb_frame.specs.Join.{is_among};
+ghost use Rattle.tb_frame.specs.Table.{table_of, height, names_of, IsTable, IsTyped};
+ghost use Rattle.tb_frame.specs.Refusal.{unknown_key};
+ghost use Rattle.tb_frame.specs.Naming.{is_among};
 ghost use Rattle.tb_frame.specs.NameSets.{has_name};
 ghost use Rattle.tb_frame.specs.Frame.{are_level, frame_refusal, opt_taken, select_refusal, selected, sliced, taken, without_names};
 
@@ -17,7 +17,9 @@ use crate::names::{NameSet, check_distinct, name_set};
 use std::alloc::Global;
 use std::marker::Model;
 use tb_store::Column;
-use tb_value::{IdxSize, NullableIdxSize, OutOfMemory, PlSmallStr, PolarsError, PolarsResult};
+use tb_value::{
+    IdxSize, MAX_ROWS, NullableIdxSize, OutOfMemory, PlSmallStr, PolarsError, PolarsResult,
+};
 
 /// A table: columns of distinct names and one height.
 #[derive(Drop)]
@@ -61,8 +63,10 @@ impl IntoDf for DataFrame {
     }
 }
 
+// Whether all columns have one length. A look at each length hands out that the column's values are of its type.
 fn is_level(columns: &[Column]) -> bool
-    ensures { result ≡ are_level (table_of columns.now) }
+    ensures level { result ≡ are_level (table_of columns.now) }
+    ensures typed { IsTrue result → All IsTyped (table_of columns.now) }
 {
     match columns.first() {
         None => true,
@@ -71,9 +75,15 @@ fn is_level(columns: &[Column]) -> bool
 }
 
 fn have_len(columns: &[Column], len: usize) -> bool
-    ensures { result ≡ list_all (λ (c : Col). length (values c) == len) columns.now }
+    ensures level { result ≡ list_all (λ (c : Col). length (values c) == len) columns.now }
+    ensures typed { IsTrue result → All IsTyped (table_of columns.now) }
 {
-    columns.iter().all(|column| column.len() == len)
+    for column in columns {
+        if column.len() != len {
+            return false;
+        }
+    }
+    true
 }
 
 fn find_column<'a>(columns: &'a [Column], name: &str) -> Option<&'a Column>
@@ -103,8 +113,8 @@ pub fn column_name_set(alloc: Global, columns: &[Column]) -> Result<NameSet<'_>,
     Ok(set)
 }
 
-/// The names of the columns, in their order.
-pub fn column_names(alloc: Global, columns: &[Column]) -> Result<Vec<&PlSmallStr>, OutOfMemory>
+// The names of the columns, in their order.
+fn column_names(alloc: Global, columns: &[Column]) -> Result<Vec<&PlSmallStr>, OutOfMemory>
     ensures { IfOk result (λ v. map (λ n. n.now) v.items ≡ names_of (table_of columns.now)) }
 {
     let mut names = Vec::with_capacity(alloc, columns.len())?;
@@ -115,7 +125,8 @@ pub fn column_names(alloc: Global, columns: &[Column]) -> Result<Vec<&PlSmallStr
 }
 
 fn check_columns(alloc: Global, columns: &[Column]) -> PolarsResult<()>
-    ensures { Settles result (frame_refusal (table_of columns.now)) }
+    ensures settles { Settles result (frame_refusal (table_of columns.now)) }
+    ensures typed { OnOk result (All IsTyped (table_of columns.now)) }
 {
     if !is_level(columns) {
         return Err(PolarsError::ShapeMismatch);
@@ -125,10 +136,11 @@ fn check_columns(alloc: Global, columns: &[Column]) -> PolarsResult<()>
 
 impl DataFrame {
     /// The table of these columns. Refuses, in this order, columns of two lengths (ShapeMismatch) and the first
-    /// name that stood before (Duplicate).
+    /// repeated name (Duplicate).
     pub fn new(alloc: Global, columns: Vec<Column>) -> PolarsResult<DataFrame>
         ensures settles { Settles result (frame_refusal (table_of columns.items)) }
-        ensures table { IfOk result (λ t. t ≡ columns.items) }
+        ensures columns { IfOk result (λ t. t ≡ columns.items) }
+        ensures table { IfOk result (λ t. IsTable (table_of t)) }
     {
         check_columns(alloc, &columns)?;
         Ok(DataFrame { columns })
@@ -137,7 +149,7 @@ impl DataFrame {
     /// The number of rows, 0 where there is no column.
     pub fn height(&self) -> usize
         ensures height { result ≡ height (table_of self.now) }
-        ensures short { result ≤ 4294967294 }
+        ensures short { result ≤ MAX_ROWS }
     {
         match self.columns.first() {
             None => 0,
@@ -186,7 +198,7 @@ impl DataFrame {
     }
 
     /// The columns of these names, in the order of the names. Refuses, in this order, the first name that no column
-    /// has (ColumnNotFound) and the first name that stood before (Duplicate).
+    /// has (ColumnNotFound) and the first repeated name (Duplicate).
     pub fn select(&self, alloc: Global, names: &[PlSmallStr]) -> PolarsResult<DataFrame>
         ensures settles { Settles result (select_refusal names.now (table_of self.now)) }
         ensures table { IfOk result (λ t. t ≡ selected names.now self.now) }
@@ -196,7 +208,7 @@ impl DataFrame {
     }
 
     /// The columns of the table, and then these. Refuses, in this order, columns of two lengths (ShapeMismatch) and
-    /// the first name that stood before (Duplicate).
+    /// the first repeated name (Duplicate).
     pub fn hstack(&self, alloc: Global, columns: &[Column]) -> PolarsResult<DataFrame>
         ensures settles { Settles result (frame_refusal (table_of (self.now ++ columns.now))) }
         ensures table { IfOk result (λ t. t ≡ self.now ++ columns.now) }
@@ -218,7 +230,7 @@ impl DataFrame {
     /// These rows in this order, each column in one chunk.
     pub fn take(&self, alloc: Global, rows: &[IdxSize]) -> Result<DataFrame, OutOfMemory>
         requires rows { All (λ r. r < height (table_of self.now)) rows.now }
-        requires few { length rows.now ≤ 4294967294 }
+        requires few { length rows.now ≤ MAX_ROWS }
         ensures { IfOk result (λ t. t ≡ map (taken rows.now) self.now) }
     {
         Ok(DataFrame {
@@ -233,7 +245,7 @@ impl DataFrame {
         rows: &[NullableIdxSize],
     ) -> Result<DataFrame, OutOfMemory>
         requires rows { All (IsRowOf (height (table_of self.now))) rows.now }
-        requires few { length rows.now ≤ 4294967294 }
+        requires few { length rows.now ≤ MAX_ROWS }
         ensures { IfOk result (λ t. t ≡ map (opt_taken rows.now) self.now) }
     {
         Ok(DataFrame {
@@ -274,7 +286,7 @@ fn select_columns(
     columns: &[Column],
     names: &[PlSmallStr],
 ) -> PolarsResult<Vec<Column>>
-    ensures settles { Settles result (option_map (λ n. ColumnNotFound n) (first_unknown (table_of columns.now) names.now)) }
+    ensures settles { Settles result (unknown_key (table_of columns.now) names.now) }
     ensures columns { IfOk result (λ v. v.items ≡ selected names.now columns.now) }
 {
     let mut selected = Vec::new(alloc);
@@ -322,14 +334,14 @@ fn other_columns(
     Ok(others)
 }
 
-/// These rows of each column in this order, each in one chunk.
-pub fn take_columns(
+// These rows of each column in this order, each in one chunk.
+fn take_columns(
     alloc: Global,
     columns: &[Column],
     rows: &[IdxSize],
 ) -> Result<Vec<Column>, OutOfMemory>
     requires rows { All (λ (c : Col). All (λ r. r < length (values c)) rows.now) columns.now }
-    requires few { length rows.now ≤ 4294967294 }
+    requires few { length rows.now ≤ MAX_ROWS }
     ensures { IfOk result (λ v. v.items ≡ map (taken rows.now) columns.now) }
 {
     let mut taken = Vec::with_capacity(alloc, columns.len())?;
@@ -339,14 +351,14 @@ pub fn take_columns(
     Ok(taken)
 }
 
-/// These rows of each column in this order, each in one chunk. An absent row gives Null.
-pub fn take_opt_columns(
+// These rows of each column in this order, each in one chunk. An absent row gives Null.
+fn take_opt_columns(
     alloc: Global,
     columns: &[Column],
     rows: &[NullableIdxSize],
 ) -> Result<Vec<Column>, OutOfMemory>
     requires rows { All (λ (c : Col). All (IsRowOf (length (values c))) rows.now) columns.now }
-    requires few { length rows.now ≤ 4294967294 }
+    requires few { length rows.now ≤ MAX_ROWS }
     ensures { IfOk result (λ v. v.items ≡ map (opt_taken rows.now) columns.now) }
 {
     let mut taken = Vec::with_capacity(alloc, columns.len())?;

@@ -3,10 +3,10 @@ ghost use Rattle.std.specs.Prelude.{◌≡◌, ◌++◌, IfOk, List, OnOk, map, 
 ghost use Rattle.tb_value.specs.Names.{Name};
 ghost use Rattle.tb_value.specs.Refusals.{Settles};
 ghost use Rattle.tb_chunk.specs.Col.{Col};
-ghost use Rattle.tb_frame.specs.Answer.{gone_left};
 ghost use Rattle.tb_frame.specs.Frame.{without_names};
-ghost use Rattle.tb_frame.specs.Join.{by_names, coalesce, default_suffix, is_among};
+ghost use Rattle.tb_frame.specs.Join.{by_names};
 ghost use Rattle.tb_frame.specs.NameSets.{has_name};
+ghost use Rattle.tb_frame.specs.Naming.{default_suffix, is_among};
 ghost use Rattle.tb_frame.specs.Refusal.{repeated_name};
 ghost use Rattle.tb_frame.specs.RightColumns.{gone_beside, right_names, right_side};
 ghost use Rattle.tb_frame.specs.Table.{table_of};
@@ -69,7 +69,7 @@ fn called_names(
 
 // The names of the right columns that are not put beside the left ones. Those of a Full join go later.
 fn gone_beside<'a>(args: &JoinArgs, right_on: &'a [PlSmallStr]) -> &'a [PlSmallStr]
-    ensures { result.now ≡ gone_beside args.now.how (coalesce args.now.coalesce args.now.how) right_on.now }
+    ensures { result.now ≡ gone_beside args.now right_on.now }
 {
     match args.how {
         JoinType::Full => &[],
@@ -77,25 +77,22 @@ fn gone_beside<'a>(args: &JoinArgs, right_on: &'a [PlSmallStr]) -> &'a [PlSmallS
     }
 }
 
-// The names of the right columns that are put beside the left ones.
+// The names of the right columns that are put beside left ones of these names.
 fn names_beside(
     alloc: Global,
-    left: &[Column],
+    left: &[&PlSmallStr],
     right: &[Column],
-    left_on: &[PlSmallStr],
     right_on: &[PlSmallStr],
     args: &JoinArgs,
 ) -> Result<Vec<PlSmallStr>, OutOfMemory>
-    ensures { IfOk result (λ v. v.items ≡ right_names (map (λ (c : Col). c.name) (without_names (gone_left args.now.how (coalesce args.now.coalesce args.now.how) left_on.now) left.now)) (unwrap_or args.now.suffix default_suffix) (gone_beside args.now.how (coalesce args.now.coalesce args.now.how) right_on.now) (right_side args.now.how right.now)) }
+    ensures { IfOk result (λ v. v.items ≡ right_names (map (λ n. n.now) left.now) (unwrap_or args.now.suffix default_suffix) (gone_beside args.now right_on.now) (right_side args.now.how right.now)) }
 {
-    let kept = kept_names(alloc, left, gone_left(args, left_on))?;
-    let taken = lent_name_set(alloc, &kept)?;
-    let gone = gone_beside(args, right_on);
+    let taken = lent_name_set(alloc, left)?;
     called_names(
         alloc,
         &taken,
         right_side(args.how, right),
-        gone,
+        gone_beside(args, right_on),
         suffix_of(args),
     )
 }
@@ -112,9 +109,9 @@ fn push_names<'a>(
     Ok(())
 }
 
-/// Refuses the first name that stood before (Duplicate) among the columns that a join puts side by side: the left ones
-/// that it keeps, and then the right ones under their names in the answer. In a Full join the keys of both sides are
-/// among them, also where they are coalesced.
+/// Refuses the first repeated name (Duplicate) among the columns that a join puts side by side: the left ones that it
+/// keeps, and then the right ones under their names in the answer. In a Full join the keys of both sides are among
+/// them, also where they are coalesced.
 pub fn check_joined_names(
     alloc: Global,
     left: &[Column],
@@ -125,8 +122,9 @@ pub fn check_joined_names(
 ) -> PolarsResult<()>
     ensures { Settles result (repeated_name (by_names (table_of left.now) (table_of right.now) left_on.now right_on.now args.now)) }
 {
-    let beside = names_beside(alloc, left, right, left_on, right_on, args)?;
-    let mut names = kept_names(alloc, left, gone_left(args, left_on))?;
+    let kept = kept_names(alloc, left, gone_left(args, left_on))?;
+    let beside = names_beside(alloc, &kept, right, right_on, args)?;
+    let mut names = kept;
     push_names(&mut names, &beside)?;
     check_distinct(alloc, &names)
 }

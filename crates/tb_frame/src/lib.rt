@@ -20,7 +20,7 @@ pub use arranging::{arrange, cut_pairs};
 pub use chunking::rechunk_columns;
 pub use coalescing::coalesce_columns;
 pub use equality::same_type;
-pub use frame::{DataFrame, IntoDf, column_name_set, column_names, take_columns, take_opt_columns};
+pub use frame::{DataFrame, IntoDf, column_name_set};
 pub use joined_names::check_joined_names;
 pub use names::{NameSet, check_distinct, name_set};
 pub use order::direction_of;

@@ -1,11 +1,10 @@
 //! Names, and sets of them.
-ghost use Rattle.std.specs.Prelude.{◌≡◌, ◌||◌, not, false, map, option_map, IfOk, OnOk, OnErr};
+ghost use Rattle.std.specs.Prelude.{◌≡◌, ◌||◌, not, false, map, IfOk, OnOk, OnErr};
 ghost use Rattle.tb_value.specs.Names.{Name, same_name};
 ghost use Rattle.tb_value.specs.Refusals.{Settles};
-ghost use Rattle.tb_value.specs.declared.error.PolarsError.TheVariants.{Duplicate};
-ghost use Rattle.tb_frame.specs.Join.{is_among};
+ghost use Rattle.tb_frame.specs.Naming.{is_among};
 ghost use Rattle.tb_frame.specs.NameSets.{has_name};
-ghost use Rattle.tb_frame.specs.Refusal.{first_repeated};
+ghost use Rattle.tb_frame.specs.Refusal.{repeated_among};
 
 use std::alloc::Global;
 use std::collections::HashSet;
@@ -55,9 +54,9 @@ pub fn name_set<'a>(alloc: Global, names: &'a [PlSmallStr]) -> Result<NameSet<'a
     Ok(set)
 }
 
-/// Refuses the first name that stood before (Duplicate).
+/// Refuses the first repeated name (Duplicate).
 pub fn check_distinct(alloc: Global, names: &[&PlSmallStr]) -> PolarsResult<()>
-    ensures { Settles result (option_map (λ n. Duplicate n) (first_repeated (map (λ n. n.now) names.now))) }
+    ensures { Settles result (repeated_among (map (λ n. n.now) names.now)) }
 {
     let mut seen = NameSet::new(alloc);
     for name in names {

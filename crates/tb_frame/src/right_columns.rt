@@ -4,10 +4,9 @@ ghost use Rattle.tb_value.specs.Names.{Name};
 ghost use Rattle.tb_value.specs.declared.index.JoinPair.{JoinPair};
 ghost use Rattle.tb_chunk.specs.Col.{Col, values};
 ghost use Rattle.tb_chunk.specs.Rows.{IsRowOf};
-ghost use Rattle.tb_frame.specs.Answer.{gone_left, gone_right, has_right};
-ghost use Rattle.tb_frame.specs.Join.{coalesce, default_suffix, is_among, right_name};
+ghost use Rattle.tb_frame.specs.Naming.{default_suffix, has_right, is_among, right_name};
 ghost use Rattle.tb_frame.specs.NameSets.{has_name};
-ghost use Rattle.tb_frame.specs.RightColumns.{right_column, right_columns, right_side};
+ghost use Rattle.tb_frame.specs.RightColumns.{gone_left, gone_right, right_column, right_columns, right_side};
 ghost use Rattle.tb_frame.specs.Table.{names_of, table_of};
 
 use crate::args::{JoinArgs, JoinType};
@@ -15,7 +14,7 @@ use crate::frame::column_name_set;
 use crate::names::{NameSet, name_set};
 use std::alloc::Global;
 use tb_store::Column;
-use tb_value::{JoinPair, NullableIdxSize, OutOfMemory, PlSmallStr};
+use tb_value::{JoinPair, MAX_ROWS, NullableIdxSize, OutOfMemory, PlSmallStr};
 
 /// What follows the name of a right column that a left column has too.
 pub fn suffix_of(args: &JoinArgs) -> &str
@@ -46,7 +45,7 @@ pub fn right_side<'a>(how: JoinType, right: &'a [Column]) -> &'a [Column]
 
 /// The names of the left columns that the answer lacks: those of coalesced keys of a Right join.
 pub fn gone_left<'a>(args: &JoinArgs, left_on: &'a [PlSmallStr]) -> &'a [PlSmallStr]
-    ensures { result.now ≡ gone_left args.now.how (coalesce args.now.coalesce args.now.how) left_on.now }
+    ensures { result.now ≡ gone_left args.now left_on.now }
 {
     match args.how {
         JoinType::Right if args.should_coalesce() => left_on,
@@ -56,7 +55,7 @@ pub fn gone_left<'a>(args: &JoinArgs, left_on: &'a [PlSmallStr]) -> &'a [PlSmall
 
 /// The names of the right columns that the answer lacks: those of coalesced keys.
 pub fn gone_right<'a>(args: &JoinArgs, right_on: &'a [PlSmallStr]) -> &'a [PlSmallStr]
-    ensures { result.now ≡ gone_right args.now.how (coalesce args.now.coalesce args.now.how) right_on.now }
+    ensures { result.now ≡ gone_right args.now right_on.now }
 {
     match args.how {
         JoinType::Inner | JoinType::Left | JoinType::Full => {
@@ -95,7 +94,7 @@ fn named_column(
     rows: &[NullableIdxSize],
 ) -> Result<Column, OutOfMemory>
     requires rows { All (IsRowOf (length (values column.now))) rows.now }
-    requires few { length rows.now ≤ 4294967294 }
+    requires few { length rows.now ≤ MAX_ROWS }
     ensures { IfOk result (λ c. (ns : List Name) → ((n : Name) → has_name taken.now n ≡ is_among ns n) → c ≡ right_column ns suffix.now rows.now column.now) }
 {
     let name = right_name(alloc, taken, suffix, column.name())?;
@@ -116,7 +115,7 @@ pub fn push_right(
     rows: &[NullableIdxSize],
 ) -> Result<(), OutOfMemory>
     requires rows { All (λ (c : Col). All (IsRowOf (length (values c))) rows.now) right.now }
-    requires few { length rows.now ≤ 4294967294 }
+    requires few { length rows.now ≤ MAX_ROWS }
     ensures { OnOk result (columns.new.items ≡ columns.old.items ++ right_columns (names_of (table_of left.now)) suffix.now gone.now rows.now right.now) }
 {
     let taken = column_name_set(alloc, left)?;

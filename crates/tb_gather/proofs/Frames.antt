@@ -1,18 +1,21 @@
 -- What gathered tables are.
-use Rattle.std.proofs.Common.{◌≡◌, ◌∙◌, List, length, map, get_or, sym, Some, None, refl, inl, inr, ◌⊎◌}
+use Rattle.std.proofs.Common.{◌≡◌, ◌∙◌, List, length, map, get_or, sym, subst, Some, None, refl, inl, inr, ◌⊎◌}
 use Rattle.std.specs.Prelude.{All}
+use Rattle.std.proofs.lemmas.List.Elements.{All-map}
+use Rattle.tb_value.specs.Datum.{Datum}
+use Rattle.tb_value.specs.Typed.{HasType}
 use Rattle.tb_value.specs.declared.error.PolarsError.{PolarsError}
 use Rattle.tb_value.specs.declared.error.PolarsError.TheVariants.{OutOfMemory}
 use Rattle.tb_value.specs.declared.sorted.IsSorted.{IsSorted}
 use Rattle.tb_value.specs.declared.sorted.IsSorted.TheVariants.{Not}
 use Rattle.tb_chunk.specs.Col.{Col, values}
-use Rattle.tb_frame.specs.Table.{Table, table_of, IsTable}
+use Rattle.tb_frame.specs.Table.{Table, plain, table_of, IsTable, IsTyped}
 use Rattle.tb_frame.specs.Frame.{frame_refusal}
 use Rattle.tb_frame.proofs.Frames.{IsTable-refusal}
-use Rattle.tb_frame.proofs.Taking.{IsTable-made}
-use Rattle.tb_gather.specs.Ids.{Id}
-use Rattle.tb_gather.specs.Gathered.{gathered, opt_gathered, gathered_flag}
-use Rattle.tb_gather.proofs.Columns.{length-named}
+use Rattle.tb_frame.proofs.Taking.{IsTable-made, at_row}
+use Rattle.tb_gather.specs.Ids.{Id, row_or_none}
+use Rattle.tb_gather.specs.Gathered.{gathered, opt_gathered, gathered_flag, lengths, named_rows, value_at}
+use Rattle.tb_gather.proofs.Columns.{length-named, values-named}
 
 -- columns of a table are refused for want of memory alone
 pub wants-memory : (t : Table) (e : PolarsError) → IsTable t → (e ≡ OutOfMemory) ⊎ (frame_refusal t ≡ Some e) → e ≡ OutOfMemory
@@ -22,8 +25,11 @@ wants-memory t e h (inr refused) = absurd (let c : None ≡ Some e = sym (IsTabl
 lengths-gathered : (ids : List Id) (sorted : IsSorted) (cs : List Col) → All (λ (c : Col). length (values (gathered ids sorted c)) ≡ length ids) cs
 lengths-gathered ids sorted cs = λ k d low. length-named ids (gathered_flag (get_or cs k d).flag sorted) (get_or cs k d)
 
+typed-named : (ids : List Id) (flag : IsSorted) (c : Col) → IsTyped (plain c) → IsTyped (plain (named_rows ids flag c))
+typed-named ids flag c h = subst (λ (vs : List Datum). All (HasType c.kind) vs) (sym (values-named ids flag c)) (All-map (HasType c.kind) (value_at c.chunks) ids (λ k d low. at_row (HasType c.kind) (values c) (row_or_none (lengths c.chunks) (get_or ids k d)) tt h))
+
 pub IsTable-gathered : (ids : List Id) (sorted : IsSorted) (cs : List Col) → IsTable (table_of cs) → IsTable (table_of (map (gathered ids sorted) cs))
-IsTable-gathered ids sorted cs t = IsTable-made (gathered ids sorted) (λ c. refl) (length ids) cs (lengths-gathered ids sorted cs) t
+IsTable-gathered ids sorted cs t = IsTable-made (gathered ids sorted) (λ c. refl) (length ids) cs (lengths-gathered ids sorted cs) (λ c h. typed-named ids (gathered_flag c.flag sorted) c h) t
 
 pub IsTable-opt_gathered : (ids : List Id) (cs : List Col) → IsTable (table_of cs) → IsTable (table_of (map (opt_gathered ids) cs))
-IsTable-opt_gathered ids cs t = IsTable-made (opt_gathered ids) (λ c. refl) (length ids) cs (λ k d low. length-named ids Not (get_or cs k d)) t
+IsTable-opt_gathered ids cs t = IsTable-made (opt_gathered ids) (λ c. refl) (length ids) cs (λ k d low. length-named ids Not (get_or cs k d)) (λ c h. typed-named ids Not c h) t

@@ -9,31 +9,10 @@ use Rattle.tb_value.specs.Refusals.{when}
 use Rattle.tb_value.specs.declared.error.PolarsError.TheVariants.{ColumnNotFound}
 use Rattle.tb_chunk.specs.Col.{Col}
 use Rattle.tb_frame.specs.Table.{TableColumn, plain, table_of, names_of}
-use Rattle.tb_frame.specs.Join.{named, is_among}
-use Rattle.tb_frame.specs.Refusal.{first_unknown}
-
--- the column of that name, before or after chunks and flags are
-abbrev pub found : Name → List Col → Option Col
-found n cs = find (λ (c : Col). same_name c.name n) cs
-
-pub named-plain : (n : Name) (cs : List Col) → named (table_of cs) n ≡ option_map plain (found n cs)
-named-plain n [] = refl
-named-plain n (c ∷ cs) = at (same_name c.name n) (named-plain n cs)
-  where
-    at : (b : Bool) → named (table_of cs) n ≡ option_map plain (found n cs) → cond b (Some (plain c)) (named (table_of cs) n) ≡ option_map plain (cond b (Some c) (found n cs))
-    at true e = refl
-    at false e = e
-
--- there is none exactly where no column has the name
-pub unknown-is : (n : Name) (cs : List Col) → is_none (found n cs) ≡ not (is_among (names_of (table_of cs)) n)
-unknown-is n [] = refl
-unknown-is n (c ∷ cs) = at (same_name c.name n) (same_name n c.name) (nat_list_eq_equiv.symm c.name n) (unknown-is n cs)
-  where
-    at : (a b : Bool) → a ≡ b → is_none (found n cs) ≡ not (is_among (names_of (table_of cs)) n) → is_none (cond a (Some c) (found n cs)) ≡ not (b || is_among (names_of (table_of cs)) n)
-    at true true e h = refl
-    at true false e h = absurd (cc)
-    at false true e h = absurd (cc)
-    at false false e h = h
+use Rattle.tb_frame.specs.Join.{named}
+use Rattle.tb_frame.specs.Naming.{is_among}
+use Rattle.tb_frame.specs.Refusal.{unknown_key}
+use Rattle.tb_frame.proofs.Selected.{found, named-plain, unknown-is}
 
 one : (names : List Name) → length names ≡ 1 → names ≡ get_or names 0 [] ∷ []
 one [] h = absurd (omega arith)
@@ -45,12 +24,12 @@ mapped true n = refl
 mapped false n = refl
 
 -- the cause of one name that is looked up
-pub one_unknown : (names : List Name) (name : Name) (cs : List Col) → length names ≡ 1 → name ≡ get_or names 0 [] → when (is_none (found name cs)) (ColumnNotFound name) ≡ option_map (λ (n : Name). ColumnNotFound n) (first_unknown (table_of cs) names)
+pub one_unknown : (names : List Name) (name : Name) (cs : List Col) → length names ≡ 1 → name ≡ get_or names 0 [] → when (is_none (found name cs)) (ColumnNotFound name) ≡ unknown_key (table_of cs) names
 one_unknown names name cs h is =
     ap (λ (b : Bool). when b (ColumnNotFound name)) (unknown-is name cs)
     ∙ sym (mapped (not (is_among (names_of (table_of cs)) name)) name)
-    ∙ ap (λ (n : Name). option_map (λ (m : Name). ColumnNotFound m) (first_unknown (table_of cs) (n ∷ []))) is
-    ∙ ap (λ (ns : List Name). option_map (λ (m : Name). ColumnNotFound m) (first_unknown (table_of cs) ns)) (sym (one names h))
+    ∙ ap (λ (n : Name). unknown_key (table_of cs) (n ∷ [])) is
+    ∙ ap (unknown_key (table_of cs)) (sym (one names h))
 
 -- the key columns of one name that is found
 pub one_found : (names : List Name) (name : Name) (cs : List Col) (c : Col) → length names ≡ 1 → name ≡ get_or names 0 [] → found name cs ≡ Some c → filter_map (named (table_of cs)) names ≡ plain c ∷ []

@@ -1,5 +1,5 @@
 -- The columns that stand in an answer.
-use Rattle.std.proofs.Common.{◌≡◌, ◌<◌, Bool, true, not, List, [], ◌∷◌, length, refl, ap, sym, subst, arith}
+use Rattle.std.proofs.Common.{◌≡◌, ◌<◌, Bool, true, false, not, List, [], ◌∷◌, length, refl, ap, sym, subst, arith}
 use Rattle.std.specs.Prelude.{All}
 use Rattle.std.proofs.lemmas.List.Elements.{All-filter, All-head}
 use Rattle.tb_value.specs.Names.{Name}
@@ -9,7 +9,7 @@ use Rattle.tb_frame.specs.declared.args.JoinType.{JoinType}
 use Rattle.tb_frame.specs.declared.args.JoinType.TheVariants.{Inner, Left, Right, Full, Semi, Anti}
 use Rattle.tb_frame.specs.Built.{is_built_coalesce}
 use Rattle.tb_frame.specs.Frame.{without_names}
-use Rattle.tb_frame.specs.Join.{coalesce, is_among}
+use Rattle.tb_frame.specs.Naming.{coalesce, is_among, merges_keys}
 use Rattle.tb_frame.specs.Table.{TableColumn, Table, plain, table_of, height, IsTable}
 use Rattle.tb_frame.proofs.Frames.{without-table}
 
@@ -28,17 +28,13 @@ height-without names cs t some =
     first [] h all = absurd (omega arith)
     first (k ∷ ks) h all = All-head (λ (c : TableColumn). length c.values ≡ height (table_of cs)) (plain k) (table_of ks) all
 
--- no Full join is coalesced
-abbrev pub is_apart : JoinType → Bool → Bool
-is_apart Full c = not c
-is_apart Inner c = true
-is_apart Left c = true
-is_apart Right c = true
-is_apart Semi c = true
-is_apart Anti c = true
-
-pub built_apart : (how : JoinType) (k : JoinCoalesce) → is_built_coalesce how k ≡ true → is_apart how (coalesce k how) ≡ true
-built_apart Full k h = h
+-- no Full join merges its keys
+pub built_apart : (how : JoinType) (k : JoinCoalesce) → is_built_coalesce how k ≡ true → merges_keys how (coalesce k how) ≡ false
+built_apart Full k h = off (coalesce k Full) h
+  where
+    off : (b : Bool) → not b ≡ true → b ≡ false
+    off true h = absurd (cc)
+    off false h = refl
 built_apart Inner k h = refl
 built_apart Left k h = refl
 built_apart Right k h = refl

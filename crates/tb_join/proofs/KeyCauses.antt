@@ -1,5 +1,5 @@
 -- The causes of a request of the built form, whose key columns are found.
-use Rattle.std.proofs.Common.{◌≡◌, ◌==◌, ℕ, Bool, true, false, cond, not, ◌&&◌, ◌||◌, List, [], ◌∷◌, ◌++◌, length, refl, sym, ◌∙◌, arith, Option, Some, None, inl, inr, ◌⊎◌}
+use Rattle.std.proofs.Common.{◌≡◌, ◌==◌, ℕ, Bool, true, false, cond, not, ◌&&◌, ◌||◌, List, [], ◌∷◌, ◌++◌, length, refl, ap, sym, ◌∙◌, arith, Option, Some, None, inl, inr, ◌⊎◌}
 use Rattle.std.specs.Option.{option_map}
 use Rattle.std.specs.List.{filter_map}
 use Rattle.tb_value.specs.Kind.{Kind}
@@ -8,7 +8,7 @@ use Rattle.tb_value.specs.Refusals.{first_cause, when}
 use Rattle.tb_value.specs.SameKind.{same_kind, is_key}
 use Rattle.tb_value.specs.declared.error.Side.TheVariants as side
 use Rattle.tb_value.specs.declared.error.PolarsError.{PolarsError}
-use Rattle.tb_value.specs.declared.error.PolarsError.TheVariants.{ColumnNotFound, Duplicate, ComputeError, InvalidOperation, OutOfMemory}
+use Rattle.tb_value.specs.declared.error.PolarsError.TheVariants.{Duplicate, ComputeError, InvalidOperation, OutOfMemory}
 use Rattle.tb_value.specs.declared.error.ComputeCause.TheVariants.{KeyTypes, Validation}
 use Rattle.tb_value.specs.declared.error.InvalidCause.TheVariants.{NoKeys, KeyCounts, KeyKind}
 use Rattle.tb_value.specs.Proved.TypeTests.{same_kind-Decides}
@@ -17,26 +17,17 @@ use Rattle.tb_frame.specs.declared.args.JoinArgs.{JoinArgs}
 use Rattle.tb_frame.specs.declared.args.JoinValidation.TheVariants.{ManyToMany}
 use Rattle.tb_frame.specs.Built.{IsBuilt}
 use Rattle.tb_frame.specs.Table.{TableColumn, table_of, height}
-use Rattle.tb_frame.specs.Join.{Request, by_names, named}
-use Rattle.tb_frame.specs.Refusal.{first_unknown, first_repeated, no_keys, key_counts, repeated_key, key_types, key_kind, repeated_name, unknown_key, broken_side, too_many_rows, join_refusal, is_validated, asks_left, asks_right, has_twins}
+use Rattle.tb_frame.specs.Join.{Request, by_names, named, nulls}
+use Rattle.tb_frame.specs.Refusal.{asks_left, asks_right, broken_left, broken_right, column_causes, first_repeated, has_twins, is_validated, join_refusal, key_causes, key_counts, key_kind, key_types, no_keys, repeated_among, repeated_name, row_causes, too_many_rows, unknown_key}
+use Rattle.tb_frame.proofs.Causes.{first_cause-append, first_cause-one}
 use Rattle.tb_join.specs.KeyRefusal.{key_refusal}
 
 -- FIRST CAUSES
 
--- the first of some causes, and then of others
-firsts : (xs ys : List (Option PolarsError)) → first_cause (xs ++ ys) ≡ first_cause (first_cause xs ∷ ys)
-firsts [] ys = refl
-firsts (None ∷ xs) ys = firsts xs ys
-firsts (Some e ∷ xs) ys = refl
-
-flatten : (a b c d e : Option PolarsError) → first_cause (first_cause (a ∷ b ∷ []) ∷ None ∷ None ∷ None ∷ c ∷ d ∷ e ∷ []) ≡ first_cause (a ∷ b ∷ c ∷ d ∷ e ∷ [])
+flatten : (a b c d e : Option PolarsError) → first_cause (a ∷ b ∷ None ∷ None ∷ None ∷ None ∷ c ∷ d ∷ e ∷ []) ≡ first_cause (a ∷ b ∷ c ∷ d ∷ e ∷ [])
 flatten (Some a) b c d e = refl
 flatten None (Some b) c d e = refl
 flatten None None c d e = refl
-
-last_cause : (a : Option PolarsError) → first_cause (a ∷ []) ≡ a
-last_cause (Some a) = refl
-last_cause None = refl
 
 -- an error of the third cause or of a later one, where those before don't hold
 module _ (a b c d f j : Option PolarsError) (e : PolarsError) (is : j ≡ first_cause (a ∷ b ∷ c ∷ d ∷ f ∷ [])) (x : a ≡ None) (y : b ≡ None) where
@@ -76,9 +67,6 @@ is_keyed k h = at (is_key k) refl h
 
 -- CAUSES
 
-abbrev pub unknown : List Col → List Name → Option PolarsError
-unknown cs names = option_map (λ n. ColumnNotFound n) (first_unknown (table_of cs) names)
-
 abbrev pub mixed : Kind → Kind → Option PolarsError
 mixed k l = when (not (same_kind k l)) (ComputeError (KeyTypes 0))
 
@@ -101,19 +89,20 @@ keyed q lk rk = record q { left_keys = lk; right_keys = rk }
 
 module _ (left right : List Col) (lo ro : List Name) (a : JoinArgs) (built : IsBuilt (by_names (table_of left) (table_of right) lo ro a)) (k l : TableColumn) (is_k : filter_map (named (table_of left)) lo ≡ k ∷ []) (is_l : filter_map (named (table_of right)) ro ≡ l ∷ []) where
   -- the causes that remain where each side has one key
-  pub key_causes : key_refusal (by_names (table_of left) (table_of right) lo ro a) ≡ first_cause (unknown left lo ∷ unknown right ro ∷ mixed k.kind l.kind ∷ unkeyed k.kind ∷ repeated_name (by_names (table_of left) (table_of right) lo ro a) ∷ [])
-  key_causes =
+  pub five_causes : key_refusal (by_names (table_of left) (table_of right) lo ro a) ≡ first_cause (unknown_key (table_of left) lo ∷ unknown_key (table_of right) ro ∷ mixed k.kind l.kind ∷ unkeyed k.kind ∷ repeated_name (by_names (table_of left) (table_of right) lo ro a) ∷ [])
+  five_causes =
       let q = by_names (table_of left) (table_of right) lo ro a in
-      let some : no_keys q ≡ None = λ t. when (built.one_left t == 0 || built.one_right t == 0) (InvalidOperation NoKeys) in
-      let counts : key_counts q ≡ None = λ t. when (not (built.one_left t == built.one_right t)) (InvalidOperation (KeyCounts (built.one_left t) (built.one_right t))) in
-      let fresh : repeated_key q ≡ None = λ t. first_cause (repeated_by (one_fresh lo built.one_left t) ∷ repeated_by (one_fresh ro built.one_right t) ∷ []) in
+      let unknown_left = unknown_key (table_of left) lo in
+      let unknown_right = unknown_key (table_of right) ro in
+      let some : no_keys lo ro ≡ None = λ t. when (built.one_left t == 0 || built.one_right t == 0) (InvalidOperation NoKeys) in
+      let counts : key_counts lo ro ≡ None = λ t. when (not (built.one_left t == built.one_right t)) (InvalidOperation (KeyCounts (built.one_left t) (built.one_right t))) in
       let types : key_types q ≡ mixed k.kind l.kind = ◌∙◌ {A = Option PolarsError} (λ t. key_types (keyed q (is_k t) (is_l t))) (first_place (λ p. ComputeError (KeyTypes p)) (not (same_kind k.kind l.kind))) in
       let kinds : key_kind q ≡ unkeyed k.kind = ◌∙◌ {A = Option PolarsError} (λ t. key_kind (keyed q (is_k t) (is_l t))) (first_place (λ p. InvalidOperation (KeyKind p)) (not (is_key k.kind))) in
-      ◌∙◌ {A = Option PolarsError} (λ t. first_cause (unknown_key q ∷ some t ∷ counts t ∷ fresh t ∷ types t ∷ kinds t ∷ repeated_name q ∷ []))
-      (flatten (unknown left lo) (unknown right ro) (mixed k.kind l.kind) (unkeyed k.kind) (repeated_name q))
+      ◌∙◌ {A = Option PolarsError} (λ t. first_cause (unknown_left ∷ unknown_right ∷ some t ∷ counts t ∷ fresh lo built.one_left t ∷ fresh ro built.one_right t ∷ types t ∷ kinds t ∷ repeated_name q ∷ []))
+      (flatten unknown_left unknown_right (mixed k.kind l.kind) (unkeyed k.kind) (repeated_name q))
     where
-      repeated_by : Option Name → Option PolarsError
-      repeated_by o = option_map (λ n. Duplicate n) o
+      fresh : (names : List Name) → length names ≡ 1 → repeated_among names ≡ None
+      fresh names h = ap (λ (o : Option Name). option_map (λ n. Duplicate n) o) (one_fresh names h)
 
 -- VALIDATION
 
@@ -121,23 +110,26 @@ asks_none : (b t : Bool) → (b && false && t) ≡ false
 asks_none true t = refl
 asks_none false t = refl
 
-not_asked : (q : Request) → q.args.validation ≡ ManyToMany → broken_side q ≡ None
-not_asked q h =
-    let how = q.args.how in
-    let in_left = has_twins q q.left_keys (height q.left) in
-    let in_right = has_twins q q.right_keys (height q.right) in
-    ◌∙◌ {A = Option PolarsError} (λ t. first_cause (when (is_validated how && asks_left (h t) && in_left) (ComputeError (Validation side.Left)) ∷ when (is_validated how && asks_right (h t) && in_right) (ComputeError (Validation side.Right)) ∷ []))
-    (λ t. first_cause (when (asks_none (is_validated how) in_left t) (ComputeError (Validation side.Left)) ∷ when (asks_none (is_validated how) in_right t) (ComputeError (Validation side.Right)) ∷ []))
+module _ (q : Request) (many : q.args.validation ≡ ManyToMany) where
+  left_free : broken_left q ≡ None
+  left_free =
+      let twins = has_twins (nulls q) q.left_keys (height q.left) in
+      ◌∙◌ {A = Option PolarsError} (λ t. when (is_validated q.args.how && asks_left (many t) && twins) (ComputeError (Validation side.Left))) (λ t. when (asks_none (is_validated q.args.how) twins t) (ComputeError (Validation side.Left)))
+
+  right_free : broken_right q ≡ None
+  right_free =
+      let twins = has_twins (nulls q) q.right_keys (height q.right) in
+      ◌∙◌ {A = Option PolarsError} (λ t. when (is_validated q.args.how && asks_right (many t) && twins) (ComputeError (Validation side.Right))) (λ t. when (asks_none (is_validated q.args.how) twins t) (ComputeError (Validation side.Right)))
 
 module _ (q : Request) where
-  by_keys : join_refusal q ≡ first_cause (key_refusal q ∷ broken_side q ∷ too_many_rows q ∷ [])
-  by_keys = firsts (unknown_key q ∷ no_keys q ∷ key_counts q ∷ repeated_key q ∷ key_types q ∷ key_kind q ∷ repeated_name q ∷ []) (broken_side q ∷ too_many_rows q ∷ [])
+  by_keys : join_refusal q ≡ first_cause (key_refusal q ∷ row_causes q)
+  by_keys = first_cause-append (key_causes q ++ column_causes q) (row_causes q)
 
   -- what keys and names refuse is refused
   pub refused_by_keys : (e : PolarsError) → (e ≡ OutOfMemory) ⊎ (key_refusal q ≡ Some e) → (e ≡ OutOfMemory) ⊎ (join_refusal q ≡ Some e)
   refused_by_keys e (inl h) = inl h
-  refused_by_keys e (inr h) = inr (by_keys ∙ (λ t. first_cause (h t ∷ broken_side q ∷ too_many_rows q ∷ [])))
+  refused_by_keys e (inr h) = inr (by_keys ∙ (λ t. first_cause (h t ∷ row_causes q)))
 
   -- and else the number of pairs decides
   pub pairs_decide : q.args.validation ≡ ManyToMany → key_refusal q ≡ None → too_many_rows q ≡ join_refusal q
-  pairs_decide v h = sym (by_keys ∙ (λ t. first_cause (h t ∷ not_asked q v t ∷ too_many_rows q ∷ [])) ∙ last_cause (too_many_rows q))
+  pairs_decide many h = sym (by_keys ∙ (λ t. first_cause (h t ∷ left_free q many t ∷ right_free q many t ∷ too_many_rows q ∷ [])) ∙ first_cause-one (too_many_rows q))

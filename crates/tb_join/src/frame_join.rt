@@ -7,7 +7,7 @@ ghost use Rattle.tb_frame.specs.Answer.{IsListed};
 ghost use Rattle.tb_frame.specs.Built.{IsBuilt};
 ghost use Rattle.tb_frame.specs.Join.{by_names, listing, IsAnswer};
 ghost use Rattle.tb_frame.specs.Refusal.{join_refusal};
-ghost use Rattle.tb_frame.specs.Table.{plain, table_of, height, IsTable};
+ghost use Rattle.tb_frame.specs.Table.{plain, table_of, height};
 ghost use Rattle.tb_join.specs.Asked.{plainly};
 ghost use Rattle.tb_join.specs.KeyRefusal.{key_refusal};
 
@@ -51,7 +51,6 @@ pub trait DataFrameJoinOps: IntoDf {
         requires built { IsBuilt (by_names (table_of (Self.frame self.now)) (table_of other.now) left_on.now right_on.now args) }
         ensures settles { Settles result (join_refusal (by_names (table_of (Self.frame self.now)) (table_of other.now) left_on.now right_on.now args)) }
         ensures answer { IfOk result (λ t. IsAnswer (by_names (table_of (Self.frame self.now)) (table_of other.now) left_on.now right_on.now args) (table_of t)) }
-        ensures table { IfOk result (λ t. IsTable (table_of t)) }
     {
         join_tables(
             rt,
@@ -83,7 +82,6 @@ pub trait DataFrameJoinOps: IntoDf {
         requires right { length right_on.now ≡ 1 }
         ensures settles { Settles result (join_refusal (by_names (table_of (Self.frame self.now)) (table_of other.now) left_on.now right_on.now (plainly JoinType.Inner))) }
         ensures answer { IfOk result (λ t. IsAnswer (by_names (table_of (Self.frame self.now)) (table_of other.now) left_on.now right_on.now (plainly JoinType.Inner)) (table_of t)) }
-        ensures table { IfOk result (λ t. IsTable (table_of t)) }
     {
         let args = JoinArgs::new(JoinType::Inner);
         self.join(rt, alloc, other, left_on, right_on, args, exec)
@@ -107,7 +105,6 @@ pub trait DataFrameJoinOps: IntoDf {
         requires right { length right_on.now ≡ 1 }
         ensures settles { Settles result (join_refusal (by_names (table_of (Self.frame self.now)) (table_of other.now) left_on.now right_on.now (plainly JoinType.Left))) }
         ensures answer { IfOk result (λ t. IsAnswer (by_names (table_of (Self.frame self.now)) (table_of other.now) left_on.now right_on.now (plainly JoinType.Left)) (table_of t)) }
-        ensures table { IfOk result (λ t. IsTable (table_of t)) }
     {
         let args = JoinArgs::new(JoinType::Left);
         self.join(rt, alloc, other, left_on, right_on, args, exec)
@@ -131,7 +128,6 @@ pub trait DataFrameJoinOps: IntoDf {
         requires right { length right_on.now ≡ 1 }
         ensures settles { Settles result (join_refusal (by_names (table_of (Self.frame self.now)) (table_of other.now) left_on.now right_on.now (plainly JoinType.Full))) }
         ensures answer { IfOk result (λ t. IsAnswer (by_names (table_of (Self.frame self.now)) (table_of other.now) left_on.now right_on.now (plainly JoinType.Full)) (table_of t)) }
-        ensures table { IfOk result (λ t. IsTable (table_of t)) }
     {
         let args = JoinArgs::new(JoinType::Full);
         self.join(rt, alloc, other, left_on, right_on, args, exec)
@@ -204,7 +200,6 @@ fn join_tables(
     requires { IsBuilt (by_names (table_of left.now) (table_of right.now) left_on.now right_on.now args.now) }
     ensures settles { Settles result (join_refusal (by_names (table_of left.now) (table_of right.now) left_on.now right_on.now args.now)) }
     ensures answer { IfOk result (λ t. IsAnswer (by_names (table_of left.now) (table_of right.now) left_on.now right_on.now args.now) (table_of t)) }
-    ensures table { IfOk result (λ t. IsTable (table_of t)) }
 {
     let pairs = listed_pairs(rt, alloc, left, right, left_on, right_on, args, exec)?;
     finish_join(rt, alloc, left, right, left_on, right_on, args, &pairs)

@@ -7,7 +7,7 @@ ghost use Rattle.tb_frame.specs.Built.{IsBuilt};
 ghost use Rattle.tb_frame.specs.Frame.{opt_taken, without_names};
 ghost use Rattle.tb_frame.specs.Join.{by_names, listing, IsAnswer};
 ghost use Rattle.tb_frame.specs.Refusal.{join_refusal};
-ghost use Rattle.tb_frame.specs.Table.{height, names_of, table_of, IsTable};
+ghost use Rattle.tb_frame.specs.Table.{height, names_of, table_of};
 ghost use Rattle.tb_join.specs.AnswerColumns.{answer_columns, called, right_part};
 
 use std::alloc::Global;
@@ -18,7 +18,7 @@ use tb_frame::{
 };
 use tb_gather::gather_rows;
 use tb_store::Column;
-use tb_value::{JoinPair, NullableIdxSize, OutOfMemory, PlSmallStr, PolarsResult};
+use tb_value::{JoinPair, MAX_ROWS, NullableIdxSize, OutOfMemory, PlSmallStr, PolarsResult};
 
 // The columns of a table over these rows, but for those of the names that go, which are left out before the rest is
 // gathered.
@@ -30,7 +30,7 @@ fn kept_columns(
     rows: &[NullableIdxSize],
 ) -> Result<Vec<Column>, OutOfMemory>
     requires rows { All (IsRowOf (height (table_of table.now))) rows.now }
-    requires few { length rows.now ≤ 4294967294 }
+    requires few { length rows.now ≤ MAX_ROWS }
     ensures { IfOk result (λ v. v.items ≡ map (opt_taken rows.now) (without_names gone.now table.now)) }
 {
     if gone.is_empty() {
@@ -74,7 +74,7 @@ fn right_columns(
     pairs: &[JoinPair],
 ) -> Result<Vec<Column>, OutOfMemory>
     requires pairs { All (λ p. IsRowOf (height (table_of right.now)) p.right) pairs.now }
-    requires few { length pairs.now ≤ 4294967294 }
+    requires few { length pairs.now ≤ MAX_ROWS }
     ensures { IfOk result (λ v. v.items ≡ right_part args.now right_on.now pairs.now left.now right.now) }
 {
     if !has_right(args.how) {
@@ -97,7 +97,7 @@ fn answer_columns(
     pairs: &[JoinPair],
 ) -> Result<Vec<Column>, OutOfMemory>
     requires pairs { All (IsPairOf (height (table_of left.now)) (height (table_of right.now))) pairs.now }
-    requires few { length pairs.now ≤ 4294967294 }
+    requires few { length pairs.now ≤ MAX_ROWS }
     ensures { IfOk result (λ v. v.items ≡ answer_columns args.now left_on.now right_on.now pairs.now left.now right.now) }
 {
     let rows = left_rows(alloc, pairs)?;
@@ -123,7 +123,6 @@ pub(crate) fn finish_join(
     requires listed { IsListed args.now.how args.now.maintain_order args.now.slice (listing (by_names (table_of left.now) (table_of right.now) left_on.now right_on.now args.now)) pairs.now }
     ensures settles { Settles result None }
     ensures answer { IfOk result (λ t. IsAnswer (by_names (table_of left.now) (table_of right.now) left_on.now right_on.now args.now) (table_of t)) }
-    ensures table { IfOk result (λ t. IsTable (table_of t)) }
 {
     let columns = answer_columns(rt, alloc, left, right, left_on, right_on, args, pairs)?;
     DataFrame::new(alloc, columns)

@@ -1,14 +1,14 @@
 //! The keys of a join.
-ghost use Rattle.std.specs.Prelude.{◌≡◌, ◌∷◌, [], IfOk, length, option_map, not};
+ghost use Rattle.std.specs.Prelude.{◌≡◌, ◌∷◌, [], IfOk, length, not};
 ghost use Rattle.std.specs.List.{filter_map};
 ghost use Rattle.tb_value.specs.Refusals.{Settles, when};
 ghost use Rattle.tb_value.specs.SameKind.{is_key, same_kind};
-ghost use Rattle.tb_value.specs.declared.error.PolarsError.TheVariants.{ColumnNotFound, ComputeError, InvalidOperation};
+ghost use Rattle.tb_value.specs.declared.error.PolarsError.TheVariants.{ComputeError, InvalidOperation};
 ghost use Rattle.tb_value.specs.declared.error.ComputeCause.TheVariants.{KeyTypes};
 ghost use Rattle.tb_value.specs.declared.error.InvalidCause.TheVariants.{KeyKind};
 ghost use Rattle.tb_frame.specs.Table.{plain, table_of};
 ghost use Rattle.tb_frame.specs.Join.{named};
-ghost use Rattle.tb_frame.specs.Refusal.{first_unknown};
+ghost use Rattle.tb_frame.specs.Refusal.{unknown_key};
 
 use std::alloc::Global;
 use tb_frame::DataFrame;
@@ -25,7 +25,7 @@ pub(crate) fn key_column<'a>(
     names: &[PlSmallStr],
 ) -> PolarsResult<&'a Column>
     requires { length names.now ≡ 1 }
-    ensures settles { Settles result (option_map (λ n. ColumnNotFound n) (first_unknown (table_of table.now) names.now)) }
+    ensures settles { Settles result (unknown_key (table_of table.now) names.now) }
     ensures found { IfOk result (λ c. filter_map (named (table_of table.now)) names.now ≡ plain c.now ∷ []) }
 {
     table.column(alloc, names[0].as_str())

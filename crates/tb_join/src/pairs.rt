@@ -50,7 +50,7 @@ fn arranged(
 {
     let asked = direction_of(args.how, args.maintain_order);
     if is_in_order(hashed_order(args.how, left_built), asked) {
-        return Ok(cut_pairs(alloc, pairs, args.slice)?);
+        return cut_pairs(alloc, pairs, args.slice);
     }
     arrange(alloc, pairs, args)
 }

@@ -15,8 +15,8 @@ use Rattle.tb_frame.proofs.Fields.{field_at, kind_is}
 abbrev pub agrees_at : Request → ℕ → ℕ → ℕ → Bool
 agrees_at q i j p = agrees (nulls q p) (field q.left_keys p i) (field q.right_keys p j)
 
-abbrev pub counts_at : Request → List TableColumn → ℕ → ℕ → Bool
-counts_at q keys i p = is_present (field keys p i) || nulls q p
+abbrev pub counts_at : Bool → List TableColumn → ℕ → ℕ → Bool
+counts_at null_matches keys i p = is_present (field keys p i) || null_matches
 
 abbrev pub same_at : List TableColumn → ℕ → ℕ → ℕ → Bool
 same_at keys i j p = same (field keys p i) (field keys p j)
@@ -25,8 +25,8 @@ same_at keys i j p = same (field keys p i) (field keys p j)
 abbrev pub match_to : Request → ℕ → ℕ → ℕ → Bool
 match_to q i j n = list_all (agrees_at q i j) (row_numbers n)
 
-abbrev pub counted_to : Request → List TableColumn → ℕ → ℕ → Bool
-counted_to q keys i n = list_all (counts_at q keys i) (row_numbers n)
+abbrev pub counted_to : Bool → List TableColumn → ℕ → ℕ → Bool
+counted_to null_matches keys i n = list_all (counts_at null_matches keys i) (row_numbers n)
 
 abbrev pub same_to : List TableColumn → ℕ → ℕ → ℕ → Bool
 same_to keys i j n = list_all (same_at keys i j) (row_numbers n)

@@ -1,5 +1,5 @@
 -- The keys of a request, and the causes why it is refused.
-use Rattle.std.proofs.Common.{◌≡◌, List, [], ◌∷◌, length, refl, sym, ◌∙◌, subst, Option, Some, None, ◌⊎◌, inl, inr}
+use Rattle.std.proofs.Common.{◌≡◌, List, [], ◌∷◌, ◌++◌, length, refl, sym, ◌∙◌, subst, Option, Some, None, ◌⊎◌, inl, inr}
 use Rattle.std.specs.Prelude.{All}
 use Rattle.std.specs.List.{filter_map}
 use Rattle.tb_value.specs.Names.{Name}
@@ -8,11 +8,11 @@ use Rattle.tb_value.specs.declared.error.PolarsError.{PolarsError}
 use Rattle.tb_value.specs.declared.error.PolarsError.TheVariants.{OutOfMemory}
 use Rattle.tb_chunk.specs.Col.{Col}
 use Rattle.tb_frame.specs.Join.{Request, named}
-use Rattle.tb_frame.specs.Refusal.{join_refusal, key_types, key_kind, repeated_name, broken_side, too_many_rows, unknown_key, no_keys, key_counts, repeated_key}
+use Rattle.tb_frame.specs.Refusal.{join_refusal, key_causes, column_causes, row_causes}
 use Rattle.tb_frame.specs.Table.{TableColumn, Table, IsTable, height, table_of}
-use Rattle.tb_frame.proofs.Causes.{selected_hold}
+use Rattle.tb_frame.proofs.Causes.{first_cause-append, first_cause-one, selected_hold}
 use Rattle.tb_frame.proofs.Taking.{all_plain}
-use Rattle.tb_nested.specs.Causes.{name_causes, later_causes}
+use Rattle.tb_nested.specs.Causes.{names_refusal, later_refusal}
 use Rattle.tb_nested.specs.Rows.{HasRows}
 
 -- the columns of keys are as long as their table is high
@@ -23,20 +23,15 @@ key_rows cs ks names t is =
 
 -- THE CAUSES
 
-one_cause : (a : Option PolarsError) → first_cause (a ∷ []) ≡ a
-one_cause (Some e) = refl
-one_cause None = refl
-
--- the first of four causes and of the rest
-in_two : (a b c d : Option PolarsError) (rest : List (Option PolarsError)) → first_cause (a ∷ b ∷ c ∷ d ∷ rest) ≡ first_cause (first_cause (a ∷ b ∷ c ∷ d ∷ []) ∷ first_cause rest ∷ [])
-in_two (Some a) b c d rest = refl
-in_two None (Some b) c d rest = refl
-in_two None None (Some c) d rest = refl
-in_two None None None (Some d) rest = refl
-in_two None None None None rest = sym (one_cause (first_cause rest))
-
-pub two_causes : (q : Request) → join_refusal q ≡ first_cause (name_causes q.left q.right q.left_on q.right_on ∷ later_causes q ∷ [])
-two_causes q = in_two (unknown_key q) (no_keys q) (key_counts q) (repeated_key q) (key_types q ∷ key_kind q ∷ repeated_name q ∷ broken_side q ∷ too_many_rows q ∷ [])
+pub two_causes : (q : Request) → join_refusal q ≡ first_cause (names_refusal q.left q.right q.left_on q.right_on ∷ later_refusal q ∷ [])
+two_causes q =
+    let names = names_refusal q.left q.right q.left_on q.right_on in
+    first_cause-append (key_causes q) (column_causes q ++ row_causes q)
+    ∙ rest names (column_causes q ++ row_causes q)
+  where
+    rest : (a : Option PolarsError) (os : List (Option PolarsError)) → first_cause (a ∷ os) ≡ first_cause (a ∷ first_cause os ∷ [])
+    rest None os = sym (first_cause-one (first_cause os))
+    rest (Some e) os = refl
 
 -- an error of the first part, one of the second, and none
 pub by_first : (j a b other : Option PolarsError) (e : PolarsError) → j ≡ first_cause (a ∷ b ∷ []) → other ≡ a → (e ≡ OutOfMemory) ⊎ (other ≡ Some e) → (e ≡ OutOfMemory) ⊎ (j ≡ Some e)

@@ -5,13 +5,15 @@ ghost use Rattle.tb_value.specs.Names.{same_name};
 ghost use Rattle.tb_value.specs.Refusals.{Settles};
 ghost use Rattle.tb_chunk.specs.Col.{Col, values};
 ghost use Rattle.tb_chunk.specs.Rows.{IsRowOf};
-ghost use Rattle.tb_frame.specs.Answer.{IsListed, IsPairOf, fill, gone_left};
+ghost use Rattle.tb_frame.specs.Answer.{IsListed, IsPairOf, fill};
 ghost use Rattle.tb_frame.specs.Frame.{without_names};
-ghost use Rattle.tb_frame.specs.Join.{IsAnswer, by_names, coalesce, coalesces, listing, out};
+ghost use Rattle.tb_frame.specs.Join.{IsAnswer, by_names, listing, out};
+ghost use Rattle.tb_frame.specs.Naming.{coalesces, merges_keys};
 ghost use Rattle.tb_frame.specs.Refusal.{join_valid};
+ghost use Rattle.tb_frame.specs.RightColumns.{gone_left};
 ghost use Rattle.tb_frame.specs.Table.{table_of, height};
 ghost use Rattle.tb_nested.specs.Asked.{asked};
-ghost use Rattle.tb_nested.specs.Merging.{merges, key_merged, left_column};
+ghost use Rattle.tb_nested.specs.Merging.{key_merged, left_column};
 
 use crate::request::LentRequest;
 use std::alloc::Global;
@@ -20,11 +22,11 @@ use tb_frame::{
     right_rows, right_side, suffix_of,
 };
 use tb_store::Column;
-use tb_value::{JoinPair, NullableIdxSize, OutOfMemory, PlSmallStr, PolarsResult};
+use tb_value::{JoinPair, MAX_ROWS, NullableIdxSize, OutOfMemory, PlSmallStr, PolarsResult};
 
 // The left columns that stand in the answer.
 fn kept_left(alloc: Global, request: &LentRequest<'_>) -> Result<DataFrame, OutOfMemory>
-    ensures { IfOk result (λ t. t ≡ without_names (gone_left request.now.args.now.how (coalesces (asked request.now)) request.now.left_on.now) request.now.left.now) }
+    ensures { IfOk result (λ t. t ≡ without_names (gone_left request.now.args.now request.now.left_on.now) request.now.left.now) }
 {
     request
         .left
@@ -32,7 +34,7 @@ fn kept_left(alloc: Global, request: &LentRequest<'_>) -> Result<DataFrame, OutO
 }
 
 fn merges_keys(args: &JoinArgs) -> bool
-    ensures { result ≡ merges args.now.how (coalesce args.now.coalesce args.now.how) }
+    ensures { result ≡ merges_keys args.now.how (coalesces args.now) }
 {
     args.how == JoinType::Full && args.should_coalesce()
 }
@@ -67,7 +69,7 @@ fn left_column(
     requires left_rows { All (IsRowOf (length (values column.now))) left_rows.now }
     requires right_rows { ForSome (option_copied key) (λ k. All (IsRowOf (length (values k))) right_rows.now) }
     requires level { length left_rows.now ≡ length right_rows.now }
-    requires few { length left_rows.now ≤ 4294967294 }
+    requires few { length left_rows.now ≤ MAX_ROWS }
     requires one_type { ForSome (option_copied key) (λ k. column.now.kind ≡ k.kind) }
     ensures { IfOk result (λ c. c ≡ left_column left_rows.now right_rows.now (option_copied key.entry) column.now) }
 {
@@ -88,7 +90,7 @@ fn left_columns(
     requires left_rows { All (λ (c : Col). All (IsRowOf (length (values c))) left_rows.now) columns.now }
     requires right_rows { All (λ (c : Col). All (IsRowOf (length (values c))) right_rows.now) request.now.right_keys.now }
     requires level { length left_rows.now ≡ length right_rows.now }
-    requires few { length left_rows.now ≤ 4294967294 }
+    requires few { length left_rows.now ≤ MAX_ROWS }
     requires types { All (λ (c : Col). ForSome (key_merged request.now c.name) (λ k. c.kind ≡ k.kind)) columns.now }
     ensures { IfOk result (λ v. v.items ≡ map (λ (c : Col). left_column left_rows.now right_rows.now (key_merged request.now c.name) c) columns.now) }
 {
@@ -108,7 +110,7 @@ fn answer_columns(
     requires named { asked request.now ≡ by_names (table_of request.now.left.now) (table_of request.now.right.now) request.now.left_on.now request.now.right_on.now request.now.args.now }
     requires valid { join_valid (asked request.now) }
     requires pairs { All (IsPairOf (height (table_of request.now.left.now)) (height (table_of request.now.right.now))) pairs.now }
-    requires few { length pairs.now ≤ 4294967294 }
+    requires few { length pairs.now ≤ MAX_ROWS }
     ensures { IfOk result (λ v. table_of v.items ≡ map (fill pairs.now) (out (asked request.now))) }
 {
     let kept = kept_left(alloc, request)?;

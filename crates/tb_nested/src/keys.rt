@@ -3,7 +3,7 @@ ghost use Rattle.std.specs.Prelude.{◌≡◌, None, IfOk};
 ghost use Rattle.std.specs.List.{filter_map};
 ghost use Rattle.tb_value.specs.Refusals.{Settles};
 ghost use Rattle.tb_frame.specs.Join.{named};
-ghost use Rattle.tb_frame.specs.Refusal.{first_unknown, first_repeated, key_types, key_kind};
+ghost use Rattle.tb_frame.specs.Refusal.{unknown_key, repeated_among, key_types, key_kind};
 ghost use Rattle.tb_frame.specs.Table.{table_of};
 ghost use Rattle.tb_nested.specs.Asked.{asked};
 
@@ -18,8 +18,8 @@ pub(crate) fn key_table(
     table: &DataFrame,
     names: &[PlSmallStr],
 ) -> PolarsResult<DataFrame>
-    requires known { first_unknown (table_of table.now) names.now ≡ None }
-    requires fresh { first_repeated names.now ≡ None }
+    requires known { unknown_key (table_of table.now) names.now ≡ None }
+    requires fresh { repeated_among names.now ≡ None }
     ensures settles { Settles result None }
     ensures keys { IfOk result (λ t. table_of t ≡ filter_map (named (table_of table.now)) names.now) }
 {

@@ -1,11 +1,9 @@
 //! The names of the keys.
-ghost use Rattle.std.specs.Prelude.{◌≡◌, ◌==◌, ◌||◌, not, length, map, option_map, IfOk};
-ghost use Rattle.tb_value.specs.Refusals.{Settles, when};
-ghost use Rattle.tb_value.specs.declared.error.PolarsError.TheVariants.{ColumnNotFound, Duplicate, InvalidOperation};
-ghost use Rattle.tb_value.specs.declared.error.InvalidCause.TheVariants.{NoKeys, KeyCounts};
-ghost use Rattle.tb_frame.specs.Refusal.{first_unknown, first_repeated};
+ghost use Rattle.std.specs.Prelude.{◌≡◌, map, IfOk};
+ghost use Rattle.tb_value.specs.Refusals.{Settles};
+ghost use Rattle.tb_frame.specs.Refusal.{key_counts, no_keys, repeated_among, unknown_key};
 ghost use Rattle.tb_frame.specs.Table.{table_of};
-ghost use Rattle.tb_nested.specs.Causes.{name_causes};
+ghost use Rattle.tb_nested.specs.Causes.{names_refusal};
 
 use std::alloc::Global;
 use tb_frame::{check_distinct, column_name_set};
@@ -14,7 +12,7 @@ use tb_value::{InvalidCause, OutOfMemory, PlSmallStr, PolarsError, PolarsResult}
 
 // Refuses the first name that no column has (ColumnNotFound).
 fn check_known(alloc: Global, columns: &[Column], names: &[PlSmallStr]) -> PolarsResult<()>
-    ensures { Settles result (option_map (λ n. ColumnNotFound n) (first_unknown (table_of columns.now) names.now)) }
+    ensures { Settles result (unknown_key (table_of columns.now) names.now) }
 {
     let known = column_name_set(alloc, columns)?;
     for name in names {
@@ -27,7 +25,7 @@ fn check_known(alloc: Global, columns: &[Column], names: &[PlSmallStr]) -> Polar
 
 // Refuses a side without keys (NoKeys).
 fn check_some(left_on: &[PlSmallStr], right_on: &[PlSmallStr]) -> PolarsResult<()>
-    ensures { Settles result (when (length left_on.now == 0 || length right_on.now == 0) (InvalidOperation NoKeys)) }
+    ensures { Settles result (no_keys left_on.now right_on.now) }
 {
     if left_on.is_empty() || right_on.is_empty() {
         return Err(PolarsError::InvalidOperation(InvalidCause::NoKeys));
@@ -37,7 +35,7 @@ fn check_some(left_on: &[PlSmallStr], right_on: &[PlSmallStr]) -> PolarsResult<(
 
 // Refuses different numbers of keys (KeyCounts).
 fn check_counts(left_on: &[PlSmallStr], right_on: &[PlSmallStr]) -> PolarsResult<()>
-    ensures { Settles result (when (not (length left_on.now == length right_on.now)) (InvalidOperation (KeyCounts (length left_on.now) (length right_on.now)))) }
+    ensures { Settles result (key_counts left_on.now right_on.now) }
 {
     let left = left_on.len();
     let right = right_on.len();
@@ -57,15 +55,15 @@ fn lend_names(alloc: Global, names: &[PlSmallStr]) -> Result<Vec<&PlSmallStr>, O
     Ok(lent)
 }
 
-// Refuses the first name that stood before (Duplicate).
+// Refuses the first repeated name (Duplicate).
 fn check_repeated(alloc: Global, names: &[PlSmallStr]) -> PolarsResult<()>
-    ensures { Settles result (option_map (λ n. Duplicate n) (first_repeated names.now)) }
+    ensures { Settles result (repeated_among names.now) }
 {
     check_distinct(alloc, &lend_names(alloc, names)?)
 }
 
 /// Refuses, in this order, a key that is no column of its table (ColumnNotFound), a side without keys (NoKeys),
-/// different numbers of keys (KeyCounts), and a key that stood before (Duplicate). The left side comes first.
+/// different numbers of keys (KeyCounts), and a repeated key (Duplicate). The left side comes first.
 pub(crate) fn check_names(
     alloc: Global,
     left: &[Column],
@@ -73,7 +71,7 @@ pub(crate) fn check_names(
     left_on: &[PlSmallStr],
     right_on: &[PlSmallStr],
 ) -> PolarsResult<()>
-    ensures { Settles result (name_causes (table_of left.now) (table_of right.now) left_on.now right_on.now) }
+    ensures { Settles result (names_refusal (table_of left.now) (table_of right.now) left_on.now right_on.now) }
 {
     check_known(alloc, left, left_on)?;
     check_known(alloc, right, right_on)?;

@@ -6,21 +6,21 @@ ghost use Rattle.tb_value.specs.declared.error.ComputeCause.TheVariants.{TooMany
 ghost use Rattle.tb_frame.specs.Answer.{IsListed};
 ghost use Rattle.tb_frame.specs.Join.{by_names, listing, IsAnswer};
 ghost use Rattle.tb_frame.specs.Refusal.{join_refusal, repeated_name, too_many_rows};
-ghost use Rattle.tb_frame.specs.Table.{table_of, IsTable};
+ghost use Rattle.tb_frame.specs.Table.{table_of};
 ghost use Rattle.tb_nested.specs.Asked.{asked};
-ghost use Rattle.tb_nested.specs.Causes.{later_causes};
+ghost use Rattle.tb_nested.specs.Causes.{later_refusal};
 
 use crate::columns::answer_table;
 use crate::keys::{check_kinds, check_types, key_table};
 use crate::listing::list_pairs;
 use crate::names::check_names;
 use crate::request::LentRequest;
-use crate::validation::check_sides;
+use crate::validation::{check_left, check_right};
 use std::alloc::Global;
 use tb_frame::{DataFrame, JoinArgs, arrange, check_joined_names};
 use tb_value::{ComputeCause, JoinPair, MAX_ROWS, PlSmallStr, PolarsError, PolarsResult};
 
-// Refuses the first name of the columns that are put side by side that stood before (Duplicate).
+// Refuses the first repeated name of the columns that are put side by side (Duplicate).
 fn check_answer_names(alloc: Global, request: &LentRequest<'_>) -> PolarsResult<()>
     ensures { Settles result (repeated_name (asked request.now)) }
 {
@@ -36,7 +36,7 @@ fn check_answer_names(alloc: Global, request: &LentRequest<'_>) -> PolarsResult<
 
 // Refuses more pairs than a table has rows (TooManyRows).
 fn check_size(pairs: &[JoinPair]) -> PolarsResult<()>
-    ensures { Settles result (when (nat_lt 4294967294 (length pairs.now)) (ComputeError TooManyRows)) }
+    ensures { Settles result (when (nat_lt MAX_ROWS (length pairs.now)) (ComputeError TooManyRows)) }
 {
     if pairs.len() > MAX_ROWS {
         return Err(PolarsError::ComputeError(ComputeCause::TooManyRows));
@@ -56,13 +56,14 @@ fn listed_pairs(alloc: Global, request: &LentRequest<'_>) -> PolarsResult<Vec<Jo
 
 // The pairs of the answer, where no cause refuses the key columns, the names, the sides or the size.
 fn checked_pairs(alloc: Global, request: &LentRequest<'_>) -> PolarsResult<Vec<JoinPair>>
-    ensures settles { Settles result (later_causes (asked request.now)) }
+    ensures settles { Settles result (later_refusal (asked request.now)) }
     ensures listed { IfOk result (λ v. IsListed request.now.args.now.how request.now.args.now.maintain_order request.now.args.now.slice (listing (asked request.now)) v.items) }
 {
     check_types(request)?;
     check_kinds(request)?;
     check_answer_names(alloc, request)?;
-    check_sides(request)?;
+    check_left(request)?;
+    check_right(request)?;
     listed_pairs(alloc, request)
 }
 
@@ -74,10 +75,10 @@ fn checked_pairs(alloc: Global, request: &LentRequest<'_>) -> PolarsResult<Vec<J
 /// 1. ColumnNotFound: a left key is no column of the left table, and then a right key none of the right;
 /// 2. NoKeys: a side has no keys;
 /// 3. KeyCounts: the sides have different numbers of keys;
-/// 4. Duplicate: a left key stood before, and then a right key;
+/// 4. Duplicate: a left key is repeated, and then a right key;
 /// 5. KeyTypes: the keys at a place are of different types;
 /// 6. KeyKind: the keys at a place are of a type that has no keys;
-/// 7. Duplicate: two columns of the answer would have this name, which is the first that stood before;
+/// 7. Duplicate: two columns of the answer would have this name, which is the first that is repeated;
 /// 8. Validation: two left rows have equal keys and may not, and then two right rows;
 /// 9. TooManyRows: the pairs are more than `MAX_ROWS`, before they are cut.
 pub fn nested_join(
@@ -90,7 +91,6 @@ pub fn nested_join(
 ) -> PolarsResult<DataFrame>
     ensures settles { Settles result (join_refusal (by_names (table_of left.now) (table_of right.now) left_on.now right_on.now args.now)) }
     ensures answer { IfOk result (λ t. IsAnswer (by_names (table_of left.now) (table_of right.now) left_on.now right_on.now args.now) (table_of t)) }
-    ensures table { IfOk result (λ t. IsTable (table_of t)) }
 {
     check_names(
         alloc,

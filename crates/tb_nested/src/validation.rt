@@ -1,18 +1,14 @@
 //! Whether a key stands on two rows of a side that is to have each key once.
-ghost use Rattle.std.specs.Prelude.{◌≡◌, ◌≤◌, ◌&&◌, ◌||◌, All, length};
+ghost use Rattle.std.specs.Prelude.{◌≡◌, ◌||◌, All};
 ghost use Rattle.std.specs.List.{list_any};
 ghost use Rattle.tb_value.specs.Datum.{is_present};
 ghost use Rattle.tb_value.specs.Pairs.{row_numbers};
-ghost use Rattle.tb_value.specs.Refusals.{Settles, when};
+ghost use Rattle.tb_value.specs.Refusals.{Settles};
 ghost use Rattle.tb_value.specs.See.{lent};
-ghost use Rattle.tb_value.specs.declared.error.PolarsError.TheVariants.{ComputeError};
-ghost use Rattle.tb_value.specs.declared.error.ComputeCause.TheVariants.{Validation};
-ghost use Rattle.tb_value.specs.declared.error.Side.TheVariants as side;
-ghost use Rattle.tb_frame.specs.Refusal.{is_validated, asks_left, asks_right, is_counted, same_keys, has_twins, broken_side};
-ghost use Rattle.tb_frame.specs.Table.{table_of, height};
-ghost use Rattle.tb_nested.specs.Asked.{asked, place_count};
+ghost use Rattle.tb_frame.specs.Refusal.{are_twins, broken_left, broken_right, has_twins, is_counted, is_validated, same_keys};
+ghost use Rattle.tb_frame.specs.Table.{table_of};
+ghost use Rattle.tb_nested.specs.Asked.{asked};
 ghost use Rattle.tb_nested.specs.Rows.{HasRow, HasRows};
-ghost use Rattle.tb_nested.specs.Twins.{are_twins};
 
 use crate::agreeing::is_null;
 use crate::request::LentRequest;
@@ -27,13 +23,12 @@ fn counts(null_matches: bool, value: ValueRef<'_>) -> bool
 }
 
 // Whether a row's keys count.
-fn is_counted(request: &LentRequest<'_>, keys: &[Column], i: usize) -> bool
-    requires rows { All (HasRow i) keys.now }
-    requires fits { place_count request.now ≤ length keys.now }
-    ensures { result ≡ is_counted (asked request.now) (table_of keys.now) i }
+fn is_counted(null_matches: bool, keys: &[Column], i: usize) -> bool
+    requires { All (HasRow i) keys.now }
+    ensures { result ≡ is_counted (λ p. null_matches) (table_of keys.now) i }
 {
-    for p in 0..request.places() {
-        if !counts(request.args.join_nulls, keys[p].get(i)) {
+    for p in 0..keys.len() {
+        if !counts(null_matches, keys[p].get(i)) {
             return false;
         }
     }
@@ -41,13 +36,12 @@ fn is_counted(request: &LentRequest<'_>, keys: &[Column], i: usize) -> bool
 }
 
 // Whether two rows have the same keys.
-fn same_keys(request: &LentRequest<'_>, keys: &[Column], i: usize, j: usize) -> bool
+fn same_keys(keys: &[Column], i: usize, j: usize) -> bool
     requires first { All (HasRow i) keys.now }
     requires second { All (HasRow j) keys.now }
-    requires fits { place_count request.now ≤ length keys.now }
-    ensures { result ≡ same_keys (asked request.now) (table_of keys.now) i j }
+    ensures { result ≡ same_keys (table_of keys.now) i j }
 {
-    for p in 0..request.places() {
+    for p in 0..keys.len() {
         if !same_value(keys[p].get(i), keys[p].get(j)) {
             return false;
         }
@@ -56,27 +50,25 @@ fn same_keys(request: &LentRequest<'_>, keys: &[Column], i: usize, j: usize) -> 
 }
 
 // Whether these rows are two counted ones, in this order, that have the same keys.
-fn are_twins(request: &LentRequest<'_>, keys: &[Column], i: usize, j: usize) -> bool
+fn are_twins(null_matches: bool, keys: &[Column], i: usize, j: usize) -> bool
     requires first { All (HasRow i) keys.now }
     requires second { All (HasRow j) keys.now }
-    requires fits { place_count request.now ≤ length keys.now }
-    ensures { result ≡ are_twins (asked request.now) (table_of keys.now) i j }
+    ensures { result ≡ are_twins (λ p. null_matches) (table_of keys.now) i j }
 {
     i < j
-        && is_counted(request, keys, i)
-        && is_counted(request, keys, j)
-        && same_keys(request, keys, i, j)
+        && is_counted(null_matches, keys, i)
+        && is_counted(null_matches, keys, j)
+        && same_keys(keys, i, j)
 }
 
 // Whether a row has a twin among n rows.
-fn has_twin(request: &LentRequest<'_>, keys: &[Column], i: usize, n: usize) -> bool
+fn has_twin(null_matches: bool, keys: &[Column], i: usize, n: usize) -> bool
     requires first { All (HasRow i) keys.now }
     requires rows { HasRows n keys.now }
-    requires fits { place_count request.now ≤ length keys.now }
-    ensures { result ≡ list_any (are_twins (asked request.now) (table_of keys.now) i) (row_numbers n) }
+    ensures { result ≡ list_any (are_twins (λ p. null_matches) (table_of keys.now) i) (row_numbers n) }
 {
     for j in 0..n {
-        if are_twins(request, keys, i, j) {
+        if are_twins(null_matches, keys, i, j) {
             return true;
         }
     }
@@ -84,13 +76,12 @@ fn has_twin(request: &LentRequest<'_>, keys: &[Column], i: usize, n: usize) -> b
 }
 
 // Whether two counted rows of n have the same keys.
-fn has_twins(request: &LentRequest<'_>, keys: &[Column], n: usize) -> bool
-    requires rows { HasRows n keys.now }
-    requires fits { place_count request.now ≤ length keys.now }
-    ensures { result ≡ has_twins (asked request.now) (table_of keys.now) n }
+fn has_twins(null_matches: bool, keys: &[Column], n: usize) -> bool
+    requires { HasRows n keys.now }
+    ensures { result ≡ has_twins (λ p. null_matches) (table_of keys.now) n }
 {
     for i in 0..n {
-        if has_twin(request, keys, i, n) {
+        if has_twin(null_matches, keys, i, n) {
             return true;
         }
     }
@@ -106,54 +97,30 @@ fn is_validated(how: JoinType) -> bool
     }
 }
 
-// Refuses a side that is asked to have each key once and has a key twice (Validation).
-fn check_side(
-    request: &LentRequest<'_>,
-    keys: &[Column],
-    n: usize,
-    is_asked: bool,
-    side: Side,
-) -> PolarsResult<()>
-    requires rows { HasRows n keys.now }
-    requires fits { place_count request.now ≤ length keys.now }
-    ensures { Settles result (when (is_validated request.now.args.now.how && is_asked && has_twins (asked request.now) (table_of keys.now) n) (ComputeError (Validation side))) }
+/// Refuses a left side that is asked to have each key once and has a key twice (Validation).
+pub(crate) fn check_left(request: &LentRequest<'_>) -> PolarsResult<()>
+    ensures { Settles result (broken_left (asked request.now)) }
 {
-    if is_validated(request.args.how) && is_asked && has_twins(request, keys, n) {
-        return Err(PolarsError::ComputeError(ComputeCause::Validation(side)));
+    let args = request.args;
+    if is_validated(args.how)
+        && args.validation.asks_left()
+        && has_twins(args.join_nulls, request.left_keys, request.left.height())
+    {
+        return Err(PolarsError::ComputeError(ComputeCause::Validation(Side::Left)));
     }
     Ok(())
 }
 
-fn check_left(request: &LentRequest<'_>) -> PolarsResult<()>
-    ensures { Settles result (when (is_validated request.now.args.now.how && asks_left request.now.args.now.validation && has_twins (asked request.now) (table_of request.now.left_keys.now) (height (table_of request.now.left.now))) (ComputeError (Validation side.Left))) }
+/// Refuses a right side that is asked to have each key once and has a key twice (Validation).
+pub(crate) fn check_right(request: &LentRequest<'_>) -> PolarsResult<()>
+    ensures { Settles result (broken_right (asked request.now)) }
 {
-    let is_asked = request.args.validation.asks_left();
-    check_side(
-        request,
-        request.left_keys,
-        request.left.height(),
-        is_asked,
-        Side::Left,
-    )
-}
-
-fn check_right(request: &LentRequest<'_>) -> PolarsResult<()>
-    ensures { Settles result (when (is_validated request.now.args.now.how && asks_right request.now.args.now.validation && has_twins (asked request.now) (table_of request.now.right_keys.now) (height (table_of request.now.right.now))) (ComputeError (Validation side.Right))) }
-{
-    let is_asked = request.args.validation.asks_right();
-    check_side(
-        request,
-        request.right_keys,
-        request.right.height(),
-        is_asked,
-        Side::Right,
-    )
-}
-
-/// Refuses the first side that is asked to have each key once and has a key twice (Validation), left first.
-pub(crate) fn check_sides(request: &LentRequest<'_>) -> PolarsResult<()>
-    ensures { Settles result (broken_side (asked request.now)) }
-{
-    check_left(request)?;
-    check_right(request)
+    let args = request.args;
+    if is_validated(args.how)
+        && args.validation.asks_right()
+        && has_twins(args.join_nulls, request.right_keys, request.right.height())
+    {
+        return Err(PolarsError::ComputeError(ComputeCause::Validation(Side::Right)));
+    }
+    Ok(())
 }

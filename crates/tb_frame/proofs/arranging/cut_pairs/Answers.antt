@@ -1,15 +1,14 @@
 use Rattle.std.proofs.Common.{◌≡◌, ℕ, List, ◌+◌, ◌-◌, length, take, drop, rules, arith, sym, ◌∙◌, ap, to_z, of_z, ℤ, Option, w64}
 use Rattle.std.specs.Prelude.{FitsSigned}
 use Rattle.std.proofs.lemmas.Int.{to_z-of_z}
-use Rattle.std.proofs.lemmas.Result.{IfOk-weaker}
 use Rattle.tb_value.specs.declared.index.JoinPair.{JoinPair}
 use Rattle.tb_chunk.specs.Window.{window, part_from, part_to}
 use Rattle.tb_frame.specs.Join.{cut, slice}
 use Rattle.tb_frame.proofs.Windows.{slice_window}
 use Rattle.tb_frame.proofs.arranging.cut_pairs.Goals as goal
 
-pub returns-in-Some : goal.returns-in-Some
-returns-in-Some c =
+pub returns-in_ok-from_slice-in-Some : goal.returns-in_ok-from_slice-in-Some
+returns-in_ok-from_slice-in-Some c =
     let xs = c.args.pairs.items in
     let a = c.slice_offsets-start.result.0 in
     let n = c.slice_offsets-start.result.1 in
@@ -24,4 +23,4 @@ returns-in-Some c =
     in
     let part : take ((a + n) - a) (drop a xs) ≡ window (length xs) z c.in-Some.len xs = ap (λ (k : ℕ). take k (drop a xs)) width ∙ (λ t. take (many t) (drop (from t) xs)) in
     let whole : take ((a + n) - a) (drop a xs) ≡ cut c.args.slice xs = part ∙ sym (slice_window xs z c.in-Some.len) ∙ ap (λ (k : ℤ). slice xs k c.in-Some.len) back ∙ ap (λ (o : Option (ℤ × ℕ)). cut o xs) (sym c.in-Some.is) in
-    IfOk-weaker c.from_slice.result _ _ (λ v h. h ∙ ap (λ (ys : List JoinPair). take ((a + n) - a) (drop a ys)) c.deref.ensures.value ∙ whole) c.from_slice.ensures.items
+    c.in_ok-from_slice-in-Some.ensures.items ∙ ap (λ (ys : List JoinPair). take ((a + n) - a) (drop a ys)) c.deref.ensures.value ∙ whole

@@ -9,8 +9,8 @@ first-height : (cs : List Col) (c : Col) → Some c ≡ slice_get cs 0 → lengt
 first-height [] c h = absurd (cc)
 first-height (d ∷ ds) c h = let same : c ≡ d = cc in ap (λ (x : Col). length (values x)) same
 
-pub returns-in-Some : goal.returns-in-Some
-returns-in-Some c =
+pub returns-in-Some-clause-level : goal.returns-in-Some-clause-level
+returns-in-Some-clause-level c =
     let cs = c.args.columns.now in
-    c.have_len.ensures ∙ ap (λ (n : ℕ). list_all (λ (k : Col). length (values k) == n) cs) (c.len.ensures.len ∙ first-height cs c.in-Some.first.now c.in-Some.ensures.value)
+    c.have_len.ensures.level ∙ ap (λ (n : ℕ). list_all (λ (k : Col). length (values k) == n) cs) (c.len.ensures.len ∙ first-height cs c.in-Some.first.now c.in-Some.ensures.value)
     ∙ sym (list_all-map (λ (k : TableColumn). length k.values == height (table_of cs)) plain cs)

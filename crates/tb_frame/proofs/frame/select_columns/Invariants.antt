@@ -1,7 +1,7 @@
 use Rattle.std.proofs.Common.{◌≡◌, take, None, not}
 use Rattle.std.specs.List.{find}
 use Rattle.tb_frame.specs.Frame.{selected}
-use Rattle.tb_frame.specs.Join.{is_among}
+use Rattle.tb_frame.specs.Naming.{is_among}
 use Rattle.tb_frame.specs.Table.{table_of, names_of}
 use Rattle.tb_frame.proofs.frame.select_columns.Given as goal
 

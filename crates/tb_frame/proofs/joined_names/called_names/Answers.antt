@@ -2,7 +2,7 @@ use Rattle.std.proofs.Common.{◌≡◌, ◌++◌, ◌∷◌, Bool, List, [], no
 use Rattle.tb_value.specs.Names.{Name}
 use Rattle.tb_value.proofs.Kept.{made, skipped}
 use Rattle.tb_chunk.specs.Col.{Col}
-use Rattle.tb_frame.specs.Join.{is_among, right_name}
+use Rattle.tb_frame.specs.Naming.{is_among, right_name}
 use Rattle.tb_frame.proofs.joined_names.called_names.Goals as goal
 use Rattle.tb_frame.proofs.joined_names.called_names.Goals.{then-not-contains+in_ok-right_name+in_ok-push, else-not-contains}
 

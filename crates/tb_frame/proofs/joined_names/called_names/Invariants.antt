@@ -1,6 +1,6 @@
 use Rattle.std.proofs.Common.{◌≡◌, List, take}
 use Rattle.tb_value.specs.Names.{Name}
-use Rattle.tb_frame.specs.Join.{is_among}
+use Rattle.tb_frame.specs.Naming.{is_among}
 use Rattle.tb_frame.specs.NameSets.{has_name}
 use Rattle.tb_frame.specs.RightColumns.{right_names}
 use Rattle.tb_frame.proofs.joined_names.called_names.Given as goal

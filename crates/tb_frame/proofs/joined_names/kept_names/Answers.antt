@@ -3,7 +3,7 @@ use Rattle.std.proofs.lemmas.List.{map-append}
 use Rattle.tb_value.specs.Names.{Name}
 use Rattle.tb_value.proofs.Kept.{made, skipped}
 use Rattle.tb_chunk.specs.Col.{Col}
-use Rattle.tb_frame.specs.Join.{is_among}
+use Rattle.tb_frame.specs.Naming.{is_among}
 use Rattle.tb_frame.proofs.joined_names.kept_names.Goals as goal
 use Rattle.tb_frame.proofs.joined_names.kept_names.Goals.{then-not-contains+in_ok-push, else-not-contains}
 

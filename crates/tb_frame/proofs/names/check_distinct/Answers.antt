@@ -6,7 +6,8 @@ use Rattle.tb_value.specs.Names.{Name}
 use Rattle.tb_value.specs.Pairs.{row_numbers}
 use Rattle.tb_value.specs.declared.error.PolarsError.TheVariants.{Duplicate}
 use Rattle.tb_frame.specs.NameSets.{has_name}
-use Rattle.tb_frame.proofs.Seen.{stood_before, seen_more, fresh_more, repeated_here}
+use Rattle.tb_frame.specs.Refusal.{name_at, repeats}
+use Rattle.tb_frame.proofs.Seen.{seen_more, fresh_more, repeated_here}
 use Rattle.tb_frame.proofs.names.check_distinct.Goals as goal
 
 -- the names that references lend
@@ -46,5 +47,5 @@ pub returns : goal.returns
 returns c =
     let rs = c.args.names.now in
     let all : c.loop-name.name-index ≡ length (lent_names rs) = let long = length-map rs (λ (n : Bor Name). n.now) in omega (arith, long) in
-    let none : find (stood_before (lent_names rs)) (row_numbers (length (lent_names rs))) ≡ None = subst (λ (k : ℕ). find (stood_before (lent_names rs)) (row_numbers k) ≡ None) all c.loop-name.invariant.fresh in
-    ap (λ (o : Option ℕ). option_map (λ (n : Name). Duplicate n) (option_map (λ (k : ℕ). get_or (lent_names rs) k []) o)) none
+    let none : find (repeats (lent_names rs)) (row_numbers (length (lent_names rs))) ≡ None = subst (λ (k : ℕ). find (repeats (lent_names rs)) (row_numbers k) ≡ None) all c.loop-name.invariant.fresh in
+    ap (λ (o : Option ℕ). option_map (λ (n : Name). Duplicate n) (option_map (name_at (lent_names rs)) o)) none

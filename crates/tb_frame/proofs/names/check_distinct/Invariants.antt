@@ -2,14 +2,14 @@ use Rattle.std.proofs.Common.{◌≡◌, take, map, None}
 use Rattle.std.specs.List.{find}
 use Rattle.tb_value.specs.Names.{Name}
 use Rattle.tb_value.specs.Pairs.{row_numbers}
-use Rattle.tb_frame.specs.Join.{is_among}
+use Rattle.tb_frame.specs.Naming.{is_among}
 use Rattle.tb_frame.specs.NameSets.{has_name}
-use Rattle.tb_frame.proofs.Seen.{stood_before}
+use Rattle.tb_frame.specs.Refusal.{repeats}
 use Rattle.tb_frame.proofs.names.check_distinct.Given as goal
 
--- no name so far stood before, and the set has the names so far
+-- no name so far is repeated, and the set has the names so far
 abbrev pub invariant-loop-name : goal.invariant-loop-name
 invariant-loop-name l = record {
-  fresh : find (stood_before (map (λ n. n.now) l.names)) (row_numbers l.name-index) ≡ None;
+  fresh : find (repeats (map (λ n. n.now) l.names)) (row_numbers l.name-index) ≡ None;
   seen : (n : Name) → has_name l.seen n ≡ is_among (take l.name-index (map (λ n. n.now) l.names)) n;
 }

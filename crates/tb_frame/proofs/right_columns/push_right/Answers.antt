@@ -4,7 +4,7 @@ use Rattle.tb_value.proofs.Kept.{made, skipped}
 use Rattle.tb_chunk.specs.Col.{Col, values}
 use Rattle.tb_chunk.specs.Rows.{IsRowOf}
 use Rattle.tb_frame.specs.Table.{table_of, names_of}
-use Rattle.tb_frame.specs.Join.{is_among}
+use Rattle.tb_frame.specs.Naming.{is_among}
 use Rattle.tb_frame.specs.RightColumns.{right_column}
 use Rattle.tb_frame.proofs.right_columns.push_right.Goals as goal
 use Rattle.tb_frame.proofs.right_columns.push_right.Goals.{then-not-contains+in_ok-named_column+in_ok-push, else-not-contains}

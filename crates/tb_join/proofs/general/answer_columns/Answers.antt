@@ -2,7 +2,7 @@ use Rattle.std.proofs.Common.{◌∙◌, List, Option, ℕ, sym, subst}
 use Rattle.std.specs.Prelude.{All}
 use Rattle.tb_chunk.specs.Rows.{IsRowOf}
 use Rattle.tb_frame.specs.Table.{table_of, height}
-use Rattle.tb_join.proofs.Finishing.{left_within}
+use Rattle.tb_frame.proofs.Filled.{left_within}
 use Rattle.tb_join.proofs.general.answer_columns.Goals as goal
 
 pub kept_columns-requires-clause-rows : goal.kept_columns-requires-clause-rows

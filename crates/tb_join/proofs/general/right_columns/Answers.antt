@@ -4,12 +4,12 @@ use Rattle.std.proofs.lemmas.Result.{IfOk-weaker}
 use Rattle.tb_value.specs.declared.index.JoinPair.{JoinPair}
 use Rattle.tb_value.proofs.Loops.{map-map}
 use Rattle.tb_chunk.specs.Rows.{IsRowOf}
-use Rattle.tb_frame.specs.Answer.{has_right}
+use Rattle.tb_frame.specs.Naming.{has_right}
 use Rattle.tb_frame.specs.Frame.{opt_taken, without_names}
 use Rattle.tb_frame.specs.RightColumns.{right_column, right_side}
 use Rattle.tb_frame.specs.Table.{table_of, height, names_of}
 use Rattle.tb_join.specs.AnswerColumns.{called, suffix_in}
-use Rattle.tb_join.proofs.Finishing.{right_within}
+use Rattle.tb_frame.proofs.Filled.{right_within}
 use Rattle.tb_join.proofs.general.right_columns.Goals as goal
 
 pub kept_columns-requires-clause-rows : goal.kept_columns-requires-clause-rows

@@ -11,7 +11,7 @@ use Rattle.tb_nested.proofs.keys.key_table.Goals as goal
 
 pub returns-clause-settles : goal.returns-clause-settles
 returns-clause-settles c =
-    let none : select_refusal c.args.names.now (table_of c.args.table.now) ≡ None = λ t. first_cause (option_map (λ n. ColumnNotFound n) (c.requires.known t) ∷ option_map (λ n. Duplicate n) (c.requires.fresh t) ∷ []) in
+    let none : select_refusal c.args.names.now (table_of c.args.table.now) ≡ None = λ t. first_cause (c.requires.known t ∷ c.requires.fresh t ∷ []) in
     subst (λ (o : Option PolarsError). Settles c.select.result o) none c.select.ensures.settles
 
 pub returns-clause-keys : goal.returns-clause-keys

@@ -10,7 +10,7 @@ use Rattle.tb_frame.specs.Answer.{IsListed}
 use Rattle.tb_frame.specs.Join.{Request, IsAnswer, by_names, listing, named}
 use Rattle.tb_frame.specs.Refusal.{join_refusal}
 use Rattle.tb_frame.specs.Table.{table_of}
-use Rattle.tb_nested.specs.Causes.{name_causes, later_causes}
+use Rattle.tb_nested.specs.Causes.{names_refusal, later_refusal}
 use Rattle.tb_nested.proofs.Refusing.{by_first, by_second, by_none, two_causes, key_rows}
 use Rattle.tb_nested.proofs.nested.nested_join.Goals as goal
 use Rattle.tb_nested.proofs.nested.nested_join.Goals.{After-get_columns-2, After-get_columns-4}
@@ -23,8 +23,8 @@ abbrev named_request : After-get_columns-4 → Request
 named_request c = by_names (table_of c.args.left.now) (table_of c.args.right.now) c.args.left_on.now c.args.right_on.now c.args.args.now
 
 -- the causes about names, of the columns that are lent
-names_lent : (c : After-get_columns-2) → name_causes (table_of c.get_columns.result.now) (table_of c.get_columns-2.result.now) c.args.left_on.now c.args.right_on.now ≡ name_causes (table_of c.args.left.now) (table_of c.args.right.now) c.args.left_on.now c.args.right_on.now
-names_lent c = λ t. name_causes (table_of (c.get_columns.ensures.columns t)) (table_of (c.get_columns-2.ensures.columns t)) c.args.left_on.now c.args.right_on.now
+names_lent : (c : After-get_columns-2) → names_refusal (table_of c.get_columns.result.now) (table_of c.get_columns-2.result.now) c.args.left_on.now c.args.right_on.now ≡ names_refusal (table_of c.args.left.now) (table_of c.args.right.now) c.args.left_on.now c.args.right_on.now
+names_lent c = λ t. names_refusal (table_of (c.get_columns.ensures.columns t)) (table_of (c.get_columns-2.ensures.columns t)) c.args.left_on.now c.args.right_on.now
 
 pub returns-in_err-check_names-clause-settles : goal.returns-in_err-check_names-clause-settles
 returns-in_err-check_names-clause-settles c =
@@ -32,8 +32,8 @@ returns-in_err-check_names-clause-settles c =
     let p = err_from_is_err_and c.from_residual.result c.from_residual.ensures.1 in
     rw (p.1, p.2) (by_first (join_refusal (request d)) _ _ _ _ (two_causes (request d)) (names_lent d) c.in_err-check_names.ensures)
 
-names_fine : (c : After-get_columns-4) → name_causes (table_of c.args.left.now) (table_of c.args.right.now) c.args.left_on.now c.args.right_on.now ≡ None
-names_fine c = ◌∙◌ {A = Option PolarsError} (λ t. name_causes (table_of (sym c.get_columns.ensures.columns t)) (table_of (sym c.get_columns-2.ensures.columns t)) c.args.left_on.now c.args.right_on.now) c.in_ok-check_names.ensures
+names_fine : (c : After-get_columns-4) → names_refusal (table_of c.args.left.now) (table_of c.args.right.now) c.args.left_on.now c.args.right_on.now ≡ None
+names_fine c = ◌∙◌ {A = Option PolarsError} (λ t. names_refusal (table_of (sym c.get_columns.ensures.columns t)) (table_of (sym c.get_columns-2.ensures.columns t)) c.args.left_on.now c.args.right_on.now) c.in_ok-check_names.ensures
 
 -- the key columns are those of the names
 left_keys : (c : After-get_columns-4) → table_of c.get_columns-3.result.now ≡ filter_map (named (table_of c.args.left.now)) c.args.left_on.now
@@ -71,11 +71,11 @@ pub returns-in_err-pairs-clause-settles : goal.returns-in_err-pairs-clause-settl
 returns-in_err-pairs-clause-settles c =
     let d = (goal.at.returns-in_err-pairs-clause-settles c).After-get_columns-4 in
     let p = err_from_is_err_and c.from_residual-in_err-pairs.result c.from_residual-in_err-pairs.ensures.1 in
-    rw (p.1, p.2) (by_second _ _ _ _ (two_causes (named_request d)) (names_fine d) (subst (λ (q : Request). (c.in_err-pairs.field-0.0 ≡ OutOfMemory) ⊎ (later_causes q ≡ Some c.in_err-pairs.field-0.0)) (is d) c.in_err-pairs.ensures.settles))
+    rw (p.1, p.2) (by_second _ _ _ _ (two_causes (named_request d)) (names_fine d) (subst (λ (q : Request). (c.in_err-pairs.field-0.0 ≡ OutOfMemory) ⊎ (later_refusal q ≡ Some c.in_err-pairs.field-0.0)) (is d) c.in_err-pairs.ensures.settles))
 
 -- where nothing refuses it, it is valid
-valid : (c : After-get_columns-4) → later_causes (keyed c) ≡ None → join_refusal (named_request c) ≡ None
-valid c h = by_none _ _ _ (two_causes (named_request c)) (names_fine c) (subst (λ (q : Request). later_causes q ≡ None) (is c) h)
+valid : (c : After-get_columns-4) → later_refusal (keyed c) ≡ None → join_refusal (named_request c) ≡ None
+valid c h = by_none _ _ _ (two_causes (named_request c)) (names_fine c) (subst (λ (q : Request). later_refusal q ≡ None) (is c) h)
 
 pub answer_table-requires-clause-named : goal.answer_table-requires-clause-named
 answer_table-requires-clause-named c = is (goal.at.answer_table-requires-clause-named c).After-get_columns-4

@@ -2,17 +2,15 @@ use Rattle.std.proofs.Common.{ℕ, Bool, List, sym, ◌∙◌}
 use Rattle.std.specs.List.{list_any}
 use Rattle.tb_value.specs.Pairs.{row_numbers}
 use Rattle.tb_value.proofs.RowNumbers.{any_more, any_stop}
-use Rattle.tb_frame.specs.Join.{Request}
+use Rattle.tb_frame.specs.Refusal.{are_twins}
 use Rattle.tb_frame.specs.Table.{TableColumn, table_of}
-use Rattle.tb_nested.specs.Asked.{asked}
-use Rattle.tb_nested.specs.Twins.{are_twins}
 use Rattle.tb_nested.proofs.validation.has_twins.Goals as goal
 
-abbrev has_twin : Request → List TableColumn → ℕ → ℕ → Bool
-has_twin q keys n i = list_any (are_twins q keys i) (row_numbers n)
+abbrev has_twin : Bool → List TableColumn → ℕ → ℕ → Bool
+has_twin nulls keys n i = list_any (are_twins (λ p. nulls) keys i) (row_numbers n)
 
 pub returns-then-has_twin : goal.returns-then-has_twin
-returns-then-has_twin c = any_stop (has_twin (asked c.args.request.now) (table_of c.args.keys.now) c.args.n) c.loop-i.i c.args.n c.loop-i-test.true (sym c.has_twin.ensures ∙ c.if-has_twin.true)
+returns-then-has_twin c = any_stop (has_twin c.args.null_matches (table_of c.args.keys.now) c.args.n) c.loop-i.i c.args.n c.loop-i-test.true (sym c.has_twin.ensures ∙ c.if-has_twin.true)
 
 pub loop-i-preserved : goal.loop-i-preserved
-loop-i-preserved c = any_more (has_twin (asked c.args.request.now) (table_of c.args.keys.now) c.args.n) c.loop-i.i c.loop-i.invariant (sym c.has_twin.ensures ∙ c.if-has_twin.false)
+loop-i-preserved c = any_more (has_twin c.args.null_matches (table_of c.args.keys.now) c.args.n) c.loop-i.i c.loop-i.invariant (sym c.has_twin.ensures ∙ c.if-has_twin.false)
