@@ -27,9 +27,8 @@ made left left' written written' bytes text (join r) told short read is_request 
   is_request = join_read (join_request_of bytes) r is_request;
   valid = valid;
   table = answer.0;
-  is_table = answer.1;
-  is_answer = answer.2;
-  wrote = subst (Appends written written') answer.3 wrote;
+  is_answer = answer.1;
+  wrote = subst (Appends written written') answer.2 wrote;
 }
 
 pub join_is_done : (left left' written written' : Option (List ℕ)) → DoneFor Join left left' written written' → JoinDone left left' written written'

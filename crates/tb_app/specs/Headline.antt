@@ -3,7 +3,7 @@ use Rattle.std.specs.Prelude.{◌≡◌, ℕ, ◌≤◌, List, length, Option, O
 use Rattle.std.specs.Io.KnownBytes.{Consumes, Appends}
 use Rattle.tb_frame.specs.Join.{IsAnswer}
 use Rattle.tb_frame.specs.Refusal.{join_valid}
-use Rattle.tb_frame.specs.Table.{Table, IsTable}
+use Rattle.tb_frame.specs.Table.{Table}
 use Rattle.tb_request.specs.Reading.{JoinRequest, asked, request_of}
 use Rattle.tb_json.specs.Text.{text_of}
 use Rattle.tb_app.specs.Due.{Tells}
@@ -19,6 +19,5 @@ pub record JoinDone (left left' written written' : Option (List ℕ)) : Type 0 w
   pub is_request : request_of bytes ≡ Ok request
   pub valid : join_valid (asked request)
   pub table : Table
-  pub is_table : IsTable table
   pub is_answer : IsAnswer (asked request) table
   pub wrote : Appends written written' (text_of table)

@@ -3,7 +3,7 @@ use Rattle.std.specs.Prelude.{◌≡◌, ℕ, List, Option, Result, Ok, Err}
 use Rattle.tb_value.specs.declared.error.PolarsError.{PolarsError}
 use Rattle.tb_frame.specs.Join.{IsAnswer}
 use Rattle.tb_frame.specs.Refusal.{join_refusal}
-use Rattle.tb_frame.specs.Table.{Table, IsTable}
+use Rattle.tb_frame.specs.Table.{Table}
 use Rattle.tb_request.specs.declared.request.Reason.{Reason}
 use Rattle.tb_request.specs.Reading.{JoinRequest, asked, request_of as join_request_of}
 use Rattle.tb_json.specs.Text.{text_of}
@@ -29,7 +29,7 @@ refusal_of (join r) = join_refusal (asked r)
 
 -- the text is that of some answer to the request
 unfoldable pub IsAnswerText : Request → List ℕ → Type 0
-IsAnswerText (join r) text = (t : Table) × IsTable t × IsAnswer (asked r) t × (text ≡ text_of t)
+IsAnswerText (join r) text = (t : Table) × IsAnswer (asked r) t × (text ≡ text_of t)
 
 unfoldable pub text_of_refusal : PolarsError → List ℕ
 text_of_refusal error = texts.text_of_refusal error

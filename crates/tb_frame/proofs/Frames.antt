@@ -18,7 +18,7 @@ use Rattle.tb_frame.specs.Frame.{are_level, frame_refusal, without_names}
 use Rattle.tb_frame.specs.Refusal.{first_repeated, repeated_among}
 use Rattle.tb_frame.proofs.Causes.{no_cause, map_none, distinct_names, unrepeated_names}
 
-all_true : {X : Type 0} (p : X → Bool) (xs : List X) → list_all p xs ≡ true → All (λ x. p x ≡ true) xs
+pub all_true : {X : Type 0} (p : X → Bool) (xs : List X) → list_all p xs ≡ true → All (λ x. p x ≡ true) xs
 all_true p [] h = All-nil (λ x. p x ≡ true)
 all_true {X} p (x ∷ xs) h = at (p x) refl h (all_true p xs)
   where

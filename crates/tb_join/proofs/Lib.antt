@@ -5,3 +5,4 @@ pub mod Finishing
 pub mod KeptColumns
 pub mod Listed
 pub mod AnswerMade
+pub mod EachOnce

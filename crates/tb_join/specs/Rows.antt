@@ -52,7 +52,19 @@ left_by_right = on_k (number 7 ∷ number 5 ∷ number 6 ∷ []) (number 6 ∷ n
 
 -- Right on two keys of different names
 abbrev pub two_keys : Request
-two_keys = by_names (numbers (codes "a") (number 1 ∷ []) ∷ numbers (codes "b") (number 2 ∷ []) ∷ numbers (codes "v") (number 9 ∷ []) ∷ []) (numbers (codes "c") (number 1 ∷ number 5 ∷ []) ∷ numbers (codes "d") (number 2 ∷ number 5 ∷ []) ∷ numbers (codes "w") (number 7 ∷ number 8 ∷ []) ∷ []) (codes "a" ∷ codes "b" ∷ []) (codes "c" ∷ codes "d" ∷ []) (plainly Right)
+two_keys =
+    by_names
+    (numbers (codes "a") (number 1 ∷ []) ∷ numbers (codes "b") (number 2 ∷ []) ∷ numbers (codes "v") (number 9 ∷ []) ∷ [])
+    (numbers (codes "c") (number 1 ∷ number 5 ∷ []) ∷ numbers (codes "d") (number 2 ∷ number 5 ∷ []) ∷ numbers (codes "w") (number 7 ∷ number 8 ∷ []) ∷ [])
+    (codes "a" ∷ codes "b" ∷ []) (codes "c" ∷ codes "d" ∷ []) (plainly Right)
+
+abbrev pub two_keys_joined : Table
+two_keys_joined =
+    numbers (codes "v") (number 9 ∷ null ∷ [])
+    ∷ numbers (codes "c") (number 1 ∷ number 5 ∷ [])
+    ∷ numbers (codes "d") (number 2 ∷ number 5 ∷ [])
+    ∷ numbers (codes "w") (number 7 ∷ number 8 ∷ [])
+    ∷ []
 
 -- two text keys, where the texts of a row are alike only when joined
 abbrev pub texts : Name → List ℕ → TableColumn

@@ -1,7 +1,7 @@
 //! The keys of a join.
 ghost use Rattle.std.specs.Prelude.{◌≡◌, ◌∷◌, [], IfOk, length, not};
 ghost use Rattle.std.specs.List.{filter_map};
-ghost use Rattle.tb_value.specs.Refusals.{Settles, when};
+ghost use Rattle.tb_value.specs.Refusals.{Settles, SettlesOutright, when};
 ghost use Rattle.tb_value.specs.SameKind.{is_key, same_kind};
 ghost use Rattle.tb_value.specs.declared.error.PolarsError.TheVariants.{ComputeError, InvalidOperation};
 ghost use Rattle.tb_value.specs.declared.error.ComputeCause.TheVariants.{KeyTypes};
@@ -33,7 +33,7 @@ pub(crate) fn key_column<'a>(
 
 /// Refuses two keys of different types (KeyTypes).
 pub(crate) fn check_key_types(left: &Column, right: &Column) -> PolarsResult<()>
-    ensures { Settles result (when (not (same_kind left.now.kind right.now.kind)) (ComputeError (KeyTypes 0))) }
+    ensures { SettlesOutright result (when (not (same_kind left.now.kind right.now.kind)) (ComputeError (KeyTypes 0))) }
 {
     if left.dtype() != right.dtype() {
         return Err(PolarsError::ComputeError(ComputeCause::KeyTypes { place: ONLY_PLACE }));
@@ -43,7 +43,7 @@ pub(crate) fn check_key_types(left: &Column, right: &Column) -> PolarsResult<()>
 
 /// Refuses a key of no key type (KeyKind).
 pub(crate) fn check_key_kind(key: &Column) -> PolarsResult<()>
-    ensures { Settles result (when (not (is_key key.now.kind)) (InvalidOperation (KeyKind 0))) }
+    ensures { SettlesOutright result (when (not (is_key key.now.kind)) (InvalidOperation (KeyKind 0))) }
 {
     if !key.dtype().is_key() {
         return Err(PolarsError::InvalidOperation(InvalidCause::KeyKind { place: ONLY_PLACE }));

@@ -1,14 +1,20 @@
 //! The laws over the definitions of the join: functions that do nothing, whose contracts are theorems.
-ghost use Rattle.tb_join.specs.Laws.{OneAnswer, SomeAnswer, Parts, Kept, Turned, TurnedOrder, MatchesMean, SameValue, NullKeys, FullRightLeft, SlicedRows, LeftByRight, TwoKeys, SplitTexts, RepeatedKeys, Validations, RefusedKeys, RefusedColumns};
+ghost use Rattle.tb_join.specs.Laws.{OneAnswer, SomeAnswer, EachOnce, Parts, Kept, Turned, TurnedOrder, MatchesMean, SameValue, NullKeys, FullRightLeft, SlicedRows, LeftByRight, TwoKeys, SplitTexts, RepeatedKeys, Validations, RefusedKeys, RefusedColumns};
 
 /// Two answers to one request whose order is fixed are equal tables.
 pub fn one_answer()
     ensures { OneAnswer }
 {}
 
-/// A request that is not refused has an answer, which is a table.
+/// A request of two tables that is not refused has an answer. Where a coalesced Full join merges columns, they must
+/// have one type.
 pub fn some_answer()
     ensures { SomeAnswer }
+{}
+
+/// No pair stands twice in a listing, whichever rows match.
+pub fn each_once()
+    ensures { EachOnce }
 {}
 
 /// Each left row stands in exactly one of the Semi and Anti listings, and once.

@@ -1,7 +1,7 @@
 //! The columns of the keys.
 ghost use Rattle.std.specs.Prelude.{◌≡◌, None, IfOk};
 ghost use Rattle.std.specs.List.{filter_map};
-ghost use Rattle.tb_value.specs.Refusals.{Settles};
+ghost use Rattle.tb_value.specs.Refusals.{Settles, SettlesOutright};
 ghost use Rattle.tb_frame.specs.Join.{named};
 ghost use Rattle.tb_frame.specs.Refusal.{unknown_key, repeated_among, key_types, key_kind};
 ghost use Rattle.tb_frame.specs.Table.{table_of};
@@ -28,7 +28,7 @@ pub(crate) fn key_table(
 
 /// Refuses the first place whose two types differ (KeyTypes).
 pub(crate) fn check_types(request: &LentRequest<'_>) -> PolarsResult<()>
-    ensures { Settles result (key_types (asked request.now)) }
+    ensures { SettlesOutright result (key_types (asked request.now)) }
 {
     for place in 0..request.places() {
         if !same_type(&request.left_keys[place], &request.right_keys[place]) {
@@ -40,7 +40,7 @@ pub(crate) fn check_types(request: &LentRequest<'_>) -> PolarsResult<()>
 
 /// Refuses the first place whose type is no key type (KeyKind).
 pub(crate) fn check_kinds(request: &LentRequest<'_>) -> PolarsResult<()>
-    ensures { Settles result (key_kind (asked request.now)) }
+    ensures { SettlesOutright result (key_kind (asked request.now)) }
 {
     for place in 0..request.places() {
         if !request.left_keys[place].dtype().is_key() {

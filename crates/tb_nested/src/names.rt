@@ -1,6 +1,6 @@
 //! The names of the keys.
 ghost use Rattle.std.specs.Prelude.{◌≡◌, map, IfOk};
-ghost use Rattle.tb_value.specs.Refusals.{Settles};
+ghost use Rattle.tb_value.specs.Refusals.{Settles, SettlesOutright};
 ghost use Rattle.tb_frame.specs.Refusal.{key_counts, no_keys, repeated_among, unknown_key};
 ghost use Rattle.tb_frame.specs.Table.{table_of};
 ghost use Rattle.tb_nested.specs.Causes.{names_refusal};
@@ -25,7 +25,7 @@ fn check_known(alloc: Global, columns: &[Column], names: &[PlSmallStr]) -> Polar
 
 // Refuses a side without keys (NoKeys).
 fn check_some(left_on: &[PlSmallStr], right_on: &[PlSmallStr]) -> PolarsResult<()>
-    ensures { Settles result (no_keys left_on.now right_on.now) }
+    ensures { SettlesOutright result (no_keys left_on.now right_on.now) }
 {
     if left_on.is_empty() || right_on.is_empty() {
         return Err(PolarsError::InvalidOperation(InvalidCause::NoKeys));
@@ -35,7 +35,7 @@ fn check_some(left_on: &[PlSmallStr], right_on: &[PlSmallStr]) -> PolarsResult<(
 
 // Refuses different numbers of keys (KeyCounts).
 fn check_counts(left_on: &[PlSmallStr], right_on: &[PlSmallStr]) -> PolarsResult<()>
-    ensures { Settles result (key_counts left_on.now right_on.now) }
+    ensures { SettlesOutright result (key_counts left_on.now right_on.now) }
 {
     let left = left_on.len();
     let right = right_on.len();

@@ -1,6 +1,6 @@
 //! The join of two tables by nested loops.
 ghost use Rattle.std.specs.Prelude.{◌≡◌, IfOk, length, nat_lt};
-ghost use Rattle.tb_value.specs.Refusals.{Settles, when};
+ghost use Rattle.tb_value.specs.Refusals.{Settles, SettlesOutright, when};
 ghost use Rattle.tb_value.specs.declared.error.PolarsError.TheVariants.{ComputeError};
 ghost use Rattle.tb_value.specs.declared.error.ComputeCause.TheVariants.{TooManyRows};
 ghost use Rattle.tb_frame.specs.Answer.{IsListed};
@@ -36,7 +36,7 @@ fn check_answer_names(alloc: Global, request: &LentRequest<'_>) -> PolarsResult<
 
 // Refuses more pairs than a table has rows (TooManyRows).
 fn check_size(pairs: &[JoinPair]) -> PolarsResult<()>
-    ensures { Settles result (when (nat_lt MAX_ROWS (length pairs.now)) (ComputeError TooManyRows)) }
+    ensures { SettlesOutright result (when (nat_lt MAX_ROWS (length pairs.now)) (ComputeError TooManyRows)) }
 {
     if pairs.len() > MAX_ROWS {
         return Err(PolarsError::ComputeError(ComputeCause::TooManyRows));

@@ -3,7 +3,7 @@ ghost use Rattle.std.specs.Prelude.{◌≡◌, ◌||◌, All};
 ghost use Rattle.std.specs.List.{list_any};
 ghost use Rattle.tb_value.specs.Datum.{is_present};
 ghost use Rattle.tb_value.specs.Pairs.{row_numbers};
-ghost use Rattle.tb_value.specs.Refusals.{Settles};
+ghost use Rattle.tb_value.specs.Refusals.{SettlesOutright};
 ghost use Rattle.tb_value.specs.See.{lent};
 ghost use Rattle.tb_frame.specs.Refusal.{are_twins, broken_left, broken_right, has_twins, is_counted, is_validated, same_keys};
 ghost use Rattle.tb_frame.specs.Table.{table_of};
@@ -99,7 +99,7 @@ fn is_validated(how: JoinType) -> bool
 
 /// Refuses a left side that is asked to have each key once and has a key twice (Validation).
 pub(crate) fn check_left(request: &LentRequest<'_>) -> PolarsResult<()>
-    ensures { Settles result (broken_left (asked request.now)) }
+    ensures { SettlesOutright result (broken_left (asked request.now)) }
 {
     let args = request.args;
     if is_validated(args.how)
@@ -113,7 +113,7 @@ pub(crate) fn check_left(request: &LentRequest<'_>) -> PolarsResult<()>
 
 /// Refuses a right side that is asked to have each key once and has a key twice (Validation).
 pub(crate) fn check_right(request: &LentRequest<'_>) -> PolarsResult<()>
-    ensures { Settles result (broken_right (asked request.now)) }
+    ensures { SettlesOutright result (broken_right (asked request.now)) }
 {
     let args = request.args;
     if is_validated(args.how)

@@ -1,4 +1,4 @@
-use Rattle.std.proofs.Common.{◌≡◌, ◌∙◌, Option, sym}
+use Rattle.std.proofs.Common.{◌≡◌, ◌∙◌, Option, inr, sym}
 use Rattle.std.proofs.lemmas.Result.{err_from_is_err_and}
 use Rattle.tb_value.specs.declared.error.PolarsError.{PolarsError}
 use Rattle.tb_frame.specs.Join.{by_names}
@@ -12,13 +12,13 @@ pub returns-in_err-check_key_types-clause-settles : goal.returns-in_err-check_ke
 returns-in_err-check_key_types-clause-settles c =
     let all = five_causes c.args.left.now c.args.right.now c.args.left_on.now c.args.right_on.now c.args.args.now c.requires (plain c.in_ok-left_key.left_key.now) (plain c.in_ok-right_key.right_key.now) c.in_ok-left_key.ensures.found c.in_ok-right_key.ensures.found in
     let p = err_from_is_err_and c.from_residual-in_err-check_key_types.result c.from_residual-in_err-check_key_types.ensures.1 in
-    rw (p.1, p.2) (by_third _ _ _ _ _ _ _ all c.in_ok-left_key.ensures.settles c.in_ok-right_key.ensures.settles c.in_err-check_key_types.ensures)
+    rw (p.1, p.2) (by_third _ _ _ _ _ _ _ all c.in_ok-left_key.ensures.settles c.in_ok-right_key.ensures.settles (inr c.in_err-check_key_types.ensures))
 
 pub returns-in_err-check_key_kind-clause-settles : goal.returns-in_err-check_key_kind-clause-settles
 returns-in_err-check_key_kind-clause-settles c =
     let all = five_causes c.args.left.now c.args.right.now c.args.left_on.now c.args.right_on.now c.args.args.now c.requires (plain c.in_ok-left_key.left_key.now) (plain c.in_ok-right_key.right_key.now) c.in_ok-left_key.ensures.found c.in_ok-right_key.ensures.found in
     let p = err_from_is_err_and c.from_residual-in_err-check_key_kind.result c.from_residual-in_err-check_key_kind.ensures.1 in
-    rw (p.1, p.2) (by_fourth _ _ _ _ _ _ _ all c.in_ok-left_key.ensures.settles c.in_ok-right_key.ensures.settles c.in_ok-check_key_types.ensures c.in_err-check_key_kind.ensures)
+    rw (p.1, p.2) (by_fourth _ _ _ _ _ _ _ all c.in_ok-left_key.ensures.settles c.in_ok-right_key.ensures.settles c.in_ok-check_key_types.ensures (inr c.in_err-check_key_kind.ensures))
 
 pub returns-in_err-check_joined_names-clause-settles : goal.returns-in_err-check_joined_names-clause-settles
 returns-in_err-check_joined_names-clause-settles c =

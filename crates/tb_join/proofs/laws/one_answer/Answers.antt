@@ -7,7 +7,7 @@ use Rattle.tb_frame.proofs.Ordered.{one_order}
 use Rattle.tb_join.proofs.laws.one_answer.Goals as goal
 
 pub returns : goal.returns
-returns c = λ q s t fixed hs ht a b.
+returns c = λ q s t fixed a b.
     let pairs : a.pairs ≡ b.pairs = one_order (direction q.args.how q.args.maintain_order) fixed a.pairs b.pairs (listing q) a.ordered.permutation b.ordered.permutation a.ordered.ascends b.ordered.ascends in
     let rows : rows_of s ≡ rows_of t = a.rows ∙ ap (λ (ps : List JoinPair). map (out_row q) (cut q.args.slice ps)) pairs ∙ sym b.rows in
-    same_table s t hs ht (a.columns ∙ sym b.columns) rows
+    same_table s t a.table b.table (a.columns ∙ sym b.columns) rows

@@ -2,7 +2,8 @@ use Rattle.std.proofs.Common.{◌≡◌, ◌++◌, ℕ, Bool, List, Option, None
 use Rattle.std.specs.Prelude.{All, not, unwrap_or}
 use Rattle.std.specs.List.{find}
 use Rattle.std.specs.Option.{ForSome}
-use Rattle.std.proofs.lemmas.List.Elements.{All-filter}
+use Rattle.std.proofs.lemmas.List.Elements.{All-filter, All-weaker}
+use Rattle.tb_frame.specs.Answer.{IsPairOf}
 use Rattle.tb_value.specs.Names.{Name}
 use Rattle.tb_value.specs.SameKind.{same_kind}
 use Rattle.tb_value.specs.declared.error.ComputeCause.TheVariants.{KeyTypes}
@@ -10,20 +11,24 @@ use Rattle.tb_value.specs.declared.error.PolarsError.TheVariants.{ComputeError}
 use Rattle.tb_value.specs.declared.index.JoinPair.{JoinPair}
 use Rattle.tb_chunk.specs.Col.{Col, values}
 use Rattle.tb_chunk.specs.Rows.{IsRowOf}
-use Rattle.tb_frame.specs.Answer.{gone_left, gone_right, has_right}
-use Rattle.tb_frame.specs.Join.{Request, coalesces, default_suffix, is_among, places}
+use Rattle.tb_frame.specs.Join.{Request, places}
+use Rattle.tb_frame.specs.Naming.{coalesces, default_suffix, has_right, is_among, merges_keys}
 use Rattle.tb_frame.specs.Refusal.{key_types, kind_at}
-use Rattle.tb_frame.specs.RightColumns.{right_columns, right_side}
+use Rattle.tb_frame.specs.RightColumns.{gone_left, gone_right, right_columns, right_side}
 use Rattle.tb_frame.specs.Table.{TableColumn, table_of, height, names_of}
 use Rattle.tb_frame.proofs.Causes.{map_none}
 use Rattle.tb_frame.proofs.Taking.{all_plain}
 use Rattle.tb_frame.proofs.Validity.{known_left, known_right, same_counts, same_types}
 use Rattle.tb_nested.specs.Asked.{asked}
-use Rattle.tb_nested.specs.Merging.{key_merged, left_column, merges}
+use Rattle.tb_nested.specs.Merging.{key_merged, left_column}
 use Rattle.tb_nested.specs.Rows.{HasRows}
-use Rattle.tb_nested.proofs.AnswerTables.{columns-made, in_columns, left_rows_in, right_rows_in, side_level}
-use Rattle.tb_nested.proofs.KeysNamed.{keys_many, merged_kinds}
+use Rattle.tb_frame.proofs.Filled.{left_within, right_within}
+use Rattle.tb_nested.proofs.AnswerTables.{columns-made, in_columns, side_level}
+use Rattle.tb_nested.proofs.KeysNamed.{keys_many, keys_own, merged_kinds}
 use Rattle.tb_nested.proofs.columns.answer_columns.Goals as goal
+
+right_rows : (l r : ℕ) (ps : List JoinPair) → All (IsPairOf l r) ps → All (IsRowOf r) (map (λ (p : JoinPair). p.right) ps)
+right_rows l r ps h = right_within r ps (All-weaker (IsPairOf l r) (λ (p : JoinPair). IsRowOf r p.right) (λ p in_range. in_range.1) ps h)
 
 -- where no cause is about types, no two differ
 not_mixed : (q : Request) → key_types q ≡ None → find (λ p. not (same_kind (kind_at q.left_keys p) (kind_at q.right_keys p))) (places q) ≡ None
@@ -36,25 +41,25 @@ pub left_columns-requires-clause-left_rows : goal.left_columns-requires-clause-l
 left_columns-requires-clause-left_rows c =
     let r = c.args.request.now in
     let h = height (table_of r.left.now) in
-    let gone = gone_left r.args.now.how (coalesces (asked r)) r.left_on.now in
+    let gone = gone_left r.args.now r.left_on.now in
     let level : HasRows h r.left.now = all_plain (λ (k : TableColumn). length k.values ≡ h) r.left.now r.left_table.one_height in
     let kept : HasRows h c.get_columns.result.now = subst (λ (cs : List Col). HasRows h cs) (sym (c.get_columns.ensures.columns ∙ c.in_ok-kept.ensures)) (All-filter (stays gone) (λ (k : Col). length (values k) ≡ h) r.left.now level) in
-    in_columns h c.deref.result.now c.get_columns.result.now (subst (λ (rows : List (Option ℕ)). All (IsRowOf h) rows) (sym (c.deref.ensures.value ∙ c.in_ok-left.ensures)) (left_rows_in h (height (table_of r.right.now)) c.args.pairs.now c.requires.pairs)) kept
+    in_columns h c.deref.result.now c.get_columns.result.now (subst (λ (rows : List (Option ℕ)). All (IsRowOf h) rows) (sym (c.deref.ensures.value ∙ c.in_ok-left.ensures)) (left_within h (height (table_of r.right.now)) c.args.pairs.now c.requires.pairs)) kept
 
 pub left_columns-requires-clause-right_rows : goal.left_columns-requires-clause-right_rows
 left_columns-requires-clause-right_rows c =
     let r = c.args.request.now in
     let h = height (table_of r.right.now) in
-    in_columns h c.deref-2.result.now r.right_keys.now (subst (λ (rows : List (Option ℕ)). All (IsRowOf h) rows) (sym (c.deref-2.ensures.value ∙ c.in_ok-right.ensures)) (right_rows_in (height (table_of r.left.now)) h c.args.pairs.now c.requires.pairs)) r.right_rows
+    in_columns h c.deref-2.result.now r.right_keys.now (subst (λ (rows : List (Option ℕ)). All (IsRowOf h) rows) (sym (c.deref-2.ensures.value ∙ c.in_ok-right.ensures)) (right_rows (height (table_of r.left.now)) h c.args.pairs.now c.requires.pairs)) r.right_rows
 
 pub left_columns-requires-clause-types : goal.left_columns-requires-clause-types
 left_columns-requires-clause-types c =
     let r = c.args.request.now in
     let q = asked r in
-    let gone = gone_left r.args.now.how (coalesces q) r.left_on.now in
+    let gone = gone_left r.args.now r.left_on.now in
     let P : Col → Type 0 = λ k. ForSome (key_merged r k.name) (λ x. k.kind ≡ x.kind) in
     let is = ap (λ (q : Request). q.left_keys) c.requires.named in
-    let all = merged_kinds r.left.now r.left_keys.now r.right_keys.now r.left_on.now r.left_table is (known_left q c.requires.valid) (not_mixed q (same_types q c.requires.valid)) (merges r.args.now.how (coalesces q)) in
+    let all = merged_kinds r.left.now r.left_keys.now r.right_keys.now r.left_on.now r.left_table is (known_left q c.requires.valid) (not_mixed q (same_types q c.requires.valid)) (merges_keys r.args.now.how (coalesces r.args.now)) in
     subst (λ (cs : List Col). All P cs) (sym (c.get_columns.ensures.columns ∙ c.in_ok-kept.ensures)) (All-filter (stays gone) P r.left.now all)
 
 pub push_right-requires-clause-rows : goal.push_right-requires-clause-rows
@@ -65,7 +70,7 @@ push_right-requires-clause-rows c =
     let side : HasRows h c.right_side.result.now =
     subst (λ (cs : List Col). HasRows h cs) (sym (c.right_side.ensures ∙ ap (right_side r.args.now.how) c.get_columns-3.ensures.columns)) (side_level (has_right r.args.now.how) h r.right.now level)
     in
-    in_columns h c.deref-3.result.now c.right_side.result.now (subst (λ (rows : List (Option ℕ)). All (IsRowOf h) rows) (sym (c.deref-3.ensures.value ∙ c.in_ok-right.ensures)) (right_rows_in (height (table_of r.left.now)) h c.args.pairs.now c.requires.pairs)) side
+    in_columns h c.deref-3.result.now c.right_side.result.now (subst (λ (rows : List (Option ℕ)). All (IsRowOf h) rows) (sym (c.deref-3.ensures.value ∙ c.in_ok-right.ensures)) (right_rows (height (table_of r.left.now)) h c.args.pairs.now c.requires.pairs)) side
 
 pub returns : goal.returns
 returns c =
@@ -76,7 +81,7 @@ returns c =
     let ls : List (Option ℕ) = map (λ (p : JoinPair). p.left) ps in
     let rs : List (Option ℕ) = map (λ (p : JoinPair). p.right) ps in
     let suffix : Name = unwrap_or r.args.now.suffix default_suffix in
-    let gone = gone_right how (coalesces q) r.right_on.now in
+    let gone = gone_right r.args.now r.right_on.now in
     let kept = c.in_ok-kept.kept in
     let made : List (Option ℕ) → List (Option ℕ) → Col → Col = λ xs ys k. left_column xs ys (key_merged r k.name) k in
     let left : c.in_ok-columns.columns.items ≡ map (made ls rs) kept =
@@ -89,4 +94,4 @@ returns c =
     let is_r = ap (λ (q : Request). q.right_keys) c.requires.named in
     let many = keys_many r.right.now r.right_keys.now r.right_on.now is_r (known_right q c.requires.valid) in
     let counts = same_counts q c.requires.valid in
-    ap table_of all ∙ columns-made q r.right_keys.now (λ _. table_of r.right_keys.now) (omega (arith, many, counts)) ps r.left.now r.right.now kept (λ _. table_of r.left.now) (λ _. table_of r.right.now) c.in_ok-kept.ensures
+    ap table_of all ∙ columns-made q r.right_keys.now (keys_own r.right.now r.right_keys.now r.right_on.now is_r (known_right q c.requires.valid)) (omega (arith, many, counts)) ps r.left.now r.right.now kept (λ _. table_of r.left.now) (λ _. table_of r.right.now) c.in_ok-kept.ensures

@@ -1,4 +1,4 @@
-use Rattle.std.proofs.Common.{◌≡◌, ℕ, Bool, not, arith, sym, ◌∙◌, ap, inr}
+use Rattle.std.proofs.Common.{◌≡◌, ℕ, Bool, not, arith, sym, ◌∙◌, ap}
 use Rattle.std.specs.Option.{option_map}
 use Rattle.tb_value.specs.SameKind.{is_key}
 use Rattle.tb_value.specs.declared.error.PolarsError.TheVariants.{InvalidOperation}
@@ -20,7 +20,7 @@ here c =
     ap not (c.is_key.ensures ∙ ap is_key k)
 
 pub returns-then-not-is_key : goal.returns-then-not-is_key
-returns-then-not-is_key c = inr (ap (option_map (λ (p : ℕ). InvalidOperation (KeyKind p))) (find_row_stop (no_key_at (asked c.args.request.now)) c.loop-place.place _ (omega arith) c.loop-place.invariant (sym (here (goal.at.returns-then-not-is_key c).After-is_key) ∙ ap not c.if-not-is_key.true)))
+returns-then-not-is_key c = ap (option_map (λ (p : ℕ). InvalidOperation (KeyKind p))) (find_row_stop (no_key_at (asked c.args.request.now)) c.loop-place.place _ (omega arith) c.loop-place.invariant (sym (here (goal.at.returns-then-not-is_key c).After-is_key) ∙ ap not c.if-not-is_key.true))
 
 pub loop-place-preserved : goal.loop-place-preserved
 loop-place-preserved c = find_row_more (no_key_at (asked c.args.request.now)) c.loop-place.place c.places-place-end.result c.loop-place-test.true c.loop-place.invariant (sym (here (goal.at.loop-place-preserved c).After-is_key) ∙ ap not c.if-not-is_key.false)
