@@ -8,6 +8,7 @@ use Rattle.tb_value.specs.Names.{Name, same_name}
 use Rattle.tb_value.specs.Pairs.{row_numbers, matched, left_met, left_unmet, right_unmet, left_first, right_first}
 use Rattle.tb_value.specs.Same.{same}
 use Rattle.tb_value.specs.declared.index.JoinPair.{JoinPair}
+use Rattle.tb_chunk.specs.Col.{Col}
 pub use Rattle.tb_chunk.specs.Merged.{or_else}
 use Rattle.tb_frame.specs.declared.args.JoinArgs.{JoinArgs}
 use Rattle.tb_frame.specs.declared.args.JoinType.{JoinType}
@@ -17,7 +18,7 @@ use Rattle.tb_frame.specs.declared.args.MaintainOrderJoin.TheVariants as order
 use Rattle.tb_frame.specs.declared.args.Direction.{Direction}
 use Rattle.tb_frame.specs.declared.args.Direction.TheVariants.{Free, ByLeft, ByRight}
 use Rattle.tb_frame.specs.Naming.{answer_fields, coalesces, keeps_left, merges_keys, right_name, shows_right}
-use Rattle.tb_frame.specs.Table.{TableColumn, Table, IsTable, height, names_of, rows_of, schema_of}
+use Rattle.tb_frame.specs.Table.{TableColumn, Table, IsTable, height, names_of, rows_of, schema_of, table_of}
 
 -- a request: two tables, the names and the columns of the keys, and the args
 pub record Request : Type 0 where
@@ -36,6 +37,10 @@ named t n = find (λ (c : TableColumn). same_name c.name n) t
 -- the request of `join`, whose keys are the tables' columns of these names
 abbrev pub by_names : Table → Table → List Name → List Name → JoinArgs → Request
 by_names left right left_on right_on args = record { left = left; right = right; left_on = left_on; right_on = right_on; left_keys = filter_map (named left) left_on; right_keys = filter_map (named right) right_on; args = args }
+
+-- the same of two tables that are lent
+abbrev pub lent_request : List Col → List Col → List Name → List Name → JoinArgs → Request
+lent_request left right left_on right_on args = by_names (table_of left) (table_of right) left_on right_on args
 
 -- the request of `_join_impl`, whose keys are given columns
 abbrev pub by_columns : Table → Table → List TableColumn → List TableColumn → JoinArgs → Request

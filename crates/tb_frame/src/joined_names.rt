@@ -4,12 +4,11 @@ ghost use Rattle.tb_value.specs.Names.{Name};
 ghost use Rattle.tb_value.specs.Refusals.{Settles};
 ghost use Rattle.tb_chunk.specs.Col.{Col};
 ghost use Rattle.tb_frame.specs.Frame.{without_names};
-ghost use Rattle.tb_frame.specs.Join.{by_names};
+ghost use Rattle.tb_frame.specs.Join.{lent_request};
 ghost use Rattle.tb_frame.specs.NameSets.{has_name};
 ghost use Rattle.tb_frame.specs.Naming.{default_suffix, is_among};
 ghost use Rattle.tb_frame.specs.Refusal.{repeated_name};
 ghost use Rattle.tb_frame.specs.RightColumns.{gone_beside, right_names, right_side};
-ghost use Rattle.tb_frame.specs.Table.{table_of};
 
 use crate::args::{JoinArgs, JoinType};
 use crate::names::{NameSet, check_distinct, name_set};
@@ -120,7 +119,7 @@ pub fn check_joined_names(
     right_on: &[PlSmallStr],
     args: &JoinArgs,
 ) -> PolarsResult<()>
-    ensures { Settles result (repeated_name (by_names (table_of left.now) (table_of right.now) left_on.now right_on.now args.now)) }
+    ensures { Settles result (repeated_name (lent_request left.now right.now left_on.now right_on.now args.now)) }
 {
     let kept = kept_names(alloc, left, gone_left(args, left_on))?;
     let beside = names_beside(alloc, &kept, right, right_on, args)?;

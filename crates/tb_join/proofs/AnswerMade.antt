@@ -9,7 +9,7 @@ use Rattle.tb_frame.specs.declared.args.JoinArgs.{JoinArgs}
 use Rattle.tb_frame.specs.Answer.{fill}
 use Rattle.tb_frame.specs.Built.{is_built_coalesce}
 use Rattle.tb_frame.specs.Frame.{opt_taken, without_names}
-use Rattle.tb_frame.specs.Join.{Request, by_names, left_field, left_out, named, out, partner}
+use Rattle.tb_frame.specs.Join.{Request, left_field, left_out, lent_request, named, out, partner}
 use Rattle.tb_frame.specs.Naming.{coalesces, merges_keys}
 use Rattle.tb_frame.specs.RightColumns.{gone_left, gone_right, right_side}
 use Rattle.tb_frame.specs.Table.{TableColumn, Table, plain, table_of, names_of}
@@ -32,9 +32,9 @@ module _ (q : Request) (apart : merges_keys q.args.how (coalesces q.args) ≡ fa
       λ t. (here ∙ ap own (sym (alone c.name))) t ∷ left-made cs t
 
 -- the columns over the pairs are those of the answer
-pub columns-are : (left right : List Col) (lo ro : List Name) (a : JoinArgs) (ps : List JoinPair) → is_built_coalesce a.how a.coalesce ≡ true → table_of (answer_columns a lo ro ps left right) ≡ map (fill ps) (out (by_names (table_of left) (table_of right) lo ro a))
+pub columns-are : (left right : List Col) (lo ro : List Name) (a : JoinArgs) (ps : List JoinPair) → is_built_coalesce a.how a.coalesce ≡ true → table_of (answer_columns a lo ro ps left right) ≡ map (fill ps) (out (lent_request left right lo ro a))
 columns-are left right lo ro a ps built =
-    let q = by_names (table_of left) (table_of right) lo ro a in
+    let q = lent_request left right lo ro a in
     let ls : List Col = without_names (gone_left a lo) left in
     let lefts : List (Option ℕ) = map (λ (p : JoinPair). p.left) ps in
     columns-made q ps (left_part a lo ps left) (without_names (gone_right a ro) (right_side a.how right)) (names_of (table_of (left_part a lo ps left)))

@@ -17,7 +17,7 @@ use Rattle.tb_frame.specs.declared.args.JoinArgs.{JoinArgs}
 use Rattle.tb_frame.specs.declared.args.JoinValidation.TheVariants.{ManyToMany}
 use Rattle.tb_frame.specs.Built.{IsBuilt}
 use Rattle.tb_frame.specs.Table.{TableColumn, table_of, height}
-use Rattle.tb_frame.specs.Join.{Request, by_names, named, nulls}
+use Rattle.tb_frame.specs.Join.{Request, lent_request, named, nulls}
 use Rattle.tb_frame.specs.Refusal.{asks_left, asks_right, broken_left, broken_right, column_causes, first_repeated, has_twins, is_validated, join_refusal, key_causes, key_counts, key_kind, key_types, no_keys, repeated_among, repeated_name, row_causes, too_many_rows, unknown_key}
 use Rattle.tb_frame.proofs.Causes.{first_cause-append, first_cause-one}
 use Rattle.tb_join.specs.KeyRefusal.{key_refusal}
@@ -87,11 +87,11 @@ first_place f false = refl
 abbrev keyed : Request → List TableColumn → List TableColumn → Request
 keyed q lk rk = record q { left_keys = lk; right_keys = rk }
 
-module _ (left right : List Col) (lo ro : List Name) (a : JoinArgs) (built : IsBuilt (by_names (table_of left) (table_of right) lo ro a)) (k l : TableColumn) (is_k : filter_map (named (table_of left)) lo ≡ k ∷ []) (is_l : filter_map (named (table_of right)) ro ≡ l ∷ []) where
+module _ (left right : List Col) (lo ro : List Name) (a : JoinArgs) (built : IsBuilt (lent_request left right lo ro a)) (k l : TableColumn) (is_k : filter_map (named (table_of left)) lo ≡ k ∷ []) (is_l : filter_map (named (table_of right)) ro ≡ l ∷ []) where
   -- the causes that remain where each side has one key
-  pub five_causes : key_refusal (by_names (table_of left) (table_of right) lo ro a) ≡ first_cause (unknown_key (table_of left) lo ∷ unknown_key (table_of right) ro ∷ mixed k.kind l.kind ∷ unkeyed k.kind ∷ repeated_name (by_names (table_of left) (table_of right) lo ro a) ∷ [])
+  pub five_causes : key_refusal (lent_request left right lo ro a) ≡ first_cause (unknown_key (table_of left) lo ∷ unknown_key (table_of right) ro ∷ mixed k.kind l.kind ∷ unkeyed k.kind ∷ repeated_name (lent_request left right lo ro a) ∷ [])
   five_causes =
-      let q = by_names (table_of left) (table_of right) lo ro a in
+      let q = lent_request left right lo ro a in
       let unknown_left = unknown_key (table_of left) lo in
       let unknown_right = unknown_key (table_of right) ro in
       let some : no_keys lo ro ≡ None = λ t. when (built.one_left t == 0 || built.one_right t == 0) (InvalidOperation NoKeys) in

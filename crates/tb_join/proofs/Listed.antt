@@ -12,7 +12,7 @@ use Rattle.tb_frame.specs.declared.args.JoinType.{JoinType}
 use Rattle.tb_frame.specs.declared.args.MaintainOrderJoin.{MaintainOrderJoin}
 use Rattle.tb_frame.specs.Answer.{IsListed}
 use Rattle.tb_frame.specs.Table.{TableColumn, Table, height, IsTable}
-use Rattle.tb_frame.specs.Join.{Request, named, agrees, field, matches, listing, listing_of}
+use Rattle.tb_frame.specs.Join.{Request, agrees, field, listing, listing_of, matches, named}
 use Rattle.tb_frame.proofs.Causes.{selected_hold}
 use Rattle.tb_hash.specs.Hashing.{value_listing}
 

@@ -5,7 +5,7 @@ ghost use Rattle.tb_value.specs.SameKind.{is_key};
 ghost use Rattle.tb_chunk.specs.Col.{values};
 ghost use Rattle.tb_frame.specs.Answer.{IsListed};
 ghost use Rattle.tb_frame.specs.Built.{IsBuilt};
-ghost use Rattle.tb_frame.specs.Join.{by_names, listing, IsAnswer};
+ghost use Rattle.tb_frame.specs.Join.{IsAnswer, lent_request, listing};
 ghost use Rattle.tb_frame.specs.Refusal.{join_refusal};
 ghost use Rattle.tb_frame.specs.Table.{plain, table_of, height};
 ghost use Rattle.tb_join.specs.Asked.{plainly};
@@ -48,9 +48,9 @@ pub trait DataFrameJoinOps: IntoDf {
         args: JoinArgs,
         exec: &Exec,
     ) -> PolarsResult<DataFrame>
-        requires built { IsBuilt (by_names (table_of (Self.frame self.now)) (table_of other.now) left_on.now right_on.now args) }
-        ensures settles { Settles result (join_refusal (by_names (table_of (Self.frame self.now)) (table_of other.now) left_on.now right_on.now args)) }
-        ensures answer { IfOk result (λ t. IsAnswer (by_names (table_of (Self.frame self.now)) (table_of other.now) left_on.now right_on.now args) (table_of t)) }
+        requires built { IsBuilt (lent_request (Self.frame self.now) other.now left_on.now right_on.now args) }
+        ensures settles { Settles result (join_refusal (lent_request (Self.frame self.now) other.now left_on.now right_on.now args)) }
+        ensures answer { IfOk result (λ t. IsAnswer (lent_request (Self.frame self.now) other.now left_on.now right_on.now args) (table_of t)) }
     {
         join_tables(
             rt,
@@ -80,8 +80,8 @@ pub trait DataFrameJoinOps: IntoDf {
     ) -> PolarsResult<DataFrame>
         requires left { length left_on.now ≡ 1 }
         requires right { length right_on.now ≡ 1 }
-        ensures settles { Settles result (join_refusal (by_names (table_of (Self.frame self.now)) (table_of other.now) left_on.now right_on.now (plainly JoinType.Inner))) }
-        ensures answer { IfOk result (λ t. IsAnswer (by_names (table_of (Self.frame self.now)) (table_of other.now) left_on.now right_on.now (plainly JoinType.Inner)) (table_of t)) }
+        ensures settles { Settles result (join_refusal (lent_request (Self.frame self.now) other.now left_on.now right_on.now (plainly JoinType.Inner))) }
+        ensures answer { IfOk result (λ t. IsAnswer (lent_request (Self.frame self.now) other.now left_on.now right_on.now (plainly JoinType.Inner)) (table_of t)) }
     {
         let args = JoinArgs::new(JoinType::Inner);
         self.join(rt, alloc, other, left_on, right_on, args, exec)
@@ -103,8 +103,8 @@ pub trait DataFrameJoinOps: IntoDf {
     ) -> PolarsResult<DataFrame>
         requires left { length left_on.now ≡ 1 }
         requires right { length right_on.now ≡ 1 }
-        ensures settles { Settles result (join_refusal (by_names (table_of (Self.frame self.now)) (table_of other.now) left_on.now right_on.now (plainly JoinType.Left))) }
-        ensures answer { IfOk result (λ t. IsAnswer (by_names (table_of (Self.frame self.now)) (table_of other.now) left_on.now right_on.now (plainly JoinType.Left)) (table_of t)) }
+        ensures settles { Settles result (join_refusal (lent_request (Self.frame self.now) other.now left_on.now right_on.now (plainly JoinType.Left))) }
+        ensures answer { IfOk result (λ t. IsAnswer (lent_request (Self.frame self.now) other.now left_on.now right_on.now (plainly JoinType.Left)) (table_of t)) }
     {
         let args = JoinArgs::new(JoinType::Left);
         self.join(rt, alloc, other, left_on, right_on, args, exec)
@@ -126,8 +126,8 @@ pub trait DataFrameJoinOps: IntoDf {
     ) -> PolarsResult<DataFrame>
         requires left { length left_on.now ≡ 1 }
         requires right { length right_on.now ≡ 1 }
-        ensures settles { Settles result (join_refusal (by_names (table_of (Self.frame self.now)) (table_of other.now) left_on.now right_on.now (plainly JoinType.Full))) }
-        ensures answer { IfOk result (λ t. IsAnswer (by_names (table_of (Self.frame self.now)) (table_of other.now) left_on.now right_on.now (plainly JoinType.Full)) (table_of t)) }
+        ensures settles { Settles result (join_refusal (lent_request (Self.frame self.now) other.now left_on.now right_on.now (plainly JoinType.Full))) }
+        ensures answer { IfOk result (λ t. IsAnswer (lent_request (Self.frame self.now) other.now left_on.now right_on.now (plainly JoinType.Full)) (table_of t)) }
     {
         let args = JoinArgs::new(JoinType::Full);
         self.join(rt, alloc, other, left_on, right_on, args, exec)
@@ -145,10 +145,10 @@ fn checked_keys<'a>(
     right_on: &[PlSmallStr],
     args: &JoinArgs,
 ) -> PolarsResult<(&'a Column, &'a Column)>
-    requires { IsBuilt (by_names (table_of left.now) (table_of right.now) left_on.now right_on.now args.now) }
-    ensures settles { Settles result (key_refusal (by_names (table_of left.now) (table_of right.now) left_on.now right_on.now args.now)) }
-    ensures left { IfOk result (λ p. (by_names (table_of left.now) (table_of right.now) left_on.now right_on.now args.now).left_keys ≡ plain p.0.now ∷ []) }
-    ensures right { IfOk result (λ p. (by_names (table_of left.now) (table_of right.now) left_on.now right_on.now args.now).right_keys ≡ plain p.1.now ∷ []) }
+    requires { IsBuilt (lent_request left.now right.now left_on.now right_on.now args.now) }
+    ensures settles { Settles result (key_refusal (lent_request left.now right.now left_on.now right_on.now args.now)) }
+    ensures left { IfOk result (λ p. (lent_request left.now right.now left_on.now right_on.now args.now).left_keys ≡ plain p.0.now ∷ []) }
+    ensures right { IfOk result (λ p. (lent_request left.now right.now left_on.now right_on.now args.now).right_keys ≡ plain p.1.now ∷ []) }
     ensures key { IfOk result (λ p. is_key p.0.now.kind ≡ true) }
     ensures same { IfOk result (λ p. p.0.now.kind ≡ p.1.now.kind) }
     ensures heights { IfOk result (λ p. (length (values p.0.now) ≡ height (table_of left.now)) × (length (values p.1.now) ≡ height (table_of right.now))) }
@@ -179,9 +179,9 @@ fn listed_pairs(
     args: &JoinArgs,
     exec: &Exec,
 ) -> PolarsResult<Vec<JoinPair>>
-    requires { IsBuilt (by_names (table_of left.now) (table_of right.now) left_on.now right_on.now args.now) }
-    ensures settles { Settles result (join_refusal (by_names (table_of left.now) (table_of right.now) left_on.now right_on.now args.now)) }
-    ensures listed { IfOk result (λ v. IsListed args.now.how args.now.maintain_order args.now.slice (listing (by_names (table_of left.now) (table_of right.now) left_on.now right_on.now args.now)) v.items) }
+    requires { IsBuilt (lent_request left.now right.now left_on.now right_on.now args.now) }
+    ensures settles { Settles result (join_refusal (lent_request left.now right.now left_on.now right_on.now args.now)) }
+    ensures listed { IfOk result (λ v. IsListed args.now.how args.now.maintain_order args.now.slice (listing (lent_request left.now right.now left_on.now right_on.now args.now)) v.items) }
 {
     let (left_key, right_key) = checked_keys(alloc, left, right, left_on, right_on, args)?;
     key_pairs(rt, alloc, left_key, right_key, args, exec)
@@ -197,9 +197,9 @@ fn join_tables(
     args: &JoinArgs,
     exec: &Exec,
 ) -> PolarsResult<DataFrame>
-    requires { IsBuilt (by_names (table_of left.now) (table_of right.now) left_on.now right_on.now args.now) }
-    ensures settles { Settles result (join_refusal (by_names (table_of left.now) (table_of right.now) left_on.now right_on.now args.now)) }
-    ensures answer { IfOk result (λ t. IsAnswer (by_names (table_of left.now) (table_of right.now) left_on.now right_on.now args.now) (table_of t)) }
+    requires { IsBuilt (lent_request left.now right.now left_on.now right_on.now args.now) }
+    ensures settles { Settles result (join_refusal (lent_request left.now right.now left_on.now right_on.now args.now)) }
+    ensures answer { IfOk result (λ t. IsAnswer (lent_request left.now right.now left_on.now right_on.now args.now) (table_of t)) }
 {
     let pairs = listed_pairs(rt, alloc, left, right, left_on, right_on, args, exec)?;
     finish_join(rt, alloc, left, right, left_on, right_on, args, &pairs)

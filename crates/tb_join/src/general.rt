@@ -5,7 +5,7 @@ ghost use Rattle.tb_chunk.specs.Rows.{IsRowOf};
 ghost use Rattle.tb_frame.specs.Answer.{IsListed, IsPairOf};
 ghost use Rattle.tb_frame.specs.Built.{IsBuilt};
 ghost use Rattle.tb_frame.specs.Frame.{opt_taken, without_names};
-ghost use Rattle.tb_frame.specs.Join.{by_names, listing, IsAnswer};
+ghost use Rattle.tb_frame.specs.Join.{IsAnswer, lent_request, listing};
 ghost use Rattle.tb_frame.specs.Refusal.{join_refusal};
 ghost use Rattle.tb_frame.specs.Table.{height, names_of, table_of};
 ghost use Rattle.tb_join.specs.AnswerColumns.{answer_columns, called, right_part};
@@ -118,11 +118,11 @@ pub(crate) fn finish_join(
     args: &JoinArgs,
     pairs: &[JoinPair],
 ) -> PolarsResult<DataFrame>
-    requires built { IsBuilt (by_names (table_of left.now) (table_of right.now) left_on.now right_on.now args.now) }
-    requires valid { join_refusal (by_names (table_of left.now) (table_of right.now) left_on.now right_on.now args.now) ≡ None }
-    requires listed { IsListed args.now.how args.now.maintain_order args.now.slice (listing (by_names (table_of left.now) (table_of right.now) left_on.now right_on.now args.now)) pairs.now }
+    requires built { IsBuilt (lent_request left.now right.now left_on.now right_on.now args.now) }
+    requires valid { join_refusal (lent_request left.now right.now left_on.now right_on.now args.now) ≡ None }
+    requires listed { IsListed args.now.how args.now.maintain_order args.now.slice (listing (lent_request left.now right.now left_on.now right_on.now args.now)) pairs.now }
     ensures settles { Settles result None }
-    ensures answer { IfOk result (λ t. IsAnswer (by_names (table_of left.now) (table_of right.now) left_on.now right_on.now args.now) (table_of t)) }
+    ensures answer { IfOk result (λ t. IsAnswer (lent_request left.now right.now left_on.now right_on.now args.now) (table_of t)) }
 {
     let columns = answer_columns(rt, alloc, left, right, left_on, right_on, args, pairs)?;
     DataFrame::new(alloc, columns)

@@ -7,7 +7,7 @@ ghost use Rattle.tb_chunk.specs.Col.{Col, values};
 ghost use Rattle.tb_chunk.specs.Rows.{IsRowOf};
 ghost use Rattle.tb_frame.specs.Answer.{IsListed, IsPairOf, fill};
 ghost use Rattle.tb_frame.specs.Frame.{without_names};
-ghost use Rattle.tb_frame.specs.Join.{IsAnswer, by_names, listing, out};
+ghost use Rattle.tb_frame.specs.Join.{IsAnswer, lent_request, listing, out};
 ghost use Rattle.tb_frame.specs.Naming.{coalesces, merges_keys};
 ghost use Rattle.tb_frame.specs.Refusal.{join_valid};
 ghost use Rattle.tb_frame.specs.RightColumns.{gone_left};
@@ -107,7 +107,7 @@ fn answer_columns(
     request: &LentRequest<'_>,
     pairs: &[JoinPair],
 ) -> Result<Vec<Column>, OutOfMemory>
-    requires named { asked request.now ≡ by_names (table_of request.now.left.now) (table_of request.now.right.now) request.now.left_on.now request.now.right_on.now request.now.args.now }
+    requires named { asked request.now ≡ lent_request request.now.left.now request.now.right.now request.now.left_on.now request.now.right_on.now request.now.args.now }
     requires valid { join_valid (asked request.now) }
     requires pairs { All (IsPairOf (height (table_of request.now.left.now)) (height (table_of request.now.right.now))) pairs.now }
     requires few { length pairs.now ≤ MAX_ROWS }
@@ -135,7 +135,7 @@ pub(crate) fn answer_table(
     request: &LentRequest<'_>,
     pairs: &[JoinPair],
 ) -> PolarsResult<DataFrame>
-    requires named { asked request.now ≡ by_names (table_of request.now.left.now) (table_of request.now.right.now) request.now.left_on.now request.now.right_on.now request.now.args.now }
+    requires named { asked request.now ≡ lent_request request.now.left.now request.now.right.now request.now.left_on.now request.now.right_on.now request.now.args.now }
     requires valid { join_valid (asked request.now) }
     requires listed { IsListed request.now.args.now.how request.now.args.now.maintain_order request.now.args.now.slice (listing (asked request.now)) pairs.now }
     ensures settles { Settles result None }

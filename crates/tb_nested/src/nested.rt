@@ -4,7 +4,7 @@ ghost use Rattle.tb_value.specs.Refusals.{Settles, SettlesOutright, when};
 ghost use Rattle.tb_value.specs.declared.error.PolarsError.TheVariants.{ComputeError};
 ghost use Rattle.tb_value.specs.declared.error.ComputeCause.TheVariants.{TooManyRows};
 ghost use Rattle.tb_frame.specs.Answer.{IsListed};
-ghost use Rattle.tb_frame.specs.Join.{by_names, listing, IsAnswer};
+ghost use Rattle.tb_frame.specs.Join.{IsAnswer, lent_request, listing};
 ghost use Rattle.tb_frame.specs.Refusal.{join_refusal, repeated_name, too_many_rows};
 ghost use Rattle.tb_frame.specs.Table.{table_of};
 ghost use Rattle.tb_nested.specs.Asked.{asked};
@@ -89,8 +89,8 @@ pub fn nested_join(
     right_on: &[PlSmallStr],
     args: &JoinArgs,
 ) -> PolarsResult<DataFrame>
-    ensures settles { Settles result (join_refusal (by_names (table_of left.now) (table_of right.now) left_on.now right_on.now args.now)) }
-    ensures answer { IfOk result (λ t. IsAnswer (by_names (table_of left.now) (table_of right.now) left_on.now right_on.now args.now) (table_of t)) }
+    ensures settles { Settles result (join_refusal (lent_request left.now right.now left_on.now right_on.now args.now)) }
+    ensures answer { IfOk result (λ t. IsAnswer (lent_request left.now right.now left_on.now right_on.now args.now) (table_of t)) }
 {
     check_names(
         alloc,

@@ -1,7 +1,7 @@
 use Rattle.std.proofs.Common.{◌≡◌, ◌∙◌, Option, inr, sym}
 use Rattle.std.proofs.lemmas.Result.{err_from_is_err_and}
 use Rattle.tb_value.specs.declared.error.PolarsError.{PolarsError}
-use Rattle.tb_frame.specs.Join.{by_names}
+use Rattle.tb_frame.specs.Join.{lent_request}
 use Rattle.tb_frame.specs.Refusal.{repeated_name}
 use Rattle.tb_frame.specs.Table.{plain, table_of}
 use Rattle.tb_join.proofs.KeyCauses.{five_causes, not_mixed, is_keyed, by_third, by_fourth, by_fifth, by_none}
@@ -23,8 +23,8 @@ returns-in_err-check_key_kind-clause-settles c =
 pub returns-in_err-check_joined_names-clause-settles : goal.returns-in_err-check_joined_names-clause-settles
 returns-in_err-check_joined_names-clause-settles c =
     let all = five_causes c.args.left.now c.args.right.now c.args.left_on.now c.args.right_on.now c.args.args.now c.requires (plain c.in_ok-left_key.left_key.now) (plain c.in_ok-right_key.right_key.now) c.in_ok-left_key.ensures.found c.in_ok-right_key.ensures.found in
-    let same : repeated_name (by_names (table_of c.get_columns.result.now) (table_of c.get_columns-2.result.now) c.args.left_on.now c.args.right_on.now c.args.args.now) ≡ repeated_name (by_names (table_of c.args.left.now) (table_of c.args.right.now) c.args.left_on.now c.args.right_on.now c.args.args.now) =
-    λ t. repeated_name (by_names (table_of (c.get_columns.ensures.columns t)) (table_of (c.get_columns-2.ensures.columns t)) c.args.left_on.now c.args.right_on.now c.args.args.now)
+    let same : repeated_name (lent_request c.get_columns.result.now c.get_columns-2.result.now c.args.left_on.now c.args.right_on.now c.args.args.now) ≡ repeated_name (lent_request c.args.left.now c.args.right.now c.args.left_on.now c.args.right_on.now c.args.args.now) =
+    λ t. repeated_name (lent_request (c.get_columns.ensures.columns t) (c.get_columns-2.ensures.columns t) c.args.left_on.now c.args.right_on.now c.args.args.now)
     in
     let p = err_from_is_err_and c.from_residual-in_err-check_joined_names.result c.from_residual-in_err-check_joined_names.ensures.1 in
     rw (p.1, p.2) (by_fifth _ _ _ _ _ _ _ all c.in_ok-left_key.ensures.settles c.in_ok-right_key.ensures.settles _ c.in_ok-check_key_types.ensures c.in_ok-check_key_kind.ensures same c.in_err-check_joined_names.ensures)
@@ -32,8 +32,8 @@ returns-in_err-check_joined_names-clause-settles c =
 pub returns-clause-settles : goal.returns-clause-settles
 returns-clause-settles c =
     let all = five_causes c.args.left.now c.args.right.now c.args.left_on.now c.args.right_on.now c.args.args.now c.requires (plain c.in_ok-left_key.left_key.now) (plain c.in_ok-right_key.right_key.now) c.in_ok-left_key.ensures.found c.in_ok-right_key.ensures.found in
-    let same : repeated_name (by_names (table_of c.get_columns.result.now) (table_of c.get_columns-2.result.now) c.args.left_on.now c.args.right_on.now c.args.args.now) ≡ repeated_name (by_names (table_of c.args.left.now) (table_of c.args.right.now) c.args.left_on.now c.args.right_on.now c.args.args.now) =
-    λ t. repeated_name (by_names (table_of (c.get_columns.ensures.columns t)) (table_of (c.get_columns-2.ensures.columns t)) c.args.left_on.now c.args.right_on.now c.args.args.now)
+    let same : repeated_name (lent_request c.get_columns.result.now c.get_columns-2.result.now c.args.left_on.now c.args.right_on.now c.args.args.now) ≡ repeated_name (lent_request c.args.left.now c.args.right.now c.args.left_on.now c.args.right_on.now c.args.args.now) =
+    λ t. repeated_name (lent_request (c.get_columns.ensures.columns t) (c.get_columns-2.ensures.columns t) c.args.left_on.now c.args.right_on.now c.args.args.now)
     in
     by_none _ _ _ _ _ _ all c.in_ok-left_key.ensures.settles c.in_ok-right_key.ensures.settles c.in_ok-check_key_types.ensures c.in_ok-check_key_kind.ensures (◌∙◌ {A = Option PolarsError} (sym same) c.in_ok-check_joined_names.ensures)
 
