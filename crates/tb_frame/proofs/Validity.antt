@@ -64,6 +64,6 @@ module _ (q : Request) (valid : join_valid q) where
   some_answer left right alike = (
     map (fill (cut q.args.slice ordered_pairs)) (out q),
     answer_of q ordered_pairs
-    (table-fill (cut q.args.slice ordered_pairs) (out q) (names_distinct q names_apart) (outs_typed q left.typed right.typed alike))
-    (out_wide q some_left some_right) (in_order-ordered q.args.how q.args.maintain_order (height q.left) (height q.right) (matches q)),
+        (table-fill (cut q.args.slice ordered_pairs) (out q) (names_distinct q names_apart) (outs_typed q left.typed right.typed alike))
+        (out_wide q some_left some_right) (in_order-ordered q.args.how q.args.maintain_order (height q.left) (height q.right) (matches q)),
   )

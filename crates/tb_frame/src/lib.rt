@@ -12,8 +12,6 @@ pub mod laws;
 mod names;
 mod order;
 mod right_columns;
-#[cfg(test)]
-mod tests;
 
 pub use args::{Direction, JoinArgs, JoinCoalesce, JoinType, JoinValidation, MaintainOrderJoin};
 pub use arranging::{arrange, cut_pairs};

@@ -42,8 +42,8 @@ one_kind t i j d e apart low high same = at (cases_order i j)
 abbrev HasOwnKind : Table → TableColumn → Type 0
 HasOwnKind t k = All (λ (c : TableColumn). c.name ≡ k.name → c.kind ≡ k.kind) t
 
-own_kinds : (t : Table) → IsTable t → All (HasOwnKind t) t
-own_kinds t h = λ j e high i d low same. one_kind t i j d e h.distinct low high same
+own_kinds : (t : Table) → AllPairs (λ (a b : Name). a ≢ b) (names_of t) → All (HasOwnKind t) t
+own_kinds t apart = λ j e high i d low same. one_kind t i j d e apart low high same
 
 -- the keys have the names that they were selected by
 pub keys_named : (cs ks : List Col) (names : List Name) → table_of ks ≡ filter_map (named (table_of cs)) names → first_unknown (table_of cs) names ≡ None → names_of (table_of ks) ≡ names
@@ -69,7 +69,7 @@ kinds_at lk rk n p none low =
     let at : get_or (row_numbers n) p 0 ≡ p = get_or-range_with_len 0 n p 0 low ∙ omega arith in
     (same_kind-Decides (kind_at lk p) (kind_at rk p)).0 (not-false (same_kind (kind_at lk p) (kind_at rk p)) (sym (ap test at) ∙ fails))
 
-module _ (left lk rk : List Col) (lo : List Name) (table : IsTable (table_of left)) (is : table_of lk ≡ filter_map (named (table_of left)) lo) (known : first_unknown (table_of left) lo ≡ None)
+module _ (left lk rk : List Col) (lo : List Name) (apart : AllPairs (λ (a b : Name). a ≢ b) (names_of (table_of left))) (is : table_of lk ≡ filter_map (named (table_of left)) lo) (known : first_unknown (table_of left) lo ≡ None)
     (none : find (λ p. not (same_kind (kind_at (table_of lk) p) (kind_at (table_of rk) p))) (row_numbers (min (length (table_of lk)) (length (table_of rk)))) ≡ None) where
   -- a left column has the type of the left key of its name, and so that of the right key beside it
   beside : (i : ℕ) (d k : Col) → i < length left → (p : ℕ) → position (same_name (get_or left i d).name) lo ≡ Some p → slice_get rk p ≡ Some k → (get_or left i d).kind ≡ k.kind
@@ -87,7 +87,7 @@ module _ (left lk rk : List Col) (lo : List Name) (table : IsTable (table_of lef
       ∙ ap (λ (ns : List Name). get_or ns p []) (sym (keys_named left lk lo is known))
       ∙ get_or-map (λ (c : TableColumn). c.name) (table_of lk) p (plain d) [] in_lk
       in
-      let own : HasOwnKind (table_of left) key = subst (λ (t : Table). All (HasOwnKind (table_of left)) t) (sym is) (selected_hold (HasOwnKind (table_of left)) (table_of left) (own_kinds (table_of left) table) lo) p (plain d) in_lk in
+      let own : HasOwnKind (table_of left) key = subst (λ (t : Table). All (HasOwnKind (table_of left)) t) (sym is) (selected_hold (HasOwnKind (table_of left)) (table_of left) (own_kinds (table_of left) apart) lo) p (plain d) in_lk in
       let long_left = length-map left plain in
       let plain_c : get_or (table_of left) i (plain d) ≡ plain c = get_or-map plain left i d (plain d) low in
       let kind : c.kind ≡ key.kind = ap (λ (x : TableColumn). x.kind) (sym plain_c) ∙ own i (plain d) (omega (arith, long_left)) (ap (λ (x : TableColumn). x.name) plain_c ∙ name) in

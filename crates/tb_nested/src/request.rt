@@ -1,6 +1,7 @@
 //! A request to join whose parts are lent.
-ghost use Rattle.std.specs.Prelude.{◌≡◌, ◌≤◌, length};
-ghost use Rattle.tb_frame.specs.Table.{table_of, height, IsTable};
+ghost use Rattle.std.specs.Prelude.{◌≡◌, ◌≢◌, ◌≤◌, AllPairs, length};
+ghost use Rattle.tb_value.specs.Names.{Name};
+ghost use Rattle.tb_frame.specs.Table.{table_of, height, names_of};
 ghost use Rattle.tb_nested.specs.Rows.{HasRows};
 
 use tb_frame::{DataFrame, JoinArgs};
@@ -17,8 +18,9 @@ pub(crate) struct LentRequest<'a> {
     pub left_keys: &'a [Column],
     pub right_keys: &'a [Column],
     pub args: &'a JoinArgs,
-    ghost left_table: { IsTable (table_of left.now) },
-    ghost right_table: { IsTable (table_of right.now) },
+    ghost left_distinct: { AllPairs (λ (a b : Name). a ≢ b) (names_of (table_of left.now)) },
+    ghost left_level: { HasRows (height (table_of left.now)) left.now },
+    ghost right_level: { HasRows (height (table_of right.now)) right.now },
     ghost left_rows: { HasRows (height (table_of left.now)) left_keys.now },
     ghost right_rows: { HasRows (height (table_of right.now)) right_keys.now },
 }

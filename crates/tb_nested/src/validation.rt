@@ -1,10 +1,12 @@
 //! Whether a key stands on two rows of a side that is to have each key once.
-ghost use Rattle.std.specs.Prelude.{◌≡◌, ◌||◌, All};
+ghost use Rattle.std.specs.Prelude.{◌≡◌, ◌&&◌, ◌||◌, All};
 ghost use Rattle.std.specs.List.{list_any};
 ghost use Rattle.tb_value.specs.Datum.{is_present};
 ghost use Rattle.tb_value.specs.Pairs.{row_numbers};
-ghost use Rattle.tb_value.specs.Refusals.{SettlesOutright};
+ghost use Rattle.tb_value.specs.Refusals.{SettlesOutright, when};
 ghost use Rattle.tb_value.specs.See.{lent};
+ghost use Rattle.tb_value.specs.declared.error.ComputeCause.TheVariants.{Validation};
+ghost use Rattle.tb_value.specs.declared.error.PolarsError.TheVariants.{ComputeError};
 ghost use Rattle.tb_frame.specs.Refusal.{are_twins, broken_left, broken_right, has_twins, is_counted, is_validated, same_keys};
 ghost use Rattle.tb_frame.specs.Table.{table_of};
 ghost use Rattle.tb_nested.specs.Asked.{asked};
@@ -12,7 +14,7 @@ ghost use Rattle.tb_nested.specs.Rows.{HasRow, HasRows};
 
 use crate::agreeing::is_null;
 use crate::request::LentRequest;
-use tb_frame::JoinType;
+use tb_frame::{JoinArgs, JoinType};
 use tb_store::Column;
 use tb_value::{ComputeCause, PolarsError, PolarsResult, Side, ValueRef, same_value};
 
@@ -97,18 +99,32 @@ fn is_validated(how: JoinType) -> bool
     }
 }
 
+// Whether a side of n rows is asked to have no twins, and has some.
+fn is_broken(args: &JoinArgs, is_asked: bool, keys: &[Column], n: usize) -> bool
+    requires { HasRows n keys.now }
+    ensures { result ≡ (is_validated args.now.how && is_asked && has_twins (λ p. args.now.join_nulls) (table_of keys.now) n) }
+{
+    is_validated(args.how) && is_asked && has_twins(args.join_nulls, keys, n)
+}
+
+// Refuses a side that is broken (Validation).
+fn check_side(is_broken: bool, side: Side) -> PolarsResult<()>
+    ensures { SettlesOutright result (when is_broken (ComputeError (Validation side))) }
+{
+    if is_broken {
+        return Err(PolarsError::ComputeError(ComputeCause::Validation(side)));
+    }
+    Ok(())
+}
+
 /// Refuses a left side that is asked to have each key once and has a key twice (Validation).
 pub(crate) fn check_left(request: &LentRequest<'_>) -> PolarsResult<()>
     ensures { SettlesOutright result (broken_left (asked request.now)) }
 {
     let args = request.args;
-    if is_validated(args.how)
-        && args.validation.asks_left()
-        && has_twins(args.join_nulls, request.left_keys, request.left.height())
-    {
-        return Err(PolarsError::ComputeError(ComputeCause::Validation(Side::Left)));
-    }
-    Ok(())
+    let is_asked = args.validation.asks_left();
+    let is_broken = is_broken(args, is_asked, request.left_keys, request.left.height());
+    check_side(is_broken, Side::Left)
 }
 
 /// Refuses a right side that is asked to have each key once and has a key twice (Validation).
@@ -116,11 +132,7 @@ pub(crate) fn check_right(request: &LentRequest<'_>) -> PolarsResult<()>
     ensures { SettlesOutright result (broken_right (asked request.now)) }
 {
     let args = request.args;
-    if is_validated(args.how)
-        && args.validation.asks_right()
-        && has_twins(args.join_nulls, request.right_keys, request.right.height())
-    {
-        return Err(PolarsError::ComputeError(ComputeCause::Validation(Side::Right)));
-    }
-    Ok(())
+    let is_asked = args.validation.asks_right();
+    let is_broken = is_broken(args, is_asked, request.right_keys, request.right.height());
+    check_side(is_broken, Side::Right)
 }

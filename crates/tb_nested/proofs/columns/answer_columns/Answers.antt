@@ -17,7 +17,6 @@ use Rattle.tb_frame.specs.Refusal.{key_types, kind_at}
 use Rattle.tb_frame.specs.RightColumns.{gone_left, gone_right, right_columns, right_side}
 use Rattle.tb_frame.specs.Table.{TableColumn, table_of, height, names_of}
 use Rattle.tb_frame.proofs.Causes.{map_none}
-use Rattle.tb_frame.proofs.Taking.{all_plain}
 use Rattle.tb_frame.proofs.Validity.{known_left, known_right, same_counts, same_types}
 use Rattle.tb_nested.specs.Asked.{asked}
 use Rattle.tb_nested.specs.Merging.{key_merged, left_column}
@@ -42,7 +41,7 @@ left_columns-requires-clause-left_rows c =
     let r = c.args.request.now in
     let h = height (table_of r.left.now) in
     let gone = gone_left r.args.now r.left_on.now in
-    let level : HasRows h r.left.now = all_plain (λ (k : TableColumn). length k.values ≡ h) r.left.now r.left_table.one_height in
+    let level : HasRows h r.left.now = r.left_level in
     let kept : HasRows h c.get_columns.result.now = subst (λ (cs : List Col). HasRows h cs) (sym (c.get_columns.ensures.columns ∙ c.in_ok-kept.ensures)) (All-filter (stays gone) (λ (k : Col). length (values k) ≡ h) r.left.now level) in
     in_columns h c.deref.result.now c.get_columns.result.now (subst (λ (rows : List (Option ℕ)). All (IsRowOf h) rows) (sym (c.deref.ensures.value ∙ c.in_ok-left.ensures)) (left_within h (height (table_of r.right.now)) c.args.pairs.now c.requires.pairs)) kept
 
@@ -59,14 +58,14 @@ left_columns-requires-clause-types c =
     let gone = gone_left r.args.now r.left_on.now in
     let P : Col → Type 0 = λ k. ForSome (key_merged r k.name) (λ x. k.kind ≡ x.kind) in
     let is = ap (λ (q : Request). q.left_keys) c.requires.named in
-    let all = merged_kinds r.left.now r.left_keys.now r.right_keys.now r.left_on.now r.left_table is (known_left q c.requires.valid) (not_mixed q (same_types q c.requires.valid)) (merges_keys r.args.now.how (coalesces r.args.now)) in
+    let all = merged_kinds r.left.now r.left_keys.now r.right_keys.now r.left_on.now r.left_distinct is (known_left q c.requires.valid) (not_mixed q (same_types q c.requires.valid)) (merges_keys r.args.now.how (coalesces r.args.now)) in
     subst (λ (cs : List Col). All P cs) (sym (c.get_columns.ensures.columns ∙ c.in_ok-kept.ensures)) (All-filter (stays gone) P r.left.now all)
 
 pub push_right-requires-clause-rows : goal.push_right-requires-clause-rows
 push_right-requires-clause-rows c =
     let r = c.args.request.now in
     let h = height (table_of r.right.now) in
-    let level : HasRows h r.right.now = all_plain (λ (k : TableColumn). length k.values ≡ h) r.right.now r.right_table.one_height in
+    let level : HasRows h r.right.now = r.right_level in
     let side : HasRows h c.right_side.result.now =
     subst (λ (cs : List Col). HasRows h cs) (sym (c.right_side.ensures ∙ ap (right_side r.args.now.how) c.get_columns-3.ensures.columns)) (side_level (has_right r.args.now.how) h r.right.now level)
     in

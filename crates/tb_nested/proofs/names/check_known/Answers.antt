@@ -3,7 +3,7 @@ use Rattle.std.specs.Option.{option_map}
 use Rattle.tb_value.specs.Names.{Name}
 use Rattle.tb_value.specs.declared.error.PolarsError.TheVariants.{ColumnNotFound}
 use Rattle.tb_value.proofs.Finds.{find_more, find_stop}
-use Rattle.tb_frame.specs.Join.{is_among}
+use Rattle.tb_frame.specs.Naming.{is_among}
 use Rattle.tb_frame.specs.Table.{table_of, names_of}
 use Rattle.tb_nested.proofs.names.check_known.Goals as goal
 use Rattle.tb_nested.proofs.names.check_known.Goals.{After-contains}

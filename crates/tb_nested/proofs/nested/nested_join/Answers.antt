@@ -1,4 +1,4 @@
-use Rattle.std.proofs.Common.{◌≡◌, ◌⊎◌, List, None, Some, sym, ◌∙◌, ap, subst, Option}
+use Rattle.std.proofs.Common.{◌≡◌, ◌⊎◌, refl, List, None, Some, sym, ◌∙◌, ap, subst, Option}
 use Rattle.std.specs.List.{filter_map}
 use Rattle.std.specs.Prelude.{IfOk}
 use Rattle.std.proofs.lemmas.Result.{err_from_is_err_and}
@@ -9,7 +9,8 @@ use Rattle.tb_value.specs.declared.index.JoinPair.{JoinPair}
 use Rattle.tb_frame.specs.Answer.{IsListed}
 use Rattle.tb_frame.specs.Join.{Request, IsAnswer, by_names, listing, named}
 use Rattle.tb_frame.specs.Refusal.{join_refusal}
-use Rattle.tb_frame.specs.Table.{table_of}
+use Rattle.tb_frame.specs.Table.{height, table_of}
+use Rattle.tb_frame.proofs.Taking.{of_each_length}
 use Rattle.tb_nested.specs.Causes.{names_refusal, later_refusal}
 use Rattle.tb_nested.proofs.Refusing.{by_first, by_second, by_none, two_causes, key_rows}
 use Rattle.tb_nested.proofs.nested.nested_join.Goals as goal
@@ -46,8 +47,9 @@ pub invariant_of-request : goal.invariant_of-request
 invariant_of-request c =
     let d = (goal.at.invariant_of-request c).After-get_columns-4 in
     record {
-      left_table = c.get_columns.ensures.table;
-      right_table = c.get_columns-2.ensures.table;
+      left_distinct = c.get_columns.ensures.table.distinct;
+      left_level = of_each_length (λ n. n ≡ height (table_of c.args.left.now)) c.args.left.now c.get_columns.ensures.table refl;
+      right_level = of_each_length (λ n. n ≡ height (table_of c.args.right.now)) c.args.right.now c.get_columns-2.ensures.table refl;
       left_rows = key_rows c.args.left.now c.get_columns-3.result.now c.args.left_on.now c.get_columns.ensures.table (left_keys d);
       right_rows = key_rows c.args.right.now c.get_columns-4.result.now c.args.right_on.now c.get_columns-2.ensures.table (right_keys d);
     }
