@@ -11,7 +11,7 @@ use Rattle.tb_value.specs.Names.{Name}
 use Rattle.tb_value.specs.Typed.{HasType}
 use Rattle.tb_value.specs.declared.limits.TheConstants.{MAX_ROWS}
 use Rattle.tb_chunk.specs.Col.{Col, IsColumn, values}
-use Rattle.tb_frame.specs.Table.{TableColumn, Table, plain, table_of, height}
+use Rattle.tb_frame.specs.Table.{TableColumn, Table, IsTyped, plain, table_of, height}
 use Rattle.tb_json.specs.Text.{kind_data, value_data, column_data, table_data, text_of}
 use Rattle.tb_json.specs.Kinds.{kind_in}
 use Rattle.tb_json.specs.Writable.{IsWritable}
@@ -32,9 +32,6 @@ values_are t [] h = refl
 values_are t (v ∷ vs) h =
     ap (λ w. w ∷ values_back t (items_of (map (value_data t) vs))) (value_back-value_data t v (All-head (HasType t) v vs h))
     ∙ ap (λ ws. v ∷ ws) (values_are t vs (All-tail (HasType t) v vs h))
-
-abbrev IsTyped : TableColumn → Type 0
-IsTyped c = All (HasType c.kind) c.values
 
 abbrev column : Name → Kind → List Datum → TableColumn
 column n t vs = record { name = n; kind = t; values = vs }

@@ -10,7 +10,7 @@ use Rattle.tb_value.specs.Datum.{Datum}
 use Rattle.tb_value.specs.Kind as kind
 use Rattle.tb_value.specs.Kind.{Kind, Parts}
 use Rattle.tb_value.specs.Typed.{HasType, AreOf, AreEachOf}
-use Rattle.tb_frame.specs.Table.{TableColumn, Table}
+use Rattle.tb_frame.specs.Table.{TableColumn, Table, IsTyped}
 use Rattle.tb_json.specs.Text.{zone_data, kind_data, parts_data, inner_kind, fields_in, number_data, value_data, items_data, fields_data, column_data, table_data}
 use Rattle.tb_json.specs.Writable.{IsWritable}
 use Rattle.tb_json.proofs.Narrow.{IsNarrow, narrow}
@@ -63,9 +63,6 @@ mutual
 ArePlain-values : (t : Kind) (vs : List Datum) → All (HasType t) vs → ArePlain (items_of (map (value_data t) vs))
 ArePlain-values t [] h = tt
 ArePlain-values t (v ∷ vs) h = (IsPlain-value t v (All-head (HasType t) v vs h), ArePlain-values t vs (All-tail (HasType t) v vs h))
-
-abbrev IsTyped : TableColumn → Type 0
-IsTyped c = All (HasType c.kind) c.values
 
 ArePlain-columns : (cs : Table) → All IsTyped cs → ArePlain (items_of (map column_data cs))
 ArePlain-columns [] h = tt
