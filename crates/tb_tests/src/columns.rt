@@ -4,10 +4,11 @@ use std::alloc::Global;
 use std::process::Abort;
 use std::test::Fail;
 use tb_store::{
-    AnyValue, BinaryType, BooleanType, Bytes, ChunkedArray, DataType, Field, Fields, Int64Type,
-    ListType, NullableIdxSize, PlSmallStr, PolarsDataType, PolarsError, Series, StringType,
-    StructType, Values,
+    AnyValue, BinaryType, BooleanType, Bytes, Chunk, ChunkedArray, Column, DataType, Field, Fields,
+    Int64Type, ListType, NullableIdxSize, PlSmallStr, PolarsDataType, PolarsError, Series,
+    StringType, StructType, Values,
 };
+use tb_value::equality::same_types;
 use tb_value::same_value;
 
 // The value and a Null, and the value again in a chunk of its own.
@@ -23,6 +24,48 @@ fn two_chunks(alloc: Global, value: &AnyValue) -> Result<Vec<Vec<AnyValue>>, Fai
     Ok(chunks)
 }
 
+// Parts of a column of a value, a Null and the value.
+fn check_parts(rt: &impl Abort, alloc: Global, column: &Column) -> Result<(), Fail> {
+    let part = column.slice(alloc, -2, 9)?;
+    assert_eq!(rt; part.len(), 2);
+    assert!(rt; part.null_count() > 0);
+    let whole = column.rechunk(alloc)?;
+    assert_eq!(rt; whole.n_chunks(), 1);
+    assert_eq!(rt; whole.len(), 3);
+    Ok(())
+}
+
+// Rows of such a column: the value, and then a Null.
+fn rows_of(rt: &impl Abort, alloc: Global, column: &Column) -> Result<Column, Fail> {
+    assert_eq!(rt; column.len(), 3);
+    Ok(column.take(alloc, &[2, 1])?)
+}
+
+// No row, and the first row of a column.
+fn optional_rows_of(rt: &impl Abort, alloc: Global, column: &Column) -> Result<Column, Fail> {
+    assert_eq!(rt; column.len(), 2);
+    let rows = [NullableIdxSize::null(), NullableIdxSize::some(0)];
+    Ok(column.take_opt(alloc, &rows)?)
+}
+
+// Two columns, one with a Null first and one with a Null last, have the value in each row together.
+fn check_merged(
+    rt: &impl Abort,
+    alloc: Global,
+    first: &Column,
+    second: &Column,
+    value: &AnyValue,
+) -> Result<(), Fail> {
+    if !same_types(first.dtype(), second.dtype()) || first.len() != second.len() {
+        return Err(Fail::from("two columns of other types or lengths"));
+    }
+    let merged = first.merged(alloc, second)?;
+    assert_eq!(rt; merged.len(), 2);
+    assert!(rt; same_value(merged.get(0), value.as_ref()));
+    assert!(rt; same_value(merged.get(1), value.as_ref()));
+    Ok(())
+}
+
 // What the calls of a series and a column answer, where its values are the value, a Null and the value.
 fn check_series(
     rt: &impl Abort,
@@ -32,21 +75,11 @@ fn check_series(
 ) -> Result<(), Fail> {
     let chunks = two_chunks(alloc, value)?;
     let series = Series::from_chunks(alloc, "s", dtype.copy(alloc)?, chunks)?;
-    assert_eq!(rt; series.len(), 3);
     let column = series.copy(alloc)?.into_column();
-    let part = column.slice(alloc, -2, 9)?;
-    assert!(rt; part.len() == 2 && part.null_count() > 0);
-    let whole = column.rechunk(alloc)?;
-    assert!(rt; whole.len() == 3 && whole.n_chunks() == 1);
-    let taken = whole.take(alloc, &[2, 1])?;
-    assert_eq!(rt; taken.len(), 2);
-    let optional = taken.take_opt(alloc, &[NullableIdxSize::null(), NullableIdxSize::some(0)])?;
-    assert!(rt; optional.len() == 2 && optional.dtype() == taken.dtype());
-    let merged = optional.merged(alloc, &taken.copy(alloc)?)?;
-    assert_eq!(rt; merged.len(), 2);
-    assert!(rt; same_value(merged.get(0), value.as_ref()));
-    assert!(rt; same_value(merged.get(1), value.as_ref()));
-    Ok(())
+    check_parts(rt, alloc, &column)?;
+    let taken = rows_of(rt, alloc, &column)?;
+    let optional = optional_rows_of(rt, alloc, &taken)?;
+    check_merged(rt, alloc, &optional, &taken, value)
 }
 
 // The same of a column whose way to store values is known by a marker.
@@ -63,9 +96,26 @@ fn check_marked<T: PolarsDataType>(
     let last = whole.slice(alloc, -1, 1)?;
     assert!(rt; last.len() == 1 && last.n_chunks() == 1);
     assert!(rt; same_value(last.get(0), value.as_ref()));
+    let chunk = marked_chunk::<T>(alloc, dtype, value.as_ref().to_value(alloc)?)?;
+    assert!(rt; chunk.is_some_and(|chunk| chunk.len() == 1));
     let refused = ChunkedArray::<T>::from_chunks(alloc, "s", DataType::Null, Vec::new(alloc));
     assert!(rt; matches!(refused, Err(PolarsError::SchemaMismatch)));
     Ok(())
+}
+
+// A chunk of the value, where its type is one that the marker accepts.
+#[tactic(auto, using(tb_chunk::proofs::Fitting::fits_stored))]
+fn marked_chunk<T: PolarsDataType>(
+    alloc: Global,
+    dtype: &DataType,
+    value: AnyValue,
+) -> Result<Option<T::Array>, Fail> {
+    if !T::accepts(dtype) || !dtype.is_of(&value) {
+        return Ok(None);
+    }
+    let mut values = Vec::new(alloc);
+    values.push(value)?;
+    Ok(Some(T::Array::from_values(alloc, &values)?))
 }
 
 #[test]
