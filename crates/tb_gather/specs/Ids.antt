@@ -2,6 +2,7 @@
 use Rattle.std.specs.Prelude.{◌≡◌, ◌<◌, ◌≤◌, ◌+◌, ◌⊎◌, ℕ, List, Option, Some, None, length, take, slice_index_or}
 use Rattle.std.specs.List.{All, AllPairs, sum}
 use Rattle.std.specs.Option.{option_map}
+use Rattle.tb_value.specs.declared.limits.TheConstants.{TOO_MANY_CHUNKS}
 use Rattle.tb_value.specs.declared.sorted.IsSorted.{IsSorted}
 use Rattle.tb_value.specs.declared.sorted.IsSorted.TheVariants.{Ascending, Descending, Not}
 use Rattle.tb_chunk.specs.Col.{Col}
@@ -52,4 +53,4 @@ pub record AreStarts (lens starts : List ℕ) : Type 0 where
 -- the columns are cut alike, into chunks that ids of 24 bits for the chunk can name
 pub record AreCutForIds (cs : List Col) : Type 0 where
   pub alike : AreCutAlike cs
-  pub few : All (λ (c : Col). length c.chunks < 16777215) cs
+  pub few : All (λ (c : Col). length c.chunks < TOO_MANY_CHUNKS) cs

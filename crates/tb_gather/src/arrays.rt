@@ -9,7 +9,7 @@ use crate::gathering::gather_one;
 use crate::take_chunked::TakeChunked;
 use std::alloc::Global;
 use tb_store::{ChunkedArray, PolarsDataType, Series};
-use tb_value::{ChunkId, IsSorted, OutOfMemory};
+use tb_value::{ChunkId, IsSorted, MAX_ROWS, OutOfMemory};
 
 // The rows that the ids name, in one chunk, with this flag.
 fn gather_array<T: PolarsDataType, const B: u64>(
@@ -19,7 +19,7 @@ fn gather_array<T: PolarsDataType, const B: u64>(
     flag: IsSorted,
 ) -> Result<ChunkedArray<T>, OutOfMemory>
     requires named { NameRows by.now array.now }
-    requires few { length by.now ≤ 4294967294 }
+    requires few { length by.now ≤ MAX_ROWS }
     requires flag { FlagHolds flag array.now.kind (map (value_at array.now.chunks) by.now) }
     ensures { IfOk result (λ a. a ≡ named_rows by.now flag array.now) }
 {

@@ -1,5 +1,5 @@
 //! Ids made from row numbers.
-ghost use Rattle.std.specs.Prelude.{◌≡◌, ◌<◌, ◌≤◌, ◌^◌, ◌-◌, ◌↔◌, All, IfOk, IsTrue, Some, length, map, nat_le, slice_index_or};
+ghost use Rattle.std.specs.Prelude.{◌≡◌, ◌<◌, ◌≤◌, ◌^◌, ◌-◌, All, IfOk, Some, length, map, nat_le, slice_index_or};
 ghost use Rattle.tb_value.specs.declared.sorted.IsSorted.{IsSorted};
 ghost use Rattle.tb_chunk.specs.Col.{values, IsColumn};
 ghost use Rattle.tb_chunk.specs.Rows.{IsRowOf};
@@ -8,7 +8,7 @@ ghost use Rattle.tb_gather.specs.Ids.{AreStarts, NamesRow, RowsRunBy, RunsBy, ro
 ghost use Rattle.tb_gather.specs.Gathered.{NameRows};
 
 use std::alloc::Global;
-use tb_store::{Column, Series};
+use tb_store::Series;
 use tb_value::{ChunkId, IdxSize, NullableIdxSize, OutOfMemory};
 
 // Where each chunk starts, as a row number.
@@ -92,32 +92,4 @@ pub fn ids_of<const B: u64>(
         ids.push(id_or_null(column, &starts, row))?;
     }
     Ok(ids)
-}
-
-/// Whether each id is null or names a row of the column.
-pub fn name_rows<const B: u64>(column: &Column, ids: &[ChunkId<B>]) -> bool
-    ensures { IsTrue result ↔ NameRows ids.now column.now }
-{
-    for id in ids {
-        if !names_row(column, id) {
-            return false;
-        }
-    }
-    true
-}
-
-fn names_row<const B: u64>(column: &Column, id: &ChunkId<B>) -> bool
-    ensures { IsTrue result ↔ NamesRow (lens column.now) id.now }
-{
-    if id.is_null() {
-        return true;
-    }
-    let (chunk, row) = id.extract();
-    has_row(column, chunk as usize, row as usize)
-}
-
-fn has_row(column: &Column, chunk: usize, row: usize) -> bool
-    ensures { IsTrue result ↔ NamesRow (lens column.now) (Some (chunk, row)) }
-{
-    chunk < column.n_chunks() && row < column.chunk_len(chunk)
 }

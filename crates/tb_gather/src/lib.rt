@@ -11,10 +11,8 @@ mod series;
 mod side_by_side;
 mod tables;
 mod take_chunked;
-#[cfg(test)]
-mod tests;
 
-pub use ids::{ids_of, name_rows};
+pub use ids::ids_of;
 pub use rows::gather_rows;
 pub use side_by_side::TakeChunkedHorPar;
 pub use take_chunked::TakeChunked;

@@ -13,13 +13,10 @@ use std::alloc::Global;
 use std::thread::Threads;
 use tb_frame::{DataFrame, rechunk_columns};
 use tb_store::Column;
-use tb_value::{NullableIdxSize, OutOfMemory, StandardChunkId};
-
-// As many chunks have no id.
-const TOO_MANY_CHUNKS: usize = (1 << 24) - 1;
+use tb_value::{MAX_ROWS, NullableIdxSize, OutOfMemory, StandardChunkId, TOO_MANY_CHUNKS};
 
 /// The rows of a table that these numbers name, in one chunk, Null for none. A table whose columns are cut differently,
-/// or that has 2^24 - 1 chunks or more, is made one chunk first.
+/// or that has `TOO_MANY_CHUNKS`, is made one chunk first.
 pub fn gather_rows(
     rt: &(impl Threads + Sync),
     alloc: Global,
@@ -27,7 +24,7 @@ pub fn gather_rows(
     rows: &[NullableIdxSize],
 ) -> Result<DataFrame, OutOfMemory>
     requires rows { All (IsRowOf (height (table_of table.now))) rows.now }
-    requires few { length rows.now ≤ 4294967294 }
+    requires few { length rows.now ≤ MAX_ROWS }
     ensures { IfOk result (λ t. t ≡ map (opt_taken rows.now) table.now) }
 {
     if is_cut_for_ids(table) {
@@ -45,7 +42,7 @@ fn is_cut_for_ids(table: &DataFrame) -> bool
 }
 
 fn have_few_chunks(columns: &[Column]) -> bool
-    ensures { IsTrue result ↔ All (λ (c : Col). length c.chunks < 16777215) columns.now }
+    ensures { IsTrue result ↔ All (λ (c : Col). length c.chunks < TOO_MANY_CHUNKS) columns.now }
 {
     columns
         .iter()
@@ -70,7 +67,7 @@ fn gather_by_ids(
 ) -> Result<DataFrame, OutOfMemory>
     requires cut { AreCutForIds table.now }
     requires rows { All (IsRowOf (height (table_of table.now))) rows.now }
-    requires few { length rows.now ≤ 4294967294 }
+    requires few { length rows.now ≤ MAX_ROWS }
     ensures { IfOk result (λ t. t ≡ map (opt_taken rows.now) table.now) }
 {
     match table.get_columns().first() {

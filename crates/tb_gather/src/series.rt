@@ -8,7 +8,7 @@ use crate::gathering::gather_chunks;
 use crate::take_chunked::TakeChunked;
 use std::alloc::Global;
 use tb_store::{Column, Series};
-use tb_value::{ChunkId, IsSorted, OutOfMemory};
+use tb_value::{ChunkId, IsSorted, MAX_ROWS, OutOfMemory};
 
 // The rows that the ids name, in one chunk, with this flag.
 fn gather_series<const B: u64>(
@@ -18,7 +18,7 @@ fn gather_series<const B: u64>(
     flag: IsSorted,
 ) -> Result<Series, OutOfMemory>
     requires named { NameRows by.now series.now }
-    requires few { length by.now ≤ 4294967294 }
+    requires few { length by.now ≤ MAX_ROWS }
     requires flag { FlagHolds flag series.now.kind (map (value_at series.now.chunks) by.now) }
     ensures { IfOk result (λ s. s ≡ named_rows by.now flag series.now) }
 {

@@ -10,7 +10,7 @@ use std::alloc::Global;
 use std::thread::Threads;
 use tb_frame::{DataFrame, IntoDf};
 use tb_store::Column;
-use tb_value::{ChunkId, IsSorted, OutOfMemory};
+use tb_value::{ChunkId, IsSorted, MAX_ROWS, OutOfMemory};
 
 // A column of fewer rows is gathered in less time than a thread takes to start.
 const WORTH_A_THREAD: usize = 8_192;
@@ -28,7 +28,7 @@ pub trait TakeChunkedHorPar<const B: u64>: IntoDf {
         requires present { All (λ (id : Id). IsSome id) idx.now }
         requires named { All (NameRows idx.now) (Self.frame self.now) }
         requires runs { RunsBy sorted idx.now }
-        requires few { length idx.now ≤ 4294967294 }
+        requires few { length idx.now ≤ MAX_ROWS }
         ensures { IfOk result (λ t. t ≡ map (gathered idx.now sorted) (Self.frame self.now)) }
     {
         let columns = gather_side_by_side(rt, alloc, self.to_df().get_columns(), idx, sorted)?;
@@ -43,7 +43,7 @@ pub trait TakeChunkedHorPar<const B: u64>: IntoDf {
         idx: &[ChunkId<B>],
     ) -> Result<DataFrame, OutOfMemory>
         requires named { All (NameRows idx.now) (Self.frame self.now) }
-        requires few { length idx.now ≤ 4294967294 }
+        requires few { length idx.now ≤ MAX_ROWS }
         ensures { IfOk result (λ t. t ≡ map (opt_gathered idx.now) (Self.frame self.now)) }
     {
         let columns = gather_opt_side_by_side(rt, alloc, self.to_df().get_columns(), idx)?;
@@ -73,7 +73,7 @@ fn gather_side_by_side<const B: u64>(
     requires present { All (λ (id : Id). IsSome id) by.now }
     requires named { All (NameRows by.now) columns.now }
     requires runs { RunsBy sorted by.now }
-    requires few { length by.now ≤ 4294967294 }
+    requires few { length by.now ≤ MAX_ROWS }
     ensures { IfOk result (λ v. v.items ≡ map (gathered by.now sorted) columns.now) }
 {
     columns
@@ -84,7 +84,7 @@ fn gather_side_by_side<const B: u64>(
                 requires present { All (λ (id : Id). IsSome id) by.now }
                 requires named { NameRows by.now column.now }
                 requires runs { RunsBy sorted by.now }
-                requires few { length by.now ≤ 4294967294 }
+                requires few { length by.now ≤ MAX_ROWS }
                 ensures { IfOk result (λ c. c ≡ gathered by.entry.now sorted column.now) }
             { column.take_chunked_unchecked(alloc, by, sorted) },
         )
@@ -99,7 +99,7 @@ fn gather_opt_side_by_side<const B: u64>(
     by: &[ChunkId<B>],
 ) -> Result<Vec<Column>, OutOfMemory>
     requires named { All (NameRows by.now) columns.now }
-    requires few { length by.now ≤ 4294967294 }
+    requires few { length by.now ≤ MAX_ROWS }
     ensures { IfOk result (λ v. v.items ≡ map (opt_gathered by.now) columns.now) }
 {
     columns
@@ -108,7 +108,7 @@ fn gather_opt_side_by_side<const B: u64>(
         .map(
             |column: &Column| -> Result<Column, OutOfMemory>
                 requires named { NameRows by.now column.now }
-                requires few { length by.now ≤ 4294967294 }
+                requires few { length by.now ≤ MAX_ROWS }
                 ensures { IfOk result (λ c. c ≡ opt_gathered by.entry.now column.now) }
             { column.take_opt_chunked_unchecked(alloc, by) },
         )

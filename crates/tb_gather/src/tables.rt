@@ -9,7 +9,7 @@ use crate::take_chunked::TakeChunked;
 use std::alloc::Global;
 use tb_frame::DataFrame;
 use tb_store::Column;
-use tb_value::{ChunkId, IsSorted, OutOfMemory, PolarsError};
+use tb_value::{ChunkId, IsSorted, MAX_ROWS, OutOfMemory, PolarsError};
 
 // The rows of each column that the ids name.
 fn gather_columns<const B: u64>(
@@ -21,7 +21,7 @@ fn gather_columns<const B: u64>(
     requires present { All (λ (id : Id). IsSome id) by.now }
     requires named { All (NameRows by.now) columns.now }
     requires runs { RunsBy sorted by.now }
-    requires few { length by.now ≤ 4294967294 }
+    requires few { length by.now ≤ MAX_ROWS }
     ensures { IfOk result (λ v. v.items ≡ map (gathered by.now sorted) columns.now) }
 {
     let mut gathered = Vec::with_capacity(alloc, columns.len())?;
@@ -38,7 +38,7 @@ fn gather_opt_columns<const B: u64>(
     by: &[ChunkId<B>],
 ) -> Result<Vec<Column>, OutOfMemory>
     requires named { All (NameRows by.now) columns.now }
-    requires few { length by.now ≤ 4294967294 }
+    requires few { length by.now ≤ MAX_ROWS }
     ensures { IfOk result (λ v. v.items ≡ map (opt_gathered by.now) columns.now) }
 {
     let mut gathered = Vec::with_capacity(alloc, columns.len())?;

@@ -4,7 +4,7 @@ ghost use Rattle.tb_gather.specs.Ids.{Id, RunsBy};
 ghost use Rattle.tb_gather.specs.Gathered.{NameRows, gathered, opt_gathered};
 
 use std::alloc::Global;
-use tb_value::{ChunkId, IsSorted, OutOfMemory};
+use tb_value::{ChunkId, IsSorted, MAX_ROWS, OutOfMemory};
 
 /// A column, or columns side by side, whose rows are gathered by ids. An id names a chunk and a row in it, the same in
 /// each column.
@@ -26,7 +26,7 @@ pub trait TakeChunked<const B: u64>: Sized {
         requires present { All (λ (id : Id). IsSome id) by.now }
         requires named { All (NameRows by.now) (columns self.now) }
         requires runs { RunsBy sorted by.now }
-        requires few { length by.now ≤ 4294967294 }
+        requires few { length by.now ≤ MAX_ROWS }
         ensures { IfOk result (λ r. columns r ≡ map (gathered by.now sorted) (columns self.now)) };
 
     /// As `take_chunked_unchecked`, where a null id gives Null, with the flag Not.
@@ -36,6 +36,6 @@ pub trait TakeChunked<const B: u64>: Sized {
         by: &[ChunkId<B>],
     ) -> Result<Self, OutOfMemory>
         requires named { All (NameRows by.now) (columns self.now) }
-        requires few { length by.now ≤ 4294967294 }
+        requires few { length by.now ≤ MAX_ROWS }
         ensures { IfOk result (λ r. columns r ≡ map (opt_gathered by.now) (columns self.now)) };
 }

@@ -16,7 +16,7 @@ use Rattle.tb_frame.specs.declared.args.JoinType.TheVariants.{Inner, Left, Right
 use Rattle.tb_frame.specs.Join.{Ascends}
 use Rattle.tb_frame.proofs.InOrder.{left_way, right_way, left_way-permutation, left_way-sorted, right_way-permutation, right_way-sorted}
 use Rattle.tb_hash.specs.Keys.{keys_match, rows_match, rows_with, probe_listing}
-use Rattle.tb_hash.specs.Probing.{AllowsSide, AreMet, IsProbed, probed_order, probed_only, row_pairs, is_kept, probed_pairs, kept_rows, unmet_rows, unmarked_rows, kind_pairs}
+use Rattle.tb_hash.specs.Probing.{AllowsSide, AreMet, IsProbed, probed_order, probed_only, row_pairs, is_kept, probed_pairs, kept_rows, unmet_rows, unmarked_rows, joined_pairs}
 
 -- ROWS AMONG THOSE THAT PASS A TEST
 
@@ -97,7 +97,7 @@ module _ (rows : ℕ → List ℕ) (n b : ℕ) (m : ℕ → ℕ → Bool) (h : (
   anti_is = ap (λ (f : ℕ → Bool). map left_only (filter f (row_numbers n))) (λ t p. (ap (is_kept false) (h p) ∙ sym (not_kept (filter (m p) (row_numbers b))) ∙ ap not (sym (any_kept (m p) (row_numbers b)))) t)
 
   -- with the left rows probed the pairs go by left rows
-  left_is : (how : JoinType) → AllowsSide how false → kind_pairs rows how false n b ≡ left_way how n b m
+  left_is : (how : JoinType) → AllowsSide how false → joined_pairs rows how false n b ≡ left_way how n b m
   left_is Inner a = inner_is
   left_is Left a = each_is
   left_is Right a = absurd (cc)
@@ -106,7 +106,7 @@ module _ (rows : ℕ → List ℕ) (n b : ℕ) (m : ℕ → ℕ → Bool) (h : (
   left_is Anti a = anti_is
 
   -- with the right rows probed they go by right rows
-  right_is : (how : JoinType) → AllowsSide how true → kind_pairs rows how true n b ≡ right_way how b n (λ k p. m p k)
+  right_is : (how : JoinType) → AllowsSide how true → joined_pairs rows how true n b ≡ right_way how b n (λ k p. m p k)
   right_is Inner a = turned_is false ∙ ap (map turn) inner_is
   right_is Left a = absurd (cc)
   right_is Right a = turned_is true ∙ ap (map turn) each_is
@@ -154,19 +154,19 @@ module _ {K : Type 0} (eq : K → K → Bool) (laws : IsEquivalence eq) (nulls :
 
   -- rows gives the built rows of each probed row
   module _ (built probed : List (Option K)) (rows : ℕ → List ℕ) (h : (p : ℕ) → rows p ≡ rows_with eq nulls built (get_or probed p None) (length built)) where
-    pairs_left : (how : JoinType) → AllowsSide how false → kind_pairs rows how false (length probed) (length built) ≡ left_way how (length probed) (length built) (rows_match eq nulls probed built)
+    pairs_left : (how : JoinType) → AllowsSide how false → joined_pairs rows how false (length probed) (length built) ≡ left_way how (length probed) (length built) (rows_match eq nulls probed built)
     pairs_left how a = left_is rows (length probed) (length built) (rows_match eq nulls probed built) h how a
 
     turned_test : (λ k p. rows_match eq nulls probed built p k) ≡ rows_match eq nulls built probed
     turned_test = λ t k p. match_turned (get_or probed p None) (get_or built k None) t
 
-    pairs_right : (how : JoinType) → AllowsSide how true → kind_pairs rows how true (length probed) (length built) ≡ right_way how (length built) (length probed) (rows_match eq nulls built probed)
+    pairs_right : (how : JoinType) → AllowsSide how true → joined_pairs rows how true (length probed) (length built) ≡ right_way how (length built) (length probed) (rows_match eq nulls built probed)
     pairs_right how a =
         right_is rows (length probed) (length built) (rows_match eq nulls probed built) h how a
         ∙ ap (λ (m : ℕ → ℕ → Bool). right_way how (length built) (length probed) m) turned_test
 
     -- the pairs that a kind lists are its listing, in the order of the probed rows
-    pub listed : (how : JoinType) (side : Bool) → AllowsSide how side → IsProbed how side (probe_listing eq nulls how side built probed) (kind_pairs rows how side (length probed) (length built))
+    pub listed : (how : JoinType) (side : Bool) → AllowsSide how side → IsProbed how side (probe_listing eq nulls how side built probed) (joined_pairs rows how side (length probed) (length built))
     listed how false a = record {
       permutation = rw (pairs_left how a) (left_way-permutation how (length probed) (length built) (rows_match eq nulls probed built));
       ascends = rw (pairs_left how a) (by_left how a (length probed) (length built) (rows_match eq nulls probed built));
@@ -177,5 +177,5 @@ module _ {K : Type 0} (eq : K → K → Bool) (laws : IsEquivalence eq) (nulls :
     }
 
     -- and as many
-    pub as_many : (how : JoinType) (side : Bool) → AllowsSide how side → length (kind_pairs rows how side (length probed) (length built)) ≡ length (probe_listing eq nulls how side built probed)
-    as_many how side a = length_permutation (probe_listing eq nulls how side built probed) (kind_pairs rows how side (length probed) (length built)) (listed how side a).permutation
+    pub as_many : (how : JoinType) (side : Bool) → AllowsSide how side → length (joined_pairs rows how side (length probed) (length built)) ≡ length (probe_listing eq nulls how side built probed)
+    as_many how side a = length_permutation (probe_listing eq nulls how side built probed) (joined_pairs rows how side (length probed) (length built)) (listed how side a).permutation

@@ -1,5 +1,5 @@
 -- The rows that match a key, as a loop finds them.
-use Rattle.std.proofs.Common.{◌≡◌, ℕ, ◌+◌, ◌<◌, Bool, true, false, cond, List, [], ◌∷◌, ◌++◌, get_or, refl, ap, sym, ◌∙◌, Option, Some, None, append-nil}
+use Rattle.std.proofs.Common.{◌≡◌, ℕ, ◌+◌, ◌<◌, Bool, true, false, cond, List, [], ◌∷◌, ◌++◌, get_or, refl, ap, sym, ◌∙◌, Option, Some, None, unwrap_or, append-nil}
 use Rattle.std.specs.Prelude.{All, filter}
 use Rattle.std.specs.Cmp.{IsEquivalence}
 use Rattle.std.proofs.lemmas.List.Elements.{filter-append, All-filter}
@@ -7,6 +7,7 @@ use Rattle.tb_value.specs.Pairs.{row_numbers}
 use Rattle.tb_value.proofs.RowNumbers.{row_numbers_more}
 use Rattle.tb_frame.proofs.Ranges.{rows_below}
 use Rattle.tb_hash.specs.Keys.{keys_match, rows_with}
+use Rattle.tb_hash.specs.Plan.{entry_unless_empty}
 
 module _ {K : Type 0} (eq : K → K → Bool) (nulls : Bool) (keys : List (Option K)) where
   -- one more row
@@ -26,8 +27,17 @@ module _ {K : Type 0} (eq : K → K → Bool) (nulls : Bool) (keys : List (Optio
   pub rows_with-below : (key : Option K) (n : ℕ) → All (λ j. j < n) (rows_with eq nulls keys key n)
   rows_with-below key n = All-filter (λ j. keys_match eq nulls key (get_or keys j None)) (λ j. j < n) (row_numbers n) (rows_below n)
 
+-- the rows of an entry
+pub unwrap-entry : (rows : List ℕ) → unwrap_or (entry_unless_empty rows) [] ≡ rows
+unwrap-entry [] = refl
+unwrap-entry (row ∷ rows) = refl
+
+entry-push : (rows : List ℕ) (row : ℕ) → entry_unless_empty (rows ++ row ∷ []) ≡ Some (rows ++ row ∷ [])
+entry-push [] row = refl
+entry-push (r ∷ rows) row = refl
+
 -- a row with a key goes behind the rows of the keys that equal it
-module _ {K : Type 0} (eq : K → K → Bool) (laws : IsEquivalence eq) (nulls : Bool) (keys : List (Option K)) (n : ℕ) (z : K) (here : get_or keys n None ≡ Some z) (old new : K → List ℕ) (was : (k : K) → old k ≡ rows_with eq nulls keys (Some k) n) (step : (k : K) → new k ≡ cond (eq z k) (old z ++ n ∷ []) (old k)) where
+module _ {K : Type 0} (eq : K → K → Bool) (laws : IsEquivalence eq) (nulls : Bool) (keys : List (Option K)) (n : ℕ) (z : K) (here : get_or keys n None ≡ Some z) (old new : K → Option (List ℕ)) (was : (k : K) → old k ≡ entry_unless_empty (rows_with eq nulls keys (Some k) n)) (step : (k : K) → new k ≡ cond (eq z k) (Some (unwrap_or (old z) [] ++ n ∷ [])) (old k)) where
   more : (k : K) → rows_with eq nulls keys (Some k) (n + 1) ≡ rows_with eq nulls keys (Some k) n ++ cond (eq z k) (n ∷ []) []
   more k = rows_with-at eq nulls keys (Some k) n (eq z k) (ap (keys_match eq nulls (Some k)) here ∙ laws.symm k z)
 
@@ -39,17 +49,23 @@ module _ {K : Type 0} (eq : K → K → Bool) (laws : IsEquivalence eq) (nulls :
       at None = refl
       at (Some y) = laws.congr z k y e
 
-  some_case : (k : K) (b : Bool) → eq z k ≡ b → new k ≡ rows_with eq nulls keys (Some k) (n + 1)
-  some_case k true e =
-      step k ∙ ap (λ (b : Bool). cond b (old z ++ n ∷ []) (old k)) e ∙ ap (λ (r : List ℕ). r ++ n ∷ []) (was z ∙ same_rows k e)
-      ∙ ap (λ (b : Bool). rows_with eq nulls keys (Some k) n ++ cond b (n ∷ []) []) (sym e)
-      ∙ sym (more k)
-  some_case k false e =
-      step k ∙ ap (λ (b : Bool). cond b (old z ++ n ∷ []) (old k)) e ∙ was k ∙ sym (append-nil (rows_with eq nulls keys (Some k) n))
-      ∙ ap (λ (b : Bool). rows_with eq nulls keys (Some k) n ++ cond b (n ∷ []) []) (sym e)
-      ∙ sym (more k)
+  rows : K → List ℕ
+  rows k = rows_with eq nulls keys (Some k) n
 
-  pub some_more : (k : K) → new k ≡ rows_with eq nulls keys (Some k) (n + 1)
+  some_case : (k : K) (b : Bool) → eq z k ≡ b → new k ≡ entry_unless_empty (rows_with eq nulls keys (Some k) (n + 1))
+  unfolding rows
+  some_case k true e =
+      step k ∙ ap (λ (b : Bool). cond b (Some (unwrap_or (old z) [] ++ n ∷ [])) (old k)) e
+      ∙ ap (λ (r : List ℕ). Some (r ++ n ∷ [])) (ap (λ o. unwrap_or o []) (was z) ∙ unwrap-entry (rows z) ∙ same_rows k e)
+      ∙ sym (entry-push (rows k) n)
+      ∙ ap (λ (b : Bool). entry_unless_empty (rows k ++ cond b (n ∷ []) [])) (sym e)
+      ∙ sym (ap entry_unless_empty (more k))
+  some_case k false e =
+      step k ∙ ap (λ (b : Bool). cond b (Some (unwrap_or (old z) [] ++ n ∷ [])) (old k)) e ∙ was k ∙ ap entry_unless_empty (sym (append-nil (rows k)))
+      ∙ ap (λ (b : Bool). entry_unless_empty (rows k ++ cond b (n ∷ []) [])) (sym e)
+      ∙ sym (ap entry_unless_empty (more k))
+
+  pub some_more : (k : K) → new k ≡ entry_unless_empty (rows_with eq nulls keys (Some k) (n + 1))
   some_more k = some_case k (eq z k) refl
 
 -- whether absent keys match is nothing to a key

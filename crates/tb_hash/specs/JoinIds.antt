@@ -1,8 +1,9 @@
 -- Ids of the rows of a join's pairs.
-use Rattle.std.specs.Prelude.{◌≡◌, ◌&&◌, ◌-◌, ◌^◌, ℕ, Bool, true, false, nat_le, nat_lt, List, length, map, Option}
+use Rattle.std.specs.Prelude.{◌≡◌, ◌&&◌, ℕ, Bool, true, false, nat_le, nat_lt, List, length, map, Option}
 use Rattle.std.specs.declared.vec.Vec.{Vec}
 use Rattle.either.specs.declared.Either.{Either}
 use Rattle.either.specs.declared.Either.TheVariants.{Left, Right}
+use Rattle.tb_value.specs.declared.limits.TheConstants.{TOO_MANY_CHUNKS}
 use Rattle.tb_value.specs.Typed.{is_whole_physical}
 use Rattle.tb_value.specs.declared.error.PolarsError.{PolarsError}
 use Rattle.tb_value.specs.declared.index.JoinPair.{JoinPair}
@@ -16,9 +17,9 @@ use Rattle.tb_hash.specs.Probing.{IsProbed, too_many}
 
 -- THE IDS OF A SIDE
 
--- whether a column's rows are named by chunk: it is stored as whole numbers, in at least 2 and fewer than 2 ^ 24 - 1 chunks
+-- whether a column's rows are named by chunk: it is stored as whole numbers, in at least 2 and not too many chunks
 abbrev pub is_named_by_chunk : Col → Bool
-is_named_by_chunk c = is_whole_physical c.kind && nat_le 2 (length c.chunks) && nat_lt (length c.chunks) (2 ^ 24 - 1)
+is_named_by_chunk c = is_whole_physical c.kind && nat_le 2 (length c.chunks) && nat_lt (length c.chunks) TOO_MANY_CHUNKS
 
 module _ {R Y Z : Type 0} where
   -- row numbers where the column's rows aren't named by chunk, else ids that are null or name a chunk and a row of it

@@ -1,8 +1,10 @@
 pub mod Codes
 pub mod CodeLaws
 pub mod Keys
+pub mod Plan
 pub mod TableView
 pub mod Probing
 pub mod Hashing
 pub mod JoinIds
 pub mod KeyCells
+pub mod CellValues

@@ -5,6 +5,7 @@ use Rattle.tb_value.specs.declared.error.PolarsError.{PolarsError}
 use Rattle.tb_value.specs.declared.error.PolarsError.TheVariants.{ComputeError}
 use Rattle.tb_value.specs.declared.error.ComputeCause.TheVariants.{TooManyRows}
 use Rattle.tb_value.specs.declared.index.JoinPair.{JoinPair}
+use Rattle.tb_value.specs.declared.limits.TheConstants.{MAX_ROWS}
 use Rattle.tb_value.specs.Pairs.{row_numbers, both, left_only, right_only}
 use Rattle.tb_value.specs.Refusals.{when}
 use Rattle.tb_frame.specs.declared.args.JoinType.{JoinType}
@@ -42,7 +43,7 @@ AllowsSide Anti left_built = left_built ≡ false
 
 -- so many pairs are too many
 abbrev pub too_many : ℕ → Option PolarsError
-too_many n = when (nat_lt 4294967294 n) (ComputeError TooManyRows)
+too_many n = when (nat_lt MAX_ROWS n) (ComputeError TooManyRows)
 
 -- THE PAIRS
 
@@ -91,10 +92,10 @@ module _ (rows : ℕ → List ℕ) where
   abbrev pub unmet_rows : Bool → ℕ → ℕ → List JoinPair
   unmet_rows left_built n b = map (probed_only (not left_built)) (filter (λ k. not (list_any (λ p. list_any (nat_eq k) (rows p)) (row_numbers n))) (row_numbers b))
 
-  abbrev pub kind_pairs : JoinType → Bool → ℕ → ℕ → List JoinPair
-  kind_pairs Inner left_built n b = probed_pairs left_built false n
-  kind_pairs Left left_built n b = probed_pairs left_built true n
-  kind_pairs Right left_built n b = probed_pairs left_built true n
-  kind_pairs Full left_built n b = probed_pairs left_built true n ++ unmet_rows left_built n b
-  kind_pairs Semi left_built n b = kept_rows true n
-  kind_pairs Anti left_built n b = kept_rows false n
+  abbrev pub joined_pairs : JoinType → Bool → ℕ → ℕ → List JoinPair
+  joined_pairs Inner left_built n b = probed_pairs left_built false n
+  joined_pairs Left left_built n b = probed_pairs left_built true n
+  joined_pairs Right left_built n b = probed_pairs left_built true n
+  joined_pairs Full left_built n b = probed_pairs left_built true n ++ unmet_rows left_built n b
+  joined_pairs Semi left_built n b = kept_rows true n
+  joined_pairs Anti left_built n b = kept_rows false n

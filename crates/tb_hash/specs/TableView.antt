@@ -3,8 +3,10 @@ use Rattle.std.specs.Prelude.{◌≡◌, ℕ, ◌<◌, ◌≤◌, ◌^◌, Bool,
 use Rattle.std.specs.Map.{lookup}
 use Rattle.std.specs.HashMap.{HashMap}
 use Rattle.std.specs.declared.vec.Vec.{Vec}
+use Rattle.tb_value.specs.declared.limits.TheConstants.{MAX_ROWS}
 use Rattle.tb_hash.specs.Codes.{part_of}
 use Rattle.tb_hash.specs.Keys.{rows_with}
+use Rattle.tb_hash.specs.Plan.{entry_unless_empty, part_rows_with}
 
 -- a map for each part, and the rows without a key where absent keys match
 pub record TableView (K : Type 0) : Type 0 where
@@ -31,11 +33,16 @@ module _ {K : Type 0} (eq : K → K → Bool) (code : K → ℕ) where
     pub count : t.built_len ≡ length keys
     pub rows : (key : Option K) → rows_at t key ≡ rows_with eq t.join_nulls keys key (length keys)
 
+  -- there are n maps, and map p has entries at just the keys that fall into part p of n: their rows, ascending
+  pub record IsParted (keys : List (Option K)) (n : ℕ) (t : TableView K) : Type 0 where
+    pub parts : length t.maps ≡ n
+    pub maps : (p : ℕ) (k : K) → p < n → lookup (eq k) (slice_index_or t.maps p []) ≡ entry_unless_empty (part_rows_with code eq keys n p k)
+
   -- there is a part, and each row is one of the few keys
   pub record IsSmall (t : TableView K) : Type 0 where
     pub parts : 1 ≤ length t.maps
     pub few : length t.maps < 2 ^ 32
-    pub small : t.built_len ≤ 4294967294
+    pub small : t.built_len ≤ MAX_ROWS
     pub below : (key : Option K) → All (λ row. row < t.built_len) (rows_at t key)
 
 -- a map's entries, with the lists in its vectors
@@ -45,6 +52,6 @@ entries_of m = map (λ e. (e.0, e.1.items)) m.entries
 abbrev pub maps_of : {K S Z : Type 0} → List (HashMap K (Vec ℕ Z) S) → List (List (K × List ℕ))
 maps_of ms = map entries_of ms
 
--- the rows that a map has at a key
-unfoldable pub map_rows : {K S Z : Type 0} → (K → K → Bool) → HashMap K (Vec ℕ Z) S → K → List ℕ
-map_rows eq m k = unwrap_or (lookup (eq k) (entries_of m)) []
+-- the entry that a map has at a key
+unfoldable pub map_entry : {K S Z : Type 0} → (K → K → Bool) → HashMap K (Vec ℕ Z) S → K → Option (List ℕ)
+map_entry eq m k = lookup (eq k) (entries_of m)

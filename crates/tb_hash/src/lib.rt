@@ -7,11 +7,9 @@ mod keys;
 mod probing;
 mod series_join;
 mod tables;
-#[cfg(test)]
-mod tests;
 mod typed;
 
-pub use hashing::hash_pairs;
+pub use hashing::{hash_pairs, probed_order};
 pub use join_ids::{ChunkJoinIds, ChunkJoinOptIds, InnerJoinIds, LeftJoinIds, default_join_ids};
 pub use keys::{JoinKey, KeyBytes, code_of, partition_of};
 pub use probing::{Probed, probe};

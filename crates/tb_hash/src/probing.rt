@@ -4,7 +4,7 @@ ghost use Rattle.std.specs.List.{list_any};
 ghost use Rattle.tb_value.specs.Refusals.{Settles};
 ghost use Rattle.tb_hash.specs.Keys.{probe_listing};
 ghost use Rattle.tb_hash.specs.TableView.{IsTableOf, rows_at};
-ghost use Rattle.tb_hash.specs.Probing.{IsProbed, AllowsSide, AreMet, too_many, probed_pair, probed_only, row_pairs, probed_rows, unmarked_rows, probed_pairs, kept_rows, unmet_rows, kind_pairs};
+ghost use Rattle.tb_hash.specs.Probing.{IsProbed, AllowsSide, AreMet, too_many, probed_pair, probed_only, row_pairs, probed_rows, unmarked_rows, probed_pairs, kept_rows, unmet_rows, joined_pairs};
 
 use crate::keys::JoinKey;
 use crate::tables::Tables;
@@ -17,7 +17,7 @@ use tb_value::{ComputeCause, IdxSize, JoinPair, MAX_ROWS, OutOfMemory, PolarsErr
 
 // Puts a pair behind the others, where there is room.
 fn push_pair(pairs: &mut Vec<JoinPair>, pair: JoinPair) -> PolarsResult<()>
-    requires room { length pairs.old.items ≤ 4294967294 }
+    requires room { length pairs.old.items ≤ MAX_ROWS }
     ensures settles { Settles result (too_many (length pairs.old.items + 1)) }
     ensures pairs { OnOk result (pairs.new.items ≡ pairs.old.items ++ pair ∷ []) }
 {
@@ -30,8 +30,8 @@ fn push_pair(pairs: &mut Vec<JoinPair>, pair: JoinPair) -> PolarsResult<()>
 
 // A probed row beside a built row.
 fn beside(left_built: bool, probed: IdxSize, built: IdxSize) -> JoinPair
-    requires probed { probed < 4294967295 }
-    requires built { built < 4294967295 }
+    requires probed { probed < u32.MAX }
+    requires built { built < u32.MAX }
     ensures { result ≡ probed_pair left_built probed built }
 {
     if left_built {
@@ -43,7 +43,7 @@ fn beside(left_built: bool, probed: IdxSize, built: IdxSize) -> JoinPair
 
 // A row of the probed side alone.
 fn alone(left_built: bool, probed: IdxSize) -> JoinPair
-    requires { probed < 4294967295 }
+    requires { probed < u32.MAX }
     ensures { result ≡ probed_only left_built probed }
 {
     if left_built {
@@ -60,9 +60,9 @@ fn push_matched(
     probed: IdxSize,
     rows: &[IdxSize],
 ) -> PolarsResult<()>
-    requires probed { probed < 4294967295 }
-    requires rows { All (λ row. row < 4294967295) rows.now }
-    requires room { length pairs.old.items ≤ 4294967294 }
+    requires probed { probed < u32.MAX }
+    requires rows { All (λ row. row < u32.MAX) rows.now }
+    requires room { length pairs.old.items ≤ MAX_ROWS }
     ensures settles { Settles result (too_many (length pairs.old.items + length rows.now)) }
     ensures pairs { OnOk result (pairs.new.items ≡ pairs.old.items ++ map (probed_pair left_built probed) rows.now) }
 {
@@ -80,9 +80,9 @@ fn push_row(
     probed: IdxSize,
     rows: &[IdxSize],
 ) -> PolarsResult<()>
-    requires probed { probed < 4294967295 }
-    requires rows { All (λ row. row < 4294967295) rows.now }
-    requires room { length pairs.old.items ≤ 4294967294 }
+    requires probed { probed < u32.MAX }
+    requires rows { All (λ row. row < u32.MAX) rows.now }
+    requires room { length pairs.old.items ≤ MAX_ROWS }
     ensures settles { Settles result (too_many (length pairs.old.items + length (row_pairs left_built keep probed rows.now))) }
     ensures pairs { OnOk result (pairs.new.items ≡ pairs.old.items ++ row_pairs left_built keep probed rows.now) }
 {
@@ -95,7 +95,7 @@ fn push_row(
 // The rows of a key, each of which has a number.
 fn rows_of<K: JoinKey>(tables: &Tables<K>, key: Option<K>) -> &[IdxSize]
     ensures value { result.now ≡ rows_at K.eq K.code tables.now key }
-    ensures small { All (λ row. row < 4294967295) result.now }
+    ensures small { All (λ row. row < u32.MAX) result.now }
     ensures below { All (λ row. row < tables.now.built_len) result.now }
 {
     let _small = tables.built_len();
@@ -109,7 +109,7 @@ fn list_pairs<K: JoinKey>(
     keep: bool,
     probed: &[Option<K>],
 ) -> PolarsResult<Vec<JoinPair>>
-    requires { length probed.now ≤ 4294967294 }
+    requires { length probed.now ≤ MAX_ROWS }
     ensures settles { Settles result (too_many (length (probed_pairs (probed_rows K.eq K.code tables.now probed.now) tables.now.left_built keep (length probed.now)))) }
     ensures pairs { IfOk result (λ v. v.items ≡ probed_pairs (probed_rows K.eq K.code tables.now probed.now) tables.now.left_built keep (length probed.now)) }
 {
@@ -150,7 +150,7 @@ fn list_met<K: JoinKey>(
     tables: &Tables<K>,
     probed: &[Option<K>],
 ) -> PolarsResult<(Vec<JoinPair>, Vec<bool>)>
-    requires { length probed.now ≤ 4294967294 }
+    requires { length probed.now ≤ MAX_ROWS }
     ensures settles { Settles result (too_many (length (probed_pairs (probed_rows K.eq K.code tables.now probed.now) tables.now.left_built true (length probed.now)))) }
     ensures pairs { IfOk result (λ r. r.0.items ≡ probed_pairs (probed_rows K.eq K.code tables.now probed.now) tables.now.left_built true (length probed.now)) }
     ensures count { IfOk result (λ r. length r.1.items ≡ tables.now.built_len) }
@@ -169,8 +169,8 @@ fn list_met<K: JoinKey>(
 
 // Puts the built rows that are not marked behind the pairs, alone.
 fn push_unmarked(pairs: &mut Vec<JoinPair>, left_built: bool, met: &[bool]) -> PolarsResult<()>
-    requires rows { length met.now ≤ 4294967294 }
-    requires room { length pairs.old.items ≤ 4294967294 }
+    requires rows { length met.now ≤ MAX_ROWS }
+    requires room { length pairs.old.items ≤ MAX_ROWS }
     ensures settles { Settles result (too_many (length pairs.old.items + length (unmarked_rows left_built met.now))) }
     ensures pairs { OnOk result (pairs.new.items ≡ pairs.old.items ++ unmarked_rows left_built met.now) }
 {
@@ -188,9 +188,9 @@ fn list_full<K: JoinKey>(
     tables: &Tables<K>,
     probed: &[Option<K>],
 ) -> PolarsResult<Vec<JoinPair>>
-    requires { length probed.now ≤ 4294967294 }
-    ensures settles { Settles result (too_many (length (kind_pairs (probed_rows K.eq K.code tables.now probed.now) JoinType.Full tables.now.left_built (length probed.now) tables.now.built_len))) }
-    ensures pairs { IfOk result (λ v. v.items ≡ kind_pairs (probed_rows K.eq K.code tables.now probed.now) JoinType.Full tables.now.left_built (length probed.now) tables.now.built_len) }
+    requires { length probed.now ≤ MAX_ROWS }
+    ensures settles { Settles result (too_many (length (joined_pairs (probed_rows K.eq K.code tables.now probed.now) JoinType.Full tables.now.left_built (length probed.now) tables.now.built_len))) }
+    ensures pairs { IfOk result (λ v. v.items ≡ joined_pairs (probed_rows K.eq K.code tables.now probed.now) JoinType.Full tables.now.left_built (length probed.now) tables.now.built_len) }
 {
     let _small = tables.built_len();
     let (mut pairs, met) = list_met(alloc, tables, probed)?;
@@ -205,7 +205,7 @@ fn list_kept<K: JoinKey>(
     wanted: bool,
     probed: &[Option<K>],
 ) -> Result<Vec<JoinPair>, OutOfMemory>
-    requires { length probed.now ≤ 4294967294 }
+    requires { length probed.now ≤ MAX_ROWS }
     ensures pairs { IfOk result (λ v. v.items ≡ kept_rows (probed_rows K.eq K.code tables.now probed.now) wanted (length probed.now)) }
 {
     let mut pairs = Vec::new(alloc);
@@ -218,17 +218,17 @@ fn list_kept<K: JoinKey>(
 }
 
 // The pairs that a join of this kind lists.
-fn list_kind<K: JoinKey>(
+fn list_joined<K: JoinKey>(
     alloc: Global,
-    kind: JoinType,
+    how: JoinType,
     tables: &Tables<K>,
     probed: &[Option<K>],
 ) -> PolarsResult<Vec<JoinPair>>
-    requires { length probed.now ≤ 4294967294 }
-    ensures settles { Settles result (too_many (length (kind_pairs (probed_rows K.eq K.code tables.now probed.now) kind tables.now.left_built (length probed.now) tables.now.built_len))) }
-    ensures pairs { IfOk result (λ v. v.items ≡ kind_pairs (probed_rows K.eq K.code tables.now probed.now) kind tables.now.left_built (length probed.now) tables.now.built_len) }
+    requires { length probed.now ≤ MAX_ROWS }
+    ensures settles { Settles result (too_many (length (joined_pairs (probed_rows K.eq K.code tables.now probed.now) how tables.now.left_built (length probed.now) tables.now.built_len))) }
+    ensures pairs { IfOk result (λ v. v.items ≡ joined_pairs (probed_rows K.eq K.code tables.now probed.now) how tables.now.left_built (length probed.now) tables.now.built_len) }
 {
-    match kind {
+    match how {
         JoinType::Inner => list_pairs(alloc, tables, false, probed),
         JoinType::Left => list_pairs(alloc, tables, true, probed),
         JoinType::Right => list_pairs(alloc, tables, true, probed),
@@ -252,14 +252,14 @@ impl Model for Probed {
 
     ghost view = { λ p. p.pairs.items };
 
-    ghost invariant = { λ p. length p.pairs.items ≤ 4294967294 };
+    ghost invariant = { λ p. length p.pairs.items ≤ MAX_ROWS };
 }
 
 impl Probed {
     /// The pairs.
     pub fn pairs(&self) -> &[JoinPair]
         ensures value { result.now ≡ self.now }
-        ensures room { length result.now ≤ 4294967294 }
+        ensures room { length result.now ≤ MAX_ROWS }
     {
         self.pairs.as_slice()
     }
@@ -267,7 +267,7 @@ impl Probed {
     /// The pairs.
     pub fn into_pairs(self) -> Vec<JoinPair>
         ensures value { result.items ≡ self }
-        ensures room { length result.items ≤ 4294967294 }
+        ensures room { length result.items ≤ MAX_ROWS }
     {
         let Probed { pairs } = self;
         pairs
@@ -279,17 +279,17 @@ impl Probed {
 pub fn probe<K: JoinKey, G: Gate>(
     _rt: &(impl Threads + Sync),
     alloc: Global,
-    kind: JoinType,
+    how: JoinType,
     tables: &Tables<K>,
     probed: &[Option<K>],
     _exec: &Exec,
     _gate: &G,
 ) -> PolarsResult<Probed>
-    requires side { AllowsSide kind tables.now.left_built }
-    requires small { length probed.now ≤ 4294967294 }
-    ensures settles { (built : List (Option K)) → IsTableOf K.eq K.code built tables.now → Settles result (too_many (length (probe_listing K.eq tables.now.join_nulls kind tables.now.left_built built probed.now))) }
-    ensures listed { (built : List (Option K)) → IsTableOf K.eq K.code built tables.now → IfOk result (IsProbed kind tables.now.left_built (probe_listing K.eq tables.now.join_nulls kind tables.now.left_built built probed.now)) }
+    requires side { AllowsSide how tables.now.left_built }
+    requires small { length probed.now ≤ MAX_ROWS }
+    ensures settles { (built : List (Option K)) → IsTableOf K.eq K.code built tables.now → Settles result (too_many (length (probe_listing K.eq tables.now.join_nulls how tables.now.left_built built probed.now))) }
+    ensures listed { (built : List (Option K)) → IsTableOf K.eq K.code built tables.now → IfOk result (IsProbed how tables.now.left_built (probe_listing K.eq tables.now.join_nulls how tables.now.left_built built probed.now)) }
 {
-    let pairs = list_kind(alloc, kind, tables, probed)?;
+    let pairs = list_joined(alloc, how, tables, probed)?;
     Ok(Probed { pairs })
 }

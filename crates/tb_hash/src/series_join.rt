@@ -1,6 +1,7 @@
 //! The rows that joins by one key column of each side give, as ids.
 ghost use Rattle.std.specs.Prelude.{◌≡◌, IfOk, None, Some, true, false, if◌then◌else◌, map, not};
 ghost use Rattle.tb_value.specs.Pairs.{left_only};
+ghost use Rattle.tb_value.specs.declared.index.JoinPair.{JoinPair};
 ghost use Rattle.tb_value.specs.Refusals.{Settles};
 ghost use Rattle.tb_value.specs.SameKind.{is_key};
 ghost use Rattle.tb_chunk.specs.Col.{values};
@@ -9,14 +10,17 @@ ghost use Rattle.tb_hash.specs.JoinIds.{AreIdsOf, AreRowsOf, builds_left_of, row
 
 use crate::hashing::hash_pairs;
 use crate::join_ids::{
-    InnerJoinIds, LeftJoinIds, join_ids, opt_join_ids, opt_row_numbers, row_numbers,
+    InnerJoinIds, LeftJoinIds, left_join_ids, left_numbers, opt_left_numbers, opt_right_numbers,
+    right_join_ids, right_numbers,
 };
+use crate::probing::Probed;
+use crate::tables::Built;
 use std::alloc::Global;
 use std::thread::Threads;
-use tb_frame::{JoinType, JoinValidation, left_rows, right_rows};
+use tb_frame::{JoinType, JoinValidation};
 use tb_pool::{Exec, OpenGate};
 use tb_store::Series;
-use tb_value::{IdxSize, NullableIdxSize, PolarsResult};
+use tb_value::{IdxSize, PolarsResult};
 
 /// A key column, which is joined with another one of its type. No validation is asked for so far. Each call refuses
 /// more than `MAX_ROWS` pairs (TooManyRows), but for `hash_join_semi_anti`, where there can't be so many.
@@ -31,7 +35,7 @@ pub trait SeriesJoin: Sized {
         ensures { result.now ≡ column self.now };
 
     /// The left and the right rows of a Left join's pairs, by left row and then right row. A side whose column is
-    /// stored as whole numbers, in at least 2 and fewer than 2^24 - 1 chunks, has ids by chunk, a null one where there
+    /// stored as whole numbers, in at least 2 and fewer than `TOO_MANY_CHUNKS` chunks, has ids by chunk, a null one where there
     /// is no row; any other side has row numbers.
     final fn hash_join_left(
         &self,
@@ -51,10 +55,10 @@ pub trait SeriesJoin: Sized {
         ensures right_ids { IfOk result (λ r. AreIdsOf other.now r.1) }
     {
         let left = self.as_series();
-        let kind = JoinType::Left;
-        let rows = joined_rows(rt, alloc, kind, left, other, validate, join_nulls, exec)?;
-        let left = join_ids(alloc, left, &rows.left)?;
-        let right = opt_join_ids(alloc, other, rows.right)?;
+        let how = JoinType::Left;
+        let (joined, _built) = joined_pairs(rt, alloc, how, left, other, validate, join_nulls, exec)?;
+        let left = left_join_ids(alloc, left, joined.pairs())?;
+        let right = right_join_ids(alloc, other, joined.pairs())?;
         Ok((left, right))
     }
 
@@ -77,11 +81,11 @@ pub trait SeriesJoin: Sized {
         ensures built { IfOk result (λ r. r.1 ≡ not (builds_left_of JoinType.Inner (column self.now) other.now)) }
     {
         let left = self.as_series();
-        let kind = JoinType::Inner;
-        let rows = joined_rows(rt, alloc, kind, left, other, validate, join_nulls, exec)?;
-        let left = row_numbers(alloc, &rows.left)?;
-        let right = row_numbers(alloc, &rows.right)?;
-        Ok(((left, right), !rows.left_built))
+        let how = JoinType::Inner;
+        let (joined, built) = joined_pairs(rt, alloc, how, left, other, validate, join_nulls, exec)?;
+        let left = left_numbers(alloc, joined.pairs())?;
+        let right = right_numbers(alloc, joined.pairs())?;
+        Ok(((left, right), !built.left_built()))
     }
 
     /// The left and the right rows of a Full join's pairs, in any order.
@@ -101,10 +105,10 @@ pub trait SeriesJoin: Sized {
         ensures rows { IfOk result (λ r. AreRowsOf JoinType.Full join_nulls (column self.now) other.now r.0.items r.1.items) }
     {
         let left = self.as_series();
-        let kind = JoinType::Full;
-        let rows = joined_rows(rt, alloc, kind, left, other, validate, join_nulls, exec)?;
-        let left = opt_row_numbers(alloc, &rows.left)?;
-        let right = opt_row_numbers(alloc, &rows.right)?;
+        let how = JoinType::Full;
+        let (joined, _built) = joined_pairs(rt, alloc, how, left, other, validate, join_nulls, exec)?;
+        let left = opt_left_numbers(alloc, joined.pairs())?;
+        let right = opt_right_numbers(alloc, joined.pairs())?;
         Ok((left, right))
     }
 
@@ -125,12 +129,12 @@ pub trait SeriesJoin: Sized {
     {
         let left = self.as_series();
         let _len = left.len();
-        let kind = semi_or_anti(anti);
+        let how = semi_or_anti(anti);
         let many = JoinValidation::ManyToMany;
         let (probed, _built) = hash_pairs(
-            rt, alloc, kind, left, other, many, join_nulls, exec, &OpenGate,
+            rt, alloc, how, left, other, many, join_nulls, exec, &OpenGate,
         )?;
-        Ok(row_numbers(alloc, &left_rows(alloc, probed.pairs())?)?)
+        Ok(left_numbers(alloc, probed.pairs())?)
     }
 }
 
@@ -149,37 +153,25 @@ fn semi_or_anti(anti: bool) -> JoinType
     if anti { JoinType::Anti } else { JoinType::Semi }
 }
 
-// The rows of a join's pairs by side, and whether the left side was built.
-#[derive(Drop)]
-struct JoinedRows {
-    left: Vec<NullableIdxSize>,
-    right: Vec<NullableIdxSize>,
-    left_built: bool,
-}
-
-fn joined_rows(
+// The pairs of a join, and what was built.
+fn joined_pairs(
     rt: &(impl Threads + Sync),
     alloc: Global,
-    kind: JoinType,
+    how: JoinType,
     left: &Series,
     right: &Series,
     validate: JoinValidation,
     join_nulls: bool,
     exec: &Exec,
-) -> PolarsResult<JoinedRows>
+) -> PolarsResult<(Probed, Built)>
     requires key { is_key left.now.kind ≡ true }
     requires same { left.now.kind ≡ right.now.kind }
     requires many { validate ≡ JoinValidation.ManyToMany }
-    ensures settles { Settles result (too_many_pairs kind join_nulls left.now right.now) }
-    ensures rows { IfOk result (λ r. AreRowsOf kind join_nulls left.now right.now r.left.items r.right.items) }
-    ensures built { IfOk result (λ r. r.left_built ≡ builds_left_of kind left.now right.now) }
+    ensures settles { Settles result (too_many_pairs how join_nulls left.now right.now) }
+    ensures rows { IfOk result (λ r. AreRowsOf how join_nulls left.now right.now (map (λ (p : JoinPair). p.left) r.0) (map (λ (p : JoinPair). p.right) r.0)) }
+    ensures built { IfOk result (λ r. r.1.left_built ≡ builds_left_of how left.now right.now) }
 {
-    let (probed, built) = hash_pairs(
-        rt, alloc, kind, left, right, validate, join_nulls, exec, &OpenGate,
-    )?;
-    Ok(JoinedRows {
-        left: left_rows(alloc, probed.pairs())?,
-        right: right_rows(alloc, probed.pairs())?,
-        left_built: built.left_built(),
-    })
+    hash_pairs(
+        rt, alloc, how, left, right, validate, join_nulls, exec, &OpenGate,
+    )
 }

@@ -1,7 +1,8 @@
 //! The tables of the built keys: for each key its rows.
-ghost use Rattle.std.specs.Prelude.{◌≡◌, ◌^◌, ◌<◌, ◌≤◌, length, All, IfOk, OnOk, Some, None, true, [], ◌∷◌, ◌++◌, if◌then◌else◌};
+ghost use Rattle.std.specs.Prelude.{◌≡◌, ◌^◌, ◌<◌, ◌≤◌, length, All, IfOk, OnOk, Some, None, true, [], ◌∷◌, ◌++◌, if◌then◌else◌, unwrap_or};
 ghost use Rattle.tb_hash.specs.Keys.{keys_match, rows_with};
-ghost use Rattle.tb_hash.specs.TableView.{rows_at, map_rows, IsTableOf};
+ghost use Rattle.tb_hash.specs.Plan.{entry_unless_empty, part_sizes};
+ghost use Rattle.tb_hash.specs.TableView.{rows_at, map_entry, IsParted, IsTableOf};
 
 use crate::keys::{JoinKey, partition_of};
 use std::alloc::Global;
@@ -9,7 +10,7 @@ use std::collections::HashMap;
 use std::marker::Model;
 use std::thread::Threads;
 use tb_pool::{Exec, Gate};
-use tb_value::{IdxSize, OutOfMemory};
+use tb_value::{IdxSize, MAX_ROWS, OutOfMemory};
 
 /// The rows of each of the built keys, one map for each part of them. `build_tables` alone makes one.
 #[derive(Drop)]
@@ -52,7 +53,7 @@ impl<K: JoinKey> Tables<K> {
     /// The number of the built keys, absent ones too.
     pub fn built_len(&self) -> usize
         ensures value { result ≡ self.now.built_len }
-        ensures small { result ≤ 4294967294 }
+        ensures small { result ≤ MAX_ROWS }
     {
         self.built_len
     }
@@ -111,7 +112,7 @@ fn add_row<K: JoinKey>(
     key: K,
     row: IdxSize,
 ) -> Result<(), OutOfMemory>
-    ensures { OnOk result ((k : K) → map_rows K.eq map.new k ≡ (if K.eq key k then map_rows K.eq map.old key ++ row ∷ [] else map_rows K.eq map.old k)) }
+    ensures { OnOk result ((k : K) → map_entry K.eq map.new k ≡ (if K.eq key k then Some (unwrap_or (map_entry K.eq map.old key) [] ++ row ∷ []) else map_entry K.eq map.old k)) }
 {
     map.entry(key)?.or_insert(Vec::new(alloc)).push(row)?;
     Ok(())
@@ -122,8 +123,8 @@ fn rows_by_key<K: JoinKey>(
     alloc: Global,
     keys: &[Option<K>],
 ) -> Result<HashMap<K, Vec<IdxSize>>, OutOfMemory>
-    requires { length keys.now ≤ 4294967294 }
-    ensures { IfOk result (λ m. (k : K) → map_rows K.eq m k ≡ rows_with K.eq true keys.now (Some k) (length keys.now)) }
+    requires { length keys.now ≤ MAX_ROWS }
+    ensures { IfOk result (λ m. (k : K) → map_entry K.eq m k ≡ entry_unless_empty (rows_with K.eq true keys.now (Some k) (length keys.now))) }
 {
     let mut map = HashMap::new(alloc);
     for (row, key) in keys.iter().enumerate() {
@@ -150,7 +151,7 @@ fn rows_without_key<K: JoinKey>(
     keys: &[Option<K>],
     join_nulls: bool,
 ) -> Result<Vec<IdxSize>, OutOfMemory>
-    requires { length keys.now ≤ 4294967294 }
+    requires { length keys.now ≤ MAX_ROWS }
     ensures { IfOk result (λ v. v.items ≡ rows_with K.eq join_nulls keys.now None (length keys.now)) }
 {
     let mut rows = Vec::new(alloc);
@@ -173,8 +174,10 @@ pub fn build_tables<K: JoinKey, G: Gate>(
     _exec: &Exec,
     _gate: &G,
 ) -> Result<(Tables<K>, Built), OutOfMemory>
-    requires { length keys.now ≤ 4294967294 }
+    requires { length keys.now ≤ MAX_ROWS }
     ensures table { IfOk result (λ r. IsTableOf K.eq K.code keys.now r.0) }
+    ensures parted { IfOk result (λ r. IsParted K.eq K.code keys.now r.1.parts r.0) }
+    ensures sizes { IfOk result (λ r. r.1.sizes ≡ part_sizes K.code keys.now r.1.parts) }
     ensures nulls { IfOk result (λ r. r.0.join_nulls ≡ join_nulls) }
     ensures side { IfOk result (λ r. r.0.left_built ≡ left_built) }
     ensures built { IfOk result (λ r. r.1 ≡ record { parts = 1; sizes = length keys.now ∷ []; left_built = left_built }) }

@@ -2,7 +2,7 @@
 ghost use Rattle.std.specs.Prelude.{◌≡◌, ◌++◌, IfOk, OnOk, map};
 ghost use Rattle.tb_value.specs.Datum.{binary, string};
 ghost use Rattle.tb_chunk.specs.Chunk.{or_null};
-ghost use Rattle.tb_chunk.specs.Col.{flat};
+ghost use Rattle.tb_hash.specs.CellValues.{binary_values, cell_values, text_values};
 
 use crate::keys::{JoinKey, KeyBytes};
 use std::alloc::Global;
@@ -109,7 +109,7 @@ pub(crate) fn joined_cells<N: KeyCell>(
     alloc: Global,
     chunks: &[Cells<N>],
 ) -> Result<Vec<Option<N>>, OutOfMemory>
-    ensures { IfOk result (λ v. map (or_null N.shows) v.items ≡ flat (map (λ c. map (or_null N.shows) c.cells.items) chunks.now)) }
+    ensures { IfOk result (λ v. map (or_null N.shows) v.items ≡ cell_values N.shows chunks.now) }
 {
     let mut keys = Vec::new(alloc);
     for chunk in chunks {
@@ -123,7 +123,7 @@ pub(crate) fn joined_texts(
     alloc: Global,
     chunks: &[StringChunk],
 ) -> Result<Vec<Option<KeyBytes<'_>>>, OutOfMemory>
-    ensures { IfOk result (λ v. map (or_null (λ k. string k.bytes.now)) v.items ≡ flat (map (λ c. map (or_null string) c.inner.cells.items) chunks.now)) }
+    ensures { IfOk result (λ v. map (or_null (λ k. string k.bytes.now)) v.items ≡ text_values chunks.now) }
 {
     let mut keys = Vec::new(alloc);
     for chunk in chunks {
@@ -161,7 +161,7 @@ pub(crate) fn joined_bytes(
     alloc: Global,
     chunks: &[BinaryChunk],
 ) -> Result<Vec<Option<KeyBytes<'_>>>, OutOfMemory>
-    ensures { IfOk result (λ v. map (or_null (λ k. binary k.bytes.now)) v.items ≡ flat (map (λ c. map (or_null binary) c.inner.cells.items) chunks.now)) }
+    ensures { IfOk result (λ v. map (or_null (λ k. binary k.bytes.now)) v.items ≡ binary_values chunks.now) }
 {
     let mut keys = Vec::new(alloc);
     for chunk in chunks {

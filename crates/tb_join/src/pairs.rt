@@ -12,23 +12,11 @@ ghost use Rattle.tb_join.specs.Directions.{suffices};
 
 use std::alloc::Global;
 use std::thread::Threads;
-use tb_frame::{Direction, JoinArgs, JoinType, arrange, cut_pairs, direction_of};
-use tb_hash::hash_pairs;
+use tb_frame::{Direction, JoinArgs, arrange, cut_pairs, direction_of};
+use tb_hash::{hash_pairs, probed_order};
 use tb_pool::{Exec, OpenGate};
 use tb_store::Column;
 use tb_value::{JoinPair, OutOfMemory, PolarsResult};
-
-// The order in which hashing lists pairs: by the rows of the side that was not built.
-fn hashed_order(how: JoinType, left_built: bool) -> Direction
-    ensures { result ≡ probed_order how left_built }
-{
-    match how {
-        JoinType::Full => Direction::Free,
-        JoinType::Right => Direction::ByRight,
-        JoinType::Inner if left_built => Direction::ByRight,
-        JoinType::Inner | JoinType::Left | JoinType::Semi | JoinType::Anti => Direction::ByLeft,
-    }
-}
 
 // Whether pairs that stand in the one order stand in the order that is asked.
 fn is_in_order(found: Direction, asked: Direction) -> bool
@@ -49,7 +37,7 @@ fn arranged(
     ensures { IfOk result (λ v. IsListed args.now.how args.now.maintain_order args.now.slice pairs.items v.items) }
 {
     let asked = direction_of(args.how, args.maintain_order);
-    if is_in_order(hashed_order(args.how, left_built), asked) {
+    if is_in_order(probed_order(args.how, left_built), asked) {
         return cut_pairs(alloc, pairs, args.slice);
     }
     arrange(alloc, pairs, args)

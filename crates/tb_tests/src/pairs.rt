@@ -1,1 +1,199 @@
-// Tests of pairs of rows, of what gathers rows, and of workers.
+// Tests of pairs of rows, of what gathers rows, and of portions.
+ghost use Rattle.std.specs.Prelude.{◌≡◌, ◌≤◌, ◌↔◌, ◌∷◌, [], All, IfOk, IsSome, IsTrue, length, map, true};
+ghost use Rattle.tb_value.specs.Kind.{int64};
+ghost use Rattle.tb_value.specs.SameKind.{is_key};
+ghost use Rattle.tb_chunk.specs.Rows.{IsRowOf};
+ghost use Rattle.tb_gather.specs.Ids.{Id};
+ghost use Rattle.tb_gather.specs.Gathered.{NameRows, opt_gathered};
+
+use std::alloc::Global;
+use std::process::Abort;
+use std::test::Fail;
+use std::thread::Threads;
+use tb_frame::{DataFrame, JoinType, JoinValidation};
+use tb_gather::{TakeChunked, TakeChunkedHorPar, gather_rows, ids_of};
+use tb_hash::{KeyBytes, SeriesJoin, build_tables, code_of, partition_of, probe};
+use tb_pool::{Exec, OpenGate, portions};
+use tb_store::{Cells, ChunkedArray, Chunks, Column, DataType, Int64Type, Series};
+use tb_value::{IsSorted, JoinPair, NullableIdxSize, OutOfMemory, PlSmallStr, StandardChunkId};
+
+// Codes as others compute them: that of a text by the tables of FNV-1a.
+#[test]
+fn keys_have_the_published_codes(rt: HostRuntime) -> Result<(), Fail> {
+    let text = code_of(Some(KeyBytes { bytes: b"a" }));
+    assert_eq!(rt; text, 0xaf63_dc4c_8601_ec8c);
+    assert_eq!(rt; partition_of(text, 8), 5);
+    assert_eq!(rt; code_of(Some(1i64)), 0x9E37_79B9_7F4A_7C15);
+    Ok(())
+}
+
+#[test]
+fn a_list_is_cut_in_four(rt: HostRuntime) -> Result<(), Fail> {
+    let cut = portions(rt.alloc(), 10, 4)?;
+    assert_eq!(rt; cut.as_slice(), [(0, 2), (2, 2), (4, 2), (6, 4)].as_slice());
+    Ok(())
+}
+
+#[test]
+fn texts_are_probed(rt: HostRuntime) -> Result<(), Fail> {
+    let alloc = rt.alloc();
+    let exec = Exec::standard();
+    let one = Some(KeyBytes { bytes: b"1" });
+    let left = [one, Some(KeyBytes { bytes: b"2" })];
+    let (tables, _built) = build_tables(&rt, alloc, &[one, one], false, false, &exec, &OpenGate)?;
+    let probed = probe(&rt, alloc, JoinType::Full, &tables, &left, &exec, &OpenGate)?;
+    let wanted = [JoinPair::both(0, 0), JoinPair::both(0, 1), JoinPair::left_only(1)];
+    assert_eq!(rt; probed.pairs(), wanted.as_slice());
+    Ok(())
+}
+
+// A column of these keys, in two chunks.
+fn column(alloc: Global, front: &[Option<i64>], back: &[Option<i64>]) -> Result<Series, Fail>
+    ensures { IfOk result (λ s. s.kind ≡ int64) }
+{
+    let mut lists = Vec::new(alloc);
+    for keys in [front, back] {
+        let cells = keys.to_vec(alloc)?;
+        lists.push(Cells { cells })?;
+    }
+    let name = PlSmallStr::from_str(alloc, "k")?;
+    let lists = Chunks::Int64Type(lists);
+    Ok(Series::from_arrays(alloc, name, DataType::Int64, lists)?)
+}
+
+// Through the bound alone.
+fn join_by_each_call<S: SeriesJoin>(
+    rt: &(impl Threads + Sync + Abort),
+    alloc: Global,
+    left: &S,
+    right: &Series,
+) -> Result<(), Fail>
+    requires key { is_key (S.column left.now).kind ≡ true }
+    requires same { (S.column left.now).kind ≡ right.now.kind }
+{
+    let (exec, many) = (Exec::standard(), JoinValidation::ManyToMany);
+    let (lefts, rights) = left.hash_join_left(rt, alloc, right, many, false, &exec)?;
+    assert!(rt; lefts.is_right() && rights.is_right());
+    let (rows, _right_built) = left.hash_join_inner(rt, alloc, right, many, false, &exec)?;
+    assert_eq!(rt; (rows.0.len(), rows.1.len()), (2, 2));
+    let rows = left.hash_join_outer(rt, alloc, right, many, false, &exec)?;
+    assert_eq!(rt; (rows.0.len(), rows.1.len()), (4, 4));
+    let semi = left.hash_join_semi_anti(rt, alloc, right, false, false, &exec)?;
+    let anti = left.hash_join_semi_anti(rt, alloc, right, true, false, &exec)?;
+    assert_eq!(rt; (semi.len(), anti.len()), (1, 2));
+    Ok(())
+}
+
+#[test]
+fn rows_of_each_call(rt: HostRuntime) -> Result<(), Fail> {
+    let alloc = rt.alloc();
+    let left = column(alloc, &[Some(1), None], &[Some(2)])?;
+    let right = column(alloc, &[Some(1)], &[Some(1)])?;
+    join_by_each_call(&rt, alloc, &left, &right)
+}
+
+// The ids of two rows of the column.
+fn two_ids(alloc: Global, column: &Series) -> Result<Vec<StandardChunkId>, Fail>
+    ensures named { IfOk result (λ v. All (NameRows v.items) (column.now ∷ [])) }
+    ensures present { IfOk result (λ v. All (λ (id : Id). IsSome id) v.items) }
+    ensures few { IfOk result (λ v. length v.items ≤ 4294967294) }
+{
+    if column.len() < 3 || column.n_chunks() > 2 {
+        return Err(Fail::from("a short column"));
+    }
+    let rows = [NullableIdxSize::some(2), NullableIdxSize::some(0)];
+    let ids: Vec<StandardChunkId> = ids_of(alloc, column, &rows)?;
+    if ids.len() == 2 && are_present(&ids) {
+        Ok(ids)
+    } else {
+        Err(Fail::from("two ids"))
+    }
+}
+
+fn are_present(ids: &[StandardChunkId]) -> bool
+    ensures { IsTrue result ↔ All (λ (id : Id). IsSome id) ids.now }
+{
+    ids.iter().all(|id| !id.is_null())
+}
+
+// By both calls, through the bound alone.
+fn gathered<T: TakeChunked<24>>(
+    alloc: Global,
+    from: &T,
+    by: &[StandardChunkId],
+) -> Result<T, OutOfMemory>
+    requires named { All (NameRows by.now) (T.columns from.now) }
+    requires present { All (λ (id : Id). IsSome id) by.now }
+    requires few { length by.now ≤ 4294967294 }
+    ensures { IfOk result (λ r. T.columns r ≡ map (opt_gathered by.now) (T.columns from.now)) }
+{
+    from.take_chunked_unchecked(alloc, by, IsSorted::Not)?;
+    from.take_opt_chunked_unchecked(alloc, by)
+}
+
+fn side_by_side<T: TakeChunkedHorPar<24>>(
+    rt: &(impl Threads + Sync),
+    alloc: Global,
+    from: &T,
+    by: &[StandardChunkId],
+) -> Result<DataFrame, OutOfMemory>
+    requires named { All (NameRows by.now) (T.frame from.now) }
+    requires present { All (λ (id : Id). IsSome id) by.now }
+    requires few { length by.now ≤ 4294967294 }
+    ensures { IfOk result (λ t. t ≡ map (opt_gathered by.now) (T.frame from.now)) }
+{
+    from._take_chunked_unchecked_hor_par(rt, alloc, by, IsSorted::Not)?;
+    from._take_opt_chunked_unchecked_hor_par(rt, alloc, by)
+}
+
+fn table_of_one(alloc: Global, column: Column) -> Result<DataFrame, Fail>
+    ensures { IfOk result (λ t. t ≡ column ∷ []) }
+{
+    let mut columns = Vec::new(alloc);
+    columns.push(column)?;
+    Ok(DataFrame::new(alloc, columns)?)
+}
+
+#[test]
+fn rows_by_ids(rt: HostRuntime) -> Result<(), Fail> {
+    let alloc = rt.alloc();
+    let series = column(alloc, &[Some(1), None], &[Some(2)])?;
+    let by = two_ids(alloc, &series)?;
+    assert_eq!(rt; gathered(alloc, &series, &by)?.len(), 2);
+    let array: ChunkedArray<Int64Type> = ChunkedArray::from_series(series.copy(alloc)?)?;
+    assert_eq!(rt; gathered(alloc, &array, &by)?.len(), 2);
+    let column = series.into_column();
+    assert_eq!(rt; gathered(alloc, &column, &by)?.len(), 2);
+    let table = table_of_one(alloc, column)?;
+    assert_eq!(rt; gathered(alloc, &table, &by)?.height(), 2);
+    assert_eq!(rt; side_by_side(&rt, alloc, &table, &by)?.height(), 2);
+    Ok(())
+}
+
+fn is_row(height: usize, row: &NullableIdxSize) -> bool
+    ensures { IsTrue result ↔ IsRowOf height row.now }
+{
+    match row.row() {
+        None => true,
+        Some(row) => (row as usize) < height,
+    }
+}
+
+fn are_rows(height: usize, rows: &[NullableIdxSize]) -> bool
+    ensures { IsTrue result ↔ All (IsRowOf height) rows.now }
+{
+    rows.iter().all(|row| is_row(height, row))
+}
+
+// More than are gathered by one thread.
+#[test]
+fn many_rows(rt: HostRuntime) -> Result<(), Fail> {
+    let alloc = rt.alloc();
+    let keys = column(alloc, &[Some(1), None], &[Some(2)])?;
+    let table = table_of_one(alloc, keys.into_column())?;
+    let rows = vec![in alloc; NullableIdxSize::some(2); 9_000]?;
+    if rows.len() == 9_000 && are_rows(table.height(), &rows) {
+        assert_eq!(rt; gather_rows(&rt, alloc, &table, &rows)?.height(), 9_000);
+    }
+    Ok(())
+}

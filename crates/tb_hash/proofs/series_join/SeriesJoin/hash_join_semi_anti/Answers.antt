@@ -19,22 +19,21 @@ returns-in_err-probed-clause-settles g c =
     let us = values c.as_series-left.result.now in
     let vs = values c.args.other.now in
     let e = c.in_err-probed.field-0.0 in
-    let fits : too_many (length (value_listing nulls c.semi_or_anti-kind.result us vs)) ≡ None
-    = ap (λ (k : JoinType). too_many (length (value_listing nulls k us vs))) c.semi_or_anti-kind.ensures ∙ alone_fit nulls us vs c.args.anti c.len-len.ensures.column.short in
+    let fits : too_many (length (value_listing nulls c.semi_or_anti-how.result us vs)) ≡ None
+    = ap (λ (k : JoinType). too_many (length (value_listing nulls k us vs))) c.semi_or_anti-how.ensures ∙ alone_fit nulls us vs c.args.anti c.len-len.ensures.column.short in
     let p = err_from_is_err_and c.from_residual.result c.from_residual.ensures.1 in
     rw (p.1, p.2) (subst (λ (cause : Option PolarsError). (e ≡ OutOfMemory) ⊎ (cause ≡ Some e)) fits c.in_err-probed.ensures.settles)
 
-pub row_numbers-requires : goal.row_numbers-requires
-row_numbers-requires g c =
+pub left_numbers-requires : goal.left_numbers-requires
+left_numbers-requires g c =
     let nulls = c.args.join_nulls in
     let us = values c.as_series-left.result.now in
     let vs = values c.args.other.now in
     let how = cond c.args.anti Anti Semi in
     let pairs = c.in_ok-probed.probed in
     let probed : IsProbed how (builds_left how (length us) (length vs)) (value_listing nulls how us vs) pairs
-    = subst (λ (k : JoinType). IsProbed k (builds_left k (length us) (length vs)) (value_listing nulls k us vs) pairs) c.semi_or_anti-kind.ensures c.in_ok-probed.ensures.listed in
-    let rows : c.deref.result.now ≡ map (λ (p : JoinPair). p.left) pairs = c.deref.ensures.value ∙ c.in_ok-left_rows.ensures ∙ ap (map (λ (p : JoinPair). p.left)) c.pairs.ensures.value in
-    subst (λ (xs : List (Option ℕ)). All IsSome xs) (sym rows) (alone_there nulls us vs c.args.anti _ pairs probed)
+    = subst (λ (k : JoinType). IsProbed k (builds_left k (length us) (length vs)) (value_listing nulls k us vs) pairs) c.semi_or_anti-how.ensures c.in_ok-probed.ensures.listed in
+    subst (λ (ps : List JoinPair). All IsSome (map (λ (p : JoinPair). p.left) ps)) (sym c.pairs.ensures.value) (alone_there nulls us vs c.args.anti _ pairs probed)
 
 pub returns-clause-rows : goal.returns-clause-rows
 returns-clause-rows g c =
@@ -44,8 +43,8 @@ returns-clause-rows g c =
     let how = cond c.args.anti Anti Semi in
     let pairs = c.in_ok-probed.probed in
     let probed : IsProbed how (builds_left how (length us) (length vs)) (value_listing nulls how us vs) pairs
-    = subst (λ (k : JoinType). IsProbed k (builds_left k (length us) (length vs)) (value_listing nulls k us vs) pairs) c.semi_or_anti-kind.ensures c.in_ok-probed.ensures.listed in
-    let rows : c.deref.result.now ≡ map (λ (p : JoinPair). p.left) pairs = c.deref.ensures.value ∙ c.in_ok-left_rows.ensures ∙ ap (map (λ (p : JoinPair). p.left)) c.pairs.ensures.value in
-    let numbers = c.in_ok-row_numbers.field-0.items in
+    = subst (λ (k : JoinType). IsProbed k (builds_left k (length us) (length vs)) (value_listing nulls k us vs) pairs) c.semi_or_anti-how.ensures c.in_ok-probed.ensures.listed in
+    let rows = ap (map (λ (p : JoinPair). p.left)) c.pairs.ensures.value in
+    let numbers = c.in_ok-left_numbers.field-0.items in
     subst (λ (s : Col). map left_only numbers ≡ value_listing nulls how (values s) vs) c.as_series-left.ensures
-    (alone_listed nulls us vs c.args.anti _ pairs numbers probed (c.in_ok-row_numbers.ensures ∙ rows))
+    (alone_listed nulls us vs c.args.anti _ pairs numbers probed (c.in_ok-left_numbers.ensures ∙ rows))

@@ -2,7 +2,7 @@ use Rattle.std.proofs.Common.{length, arith, true, false}
 use Rattle.tb_value.specs.Pairs.{left_only}
 use Rattle.tb_hash.specs.Probing.{probed_rows, kept_rows, is_kept}
 use Rattle.tb_hash.proofs.PairLists.{alone_few, not_too_many}
-use Rattle.tb_hash.proofs.probing.list_kind.Goals as goal
+use Rattle.tb_hash.proofs.probing.list_joined.Goals as goal
 
 pub returns-in_ok-list_kept-in-Semi-clause-settles : goal.returns-in_ok-list_kept-in-Semi-clause-settles
 returns-in_ok-list_kept-in-Semi-clause-settles g c =
