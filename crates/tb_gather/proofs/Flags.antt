@@ -1,5 +1,5 @@
 -- The flag of gathered values.
-use Rattle.std.proofs.Common.{◌≡◌, ◌∙◌, ℕ, ◌<◌, ◌≤◌, inl, inr, not, Bool, true, false, List, length, map, get_or, sym, subst, None, arith}
+use Rattle.std.proofs.Common.{◌≡◌, ◌∙◌, ℕ, ◌<◌, ◌≤◌, inl, inr, not, Bool, true, false, List, length, map, get_or, refl, ap, sym, subst, None, arith}
 use Rattle.std.specs.Prelude.{IsSome}
 use Rattle.std.specs.List.{All, AllPairs}
 use Rattle.std.specs.Ordering.{flip_args}
@@ -13,8 +13,8 @@ use Rattle.tb_value.specs.declared.sorted.IsSorted.{IsSorted}
 use Rattle.tb_value.specs.declared.sorted.IsSorted.TheVariants.{Ascending, Descending, Not}
 use Rattle.tb_chunk.specs.Col.{Col, flat, values, IsColumn}
 use Rattle.tb_chunk.specs.Flag.{datum_cmp, present, nulls, IsOrdered, FlagHolds}
-use Rattle.tb_gather.specs.Ids.{Id, NamesRow, IsUpTo, RunsBy}
-use Rattle.tb_gather.specs.Gathered.{lengths, value_at, gathered_flag, gathered, NameRows}
+use Rattle.tb_gather.specs.Ids.{Id, AreRun, NamesRow, IsUpTo, RunsBy}
+use Rattle.tb_gather.specs.Gathered.{lengths, value_at, gathered_flag, gathered, named_rows, opt_gathered, NameRows}
 use Rattle.tb_gather.proofs.Comparing.{IsOf, Orders, ascending-orders, descending-orders}
 use Rattle.tb_gather.proofs.Naming.{number, number-value, number-low, number-up}
 use Rattle.tb_gather.proofs.Standing.{Stands, turned, nulls-first, nulls-last, ends-of-pairs, in-order-of-pairs}
@@ -96,3 +96,23 @@ gathered-flag c ids sorted column some named runs =
 pub flag-of-named : (c : Col) (ids : List Id) (sorted flag : IsSorted) → IsColumn c → All (λ (id : Id). IsSome id) ids → NameRows ids c → RunsBy sorted ids → flag ≡ gathered_flag c.flag sorted → FlagHolds flag c.kind (map (value_at c.chunks) ids)
 flag-of-named c ids sorted flag column some named runs is =
     subst (λ (f : IsSorted). FlagHolds f c.kind (map (value_at c.chunks) ids)) (sym is) (flag-picked c.chunks ids some named c.kind c.flag sorted column.typed column.flag_holds runs)
+
+flag-not : (flag : IsSorted) → gathered_flag flag Not ≡ Not
+flag-not Ascending = refl
+flag-not Descending = refl
+flag-not Not = refl
+
+-- the flag of what such ids gather is true
+pub flag-of-run : (c : Col) (ids : List Id) (sorted flag : IsSorted) → IsColumn c → NameRows ids c → AreRun sorted ids → flag ≡ gathered_flag c.flag sorted → FlagHolds flag c.kind (map (value_at c.chunks) ids)
+flag-of-run c ids Ascending flag column named run is = flag-of-named c ids Ascending flag column run.0 named run.1 is
+flag-of-run c ids Descending flag column named run is = flag-of-named c ids Descending flag column run.0 named run.1 is
+flag-of-run c ids Not flag column named run is = subst (λ (f : IsSorted). FlagHolds f c.kind (map (value_at c.chunks) ids)) (sym (is ∙ flag-not c.flag)) tt
+
+pub are-run : (sorted : IsSorted) (ids : List Id) → All (λ (id : Id). IsSome id) ids → RunsBy sorted ids → AreRun sorted ids
+are-run Ascending ids some runs = (some, runs)
+are-run Descending ids some runs = (some, runs)
+are-run Not ids some runs = tt
+
+-- with no direction of the ids, what is gathered has the flag Not
+pub gathered-not : (ids : List Id) (cs : List Col) → map (gathered ids Not) cs ≡ map (opt_gathered ids) cs
+gathered-not ids cs = ap (λ (f : Col → Col). map f cs) (λ i c. named_rows ids (flag-not c.flag i) c)

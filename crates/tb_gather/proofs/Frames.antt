@@ -7,14 +7,13 @@ use Rattle.tb_value.specs.Typed.{HasType}
 use Rattle.tb_value.specs.declared.error.PolarsError.{PolarsError}
 use Rattle.tb_value.specs.declared.error.PolarsError.TheVariants.{OutOfMemory}
 use Rattle.tb_value.specs.declared.sorted.IsSorted.{IsSorted}
-use Rattle.tb_value.specs.declared.sorted.IsSorted.TheVariants.{Not}
 use Rattle.tb_chunk.specs.Col.{Col, values}
 use Rattle.tb_frame.specs.Table.{Table, plain, table_of, IsTable, IsTyped}
 use Rattle.tb_frame.specs.Frame.{frame_refusal}
 use Rattle.tb_frame.proofs.Frames.{IsTable-refusal}
 use Rattle.tb_frame.proofs.Taking.{IsTable-made, at_row}
 use Rattle.tb_gather.specs.Ids.{Id, row_or_none}
-use Rattle.tb_gather.specs.Gathered.{gathered, opt_gathered, gathered_flag, lengths, named_rows, value_at}
+use Rattle.tb_gather.specs.Gathered.{gathered, gathered_flag, lengths, named_rows, value_at}
 use Rattle.tb_gather.proofs.Columns.{length-named, values-named}
 
 -- columns of a table are refused for want of memory alone
@@ -30,6 +29,3 @@ typed-named ids flag c h = subst (λ (vs : List Datum). All (HasType c.kind) vs)
 
 pub IsTable-gathered : (ids : List Id) (sorted : IsSorted) (cs : List Col) → IsTable (table_of cs) → IsTable (table_of (map (gathered ids sorted) cs))
 IsTable-gathered ids sorted cs t = IsTable-made (gathered ids sorted) (λ c. refl) (length ids) cs (lengths-gathered ids sorted cs) (λ c h. typed-named ids (gathered_flag c.flag sorted) c h) t
-
-pub IsTable-opt_gathered : (ids : List Id) (cs : List Col) → IsTable (table_of cs) → IsTable (table_of (map (opt_gathered ids) cs))
-IsTable-opt_gathered ids cs t = IsTable-made (opt_gathered ids) (λ c. refl) (length ids) cs (λ k d low. length-named ids Not (get_or cs k d)) (λ c h. typed-named ids Not c h) t

@@ -1,5 +1,5 @@
 -- Ids of rows in chunks: a chunk and a row in it, or none.
-use Rattle.std.specs.Prelude.{◌≡◌, ◌<◌, ◌≤◌, ◌+◌, ◌⊎◌, ℕ, List, Option, Some, None, length, take, slice_index_or}
+use Rattle.std.specs.Prelude.{◌≡◌, ◌<◌, ◌≤◌, ◌+◌, ◌⊎◌, ℕ, List, Option, Some, None, IsSome, length, take, slice_index_or}
 use Rattle.std.specs.List.{All, AllPairs, sum}
 use Rattle.std.specs.Option.{option_map}
 use Rattle.tb_value.specs.declared.limits.TheConstants.{TOO_MANY_CHUNKS}
@@ -33,6 +33,12 @@ abbrev pub RunsBy : IsSorted → List Id → Type 0
 RunsBy Ascending ids = AllPairs IsUpTo ids
 RunsBy Descending ids = AllPairs (λ (a b : Id). IsUpTo b a) ids
 RunsBy Not ids = Unit {0}
+
+-- ids of which a direction is said are all there and run so
+abbrev pub AreRun : IsSorted → List Id → Type 0
+AreRun Ascending ids = All (λ (id : Id). IsSome id) ids × RunsBy Ascending ids
+AreRun Descending ids = All (λ (id : Id). IsSome id) ids × RunsBy Descending ids
+AreRun Not ids = Unit {0}
 
 -- not behind the other, where both are there
 abbrev pub IsRowUpTo : Option ℕ → Option ℕ → Type 0

@@ -1,7 +1,8 @@
 //! Rows of a series and of a column, gathered by ids.
 ghost use Rattle.std.specs.Prelude.{◌≡◌, ◌≤◌, IfOk, length, map};
 ghost use Rattle.tb_chunk.specs.Flag.{FlagHolds};
-ghost use Rattle.tb_gather.specs.Gathered.{NameRows, named_rows, value_at};
+ghost use Rattle.tb_gather.specs.Ids.{AreRun};
+ghost use Rattle.tb_gather.specs.Gathered.{NameRows, gathered, named_rows, value_at};
 
 use crate::directions::gathered_flag;
 use crate::gathering::gather_chunks;
@@ -27,6 +28,23 @@ fn gather_series<const B: u64>(
     let dtype = series.dtype().copy(alloc)?;
     let chunks = gather_chunks(alloc, series.chunks(), by)?;
     Ok(Series::from_parts(name, dtype, chunks, flag))
+}
+
+/// The rows of a column that the ids name, in one chunk, with the flag that the column's and `sorted` make.
+pub(crate) fn gather_column<const B: u64>(
+    alloc: Global,
+    column: &Column,
+    by: &[ChunkId<B>],
+    sorted: IsSorted,
+) -> Result<Column, OutOfMemory>
+    requires named { NameRows by.now column.now }
+    requires runs { AreRun sorted by.now }
+    requires few { length by.now ≤ MAX_ROWS }
+    ensures { IfOk result (λ c. c ≡ gathered by.now sorted column.now) }
+{
+    let _len = column.len();
+    let flag = gathered_flag(column.is_sorted_flag(), sorted);
+    Ok(gather_series(alloc, column.as_materialized_series(), by, flag)?.into_column())
 }
 
 impl<const B: u64> TakeChunked<B> for Series {

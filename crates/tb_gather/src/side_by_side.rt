@@ -1,10 +1,10 @@
 //! Rows of a table, gathered from its columns side by side.
 ghost use Rattle.std.specs.Prelude.{◌≡◌, ◌≤◌, All, IfOk, IsSome, length, map};
-ghost use Rattle.tb_gather.specs.Ids.{Id, RunsBy};
+ghost use Rattle.tb_gather.specs.Ids.{AreRun, Id, RunsBy};
 ghost use Rattle.tb_gather.specs.Gathered.{NameRows, gathered, opt_gathered};
 
+use crate::series::gather_column;
 use crate::tables::made_table;
-use crate::take_chunked::TakeChunked;
 use rayon::prelude::*;
 use std::alloc::Global;
 use std::thread::Threads;
@@ -46,7 +46,8 @@ pub trait TakeChunkedHorPar<const B: u64>: IntoDf {
         requires few { length idx.now ≤ MAX_ROWS }
         ensures { IfOk result (λ t. t ≡ map (opt_gathered idx.now) (Self.frame self.now)) }
     {
-        let columns = gather_opt_side_by_side(rt, alloc, self.to_df().get_columns(), idx)?;
+        let not = IsSorted::Not;
+        let columns = gather_side_by_side(rt, alloc, self.to_df().get_columns(), idx, not)?;
         made_table(alloc, columns)
     }
 }
@@ -62,7 +63,7 @@ fn columns_a_thread<const B: u64>(columns: &[Column], by: &[ChunkId<B>]) -> usiz
     }
 }
 
-// The rows of each column that the ids name.
+// The rows of each column that the ids name, with the flag that the column's and `sorted` make.
 fn gather_side_by_side<const B: u64>(
     rt: &(impl Threads + Sync),
     alloc: Global,
@@ -70,9 +71,8 @@ fn gather_side_by_side<const B: u64>(
     by: &[ChunkId<B>],
     sorted: IsSorted,
 ) -> Result<Vec<Column>, OutOfMemory>
-    requires present { All (λ (id : Id). IsSome id) by.now }
     requires named { All (NameRows by.now) columns.now }
-    requires runs { RunsBy sorted by.now }
+    requires runs { AreRun sorted by.now }
     requires few { length by.now ≤ MAX_ROWS }
     ensures { IfOk result (λ v. v.items ≡ map (gathered by.now sorted) columns.now) }
 {
@@ -81,36 +81,11 @@ fn gather_side_by_side<const B: u64>(
         .with_min_len(columns_a_thread(columns, by))
         .map(
             |column: &Column| -> Result<Column, OutOfMemory>
-                requires present { All (λ (id : Id). IsSome id) by.now }
                 requires named { NameRows by.now column.now }
-                requires runs { RunsBy sorted by.now }
+                requires runs { AreRun sorted by.now }
                 requires few { length by.now ≤ MAX_ROWS }
                 ensures { IfOk result (λ c. c ≡ gathered by.entry.now sorted column.now) }
-            { column.take_chunked_unchecked(alloc, by, sorted) },
-        )
-        .collect(rt, alloc)?
-}
-
-// The same, where a null id gives Null.
-fn gather_opt_side_by_side<const B: u64>(
-    rt: &(impl Threads + Sync),
-    alloc: Global,
-    columns: &[Column],
-    by: &[ChunkId<B>],
-) -> Result<Vec<Column>, OutOfMemory>
-    requires named { All (NameRows by.now) columns.now }
-    requires few { length by.now ≤ MAX_ROWS }
-    ensures { IfOk result (λ v. v.items ≡ map (opt_gathered by.now) columns.now) }
-{
-    columns
-        .par_iter()
-        .with_min_len(columns_a_thread(columns, by))
-        .map(
-            |column: &Column| -> Result<Column, OutOfMemory>
-                requires named { NameRows by.now column.now }
-                requires few { length by.now ≤ MAX_ROWS }
-                ensures { IfOk result (λ c. c ≡ opt_gathered by.entry.now column.now) }
-            { column.take_opt_chunked_unchecked(alloc, by) },
+            { gather_column(alloc, column, by, sorted) },
         )
         .collect(rt, alloc)?
 }

@@ -1,49 +1,32 @@
 //! Rows of a table, gathered by ids.
-ghost use Rattle.std.specs.Prelude.{◌≡◌, ◌≤◌, All, IfOk, IsSome, length, map};
+ghost use Rattle.std.specs.Prelude.{◌≡◌, ◌≤◌, All, IfOk, length, map};
 ghost use Rattle.tb_value.specs.declared.error.PolarsError.TheVariants as errors;
 ghost use Rattle.tb_frame.specs.Table.{table_of, IsTable};
-ghost use Rattle.tb_gather.specs.Ids.{Id, RunsBy};
-ghost use Rattle.tb_gather.specs.Gathered.{NameRows, gathered, opt_gathered};
+ghost use Rattle.tb_gather.specs.Ids.{AreRun};
+ghost use Rattle.tb_gather.specs.Gathered.{NameRows, gathered};
 
+use crate::series::gather_column;
 use crate::take_chunked::TakeChunked;
 use std::alloc::Global;
 use tb_frame::DataFrame;
 use tb_store::Column;
 use tb_value::{ChunkId, IsSorted, MAX_ROWS, OutOfMemory, PolarsError};
 
-// The rows of each column that the ids name.
+// The rows of each column that the ids name, with the flag that the column's and `sorted` make.
 fn gather_columns<const B: u64>(
     alloc: Global,
     columns: &[Column],
     by: &[ChunkId<B>],
     sorted: IsSorted,
 ) -> Result<Vec<Column>, OutOfMemory>
-    requires present { All (λ (id : Id). IsSome id) by.now }
     requires named { All (NameRows by.now) columns.now }
-    requires runs { RunsBy sorted by.now }
+    requires runs { AreRun sorted by.now }
     requires few { length by.now ≤ MAX_ROWS }
     ensures { IfOk result (λ v. v.items ≡ map (gathered by.now sorted) columns.now) }
 {
     let mut gathered = Vec::with_capacity(alloc, columns.len())?;
     for column in columns {
-        gathered.push(column.take_chunked_unchecked(alloc, by, sorted)?)?;
-    }
-    Ok(gathered)
-}
-
-// The same, where a null id gives Null.
-fn gather_opt_columns<const B: u64>(
-    alloc: Global,
-    columns: &[Column],
-    by: &[ChunkId<B>],
-) -> Result<Vec<Column>, OutOfMemory>
-    requires named { All (NameRows by.now) columns.now }
-    requires few { length by.now ≤ MAX_ROWS }
-    ensures { IfOk result (λ v. v.items ≡ map (opt_gathered by.now) columns.now) }
-{
-    let mut gathered = Vec::with_capacity(alloc, columns.len())?;
-    for column in columns {
-        gathered.push(column.take_opt_chunked_unchecked(alloc, by)?)?;
+        gathered.push(gather_column(alloc, column, by, sorted)?)?;
     }
     Ok(gathered)
 }
@@ -87,7 +70,7 @@ impl<const B: u64> TakeChunked<B> for DataFrame {
         alloc: Global,
         by: &[ChunkId<B>],
     ) -> Result<DataFrame, OutOfMemory> {
-        let columns = gather_opt_columns(alloc, self.get_columns(), by)?;
+        let columns = gather_columns(alloc, self.get_columns(), by, IsSorted::Not)?;
         made_table(alloc, columns)
     }
 }

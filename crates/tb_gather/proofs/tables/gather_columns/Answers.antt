@@ -1,10 +1,9 @@
 use Rattle.std.proofs.Common.{arith, sym, subst}
 use Rattle.tb_chunk.specs.Col.{Col}
 use Rattle.tb_gather.specs.Gathered.{NameRows}
-use Rattle.tb_gather.proofs.Columns.{NameRows-one}
 use Rattle.tb_gather.proofs.tables.gather_columns.Goals as goal
 
-pub take_chunked_unchecked-requires : goal.take_chunked_unchecked-requires
-take_chunked_unchecked-requires g c =
+pub gather_column-requires : goal.gather_column-requires
+gather_column-requires g c =
     let named : NameRows c.args.by.now c.column-item.result = subst (λ (k : Col). NameRows c.args.by.now k) (sym c.column-item.is) (c.requires.named c.loop-column.column-index c.column-item.result c.loop-column-test.true) in
-    (omega arith, (c.requires.present, (NameRows-one c.args.by.now c.column-item.result named, (c.requires.runs, c.requires.few))))
+    (omega arith, (named, (c.requires.runs, c.requires.few)))

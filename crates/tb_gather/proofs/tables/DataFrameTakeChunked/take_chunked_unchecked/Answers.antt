@@ -3,6 +3,7 @@ use Rattle.std.specs.List.{All}
 use Rattle.tb_chunk.specs.Col.{Col}
 use Rattle.tb_frame.specs.Table.{table_of, IsTable}
 use Rattle.tb_gather.specs.Gathered.{NameRows, gathered}
+use Rattle.tb_gather.proofs.Flags.{are-run}
 use Rattle.tb_gather.proofs.Frames.{IsTable-gathered}
 use Rattle.tb_gather.proofs.tables.DataFrameTakeChunked.take_chunked_unchecked.Goals as goal
 
@@ -10,7 +11,7 @@ pub gather_columns-requires : goal.gather_columns-requires
 gather_columns-requires g c =
     let by = c.args.by.now in
     let named = subst (λ (cs : List Col). All (NameRows by) cs) (sym c.get_columns.ensures.columns) c.requires.named in
-    (omega arith, (c.requires.present, (named, (c.requires.runs, c.requires.few))))
+    (omega arith, (named, (are-run c.args.sorted by c.requires.present c.requires.runs, c.requires.few)))
 
 pub made_table-requires : goal.made_table-requires
 made_table-requires g c =
