@@ -53,10 +53,7 @@ pub(crate) fn left_numbers(alloc: Global, pairs: &[JoinPair]) -> Result<Vec<IdxS
 }
 
 /// The right rows of pairs that have each one.
-pub(crate) fn right_numbers(
-    alloc: Global,
-    pairs: &[JoinPair],
-) -> Result<Vec<IdxSize>, OutOfMemory>
+pub(crate) fn right_numbers(alloc: Global, pairs: &[JoinPair]) -> Result<Vec<IdxSize>, OutOfMemory>
     requires { All IsSome (map (λ (p : JoinPair). p.right) pairs.now) }
     ensures { IfOk result (λ v. map Some v.items ≡ map (λ (p : JoinPair). p.right) pairs.now) }
 {

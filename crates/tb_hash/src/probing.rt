@@ -246,6 +246,7 @@ pub struct Probed {
 
 impl Model for Probed {
     ghost use Rattle.std.specs.Prelude.{List, length, ◌≤◌};
+    ghost use Rattle.tb_value.specs.declared.limits.TheConstants.{MAX_ROWS};
     ghost use Rattle.tb_value.specs.declared.index.JoinPair.{JoinPair};
 
     ghost Value = { List JoinPair };

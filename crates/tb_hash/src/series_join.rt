@@ -56,7 +56,9 @@ pub trait SeriesJoin: Sized {
     {
         let left = self.as_series();
         let how = JoinType::Left;
-        let (joined, _built) = joined_pairs(rt, alloc, how, left, other, validate, join_nulls, exec)?;
+        let (joined, _built) = joined_pairs(
+            rt, alloc, how, left, other, validate, join_nulls, exec,
+        )?;
         let left = left_join_ids(alloc, left, joined.pairs())?;
         let right = right_join_ids(alloc, other, joined.pairs())?;
         Ok((left, right))
@@ -82,7 +84,9 @@ pub trait SeriesJoin: Sized {
     {
         let left = self.as_series();
         let how = JoinType::Inner;
-        let (joined, built) = joined_pairs(rt, alloc, how, left, other, validate, join_nulls, exec)?;
+        let (joined, built) = joined_pairs(
+            rt, alloc, how, left, other, validate, join_nulls, exec,
+        )?;
         let left = left_numbers(alloc, joined.pairs())?;
         let right = right_numbers(alloc, joined.pairs())?;
         Ok(((left, right), !built.left_built()))
@@ -106,7 +110,9 @@ pub trait SeriesJoin: Sized {
     {
         let left = self.as_series();
         let how = JoinType::Full;
-        let (joined, _built) = joined_pairs(rt, alloc, how, left, other, validate, join_nulls, exec)?;
+        let (joined, _built) = joined_pairs(
+            rt, alloc, how, left, other, validate, join_nulls, exec,
+        )?;
         let left = opt_left_numbers(alloc, joined.pairs())?;
         let right = opt_right_numbers(alloc, joined.pairs())?;
         Ok((left, right))

@@ -42,7 +42,11 @@ fn texts_are_probed(rt: HostRuntime) -> Result<(), Fail> {
     let left = [one, Some(KeyBytes { bytes: b"2" })];
     let (tables, _built) = build_tables(&rt, alloc, &[one, one], false, false, &exec, &OpenGate)?;
     let probed = probe(&rt, alloc, JoinType::Full, &tables, &left, &exec, &OpenGate)?;
-    let wanted = [JoinPair::both(0, 0), JoinPair::both(0, 1), JoinPair::left_only(1)];
+    let wanted = [
+        JoinPair::both(0, 0),
+        JoinPair::both(0, 1),
+        JoinPair::left_only(1),
+    ];
     assert_eq!(rt; probed.pairs(), wanted.as_slice());
     Ok(())
 }
@@ -117,7 +121,7 @@ fn are_present(ids: &[StandardChunkId]) -> bool
 }
 
 // By both calls, through the bound alone.
-fn gathered<T: TakeChunked<24>>(
+fn gathered<T: TakeChunked<24> + Drop>(
     alloc: Global,
     from: &T,
     by: &[StandardChunkId],

@@ -1,5 +1,6 @@
-use Rattle.std.proofs.Common.{arith, List, map, ap, sym, subst, ◌∙◌}
+use Rattle.std.proofs.Common.{◌≡◌, arith, List, map, ap, sym, subst, ◌∙◌}
 use Rattle.std.specs.List.{All}
+use Rattle.std.proofs.lemmas.Result.{IfOk-weaker}
 use Rattle.tb_chunk.specs.Col.{Col}
 use Rattle.tb_frame.specs.Table.{table_of, IsTable}
 use Rattle.tb_value.specs.declared.sorted.IsSorted.TheVariants.{Not}
@@ -20,4 +21,6 @@ made_table-requires g c =
     subst (λ (cs : List Col). IsTable (table_of cs)) (sym (c.in_ok-columns.ensures ∙ ap (map (gathered by Not)) c.get_columns.ensures.columns)) (IsTable-gathered by Not c.args.self.now c.get_columns.ensures.table)
 
 pub returns : goal.returns
-returns g c = c.in_ok-made_table.ensures ∙ c.in_ok-columns.ensures ∙ ap (map (gathered c.args.by.now Not)) c.get_columns.ensures.columns ∙ gathered-not c.args.by.now c.args.self.now
+returns g c =
+    let is = c.in_ok-columns.ensures ∙ ap (map (gathered c.args.by.now Not)) c.get_columns.ensures.columns ∙ gathered-not c.args.by.now c.args.self.now in
+    IfOk-weaker c.made_table.result (λ (t : List Col). t ≡ c.in_ok-columns.columns.items) _ (λ t h. h ∙ is) c.made_table.ensures
