@@ -166,6 +166,11 @@ valid_is_done (Reads command) (Some known) left' s text valid is_due =
     done_reading (request_of command bytes) valid.1.0 s text read valid.1.2 (subst P (le-ltb limit (length bytes) short) is_due.due)
 valid_is_done Unknown left left' s text valid is_due = absurd valid
 
+pub replied_done : (asked : Form) (left left' written written' : Option (List ℕ)) (faults faults' : ℕ) (s : Status) (text : List ℕ) (result : Status)
+    → IsDue asked left left' s text → IsReply written written' faults faults' s text result → IsValid asked left → ¬ (Rose faults faults') → (result ≡ status.Done) ⊎ (result ≡ status.OutOfMemory)
+replied_done asked left left' written written' faults faults' s text result is_due (inl done) valid calm = inl (done.0 ∙ valid_is_done asked left left' s text valid is_due)
+replied_done asked left left' written written' faults faults' s text result is_due (inr failed) valid calm = absurd (calm failed.1)
+
 -- THE HEADLINE
 
 -- a command whose bytes are within the limit reads them all

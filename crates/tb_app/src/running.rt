@@ -2,7 +2,7 @@
 ghost use Rattle.std.specs.Prelude.{◌≡◌, ◌≢◌, ◌⊎◌, List, ℕ, IfOk, string_bytes};
 ghost use Rattle.std.specs.Io.KnownBytes.{Appends};
 ghost use Rattle.tb_app.specs.declared.words.Command.{Command};
-ghost use Rattle.tb_app.specs.Due.{due, DoneFor, IsDue, HasText, IsCommand, IsKnown};
+ghost use Rattle.tb_app.specs.Due.{due, DoneFor, IsDue, HasText, IsCommand, IsKnown, IsValid};
 ghost use Rattle.tb_app.specs.Ends.{Rose, AppendsPart};
 ghost use Rattle.tb_app.specs.Reading.{CountsReads};
 ghost use Rattle.tb_app.specs.Words.{form};
@@ -57,6 +57,11 @@ pub fn run<S: Source, K: Sink>(
     // No read failed but under 4, and no write but under 5: the counts are as they were.
     ensures reads_well { result ≢ Status.ReadFault → S.faults source.new ≡ S.faults source.old }
     ensures writes_well { result ≢ Status.WriteFault → K.faults sink.new ≡ K.faults sink.old }
+
+    // A valid request of ends that don't fail is answered, if there is memory.
+    ensures complete { IsValid (form words.now) (S.left source.old)
+        → ¬ (Rose (S.faults source.old) (S.faults source.new)) → ¬ (Rose (K.faults sink.old) (K.faults sink.new))
+        → (result ≡ Status.Done) ⊎ (result ≡ Status.OutOfMemory) }
 
     // Nothing is read for words of no form.
     ensures reads_for_a_command { IsCommand (form words.now) ⊎ (source.new ≡ source.old) }

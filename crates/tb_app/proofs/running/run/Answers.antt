@@ -1,5 +1,5 @@
 -- Each arm has a text that is due, and replies with it.
-use Rattle.tb_app.proofs.Frame.{usage_is_due, answer_is_due, replied_whole, replied_part, no_read_fault, no_want, replied_well, replied_for}
+use Rattle.tb_app.proofs.Frame.{usage_is_due, answer_is_due, replied_whole, replied_part, no_read_fault, no_want, replied_well, replied_done, replied_for}
 use Rattle.tb_app.proofs.running.run.Goals as goal
 
 pub returns-in-Unknown-clause-answered : goal.returns-in-Unknown-clause-answered
@@ -25,6 +25,12 @@ returns-in-Unknown-clause-writes_well g c = replied_well _ _ _ _ _ _ _ c.reply.e
 
 pub returns-in-Ok-clause-writes_well : goal.returns-in-Ok-clause-writes_well
 returns-in-Ok-clause-writes_well g c = replied_well _ _ _ _ _ _ _ c.reply-in-Ok.ensures
+
+pub returns-in-Unknown-clause-complete : goal.returns-in-Unknown-clause-complete
+returns-in-Unknown-clause-complete g c valid read_calm calm = replied_done _ _ _ _ _ _ _ _ _ _ (usage_is_due _ _ c.in-Unknown.ensures) c.reply.ensures valid calm
+
+pub returns-in-Ok-clause-complete : goal.returns-in-Ok-clause-complete
+returns-in-Ok-clause-complete g c valid read_calm calm = replied_done _ _ _ _ _ _ _ _ _ _ (answer_is_due _ _ _ _ _ _ _ c.in-Reads.ensures c.as_str.ensures.value c.in-Ok.ensures.due) c.reply-in-Ok.ensures valid calm
 
 pub returns-in-Unknown-clause-done : goal.returns-in-Unknown-clause-done
 returns-in-Unknown-clause-done g c = replied_for _ _ _ _ _ _ _ _ _ _ (usage_is_due _ (g.S.Source.left c.args.source.now) c.in-Unknown.ensures) c.reply.ensures
