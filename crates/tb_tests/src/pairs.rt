@@ -1,21 +1,19 @@
 // Tests of pairs of rows, of what gathers rows, and of portions.
-ghost use Rattle.std.specs.Prelude.{◌≡◌, ◌≤◌, ◌↔◌, ◌∷◌, [], All, IfOk, IsSome, IsTrue, length, map, true};
+ghost use Rattle.std.specs.Prelude.{◌≡◌, ◌↔◌, ◌∷◌, [], All, IfOk, IsTrue, true};
 ghost use Rattle.tb_value.specs.Kind.{int64};
 ghost use Rattle.tb_value.specs.SameKind.{is_key};
 ghost use Rattle.tb_chunk.specs.Rows.{IsRowOf};
-ghost use Rattle.tb_gather.specs.Ids.{Id};
-ghost use Rattle.tb_gather.specs.Gathered.{NameRows, opt_gathered};
 
 use std::alloc::Global;
 use std::process::Abort;
 use std::test::Fail;
 use std::thread::Threads;
 use tb_frame::{DataFrame, JoinType, JoinValidation};
-use tb_gather::{TakeChunked, TakeChunkedHorPar, gather_rows, ids_of};
+use tb_gather::gather_rows;
 use tb_hash::{KeyBytes, SeriesJoin, build_tables, code_of, partition_of, probe};
 use tb_pool::{Exec, OpenGate, portions};
-use tb_store::{Cells, ChunkedArray, Chunks, Column, DataType, Int64Type, Series};
-use tb_value::{IsSorted, JoinPair, NullableIdxSize, OutOfMemory, PlSmallStr, StandardChunkId};
+use tb_store::{Cells, Chunks, Column, DataType, Series};
+use tb_value::{JoinPair, NullableIdxSize, PlSmallStr};
 
 // Codes as others compute them: that of a text by the tables of FNV-1a.
 #[test]
@@ -96,82 +94,12 @@ fn rows_of_each_call(rt: HostRuntime) -> Result<(), Fail> {
     join_by_each_call(&rt, alloc, &left, &right)
 }
 
-// The ids of two rows of the column.
-fn two_ids(alloc: Global, column: &Series) -> Result<Vec<StandardChunkId>, Fail>
-    ensures named { IfOk result (λ v. All (NameRows v.items) (column.now ∷ [])) }
-    ensures present { IfOk result (λ v. All (λ (id : Id). IsSome id) v.items) }
-    ensures few { IfOk result (λ v. length v.items ≤ 4294967294) }
-{
-    if column.len() < 3 || column.n_chunks() > 2 {
-        return Err(Fail::from("a short column"));
-    }
-    let rows = [NullableIdxSize::some(2), NullableIdxSize::some(0)];
-    let ids: Vec<StandardChunkId> = ids_of(alloc, column, &rows)?;
-    if ids.len() == 2 && are_present(&ids) {
-        Ok(ids)
-    } else {
-        Err(Fail::from("two ids"))
-    }
-}
-
-fn are_present(ids: &[StandardChunkId]) -> bool
-    ensures { IsTrue result ↔ All (λ (id : Id). IsSome id) ids.now }
-{
-    ids.iter().all(|id| !id.is_null())
-}
-
-// By both calls, through the bound alone.
-fn gathered<T: TakeChunked<24> + Drop>(
-    alloc: Global,
-    from: &T,
-    by: &[StandardChunkId],
-) -> Result<T, OutOfMemory>
-    requires named { All (NameRows by.now) (T.columns from.now) }
-    requires present { All (λ (id : Id). IsSome id) by.now }
-    requires few { length by.now ≤ 4294967294 }
-    ensures { IfOk result (λ r. T.columns r ≡ map (opt_gathered by.now) (T.columns from.now)) }
-{
-    from.take_chunked_unchecked(alloc, by, IsSorted::Not)?;
-    from.take_opt_chunked_unchecked(alloc, by)
-}
-
-fn side_by_side<T: TakeChunkedHorPar<24>>(
-    rt: &(impl Threads + Sync),
-    alloc: Global,
-    from: &T,
-    by: &[StandardChunkId],
-) -> Result<DataFrame, OutOfMemory>
-    requires named { All (NameRows by.now) (T.frame from.now) }
-    requires present { All (λ (id : Id). IsSome id) by.now }
-    requires few { length by.now ≤ 4294967294 }
-    ensures { IfOk result (λ t. t ≡ map (opt_gathered by.now) (T.frame from.now)) }
-{
-    from._take_chunked_unchecked_hor_par(rt, alloc, by, IsSorted::Not)?;
-    from._take_opt_chunked_unchecked_hor_par(rt, alloc, by)
-}
-
 fn table_of_one(alloc: Global, column: Column) -> Result<DataFrame, Fail>
     ensures { IfOk result (λ t. t ≡ column ∷ []) }
 {
     let mut columns = Vec::new(alloc);
     columns.push(column)?;
     Ok(DataFrame::new(alloc, columns)?)
-}
-
-#[test]
-fn rows_by_ids(rt: HostRuntime) -> Result<(), Fail> {
-    let alloc = rt.alloc();
-    let series = column(alloc, &[Some(1), None], &[Some(2)])?;
-    let by = two_ids(alloc, &series)?;
-    assert_eq!(rt; gathered(alloc, &series, &by)?.len(), 2);
-    let array: ChunkedArray<Int64Type> = ChunkedArray::from_series(series.copy(alloc)?)?;
-    assert_eq!(rt; gathered(alloc, &array, &by)?.len(), 2);
-    let column = series.into_column();
-    assert_eq!(rt; gathered(alloc, &column, &by)?.len(), 2);
-    let table = table_of_one(alloc, column)?;
-    assert_eq!(rt; gathered(alloc, &table, &by)?.height(), 2);
-    assert_eq!(rt; side_by_side(&rt, alloc, &table, &by)?.height(), 2);
-    Ok(())
 }
 
 fn is_row(height: usize, row: &NullableIdxSize) -> bool
