@@ -99,9 +99,10 @@ module _ (l r : ℕ) (m : ℕ → ℕ → Bool) where
   once Left = Ascends_by-append Differ (matched l r m) (left_unmet l r m) (rows 0 l) (alone (λ i. not (list_any (m i) (row_numbers r)))) left_apart
   once Right = Ascends_by-append Differ (matched l r m) (right_unmet l r m) (rows 0 l) right_alone right_apart
   once Full =
-      Ascends_by-append Differ (matched l r m) (left_unmet l r m ++ right_unmet l r m) (rows 0 l)
-      (Ascends_by-append Differ (left_unmet l r m) (right_unmet l r m) (alone (λ i. not (list_any (m i) (row_numbers r)))) right_alone sides_apart)
-      (λ k d low. All-append (Differ (get_or (matched l r m) k d)) (left_unmet l r m) (right_unmet l r m) (left_apart k d low) (right_apart k d low))
+      Ascends_by-append Differ (matched l r m ++ left_unmet l r m) (right_unmet l r m)
+      (Ascends_by-append Differ (matched l r m) (left_unmet l r m) (rows 0 l) (alone (λ i. not (list_any (m i) (row_numbers r)))) left_apart)
+      right_alone
+      (All-append (λ p. All (Differ p) (right_unmet l r m)) (matched l r m) (left_unmet l r m) right_apart sides_apart)
   once Semi = alone (λ i. list_any (m i) (row_numbers r))
   once Anti = alone (λ i. not (list_any (m i) (row_numbers r)))
 

@@ -1,24 +1,21 @@
 -- The small requests' answers, by computation.
-use Rattle.std.proofs.Common.{◌≡◌, ℕ, zero, suc, ◌+◌, ◌<◌, ◌≤◌, Bool, true, false, not, List, [], ◌∷◌, length, get_or, Some, refl, arith, subst, sym, lit<, ℤ, pos, negsuc, ltb, None}
+use Rattle.std.proofs.Common.{◌≡◌, ℕ, zero, suc, ◌+◌, ◌<◌, ◌≤◌, Bool, true, false, not, List, [], ◌∷◌, length, get_or, Some, refl, arith, subst, sym, lit<, pos, negsuc, None}
 use Rattle.std.specs.Prelude.{All, codes, IsSorted, ◌&&◌}
-use Rattle.std.specs.List.{list_all}
 use Rattle.std.specs.declared.cmp.Ordering.{Ordering}
 use Rattle.std.specs.Ordering.{is_lt}
-use Rattle.std.proofs.lemmas.Bool.{and_parts, ltb-true, not-true}
-use Rattle.std.proofs.lemmas.List.Elements.{All-weaker}
+use Rattle.std.proofs.lemmas.Bool.{and_parts, not-true}
+use Rattle.std.proofs.lemmas.List.Elements.{All-cons, All-nil}
 use Rattle.std.proofs.lemmas.List.Sorted.{IsPermutation-refl}
 use Rattle.tb_value.specs.declared.index.JoinPair.{JoinPair}
-use Rattle.tb_value.specs.Datum.{Datum, null, int}
-use Rattle.tb_value.specs.Kind.{Kind, int64}
-use Rattle.tb_value.specs.SameKind.{same_kind}
+use Rattle.tb_value.specs.Datum.{Datum, null}
+use Rattle.tb_value.specs.Kind.{int64}
 use Rattle.tb_value.specs.Typed.{HasType}
-use Rattle.tb_value.specs.Proved.TypeTests.{same_kind-Decides}
 use Rattle.tb_value.specs.Pairs.{both, left_only, right_only, left_first, right_first}
 use Rattle.tb_frame.specs.declared.args.JoinCoalesce.TheVariants.{JoinSpecific, CoalesceColumns}
 use Rattle.tb_frame.specs.Frame.{frame_refusal}
 use Rattle.tb_frame.specs.Join.{IsAnswer, IsOrdered, listing}
-use Rattle.tb_frame.specs.Table.{TableColumn, Table, IsTable, IsTyped}
-use Rattle.tb_frame.proofs.Frames.{all_true, makes_frame}
+use Rattle.tb_frame.specs.Table.{Table, IsTable, IsTyped}
+use Rattle.tb_frame.proofs.Frames.{makes_frame}
 use Rattle.tb_join.specs.Laws.{two_columns}
 use Rattle.tb_frame.specs.declared.args.JoinType.TheVariants.{Inner, Left}
 use Rattle.tb_frame.specs.declared.args.MaintainOrderJoin.TheVariants as order
@@ -41,40 +38,61 @@ sorted_by_test {X} cmp (x ∷ y ∷ zs) t = at (sorted_by_test cmp (y ∷ zs) (a
         let e : suc k + 1 ≡ suc (k + 1) = omega arith in
         subst (λ (n : ℕ). is_lt (cmp (get_or (x ∷ y ∷ zs) n d) (get_or (x ∷ y ∷ zs) (suc k) d)) ≡ false) (sym e) (rest k d (omega arith) (omega arith))
 
--- tests that compute whether columns hold small numbers, and so whether they make a table
-abbrev is_below_hundred : ℤ → Bool
-is_below_hundred (pos n) = ltb n 100
-is_below_hundred (negsuc n) = false
+-- columns of 64 bit numbers
+typed_two : (a b : Datum) → HasType int64 a → HasType int64 b → All (HasType int64) (a ∷ b ∷ [])
+typed_two a b x y = All-cons (HasType int64) a (b ∷ []) x (All-cons (HasType int64) b [] y (All-nil (HasType int64)))
 
-abbrev is_small : Datum → Bool
-is_small null = true
-is_small (int z) = is_below_hundred z
-is_small _ = false
+typed_three : (a b c : Datum) → HasType int64 a → HasType int64 b → HasType int64 c → All (HasType int64) (a ∷ b ∷ c ∷ [])
+typed_three a b c x y z = All-cons (HasType int64) a (b ∷ c ∷ []) x (typed_two b c y z)
 
-small_number : (z : ℤ) → is_below_hundred z ≡ true → HasType int64 (int z)
-small_number (pos n) h = let low : n < 100 = ltb-true n 100 h in (omega (arith, low), omega (arith, low))
-small_number (negsuc n) h = absurd (cc)
+one_typed : HasType int64 (number 1)
+one_typed = (record { le = tt }, record { le = tt })
 
-small_typed : (v : Datum) → is_small v ≡ true → HasType int64 v
-small_typed null h = tt
-small_typed (int z) h = small_number z h
-small_typed _ h = absurd (cc)
+two_typed : HasType int64 (number 2)
+two_typed = (record { le = tt }, record { le = tt })
 
-abbrev holds_small : TableColumn → Bool
-holds_small c = same_kind c.kind int64 && list_all is_small c.values
+three_typed : HasType int64 (number 3)
+three_typed = (record { le = tt }, record { le = tt })
 
-small_column : (c : TableColumn) → holds_small c ≡ true → IsTyped c
-small_column c h =
-    let both = and_parts (same_kind c.kind int64) (list_all is_small c.values) h in
-    subst (λ (k : Kind). All (HasType k) c.values) (sym ((same_kind-Decides c.kind int64).0 both.0))
-    (All-weaker (λ v. is_small v ≡ true) (HasType int64) small_typed c.values (all_true is_small c.values both.1))
+five_typed : HasType int64 (number 5)
+five_typed = (record { le = tt }, record { le = tt })
 
-small_table : (t : Table) → list_all holds_small t ≡ true → frame_refusal t ≡ None → IsTable t
-small_table t typed h = makes_frame t (All-weaker (λ (c : TableColumn). holds_small c ≡ true) IsTyped small_column t (all_true holds_small t typed)) h
+seven_typed : HasType int64 (number 7)
+seven_typed = (record { le = tt }, record { le = tt })
+
+eight_typed : HasType int64 (number 8)
+eight_typed = (record { le = tt }, record { le = tt })
+
+nine_typed : HasType int64 (number 9)
+nine_typed = (record { le = tt }, record { le = tt })
+
+-- a table of one column of keys
+keys_table : (vs : List Datum) → All (HasType int64) vs → frame_refusal (keys vs) ≡ None → IsTable (keys vs)
+keys_table vs typed h = makes_frame (keys vs) (All-cons IsTyped (numbers k_name vs) [] typed (All-nil IsTyped)) h
+
+two_columns_table : IsTable two_columns
+two_columns_table =
+    makes_frame two_columns
+    (All-cons IsTyped (numbers k_name (null ∷ number 1 ∷ number 3 ∷ [])) (numbers k_right_name (number 2 ∷ number 1 ∷ null ∷ []) ∷ [])
+    (typed_three null (number 1) (number 3) tt one_typed three_typed)
+    (All-cons IsTyped (numbers k_right_name (number 2 ∷ number 1 ∷ null ∷ [])) [] (typed_three (number 2) (number 1) null two_typed one_typed tt) (All-nil IsTyped)))
+    refl
+
+abbrev last_columns : Table
+last_columns = numbers (codes "d") (number 2 ∷ number 5 ∷ []) ∷ numbers (codes "w") (number 7 ∷ number 8 ∷ []) ∷ []
+
+two_keys_table : IsTable two_keys_joined
+two_keys_table =
+    makes_frame two_keys_joined
+    (All-cons IsTyped (numbers (codes "v") (number 9 ∷ null ∷ [])) (numbers (codes "c") (number 1 ∷ number 5 ∷ []) ∷ last_columns) (typed_two (number 9) null nine_typed tt)
+    (All-cons IsTyped (numbers (codes "c") (number 1 ∷ number 5 ∷ [])) last_columns (typed_two (number 1) (number 5) one_typed five_typed)
+    (All-cons IsTyped (numbers (codes "d") (number 2 ∷ number 5 ∷ [])) (numbers (codes "w") (number 7 ∷ number 8 ∷ []) ∷ []) (typed_two (number 2) (number 5) two_typed five_typed)
+    (All-cons IsTyped (numbers (codes "w") (number 7 ∷ number 8 ∷ [])) [] (typed_two (number 7) (number 8) seven_typed eight_typed) (All-nil IsTyped)))))
+    refl
 
 pub full_apart : IsAnswer (full_right_left JoinSpecific) two_columns
 full_apart = record {
-  table = small_table two_columns refl refl;
+  table = two_columns_table;
   columns = refl;
   pairs = right_only 0 ∷ both 0 1 ∷ left_only 1 ∷ [];
   ordered = record { permutation = record { moves = (1, 2) ∷ (0, 2) ∷ []; below = (lit< tt, lit< tt, (lit< tt, lit< tt, tt)); is = refl }; ascends = sorted_by_test right_first (right_only 0 ∷ both 0 1 ∷ left_only 1 ∷ []) refl };
@@ -83,7 +101,7 @@ full_apart = record {
 
 pub full_merged : IsAnswer (full_right_left CoalesceColumns) (keys (number 2 ∷ number 1 ∷ number 3 ∷ []))
 full_merged = record {
-  table = small_table (keys (number 2 ∷ number 1 ∷ number 3 ∷ [])) refl refl;
+  table = keys_table (number 2 ∷ number 1 ∷ number 3 ∷ []) (typed_three (number 2) (number 1) (number 3) two_typed one_typed three_typed) refl;
   columns = refl;
   pairs = right_only 0 ∷ both 0 1 ∷ left_only 1 ∷ [];
   ordered = record { permutation = record { moves = (1, 2) ∷ (0, 2) ∷ []; below = (lit< tt, lit< tt, (lit< tt, lit< tt, tt)); is = refl }; ascends = sorted_by_test right_first (right_only 0 ∷ both 0 1 ∷ left_only 1 ∷ []) refl };
@@ -97,16 +115,16 @@ three_ordered : IsOrdered Inner order.LeftRight three_pairs three_pairs
 three_ordered = record { permutation = IsPermutation-refl three_pairs; ascends = sorted_by_test left_first three_pairs refl }
 
 pub begins_before : IsAnswer (cut_thrice (Some (negsuc 4, 3))) (keys (number 1 ∷ []))
-begins_before = record { table = small_table (keys (number 1 ∷ [])) refl refl; columns = refl; pairs = three_pairs; ordered = three_ordered; rows = refl }
+begins_before = record { table = keys_table (number 1 ∷ []) (All-cons (HasType int64) (number 1) [] one_typed (All-nil (HasType int64))) refl; columns = refl; pairs = three_pairs; ordered = three_ordered; rows = refl }
 
 pub has_no_length : IsAnswer (cut_thrice (Some (pos 0, 0))) (keys [])
-has_no_length = record { table = small_table (keys []) refl refl; columns = refl; pairs = three_pairs; ordered = three_ordered; rows = refl }
+has_no_length = record { table = keys_table [] (All-nil (HasType int64)) refl; columns = refl; pairs = three_pairs; ordered = three_ordered; rows = refl }
 
 pub begins_after : IsAnswer (cut_thrice (Some (pos 3, 1))) (keys [])
-begins_after = record { table = small_table (keys []) refl refl; columns = refl; pairs = three_pairs; ordered = three_ordered; rows = refl }
+begins_after = record { table = keys_table [] (All-nil (HasType int64)) refl; columns = refl; pairs = three_pairs; ordered = three_ordered; rows = refl }
 
 pub ends_after : IsAnswer (cut_thrice (Some (negsuc 0, 18446744073709551615))) (keys (number 3 ∷ []))
-ends_after = record { table = small_table (keys (number 3 ∷ [])) refl refl; columns = refl; pairs = three_pairs; ordered = three_ordered; rows = refl }
+ends_after = record { table = keys_table (number 3 ∷ []) (All-cons (HasType int64) (number 3) [] three_typed (All-nil (HasType int64))) refl; columns = refl; pairs = three_pairs; ordered = three_ordered; rows = refl }
 
 pub right_last : IsOrdered Left order.Right (both 2 0 ∷ both 1 1 ∷ left_only 0 ∷ []) (listing left_by_right)
 right_last = record { permutation = record { moves = (0, 1) ∷ []; below = (lit< tt, lit< tt, tt); is = refl }; ascends = sorted_by_test right_first (both 2 0 ∷ both 1 1 ∷ left_only 0 ∷ []) refl }
@@ -116,7 +134,7 @@ right_pairs = both 0 0 ∷ right_only 1 ∷ []
 
 pub two_keys_answer : IsAnswer two_keys two_keys_joined
 two_keys_answer = record {
-  table = small_table two_keys_joined refl refl;
+  table = two_keys_table;
   columns = refl;
   pairs = right_pairs;
   ordered = record { permutation = IsPermutation-refl right_pairs; ascends = sorted_by_test right_first right_pairs refl };
