@@ -50,7 +50,11 @@ fn texts_are_probed(rt: HostRuntime) -> Result<(), Fail> {
 }
 
 // A column of these keys, in two chunks.
-fn column(alloc: Global, front: &[Option<i64>], back: &[Option<i64>]) -> Result<Series, Fail>
+pub(crate) fn column(
+    alloc: Global,
+    front: &[Option<i64>],
+    back: &[Option<i64>],
+) -> Result<Series, Fail>
     ensures { IfOk result (λ s. s.kind ≡ int64) }
 {
     let mut lists = Vec::new(alloc);
@@ -63,8 +67,8 @@ fn column(alloc: Global, front: &[Option<i64>], back: &[Option<i64>]) -> Result<
     Ok(Series::from_arrays(alloc, name, DataType::Int64, lists)?)
 }
 
-// Through the bound alone.
-fn join_by_each_call<S: SeriesJoin>(
+// Row numbers, or ids of rows in chunks, by a Left join.
+fn join_left<S: SeriesJoin>(
     rt: &(impl Threads + Sync + Abort),
     alloc: Global,
     left: &S,
@@ -76,25 +80,101 @@ fn join_by_each_call<S: SeriesJoin>(
     let (exec, many) = (Exec::standard(), JoinValidation::ManyToMany);
     let (lefts, rights) = left.hash_join_left(rt, alloc, right, many, false, &exec)?;
     assert!(rt; lefts.is_right() && rights.is_right());
-    let (rows, _right_built) = left.hash_join_inner(rt, alloc, right, many, false, &exec)?;
-    assert_eq!(rt; (rows.0.len(), rows.1.len()), (2, 2));
-    let rows = left.hash_join_outer(rt, alloc, right, many, false, &exec)?;
-    assert_eq!(rt; (rows.0.len(), rows.1.len()), (4, 4));
-    let semi = left.hash_join_semi_anti(rt, alloc, right, false, false, &exec)?;
-    let anti = left.hash_join_semi_anti(rt, alloc, right, true, false, &exec)?;
-    assert_eq!(rt; (semi.len(), anti.len()), (1, 2));
     Ok(())
 }
 
 #[test]
-fn rows_of_each_call(rt: HostRuntime) -> Result<(), Fail> {
+fn rows_of_a_left_join(rt: HostRuntime) -> Result<(), Fail> {
     let alloc = rt.alloc();
     let left = column(alloc, &[Some(1), None], &[Some(2)])?;
     let right = column(alloc, &[Some(1)], &[Some(1)])?;
-    join_by_each_call(&rt, alloc, &left, &right)
+    join_left(&rt, alloc, &left, &right)
 }
 
-fn table_of_one(alloc: Global, column: Column) -> Result<DataFrame, Fail>
+// How many rows an Inner join has.
+fn inner_rows<S: SeriesJoin>(
+    rt: &(impl Threads + Sync),
+    alloc: Global,
+    left: &S,
+    right: &Series,
+) -> Result<usize, Fail>
+    requires key { is_key (S.column left.now).kind ≡ true }
+    requires same { (S.column left.now).kind ≡ right.now.kind }
+{
+    let (exec, many) = (Exec::standard(), JoinValidation::ManyToMany);
+    let (rows, _right_built) = left.hash_join_inner(rt, alloc, right, many, false, &exec)?;
+    Ok(rows.1.len())
+}
+
+#[test]
+fn rows_of_an_inner_join(rt: HostRuntime) -> Result<(), Fail> {
+    let alloc = rt.alloc();
+    let left = column(alloc, &[Some(1), None], &[Some(2)])?;
+    let right = column(alloc, &[Some(1)], &[Some(1)])?;
+    assert_eq!(rt; inner_rows(&rt, alloc, &left, &right)?, 2);
+    Ok(())
+}
+
+// How many rows a Full join has.
+fn full_rows<S: SeriesJoin>(
+    rt: &(impl Threads + Sync),
+    alloc: Global,
+    left: &S,
+    right: &Series,
+) -> Result<usize, Fail>
+    requires key { is_key (S.column left.now).kind ≡ true }
+    requires same { (S.column left.now).kind ≡ right.now.kind }
+{
+    let (exec, many) = (Exec::standard(), JoinValidation::ManyToMany);
+    let rows = left.hash_join_outer(rt, alloc, right, many, false, &exec)?;
+    Ok(rows.1.len())
+}
+
+#[test]
+fn rows_of_a_full_join(rt: HostRuntime) -> Result<(), Fail> {
+    let alloc = rt.alloc();
+    let left = column(alloc, &[Some(1), None], &[Some(2)])?;
+    let right = column(alloc, &[Some(1)], &[Some(1)])?;
+    assert_eq!(rt; full_rows(&rt, alloc, &left, &right)?, 4);
+    Ok(())
+}
+
+// How many left rows have a match, or have none.
+fn rows_by_match<S: SeriesJoin>(
+    rt: &(impl Threads + Sync),
+    alloc: Global,
+    left: &S,
+    right: &Series,
+    anti: bool,
+) -> Result<usize, Fail>
+    requires key { is_key (S.column left.now).kind ≡ true }
+    requires same { (S.column left.now).kind ≡ right.now.kind }
+{
+    let exec = Exec::standard();
+    let rows = left.hash_join_semi_anti(rt, alloc, right, anti, false, &exec)?;
+    Ok(rows.len())
+}
+
+#[test]
+fn rows_with_a_match(rt: HostRuntime) -> Result<(), Fail> {
+    let alloc = rt.alloc();
+    let left = column(alloc, &[Some(1), None], &[Some(2)])?;
+    let right = column(alloc, &[Some(1)], &[Some(1)])?;
+    assert_eq!(rt; rows_by_match(&rt, alloc, &left, &right, false)?, 1);
+    Ok(())
+}
+
+#[test]
+fn rows_without_a_match(rt: HostRuntime) -> Result<(), Fail> {
+    let alloc = rt.alloc();
+    let left = column(alloc, &[Some(1), None], &[Some(2)])?;
+    let right = column(alloc, &[Some(1)], &[Some(1)])?;
+    assert_eq!(rt; rows_by_match(&rt, alloc, &left, &right, true)?, 2);
+    Ok(())
+}
+
+// The table of one column.
+pub(crate) fn table_of_one(alloc: Global, column: Column) -> Result<DataFrame, Fail>
     ensures { IfOk result (λ t. t ≡ column ∷ []) }
 {
     let mut columns = Vec::new(alloc);
