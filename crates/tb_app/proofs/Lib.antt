@@ -4,3 +4,4 @@ mod WordTexts
 mod Frame
 mod OneStatus
 mod JoinIsDone
+mod Answered

@@ -1,6 +1,8 @@
 -- What is due for the words and the bytes, and what one run has done of it.
-use Rattle.std.specs.Prelude.{◌≡◌, ℕ, ◌+◌, ◌++◌, List, [], ◌∷◌, take, length, codes, Option, Some, None, Result, Ok, Err, MatchOption, MatchBool, IsSomeAnd, nat_lt, ◌≤◌, ⊤}
+use Rattle.std.specs.Prelude.{◌≡◌, ◌≢◌, ℕ, ◌+◌, ◌++◌, List, [], ◌∷◌, take, length, codes, Option, Some, None, Result, Ok, Err, MatchOption, MatchBool, IsSomeAnd, nat_lt, ◌≤◌, ⊤}
 use Rattle.std.specs.Io.KnownBytes.{Consumes, Appends}
+use Rattle.tb_value.specs.declared.error.PolarsError.{PolarsError}
+use Rattle.tb_value.specs.declared.error.PolarsError.TheVariants.{OutOfMemory}
 use Rattle.tb_request.specs.declared.request.Reason.{Reason}
 use Rattle.tb_request.specs.Reasons.{reason_word}
 use Rattle.tb_app.specs.declared.words.Command.{Command}
@@ -23,6 +25,10 @@ too_long_text = line (codes "{\"error\":\"TooLong\"}")
 
 abbrev pub bad_request_text : Reason → List ℕ
 bad_request_text reason = line (codes "{\"error\":\"BadRequest\",\"reason\":\"" ++ reason_word reason ++ codes "\"}")
+
+-- a refusal that is not want of memory, with its text
+abbrev pub IsRefusal : PolarsError → Status → List ℕ → Type 0
+IsRefusal e s text = (e ≢ OutOfMemory) × (s ≡ status.Refused) × (text ≡ text_of_refusal e)
 
 -- a request is refused, or it is done
 abbrev pub DueOfRequest : Request → Status → List ℕ → Type 0

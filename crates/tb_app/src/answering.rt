@@ -3,7 +3,7 @@ ghost use Rattle.std.specs.Prelude.{◌≡◌, Err, IfOk, string_bytes};
 ghost use Rattle.tb_frame.specs.Built.{IsBuilt};
 ghost use Rattle.tb_request.specs.Reading.{asked, request_view, request_of as join_request_of};
 ghost use Rattle.tb_request.specs.Reasons.{reason_word};
-ghost use Rattle.tb_app.specs.Due.{DueOfReading, DueOfRequest, bad_request_text};
+ghost use Rattle.tb_app.specs.Due.{DueOfReading, DueOfRequest, IsRefusal, bad_request_text};
 ghost use Rattle.tb_app.specs.Requests.{request_of, as_join, join};
 
 use crate::status::Status;
@@ -50,7 +50,6 @@ fn answer_join(
     }
 }
 
-#[tactic(auto, unfolding(crate::specs::Requests::refusal_of, crate::specs::Requests::IsAnswerText, crate::specs::Requests::text_of_refusal))]
 fn joined(
     rt: &(impl Threads + Sync),
     alloc: Global,
@@ -73,8 +72,18 @@ fn joined(
             status: Status::Done,
             text: text_of(alloc, &table)?,
         }),
-        Err(PolarsError::OutOfMemory) => Err(OutOfMemory),
-        Err(error) => Ok(Answer {
+        Err(error) => refused(alloc, error),
+    }
+}
+
+// Want of memory is handed on, and any other refusal has a text.
+#[tactic(auto, unfolding(crate::specs::Requests::text_of_refusal))]
+fn refused(alloc: Global, error: PolarsError) -> Result<Answer, OutOfMemory>
+    ensures { IfOk result (λ a. IsRefusal error a.status (string_bytes a.text)) }
+{
+    match error {
+        PolarsError::OutOfMemory => Err(OutOfMemory),
+        error => Ok(Answer {
             status: Status::Refused,
             text: text_of_refusal(alloc, &error)?,
         }),
