@@ -1,0 +1,9 @@
+pub mod Numbers
+pub mod Widths
+pub mod Apart
+pub mod Rows
+pub mod Pushes
+pub mod KeyRows
+pub mod KeyColumns
+pub mod ColumnRows
+pub mod WholeColumns

@@ -1,0 +1,126 @@
+//! Keys of rows, byte by byte.
+ghost use Rattle.std.specs.Prelude.{◌≡◌, ◌↔◌, IsTrue, length};
+ghost use Rattle.std.specs.List.{All};
+ghost use Rattle.tb_value.specs.SameKind.{is_key};
+ghost use Rattle.tb_chunk.specs.Col.{values};
+ghost use Rattle.tb_rowkey.specs.Columns.{row_count};
+
+use crate::lent::lend;
+use crate::{keys_fit, prepare_keys_multiple};
+use std::alloc::Global;
+use std::process::Abort;
+use std::test::Fail;
+use tb_store::{AnyValue, DataType, PlSmallStr, Series, ValueRef};
+
+fn text(alloc: Global, word: &str) -> Result<AnyValue, Fail> {
+    Ok(AnyValue::String(PlSmallStr::from_str(alloc, word)?))
+}
+
+fn chunk_of(alloc: Global, value: AnyValue) -> Result<Vec<AnyValue>, Fail> {
+    let mut chunk = Vec::new(alloc);
+    chunk.push(value)?;
+    Ok(chunk)
+}
+
+// A column of one value.
+fn column(alloc: Global, dtype: DataType, value: AnyValue) -> Result<Series, Fail> {
+    let mut chunks = Vec::new(alloc);
+    chunks.push(chunk_of(alloc, value)?)?;
+    Ok(Series::from_chunks(alloc, "k", dtype, chunks)?)
+}
+
+// A column of two texts in two chunks.
+fn cut_texts(alloc: Global, first: &str, second: &str) -> Result<Series, Fail> {
+    let mut chunks = Vec::new(alloc);
+    chunks.push(chunk_of(alloc, text(alloc, first)?)?)?;
+    chunks.push(chunk_of(alloc, text(alloc, second)?)?)?;
+    Ok(Series::from_chunks(alloc, "k", DataType::String, chunks)?)
+}
+
+fn both(alloc: Global, first: Series, second: Series) -> Result<Vec<Series>, Fail> {
+    let mut columns = Vec::new(alloc);
+    columns.push(first)?;
+    columns.push(second)?;
+    Ok(columns)
+}
+
+// Whether the column is of a key type and of this length.
+fn is_key_column(column: &Series, rows: usize) -> bool
+    ensures { IsTrue result ↔ (IsTrue (is_key column.now.kind) × (length (values column.now) ≡ rows)) }
+{
+    column.dtype().is_key() && column.len() == rows
+}
+
+// Whether the columns are of key types and of this length.
+fn are_keys(columns: &[Series], rows: usize) -> bool
+    ensures { IsTrue result → All (λ c. IsTrue (is_key c.kind) × (length (values c) ≡ rows)) columns.now }
+{
+    for column in columns {
+        if !is_key_column(column, rows) {
+            return false;
+        }
+    }
+    true
+}
+
+fn keys_of(
+    rt: &impl Abort,
+    alloc: Global,
+    columns: &[Series],
+    join_nulls: bool,
+) -> Result<Series, Fail> {
+    assert!(rt; !columns.is_empty());
+    assert!(rt; are_keys(columns, columns[0].len()));
+    let lent = lend(alloc, columns)?;
+    assert!(rt; keys_fit(&lent));
+    Ok(prepare_keys_multiple(alloc, columns, join_nulls)?)
+}
+
+// Whether the key of the row has these bytes.
+fn has_key(keys: &Series, row: usize, wanted: &[u8]) -> bool {
+    row < keys.len()
+        && match keys.get(row) {
+            ValueRef::Binary(bytes) => bytes == wanted,
+            _ => false,
+        }
+}
+
+fn has_none(keys: &Series, row: usize) -> bool {
+    row < keys.len() && matches!(keys.get(row), ValueRef::Null)
+}
+
+#[test]
+fn texts_in_two_chunks(rt: HostRuntime) -> Result<(), Fail> {
+    let alloc = rt.alloc();
+    let first = cut_texts(alloc, "ab", "a")?;
+    let second = cut_texts(alloc, "c", "bc")?;
+    let columns = both(alloc, first, second)?;
+    let keys = keys_of(&rt, alloc, &columns, true)?;
+    assert!(rt; has_key(&keys, 0, b"\x01\x00\x00\x00\x02ab\x01\x00\x00\x00\x01c"));
+    assert!(rt; has_key(&keys, 1, b"\x01\x00\x00\x00\x01a\x01\x00\x00\x00\x02bc"));
+    Ok(())
+}
+
+#[test]
+fn absent_field(rt: HostRuntime) -> Result<(), Fail> {
+    let alloc = rt.alloc();
+    let first = column(alloc, DataType::String, AnyValue::Null)?;
+    let second = column(alloc, DataType::Int32, AnyValue::Int(5))?;
+    let columns = both(alloc, first, second)?;
+    let keys = keys_of(&rt, alloc, &columns, true)?;
+    assert!(rt; has_key(&keys, 0, b"\x00\x01\x00\x00\x00\x05"));
+    let none = keys_of(&rt, alloc, &columns, false)?;
+    assert!(rt; has_none(&none, 0));
+    Ok(())
+}
+
+#[test]
+fn number_and_truth(rt: HostRuntime) -> Result<(), Fail> {
+    let alloc = rt.alloc();
+    let first = column(alloc, DataType::Int16, AnyValue::Int(-1))?;
+    let second = column(alloc, DataType::Boolean, AnyValue::Boolean(true))?;
+    let columns = both(alloc, first, second)?;
+    let keys = keys_of(&rt, alloc, &columns, false)?;
+    assert!(rt; has_key(&keys, 0, b"\x01\xff\xff\x01\x01"));
+    Ok(())
+}
