@@ -1,0 +1,5 @@
+pub mod Scans
+pub mod Listings
+pub mod Matches
+pub mod Rows
+pub mod Portions

@@ -1,0 +1,5 @@
+pub mod Keys
+pub mod RowPairs
+pub mod Runs
+pub mod Faults
+pub mod MergedView
