@@ -4,6 +4,8 @@
 #[cfg(test)]
 mod columns;
 #[cfg(test)]
+mod gathers;
+#[cfg(test)]
 mod pairs;
 #[cfg(test)]
 mod program;

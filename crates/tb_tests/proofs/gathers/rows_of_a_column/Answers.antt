@@ -1,0 +1,8 @@
+use Rattle.std.proofs.Common.{[], ◌∷◌, All, sym, subst}
+use Rattle.tb_gather.specs.Gathered.{NameRows}
+use Rattle.tb_tests.proofs.gathers.rows_of_a_column.Goals as goal
+
+pub gathered-requires-clause-named : goal.gathered-requires-clause-named
+gathered-requires-clause-named g c =
+    subst (λ ids. All (NameRows ids) (c.into_column-column.result ∷ [])) (sym c.deref.ensures.value)
+    (subst (λ k. All (NameRows c.in_ok-by.by.items) (k ∷ [])) (sym c.into_column-column.ensures) c.in_ok-by.ensures.named)
