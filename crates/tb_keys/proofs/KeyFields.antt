@@ -1,0 +1,81 @@
+-- The keys that a loop over places has read from their columns.
+use Rattle.std.proofs.Common.{◌≡◌, ℕ, ◌<◌, Bool, ◌||◌, Bor, List, length, get_or, ap, sym, subst, ◌∙◌, arith}
+use Rattle.std.specs.List.{All, list_all}
+use Rattle.std.proofs.lemmas.List.{get_or-map, get_or_default, length-map}
+use Rattle.tb_value.specs.Datum.{null, is_present}
+use Rattle.tb_value.specs.Pairs.{row_numbers}
+use Rattle.tb_value.specs.Same.{same}
+use Rattle.tb_chunk.specs.Col.{Col, values}
+use Rattle.tb_frame.specs.Table.{TableColumn, plain, table_of}
+use Rattle.tb_frame.specs.Join.{Request, field, agrees, nulls}
+use Rattle.tb_frame.specs.Refusal.{kind_at}
+use Rattle.tb_frame.proofs.Fields.{field_at, kind_is}
+use Rattle.tb_keys.specs.Rows.{lent_columns}
+
+-- whether two rows agree at a place, whether a row counts there, and whether two rows are the same there
+abbrev pub agrees_at : Request → ℕ → ℕ → ℕ → Bool
+agrees_at q i j p = agrees (nulls q p) (field q.left_keys p i) (field q.right_keys p j)
+
+abbrev pub counts_at : Bool → List TableColumn → ℕ → ℕ → Bool
+counts_at null_matches keys i p = is_present (field keys p i) || null_matches
+
+abbrev pub same_at : List TableColumn → ℕ → ℕ → ℕ → Bool
+same_at keys i j p = same (field keys p i) (field keys p j)
+
+-- the same at each of the first n places
+abbrev pub match_to : Request → ℕ → ℕ → ℕ → Bool
+match_to q i j n = list_all (agrees_at q i j) (row_numbers n)
+
+abbrev pub counted_to : Bool → List TableColumn → ℕ → ℕ → Bool
+counted_to null_matches keys i n = list_all (counts_at null_matches keys i) (row_numbers n)
+
+abbrev pub same_to : List TableColumn → ℕ → ℕ → ℕ → Bool
+same_to keys i j n = list_all (same_at keys i j) (row_numbers n)
+
+module _ (cs : List Col) (p : ℕ) (c : Col) (low : p < length cs) (is : c ≡ get_or cs p c) where
+  low_plain : p < length (table_of cs)
+  low_plain = let long = length-map cs plain in omega (arith, long, low)
+
+  plain_is : plain c ≡ get_or (table_of cs) p (plain c)
+  plain_is = sym (get_or-map plain cs p c (plain c) low ∙ ap plain (sym is))
+
+  pub column_field : (i : ℕ) → get_or (values c) i null ≡ field (table_of cs) p i
+  column_field i = sym (field_at (table_of cs) p i (plain c) low_plain plain_is)
+
+  pub column_kind : c.kind ≡ kind_at (table_of cs) p
+  column_kind = kind_is (table_of cs) p (plain c) low_plain plain_is
+
+-- the same of a column that is lent
+pub lent_many : (rs : List (Bor Col)) → length (table_of (lent_columns rs)) ≡ length rs
+lent_many rs = length-map (lent_columns rs) plain ∙ length-map rs (λ (r : Bor Col). r.now)
+
+module _ (rs : List (Bor Col)) (p : ℕ) (r : Bor Col) (low : p < length rs) (is : r ≡ get_or rs p r) where
+  low_lent : p < length (lent_columns rs)
+  low_lent = let long = length-map rs (λ (c : Bor Col). c.now) in omega (arith, long, low)
+
+  lent_is : r.now ≡ get_or (lent_columns rs) p r.now
+  lent_is = ap (λ (c : Bor Col). c.now) is ∙ sym (get_or-map (λ (c : Bor Col). c.now) rs p r r.now low)
+
+  -- what holds of each column holds of this one
+  pub lent_has : (P : Col → Type 0) → All P (lent_columns rs) → P r.now
+  lent_has P h = subst P (sym lent_is) (h p r.now low_lent)
+
+  pub lent_field : (i : ℕ) → get_or (values r.now) i null ≡ field (table_of (lent_columns rs)) p i
+  lent_field i = column_field (lent_columns rs) p r.now low_lent lent_is i
+
+  pub lent_kind : r.now.kind ≡ kind_at (table_of (lent_columns rs)) p
+  lent_kind = column_kind (lent_columns rs) p r.now low_lent lent_is
+
+-- the same of one that is read through a further borrow
+module _ (rs : List (Bor Col)) (p : ℕ) (d : Bor Col) (low : p < length rs) where
+  at_p : get_or rs p d ≡ get_or rs p (get_or rs p d)
+  at_p = get_or_default rs p d (get_or rs p d) low
+
+  pub place_has : (P : Col → Type 0) → All P (lent_columns rs) → P (get_or rs p d).now
+  place_has P h = lent_has rs p (get_or rs p d) low at_p P h
+
+  pub place_field : (i : ℕ) → get_or (values (get_or rs p d).now) i null ≡ field (table_of (lent_columns rs)) p i
+  place_field i = lent_field rs p (get_or rs p d) low at_p i
+
+  pub place_kind : (get_or rs p d).now.kind ≡ kind_at (table_of (lent_columns rs)) p
+  place_kind = lent_kind rs p (get_or rs p d) low at_p

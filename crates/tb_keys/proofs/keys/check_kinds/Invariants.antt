@@ -1,0 +1,12 @@
+use Rattle.std.proofs.Common.{◌≡◌, None, not}
+use Rattle.std.specs.List.{find}
+use Rattle.tb_value.specs.Pairs.{row_numbers}
+use Rattle.tb_value.specs.SameKind.{is_key}
+use Rattle.tb_frame.specs.Refusal.{kind_at}
+use Rattle.tb_frame.specs.Table.{table_of}
+use Rattle.tb_keys.specs.Rows.{lent_columns}
+use Rattle.tb_keys.proofs.keys.check_kinds.Given as goal
+
+-- the types at the places so far are key types
+abbrev pub invariant-loop-place : goal.invariant-loop-place
+invariant-loop-place l = find (λ p. not (is_key (kind_at (table_of (lent_columns l.request.left_keys.now)) p))) (row_numbers l.place) ≡ None

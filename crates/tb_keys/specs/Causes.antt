@@ -1,0 +1,16 @@
+-- The causes of a refusal in two parts: those that the names of the keys decide, and the others.
+use Rattle.std.specs.Prelude.{List, ◌++◌, Option}
+use Rattle.tb_value.specs.Names.{Name}
+use Rattle.tb_value.specs.Refusals.{first_cause}
+use Rattle.tb_value.specs.declared.error.PolarsError.{PolarsError}
+use Rattle.tb_frame.specs.Join.{Request}
+use Rattle.tb_frame.specs.Refusal.{name_causes, list_causes, column_causes, row_causes}
+use Rattle.tb_frame.specs.Table.{Table}
+
+-- a key is unknown, there is none, there are more on one side, or one is repeated
+abbrev pub names_refusal : Table → Table → List Name → List Name → Option PolarsError
+names_refusal left right left_on right_on = first_cause (name_causes left right left_on right_on ++ list_causes left_on right_on)
+
+-- the types of the keys, the names of the answer, the sides that are to have no twins, and the size
+abbrev pub later_refusal : Request → Option PolarsError
+later_refusal q = first_cause (column_causes q ++ row_causes q)

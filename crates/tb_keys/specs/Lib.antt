@@ -1,0 +1,4 @@
+pub mod Rows
+pub mod Asked
+pub mod Causes
+pub mod Met
