@@ -3,6 +3,7 @@ pub mod Crossing
 pub mod Fitting
 pub mod Flags
 pub mod Follow
+pub mod Lent
 pub mod Lists
 pub mod Merging
 pub mod Nulls

@@ -1,10 +1,10 @@
 -- Facts on lists.
-use Rattle.std.proofs.Common.{arith, ◌≡◌, ℕ, ◌<◌, ◌+◌, suc, refl, List, [], ◌∷◌, ◌++◌, length, map, get_or, drop, replicate, Option, Some, None, subst, sym, ◌∙◌, ap, add-one, drop-cons}
+use Rattle.std.proofs.Common.{◌≡◌, ℕ, ◌<◌, ◌+◌, suc, refl, List, [], ◌∷◌, ◌++◌, length, map, get_or, drop, replicate, Option, Some, None, subst, sym, ◌∙◌, ap, add-one, drop-cons}
 use Rattle.std.specs.List.{All, flat_map}
 use Rattle.tb_value.specs.Datum.{Datum, null}
 use Rattle.tb_chunk.specs.Col.{flat}
 use Rattle.tb_chunk.specs.Rows.{IsRowOf, value_or_null}
-use Rattle.std.proofs.lemmas.List.{length-map, append-nil}
+use Rattle.std.proofs.lemmas.List.{length-map}
 use Rattle.std.proofs.Math.ListN.{get_or-map}
 use Rattle.std.proofs.lemmas.List.Elements.{All-get_or, All-head, All-tail, All-map}
 
@@ -12,14 +12,11 @@ use Rattle.std.proofs.lemmas.List.Elements.{All-get_or, All-head, All-tail, All-
 pub All-map-at : {X Y : Type 0} (P : Y → Type 0) (f : X → Y) (xs : List X) (i : ℕ) (x : X) → i < length xs → x ≡ get_or xs i x → All P (map f xs) → P (f x)
 All-map-at P f xs i x h e all = subst P (get_or-map f xs i x ∙ ap f (sym e)) (All-get_or P (map f xs) i (f x) (rw (length-map xs f) h) all)
 
--- what is left is the next piece and then what is left after it
-pub flat_map_drop : {X Y : Type 0} (f : X → List Y) (xs : List X) (i : ℕ) (x : X) → i < length xs → x ≡ get_or xs i x → flat_map f (drop i xs) ≡ f x ++ flat_map f (drop (i + 1) xs)
-flat_map_drop f xs i x h e = rw (add-one, drop-cons xs i x) (ap (λ y. f y ++ flat_map f (drop (suc i) xs)) (sym e))
-
 pub flat_map_of_map : {X Y : Type 0} (f : X → List Y) (xs : List X) → flat_map (λ vs. vs) (map f xs) ≡ flat_map f xs
 flat_map_of_map f [] = refl
 flat_map_of_map f (x ∷ xs) = ap (λ ys. f x ++ ys) (flat_map_of_map f xs)
 
+-- what is left is the next piece and then what is left after it
 pub flat_drop : {X : Type 0} (f : X → List Datum) (xs : List X) (i : ℕ) (x : X) → i < length xs → x ≡ get_or xs i x → flat (map f (drop i xs)) ≡ f x ++ flat (map f (drop (i + 1) xs))
 flat_drop f xs i x h e = rw (add-one, drop-cons xs i x) (ap (λ y. f y ++ flat (map f (drop (suc i) xs))) (sym e))
 
@@ -30,12 +27,6 @@ replicate-nulls (v ∷ vs) all =
     let h : null ≡ v = sym (All-head (λ x. x ≡ null) v vs all) in
     let t : replicate (length vs) null ≡ vs = replicate-nulls vs (All-tail (λ x. x ≡ null) v vs all) in
     λ i. h i ∷ t i
-
--- the only piece
-pub flat_one : {X : Type 0} (f : X → List Datum) (xs : List X) (x : X) → length xs ≡ 1 → x ≡ get_or xs 0 x → flat (map f xs) ≡ f x
-flat_one f [] x n e = absurd (cc)
-flat_one f (y ∷ []) x n e = append-nil (f y) ∙ ap f (sym e)
-flat_one f (y ∷ (z ∷ zs)) x n e = absurd (omega arith)
 
 -- what holds of Null and of each value holds of the value of a row, and of those of many
 value_of_row : (P : Datum → Type 0) (xs : List Datum) (row : Option ℕ) → P null → All P xs → IsRowOf (length xs) row → P (value_or_null xs row)

@@ -5,6 +5,7 @@ pub mod ColCode
 pub mod Fits
 pub mod Flag
 pub mod Made
+pub mod Lent
 pub mod Merged
 pub mod Physical
 pub mod Rows

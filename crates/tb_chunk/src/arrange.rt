@@ -68,7 +68,9 @@ fn or_empty<C: Chunk>(alloc: Global, chunks: Vec<C>) -> Result<Vec<C>, OutOfMemo
 
 // One or more chunks of values of the type, few enough.
 fn checked<C: Chunk>(alloc: Global, dtype: &DataType, chunks: Vec<C>) -> PolarsResult<Vec<C>>
-    ensures { MatchResult result (λ v. IsTyped (kind_of dtype.now) (map C.shown chunks.items) × IsShort (map C.shown chunks.items) × (map C.shown v.items ≡ at_least_one (map C.shown chunks.items))) (λ e. IsRefused (IsTyped (kind_of dtype.now) (map C.shown chunks.items)) (IsShort (map C.shown chunks.items)) e) }
+    ensures { let t = kind_of dtype.now in let cs = map C.shown chunks.items in
+        MatchResult result (λ v. IsTyped t cs × IsShort cs × (map C.shown v.items ≡ at_least_one cs))
+        (λ e. IsRefused (IsTyped t cs) (IsShort cs) e) }
 {
     if !are_chunks_of(dtype, &chunks) {
         return Err(PolarsError::SchemaMismatch);

@@ -1,15 +1,14 @@
 -- What a function has that put the listed pairs into columns.
-use Rattle.std.proofs.Common.{◌≡◌, ℕ, ◌<◌, ◌≤◌, ◌-◌, List, ◌++◌, length, drop, map, sym, ◌∙◌, ap, subst, arith, Option, Some, None, Result, Ok, Err, ℤ}
+use Rattle.std.proofs.Common.{◌≡◌, ℕ, ◌≤◌, ◌-◌, List, length, drop, map, sym, ◌∙◌, ap, subst, arith, Option, Some, None, Result, Ok, Err, ℤ}
 use Rattle.std.specs.Prelude.{All, IfOk}
 use Rattle.std.proofs.lemmas.List.{length-take, length-drop}
 use Rattle.std.proofs.lemmas.List.Sorted.{length_permutation}
-use Rattle.tb_value.specs.Names.{Name}
 use Rattle.tb_value.specs.declared.index.JoinPair.{JoinPair}
 use Rattle.tb_value.specs.declared.limits.TheConstants.{MAX_ROWS}
 use Rattle.tb_chunk.specs.Window.{part_from, part_to}
 use Rattle.tb_chunk.specs.Col.{Col}
 use Rattle.tb_frame.specs.Table.{TableColumn, Table, height, table_of, IsTable}
-use Rattle.tb_frame.specs.Join.{Request, out, matches, listing, listing_of, IsAnswer, cut}
+use Rattle.tb_frame.specs.Join.{Request, out, matches, listing, IsAnswer, cut}
 use Rattle.tb_frame.specs.Answer.{fill, IsListed, IsPairOf}
 use Rattle.tb_frame.specs.Frame.{frame_refusal}
 use Rattle.tb_frame.proofs.Ranges.{listed_rows}
@@ -36,12 +35,6 @@ pub table_answers : {E : Type 0} (q : Request) (items : List JoinPair) (cols : L
     → IfOk made (λ t. t ≡ cols) → IfOk made (λ t. IsTable (table_of t)) → IfOk made (λ t. IsAnswer q (table_of t))
 table_answers q items cols (Ok t) is valid listed same table = makes_answer q items (table_of t) (ap table_of same ∙ is) valid table listed
 table_answers q items cols (Err e) is valid listed same table = tt
-
--- the listing over the heights that are known by other names
-pub listed_at : (q : Request) (items : List JoinPair) (l r : ℕ) → l ≡ height q.left → r ≡ height q.right → IsListed q.args.how q.args.maintain_order q.args.slice (listing_of q.args.how l r (matches q)) items → IsListed q.args.how q.args.maintain_order q.args.slice (listing q) items
-listed_at q items l r is_l is_r h =
-    let same : listing_of q.args.how l r (matches q) ≡ listing q = (λ t. listing_of q.args.how (is_l t) (is_r t) (matches q)) in
-    subst (λ (x : List JoinPair). IsListed q.args.how q.args.maintain_order q.args.slice x items) same h
 
 -- the pairs are pairs of the tables' rows
 pub pairs_in_range : (q : Request) (items : List JoinPair) → IsListed q.args.how q.args.maintain_order q.args.slice (listing q) items → All (IsPairOf (height q.left) (height q.right)) items

@@ -40,9 +40,6 @@ alike-by_first (c ∷ cs) first h =
     at alike zero d low = refl
     at alike (suc k) d low = sym (alike 0 (suc k) d (omega arith) low)
 
-pub alike-none : AreCutAlike []
-alike-none = λ i j d low high. absurd (omega arith)
-
 false_is_true : IsTrue false → ⊥
 false_is_true e = cc
 

@@ -1,9 +1,9 @@
--- The fields, types and names of columns, by their places.
-use Rattle.std.proofs.Common.{◌≡◌, ℕ, ◌<◌, List, [], length, get_or, map, take, ap, sym, ◌∙◌}
-use Rattle.std.proofs.lemmas.List.{get_or-map, take-map}
+-- The fields and types of columns, by their places.
+use Rattle.std.proofs.Common.{◌≡◌, ℕ, ◌<◌, List, [], length, get_or, map, ap, sym, ◌∙◌}
+use Rattle.std.proofs.lemmas.List.{get_or-map}
 use Rattle.tb_value.specs.Datum.{Datum, null}
 use Rattle.tb_value.specs.Kind as kind
-use Rattle.tb_frame.specs.Table.{TableColumn, names_of}
+use Rattle.tb_frame.specs.Table.{TableColumn}
 use Rattle.tb_frame.specs.Join.{field}
 use Rattle.tb_frame.specs.Refusal.{kind_at}
 
@@ -14,9 +14,3 @@ field_at keys p i c low e =
 
 pub kind_is : (keys : List TableColumn) (p : ℕ) (c : TableColumn) → p < length keys → c ≡ get_or keys p c → c.kind ≡ kind_at keys p
 kind_is keys p c low is = ap (λ (k : TableColumn). k.kind) is ∙ sym (get_or-map (λ (k : TableColumn). k.kind) keys p c kind.null low)
-
-pub name_is : (t : List TableColumn) (p : ℕ) (c : TableColumn) → p < length t → c ≡ get_or t p c → c.name ≡ get_or (names_of t) p []
-name_is t p c low is = ap (λ (k : TableColumn). k.name) is ∙ sym (get_or-map (λ (k : TableColumn). k.name) t p c [] low)
-
-pub take-names : (t : List TableColumn) (k : ℕ) → names_of (take k t) ≡ take k (names_of t)
-take-names t k = sym (take-map (λ (c : TableColumn). c.name) k t)

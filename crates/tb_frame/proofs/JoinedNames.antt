@@ -5,13 +5,11 @@ use Rattle.tb_value.specs.Names.{Name}
 use Rattle.tb_value.proofs.Loops.{map-map}
 use Rattle.tb_chunk.specs.Col.{Col}
 use Rattle.tb_frame.specs.declared.args.JoinArgs.{JoinArgs}
-use Rattle.tb_frame.specs.declared.args.JoinType.{JoinType}
-use Rattle.tb_frame.specs.declared.args.JoinType.TheVariants.{Inner, Left, Right, Full, Semi, Anti}
 use Rattle.tb_frame.specs.Frame.{without_names}
 use Rattle.tb_frame.specs.Join.{columns_where}
 use Rattle.tb_frame.specs.Naming.{coalesces, default_suffix, drops_left_keys, drops_right_keys, has_right, is_among, joined_names, keeps_left, keeps_right, left_names, merges_keys, right_name, shows_right}
 use Rattle.tb_frame.specs.RightColumns.{gone_beside, gone_left, gone_right, right_names, right_side}
-use Rattle.tb_frame.specs.Table.{TableColumn, Table, plain, table_of, names_of}
+use Rattle.tb_frame.specs.Table.{TableColumn, plain, table_of, names_of}
 use Rattle.tb_frame.proofs.Frames.{filter-map, without-table}
 
 -- TESTS
@@ -41,10 +39,6 @@ filter-none [] = refl
 filter-none (x ∷ xs) = filter-none xs
 
 -- COLUMNS
-
-pub side_table : (b : Bool) (cs : List Col) → table_of (cond b cs []) ≡ cond b (table_of cs) []
-side_table true cs = refl
-side_table false cs = refl
 
 -- the columns of a side that pass a test, where the side has columns in the answer
 side_where : (b : Bool) (test : Name → Bool) (cs : List Col) → columns_where (λ n. b && test n) (table_of cs) ≡ table_of (filter (λ (c : Col). test c.name) (cond b cs []))

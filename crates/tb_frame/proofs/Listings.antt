@@ -1,16 +1,18 @@
--- How often a left row stands in a listing, and how long a listing is.
-use Rattle.std.proofs.Common.{◌≡◌, ℕ, ◌+◌, ◌<◌, ◌≤◌, Bool, true, false, cond, eqb, List, length, map, refl, arith, ◌∙◌}
+-- How often a left row stands in a listing, how long a listing is, and which tests list the same pairs.
+use Rattle.std.proofs.Common.{◌≡◌, ◌++◌, ℕ, ◌+◌, ◌<◌, ◌≤◌, Bool, true, false, cond, eqb, List, length, map, refl, arith, ◌∙◌}
 use Rattle.std.specs.Prelude.{sum_by, filter, not}
 use Rattle.std.specs.List.{list_any}
 use Rattle.std.proofs.lemmas.List.{length-map, length-append}
 use Rattle.std.proofs.lemmas.List.Concat.{length-flat_map}
 use Rattle.std.proofs.lemmas.List.Sums.{sum_by-append, length-filter}
 use Rattle.tb_value.specs.declared.index.JoinPair.{JoinPair}
-use Rattle.tb_frame.specs.declared.args.JoinType.TheVariants.{Left}
+use Rattle.tb_frame.specs.declared.args.JoinType.{JoinType}
+use Rattle.tb_frame.specs.declared.args.JoinType.TheVariants.{Inner, Left, Right, Full, Semi, Anti}
 use Rattle.tb_value.specs.Pairs.{row_numbers}
 use Rattle.tb_value.specs.Pairs.{both, left_only, matched, left_unmet}
 use Rattle.tb_frame.specs.Join.{listing_of}
 use Rattle.tb_value.specs.Pairs.{times, is_row}
+use Rattle.tb_value.proofs.Ascending.{matched-same, left_met-same, left_unmet-same, right_unmet-same}
 use Rattle.tb_value.proofs.Counts.{sum_by-map, sum_by-filter, sum_by-flat_map, sum_by-agree, sum_by-plus, sum_one, swap_conds, sum_by_test, counted_if_any, each_one}
 
 abbrev here : ℕ → JoinPair → ℕ
@@ -79,3 +81,12 @@ module _ (l r : ℕ) (m : ℕ → ℕ → Bool) where
       let p = rank_positive i in
       let long = length-left in
       (omega (arith, t, p), λ e. t ∙ each_one rank rank_positive l i low (omega (arith, long, e)))
+
+-- tests that agree on the rows list the same pairs
+pub listing-same : (how : JoinType) (l r : ℕ) (m n : ℕ → ℕ → Bool) → ((i j : ℕ) → i < l → j < r → m i j ≡ n i j) → listing_of how l r m ≡ listing_of how l r n
+listing-same Inner l r m n h = matched-same l r m n h
+listing-same Left l r m n h = λ t. matched-same l r m n h t ++ left_unmet-same l r m n h t
+listing-same Right l r m n h = λ t. matched-same l r m n h t ++ right_unmet-same l r m n h t
+listing-same Full l r m n h = λ t. matched-same l r m n h t ++ left_unmet-same l r m n h t ++ right_unmet-same l r m n h t
+listing-same Semi l r m n h = left_met-same l r m n h
+listing-same Anti l r m n h = left_unmet-same l r m n h

@@ -66,12 +66,6 @@ length-taken rows c = ap (λ (vs : List Datum). length vs) (values-taken rows c)
 lengths-taken : (rows : List ℕ) (cs : List Col) → All (λ (c : Col). length (values (taken rows c)) ≡ length rows) cs
 lengths-taken rows cs = λ k d low. length-taken rows (get_or cs k d)
 
-pub names-taken : (rows : List ℕ) (cs : List Col) → names_of (table_of (map (taken rows) cs)) ≡ names_of (table_of cs)
-names-taken rows cs = names-made (taken rows) (λ c. refl) cs
-
-pub level-taken : (rows : List ℕ) (cs : List Col) → All (λ (c : TableColumn). length c.values ≡ length rows) (table_of (map (taken rows) cs))
-level-taken rows cs = level-made (taken rows) (λ c. refl) (length rows) cs (lengths-taken rows cs)
-
 typed-taken : (rows : List ℕ) (c : Col) → IsTyped (plain c) → IsTyped (plain (taken rows c))
 typed-taken rows c h = subst (λ (vs : List Datum). All (HasType c.kind) vs) (sym (values-taken rows c)) (All-map (HasType c.kind) (λ r. get_or (values c) r null) rows (λ k d low. at_place (HasType c.kind) (values c) (get_or rows k d) tt h))
 
@@ -93,9 +87,6 @@ lengths-opt_taken rows cs = λ k d low. length-opt_taken rows (get_or cs k d)
 
 pub names-opt_taken : (rows : List (Option ℕ)) (cs : List Col) → names_of (table_of (map (opt_taken rows) cs)) ≡ names_of (table_of cs)
 names-opt_taken rows cs = names-made (opt_taken rows) (λ c. refl) cs
-
-pub level-opt_taken : (rows : List (Option ℕ)) (cs : List Col) → All (λ (c : TableColumn). length c.values ≡ length rows) (table_of (map (opt_taken rows) cs))
-level-opt_taken rows cs = level-made (opt_taken rows) (λ c. refl) (length rows) cs (lengths-opt_taken rows cs)
 
 typed-opt_taken : (rows : List (Option ℕ)) (c : Col) → IsTyped (plain c) → IsTyped (plain (opt_taken rows c))
 typed-opt_taken rows c h = subst (λ (vs : List Datum). All (HasType c.kind) vs) (sym (values-opt_taken rows c)) (All-map (HasType c.kind) (value_or_null (values c)) rows (λ k d low. at_row (HasType c.kind) (values c) (get_or rows k d) tt h))

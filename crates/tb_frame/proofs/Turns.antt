@@ -14,7 +14,8 @@ use Rattle.tb_frame.specs.declared.args.JoinType.TheVariants.{Left, Right}
 use Rattle.tb_frame.specs.declared.args.MaintainOrderJoin.{MaintainOrderJoin}
 use Rattle.tb_frame.specs.declared.args.MaintainOrderJoin.TheVariants as order
 use Rattle.tb_frame.specs.Table.{height}
-use Rattle.tb_frame.specs.Join.{Request, agrees, matches, field, nulls, places, listing, listing_of, Ascends, direction, IsOrdered}
+use Rattle.tb_value.specs.Same.{agrees}
+use Rattle.tb_frame.specs.Join.{Request, matches, field, nulls, places, listing, listing_of, Ascends, direction, IsOrdered}
 use Rattle.tb_frame.specs.Sides.{asking, exchanged, flip}
 
 -- EQUALITY BOTH WAYS

@@ -1,5 +1,5 @@
 -- The form of a join that is built so far: a condition on the caller until every form is.
-use Rattle.std.specs.Prelude.{◌≡◌, Bool, true, false, not, length, None}
+use Rattle.std.specs.Prelude.{◌≡◌, Bool, true, false, not, None}
 use Rattle.tb_frame.specs.declared.args.JoinType.{JoinType}
 use Rattle.tb_frame.specs.declared.args.JoinType.TheVariants.{Inner, Left, Right, Full, Semi, Anti}
 use Rattle.tb_frame.specs.declared.args.JoinCoalesce.{JoinCoalesce}
@@ -42,11 +42,9 @@ is_built_coalesce Right c = true
 is_built_coalesce Semi c = true
 is_built_coalesce Anti c = true
 
--- a join of one key on each side, whole, in an order that is built
+-- a join without validation or slice, in an order that is built
 pub record IsBuilt (q : Request) : Type 0 where
   pub order : is_built_order q.args.how q.args.maintain_order ≡ true
   pub coalescing : is_built_coalesce q.args.how q.args.coalesce ≡ true
   pub validation : q.args.validation ≡ ManyToMany
   pub slice : q.args.slice ≡ None
-  pub one_left : length q.left_on ≡ 1
-  pub one_right : length q.right_on ≡ 1

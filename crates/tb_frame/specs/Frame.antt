@@ -47,9 +47,12 @@ opt_taken rows c = record c { chunks = map (value_or_null (values c)) rows ∷ [
 abbrev pub sliced : ℤ → ℕ → Col → Col
 sliced offset len c = record c { chunks = window (length (values c)) offset len (values c) ∷ [] }
 
--- the number of values of each chunk of a column
+-- the number of values of each chunk, and of those of a column
+abbrev pub lengths : List (List Datum) → List ℕ
+lengths chunks = map (λ (vs : List Datum). length vs) chunks
+
 abbrev pub lens : Col → List ℕ
-lens c = map (λ (vs : List Datum). length vs) c.chunks
+lens c = lengths c.chunks
 
 -- any two columns are cut into chunks of the same lengths
 abbrev pub AreCutAlike : List Col → Type 0

@@ -1,12 +1,13 @@
 -- A join request and its answers.
-use Rattle.std.specs.Prelude.{◌≡◌, ℕ, min, Bool, true, false, ◌&&◌, ◌||◌, not, if◌then◌else◌, List, [], ◌++◌, length, map, filter, Option, Some, None, IsSorted, IsPermutation, ⊤, ℤ, pos, ◌+ℤ◌, int_lt, int_le, position, slice_index_or, All}
+use Rattle.std.specs.Prelude.{◌≡◌, ℕ, min, ℤ, pos, ◌+ℤ◌, int_lt, int_le, Bool, ◌&&◌, if◌then◌else◌, Option, Some, None, ⊤}
+use Rattle.std.specs.Prelude.{List, [], ◌++◌, length, map, filter, position, slice_index_or, All, IsSorted, IsPermutation}
 use Rattle.std.specs.List.{list_all, filter_map, find, enumerate_from}
 use Rattle.std.specs.Option.{ForSome, option_and_then}
-use Rattle.tb_value.specs.Datum.{Datum, null, is_null, is_present}
+use Rattle.tb_value.specs.Datum.{Datum, null}
 use Rattle.tb_value.specs.Kind.{Kind}
 use Rattle.tb_value.specs.Names.{Name, same_name}
 use Rattle.tb_value.specs.Pairs.{row_numbers, matched, left_met, left_unmet, right_unmet, left_first, right_first}
-use Rattle.tb_value.specs.Same.{same}
+pub use Rattle.tb_value.specs.Same.{agrees}
 use Rattle.tb_value.specs.declared.index.JoinPair.{JoinPair}
 use Rattle.tb_chunk.specs.Col.{Col}
 pub use Rattle.tb_chunk.specs.Merged.{or_else}
@@ -36,15 +37,19 @@ named t n = find (λ (c : TableColumn). same_name c.name n) t
 
 -- the request of `join`, whose keys are the tables' columns of these names
 abbrev pub by_names : Table → Table → List Name → List Name → JoinArgs → Request
-by_names left right left_on right_on args = record { left = left; right = right; left_on = left_on; right_on = right_on; left_keys = filter_map (named left) left_on; right_keys = filter_map (named right) right_on; args = args }
+by_names left right left_on right_on args = record {
+  left = left;
+  right = right;
+  left_on = left_on;
+  right_on = right_on;
+  left_keys = filter_map (named left) left_on;
+  right_keys = filter_map (named right) right_on;
+  args = args;
+}
 
 -- the same of two tables that are lent
 abbrev pub lent_request : List Col → List Col → List Name → List Name → JoinArgs → Request
 lent_request left right left_on right_on args = by_names (table_of left) (table_of right) left_on right_on args
-
--- the request of `_join_impl`, whose keys are given columns
-abbrev pub by_columns : Table → Table → List TableColumn → List TableColumn → JoinArgs → Request
-by_columns left right left_keys right_keys args = record { left = left; right = right; left_on = names_of left_keys; right_on = names_of right_keys; left_keys = left_keys; right_keys = right_keys; args = args }
 
 -- MATCHES
 
@@ -55,10 +60,6 @@ field keys p i = slice_index_or (slice_index_or (map (λ (c : TableColumn). c.va
 -- whether Nulls match at place p
 abbrev pub nulls : Request → ℕ → Bool
 nulls q p = q.args.join_nulls
-
--- two fields are present and equal, or both are Null and Nulls match
-abbrev pub agrees : Bool → Datum → Datum → Bool
-agrees null_matches a b = (is_present a && is_present b && same a b) || (is_null a && is_null b && null_matches)
 
 -- the places that both key lists have
 abbrev pub places : Request → List ℕ

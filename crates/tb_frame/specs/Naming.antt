@@ -7,7 +7,7 @@ use Rattle.tb_frame.specs.declared.args.JoinArgs.{JoinArgs}
 use Rattle.tb_frame.specs.declared.args.JoinType.{JoinType}
 use Rattle.tb_frame.specs.declared.args.JoinType.TheVariants.{Inner, Left, Right, Full, Semi, Anti}
 use Rattle.tb_frame.specs.declared.args.JoinCoalesce.{JoinCoalesce}
-use Rattle.tb_frame.specs.declared.args.JoinCoalesce.TheVariants.{JoinSpecific, CoalesceColumns, KeepColumns}
+use Rattle.tb_frame.specs.declared.args.JoinCoalesce.TheVariants.{JoinSpecific, KeepColumns}
 
 abbrev pub is_among : List Name → Name → Bool
 is_among names n = list_any (same_name n) names

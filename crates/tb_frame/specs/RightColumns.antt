@@ -1,10 +1,10 @@
 -- The columns that an answer takes of the two tables, by the lists of names that go.
-use Rattle.std.specs.Prelude.{if◌then◌else◌, ℕ, ◌||◌, List, [], map, Option, Some}
+use Rattle.std.specs.Prelude.{if◌then◌else◌, ℕ, ◌||◌, List, [], map, Option, Some, unwrap_or}
 use Rattle.tb_value.specs.Names.{Name}
 use Rattle.tb_chunk.specs.Col.{Col}
 use Rattle.tb_frame.specs.declared.args.JoinArgs.{JoinArgs}
 use Rattle.tb_frame.specs.declared.args.JoinType.{JoinType}
-use Rattle.tb_frame.specs.Naming.{coalesces, drops_left_keys, drops_right_keys, has_right, merges_keys, right_name}
+use Rattle.tb_frame.specs.Naming.{coalesces, default_suffix, drops_left_keys, drops_right_keys, has_right, merges_keys, right_name}
 use Rattle.tb_frame.specs.Frame.{opt_taken, without_names}
 
 -- the left names that the answer lacks, and the right ones
@@ -33,3 +33,7 @@ right_column taken suffix rows c = record (opt_taken rows c) { name = right_name
 -- the right columns in the answer, with these rows, those that go left out
 abbrev pub right_columns : List Name → Name → List Name → List (Option ℕ) → List Col → List Col
 right_columns taken suffix gone rows cs = map (right_column taken suffix rows) (without_names gone cs)
+
+-- those of a join with these arguments, beside left columns of these names
+abbrev pub columns_beside : JoinArgs → List Name → List (Option ℕ) → List Name → List Col → List Col
+columns_beside a right_on rows taken cs = right_columns taken (unwrap_or a.suffix default_suffix) (gone_right a right_on) rows (right_side a.how cs)

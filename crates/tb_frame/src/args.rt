@@ -74,7 +74,15 @@ pub struct JoinArgs {
 impl JoinArgs {
     /// A join of this kind with nothing else asked.
     pub fn new(how: JoinType) -> JoinArgs
-        ensures { result ≡ record { how = how; validation = JoinValidation.ManyToMany; suffix = None; slice = None; join_nulls = false; coalesce = JoinCoalesce.JoinSpecific; maintain_order = MaintainOrderJoin.None } }
+        ensures { result ≡ record {
+          how = how;
+          validation = JoinValidation.ManyToMany;
+          suffix = None;
+          slice = None;
+          join_nulls = false;
+          coalesce = JoinCoalesce.JoinSpecific;
+          maintain_order = MaintainOrderJoin.None;
+        } }
     {
         JoinArgs {
             how,

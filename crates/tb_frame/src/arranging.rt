@@ -41,14 +41,16 @@ pub fn cut_pairs(
     }
 }
 
-/// The pairs of a listing in the order that the arguments ask, and of them those that the slice keeps.
+/// The pairs of a listing in the order that the arguments ask of a join of this kind, and of them those that the
+/// slice keeps. The kind that the arguments name is not read.
 pub fn arrange(
     alloc: Global,
     mut pairs: Vec<JoinPair>,
+    how: JoinType,
     args: &JoinArgs,
 ) -> Result<Vec<JoinPair>, OutOfMemory>
-    ensures { IfOk result (λ v. IsListed args.now.how args.now.maintain_order args.now.slice pairs.items v.items) }
+    ensures { IfOk result (λ v. IsListed how args.now.maintain_order args.now.slice pairs.items v.items) }
 {
-    order_pairs(&mut pairs, args.how, args.maintain_order)?;
+    order_pairs(&mut pairs, how, args.maintain_order)?;
     cut_pairs(alloc, pairs, args.slice)
 }

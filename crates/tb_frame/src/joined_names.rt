@@ -84,7 +84,8 @@ fn names_beside(
     right_on: &[PlSmallStr],
     args: &JoinArgs,
 ) -> Result<Vec<PlSmallStr>, OutOfMemory>
-    ensures { IfOk result (λ v. v.items ≡ right_names (map (λ n. n.now) left.now) (unwrap_or args.now.suffix default_suffix) (gone_beside args.now right_on.now) (right_side args.now.how right.now)) }
+    ensures { IfOk result (λ v. v.items ≡ right_names (map (λ n. n.now) left.now) (unwrap_or args.now.suffix default_suffix)
+        (gone_beside args.now right_on.now) (right_side args.now.how right.now)) }
 {
     let taken = lent_name_set(alloc, left)?;
     called_names(

@@ -23,6 +23,7 @@ pub use joined_names::check_joined_names;
 pub use names::{NameSet, check_distinct, name_set};
 pub use order::direction_of;
 pub use right_columns::{
-    gone_left, gone_right, has_right, left_rows, push_right, right_name, right_rows, right_side,
-    suffix_of,
+    columns_beside, gone_left, gone_right, has_right, left_rows, right_name, right_rows,
+    right_side, suffix_of,
 };
+pub use tb_store::slice_offsets;

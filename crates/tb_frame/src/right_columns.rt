@@ -1,12 +1,12 @@
 //! The columns that an answer takes of the two tables, and their rows.
-ghost use Rattle.std.specs.Prelude.{◌≡◌, ◌≤◌, ◌++◌, All, IfOk, OnOk, List, Some, length, map, unwrap_or};
+ghost use Rattle.std.specs.Prelude.{◌≡◌, ◌≤◌, All, IfOk, List, Some, length, map, unwrap_or};
 ghost use Rattle.tb_value.specs.Names.{Name};
 ghost use Rattle.tb_value.specs.declared.index.JoinPair.{JoinPair};
 ghost use Rattle.tb_chunk.specs.Col.{Col, values};
 ghost use Rattle.tb_chunk.specs.Rows.{IsRowOf};
 ghost use Rattle.tb_frame.specs.Naming.{default_suffix, has_right, is_among, right_name};
 ghost use Rattle.tb_frame.specs.NameSets.{has_name};
-ghost use Rattle.tb_frame.specs.RightColumns.{gone_left, gone_right, right_column, right_columns, right_side};
+ghost use Rattle.tb_frame.specs.RightColumns.{columns_beside, gone_left, gone_right, right_column, right_side};
 ghost use Rattle.tb_frame.specs.Table.{names_of, table_of};
 
 use crate::args::{JoinArgs, JoinType};
@@ -103,29 +103,31 @@ fn named_column(
     Ok(column)
 }
 
-/// Puts the right columns, with these rows, behind the others under their names in the answer, but for those
-/// of the names that go.
-pub fn push_right(
+/// The right columns of an answer beside these left ones: with these rows, under their names in the answer, and
+/// without the keys that are coalesced. A Semi or Anti join has none.
+pub fn columns_beside(
     alloc: Global,
-    columns: &mut Vec<Column>,
+    args: &JoinArgs,
     left: &[Column],
     right: &[Column],
-    gone: &[PlSmallStr],
-    suffix: &str,
+    right_on: &[PlSmallStr],
     rows: &[NullableIdxSize],
-) -> Result<(), OutOfMemory>
+) -> Result<Vec<Column>, OutOfMemory>
     requires rows { All (λ (c : Col). All (IsRowOf (length (values c))) rows.now) right.now }
     requires few { length rows.now ≤ MAX_ROWS }
-    ensures { OnOk result (columns.new.items ≡ columns.old.items ++ right_columns (names_of (table_of left.now)) suffix.now gone.now rows.now right.now) }
+    ensures { IfOk result (λ v. v.items ≡ columns_beside args.now right_on.now rows.now (names_of (table_of left.now)) right.now) }
 {
     let taken = column_name_set(alloc, left)?;
-    let gone = name_set(alloc, gone)?;
-    for column in right {
+    let gone = name_set(alloc, gone_right(args, right_on))?;
+    let suffix = suffix_of(args);
+    let side = right_side(args.how, right);
+    let mut columns = Vec::with_capacity(alloc, side.len())?;
+    for column in side {
         if !gone.contains(column.name()) {
             columns.push(named_column(alloc, &taken, suffix, column, rows)?)?;
         }
     }
-    Ok(())
+    Ok(columns)
 }
 
 /// The left rows of the pairs, in order.

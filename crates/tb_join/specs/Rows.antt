@@ -71,7 +71,10 @@ abbrev pub texts : Name → List ℕ → TableColumn
 texts n v = record { name = n; kind = kind.string; values = string v ∷ [] }
 
 abbrev pub split_texts : JoinType → Request
-split_texts how = by_names (texts (codes "a") (codes "ab") ∷ texts (codes "b") (codes "c") ∷ []) (texts (codes "a") (codes "a") ∷ texts (codes "b") (codes "bc") ∷ []) (codes "a" ∷ codes "b" ∷ []) (codes "a" ∷ codes "b" ∷ []) (plainly how)
+split_texts how =
+    let left : Table = texts (codes "a") (codes "ab") ∷ texts (codes "b") (codes "c") ∷ [] in
+    let right : Table = texts (codes "a") (codes "a") ∷ texts (codes "b") (codes "bc") ∷ [] in
+    by_names left right (codes "a" ∷ codes "b" ∷ []) (codes "a" ∷ codes "b" ∷ []) (plainly how)
 
 -- [3, 1, 3, Null] and [3, 3]
 abbrev pub repeated_keys : JoinType → Request
@@ -91,4 +94,6 @@ of_kinds t u = by_names (record { name = k_name; kind = t; values = [] } ∷ [])
 
 -- Inner where the right `x` would be called as a left column is
 abbrev pub taken_name : Request
-taken_name = by_names (numbers k_name [] ∷ numbers (codes "x") [] ∷ numbers (codes "x_right") [] ∷ []) (numbers k_name [] ∷ numbers (codes "x") [] ∷ []) (k_name ∷ []) (k_name ∷ []) (plainly Inner)
+taken_name =
+    let left : Table = numbers k_name [] ∷ numbers (codes "x") [] ∷ numbers (codes "x_right") [] ∷ [] in
+    by_names left (numbers k_name [] ∷ numbers (codes "x") [] ∷ []) (k_name ∷ []) (k_name ∷ []) (plainly Inner)

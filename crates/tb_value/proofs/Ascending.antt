@@ -1,5 +1,5 @@
 -- The pairs of two loops, and of one, ascend as they are listed.
-use Rattle.std.proofs.Common.{◌≡◌, ℕ, zero, suc, ◌+◌, ◌<◌, ◌≤◌, Bool, true, false, cond, not, List, [], ◌∷◌, ◌++◌, length, get_or, map, refl, ap, arith, sym, ◌∙◌, subst}
+use Rattle.std.proofs.Common.{◌≡◌, ℕ, zero, suc, ◌+◌, ◌<◌, ◌≤◌, Bool, true, false, cond, not, ◌||◌, List, [], ◌∷◌, ◌++◌, length, get_or, map, refl, ap, arith, sym, ◌∙◌, subst}
 use Rattle.std.specs.Prelude.{filter, IsSorted, All, AllPairs}
 use Rattle.std.proofs.lemmas.List.Kept.{AllPairs-cons}
 use Rattle.std.specs.List.{flat_map, list_any, range_with_len}
@@ -9,7 +9,7 @@ use Rattle.std.specs.Ordering.{is_lt, nat_cmp, ordering_then}
 use Rattle.std.proofs.lemmas.Cmp.{ranked}
 use Rattle.std.proofs.lemmas.List.Elements.{All-nil, All-cons, All-head, All-tail, All-append, All-map, All-weaker}
 use Rattle.tb_value.specs.declared.index.JoinPair.{JoinPair}
-use Rattle.tb_value.specs.Pairs.{row_numbers, both, left_only, right_only, matched, left_met, left_unmet, right_unmet, left_first, right_first}
+use Rattle.tb_value.specs.Pairs.{row_numbers, both, left_only, right_only, matched, left_met, left_unmet, right_unmet, left_first}
 
 -- each element stands before the later ones
 abbrev pub Ascends_by : {X : Type 0} → (X → X → Type 0) → List X → Type 0
@@ -124,26 +124,17 @@ later_right i u v h = ap (λ (o : Ordering). is_lt (ordering_then o (nat_cmp v u
 later_alone : (i j : ℕ) → i < j → NotBelow left_first (left_only i) (left_only j)
 later_alone i j h = ap (λ (o : Ordering). is_lt (ordering_then o Equal)) (nat_cmp_above i j h)
 
-later_right_alone : (i j : ℕ) → i < j → NotBelow right_first (right_only i) (right_only j)
-later_right_alone i j h = ap (λ (o : Ordering). is_lt (ordering_then o Equal)) (nat_cmp_above i j h)
-
 -- ONE LOOP
 
--- left rows alone, right rows alone, in the order of their numbers
+-- left rows alone, in the order of their numbers
 pub left_alone-sorted : (p : ℕ → Bool) (l : ℕ) → IsSorted left_first (map left_only (filter p (row_numbers l)))
 left_alone-sorted p l = sorted_from-Ascends_by left_first (map left_only (filter p (row_numbers l))) (Ascends_by-map (NotBelow left_first) ◌<◌ left_only later_alone (filter p (row_numbers l)) (kept_ascend p 0 l))
-
-pub right_alone-sorted : (p : ℕ → Bool) (r : ℕ) → IsSorted right_first (map right_only (filter p (row_numbers r)))
-right_alone-sorted p r = sorted_from-Ascends_by right_first (map right_only (filter p (row_numbers r))) (Ascends_by-map (NotBelow right_first) ◌<◌ right_only later_right_alone (filter p (row_numbers r)) (kept_ascend p 0 r))
 
 pub left_met-sorted : (l r : ℕ) (m : ℕ → ℕ → Bool) → IsSorted left_first (left_met l r m)
 left_met-sorted l r m = left_alone-sorted (λ i. list_any (m i) (row_numbers r)) l
 
 pub left_unmet-sorted : (l r : ℕ) (m : ℕ → ℕ → Bool) → IsSorted left_first (left_unmet l r m)
 left_unmet-sorted l r m = left_alone-sorted (λ i. not (list_any (m i) (row_numbers r))) l
-
-pub right_unmet-sorted : (l r : ℕ) (m : ℕ → ℕ → Bool) → IsSorted right_first (right_unmet l r m)
-right_unmet-sorted l r m = right_alone-sorted (λ j. not (list_any (λ i. m i j) (row_numbers l))) r
 
 -- TWO LOOPS
 
@@ -193,3 +184,25 @@ kept_same p q n h = filter_same p q 0 n (λ k low high. h k (omega arith))
 pub matched-same : (l r : ℕ) (m n : ℕ → ℕ → Bool) → ((i j : ℕ) → i < l → j < r → m i j ≡ n i j) → matched l r m ≡ matched l r n
 matched-same l r m n h =
     flat_map_same (λ i. map (both i) (filter (m i) (row_numbers r))) (λ i. map (both i) (filter (n i) (row_numbers r))) 0 l (λ i low high. ap (map (both i)) (kept_same (m i) (n i) r (λ j in_r. h i j (omega arith) in_r)))
+
+any_same : (p q : ℕ → Bool) (a n : ℕ) → ((k : ℕ) → a ≤ k → k < a + n → p k ≡ q k) → list_any p (range_with_len a n) ≡ list_any q (range_with_len a n)
+any_same p q a zero h = refl
+any_same p q a (suc n) h = λ t. h a (omega arith) (omega arith) t || any_same p q (a + 1) n (λ k low high. h k (omega arith) (omega arith)) t
+
+module _ (l r : ℕ) (m n : ℕ → ℕ → Bool) (h : (i j : ℕ) → i < l → j < r → m i j ≡ n i j) where
+  left_any : (i : ℕ) → i < l → list_any (m i) (row_numbers r) ≡ list_any (n i) (row_numbers r)
+  left_any i low = any_same (m i) (n i) 0 r (λ j _ high. h i j low (omega arith))
+
+  right_any : (j : ℕ) → j < r → list_any (λ i. m i j) (row_numbers l) ≡ list_any (λ i. n i j) (row_numbers l)
+  right_any j low = any_same (λ i. m i j) (λ i. n i j) 0 l (λ i _ high. h i j (omega arith) low)
+
+  pub left_met-same : left_met l r m ≡ left_met l r n
+  left_met-same = ap (map left_only) (kept_same (λ i. list_any (m i) (row_numbers r)) (λ i. list_any (n i) (row_numbers r)) l left_any)
+
+  pub left_unmet-same : left_unmet l r m ≡ left_unmet l r n
+  left_unmet-same =
+      ap (map left_only) (kept_same (λ i. not (list_any (m i) (row_numbers r))) (λ i. not (list_any (n i) (row_numbers r))) l (λ i low. ap not (left_any i low)))
+
+  pub right_unmet-same : right_unmet l r m ≡ right_unmet l r n
+  right_unmet-same =
+      ap (map right_only) (kept_same (λ j. not (list_any (λ i. m i j) (row_numbers l))) (λ j. not (list_any (λ i. n i j) (row_numbers l))) r (λ j low. ap not (right_any j low)))

@@ -11,17 +11,25 @@ use Rattle.std.proofs.lemmas.List.Folds.{list_all-append, list_all_at, list_any-
 use Rattle.std.proofs.lemmas.List.FromFn.{length-range_with_len, get_or-range_with_len}
 use Rattle.std.proofs.lemmas.Bool.{and_from, or_from}
 
-from_more : (a n : ℕ) → range_with_len a (suc n) ≡ range_with_len a n ++ (a + n) ∷ []
-from_more a zero = ap (λ (k : ℕ). k ∷ []) (omega arith)
-from_more a (suc n) =
-    let e : (a + 1) + n ≡ a + suc n = omega arith in
-    ap (λ (l : List ℕ). a ∷ l) (from_more (a + 1) n ∙ ap (λ (k : ℕ). range_with_len (a + 1) n ++ k ∷ []) e)
+-- numbers in a row, in two runs
+pub range_cut : (a m k : ℕ) → range_with_len a (m + k) ≡ range_with_len a m ++ range_with_len (a + m) k
+range_cut a zero k =
+    let e : a ≡ a + 0 = omega arith in
+    let s : 0 + k ≡ k = omega arith in
+    ap (range_with_len a) s ∙ ap (λ (b : ℕ). range_with_len b k) e
+range_cut a (suc m) k =
+    let e : (a + 1) + m ≡ a + suc m = omega arith in
+    let s : suc m + k ≡ suc (m + k) = omega arith in
+    ap (range_with_len a) s ∙ ap (λ (l : List ℕ). a ∷ l) (range_cut (a + 1) m k)
+    ∙ ap (λ (b : ℕ). a ∷ (range_with_len (a + 1) m ++ range_with_len b k)) e
+
+pub range_more : (a n : ℕ) → range_with_len a (n + 1) ≡ range_with_len a n ++ (a + n) ∷ []
+range_more a n = range_cut a n 1
 
 pub row_numbers_more : (n : ℕ) → row_numbers (n + 1) ≡ row_numbers n ++ n ∷ []
 row_numbers_more n =
-    let e : n + 1 ≡ suc n = omega arith in
     let z : 0 + n ≡ n = omega arith in
-    ap row_numbers e ∙ from_more 0 n ∙ ap (λ (k : ℕ). row_numbers n ++ k ∷ []) z
+    range_more 0 n ∙ ap (λ (k : ℕ). row_numbers n ++ k ∷ []) z
 
 -- a test of each row number, one more, and where one fails
 pub all_more : (f : ℕ → Bool) (n : ℕ) → list_all f (row_numbers n) ≡ true → f n ≡ true → list_all f (row_numbers (n + 1)) ≡ true

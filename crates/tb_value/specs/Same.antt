@@ -1,9 +1,9 @@
--- Whether two values are the same.
-use Rattle.std.specs.Prelude.{Bool, true, false, ◌&&◌}
+-- Whether two values are the same, and whether two fields of keys agree.
+use Rattle.std.specs.Prelude.{Bool, true, false, ◌&&◌, ◌||◌}
 use Rattle.std.specs.Ordering.{int_eq}
 use Rattle.std.proofs.Math.Bool.{beq}
 use Rattle.std.specs.Str.{bytes_eq}
-use Rattle.tb_value.specs.Datum.{Datum, Items, null, boolean, int, string, binary, list, struct, end, more}
+use Rattle.tb_value.specs.Datum.{Datum, Items, null, boolean, int, string, binary, list, struct, end, more, is_null, is_present}
 
 -- the same kind of value, and the same in it
 abbrev mutual
@@ -21,3 +21,7 @@ abbrev mutual
   same_items end end = true
   same_items (more a xs) (more b ys) = same a b && same_items xs ys
   same_items _ _ = false
+
+-- two fields are present and equal, or both are Null and Nulls match
+abbrev pub agrees : Bool → Datum → Datum → Bool
+agrees null_matches a b = (is_present a && is_present b && same a b) || (is_null a && is_null b && null_matches)

@@ -112,7 +112,7 @@ impl ValueRef<'_> {
             ValueRef::Null => Ok(AnyValue::Null),
             ValueRef::Boolean(b) => Ok(AnyValue::Boolean(b)),
             ValueRef::Int(i) => Ok(AnyValue::Int(i)),
-            ValueRef::String(s) => Ok(AnyValue::String(copy_text(s, alloc)?)),
+            ValueRef::String(s) => Ok(AnyValue::String(copy_text(alloc, s)?)),
             ValueRef::Binary(s) => Ok(AnyValue::Binary(Bytes::from_vec(
                 alloc,
                 Vec::from_slice(alloc, s)?,
@@ -123,7 +123,8 @@ impl ValueRef<'_> {
     }
 }
 
-fn copy_text(bytes: &[u8], alloc: Global) -> Result<PlSmallStr, OutOfMemory>
+/// The text of these bytes, which are UTF-8.
+pub fn copy_text(alloc: Global, bytes: &[u8]) -> Result<PlSmallStr, OutOfMemory>
     requires { IsUtf8 bytes.now }
     ensures { IfOk result (λ s. s ≡ bytes.now) }
 {

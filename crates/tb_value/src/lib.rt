@@ -17,7 +17,7 @@ mod same_type;
 mod sorted;
 mod typed;
 
-pub use any_value::{AnyValue, ValueRef, Values};
+pub use any_value::{AnyValue, ValueRef, Values, copy_text};
 pub use bytes::Bytes;
 pub use chunk_id::{ChunkId, StandardChunkId};
 pub use dtype::{DataType, Field, Fields, TimeUnit};

@@ -54,8 +54,5 @@ mutual
 abbrev pub coded_datum : Coded Datum
 coded_datum = record { code = datum_code; inj = datum_inj }
 
-abbrev pub coded_items : Coded Items
-coded_items = record { code = items_code; inj = items_inj }
-
 abbrev pub coded_data : Coded (List Datum)
 coded_data = coded_list coded_datum

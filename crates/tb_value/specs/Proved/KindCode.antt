@@ -1,11 +1,11 @@
 -- How the logic stores a type.
 use Rattle.std.specs.Prelude.{◌≡◌, ℕ, List, [], ◌∷◌, Option, Some, None, ◌==◌, if◌then◌else◌, refl}
 use Rattle.std.proofs.Common.{ap, sym, ◌∙◌}
-use Rattle.std.specs.Coded.{Coded, coded_list, coded×, coded_ℕ}
+use Rattle.std.specs.Coded.{Coded}
 use base.Stored.{Gv, gnil, gnum, gcons}
 use Rattle.tb_value.specs.declared.dtype.TimeUnit.{TimeUnit}
 use Rattle.tb_value.specs.declared.dtype.TimeUnit.TheVariants.{Nanoseconds, Microseconds, Milliseconds}
-use Rattle.tb_value.specs.Kind.{Kind, Parts, Part, null, boolean, int8, int16, int32, int64, int128, uint8, uint16, uint32, uint64, string, binary, date, time, datetime, duration, list, struct, end, part}
+use Rattle.tb_value.specs.Kind.{Kind, Parts, null, boolean, int8, int16, int32, int64, int128, uint8, uint16, uint32, uint64, string, binary, date, time, datetime, duration, list, struct, end, part}
 
 abbrev text_to : List ℕ → Gv
 text_to [] = gnil
@@ -122,6 +122,3 @@ kind_inj a b p = sym (kind_back a) ∙ (ap kind_from p ∙ kind_back b)
 
 abbrev pub coded_kind : Coded Kind
 coded_kind = record { code = kind_to; inj = kind_inj }
-
-abbrev pub coded_parts : Coded (List Part)
-coded_parts = coded_list (coded× (coded_list coded_ℕ) coded_kind)

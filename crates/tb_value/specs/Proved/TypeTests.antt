@@ -57,7 +57,10 @@ mutual
       let rest = same_parts-Decides ps qs in (
         λ h.
             let both = first_so (same_name n m && same_kind t u) (same_parts ps qs) h in
-            λ i. part (names.0 (first_so (same_name n m) (same_kind t u) both) i) (types.0 (second_so (same_name n m) (same_kind t u) both) i) (rest.0 (second_so (same_name n m && same_kind t u) (same_parts ps qs) h) i),
+            let name = names.0 (first_so (same_name n m) (same_kind t u) both) in
+            let type = types.0 (second_so (same_name n m) (same_kind t u) both) in
+            let others = rest.0 (second_so (same_name n m && same_kind t u) (same_parts ps qs) h) in
+            λ i. part (name i) (type i) (others i),
         λ e.
             let p : same_name n m ≡ true = names.1 (cc) in
             let q : same_kind t u ≡ true = types.1 (cc) in

@@ -1,4 +1,4 @@
-use Rattle.std.proofs.Common.{◌≡◌, ◌∙◌, List, map, Bor}
+use Rattle.std.proofs.Common.{◌∙◌, List, map, Bor}
 use Rattle.std.proofs.lemmas.Result.{IfOk-weaker}
 use Rattle.tb_value.specs.Names.{Name}
 use Rattle.tb_frame.specs.RightColumns.{right_names}
