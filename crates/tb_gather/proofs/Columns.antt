@@ -1,15 +1,14 @@
 -- What gathered columns are.
 use Rattle.std.proofs.Common.{arith, ◌≡◌, ◌∙◌, ◌≤◌, List, [], ◌∷◌, length, map, ap}
-use Rattle.std.specs.List.{All}
 use Rattle.std.proofs.lemmas.List.{length-map, append-nil}
-use Rattle.std.proofs.lemmas.List.Elements.{All-nil, All-cons}
 use Rattle.tb_value.specs.Typed.{HasType}
 use Rattle.tb_value.specs.declared.sorted.IsSorted.{IsSorted}
 use Rattle.tb_chunk.specs.Col.{Col, IsColumn, flat, values}
 use Rattle.tb_chunk.specs.Flag.{FlagHolds}
 use Rattle.tb_chunk.proofs.Lists.{All-picked}
 use Rattle.tb_gather.specs.Ids.{Id, row_or_none}
-use Rattle.tb_gather.specs.Gathered.{lengths, value_at, named_rows, NameRows}
+use Rattle.tb_frame.specs.Frame.{lengths}
+use Rattle.tb_gather.specs.Gathered.{value_at, named_rows, NameRows}
 use Rattle.tb_gather.proofs.Naming.{named-row}
 
 pub values-named : (ids : List Id) (flag : IsSorted) (c : Col) → values (named_rows ids flag c) ≡ map (value_at c.chunks) ids
@@ -28,7 +27,3 @@ IsColumn-named c d ids flag column named few holds same_kind picked same_flag =
       typed = rw (same_kind, all) (All-picked (HasType c.kind) (values c) (row_or_none (lengths c.chunks)) ids tt column.typed (λ k d low. named-row c.chunks _ (named k d low)));
       flag_holds = rw (same_kind, same_flag, all) holds;
     }
-
--- ids that name rows of a column name rows of each column of it alone
-pub NameRows-one : (ids : List Id) (c : Col) → NameRows ids c → All (NameRows ids) (c ∷ [])
-NameRows-one ids c named = All-cons (NameRows ids) c [] named (All-nil (NameRows ids))

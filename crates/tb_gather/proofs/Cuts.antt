@@ -5,9 +5,9 @@ use Rattle.std.proofs.lemmas.Bool.{cases_lt}
 use Rattle.tb_value.specs.Datum.{Datum}
 use Rattle.tb_value.specs.declared.sorted.IsSorted.{IsSorted}
 use Rattle.tb_chunk.specs.Col.{Col, flat, values}
-use Rattle.tb_frame.specs.Frame.{lens}
+use Rattle.tb_frame.specs.Frame.{lens, lengths}
 use Rattle.tb_gather.specs.Ids.{Id, NamesRow, row_of, row_or_none}
-use Rattle.tb_gather.specs.Gathered.{gathered, gathered_flag, lengths, pick, value_at}
+use Rattle.tb_gather.specs.Gathered.{gathered, gathered_flag, pick, value_at}
 use Rattle.tb_gather.proofs.Naming.{sum-cons}
 
 -- what is gathered is picked by the numbers of the rows

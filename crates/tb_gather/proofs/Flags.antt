@@ -14,7 +14,8 @@ use Rattle.tb_value.specs.declared.sorted.IsSorted.TheVariants.{Ascending, Desce
 use Rattle.tb_chunk.specs.Col.{Col, flat, values, IsColumn}
 use Rattle.tb_chunk.specs.Flag.{datum_cmp, present, nulls, IsOrdered, FlagHolds}
 use Rattle.tb_gather.specs.Ids.{Id, AreRun, NamesRow, IsUpTo, RunsBy}
-use Rattle.tb_gather.specs.Gathered.{lengths, value_at, gathered_flag, gathered, named_rows, opt_gathered, NameRows}
+use Rattle.tb_frame.specs.Frame.{lengths}
+use Rattle.tb_gather.specs.Gathered.{value_at, gathered_flag, gathered, named_rows, opt_gathered, NameRows}
 use Rattle.tb_gather.proofs.Comparing.{IsOf, Orders, ascending-orders, descending-orders}
 use Rattle.tb_gather.proofs.Naming.{number, number-value, number-low, number-up}
 use Rattle.tb_gather.proofs.Standing.{Stands, turned, nulls-first, nulls-last, ends-of-pairs, in-order-of-pairs}

@@ -9,11 +9,11 @@ use Rattle.tb_value.specs.declared.error.PolarsError.TheVariants.{OutOfMemory}
 use Rattle.tb_value.specs.declared.sorted.IsSorted.{IsSorted}
 use Rattle.tb_chunk.specs.Col.{Col, values}
 use Rattle.tb_frame.specs.Table.{Table, plain, table_of, IsTable, IsTyped}
-use Rattle.tb_frame.specs.Frame.{frame_refusal}
+use Rattle.tb_frame.specs.Frame.{frame_refusal, lengths}
 use Rattle.tb_frame.proofs.Frames.{IsTable-refusal}
 use Rattle.tb_frame.proofs.Taking.{IsTable-made, at_row}
 use Rattle.tb_gather.specs.Ids.{Id, row_or_none}
-use Rattle.tb_gather.specs.Gathered.{gathered, gathered_flag, lengths, named_rows, value_at}
+use Rattle.tb_gather.specs.Gathered.{gathered, gathered_flag, named_rows, value_at}
 use Rattle.tb_gather.proofs.Columns.{length-named, values-named}
 
 -- columns of a table are refused for want of memory alone

@@ -7,7 +7,8 @@ use Rattle.tb_chunk.specs.Col.{flat}
 use Rattle.std.specs.Prelude.{IsSome}
 use Rattle.tb_chunk.specs.Rows.{IsRowOf}
 use Rattle.tb_gather.specs.Ids.{Id, row_of, row_or_none, NamesRow, IsUpTo}
-use Rattle.tb_gather.specs.Gathered.{lengths, value_at}
+use Rattle.tb_frame.specs.Frame.{lengths}
+use Rattle.tb_gather.specs.Gathered.{value_at}
 
 sum_from : (a : ℕ) (ns : List ℕ) → fold (λ s n. s + n) a ns ≡ a + sum ns
 sum_from a [] = omega arith

@@ -1,5 +1,5 @@
 -- Ids run as the rows that they name.
-use Rattle.std.proofs.Common.{arith, ◌≡◌, ◌∙◌, ℕ, ◌<◌, ◌≤◌, List, length, map, get_or, take, ap, sym, Some, None, inl, inr, ◌⊎◌, Option}
+use Rattle.std.proofs.Common.{arith, ◌≡◌, ℕ, ◌<◌, ◌≤◌, List, length, map, get_or, take, ap, Some, None, inl, inr, ◌⊎◌}
 use Rattle.std.specs.List.{All, sum}
 use Rattle.std.proofs.lemmas.Bool.{cases_lt}
 use Rattle.std.proofs.lemmas.List.{get_or-map, length-map}

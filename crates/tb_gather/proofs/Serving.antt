@@ -9,12 +9,12 @@ use Rattle.tb_value.specs.Datum.{Datum}
 use Rattle.tb_value.specs.declared.sorted.IsSorted.TheVariants.{Not}
 use Rattle.tb_chunk.specs.Col.{Col, values}
 use Rattle.tb_chunk.specs.Rows.{IsRowOf, value_or_null}
-use Rattle.tb_frame.specs.Table.{TableColumn, table_of, height, IsTable}
+use Rattle.tb_frame.specs.Table.{table_of, height, IsTable}
 use Rattle.tb_frame.specs.Frame.{lens, AreCutAlike, in_one_chunk, opt_taken}
 use Rattle.tb_frame.proofs.Cuts.{alike-by_first, table-whole}
 use Rattle.tb_frame.proofs.Taking.{of_each_length}
 use Rattle.tb_gather.specs.Ids.{Id, NamesRow, row_or_none, AreCutForIds}
-use Rattle.tb_gather.specs.Gathered.{NameRows, opt_gathered, pick, value_at}
+use Rattle.tb_gather.specs.Gathered.{NameRows, opt_gathered, pick}
 use Rattle.tb_gather.proofs.Cuts.{gathered-pick}
 
 same_if_not_apart : (a b : List ℕ) (t : Bool) → bytes_eq a b ≡ t → ((a ≡ b → ⊥) → ⊥) → a ≡ b

@@ -8,9 +8,8 @@ use Rattle.std.proofs.lemmas.List.{get_or_append_left, get_or-map, get_or_defaul
 use Rattle.std.proofs.Math.Seq.{get_or-append_seam}
 use Rattle.tb_value.specs.Datum.{Datum}
 use Rattle.tb_chunk.specs.Col.{Col, flat}
-use Rattle.tb_frame.specs.Frame.{lens}
+use Rattle.tb_frame.specs.Frame.{lens, lengths}
 use Rattle.tb_gather.specs.Ids.{AreStarts}
-use Rattle.tb_gather.specs.Gathered.{lengths}
 use Rattle.tb_gather.proofs.Naming.{sum-cons}
 
 pub sum-total : (chunks : List (List Datum)) → sum (lengths chunks) ≡ length (flat chunks)

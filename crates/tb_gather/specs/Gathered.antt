@@ -1,16 +1,12 @@
 -- What is gathered by ids of rows.
-use Rattle.std.specs.Prelude.{◌∷◌, [], ℕ, List, Option, length, map, All}
+use Rattle.std.specs.Prelude.{◌∷◌, [], ℕ, List, Option, map, All}
 use Rattle.tb_value.specs.Datum.{Datum}
 use Rattle.tb_value.specs.declared.sorted.IsSorted.{IsSorted}
 use Rattle.tb_value.specs.declared.sorted.IsSorted.TheVariants.{Ascending, Descending, Not}
 use Rattle.tb_chunk.specs.Col.{Col, flat}
 use Rattle.tb_chunk.specs.Rows.{value_or_null}
-use Rattle.tb_frame.specs.Frame.{lens}
+use Rattle.tb_frame.specs.Frame.{lens, lengths}
 use Rattle.tb_gather.specs.Ids.{Id, row_or_none, NamesRow}
-
--- the lengths of chunks
-abbrev pub lengths : List (List Datum) → List ℕ
-lengths chunks = map (λ (vs : List Datum). length vs) chunks
 
 -- the values at these numbers, Null for none
 abbrev pub pick : List Datum → List (Option ℕ) → List Datum

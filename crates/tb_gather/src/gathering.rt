@@ -2,7 +2,8 @@
 ghost use Rattle.std.specs.Prelude.{◌≡◌, ◌<◌, ◌^◌, ◌∷◌, ◌++◌, [], All, IfOk, OnOk, length, map};
 ghost use Rattle.tb_chunk.specs.Seen.{chunk_lists, storage};
 ghost use Rattle.tb_gather.specs.Ids.{NamesRow};
-ghost use Rattle.tb_gather.specs.Gathered.{lengths, value_at};
+ghost use Rattle.tb_frame.specs.Frame.{lengths};
+ghost use Rattle.tb_gather.specs.Gathered.{value_at};
 
 use std::alloc::Global;
 use tb_store::{Chunk, Chunks};

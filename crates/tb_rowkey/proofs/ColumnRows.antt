@@ -10,7 +10,8 @@ use Rattle.tb_value.specs.SameKind.{is_key}
 use Rattle.tb_chunk.specs.Col.{Col, IsColumn, values}
 use Rattle.tb_rowkey.specs.Columns.{AreKeyColumns, kinds, fields_at, row_count, field_of, key_at, columns_meet}
 use Rattle.tb_rowkey.specs.RowKey.{key_row}
-use Rattle.tb_rowkey.specs.Rows.{IsKeyRow, meets, rows_meet}
+use Rattle.tb_value.specs.Same.{agrees}
+use Rattle.tb_rowkey.specs.Rows.{IsKeyRow, rows_meet}
 use Rattle.tb_rowkey.proofs.Rows.{keys_meet}
 
 first_of_all : {X : Type 0} (P : X → Type 0) (x : X) (xs : List X) → All P (x ∷ xs) → P x
@@ -35,9 +36,9 @@ field_is [] p i = refl
 field_is (c ∷ cs) zero i = refl
 field_is (c ∷ cs) (suc p) i = field_is cs p i
 
-pub columns_match : (nulls : ℕ → Bool) (ls rs : List Col) (i j : ℕ) → AreKeyColumns ls → AreKeyColumns rs → kinds ls ≡ kinds rs → i < row_count ls → j < row_count rs → meets false (key_at ls nulls i) (key_at rs nulls j) ≡ columns_meet nulls ls rs i j
+pub columns_match : (nulls : ℕ → Bool) (ls rs : List Col) (i j : ℕ) → AreKeyColumns ls → AreKeyColumns rs → kinds ls ≡ kinds rs → i < row_count ls → j < row_count rs → agrees false (key_at ls nulls i) (key_at rs nulls j) ≡ columns_meet nulls ls rs i j
 columns_match nulls ls rs i j l r same below under =
-    ap (λ (ts : List Kind). meets false (key_at ls nulls i) (key_row ts nulls (fields_at rs j))) (sym same)
+    ap (λ (ts : List Kind). agrees false (key_at ls nulls i) (key_row ts nulls (fields_at rs j))) (sym same)
     ∙ keys_meet (kinds ls) nulls (fields_at ls i) (fields_at rs j) (row_of ls i l below) (subst (λ (ts : List Kind). IsKeyRow ts (fields_at rs j)) (sym same) (row_of rs j r under))
     ∙ ap (λ n. rows_meet nulls n (fields_at ls i) (fields_at rs j)) (length-map ls (λ (c : Col). c.kind))
-    ∙ λ t. list_all (λ p. meets (nulls p) (field_is ls p i t) (field_is rs p j t)) (row_numbers (length ls))
+    ∙ λ t. list_all (λ p. agrees (nulls p) (field_is ls p i t) (field_is rs p j t)) (row_numbers (length ls))

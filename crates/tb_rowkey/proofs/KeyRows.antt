@@ -1,11 +1,11 @@
 -- The key of a row, read from the columns one after another.
-use Rattle.std.proofs.Common.{◌≡◌, ◌+◌, ◌<◌, ◌≤◌, ℕ, Bool, true, false, not, ◌&&◌, ◌||◌, List, [], ◌++◌, length, get_or, drop, subst, Bor, ◌⊎◌, inl, inr, arith, refl, ap, sym, ◌∙◌}
+use Rattle.std.proofs.Common.{◌≡◌, ◌+◌, ◌<◌, ◌≤◌, ℕ, Bool, true, false, not, ◌&&◌, ◌||◌, List, ◌++◌, length, get_or, drop, Bor, ◌⊎◌, inl, inr, arith, refl, ap, sym, ◌∙◌}
 use Rattle.std.specs.Prelude.{if◌then◌else◌}
-use Rattle.std.specs.List.{All}
 use Rattle.std.proofs.lemmas.Bool.{false≢true}
-use Rattle.std.proofs.lemmas.List.{length-append, length-map, get_or-map, append_assoc, append-nil, at_drop_more, at_drop_all}
+use Rattle.std.proofs.lemmas.List.{length-append, length-map, append_assoc, at_drop_more, at_drop_all}
 use Rattle.tb_value.specs.Datum.{Datum, null, binary, is_null, is_present}
 use Rattle.tb_chunk.specs.Col.{Col, values}
+use Rattle.tb_chunk.proofs.Lent.{low_lent, lent_is}
 use Rattle.tb_rowkey.specs.RowKey.{field_code, rowkey, has_key}
 use Rattle.tb_rowkey.specs.Columns.{lent_columns, kinds, fields_at, key_at}
 
@@ -22,9 +22,6 @@ pub record IsReadTo (cs : List Col) (join_nulls : Bool) (i n : ℕ) (bytes : Lis
   pub key_so_far : has_key_at join_nulls (drop n cs) i ≡ has_key_at join_nulls cs i
 
 module _ (cs : List Col) (join_nulls : Bool) (i : ℕ) where
-  pub none_read : (bytes : List ℕ) → bytes ≡ [] → IsReadTo cs join_nulls i 0 bytes
-  none_read bytes e = record { bytes_so_far = ap (λ l. l ++ row_bytes cs i) e; key_so_far = refl }
-
   module _ (n : ℕ) (c : Col) (v : Datum) (low : n < length cs) (is : c ≡ get_or cs n c) (at : v ≡ get_or (values c) i null) where
     more_bytes : field_code c.kind v ++ row_bytes (drop (n + 1) cs) i ≡ row_bytes (drop n cs) i
     more_bytes =
@@ -54,32 +51,10 @@ module _ (cs : List Col) (join_nulls : Bool) (i : ℕ) where
         let e : false ≡ has_key_at join_nulls cs i = sym (ap (λ b. b && has_key_at join_nulls (drop (n + 1) cs) i) absent) ∙ more_key ∙ r.key_so_far in
         ap (λ b. if b then binary (row_bytes cs i) else null) e
 
-  module _ (n : ℕ) (bytes : List ℕ) (past : length cs ≤ n) (r : IsReadTo cs join_nulls i n bytes) where
-    pub all_bytes : bytes ≡ row_bytes cs i
-    all_bytes = sym (append-nil bytes) ∙ ap (λ l. bytes ++ l) (sym (at_drop_all (λ ds. row_bytes ds i) cs n past)) ∙ r.bytes_so_far
-
-    pub all_kept : binary bytes ≡ key_at cs (λ _. join_nulls) i
-    all_kept =
-        let e : true ≡ has_key_at join_nulls cs i = sym (at_drop_all (λ ds. has_key_at join_nulls ds i) cs n past) ∙ r.key_so_far in
-        ap binary all_bytes ∙ ap (λ b. if b then binary (row_bytes cs i) else null) e
-
 pub present_or : (b join_nulls : Bool) → ((b ≡ true) × (join_nulls ≡ true)) ⊎ (b ≡ false) → (not b || join_nulls) ≡ true
 present_or false join_nulls e = refl
 present_or true join_nulls (inl h) = h.1
 present_or true join_nulls (inr h) = absurd (false≢true (sym h))
-
--- COLUMNS READ THROUGH BORROWS
-
-module _ (rs : List (Bor Col)) (n : ℕ) (r : Bor Col) (low : n < length rs) (is : r ≡ get_or rs n r) where
-  pub low_lent : n < length (lent_columns rs)
-  low_lent = let long = length-map rs (λ (c : Bor Col). c.now) in omega (arith, long, low)
-
-  pub lent_is : r.now ≡ get_or (lent_columns rs) n r.now
-  lent_is = ap (λ (c : Bor Col). c.now) is ∙ sym (get_or-map (λ (c : Bor Col). c.now) rs n r r.now low)
-
-  -- what holds of each column holds of this one
-  pub lent_has : (P : Col → Type 0) → All P (lent_columns rs) → P r.now
-  lent_has P h = subst P (sym lent_is) (h n r.now low_lent)
 
 -- THE LENGTH OF A KEY
 

@@ -8,10 +8,10 @@ use Rattle.std.proofs.lemmas.List.Folds.{list_all-map}
 use Rattle.tb_value.specs.Datum.{Datum, null, binary, is_present}
 use Rattle.tb_value.specs.Kind.{Kind}
 use Rattle.tb_value.specs.Pairs.{row_numbers}
-use Rattle.tb_value.specs.Same.{same}
+use Rattle.tb_value.specs.Same.{same, agrees}
 use Rattle.tb_value.specs.Proved.ValueTests.{same-Decides}
 use Rattle.tb_rowkey.specs.RowKey.{field_code, rowkey, has_key, key_row}
-use Rattle.tb_rowkey.specs.Rows.{IsKeyRow, meets, rows_meet}
+use Rattle.tb_rowkey.specs.Rows.{IsKeyRow, rows_meet}
 use Rattle.tb_rowkey.proofs.Apart.{field_apart}
 
 pub row_apart : (ts : List Kind) (fs gs : List Datum) (xs ys : List ℕ) → IsKeyRow ts fs → IsKeyRow ts gs → rowkey ts fs ++ xs ≡ rowkey ts gs ++ ys → (fs ≡ gs) × (xs ≡ ys)
@@ -37,25 +37,25 @@ or_false : (x : Bool) → (x || false) ≡ true → x ≡ true
 or_false true h = refl
 or_false false h = h
 
-meet_same : (n : Bool) (a b : Datum) → meets n a b ≡ true → (a ≡ b) × ((is_present a || n) ≡ true)
+meet_same : (n : Bool) (a b : Datum) → agrees n a b ≡ true → (a ≡ b) × ((is_present a || n) ≡ true)
 meet_same n null null h = (refl, h)
 meet_same n null b h = absurd (false≢true h)
 meet_same n a null h = absurd (false≢true h)
 meet_same n a b h = ((same-Decides a b).0 (or_false (same a b) h), refl)
 
-meet_self : (n : Bool) (a : Datum) → (is_present a || n) ≡ true → meets n a a ≡ true
+meet_self : (n : Bool) (a : Datum) → (is_present a || n) ≡ true → agrees n a a ≡ true
 meet_self n null h = h
 meet_self n a h = or_left (same a a) false ((same-Decides a a).1 refl)
 
 -- the fields of two rows agree at each place
 abbrev all_meet : (ℕ → Bool) → List Datum → List Datum → Bool
-all_meet nulls (f ∷ fs) (g ∷ gs) = meets (nulls 0) f g && all_meet (λ p. nulls (suc p)) fs gs
+all_meet nulls (f ∷ fs) (g ∷ gs) = agrees (nulls 0) f g && all_meet (λ p. nulls (suc p)) fs gs
 all_meet nulls _ _ = true
 
 all_same : (ts : List Kind) (nulls : ℕ → Bool) (fs gs : List Datum) → IsKeyRow ts fs → IsKeyRow ts gs → all_meet nulls fs gs ≡ true → (fs ≡ gs) × (has_key nulls fs ≡ true)
 all_same [] nulls [] [] l r h = (refl, refl)
 all_same (t ∷ ts) nulls (f ∷ fs) (g ∷ gs) l r h =
-    let both = and_parts (meets (nulls 0) f g) (all_meet (λ p. nulls (suc p)) fs gs) h in
+    let both = and_parts (agrees (nulls 0) f g) (all_meet (λ p. nulls (suc p)) fs gs) h in
     let a = meet_same (nulls 0) f g both.0 in
     let k = all_same ts (λ p. nulls (suc p)) fs gs l.1 r.1 both.1 in
     (λ i. a.0 i ∷ k.0 i, and_from (is_present f || nulls 0) (has_key (λ p. nulls (suc p)) fs) a.1 k.1)
@@ -68,7 +68,7 @@ all_self : (nulls : ℕ → Bool) (fs : List Datum) → has_key nulls fs ≡ tru
 all_self nulls [] h = refl
 all_self nulls (f ∷ fs) h =
     let both = and_parts (is_present f || nulls 0) (has_key (λ p. nulls (suc p)) fs) h in
-    and_from (meets (nulls 0) f f) (all_meet (λ p. nulls (suc p)) fs fs) (meet_self (nulls 0) f both.0) (all_self (λ p. nulls (suc p)) fs both.1)
+    and_from (agrees (nulls 0) f f) (all_meet (λ p. nulls (suc p)) fs fs) (meet_self (nulls 0) f both.0) (all_self (λ p. nulls (suc p)) fs both.1)
 
 -- KEYS THAT AGREE
 
@@ -95,20 +95,20 @@ bool_ext false true f g = g refl
 bool_ext false false f g = refl
 
 module _ (ts : List Kind) (nulls : ℕ → Bool) (fs gs : List Datum) (l : IsKeyRow ts fs) (r : IsKeyRow ts gs) where
-  to_rows : meets false (key_row ts nulls fs) (key_row ts nulls gs) ≡ true → all_meet nulls fs gs ≡ true
+  to_rows : agrees false (key_row ts nulls fs) (key_row ts nulls gs) ≡ true → all_meet nulls fs gs ≡ true
   to_rows h =
       let a = meet_same false (key_row ts nulls fs) (key_row ts nulls gs) h in
       let k = same_if (has_key nulls fs) (has_key nulls gs) (rowkey ts fs) (rowkey ts gs) a.0 a.1 in
       ap (all_meet nulls fs) (sym (same_key ts fs gs l r k.1)) ∙ all_self nulls fs k.0
 
-  to_keys : all_meet nulls fs gs ≡ true → meets false (key_row ts nulls fs) (key_row ts nulls gs) ≡ true
+  to_keys : all_meet nulls fs gs ≡ true → agrees false (key_row ts nulls fs) (key_row ts nulls gs) ≡ true
   to_keys h =
       let k = all_same ts nulls fs gs l r h in
-      ap (λ hs. meets false (key_row ts nulls fs) (key_row ts nulls hs)) (sym k.0)
+      ap (λ hs. agrees false (key_row ts nulls fs) (key_row ts nulls hs)) (sym k.0)
       ∙ meet_self false (key_row ts nulls fs) (present_if (has_key nulls fs) (rowkey ts fs) k.1)
 
-  keys_all : meets false (key_row ts nulls fs) (key_row ts nulls gs) ≡ all_meet nulls fs gs
-  keys_all = bool_ext (meets false (key_row ts nulls fs) (key_row ts nulls gs)) (all_meet nulls fs gs) to_rows to_keys
+  keys_all : agrees false (key_row ts nulls fs) (key_row ts nulls gs) ≡ all_meet nulls fs gs
+  keys_all = bool_ext (agrees false (key_row ts nulls fs) (key_row ts nulls gs)) (all_meet nulls fs gs) to_rows to_keys
 
 -- BY PLACES
 
@@ -119,8 +119,8 @@ from_one a (suc n) = let e : a + 1 ≡ suc a = omega arith in λ i. e i ∷ from
 all_places : (ts : List Kind) (nulls : ℕ → Bool) (fs gs : List Datum) → IsKeyRow ts fs → IsKeyRow ts gs → all_meet nulls fs gs ≡ rows_meet nulls (length ts) fs gs
 all_places [] nulls [] [] l r = refl
 all_places (t ∷ ts) nulls (f ∷ fs) (g ∷ gs) l r =
-    let at : ℕ → Bool = λ p. meets (nulls p) (get_or (f ∷ fs) p null) (get_or (g ∷ gs) p null) in
-    ap (λ b. meets (nulls 0) f g && b)
+    let at : ℕ → Bool = λ p. agrees (nulls p) (get_or (f ∷ fs) p null) (get_or (g ∷ gs) p null) in
+    ap (λ b. agrees (nulls 0) f g && b)
     (all_places ts (λ p. nulls (suc p)) fs gs l.1 r.1
     ∙ sym (ap (list_all at) (from_one 0 (length ts)) ∙ list_all-map at suc (row_numbers (length ts))))
 all_places [] nulls (f ∷ fs) gs l r = absurd l
@@ -128,5 +128,5 @@ all_places [] nulls [] (g ∷ gs) l r = absurd r
 all_places (t ∷ ts) nulls [] gs l r = absurd l
 all_places (t ∷ ts) nulls (f ∷ fs) [] l r = absurd r
 
-pub keys_meet : (ts : List Kind) (nulls : ℕ → Bool) (fs gs : List Datum) → IsKeyRow ts fs → IsKeyRow ts gs → meets false (key_row ts nulls fs) (key_row ts nulls gs) ≡ rows_meet nulls (length ts) fs gs
+pub keys_meet : (ts : List Kind) (nulls : ℕ → Bool) (fs gs : List Datum) → IsKeyRow ts fs → IsKeyRow ts gs → agrees false (key_row ts nulls fs) (key_row ts nulls gs) ≡ rows_meet nulls (length ts) fs gs
 keys_meet ts nulls fs gs l r = keys_all ts nulls fs gs l r ∙ all_places ts nulls fs gs l r

@@ -1,7 +1,6 @@
 -- The column of row keys.
 use Rattle.std.specs.Prelude.{IsTrue, ◌≡◌, ◌<◌, ◌^◌, ℕ, Bool, List, [], ◌∷◌, length, map, slice_index_or}
 use Rattle.std.specs.List.{All, list_all}
-use Rattle.std.specs.Borrow.{Bor}
 use Rattle.tb_value.specs.Datum.{Datum, null}
 use Rattle.tb_value.specs.Kind.{Kind}
 use Rattle.tb_value.specs.Kind as kind
@@ -9,12 +8,9 @@ use Rattle.tb_value.specs.Pairs.{row_numbers}
 use Rattle.tb_value.specs.SameKind.{is_key}
 use Rattle.tb_value.specs.declared.sorted.IsSorted.TheVariants.{Not}
 use Rattle.tb_chunk.specs.Col.{Col, IsColumn, values}
+pub use Rattle.tb_chunk.specs.Lent.{lent_columns}
 use Rattle.tb_rowkey.specs.RowKey.{rowkey, key_row}
-use Rattle.tb_rowkey.specs.Rows.{meets}
-
--- the columns that are lent
-abbrev pub lent_columns : List (Bor Col) → List Col
-lent_columns rs = map (λ (r : Bor Col). r.now) rs
+use Rattle.tb_value.specs.Same.{agrees}
 
 -- the same values in one chunk
 abbrev pub one_chunk : Col → Col
@@ -59,4 +55,4 @@ pub record AreKeyColumns (cs : List Col) : Type 0 where
 
 -- the fields of row i of some columns and of row j of others agree at each place
 abbrev pub columns_meet : (ℕ → Bool) → List Col → List Col → ℕ → ℕ → Bool
-columns_meet nulls ls rs i j = list_all (λ p. meets (nulls p) (field_of ls p i) (field_of rs p j)) (row_numbers (length ls))
+columns_meet nulls ls rs i j = list_all (λ p. agrees (nulls p) (field_of ls p i) (field_of rs p j)) (row_numbers (length ls))

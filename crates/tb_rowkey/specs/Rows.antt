@@ -1,10 +1,10 @@
 -- Rows of key types, and when two of them match.
-use Rattle.std.specs.Prelude.{ℕ, Bool, ◌&&◌, ◌||◌, IsTrue, List, slice_index_or}
+use Rattle.std.specs.Prelude.{ℕ, Bool, IsTrue, List, slice_index_or}
 use Rattle.std.specs.List.{AllZip, list_all}
-use Rattle.tb_value.specs.Datum.{Datum, null, is_null, is_present}
+use Rattle.tb_value.specs.Datum.{Datum, null}
 use Rattle.tb_value.specs.Kind.{Kind}
 use Rattle.tb_value.specs.Pairs.{row_numbers}
-use Rattle.tb_value.specs.Same.{same}
+use Rattle.tb_value.specs.Same.{agrees}
 use Rattle.tb_value.specs.SameKind.{is_key}
 use Rattle.tb_value.specs.Typed.{HasType}
 
@@ -16,10 +16,6 @@ IsKeyOf t f = IsTrue (is_key t) × HasType t f
 abbrev pub IsKeyRow : List Kind → List Datum → Type 0
 IsKeyRow ts fs = AllZip IsKeyOf ts fs
 
--- two fields are present and equal, or both are Null and Nulls match
-abbrev pub meets : Bool → Datum → Datum → Bool
-meets null_matches a b = (is_present a && is_present b && same a b) || (is_null a && is_null b && null_matches)
-
 -- the fields of two rows agree at each of n places
 abbrev pub rows_meet : (ℕ → Bool) → ℕ → List Datum → List Datum → Bool
-rows_meet nulls n fs gs = list_all (λ p. meets (nulls p) (slice_index_or fs p null) (slice_index_or gs p null)) (row_numbers n)
+rows_meet nulls n fs gs = list_all (λ p. agrees (nulls p) (slice_index_or fs p null) (slice_index_or gs p null)) (row_numbers n)

@@ -7,8 +7,8 @@ ghost use Rattle.tb_rowkey.specs.Columns.{lent_columns, one_chunk};
 use std::alloc::Global;
 use tb_store::{OutOfMemory, Series};
 
-// What holds of each column, which its length hands out.
-pub(crate) fn know_columns(columns: &[&Series])
+/// Does nothing: its contract is what holds of each column, for callers whose columns are lent.
+pub fn know_columns(columns: &[&Series])
     ensures { All IsColumn (lent_columns columns.now) }
 {
     for column in columns {

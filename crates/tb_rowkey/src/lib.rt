@@ -23,3 +23,4 @@ mod tests;
 
 pub use fit::keys_fit;
 pub use keys::{lent_keys, prepare_keys_multiple};
+pub use lent::know_columns;

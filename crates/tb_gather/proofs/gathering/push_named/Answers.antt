@@ -1,7 +1,8 @@
 use Rattle.std.proofs.Common.{◌≡◌, ◌∙◌, Some, map, ap, subst, get_or}
 use Rattle.tb_value.specs.Datum.{null}
 use Rattle.tb_gather.specs.Ids.{Id, NamesRow}
-use Rattle.tb_gather.specs.Gathered.{lengths, value_at}
+use Rattle.tb_frame.specs.Frame.{lengths}
+use Rattle.tb_gather.specs.Gathered.{value_at}
 use Rattle.tb_gather.proofs.Naming.{row-within, named-value}
 use Rattle.tb_gather.proofs.gathering.push_named.Goals as goal
 

@@ -1,4 +1,4 @@
-use Rattle.std.proofs.Common.{◌≡◌, ◌∙◌, List, sym, ap, map, subst}
+use Rattle.std.proofs.Common.{◌∙◌, List, sym, ap, map, subst}
 use Rattle.std.specs.List.{All}
 use Rattle.rayon.proofs.ListFacts.{IfOk-then}
 use Rattle.tb_chunk.specs.Col.{Col}

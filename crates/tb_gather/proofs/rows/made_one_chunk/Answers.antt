@@ -1,4 +1,4 @@
-use Rattle.std.proofs.Common.{◌≡◌, ◌∙◌, List, sym, ap, map, subst}
+use Rattle.std.proofs.Common.{◌∙◌, List, sym, ap, map, subst}
 use Rattle.rayon.proofs.ListFacts.{IfOk-then}
 use Rattle.tb_chunk.specs.Col.{Col}
 use Rattle.tb_frame.specs.Frame.{in_one_chunk}

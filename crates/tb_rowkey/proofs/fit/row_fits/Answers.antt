@@ -5,7 +5,8 @@ use Rattle.tb_value.specs.See.{lent}
 use Rattle.tb_chunk.specs.Col.{Col, IsColumn, values}
 use Rattle.tb_rowkey.specs.RowKey.{field_code}
 use Rattle.tb_rowkey.specs.Columns.{lent_columns}
-use Rattle.tb_rowkey.proofs.KeyRows.{row_bytes, lent_has, more_length}
+use Rattle.tb_chunk.proofs.Lent.{lent_has}
+use Rattle.tb_rowkey.proofs.KeyRows.{row_bytes, more_length}
 use Rattle.tb_rowkey.proofs.fit.row_fits.Goals as goal
 use Rattle.tb_rowkey.proofs.fit.row_fits.Goals.{After-field_len-len}
 

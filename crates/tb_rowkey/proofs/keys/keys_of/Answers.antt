@@ -7,7 +7,7 @@ use Rattle.tb_value.specs.declared.sorted.IsSorted.TheVariants.{Not}
 use Rattle.tb_chunk.specs.Chunk.{or_null}
 use Rattle.tb_chunk.specs.Col.{Col, values}
 use Rattle.tb_rowkey.specs.Columns.{lent_columns, row_count, key_at, key_column}
-use Rattle.tb_rowkey.proofs.KeyRows.{lent_has}
+use Rattle.tb_chunk.proofs.Lent.{lent_has}
 use Rattle.tb_rowkey.proofs.keys.keys_of.Goals as goal
 
 -- a column of bytes without a name

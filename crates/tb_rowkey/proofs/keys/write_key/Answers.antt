@@ -4,7 +4,8 @@ use Rattle.tb_value.specs.See.{lent}
 use Rattle.tb_chunk.specs.Col.{Col, IsColumn, values}
 use Rattle.tb_rowkey.specs.RowKey.{field_code}
 use Rattle.tb_rowkey.specs.Columns.{lent_columns}
-use Rattle.tb_rowkey.proofs.KeyRows.{low_lent, lent_is, lent_has, none_kept, one_read, present_or}
+use Rattle.tb_chunk.proofs.Lent.{low_lent, lent_is, lent_has}
+use Rattle.tb_rowkey.proofs.KeyRows.{none_kept, one_read, present_or}
 use Rattle.tb_rowkey.proofs.keys.write_key.Goals as goal
 
 pub get-value-requires : goal.get-value-requires
