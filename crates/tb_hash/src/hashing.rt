@@ -20,25 +20,37 @@ use tb_pool::{Exec, Gate};
 use tb_store::{BinaryChunk, Cells, Chunks, Series, StringChunk};
 use tb_value::{MAX_ROWS, PolarsResult};
 
+// How two lists of keys are joined, and what the work is given.
+#[derive(Clone, Copy)]
+struct KeyJoin<'a> {
+    alloc: Global,
+    how: JoinType,
+    join_nulls: bool,
+    exec: &'a Exec,
+}
+
 // Builds one side, and probes it with the other.
 fn build_and_probe<K: JoinKey, G: Gate>(
     rt: &(impl Threads + Sync),
-    alloc: Global,
-    how: JoinType,
+    gate: &G,
+    join: &KeyJoin<'_>,
     left_built: bool,
     built: &[Option<K>],
     probed: &[Option<K>],
-    join_nulls: bool,
-    exec: &Exec,
-    gate: &G,
 ) -> PolarsResult<(Probed, Built)>
-    requires side { AllowsSide how left_built }
+    requires side { AllowsSide join.now.how left_built }
     requires built { length built.now ≤ MAX_ROWS }
     requires probed { length probed.now ≤ MAX_ROWS }
-    ensures settles { Settles result (too_many (length (probe_listing K.eq join_nulls how left_built built.now probed.now))) }
-    ensures listed { IfOk result (λ r. IsProbed how left_built (probe_listing K.eq join_nulls how left_built built.now probed.now) r.0) }
+    ensures settles { Settles result (too_many (length (probe_listing K.eq join.now.join_nulls join.now.how left_built built.now probed.now))) }
+    ensures listed { IfOk result (λ r. IsProbed join.now.how left_built (probe_listing K.eq join.now.join_nulls join.now.how left_built built.now probed.now) r.0) }
     ensures built { IfOk result (λ r. r.1 ≡ one_part left_built (length built.now)) }
 {
+    let KeyJoin {
+        alloc,
+        how,
+        join_nulls,
+        exec,
+    } = *join;
     let (tables, plan) = build_tables(rt, alloc, built, join_nulls, left_built, exec, gate)?;
     let pairs = probe(rt, alloc, how, &tables, probed, exec, gate)?;
     Ok((pairs, plan))
@@ -71,136 +83,97 @@ pub fn probed_order(how: JoinType, left_built: bool) -> Direction
 // The pairs of two lists of keys.
 fn pairs_of_keys<K: JoinKey, G: Gate>(
     rt: &(impl Threads + Sync),
-    alloc: Global,
-    how: JoinType,
+    gate: &G,
+    join: &KeyJoin<'_>,
     left: &[Option<K>],
     right: &[Option<K>],
-    join_nulls: bool,
-    exec: &Exec,
-    gate: &G,
 ) -> PolarsResult<(Probed, Built)>
     requires left { length left.now ≤ MAX_ROWS }
     requires right { length right.now ≤ MAX_ROWS }
-    ensures { IsHashed how (length left.now) (length right.now) (key_listing K.eq join_nulls how left.now right.now) result }
+    ensures { IsHashed join.now.how (length left.now) (length right.now) (key_listing K.eq join.now.join_nulls join.now.how left.now right.now) result }
 {
-    if builds_left(how, left.len(), right.len()) {
-        build_and_probe(rt, alloc, how, true, left, right, join_nulls, exec, gate)
+    if builds_left(join.how, left.len(), right.len()) {
+        build_and_probe(rt, gate, join, true, left, right)
     } else {
-        build_and_probe(rt, alloc, how, false, right, left, join_nulls, exec, gate)
+        build_and_probe(rt, gate, join, false, right, left)
     }
 }
 
 fn pairs_of_cells<N: KeyCell, G: Gate>(
     rt: &(impl Threads + Sync),
-    alloc: Global,
-    how: JoinType,
+    gate: &G,
+    join: &KeyJoin<'_>,
     left: &[Cells<N>],
     right: &[Cells<N>],
-    join_nulls: bool,
-    exec: &Exec,
-    gate: &G,
 ) -> PolarsResult<(Probed, Built)>
     requires left { length (cell_values N.shows left.now) ≤ MAX_ROWS }
     requires right { length (cell_values N.shows right.now) ≤ MAX_ROWS }
-    ensures { IsHashed how (length (cell_values N.shows left.now)) (length (cell_values N.shows right.now)) (value_listing join_nulls how (cell_values N.shows left.now) (cell_values N.shows right.now)) result }
+    ensures { IsHashed join.now.how (length (cell_values N.shows left.now)) (length (cell_values N.shows right.now)) (value_listing join.now.join_nulls join.now.how (cell_values N.shows left.now) (cell_values N.shows right.now)) result }
 {
-    let left = joined_cells(alloc, left)?;
-    let right = joined_cells(alloc, right)?;
-    pairs_of_keys(rt, alloc, how, &left, &right, join_nulls, exec, gate)
+    let left = joined_cells(join.alloc, left)?;
+    let right = joined_cells(join.alloc, right)?;
+    pairs_of_keys(rt, gate, join, &left, &right)
 }
 
 fn pairs_of_texts<G: Gate>(
     rt: &(impl Threads + Sync),
-    alloc: Global,
-    how: JoinType,
+    gate: &G,
+    join: &KeyJoin<'_>,
     left: &[StringChunk],
     right: &[StringChunk],
-    join_nulls: bool,
-    exec: &Exec,
-    gate: &G,
 ) -> PolarsResult<(Probed, Built)>
     requires left { length (text_values left.now) ≤ MAX_ROWS }
     requires right { length (text_values right.now) ≤ MAX_ROWS }
-    ensures { IsHashed how (length (text_values left.now)) (length (text_values right.now)) (value_listing join_nulls how (text_values left.now) (text_values right.now)) result }
+    ensures { IsHashed join.now.how (length (text_values left.now)) (length (text_values right.now)) (value_listing join.now.join_nulls join.now.how (text_values left.now) (text_values right.now)) result }
 {
-    let left = joined_texts(alloc, left)?;
-    let right = joined_texts(alloc, right)?;
-    pairs_of_keys(rt, alloc, how, &left, &right, join_nulls, exec, gate)
+    let left = joined_texts(join.alloc, left)?;
+    let right = joined_texts(join.alloc, right)?;
+    pairs_of_keys(rt, gate, join, &left, &right)
 }
 
 fn pairs_of_bytes<G: Gate>(
     rt: &(impl Threads + Sync),
-    alloc: Global,
-    how: JoinType,
+    gate: &G,
+    join: &KeyJoin<'_>,
     left: &[BinaryChunk],
     right: &[BinaryChunk],
-    join_nulls: bool,
-    exec: &Exec,
-    gate: &G,
 ) -> PolarsResult<(Probed, Built)>
     requires left { length (binary_values left.now) ≤ MAX_ROWS }
     requires right { length (binary_values right.now) ≤ MAX_ROWS }
-    ensures { IsHashed how (length (binary_values left.now)) (length (binary_values right.now)) (value_listing join_nulls how (binary_values left.now) (binary_values right.now)) result }
+    ensures { IsHashed join.now.how (length (binary_values left.now)) (length (binary_values right.now)) (value_listing join.now.join_nulls join.now.how (binary_values left.now) (binary_values right.now)) result }
 {
-    let left = joined_bytes(alloc, left)?;
-    let right = joined_bytes(alloc, right)?;
-    pairs_of_keys(rt, alloc, how, &left, &right, join_nulls, exec, gate)
+    let left = joined_bytes(join.alloc, left)?;
+    let right = joined_bytes(join.alloc, right)?;
+    pairs_of_keys(rt, gate, join, &left, &right)
 }
 
 // The pairs of the keys in two lists of chunks.
 fn pairs_of_chunks<G: Gate>(
     rt: &(impl Threads + Sync),
-    alloc: Global,
-    how: JoinType,
+    gate: &G,
+    join: &KeyJoin<'_>,
     left: &Chunks,
     right: &Chunks,
-    join_nulls: bool,
-    exec: &Exec,
-    gate: &G,
 ) -> PolarsResult<(Probed, Built)>
     requires same { storage left.now ≡ storage right.now }
     requires key { is_key (storage left.now) ≡ true }
     requires left { length (flat (chunk_lists left.now)) ≤ MAX_ROWS }
     requires right { length (flat (chunk_lists right.now)) ≤ MAX_ROWS }
-    ensures { IsHashed how (length (flat (chunk_lists left.now))) (length (flat (chunk_lists right.now))) (value_listing join_nulls how (flat (chunk_lists left.now)) (flat (chunk_lists right.now))) result }
+    ensures { IsHashed join.now.how (length (flat (chunk_lists left.now))) (length (flat (chunk_lists right.now))) (value_listing join.now.join_nulls join.now.how (flat (chunk_lists left.now)) (flat (chunk_lists right.now))) result }
 {
     match (left, right) {
-        (Chunks::BooleanType(l), Chunks::BooleanType(r)) => {
-            pairs_of_cells(rt, alloc, how, l, r, join_nulls, exec, gate)
-        }
-        (Chunks::Int8Type(l), Chunks::Int8Type(r)) => {
-            pairs_of_cells(rt, alloc, how, l, r, join_nulls, exec, gate)
-        }
-        (Chunks::Int16Type(l), Chunks::Int16Type(r)) => {
-            pairs_of_cells(rt, alloc, how, l, r, join_nulls, exec, gate)
-        }
-        (Chunks::Int32Type(l), Chunks::Int32Type(r)) => {
-            pairs_of_cells(rt, alloc, how, l, r, join_nulls, exec, gate)
-        }
-        (Chunks::Int64Type(l), Chunks::Int64Type(r)) => {
-            pairs_of_cells(rt, alloc, how, l, r, join_nulls, exec, gate)
-        }
-        (Chunks::Int128Type(l), Chunks::Int128Type(r)) => {
-            pairs_of_cells(rt, alloc, how, l, r, join_nulls, exec, gate)
-        }
-        (Chunks::UInt8Type(l), Chunks::UInt8Type(r)) => {
-            pairs_of_cells(rt, alloc, how, l, r, join_nulls, exec, gate)
-        }
-        (Chunks::UInt16Type(l), Chunks::UInt16Type(r)) => {
-            pairs_of_cells(rt, alloc, how, l, r, join_nulls, exec, gate)
-        }
-        (Chunks::UInt32Type(l), Chunks::UInt32Type(r)) => {
-            pairs_of_cells(rt, alloc, how, l, r, join_nulls, exec, gate)
-        }
-        (Chunks::UInt64Type(l), Chunks::UInt64Type(r)) => {
-            pairs_of_cells(rt, alloc, how, l, r, join_nulls, exec, gate)
-        }
-        (Chunks::StringType(l), Chunks::StringType(r)) => {
-            pairs_of_texts(rt, alloc, how, l, r, join_nulls, exec, gate)
-        }
-        (Chunks::BinaryType(l), Chunks::BinaryType(r)) => {
-            pairs_of_bytes(rt, alloc, how, l, r, join_nulls, exec, gate)
-        }
+        (Chunks::BooleanType(l), Chunks::BooleanType(r)) => pairs_of_cells(rt, gate, join, l, r),
+        (Chunks::Int8Type(l), Chunks::Int8Type(r)) => pairs_of_cells(rt, gate, join, l, r),
+        (Chunks::Int16Type(l), Chunks::Int16Type(r)) => pairs_of_cells(rt, gate, join, l, r),
+        (Chunks::Int32Type(l), Chunks::Int32Type(r)) => pairs_of_cells(rt, gate, join, l, r),
+        (Chunks::Int64Type(l), Chunks::Int64Type(r)) => pairs_of_cells(rt, gate, join, l, r),
+        (Chunks::Int128Type(l), Chunks::Int128Type(r)) => pairs_of_cells(rt, gate, join, l, r),
+        (Chunks::UInt8Type(l), Chunks::UInt8Type(r)) => pairs_of_cells(rt, gate, join, l, r),
+        (Chunks::UInt16Type(l), Chunks::UInt16Type(r)) => pairs_of_cells(rt, gate, join, l, r),
+        (Chunks::UInt32Type(l), Chunks::UInt32Type(r)) => pairs_of_cells(rt, gate, join, l, r),
+        (Chunks::UInt64Type(l), Chunks::UInt64Type(r)) => pairs_of_cells(rt, gate, join, l, r),
+        (Chunks::StringType(l), Chunks::StringType(r)) => pairs_of_texts(rt, gate, join, l, r),
+        (Chunks::BinaryType(l), Chunks::BinaryType(r)) => pairs_of_bytes(rt, gate, join, l, r),
         _ => unreachable!(),
     }
 }
@@ -228,14 +201,11 @@ pub fn hash_pairs<G: Gate>(
 {
     prove!(validate == JoinValidation::ManyToMany);
     let _lengths = (left.len(), right.len());
-    pairs_of_chunks(
-        rt,
+    let join = KeyJoin {
         alloc,
         how,
-        left.chunks(),
-        right.chunks(),
         join_nulls,
         exec,
-        gate,
-    )
+    };
+    pairs_of_chunks(rt, gate, &join, left.chunks(), right.chunks())
 }

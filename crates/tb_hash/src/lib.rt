@@ -10,8 +10,12 @@ mod tables;
 mod typed;
 
 pub use hashing::{hash_pairs, probed_order};
-pub use join_ids::{ChunkJoinIds, ChunkJoinOptIds, InnerJoinIds, LeftJoinIds, default_join_ids};
+pub use join_ids::{
+    ChunkJoinIds, ChunkJoinOptIds, InnerJoinIds, LeftJoinIds, default_join_ids, left_numbers,
+    right_numbers,
+};
 pub use keys::{JoinKey, KeyBytes, code_of, partition_of};
 pub use probing::{Probed, probe};
 pub use series_join::SeriesJoin;
 pub use tables::{Built, Tables, build_tables};
+pub use typed::joined_cells;

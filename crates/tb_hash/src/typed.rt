@@ -1,6 +1,6 @@
 //! The keys of a column, read as they are stored.
-ghost use Rattle.std.specs.Prelude.{◌≡◌, ◌++◌, IfOk, OnOk, map};
-ghost use Rattle.tb_value.specs.Datum.{binary, string};
+ghost use Rattle.std.specs.Prelude.{◌≡◌, ◌++◌, ℕ, IfOk, List, OnOk, map};
+ghost use Rattle.tb_value.specs.Datum.{Datum, binary, string};
 ghost use Rattle.tb_chunk.specs.Chunk.{or_null};
 ghost use Rattle.tb_hash.specs.CellValues.{binary_values, cell_values, text_values};
 
@@ -104,8 +104,8 @@ impl KeyCell for u64 {
     ghost equal = { same_number };
 }
 
-/// The keys of these chunks, in order.
-pub(crate) fn joined_cells<N: KeyCell>(
+/// The cells of these chunks, one chunk after another.
+pub fn joined_cells<N: Cell + Copy>(
     alloc: Global,
     chunks: &[Cells<N>],
 ) -> Result<Vec<Option<N>>, OutOfMemory>
@@ -118,6 +118,57 @@ pub(crate) fn joined_cells<N: KeyCell>(
     Ok(keys)
 }
 
+// A value that is stored as bytes.
+trait ByteCell {
+    ghost use Rattle.std.specs.Prelude.{◌≡◌, ℕ, List};
+
+    ghost bytes: { Self → List ℕ };
+
+    fn lent(&self) -> &[u8]
+        ensures { result.now ≡ bytes self.now };
+}
+
+impl ByteCell for PlSmallStr {
+    ghost bytes = { λ text. text };
+
+    fn lent(&self) -> &[u8] {
+        self.as_str().as_bytes()
+    }
+}
+
+impl ByteCell for Bytes {
+    ghost bytes = { λ bytes. bytes };
+
+    fn lent(&self) -> &[u8] {
+        self.as_slice()
+    }
+}
+
+fn lent_key<B: ByteCell>(cell: &Option<B>) -> Option<KeyBytes<'_>>
+    ensures { (shows : List ℕ → Datum) → or_null (λ k. shows k.bytes.now) result ≡ or_null (λ b. shows (B.bytes b)) cell.now }
+{
+    match cell {
+        Some(value) => Some(KeyBytes {
+            bytes: value.lent(),
+        }),
+        None => None,
+    }
+}
+
+// Puts the keys of these cells behind the others, however bytes are shown.
+fn push_keys<'a, B: ByteCell>(
+    keys: &mut Vec<Option<KeyBytes<'a>>>,
+    cells: &'a [Option<B>],
+) -> Result<(), OutOfMemory>
+    ensures { (shows : List ℕ → Datum) → OnOk result (map (or_null (λ k. shows k.bytes.now)) keys.new.items ≡ map (or_null (λ k. shows k.bytes.now)) keys.old.items ++ map (or_null (λ b. shows (B.bytes b))) cells.now) }
+{
+    keys.reserve(cells.len())?;
+    for cell in cells {
+        keys.push(lent_key(cell))?;
+    }
+    Ok(())
+}
+
 /// The texts of these chunks, in order.
 pub(crate) fn joined_texts(
     alloc: Global,
@@ -127,33 +178,9 @@ pub(crate) fn joined_texts(
 {
     let mut keys = Vec::new(alloc);
     for chunk in chunks {
-        push_texts(&mut keys, chunk.texts())?;
+        push_keys(&mut keys, chunk.texts())?;
     }
     Ok(keys)
-}
-
-fn push_texts<'a>(
-    keys: &mut Vec<Option<KeyBytes<'a>>>,
-    texts: &'a [Option<PlSmallStr>],
-) -> Result<(), OutOfMemory>
-    ensures { OnOk result (map (or_null (λ k. string k.bytes.now)) keys.new.items ≡ map (or_null (λ k. string k.bytes.now)) keys.old.items ++ map (or_null string) texts.now) }
-{
-    keys.reserve(texts.len())?;
-    for text in texts {
-        keys.push(lent_text(text))?;
-    }
-    Ok(())
-}
-
-fn lent_text(text: &Option<PlSmallStr>) -> Option<KeyBytes<'_>>
-    ensures { or_null (λ k. string k.bytes.now) result ≡ or_null string text.now }
-{
-    match text {
-        Some(text) => Some(KeyBytes {
-            bytes: text.as_str().as_bytes(),
-        }),
-        None => None,
-    }
 }
 
 /// The binary values of these chunks, in order.
@@ -165,31 +192,7 @@ pub(crate) fn joined_bytes(
 {
     let mut keys = Vec::new(alloc);
     for chunk in chunks {
-        push_bytes(&mut keys, &chunk.inner.cells)?;
+        push_keys(&mut keys, &chunk.inner.cells)?;
     }
     Ok(keys)
-}
-
-fn push_bytes<'a>(
-    keys: &mut Vec<Option<KeyBytes<'a>>>,
-    cells: &'a [Option<Bytes>],
-) -> Result<(), OutOfMemory>
-    ensures { OnOk result (map (or_null (λ k. binary k.bytes.now)) keys.new.items ≡ map (or_null (λ k. binary k.bytes.now)) keys.old.items ++ map (or_null binary) cells.now) }
-{
-    keys.reserve(cells.len())?;
-    for cell in cells {
-        keys.push(lent_bytes(cell))?;
-    }
-    Ok(())
-}
-
-fn lent_bytes(cell: &Option<Bytes>) -> Option<KeyBytes<'_>>
-    ensures { or_null (λ k. binary k.bytes.now) result ≡ or_null binary cell.now }
-{
-    match cell {
-        Some(bytes) => Some(KeyBytes {
-            bytes: bytes.as_slice(),
-        }),
-        None => None,
-    }
 }
