@@ -7,6 +7,7 @@ use Rattle.std.proofs.lemmas.List.Folds.{length-flat_map-take}
 use Rattle.std.proofs.lemmas.List.FromFn.{map-range_with_len_more, length-range_with_len, length-map-range_with_len, get_or-range_with_len, take-map-range_with_len}
 use Rattle.tb_value.specs.declared.index.JoinPair.{JoinPair}
 use Rattle.tb_value.specs.Pairs.{both}
+use Rattle.tb_value.proofs.RowNumbers.{range_more}
 use Rattle.tb_merge.specs.RowPairs.{row_pairs}
 
 -- ONE ROW
@@ -31,20 +32,6 @@ pub length-row_met : (keep : Bool) (i a n : ℕ) → 0 < n → length (row_pairs
 length-row_met keep i a n h = ap (λ (l : List JoinPair). length l) (row_met keep i a n h) ∙ length-map-range_with_len (both i) a n
 
 -- RANGES
-
-pub range_cut : (a m k : ℕ) → range_with_len a (m + k) ≡ range_with_len a m ++ range_with_len (a + m) k
-range_cut a zero k =
-    let e : a ≡ a + 0 = omega arith in
-    let s : 0 + k ≡ k = omega arith in
-    ap (range_with_len a) s ∙ ap (λ (b : ℕ). range_with_len b k) e
-range_cut a (suc m) k =
-    let e : (a + 1) + m ≡ a + suc m = omega arith in
-    let s : suc m + k ≡ suc (m + k) = omega arith in
-    ap (range_with_len a) s ∙ ap (λ (l : List ℕ). a ∷ l) (range_cut (a + 1) m k)
-    ∙ ap (λ (b : ℕ). a ∷ (range_with_len (a + 1) m ++ range_with_len b k)) e
-
-pub range_more : (a n : ℕ) → range_with_len a (n + 1) ≡ range_with_len a n ++ (a + n) ∷ []
-range_more a n = range_cut a n 1
 
 take_range : (a n k : ℕ) → k ≤ n → take k (range_with_len a n) ≡ range_with_len a k
 take_range a n k le =

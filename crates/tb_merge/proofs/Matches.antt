@@ -9,10 +9,10 @@ use Rattle.std.proofs.lemmas.List.Elements.{filter-append}
 use Rattle.tb_value.specs.Pairs.{row_numbers, both, matched}
 use Rattle.tb_value.proofs.Loops.{flat_map_agree}
 use Rattle.tb_value.proofs.Probes.{left_pairs, each_left}
+use Rattle.tb_value.proofs.RowNumbers.{range_cut}
 use Rattle.tb_merge.specs.Keys.{key_at, keys_match}
 use Rattle.tb_merge.specs.Runs.{IsRun}
 use Rattle.tb_merge.specs.RowPairs.{row_pairs, rows_of, pairs_of}
-use Rattle.tb_merge.proofs.Listings.{range_cut}
 
 -- ROWS THAT ALL PASS, AND NONE
 

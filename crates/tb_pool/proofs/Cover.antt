@@ -6,15 +6,8 @@ use Rattle.std.proofs.lemmas.List.{append-nil}
 use Rattle.std.proofs.lemmas.List.FromFn.{map-range_with_len_more}
 use Rattle.std.proofs.lemmas.Grind.{flat_map-append}
 use Rattle.std.proofs.Math.Nat.{suc-mul, mul-div-le, zero-mul}
+use Rattle.tb_value.proofs.RowNumbers.{range_cut}
 use Rattle.tb_pool.specs.Portions.{portion_of, places_of}
-
--- a run of numbers, cut in two
-runs : (a m k : ℕ) → range_with_len a m ++ range_with_len (a + m) k ≡ range_with_len a (m + k)
-runs a zero k = let here : a + 0 ≡ a = omega arith in let all : 0 + k ≡ k = omega arith in ap (λ b. range_with_len b k) here ∙ sym (ap (range_with_len a) all)
-runs a (suc m) k =
-    let here : a + suc m ≡ (a + 1) + m = omega arith in
-    let all : suc m + k ≡ suc (m + k) = omega arith in
-    ap (λ (b : ℕ). a ∷ (range_with_len (a + 1) m ++ range_with_len b k)) here ∙ ap (λ (l : List ℕ). a ∷ l) (runs (a + 1) m k) ∙ sym (ap (range_with_len a) all)
 
 not_last : (k n x y : ℕ) → k + 1 < n → cond {A = ℕ} (k + 1 == n) x y ≡ y
 not_last k n x y h = grind (arith, nat_tests)
@@ -45,7 +38,7 @@ front len n (suc k) h =
     let offset : 0 + k * each ≡ k * each = omega arith in
     one_more len n k
     ∙ (λ i. front len n k (omega arith) i ++ range_with_len (sym offset i) (size i))
-    ∙ runs 0 (k * each) each
+    ∙ sym (range_cut 0 (k * each) each)
     ∙ sym (ap (range_with_len 0) sum)
 
 pub cover : (len n : ℕ) → 1 ≤ n → flat_map places_of (map (portion_of len n) (range_with_len 0 n)) ≡ range_with_len 0 len
@@ -59,5 +52,5 @@ cover len (suc k) h =
     let all : k * each + (len - k * each) ≡ len = omega arith in
     one_more len (suc k) k
     ∙ (λ i. front len (suc k) k (omega arith) i ++ range_with_len (sym offset i) (size i))
-    ∙ runs 0 (k * each) (len - k * each)
+    ∙ sym (range_cut 0 (k * each) (len - k * each))
     ∙ ap (range_with_len 0) all
