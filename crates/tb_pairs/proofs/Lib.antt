@@ -1,0 +1,6 @@
+pub mod Keys
+pub mod Requested
+pub mod RowKeys
+pub mod Checked
+pub mod Unbroken
+pub mod InOrder

@@ -1,0 +1,11 @@
+-- Key columns of two sides.
+use Rattle.std.specs.Prelude.{◌≡◌, ◌<◌, List, All, IsTrue, length}
+use Rattle.tb_value.specs.SameKind.{is_key}
+use Rattle.tb_chunk.specs.Col.{Col}
+use Rattle.tb_rowkey.specs.Columns.{kinds}
+
+-- as many columns on each side, one at least, of equal key types
+pub record AreAlike (ls rs : List Col) : Type 0 where
+  pub some : 0 < length ls
+  pub types : kinds ls ≡ kinds rs
+  pub keys : All (λ (c : Col). IsTrue (is_key c.kind)) ls

@@ -1,0 +1,3 @@
+pub mod Directions
+pub mod Found
+pub mod KeyColumns

@@ -1,0 +1,10 @@
+//! The pairs of a join: by the hash table of one key on each side, by that of row keys where there are several, and
+//! field by field where a row is too long for a key.
+#![tactic(auto)]
+
+mod arranged;
+mod found;
+mod hashed;
+mod listed;
+
+pub use listed::listed_pairs;
