@@ -1,11 +1,13 @@
 -- Values in a list and in a struct, as lists.
 use Rattle.std.proofs.Common.{◌≡◌, ◌≤◌, ◌<◌, ◌+◌, ℕ, zero, suc, List, [], ◌∷◌, ◌++◌, length, map, get_or, drop, refl, ap, ◌∙◌, sym, subst, arith, add-one, append_assoc, append-nil}
+use Rattle.std.proofs.lemmas.List.{get_or-map, length-map}
 use Rattle.serde_json.specs.Data.{Data, item}
 use Rattle.serde_json.specs.View.{items_of}
 use Rattle.tb_value.specs.Datum as value
 use Rattle.tb_value.specs.Datum.{Datum, weight, weights}
 use Rattle.tb_value.specs.Kind.{Kind, Part, parts_of}
 use Rattle.tb_value.specs.Typed.{HasType, AreOf, AreEachOf}
+use Rattle.tb_value.proofs.Lengths.{AreEachOf-length}
 use Rattle.tb_json.specs.Text.{value_data, items_data, fields_data}
 
 pub items_data-map : (t : Kind) (vs : List Datum) → items_of (map (value_data t) vs) ≡ items_data t (value.items_of vs)
@@ -28,6 +30,32 @@ AreEachOf_at [] vs i p v h k e f all = absurd (omega arith)
 AreEachOf_at (q ∷ ps) [] i p v h k e f all = absurd (omega arith)
 AreEachOf_at (q ∷ ps) (w ∷ vs) zero p v h k e f all = let P : Kind → Type 0 = λ t. HasType t v in subst P (sym (ap (λ r. r.1) e)) (subst (HasType q.1) (sym f) all.0)
 AreEachOf_at (q ∷ ps) (w ∷ vs) (suc i) p v h k e f all = AreEachOf_at ps vs i p v (omega arith) (omega arith) e f all.1
+
+-- p and v stand at place i of the two lists
+pub record ArePlaced (ps : List Part) (vs : List Datum) (i : ℕ) (p : Part) (v : Datum) : Type 0 where
+  pub among : i < length ps
+  pub within : i < length vs
+  pub of : p ≡ get_or ps i p
+  pub at : v ≡ get_or vs i v
+
+-- a field and a value that stand at one place, where the fields and the values are seen so
+module _ {F V : Type 0} (f : F → Part) (g : V → Datum) (fields : List F) (values : List V) where
+  pub as_many : (ps : List Part) (vs : List Datum) → map f fields ≡ ps → map g values ≡ vs → AreEachOf (parts_of ps) (value.items_of vs) → length fields ≡ length values
+  as_many ps vs is_ps is_vs all =
+      let a = AreEachOf-length ps vs all in
+      let b : length fields ≡ length ps = sym (length-map fields f) ∙ ap length is_ps in
+      let d : length values ≡ length vs = sym (length-map values g) ∙ ap length is_vs in
+      omega (arith, a, b, d)
+
+  pub placed : (i : ℕ) (x : F) (y : V) → length fields ≡ length values → i < length values → x ≡ get_or fields i x → y ≡ get_or values i y → ArePlaced (map f fields) (map g values) i (f x) (g y)
+  placed i x y same low is_x is_y =
+      let among : i < length fields = omega arith in
+      record {
+        among = rw length-map among;
+        within = rw length-map low;
+        of = sym (get_or-map f fields i x (f x) among ∙ ap f (sym is_x));
+        at = sym (get_or-map g values i y (g y) low ∙ ap g (sym is_y));
+      }
 
 -- one value of each field
 abbrev pub row_data : List Part → List Datum → List Data

@@ -10,7 +10,7 @@ use Rattle.tb_value.specs.Datum.{Datum}
 use Rattle.tb_value.specs.Kind as kind
 use Rattle.tb_value.specs.Kind.{Kind, Parts}
 use Rattle.tb_value.specs.Typed.{HasType, AreOf, AreEachOf}
-use Rattle.tb_frame.specs.Table.{TableColumn, Table, IsTyped}
+use Rattle.tb_frame.specs.Table.{Table, IsTyped}
 use Rattle.tb_json.specs.Text.{zone_data, kind_data, parts_data, inner_kind, fields_in, number_data, value_data, items_data, fields_data, column_data, table_data}
 use Rattle.tb_json.specs.Writable.{IsWritable}
 use Rattle.tb_json.proofs.Narrow.{IsNarrow, narrow}

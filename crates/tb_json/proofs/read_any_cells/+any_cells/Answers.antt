@@ -1,4 +1,4 @@
-use Rattle.std.proofs.Common.{◌<◌, length, get_or, map, option_map, ◌∙◌, sym, ap, subst, arith}
+use Rattle.std.proofs.Common.{◌<◌, length, map, option_map, ◌∙◌, sym, ap, subst, arith}
 use Rattle.std.proofs.lemmas.List.{map_push, get_or-map, length-map, take_all}
 use Rattle.std.proofs.lemmas.List.Elements.{All-push}
 use Rattle.serde_json.specs.View.{view, items_view}
@@ -9,7 +9,7 @@ use Rattle.tb_value.specs.SeeKind.{kind_of, part}
 use Rattle.tb_value.specs.Typed.{HasType, AreEachOf}
 use Rattle.tb_json.specs.Cells.{cell_in, items_in, row_in}
 use Rattle.tb_json.proofs.LentValues.{Walk-more, Walk-fails, Walk-all}
-use Rattle.tb_json.proofs.ValueWalks.{items_in-each, AreOf-All, FieldsSoFar-start, FieldsSoFar-more, FieldsSoFar-fails, FieldsSoFar-all, row-uneven, TypedSoFar-start, TypedSoFar-more}
+use Rattle.tb_json.proofs.ValueWalks.{items_in-each, AreOf-All, FieldsSoFar-start, FieldsSoFar-more, FieldsSoFar-fails, FieldsSoFar-all, read_at, row-uneven, TypedSoFar-start, TypedSoFar-more}
 use Rattle.tb_json.proofs.read_any_cells.+any_cells.Goals as goal
 
 pub each_value-returns-in_default-clause-value : goal.each_value-returns-in_default-clause-value
@@ -55,15 +55,13 @@ row_of-loop-i-preserved t c =
     let i = c.loop-i.i in
     let f = c.index-members-i.result in
     let v = c.index-item.result.now in
-    let among : i < length items.items = omega (arith, items.ok.0) in
     let within : i < length members = omega (arith, items.ok.0) in
     let of = get_or-map part members i f (part f) within ∙ ap part (sym c.index-members-i.is) in
-    let at = get_or-map view items.items i v (view v) among ∙ ap view (sym c.index-item.ensures) in
-    let read = ap (λ p. cell_in p.1 (get_or (map view items.items) i (view v))) of ∙ ap (cell_in (kind_of f.dtype)) at ∙ sym c.in_ok-value.ensures.value ∙ ap (option_map datum) c.in-Some.is in
+    let read = read_at part view members items.items i f v within (omega (arith, items.ok.0)) c.index-members-i.is c.index-item.ensures ∙ sym c.in_ok-value.ensures.value ∙ ap (option_map datum) c.in-Some.is in
     let typed : HasType (kind_of f.dtype) (datum c.in-Some.value) = rw c.in-Some.is at c.in_ok-value.ensures.typed in
     let P : Part → Type 0 = λ p. HasType p.1 (datum c.in-Some.value) in
     rw (c.in_ok-push.ensures.items, map_push) (record {
-      read = FieldsSoFar-more (map part members) (map view items.items) _ i (part f) (view v) _ (rw length-map within) (rw length-map among) read c.loop-i.invariant.read;
+      read = FieldsSoFar-more (map part members) (map view items.items) _ i (part f) (view v) _ (rw length-map within) (rw length-map (omega (arith, items.ok.0))) read c.loop-i.invariant.read;
       typed = TypedSoFar-more (map part members) _ i (part f) _ (rw length-map within) (subst P (sym of) typed) c.loop-i.invariant.typed;
     })
 
@@ -71,15 +69,11 @@ pub row_of-returns-in_default-clause-value : goal.row_of-returns-in_default-clau
 row_of-returns-in_default-clause-value t c =
     let items = c.args.items.now in
     let members = c.as_slice-members.result.now in
-    let i = c.loop-i.i in
     let f = c.index-members-i.result in
     let v = c.index-item.result.now in
-    let among : i < length items.items = omega (arith, items.ok.0) in
-    let within : i < length members = omega (arith, items.ok.0) in
-    let of = get_or-map part members i f (part f) within ∙ ap part (sym c.index-members-i.is) in
-    let at = get_or-map view items.items i v (view v) among ∙ ap view (sym c.index-item.ensures) in
-    let read = ap (λ p. cell_in p.1 (get_or (map view items.items) i (view v))) of ∙ ap (cell_in (kind_of f.dtype)) at ∙ sym c.in_ok-value.ensures.value ∙ ap (option_map datum) c.in_default.is in
-    FieldsSoFar-fails (map part members) (map view items.items) _ i (part f) (view v) (rw length-map within) (rw length-map among) read c.loop-i.invariant.read
+    let within : c.loop-i.i < length members = omega (arith, items.ok.0) in
+    let read = read_at part view members items.items c.loop-i.i f v within (omega (arith, items.ok.0)) c.index-members-i.is c.index-item.ensures ∙ sym c.in_ok-value.ensures.value ∙ ap (option_map datum) c.in_default.is in
+    FieldsSoFar-fails (map part members) (map view items.items) _ c.loop-i.i (part f) (view v) (rw length-map within) (rw length-map (omega (arith, items.ok.0))) read c.loop-i.invariant.read
     ∙ ap (λ qs. row_in (parts_of qs) (items_view items.items)) c.as_slice-members.ensures
 
 pub row_of-returns-clause-value : goal.row_of-returns-clause-value
