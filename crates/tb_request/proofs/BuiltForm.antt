@@ -1,11 +1,10 @@
 -- A request that is read has the form that is built.
-use Rattle.std.proofs.Common.{◌≡◌, ◌==◌, List, length, Bool, true, false, ◌&&◌, not, Option, Some, None, refl, sym, ap, subst, true≢false}
-use Rattle.std.proofs.lemmas.Bool.{and_parts, eqb-true, not-true}
+use Rattle.std.proofs.Common.{◌≡◌, List, Bool, true, false, ◌&&◌, not, Option, Some, None, refl, sym, ap, subst, true≢false}
+use Rattle.std.proofs.lemmas.Bool.{and_parts, not-true}
 use Rattle.std.specs.Bool.{Decides}
 use Rattle.std.specs.Prelude.{is_none, Result, Ok, Err, ok_or, ⊤, MatchResult, IfOk}
 use Rattle.serde_json.specs.Data.{Data}
 use Rattle.tb_chunk.specs.Col.{Col}
-use Rattle.tb_frame.specs.declared.args.JoinArgs.{JoinArgs}
 use Rattle.tb_frame.specs.declared.args.JoinValidation.{JoinValidation}
 use Rattle.tb_frame.specs.declared.args.JoinValidation.TheVariants.{ManyToMany, ManyToOne, OneToMany, OneToOne}
 use Rattle.tb_frame.specs.Built.{is_built_order, is_built_coalesce, IsBuilt}
@@ -40,10 +39,8 @@ form_is_built w l r h =
     let a = w.args in
     let order = is_built_order a.how a.maintain_order in
     let coalescing = is_built_coalesce a.how a.coalesce in
-    let untraced = and_parts (is_built_args a && (length w.left_on == 1) && (length w.right_on == 1)) (not w.trace) h in
-    let right = and_parts (is_built_args a && (length w.left_on == 1)) (length w.right_on == 1) untraced.0 in
-    let left = and_parts (is_built_args a) (length w.left_on == 1) right.0 in
-    let slice = and_parts (order && coalescing && not (asks_a_side a.validation)) (is_none a.slice) left.0 in
+    let untraced = and_parts (is_built_args a) (not w.trace) h in
+    let slice = and_parts (order && coalescing && not (asks_a_side a.validation)) (is_none a.slice) untraced.0 in
     let validation = and_parts (order && coalescing) (not (asks_a_side a.validation)) slice.0 in
     let both = and_parts order coalescing validation.0 in (
       record {
@@ -51,21 +48,19 @@ form_is_built w l r h =
         coalescing = both.1;
         validation = many_to_many a.validation validation.1;
         slice = is_none-None a.slice slice.1;
-        one_left = eqb-true _ _ left.1;
-        one_right = eqb-true _ _ right.1;
       },
       not-true w.trace untraced.1,
     )
 
-every : (a b c d e f g : Bool) → a ≡ true → b ≡ true → c ≡ true → d ≡ true → e ≡ true → f ≡ true → g ≡ true → (a && b && c && d && e && f && g) ≡ true
-every a b c d e f g p q r s t u v = rw (p, q, r, s, t, u, v) refl
+every : (a b c d e : Bool) → a ≡ true → b ≡ true → c ≡ true → d ≡ true → e ≡ true → (a && b && c && d && e) ≡ true
+every a b c d e p q r s t = rw (p, q, r, s, t) refl
 
 built_form : (w : WrittenJoin) (l r : Table) → IsBuilt (by_names l r w.left_on w.right_on w.args) → w.trace ≡ false → is_built w ≡ true
 unfolding is_built
 built_form w l r b t =
     let a = w.args in
-    every (is_built_order a.how a.maintain_order) (is_built_coalesce a.how a.coalesce) (not (asks_a_side a.validation)) (is_none a.slice) (length w.left_on == 1) (length w.right_on == 1) (not w.trace)
-    b.order b.coalescing (ap (λ v. not (asks_a_side v)) b.validation) (ap is_none b.slice) (ap (λ n. n == 1) b.one_left) (ap (λ n. n == 1) b.one_right) (ap not t)
+    every (is_built_order a.how a.maintain_order) (is_built_coalesce a.how a.coalesce) (not (asks_a_side a.validation)) (is_none a.slice) (not w.trace)
+    b.order b.coalescing (ap (λ v. not (asks_a_side v)) b.validation) (ap is_none b.slice) (ap not t)
 
 pub is_built-Decides : (w : WrittenJoin) (l r : Table) → Decides (is_built w) (IsBuilt (by_names l r w.left_on w.right_on w.args) × (w.trace ≡ false))
 is_built-Decides w l r = (form_is_built w l r, λ h. built_form w l r h.0 h.1)

@@ -1,5 +1,5 @@
 -- A request to join, or the first reason why bytes are none.
-use Rattle.std.specs.Prelude.{◌≡◌, ◌==◌, ℕ, List, length, nat_le, Bool, true, false, ◌&&◌, not, if◌then◌else◌, Option, Some, None, is_none, Result, Ok, Err, ok_or, ⊤}
+use Rattle.std.specs.Prelude.{◌≡◌, ℕ, List, nat_le, Bool, true, false, ◌&&◌, not, if◌then◌else◌, Option, Some, None, is_none, Result, Ok, Err, ok_or, ⊤}
 use Rattle.std.specs.Str.{is_utf8}
 use Rattle.serde_json.specs.Data.{Data}
 use Rattle.serde_json.specs.Read.{read}
@@ -65,7 +65,7 @@ abbrev pub is_built_args : JoinArgs → Bool
 is_built_args a = is_built_order a.how a.maintain_order && is_built_coalesce a.how a.coalesce && not (asks_a_side a.validation) && is_none a.slice
 
 unfoldable pub is_built : WrittenJoin → Bool
-is_built w = is_built_args w.args && (length w.left_on == 1) && (length w.right_on == 1) && not w.trace
+is_built w = is_built_args w.args && not w.trace
 
 -- Each line speaks of the whole value, so the first that fails is the reason.
 unfoldable pub request_in : Data → Result JoinRequest Reason

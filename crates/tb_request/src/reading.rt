@@ -70,10 +70,7 @@ fn is_built_args(args: &JoinArgs) -> bool
 fn is_built(written: &WrittenJoin<'_>) -> bool
     ensures { result ≡ is_built (join_view written.now) }
 {
-    is_built_args(&written.args)
-        && written.left_on.len() == 1
-        && written.right_on.len() == 1
-        && !written.trace
+    is_built_args(&written.args) && !written.trace
 }
 
 fn owned(alloc: Global, texts: &Vec<&str>) -> Result<Vec<PlSmallStr>, OutOfMemory>
@@ -145,10 +142,9 @@ fn request_in(alloc: Global, value: &Value) -> Result<JoinRequest, RequestFault>
 /// 5. `Heights`: two columns of a table differ in length.
 /// 6. `Name`: two columns of a table have one name.
 /// 7. `Flag`: a column is not in the order that `sorted` claims.
-/// 8. `NotYet`: a list of keys has not exactly one name, the validation is not `"m:m"`, there is a
-///    slice, `trace` is true, `how` is `"full"` and `coalesce` is `"coalesce"`, or the order is not one
-///    that is built: any but `"none"` for `"right"` and `"full"`, and `"right"` or `"right_left"` for
-///    `"inner"` and `"left"`.
+/// 8. `NotYet`: the validation is not `"m:m"`, there is a slice, `trace` is true, `how` is `"full"` and
+///    `coalesce` is `"coalesce"`, or the order is not one that is built: any but `"none"` for `"right"`
+///    and `"full"`, and `"right"` or `"right_left"` for `"inner"` and `"left"`.
 pub fn request_of(alloc: Global, bytes: &[u8]) -> Result<JoinRequest, RequestFault>
     ensures reading { MatchResult result (λ q. request_of bytes.now ≡ Ok (request_view q))
         (λ e. FaultIs e (request_of bytes.now)) }
