@@ -4,3 +4,4 @@ pub mod RowKeys
 pub mod Checked
 pub mod Unbroken
 pub mod InOrder
+pub mod LeftJoins

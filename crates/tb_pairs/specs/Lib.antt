@@ -1,3 +1,4 @@
+pub mod AllColumns
 pub mod Directions
 pub mod Found
 pub mod KeyColumns

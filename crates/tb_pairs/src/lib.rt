@@ -6,5 +6,7 @@ mod arranged;
 mod found;
 mod hashed;
 mod listed;
+mod multiple;
 
 pub use listed::listed_pairs;
+pub use multiple::private_left_join_multiple_keys;
