@@ -1,16 +1,18 @@
 -- The keys that a loop over places has read from their columns.
-use Rattle.std.proofs.Common.{◌≡◌, ℕ, ◌<◌, Bool, ◌||◌, Bor, List, length, get_or, ap, sym, subst, ◌∙◌, arith}
+use Rattle.std.proofs.Common.{◌≡◌, ℕ, ◌<◌, Bool, ◌||◌, Bor, List, length, get_or, ap, sym, ◌∙◌, arith}
 use Rattle.std.specs.List.{All, list_all}
 use Rattle.std.proofs.lemmas.List.{get_or-map, get_or_default, length-map}
 use Rattle.tb_value.specs.Datum.{null, is_present}
 use Rattle.tb_value.specs.Pairs.{row_numbers}
 use Rattle.tb_value.specs.Same.{same}
 use Rattle.tb_chunk.specs.Col.{Col, values}
+use Rattle.tb_chunk.proofs.Lent.{low_lent, lent_is, lent_has}
 use Rattle.tb_frame.specs.Table.{TableColumn, plain, table_of}
-use Rattle.tb_frame.specs.Join.{Request, field, agrees, nulls}
+use Rattle.tb_value.specs.Same.{agrees}
+use Rattle.tb_frame.specs.Join.{Request, field, nulls}
 use Rattle.tb_frame.specs.Refusal.{kind_at}
 use Rattle.tb_frame.proofs.Fields.{field_at, kind_is}
-use Rattle.tb_keys.specs.Rows.{lent_columns}
+use Rattle.tb_chunk.specs.Lent.{lent_columns}
 
 -- whether two rows agree at a place, whether a row counts there, and whether two rows are the same there
 abbrev pub agrees_at : Request → ℕ → ℕ → ℕ → Bool
@@ -50,21 +52,11 @@ pub lent_many : (rs : List (Bor Col)) → length (table_of (lent_columns rs)) �
 lent_many rs = length-map (lent_columns rs) plain ∙ length-map rs (λ (r : Bor Col). r.now)
 
 module _ (rs : List (Bor Col)) (p : ℕ) (r : Bor Col) (low : p < length rs) (is : r ≡ get_or rs p r) where
-  low_lent : p < length (lent_columns rs)
-  low_lent = let long = length-map rs (λ (c : Bor Col). c.now) in omega (arith, long, low)
-
-  lent_is : r.now ≡ get_or (lent_columns rs) p r.now
-  lent_is = ap (λ (c : Bor Col). c.now) is ∙ sym (get_or-map (λ (c : Bor Col). c.now) rs p r r.now low)
-
-  -- what holds of each column holds of this one
-  pub lent_has : (P : Col → Type 0) → All P (lent_columns rs) → P r.now
-  lent_has P h = subst P (sym lent_is) (h p r.now low_lent)
-
   pub lent_field : (i : ℕ) → get_or (values r.now) i null ≡ field (table_of (lent_columns rs)) p i
-  lent_field i = column_field (lent_columns rs) p r.now low_lent lent_is i
+  lent_field i = column_field (lent_columns rs) p r.now (low_lent rs p r low is) (lent_is rs p r low is) i
 
   pub lent_kind : r.now.kind ≡ kind_at (table_of (lent_columns rs)) p
-  lent_kind = column_kind (lent_columns rs) p r.now low_lent lent_is
+  lent_kind = column_kind (lent_columns rs) p r.now (low_lent rs p r low is) (lent_is rs p r low is)
 
 -- the same of one that is read through a further borrow
 module _ (rs : List (Bor Col)) (p : ℕ) (d : Bor Col) (low : p < length rs) where

@@ -1,2 +1,3 @@
 pub mod KeyFields
+pub mod KeysNamed
 pub mod Refusing

@@ -10,7 +10,7 @@ use Rattle.tb_chunk.specs.Col.{Col}
 use Rattle.tb_frame.specs.Join.{Request, named}
 use Rattle.tb_frame.specs.Refusal.{join_refusal, key_causes, column_causes, row_causes}
 use Rattle.tb_frame.specs.Table.{TableColumn, Table, IsTable, height, table_of}
-use Rattle.tb_frame.proofs.Causes.{first_cause-append, first_cause-one, selected_hold}
+use Rattle.tb_frame.proofs.Causes.{first_cause-one, selected_hold}
 use Rattle.tb_frame.proofs.Taking.{all_plain}
 use Rattle.tb_keys.specs.Causes.{names_refusal, later_refusal}
 use Rattle.tb_keys.specs.Asked.{AreKeysOf}
@@ -24,15 +24,18 @@ key_rows cs ks names t is =
 
 -- THE CAUSES
 
+-- the causes of two lists are in two parts
+pub two_parts : (xs ys : List (Option PolarsError)) → first_cause (xs ++ ys) ≡ first_cause (first_cause xs ∷ first_cause ys ∷ [])
+two_parts [] ys = sym (first_cause-one (first_cause ys))
+two_parts (None ∷ xs) ys = two_parts xs ys
+two_parts (Some e ∷ xs) ys = refl
+
+-- where the first list has none, the second decides
+pub second_part : (xs ys : List (Option PolarsError)) → first_cause xs ≡ None → first_cause (xs ++ ys) ≡ first_cause ys
+second_part xs ys none = two_parts xs ys ∙ (λ t. first_cause (none t ∷ first_cause ys ∷ [])) ∙ first_cause-one (first_cause ys)
+
 pub two_causes : (q : Request) → join_refusal q ≡ first_cause (names_refusal q.left q.right q.left_on q.right_on ∷ later_refusal q ∷ [])
-two_causes q =
-    let names = names_refusal q.left q.right q.left_on q.right_on in
-    first_cause-append (key_causes q) (column_causes q ++ row_causes q)
-    ∙ rest names (column_causes q ++ row_causes q)
-  where
-    rest : (a : Option PolarsError) (os : List (Option PolarsError)) → first_cause (a ∷ os) ≡ first_cause (a ∷ first_cause os ∷ [])
-    rest None os = sym (first_cause-one (first_cause os))
-    rest (Some e) os = refl
+two_causes q = two_parts (key_causes q) (column_causes q ++ row_causes q)
 
 -- an error of the first part, one of the second, and none
 pub by_first : (j a b other : Option PolarsError) (e : PolarsError) → j ≡ first_cause (a ∷ b ∷ []) → other ≡ a → (e ≡ OutOfMemory) ⊎ (other ≡ Some e) → (e ≡ OutOfMemory) ⊎ (j ≡ Some e)

@@ -6,7 +6,8 @@ use Rattle.tb_chunk.specs.Col.{Col}
 use Rattle.tb_frame.specs.Join.{Request, lent_request, named}
 use Rattle.tb_frame.specs.Sides.{asking}
 use Rattle.tb_frame.specs.Table.{height, table_of}
-use Rattle.tb_keys.specs.Rows.{HasRows, lent_columns}
+use Rattle.tb_chunk.specs.Lent.{lent_columns}
+use Rattle.tb_keys.specs.Rows.{HasRows}
 use Rattle.tb_keys.specs.declared.request.LentRequest.{LentRequest}
 use Rattle.tb_keys.specs.declared.request.NamedRequest.{NamedRequest}
 

@@ -1,11 +1,6 @@
--- Columns that are lent, and columns that have rows.
-use Rattle.std.specs.Prelude.{◌≡◌, ◌<◌, ℕ, List, All, length, map}
-use Rattle.std.specs.Borrow.{Bor}
+-- Columns that have rows.
+use Rattle.std.specs.Prelude.{◌≡◌, ◌<◌, ℕ, List, All, length}
 use Rattle.tb_chunk.specs.Col.{Col, values}
-
--- the columns that are lent
-abbrev pub lent_columns : List (Bor Col) → List Col
-lent_columns rs = map (λ (r : Bor Col). r.now) rs
 
 -- the column has that row
 abbrev pub HasRow : ℕ → Col → Type 0

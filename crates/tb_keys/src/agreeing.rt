@@ -2,7 +2,8 @@
 ghost use Rattle.std.specs.Prelude.{◌≡◌, ◌<◌};
 ghost use Rattle.tb_value.specs.Datum.{is_null};
 ghost use Rattle.tb_value.specs.See.{lent};
-ghost use Rattle.tb_frame.specs.Join.{agrees, matches};
+ghost use Rattle.tb_value.specs.Same.{agrees};
+ghost use Rattle.tb_frame.specs.Join.{matches};
 ghost use Rattle.tb_frame.specs.Table.{table_of, height};
 ghost use Rattle.tb_keys.specs.Asked.{asked};
 

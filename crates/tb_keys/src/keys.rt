@@ -10,7 +10,7 @@ ghost use Rattle.tb_frame.specs.Join.{named};
 ghost use Rattle.tb_frame.specs.Refusal.{column_causes, key_kind, key_types};
 ghost use Rattle.tb_frame.specs.Table.{table_of};
 ghost use Rattle.tb_keys.specs.Asked.{asked};
-ghost use Rattle.tb_keys.specs.Rows.{lent_columns};
+ghost use Rattle.tb_chunk.specs.Lent.{lent_columns};
 
 use crate::names::check_answer_names;
 use crate::request::LentRequest;

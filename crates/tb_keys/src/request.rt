@@ -1,6 +1,7 @@
 //! Requests to join whose parts are lent.
 ghost use Rattle.tb_frame.specs.Table.{table_of, height};
-ghost use Rattle.tb_keys.specs.Rows.{HasRows, lent_columns};
+ghost use Rattle.tb_chunk.specs.Lent.{lent_columns};
+ghost use Rattle.tb_keys.specs.Rows.{HasRows};
 
 use crate::keys::keys_of;
 use crate::names::check_names;
@@ -62,7 +63,7 @@ impl<'a> NamedRequest<'a> {
     ghost use Rattle.tb_frame.specs.Table.{table_of};
     ghost use Rattle.tb_keys.specs.Asked.{AreKeysOf, IsByNames, asked, asked_by_names};
     ghost use Rattle.tb_keys.specs.Causes.{names_refusal};
-    ghost use Rattle.tb_keys.specs.Rows.{lent_columns};
+    ghost use Rattle.tb_chunk.specs.Lent.{lent_columns};
 
     /// The columns that the names of the keys name. Refuses, in this order, a key that is no column of its table
     /// (ColumnNotFound), a side without keys (NoKeys), different numbers of keys (KeyCounts), and a repeated key

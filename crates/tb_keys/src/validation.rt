@@ -10,7 +10,8 @@ ghost use Rattle.tb_value.specs.declared.error.PolarsError.TheVariants.{ComputeE
 ghost use Rattle.tb_frame.specs.Refusal.{are_twins, broken_left, broken_right, has_twins, is_counted, is_validated, same_keys};
 ghost use Rattle.tb_frame.specs.Table.{table_of};
 ghost use Rattle.tb_keys.specs.Asked.{asked};
-ghost use Rattle.tb_keys.specs.Rows.{HasRow, HasRows, lent_columns};
+ghost use Rattle.tb_chunk.specs.Lent.{lent_columns};
+ghost use Rattle.tb_keys.specs.Rows.{HasRow, HasRows};
 
 use crate::agreeing::is_null;
 use crate::request::LentRequest;

@@ -2,11 +2,11 @@
 use Rattle.std.proofs.Common.{◌≡◌, ℕ, ◌<◌, ◌≤◌, ◌++◌, Bool, true, false, cond, List, [], ◌∷◌, length, get_or, map, refl, ap, sym, ◌∙◌, subst, append-nil, arith, Option, Some, None}
 use Rattle.std.specs.Prelude.{All, slice_get, position, unwrap_or}
 use Rattle.std.specs.Option.{option_and_then}
-use Rattle.std.proofs.lemmas.List.Elements.{All-nil, All-weaker}
+use Rattle.std.proofs.lemmas.List.Elements.{All-weaker}
 use Rattle.std.proofs.lemmas.List.Quantifiers.{position-Some}
 use Rattle.std.proofs.lemmas.Option.{slice_get-get_or}
 use Rattle.tb_value.specs.Datum.{Datum}
-use Rattle.tb_value.specs.Names.{Name, same_name}
+use Rattle.tb_value.specs.Names.{same_name}
 use Rattle.tb_value.specs.declared.index.JoinPair.{JoinPair}
 use Rattle.tb_chunk.specs.Col.{Col, values}
 use Rattle.tb_chunk.specs.Merged.{merged}
@@ -20,17 +20,13 @@ use Rattle.tb_frame.specs.Table.{TableColumn, Table, plain, table_of, names_of}
 use Rattle.tb_frame.proofs.Filled.{columns-made as filled, values-side}
 use Rattle.tb_frame.proofs.JoinedNames.{left-kept, right-shown}
 use Rattle.tb_nested.specs.Merging.{left_column, merged_key}
-use Rattle.tb_nested.specs.Rows.{HasRows}
+use Rattle.tb_keys.specs.Rows.{HasRows}
 
 -- ROWS IN RANGE
 
 -- rows in range are rows of each column with so many
 pub in_columns : (n : ℕ) (rows : List (Option ℕ)) (cs : List Col) → All (IsRowOf n) rows → HasRows n cs → All (λ (c : Col). All (IsRowOf (length (values c))) rows) cs
 in_columns n rows cs h level = All-weaker (λ (c : Col). length (values c) ≡ n) (λ (c : Col). All (IsRowOf (length (values c))) rows) (λ c e. subst (λ (k : ℕ). All (IsRowOf k) rows) (sym e) h) cs level
-
-pub side_level : (b : Bool) (n : ℕ) (cs : List Col) → HasRows n cs → HasRows n (cond b cs [])
-side_level true n cs h = h
-side_level false n cs h = All-nil (λ (c : Col). length (values c) ≡ n)
 
 -- COLUMNS OVER PAIRS
 

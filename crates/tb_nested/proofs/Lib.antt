@@ -1,4 +1,2 @@
-pub mod KeyFields
-pub mod KeysNamed
+pub mod KeysMerged
 pub mod AnswerTables
-pub mod Refusing

@@ -1,5 +1,1 @@
-pub mod Rows
-pub mod Asked
-pub mod Causes
-pub mod Met
 pub mod Merging

@@ -5,7 +5,8 @@ use Rattle.tb_value.specs.Names.{Name, same_name}
 use Rattle.tb_chunk.specs.Col.{Col}
 use Rattle.tb_frame.specs.Frame.{coalesced, opt_taken}
 use Rattle.tb_frame.specs.Naming.{coalesces, merges_keys}
-use Rattle.tb_nested.specs.declared.request.LentRequest.{LentRequest}
+use Rattle.tb_chunk.specs.Lent.{lent_columns}
+use Rattle.tb_keys.specs.declared.request.LentRequest.{LentRequest}
 
 -- the right key at the place of the left key of this name
 abbrev pub key_beside : List Name → List Col → Name → Option Col
@@ -17,7 +18,7 @@ merged_key false left_on right_keys n = None
 
 -- the right key that a left column of this name is merged with
 abbrev pub key_merged : LentRequest → Name → Option Col
-key_merged r n = merged_key (merges_keys r.args.now.how (coalesces r.args.now)) r.left_on.now r.right_keys.now n
+key_merged r n = merged_key (merges_keys r.args.now.how (coalesces r.args.now)) r.left_on.now (lent_columns r.right_keys.now) n
 
 -- a left column with its rows, and with the values of a right key where it has none
 abbrev pub left_column : List (Option ℕ) → List (Option ℕ) → Option Col → Col → Col

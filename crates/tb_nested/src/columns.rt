@@ -7,21 +7,22 @@ ghost use Rattle.tb_chunk.specs.Col.{Col, values};
 ghost use Rattle.tb_chunk.specs.Rows.{IsRowOf};
 ghost use Rattle.tb_frame.specs.Answer.{IsListed, IsPairOf, fill};
 ghost use Rattle.tb_frame.specs.Frame.{without_names};
-ghost use Rattle.tb_frame.specs.Join.{IsAnswer, lent_request, listing, out};
+ghost use Rattle.tb_frame.specs.Join.{IsAnswer, listing, out};
 ghost use Rattle.tb_frame.specs.Naming.{coalesces, merges_keys};
 ghost use Rattle.tb_frame.specs.Refusal.{join_valid};
 ghost use Rattle.tb_frame.specs.RightColumns.{gone_left};
 ghost use Rattle.tb_frame.specs.Table.{table_of, height};
-ghost use Rattle.tb_nested.specs.Asked.{asked};
+ghost use Rattle.tb_keys.specs.Asked.{IsByNames, asked};
+ghost use Rattle.tb_chunk.specs.Lent.{lent_columns};
 ghost use Rattle.tb_nested.specs.Merging.{key_merged, left_column};
 
-use crate::request::LentRequest;
 use std::alloc::Global;
 use tb_frame::{
-    DataFrame, JoinArgs, JoinType, coalesce_columns, gone_left, gone_right, left_rows, push_right,
-    right_rows, right_side, suffix_of,
+    DataFrame, JoinArgs, JoinType, coalesce_columns, columns_beside, gone_left, left_rows,
+    right_rows,
 };
-use tb_store::Column;
+use tb_keys::LentRequest;
+use tb_store::{Column, Series};
 use tb_value::{JoinPair, MAX_ROWS, NullableIdxSize, OutOfMemory, PlSmallStr, PolarsResult};
 
 // The left columns that stand in the answer.
@@ -48,21 +49,21 @@ fn place_of(names: &[PlSmallStr], name: &PlSmallStr) -> Option<usize>
 }
 
 // The right key that a left column of this name is merged with: that of its place, in a coalesced Full join.
-fn merged_key<'a>(request: &LentRequest<'a>, name: &PlSmallStr) -> Option<&'a Column>
+fn merged_key<'a>(request: &LentRequest<'a>, name: &PlSmallStr) -> Option<&'a Series>
     ensures { option_copied result ≡ key_merged request.now name.now }
 {
     if !merges_keys(request.args) {
         return None;
     }
     let place = place_of(request.left_on, name)?;
-    request.right_keys.get(place)
+    request.right_keys.get(place).copied()
 }
 
 // A left column with its rows, and with the values of a right key where it has none.
 fn left_column(
     alloc: Global,
     column: &Column,
-    key: Option<&Column>,
+    key: Option<&Series>,
     left_rows: &[NullableIdxSize],
     right_rows: &[NullableIdxSize],
 ) -> Result<Column, OutOfMemory>
@@ -76,7 +77,10 @@ fn left_column(
     let column = column.take_opt(alloc, left_rows)?;
     match key {
         None => Ok(column),
-        Some(key) => coalesce_columns(alloc, &column, &key.take_opt(alloc, right_rows)?),
+        Some(key) => {
+            let key = key.take_opt(alloc, right_rows)?.into_column();
+            coalesce_columns(alloc, &column, &key)
+        }
     }
 }
 
@@ -88,7 +92,7 @@ fn left_columns(
     right_rows: &[NullableIdxSize],
 ) -> Result<Vec<Column>, OutOfMemory>
     requires left_rows { All (λ (c : Col). All (IsRowOf (length (values c))) left_rows.now) columns.now }
-    requires right_rows { All (λ (c : Col). All (IsRowOf (length (values c))) right_rows.now) request.now.right_keys.now }
+    requires right_rows { All (λ (c : Col). All (IsRowOf (length (values c))) right_rows.now) (lent_columns request.now.right_keys.now) }
     requires level { length left_rows.now ≡ length right_rows.now }
     requires few { length left_rows.now ≤ MAX_ROWS }
     requires types { All (λ (c : Col). ForSome (key_merged request.now c.name) (λ k. c.kind ≡ k.kind)) columns.now }
@@ -107,25 +111,26 @@ fn answer_columns(
     request: &LentRequest<'_>,
     pairs: &[JoinPair],
 ) -> Result<Vec<Column>, OutOfMemory>
-    requires named { asked request.now ≡ lent_request request.now.left.now request.now.right.now request.now.left_on.now request.now.right_on.now request.now.args.now }
+    requires named { IsByNames request.now }
     requires valid { join_valid (asked request.now) }
     requires pairs { All (IsPairOf (height (table_of request.now.left.now)) (height (table_of request.now.right.now))) pairs.now }
     requires few { length pairs.now ≤ MAX_ROWS }
     ensures { IfOk result (λ v. table_of v.items ≡ map (fill pairs.now) (out (asked request.now))) }
 {
+    let _columns = request.left.get_columns();
     let kept = kept_left(alloc, request)?;
     let left = left_rows(alloc, pairs)?;
     let right = right_rows(alloc, pairs)?;
     let mut columns = left_columns(alloc, request, kept.get_columns(), &left, &right)?;
-    push_right(
+    let mut beside = columns_beside(
         alloc,
-        &mut columns,
+        request.args,
         kept.get_columns(),
-        right_side(request.args.how, request.right.get_columns()),
-        gone_right(request.args, request.right_on),
-        suffix_of(request.args),
+        request.right.get_columns(),
+        request.right_on,
         &right,
     )?;
+    columns.append(&mut beside)?;
     Ok(columns)
 }
 
@@ -135,9 +140,9 @@ pub(crate) fn answer_table(
     request: &LentRequest<'_>,
     pairs: &[JoinPair],
 ) -> PolarsResult<DataFrame>
-    requires named { asked request.now ≡ lent_request request.now.left.now request.now.right.now request.now.left_on.now request.now.right_on.now request.now.args.now }
+    requires named { IsByNames request.now }
     requires valid { join_valid (asked request.now) }
-    requires listed { IsListed request.now.args.now.how request.now.args.now.maintain_order request.now.args.now.slice (listing (asked request.now)) pairs.now }
+    requires listed { IsListed request.now.how request.now.args.now.maintain_order request.now.args.now.slice (listing (asked request.now)) pairs.now }
     ensures settles { Settles result None }
     ensures answer { IfOk result (λ t. IsAnswer (asked request.now) (table_of t)) }
 {

@@ -2,13 +2,7 @@
 //! be compared.
 #![tactic(auto)]
 
-mod agreeing;
 mod columns;
-mod keys;
-mod listing;
-mod names;
 mod nested;
-mod request;
-mod validation;
 
 pub use nested::nested_join;

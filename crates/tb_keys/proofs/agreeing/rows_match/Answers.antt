@@ -1,6 +1,6 @@
 use Rattle.std.proofs.Common.{◌≡◌, length, arith, sym, ◌∙◌, ap}
 use Rattle.tb_value.proofs.RowNumbers.{all_more, all_stop}
-use Rattle.tb_frame.specs.Join.{agrees}
+use Rattle.tb_value.specs.Same.{agrees}
 use Rattle.tb_chunk.specs.Col.{Col, values}
 use Rattle.tb_frame.specs.Table.{table_of, height}
 use Rattle.tb_keys.specs.Asked.{asked}

@@ -4,7 +4,7 @@ use Rattle.tb_value.specs.Pairs.{row_numbers}
 use Rattle.tb_value.specs.SameKind.{is_key}
 use Rattle.tb_frame.specs.Refusal.{kind_at}
 use Rattle.tb_frame.specs.Table.{table_of}
-use Rattle.tb_keys.specs.Rows.{lent_columns}
+use Rattle.tb_chunk.specs.Lent.{lent_columns}
 use Rattle.tb_keys.proofs.keys.check_kinds.Given as goal
 
 -- the types at the places so far are key types

@@ -7,7 +7,7 @@ use Rattle.tb_value.specs.declared.error.Side.TheVariants as side
 use Rattle.tb_frame.specs.Refusal.{broken_right, has_twins, is_validated}
 use Rattle.tb_frame.specs.Table.{table_of}
 use Rattle.tb_keys.specs.Asked.{asked}
-use Rattle.tb_keys.specs.Rows.{lent_columns}
+use Rattle.tb_chunk.specs.Lent.{lent_columns}
 use Rattle.tb_keys.proofs.validation.check_right.Goals as goal
 
 pub returns : goal.returns

@@ -4,7 +4,7 @@ use Rattle.tb_value.specs.Pairs.{row_numbers}
 use Rattle.tb_value.proofs.RowNumbers.{any_more, any_stop}
 use Rattle.tb_frame.specs.Refusal.{are_twins}
 use Rattle.tb_frame.specs.Table.{TableColumn, table_of}
-use Rattle.tb_keys.specs.Rows.{lent_columns}
+use Rattle.tb_chunk.specs.Lent.{lent_columns}
 use Rattle.tb_keys.proofs.validation.has_twins.Goals as goal
 
 abbrev has_twin : Bool → List TableColumn → ℕ → ℕ → Bool

@@ -3,7 +3,7 @@ use Rattle.std.specs.List.{list_any}
 use Rattle.tb_value.specs.Pairs.{row_numbers}
 use Rattle.tb_frame.specs.Refusal.{are_twins}
 use Rattle.tb_frame.specs.Table.{table_of}
-use Rattle.tb_keys.specs.Rows.{lent_columns}
+use Rattle.tb_chunk.specs.Lent.{lent_columns}
 use Rattle.tb_keys.proofs.validation.has_twins.Given as goal
 
 abbrev pub invariant-loop-i : goal.invariant-loop-i

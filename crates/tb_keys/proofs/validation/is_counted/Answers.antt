@@ -3,8 +3,10 @@ use Rattle.std.specs.Prelude.{◌||◌}
 use Rattle.tb_value.specs.Datum.{Datum, is_present}
 use Rattle.tb_value.proofs.RowNumbers.{all_more, all_stop}
 use Rattle.tb_frame.specs.Table.{table_of}
-use Rattle.tb_keys.specs.Rows.{HasRow, lent_columns}
-use Rattle.tb_keys.proofs.KeyFields.{lent_field, lent_has, lent_many, counts_at, counted_to}
+use Rattle.tb_chunk.proofs.Lent.{lent_has}
+use Rattle.tb_chunk.specs.Lent.{lent_columns}
+use Rattle.tb_keys.specs.Rows.{HasRow}
+use Rattle.tb_keys.proofs.KeyFields.{lent_field, lent_many, counts_at, counted_to}
 use Rattle.tb_keys.proofs.validation.is_counted.Goals as goal
 use Rattle.tb_keys.proofs.validation.is_counted.Goals.{After-counts}
 

@@ -2,8 +2,10 @@ use Rattle.std.proofs.Common.{◌≡◌, length, arith, sym, ◌∙◌, ap}
 use Rattle.tb_value.specs.Same.{same}
 use Rattle.tb_value.proofs.RowNumbers.{all_more, all_stop}
 use Rattle.tb_frame.specs.Table.{table_of}
-use Rattle.tb_keys.specs.Rows.{HasRow, lent_columns}
-use Rattle.tb_keys.proofs.KeyFields.{lent_field, lent_has, lent_many, same_at, same_to}
+use Rattle.tb_chunk.proofs.Lent.{lent_has}
+use Rattle.tb_chunk.specs.Lent.{lent_columns}
+use Rattle.tb_keys.specs.Rows.{HasRow}
+use Rattle.tb_keys.proofs.KeyFields.{lent_field, lent_many, same_at, same_to}
 use Rattle.tb_keys.proofs.validation.same_keys.Goals as goal
 use Rattle.tb_keys.proofs.validation.same_keys.Goals.{After-same_value}
 

@@ -1,29 +1,32 @@
-use Rattle.std.proofs.Common.{◌≡◌, ◌++◌, ℕ, Bool, List, Option, None, length, map, ap, sym, ◌∙◌, subst, arith}
-use Rattle.std.specs.Prelude.{All, not, unwrap_or}
+use Rattle.std.proofs.Common.{◌≡◌, refl, ◌++◌, ℕ, Bool, List, Option, None, length, map, ap, sym, ◌∙◌, subst, arith}
+use Rattle.std.specs.Prelude.{All, not}
 use Rattle.std.specs.List.{find}
 use Rattle.std.specs.Option.{ForSome}
 use Rattle.std.proofs.lemmas.List.Elements.{All-filter, All-weaker}
-use Rattle.tb_frame.specs.Answer.{IsPairOf}
+use Rattle.tb_frame.specs.Answer.{IsPairOf, fill}
 use Rattle.tb_value.specs.Names.{Name}
 use Rattle.tb_value.specs.SameKind.{same_kind}
 use Rattle.tb_value.specs.declared.error.ComputeCause.TheVariants.{KeyTypes}
 use Rattle.tb_value.specs.declared.error.PolarsError.TheVariants.{ComputeError}
 use Rattle.tb_value.specs.declared.index.JoinPair.{JoinPair}
 use Rattle.tb_chunk.specs.Col.{Col, values}
+use Rattle.tb_chunk.specs.Lent.{lent_columns}
 use Rattle.tb_chunk.specs.Rows.{IsRowOf}
-use Rattle.tb_frame.specs.Join.{Request, places}
-use Rattle.tb_frame.specs.Naming.{coalesces, default_suffix, has_right, is_among, merges_keys}
-use Rattle.tb_frame.specs.Refusal.{key_types, kind_at}
-use Rattle.tb_frame.specs.RightColumns.{gone_left, gone_right, right_columns, right_side}
-use Rattle.tb_frame.specs.Table.{TableColumn, table_of, height, names_of}
+use Rattle.tb_frame.specs.Join.{Request, lent_request, out, places}
+use Rattle.tb_frame.specs.Naming.{coalesces, is_among, merges_keys}
+use Rattle.tb_frame.specs.Refusal.{join_valid, key_types, kind_at}
+use Rattle.tb_frame.specs.RightColumns.{columns_beside, gone_left}
+use Rattle.tb_frame.specs.Table.{table_of, height, names_of}
 use Rattle.tb_frame.proofs.Causes.{map_none}
 use Rattle.tb_frame.proofs.Validity.{known_left, known_right, same_counts, same_types}
-use Rattle.tb_nested.specs.Asked.{asked}
-use Rattle.tb_nested.specs.Merging.{key_merged, left_column}
-use Rattle.tb_nested.specs.Rows.{HasRows}
 use Rattle.tb_frame.proofs.Filled.{left_within, right_within}
-use Rattle.tb_nested.proofs.AnswerTables.{columns-made, in_columns, side_level}
-use Rattle.tb_nested.proofs.KeysNamed.{keys_many, keys_own, merged_kinds}
+use Rattle.tb_frame.proofs.Taking.{of_each_length}
+use Rattle.tb_keys.specs.Asked.{asked}
+use Rattle.tb_keys.specs.Rows.{HasRows}
+use Rattle.tb_keys.proofs.KeysNamed.{keys_many, keys_own}
+use Rattle.tb_nested.specs.Merging.{key_merged, left_column}
+use Rattle.tb_nested.proofs.AnswerTables.{columns-made, in_columns}
+use Rattle.tb_nested.proofs.KeysMerged.{merged_kinds}
 use Rattle.tb_nested.proofs.columns.answer_columns.Goals as goal
 
 right_rows : (l r : ℕ) (ps : List JoinPair) → All (IsPairOf l r) ps → All (IsRowOf r) (map (λ (p : JoinPair). p.right) ps)
@@ -40,57 +43,54 @@ pub left_columns-requires-clause-left_rows : goal.left_columns-requires-clause-l
 left_columns-requires-clause-left_rows c =
     let r = c.args.request.now in
     let h = height (table_of r.left.now) in
-    let gone = gone_left r.args.now r.left_on.now in
-    let level : HasRows h r.left.now = r.left_level in
-    let kept : HasRows h c.get_columns.result.now = subst (λ (cs : List Col). HasRows h cs) (sym (c.get_columns.ensures.columns ∙ c.in_ok-kept.ensures)) (All-filter (stays gone) (λ (k : Col). length (values k) ≡ h) r.left.now level) in
+    let level : HasRows h r.left.now = of_each_length (λ n. n ≡ h) r.left.now c.get_columns-columns.ensures.table refl in
+    let kept : HasRows h c.get_columns.result.now = subst (λ (cs : List Col). HasRows h cs) (sym (c.get_columns.ensures.columns ∙ c.in_ok-kept.ensures)) (All-filter (stays (gone_left r.args.now r.left_on.now)) (λ (k : Col). length (values k) ≡ h) r.left.now level) in
     in_columns h c.deref.result.now c.get_columns.result.now (subst (λ (rows : List (Option ℕ)). All (IsRowOf h) rows) (sym (c.deref.ensures.value ∙ c.in_ok-left.ensures)) (left_within h (height (table_of r.right.now)) c.args.pairs.now c.requires.pairs)) kept
 
 pub left_columns-requires-clause-right_rows : goal.left_columns-requires-clause-right_rows
 left_columns-requires-clause-right_rows c =
     let r = c.args.request.now in
     let h = height (table_of r.right.now) in
-    in_columns h c.deref-2.result.now r.right_keys.now (subst (λ (rows : List (Option ℕ)). All (IsRowOf h) rows) (sym (c.deref-2.ensures.value ∙ c.in_ok-right.ensures)) (right_rows (height (table_of r.left.now)) h c.args.pairs.now c.requires.pairs)) r.right_rows
+    in_columns h c.deref-2.result.now (lent_columns r.right_keys.now) (subst (λ (rows : List (Option ℕ)). All (IsRowOf h) rows) (sym (c.deref-2.ensures.value ∙ c.in_ok-right.ensures)) (right_rows (height (table_of r.left.now)) h c.args.pairs.now c.requires.pairs)) r.right_rows
 
 pub left_columns-requires-clause-types : goal.left_columns-requires-clause-types
 left_columns-requires-clause-types c =
     let r = c.args.request.now in
     let q = asked r in
-    let gone = gone_left r.args.now r.left_on.now in
     let P : Col → Type 0 = λ k. ForSome (key_merged r k.name) (λ x. k.kind ≡ x.kind) in
     let is = ap (λ (q : Request). q.left_keys) c.requires.named in
-    let all = merged_kinds r.left.now r.left_keys.now r.right_keys.now r.left_on.now r.left_distinct is (known_left q c.requires.valid) (not_mixed q (same_types q c.requires.valid)) (merges_keys r.args.now.how (coalesces r.args.now)) in
-    subst (λ (cs : List Col). All P cs) (sym (c.get_columns.ensures.columns ∙ c.in_ok-kept.ensures)) (All-filter (stays gone) P r.left.now all)
+    let all = merged_kinds r.left.now (lent_columns r.left_keys.now) (lent_columns r.right_keys.now) r.left_on.now c.get_columns-columns.ensures.table.distinct is (known_left q c.requires.valid) (not_mixed q (same_types q c.requires.valid)) (merges_keys r.args.now.how (coalesces r.args.now)) in
+    subst (λ (cs : List Col). All P cs) (sym (c.get_columns.ensures.columns ∙ c.in_ok-kept.ensures)) (All-filter (stays (gone_left r.args.now r.left_on.now)) P r.left.now all)
 
-pub push_right-requires-clause-rows : goal.push_right-requires-clause-rows
-push_right-requires-clause-rows c =
+pub columns_beside-requires-clause-rows : goal.columns_beside-requires-clause-rows
+columns_beside-requires-clause-rows c =
     let r = c.args.request.now in
     let h = height (table_of r.right.now) in
-    let level : HasRows h r.right.now = r.right_level in
-    let side : HasRows h c.right_side.result.now =
-    subst (λ (cs : List Col). HasRows h cs) (sym (c.right_side.ensures ∙ ap (right_side r.args.now.how) c.get_columns-3.ensures.columns)) (side_level (has_right r.args.now.how) h r.right.now level)
-    in
-    in_columns h c.deref-3.result.now c.right_side.result.now (subst (λ (rows : List (Option ℕ)). All (IsRowOf h) rows) (sym (c.deref-3.ensures.value ∙ c.in_ok-right.ensures)) (right_rows (height (table_of r.left.now)) h c.args.pairs.now c.requires.pairs)) side
+    let level : HasRows h r.right.now = of_each_length (λ n. n ≡ h) r.right.now c.get_columns-3.ensures.table refl in
+    in_columns h c.deref-3.result.now c.get_columns-3.result.now (subst (λ (rows : List (Option ℕ)). All (IsRowOf h) rows) (sym (c.deref-3.ensures.value ∙ c.in_ok-right.ensures)) (right_rows (height (table_of r.left.now)) h c.args.pairs.now c.requires.pairs))
+    (subst (λ (cs : List Col). HasRows h cs) (sym c.get_columns-3.ensures.columns) level)
 
 pub returns : goal.returns
 returns c =
     let r = c.args.request.now in
-    let q = asked r in
-    let how = r.args.now.how in
+    let a = r.args.now in
+    let q : Request = lent_request r.left.now r.right.now r.left_on.now r.right_on.now a in
+    let valid : join_valid q = subst join_valid c.requires.named c.requires.valid in
     let ps = c.args.pairs.now in
     let ls : List (Option ℕ) = map (λ (p : JoinPair). p.left) ps in
     let rs : List (Option ℕ) = map (λ (p : JoinPair). p.right) ps in
-    let suffix : Name = unwrap_or r.args.now.suffix default_suffix in
-    let gone = gone_right r.args.now r.right_on.now in
+    let keys : List Col = lent_columns r.right_keys.now in
     let kept = c.in_ok-kept.kept in
     let made : List (Option ℕ) → List (Option ℕ) → Col → Col = λ xs ys k. left_column xs ys (key_merged r k.name) k in
     let left : c.in_ok-columns.columns.items ≡ map (made ls rs) kept =
     c.in_ok-columns.ensures ∙ (λ t. map (made ((c.deref.ensures.value ∙ c.in_ok-left.ensures) t) ((c.deref-2.ensures.value ∙ c.in_ok-right.ensures) t)) (c.get_columns.ensures.columns t))
     in
-    let all : c.push_right.new.columns.items ≡ map (made ls rs) kept ++ right_columns (names_of (table_of kept)) suffix gone rs (right_side how r.right.now) =
-    c.in_ok-push_right.ensures
-    ∙ (λ t. left t ++ right_columns (names_of (table_of (c.get_columns-2.ensures.columns t))) (c.suffix_of.ensures t) (c.gone_right.ensures t) ((c.deref-3.ensures.value ∙ c.in_ok-right.ensures) t) ((c.right_side.ensures ∙ ap (right_side how) c.get_columns-3.ensures.columns) t))
+    let beside : c.in_ok-beside.beside.items ≡ columns_beside a r.right_on.now rs (names_of (table_of kept)) r.right.now =
+    c.in_ok-beside.ensures ∙ (λ t. columns_beside a r.right_on.now ((c.deref-3.ensures.value ∙ c.in_ok-right.ensures) t) (names_of (table_of (c.get_columns-2.ensures.columns t))) (c.get_columns-3.ensures.columns t))
     in
-    let is_r = ap (λ (q : Request). q.right_keys) c.requires.named in
-    let many = keys_many r.right.now r.right_keys.now r.right_on.now is_r (known_right q c.requires.valid) in
-    let counts = same_counts q c.requires.valid in
-    ap table_of all ∙ columns-made q r.right_keys.now (keys_own r.right.now r.right_keys.now r.right_on.now is_r (known_right q c.requires.valid)) (omega (arith, many, counts)) ps r.left.now r.right.now kept (λ _. table_of r.left.now) (λ _. table_of r.right.now) c.in_ok-kept.ensures
+    let is_r = ap (λ (x : Request). x.right_keys) c.requires.named in
+    let many = keys_many r.right.now keys r.right_on.now is_r (known_right q valid) in
+    let counts = same_counts q valid in
+    ap table_of (c.in_ok-append.ensures.items ∙ (λ t. left t ++ beside t))
+    ∙ columns-made q keys (keys_own r.right.now keys r.right_on.now is_r (known_right q valid)) (omega (arith, many, counts)) ps r.left.now r.right.now kept (λ _. table_of r.left.now) (λ _. table_of r.right.now) c.in_ok-kept.ensures
+    ∙ ap (λ (x : Request). map (fill ps) (out x)) (sym c.requires.named)

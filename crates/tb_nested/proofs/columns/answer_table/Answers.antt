@@ -3,7 +3,7 @@ use Rattle.tb_value.specs.Refusals.{Settles}
 use Rattle.tb_value.specs.declared.error.PolarsError.{PolarsError}
 use Rattle.tb_frame.specs.Table.{table_of}
 use Rattle.tb_frame.proofs.Assembled.{few_listed, makes_frame, pairs_in_range, table_answers}
-use Rattle.tb_nested.specs.Asked.{asked}
+use Rattle.tb_keys.specs.Asked.{asked}
 use Rattle.tb_nested.proofs.columns.answer_table.Goals as goal
 
 pub answer_columns-requires-clause-pairs : goal.answer_columns-requires-clause-pairs

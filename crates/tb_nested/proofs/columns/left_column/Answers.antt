@@ -7,4 +7,4 @@ pub coalesce_columns-requires-clause-one_type : goal.coalesce_columns-requires-c
 coalesce_columns-requires-clause-one_type c =
     ap (λ (k : Col). k.kind) c.in_ok-column.ensures
     ∙ c.requires.one_type _ (ap option_copied c.in-Some.is)
-    ∙ sym (ap (λ (k : Col). k.kind) c.in_ok-take_opt-in-Some.ensures)
+    ∙ sym (ap (λ (k : Col). k.kind) (c.into_column-key.ensures ∙ c.in_ok-take_opt-in-Some.ensures))

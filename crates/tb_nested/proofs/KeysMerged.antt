@@ -1,27 +1,24 @@
--- Keys that are columns of their tables, and the types that they are merged by.
+-- The types that keys are merged by.
 use Rattle.std.proofs.Common.{◌≡◌, ◌⊎◌, inl, inr, ℕ, ◌<◌, Bool, true, false, List, [], length, get_or, min, ap, sym, ◌∙◌, subst, arith, refl, Option, Some, None}
 use Rattle.std.specs.Prelude.{All, AllPairs, ◌≢◌, not, slice_get, position}
 use Rattle.std.specs.List.{find, filter_map}
 use Rattle.std.specs.Option.{ForSome, option_and_then}
-use Rattle.std.proofs.lemmas.Bool.{cases_order, not-false}
+use Rattle.std.proofs.lemmas.Bool.{cases_order}
 use Rattle.std.proofs.lemmas.List.{get_or-map, get_or_default, length-map}
-use Rattle.std.proofs.lemmas.List.FromFn.{length-range_with_len, get_or-range_with_len}
 use Rattle.std.proofs.lemmas.List.Quantifiers.{position-Some}
 use Rattle.std.proofs.lemmas.Option.{get_or_from_slice_get, slice_get_within}
 use Rattle.std.proofs.lemmas.Slice.Eq.{bytes_eq-Decides}
 use Rattle.tb_value.specs.Names.{Name, same_name}
 use Rattle.tb_value.specs.Pairs.{row_numbers}
 use Rattle.tb_value.specs.SameKind.{same_kind}
-use Rattle.tb_value.specs.Proved.TypeTests.{same_kind-Decides}
 use Rattle.tb_chunk.specs.Col.{Col}
 use Rattle.tb_frame.specs.Join.{named}
-use Rattle.tb_frame.specs.Naming.{is_among}
 use Rattle.tb_frame.specs.Refusal.{first_unknown, kind_at}
-use Rattle.tb_frame.specs.Table.{TableColumn, Table, IsTable, plain, table_of, names_of}
-use Rattle.tb_frame.proofs.Causes.{find_none, selected_hold}
-use Rattle.tb_frame.proofs.Selected.{named-key, names-selected, selected-table}
+use Rattle.tb_frame.specs.Table.{TableColumn, Table, plain, table_of, names_of}
+use Rattle.tb_frame.proofs.Causes.{selected_hold}
 use Rattle.tb_nested.specs.Merging.{merged_key}
-use Rattle.tb_nested.proofs.KeyFields.{place_kind}
+use Rattle.tb_keys.proofs.KeyFields.{column_kind}
+use Rattle.tb_keys.proofs.KeysNamed.{keys_many, keys_named, kinds_at}
 
 -- columns of distinct names that have one name have one type
 one_kind : (t : Table) (i j : ℕ) (d e : TableColumn) → AllPairs (λ (a b : Name). a ≢ b) (names_of t) → i < length t → j < length t → (get_or t i d).name ≡ (get_or t j e).name → (get_or t i d).kind ≡ (get_or t j e).kind
@@ -44,30 +41,6 @@ HasOwnKind t k = All (λ (c : TableColumn). c.name ≡ k.name → c.kind ≡ k.k
 
 own_kinds : (t : Table) → AllPairs (λ (a b : Name). a ≢ b) (names_of t) → All (HasOwnKind t) t
 own_kinds t apart = λ j e high i d low same. one_kind t i j d e apart low high same
-
--- the keys have the names that they were selected by
-pub keys_named : (cs ks : List Col) (names : List Name) → table_of ks ≡ filter_map (named (table_of cs)) names → first_unknown (table_of cs) names ≡ None → names_of (table_of ks) ≡ names
-keys_named cs ks names is known = ap names_of (is ∙ sym (selected-table names cs)) ∙ names-selected names cs known
-
-pub keys_many : (cs ks : List Col) (names : List Name) → table_of ks ≡ filter_map (named (table_of cs)) names → first_unknown (table_of cs) names ≡ None → length ks ≡ length names
-keys_many cs ks names is known = sym (length-map ks plain) ∙ sym (length-map (table_of ks) (λ (c : TableColumn). c.name)) ∙ ap (λ (ns : List Name). length ns) (keys_named cs ks names is known)
-
--- and are the columns that the names name
-pub keys_own : (cs ks : List Col) (names : List Name) → table_of ks ≡ filter_map (named (table_of cs)) names → first_unknown (table_of cs) names ≡ None → (p : ℕ) (d : Col) → p < length ks → named (table_of cs) (get_or names p []) ≡ Some (plain (get_or ks p d))
-keys_own cs ks names is known p d low =
-    let many = keys_many cs ks names is known in
-    named-key (table_of cs) names (find_none (λ n. not (is_among (names_of (table_of cs)) n)) names known) p (plain d) (omega (arith, many, low))
-    ∙ ap (λ (t : Table). Some (get_or t p (plain d))) (sym is)
-    ∙ ap (λ (c : TableColumn). Some c) (get_or-map plain ks p d (plain d) low)
-
--- where no two types differ, those at a place agree
-kinds_at : (lk rk : Table) (n p : ℕ) → find (λ p. not (same_kind (kind_at lk p) (kind_at rk p))) (row_numbers n) ≡ None → p < n → kind_at lk p ≡ kind_at rk p
-kinds_at lk rk n p none low =
-    let test : ℕ → Bool = λ k. not (same_kind (kind_at lk k) (kind_at rk k)) in
-    let long : length (row_numbers n) ≡ n = length-range_with_len 0 n in
-    let fails = find_none test (row_numbers n) none p 0 (omega (arith, long)) in
-    let at : get_or (row_numbers n) p 0 ≡ p = get_or-range_with_len 0 n p 0 low ∙ omega arith in
-    (same_kind-Decides (kind_at lk p) (kind_at rk p)).0 (not-false (same_kind (kind_at lk p) (kind_at rk p)) (sym (ap test at) ∙ fails))
 
 module _ (left lk rk : List Col) (lo : List Name) (apart : AllPairs (λ (a b : Name). a ≢ b) (names_of (table_of left))) (is : table_of lk ≡ filter_map (named (table_of left)) lo) (known : first_unknown (table_of left) lo ≡ None)
     (none : find (λ p. not (same_kind (kind_at (table_of lk) p) (kind_at (table_of rk) p))) (row_numbers (min (length (table_of lk)) (length (table_of rk)))) ≡ None) where
@@ -93,7 +66,7 @@ module _ (left lk rk : List Col) (lo : List Name) (apart : AllPairs (λ (a b : N
       let kind : c.kind ≡ key.kind = ap (λ (x : TableColumn). x.kind) (sym plain_c) ∙ own i (plain d) (omega (arith, long_left)) (ap (λ (x : TableColumn). x.name) plain_c ∙ name) in
       kind ∙ sym (get_or-map (λ (x : TableColumn). x.kind) (table_of lk) p (plain d) _ in_lk)
       ∙ kinds_at (table_of lk) (table_of rk) _ p none (omega (arith, long, long_r, many, first.0))
-      ∙ sym (place_kind rk p k in_rk) ∙ ap (λ (x : Col). x.kind) (get_or_from_slice_get rk p k k at_p)
+      ∙ sym (column_kind rk p (get_or rk p k) in_rk (get_or_default rk p k (get_or rk p k) in_rk)) ∙ ap (λ (x : Col). x.kind) (get_or_from_slice_get rk p k k at_p)
 
   pub merged_kinds : (b : Bool) → All (λ (c : Col). ForSome (merged_key b lo rk c.name) (λ k. c.kind ≡ k.kind)) left
   merged_kinds false = λ i d low k e. absurd (cc)

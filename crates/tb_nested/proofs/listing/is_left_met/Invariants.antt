@@ -1,9 +1,0 @@
-use Rattle.std.proofs.Common.{◌≡◌, false}
-use Rattle.std.specs.List.{list_any}
-use Rattle.tb_value.specs.Pairs.{row_numbers}
-use Rattle.tb_frame.specs.Join.{matches}
-use Rattle.tb_nested.specs.Asked.{asked}
-use Rattle.tb_nested.proofs.listing.is_left_met.Given as goal
-
-abbrev pub invariant-loop-j : goal.invariant-loop-j
-invariant-loop-j l = list_any (matches (asked l.request) l.i) (row_numbers l.j) ≡ false

@@ -1,8 +1,0 @@
-use Rattle.std.proofs.Common.{◌≡◌, true}
-use Rattle.tb_frame.specs.Table.{table_of}
-use Rattle.tb_nested.proofs.KeyFields.{counted_to}
-use Rattle.tb_nested.proofs.validation.is_counted.Given as goal
-
--- the fields so far count
-abbrev pub invariant-loop-p : goal.invariant-loop-p
-invariant-loop-p l = counted_to l.null_matches (table_of l.keys) l.i l.p ≡ true

@@ -1,8 +1,0 @@
-use Rattle.std.proofs.Common.{◌≡◌, true}
-use Rattle.tb_frame.specs.Table.{table_of}
-use Rattle.tb_nested.proofs.KeyFields.{same_to}
-use Rattle.tb_nested.proofs.validation.same_keys.Given as goal
-
--- the fields so far are the same
-abbrev pub invariant-loop-p : goal.invariant-loop-p
-invariant-loop-p l = same_to (table_of l.keys) l.i l.j l.p ≡ true
