@@ -25,7 +25,8 @@ pub keys_many : (cs ks : List Col) (names : List Name) → table_of ks ≡ filte
 keys_many cs ks names is known = sym (length-map ks plain) ∙ sym (length-map (table_of ks) (λ (c : TableColumn). c.name)) ∙ ap (λ (ns : List Name). length ns) (keys_named cs ks names is known)
 
 -- and are the columns that the names name
-pub keys_own : (cs ks : List Col) (names : List Name) → table_of ks ≡ filter_map (named (table_of cs)) names → first_unknown (table_of cs) names ≡ None → (p : ℕ) (d : Col) → p < length ks → named (table_of cs) (get_or names p []) ≡ Some (plain (get_or ks p d))
+pub keys_own : (cs ks : List Col) (names : List Name) → table_of ks ≡ filter_map (named (table_of cs)) names → first_unknown (table_of cs) names ≡ None
+    → (p : ℕ) (d : Col) → p < length ks → named (table_of cs) (get_or names p []) ≡ Some (plain (get_or ks p d))
 keys_own cs ks names is known p d low =
     let many = keys_many cs ks names is known in
     named-key (table_of cs) names (find_none (λ n. not (is_among (names_of (table_of cs)) n)) names known) p (plain d) (omega (arith, many, low))

@@ -13,7 +13,15 @@ use Rattle.tb_keys.specs.declared.request.NamedRequest.{NamedRequest}
 
 -- the request whose keys are lent, asked for its own kind, whichever the arguments name
 abbrev pub asked : LentRequest → Request
-asked r = asking r.how (record { left = table_of r.left.now; right = table_of r.right.now; left_on = r.left_on.now; right_on = r.right_on.now; left_keys = table_of (lent_columns r.left_keys.now); right_keys = table_of (lent_columns r.right_keys.now); args = r.args.now })
+asked r = asking r.how (record {
+  left = table_of r.left.now;
+  right = table_of r.right.now;
+  left_on = r.left_on.now;
+  right_on = r.right_on.now;
+  left_keys = table_of (lent_columns r.left_keys.now);
+  right_keys = table_of (lent_columns r.right_keys.now);
+  args = r.args.now;
+})
 
 -- the request whose keys are named
 abbrev pub asked_by_names : NamedRequest → Request

@@ -20,7 +20,10 @@ here c =
     ap not (c.is_key.ensures ∙ ap is_key k)
 
 pub returns-then-not-is_key : goal.returns-then-not-is_key
-returns-then-not-is_key c = ap (option_map (λ (p : ℕ). InvalidOperation (KeyKind p))) (find_row_stop (no_key_at (asked c.args.request.now)) c.loop-place.place _ (omega arith) c.loop-place.invariant (sym (here (goal.at.returns-then-not-is_key c).After-is_key) ∙ ap not c.if-not-is_key.true))
+returns-then-not-is_key c = ap (option_map (λ (p : ℕ). InvalidOperation (KeyKind p)))
+    (find_row_stop (no_key_at (asked c.args.request.now)) c.loop-place.place _ (omega arith) c.loop-place.invariant
+    (sym (here (goal.at.returns-then-not-is_key c).After-is_key) ∙ ap not c.if-not-is_key.true))
 
 pub loop-place-preserved : goal.loop-place-preserved
-loop-place-preserved c = find_row_more (no_key_at (asked c.args.request.now)) c.loop-place.place c.places-place-end.result c.loop-place-test.true c.loop-place.invariant (sym (here (goal.at.loop-place-preserved c).After-is_key) ∙ ap not c.if-not-is_key.false)
+loop-place-preserved c = find_row_more (no_key_at (asked c.args.request.now)) c.loop-place.place c.places-place-end.result c.loop-place-test.true c.loop-place.invariant
+    (sym (here (goal.at.loop-place-preserved c).After-is_key) ∙ ap not c.if-not-is_key.false)

@@ -22,7 +22,10 @@ here c =
     ap not (c.same_type.ensures ∙ (λ t. same_kind (left t) (right t)))
 
 pub returns-then-not-same_type : goal.returns-then-not-same_type
-returns-then-not-same_type c = ap (option_map (λ (p : ℕ). ComputeError (KeyTypes p))) (find_row_stop (differ_at (asked c.args.request.now)) c.loop-place.place _ (omega arith) c.loop-place.invariant (sym (here (goal.at.returns-then-not-same_type c).After-same_type) ∙ ap not c.if-not-same_type.true))
+returns-then-not-same_type c = ap (option_map (λ (p : ℕ). ComputeError (KeyTypes p)))
+    (find_row_stop (differ_at (asked c.args.request.now)) c.loop-place.place _ (omega arith) c.loop-place.invariant
+    (sym (here (goal.at.returns-then-not-same_type c).After-same_type) ∙ ap not c.if-not-same_type.true))
 
 pub loop-place-preserved : goal.loop-place-preserved
-loop-place-preserved c = find_row_more (differ_at (asked c.args.request.now)) c.loop-place.place c.places-place-end.result c.loop-place-test.true c.loop-place.invariant (sym (here (goal.at.loop-place-preserved c).After-same_type) ∙ ap not c.if-not-same_type.false)
+loop-place-preserved c = find_row_more (differ_at (asked c.args.request.now)) c.loop-place.place c.places-place-end.result c.loop-place-test.true c.loop-place.invariant
+    (sym (here (goal.at.loop-place-preserved c).After-same_type) ∙ ap not c.if-not-same_type.false)

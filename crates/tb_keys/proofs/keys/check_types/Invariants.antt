@@ -9,4 +9,5 @@ use Rattle.tb_keys.proofs.keys.check_types.Given as goal
 
 -- the types at the places so far are the same
 abbrev pub invariant-loop-place : goal.invariant-loop-place
-invariant-loop-place l = find (λ p. not (same_kind (kind_at (table_of (lent_columns l.request.left_keys.now)) p) (kind_at (table_of (lent_columns l.request.right_keys.now)) p))) (row_numbers l.place) ≡ None
+invariant-loop-place l = find (λ p. not (same_kind (kind_at (table_of (lent_columns l.request.left_keys.now)) p) (kind_at (table_of (lent_columns l.request.right_keys.now)) p)))
+    (row_numbers l.place) ≡ None

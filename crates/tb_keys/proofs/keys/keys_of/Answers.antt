@@ -42,7 +42,10 @@ loop-name-preserved c =
     elim c.match-column_of.branch [
       | in-Some+in_ok-push w ↦
           let key = w.as_materialized_series.result in
-          let step = picked h names i name c.loop-name-test.true c.name-item.is so_far c.loop-name.invariant (plain w.in-Some.column.now) (is ∙ ap (λ (o : Option (Bor Col)). option_map plain (option_copied o)) w.in-Some.is) in
-          rw w.keys-is (ap (λ (rs : List (Bor Col)). table_of (lent_columns rs)) w.in_ok-push.ensures.items ∙ table-pushed c.loop-name.keys.items key ∙ (λ t. so_far ++ plain (w.as_materialized_series.ensures t) ∷ []) ∙ step)
-      | in_default w ↦ rw w.keys-is (c.loop-name.invariant ∙ passed_by h names i name c.loop-name-test.true c.name-item.is (is ∙ ap (λ (o : Option (Bor Col)). option_map plain (option_copied o)) w.in_default.is))
+          let step = picked h names i name c.loop-name-test.true c.name-item.is so_far c.loop-name.invariant (plain w.in-Some.column.now)
+          (is ∙ ap (λ (o : Option (Bor Col)). option_map plain (option_copied o)) w.in-Some.is) in
+          rw w.keys-is (ap (λ (rs : List (Bor Col)). table_of (lent_columns rs)) w.in_ok-push.ensures.items ∙ table-pushed c.loop-name.keys.items key
+          ∙ (λ t. so_far ++ plain (w.as_materialized_series.ensures t) ∷ []) ∙ step)
+      | in_default w ↦ rw w.keys-is (c.loop-name.invariant ∙ passed_by h names i name c.loop-name-test.true c.name-item.is
+          (is ∙ ap (λ (o : Option (Bor Col)). option_map plain (option_copied o)) w.in_default.is))
     ]

@@ -11,7 +11,8 @@ loop-j-preserved c =
     let test : ℕ → Bool = matches (asked c.args.request.now) c.args.i in
     elim c.if-rows_match.branch [
       | then-rows_match+in_ok-push w ↦
-          let step = kept_push (both c.args.i) test c.loop-j.j c.args.pairs.now.items c.loop-j.pairs.items w.both.result c.loop-j.invariant (sym c.rows_match.ensures ∙ w.if-rows_match.true) w.both.ensures in
+          let step = kept_push (both c.args.i) test c.loop-j.j c.args.pairs.now.items c.loop-j.pairs.items w.both.result c.loop-j.invariant
+          (sym c.rows_match.ensures ∙ w.if-rows_match.true) w.both.ensures in
           rw w.pairs-is (w.in_ok-push.ensures.items ∙ step)
       | else-rows_match w ↦
           let step = kept_skip (both c.args.i) test c.loop-j.j c.args.pairs.now.items c.loop-j.pairs.items c.loop-j.invariant (sym c.rows_match.ensures ∙ w.if-rows_match.false) in

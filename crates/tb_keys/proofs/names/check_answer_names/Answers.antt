@@ -10,5 +10,6 @@ pub returns : goal.returns
 returns c =
     let r = c.args.request.now in
     subst (λ (o : Option PolarsError). Settles c.check_joined_names.result o)
-    (λ t. repeated_name (by_names (table_of (c.get_columns.ensures.columns t)) (table_of (c.get_columns-2.ensures.columns t)) r.left_on.now r.right_on.now (record r.args.now { how = sym c.requires t })))
+    (λ t. repeated_name (by_names (table_of (c.get_columns.ensures.columns t)) (table_of (c.get_columns-2.ensures.columns t)) r.left_on.now r.right_on.now
+    (record r.args.now { how = sym c.requires t })))
     c.check_joined_names.ensures

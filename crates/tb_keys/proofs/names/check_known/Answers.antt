@@ -13,8 +13,10 @@ here c = c.contains.ensures ∙ c.in_ok-known.ensures c.name-item.result
 
 pub returns-then-not-contains : goal.returns-then-not-contains
 returns-then-not-contains c =
-    let found = find_stop (λ (n : Name). not (is_among (names_of (table_of c.args.columns.now)) n)) c.args.names.now c.loop-name.name-index c.name-item.result c.loop-name-test.true c.name-item.is c.loop-name.invariant (ap not (sym (here (goal.at.returns-then-not-contains c).After-contains) ∙ c.if-not-contains.true)) in
+    let found = find_stop (λ (n : Name). not (is_among (names_of (table_of c.args.columns.now)) n)) c.args.names.now c.loop-name.name-index
+    c.name-item.result c.loop-name-test.true c.name-item.is c.loop-name.invariant (ap not (sym (here (goal.at.returns-then-not-contains c).After-contains) ∙ c.if-not-contains.true)) in
     inr (ap (λ (o : Option Name). option_map (λ (n : Name). ColumnNotFound n) o) found ∙ ap (λ (n : Name). option_map (λ (m : Name). ColumnNotFound m) (Some n)) (sym c.in_ok-copy.ensures))
 
 pub loop-name-preserved : goal.loop-name-preserved
-loop-name-preserved c = find_more (λ (n : Name). not (is_among (names_of (table_of c.args.columns.now)) n)) c.args.names.now c.loop-name.name-index c.name-item.result c.loop-name-test.true c.name-item.is c.loop-name.invariant (ap not (sym (here (goal.at.loop-name-preserved c).After-contains) ∙ c.if-not-contains.false))
+loop-name-preserved c = find_more (λ (n : Name). not (is_among (names_of (table_of c.args.columns.now)) n)) c.args.names.now c.loop-name.name-index
+    c.name-item.result c.loop-name-test.true c.name-item.is c.loop-name.invariant (ap not (sym (here (goal.at.loop-name-preserved c).After-contains) ∙ c.if-not-contains.false))

@@ -16,5 +16,6 @@ returns c =
     let a = r.args.now in
     let cause : Bool → Option PolarsError = λ b. when b (ComputeError (Validation side.Right)) in
     let broken : Bool → ℕ → Bool = λ asks n. is_validated r.how && asks && has_twins (λ p. a.join_nulls) (table_of (lent_columns r.right_keys.now)) n in
-    let is : cause c.is_broken-is_broken.result ≡ broken_right (asked r) = ap cause (c.is_broken-is_broken.ensures ∙ (λ t. broken (c.asks_right-is_asked.ensures t) (c.height.ensures.height t))) in
+    let is : cause c.is_broken-is_broken.result ≡ broken_right (asked r) = ap cause
+    (c.is_broken-is_broken.ensures ∙ (λ t. broken (c.asks_right-is_asked.ensures t) (c.height.ensures.height t))) in
     subst (λ (o : Option PolarsError). SettlesOutright c.check_side.result o) is c.check_side.ensures

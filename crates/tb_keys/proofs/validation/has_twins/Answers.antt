@@ -11,7 +11,8 @@ abbrev has_twin : Bool → List TableColumn → ℕ → ℕ → Bool
 has_twin nulls keys n i = list_any (are_twins (λ p. nulls) keys i) (row_numbers n)
 
 pub returns-then-has_twin : goal.returns-then-has_twin
-returns-then-has_twin c = any_stop (has_twin c.args.null_matches (table_of (lent_columns c.args.keys.now)) c.args.n) c.loop-i.i c.args.n c.loop-i-test.true (sym c.has_twin.ensures ∙ c.if-has_twin.true)
+returns-then-has_twin c = any_stop (has_twin c.args.null_matches (table_of (lent_columns c.args.keys.now)) c.args.n) c.loop-i.i c.args.n c.loop-i-test.true
+    (sym c.has_twin.ensures ∙ c.if-has_twin.true)
 
 pub loop-i-preserved : goal.loop-i-preserved
 loop-i-preserved c = any_more (has_twin c.args.null_matches (table_of (lent_columns c.args.keys.now)) c.args.n) c.loop-i.i c.loop-i.invariant (sym c.has_twin.ensures ∙ c.if-has_twin.false)

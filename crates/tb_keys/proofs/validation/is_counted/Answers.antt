@@ -11,7 +11,8 @@ use Rattle.tb_keys.proofs.validation.is_counted.Goals as goal
 use Rattle.tb_keys.proofs.validation.is_counted.Goals.{After-counts}
 
 here : (c : After-counts) → c.counts.result ≡ counts_at c.args.null_matches (table_of (lent_columns c.args.keys.now)) c.args.i c.loop-p.p
-here c = c.counts.ensures ∙ ap (λ (v : Datum). is_present v || c.args.null_matches) (c.get.ensures.value ∙ lent_field c.args.keys.now c.loop-p.p c.index-keys-p.result (omega arith) c.index-keys-p.is c.args.i)
+here c = c.counts.ensures ∙ ap (λ (v : Datum). is_present v || c.args.null_matches)
+    (c.get.ensures.value ∙ lent_field c.args.keys.now c.loop-p.p c.index-keys-p.result (omega arith) c.index-keys-p.is c.args.i)
 
 pub returns-then-not-counts : goal.returns-then-not-counts
 returns-then-not-counts c =
@@ -20,7 +21,8 @@ returns-then-not-counts c =
     all_stop (counts_at c.args.null_matches keys c.args.i) c.loop-p.p (length keys) (omega (arith, long)) (sym (here (goal.at.returns-then-not-counts c).After-counts) ∙ c.if-not-counts.true)
 
 pub loop-p-preserved : goal.loop-p-preserved
-loop-p-preserved c = all_more (counts_at c.args.null_matches (table_of (lent_columns c.args.keys.now)) c.args.i) c.loop-p.p c.loop-p.invariant (sym (here (goal.at.loop-p-preserved c).After-counts) ∙ c.if-not-counts.false)
+loop-p-preserved c = all_more (counts_at c.args.null_matches (table_of (lent_columns c.args.keys.now)) c.args.i) c.loop-p.p c.loop-p.invariant
+    (sym (here (goal.at.loop-p-preserved c).After-counts) ∙ c.if-not-counts.false)
 
 pub returns : goal.returns
 returns c =

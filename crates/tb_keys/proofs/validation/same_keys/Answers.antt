@@ -28,7 +28,8 @@ returns-then-not-same_value c =
     all_stop (same_at keys c.args.i c.args.j) c.loop-p.p (length keys) (omega (arith, long)) (sym (here (goal.at.returns-then-not-same_value c).After-same_value) ∙ c.if-not-same_value.true)
 
 pub loop-p-preserved : goal.loop-p-preserved
-loop-p-preserved c = all_more (same_at (table_of (lent_columns c.args.keys.now)) c.args.i c.args.j) c.loop-p.p c.loop-p.invariant (sym (here (goal.at.loop-p-preserved c).After-same_value) ∙ c.if-not-same_value.false)
+loop-p-preserved c = all_more (same_at (table_of (lent_columns c.args.keys.now)) c.args.i c.args.j) c.loop-p.p c.loop-p.invariant
+    (sym (here (goal.at.loop-p-preserved c).After-same_value) ∙ c.if-not-same_value.false)
 
 pub returns : goal.returns
 returns c =
