@@ -1,0 +1,16 @@
+//! The texts of values, by which columns are named that are made of values.
+//!
+//! | value | text |
+//! |---|---|
+//! | Null | `null` |
+//! | Boolean | `true`, `false` |
+//! | whole number | decimal digits, with `-` in front where it is negative |
+//! | String | itself |
+#![tactic(auto)]
+
+mod label;
+pub mod laws;
+#[cfg(test)]
+mod tests;
+
+pub use label::{is_header_type, truth_text, value_text};

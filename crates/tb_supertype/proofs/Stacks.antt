@@ -1,0 +1,60 @@
+-- Columns that are stacked.
+use Rattle.std.proofs.Common.{arith, ◌≡◌, ◌∙◌, ◌≤◌, ◌<◌, ℕ, List, [], ◌∷◌, length, get_or, map, replicate, ap, sym, refl, length-append}
+use Rattle.std.specs.Borrow.{Bor}
+use Rattle.std.specs.List.{All}
+use Rattle.std.proofs.lemmas.List.{length-map, get_or_default}
+use Rattle.std.proofs.lemmas.List.Elements.{All-weaker, All-head, All-tail, All-append}
+use Rattle.tb_value.specs.Datum.{Datum, null}
+use Rattle.tb_value.specs.Kind.{Kind}
+use Rattle.tb_value.specs.Kind as kind
+use Rattle.tb_value.specs.Typed.{HasType}
+use Rattle.tb_value.specs.declared.limits.TheConstants.{MAX_ROWS}
+use Rattle.tb_chunk.specs.Col.{Col, IsColumn, flat, physical, values}
+use Rattle.tb_chunk.specs.Fits.{Fits}
+use Rattle.tb_chunk.specs.Made.{at_least_one}
+use Rattle.tb_chunk.proofs.Fitting.{fits_stored, null-only}
+use Rattle.tb_chunk.proofs.Lists.{All-map-at, replicate-nulls}
+use Rattle.tb_supertype.specs.Cast.{cast}
+use Rattle.tb_supertype.specs.Columns.{cast_values, CastsTo, stacked}
+
+-- a column that is cast to a type stored as nulls has nothing else
+pub only_nulls : (t : Kind) (c : Col) (n : ℕ) → physical t ≡ kind.null → n ≡ length (values c) → CastsTo t c → replicate n null ≡ cast_values t c
+only_nulls t c n e k all =
+    ap (λ m. replicate m null) (k ∙ sym (length-map (values c) (cast t)))
+    ∙ replicate-nulls (cast_values t c) (All-weaker (Fits kind.null) (λ v. v ≡ null) null-only (cast_values t c) (fits_stored t kind.null (cast_values t c) e all))
+
+stacked_lengths : (t : Kind) (cs : List (Bor Col)) → length (flat (map (λ (c : Bor Col). cast_values t c.now) cs)) ≡ length (flat (map (λ (c : Bor Col). values c.now) cs))
+stacked_lengths t [] = refl
+stacked_lengths t (c ∷ cs) = omega (arith, length-append (cast_values t c.now) (flat (map (λ (d : Bor Col). cast_values t d.now) cs)), length-append (values c.now) (flat (map (λ (d : Bor Col). values d.now) cs)), length-map (values c.now) (cast t), stacked_lengths t cs)
+
+stacked_typed : (t : Kind) (cs : List (Bor Col)) → All (λ (c : Bor Col). CastsTo t c.now) cs → All (HasType t) (flat (map (λ (c : Bor Col). cast_values t c.now) cs))
+stacked_typed t [] all = λ i d h. absurd (omega arith)
+stacked_typed t (c ∷ cs) all =
+    let P : Bor Col → Type 0 = λ b. CastsTo t b.now in
+    All-append (HasType t) (cast_values t c.now) (flat (map (λ (d : Bor Col). cast_values t d.now) cs)) (All-head P c cs all) (stacked_typed t cs (All-tail P c cs all))
+
+pub stacked-again : (t : Kind) (cs : List (Bor Col)) → map (λ (c : Bor Col). cast_values t c.now) cs ≡ map (cast_values t) (map (λ (c : Bor Col). c.now) cs)
+stacked-again t [] = refl
+stacked-again t (c ∷ cs) = ap (λ l. cast_values t c.now ∷ l) (stacked-again t cs)
+
+pub flat-at_least_one : (cs : List (List Datum)) → flat (at_least_one cs) ≡ flat cs
+flat-at_least_one [] = refl
+flat-at_least_one (c ∷ cs) = refl
+
+length-at_least_one : (cs : List (List Datum)) → 0 < length (at_least_one cs)
+length-at_least_one [] = omega arith
+length-at_least_one (c ∷ cs) = omega arith
+
+pub stacked_column : (n : List ℕ) (t : Kind) (cs : List (Bor Col)) → length (flat (map (λ (c : Bor Col). values c.now) cs)) ≤ MAX_ROWS → All (λ (c : Bor Col). CastsTo t c.now) cs → IsColumn (stacked n t (map (λ (c : Bor Col). c.now) cs))
+stacked_column n t cs few typed =
+    let e = stacked-again t cs in
+    record {
+      chunked = length-at_least_one (map (cast_values t) (map (λ (c : Bor Col). c.now) cs));
+      short = rw (flat-at_least_one (map (cast_values t) (map (λ (c : Bor Col). c.now) cs)), ← e) (omega (arith, stacked_lengths t cs));
+      typed = rw (flat-at_least_one (map (cast_values t) (map (λ (c : Bor Col). c.now) cs)), ← e) (stacked_typed t cs typed);
+      flag_holds = tt;
+    }
+
+-- what a chunk can hold of all values holds of one
+pub fits_at : (k t : Kind) (vs : List Datum) (i : ℕ) (v : Datum) → i < length vs → v ≡ get_or vs i null → All (Fits k) (map (cast t) vs) → Fits k (cast t v)
+fits_at k t vs i v h e all = All-map-at (Fits k) (cast t) vs i v h (e ∙ get_or_default vs i null v h) all

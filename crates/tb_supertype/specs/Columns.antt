@@ -1,0 +1,21 @@
+-- Columns whose values are cast to a type.
+use Rattle.std.specs.Prelude.{ℕ, List, map}
+use Rattle.std.specs.List.{All}
+use Rattle.tb_value.specs.Datum.{Datum}
+use Rattle.tb_value.specs.Kind.{Kind}
+use Rattle.tb_value.specs.Typed.{HasType}
+use Rattle.tb_value.specs.declared.sorted.IsSorted.TheVariants.{Not}
+use Rattle.tb_chunk.specs.Col.{Col, values}
+use Rattle.tb_chunk.specs.Made.{at_least_one}
+use Rattle.tb_supertype.specs.Cast.{cast}
+
+abbrev pub cast_values : Kind → Col → List Datum
+cast_values t c = map (cast t) (values c)
+
+-- cast to the type, each value is of it
+abbrev pub CastsTo : Kind → Col → Type 0
+CastsTo t c = All (HasType t) (cast_values t c)
+
+-- the values of the columns, one column after another, cast to the type, in a chunk for each column
+abbrev pub stacked : List ℕ → Kind → List Col → Col
+stacked n t cs = record { name = n; kind = t; chunks = at_least_one (map (cast_values t) cs); flag = Not }

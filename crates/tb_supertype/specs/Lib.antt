@@ -1,0 +1,5 @@
+pub mod Cast
+pub mod Columns
+pub mod Laws
+pub mod Lines
+pub mod Supertype

@@ -1,0 +1,263 @@
+//! Columns whose values are cast to a type.
+ghost use Rattle.std.specs.Prelude.{◌≡◌, ◌<◌, ◌≤◌, IfOk, length, map, replicate, pos};
+ghost use Rattle.std.specs.List.{All};
+ghost use Rattle.tb_value.specs.Datum.{null, string};
+ghost use Rattle.tb_value.specs.Kind as kind;
+ghost use Rattle.tb_value.specs.See.{datum, lent, IsText};
+ghost use Rattle.tb_value.specs.SeeKind.{kind_of};
+ghost use Rattle.tb_value.specs.Typed.{HasType};
+ghost use Rattle.tb_chunk.specs.Chunk.{or_null};
+ghost use Rattle.tb_chunk.specs.Col.{physical, values, flat};
+ghost use Rattle.tb_chunk.specs.Fits.{Fits};
+ghost use Rattle.tb_chunk.specs.Lent.{lent_columns};
+ghost use Rattle.tb_chunk.specs.Made.{at_least_one};
+ghost use Rattle.tb_chunk.specs.Seen.{chunk_lists, storage};
+ghost use Rattle.tb_supertype.specs.Cast.{cast, cast_to, truth_number};
+ghost use Rattle.tb_supertype.specs.Columns.{cast_values, CastsTo, stacked};
+
+use crate::class::{Class, class_of};
+use std::alloc::Global;
+use tb_label::value_text;
+use tb_store::{
+    BinaryChunk, Cell, Cells, Chunk, Chunks, IsSorted, ListChunk, MAX_ROWS, Physical, Series,
+    StringChunk, StructChunk, physical_of,
+};
+use tb_value::{AnyValue, DataType, OutOfMemory, PlSmallStr, ValueRef};
+
+fn truth_number(value: bool) -> i128
+    ensures { result ≡ truth_number value }
+{
+    if value { 1 } else { 0 }
+}
+
+// The value cast to a type of the class.
+fn cast_value(alloc: Global, class: Class, value: ValueRef<'_>) -> Result<AnyValue, OutOfMemory>
+    requires { IsText value }
+    ensures { IfOk result (λ v. datum v ≡ cast_to class (lent value.entry)) }
+{
+    match (class, value) {
+        (Class::Text, ValueRef::Int(_) | ValueRef::Boolean(_)) => Ok(AnyValue::String(value_text(
+            alloc, value,
+        )?)),
+        (Class::Signed(_) | Class::Unsigned(_), ValueRef::Boolean(b)) => Ok(AnyValue::Int(
+            truth_number(b),
+        )),
+        _ => value.to_value(alloc),
+    }
+}
+
+fn cell_of<N: Cell>(
+    alloc: Global,
+    class: Class,
+    value: ValueRef<'_>,
+) -> Result<Option<N>, OutOfMemory>
+    requires text { IsText value }
+    requires fits { Fits N.kind (cast_to class (lent value)) }
+    ensures { IfOk result (λ c. or_null N.shows c ≡ cast_to class (lent value.entry)) }
+{
+    let cast = cast_value(alloc, class, value)?;
+    match cast {
+        AnyValue::Null => Ok(None),
+        _ => Ok(Some(N::from_value(alloc, &cast)?)),
+    }
+}
+
+fn cells_of<N: Cell>(
+    alloc: Global,
+    dtype: &DataType,
+    column: &Series,
+) -> Result<Cells<N>, OutOfMemory>
+    requires { All (Fits N.kind) (cast_values (kind_of dtype.now) column.now) }
+    ensures { IfOk result (λ c. map (or_null N.shows) c.cells.items ≡ cast_values (kind_of dtype.now) column.now) }
+{
+    let class = class_of(dtype);
+    let rows = column.len();
+    let mut cells = Vec::with_capacity(alloc, rows)?;
+    for row in 0..rows {
+        cells.push(cell_of(alloc, class, column.get(row))?)?;
+    }
+    Ok(Cells { cells })
+}
+
+// The text that a value becomes, without a value in between.
+fn text_of(alloc: Global, value: ValueRef<'_>) -> Result<Option<PlSmallStr>, OutOfMemory>
+    requires text { IsText value }
+    requires fits { Fits kind.string (cast kind.string (lent value)) }
+    ensures { IfOk result (λ c. or_null string c ≡ cast kind.string (lent value.entry)) }
+{
+    match value {
+        ValueRef::Null => Ok(None),
+        _ => Ok(Some(value_text(alloc, value)?)),
+    }
+}
+
+fn texts_of(alloc: Global, column: &Series) -> Result<Cells<PlSmallStr>, OutOfMemory>
+    requires { All (Fits kind.string) (cast_values kind.string column.now) }
+    ensures { IfOk result (λ c. map (or_null string) c.cells.items ≡ cast_values kind.string column.now) }
+{
+    let rows = column.len();
+    let mut cells = Vec::with_capacity(alloc, rows)?;
+    for row in 0..rows {
+        cells.push(text_of(alloc, column.get(row))?)?;
+    }
+    Ok(Cells { cells })
+}
+
+/// A chunk of a column's values that are cast.
+trait CastChunk: Chunk {
+    /// The chunk of the column's values cast to the type, which is stored so. A row is found in as many steps as
+    /// the column has chunks.
+    fn cast_of(alloc: Global, dtype: &DataType, column: &Series) -> Result<Self, OutOfMemory>
+        requires stored { physical (kind_of dtype.now) ≡ Self.kind }
+        requires typed { CastsTo (kind_of dtype.now) column.now }
+        ensures { IfOk result (λ c. Self.shown c ≡ cast_values (kind_of dtype.now) column.now) };
+}
+
+impl<N: Cell> CastChunk for Cells<N> {
+    fn cast_of(alloc: Global, dtype: &DataType, column: &Series) -> Result<Cells<N>, OutOfMemory> {
+        cells_of(alloc, dtype, column)
+    }
+}
+
+impl CastChunk for StringChunk {
+    fn cast_of(
+        alloc: Global,
+        dtype: &DataType,
+        column: &Series,
+    ) -> Result<StringChunk, OutOfMemory> {
+        Ok(StringChunk::from_cells(texts_of(alloc, column)?))
+    }
+}
+
+impl CastChunk for BinaryChunk {
+    fn cast_of(
+        alloc: Global,
+        dtype: &DataType,
+        column: &Series,
+    ) -> Result<BinaryChunk, OutOfMemory> {
+        Ok(BinaryChunk {
+            inner: cells_of(alloc, dtype, column)?,
+        })
+    }
+}
+
+impl CastChunk for ListChunk {
+    fn cast_of(alloc: Global, dtype: &DataType, column: &Series) -> Result<ListChunk, OutOfMemory> {
+        Ok(ListChunk {
+            inner: cells_of(alloc, dtype, column)?,
+        })
+    }
+}
+
+impl CastChunk for StructChunk {
+    fn cast_of(
+        alloc: Global,
+        dtype: &DataType,
+        column: &Series,
+    ) -> Result<StructChunk, OutOfMemory> {
+        Ok(StructChunk {
+            inner: cells_of(alloc, dtype, column)?,
+        })
+    }
+}
+
+impl CastChunk for usize {
+    fn cast_of(alloc: Global, dtype: &DataType, column: &Series) -> Result<usize, OutOfMemory> {
+        Ok(column.len())
+    }
+}
+
+// The column's values cast to the type. More chunks than one are joined first, so that rows are found at once.
+fn whole_chunk<C: CastChunk>(
+    alloc: Global,
+    dtype: &DataType,
+    column: &Series,
+) -> Result<C, OutOfMemory>
+    requires stored { physical (kind_of dtype.now) ≡ C.kind }
+    requires typed { CastsTo (kind_of dtype.now) column.now }
+    ensures { IfOk result (λ c. C.shown c ≡ cast_values (kind_of dtype.now) column.now) }
+{
+    if column.n_chunks() == 1 {
+        return C::cast_of(alloc, dtype, column);
+    }
+    let whole = column.rechunk(alloc)?;
+    C::cast_of(alloc, dtype, &whole)
+}
+
+fn each_chunk<C: CastChunk>(
+    alloc: Global,
+    dtype: &DataType,
+    columns: &[&Series],
+) -> Result<Vec<C>, OutOfMemory>
+    requires stored { physical (kind_of dtype.now) ≡ C.kind }
+    requires typed { All (λ c. CastsTo (kind_of dtype.now) c.now) columns.now }
+    ensures { IfOk result (λ v. map C.shown v.items ≡ map (λ c. cast_values (kind_of dtype.now) c.now) columns.now) }
+{
+    let mut chunks = Vec::with_capacity(alloc, columns.len())?;
+    for column in columns {
+        chunks.push(whole_chunk(alloc, dtype, column)?)?;
+    }
+    Ok(chunks)
+}
+
+// A chunk for each column, and an empty one where there is no column.
+fn chunks_of<C: CastChunk>(
+    alloc: Global,
+    dtype: &DataType,
+    columns: &[&Series],
+) -> Result<Vec<C>, OutOfMemory>
+    requires stored { physical (kind_of dtype.now) ≡ C.kind }
+    requires typed { All (λ c. CastsTo (kind_of dtype.now) c.now) columns.now }
+    ensures { IfOk result (λ v. map C.shown v.items ≡ at_least_one (map (λ c. cast_values (kind_of dtype.now) c.now) columns.now)) }
+{
+    let mut chunks = each_chunk(alloc, dtype, columns)?;
+    if chunks.is_empty() {
+        chunks.push(C::empty(alloc))?;
+    }
+    Ok(chunks)
+}
+
+fn cast_chunks(alloc: Global, dtype: &DataType, columns: &[&Series]) -> Result<Chunks, OutOfMemory>
+    requires { All (λ c. CastsTo (kind_of dtype.now) c.now) columns.now }
+    ensures lists { IfOk result (λ c. chunk_lists c ≡ at_least_one (map (λ c. cast_values (kind_of dtype.now) c.now) columns.now)) }
+    ensures storage { IfOk result (λ c. storage c ≡ physical (kind_of dtype.now)) }
+{
+    match physical_of(dtype) {
+        Physical::Null => Ok(Chunks::Null(chunks_of(alloc, dtype, columns)?)),
+        Physical::Boolean => Ok(Chunks::BooleanType(chunks_of(alloc, dtype, columns)?)),
+        Physical::Int8 => Ok(Chunks::Int8Type(chunks_of(alloc, dtype, columns)?)),
+        Physical::Int16 => Ok(Chunks::Int16Type(chunks_of(alloc, dtype, columns)?)),
+        Physical::Int32 => Ok(Chunks::Int32Type(chunks_of(alloc, dtype, columns)?)),
+        Physical::Int64 => Ok(Chunks::Int64Type(chunks_of(alloc, dtype, columns)?)),
+        Physical::Int128 => Ok(Chunks::Int128Type(chunks_of(alloc, dtype, columns)?)),
+        Physical::UInt8 => Ok(Chunks::UInt8Type(chunks_of(alloc, dtype, columns)?)),
+        Physical::UInt16 => Ok(Chunks::UInt16Type(chunks_of(alloc, dtype, columns)?)),
+        Physical::UInt32 => Ok(Chunks::UInt32Type(chunks_of(alloc, dtype, columns)?)),
+        Physical::UInt64 => Ok(Chunks::UInt64Type(chunks_of(alloc, dtype, columns)?)),
+        Physical::String => Ok(Chunks::StringType(chunks_of(alloc, dtype, columns)?)),
+        Physical::Binary => Ok(Chunks::BinaryType(chunks_of(alloc, dtype, columns)?)),
+        Physical::List => Ok(Chunks::ListType(chunks_of(alloc, dtype, columns)?)),
+        Physical::Struct => Ok(Chunks::StructType(chunks_of(alloc, dtype, columns)?)),
+    }
+}
+
+/// The column of this name and type with the values of the columns, one column after another, cast to the type. It has
+/// a chunk for each column, and the flag Not. The values together are at most `MAX_ROWS`, and cast to the type each is of
+/// it: `laws::cast_typed` says of which types this holds.
+///
+/// # Errors
+///
+/// `OutOfMemory` where memory is wanting.
+pub fn stack(
+    alloc: Global,
+    name: PlSmallStr,
+    dtype: DataType,
+    columns: &[&Series],
+) -> Result<Series, OutOfMemory>
+    requires few { length (flat (map (λ c. values c.now) columns.now)) ≤ MAX_ROWS }
+    requires typed { All (λ c. CastsTo (kind_of dtype) c.now) columns.now }
+    ensures { IfOk result (λ s. s ≡ stacked name (kind_of dtype) (lent_columns columns.now)) }
+{
+    let chunks = cast_chunks(alloc, &dtype, columns)?;
+    Ok(Series::from_parts(name, dtype, chunks, IsSorted::Not))
+}
