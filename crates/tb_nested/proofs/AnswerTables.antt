@@ -26,7 +26,8 @@ use Rattle.tb_keys.specs.Rows.{HasRows}
 
 -- rows in range are rows of each column with so many
 pub in_columns : (n : ℕ) (rows : List (Option ℕ)) (cs : List Col) → All (IsRowOf n) rows → HasRows n cs → All (λ (c : Col). All (IsRowOf (length (values c))) rows) cs
-in_columns n rows cs h level = All-weaker (λ (c : Col). length (values c) ≡ n) (λ (c : Col). All (IsRowOf (length (values c))) rows) (λ c e. subst (λ (k : ℕ). All (IsRowOf k) rows) (sym e) h) cs level
+in_columns n rows cs h level = All-weaker (λ (c : Col). length (values c) ≡ n) (λ (c : Col). All (IsRowOf (length (values c))) rows)
+    (λ c e. subst (λ (k : ℕ). All (IsRowOf k) rows) (sym e) h) cs level
 
 -- COLUMNS OVER PAIRS
 
@@ -39,7 +40,8 @@ merged-map f g (p ∷ ps) = λ t. or_else (f p) (g p) ∷ merged-map f g ps t
 abbrev named_at : Request → ℕ → Option TableColumn
 named_at q p = named q.right (get_or q.right_on p [])
 
-module _ (q : Request) (keys : List Col) (own : (p : ℕ) (d : Col) → p < length keys → named_at q p ≡ Some (plain (get_or keys p d))) (many : length q.left_on ≤ length keys) (ps : List JoinPair) where
+module _ (q : Request) (keys : List Col) (own : (p : ℕ) (d : Col) → p < length keys → named_at q p ≡ Some (plain (get_or keys p d)))
+    (many : length q.left_on ≤ length keys) (ps : List JoinPair) where
   abbrev ls : List (Option ℕ)
   ls = map (λ (p : JoinPair). p.left) ps
 
@@ -63,13 +65,16 @@ module _ (q : Request) (keys : List Col) (own : (p : ℕ) (d : Col) → p < leng
       (λ t. merged (values-side (λ (pair : JoinPair). pair.left) ps c t) (values-side (λ (pair : JoinPair). pair.right) ps k t)) ∙ merged-map f g ps
       in
       let all : values (left_column ls rs (Some k) c) ≡ map (left_field (Some (plain k)) (plain c)) ps = append-nil (merged (values (opt_taken ls c)) (values (opt_taken rs k))) ∙ both in
-      ap (λ (o : Option Col). plain (left_column ls rs o c)) (slice_get-get_or keys p c low) ∙ (λ t. record { name = c.name; kind = c.kind; values = all t }) ∙ ap (with_partner c) (sym (own p c low))
+      ap (λ (o : Option Col). plain (left_column ls rs o c)) (slice_get-get_or keys p c low) ∙ (λ t. record { name = c.name; kind = c.kind; values = all t })
+      ∙ ap (with_partner c) (sym (own p c low))
 
-  at_place : (c : Col) (o : Option ℕ) → position (same_name c.name) q.left_on ≡ o → plain (left_column ls rs (option_and_then (λ p. slice_get keys p) o) c) ≡ with_partner c (option_and_then (named_at q) o)
+  at_place : (c : Col) (o : Option ℕ) → position (same_name c.name) q.left_on ≡ o
+      → plain (left_column ls rs (option_and_then (λ p. slice_get keys p) o) c) ≡ with_partner c (option_and_then (named_at q) o)
   at_place c None e = taken_is c
   at_place c (Some p) e = let first = position-Some (same_name c.name) q.left_on p [] e in merged_is c p (omega (arith, many, first.0))
 
-  one_left : (merges : Bool) (c : Col) → plain (left_column ls rs (merged_key merges q.left_on keys c.name) c) ≡ with_partner c (cond merges (option_and_then (named_at q) (position (same_name c.name) q.left_on)) None)
+  one_left : (merges : Bool) (c : Col) → plain (left_column ls rs (merged_key merges q.left_on keys c.name) c) ≡ with_partner c
+      (cond merges (option_and_then (named_at q) (position (same_name c.name) q.left_on)) None)
   one_left true c = at_place c (position (same_name c.name) q.left_on) refl
   one_left false c = taken_is c
 
@@ -82,7 +87,8 @@ module _ (q : Request) (keys : List Col) (own : (p : ℕ) (d : Col) → p < leng
 
   -- the columns that are made are those of the answer, filled over the pairs
   pub columns-made : (left right kept : List Col) → table_of left ≡ q.left → table_of right ≡ q.right → kept ≡ without_names (gone_left q.args q.left_on) left
-      → table_of (map made kept ++ right_columns (names_of (table_of kept)) (unwrap_or q.args.suffix default_suffix) (gone_right q.args q.right_on) rs (right_side q.args.how right)) ≡ map (fill ps) (out q)
+      → table_of (map made kept ++ right_columns (names_of (table_of kept)) (unwrap_or q.args.suffix default_suffix) (gone_right q.args q.right_on) rs (right_side q.args.how right)) ≡ map
+      (fill ps) (out q)
   columns-made left right kept is_left is_right is_kept =
       let kept_is = ap table_of is_kept ∙ sym (left-kept q.args q.left_on left) ∙ ap (λ (t : Table). columns_where (keeps_left q.args q.left_on) t) is_left in
       filled q ps (map made kept) (without_names (gone_right q.args q.right_on) (right_side q.args.how right)) (names_of (table_of kept))

@@ -21,7 +21,8 @@ use Rattle.tb_keys.proofs.KeyFields.{column_kind}
 use Rattle.tb_keys.proofs.KeysNamed.{keys_many, keys_named, kinds_at}
 
 -- columns of distinct names that have one name have one type
-one_kind : (t : Table) (i j : ℕ) (d e : TableColumn) → AllPairs (λ (a b : Name). a ≢ b) (names_of t) → i < length t → j < length t → (get_or t i d).name ≡ (get_or t j e).name → (get_or t i d).kind ≡ (get_or t j e).kind
+one_kind : (t : Table) (i j : ℕ) (d e : TableColumn) → AllPairs (λ (a b : Name). a ≢ b) (names_of t) → i < length t → j < length t
+    → (get_or t i d).name ≡ (get_or t j e).name → (get_or t i d).kind ≡ (get_or t j e).kind
 one_kind t i j d e apart low high same = at (cases_order i j)
   where
     name_at : (k : ℕ) (c : TableColumn) → k < length t → get_or (names_of t) k [] ≡ (get_or t k c).name
@@ -42,7 +43,8 @@ HasOwnKind t k = All (λ (c : TableColumn). c.name ≡ k.name → c.kind ≡ k.k
 own_kinds : (t : Table) → AllPairs (λ (a b : Name). a ≢ b) (names_of t) → All (HasOwnKind t) t
 own_kinds t apart = λ j e high i d low same. one_kind t i j d e apart low high same
 
-module _ (left lk rk : List Col) (lo : List Name) (apart : AllPairs (λ (a b : Name). a ≢ b) (names_of (table_of left))) (is : table_of lk ≡ filter_map (named (table_of left)) lo) (known : first_unknown (table_of left) lo ≡ None)
+module _ (left lk rk : List Col) (lo : List Name) (apart : AllPairs (λ (a b : Name). a ≢ b) (names_of (table_of left)))
+    (is : table_of lk ≡ filter_map (named (table_of left)) lo) (known : first_unknown (table_of left) lo ≡ None)
     (none : find (λ p. not (same_kind (kind_at (table_of lk) p) (kind_at (table_of rk) p))) (row_numbers (min (length (table_of lk)) (length (table_of rk)))) ≡ None) where
   -- a left column has the type of the left key of its name, and so that of the right key beside it
   beside : (i : ℕ) (d k : Col) → i < length left → (p : ℕ) → position (same_name (get_or left i d).name) lo ≡ Some p → slice_get rk p ≡ Some k → (get_or left i d).kind ≡ k.kind
@@ -60,7 +62,8 @@ module _ (left lk rk : List Col) (lo : List Name) (apart : AllPairs (λ (a b : N
       ∙ ap (λ (ns : List Name). get_or ns p []) (sym (keys_named left lk lo is known))
       ∙ get_or-map (λ (c : TableColumn). c.name) (table_of lk) p (plain d) [] in_lk
       in
-      let own : HasOwnKind (table_of left) key = subst (λ (t : Table). All (HasOwnKind (table_of left)) t) (sym is) (selected_hold (HasOwnKind (table_of left)) (table_of left) (own_kinds (table_of left) apart) lo) p (plain d) in_lk in
+      let own : HasOwnKind (table_of left) key = subst (λ (t : Table). All (HasOwnKind (table_of left)) t) (sym is)
+      (selected_hold (HasOwnKind (table_of left)) (table_of left) (own_kinds (table_of left) apart) lo) p (plain d) in_lk in
       let long_left = length-map left plain in
       let plain_c : get_or (table_of left) i (plain d) ≡ plain c = get_or-map plain left i d (plain d) low in
       let kind : c.kind ≡ key.kind = ap (λ (x : TableColumn). x.kind) (sym plain_c) ∙ own i (plain d) (omega (arith, long_left)) (ap (λ (x : TableColumn). x.name) plain_c ∙ name) in
@@ -72,7 +75,8 @@ module _ (left lk rk : List Col) (lo : List Name) (apart : AllPairs (λ (a b : N
   merged_kinds false = λ i d low k e. absurd (cc)
   merged_kinds true = λ i d low k e. at i d k low (position (same_name (get_or left i d).name) lo) refl e
     where
-      at : (i : ℕ) (d k : Col) → i < length left → (o : Option ℕ) → position (same_name (get_or left i d).name) lo ≡ o → option_and_then (λ p. slice_get rk p) o ≡ Some k → (get_or left i d).kind ≡ k.kind
+      at : (i : ℕ) (d k : Col) → i < length left → (o : Option ℕ) → position (same_name (get_or left i d).name) lo ≡ o
+          → option_and_then (λ p. slice_get rk p) o ≡ Some k → (get_or left i d).kind ≡ k.kind
       at i d k low None e h = absurd (cc)
       at i d k low (Some p) e h = beside i d k low p e h
 

@@ -44,14 +44,19 @@ left_columns-requires-clause-left_rows c =
     let r = c.args.request.now in
     let h = height (table_of r.left.now) in
     let level : HasRows h r.left.now = of_each_length (λ n. n ≡ h) r.left.now c.get_columns-columns.ensures.table refl in
-    let kept : HasRows h c.get_columns.result.now = subst (λ (cs : List Col). HasRows h cs) (sym (c.get_columns.ensures.columns ∙ c.in_ok-kept.ensures)) (All-filter (stays (gone_left r.args.now r.left_on.now)) (λ (k : Col). length (values k) ≡ h) r.left.now level) in
-    in_columns h c.deref.result.now c.get_columns.result.now (subst (λ (rows : List (Option ℕ)). All (IsRowOf h) rows) (sym (c.deref.ensures.value ∙ c.in_ok-left.ensures)) (left_within h (height (table_of r.right.now)) c.args.pairs.now c.requires.pairs)) kept
+    let kept : HasRows h c.get_columns.result.now = subst (λ (cs : List Col). HasRows h cs) (sym (c.get_columns.ensures.columns ∙ c.in_ok-kept.ensures))
+    (All-filter (stays (gone_left r.args.now r.left_on.now)) (λ (k : Col). length (values k) ≡ h) r.left.now level) in
+    in_columns h c.deref.result.now c.get_columns.result.now
+    (subst (λ (rows : List (Option ℕ)). All (IsRowOf h) rows) (sym (c.deref.ensures.value ∙ c.in_ok-left.ensures))
+    (left_within h (height (table_of r.right.now)) c.args.pairs.now c.requires.pairs)) kept
 
 pub left_columns-requires-clause-right_rows : goal.left_columns-requires-clause-right_rows
 left_columns-requires-clause-right_rows c =
     let r = c.args.request.now in
     let h = height (table_of r.right.now) in
-    in_columns h c.deref-2.result.now (lent_columns r.right_keys.now) (subst (λ (rows : List (Option ℕ)). All (IsRowOf h) rows) (sym (c.deref-2.ensures.value ∙ c.in_ok-right.ensures)) (right_rows (height (table_of r.left.now)) h c.args.pairs.now c.requires.pairs)) r.right_rows
+    in_columns h c.deref-2.result.now (lent_columns r.right_keys.now)
+    (subst (λ (rows : List (Option ℕ)). All (IsRowOf h) rows) (sym (c.deref-2.ensures.value ∙ c.in_ok-right.ensures))
+    (right_rows (height (table_of r.left.now)) h c.args.pairs.now c.requires.pairs)) r.right_rows
 
 pub left_columns-requires-clause-types : goal.left_columns-requires-clause-types
 left_columns-requires-clause-types c =
@@ -59,7 +64,8 @@ left_columns-requires-clause-types c =
     let q = asked r in
     let P : Col → Type 0 = λ k. ForSome (key_merged r k.name) (λ x. k.kind ≡ x.kind) in
     let is = ap (λ (q : Request). q.left_keys) c.requires.named in
-    let all = merged_kinds r.left.now (lent_columns r.left_keys.now) (lent_columns r.right_keys.now) r.left_on.now c.get_columns-columns.ensures.table.distinct is (known_left q c.requires.valid) (not_mixed q (same_types q c.requires.valid)) (merges_keys r.args.now.how (coalesces r.args.now)) in
+    let all = merged_kinds r.left.now (lent_columns r.left_keys.now) (lent_columns r.right_keys.now) r.left_on.now c.get_columns-columns.ensures.table.distinct is
+    (known_left q c.requires.valid) (not_mixed q (same_types q c.requires.valid)) (merges_keys r.args.now.how (coalesces r.args.now)) in
     subst (λ (cs : List Col). All P cs) (sym (c.get_columns.ensures.columns ∙ c.in_ok-kept.ensures)) (All-filter (stays (gone_left r.args.now r.left_on.now)) P r.left.now all)
 
 pub columns_beside-requires-clause-rows : goal.columns_beside-requires-clause-rows
@@ -67,7 +73,9 @@ columns_beside-requires-clause-rows c =
     let r = c.args.request.now in
     let h = height (table_of r.right.now) in
     let level : HasRows h r.right.now = of_each_length (λ n. n ≡ h) r.right.now c.get_columns-3.ensures.table refl in
-    in_columns h c.deref-3.result.now c.get_columns-3.result.now (subst (λ (rows : List (Option ℕ)). All (IsRowOf h) rows) (sym (c.deref-3.ensures.value ∙ c.in_ok-right.ensures)) (right_rows (height (table_of r.left.now)) h c.args.pairs.now c.requires.pairs))
+    in_columns h c.deref-3.result.now c.get_columns-3.result.now
+    (subst (λ (rows : List (Option ℕ)). All (IsRowOf h) rows) (sym (c.deref-3.ensures.value ∙ c.in_ok-right.ensures))
+    (right_rows (height (table_of r.left.now)) h c.args.pairs.now c.requires.pairs))
     (subst (λ (cs : List Col). HasRows h cs) (sym c.get_columns-3.ensures.columns) level)
 
 pub returns : goal.returns
@@ -86,11 +94,13 @@ returns c =
     c.in_ok-columns.ensures ∙ (λ t. map (made ((c.deref.ensures.value ∙ c.in_ok-left.ensures) t) ((c.deref-2.ensures.value ∙ c.in_ok-right.ensures) t)) (c.get_columns.ensures.columns t))
     in
     let beside : c.in_ok-beside.beside.items ≡ columns_beside a r.right_on.now rs (names_of (table_of kept)) r.right.now =
-    c.in_ok-beside.ensures ∙ (λ t. columns_beside a r.right_on.now ((c.deref-3.ensures.value ∙ c.in_ok-right.ensures) t) (names_of (table_of (c.get_columns-2.ensures.columns t))) (c.get_columns-3.ensures.columns t))
+    c.in_ok-beside.ensures ∙ (λ t. columns_beside a r.right_on.now ((c.deref-3.ensures.value ∙ c.in_ok-right.ensures) t)
+    (names_of (table_of (c.get_columns-2.ensures.columns t))) (c.get_columns-3.ensures.columns t))
     in
     let is_r = ap (λ (x : Request). x.right_keys) c.requires.named in
     let many = keys_many r.right.now keys r.right_on.now is_r (known_right q valid) in
     let counts = same_counts q valid in
     ap table_of (c.in_ok-append.ensures.items ∙ (λ t. left t ++ beside t))
-    ∙ columns-made q keys (keys_own r.right.now keys r.right_on.now is_r (known_right q valid)) (omega (arith, many, counts)) ps r.left.now r.right.now kept (λ _. table_of r.left.now) (λ _. table_of r.right.now) c.in_ok-kept.ensures
+    ∙ columns-made q keys (keys_own r.right.now keys r.right_on.now is_r (known_right q valid)) (omega (arith, many, counts)) ps r.left.now r.right.now kept
+    (λ _. table_of r.left.now) (λ _. table_of r.right.now) c.in_ok-kept.ensures
     ∙ ap (λ (x : Request). map (fill ps) (out x)) (sym c.requires.named)

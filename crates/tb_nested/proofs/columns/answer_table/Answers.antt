@@ -15,7 +15,8 @@ answer_columns-requires-clause-few c = few_listed (asked c.args.request.now) c.a
 pub returns-clause-settles : goal.returns-clause-settles
 returns-clause-settles c =
     let q = asked c.args.request.now in
-    subst (λ (o : Option PolarsError). Settles c.new.result o) (makes_frame q c.args.pairs.now (table_of c.in_ok-columns.columns.items) c.in_ok-columns.ensures c.requires.valid) c.new.ensures.settles
+    subst (λ (o : Option PolarsError). Settles c.new.result o)
+    (makes_frame q c.args.pairs.now (table_of c.in_ok-columns.columns.items) c.in_ok-columns.ensures c.requires.valid) c.new.ensures.settles
 
 pub returns-clause-answer : goal.returns-clause-answer
 returns-clause-answer c =

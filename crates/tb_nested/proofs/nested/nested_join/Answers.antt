@@ -34,14 +34,16 @@ pub returns-in_err-pairs-clause-settles : goal.returns-in_err-pairs-clause-settl
 returns-in_err-pairs-clause-settles c =
     let q = lent_request c.args.left.now c.args.right.now c.args.left_on.now c.args.right_on.now c.args.args.now in
     let p = err_from_is_err_and c.from_residual-in_err-pairs.result c.from_residual-in_err-pairs.ensures.1 in
-    let later = subst (λ (q : Request). (c.in_err-pairs.field-0.0 ≡ OutOfMemory) ⊎ (later_refusal q ≡ Some c.in_err-pairs.field-0.0)) c.with_keys-request.ensures.asked c.in_err-pairs.ensures.settles in
+    let later = subst (λ (q : Request). (c.in_err-pairs.field-0.0 ≡ OutOfMemory) ⊎ (later_refusal q ≡ Some c.in_err-pairs.field-0.0))
+    c.with_keys-request.ensures.asked c.in_err-pairs.ensures.settles in
     rw (p.1, p.2) (by_second _ _ _ _ (two_causes q) c.in_ok-keys.ensures.settles later)
 
 pub answer_table-requires-clause-named : goal.answer_table-requires-clause-named
 answer_table-requires-clause-named c = c.with_keys-request.ensures.named
 
 -- where nothing refuses the request by names, it is valid
-valid : (c : After-with_keys-request) → later_refusal (asked c.with_keys-request.result) ≡ None → join_refusal (lent_request c.args.left.now c.args.right.now c.args.left_on.now c.args.right_on.now c.args.args.now) ≡ None
+valid : (c : After-with_keys-request) → later_refusal (asked c.with_keys-request.result) ≡ None
+    → join_refusal (lent_request c.args.left.now c.args.right.now c.args.left_on.now c.args.right_on.now c.args.args.now) ≡ None
 valid c h =
     let q = lent_request c.args.left.now c.args.right.now c.args.left_on.now c.args.right_on.now c.args.args.now in
     by_none _ _ _ (two_causes q) c.in_ok-keys.ensures.settles (subst (λ (q : Request). later_refusal q ≡ None) c.with_keys-request.ensures.asked h)

@@ -17,4 +17,5 @@ returns-in_err-check_sides-clause-settles c =
 pub returns-clause-settles : goal.returns-clause-settles
 returns-clause-settles c =
     let q = asked c.args.request.now in
-    subst (λ (o : Option PolarsError). Settles c.listed_pairs.result o) (sym (second_part (broken_left q ∷ broken_right q ∷ []) (too_many_rows q ∷ []) c.in_ok-check_sides.ensures ∙ first_cause-one (too_many_rows q))) c.listed_pairs.ensures.settles
+    subst (λ (o : Option PolarsError). Settles c.listed_pairs.result o)
+    (sym (second_part (broken_left q ∷ broken_right q ∷ []) (too_many_rows q ∷ []) c.in_ok-check_sides.ensures ∙ first_cause-one (too_many_rows q))) c.listed_pairs.ensures.settles
