@@ -2,5 +2,3 @@ pub mod Asked
 pub mod Laws
 pub mod Rows
 pub mod AnswerColumns
-pub mod Directions
-pub mod KeyRefusal

@@ -5,18 +5,20 @@ ghost use Rattle.tb_chunk.specs.Rows.{IsRowOf};
 ghost use Rattle.tb_frame.specs.Answer.{IsListed, IsPairOf};
 ghost use Rattle.tb_frame.specs.Built.{IsBuilt};
 ghost use Rattle.tb_frame.specs.Frame.{opt_taken, without_names};
-ghost use Rattle.tb_frame.specs.Join.{IsAnswer, lent_request, listing};
+ghost use Rattle.tb_frame.specs.Join.{IsAnswer, listing};
 ghost use Rattle.tb_frame.specs.Refusal.{join_refusal};
 ghost use Rattle.tb_frame.specs.Table.{height, names_of, table_of};
+ghost use Rattle.tb_keys.specs.Asked.{asked_by_names};
 ghost use Rattle.tb_join.specs.AnswerColumns.{answer_columns, called, right_part};
 
 use std::alloc::Global;
 use std::thread::Threads;
 use tb_frame::{
-    DataFrame, JoinArgs, column_name_set, gone_left, gone_right, has_right, left_rows, right_name,
+    DataFrame, column_name_set, gone_left, gone_right, has_right, left_rows, right_name,
     right_rows, suffix_of,
 };
 use tb_gather::gather_rows;
+use tb_keys::NamedRequest;
 use tb_store::Column;
 use tb_value::{JoinPair, MAX_ROWS, NullableIdxSize, OutOfMemory, PlSmallStr, PolarsResult};
 
@@ -68,20 +70,20 @@ fn right_columns(
     rt: &(impl Threads + Sync),
     alloc: Global,
     left: &[Column],
-    right: &DataFrame,
-    right_on: &[PlSmallStr],
-    args: &JoinArgs,
+    request: &NamedRequest<'_>,
     pairs: &[JoinPair],
 ) -> Result<Vec<Column>, OutOfMemory>
-    requires pairs { All (λ p. IsRowOf (height (table_of right.now)) p.right) pairs.now }
+    requires pairs { All (λ p. IsRowOf (height (table_of request.now.right.now)) p.right) pairs.now }
     requires few { length pairs.now ≤ MAX_ROWS }
-    ensures { IfOk result (λ v. v.items ≡ right_part args.now right_on.now pairs.now left.now right.now) }
+    ensures { IfOk result (λ v. v.items ≡ right_part request.now.args.now request.now.right_on.now pairs.now left.now request.now.right.now) }
 {
+    let args = request.args;
     if !has_right(args.how) {
         return Ok(Vec::new(alloc));
     }
     let rows = right_rows(alloc, pairs)?;
-    let columns = kept_columns(rt, alloc, right, gone_right(args, right_on), &rows)?;
+    let gone = gone_right(args, request.right_on);
+    let columns = kept_columns(rt, alloc, request.right, gone, &rows)?;
     named_right(alloc, left, columns, suffix_of(args))
 }
 
@@ -89,20 +91,17 @@ fn right_columns(
 fn answer_columns(
     rt: &(impl Threads + Sync),
     alloc: Global,
-    left: &DataFrame,
-    right: &DataFrame,
-    left_on: &[PlSmallStr],
-    right_on: &[PlSmallStr],
-    args: &JoinArgs,
+    request: &NamedRequest<'_>,
     pairs: &[JoinPair],
 ) -> Result<Vec<Column>, OutOfMemory>
-    requires pairs { All (IsPairOf (height (table_of left.now)) (height (table_of right.now))) pairs.now }
+    requires pairs { All (IsPairOf (height (table_of request.now.left.now)) (height (table_of request.now.right.now))) pairs.now }
     requires few { length pairs.now ≤ MAX_ROWS }
-    ensures { IfOk result (λ v. v.items ≡ answer_columns args.now left_on.now right_on.now pairs.now left.now right.now) }
+    ensures { IfOk result (λ v. v.items ≡ answer_columns request.now.args.now request.now.left_on.now request.now.right_on.now pairs.now request.now.left.now request.now.right.now) }
 {
     let rows = left_rows(alloc, pairs)?;
-    let mut columns = kept_columns(rt, alloc, left, gone_left(args, left_on), &rows)?;
-    let mut beside = right_columns(rt, alloc, &columns, right, right_on, args, pairs)?;
+    let gone = gone_left(request.args, request.left_on);
+    let mut columns = kept_columns(rt, alloc, request.left, gone, &rows)?;
+    let mut beside = right_columns(rt, alloc, &columns, request, pairs)?;
     columns.append(&mut beside)?;
     Ok(columns)
 }
@@ -111,19 +110,15 @@ fn answer_columns(
 pub(crate) fn finish_join(
     rt: &(impl Threads + Sync),
     alloc: Global,
-    left: &DataFrame,
-    right: &DataFrame,
-    left_on: &[PlSmallStr],
-    right_on: &[PlSmallStr],
-    args: &JoinArgs,
+    request: &NamedRequest<'_>,
     pairs: &[JoinPair],
 ) -> PolarsResult<DataFrame>
-    requires built { IsBuilt (lent_request left.now right.now left_on.now right_on.now args.now) }
-    requires valid { join_refusal (lent_request left.now right.now left_on.now right_on.now args.now) ≡ None }
-    requires listed { IsListed args.now.how args.now.maintain_order args.now.slice (listing (lent_request left.now right.now left_on.now right_on.now args.now)) pairs.now }
+    requires built { IsBuilt (asked_by_names request.now) }
+    requires valid { join_refusal (asked_by_names request.now) ≡ None }
+    requires listed { IsListed request.now.args.now.how request.now.args.now.maintain_order request.now.args.now.slice (listing (asked_by_names request.now)) pairs.now }
     ensures settles { Settles result None }
-    ensures answer { IfOk result (λ t. IsAnswer (lent_request left.now right.now left_on.now right_on.now args.now) (table_of t)) }
+    ensures answer { IfOk result (λ t. IsAnswer (asked_by_names request.now) (table_of t)) }
 {
-    let columns = answer_columns(rt, alloc, left, right, left_on, right_on, args, pairs)?;
+    let columns = answer_columns(rt, alloc, request, pairs)?;
     DataFrame::new(alloc, columns)
 }

@@ -3,8 +3,7 @@
 
 mod frame_join;
 mod general;
-mod keys;
 pub mod laws;
-mod pairs;
 
 pub use frame_join::DataFrameJoinOps;
+pub use tb_pairs::private_left_join_multiple_keys;

@@ -7,5 +7,5 @@ use Rattle.tb_join.proofs.general.answer_columns.Goals as goal
 
 pub kept_columns-requires-clause-rows : goal.kept_columns-requires-clause-rows
 kept_columns-requires-clause-rows g c κs within =
-    let l = height (table_of c.args.left.now) in
-    subst (λ (rows : List (Option ℕ)). All (IsRowOf l) rows) (sym (c.deref.ensures.value ∙ c.in_ok-rows.ensures)) (left_within l (height (table_of c.args.right.now)) c.args.pairs.now c.requires.pairs)
+    let l = height (table_of c.args.request.now.left.now) in
+    subst (λ (rows : List (Option ℕ)). All (IsRowOf l) rows) (sym (c.deref.ensures.value ∙ c.in_ok-rows.ensures)) (left_within l (height (table_of c.args.request.now.right.now)) c.args.pairs.now c.requires.pairs)
