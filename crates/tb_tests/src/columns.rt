@@ -66,41 +66,61 @@ fn check_merged(
     Ok(())
 }
 
-// What the calls of a series and a column answer, where its values are the value, a Null and the value.
-fn check_series(
+// A column of the value, a Null and the value.
+fn column_of(alloc: Global, dtype: &DataType, value: &AnyValue) -> Result<Column, Fail> {
+    let chunks = two_chunks(alloc, value)?;
+    let series = Series::from_chunks(alloc, "s", dtype.copy(alloc)?, chunks)?;
+    Ok(series.copy(alloc)?.into_column())
+}
+
+// What the calls of such a column answer.
+fn check_column(
     rt: &impl Abort,
     alloc: Global,
     dtype: &DataType,
     value: &AnyValue,
 ) -> Result<(), Fail> {
-    let chunks = two_chunks(alloc, value)?;
-    let series = Series::from_chunks(alloc, "s", dtype.copy(alloc)?, chunks)?;
-    let column = series.copy(alloc)?.into_column();
+    let column = column_of(alloc, dtype, value)?;
     check_parts(rt, alloc, &column)?;
     let taken = rows_of(rt, alloc, &column)?;
     let optional = optional_rows_of(rt, alloc, &taken)?;
     check_merged(rt, alloc, &optional, &taken, value)
 }
 
-// The same of a column whose way to store values is known by a marker.
-fn check_marked<T: PolarsDataType>(
+// The same of a column whose way to store values is known by a marker: its last row.
+fn check_array<T: PolarsDataType>(
     rt: &impl Abort,
     alloc: Global,
     dtype: &DataType,
     value: &AnyValue,
 ) -> Result<(), Fail> {
-    check_series(rt, alloc, dtype, value)?;
     let chunks = two_chunks(alloc, value)?;
     let array = ChunkedArray::<T>::from_chunks(alloc, "s", dtype.copy(alloc)?, chunks)?;
     let whole = array.copy(alloc)?.rechunk(alloc)?;
     let last = whole.slice(alloc, -1, 1)?;
     assert!(rt; last.len() == 1 && last.n_chunks() == 1);
     assert!(rt; same_value(last.get(0), value.as_ref()));
-    let chunk = marked_chunk::<T>(alloc, dtype, value.as_ref().to_value(alloc)?)?;
-    assert!(rt; chunk.is_some_and(|chunk| chunk.len() == 1));
+    Ok(())
+}
+
+// No marker accepts the type without values.
+fn check_refused<T: PolarsDataType>(rt: &impl Abort, alloc: Global) -> Result<(), Fail> {
     let refused = ChunkedArray::<T>::from_chunks(alloc, "s", DataType::Null, Vec::new(alloc));
     assert!(rt; matches!(refused, Err(PolarsError::SchemaMismatch)));
     Ok(())
+}
+
+fn check_marked<T: PolarsDataType>(
+    rt: &impl Abort,
+    alloc: Global,
+    dtype: &DataType,
+    value: &AnyValue,
+) -> Result<(), Fail> {
+    check_column(rt, alloc, dtype, value)?;
+    check_array::<T>(rt, alloc, dtype, value)?;
+    let chunk = marked_chunk::<T>(alloc, dtype, value.as_ref().to_value(alloc)?)?;
+    assert!(rt; chunk.is_some_and(|chunk| chunk.len() == 1));
+    check_refused::<T>(rt, alloc)
 }
 
 // A chunk of the value, where its type is one that the marker accepts.
@@ -121,24 +141,37 @@ fn marked_chunk<T: PolarsDataType>(
 #[test]
 fn plain_columns(rt: HostRuntime) -> Result<(), Fail> {
     let alloc = rt.alloc();
-    check_series(&rt, alloc, &DataType::Null, &AnyValue::Null)?;
+    check_column(&rt, alloc, &DataType::Null, &AnyValue::Null)?;
     check_marked::<BooleanType>(&rt, alloc, &DataType::Boolean, &AnyValue::Boolean(true))?;
-    check_marked::<Int64Type>(&rt, alloc, &DataType::Time, &AnyValue::Int(-7))?;
-    let text = AnyValue::String(PlSmallStr::from_str(alloc, "é")?);
-    check_marked::<StringType>(&rt, alloc, &DataType::String, &text)?;
-    let bytes = Bytes::from_vec(alloc, [0, 255].to_vec(alloc)?)?;
-    check_marked::<BinaryType>(&rt, alloc, &DataType::Binary, &AnyValue::Binary(bytes))?;
-    Ok(())
+    check_marked::<Int64Type>(&rt, alloc, &DataType::Time, &AnyValue::Int(-7))
 }
 
 #[test]
-fn nested_columns(rt: HostRuntime) -> Result<(), Fail> {
+fn columns_of_bytes(rt: HostRuntime) -> Result<(), Fail> {
     let alloc = rt.alloc();
+    let text = AnyValue::String(PlSmallStr::from_str(alloc, "é")?);
+    check_marked::<StringType>(&rt, alloc, &DataType::String, &text)?;
+    let bytes = AnyValue::Binary(Bytes::from_vec(alloc, [0, 255].to_vec(alloc)?)?);
+    check_marked::<BinaryType>(&rt, alloc, &DataType::Binary, &bytes)
+}
+
+// One whole number of 8 bits.
+fn inner_values(alloc: Global) -> Result<Values, Fail> {
     let mut inner = Vec::new(alloc);
     inner.push(AnyValue::Int(255))?;
-    let inner = Values::from_vec(inner);
+    Ok(Values::from_vec(inner))
+}
+
+#[test]
+fn columns_of_lists(rt: HostRuntime) -> Result<(), Fail> {
+    let alloc = rt.alloc();
     let list = DataType::List(Box::new(alloc, DataType::UInt8)?);
-    check_marked::<ListType>(&rt, alloc, &list, &AnyValue::List(inner.copy(alloc)?))?;
+    check_marked::<ListType>(&rt, alloc, &list, &AnyValue::List(inner_values(alloc)?))
+}
+
+#[test]
+fn columns_of_structs(rt: HostRuntime) -> Result<(), Fail> {
+    let alloc = rt.alloc();
     let mut fields = Vec::new(alloc);
     fields.push(Field {
         name: PlSmallStr::from_str(alloc, "f")?,
@@ -147,6 +180,10 @@ fn nested_columns(rt: HostRuntime) -> Result<(), Fail> {
     let fields = Fields::from_vec(fields);
     assert!(rt; fields.copy(alloc)? == fields);
     let structs = DataType::Struct(fields);
-    check_marked::<StructType>(&rt, alloc, &structs, &AnyValue::Struct(inner))?;
-    Ok(())
+    check_marked::<StructType>(
+        &rt,
+        alloc,
+        &structs,
+        &AnyValue::Struct(inner_values(alloc)?),
+    )
 }

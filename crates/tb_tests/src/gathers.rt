@@ -3,13 +3,13 @@ ghost use Rattle.std.specs.Prelude.{◌≡◌, ◌≤◌, ◌↔◌, ◌∷◌, 
 ghost use Rattle.tb_gather.specs.Ids.{Id};
 ghost use Rattle.tb_gather.specs.Gathered.{NameRows, opt_gathered};
 
-use crate::pairs::column;
+use crate::pairs::{left_keys, table_of};
 use std::alloc::Global;
 use std::test::Fail;
 use std::thread::Threads;
 use tb_frame::DataFrame;
 use tb_gather::{TakeChunked, TakeChunkedHorPar, ids_of};
-use tb_store::{ChunkedArray, Column, Int64Type, Series};
+use tb_store::{ChunkedArray, Int64Type, Series};
 use tb_value::{IsSorted, MAX_ROWS, NullableIdxSize, OutOfMemory, StandardChunkId};
 
 fn are_present(ids: &[StandardChunkId]) -> bool
@@ -69,7 +69,7 @@ fn side_by_side<T: TakeChunkedHorPar<24>>(
 #[test]
 fn rows_of_a_series(rt: HostRuntime) -> Result<(), Fail> {
     let alloc = rt.alloc();
-    let series = column(alloc, &[Some(1), None], &[Some(2)])?;
+    let series = left_keys(alloc)?;
     let by = two_ids(alloc, &series)?;
     assert_eq!(rt; gathered(alloc, &series, &by)?.len(), 2);
     Ok(())
@@ -78,7 +78,7 @@ fn rows_of_a_series(rt: HostRuntime) -> Result<(), Fail> {
 #[test]
 fn rows_of_an_array(rt: HostRuntime) -> Result<(), Fail> {
     let alloc = rt.alloc();
-    let series = column(alloc, &[Some(1), None], &[Some(2)])?;
+    let series = left_keys(alloc)?;
     let by = two_ids(alloc, &series)?;
     let array: ChunkedArray<Int64Type> = ChunkedArray::from_series(series)?;
     assert_eq!(rt; gathered(alloc, &array, &by)?.len(), 2);
@@ -88,29 +88,19 @@ fn rows_of_an_array(rt: HostRuntime) -> Result<(), Fail> {
 #[test]
 fn rows_of_a_column(rt: HostRuntime) -> Result<(), Fail> {
     let alloc = rt.alloc();
-    let series = column(alloc, &[Some(1), None], &[Some(2)])?;
+    let series = left_keys(alloc)?;
     let by = two_ids(alloc, &series)?;
     let column = series.into_column();
     assert_eq!(rt; gathered(alloc, &column, &by)?.len(), 2);
     Ok(())
 }
 
-// The table of one column, of which the ids name rows.
-fn table_of(alloc: Global, column: Column, by: &[StandardChunkId]) -> Result<DataFrame, Fail>
-    requires named { All (NameRows by.now) (column ∷ []) }
-    ensures named { IfOk result (λ t. All (NameRows by.now) t) }
-{
-    let mut columns = Vec::new(alloc);
-    columns.push(column)?;
-    Ok(DataFrame::new(alloc, columns)?)
-}
-
 #[test]
 fn rows_of_a_table_side_by_side(rt: HostRuntime) -> Result<(), Fail> {
     let alloc = rt.alloc();
-    let series = column(alloc, &[Some(1), None], &[Some(2)])?;
+    let series = left_keys(alloc)?;
     let by = two_ids(alloc, &series)?;
-    let table = table_of(alloc, series.into_column(), &by)?;
+    let table = table_of(alloc, series.into_column())?;
     assert_eq!(rt; side_by_side(&rt, alloc, &table, &by)?.height(), 2);
     Ok(())
 }
@@ -118,9 +108,9 @@ fn rows_of_a_table_side_by_side(rt: HostRuntime) -> Result<(), Fail> {
 #[test]
 fn rows_of_a_table(rt: HostRuntime) -> Result<(), Fail> {
     let alloc = rt.alloc();
-    let series = column(alloc, &[Some(1), None], &[Some(2)])?;
+    let series = left_keys(alloc)?;
     let by = two_ids(alloc, &series)?;
-    let table = table_of(alloc, series.into_column(), &by)?;
+    let table = table_of(alloc, series.into_column())?;
     assert_eq!(rt; gathered(alloc, &table, &by)?.height(), 2);
     Ok(())
 }

@@ -1,4 +1,4 @@
-// Tests of pairs of rows, of what gathers rows, and of portions.
+// Tests of codes of keys, of pairs of rows, and of what gathers rows.
 ghost use Rattle.std.specs.Prelude.{◌≡◌, ◌↔◌, ◌∷◌, [], All, IfOk, IsTrue, true};
 ghost use Rattle.tb_value.specs.Kind.{int64};
 ghost use Rattle.tb_value.specs.SameKind.{is_key};
@@ -8,12 +8,13 @@ use std::alloc::Global;
 use std::process::Abort;
 use std::test::Fail;
 use std::thread::Threads;
-use tb_frame::{DataFrame, JoinType, JoinValidation};
+use tb_frame::{DataFrame, JoinValidation};
 use tb_gather::gather_rows;
-use tb_hash::{KeyBytes, SeriesJoin, build_tables, code_of, partition_of, probe};
-use tb_pool::{Exec, OpenGate, portions};
+use tb_hash::{KeyBytes, SeriesJoin, code_of, partition_of};
+use tb_join::private_left_join_multiple_keys;
+use tb_pool::Exec;
 use tb_store::{Cells, Chunks, Column, DataType, Series};
-use tb_value::{JoinPair, NullableIdxSize, PlSmallStr};
+use tb_value::{NullableIdxSize, PlSmallStr};
 
 // Codes as others compute them: that of a text by the tables of FNV-1a.
 #[test]
@@ -25,36 +26,8 @@ fn keys_have_the_published_codes(rt: HostRuntime) -> Result<(), Fail> {
     Ok(())
 }
 
-#[test]
-fn a_list_is_cut_in_four(rt: HostRuntime) -> Result<(), Fail> {
-    let cut = portions(rt.alloc(), 10, 4)?;
-    assert_eq!(rt; cut.as_slice(), [(0, 2), (2, 2), (4, 2), (6, 4)].as_slice());
-    Ok(())
-}
-
-#[test]
-fn texts_are_probed(rt: HostRuntime) -> Result<(), Fail> {
-    let alloc = rt.alloc();
-    let exec = Exec::standard();
-    let one = Some(KeyBytes { bytes: b"1" });
-    let left = [one, Some(KeyBytes { bytes: b"2" })];
-    let (tables, _built) = build_tables(&rt, alloc, &[one, one], false, false, &exec, &OpenGate)?;
-    let probed = probe(&rt, alloc, JoinType::Full, &tables, &left, &exec, &OpenGate)?;
-    let wanted = [
-        JoinPair::both(0, 0),
-        JoinPair::both(0, 1),
-        JoinPair::left_only(1),
-    ];
-    assert_eq!(rt; probed.pairs(), wanted.as_slice());
-    Ok(())
-}
-
 // A column of these keys, in two chunks.
-pub(crate) fn column(
-    alloc: Global,
-    front: &[Option<i64>],
-    back: &[Option<i64>],
-) -> Result<Series, Fail>
+fn column(alloc: Global, front: &[Option<i64>], back: &[Option<i64>]) -> Result<Series, Fail>
     ensures { IfOk result (λ s. s.kind ≡ int64) }
 {
     let mut lists = Vec::new(alloc);
@@ -65,6 +38,20 @@ pub(crate) fn column(
     let name = PlSmallStr::from_str(alloc, "k")?;
     let lists = Chunks::Int64Type(lists);
     Ok(Series::from_arrays(alloc, name, DataType::Int64, lists)?)
+}
+
+// The left keys of each test, in two chunks, and with a Null.
+pub(crate) fn left_keys(alloc: Global) -> Result<Series, Fail>
+    ensures { IfOk result (λ s. s.kind ≡ int64) }
+{
+    column(alloc, &[Some(1), None], &[Some(2)])
+}
+
+// The right keys of each test, of which one matches twice.
+fn right_keys(alloc: Global) -> Result<Series, Fail>
+    ensures { IfOk result (λ s. s.kind ≡ int64) }
+{
+    column(alloc, &[Some(1)], &[Some(1)])
 }
 
 // Row numbers, or ids of rows in chunks, by a Left join.
@@ -86,56 +73,56 @@ fn join_left<S: SeriesJoin>(
 #[test]
 fn rows_of_a_left_join(rt: HostRuntime) -> Result<(), Fail> {
     let alloc = rt.alloc();
-    let left = column(alloc, &[Some(1), None], &[Some(2)])?;
-    let right = column(alloc, &[Some(1)], &[Some(1)])?;
+    let left = left_keys(alloc)?;
+    let right = right_keys(alloc)?;
     join_left(&rt, alloc, &left, &right)
 }
 
-// How many rows an Inner join has.
+// How many rows of each side an Inner join has.
 fn inner_rows<S: SeriesJoin>(
     rt: &(impl Threads + Sync),
     alloc: Global,
     left: &S,
     right: &Series,
-) -> Result<usize, Fail>
+) -> Result<(usize, usize), Fail>
     requires key { is_key (S.column left.now).kind ≡ true }
     requires same { (S.column left.now).kind ≡ right.now.kind }
 {
     let (exec, many) = (Exec::standard(), JoinValidation::ManyToMany);
     let (rows, _right_built) = left.hash_join_inner(rt, alloc, right, many, false, &exec)?;
-    Ok(rows.1.len())
+    Ok((rows.0.len(), rows.1.len()))
 }
 
 #[test]
 fn rows_of_an_inner_join(rt: HostRuntime) -> Result<(), Fail> {
     let alloc = rt.alloc();
-    let left = column(alloc, &[Some(1), None], &[Some(2)])?;
-    let right = column(alloc, &[Some(1)], &[Some(1)])?;
-    assert_eq!(rt; inner_rows(&rt, alloc, &left, &right)?, 2);
+    let left = left_keys(alloc)?;
+    let right = right_keys(alloc)?;
+    assert_eq!(rt; inner_rows(&rt, alloc, &left, &right)?, (2, 2));
     Ok(())
 }
 
-// How many rows a Full join has.
+// How many rows of each side a Full join has.
 fn full_rows<S: SeriesJoin>(
     rt: &(impl Threads + Sync),
     alloc: Global,
     left: &S,
     right: &Series,
-) -> Result<usize, Fail>
+) -> Result<(usize, usize), Fail>
     requires key { is_key (S.column left.now).kind ≡ true }
     requires same { (S.column left.now).kind ≡ right.now.kind }
 {
     let (exec, many) = (Exec::standard(), JoinValidation::ManyToMany);
     let rows = left.hash_join_outer(rt, alloc, right, many, false, &exec)?;
-    Ok(rows.1.len())
+    Ok((rows.0.len(), rows.1.len()))
 }
 
 #[test]
 fn rows_of_a_full_join(rt: HostRuntime) -> Result<(), Fail> {
     let alloc = rt.alloc();
-    let left = column(alloc, &[Some(1), None], &[Some(2)])?;
-    let right = column(alloc, &[Some(1)], &[Some(1)])?;
-    assert_eq!(rt; full_rows(&rt, alloc, &left, &right)?, 4);
+    let left = left_keys(alloc)?;
+    let right = right_keys(alloc)?;
+    assert_eq!(rt; full_rows(&rt, alloc, &left, &right)?, (4, 4));
     Ok(())
 }
 
@@ -158,8 +145,8 @@ fn rows_by_match<S: SeriesJoin>(
 #[test]
 fn rows_with_a_match(rt: HostRuntime) -> Result<(), Fail> {
     let alloc = rt.alloc();
-    let left = column(alloc, &[Some(1), None], &[Some(2)])?;
-    let right = column(alloc, &[Some(1)], &[Some(1)])?;
+    let left = left_keys(alloc)?;
+    let right = right_keys(alloc)?;
     assert_eq!(rt; rows_by_match(&rt, alloc, &left, &right, false)?, 1);
     Ok(())
 }
@@ -167,19 +154,31 @@ fn rows_with_a_match(rt: HostRuntime) -> Result<(), Fail> {
 #[test]
 fn rows_without_a_match(rt: HostRuntime) -> Result<(), Fail> {
     let alloc = rt.alloc();
-    let left = column(alloc, &[Some(1), None], &[Some(2)])?;
-    let right = column(alloc, &[Some(1)], &[Some(1)])?;
+    let left = left_keys(alloc)?;
+    let right = right_keys(alloc)?;
     assert_eq!(rt; rows_by_match(&rt, alloc, &left, &right, true)?, 2);
     Ok(())
 }
 
 // The table of one column.
-pub(crate) fn table_of_one(alloc: Global, column: Column) -> Result<DataFrame, Fail>
+pub(crate) fn table_of(alloc: Global, column: Column) -> Result<DataFrame, Fail>
     ensures { IfOk result (λ t. t ≡ column ∷ []) }
 {
     let mut columns = Vec::new(alloc);
     columns.push(column)?;
     Ok(DataFrame::new(alloc, columns)?)
+}
+
+// Row numbers, though both columns are of whole numbers and in two chunks.
+#[test]
+fn rows_by_all_columns(rt: HostRuntime) -> Result<(), Fail> {
+    let alloc = rt.alloc();
+    let left = table_of(alloc, left_keys(alloc)?.into_column())?;
+    let right = table_of(alloc, right_keys(alloc)?.into_column())?;
+    let exec = Exec::standard();
+    let (lefts, rights) = private_left_join_multiple_keys(&rt, alloc, &left, &right, false, &exec)?;
+    assert!(rt; lefts.is_left() && rights.is_left());
+    Ok(())
 }
 
 fn is_row(height: usize, row: &NullableIdxSize) -> bool
@@ -201,8 +200,8 @@ fn are_rows(height: usize, rows: &[NullableIdxSize]) -> bool
 #[test]
 fn many_rows(rt: HostRuntime) -> Result<(), Fail> {
     let alloc = rt.alloc();
-    let keys = column(alloc, &[Some(1), None], &[Some(2)])?;
-    let table = table_of_one(alloc, keys.into_column())?;
+    let keys = left_keys(alloc)?;
+    let table = table_of(alloc, keys.into_column())?;
     let rows = vec![in alloc; NullableIdxSize::some(2); 9_000]?;
     if rows.len() == 9_000 && are_rows(table.height(), &rows) {
         assert_eq!(rt; gather_rows(&rt, alloc, &table, &rows)?.height(), 9_000);

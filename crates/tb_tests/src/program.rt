@@ -3,6 +3,7 @@ ghost use Rattle.tb_frame.specs.Built.{IsBuilt};
 ghost use Rattle.tb_request.specs.Reading.{asked, request_view};
 
 use std::alloc::Global;
+use std::process::Abort;
 use std::test::Fail;
 use std::thread::Threads;
 use tb_frame::{DataFrame, JoinArgs, JoinCoalesce, JoinType, MaintainOrderJoin};
@@ -10,11 +11,15 @@ use tb_join::DataFrameJoinOps;
 use tb_json::{text_of, text_of_refusal};
 use tb_nested::nested_join;
 use tb_request::{JoinRequest, request_of};
-use tb_value::{ComputeCause, InvalidCause, PolarsError, PolarsResult, Side};
+use tb_value::{ComputeCause, PolarsError, PolarsResult, Side};
 
 // Absent keys on both sides, and one that matches twice.
-const TABLES: &str =
+const BY_ONE_KEY: &str =
     r#""left":{"columns":[{"name":"k","type":"i64","chunks":[[1,null],[2]]}]},"right":{"columns":[{"name":"k","type":"i64","chunks":[[null,1,1,3]]}]},"left_on":["k"],"right_on":["k"]"#;
+
+// The same of two keys, of which either may be absent.
+const BY_TWO_KEYS: &str =
+    r#""left":{"columns":[{"name":"a","type":"str","chunks":[["x",null],["x","x"]]},{"name":"b","type":"i64","chunks":[[1,1,null,2]]}]},"right":{"columns":[{"name":"b","type":"i64","chunks":[[1],[null,1,1]]},{"name":"a","type":"str","chunks":[["x","x",null,"x"]]}]},"left_on":["a","b"],"right_on":["a","b"]"#;
 
 // The texts of an answer's rows, sorted.
 fn rows_of(alloc: Global, answer: PolarsResult<DataFrame>) -> Result<Vec<String>, Fail> {
@@ -63,20 +68,31 @@ fn by_join(
     left.join(rt, alloc, &right, &left_on, &right_on, args, &exec)
 }
 
+// Both joins give the same rows.
+fn check_joins(
+    rt: &(impl Threads + Sync + Abort),
+    alloc: Global,
+    how: &str,
+    nulls: bool,
+    tables: &str,
+) -> Result<(), Fail> {
+    let text = format!(in alloc; r#"{{"args":{{"how":"{how}","join_nulls":{nulls}}},{tables}}}"#)?;
+    let Ok(request) = request_of(alloc, text.as_bytes()) else {
+        return Err("no request".into());
+    };
+    let slow = rows_of(alloc, by_nested_loops(alloc, &request, &request.args))?;
+    let fast = rows_of(alloc, by_join(rt, alloc, request))?;
+    assert_eq!(rt; fast.as_slice(), slow.as_slice(), "{text}");
+    Ok(())
+}
+
 #[test]
 fn each_kind_by_hash_tables_and_by_nested_loops(rt: HostRuntime) -> Result<(), Fail> {
     let alloc = rt.alloc();
     for how in ["inner", "left", "right", "full", "semi", "anti"] {
         for nulls in [false, true] {
-            let text = format!(in alloc;
-                r#"{{"args":{{"how":"{how}","join_nulls":{nulls}}},{TABLES}}}"#
-            )?;
-            let Ok(request) = request_of(alloc, text.as_bytes()) else {
-                return Err("no request".into());
-            };
-            let slow = rows_of(alloc, by_nested_loops(alloc, &request, &request.args))?;
-            let fast = rows_of(alloc, by_join(&rt, alloc, request))?;
-            assert_eq!(rt; fast.as_slice(), slow.as_slice(), "{how} {nulls}");
+            check_joins(&rt, alloc, how, nulls, BY_ONE_KEY)?;
+            check_joins(&rt, alloc, how, nulls, BY_TWO_KEYS)?;
         }
     }
     Ok(())
@@ -88,9 +104,7 @@ fn called(
     alloc: Global,
     request: &JoinRequest,
     how: JoinType,
-) -> PolarsResult<DataFrame>
-    requires { IsBuilt (asked (request_view request.now)) }
-{
+) -> PolarsResult<DataFrame> {
     let (left, right) = (&request.left, &request.right);
     let (left_on, right_on) = (&request.left_on, &request.right_on);
     let exec = &request.exec;
@@ -105,7 +119,7 @@ fn called(
 #[test]
 fn kinds_that_have_a_call(rt: HostRuntime) -> Result<(), Fail> {
     let alloc = rt.alloc();
-    let text = format!(in alloc; r#"{{"args":{{"how":"inner"}},{TABLES}}}"#)?;
+    let text = format!(in alloc; r#"{{"args":{{"how":"inner"}},{BY_ONE_KEY}}}"#)?;
     let Ok(request) = request_of(alloc, text.as_bytes()) else {
         return Err("no request".into());
     };
@@ -127,20 +141,10 @@ fn kinds_that_have_a_call(rt: HostRuntime) -> Result<(), Fail> {
 }
 
 #[test]
-fn refusals_that_no_request_meets_yet(rt: HostRuntime) -> Result<(), Fail> {
-    let cases = [
-        (
-            PolarsError::InvalidOperation(InvalidCause::KeyCounts { left: 2, right: 1 }),
-            "{\"cause\":\"KeyCounts\",\"error\":\"InvalidOperation\",\"left\":2,\"right\":1}\n",
-        ),
-        (
-            PolarsError::ComputeError(ComputeCause::Validation(Side::Right)),
-            "{\"cause\":\"Validation\",\"error\":\"ComputeError\",\"side\":\"right\"}\n",
-        ),
-    ];
-    for (error, text) in &cases {
-        let written = text_of_refusal(rt.alloc(), error)?;
-        assert_eq!(rt; written.as_str(), *text);
-    }
+fn a_refusal_that_no_request_meets_yet(rt: HostRuntime) -> Result<(), Fail> {
+    let error = PolarsError::ComputeError(ComputeCause::Validation(Side::Right));
+    let text = text_of_refusal(rt.alloc(), &error)?;
+    let line = "{\"cause\":\"Validation\",\"error\":\"ComputeError\",\"side\":\"right\"}\n";
+    assert_eq!(rt; text.as_str(), line);
     Ok(())
 }

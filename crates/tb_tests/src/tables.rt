@@ -1,15 +1,9 @@
-//! Tables made, asked for columns and rows, put together and compared, and joined by the short calls.
+//! Tables made, asked for columns and rows, put together and compared.
 
 use std::alloc::Global;
 use std::test::Fail;
-use tb_frame::{
-    DataFrame, JoinArgs, JoinCoalesce, JoinType, JoinValidation, MaintainOrderJoin,
-    coalesce_columns, laws,
-};
-use tb_join::DataFrameJoinOps;
-use tb_nested::nested_join;
-use tb_pool::Exec;
-use tb_store::{AnyValue, Column, DataType, NullableIdxSize, PlSmallStr, ValueRef};
+use tb_frame::{DataFrame, coalesce_columns};
+use tb_store::{AnyValue, Column, DataType, NullableIdxSize, PlSmallStr};
 
 fn column(alloc: Global, name: &str, ints: &[i128]) -> Result<Column, Fail> {
     let mut chunk = Vec::new(alloc);
@@ -68,44 +62,8 @@ fn rows_of_a_table(rt: HostRuntime) -> Result<(), Fail> {
 #[test]
 fn coalesced_columns(rt: HostRuntime) -> Result<(), Fail> {
     let alloc = rt.alloc();
-    let first = column(alloc, "a", &[1, 2])?;
-    assert_eq!(rt; first.len(), 2);
-    let second = first.take(alloc, &[1, 0])?;
-    assert_eq!(rt; second.len(), 2);
-    let merged = coalesce_columns(alloc, &first, &second)?;
+    let column = column(alloc, "a", &[1, 2])?;
+    let merged = coalesce_columns(alloc, &column, &column)?;
     assert_eq!(rt; merged.len(), 2);
-    assert!(rt; matches!(merged.get(0), ValueRef::Int(1)));
-    Ok(())
-}
-
-#[test]
-fn arguments(rt: HostRuntime) -> Result<(), Fail> {
-    let args = JoinArgs::new(JoinType::Left);
-    assert!(rt; args.should_coalesce() && !args.validation.needs_checks());
-    assert!(rt; !JoinCoalesce::JoinSpecific.coalesce(&JoinType::Full));
-    assert!(rt; JoinValidation::OneToMany.asks_left() && !JoinValidation::OneToMany.asks_right());
-    let flipped = MaintainOrderJoin::LeftRight.flip();
-    assert!(rt; laws::same_orders(&flipped, &MaintainOrderJoin::RightLeft));
-    Ok(())
-}
-
-#[test]
-fn short_joins(rt: HostRuntime) -> Result<(), Fail> {
-    let alloc = rt.alloc();
-    let left = keyed(alloc, "a", &[1, 2], &[10, 20])?;
-    let right = keyed(alloc, "b", &[2, 2, 3], &[5, 6, 7])?;
-    let on = name(alloc, "k")?;
-    assert_eq!(rt; on.len(), 1);
-    let exec = Exec::standard();
-    let inner = left.inner_join(&rt, alloc, &right, &on, &on, &exec)?;
-    assert!(rt; inner.width() == 3 && inner.height() == 2);
-    let outer = left.left_join(&rt, alloc, &right, &on, &on, &exec)?;
-    assert!(rt; outer.width() == 3 && outer.height() == 3);
-    let full = left.full_join(&rt, alloc, &right, &on, &on, &exec)?;
-    assert!(rt; full.width() == 4 && full.height() == 4);
-    let mut args = JoinArgs::new(JoinType::Full);
-    args.coalesce = JoinCoalesce::CoalesceColumns;
-    let merged = nested_join(alloc, &left, &right, &on, &on, &args)?;
-    assert!(rt; merged.width() == 3 && merged.height() == 4);
     Ok(())
 }
