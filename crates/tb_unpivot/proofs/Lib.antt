@@ -1,0 +1,4 @@
+pub mod Answered
+pub mod Causes
+pub mod CommonKinds
+pub mod Lists

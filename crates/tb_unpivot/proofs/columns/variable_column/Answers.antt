@@ -1,0 +1,15 @@
+use Rattle.std.proofs.Common.{◌≡◌, ◌∙◌, List, subst}
+use Rattle.std.specs.Prelude.{IfOk}
+use Rattle.tb_value.specs.Datum.{Datum}
+use Rattle.tb_value.specs.Kind as kind
+use Rattle.tb_chunk.specs.Lent.{lent_columns}
+use Rattle.tb_frame.specs.Table.{plain}
+use Rattle.tb_unpivot.proofs.Lists.{names_each, names_few}
+use Rattle.tb_unpivot.proofs.columns.variable_column.Goals as goal
+
+pub text_column-requires-clause-few : goal.text_column-requires-clause-few
+text_column-requires-clause-few c = names_few c.in_ok-cells.cells.items c.args.columns.now c.in_ok-cells.ensures.cells c.requires.few
+
+pub returns : goal.returns
+returns c =
+    subst (λ (vs : List Datum). IfOk c.text_column.result (λ d. plain d ≡ record { name = c.args.name; kind = kind.string; values = vs })) (c.in_ok-cells.ensures.cells ∙ names_each (lent_columns c.args.columns.now)) c.text_column.ensures

@@ -1,0 +1,162 @@
+//! The columns of a table that is made long.
+ghost use Rattle.std.specs.Prelude.{◌≡◌, ◌≤◌, ◌<◌, ◌*◌, ◌^◌, ◌++◌, IfOk, OnOk, Some, length, map, replicate};
+ghost use Rattle.std.specs.List.{All, flat_map};
+ghost use Rattle.std.specs.Str.{IsUtf8};
+ghost use Rattle.tb_value.specs.Datum.{Datum, string};
+ghost use Rattle.tb_value.specs.Kind as kind;
+ghost use Rattle.tb_value.specs.SeeKind.{kind_of};
+ghost use Rattle.tb_value.specs.Typed.{HasType};
+ghost use Rattle.tb_chunk.specs.Chunk.{or_null};
+ghost use Rattle.tb_chunk.specs.Col.{Col, flat, values};
+ghost use Rattle.tb_chunk.specs.Lent.{lent_columns};
+ghost use Rattle.tb_frame.specs.Table.{plain, table_of};
+ghost use Rattle.tb_supertype.specs.Columns.{CastsTo};
+ghost use Rattle.tb_unpivot.specs.Unpivot.{long_table, repeated, value_column, variable_column};
+
+use std::alloc::Global;
+use tb_store::{Cells, Chunks, Column, IsSorted, MAX_ROWS, Series, StringChunk};
+use tb_supertype::stack;
+use tb_value::{DataType, OutOfMemory, PlSmallStr};
+
+// A column lent so many times.
+fn lent_times<'a>(
+    alloc: Global,
+    column: &'a Series,
+    times: usize,
+) -> Result<Vec<&'a Series>, OutOfMemory>
+    ensures { IfOk result (λ v. lent_columns v.items ≡ replicate times column.now) }
+{
+    let mut lent = Vec::with_capacity(alloc, times)?;
+    for i in 0..times {
+        lent.push(column)?;
+    }
+    Ok(lent)
+}
+
+// A column with its values so many times over.
+fn repeated(alloc: Global, column: &Series, times: usize) -> Result<Column, OutOfMemory>
+    requires { length (values column.now) * times ≤ MAX_ROWS }
+    ensures { IfOk result (λ c. plain c ≡ repeated times (plain column.now)) }
+{
+    let _len = column.len();
+    let lent = lent_times(alloc, column, times)?;
+    let name = column.name().copy(alloc)?;
+    let dtype = column.dtype().copy(alloc)?;
+    Ok(stack(alloc, name, dtype, &lent)?.into_column())
+}
+
+// The columns of the index, each so many times over.
+fn index_columns(
+    alloc: Global,
+    columns: &[&Series],
+    times: usize,
+) -> Result<Vec<Column>, OutOfMemory>
+    requires { All (λ c. length (values c.now) * times ≤ MAX_ROWS) columns.now }
+    ensures { IfOk result (λ v. table_of v.items ≡ map (repeated times) (table_of (lent_columns columns.now))) }
+{
+    let mut repeats = Vec::with_capacity(alloc, columns.len())?;
+    for column in columns {
+        repeats.push(repeated(alloc, column, times)?)?;
+    }
+    Ok(repeats)
+}
+
+// Appends a name so many times.
+fn push_name(
+    alloc: Global,
+    cells: &mut Vec<Option<PlSmallStr>>,
+    name: &PlSmallStr,
+    times: usize,
+) -> Result<(), OutOfMemory>
+    ensures cells { OnOk result (cells.new.items ≡ cells.old.items ++ replicate times (Some name.now)) }
+    ensures text { IsUtf8 name.now }
+{
+    let text = name.as_str();
+    for i in 0..times {
+        cells.push(Some(PlSmallStr::from_str(alloc, text)?))?;
+    }
+    Ok(())
+}
+
+// For each value of each column the column's name.
+fn name_cells(alloc: Global, columns: &[&Series]) -> Result<Vec<Option<PlSmallStr>>, OutOfMemory>
+    requires { All (λ c. length c.now.name < 2 ^ 32) columns.now }
+    ensures cells { IfOk result (λ v. map (or_null string) v.items ≡ flat_map (λ (c : Col). map (λ (d : Datum). string c.name) (values c)) (lent_columns columns.now)) }
+    ensures typed { IfOk result (λ v. All (HasType kind.string) (map (or_null string) v.items)) }
+{
+    let mut cells = Vec::new(alloc);
+    for column in columns {
+        push_name(alloc, &mut cells, column.name(), column.len())?;
+    }
+    Ok(cells)
+}
+
+fn text_type() -> DataType
+    ensures { kind_of result ≡ kind.string }
+{
+    DataType::String
+}
+
+// The column of this name and these texts.
+fn text_column(
+    alloc: Global,
+    name: PlSmallStr,
+    cells: Vec<Option<PlSmallStr>>,
+) -> Result<Column, OutOfMemory>
+    requires few { length cells.items ≤ MAX_ROWS }
+    requires typed { All (HasType kind.string) (map (or_null string) cells.items) }
+    ensures { IfOk result (λ c. plain c ≡ record { name = name; kind = kind.string; values = map (or_null string) cells.items }) }
+{
+    let mut chunks = Vec::with_capacity(alloc, 1)?;
+    chunks.push(StringChunk::from_cells(Cells { cells }))?;
+    let series = Series::from_parts(name, text_type(), Chunks::StringType(chunks), IsSorted::Not);
+    Ok(series.into_column())
+}
+
+fn variable_column(
+    alloc: Global,
+    name: PlSmallStr,
+    columns: &[&Series],
+) -> Result<Column, OutOfMemory>
+    requires few { length (flat (map (λ c. values c.now) columns.now)) ≤ MAX_ROWS }
+    requires short { All (λ c. length c.now.name < 2 ^ 32) columns.now }
+    ensures { IfOk result (λ c. plain c ≡ variable_column name (table_of (lent_columns columns.now))) }
+{
+    let cells = name_cells(alloc, columns)?;
+    text_column(alloc, name, cells)
+}
+
+fn value_column(
+    alloc: Global,
+    name: PlSmallStr,
+    dtype: DataType,
+    columns: &[&Series],
+) -> Result<Column, OutOfMemory>
+    requires few { length (flat (map (λ c. values c.now) columns.now)) ≤ MAX_ROWS }
+    requires typed { All (λ c. CastsTo (kind_of dtype) c.now) columns.now }
+    ensures { IfOk result (λ c. plain c ≡ value_column name (kind_of dtype) (table_of (lent_columns columns.now))) }
+{
+    Ok(stack(alloc, name, dtype, columns)?.into_column())
+}
+
+/// The columns of the index once for each of the columns that are put one below the other, and beside them the names of
+/// those and their values, cast to the type.
+pub(crate) fn long_columns(
+    alloc: Global,
+    dtype: DataType,
+    on: &[&Series],
+    index: &[&Series],
+    variable: &str,
+    value: &str,
+) -> Result<Vec<Column>, OutOfMemory>
+    requires few { length (flat (map (λ c. values c.now) on.now)) ≤ MAX_ROWS }
+    requires level { All (λ c. length (values c.now) * length on.now ≤ MAX_ROWS) index.now }
+    requires short { All (λ c. length c.now.name < 2 ^ 32) on.now }
+    requires typed { All (λ c. CastsTo (kind_of dtype) c.now) on.now }
+    ensures { IfOk result (λ v. table_of v.items ≡ long_table (kind_of dtype) (table_of (lent_columns on.now)) (table_of (lent_columns index.now)) variable.now value.now) }
+{
+    let mut columns = index_columns(alloc, index, on.len())?;
+    columns.push(variable_column(alloc, PlSmallStr::from_str(alloc, variable)?, on)?)?;
+    columns.push(value_column(alloc, PlSmallStr::from_str(alloc, value)?, dtype, on)?)?;
+    Ok(columns)
+}

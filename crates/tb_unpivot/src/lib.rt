@@ -1,0 +1,11 @@
+//! Tables made long: some columns put one below the other, with their names and the other columns beside them.
+#![tactic(auto)]
+
+mod columns;
+mod frame_unpivot;
+pub mod laws;
+mod lookup;
+#[cfg(test)]
+mod tests;
+
+pub use frame_unpivot::{UnpivotArgsIR, UnpivotDF};
