@@ -8,8 +8,6 @@ mod merging;
 mod pushing;
 mod runs;
 mod steps;
-#[cfg(test)]
-mod tests;
 
 pub use ascend::Ascend;
 pub use fault::MergeFault;

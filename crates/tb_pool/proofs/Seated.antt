@@ -24,9 +24,6 @@ module _ {O : Type 0} where
     not_wanting = fine;
   }
 
-  pub in_front : (ws : List (Worker O)) (w : Worker O) → insert ws 0 w ≡ w ∷ ws
-  in_front ws w = refl
-
   pub same_weights : (R : ℕ → O → Type 0) (c : ClaimsView) (xs ys : List (Worker O)) → length ys ≡ length xs → PlaceByPlace (HasWorked R c) xs ys → sum_by (λ (u : Worker O). u.seat.weight) ys ≡ sum_by (λ (u : Worker O). u.seat.weight) xs
   same_weights R c [] [] len each = refl
   same_weights R c [] (y ∷ ys) len each = absurd (omega arith)

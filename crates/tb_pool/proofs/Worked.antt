@@ -14,16 +14,6 @@ use Rattle.tb_pool.specs.Running.{ClaimsView, IsSeatOf}
 abbrev pub above : List ℕ → ℕ
 above xs = fold (λ _ y. y + 1) 0 xs
 
-pub above-push : (xs : List ℕ) (x : ℕ) → above (xs ++ x ∷ []) ≡ x + 1
-above-push xs x = fold_push (λ _ y. y + 1) 0 xs x
-
-above_le_from : (a : ℕ) (xs : List ℕ) (x : ℕ) → a ≤ x → All (λ y. y < x) xs → fold (λ _ y. y + 1) a xs ≤ x
-above_le_from a [] x le all = le
-above_le_from a (y ∷ ys) x le all = above_le_from (y + 1) ys x (let h : y < x = All-head (λ z. z < x) y ys all in omega arith) (All-tail (λ z. z < x) y ys all)
-
-pub above_le : (xs : List ℕ) (x : ℕ) → All (λ y. y < x) xs → above xs ≤ x
-above_le xs x all = above_le_from 0 xs x (omega arith) all
-
 early_one : (n x : ℕ) → x < n → cond {A = ℕ} (nat_le n x) 1 0 ≡ 0
 early_one n x h = grind (arith, nat_tests)
 

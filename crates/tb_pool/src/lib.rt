@@ -9,8 +9,6 @@ pub mod laws;
 mod parts;
 mod run;
 mod seat;
-#[cfg(test)]
-mod tests;
 mod workers;
 
 pub use claims::{ClaimSeat, Claims};

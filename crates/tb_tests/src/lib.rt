@@ -1,13 +1,11 @@
-//! Tests that cross crates. The library itself is empty.
+//! Tests of the crates below the joins. The library itself is empty.
 #![tactic(auto)]
 
 #[cfg(test)]
 mod columns;
 #[cfg(test)]
-mod gathers;
-#[cfg(test)]
-mod pairs;
-#[cfg(test)]
-mod program;
+mod merging;
 #[cfg(test)]
 mod tables;
+#[cfg(test)]
+mod workers;

@@ -1,10 +1,10 @@
 //! What no contract says of workers: that they enter at once, and that one takes what another leaves.
-use crate::{Exec, Gate, Parts, run_parts};
 use std::alloc::Global;
 use std::process::Abort;
 use std::sync::atomic::{AtomicU64, Ordering};
 use std::test::Fail;
 use std::thread::Threads;
+use tb_pool::{Exec, Gate, Parts, run_parts};
 use tb_value::OutOfMemory;
 
 // The square of each part's number.

@@ -2,13 +2,13 @@
 ghost use Rattle.std.specs.Prelude.{◌≡◌, ◌<◌, ◌≤◌, ◌+◌, ◌*◌, length, IfOk, IsSorted};
 ghost use Rattle.std.specs.Ordering.{int_cmp};
 
-use crate::{Ascend, MergeFault, Merged, Steps, merge_inner, merge_left};
 use std::alloc::Global;
 use std::cmp::Ordering;
 use std::marker::{Brand, PhantomData, Sync};
 use std::process::Abort;
 use std::sync::ledger::{Blank, Ledger};
 use std::test::Fail;
+use tb_merge::{Ascend, MergeFault, Merged, Steps, merge_inner, merge_left};
 use tb_pool::Exec;
 use tb_value::{JoinPair, MAX_ROWS};
 

@@ -1,0 +1,9 @@
+//! Tests of joins that cross crates. The library itself is empty.
+#![tactic(auto)]
+
+#[cfg(test)]
+mod gathers;
+#[cfg(test)]
+mod pairs;
+#[cfg(test)]
+mod program;
