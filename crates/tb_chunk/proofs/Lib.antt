@@ -7,5 +7,6 @@ pub mod Lent
 pub mod Lists
 pub mod Merging
 pub mod Nulls
+pub mod OneChunk
 pub mod Parts
 pub mod Windows

@@ -1,18 +1,19 @@
 //! Typed chunks, looked at before a column is made of them.
-ghost use Rattle.std.specs.Prelude.{◌≡◌, ◌≤◌, ◌↔◌, ◌∷◌, [], IfOk, IsTrue, MatchResult, length, map};
+ghost use Rattle.std.specs.Prelude.{◌≡◌, ◌≤◌, ◌↔◌, ◌∷◌, [], IfOk, IsTrue, length, map};
 ghost use Rattle.std.specs.List.{All};
 ghost use Rattle.tb_value.specs.SeeKind.{kind_of};
 ghost use Rattle.tb_value.specs.Typed.{HasType};
 ghost use Rattle.tb_chunk.specs.Col.{flat, physical};
-ghost use Rattle.tb_chunk.specs.Made.{at_least_one, IsTyped, IsShort, IsRefused};
+ghost use Rattle.tb_chunk.specs.Made.{at_least_one, IsTyped, IsShort};
 ghost use Rattle.tb_chunk.specs.Physical.{kind_for};
 ghost use Rattle.tb_chunk.specs.Seen.{chunk_lists, storage};
 ghost use Rattle.tb_chunk.specs.Stored.{AreMade};
 
 use crate::chunk::Chunk;
 use crate::chunks::Chunks;
-use crate::each::map_chunks;
+use crate::each::for_chunks;
 use crate::marker::{Physical, physical_of};
+use crate::stored::Stored;
 use std::alloc::Global;
 use tb_value::{ComputeCause, DataType, MAX_ROWS, OutOfMemory, PolarsError, PolarsResult};
 
@@ -67,10 +68,8 @@ fn or_empty<C: Chunk>(alloc: Global, chunks: Vec<C>) -> Result<Vec<C>, OutOfMemo
 }
 
 // One or more chunks of values of the type, few enough.
-fn checked<C: Chunk>(alloc: Global, dtype: &DataType, chunks: Vec<C>) -> PolarsResult<Vec<C>>
-    ensures { let t = kind_of dtype.now in let cs = map C.shown chunks.items in
-        MatchResult result (λ v. IsTyped t cs × IsShort cs × (map C.shown v.items ≡ at_least_one cs))
-        (λ e. IsRefused (IsTyped t cs) (IsShort cs) e) }
+fn checked<C: Stored>(alloc: Global, dtype: &DataType, chunks: Vec<C>) -> PolarsResult<Chunks>
+    ensures { AreMade (kind_of dtype.now) C.kind (map C.shown chunks.items) result }
 {
     if !are_chunks_of(dtype, &chunks) {
         return Err(PolarsError::SchemaMismatch);
@@ -78,7 +77,7 @@ fn checked<C: Chunk>(alloc: Global, dtype: &DataType, chunks: Vec<C>) -> PolarsR
     if !are_few(&chunks) {
         return Err(PolarsError::ComputeError(ComputeCause::TooManyRows));
     }
-    Ok(or_empty(alloc, chunks)?)
+    Ok(C::wrap(or_empty(alloc, chunks)?))
 }
 
 impl Chunks {
@@ -114,6 +113,6 @@ impl Chunks {
     pub fn checked(self, alloc: Global, dtype: &DataType) -> PolarsResult<Chunks>
         ensures { AreMade (kind_of dtype.now) (storage self) (chunk_lists self) result }
     {
-        map_chunks!(self, arrays => checked(alloc, dtype, arrays)?)
+        for_chunks!(self, arrays => checked(alloc, dtype, arrays))
     }
 }

@@ -7,8 +7,9 @@ ghost use Rattle.tb_chunk.specs.Flag.{nulls};
 ghost use Rattle.tb_chunk.specs.Seen.{chunk_lists, storage};
 
 use crate::chunk::{Cells, Chunk, StringChunk};
-use crate::each::{for_chunks, map_chunks};
+use crate::each::for_chunks;
 use crate::owned_chunks::{BinaryChunk, ListChunk, StructChunk};
+use crate::stored::Stored;
 use std::alloc::Global;
 use tb_value::{OutOfMemory, ValueRef};
 
@@ -88,6 +89,14 @@ pub fn copy_chunks<C: Chunk>(alloc: Global, chunks: &[C]) -> Result<Vec<C>, OutO
     Ok(copies)
 }
 
+// Chunks of the same values.
+fn copied<C: Stored>(alloc: Global, chunks: &[C]) -> Result<Chunks, OutOfMemory>
+    ensures lists { IfOk result (λ c. chunk_lists c ≡ map C.shown chunks.now) }
+    ensures storage { IfOk result (λ c. storage c ≡ C.kind) }
+{
+    Ok(C::wrap(copy_chunks(alloc, chunks)?))
+}
+
 impl Chunks {
     /// The number of chunks.
     pub fn count(&self) -> usize
@@ -134,6 +143,6 @@ impl Chunks {
         ensures lists { IfOk result (λ c. chunk_lists c ≡ chunk_lists self.now) }
         ensures storage { IfOk result (λ c. storage c ≡ storage self.now) }
     {
-        map_chunks!(self, chunks => copy_chunks(alloc, chunks)?)
+        for_chunks!(self, chunks => copied(alloc, chunks))
     }
 }

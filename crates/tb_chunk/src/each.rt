@@ -46,25 +46,25 @@ macro_rules! map_chunks {
     };
 }
 
-// The chunks that are made of the chunks of two columns that are stored alike, stored as they were.
+// The answer for the chunks of two columns that are stored alike, whichever they are.
 macro_rules! for_pairs {
-    ($column:expr, $other:expr, ($first:ident, $second:ident) => $made:expr) => {
+    ($column:expr, $other:expr, ($first:ident, $second:ident) => $answer:expr) => {
         match ($column, $other) {
-            (Chunks::BooleanType($first), Chunks::BooleanType($second)) => Ok(Chunks::BooleanType($made)),
-            (Chunks::Int8Type($first), Chunks::Int8Type($second)) => Ok(Chunks::Int8Type($made)),
-            (Chunks::Int16Type($first), Chunks::Int16Type($second)) => Ok(Chunks::Int16Type($made)),
-            (Chunks::Int32Type($first), Chunks::Int32Type($second)) => Ok(Chunks::Int32Type($made)),
-            (Chunks::Int64Type($first), Chunks::Int64Type($second)) => Ok(Chunks::Int64Type($made)),
-            (Chunks::Int128Type($first), Chunks::Int128Type($second)) => Ok(Chunks::Int128Type($made)),
-            (Chunks::UInt8Type($first), Chunks::UInt8Type($second)) => Ok(Chunks::UInt8Type($made)),
-            (Chunks::UInt16Type($first), Chunks::UInt16Type($second)) => Ok(Chunks::UInt16Type($made)),
-            (Chunks::UInt32Type($first), Chunks::UInt32Type($second)) => Ok(Chunks::UInt32Type($made)),
-            (Chunks::UInt64Type($first), Chunks::UInt64Type($second)) => Ok(Chunks::UInt64Type($made)),
-            (Chunks::StringType($first), Chunks::StringType($second)) => Ok(Chunks::StringType($made)),
-            (Chunks::BinaryType($first), Chunks::BinaryType($second)) => Ok(Chunks::BinaryType($made)),
-            (Chunks::ListType($first), Chunks::ListType($second)) => Ok(Chunks::ListType($made)),
-            (Chunks::StructType($first), Chunks::StructType($second)) => Ok(Chunks::StructType($made)),
-            (Chunks::Null($first), Chunks::Null($second)) => Ok(Chunks::Null($made)),
+            (Chunks::BooleanType($first), Chunks::BooleanType($second)) => $answer,
+            (Chunks::Int8Type($first), Chunks::Int8Type($second)) => $answer,
+            (Chunks::Int16Type($first), Chunks::Int16Type($second)) => $answer,
+            (Chunks::Int32Type($first), Chunks::Int32Type($second)) => $answer,
+            (Chunks::Int64Type($first), Chunks::Int64Type($second)) => $answer,
+            (Chunks::Int128Type($first), Chunks::Int128Type($second)) => $answer,
+            (Chunks::UInt8Type($first), Chunks::UInt8Type($second)) => $answer,
+            (Chunks::UInt16Type($first), Chunks::UInt16Type($second)) => $answer,
+            (Chunks::UInt32Type($first), Chunks::UInt32Type($second)) => $answer,
+            (Chunks::UInt64Type($first), Chunks::UInt64Type($second)) => $answer,
+            (Chunks::StringType($first), Chunks::StringType($second)) => $answer,
+            (Chunks::BinaryType($first), Chunks::BinaryType($second)) => $answer,
+            (Chunks::ListType($first), Chunks::ListType($second)) => $answer,
+            (Chunks::StructType($first), Chunks::StructType($second)) => $answer,
+            (Chunks::Null($first), Chunks::Null($second)) => $answer,
             _ => unreachable!(),
         }
     };

@@ -5,7 +5,8 @@ ghost use Rattle.tb_chunk.specs.Seen.{chunk_lists, storage};
 
 use crate::chunk::Chunk;
 use crate::chunks::Chunks;
-use crate::each::map_chunks;
+use crate::each::for_chunks;
+use crate::stored::Stored;
 use std::alloc::Global;
 use tb_value::OutOfMemory;
 
@@ -70,6 +71,21 @@ pub fn join_one<C: Chunk>(
     Ok(one)
 }
 
+// The same, as those of a column.
+fn join_stored<C: Stored>(
+    alloc: Global,
+    chunks: &[C],
+    start: usize,
+    len: usize,
+) -> Result<Chunks, OutOfMemory>
+    requires within { start + len ≤ length (flat (map C.shown chunks.now)) }
+    requires short { length (flat (map C.shown chunks.now)) < 2 ^ 32 }
+    ensures lists { IfOk result (λ c. chunk_lists c ≡ take len (drop start (flat (map C.shown chunks.now))) ∷ []) }
+    ensures storage { IfOk result (λ c. storage c ≡ C.kind) }
+{
+    Ok(C::wrap(join_one(alloc, chunks, start, len)?))
+}
+
 impl Chunks {
     /// The rows from `start` on, in one chunk.
     pub fn joined(&self, alloc: Global, start: usize, len: usize) -> Result<Chunks, OutOfMemory>
@@ -78,6 +94,6 @@ impl Chunks {
         ensures lists { IfOk result (λ c. chunk_lists c ≡ take len (drop start (flat (chunk_lists self.now))) ∷ []) }
         ensures storage { IfOk result (λ c. storage c ≡ storage self.now) }
     {
-        map_chunks!(self, chunks => join_one(alloc, chunks, start, len)?)
+        for_chunks!(self, chunks => join_stored(alloc, chunks, start, len))
     }
 }

@@ -16,6 +16,7 @@ mod owned_chunks;
 mod pick;
 mod row_number;
 mod slicing;
+mod stored;
 
 pub use cell::{Cell, FieldValues};
 pub use chunk::{Cells, Chunk, StringChunk};
@@ -26,3 +27,4 @@ pub use ordering::keeps_order;
 pub use owned_chunks::{BinaryChunk, ListChunk, StructChunk};
 pub use row_number::RowNumber;
 pub use slicing::slice_offsets;
+pub use stored::Stored;

@@ -10,8 +10,10 @@ ghost use Rattle.tb_chunk.specs.Made.{lists_of, at_least_one};
 ghost use Rattle.tb_chunk.specs.Seen.{chunk_lists, storage};
 ghost use Rattle.tb_chunk.specs.Stored.{AreMade};
 
-use crate::chunk::Chunk;
+use crate::chunk::{Cells, Chunk, StringChunk};
 use crate::chunks::Chunks;
+use crate::owned_chunks::{BinaryChunk, ListChunk, StructChunk};
+use crate::stored::Stored;
 use std::alloc::Global;
 use tb_value::{
     AnyValue, ComputeCause, DataType, MAX_ROWS, OutOfMemory, PolarsError, PolarsResult,
@@ -68,6 +70,15 @@ fn build<C: Chunk>(alloc: Global, lists: &[Vec<AnyValue>]) -> Result<Vec<C>, Out
     Ok(chunks)
 }
 
+// The same, as those of a column.
+fn build_stored<C: Stored>(alloc: Global, lists: &[Vec<AnyValue>]) -> Result<Chunks, OutOfMemory>
+    requires { All (Fits C.kind) (flat (lists_of lists.now)) }
+    ensures lists { IfOk result (λ c. chunk_lists c ≡ lists_of lists.now) }
+    ensures storage { IfOk result (λ c. storage c ≡ C.kind) }
+{
+    Ok(C::wrap(build(alloc, lists)?))
+}
+
 fn build_chunks(
     alloc: Global,
     dtype: &DataType,
@@ -78,23 +89,22 @@ fn build_chunks(
     ensures storage { IfOk result (λ c. storage c ≡ physical (kind_of dtype.now)) }
 {
     match dtype {
-        DataType::Null => Ok(Chunks::Null(build(alloc, lists)?)),
-        DataType::Boolean => Ok(Chunks::BooleanType(build(alloc, lists)?)),
-        DataType::Int8 => Ok(Chunks::Int8Type(build(alloc, lists)?)),
-        DataType::Int16 => Ok(Chunks::Int16Type(build(alloc, lists)?)),
-        DataType::Int32 | DataType::Date => Ok(Chunks::Int32Type(build(alloc, lists)?)),
-        DataType::Int64 | DataType::Datetime(_, _) | DataType::Duration(_) | DataType::Time => Ok(
-            Chunks::Int64Type(build(alloc, lists)?),
-        ),
-        DataType::Int128 => Ok(Chunks::Int128Type(build(alloc, lists)?)),
-        DataType::UInt8 => Ok(Chunks::UInt8Type(build(alloc, lists)?)),
-        DataType::UInt16 => Ok(Chunks::UInt16Type(build(alloc, lists)?)),
-        DataType::UInt32 => Ok(Chunks::UInt32Type(build(alloc, lists)?)),
-        DataType::UInt64 => Ok(Chunks::UInt64Type(build(alloc, lists)?)),
-        DataType::String => Ok(Chunks::StringType(build(alloc, lists)?)),
-        DataType::Binary => Ok(Chunks::BinaryType(build(alloc, lists)?)),
-        DataType::List(_) => Ok(Chunks::ListType(build(alloc, lists)?)),
-        DataType::Struct(_) => Ok(Chunks::StructType(build(alloc, lists)?)),
+        DataType::Null => build_stored::<usize>(alloc, lists),
+        DataType::Boolean => build_stored::<Cells<bool>>(alloc, lists),
+        DataType::Int8 => build_stored::<Cells<i8>>(alloc, lists),
+        DataType::Int16 => build_stored::<Cells<i16>>(alloc, lists),
+        DataType::Int32 | DataType::Date => build_stored::<Cells<i32>>(alloc, lists),
+        DataType::Int64 | DataType::Datetime(_, _) | DataType::Duration(_) | DataType::Time =>
+            build_stored::<Cells<i64>>(alloc, lists),
+        DataType::Int128 => build_stored::<Cells<i128>>(alloc, lists),
+        DataType::UInt8 => build_stored::<Cells<u8>>(alloc, lists),
+        DataType::UInt16 => build_stored::<Cells<u16>>(alloc, lists),
+        DataType::UInt32 => build_stored::<Cells<u32>>(alloc, lists),
+        DataType::UInt64 => build_stored::<Cells<u64>>(alloc, lists),
+        DataType::String => build_stored::<StringChunk>(alloc, lists),
+        DataType::Binary => build_stored::<BinaryChunk>(alloc, lists),
+        DataType::List(_) => build_stored::<ListChunk>(alloc, lists),
+        DataType::Struct(_) => build_stored::<StructChunk>(alloc, lists),
     }
 }
 

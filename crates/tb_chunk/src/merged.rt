@@ -9,6 +9,7 @@ use crate::chunk::Chunk;
 use crate::chunks::{Chunks, rows_in};
 use crate::each::for_pairs;
 use crate::grow::join_rows;
+use crate::stored::Stored;
 use std::alloc::Global;
 use tb_value::{IsSorted, OutOfMemory, ValueRef};
 
@@ -29,17 +30,18 @@ fn merge_rows<C: Chunk>(alloc: Global, first: &C, second: &C) -> Result<C, OutOf
 }
 
 // The values of all chunks, and those of others where they are Null, as the only chunk.
-fn merge_one<C: Chunk>(alloc: Global, first: &[C], second: &[C]) -> Result<Vec<C>, OutOfMemory>
+fn merge_one<C: Stored>(alloc: Global, first: &[C], second: &[C]) -> Result<Chunks, OutOfMemory>
     requires same_len { length (flat (map C.shown first.now)) ≡ length (flat (map C.shown second.now)) }
     requires short { length (flat (map C.shown first.now)) < 2 ^ 32 }
-    ensures { IfOk result (λ v. map C.shown v.items ≡ merged (flat (map C.shown first.now)) (flat (map C.shown second.now)) ∷ []) }
+    ensures lists { IfOk result (λ c. chunk_lists c ≡ merged (flat (map C.shown first.now)) (flat (map C.shown second.now)) ∷ []) }
+    ensures storage { IfOk result (λ c. storage c ≡ C.kind) }
 {
     let first = join_rows(alloc, first, 0, rows_in(first))?;
     let second = join_rows(alloc, second, 0, rows_in(second))?;
     let chunk = merge_rows(alloc, &first, &second)?;
     let mut one = Vec::new(alloc);
     one.push(chunk)?;
-    Ok(one)
+    Ok(C::wrap(one))
 }
 
 impl Chunks {
@@ -51,6 +53,6 @@ impl Chunks {
         ensures lists { IfOk result (λ c. chunk_lists c ≡ merged (flat (chunk_lists self.now)) (flat (chunk_lists other.now)) ∷ []) }
         ensures storage { IfOk result (λ c. storage c ≡ storage self.now) }
     {
-        for_pairs!(self, other, (a, b) => merge_one(alloc, a, b)?)
+        for_pairs!(self, other, (a, b) => merge_one(alloc, a, b))
     }
 }
