@@ -9,17 +9,14 @@ use Rattle.tb_chunk.specs.Col.{Col, IsColumn, flat, values}
 use Rattle.tb_chunk.specs.Rows.{IsRowOf, value_or_null}
 use Rattle.tb_chunk.proofs.Flags.{flag_part}
 use Rattle.tb_chunk.proofs.Lists.{All-picked}
+use Rattle.tb_chunk.proofs.OneChunk.{one_chunk_is_column}
 use Rattle.std.proofs.lemmas.List.Elements.{All-take, All-drop}
 
 pub picked_column : {R : Type 0} (c d : Col) (number : R → Option ℕ) (rows : List R) → IsColumn c → All (λ r. IsRowOf (length (values c)) (number r)) rows → length rows ≤ MAX_ROWS → d.kind ≡ c.kind → d.chunks ≡ map (λ r. value_or_null (values c) (number r)) rows ∷ [] → d.flag ≡ Not → IsColumn d
 picked_column c d number rows column within few same_kind picked not =
-    let all : values d ≡ map (λ r. value_or_null (values c) (number r)) rows = ap flat picked ∙ append-nil (map (λ r. value_or_null (values c) (number r)) rows) in
-    record {
-      chunked = omega (arith, ap length picked);
-      short = omega (arith, ap length all, length-map rows (λ r. value_or_null (values c) (number r)));
-      typed = rw (same_kind, all) (All-picked (HasType c.kind) (values c) number rows tt column.typed within);
-      flag_holds = rw not tt;
-    }
+    one_chunk_is_column d c.kind (map (λ r. value_or_null (values c) (number r)) rows)
+    (omega (arith, length-map rows (λ r. value_or_null (values c) (number r))))
+    (All-picked (HasType c.kind) (values c) number rows tt column.typed within) same_kind picked not
 
 pub part_column : (c d : Col) (start len : ℕ) → IsColumn c → d.kind ≡ c.kind → d.chunks ≡ take len (drop start (values c)) ∷ [] → d.flag ≡ c.flag → IsColumn d
 part_column c d start len column same_kind cut same_flag =

@@ -20,7 +20,7 @@ pub use data_type::{
 };
 pub use series::Series;
 pub use tb_chunk::{
-    BinaryChunk, Cell, Cells, Chunk, Chunks, FieldValues, ListChunk, Physical, StringChunk,
+    BinaryChunk, Cell, Cells, Chunk, Chunks, FieldValues, ListChunk, Physical, Stored, StringChunk,
     StructChunk, physical_of, slice_offsets,
 };
 pub use tb_value::{
