@@ -6,7 +6,7 @@ ghost use Rattle.tb_frame.specs.Frame.{lengths};
 ghost use Rattle.tb_gather.specs.Gathered.{value_at};
 
 use std::alloc::Global;
-use tb_store::{Chunk, Chunks};
+use tb_store::{Chunk, Chunks, Stored};
 use tb_value::{ChunkId, OutOfMemory};
 
 // Appends the row that an id names, Null for none.
@@ -60,6 +60,20 @@ pub(crate) fn gather_one<C: Chunk, const B: u64>(
     Ok(one)
 }
 
+// The same, as those of a column.
+fn gather_stored<C: Stored, const B: u64>(
+    alloc: Global,
+    chunks: &[C],
+    ids: &[ChunkId<B>],
+) -> Result<Chunks, OutOfMemory>
+    requires named { All (NamesRow (lengths (map C.shown chunks.now))) ids.now }
+    requires few { length ids.now < 2 ^ 32 }
+    ensures lists { IfOk result (λ c. chunk_lists c ≡ map (value_at (map C.shown chunks.now)) ids.now ∷ []) }
+    ensures storage { IfOk result (λ c. storage c ≡ C.kind) }
+{
+    Ok(C::wrap(gather_one(alloc, chunks, ids)?))
+}
+
 /// The rows that the ids name, in one chunk of the same kind, Null for none.
 pub(crate) fn gather_chunks<const B: u64>(
     alloc: Global,
@@ -72,20 +86,20 @@ pub(crate) fn gather_chunks<const B: u64>(
     ensures storage { IfOk result (λ c. storage c ≡ storage chunks.now) }
 {
     match chunks {
-        Chunks::BooleanType(chunks) => Ok(Chunks::BooleanType(gather_one(alloc, chunks, ids)?)),
-        Chunks::Int8Type(chunks) => Ok(Chunks::Int8Type(gather_one(alloc, chunks, ids)?)),
-        Chunks::Int16Type(chunks) => Ok(Chunks::Int16Type(gather_one(alloc, chunks, ids)?)),
-        Chunks::Int32Type(chunks) => Ok(Chunks::Int32Type(gather_one(alloc, chunks, ids)?)),
-        Chunks::Int64Type(chunks) => Ok(Chunks::Int64Type(gather_one(alloc, chunks, ids)?)),
-        Chunks::Int128Type(chunks) => Ok(Chunks::Int128Type(gather_one(alloc, chunks, ids)?)),
-        Chunks::UInt8Type(chunks) => Ok(Chunks::UInt8Type(gather_one(alloc, chunks, ids)?)),
-        Chunks::UInt16Type(chunks) => Ok(Chunks::UInt16Type(gather_one(alloc, chunks, ids)?)),
-        Chunks::UInt32Type(chunks) => Ok(Chunks::UInt32Type(gather_one(alloc, chunks, ids)?)),
-        Chunks::UInt64Type(chunks) => Ok(Chunks::UInt64Type(gather_one(alloc, chunks, ids)?)),
-        Chunks::StringType(chunks) => Ok(Chunks::StringType(gather_one(alloc, chunks, ids)?)),
-        Chunks::BinaryType(chunks) => Ok(Chunks::BinaryType(gather_one(alloc, chunks, ids)?)),
-        Chunks::ListType(chunks) => Ok(Chunks::ListType(gather_one(alloc, chunks, ids)?)),
-        Chunks::StructType(chunks) => Ok(Chunks::StructType(gather_one(alloc, chunks, ids)?)),
-        Chunks::Null(chunks) => Ok(Chunks::Null(gather_one(alloc, chunks, ids)?)),
+        Chunks::BooleanType(chunks) => gather_stored(alloc, chunks, ids),
+        Chunks::Int8Type(chunks) => gather_stored(alloc, chunks, ids),
+        Chunks::Int16Type(chunks) => gather_stored(alloc, chunks, ids),
+        Chunks::Int32Type(chunks) => gather_stored(alloc, chunks, ids),
+        Chunks::Int64Type(chunks) => gather_stored(alloc, chunks, ids),
+        Chunks::Int128Type(chunks) => gather_stored(alloc, chunks, ids),
+        Chunks::UInt8Type(chunks) => gather_stored(alloc, chunks, ids),
+        Chunks::UInt16Type(chunks) => gather_stored(alloc, chunks, ids),
+        Chunks::UInt32Type(chunks) => gather_stored(alloc, chunks, ids),
+        Chunks::UInt64Type(chunks) => gather_stored(alloc, chunks, ids),
+        Chunks::StringType(chunks) => gather_stored(alloc, chunks, ids),
+        Chunks::BinaryType(chunks) => gather_stored(alloc, chunks, ids),
+        Chunks::ListType(chunks) => gather_stored(alloc, chunks, ids),
+        Chunks::StructType(chunks) => gather_stored(alloc, chunks, ids),
+        Chunks::Null(chunks) => gather_stored(alloc, chunks, ids),
     }
 }
