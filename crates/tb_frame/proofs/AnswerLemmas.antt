@@ -1,5 +1,5 @@
 -- The columns over the ordered and cut pairs are an answer.
-use Rattle.std.proofs.Common.{◌≡◌, ℕ, ◌<◌, List, [], ◌∷◌, length, get_or, map, ap, arith, sym, ◌∙◌, subst, None}
+use Rattle.std.proofs.Common.{◌≡◌, ℕ, ◌<◌, List, [], ◌∷◌, length, get_or, map, refl, ap, arith, sym, ◌∙◌, subst, None, ◌⊎◌, inl, inr}
 use Rattle.std.specs.Prelude.{All, AllPairs, ◌≢◌}
 use Rattle.std.proofs.lemmas.List.{length-map, get_or-map, ext_get_or}
 use Rattle.std.proofs.lemmas.List.Elements.{All-map}
@@ -58,11 +58,21 @@ table-fill ps os apart typed = record {
 pub fill-refusal : (ps : List JoinPair) (os : List Out) → AllPairs (λ (a b : Name). a ≢ b) (map (λ (o : Out). o.name) os) → frame_refusal (map (fill ps) os) ≡ None
 fill-refusal ps os apart = no_refusal (map (fill ps) os) (length ps) (level-fill ps os) (ap first_repeated (names-fill ps os) ∙ unrepeated_names (map (λ (o : Out). o.name) os) apart)
 
-pub answer_of : (q : Request) (ps : List JoinPair) → IsTable (map (fill (cut q.args.slice ps)) (out q)) → 0 < length (out q) → IsOrdered q.args.how q.args.maintain_order ps (listing q) → IsAnswer q (map (fill (cut q.args.slice ps)) (out q))
+-- a table without a column has no rows
+rows-nothing : (os : List Out) → rows_of (map (fill []) os) ≡ []
+rows-nothing [] = refl
+rows-nothing (o ∷ os) = refl
+
+some_or_nothing : (ps : List JoinPair) (os : List Out) → (0 < length os) ⊎ (ps ≡ []) → rows_of (map (fill ps) os) ≡ map (λ pair. map (λ (o : Out). o.at pair) os) ps
+some_or_nothing ps os (inl wide) = rows-fill ps os wide
+some_or_nothing ps os (inr none) = ap (λ (xs : List JoinPair). rows_of (map (fill xs) os)) none ∙ rows-nothing os ∙ sym (ap (map (λ pair. map (λ (o : Out). o.at pair) os)) none)
+
+-- with a column, or without pairs
+pub answer_of : (q : Request) (ps : List JoinPair) → IsTable (map (fill (cut q.args.slice ps)) (out q)) → (0 < length (out q)) ⊎ (cut q.args.slice ps ≡ []) → IsOrdered q.args.how q.args.maintain_order ps (listing q) → IsAnswer q (map (fill (cut q.args.slice ps)) (out q))
 answer_of q ps table wide ordered = record {
   table = table;
   columns = map-map (λ (c : TableColumn). (c.name, c.kind)) (fill (cut q.args.slice ps)) (out q) ∙ schema-out q;
   pairs = ps;
   ordered = ordered;
-  rows = rows-fill (cut q.args.slice ps) (out q) wide;
+  rows = some_or_nothing (cut q.args.slice ps) (out q) wide;
 }

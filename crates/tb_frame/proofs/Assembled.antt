@@ -1,40 +1,40 @@
 -- What a function has that put the listed pairs into columns.
-use Rattle.std.proofs.Common.{◌≡◌, ℕ, ◌≤◌, ◌-◌, List, length, drop, map, sym, ◌∙◌, ap, subst, arith, Option, Some, None, Result, Ok, Err, ℤ}
-use Rattle.std.specs.Prelude.{All, IfOk}
+use Rattle.std.proofs.Common.{◌≡◌, ℕ, ◌≤◌, ◌<◌, ◌-◌, List, [], length, drop, map, sym, ◌∙◌, ap, subst, arith, Option, Some, None, Result, Ok, Err, ℤ}
+use Rattle.std.specs.Prelude.{All, AllPairs, ◌≢◌, ◌⊎◌, IfOk}
 use Rattle.std.proofs.lemmas.List.{length-take, length-drop}
 use Rattle.std.proofs.lemmas.List.Sorted.{length_permutation}
+use Rattle.tb_value.specs.Names.{Name}
 use Rattle.tb_value.specs.declared.index.JoinPair.{JoinPair}
 use Rattle.tb_value.specs.declared.limits.TheConstants.{MAX_ROWS}
 use Rattle.tb_chunk.specs.Window.{part_from, part_to}
 use Rattle.tb_chunk.specs.Col.{Col}
-use Rattle.tb_frame.specs.Table.{TableColumn, Table, height, table_of, IsTable}
+use Rattle.tb_frame.specs.Table.{TableColumn, Table, height, names_of, table_of, IsTable}
 use Rattle.tb_frame.specs.Join.{Request, out, matches, listing, IsAnswer, cut}
 use Rattle.tb_frame.specs.Answer.{fill, IsListed, IsPairOf}
 use Rattle.tb_frame.specs.Frame.{frame_refusal}
 use Rattle.tb_frame.proofs.Ranges.{listed_rows}
-use Rattle.tb_frame.proofs.Outs.{names_distinct, out_wide}
-use Rattle.tb_frame.specs.Refusal.{join_valid}
+use Rattle.tb_frame.specs.Naming.{joined_names}
+use Rattle.tb_frame.proofs.Outs.{names_distinct}
 use Rattle.tb_frame.proofs.AnswerLemmas.{answer_of, fill-refusal}
-use Rattle.tb_frame.proofs.Validity.{few_pairs, names_apart, some_left, some_right}
 use Rattle.tb_frame.proofs.Windows.{slice_window}
 
 module _ (q : Request) (items : List JoinPair) (cols : List TableColumn) (is_cols : cols ≡ map (fill items) (out q)) where
-  -- the columns over the pairs of a request that is not refused are not refused
-  pub makes_frame : join_valid q → frame_refusal cols ≡ None
-  makes_frame valid = ap frame_refusal is_cols ∙ fill-refusal items (out q) (names_distinct q (names_apart q valid))
+  -- columns over the pairs, of names that are not repeated, are not refused
+  pub makes_frame : AllPairs (λ (a b : Name). a ≢ b) (joined_names q.args q.left_on q.right_on (names_of q.left) (names_of q.right)) → frame_refusal cols ≡ None
+  makes_frame apart = ap frame_refusal is_cols ∙ fill-refusal items (out q) (names_distinct q apart)
 
-  -- and are its answer
-  pub makes_answer : join_valid q → IsTable cols → IsListed q.args.how q.args.maintain_order q.args.slice (listing q) items → IsAnswer q cols
-  makes_answer valid table h =
+  -- and are the answer
+  pub makes_answer : (0 < length (out q)) ⊎ (items ≡ []) → IsTable cols → IsListed q.args.how q.args.maintain_order q.args.slice (listing q) items → IsAnswer q cols
+  makes_answer wide table h =
       let is : map (fill (cut q.args.slice h.pairs)) (out q) ≡ cols = ap (λ (x : List JoinPair). map (fill x) (out q)) (sym h.is) ∙ sym is_cols in
-      let wide = out_wide q (some_left q valid) (some_right q valid) in
-      subst (λ (t : Table). IsAnswer q t) is (answer_of q h.pairs (subst (λ (t : Table). IsTable t) (sym is) table) wide h.ordered)
+      let some = subst (λ (x : List JoinPair). (0 < length (out q)) ⊎ (x ≡ [])) h.is wide in
+      subst (λ (t : Table). IsAnswer q t) is (answer_of q h.pairs (subst (λ (t : Table). IsTable t) (sym is) table) some h.ordered)
 
 -- so the table that is made of the columns answers
-pub table_answers : {E : Type 0} (q : Request) (items : List JoinPair) (cols : List Col) (made : Result (List Col) E) → table_of cols ≡ map (fill items) (out q) → join_valid q → IsListed q.args.how q.args.maintain_order q.args.slice (listing q) items
+pub table_answers : {E : Type 0} (q : Request) (items : List JoinPair) (cols : List Col) (made : Result (List Col) E) → table_of cols ≡ map (fill items) (out q) → (0 < length (out q)) ⊎ (items ≡ []) → IsListed q.args.how q.args.maintain_order q.args.slice (listing q) items
     → IfOk made (λ t. t ≡ cols) → IfOk made (λ t. IsTable (table_of t)) → IfOk made (λ t. IsAnswer q (table_of t))
-table_answers q items cols (Ok t) is valid listed same table = makes_answer q items (table_of t) (ap table_of same ∙ is) valid table listed
-table_answers q items cols (Err e) is valid listed same table = tt
+table_answers q items cols (Ok t) is wide listed same table = makes_answer q items (table_of t) (ap table_of same ∙ is) wide table listed
+table_answers q items cols (Err e) is wide listed same table = tt
 
 -- the pairs are pairs of the tables' rows
 pub pairs_in_range : (q : Request) (items : List JoinPair) → IsListed q.args.how q.args.maintain_order q.args.slice (listing q) items → All (IsPairOf (height q.left) (height q.right)) items
@@ -49,9 +49,9 @@ cut_short (Some s) ps =
     let is = ap (λ (xs : List JoinPair). length xs) (slice_window ps s.0 s.1) in
     omega (arith, is, length-take n rest, length-drop (part_from (length ps) s.0) ps)
 
--- and of a request that is not refused no more than a table has rows
-pub few_listed : (q : Request) (items : List JoinPair) → join_valid q → IsListed q.args.how q.args.maintain_order q.args.slice (listing q) items → length items ≤ MAX_ROWS
-few_listed q items valid h =
+-- and no more than a table has rows, where the listing has no more
+pub few_listed : (q : Request) (items : List JoinPair) → length (listing q) ≤ MAX_ROWS → IsListed q.args.how q.args.maintain_order q.args.slice (listing q) items → length items ≤ MAX_ROWS
+few_listed q items few h =
     let long = ap (λ (xs : List JoinPair). length xs) h.is in
     let same = length_permutation (listing q) h.pairs h.ordered.permutation in
-    omega (arith, long, same, cut_short q.args.slice h.pairs, few_pairs q valid)
+    omega (arith, long, same, cut_short q.args.slice h.pairs, few)

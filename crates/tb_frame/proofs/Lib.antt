@@ -21,3 +21,4 @@ pub mod InOrder
 pub mod Validity
 pub mod JoinedNames
 pub mod Filled
+pub mod ByName

@@ -40,7 +40,7 @@ module _ (q : Request) where
   pub names-kept : names ≡ left_names q.args q.left_on (names_of q.left)
   names-kept = sym (filter-map (λ (c : TableColumn). c.name) (keeps_left q.args q.left_on) q.left)
 
-  pub names-out : map (λ (o : Out). o.name) (out q) ≡ left_names q.args q.left_on (names_of q.left) ++ map (right_name (left_names q.args q.left_on (names_of q.left)) q.args.suffix) (filter (shows_right q.args q.right_on) (names_of q.right))
+  names-out : map (λ (o : Out). o.name) (out q) ≡ left_names q.args q.left_on (names_of q.left) ++ map (right_name (left_names q.args q.left_on (names_of q.left)) q.args.suffix) (filter (shows_right q.args q.right_on) (names_of q.right))
   names-out =
       let name : Out → Name = λ o. o.name in
       let right : List Name → List Name = λ ns. map (right_name ns q.args.suffix) (map (λ (c : TableColumn). c.name) (shown_right q)) in
@@ -72,7 +72,7 @@ module _ (q : Request) where
 
 -- SOME COLUMN
 
-kept_some : (t : Table) → 0 < length t → 0 < length (filter (λ (c : TableColumn). true) t)
+pub kept_some : (t : Table) → 0 < length t → 0 < length (filter (λ (c : TableColumn). true) t)
 kept_some [] h = h
 kept_some (c ∷ cs) h = omega arith
 
@@ -84,10 +84,10 @@ abbrev rights : Request → JoinType → Bool → Table
 rights q how c = filter (λ (k : TableColumn). (has_right how && not (drops_right_keys how c && is_among q.right_on k.name)) && not (merges_keys how c && is_among q.right_on k.name)) q.right
 
 module _ (q : Request) (on_right : TableColumn → Out) where
-  first : (xs ys : Table) → 0 < length xs → 0 < length (map (left_out q) xs ++ map on_right ys)
+  pub first : (xs ys : Table) → 0 < length xs → 0 < length (map (left_out q) xs ++ map on_right ys)
   first xs ys h = let a = length-append (map (left_out q) xs) (map on_right ys) in let b = length-map xs (left_out q) in omega (arith, a, b, h)
 
-  second : (xs ys : Table) → 0 < length ys → 0 < length (map (left_out q) xs ++ map on_right ys)
+  pub second : (xs ys : Table) → 0 < length ys → 0 < length (map (left_out q) xs ++ map on_right ys)
   second xs ys h = let a = length-append (map (left_out q) xs) (map on_right ys) in let b = length-map ys on_right in omega (arith, a, b, h)
 
   wide : 0 < length q.left → 0 < length q.right → (how : JoinType) (c : Bool) → 0 < length (map (left_out q) (lefts q how c) ++ map on_right (rights q how c))

@@ -79,7 +79,7 @@ rows_or_none cs rows t within = of_each_length (λ n. All (IsRowOf n) rows) cs t
 pub values-opt_taken : (rows : List (Option ℕ)) (c : Col) → values (opt_taken rows c) ≡ map (value_or_null (values c)) rows
 values-opt_taken rows c = append-nil (map (value_or_null (values c)) rows)
 
-length-opt_taken : (rows : List (Option ℕ)) (c : Col) → length (values (opt_taken rows c)) ≡ length rows
+pub length-opt_taken : (rows : List (Option ℕ)) (c : Col) → length (values (opt_taken rows c)) ≡ length rows
 length-opt_taken rows c = ap (λ (vs : List Datum). length vs) (values-opt_taken rows c) ∙ length-map rows (value_or_null (values c))
 
 lengths-opt_taken : (rows : List (Option ℕ)) (cs : List Col) → All (λ (c : Col). length (values (opt_taken rows c)) ≡ length rows) cs

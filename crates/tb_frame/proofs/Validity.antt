@@ -1,5 +1,5 @@
 -- What a request has that is not refused, and an answer to it.
-use Rattle.std.proofs.Common.{◌≡◌, ◌==◌, ◌<◌, ◌≤◌, List, length, map, arith, Option, None}
+use Rattle.std.proofs.Common.{◌≡◌, ◌==◌, ◌<◌, ◌≤◌, List, length, map, arith, Option, None, inl}
 use Rattle.std.specs.Prelude.{All, AllPairs, ◌≢◌}
 use Rattle.std.proofs.lemmas.Bool.{eqb-true}
 use Rattle.tb_value.specs.Names.{Name}
@@ -45,6 +45,9 @@ module _ (q : Request) (valid : join_valid q) where
   pub some_right : 0 < length q.right
   some_right = has_column q.right q.right_on (some_right_keys q.left_on q.right_on (InvalidOperation NoKeys) (none 2 None (omega arith))) known_right
 
+  pub some_out : 0 < length (out q)
+  some_out = out_wide q some_left some_right
+
   -- no more pairs than a table has rows
   pub few_pairs : length (listing q) ≤ MAX_ROWS
   few_pairs = when_not_above MAX_ROWS (length (listing q)) (ComputeError TooManyRows) (none 11 None (omega arith))
@@ -65,5 +68,5 @@ module _ (q : Request) (valid : join_valid q) where
     map (fill (cut q.args.slice ordered_pairs)) (out q),
     answer_of q ordered_pairs
         (table-fill (cut q.args.slice ordered_pairs) (out q) (names_distinct q names_apart) (outs_typed q left.typed right.typed alike))
-        (out_wide q some_left some_right) (in_order-ordered q.args.how q.args.maintain_order (height q.left) (height q.right) (matches q)),
+        (inl some_out) (in_order-ordered q.args.how q.args.maintain_order (height q.left) (height q.right) (matches q)),
   )

@@ -5,6 +5,7 @@ pub mod Refusal
 pub mod Built
 pub mod Frame
 pub mod NameSets
+pub mod NamedColumns
 pub mod Answer
 pub mod Sides
 pub mod Meaning

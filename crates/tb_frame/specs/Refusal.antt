@@ -15,7 +15,7 @@ use Rattle.tb_value.specs.declared.limits.TheConstants.{MAX_ROWS}
 use Rattle.tb_value.specs.declared.error.InvalidCause.TheVariants.{NoKeys, KeyCounts, KeyKind}
 use Rattle.tb_value.specs.declared.error.ComputeCause.TheVariants.{KeyTypes, Validation, TooManyRows}
 use Rattle.tb_value.specs.declared.error.PolarsError.{PolarsError}
-use Rattle.tb_value.specs.declared.error.PolarsError.TheVariants.{ColumnNotFound, InvalidOperation, ComputeError, Duplicate}
+use Rattle.tb_value.specs.declared.error.PolarsError.TheVariants.{ColumnNotFound, InvalidOperation, ComputeError, Duplicate, ShapeMismatch}
 use Rattle.tb_frame.specs.declared.args.JoinType.{JoinType}
 use Rattle.tb_frame.specs.declared.args.JoinType.TheVariants.{Semi, Anti}
 use Rattle.tb_frame.specs.declared.args.JoinValidation.{JoinValidation}
@@ -118,6 +118,14 @@ broken_right q = when (is_validated q.args.how && asks_right q.args.validation &
 abbrev pub too_many_rows : Request → Option PolarsError
 too_many_rows q = when (nat_lt MAX_ROWS (length (listing q))) (ComputeError TooManyRows)
 
+-- whether a key is as long as its table is high, or has one value beside a table without rows
+abbrev pub fits : ℕ → TableColumn → Bool
+fits n key = length key.values == n || n == 0 && length key.values == 1
+
+-- a key that is given beside its table is not
+abbrev pub key_shapes : Request → Option PolarsError
+key_shapes q = when (not (list_all (fits (height q.left)) q.left_keys && list_all (fits (height q.right)) q.right_keys)) ShapeMismatch
+
 -- THE CAUSES IN THEIR ORDER, in groups between which further causes have their place
 
 -- a name of a key is no column of its table
@@ -145,6 +153,13 @@ join_causes q = key_causes q ++ column_causes q ++ row_causes q
 -- the first of them that holds
 abbrev pub join_refusal : Request → Option PolarsError
 join_refusal q = first_cause (join_causes q)
+
+-- those of a request whose keys are given, of which the first two speak of the keys' names
+abbrev pub given_causes : Request → List (Option PolarsError)
+given_causes q = name_causes q.left q.right q.left_on q.right_on ++ key_shapes q ∷ list_causes q.left_on q.right_on ++ column_causes q ++ row_causes q
+
+abbrev pub given_refusal : Request → Option PolarsError
+given_refusal q = first_cause (given_causes q)
 
 abbrev pub join_valid : Request → Type 0
 join_valid q = join_refusal q ≡ None

@@ -1,12 +1,17 @@
 -- Requests asked for another kind, and with their sides exchanged.
+use Rattle.tb_frame.specs.declared.args.JoinArgs.{JoinArgs}
 use Rattle.tb_frame.specs.declared.args.JoinType.{JoinType}
 use Rattle.tb_frame.specs.declared.args.MaintainOrderJoin.{MaintainOrderJoin}
 use Rattle.tb_frame.specs.declared.args.MaintainOrderJoin.TheVariants as order
 use Rattle.tb_frame.specs.Join.{Request}
 
+-- the same arguments, of another kind
+abbrev pub of_kind : JoinType → JoinArgs → JoinArgs
+of_kind how a = record a { how = how }
+
 -- the same request, asked for another kind
 abbrev pub asking : JoinType → Request → Request
-asking how q = record q { args = record q.args { how = how } }
+asking how q = record q { args = of_kind how q.args }
 
 -- the request with its sides exchanged
 abbrev pub exchanged : Request → Request

@@ -24,6 +24,19 @@ fn order_pairs(
     }
 }
 
+/// The items that a slice keeps, in their order; all of them where there is none.
+pub fn kept_part<T>(items: &[T], slice: Option<(i64, usize)>) -> &[T]
+    ensures { result.now ≡ cut slice items.now }
+{
+    match slice {
+        None => items,
+        Some((offset, len)) => {
+            let (start, count) = slice_offsets(offset, len, items.len());
+            &items[start..start + count]
+        }
+    }
+}
+
 /// The pairs that a slice keeps, in their order; all of them where there is none.
 pub fn cut_pairs(
     alloc: Global,
@@ -34,10 +47,7 @@ pub fn cut_pairs(
 {
     match slice {
         None => Ok(pairs),
-        Some((offset, len)) => {
-            let (start, count) = slice_offsets(offset, len, pairs.len());
-            Ok(Vec::from_slice(alloc, &pairs[start..start + count])?)
-        }
+        Some(_) => Ok(Vec::from_slice(alloc, kept_part(&pairs, slice))?),
     }
 }
 

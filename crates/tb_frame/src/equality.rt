@@ -5,7 +5,7 @@ ghost use Rattle.tb_chunk.specs.Col.{values};
 ghost use Rattle.tb_frame.specs.Table.{plain, table_of};
 
 use crate::frame::DataFrame;
-use tb_store::Column;
+use tb_store::{Column, Series};
 use tb_value::same_value;
 
 impl DataFrame {
@@ -36,12 +36,15 @@ fn same_column(first: &Column, second: &Column) -> bool
     ensures { IsTrue result ↔ (plain first.now ≡ plain second.now) }
 {
     first.name().as_str() == second.name().as_str()
-        && same_type(first, second)
+        && same_type(
+            first.as_materialized_series(),
+            second.as_materialized_series(),
+        )
         && same_values(first, second)
 }
 
 /// Whether the columns are of one type.
-pub fn same_type(first: &Column, second: &Column) -> bool
+pub fn same_type(first: &Series, second: &Series) -> bool
     ensures { result ≡ same_kind first.now.kind second.now.kind }
 {
     first.dtype() == second.dtype()

@@ -6,6 +6,7 @@ ghost use Rattle.tb_value.specs.Names.{Name, same_name};
 ghost use Rattle.tb_value.specs.Refusals.{Settles, when};
 ghost use Rattle.tb_value.specs.declared.error.PolarsError.TheVariants.{ColumnNotFound, Duplicate, ShapeMismatch};
 ghost use Rattle.tb_chunk.specs.Col.{Col, values};
+ghost use Rattle.tb_chunk.specs.Lent.{lent_columns};
 ghost use Rattle.tb_chunk.specs.Rows.{IsRowOf};
 ghost use Rattle.tb_frame.specs.Table.{table_of, height, names_of, IsTable, IsTyped};
 ghost use Rattle.tb_frame.specs.Refusal.{unknown_key};
@@ -13,10 +14,11 @@ ghost use Rattle.tb_frame.specs.Naming.{is_among};
 ghost use Rattle.tb_frame.specs.NameSets.{has_name};
 ghost use Rattle.tb_frame.specs.Frame.{are_level, frame_refusal, opt_taken, select_refusal, selected, sliced, taken, without_names};
 
+use crate::lookup::lend_columns;
 use crate::names::{NameSet, check_distinct, name_set};
 use std::alloc::Global;
 use std::marker::Model;
-use tb_store::Column;
+use tb_store::{Column, Series};
 use tb_value::{
     IdxSize, MAX_ROWS, NullableIdxSize, OutOfMemory, PlSmallStr, PolarsError, PolarsResult,
 };
@@ -281,6 +283,8 @@ fn copy_columns(alloc: Global, columns: &[Column]) -> Result<Vec<Column>, OutOfM
     Ok(copies)
 }
 
+// Copies of the columns of these names, in the order of the names. Refuses the first name that no column has
+// (ColumnNotFound).
 fn select_columns(
     alloc: Global,
     columns: &[Column],
@@ -289,12 +293,19 @@ fn select_columns(
     ensures settles { Settles result (unknown_key (table_of columns.now) names.now) }
     ensures columns { IfOk result (λ v. v.items ≡ selected names.now columns.now) }
 {
-    let mut selected = Vec::new(alloc);
-    for name in names {
-        let column = named_column(alloc, columns, name.as_str())?;
-        push_copy(alloc, &mut selected, column)?;
+    let lent = lend_columns(alloc, columns, names)?;
+    Ok(copies_of(alloc, &lent)?)
+}
+
+// Copies of columns that are lent.
+fn copies_of(alloc: Global, columns: &[&Series]) -> Result<Vec<Column>, OutOfMemory>
+    ensures { IfOk result (λ v. v.items ≡ lent_columns columns.now) }
+{
+    let mut copies = Vec::with_capacity(alloc, columns.len())?;
+    for column in columns {
+        copies.push(column.copy(alloc)?.into_column())?;
     }
-    Ok(selected)
+    Ok(copies)
 }
 
 fn push_copy(alloc: Global, copies: &mut Vec<Column>, column: &Column) -> Result<(), OutOfMemory>

@@ -1,5 +1,5 @@
 //! The names of the columns that a join puts side by side.
-ghost use Rattle.std.specs.Prelude.{◌≡◌, ◌++◌, IfOk, List, OnOk, map, unwrap_or};
+ghost use Rattle.std.specs.Prelude.{◌≡◌, IfOk, List, map, unwrap_or};
 ghost use Rattle.tb_value.specs.Names.{Name};
 ghost use Rattle.tb_value.specs.Refusals.{Settles};
 ghost use Rattle.tb_chunk.specs.Col.{Col};
@@ -9,9 +9,10 @@ ghost use Rattle.tb_frame.specs.NameSets.{has_name};
 ghost use Rattle.tb_frame.specs.Naming.{default_suffix, is_among};
 ghost use Rattle.tb_frame.specs.Refusal.{repeated_name};
 ghost use Rattle.tb_frame.specs.RightColumns.{gone_beside, right_names, right_side};
+ghost use Rattle.tb_frame.specs.Sides.{asking, of_kind};
 
 use crate::args::{JoinArgs, JoinType};
-use crate::names::{NameSet, check_distinct, name_set};
+use crate::names::{NameSet, check_distinct, name_set, push_names};
 use crate::right_columns::{gone_left, gone_right, right_name, right_side, suffix_of};
 use std::alloc::Global;
 use tb_store::Column;
@@ -67,12 +68,12 @@ fn called_names(
 }
 
 // The names of the right columns that are not put beside the left ones. Those of a Full join go later.
-fn gone_beside<'a>(args: &JoinArgs, right_on: &'a [PlSmallStr]) -> &'a [PlSmallStr]
-    ensures { result.now ≡ gone_beside args.now right_on.now }
+fn gone_beside<'a>(how: JoinType, args: &JoinArgs, right_on: &'a [PlSmallStr]) -> &'a [PlSmallStr]
+    ensures { result.now ≡ gone_beside (of_kind how args.now) right_on.now }
 {
-    match args.how {
+    match how {
         JoinType::Full => &[],
-        _ => gone_right(args, right_on),
+        _ => gone_right(how, args, right_on),
     }
 }
 
@@ -82,48 +83,38 @@ fn names_beside(
     left: &[&PlSmallStr],
     right: &[Column],
     right_on: &[PlSmallStr],
+    how: JoinType,
     args: &JoinArgs,
 ) -> Result<Vec<PlSmallStr>, OutOfMemory>
     ensures { IfOk result (λ v. v.items ≡ right_names (map (λ n. n.now) left.now) (unwrap_or args.now.suffix default_suffix)
-        (gone_beside args.now right_on.now) (right_side args.now.how right.now)) }
+        (gone_beside (of_kind how args.now) right_on.now) (right_side how right.now)) }
 {
     let taken = lent_name_set(alloc, left)?;
     called_names(
         alloc,
         &taken,
-        right_side(args.how, right),
-        gone_beside(args, right_on),
+        right_side(how, right),
+        gone_beside(how, args, right_on),
         suffix_of(args),
     )
 }
 
-fn push_names<'a>(
-    names: &mut Vec<&'a PlSmallStr>,
-    more: &'a [PlSmallStr],
-) -> Result<(), OutOfMemory>
-    ensures { OnOk result (map (λ n. n.now) names.new.items ≡ map (λ n. n.now) names.old.items ++ more.now) }
-{
-    for name in more {
-        names.push(name)?;
-    }
-    Ok(())
-}
-
 /// Refuses the first repeated name (Duplicate) among the columns that a join puts side by side: the left ones that it
 /// keeps, and then the right ones under their names in the answer. In a Full join the keys of both sides are among
-/// them, also where they are coalesced.
+/// them, also where they are coalesced. The kind that the arguments name is not read.
 pub fn check_joined_names(
     alloc: Global,
     left: &[Column],
     right: &[Column],
     left_on: &[PlSmallStr],
     right_on: &[PlSmallStr],
+    how: JoinType,
     args: &JoinArgs,
 ) -> PolarsResult<()>
-    ensures { Settles result (repeated_name (lent_request left.now right.now left_on.now right_on.now args.now)) }
+    ensures { Settles result (repeated_name (asking how (lent_request left.now right.now left_on.now right_on.now args.now))) }
 {
-    let kept = kept_names(alloc, left, gone_left(args, left_on))?;
-    let beside = names_beside(alloc, &kept, right, right_on, args)?;
+    let kept = kept_names(alloc, left, gone_left(how, args, left_on))?;
+    let beside = names_beside(alloc, &kept, right, right_on, how, args)?;
     let mut names = kept;
     push_names(&mut names, &beside)?;
     check_distinct(alloc, &names)

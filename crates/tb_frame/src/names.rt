@@ -1,5 +1,5 @@
 //! Names, and sets of them.
-ghost use Rattle.std.specs.Prelude.{◌≡◌, ◌||◌, not, false, map, IfOk, OnOk, OnErr};
+ghost use Rattle.std.specs.Prelude.{◌≡◌, ◌||◌, ◌++◌, not, false, map, IfOk, OnOk, OnErr};
 ghost use Rattle.tb_value.specs.Names.{Name, same_name};
 ghost use Rattle.tb_value.specs.Refusals.{Settles};
 ghost use Rattle.tb_frame.specs.Naming.{is_among};
@@ -54,7 +54,7 @@ pub fn name_set<'a>(alloc: Global, names: &'a [PlSmallStr]) -> Result<NameSet<'a
     Ok(set)
 }
 
-/// Refuses the first repeated name (Duplicate).
+/// Refuses the first repeated one of the names that are lent (Duplicate).
 pub fn check_distinct(alloc: Global, names: &[&PlSmallStr]) -> PolarsResult<()>
     ensures { Settles result (repeated_among (map (λ n. n.now) names.now)) }
 {
@@ -65,4 +65,32 @@ pub fn check_distinct(alloc: Global, names: &[&PlSmallStr]) -> PolarsResult<()>
         }
     }
     Ok(())
+}
+
+/// Puts the names behind the others.
+pub(crate) fn push_names<'a>(
+    names: &mut Vec<&'a PlSmallStr>,
+    more: &'a [PlSmallStr],
+) -> Result<(), OutOfMemory>
+    ensures { OnOk result (map (λ n. n.now) names.new.items ≡ map (λ n. n.now) names.old.items ++ more.now) }
+{
+    for name in more {
+        names.push(name)?;
+    }
+    Ok(())
+}
+
+fn lend_names(alloc: Global, names: &[PlSmallStr]) -> Result<Vec<&PlSmallStr>, OutOfMemory>
+    ensures { IfOk result (λ v. map (λ n. n.now) v.items ≡ names.now) }
+{
+    let mut lent = Vec::with_capacity(alloc, names.len())?;
+    push_names(&mut lent, names)?;
+    Ok(lent)
+}
+
+/// Refuses the first repeated name (Duplicate).
+pub fn check_repeated(alloc: Global, names: &[PlSmallStr]) -> PolarsResult<()>
+    ensures { Settles result (repeated_among names.now) }
+{
+    check_distinct(alloc, &lend_names(alloc, names)?)
 }

@@ -7,6 +7,7 @@ ghost use Rattle.tb_chunk.specs.Rows.{IsRowOf};
 ghost use Rattle.tb_frame.specs.Naming.{default_suffix, has_right, is_among, right_name};
 ghost use Rattle.tb_frame.specs.NameSets.{has_name};
 ghost use Rattle.tb_frame.specs.RightColumns.{columns_beside, gone_left, gone_right, right_column, right_side};
+ghost use Rattle.tb_frame.specs.Sides.{of_kind};
 ghost use Rattle.tb_frame.specs.Table.{names_of, table_of};
 
 use crate::args::{JoinArgs, JoinType};
@@ -43,23 +44,29 @@ pub fn right_side<'a>(how: JoinType, right: &'a [Column]) -> &'a [Column]
     if has_right(how) { right } else { &[] }
 }
 
-/// The names of the left columns that the answer lacks: those of coalesced keys of a Right join.
-pub fn gone_left<'a>(args: &JoinArgs, left_on: &'a [PlSmallStr]) -> &'a [PlSmallStr]
-    ensures { result.now ≡ gone_left args.now left_on.now }
+/// The names of the left columns that the answer lacks: those of coalesced keys of a Right join. The kind that the
+/// arguments name is not read.
+pub fn gone_left<'a>(how: JoinType, args: &JoinArgs, left_on: &'a [PlSmallStr]) -> &'a [PlSmallStr]
+    ensures { result.now ≡ gone_left (of_kind how args.now) left_on.now }
 {
-    match args.how {
-        JoinType::Right if args.should_coalesce() => left_on,
+    match how {
+        JoinType::Right if args.coalesce.coalesce(&how) => left_on,
         _ => &[],
     }
 }
 
-/// The names of the right columns that the answer lacks: those of coalesced keys.
-pub fn gone_right<'a>(args: &JoinArgs, right_on: &'a [PlSmallStr]) -> &'a [PlSmallStr]
-    ensures { result.now ≡ gone_right args.now right_on.now }
+/// The names of the right columns that the answer lacks: those of coalesced keys. The kind that the arguments name is
+/// not read.
+pub fn gone_right<'a>(
+    how: JoinType,
+    args: &JoinArgs,
+    right_on: &'a [PlSmallStr],
+) -> &'a [PlSmallStr]
+    ensures { result.now ≡ gone_right (of_kind how args.now) right_on.now }
 {
-    match args.how {
+    match how {
         JoinType::Inner | JoinType::Left | JoinType::Full => {
-            if args.should_coalesce() {
+            if args.coalesce.coalesce(&how) {
                 right_on
             } else {
                 &[]
@@ -104,9 +111,10 @@ fn named_column(
 }
 
 /// The right columns of an answer beside these left ones: with these rows, under their names in the answer, and
-/// without the keys that are coalesced. A Semi or Anti join has none.
+/// without the keys that are coalesced. A Semi or Anti join has none. The kind that the arguments name is not read.
 pub fn columns_beside(
     alloc: Global,
+    how: JoinType,
     args: &JoinArgs,
     left: &[Column],
     right: &[Column],
@@ -115,12 +123,12 @@ pub fn columns_beside(
 ) -> Result<Vec<Column>, OutOfMemory>
     requires rows { All (λ (c : Col). All (IsRowOf (length (values c))) rows.now) right.now }
     requires few { length rows.now ≤ MAX_ROWS }
-    ensures { IfOk result (λ v. v.items ≡ columns_beside args.now right_on.now rows.now (names_of (table_of left.now)) right.now) }
+    ensures { IfOk result (λ v. v.items ≡ columns_beside (of_kind how args.now) right_on.now rows.now (names_of (table_of left.now)) right.now) }
 {
     let taken = column_name_set(alloc, left)?;
-    let gone = name_set(alloc, gone_right(args, right_on))?;
+    let gone = name_set(alloc, gone_right(how, args, right_on))?;
     let suffix = suffix_of(args);
-    let side = right_side(args.how, right);
+    let side = right_side(how, right);
     let mut columns = Vec::with_capacity(alloc, side.len())?;
     for column in side {
         if !gone.contains(column.name()) {

@@ -1,43 +1,163 @@
--- The columns over the listed pairs are the answer to a request of the built form.
-use Rattle.std.proofs.Common.{◌≡◌, ℕ, Bool, true, false, cond, List, [], ◌∷◌, get_or, map, refl, ap, sym, ◌∙◌, Option, None}
-use Rattle.std.specs.Prelude.{position}
-use Rattle.std.specs.Option.{option_and_then}
+-- The columns over the listed pairs are those of the answer.
+use Rattle.std.proofs.Common.{◌≡◌, ◌≤◌, ◌<◌, ◌⊎◌, ℕ, Bool, true, false, cond, not, ◌||◌, List, [], ◌∷◌, ◌++◌, length, get_or, map, refl, ap, sym, ◌∙◌, subst, arith, Option, Some, None}
+use Rattle.std.specs.Prelude.{All, position, slice_get, unwrap_or}
+use Rattle.std.specs.List.{cons_option, filter_map, find}
+use Rattle.std.specs.Option.{ForSome, option_and_then, option_map}
+use Rattle.std.proofs.lemmas.List.{length-map}
+use Rattle.std.proofs.lemmas.Option.{slice_get-map}
+use Rattle.std.proofs.lemmas.List.Elements.{All-map}
 use Rattle.tb_value.specs.Names.{Name, same_name}
 use Rattle.tb_value.specs.declared.index.JoinPair.{JoinPair}
-use Rattle.tb_chunk.specs.Col.{Col}
-use Rattle.tb_frame.specs.declared.args.JoinArgs.{JoinArgs}
+use Rattle.tb_value.proofs.Loops.{map-map}
+use Rattle.tb_chunk.specs.Col.{Col, values}
+use Rattle.tb_frame.specs.declared.args.JoinType.{JoinType}
+use Rattle.tb_frame.specs.declared.args.JoinType.TheVariants.{Inner, Left, Right, Full, Semi, Anti}
 use Rattle.tb_frame.specs.Answer.{fill}
-use Rattle.tb_frame.specs.Built.{is_built_coalesce}
-use Rattle.tb_frame.specs.Frame.{opt_taken, without_names}
-use Rattle.tb_frame.specs.Join.{Request, left_field, left_out, lent_request, named, out, partner}
-use Rattle.tb_frame.specs.Naming.{coalesces, merges_keys}
-use Rattle.tb_frame.specs.RightColumns.{gone_left, gone_right, right_side}
-use Rattle.tb_frame.specs.Table.{TableColumn, Table, plain, table_of, names_of}
-use Rattle.tb_frame.proofs.Filled.{columns-made, values-side}
-use Rattle.tb_frame.proofs.JoinedNames.{left-kept, right-shown}
-use Rattle.tb_frame.proofs.Taking.{names-opt_taken}
-use Rattle.tb_join.specs.AnswerColumns.{answer_columns, left_part}
-use Rattle.tb_join.proofs.KeptColumns.{built_apart}
+use Rattle.tb_frame.specs.Frame.{opt_taken, selected, without_names}
+use Rattle.tb_frame.specs.Join.{MergesAlike, Request, named, out, partner}
+use Rattle.tb_frame.specs.Naming.{coalesces, drops_left_keys, drops_right_keys, has_right, is_among, merges_keys}
+use Rattle.tb_frame.specs.Refusal.{first_unknown}
+use Rattle.tb_frame.specs.RightColumns.{gone_left, gone_right, right_column, right_columns, right_side}
+use Rattle.tb_frame.specs.Table.{Table, plain, table_of, names_of}
+use Rattle.tb_frame.proofs.Frames.{filter-map}
+use Rattle.tb_frame.proofs.Selected.{found, selected-table}
+use Rattle.tb_frame.proofs.Taking.{all_plain as plain_all, length-opt_taken, names-made, names-opt_taken}
+use Rattle.tb_keys.specs.Merging.{key_beside, left_column, merged_key}
+use Rattle.tb_keys.proofs.KeysNamed.{keys_many, keys_own}
+use Rattle.tb_keys.proofs.MergedColumns.{columns-made, partner-key}
+use Rattle.tb_join.specs.AnswerColumns.{Fits, answer_columns, called, filled_up, left_part, merged_part, side_by_side, suffix_in}
+use Rattle.tb_join.specs.Ready.{CanMerge}
+use Rattle.tb_join.proofs.KeptColumns.{without_names_none}
 
-module _ (q : Request) (apart : merges_keys q.args.how (coalesces q.args) ≡ false) (ps : List JoinPair) where
-  -- where keys are not merged, no column has a partner
-  alone : (n : Name) → partner q n ≡ None
-  alone n = ap (λ (b : Bool). cond b (option_and_then (λ (p : ℕ). named q.right (get_or q.right_on p [])) (position (same_name n) q.left_on)) None) apart
+-- rows that are taken of right columns, beside left columns of these names
+beside-taken : (ls xs : List Col) (names : List Name) (suffix : Name) (rows : List (Option ℕ)) → names_of (table_of ls) ≡ names → side_by_side suffix ls (map (opt_taken rows) xs) ≡ ls ++ map (right_column names suffix rows) xs
+beside-taken ls xs names suffix rows is =
+    ap (λ (ns : List Name). ls ++ map (called ns suffix) (map (opt_taken rows) xs)) is ∙ ap (λ (cs : List Col). ls ++ cs) (map-map (called names suffix) (opt_taken rows) xs)
 
-  left-made : (cs : List Col) → table_of (map (opt_taken (map (λ (p : JoinPair). p.left) ps)) cs) ≡ map (λ (k : TableColumn). fill ps (left_out q k)) (table_of cs)
-  left-made [] = refl
-  left-made (c ∷ cs) =
-      let own : Option TableColumn → TableColumn = λ o. record { name = c.name; kind = c.kind; values = map (left_field o (plain c)) ps } in
-      let here : plain (opt_taken (map (λ (p : JoinPair). p.left) ps) c) ≡ own None = λ t. record { name = c.name; kind = c.kind; values = values-side (λ (p : JoinPair). p.left) ps c t } in
-      λ t. (here ∙ ap own (sym (alone c.name))) t ∷ left-made cs t
+-- where keys are not merged, no column has a partner
+alone : (q : Request) → merges_keys q.args.how (coalesces q.args) ≡ false → (n : Name) → partner q n ≡ None
+alone q apart n = ap (λ (b : Bool). cond b (option_and_then (λ (p : ℕ). named q.right (get_or q.right_on p [])) (position (same_name n) q.left_on)) None) apart
 
--- the columns over the pairs are those of the answer
-pub columns-are : (left right : List Col) (lo ro : List Name) (a : JoinArgs) (ps : List JoinPair) → is_built_coalesce a.how a.coalesce ≡ true → table_of (answer_columns a lo ro ps left right) ≡ map (fill ps) (out (lent_request left right lo ro a))
-columns-are left right lo ro a ps built =
-    let q = lent_request left right lo ro a in
-    let ls : List Col = without_names (gone_left a lo) left in
+pub columns-are : (q : Request) (left right : List Col) (ps : List JoinPair) → merges_keys q.args.how (coalesces q.args) ≡ false → table_of left ≡ q.left → table_of right ≡ q.right
+    → table_of (answer_columns q.args q.left_on q.right_on ps left right) ≡ map (fill ps) (out q)
+columns-are q left right ps apart is_left is_right =
+    let kept : List Col = without_names (gone_left q.args q.left_on) left in
     let lefts : List (Option ℕ) = map (λ (p : JoinPair). p.left) ps in
-    columns-made q ps (left_part a lo ps left) (without_names (gone_right a ro) (right_side a.how right)) (names_of (table_of (left_part a lo ps left)))
-    (left-made q (built_apart a.how a.coalesce built) ps ls ∙ ap (λ (t : Table). map (λ (k : TableColumn). fill ps (left_out q k)) t) (sym (left-kept a lo left)))
-    (sym (right-shown a ro right))
-    (names-opt_taken lefts ls ∙ ap names_of (sym (left-kept a lo left)))
+    let rights : List (Option ℕ) = map (λ (p : JoinPair). p.right) ps in
+    ap table_of (beside-taken (left_part q.args q.left_on ps left) (without_names (gone_right q.args q.right_on) (right_side q.args.how right)) (names_of (table_of kept)) (suffix_in q.args) rights (names-opt_taken lefts kept))
+    ∙ columns-made q (λ n. None) (λ c. alone q apart c.name) ps left right kept is_left is_right refl
+
+-- MERGED KEYS
+
+-- what is left out where keys are merged
+record IsMerging (how : JoinType) (c : Bool) : Type 0 where
+  no_left : drops_left_keys how c ≡ false
+  right : (drops_right_keys how c || merges_keys how c) ≡ true
+  side : has_right how ≡ true
+
+is_merging : (how : JoinType) (c : Bool) → merges_keys how c ≡ true → IsMerging how c
+is_merging Full c h = record { no_left = refl; right = h; side = refl }
+is_merging Inner c h = absurd (cc)
+is_merging Left c h = absurd (cc)
+is_merging Right c h = absurd (cc)
+is_merging Semi c h = absurd (cc)
+is_merging Anti c h = absurd (cc)
+
+module _ (rows : List (Option ℕ)) where
+  -- rows are taken of the columns of a name, or the columns of a name of those whose rows are taken
+  found-taken : (n : Name) (cs : List Col) → found n (map (opt_taken rows) cs) ≡ option_map (opt_taken rows) (found n cs)
+  found-taken n [] = refl
+  found-taken n (c ∷ cs) = at (same_name c.name n) (found-taken n cs)
+    where
+      at : (b : Bool) → found n (map (opt_taken rows) cs) ≡ option_map (opt_taken rows) (found n cs) → cond b (Some (opt_taken rows c)) (found n (map (opt_taken rows) cs)) ≡ option_map (opt_taken rows) (cond b (Some c) (found n cs))
+      at true e = refl
+      at false e = e
+
+  cons-taken : (o : Option Col) (cs : List Col) → cons_option (option_map (opt_taken rows) o) (map (opt_taken rows) cs) ≡ map (opt_taken rows) (cons_option o cs)
+  cons-taken None cs = refl
+  cons-taken (Some c) cs = refl
+
+  selected-taken : (names : List Name) (cs : List Col) → selected names (map (opt_taken rows) cs) ≡ map (opt_taken rows) (selected names cs)
+  selected-taken [] cs = refl
+  selected-taken (n ∷ ns) cs = (λ t. cons_option (found-taken n cs t) (selected-taken ns cs t)) ∙ cons-taken (found n cs) (selected ns cs)
+
+  key-taken : (names : List Name) (cs : List Col) (n : Name) → key_beside names (map (opt_taken rows) cs) n ≡ option_map (opt_taken rows) (key_beside names cs n)
+  key-taken names cs n = at (position (same_name n) names)
+    where
+      at : (o : Option ℕ) → option_and_then (λ p. slice_get (map (opt_taken rows) cs) p) o ≡ option_map (opt_taken rows) (option_and_then (λ p. slice_get cs p) o)
+      at None = refl
+      at (Some p) = slice_get-map (opt_taken rows) cs p
+
+  -- the column that is beside a name, with its rows
+  pub beside_is : (lo ro : List Name) (cs : List Col) (n : Name) → key_beside lo (selected ro (map (opt_taken rows) cs)) n ≡ option_map (opt_taken rows) (key_beside lo (selected ro cs) n)
+  beside_is lo ro cs n = ap (λ (ks : List Col). key_beside lo ks n) (selected-taken ro cs) ∙ key-taken lo (selected ro cs) n
+
+module _ (q : Request) (left right : List Col) (is_left : table_of left ≡ q.left) (is_right : table_of right ≡ q.right) (merges : merges_keys q.args.how (coalesces q.args) ≡ true) (can : CanMerge q) where
+  abbrev keys : List Col
+  keys = selected q.right_on right
+
+  known : first_unknown (table_of right) q.right_on ≡ None
+  known = ap (λ (t : Table). first_unknown t q.right_on) is_right ∙ can.known merges
+
+  partner-is : (c : Col) → partner q c.name ≡ option_map plain (merged_key (merges_keys q.args.how (coalesces q.args)) q.left_on keys c.name)
+  partner-is c =
+      let many = keys_many right keys q.right_on (selected-table q.right_on right) known in
+      let enough = can.many merges in
+      partner-key q keys (λ p d low. ap (λ (t : Table). named t (get_or q.right_on p [])) (sym is_right) ∙ keys_own right keys q.right_on (selected-table q.right_on right) known p d low) (omega (arith, many, enough)) c c.name
+
+  module _ (ps : List JoinPair) where
+    abbrev ls : List (Option ℕ)
+    ls = map (λ (p : JoinPair). p.left) ps
+
+    abbrev rs : List (Option ℕ)
+    rs = map (λ (p : JoinPair). p.right) ps
+
+    abbrev made : Col → Col
+    made c = left_column ls rs (merged_key (merges_keys q.args.how (coalesces q.args)) q.left_on keys c.name) c
+
+    filled : (c : Col) (o : Option Col) → filled_up (option_map (opt_taken rs) o) (opt_taken ls c) ≡ left_column ls rs o c
+    filled c None = refl
+    filled c (Some k) = refl
+
+    one : (c : Col) → filled_up (key_beside q.left_on (selected q.right_on (map (opt_taken rs) right)) c.name) (opt_taken ls c) ≡ made c
+    one c =
+        ap (λ (o : Option Col). filled_up o (opt_taken ls c)) (beside_is rs q.left_on q.right_on right c.name)
+        ∙ filled c (key_beside q.left_on keys c.name) ∙ ap (λ (b : Bool). left_column ls rs (merged_key b q.left_on keys c.name) c) (sym merges)
+
+    left-is : merged_part q.left_on (selected q.right_on (map (opt_taken rs) right)) (map (opt_taken ls) left) ≡ map made left
+    left-is = map-map (λ (c : Col). filled_up (key_beside q.left_on (selected q.right_on (map (opt_taken rs) right)) c.name) c) (opt_taken ls) left ∙ (λ t. map (λ (c : Col). one c t) left)
+
+    name_stays : (c : Col) (o : Option Col) → (left_column ls rs o c).name ≡ c.name
+    name_stays c None = refl
+    name_stays c (Some k) = refl
+
+    pub merged-are : table_of (side_by_side (suffix_in q.args) (merged_part q.left_on (selected q.right_on (map (opt_taken rs) right)) (map (opt_taken ls) left)) (without_names q.right_on (map (opt_taken rs) right))) ≡ map (fill ps) (out q)
+    merged-are =
+        let is = is_merging q.args.how (coalesces q.args) merges in
+        let kept : left ≡ without_names (gone_left q.args q.left_on) left = sym (ap (λ (b : Bool). without_names (cond b q.left_on []) left) is.no_left ∙ without_names_none left) in
+        let gone : gone_right q.args q.right_on ≡ q.right_on = ap (λ (b : Bool). cond b q.right_on []) is.right in
+        let side : right_side q.args.how right ≡ right = ap (λ (b : Bool). cond b right []) is.side in
+        let rest : without_names q.right_on (map (opt_taken rs) right) ≡ map (opt_taken rs) (without_names q.right_on right) = filter-map (opt_taken rs) (λ (c : Col). not (is_among q.right_on c.name)) right in
+        ap table_of
+        ((λ t. side_by_side (suffix_in q.args) (left-is t) (rest t))
+        ∙ beside-taken (map made left) (without_names q.right_on right) (names_of (table_of left)) (suffix_in q.args) rs (names-made made (λ c. name_stays c (merged_key (merges_keys q.args.how (coalesces q.args)) q.left_on keys c.name)) left)
+        ∙ (λ t. map made left ++ right_columns (names_of (table_of left)) (suffix_in q.args) (sym gone t) rs (sym side t)))
+        ∙ columns-made q (λ n. merged_key (merges_keys q.args.how (coalesces q.args)) q.left_on keys n) partner-is ps left right left is_left is_right kept
+
+    -- each left column and the one that it is merged with have one type and one length
+    pub all_fit : All (λ (c : Col). ForSome (key_beside q.left_on (selected q.right_on (map (opt_taken rs) right)) c.name) (Fits c)) (map (opt_taken ls) left)
+    all_fit = All-map (λ (c : Col). ForSome (key_beside q.left_on (selected q.right_on (map (opt_taken rs) right)) c.name) (Fits c)) (opt_taken ls) left (λ i d low k e. at (get_or left i d) (alike i d low) (key_beside q.left_on keys (get_or left i d).name) refl k (sym (beside_is rs q.left_on q.right_on right (get_or left i d).name) ∙ e))
+      where
+        alike : All (λ (c : Col). ForSome (partner q c.name) (λ k. c.kind ≡ k.kind)) left
+        alike = plain_all (λ c. ForSome (partner q c.name) (λ k. c.kind ≡ k.kind)) left (subst (λ (t : Table). All (λ c. ForSome (partner q c.name) (λ k. c.kind ≡ k.kind)) t) (sym is_left) can.alike)
+
+        at : (c : Col) → ForSome (partner q c.name) (λ k. c.kind ≡ k.kind) → (o : Option Col) → key_beside q.left_on keys c.name ≡ o → (k : Col) → option_map (opt_taken rs) o ≡ Some k → Fits (opt_taken ls c) k
+        at c same None is k e = absurd (cc)
+        at c same (Some x) is k e =
+            let here : opt_taken rs x ≡ k = cc in
+            let partnered : partner q c.name ≡ Some (plain x) = partner-is c ∙ ap (λ (b : Bool). option_map plain (merged_key b q.left_on keys c.name)) merges ∙ ap (option_map plain) is in
+            subst (Fits (opt_taken ls c)) here (same (plain x) partnered, length-opt_taken ls c ∙ length-map ps (λ (p : JoinPair). p.left) ∙ sym (length-map ps (λ (p : JoinPair). p.right)) ∙ sym (length-opt_taken rs x))
+
+-- the names that are known are those of the columns with their rows
+pub known-taken : (rows : List (Option ℕ)) (cs : List Col) (names : List Name) → first_unknown (table_of cs) names ≡ None → first_unknown (table_of (map (opt_taken rows) cs)) names ≡ None
+known-taken rows cs names h = ap (λ (ns : List Name). find (λ n. not (is_among ns n)) names) (names-opt_taken rows cs) ∙ h

@@ -1,15 +1,11 @@
 -- The columns that stand in an answer.
-use Rattle.std.proofs.Common.{◌≡◌, ◌<◌, Bool, true, false, not, List, [], ◌∷◌, length, refl, ap, sym, subst, arith}
+use Rattle.std.proofs.Common.{◌≡◌, ◌<◌, not, List, [], ◌∷◌, length, refl, ap, sym, subst, arith}
 use Rattle.std.specs.Prelude.{All}
 use Rattle.std.proofs.lemmas.List.Elements.{All-filter, All-head}
 use Rattle.tb_value.specs.Names.{Name}
 use Rattle.tb_chunk.specs.Col.{Col}
-use Rattle.tb_frame.specs.declared.args.JoinCoalesce.{JoinCoalesce}
-use Rattle.tb_frame.specs.declared.args.JoinType.{JoinType}
-use Rattle.tb_frame.specs.declared.args.JoinType.TheVariants.{Inner, Left, Right, Full, Semi, Anti}
-use Rattle.tb_frame.specs.Built.{is_built_coalesce}
 use Rattle.tb_frame.specs.Frame.{without_names}
-use Rattle.tb_frame.specs.Naming.{coalesce, is_among, merges_keys}
+use Rattle.tb_frame.specs.Naming.{is_among}
 use Rattle.tb_frame.specs.Table.{TableColumn, Table, plain, table_of, height, IsTable}
 use Rattle.tb_frame.proofs.Frames.{without-table}
 
@@ -27,16 +23,3 @@ height-without names cs t some =
     first : (ks : List Col) → 0 < length ks → All (λ (c : TableColumn). length c.values ≡ height (table_of cs)) (table_of ks) → height (table_of ks) ≡ height (table_of cs)
     first [] h all = absurd (omega arith)
     first (k ∷ ks) h all = All-head (λ (c : TableColumn). length c.values ≡ height (table_of cs)) (plain k) (table_of ks) all
-
--- no Full join merges its keys
-pub built_apart : (how : JoinType) (k : JoinCoalesce) → is_built_coalesce how k ≡ true → merges_keys how (coalesce k how) ≡ false
-built_apart Full k h = off (coalesce k Full) h
-  where
-    off : (b : Bool) → not b ≡ true → b ≡ false
-    off true h = absurd (cc)
-    off false h = refl
-built_apart Inner k h = refl
-built_apart Left k h = refl
-built_apart Right k h = refl
-built_apart Semi k h = refl
-built_apart Anti k h = refl

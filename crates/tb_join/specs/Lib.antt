@@ -2,3 +2,6 @@ pub mod Asked
 pub mod Laws
 pub mod Rows
 pub mod AnswerColumns
+pub mod Ready
+pub mod Given
+pub mod Series

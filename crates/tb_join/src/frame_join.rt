@@ -1,33 +1,34 @@
 //! The join of two tables.
-ghost use Rattle.std.specs.Prelude.{◌≡◌, ◌<◌, IfOk, length};
+ghost use Rattle.std.specs.Prelude.{◌≡◌, ◌<◌, IfOk, None, length};
 ghost use Rattle.tb_value.specs.Refusals.{Settles};
-ghost use Rattle.tb_frame.specs.declared.args.JoinValidation.TheVariants.{ManyToMany};
 ghost use Rattle.tb_frame.specs.Answer.{IsListed};
-ghost use Rattle.tb_frame.specs.Built.{IsBuilt};
-ghost use Rattle.tb_frame.specs.Join.{IsAnswer, lent_request, listing};
-ghost use Rattle.tb_frame.specs.Refusal.{join_refusal};
+ghost use Rattle.tb_frame.specs.Join.{IsAnswer, MergesAlike, lent_request, listing, out};
+ghost use Rattle.tb_frame.specs.Refusal.{given_refusal, join_refusal, key_types};
 ghost use Rattle.tb_frame.specs.Table.{table_of};
 ghost use Rattle.tb_keys.specs.Asked.{asked, asked_by_names};
 ghost use Rattle.tb_keys.specs.Causes.{later_refusal};
 ghost use Rattle.tb_join.specs.Asked.{plainly};
+ghost use Rattle.tb_join.specs.Given.{by_columns};
+ghost use Rattle.tb_join.specs.Ready.{CanMerge};
 
 use crate::general::finish_join;
+use crate::given::join_given;
 use std::alloc::Global;
 use std::thread::Threads;
 use tb_frame::{DataFrame, IntoDf, JoinArgs, JoinType};
 use tb_keys::{LentRequest, NamedRequest, check_columns};
 use tb_pairs::listed_pairs;
 use tb_pool::Exec;
+use tb_store::Series;
 use tb_value::{JoinPair, PlSmallStr, PolarsResult};
 
 /// Joins of the table that `self` lends with another.
 pub trait DataFrameJoinOps: IntoDf {
     /// The rows that two nested loops over the tables list for the kind of join, each pair once, in an order that the
-    /// arguments allow, under the columns of the naming rule: those of the left table, and then those of the right one.
-    /// Coalesced keys of an Inner or Left join stand on the left alone, those of a Right join on the right alone. A
-    /// Semi or Anti join has the left columns alone. Rows match where they agree at every key. So far the arguments
-    /// must be of the form that is built: keys of a Full join that are not coalesced, no validation and no slice; and
-    /// the order is None, or by left rows first for an Inner or Left join, or any for a Semi or Anti join.
+    /// arguments allow, and of them those that the slice keeps, under the columns of the naming rule: those of the left
+    /// table, and then those of the right one. Coalesced keys of an Inner or Left join stand on the left alone, those of
+    /// a Right join on the right alone; those of a Full join stand on the left, with the right key's value where the
+    /// left one is absent. A Semi or Anti join has the left columns alone. Rows match where they agree at every key.
     ///
     /// # Errors
     ///
@@ -39,7 +40,8 @@ pub trait DataFrameJoinOps: IntoDf {
     /// 5. KeyTypes: the keys at a place are of different types;
     /// 6. KeyKind: the keys at a place are of type List, Struct or Null;
     /// 7. Duplicate: two columns of the answer would have this name, which is the first that stood before;
-    /// 8. TooManyRows: the answer would have more than `MAX_ROWS` rows.
+    /// 8. Validation: two left rows have equal keys and may not, and then two right rows; not in a Semi or Anti join;
+    /// 9. TooManyRows: there are more than `MAX_ROWS` pairs of rows before they are cut.
     final fn join(
         &self,
         rt: &(impl Threads + Sync),
@@ -50,7 +52,6 @@ pub trait DataFrameJoinOps: IntoDf {
         args: JoinArgs,
         exec: &Exec,
     ) -> PolarsResult<DataFrame>
-        requires built { IsBuilt (lent_request (Self.frame self.now) other.now left_on.now right_on.now args) }
         ensures settles { Settles result (join_refusal (lent_request (Self.frame self.now) other.now left_on.now right_on.now args)) }
         ensures answer { IfOk result (λ t. IsAnswer (lent_request (Self.frame self.now) other.now left_on.now right_on.now args) (table_of t)) }
     {
@@ -62,6 +63,43 @@ pub trait DataFrameJoinOps: IntoDf {
             args: &args,
         };
         join_tables(rt, alloc, &request, exec)
+    }
+
+    /// The join by these key columns, each under the name of a column of its table. A key of one value beside a table
+    /// without rows stands for one without values. Where a Full join coalesces its keys, it merges the tables' columns of
+    /// the keys' names, which must have one type at each place.
+    ///
+    /// # Errors
+    ///
+    /// The first of these that holds, or OutOfMemory:
+    /// 1. ColumnNotFound: the name of a left key is no column of the left table, and then that of a right one of the right;
+    /// 2. ShapeMismatch: a key is not as long as its table is high, and has not one value beside a table without rows;
+    /// 3. NoKeys, and all that follow it, as those of `join`.
+    final fn _join_impl(
+        &self,
+        rt: &(impl Threads + Sync),
+        alloc: Global,
+        other: &DataFrame,
+        selected_left: Vec<Series>,
+        selected_right: Vec<Series>,
+        args: JoinArgs,
+        exec: &Exec,
+    ) -> PolarsResult<DataFrame>
+        requires { MergesAlike (by_columns (table_of (Self.frame self.now)) (table_of other.now) (table_of selected_left.items) (table_of selected_right.items) args) }
+        ensures settles { Settles result (given_refusal (by_columns (table_of (Self.frame self.now)) (table_of other.now) (table_of selected_left.items) (table_of selected_right.items) args)) }
+        ensures answer { IfOk result (λ t. IsAnswer (by_columns (table_of (Self.frame self.now)) (table_of other.now) (table_of selected_left.items) (table_of selected_right.items) args) (table_of t)) }
+    {
+        let left = self.to_df();
+        join_given(
+            rt,
+            alloc,
+            left,
+            other,
+            selected_left,
+            selected_right,
+            &args,
+            exec,
+        )
     }
 
     /// The Inner join by these keys, with nothing else asked: `join` with `JoinArgs::new`.
@@ -130,7 +168,7 @@ pub trait DataFrameJoinOps: IntoDf {
 
 impl DataFrameJoinOps for DataFrame {}
 
-// The pairs of a request, where no cause refuses its key columns, the names of its answer or their number.
+// The pairs of a request, where no cause refuses its key columns, the names of its answer, its sides or their number.
 fn checked_pairs(
     rt: &(impl Threads + Sync),
     alloc: Global,
@@ -139,8 +177,6 @@ fn checked_pairs(
 ) -> PolarsResult<Vec<JoinPair>>
     requires some { 0 < length request.now.left_keys.now }
     requires as_many { length request.now.left_keys.now ≡ length request.now.right_keys.now }
-    requires kind { request.now.how ≡ request.now.args.now.how }
-    requires many { request.now.args.now.validation ≡ ManyToMany }
     ensures settles { Settles result (later_refusal (asked request.now)) }
     ensures listed { IfOk result (λ v. IsListed request.now.how request.now.args.now.maintain_order request.now.args.now.slice (listing (asked request.now)) v.items) }
 {
@@ -148,20 +184,22 @@ fn checked_pairs(
     listed_pairs(rt, alloc, request, exec)
 }
 
-// The pairs of a request, where no cause refuses it.
-fn joined_pairs(
+/// The join of a request whose keys stand in columns of their names.
+pub(crate) fn join_columns(
     rt: &(impl Threads + Sync),
     alloc: Global,
-    request: &NamedRequest<'_>,
+    request: &LentRequest<'_>,
     exec: &Exec,
-) -> PolarsResult<Vec<JoinPair>>
-    requires { IsBuilt (asked_by_names request.now) }
-    ensures settles { Settles result (join_refusal (asked_by_names request.now)) }
-    ensures listed { IfOk result (λ v. IsListed request.now.args.now.how request.now.args.now.maintain_order request.now.args.now.slice (listing (asked_by_names request.now)) v.items) }
+) -> PolarsResult<DataFrame>
+    requires some { 0 < length request.now.left_keys.now }
+    requires as_many { length request.now.left_keys.now ≡ length request.now.right_keys.now }
+    requires wide { 0 < length (out (asked request.now)) }
+    requires merge { key_types (asked request.now) ≡ None → CanMerge (asked request.now) }
+    ensures settles { Settles result (later_refusal (asked request.now)) }
+    ensures answer { IfOk result (λ t. IsAnswer (asked request.now) (table_of t)) }
 {
-    let keys = request.key_columns(alloc)?;
-    let lent = request.with_keys(&keys);
-    checked_pairs(rt, alloc, &lent, exec)
+    let pairs = checked_pairs(rt, alloc, request, exec)?;
+    finish_join(rt, alloc, request, &pairs)
 }
 
 fn join_tables(
@@ -170,10 +208,11 @@ fn join_tables(
     request: &NamedRequest<'_>,
     exec: &Exec,
 ) -> PolarsResult<DataFrame>
-    requires { IsBuilt (asked_by_names request.now) }
     ensures settles { Settles result (join_refusal (asked_by_names request.now)) }
     ensures answer { IfOk result (λ t. IsAnswer (asked_by_names request.now) (table_of t)) }
 {
-    let pairs = joined_pairs(rt, alloc, request, exec)?;
-    finish_join(rt, alloc, request, &pairs)
+    let _columns = request.left.get_columns();
+    let keys = request.key_columns(alloc)?;
+    let lent = request.with_keys(&keys);
+    join_columns(rt, alloc, &lent, exec)
 }

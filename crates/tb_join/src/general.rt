@@ -1,123 +1,122 @@
 //! The columns of an answer.
-ghost use Rattle.std.specs.Prelude.{◌≡◌, ◌≤◌, All, IfOk, None, length, map};
+ghost use Rattle.std.specs.Prelude.{◌≡◌, ◌<◌, ◌≤◌, ◌⊎◌, ◌++◌, [], All, IfOk, None, false, length, map, true};
 ghost use Rattle.tb_value.specs.Refusals.{Settles};
 ghost use Rattle.tb_chunk.specs.Rows.{IsRowOf};
-ghost use Rattle.tb_frame.specs.Answer.{IsListed, IsPairOf};
-ghost use Rattle.tb_frame.specs.Built.{IsBuilt};
+ghost use Rattle.tb_frame.specs.Answer.{IsListed, IsPairOf, fill};
 ghost use Rattle.tb_frame.specs.Frame.{opt_taken, without_names};
-ghost use Rattle.tb_frame.specs.Join.{IsAnswer, listing};
-ghost use Rattle.tb_frame.specs.Refusal.{join_refusal};
-ghost use Rattle.tb_frame.specs.Table.{height, names_of, table_of};
-ghost use Rattle.tb_keys.specs.Asked.{asked_by_names};
-ghost use Rattle.tb_join.specs.AnswerColumns.{answer_columns, called, right_part};
+ghost use Rattle.tb_frame.specs.Join.{IsAnswer, listing, out};
+ghost use Rattle.tb_frame.specs.Naming.{coalesces, merges_keys};
+ghost use Rattle.tb_frame.specs.Refusal.{repeated_name};
+ghost use Rattle.tb_frame.specs.Table.{height, table_of};
+ghost use Rattle.tb_keys.specs.Asked.{asked};
+ghost use Rattle.tb_join.specs.AnswerColumns.{answer_columns, right_part, side_by_side};
+ghost use Rattle.tb_join.specs.Ready.{CanMerge};
 
+use crate::merging::merged_columns;
+use crate::names::side_by_side;
 use std::alloc::Global;
 use std::thread::Threads;
-use tb_frame::{
-    DataFrame, column_name_set, gone_left, gone_right, has_right, left_rows, right_name,
-    right_rows, suffix_of,
-};
+use tb_frame::{DataFrame, gone_left, gone_right, has_right, left_rows, right_rows, suffix_of};
 use tb_gather::gather_rows;
-use tb_keys::NamedRequest;
+use tb_keys::LentRequest;
 use tb_store::Column;
 use tb_value::{JoinPair, MAX_ROWS, NullableIdxSize, OutOfMemory, PlSmallStr, PolarsResult};
 
-// The columns of a table over these rows, but for those of the names that go, which are left out before the rest is
-// gathered.
-fn kept_columns(
+/// The columns of a table over these rows, but for those of the names that go, which are left out before the rest is
+/// gathered.
+pub(crate) fn kept_table(
     rt: &(impl Threads + Sync),
     alloc: Global,
     table: &DataFrame,
     gone: &[PlSmallStr],
     rows: &[NullableIdxSize],
-) -> Result<Vec<Column>, OutOfMemory>
+) -> Result<DataFrame, OutOfMemory>
     requires rows { All (IsRowOf (height (table_of table.now))) rows.now }
     requires few { length rows.now ≤ MAX_ROWS }
-    ensures { IfOk result (λ v. v.items ≡ map (opt_taken rows.now) (without_names gone.now table.now)) }
+    ensures { IfOk result (λ t. t ≡ map (opt_taken rows.now) (without_names gone.now table.now)) }
 {
     if gone.is_empty() {
-        return Ok(gather_rows(rt, alloc, table, rows)?.into_columns());
+        return gather_rows(rt, alloc, table, rows);
     }
     let _columns = table.get_columns();
     let kept = table.drop_many(alloc, gone)?;
     if kept.width() == 0 {
-        return Ok(kept.into_columns());
+        return Ok(kept);
     }
-    Ok(gather_rows(rt, alloc, &kept, rows)?.into_columns())
+    gather_rows(rt, alloc, &kept, rows)
 }
 
-// The right columns under their names in the answer, beside these left columns.
-fn named_right(
-    alloc: Global,
-    left: &[Column],
-    right: Vec<Column>,
-    suffix: &str,
-) -> Result<Vec<Column>, OutOfMemory>
-    ensures { IfOk result (λ v. v.items ≡ map (called (names_of (table_of left.now)) suffix.now) right.items) }
-{
-    let taken = column_name_set(alloc, left)?;
-    let mut named = Vec::with_capacity(alloc, right.len())?;
-    for mut column in right {
-        let name = right_name(alloc, &taken, suffix, column.name())?;
-        column.rename(name);
-        named.push(column)?;
-    }
-    Ok(named)
-}
-
-// The right columns over the pairs, under their names beside these left columns.
+// The right columns over the pairs, but for those that go.
 fn right_columns(
     rt: &(impl Threads + Sync),
     alloc: Global,
-    left: &[Column],
-    request: &NamedRequest<'_>,
+    request: &LentRequest<'_>,
     pairs: &[JoinPair],
 ) -> Result<Vec<Column>, OutOfMemory>
     requires pairs { All (λ p. IsRowOf (height (table_of request.now.right.now)) p.right) pairs.now }
     requires few { length pairs.now ≤ MAX_ROWS }
-    ensures { IfOk result (λ v. v.items ≡ right_part request.now.args.now request.now.right_on.now pairs.now left.now request.now.right.now) }
+    ensures { IfOk result (λ v. v.items ≡ right_part (asked request.now).args request.now.right_on.now pairs.now request.now.right.now) }
 {
-    let args = request.args;
-    if !has_right(args.how) {
+    if !has_right(request.how) {
         return Ok(Vec::new(alloc));
     }
     let rows = right_rows(alloc, pairs)?;
-    let gone = gone_right(args, request.right_on);
-    let columns = kept_columns(rt, alloc, request.right, gone, &rows)?;
-    named_right(alloc, left, columns, suffix_of(args))
+    let gone = gone_right(request.how, request.args, request.right_on);
+    Ok(kept_table(rt, alloc, request.right, gone, &rows)?.into_columns())
 }
 
-// The left columns over the pairs, and then the right ones.
-fn answer_columns(
+// The left columns over the pairs, and then the right ones, of which none are merged.
+fn plain_columns(
     rt: &(impl Threads + Sync),
     alloc: Global,
-    request: &NamedRequest<'_>,
+    request: &LentRequest<'_>,
     pairs: &[JoinPair],
 ) -> Result<Vec<Column>, OutOfMemory>
     requires pairs { All (IsPairOf (height (table_of request.now.left.now)) (height (table_of request.now.right.now))) pairs.now }
     requires few { length pairs.now ≤ MAX_ROWS }
-    ensures { IfOk result (λ v. v.items ≡ answer_columns request.now.args.now request.now.left_on.now request.now.right_on.now pairs.now request.now.left.now request.now.right.now) }
+    ensures { IfOk result (λ v. v.items ≡ answer_columns (asked request.now).args request.now.left_on.now request.now.right_on.now pairs.now request.now.left.now request.now.right.now) }
 {
     let rows = left_rows(alloc, pairs)?;
-    let gone = gone_left(request.args, request.left_on);
-    let mut columns = kept_columns(rt, alloc, request.left, gone, &rows)?;
-    let mut beside = right_columns(rt, alloc, &columns, request, pairs)?;
-    columns.append(&mut beside)?;
-    Ok(columns)
+    let gone = gone_left(request.how, request.args, request.left_on);
+    let left = kept_table(rt, alloc, request.left, gone, &rows)?.into_columns();
+    let right = right_columns(rt, alloc, request, pairs)?;
+    side_by_side(alloc, left, right, suffix_of(request.args))
 }
 
-/// The table of the columns over the pairs of a request that is not refused. Only memory may be wanting.
+// The columns of the answer over the pairs. Only memory may be wanting.
+fn answer_columns(
+    rt: &(impl Threads + Sync),
+    alloc: Global,
+    request: &LentRequest<'_>,
+    pairs: &[JoinPair],
+) -> PolarsResult<Vec<Column>>
+    requires pairs { All (IsPairOf (height (table_of request.now.left.now)) (height (table_of request.now.right.now))) pairs.now }
+    requires few { length pairs.now ≤ MAX_ROWS }
+    requires merge { CanMerge (asked request.now) }
+    ensures settles { Settles result None }
+    ensures columns { IfOk result (λ v. table_of v.items ≡ map (fill pairs.now) (out (asked request.now))) }
+{
+    if request.merges_keys() {
+        merged_columns(rt, alloc, request, pairs)
+    } else {
+        Ok(plain_columns(rt, alloc, request, pairs)?)
+    }
+}
+
+/// The table of the columns over the pairs of a request. Only memory may be wanting.
 pub(crate) fn finish_join(
     rt: &(impl Threads + Sync),
     alloc: Global,
-    request: &NamedRequest<'_>,
+    request: &LentRequest<'_>,
     pairs: &[JoinPair],
 ) -> PolarsResult<DataFrame>
-    requires built { IsBuilt (asked_by_names request.now) }
-    requires valid { join_refusal (asked_by_names request.now) ≡ None }
-    requires listed { IsListed request.now.args.now.how request.now.args.now.maintain_order request.now.args.now.slice (listing (asked_by_names request.now)) pairs.now }
+    requires named { repeated_name (asked request.now) ≡ None }
+    requires few { length (listing (asked request.now)) ≤ MAX_ROWS }
+    requires merge { CanMerge (asked request.now) }
+    requires some { (0 < length (out (asked request.now))) ⊎ (pairs.now ≡ []) }
+    requires listed { IsListed request.now.how request.now.args.now.maintain_order request.now.args.now.slice (listing (asked request.now)) pairs.now }
     ensures settles { Settles result None }
-    ensures answer { IfOk result (λ t. IsAnswer (asked_by_names request.now) (table_of t)) }
+    ensures answer { IfOk result (λ t. IsAnswer (asked request.now) (table_of t)) }
 {
     let columns = answer_columns(rt, alloc, request, pairs)?;
     DataFrame::new(alloc, columns)

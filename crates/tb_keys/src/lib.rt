@@ -11,5 +11,6 @@ mod validation;
 
 pub use keys::check_columns;
 pub use listing::{check_size, list_pairs};
+pub use names::{check_answer_names, check_lists};
 pub use request::{KeyColumns, LentRequest, NamedRequest};
 pub use validation::check_sides;

@@ -1,29 +1,12 @@
 //! The names of the keys.
-ghost use Rattle.std.specs.Prelude.{◌≡◌, map, IfOk};
-ghost use Rattle.tb_value.specs.Refusals.{Settles, SettlesOutright};
-ghost use Rattle.tb_frame.specs.Refusal.{key_counts, no_keys, repeated_among, repeated_name, unknown_key};
-ghost use Rattle.tb_frame.specs.Table.{table_of};
+ghost use Rattle.tb_value.specs.Refusals.{Settles, SettlesOutright, first_cause};
+ghost use Rattle.tb_frame.specs.Refusal.{key_counts, list_causes, no_keys, repeated_name};
 ghost use Rattle.tb_keys.specs.Asked.{asked};
-ghost use Rattle.tb_keys.specs.Causes.{names_refusal};
 
 use crate::request::LentRequest;
 use std::alloc::Global;
-use tb_frame::{check_distinct, check_joined_names, column_name_set};
-use tb_store::Column;
-use tb_value::{InvalidCause, OutOfMemory, PlSmallStr, PolarsError, PolarsResult};
-
-// Refuses the first name that no column has (ColumnNotFound).
-fn check_known(alloc: Global, columns: &[Column], names: &[PlSmallStr]) -> PolarsResult<()>
-    ensures { Settles result (unknown_key (table_of columns.now) names.now) }
-{
-    let known = column_name_set(alloc, columns)?;
-    for name in names {
-        if !known.contains(name) {
-            return Err(PolarsError::ColumnNotFound(name.copy(alloc)?));
-        }
-    }
-    Ok(())
-}
+use tb_frame::{check_joined_names, check_repeated};
+use tb_value::{InvalidCause, PlSmallStr, PolarsError, PolarsResult};
 
 // Refuses a side without keys (NoKeys).
 fn check_some(left_on: &[PlSmallStr], right_on: &[PlSmallStr]) -> PolarsResult<()>
@@ -47,36 +30,15 @@ fn check_counts(left_on: &[PlSmallStr], right_on: &[PlSmallStr]) -> PolarsResult
     Ok(())
 }
 
-fn lend_names(alloc: Global, names: &[PlSmallStr]) -> Result<Vec<&PlSmallStr>, OutOfMemory>
-    ensures { IfOk result (λ v. map (λ n. n.now) v.items ≡ names.now) }
-{
-    let mut lent = Vec::with_capacity(alloc, names.len())?;
-    for name in names {
-        lent.push(name)?;
-    }
-    Ok(lent)
-}
-
-// Refuses the first repeated name (Duplicate).
-fn check_repeated(alloc: Global, names: &[PlSmallStr]) -> PolarsResult<()>
-    ensures { Settles result (repeated_among names.now) }
-{
-    check_distinct(alloc, &lend_names(alloc, names)?)
-}
-
-/// Refuses, in this order, a key that is no column of its table (ColumnNotFound), a side without keys (NoKeys),
-/// different numbers of keys (KeyCounts), and a repeated key (Duplicate). The left side comes first.
-pub(crate) fn check_names(
+/// Refuses, in this order, a side without keys (NoKeys), different numbers of keys (KeyCounts), and a repeated key
+/// (Duplicate), the left side first.
+pub fn check_lists(
     alloc: Global,
-    left: &[Column],
-    right: &[Column],
     left_on: &[PlSmallStr],
     right_on: &[PlSmallStr],
 ) -> PolarsResult<()>
-    ensures { Settles result (names_refusal (table_of left.now) (table_of right.now) left_on.now right_on.now) }
+    ensures { Settles result (first_cause (list_causes left_on.now right_on.now)) }
 {
-    check_known(alloc, left, left_on)?;
-    check_known(alloc, right, right_on)?;
     check_some(left_on, right_on)?;
     check_counts(left_on, right_on)?;
     check_repeated(alloc, left_on)?;
@@ -84,8 +46,7 @@ pub(crate) fn check_names(
 }
 
 /// Refuses the first repeated name of the columns that the join puts side by side (Duplicate).
-pub(crate) fn check_answer_names(alloc: Global, request: &LentRequest<'_>) -> PolarsResult<()>
-    requires { request.now.how ≡ request.now.args.now.how }
+pub fn check_answer_names(alloc: Global, request: &LentRequest<'_>) -> PolarsResult<()>
     ensures { Settles result (repeated_name (asked request.now)) }
 {
     check_joined_names(
@@ -94,6 +55,7 @@ pub(crate) fn check_answer_names(alloc: Global, request: &LentRequest<'_>) -> Po
         request.right.get_columns(),
         request.left_on,
         request.right_on,
+        request.how,
         request.args,
     )
 }

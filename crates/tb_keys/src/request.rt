@@ -3,10 +3,9 @@ ghost use Rattle.tb_frame.specs.Table.{table_of, height};
 ghost use Rattle.tb_chunk.specs.Lent.{lent_columns};
 ghost use Rattle.tb_keys.specs.Rows.{HasRows};
 
-use crate::keys::keys_of;
-use crate::names::check_names;
+use crate::names::check_lists;
 use std::alloc::Global;
-use tb_frame::{DataFrame, JoinArgs, JoinType};
+use tb_frame::{DataFrame, JoinArgs, JoinType, lend_columns};
 use tb_store::Series;
 use tb_value::{PlSmallStr, PolarsResult};
 
@@ -28,7 +27,8 @@ pub struct LentRequest<'a> {
 
 impl LentRequest<'_> {
     ghost use Rattle.std.specs.Prelude.{◌≡◌, ◌≤◌, length};
-    ghost use Rattle.tb_keys.specs.Asked.{place_count};
+    ghost use Rattle.tb_frame.specs.Naming.{coalesces, merges_keys};
+    ghost use Rattle.tb_keys.specs.Asked.{asked, place_count};
 
     /// The number of places that both key lists have.
     pub fn places(&self) -> usize
@@ -37,6 +37,13 @@ impl LentRequest<'_> {
         ensures right { result ≤ length self.now.right_keys.now }
     {
         self.left_keys.len().min(self.right_keys.len())
+    }
+
+    /// Whether the right keys are merged into the left ones, as in a coalesced Full join.
+    pub fn merges_keys(&self) -> bool
+        ensures { result ≡ merges_keys self.now.how (coalesces (asked self.now).args) }
+    {
+        self.how == JoinType::Full && self.args.coalesce.coalesce(&self.how)
     }
 }
 
@@ -73,13 +80,10 @@ impl<'a> NamedRequest<'a> {
         ensures left { IfOk result (λ k. AreKeysOf self.now.left.now self.now.left_on.now (lent_columns k.left.items)) }
         ensures right { IfOk result (λ k. AreKeysOf self.now.right.now self.now.right_on.now (lent_columns k.right.items)) }
     {
-        let left = self.left.get_columns();
-        let right = self.right.get_columns();
-        check_names(alloc, left, right, self.left_on, self.right_on)?;
-        Ok(KeyColumns {
-            left: keys_of(alloc, left, self.left_on)?,
-            right: keys_of(alloc, right, self.right_on)?,
-        })
+        let left = lend_columns(alloc, self.left.get_columns(), self.left_on)?;
+        let right = lend_columns(alloc, self.right.get_columns(), self.right_on)?;
+        check_lists(alloc, self.left_on, self.right_on)?;
+        Ok(KeyColumns { left, right })
     }
 
     /// The request by these columns, which are those of its keys.

@@ -8,36 +8,24 @@ ghost use Rattle.tb_chunk.specs.Rows.{IsRowOf};
 ghost use Rattle.tb_frame.specs.Answer.{IsListed, IsPairOf, fill};
 ghost use Rattle.tb_frame.specs.Frame.{without_names};
 ghost use Rattle.tb_frame.specs.Join.{IsAnswer, listing, out};
-ghost use Rattle.tb_frame.specs.Naming.{coalesces, merges_keys};
 ghost use Rattle.tb_frame.specs.Refusal.{join_valid};
 ghost use Rattle.tb_frame.specs.RightColumns.{gone_left};
 ghost use Rattle.tb_frame.specs.Table.{table_of, height};
 ghost use Rattle.tb_keys.specs.Asked.{IsByNames, asked};
 ghost use Rattle.tb_chunk.specs.Lent.{lent_columns};
-ghost use Rattle.tb_nested.specs.Merging.{key_merged, left_column};
+ghost use Rattle.tb_keys.specs.Merging.{key_merged, left_column};
 
 use std::alloc::Global;
-use tb_frame::{
-    DataFrame, JoinArgs, JoinType, coalesce_columns, columns_beside, gone_left, left_rows,
-    right_rows,
-};
+use tb_frame::{DataFrame, coalesce_columns, columns_beside, gone_left, left_rows, right_rows};
 use tb_keys::LentRequest;
 use tb_store::{Column, Series};
 use tb_value::{JoinPair, MAX_ROWS, NullableIdxSize, OutOfMemory, PlSmallStr, PolarsResult};
 
 // The left columns that stand in the answer.
 fn kept_left(alloc: Global, request: &LentRequest<'_>) -> Result<DataFrame, OutOfMemory>
-    ensures { IfOk result (λ t. t ≡ without_names (gone_left request.now.args.now request.now.left_on.now) request.now.left.now) }
+    ensures { IfOk result (λ t. t ≡ without_names (gone_left (asked request.now).args request.now.left_on.now) request.now.left.now) }
 {
-    request
-        .left
-        .drop_many(alloc, gone_left(request.args, request.left_on))
-}
-
-fn merges_keys(args: &JoinArgs) -> bool
-    ensures { result ≡ merges_keys args.now.how (coalesces args.now) }
-{
-    args.how == JoinType::Full && args.should_coalesce()
+    request.left.drop_many(alloc, gone_left(request.how, request.args, request.left_on))
 }
 
 fn place_of(names: &[PlSmallStr], name: &PlSmallStr) -> Option<usize>
@@ -52,7 +40,7 @@ fn place_of(names: &[PlSmallStr], name: &PlSmallStr) -> Option<usize>
 fn merged_key<'a>(request: &LentRequest<'a>, name: &PlSmallStr) -> Option<&'a Series>
     ensures { option_copied result ≡ key_merged request.now name.now }
 {
-    if !merges_keys(request.args) {
+    if !request.merges_keys() {
         return None;
     }
     let place = place_of(request.left_on, name)?;
@@ -124,6 +112,7 @@ fn answer_columns(
     let mut columns = left_columns(alloc, request, kept.get_columns(), &left, &right)?;
     let mut beside = columns_beside(
         alloc,
+        request.how,
         request.args,
         kept.get_columns(),
         request.right.get_columns(),

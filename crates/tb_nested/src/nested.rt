@@ -35,7 +35,6 @@ fn validated_pairs(alloc: Global, request: &LentRequest<'_>) -> PolarsResult<Vec
 
 // The pairs of the answer, where no cause refuses the key columns, the names, the sides or the size.
 fn checked_pairs(alloc: Global, request: &LentRequest<'_>) -> PolarsResult<Vec<JoinPair>>
-    requires { request.now.how ≡ request.now.args.now.how }
     ensures settles { Settles result (later_refusal (asked request.now)) }
     ensures listed { IfOk result (λ v. IsListed request.now.how request.now.args.now.maintain_order request.now.args.now.slice (listing (asked request.now)) v.items) }
 {

@@ -12,7 +12,7 @@ returns-then-same_type c =
     let names : c.eq.result ≡ same_name a.name b.name = c.eq.ensures ∙ (λ i. same_name ((c.as_str.ensures ∙ c.name.ensures) i) ((c.as_str-2.ensures ∙ c.name-2.ensures) i)) in
     elim c.if-eq.branch [
       | then-eq w ↦
-          let kinds : w.same_type.result ≡ same_kind a.kind b.kind = w.same_type.ensures in
+          let kinds : w.same_type.result ≡ same_kind a.kind b.kind = w.same_type.ensures ∙ (λ t. same_kind (w.as_materialized_series.ensures t).kind (w.as_materialized_series-then-eq.ensures t).kind) in
           plain-by_values a b c.same_values.result (sym names ∙ w.if-eq.true) (sym kinds ∙ sym w.value-is ∙ c.if-same_type.true) c.same_values.ensures
       | else-eq w ↦ let no : c.if-eq.value ≡ false = w.value-is ∙ w.if-eq.false in absurd (cc)
     ]
@@ -24,7 +24,7 @@ returns-else-same_type c =
     let names : c.eq.result ≡ same_name a.name b.name = c.eq.ensures ∙ (λ i. same_name ((c.as_str.ensures ∙ c.name.ensures) i) ((c.as_str-2.ensures ∙ c.name-2.ensures) i)) in
     elim c.if-eq.branch [
       | then-eq w ↦
-          let kinds : w.same_type.result ≡ same_kind a.kind b.kind = w.same_type.ensures in
+          let kinds : w.same_type.result ≡ same_kind a.kind b.kind = w.same_type.ensures ∙ (λ t. same_kind (w.as_materialized_series.ensures t).kind (w.as_materialized_series-then-eq.ensures t).kind) in
           (λ h. absurd (cc), λ e. absurd (differ-kinds a b (sym kinds ∙ sym w.value-is ∙ c.if-same_type.false) e))
       | else-eq w ↦ (λ h. absurd (cc), λ e. absurd (differ-names a b (sym names ∙ w.if-eq.false) e))
     ]

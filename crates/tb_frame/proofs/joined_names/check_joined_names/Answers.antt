@@ -7,13 +7,14 @@ use Rattle.tb_frame.specs.Frame.{without_names}
 use Rattle.tb_frame.specs.Naming.{default_suffix, joined_names}
 use Rattle.tb_frame.specs.Refusal.{repeated_among}
 use Rattle.tb_frame.specs.RightColumns.{gone_beside, right_names, right_side}
+use Rattle.tb_frame.specs.Sides.{of_kind}
 use Rattle.tb_frame.specs.Table.{table_of, names_of}
 use Rattle.tb_frame.proofs.JoinedNames.{names-joined}
 use Rattle.tb_frame.proofs.joined_names.check_joined_names.Goals as goal
 
 pub returns : goal.returns
 returns c =
-    let a = c.args.args.now in
+    let a = of_kind c.args.how c.args.args.now in
     let left = c.args.left.now in
     let right = c.args.right.now in
     let now : List (Bor Name) → List Name = λ ns. map (λ (n : Bor Name). n.now) ns in

@@ -8,6 +8,7 @@ use Rattle.tb_chunk.specs.Rows.{IsRowOf}
 use Rattle.tb_frame.specs.Table.{table_of, names_of}
 use Rattle.tb_frame.specs.Naming.{has_right, is_among}
 use Rattle.tb_frame.specs.RightColumns.{gone_right, right_column, right_columns}
+use Rattle.tb_frame.specs.Sides.{of_kind}
 use Rattle.tb_frame.proofs.right_columns.columns_beside.Goals as goal
 use Rattle.tb_frame.proofs.right_columns.columns_beside.Goals.{then-not-contains+in_ok-named_column+in_ok-push, else-not-contains}
 
@@ -19,13 +20,13 @@ side_has P false cs h = All-nil P
 pub named_column-requires-clause-rows : goal.named_column-requires-clause-rows
 named_column-requires-clause-rows c =
     let P : Col → Type 0 = λ k. All (IsRowOf (length (values k))) c.args.rows.now in
-    let side : All P c.right_side-side.result.now = subst (λ (ks : List Col). All P ks) (sym c.right_side-side.ensures) (side_has P (has_right c.args.args.now.how) c.args.right.now c.requires.rows) in
+    let side : All P c.right_side-side.result.now = subst (λ (ks : List Col). All P ks) (sym c.right_side-side.ensures) (side_has P (has_right c.args.how) c.args.right.now c.requires.rows) in
     subst P (sym c.column-item.is) (side c.loop-column.column-index c.column-item.result c.loop-column-test.true)
 
 pub loop-column-preserved : goal.loop-column-preserved
 loop-column-preserved c =
     let taken = names_of (table_of c.args.left.now) in
-    let gone = gone_right c.args.args.now c.args.right_on.now in
+    let gone = gone_right (of_kind c.args.how c.args.args.now) c.args.right_on.now in
     let side = c.right_side-side.result.now in
     let f : Col → Col = right_column taken c.suffix_of-suffix.result.now c.args.rows.now in
     let test : Col → Bool = λ k. not (is_among gone k.name) in
@@ -45,6 +46,6 @@ loop-column-preserved c =
 pub returns : goal.returns
 returns c =
     let taken = names_of (table_of c.args.left.now) in
-    let gone = gone_right c.args.args.now c.args.right_on.now in
+    let gone = gone_right (of_kind c.args.how c.args.args.now) c.args.right_on.now in
     c.loop-column.invariant
     ∙ (λ t. right_columns taken (c.suffix_of-suffix.ensures t) gone c.args.rows.now ((take_all c.loop-column.column-index c.right_side-side.result.now (omega arith) ∙ c.right_side-side.ensures) t))

@@ -1,11 +1,11 @@
-use Rattle.std.proofs.Common.{◌∙◌, List, Option, ℕ, sym, subst}
-use Rattle.std.specs.Prelude.{All}
-use Rattle.tb_chunk.specs.Rows.{IsRowOf}
-use Rattle.tb_frame.specs.Table.{table_of, height}
-use Rattle.tb_frame.proofs.Filled.{left_within}
+use Rattle.std.proofs.Common.{◌∙◌, ap, sym}
+use Rattle.tb_frame.specs.Table.{table_of}
+use Rattle.tb_keys.specs.Asked.{asked}
+use Rattle.tb_join.proofs.AnswerMade.{columns-are}
 use Rattle.tb_join.proofs.general.answer_columns.Goals as goal
 
-pub kept_columns-requires-clause-rows : goal.kept_columns-requires-clause-rows
-kept_columns-requires-clause-rows g c κs within =
-    let l = height (table_of c.args.request.now.left.now) in
-    subst (λ (rows : List (Option ℕ)). All (IsRowOf l) rows) (sym (c.deref.ensures.value ∙ c.in_ok-rows.ensures)) (left_within l (height (table_of c.args.request.now.right.now)) c.args.pairs.now c.requires.pairs)
+pub returns-else-merges_keys-clause-columns : goal.returns-else-merges_keys-clause-columns
+returns-else-merges_keys-clause-columns g c =
+    let r = c.args.request.now in
+    ap table_of c.in_ok-plain_columns.ensures
+    ∙ columns-are (asked r) r.left.now r.right.now c.args.pairs.now (sym c.merges_keys.ensures ∙ c.if-merges_keys.false) (λ _. table_of r.left.now) (λ _. table_of r.right.now)

@@ -24,9 +24,9 @@ use Rattle.tb_frame.proofs.Taking.{of_each_length}
 use Rattle.tb_keys.specs.Asked.{asked}
 use Rattle.tb_keys.specs.Rows.{HasRows}
 use Rattle.tb_keys.proofs.KeysNamed.{keys_many, keys_own}
-use Rattle.tb_nested.specs.Merging.{key_merged, left_column}
-use Rattle.tb_nested.proofs.AnswerTables.{columns-made, in_columns}
-use Rattle.tb_nested.proofs.KeysMerged.{merged_kinds}
+use Rattle.tb_keys.specs.Merging.{key_merged, left_column}
+use Rattle.tb_keys.proofs.MergedColumns.{columns-made, in_columns, partner-key}
+use Rattle.tb_keys.proofs.KeysMerged.{merged_kinds}
 use Rattle.tb_nested.proofs.columns.answer_columns.Goals as goal
 
 right_rows : (l r : ℕ) (ps : List JoinPair) → All (IsPairOf l r) ps → All (IsRowOf r) (map (λ (p : JoinPair). p.right) ps)
@@ -45,7 +45,7 @@ left_columns-requires-clause-left_rows c =
     let h = height (table_of r.left.now) in
     let level : HasRows h r.left.now = of_each_length (λ n. n ≡ h) r.left.now c.get_columns-columns.ensures.table refl in
     let kept : HasRows h c.get_columns.result.now = subst (λ (cs : List Col). HasRows h cs) (sym (c.get_columns.ensures.columns ∙ c.in_ok-kept.ensures))
-    (All-filter (stays (gone_left r.args.now r.left_on.now)) (λ (k : Col). length (values k) ≡ h) r.left.now level) in
+    (All-filter (stays (gone_left (asked r).args r.left_on.now)) (λ (k : Col). length (values k) ≡ h) r.left.now level) in
     in_columns h c.deref.result.now c.get_columns.result.now
     (subst (λ (rows : List (Option ℕ)). All (IsRowOf h) rows) (sym (c.deref.ensures.value ∙ c.in_ok-left.ensures))
     (left_within h (height (table_of r.right.now)) c.args.pairs.now c.requires.pairs)) kept
@@ -65,8 +65,8 @@ left_columns-requires-clause-types c =
     let P : Col → Type 0 = λ k. ForSome (key_merged r k.name) (λ x. k.kind ≡ x.kind) in
     let is = ap (λ (q : Request). q.left_keys) c.requires.named in
     let all = merged_kinds r.left.now (lent_columns r.left_keys.now) (lent_columns r.right_keys.now) r.left_on.now c.get_columns-columns.ensures.table.distinct is
-    (known_left q c.requires.valid) (not_mixed q (same_types q c.requires.valid)) (merges_keys r.args.now.how (coalesces r.args.now)) in
-    subst (λ (cs : List Col). All P cs) (sym (c.get_columns.ensures.columns ∙ c.in_ok-kept.ensures)) (All-filter (stays (gone_left r.args.now r.left_on.now)) P r.left.now all)
+    (known_left q c.requires.valid) (not_mixed q (same_types q c.requires.valid)) (merges_keys r.how (coalesces q.args)) in
+    subst (λ (cs : List Col). All P cs) (sym (c.get_columns.ensures.columns ∙ c.in_ok-kept.ensures)) (All-filter (stays (gone_left (asked r).args r.left_on.now)) P r.left.now all)
 
 pub columns_beside-requires-clause-rows : goal.columns_beside-requires-clause-rows
 columns_beside-requires-clause-rows c =
@@ -81,9 +81,9 @@ columns_beside-requires-clause-rows c =
 pub returns : goal.returns
 returns c =
     let r = c.args.request.now in
-    let a = r.args.now in
-    let q : Request = lent_request r.left.now r.right.now r.left_on.now r.right_on.now a in
-    let valid : join_valid q = subst join_valid c.requires.named c.requires.valid in
+    let q : Request = asked r in
+    let a = q.args in
+    let valid : join_valid q = c.requires.valid in
     let ps = c.args.pairs.now in
     let ls : List (Option ℕ) = map (λ (p : JoinPair). p.left) ps in
     let rs : List (Option ℕ) = map (λ (p : JoinPair). p.right) ps in
@@ -101,6 +101,5 @@ returns c =
     let many = keys_many r.right.now keys r.right_on.now is_r (known_right q valid) in
     let counts = same_counts q valid in
     ap table_of (c.in_ok-append.ensures.items ∙ (λ t. left t ++ beside t))
-    ∙ columns-made q keys (keys_own r.right.now keys r.right_on.now is_r (known_right q valid)) (omega (arith, many, counts)) ps r.left.now r.right.now kept
+    ∙ columns-made q (key_merged r) (λ k. partner-key q keys (keys_own r.right.now keys r.right_on.now is_r (known_right q valid)) (omega (arith, many, counts)) k k.name) ps r.left.now r.right.now kept
     (λ _. table_of r.left.now) (λ _. table_of r.right.now) c.in_ok-kept.ensures
-    ∙ ap (λ (x : Request). map (fill ps) (out x)) (sym c.requires.named)

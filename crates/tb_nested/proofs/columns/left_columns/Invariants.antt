@@ -1,6 +1,6 @@
 use Rattle.std.proofs.Common.{◌≡◌, take, map}
 use Rattle.tb_chunk.specs.Col.{Col}
-use Rattle.tb_nested.specs.Merging.{key_merged, left_column}
+use Rattle.tb_keys.specs.Merging.{key_merged, left_column}
 use Rattle.tb_nested.proofs.columns.left_columns.Given as goal
 
 abbrev pub invariant-loop-column : goal.invariant-loop-column

@@ -1,0 +1,54 @@
+use Rattle.std.proofs.Common.{◌≡◌, ◌<◌, ◌∙◌, ◌++◌, None, Option, length, ap, refl, sym, subst}
+use Rattle.std.specs.Prelude.{IfOk}
+use Rattle.std.proofs.lemmas.Result.{err_from_is_err_and}
+use Rattle.tb_value.specs.Refusals.{Settles}
+use Rattle.tb_value.specs.declared.error.PolarsError.{PolarsError}
+use Rattle.tb_chunk.specs.Lent.{lent_columns}
+use Rattle.tb_frame.specs.Join.{IsAnswer, Request, out}
+use Rattle.tb_frame.specs.Refusal.{column_causes, key_causes, key_types, row_causes}
+use Rattle.tb_frame.specs.Table.{table_of}
+use Rattle.tb_keys.specs.Asked.{asked_by_names}
+use Rattle.tb_keys.specs.Causes.{later_refusal}
+use Rattle.tb_keys.proofs.Refusing.{by_first, second_part, two_causes}
+use Rattle.tb_join.specs.Ready.{CanMerge}
+use Rattle.tb_join.proofs.NamedKeys.{keys_as_many, keys_there}
+use Rattle.tb_join.proofs.NamesStand.{can_merge, names_stand, wide_out}
+use Rattle.tb_join.proofs.frame_join.join_tables.Goals as goal
+
+pub returns-in_err-keys-clause-settles : goal.returns-in_err-keys-clause-settles
+returns-in_err-keys-clause-settles g c =
+    let p = err_from_is_err_and c.from_residual.result c.from_residual.ensures.1 in
+    rw (p.1, p.2) (by_first _ _ _ _ _ (two_causes (asked_by_names c.args.request.now)) refl c.in_err-keys.ensures.settles)
+
+pub returns-clause-settles : goal.returns-clause-settles
+returns-clause-settles g c =
+    let q = asked_by_names c.args.request.now in
+    subst (λ (o : Option PolarsError). Settles c.join_columns.result o)
+    (ap later_refusal c.with_keys-lent.ensures.asked ∙ sym (second_part (key_causes q) (column_causes q ++ row_causes q) c.in_ok-keys.ensures.settles))
+    c.join_columns.ensures.settles
+
+pub returns-clause-answer : goal.returns-clause-answer
+returns-clause-answer g c =
+    subst (λ (q : Request). IfOk c.join_columns.result (λ t. IsAnswer q (table_of t))) c.with_keys-lent.ensures.asked c.join_columns.ensures.answer
+
+pub join_columns-requires-clause-wide : goal.join_columns-requires-clause-wide
+join_columns-requires-clause-wide g c κs within =
+    let q = asked_by_names c.args.request.now in
+    subst (λ (x : Request). 0 < length (out x)) (sym c.with_keys-lent.ensures.asked) (wide_out q (names_stand q c.in_ok-keys.ensures.settles))
+
+pub join_columns-requires-clause-merge : goal.join_columns-requires-clause-merge
+join_columns-requires-clause-merge g c κs within =
+    let n = c.args.request.now in
+    let keys = c.in_ok-keys in
+    subst (λ (x : Request). key_types x ≡ None → CanMerge x) (sym c.with_keys-lent.ensures.asked)
+    (can_merge (asked_by_names n) n.left.now n.right.now (λ _. table_of n.left.now) (λ _. table_of n.right.now) (names_stand (asked_by_names n) keys.ensures.settles) c.get_columns-columns.ensures.table refl refl)
+
+pub join_columns-requires-clause-some : goal.join_columns-requires-clause-some
+join_columns-requires-clause-some g c κs within =
+    let keys = c.in_ok-keys.ensures in
+    keys_there c.args.request.now c.with_keys-lent.result (lent_columns c.in_ok-keys.keys.left.items) (lent_columns c.in_ok-keys.keys.right.items) c.with_keys-lent.ensures.asked keys.settles keys.left keys.right
+
+pub join_columns-requires-clause-as_many : goal.join_columns-requires-clause-as_many
+join_columns-requires-clause-as_many g c κs within =
+    let keys = c.in_ok-keys.ensures in
+    keys_as_many c.args.request.now c.with_keys-lent.result (lent_columns c.in_ok-keys.keys.left.items) (lent_columns c.in_ok-keys.keys.right.items) c.with_keys-lent.ensures.asked keys.settles keys.left keys.right

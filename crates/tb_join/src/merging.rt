@@ -1,0 +1,136 @@
+//! The columns of a coalesced Full join, whose keys are merged.
+ghost use Rattle.std.specs.Prelude.{◌≡◌, ◌≤◌, All, IfOk, None, length, map, true};
+ghost use Rattle.std.specs.Option.{ForSome, option_copied};
+ghost use Rattle.tb_value.specs.Names.{Name};
+ghost use Rattle.tb_value.specs.Refusals.{Settles};
+ghost use Rattle.tb_chunk.specs.Col.{Col, values};
+ghost use Rattle.tb_chunk.specs.Lent.{lent_columns};
+ghost use Rattle.tb_frame.specs.Answer.{IsPairOf, fill};
+ghost use Rattle.tb_frame.specs.Frame.{selected, without_names};
+ghost use Rattle.tb_frame.specs.Join.{out};
+ghost use Rattle.tb_frame.specs.NamedColumns.{column_by};
+ghost use Rattle.tb_frame.specs.Naming.{coalesces, merges_keys};
+ghost use Rattle.tb_frame.specs.Refusal.{unknown_key};
+ghost use Rattle.tb_frame.specs.Table.{height, table_of};
+ghost use Rattle.tb_keys.specs.Asked.{asked};
+ghost use Rattle.tb_keys.specs.Merging.{key_beside};
+ghost use Rattle.tb_join.specs.AnswerColumns.{Fits, filled_up};
+ghost use Rattle.tb_join.specs.Ready.{CanMerge};
+
+use crate::names::side_by_side;
+use std::alloc::Global;
+use std::thread::Threads;
+use tb_frame::{NamedColumns, left_rows, lend_columns, name_set, right_rows, suffix_of};
+use tb_gather::gather_rows;
+use tb_keys::LentRequest;
+use tb_store::{Column, Series};
+use tb_value::{JoinPair, MAX_ROWS, OutOfMemory, PlSmallStr, PolarsResult};
+
+// The column at each place under the name at that place.
+fn columns_beside<'a>(
+    alloc: Global,
+    names: &'a [PlSmallStr],
+    columns: &[&'a Series],
+) -> Result<NamedColumns<'a>, OutOfMemory>
+    requires { length names.now ≤ length columns.now }
+    ensures { IfOk result (λ m. (n : Name) → column_by m n ≡ key_beside names.now (lent_columns columns.now) n) }
+{
+    let mut beside = NamedColumns::new(alloc);
+    for place in 0..names.len() {
+        beside.insert(&names[place], columns[place])?;
+    }
+    Ok(beside)
+}
+
+// A column, with the values of another where it has none.
+fn filled_up(alloc: Global, column: Column, other: Option<&Series>) -> Result<Column, OutOfMemory>
+    requires { ForSome (option_copied other) (Fits column) }
+    ensures { IfOk result (λ c. c ≡ filled_up (option_copied other.entry) column) }
+{
+    match other {
+        None => Ok(column),
+        Some(other) => {
+            let merged = column.as_materialized_series().merged(alloc, other)?;
+            Ok(merged.into_column())
+        }
+    }
+}
+
+/// Each column, with the values of the one that is under its name where it has none.
+fn all_filled_up(
+    alloc: Global,
+    columns: Vec<Column>,
+    others: &NamedColumns<'_>,
+) -> Result<Vec<Column>, OutOfMemory>
+    requires { All (λ (c : Col). ForSome (column_by others.now c.name) (Fits c)) columns.items }
+    ensures { IfOk result (λ v. v.items ≡ map (λ (c : Col). filled_up (column_by others.now c.name) c) columns.items) }
+{
+    let mut filled = Vec::with_capacity(alloc, columns.len())?;
+    for column in columns {
+        let other = others.get(column.name());
+        filled.push(filled_up(alloc, column, other)?)?;
+    }
+    Ok(filled)
+}
+
+/// The left columns, those of the names on the left with the values of the right column at the same place where they
+/// have none. All right names are those of columns.
+pub(crate) fn merged_left(
+    alloc: Global,
+    left: Vec<Column>,
+    right: &[Column],
+    left_on: &[PlSmallStr],
+    right_on: &[PlSmallStr],
+) -> PolarsResult<Vec<Column>>
+    requires known { unknown_key (table_of right.now) right_on.now ≡ None }
+    requires many { length left_on.now ≤ length right_on.now }
+    requires fit { All (λ (c : Col). ForSome (key_beside left_on.now (selected right_on.now right.now) c.name) (Fits c)) left.items }
+    ensures settles { Settles result None }
+    ensures columns { IfOk result (λ v. v.items ≡ map (λ (c : Col). filled_up (key_beside left_on.now (selected right_on.now right.now) c.name) c) left.items) }
+{
+    let keys = lend_columns(alloc, right, right_on)?;
+    let beside = columns_beside(alloc, left_on, &keys)?;
+    Ok(all_filled_up(alloc, left, &beside)?)
+}
+
+/// The columns whose names are not among these, handed over.
+pub(crate) fn other_columns(
+    alloc: Global,
+    columns: Vec<Column>,
+    names: &[PlSmallStr],
+) -> Result<Vec<Column>, OutOfMemory>
+    ensures { IfOk result (λ v. v.items ≡ without_names names.now columns.items) }
+{
+    let gone = name_set(alloc, names)?;
+    let mut others = Vec::new(alloc);
+    for column in columns {
+        if !gone.contains(column.name()) {
+            others.push(column)?;
+        }
+    }
+    Ok(others)
+}
+
+/// The columns of the answer over the pairs, where the right keys are merged into the left ones. Only memory may be
+/// wanting.
+pub(crate) fn merged_columns(
+    rt: &(impl Threads + Sync),
+    alloc: Global,
+    request: &LentRequest<'_>,
+    pairs: &[JoinPair],
+) -> PolarsResult<Vec<Column>>
+    requires merges { merges_keys request.now.how (coalesces (asked request.now).args) ≡ true }
+    requires pairs { All (IsPairOf (height (table_of request.now.left.now)) (height (table_of request.now.right.now))) pairs.now }
+    requires few { length pairs.now ≤ MAX_ROWS }
+    requires merge { CanMerge (asked request.now) }
+    ensures settles { Settles result None }
+    ensures columns { IfOk result (λ v. table_of v.items ≡ map (fill pairs.now) (out (asked request.now))) }
+{
+    let rows = left_rows(alloc, pairs)?;
+    let left = gather_rows(rt, alloc, request.left, &rows)?.into_columns();
+    let rows = right_rows(alloc, pairs)?;
+    let right = gather_rows(rt, alloc, request.right, &rows)?.into_columns();
+    let left = merged_left(alloc, left, &right, request.left_on, request.right_on)?;
+    let right = other_columns(alloc, right, request.right_on)?;
+    Ok(side_by_side(alloc, left, right, suffix_of(request.args))?)
+}

@@ -1,2 +1,0 @@
-pub mod KeysMerged
-pub mod AnswerTables
