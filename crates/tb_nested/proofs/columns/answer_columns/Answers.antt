@@ -3,7 +3,7 @@ use Rattle.std.specs.Prelude.{All, not}
 use Rattle.std.specs.List.{find}
 use Rattle.std.specs.Option.{ForSome}
 use Rattle.std.proofs.lemmas.List.Elements.{All-filter, All-weaker}
-use Rattle.tb_frame.specs.Answer.{IsPairOf, fill}
+use Rattle.tb_frame.specs.Answer.{IsPairOf}
 use Rattle.tb_value.specs.Names.{Name}
 use Rattle.tb_value.specs.SameKind.{same_kind}
 use Rattle.tb_value.specs.declared.error.ComputeCause.TheVariants.{KeyTypes}
@@ -12,7 +12,7 @@ use Rattle.tb_value.specs.declared.index.JoinPair.{JoinPair}
 use Rattle.tb_chunk.specs.Col.{Col, values}
 use Rattle.tb_chunk.specs.Lent.{lent_columns}
 use Rattle.tb_chunk.specs.Rows.{IsRowOf}
-use Rattle.tb_frame.specs.Join.{Request, lent_request, out, places}
+use Rattle.tb_frame.specs.Join.{Request, places}
 use Rattle.tb_frame.specs.Naming.{coalesces, is_among, merges_keys}
 use Rattle.tb_frame.specs.Refusal.{join_valid, key_types, kind_at}
 use Rattle.tb_frame.specs.RightColumns.{columns_beside, gone_left}

@@ -1,4 +1,4 @@
-use Rattle.std.proofs.Common.{◌≡◌, ◌⊎◌, List, None, Option, Some, ap, refl, subst, sym}
+use Rattle.std.proofs.Common.{◌≡◌, ◌⊎◌, List, None, Option, Some, refl, subst, sym}
 use Rattle.std.specs.Prelude.{IfOk}
 use Rattle.std.proofs.lemmas.Result.{err_from_is_err_and}
 use Rattle.tb_value.specs.Refusals.{Settles}
@@ -26,9 +26,6 @@ with_keys-request-requires-clause-left c = c.in_ok-keys.ensures.left
 
 pub with_keys-request-requires-clause-right : goal.with_keys-request-requires-clause-right
 with_keys-request-requires-clause-right c = c.in_ok-keys.ensures.right
-
-pub checked_pairs-requires : goal.checked_pairs-requires
-checked_pairs-requires c = ap (λ (q : Request). q.args.how) c.with_keys-request.ensures.named
 
 pub returns-in_err-pairs-clause-settles : goal.returns-in_err-pairs-clause-settles
 returns-in_err-pairs-clause-settles c =
