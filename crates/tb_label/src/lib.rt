@@ -10,7 +10,5 @@
 
 mod label;
 pub mod laws;
-#[cfg(test)]
-mod tests;
 
 pub use label::{is_header_type, truth_text, value_text};

@@ -15,8 +15,6 @@
 mod casting;
 mod class;
 pub mod laws;
-#[cfg(test)]
-mod tests;
 mod types;
 
 pub use casting::stack;

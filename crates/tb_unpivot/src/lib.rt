@@ -5,7 +5,5 @@ mod columns;
 mod frame_unpivot;
 pub mod laws;
 mod lookup;
-#[cfg(test)]
-mod tests;
 
 pub use frame_unpivot::{UnpivotArgsIR, UnpivotDF};
