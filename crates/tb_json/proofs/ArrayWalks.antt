@@ -1,6 +1,6 @@
 -- Columns of nulls alone.
 use Rattle.std.proofs.Common.{◌≡◌, ℕ, ℤ, zero, suc, List, [], ◌∷◌, length, map, replicate, Bool, true, false, cond, ◌&&◌, Option, Some, None, option_map, option_and_then, refl, sym, ap, ◌∙◌, arith}
-use Rattle.std.specs.Prelude.{is_some, IsSomeAnd, MatchOption}
+use Rattle.std.specs.Prelude.{is_some}
 use Rattle.std.specs.List.{All, list_all}
 use Rattle.std.proofs.lemmas.List.Elements.{All-cons, All-append}
 use Rattle.serde_json.specs.Data.{Data, null, boolean, number, string, array, object}
@@ -53,10 +53,3 @@ nulls_typed (suc n) = All-cons (HasType kind.null) value.null (replicate n value
 pub nulls-IsTyped : (ns : List ℕ) → IsTyped kind.null (map (λ n. replicate n value.null) ns)
 nulls-IsTyped [] = All-none (HasType kind.null)
 nulls-IsTyped (n ∷ ns) = All-append (HasType kind.null) (replicate n value.null) (flat (map (λ m. replicate m value.null) ns)) (nulls_typed n) (nulls-IsTyped ns)
-
--- ---- chunks of a variant
-
-pub mapped : {A B L : Type 0} (h : B → L) (k : A → L) (g : A → B) (o : Option A) (r : Option B) (e : Option L) → ((x : A) → h (g x) ≡ k x) → option_map k o ≡ e → MatchOption o (r ≡ None) (λ x. IsSomeAnd r (λ y. y ≡ g x)) → option_map h r ≡ e
-mapped h k g None r e same is m = ap (option_map h) m ∙ is
-mapped h k g (Some x) None e same is m = absurd m
-mapped h k g (Some x) (Some y) e same is m = ap Some (ap h m ∙ same x) ∙ is

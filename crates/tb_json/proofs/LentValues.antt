@@ -57,14 +57,6 @@ has_only_from names (object ns) ms e = some_parts (are_among names) ns ms (sym e
 pub has_only-object : (names : List (List ℕ)) (d : Data) (es : List Entry) → Some (members_view es) ≡ as_object d → has_only names d ≡ all_known names (keys_of es)
 has_only-object names d es e = has_only_from names d (members_view es) e ∙ are_among-members_view names es
 
-pub has_only-other : (names : List (List ℕ)) (d : Data) → None ≡ as_object d → has_only names d ≡ false
-has_only-other names null e = refl
-has_only-other names (boolean b) e = refl
-has_only-other names (number n) e = refl
-has_only-other names (string s) e = refl
-has_only-other names (array es) e = refl
-has_only-other names (object ns) e = cc
-
 -- ---- a walk over a list, whose items g reads
 
 abbrev pub Walk : {V A B : Type 0} → (V → A) → (A → Option B) → List V → List B → ℕ → Type 0
@@ -87,6 +79,3 @@ Walk-all g f vs done i past so_far = EachSoFar-all f (map g vs) done i (rw lengt
 -- each value of an array, under f
 pub each_in : {B : Type 0} (f : Data → Option B) (d : Data) (vs ws : List Value) → Some (items_view vs) ≡ as_array d → ws ≡ vs → list_of f d ≡ each f (map view ws)
 each_in f d vs ws e same = ap (option_and_then (each f)) (as_list-array d vs e) ∙ ap (λ us. each f (map view us)) (sym same)
-
-pub list_of-other : {B : Type 0} (f : Data → Option B) (d : Data) → None ≡ as_array d → None ≡ list_of f d
-list_of-other f d e = sym (ap (option_and_then (each f)) (as_list-other d e))

@@ -19,8 +19,8 @@ use crate::read_cell::ReadCell;
 use serde_json::Value;
 use std::alloc::Global;
 use tb_store::{
-    BinaryChunk, Cells, Chunk, Chunks, FieldValues, ListChunk, Physical, StringChunk, StructChunk,
-    physical_of,
+    BinaryChunk, Cells, Chunk, Chunks, FieldValues, ListChunk, Physical, Stored, StringChunk,
+    StructChunk, physical_of,
 };
 use tb_value::{Bytes, DataType, OutOfMemory, PlSmallStr, Values};
 
@@ -203,6 +203,24 @@ fn chunks_of<C: ReadChunk>(
     Ok(Some(chunks))
 }
 
+// The same, as those of a column.
+fn read_stored<C: ReadChunk + Stored>(
+    alloc: Global,
+    dtype: &DataType,
+    written: &Vec<&Vec<Value>>,
+) -> Result<Option<Chunks>, OutOfMemory>
+    requires { physical (kind_of dtype.now) ≡ C.stored }
+    ensures chunks { IfOk result (λ o. option_map chunk_lists o
+        ≡ each (each (cell_in (kind_of dtype.now))) (map (λ v. map view v.now.items) written.now.items)) }
+    ensures typed { IfOk result (λ o. IfSome o (λ c. IsTyped (kind_of dtype.now) (chunk_lists c))) }
+    ensures stored { IfOk result (λ o. IfSome o (λ c. storage c ≡ C.kind)) }
+{
+    match chunks_of::<C>(alloc, dtype, written)? {
+        Some(chunks) => Ok(Some(C::wrap(chunks))),
+        None => Ok(None),
+    }
+}
+
 /// The chunks of a column, or None where a value is none of the type.
 pub fn arrays_in(
     alloc: Global,
@@ -215,20 +233,20 @@ pub fn arrays_in(
     ensures stored { IfOk result (λ o. IfSome o (λ c. storage c ≡ physical (kind_of dtype.now))) }
 {
     match physical_of(dtype) {
-        Physical::Null => Ok(chunks_of(alloc, dtype, written)?.map(Chunks::Null)),
-        Physical::Boolean => Ok(chunks_of(alloc, dtype, written)?.map(Chunks::BooleanType)),
-        Physical::Int8 => Ok(chunks_of(alloc, dtype, written)?.map(Chunks::Int8Type)),
-        Physical::Int16 => Ok(chunks_of(alloc, dtype, written)?.map(Chunks::Int16Type)),
-        Physical::Int32 => Ok(chunks_of(alloc, dtype, written)?.map(Chunks::Int32Type)),
-        Physical::Int64 => Ok(chunks_of(alloc, dtype, written)?.map(Chunks::Int64Type)),
-        Physical::Int128 => Ok(chunks_of(alloc, dtype, written)?.map(Chunks::Int128Type)),
-        Physical::UInt8 => Ok(chunks_of(alloc, dtype, written)?.map(Chunks::UInt8Type)),
-        Physical::UInt16 => Ok(chunks_of(alloc, dtype, written)?.map(Chunks::UInt16Type)),
-        Physical::UInt32 => Ok(chunks_of(alloc, dtype, written)?.map(Chunks::UInt32Type)),
-        Physical::UInt64 => Ok(chunks_of(alloc, dtype, written)?.map(Chunks::UInt64Type)),
-        Physical::String => Ok(chunks_of(alloc, dtype, written)?.map(Chunks::StringType)),
-        Physical::Binary => Ok(chunks_of(alloc, dtype, written)?.map(Chunks::BinaryType)),
-        Physical::List => Ok(chunks_of(alloc, dtype, written)?.map(Chunks::ListType)),
-        Physical::Struct => Ok(chunks_of(alloc, dtype, written)?.map(Chunks::StructType)),
+        Physical::Null => read_stored::<usize>(alloc, dtype, written),
+        Physical::Boolean => read_stored::<Cells<bool>>(alloc, dtype, written),
+        Physical::Int8 => read_stored::<Cells<i8>>(alloc, dtype, written),
+        Physical::Int16 => read_stored::<Cells<i16>>(alloc, dtype, written),
+        Physical::Int32 => read_stored::<Cells<i32>>(alloc, dtype, written),
+        Physical::Int64 => read_stored::<Cells<i64>>(alloc, dtype, written),
+        Physical::Int128 => read_stored::<Cells<i128>>(alloc, dtype, written),
+        Physical::UInt8 => read_stored::<Cells<u8>>(alloc, dtype, written),
+        Physical::UInt16 => read_stored::<Cells<u16>>(alloc, dtype, written),
+        Physical::UInt32 => read_stored::<Cells<u32>>(alloc, dtype, written),
+        Physical::UInt64 => read_stored::<Cells<u64>>(alloc, dtype, written),
+        Physical::String => read_stored::<StringChunk>(alloc, dtype, written),
+        Physical::Binary => read_stored::<BinaryChunk>(alloc, dtype, written),
+        Physical::List => read_stored::<ListChunk>(alloc, dtype, written),
+        Physical::Struct => read_stored::<StructChunk>(alloc, dtype, written),
     }
 }

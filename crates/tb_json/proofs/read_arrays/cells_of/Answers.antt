@@ -1,4 +1,4 @@
-use Rattle.std.proofs.Common.{map, option_map, ◌∙◌, sym, ap}
+use Rattle.std.proofs.Common.{map, option_map, ◌∙◌, sym, ap, arith}
 use Rattle.std.proofs.lemmas.List.{map_push}
 use Rattle.std.proofs.lemmas.List.Elements.{All-push}
 use Rattle.serde_json.specs.View.{view}
@@ -7,7 +7,7 @@ use Rattle.tb_chunk.specs.Chunk.{or_null}
 use Rattle.tb_json.specs.Lists.{each}
 use Rattle.tb_value.specs.SeeKind.{kind_of}
 use Rattle.tb_json.specs.Cells.{cell_in}
-use Rattle.tb_json.proofs.LentValues.{Walk-more, Walk-fails}
+use Rattle.tb_json.proofs.LentValues.{Walk-more, Walk-fails, Walk-all}
 use Rattle.tb_json.proofs.read_arrays.cells_of.Goals as goal
 
 pub returns-in_default-clause-cells : goal.returns-in_default-clause-cells
@@ -22,3 +22,11 @@ loop-item-preserved g c = record {
       (Walk-more view (cell_in (kind_of c.args.dtype.now)) _ _ _ _ _ c.loop-item-test.true c.item-item.is (sym c.in_ok-cell.ensures.value ∙ ap (option_map (or_null g.N.Cell.shows)) c.in-Some.is) c.loop-item.invariant.walked);
   typed = rw (c.in_ok-push.ensures.items, map_push) (All-push (HasType (kind_of c.args.dtype.now)) _ _ c.loop-item.invariant.typed (rw c.in-Some.is at c.in_ok-cell.ensures.typed));
 }
+
+pub returns-clause-cells : goal.returns-clause-cells
+returns-clause-cells g c =
+    Walk-all view (cell_in (kind_of c.args.dtype.now)) _ _ _ (omega arith) c.loop-item.invariant.walked
+    ∙ ap (λ vs. each (cell_in (kind_of c.args.dtype.now)) (map view vs)) c.deref-item-items.ensures.value
+
+pub returns-clause-typed : goal.returns-clause-typed
+returns-clause-typed g c = c.loop-item.invariant.typed
