@@ -1,42 +1,102 @@
--- What is due for a request, by what the join of it answers.
-use Rattle.std.proofs.Common.{◌≡◌, ◌⊎◌, ℕ, List, Option, None, Some, Result, Ok, Err, IfOk, MatchOption, refl, sym, subst}
+-- What is due for a request, by what its operation answers.
+use Rattle.std.proofs.Common.{◌≡◌, ◌⊎◌, ◌<◌, ◌^◌, ℕ, List, length, Option, None, Some, Result, Ok, Err, IfOk, MatchOption, refl, sym, ap, subst}
 use mathlib.Core.Logic.{inl, inr}
+use Rattle.std.specs.List.{All}
+use Rattle.std.proofs.lemmas.List.Elements.{All-map}
 use Rattle.tb_value.specs.Names.{Name}
+use Rattle.tb_value.specs.Refusals.{Settles}
 use Rattle.tb_value.specs.declared.error.PolarsError.{PolarsError}
 use Rattle.tb_value.specs.declared.error.PolarsError.TheVariants.{OutOfMemory}
+use Rattle.tb_chunk.specs.Col.{Col}
 use Rattle.tb_frame.specs.Join.{IsAnswer, lent_request}
 use Rattle.tb_frame.specs.Refusal.{join_refusal}
-use Rattle.tb_frame.specs.Table.{Table}
+use Rattle.tb_frame.specs.Table.{TableColumn, plain, table_of}
 use Rattle.tb_json.specs.Text.{text_of}
-use Rattle.tb_request.specs.Reading.{JoinRequest, asked}
+use Rattle.tb_request.specs.declared.request.Reason.{Reason}
+use Rattle.tb_request.specs.declared.request.RequestFault.{RequestFault}
+use Rattle.tb_request.specs.declared.request.RequestFault.TheVariants.{NoRequest}
+use Rattle.tb_request.specs.Reading.{JoinRequest, UnpivotRequest, FaultIs}
+use Rattle.tb_unpivot.specs.Unpivot.{HasShortNames, unpivot_refusal, unpivot_table}
 use Rattle.tb_app.specs.declared.status.Status.{Status}
 use Rattle.tb_app.specs.declared.status.Status.TheVariants as status
-use Rattle.tb_app.specs.Due.{DueOfRequest, IsRefusal}
-use Rattle.tb_app.specs.Requests.{join, refusal_of, IsAnswerText, text_of_refusal}
+use Rattle.tb_app.specs.Due.{DueOfReading, DueOfRequest, IsOutcome, IsRefusal}
+use Rattle.tb_app.specs.Requests.{Request, as_request, asked_long, join, unpivot, refusal_of, IsAnswerText, text_of_refusal}
+
+-- ---- no request
+
+-- a fault with a reason is the reason why there is none
+reason_is_due : {A : Type 0} (f : A → Request) (read : Result A Reason) (reason : Reason) (s : Status) (text : List ℕ)
+    → read ≡ Err reason → DueOfReading (Err reason) s text → DueOfReading (as_request f read) s text
+reason_is_due f read reason s text is d = subst (λ r. DueOfReading (as_request f r) s text) (sym is) d
+
+pub fault_is_due : {A B E : Type 0} (f : B → Request) (read : Result B Reason) (fault : RequestFault) (s : A → Status) (text : A → List ℕ) (result : Result A E)
+    → FaultIs fault read
+    → IfOk result (λ a. (reason : Reason) × (fault ≡ NoRequest reason) × DueOfReading (Err reason) (s a) (text a))
+    → IfOk result (λ a. DueOfReading (as_request f read) (s a) (text a))
+fault_is_due f read fault s text (Ok a) is told =
+    reason_is_due f read told.0 (s a) (text a) (subst (λ e. FaultIs e read) told.1 is) told.2
+fault_is_due f read fault s text (Err e) is told = told
+
+-- ---- a request
 
 -- what is due where the refusal is this one, or there is none
-DueOf : JoinRequest → Status → List ℕ → Option PolarsError → Type 0
-DueOf r s text cause = MatchOption cause ((s ≡ status.Done) × IsAnswerText (join r) text) (λ e. (s ≡ status.Refused) × (text ≡ text_of_refusal e))
+DueOf : Request → Status → List ℕ → Option PolarsError → Type 0
+DueOf q s text refusal = MatchOption refusal ((s ≡ status.Done) × IsAnswerText q text) (λ e. (s ≡ status.Refused) × (text ≡ text_of_refusal e))
+
+-- the request that is asked is refused by what the operation settles, and else the table answers it
+pub outcome_is_due : (q : Request) (outcome : Result (List Col) PolarsError) (s : Status) (text : List ℕ)
+    → Settles outcome (refusal_of q) → IfOk outcome (λ t. IsAnswerText q (text_of (table_of t))) → IsOutcome outcome s text → DueOfRequest q s text
+unfolding DueOf
+outcome_is_due q (Ok t) s text settles answers is =
+    subst (DueOf q s text) (sym settles) (is.0, subst (IsAnswerText q) (sym is.1) answers)
+outcome_is_due q (Err e) s text (inl want) answers is = absurd (is.0 want)
+outcome_is_due q (Err e) s text (inr cause) answers is = subst (DueOf q s text) (sym cause) (is.1, is.2)
+
+outcomes_are_due : {A E : Type 0} (q : Request) (outcome : Result (List Col) PolarsError) (s : A → Status) (text : A → List ℕ) (result : Result A E)
+    → Settles outcome (refusal_of q) → IfOk outcome (λ t. IsAnswerText q (text_of (table_of t)))
+    → IfOk result (λ a. IsOutcome outcome (s a) (text a)) → IfOk result (λ a. DueOfRequest q (s a) (text a))
+outcomes_are_due q outcome s text (Ok a) settles answers is = outcome_is_due q outcome (s a) (text a) settles answers is
+outcomes_are_due q outcome s text (Err e) settles answers is = is
+
+-- ---- a join
 
 module _ (r : JoinRequest) (left_on right_on : List Name) (left : left_on ≡ r.left_on) (right : right_on ≡ r.right_on) where
   -- what holds of the lent lists of names holds of the request's
   of_request : (P : List Name → List Name → Type 0) → P left_on right_on → P r.left_on r.right_on
   of_request P p = subst (λ ns. P r.left_on ns) right (subst (λ ns. P ns right_on) left p)
 
-  pub done_is_due : (t : Table) (text : List ℕ) → join_refusal (lent_request r.left r.right left_on right_on r.args) ≡ None
-      → IsAnswer (lent_request r.left r.right left_on right_on r.args) t → text ≡ text_of t → DueOfRequest (join r) status.Done text
-  unfolding DueOf refusal_of IsAnswerText
-  done_is_due t text valid answer is =
-      let valid' : join_refusal (asked r) ≡ None = of_request (λ a b. join_refusal (lent_request r.left r.right a b r.args) ≡ None) valid in
-      let answer' : IsAnswer (asked r) t = of_request (λ a b. IsAnswer (lent_request r.left r.right a b r.args) t) answer in
-      subst (DueOf r status.Done text) (sym valid') (refl, (t, answer', is))
+  joined_text : (outcome : Result (List Col) PolarsError)
+      → IfOk outcome (λ t. IsAnswer (lent_request r.left r.right r.left_on r.right_on r.args) (table_of t))
+      → IfOk outcome (λ t. IsAnswerText (join r) (text_of (table_of t)))
+  unfolding IsAnswerText
+  joined_text (Ok t) answer = (table_of t, answer, refl)
+  joined_text (Err e) answer = tt
 
-  pub refused_is_due : {E A : Type 0} (e : PolarsError) (s : A → Status) (text : A → List ℕ) (result : Result A E)
-      → (e ≡ OutOfMemory) ⊎ (join_refusal (lent_request r.left r.right left_on right_on r.args) ≡ Some e)
-      → IfOk result (λ a. IsRefusal e (s a) (text a)) → IfOk result (λ a. DueOfRequest (join r) (s a) (text a))
-  unfolding DueOf refusal_of
-  refused_is_due e s text (Err why) cause is = is
-  refused_is_due e s text (Ok a) (inl want) is = absurd (is.0 want)
-  refused_is_due e s text (Ok a) (inr cause) is =
-      let cause' : join_refusal (asked r) ≡ Some e = of_request (λ a b. join_refusal (lent_request r.left r.right a b r.args) ≡ Some e) cause in
-      subst (DueOf r (s a) (text a)) (sym cause') (is.1, is.2)
+  pub join_is_due : {A E : Type 0} (outcome : Result (List Col) PolarsError) (s : A → Status) (text : A → List ℕ) (result : Result A E)
+      → Settles outcome (join_refusal (lent_request r.left r.right left_on right_on r.args))
+      → IfOk outcome (λ t. IsAnswer (lent_request r.left r.right left_on right_on r.args) (table_of t))
+      → IfOk result (λ a. IsOutcome outcome (s a) (text a)) → IfOk result (λ a. DueOfRequest (join r) (s a) (text a))
+  unfolding refusal_of
+  join_is_due outcome s text result settles answer is =
+      outcomes_are_due (join r) outcome s text result
+      (of_request (λ a b. Settles outcome (join_refusal (lent_request r.left r.right a b r.args))) settles)
+      (joined_text outcome (of_request (λ a b. IfOk outcome (λ t. IsAnswer (lent_request r.left r.right a b r.args) (table_of t))) answer))
+      is
+
+-- ---- a table that is made long
+
+pub names_short : (cs : List Col) → All (λ (c : Col). length c.name < 2 ^ 32) cs → HasShortNames (table_of cs)
+names_short cs short =
+    All-map (λ (n : Name). length n < 2 ^ 32) (λ (c : TableColumn). c.name) (table_of cs) (All-map (λ (c : TableColumn). length c.name < 2 ^ 32) plain cs short)
+
+long_text : (r : UnpivotRequest) (outcome : Result (List Col) PolarsError) → IfOk outcome (λ t. table_of t ≡ unpivot_table (asked_long r))
+    → IfOk outcome (λ t. IsAnswerText (unpivot r) (text_of (table_of t)))
+unfolding IsAnswerText
+long_text r (Ok t) table = ap text_of table
+long_text r (Err e) table = tt
+
+pub long_is_due : {A E : Type 0} (r : UnpivotRequest) (outcome : Result (List Col) PolarsError) (s : A → Status) (text : A → List ℕ) (result : Result A E)
+    → Settles outcome (unpivot_refusal (asked_long r)) → IfOk outcome (λ t. table_of t ≡ unpivot_table (asked_long r))
+    → IfOk result (λ a. IsOutcome outcome (s a) (text a)) → IfOk result (λ a. DueOfRequest (unpivot r) (s a) (text a))
+unfolding refusal_of
+long_is_due r outcome s text result settles table is = outcomes_are_due (unpivot r) outcome s text result settles (long_text r outcome table) is

@@ -3,5 +3,5 @@ mod Moving
 mod WordTexts
 mod Frame
 mod OneStatus
-mod JoinIsDone
+mod Commands
 mod Answered

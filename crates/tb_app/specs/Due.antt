@@ -3,6 +3,9 @@ use Rattle.std.specs.Prelude.{◌≡◌, ◌≢◌, ℕ, ◌+◌, ◌++◌, List
 use Rattle.std.specs.Io.KnownBytes.{Consumes, Appends}
 use Rattle.tb_value.specs.declared.error.PolarsError.{PolarsError}
 use Rattle.tb_value.specs.declared.error.PolarsError.TheVariants.{OutOfMemory}
+use Rattle.tb_chunk.specs.Col.{Col}
+use Rattle.tb_frame.specs.Table.{table_of}
+use Rattle.tb_json.specs.Text.{text_of}
 use Rattle.tb_request.specs.declared.request.Reason.{Reason}
 use Rattle.tb_request.specs.Reasons.{reason_word}
 use Rattle.tb_app.specs.declared.words.Command.{Command}
@@ -29,6 +32,11 @@ bad_request_text reason = line (codes "{\"error\":\"BadRequest\",\"reason\":\"" 
 -- a refusal that is not want of memory, with its text
 abbrev pub IsRefusal : PolarsError → Status → List ℕ → Type 0
 IsRefusal e s text = (e ≢ OutOfMemory) × (s ≡ status.Refused) × (text ≡ text_of_refusal e)
+
+-- what an operation answers was written: its table, or its refusal
+abbrev pub IsOutcome : Result (List Col) PolarsError → Status → List ℕ → Type 0
+IsOutcome (Ok table) s text = (s ≡ status.Done) × (text ≡ text_of (table_of table))
+IsOutcome (Err e) s text = IsRefusal e s text
 
 -- a request is refused, or it is done
 abbrev pub DueOfRequest : Request → Status → List ℕ → Type 0

@@ -1,13 +1,15 @@
--- The headline of the program, written out for `join`.
-use Rattle.std.specs.Prelude.{◌≡◌, ℕ, ◌≤◌, List, length, Option, Ok}
+-- The headline of the program, written out for each command.
+use Rattle.std.specs.Prelude.{◌≡◌, ℕ, ◌≤◌, List, length, Option, Ok, None}
 use Rattle.std.specs.Io.KnownBytes.{Consumes, Appends}
 use Rattle.tb_frame.specs.Join.{IsAnswer}
 use Rattle.tb_frame.specs.Refusal.{join_valid}
 use Rattle.tb_frame.specs.Table.{Table}
-use Rattle.tb_request.specs.Reading.{JoinRequest, asked, request_of}
+use Rattle.tb_unpivot.specs.Unpivot.{unpivot_refusal, unpivot_table}
+use Rattle.tb_request.specs.Reading.{JoinRequest, UnpivotRequest, asked, join_request_of, unpivot_request_of}
 use Rattle.tb_json.specs.Text.{text_of}
 use Rattle.tb_app.specs.Due.{Tells}
 use Rattle.tb_app.specs.Reading.{limit}
+use Rattle.tb_app.specs.Requests.{asked_long}
 
 -- The bytes, read to their end, are a request to join that nothing refuses, and the text of a table that answers it was written.
 pub record JoinDone (left left' written written' : Option (List ℕ)) : Type 0 where
@@ -16,8 +18,19 @@ pub record JoinDone (left left' written written' : Option (List ℕ)) : Type 0 w
   pub short : length bytes ≤ limit
   pub read : Consumes left left' bytes
   pub request : JoinRequest
-  pub is_request : request_of bytes ≡ Ok request
+  pub is_request : join_request_of bytes ≡ Ok request
   pub valid : join_valid (asked request)
   pub table : Table
   pub is_answer : IsAnswer (asked request) table
   pub wrote : Appends written written' (text_of table)
+
+-- The same for a table that is made long: the text of the long table was written.
+pub record UnpivotDone (left left' written written' : Option (List ℕ)) : Type 0 where
+  pub bytes : List ℕ
+  pub told : Tells left bytes
+  pub short : length bytes ≤ limit
+  pub read : Consumes left left' bytes
+  pub request : UnpivotRequest
+  pub is_request : unpivot_request_of bytes ≡ Ok request
+  pub valid : unpivot_refusal (asked_long request) ≡ None
+  pub wrote : Appends written written' (text_of (unpivot_table (asked_long request)))

@@ -3,33 +3,44 @@ use Rattle.std.specs.Prelude.{◌≡◌, ℕ, List, Option, Result, Ok, Err}
 use Rattle.tb_value.specs.declared.error.PolarsError.{PolarsError}
 use Rattle.tb_frame.specs.Join.{IsAnswer}
 use Rattle.tb_frame.specs.Refusal.{join_refusal}
-use Rattle.tb_frame.specs.Table.{Table}
+use Rattle.tb_frame.specs.Table.{Table, table_of}
+use Rattle.tb_unpivot.specs.Unpivot.{variable_or, value_or, unpivot_refusal, unpivot_table}
+use Rattle.tb_unpivot.specs.Unpivot as long
 use Rattle.tb_request.specs.declared.request.Reason.{Reason}
-use Rattle.tb_request.specs.Reading.{JoinRequest, asked, request_of as join_request_of}
+use Rattle.tb_request.specs.Reading.{JoinRequest, UnpivotRequest, asked, join_request_of, unpivot_request_of}
 use Rattle.tb_json.specs.Text.{text_of}
 use Rattle.tb_json.specs.Text as texts
 use Rattle.tb_app.specs.declared.words.Command.{Command}
-use Rattle.tb_app.specs.declared.words.Command.TheVariants.{Join}
+use Rattle.tb_app.specs.declared.words.Command.TheVariants.{Join, Unpivot}
 
 -- a request of each command
 pub data Request : Type 0 where
   join : JoinRequest → Request
+  unpivot : UnpivotRequest → Request
 
-abbrev pub as_join : Result JoinRequest Reason → Result Request Reason
-as_join (Ok r) = Ok (join r)
-as_join (Err why) = Err why
+-- what is read is a request of one command
+abbrev pub as_request : {A : Type 0} → (A → Request) → Result A Reason → Result Request Reason
+as_request f (Ok r) = Ok (f r)
+as_request f (Err why) = Err why
 
 -- the request that the bytes are, or the first reason why they are none
 unfoldable pub request_of : Command → List ℕ → Result Request Reason
-request_of Join bytes = as_join (join_request_of bytes)
+request_of Join bytes = as_request join (join_request_of bytes)
+request_of Unpivot bytes = as_request unpivot (unpivot_request_of bytes)
+
+-- what is asked of the table that is made long
+abbrev pub asked_long : UnpivotRequest → long.Request
+asked_long r = record { table = table_of r.table; on = r.on; index = r.index; variable = variable_or r.variable_name; value = value_or r.value_name }
 
 -- why the operation refuses the request
 unfoldable pub refusal_of : Request → Option PolarsError
 refusal_of (join r) = join_refusal (asked r)
+refusal_of (unpivot r) = unpivot_refusal (asked_long r)
 
 -- the text is that of some answer to the request
 unfoldable pub IsAnswerText : Request → List ℕ → Type 0
 IsAnswerText (join r) text = (t : Table) × IsAnswer (asked r) t × (text ≡ text_of t)
+IsAnswerText (unpivot r) text = text ≡ text_of (unpivot_table (asked_long r))
 
 unfoldable pub text_of_refusal : PolarsError → List ℕ
 text_of_refusal error = texts.text_of_refusal error

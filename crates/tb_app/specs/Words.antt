@@ -2,13 +2,16 @@
 use Rattle.std.specs.Prelude.{ℕ, List, [], ◌∷◌, codes, Option, Some, None, if◌then◌else◌}
 use Rattle.std.specs.Str.{bytes_eq, is_utf8}
 use Rattle.tb_app.specs.declared.words.Command.{Command}
-use Rattle.tb_app.specs.declared.words.Command.TheVariants.{Join}
+use Rattle.tb_app.specs.declared.words.Command.TheVariants.{Join, Unpivot}
 use Rattle.tb_app.specs.declared.words.Form.{Form}
 use Rattle.tb_app.specs.declared.words.Form.TheVariants.{Reads, Unknown}
 
 -- the command of this name
 abbrev pub command : List ℕ → Option Command
-command word = if bytes_eq word (codes "join") then Some Join else None
+command word =
+    if bytes_eq word (codes "join") then Some Join
+    else if bytes_eq word (codes "unpivot") then Some Unpivot
+    else None
 
 abbrev pub form_of_one : Option Command → Form
 form_of_one None = Unknown

@@ -1,19 +1,28 @@
 //! A request that is read is answered: the one door to the commands.
-ghost use Rattle.std.specs.Prelude.{◌≡◌, Err, IfOk, string_bytes};
-ghost use Rattle.tb_frame.specs.Built.{IsBuilt};
-ghost use Rattle.tb_request.specs.Reading.{asked, request_view, request_of as join_request_of};
+ghost use Rattle.std.specs.Prelude.{◌≡◌, ◌↔◌, ◌<◌, Err, IfOk, IsTrue, length, string_bytes};
+ghost use Rattle.std.specs.List.{All};
+ghost use Rattle.tb_chunk.specs.Col.{Col};
+ghost use Rattle.tb_request.specs.Reading.{request_view, unpivot_view, join_request_of, unpivot_request_of};
 ghost use Rattle.tb_request.specs.Reasons.{reason_word};
-ghost use Rattle.tb_app.specs.Due.{DueOfReading, DueOfRequest, IsRefusal, bad_request_text};
-ghost use Rattle.tb_app.specs.Requests.{request_of, as_join, join};
+ghost use Rattle.tb_app.specs.Due.{DueOfReading, DueOfRequest, IsOutcome, IsRefusal, bad_request_text};
+ghost use Rattle.tb_app.specs.Requests.{request_of, as_request, join, unpivot};
 
 use crate::status::Status;
 use crate::words::Command;
 use std::alloc::Global;
 use std::thread::Threads;
+use tb_frame::DataFrame;
 use tb_join::DataFrameJoinOps;
 use tb_json::{text_of, text_of_refusal};
-use tb_request::{JoinRequest, Reason, RequestFault, request_of};
-use tb_value::{OutOfMemory, PolarsError};
+use tb_request::{
+    JoinRequest, Reason, RequestFault, UnpivotRequest, join_request_of, unpivot_request_of,
+};
+use tb_store::Column;
+use tb_unpivot::{UnpivotArgsIR, UnpivotDF};
+use tb_value::{OutOfMemory, PolarsError, PolarsResult};
+
+// A name that becomes a value has fewer bytes.
+const NAME_LIMIT: usize = 1 << 32;
 
 /// What is written, and the status that goes with it.
 #[derive(Drop)]
@@ -33,6 +42,7 @@ pub(crate) fn answer_request(
 {
     match command {
         Command::Join => answer_join(rt, alloc, bytes),
+        Command::Unpivot => answer_unpivot(alloc, bytes),
     }
 }
 
@@ -41,12 +51,20 @@ fn answer_join(
     alloc: Global,
     bytes: &[u8],
 ) -> Result<Answer, OutOfMemory>
-    ensures { IfOk result (λ a. DueOfReading (as_join (join_request_of bytes.now)) a.status (string_bytes a.text)) }
+    ensures { IfOk result (λ a. DueOfReading (as_request join (join_request_of bytes.now)) a.status (string_bytes a.text)) }
 {
-    match request_of(alloc, bytes) {
+    match join_request_of(alloc, bytes) {
         Ok(request) => joined(rt, alloc, request),
-        Err(RequestFault::NoRequest(reason)) => no_request(alloc, reason),
-        Err(RequestFault::OutOfMemory) => Err(OutOfMemory),
+        Err(fault) => no_request(alloc, fault),
+    }
+}
+
+fn answer_unpivot(alloc: Global, bytes: &[u8]) -> Result<Answer, OutOfMemory>
+    ensures { IfOk result (λ a. DueOfReading (as_request unpivot (unpivot_request_of bytes.now)) a.status (string_bytes a.text)) }
+{
+    match unpivot_request_of(alloc, bytes) {
+        Ok(request) => made_long(alloc, request),
+        Err(fault) => no_request(alloc, fault),
     }
 }
 
@@ -55,7 +73,6 @@ fn joined(
     alloc: Global,
     request: JoinRequest,
 ) -> Result<Answer, OutOfMemory>
-    requires { IsBuilt (asked (request_view request)) }
     ensures { IfOk result (λ a. DueOfRequest (join (request_view request)) a.status (string_bytes a.text)) }
 {
     let JoinRequest {
@@ -67,7 +84,48 @@ fn joined(
         exec,
         trace: _,
     } = request;
-    match left.join(rt, alloc, &right, &left_on, &right_on, args, &exec) {
+    let outcome = left.join(rt, alloc, &right, &left_on, &right_on, args, &exec);
+    answered(alloc, outcome)
+}
+
+fn made_long(alloc: Global, request: UnpivotRequest) -> Result<Answer, OutOfMemory>
+    ensures { IfOk result (λ a. DueOfRequest (unpivot (unpivot_view request)) a.status (string_bytes a.text)) }
+{
+    let UnpivotRequest {
+        table,
+        on,
+        index,
+        variable_name,
+        value_name,
+    } = request;
+    if have_short_names(table.get_columns()) {
+        let args = UnpivotArgsIR {
+            on,
+            index,
+            variable_name,
+            value_name,
+        };
+        let outcome = table.unpivot2(alloc, args);
+        answered(alloc, outcome)
+    } else {
+        Err(OutOfMemory)
+    }
+}
+
+// Whether each name is short enough to be a value. A longer one is in no request that fits the limit.
+fn have_short_names(columns: &[Column]) -> bool
+    ensures { IsTrue result ↔ All (λ (c : Col). length c.name < NAME_LIMIT) columns.now }
+{
+    columns
+        .iter()
+        .all(|column| column.name().as_str().len() < NAME_LIMIT)
+}
+
+// The text of the table that an operation gave, or of why it gave none.
+fn answered(alloc: Global, outcome: PolarsResult<DataFrame>) -> Result<Answer, OutOfMemory>
+    ensures { IfOk result (λ a. IsOutcome outcome a.status (string_bytes a.text)) }
+{
+    match outcome {
         Ok(table) => Ok(Answer {
             status: Status::Done,
             text: text_of(alloc, &table)?,
@@ -90,13 +148,18 @@ fn refused(alloc: Global, error: PolarsError) -> Result<Answer, OutOfMemory>
     }
 }
 
-fn no_request(alloc: Global, reason: Reason) -> Result<Answer, OutOfMemory>
-    ensures { IfOk result (λ a. DueOfReading (Err reason) a.status (string_bytes a.text)) }
+// Want of memory is handed on, and a reason has a text.
+fn no_request(alloc: Global, fault: RequestFault) -> Result<Answer, OutOfMemory>
+    ensures { IfOk result (λ a. (reason : Reason) × (fault ≡ RequestFault.NoRequest reason)
+        × DueOfReading (Err reason) a.status (string_bytes a.text)) }
 {
-    Ok(Answer {
-        status: Status::BadRequest,
-        text: bad_request_text(alloc, reason)?,
-    })
+    match fault {
+        RequestFault::OutOfMemory => Err(OutOfMemory),
+        RequestFault::NoRequest(reason) => Ok(Answer {
+            status: Status::BadRequest,
+            text: bad_request_text(alloc, reason)?,
+        }),
+    }
 }
 
 fn bad_request_text(alloc: Global, reason: Reason) -> Result<String, OutOfMemory>

@@ -2,10 +2,10 @@
 ghost use Rattle.std.specs.Prelude.{◌≡◌, List, ℕ, Option};
 ghost use Rattle.tb_app.specs.declared.status.Status.{Status};
 ghost use Rattle.tb_app.specs.declared.status.Status.TheVariants.{Done};
-ghost use Rattle.tb_app.specs.declared.words.Command.TheVariants.{Join};
+ghost use Rattle.tb_app.specs.declared.words.Command.TheVariants.{Join, Unpivot};
 ghost use Rattle.tb_app.specs.declared.words.Form.{Form};
 ghost use Rattle.tb_app.specs.Due.{due, DoneFor, IsDue, IsValid};
-ghost use Rattle.tb_app.specs.Headline.{JoinDone};
+ghost use Rattle.tb_app.specs.Headline.{JoinDone, UnpivotDone};
 
 pub use tb_json::laws::text_one_to_one;
 use tb_value::PlSmallStr;
@@ -25,4 +25,10 @@ pub fn valid_is_done()
 pub fn join_is_done()
     ensures { (left left' written written' : Option (List ℕ))
         → DoneFor Join left left' written written' → JoinDone left left' written written' }
+{}
+
+/// What `run` says of 0 under the word `unpivot`, in the words of a table that is made long.
+pub fn unpivot_is_done()
+    ensures { (left left' written written' : Option (List ℕ))
+        → DoneFor Unpivot left left' written written' → UnpivotDone left left' written written' }
 {}

@@ -8,6 +8,7 @@ use tb_value::PlSmallStr;
 #[derive(Clone, Copy, Debug, PartialEq, Eq)]
 pub enum Command {
     Join,
+    Unpivot,
 }
 
 /// What the words ask for.
@@ -34,6 +35,7 @@ fn command_of(word: &str) -> Option<Command>
 {
     match word {
         "join" => Some(Command::Join),
+        "unpivot" => Some(Command::Unpivot),
         _ => None,
     }
 }

@@ -1,7 +1,4 @@
 // Tests of joins from a request's text to an answer's.
-ghost use Rattle.tb_frame.specs.Built.{IsBuilt};
-ghost use Rattle.tb_request.specs.Reading.{asked, request_view};
-
 use std::alloc::Global;
 use std::process::Abort;
 use std::test::Fail;
@@ -10,7 +7,7 @@ use tb_frame::{DataFrame, JoinArgs, JoinCoalesce, JoinType, MaintainOrderJoin};
 use tb_join::DataFrameJoinOps;
 use tb_json::{text_of, text_of_refusal};
 use tb_nested::nested_join;
-use tb_request::{JoinRequest, request_of};
+use tb_request::{JoinRequest, join_request_of};
 use tb_value::{ComputeCause, PolarsError, PolarsResult, Side};
 
 // Absent keys on both sides, and one that matches twice.
@@ -54,7 +51,6 @@ fn by_join(
     alloc: Global,
     request: JoinRequest,
 ) -> PolarsResult<DataFrame>
-    requires { IsBuilt (asked (request_view request)) }
 {
     let JoinRequest {
         left,
@@ -77,7 +73,7 @@ fn check_joins(
     tables: &str,
 ) -> Result<(), Fail> {
     let text = format!(in alloc; r#"{{"args":{{"how":"{how}","join_nulls":{nulls}}},{tables}}}"#)?;
-    let Ok(request) = request_of(alloc, text.as_bytes()) else {
+    let Ok(request) = join_request_of(alloc, text.as_bytes()) else {
         return Err("no request".into());
     };
     let slow = rows_of(alloc, by_nested_loops(alloc, &request, &request.args))?;
@@ -120,7 +116,7 @@ fn called(
 fn kinds_that_have_a_call(rt: HostRuntime) -> Result<(), Fail> {
     let alloc = rt.alloc();
     let text = format!(in alloc; r#"{{"args":{{"how":"inner"}},{BY_ONE_KEY}}}"#)?;
-    let Ok(request) = request_of(alloc, text.as_bytes()) else {
+    let Ok(request) = join_request_of(alloc, text.as_bytes()) else {
         return Err("no request".into());
     };
     for how in [JoinType::Inner, JoinType::Left, JoinType::Full] {

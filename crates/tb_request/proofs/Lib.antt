@@ -1,4 +1,3 @@
 pub mod Refused
 pub mod FlagTests
 pub mod FromBytes
-pub mod BuiltForm

@@ -4,7 +4,7 @@ use Rattle.std.specs.Prelude.{is_none, Result, Ok, Err, ⊤}
 use Rattle.tb_value.specs.Names.{Name}
 use Rattle.tb_value.specs.Refusals.{first_cause, when}
 use Rattle.tb_value.specs.declared.error.PolarsError.{PolarsError}
-use Rattle.tb_value.specs.declared.error.PolarsError.TheVariants.{ShapeMismatch, Duplicate, OutOfMemory}
+use Rattle.tb_value.specs.declared.error.PolarsError.TheVariants.{ColumnNotFound, ComputeError, Duplicate, InvalidOperation, OutOfMemory, SchemaMismatch, ShapeMismatch}
 use Rattle.tb_frame.specs.Table.{Table, names_of}
 use Rattle.tb_frame.specs.Frame.{are_level, frame_refusal}
 use Rattle.tb_frame.specs.Refusal.{first_repeated}
@@ -12,93 +12,98 @@ use Rattle.tb_request.specs.declared.request.Reason.{Reason}
 use Rattle.tb_request.specs.declared.request.Reason.TheVariants as why
 use Rattle.tb_request.specs.declared.request.RequestFault.{RequestFault}
 use Rattle.tb_request.specs.declared.request.RequestFault.TheVariants as fault
-use Rattle.tb_request.specs.Reading.{◌>>=◌, only_if, are_distinct, are_frames, FaultIs, IsRefused}
+use Rattle.tb_request.specs.Reading.{◌>>=◌, only_if, are_distinct, are_frames, fault_of, FaultIs}
+
+-- ---- one table, whether its heights are level and its names are distinct
+
+abbrev one : Bool → Bool → Result ⊤ Reason
+one level distinct = only_if (level && true) why.Heights >>= λ _. only_if (distinct && true) why.Name
 
 abbrev cause_of : Bool → Option Name → Option PolarsError
 cause_of level repeated = first_cause (when (not level) ShapeMismatch ∷ option_map (λ n. Duplicate n) repeated ∷ [])
 
-none_parts : (b : Bool) (o : Option Name) → cause_of b o ≡ None → (b ≡ true) × (is_none o ≡ true)
-none_parts true None h = (refl, refl)
-none_parts true (Some n) h = absurd (cc)
-none_parts false o h = absurd (cc)
+passes : (b : Bool) (o : Option Name) → cause_of b o ≡ None → one b (is_none o) ≡ Ok tt
+passes true None h = refl
+passes true (Some n) h = absurd (cc)
+passes false o h = absurd (cc)
 
-shape_parts : (b : Bool) (o : Option Name) → (ShapeMismatch ≡ OutOfMemory) ⊎ (cause_of b o ≡ Some ShapeMismatch) → b ≡ false
-shape_parts false o h = refl
-shape_parts true o (inl e) = absurd (cc)
-shape_parts true None (inr e) = absurd (cc)
-shape_parts true (Some n) (inr e) = absurd (cc)
+uneven : (b : Bool) (o : Option Name) → (ShapeMismatch ≡ OutOfMemory) ⊎ (cause_of b o ≡ Some ShapeMismatch) → one b (is_none o) ≡ Err why.Heights
+uneven false o h = refl
+uneven true o (inl e) = absurd (cc)
+uneven true None (inr e) = absurd (cc)
+uneven true (Some n) (inr e) = absurd (cc)
 
-other_parts : (b : Bool) (o : Option Name) (e : PolarsError) → e ≢ OutOfMemory → e ≢ ShapeMismatch → (e ≡ OutOfMemory) ⊎ (cause_of b o ≡ Some e) → (b ≡ true) × (is_none o ≡ false)
-other_parts b o e p q (inl h) = absurd (p h)
-other_parts true None e p q (inr h) = absurd (cc)
-other_parts true (Some n) e p q (inr h) = (refl, refl)
-other_parts false o e p q (inr h) = absurd (q (cc))
+twice : (b : Bool) (o : Option Name) (e : PolarsError) → e ≢ OutOfMemory → e ≢ ShapeMismatch → (e ≡ OutOfMemory) ⊎ (cause_of b o ≡ Some e) → one b (is_none o) ≡ Err why.Name
+twice b o e p q (inl h) = absurd (p h)
+twice true None e p q (inr h) = absurd (cc)
+twice true (Some n) e p q (inr h) = refl
+twice false o e p q (inr h) = absurd (q (cc))
 
--- what the refusal of one table says
-pub heights_differ : (t : Table) → (ShapeMismatch ≡ OutOfMemory) ⊎ (frame_refusal t ≡ Some ShapeMismatch) → are_level t ≡ false
-heights_differ t h = shape_parts (are_level t) (first_repeated (names_of t)) h
+pub frame_passes : (t : Table) → frame_refusal t ≡ None → are_frames (t ∷ []) ≡ Ok tt
+unfolding are_frames
+frame_passes t h = passes (are_level t) (first_repeated (names_of t)) h
 
-pub names_repeat : (t : Table) (e : PolarsError) → e ≢ OutOfMemory → e ≢ ShapeMismatch → (e ≡ OutOfMemory) ⊎ (frame_refusal t ≡ Some e) → (are_level t ≡ true) × (are_distinct (names_of t) ≡ false)
-names_repeat t e p q h = other_parts (are_level t) (first_repeated (names_of t)) e p q h
+heights_differ : (t : Table) → (ShapeMismatch ≡ OutOfMemory) ⊎ (frame_refusal t ≡ Some ShapeMismatch) → are_frames (t ∷ []) ≡ Err why.Heights
+unfolding are_frames
+heights_differ t h = uneven (are_level t) (first_repeated (names_of t)) h
+
+names_repeat : (t : Table) (e : PolarsError) → e ≢ OutOfMemory → e ≢ ShapeMismatch → (e ≡ OutOfMemory) ⊎ (frame_refusal t ≡ Some e) → are_frames (t ∷ []) ≡ Err why.Name
+unfolding are_frames
+names_repeat t e p q h = twice (are_level t) (first_repeated (names_of t)) e p q h
+
+pub frame_refused : (t : Table) (e : PolarsError) → (e ≡ OutOfMemory) ⊎ (frame_refusal t ≡ Some e) → FaultIs (fault_of e) (are_frames (t ∷ []))
+frame_refused t OutOfMemory h = tt
+frame_refused t ShapeMismatch h = heights_differ t h
+frame_refused t (Duplicate n) h = names_repeat t (Duplicate n) (λ p. cc) (λ p. cc) h
+frame_refused t (ColumnNotFound n) h = names_repeat t (ColumnNotFound n) (λ p. cc) (λ p. cc) h
+frame_refused t (InvalidOperation c) h = names_repeat t (InvalidOperation c) (λ p. cc) (λ p. cc) h
+frame_refused t (ComputeError c) h = names_repeat t (ComputeError c) (λ p. cc) (λ p. cc) h
+frame_refused t SchemaMismatch h = names_repeat t SchemaMismatch (λ p. cc) (λ p. cc) h
 
 -- ---- two tables
 
-abbrev both : Bool → Bool → Bool → Bool → Result ⊤ Reason
-both a b c d = only_if (a && b) why.Heights >>= λ _. only_if (c && d) why.Name
+abbrev two : Bool → Bool → Bool → Bool → Result ⊤ Reason
+two a b c d = only_if (a && (b && true)) why.Heights >>= λ _. only_if (c && (d && true)) why.Name
 
-both_hold : (a b c d : Bool) → a ≡ true → b ≡ true → c ≡ true → d ≡ true → both a b c d ≡ Ok tt
-both_hold a b c d p q r s = rw (p, q, r, s) refl
+left_is_one : (a b c d : Bool) → one a c ≡ Ok tt → two a b c d ≡ one b d
+left_is_one true b true d h = refl
+left_is_one true b false d h = absurd (cc)
+left_is_one false b c d h = absurd (cc)
 
-left_level : (a b c d : Bool) → a ≡ false → both a b c d ≡ Err why.Heights
-left_level a b c d p = rw p refl
+right_is_one : (a b c d : Bool) → one b d ≡ Ok tt → two a b c d ≡ one a c
+right_is_one a true c true h = refl
+right_is_one a true c false h = absurd (cc)
+right_is_one a false c d h = absurd (cc)
 
-right_level : (a b c d : Bool) → b ≡ false → both a b c d ≡ Err why.Heights
-right_level false b c d p = refl
-right_level true b c d p = rw p refl
+names_last : (a b c d : Bool) (reason : Reason) → one a c ≡ Err why.Name → one b d ≡ Err reason → two a b c d ≡ Err reason
+names_last true true false false reason p q = q
+names_last true true false true reason p q = absurd (cc)
+names_last true false false d reason p q = q
+names_last true b true d reason p q = absurd (cc)
+names_last false b c d reason p q = absurd (cc)
 
-left_named : (a b c d : Bool) → a ≡ true → b ≡ true → c ≡ false → both a b c d ≡ Err why.Name
-left_named a b c d p q r = rw (p, q, r) refl
+heights_first : (a b c d : Bool) (reason : Reason) → reason ≢ why.Name → one a c ≡ Err reason → two a b c d ≡ Err reason
+heights_first false b c d reason p q = q
+heights_first true b false d reason p q = absurd (p (cc))
+heights_first true b true d reason p q = absurd (cc)
 
-right_named : (a b c d : Bool) → a ≡ true → b ≡ true → d ≡ false → both a b c d ≡ Err why.Name
-right_named a b false d p q r = rw (p, q) refl
-right_named a b true d p q r = rw (p, q, r) refl
-
-pub frames_pass : (l r : Table) → frame_refusal l ≡ None → frame_refusal r ≡ None → are_frames l r ≡ Ok tt
+-- the left one is a table
+pub left_passes : (l r : Table) → are_frames (l ∷ []) ≡ Ok tt → are_frames (l ∷ r ∷ []) ≡ are_frames (r ∷ [])
 unfolding are_frames
-frames_pass l r p q =
-    let a = none_parts (are_level l) (first_repeated (names_of l)) p in
-    let b = none_parts (are_level r) (first_repeated (names_of r)) q in
-    both_hold (are_level l) (are_level r) (are_distinct (names_of l)) (are_distinct (names_of r)) a.0 b.0 a.1 b.1
+left_passes l r h = left_is_one (are_level l) (are_level r) (are_distinct (names_of l)) (are_distinct (names_of r)) h
 
-pub left_refused : (e : RequestFault) (l r : Table) → IsRefused e l → frame_refusal r ≡ None → FaultIs e (are_frames l r)
+-- the right one is a table
+pub right_passes : (l r : Table) → are_frames (r ∷ []) ≡ Ok tt → are_frames (l ∷ r ∷ []) ≡ are_frames (l ∷ [])
 unfolding are_frames
-left_refused fault.OutOfMemory l r h p = tt
-left_refused (fault.NoRequest why.Heights) l r h p = left_level (are_level l) (are_level r) (are_distinct (names_of l)) (are_distinct (names_of r)) h
-left_refused (fault.NoRequest why.Name) l r h p =
-    let b = none_parts (are_level r) (first_repeated (names_of r)) p in
-    left_named (are_level l) (are_level r) (are_distinct (names_of l)) (are_distinct (names_of r)) h.0 b.0 h.1
-left_refused (fault.NoRequest _) l r h p = absurd h
+right_passes l r h = right_is_one (are_level l) (are_level r) (are_distinct (names_of l)) (are_distinct (names_of r)) h
 
-pub right_refused : (e : RequestFault) (l r : Table) → frame_refusal l ≡ None → IsRefused e r → FaultIs e (are_frames l r)
-unfolding are_frames
-right_refused fault.OutOfMemory l r p h = tt
-right_refused (fault.NoRequest why.Heights) l r p h = right_level (are_level l) (are_level r) (are_distinct (names_of l)) (are_distinct (names_of r)) h
-right_refused (fault.NoRequest why.Name) l r p h =
-    let a = none_parts (are_level l) (first_repeated (names_of l)) p in
-    right_named (are_level l) (are_level r) (are_distinct (names_of l)) (are_distinct (names_of r)) a.0 h.0 h.1
-right_refused (fault.NoRequest _) l r p h = absurd h
-
--- both are refused, the left one for its names
-pub left_name_last : (e : RequestFault) (l r : Table) → IsRefused (fault.NoRequest why.Name) l → IsRefused e r → FaultIs e (are_frames l r)
+-- neither is, the left one for its names
+pub left_name_last : (e : RequestFault) (l r : Table) → are_frames (l ∷ []) ≡ Err why.Name → FaultIs e (are_frames (r ∷ [])) → FaultIs e (are_frames (l ∷ r ∷ []))
 unfolding are_frames
 left_name_last fault.OutOfMemory l r p h = tt
-left_name_last (fault.NoRequest why.Heights) l r p h = right_level (are_level l) (are_level r) (are_distinct (names_of l)) (are_distinct (names_of r)) h
-left_name_last (fault.NoRequest why.Name) l r p h = left_named (are_level l) (are_level r) (are_distinct (names_of l)) (are_distinct (names_of r)) p.0 h.0 p.1
-left_name_last (fault.NoRequest _) l r p h = absurd h
+left_name_last (fault.NoRequest reason) l r p h = names_last (are_level l) (are_level r) (are_distinct (names_of l)) (are_distinct (names_of r)) reason p h
 
--- both are refused, the left one for another reason
-pub left_first : (reason : Reason) (l r : Table) → reason ≢ why.Name → IsRefused (fault.NoRequest reason) l → FaultIs (fault.NoRequest reason) (are_frames l r)
+-- the left one is none for another reason
+pub left_first : (reason : Reason) (l r : Table) → reason ≢ why.Name → are_frames (l ∷ []) ≡ Err reason → are_frames (l ∷ r ∷ []) ≡ Err reason
 unfolding are_frames
-left_first why.Heights l r p h = left_level (are_level l) (are_level r) (are_distinct (names_of l)) (are_distinct (names_of r)) h
-left_first why.Name l r p h = absurd (p refl)
-left_first _ l r p h = absurd h
+left_first reason l r p h = heights_first (are_level l) (are_level r) (are_distinct (names_of l)) (are_distinct (names_of r)) reason p h

@@ -7,6 +7,7 @@ use Rattle.tb_chunk.specs.Col.{Col}
 use Rattle.tb_request.specs.declared.shape.ExecNumbers.{ExecNumbers}
 use Rattle.tb_request.specs.declared.shape.WrittenColumn.{WrittenColumn}
 use Rattle.tb_request.specs.declared.shape.WrittenJoin.{WrittenJoin}
+use Rattle.tb_request.specs.declared.one_table.WrittenUnpivot.{WrittenUnpivot}
 use Rattle.tb_request.specs.declared.values.ClaimedColumn.{ClaimedColumn}
 use Rattle.tb_request.specs.Written as written
 
@@ -16,15 +17,24 @@ written_view c = record { name = c.name.now; kind = kind_of c.dtype; chunks = ma
 abbrev pub exec_view : ExecNumbers → ExecView
 exec_view e = record { workers = e.workers; partitions = e.partitions; small = e.small; num = e.num; den = e.den }
 
-abbrev pub join_view : WrittenJoin → written.WrittenJoin
-join_view w = record {
+abbrev pub written_join : WrittenJoin → written.WrittenJoin
+written_join w = record {
   args = w.args;
   exec = exec_view w.exec;
   left = map written_view w.left.items;
-  left_on = map (λ s. s.now) w.left_on.items;
+  left_on = w.left_on.items;
   right = map written_view w.right.items;
-  right_on = map (λ s. s.now) w.right_on.items;
+  right_on = w.right_on.items;
   trace = w.trace;
+}
+
+abbrev pub written_unpivot : WrittenUnpivot → written.WrittenUnpivot
+written_unpivot w = record {
+  table = map written_view w.table.items;
+  on = w.on.items;
+  index = w.index.items;
+  variable_name = w.variable_name;
+  value_name = w.value_name;
 }
 
 -- the column, as if it had the flag that is claimed

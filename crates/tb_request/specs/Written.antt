@@ -29,6 +29,18 @@ optional absent f (Some d) = f d
 abbrev pub text_or : {A : Type 0} → A → (List ℕ → Option A) → Option Data → Option A
 text_or absent f o = optional absent (λ d. as_str d >>= f) o
 
+-- a truth value, which is false where it is absent
+abbrev pub truth_at : List ℕ → Data → Option Bool
+truth_at name d = optional false as_bool (get name d)
+
+-- any text, where it is there
+abbrev pub text_at : List ℕ → Data → Option (Option Name)
+text_at name d = text_or None (λ s. Some (Some s)) (get name d)
+
+-- the texts of a member that is a list of them
+abbrev pub texts_at : List ℕ → Data → Option (List Name)
+texts_at name d = get name d >>= list_of as_str
+
 -- ---- tables
 
 -- a column with its values as they stand in the text, and the flag that is claimed of them
@@ -57,6 +69,9 @@ unfoldable pub table_of : Data → Option (List Written)
 table_of d = do
   known ← check (has_only (codes "columns" ∷ []) d)
   get (codes "columns") d >>= list_of column_of
+
+abbrev pub table_at : List ℕ → Data → Option (List Written)
+table_at name d = get name d >>= table_of
 
 -- ---- the arguments, each by its word
 
@@ -114,15 +129,8 @@ how_of d = (get (codes "how") d >>= as_str) >>= how_named
 abbrev pub validation_of : Data → Option JoinValidation
 validation_of d = text_or ManyToMany validation_named (get (codes "validation") d)
 
--- any text is a suffix
-abbrev pub suffix_of : Data → Option (Option Name)
-suffix_of d = text_or None (λ s. Some (Some s)) (get (codes "suffix") d)
-
 abbrev pub slice_of : Data → Option (Option (ℤ × ℕ))
 slice_of d = optional None slice_in (get (codes "slice") d)
-
-abbrev pub nulls_of : Data → Option Bool
-nulls_of d = optional false as_bool (get (codes "join_nulls") d)
 
 abbrev pub coalesce_of : Data → Option JoinCoalesce
 coalesce_of d = text_or JoinSpecific coalesce_named (get (codes "coalesce") d)
@@ -135,9 +143,9 @@ args_of d = do
   known ← check (has_only (codes "coalesce" ∷ codes "how" ∷ codes "join_nulls" ∷ codes "maintain_order" ∷ codes "slice" ∷ codes "suffix" ∷ codes "validation" ∷ []) d)
   how ← how_of d
   validation ← validation_of d
-  suffix ← suffix_of d
+  suffix ← text_at (codes "suffix") d
   slice ← slice_of d
-  nulls ← nulls_of d
+  nulls ← truth_at (codes "join_nulls") d
   coalesce ← coalesce_of d
   order ← order_of d
   Some (record { how = how; validation = validation; suffix = suffix; slice = slice; join_nulls = nulls; coalesce = coalesce; maintain_order = order })
@@ -171,10 +179,7 @@ standard = record { workers = 4; partitions = 8; small = 256; num = 1; den = 1 }
 abbrev pub exec_of : Data → Option ExecView
 exec_of d = optional standard plan_of (get (codes "exec") d)
 
-abbrev pub trace_of : Data → Option Bool
-trace_of d = optional false as_bool (get (codes "trace") d)
-
--- ---- the request
+-- ---- a request to join
 
 pub record WrittenJoin : Type 0 where
   pub args : JoinArgs
@@ -190,9 +195,28 @@ join_of d = do
   known ← check (has_only (codes "args" ∷ codes "exec" ∷ codes "left" ∷ codes "left_on" ∷ codes "right" ∷ codes "right_on" ∷ codes "trace" ∷ []) d)
   args ← get (codes "args") d >>= args_of
   exec ← exec_of d
-  trace ← trace_of d
-  left ← get (codes "left") d >>= table_of
-  left_on ← get (codes "left_on") d >>= list_of as_str
-  right ← get (codes "right") d >>= table_of
-  right_on ← get (codes "right_on") d >>= list_of as_str
+  trace ← truth_at (codes "trace") d
+  left ← table_at (codes "left") d
+  left_on ← texts_at (codes "left_on") d
+  right ← table_at (codes "right") d
+  right_on ← texts_at (codes "right_on") d
   Some (record { args = args; exec = exec; left = left; left_on = left_on; right = right; right_on = right_on; trace = trace })
+
+-- ---- a request to make a table long
+
+pub record WrittenUnpivot : Type 0 where
+  pub table : List Written
+  pub on : List Name
+  pub index : List Name
+  pub variable_name : Option Name
+  pub value_name : Option Name
+
+unfoldable pub unpivot_of : Data → Option WrittenUnpivot
+unpivot_of d = do
+  known ← check (has_only (codes "index" ∷ codes "on" ∷ codes "table" ∷ codes "value_name" ∷ codes "variable_name" ∷ []) d)
+  table ← table_at (codes "table") d
+  on ← texts_at (codes "on") d
+  index ← texts_at (codes "index") d
+  variable_name ← text_at (codes "variable_name") d
+  value_name ← text_at (codes "value_name") d
+  Some (record { table = table; on = on; index = index; variable_name = variable_name; value_name = value_name })

@@ -1,13 +1,13 @@
 //! The arguments of a join.
 ghost use Rattle.std.specs.Prelude.{◌≡◌, IfOk};
 ghost use Rattle.serde_json.specs.View.{view};
-ghost use Rattle.tb_request.specs.Written.{how_named, validation_named, coalesce_named, order_named, how_of, validation_of, suffix_of, slice_in, slice_of, nulls_of, coalesce_of, order_of, args_of};
+ghost use Rattle.tb_request.specs.Written.{how_named, validation_named, coalesce_named, order_named, how_of, validation_of, slice_in, slice_of, coalesce_of, order_of, args_of};
 
-use crate::members::has_only;
+use crate::members::{has_only, text_at, truth_at};
 use serde_json::Value;
 use std::alloc::Global;
 use tb_frame::{JoinArgs, JoinCoalesce, JoinType, JoinValidation, MaintainOrderJoin};
-use tb_value::{OutOfMemory, PlSmallStr};
+use tb_value::OutOfMemory;
 
 fn how_named(text: &str) -> Option<JoinType>
     ensures { result ≡ how_named text.now }
@@ -92,15 +92,6 @@ fn order_of(args: &Value) -> Option<MaintainOrderJoin>
     }
 }
 
-fn nulls_of(args: &Value) -> Option<bool>
-    ensures { result ≡ nulls_of (view args.now) }
-{
-    match args.get("join_nulls") {
-        Some(member) => member.as_bool(),
-        None => Some(false),
-    }
-}
-
 // The offset and the length, or None where the value is no list of these two.
 fn slice_in(value: &Value) -> Option<Option<(i64, usize)>>
     ensures { result ≡ slice_in (view value.now) }
@@ -121,19 +112,6 @@ fn slice_of(args: &Value) -> Option<Option<(i64, usize)>>
     match args.get("slice") {
         Some(member) => slice_in(member),
         None => Some(None),
-    }
-}
-
-// The suffix, or no suffix where it is absent; None where it is no text.
-fn suffix_of(alloc: Global, args: &Value) -> Result<Option<Option<PlSmallStr>>, OutOfMemory>
-    ensures { IfOk result (λ o. o ≡ suffix_of (view args.now)) }
-{
-    let Some(member) = args.get("suffix") else {
-        return Ok(Some(None));
-    };
-    match member.as_str() {
-        Some(text) => Ok(Some(Some(PlSmallStr::from_str(alloc, text)?))),
-        None => Ok(None),
     }
 }
 
@@ -162,13 +140,13 @@ pub(crate) fn args_of(alloc: Global, value: &Value) -> Result<Option<JoinArgs>, 
     let Some(validation) = validation_of(value) else {
         return Ok(None);
     };
-    let Some(suffix) = suffix_of(alloc, value)? else {
+    let Some(suffix) = text_at(alloc, value, "suffix")? else {
         return Ok(None);
     };
     let Some(slice) = slice_of(value) else {
         return Ok(None);
     };
-    let Some(join_nulls) = nulls_of(value) else {
+    let Some(join_nulls) = truth_at(value, "join_nulls") else {
         return Ok(None);
     };
     let Some(coalesce) = coalesce_of(value) else {

@@ -5,11 +5,12 @@ mod arguments;
 mod flags;
 pub mod laws;
 mod members;
+mod one_table;
 mod reading;
 mod request;
 mod shape;
 mod tables;
 mod values;
 
-pub use reading::request_of;
-pub use request::{JoinRequest, Reason, RequestFault};
+pub use reading::{join_request_of, unpivot_request_of};
+pub use request::{JoinRequest, Reason, RequestFault, UnpivotRequest};

@@ -1,9 +1,13 @@
 //! The members of an object.
-ghost use Rattle.std.specs.Prelude.{◌≡◌, map};
+ghost use Rattle.std.specs.Prelude.{◌≡◌, map, option_map, IfOk};
 ghost use Rattle.serde_json.specs.View.{view};
-ghost use Rattle.tb_json.specs.Lists.{is_among, has_only};
+ghost use Rattle.serde_json.specs.Find.{as_str};
+ghost use Rattle.tb_json.specs.Lists.{is_among, has_only, list_of};
+ghost use Rattle.tb_request.specs.Written.{text_at, texts_at, truth_at};
 
 use serde_json::Value;
+use std::alloc::Global;
+use tb_value::{OutOfMemory, PlSmallStr};
 
 fn is_among(name: &str, names: &[&str]) -> bool
     ensures { result ≡ is_among name.now (map (λ n. n.now) names.now) }
@@ -29,4 +33,62 @@ pub(crate) fn has_only(value: &Value, names: &[&str]) -> bool
         }
     }
     true
+}
+
+/// A truth value, false where the member is absent.
+pub(crate) fn truth_at(object: &Value, name: &str) -> Option<bool>
+    ensures { result ≡ truth_at name.now (view object.now) }
+{
+    match object.get(name) {
+        Some(member) => member.as_bool(),
+        None => Some(false),
+    }
+}
+
+/// The text of a member, or no text where it is absent; None where it is none.
+pub(crate) fn text_at(
+    alloc: Global,
+    object: &Value,
+    name: &str,
+) -> Result<Option<Option<PlSmallStr>>, OutOfMemory>
+    ensures { IfOk result (λ o. o ≡ text_at name.now (view object.now)) }
+{
+    let Some(member) = object.get(name) else {
+        return Ok(Some(None));
+    };
+    match member.as_str() {
+        Some(text) => Ok(Some(Some(PlSmallStr::from_str(alloc, text)?))),
+        None => Ok(None),
+    }
+}
+
+// The texts of a list of texts, or None where the value is none.
+fn texts_of(alloc: Global, value: &Value) -> Result<Option<Vec<PlSmallStr>>, OutOfMemory>
+    ensures { IfOk result (λ o. option_map (λ v. v.items) o ≡ list_of as_str (view value.now)) }
+{
+    let Some(items) = value.as_array() else {
+        return Ok(None);
+    };
+    let mut texts = Vec::with_capacity(alloc, items.len())?;
+    for item in items {
+        let Some(text) = item.as_str() else {
+            return Ok(None);
+        };
+        texts.push(PlSmallStr::from_str(alloc, text)?)?;
+    }
+    Ok(Some(texts))
+}
+
+/// The texts of a member that is a list of texts.
+pub(crate) fn texts_at(
+    alloc: Global,
+    object: &Value,
+    name: &str,
+) -> Result<Option<Vec<PlSmallStr>>, OutOfMemory>
+    ensures { IfOk result (λ o. option_map (λ v. v.items) o ≡ texts_at name.now (view object.now)) }
+{
+    match object.get(name) {
+        Some(member) => texts_of(alloc, member),
+        None => Ok(None),
+    }
 }

@@ -1,19 +1,17 @@
-//! The request that bytes are.
-ghost use Rattle.std.specs.Prelude.{◌≡◌, if◌then◌else◌, map, IfOk, MatchResult, Ok, Some, None};
+//! The requests that bytes are.
+ghost use Rattle.std.specs.Prelude.{◌≡◌, if◌then◌else◌, IfOk, IfErr, MatchResult, Ok, Some, None};
 ghost use Rattle.serde_json.specs.View.{view};
-ghost use Rattle.tb_frame.specs.Built.{is_none_or_left, is_built_order, is_built_coalesce, IsBuilt};
-ghost use Rattle.tb_request.specs.Lent.{join_view, exec_view};
-ghost use Rattle.tb_request.specs.Reading.{may_stand, is_built_args, is_built, request_in, request_of, asked, request_view, FaultIs};
+ghost use Rattle.tb_request.specs.Lent.{written_join, written_unpivot, exec_view};
+ghost use Rattle.tb_request.specs.Reading.{may_stand, value_of, join_in, unpivot_in, join_request_of, unpivot_request_of, request_view, unpivot_view, FaultIs};
 
-use crate::request::{JoinRequest, Reason, RequestFault};
-use crate::shape::{ExecNumbers, WrittenJoin, join_of};
-use crate::tables::tables_of;
+use crate::one_table::unpivot_of;
+use crate::request::{JoinRequest, Reason, RequestFault, UnpivotRequest};
+use crate::shape::{ExecNumbers, join_of};
+use crate::tables::{table_from, tables_of};
 use crate::values::columns_of;
 use serde_json::Value;
 use std::alloc::Global;
-use tb_frame::{JoinArgs, JoinCoalesce, JoinType, MaintainOrderJoin};
 use tb_pool::Exec;
-use tb_value::{OutOfMemory, PlSmallStr};
 
 fn exec_of(numbers: ExecNumbers) -> Option<Exec>
     ensures { result ≡ (if may_stand (exec_view numbers) then Some (exec_view numbers) else None) }
@@ -31,62 +29,10 @@ fn exec_of(numbers: ExecNumbers) -> Option<Exec>
     }
 }
 
-fn is_built_order(how: JoinType, order: MaintainOrderJoin) -> bool
-    ensures { result ≡ is_built_order how order }
-{
-    match how {
-        JoinType::Inner | JoinType::Left => is_none_or_left(order),
-        JoinType::Right | JoinType::Full => order == MaintainOrderJoin::None,
-        JoinType::Semi | JoinType::Anti => true,
-    }
-}
-
-fn is_none_or_left(order: MaintainOrderJoin) -> bool
-    ensures { result ≡ is_none_or_left order }
-{
-    match order {
-        MaintainOrderJoin::None | MaintainOrderJoin::Left | MaintainOrderJoin::LeftRight => true,
-        MaintainOrderJoin::Right | MaintainOrderJoin::RightLeft => false,
-    }
-}
-
-fn is_built_coalesce(how: JoinType, coalesce: JoinCoalesce) -> bool
-    ensures { result ≡ is_built_coalesce how coalesce }
-{
-    how != JoinType::Full || !coalesce.coalesce(&how)
-}
-
-fn is_built_args(args: &JoinArgs) -> bool
-    ensures { result ≡ is_built_args args.now }
-{
-    is_built_order(args.how, args.maintain_order)
-        && is_built_coalesce(args.how, args.coalesce)
-        && !args.validation.needs_checks()
-        && args.slice.is_none()
-}
-
-// Whether the join is of the form that is answered so far.
-#[tactic(auto, unfolding(crate::specs::Reading::is_built))]
-fn is_built(written: &WrittenJoin<'_>) -> bool
-    ensures { result ≡ is_built (join_view written.now) }
-{
-    is_built_args(&written.args) && !written.trace
-}
-
-fn owned(alloc: Global, texts: &Vec<&str>) -> Result<Vec<PlSmallStr>, OutOfMemory>
-    ensures { IfOk result (λ v. v.items ≡ map (λ s. s.now) texts.now.items) }
-{
-    let mut copies = Vec::with_capacity(alloc, texts.len())?;
-    for text in texts {
-        copies.push(PlSmallStr::from_str(alloc, *text)?)?;
-    }
-    Ok(copies)
-}
-
-#[tactic(auto, unfolding(crate::specs::Reading::request_in, crate::specs::Columns::tables_of))]
-fn request_in(alloc: Global, value: &Value) -> Result<JoinRequest, RequestFault>
-    ensures { MatchResult result (λ q. request_in (view value.now) ≡ Ok (request_view q))
-        (λ e. FaultIs e (request_in (view value.now))) }
+#[tactic(auto, unfolding(crate::specs::Reading::join_in, crate::specs::Columns::tables_of))]
+fn join_in(alloc: Global, value: &Value) -> Result<JoinRequest, RequestFault>
+    ensures { MatchResult result (λ q. join_in (view value.now) ≡ Ok (request_view q))
+        (λ e. FaultIs e (join_in (view value.now))) }
 {
     let Some(written) = join_of(alloc, value)? else {
         return Err(RequestFault::NoRequest(Reason::Shape));
@@ -101,19 +47,51 @@ fn request_in(alloc: Global, value: &Value) -> Result<JoinRequest, RequestFault>
         return Err(RequestFault::NoRequest(Reason::Exec));
     };
     let (left, right) = tables_of(alloc, left, right)?;
-    if !is_built(&written) {
+    if written.trace {
         return Err(RequestFault::NoRequest(Reason::NotYet));
     }
-    let left_on = owned(alloc, &written.left_on)?;
-    let right_on = owned(alloc, &written.right_on)?;
     Ok(JoinRequest {
         left,
         right,
-        left_on,
-        right_on,
+        left_on: written.left_on,
+        right_on: written.right_on,
         args: written.args,
         exec,
         trace: written.trace,
+    })
+}
+
+// The value that the bytes are.
+#[tactic(auto, unfolding(crate::specs::Reading::value_of))]
+fn value_of(alloc: Global, bytes: &[u8]) -> Result<Value, RequestFault>
+    ensures { MatchResult result (λ v. value_of bytes.now ≡ Ok (view v)) (λ e. FaultIs e (value_of bytes.now)) }
+{
+    match Value::from_slice(alloc, bytes) {
+        Ok(value) => Ok(value),
+        Err(error) => {
+            if error.is_memory() {
+                Err(RequestFault::OutOfMemory)
+            } else {
+                Err(RequestFault::NoRequest(Reason::Json))
+            }
+        }
+    }
+}
+
+#[tactic(auto, unfolding(crate::specs::Reading::unpivot_in))]
+fn unpivot_in(alloc: Global, value: &Value) -> Result<UnpivotRequest, RequestFault>
+    ensures { MatchResult result (λ q. unpivot_in (view value.now) ≡ Ok (unpivot_view q))
+        (λ e. FaultIs e (unpivot_in (view value.now))) }
+{
+    let Some(written) = unpivot_of(alloc, value)? else {
+        return Err(RequestFault::NoRequest(Reason::Shape));
+    };
+    Ok(UnpivotRequest {
+        table: table_from(alloc, &written.table)?,
+        on: written.on,
+        index: written.index,
+        variable_name: written.variable_name,
+        value_name: written.value_name,
     })
 }
 
@@ -142,22 +120,30 @@ fn request_in(alloc: Global, value: &Value) -> Result<JoinRequest, RequestFault>
 /// 5. `Heights`: two columns of a table differ in length.
 /// 6. `Name`: two columns of a table have one name.
 /// 7. `Flag`: a column is not in the order that `sorted` claims.
-/// 8. `NotYet`: the validation is not `"m:m"`, there is a slice, `trace` is true, `how` is `"full"` and
-///    `coalesce` is `"coalesce"`, or the order is not one that is built: any but `"none"` for `"right"`
-///    and `"full"`, and `"right"` or `"right_left"` for `"inner"` and `"left"`.
-pub fn request_of(alloc: Global, bytes: &[u8]) -> Result<JoinRequest, RequestFault>
-    ensures reading { MatchResult result (λ q. request_of bytes.now ≡ Ok (request_view q))
-        (λ e. FaultIs e (request_of bytes.now)) }
-    ensures built { IfOk result (λ q. IsBuilt (asked (request_view q))) }
+/// 8. `NotYet`: `trace` is true.
+#[tactic(auto, unfolding(crate::specs::Reading::join_request_of))]
+pub fn join_request_of(alloc: Global, bytes: &[u8]) -> Result<JoinRequest, RequestFault>
+    ensures { MatchResult result (λ q. join_request_of bytes.now ≡ Ok (request_view q))
+        (λ e. FaultIs e (join_request_of bytes.now)) }
 {
-    match Value::from_slice(alloc, bytes) {
-        Ok(value) => request_in(alloc, &value),
-        Err(error) => {
-            if error.is_memory() {
-                Err(RequestFault::OutOfMemory)
-            } else {
-                Err(RequestFault::NoRequest(Reason::Json))
-            }
-        }
-    }
+    let value = value_of(alloc, bytes)?;
+    join_in(alloc, &value)
+}
+
+/// The request to make a table long that the bytes are.
+///
+/// They are a JSON object with the members `table`, a table as in a request to join, `on` and `index`,
+/// lists of texts, and perhaps `variable_name` and `value_name`, texts.
+///
+/// # Errors
+///
+/// `OutOfMemory` may come at any time. Else the first of these reasons of `join_request_of` that holds
+/// of the whole input: `Json`, `Shape`, `Value`, `Heights`, `Name`, `Flag`.
+#[tactic(auto, unfolding(crate::specs::Reading::unpivot_request_of))]
+pub fn unpivot_request_of(alloc: Global, bytes: &[u8]) -> Result<UnpivotRequest, RequestFault>
+    ensures { MatchResult result (λ q. unpivot_request_of bytes.now ≡ Ok (unpivot_view q))
+        (λ e. FaultIs e (unpivot_request_of bytes.now)) }
+{
+    let value = value_of(alloc, bytes)?;
+    unpivot_in(alloc, &value)
 }

@@ -1,4 +1,4 @@
-//! A request to join, and why bytes are none.
+//! The requests, and why bytes are none.
 
 use std::alloc::AllocError;
 use tb_frame::{DataFrame, JoinArgs};
@@ -21,6 +21,20 @@ pub struct JoinRequest {
     pub trace: bool,
 }
 
+/// A request to make a table long.
+#[derive(Drop)]
+pub struct UnpivotRequest {
+    pub table: DataFrame,
+    /// The names of the columns that are put one below the other.
+    pub on: Vec<PlSmallStr>,
+    /// The names of the columns that stay beside them.
+    pub index: Vec<PlSmallStr>,
+    /// The name of the column of names, if it is given.
+    pub variable_name: Option<PlSmallStr>,
+    /// The name of the column of values, if it is given.
+    pub value_name: Option<PlSmallStr>,
+}
+
 /// Why bytes are no request: the first of these that holds.
 #[derive(Clone, Copy, PartialEq, Eq, Debug)]
 pub enum Reason {
@@ -38,7 +52,7 @@ pub enum Reason {
     Name,
     /// A column is claimed to be in an order that it is not in.
     Flag,
-    /// The join is of a form that is not built yet.
+    /// It is asked how a join went, which is not built yet.
     NotYet,
 }
 

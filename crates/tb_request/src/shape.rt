@@ -1,18 +1,17 @@
 //! The members of a request, before its values are read.
 ghost use Rattle.std.specs.Prelude.{◌≡◌, map, option_map, IfOk};
 ghost use Rattle.serde_json.specs.View.{view};
-ghost use Rattle.serde_json.specs.Find.{as_str};
 ghost use Rattle.tb_json.specs.Lists.{as_list, list_of};
-ghost use Rattle.tb_request.specs.Written.{flag_named, flag_of, count_of, plan_of, exec_of, trace_of, join_of, column_of, table_of};
-ghost use Rattle.tb_request.specs.Lent.{written_view, exec_view, join_view};
+ghost use Rattle.tb_request.specs.Written.{flag_named, flag_of, count_of, plan_of, exec_of, join_of, column_of, table_of, table_at};
+ghost use Rattle.tb_request.specs.Lent.{written_view, exec_view, written_join};
 
 use crate::arguments::args_of;
-use crate::members::has_only;
+use crate::members::{has_only, texts_at, truth_at};
 use serde_json::Value;
 use std::alloc::Global;
 use tb_frame::JoinArgs;
 use tb_json::type_of;
-use tb_value::{DataType, IsSorted, OutOfMemory};
+use tb_value::{DataType, IsSorted, OutOfMemory, PlSmallStr};
 
 // A column whose values still stand in the request, and the flag that is claimed of them.
 #[derive(Drop)]
@@ -39,9 +38,9 @@ pub(crate) struct WrittenJoin<'v> {
     pub args: JoinArgs,
     pub exec: ExecNumbers,
     pub left: Vec<WrittenColumn<'v>>,
-    pub left_on: Vec<&'v str>,
+    pub left_on: Vec<PlSmallStr>,
     pub right: Vec<WrittenColumn<'v>>,
-    pub right_on: Vec<&'v str>,
+    pub right_on: Vec<PlSmallStr>,
     pub trace: bool,
 }
 
@@ -151,21 +150,19 @@ fn table_of<'v>(
     }
 }
 
-fn texts_of<'v>(alloc: Global, value: &'v Value) -> Result<Option<Vec<&'v str>>, OutOfMemory>
-    ensures { IfOk result (λ o. option_map (λ v. map (λ s. s.now) v.items) o
-        ≡ list_of as_str (view value.now)) }
+/// The columns of a member that is a table.
+pub(crate) fn table_at<'v>(
+    alloc: Global,
+    object: &'v Value,
+    name: &str,
+) -> Result<Option<Vec<WrittenColumn<'v>>>, OutOfMemory>
+    ensures { IfOk result (λ o. option_map (λ v. map written_view v.items) o
+        ≡ table_at name.now (view object.now)) }
 {
-    let Some(items) = value.as_array() else {
-        return Ok(None);
-    };
-    let mut texts = Vec::new(alloc);
-    for item in items {
-        let Some(text) = item.as_str() else {
-            return Ok(None);
-        };
-        texts.push(text)?;
+    match object.get(name) {
+        Some(member) => table_of(alloc, member),
+        None => Ok(None),
     }
-    Ok(Some(texts))
 }
 
 // A whole number below 2^32.
@@ -217,22 +214,13 @@ fn exec_of(request: &Value) -> Option<ExecNumbers>
     }
 }
 
-fn trace_of(request: &Value) -> Option<bool>
-    ensures { result ≡ trace_of (view request.now) }
-{
-    match request.get("trace") {
-        Some(member) => member.as_bool(),
-        None => Some(false),
-    }
-}
-
 /// The members of a request to join, or None where the value has not the form of one.
 #[tactic(auto, unfolding(crate::specs::Written::join_of))]
 pub(crate) fn join_of<'v>(
     alloc: Global,
     value: &'v Value,
 ) -> Result<Option<WrittenJoin<'v>>, OutOfMemory>
-    ensures { IfOk result (λ o. option_map join_view o ≡ join_of (view value.now)) }
+    ensures { IfOk result (λ o. option_map written_join o ≡ join_of (view value.now)) }
 {
     if !has_only(
         value,
@@ -242,31 +230,25 @@ pub(crate) fn join_of<'v>(
     ) {
         return Ok(None);
     }
-    let (Some(args), Some(exec), Some(trace)) = (value.get("args"), exec_of(value), trace_of(value))
-    else {
+    let Some(args) = value.get("args") else {
         return Ok(None);
     };
     let Some(args) = args_of(alloc, args)? else {
         return Ok(None);
     };
-    let (Some(left), Some(left_on), Some(right), Some(right_on)) = (
-        value.get("left"),
-        value.get("left_on"),
-        value.get("right"),
-        value.get("right_on"),
-    ) else {
+    let (Some(exec), Some(trace)) = (exec_of(value), truth_at(value, "trace")) else {
         return Ok(None);
     };
-    let Some(left) = table_of(alloc, left)? else {
+    let Some(left) = table_at(alloc, value, "left")? else {
         return Ok(None);
     };
-    let Some(left_on) = texts_of(alloc, left_on)? else {
+    let Some(left_on) = texts_at(alloc, value, "left_on")? else {
         return Ok(None);
     };
-    let Some(right) = table_of(alloc, right)? else {
+    let Some(right) = table_at(alloc, value, "right")? else {
         return Ok(None);
     };
-    let Some(right_on) = texts_of(alloc, right_on)? else {
+    let Some(right_on) = texts_at(alloc, value, "right_on")? else {
         return Ok(None);
     };
     Ok(Some(WrittenJoin {

@@ -1,35 +1,48 @@
 //! The tables of a request.
-ghost use Rattle.std.specs.Prelude.{◌≡◌, map, IfOk, IfErr, MatchResult, Ok, None};
-ghost use Rattle.tb_frame.specs.Frame.{frame_refusal};
+ghost use Rattle.std.specs.Prelude.{◌≡◌, [], ◌∷◌, map, IfOk, MatchResult, Ok, Err};
 ghost use Rattle.tb_frame.specs.Table.{Table, table_of};
-ghost use Rattle.tb_request.specs.Reading.{are_frames, are_tables, FaultIs, IsRefused};
-ghost use Rattle.tb_request.specs.Lent.{claimed_view};
+ghost use Rattle.tb_request.specs.Reading.{are_frames, are_tables, fault_of, table_from, FaultIs};
+ghost use Rattle.tb_request.specs.Lent.{claimed_view, written_view};
 
 use crate::flags::flagged;
 use crate::request::{Reason, RequestFault};
-use crate::values::ClaimedColumn;
+use crate::shape::WrittenColumn;
+use crate::values::{ClaimedColumn, columns_of};
 use std::alloc::Global;
 use tb_frame::DataFrame;
 use tb_store::Column;
 use tb_value::PolarsError;
 
+fn fault_of(error: &PolarsError) -> RequestFault
+    ensures { result ≡ fault_of error.now }
+{
+    match error {
+        PolarsError::OutOfMemory => RequestFault::OutOfMemory,
+        PolarsError::ShapeMismatch => RequestFault::NoRequest(Reason::Heights),
+        PolarsError::Duplicate(_)
+        | PolarsError::ColumnNotFound(_)
+        | PolarsError::InvalidOperation(_)
+        | PolarsError::ComputeError(_)
+        | PolarsError::SchemaMismatch => RequestFault::NoRequest(Reason::Name),
+    }
+}
+
 fn frame_of(alloc: Global, columns: Vec<Column>) -> Result<DataFrame, RequestFault>
     ensures columns { IfOk result (λ t. t ≡ columns.items) }
-    ensures passed { IfOk result (λ t. frame_refusal (table_of columns.items) ≡ None) }
-    ensures refused { IfErr result (λ e. IsRefused e (table_of columns.items)) }
+    ensures frame { MatchResult result
+        (λ t. are_frames (table_of columns.items ∷ []) ≡ Ok tt)
+        (λ e. FaultIs e (are_frames (table_of columns.items ∷ []))) }
 {
     match DataFrame::new(alloc, columns) {
         Ok(frame) => Ok(frame),
-        Err(PolarsError::OutOfMemory) => Err(RequestFault::OutOfMemory),
-        Err(PolarsError::ShapeMismatch) => Err(RequestFault::NoRequest(Reason::Heights)),
-        Err(_) => Err(RequestFault::NoRequest(Reason::Name)),
+        Err(error) => Err(fault_of(&error)),
     }
 }
 
 // Why neither side is a table. The heights of both come before the names of any.
 fn first_fault(left: Reason, right: RequestFault) -> RequestFault
-    ensures { (l r : Table) → IsRefused (RequestFault.NoRequest left) l → IsRefused right r
-        → FaultIs result (are_frames l r) }
+    ensures { (l r : Table) → are_frames (l ∷ []) ≡ Err left → FaultIs right (are_frames (r ∷ []))
+        → FaultIs result (are_frames (l ∷ r ∷ [])) }
 {
     match left {
         Reason::Name => right,
@@ -39,8 +52,8 @@ fn first_fault(left: Reason, right: RequestFault) -> RequestFault
 
 // Why the sides are not two tables, where the left one is none for this reason.
 fn fault_beside(alloc: Global, left: Reason, right: Vec<Column>) -> RequestFault
-    ensures { (l : Table) → IsRefused (RequestFault.NoRequest left) l
-        → FaultIs result (are_frames l (table_of right.items)) }
+    ensures { (l : Table) → are_frames (l ∷ []) ≡ Err left
+        → FaultIs result (are_frames (l ∷ table_of right.items ∷ [])) }
 {
     match frame_of(alloc, right) {
         Ok(_) => RequestFault::NoRequest(left),
@@ -55,8 +68,8 @@ fn frames_of(
 ) -> Result<(DataFrame, DataFrame), RequestFault>
     ensures columns { IfOk result (λ p. (p.0 ≡ left.items) × (p.1 ≡ right.items)) }
     ensures frames { MatchResult result
-        (λ p. are_frames (table_of left.items) (table_of right.items) ≡ Ok tt)
-        (λ e. FaultIs e (are_frames (table_of left.items) (table_of right.items))) }
+        (λ p. are_frames (table_of left.items ∷ table_of right.items ∷ []) ≡ Ok tt)
+        (λ e. FaultIs e (are_frames (table_of left.items ∷ table_of right.items ∷ []))) }
 {
     match frame_of(alloc, left) {
         Ok(left) => {
@@ -68,7 +81,39 @@ fn frames_of(
     }
 }
 
-/// The tables of these columns with the flags that are claimed.
+// The table of these columns with the flags that are claimed.
+#[tactic(auto, unfolding(crate::specs::Reading::are_tables))]
+fn table_of(alloc: Global, claimed: Vec<ClaimedColumn>) -> Result<DataFrame, RequestFault>
+    ensures columns { IfOk result (λ t. t ≡ map claimed_view claimed.items) }
+    ensures tables { MatchResult result
+        (λ t. are_tables (map claimed_view claimed.items ∷ []) ≡ Ok tt)
+        (λ e. FaultIs e (are_tables (map claimed_view claimed.items ∷ []))) }
+{
+    let claimed = flagged(alloc, claimed)?;
+    let frame = frame_of(alloc, claimed.columns)?;
+    if claimed.hold {
+        Ok(frame)
+    } else {
+        Err(RequestFault::NoRequest(Reason::Flag))
+    }
+}
+
+/// The one table of a request, whose columns are written so.
+#[tactic(auto, unfolding(crate::specs::Reading::table_from))]
+pub(crate) fn table_from(
+    alloc: Global,
+    written: &Vec<WrittenColumn<'_>>,
+) -> Result<DataFrame, RequestFault>
+    ensures { MatchResult result (λ t. table_from (map written_view written.now.items) ≡ Ok t)
+        (λ e. FaultIs e (table_from (map written_view written.now.items))) }
+{
+    match columns_of(alloc, written)? {
+        Some(columns) => table_of(alloc, columns),
+        None => Err(RequestFault::NoRequest(Reason::Value)),
+    }
+}
+
+/// The two tables of these columns with the flags that are claimed.
 #[tactic(auto, unfolding(crate::specs::Reading::are_tables))]
 pub(crate) fn tables_of(
     alloc: Global,
@@ -78,8 +123,8 @@ pub(crate) fn tables_of(
     ensures columns { IfOk result (λ p. (p.0 ≡ map claimed_view left.items)
         × (p.1 ≡ map claimed_view right.items)) }
     ensures tables { MatchResult result
-        (λ p. are_tables (map claimed_view left.items) (map claimed_view right.items) ≡ Ok tt)
-        (λ e. FaultIs e (are_tables (map claimed_view left.items) (map claimed_view right.items))) }
+        (λ p. are_tables (map claimed_view left.items ∷ map claimed_view right.items ∷ []) ≡ Ok tt)
+        (λ e. FaultIs e (are_tables (map claimed_view left.items ∷ map claimed_view right.items ∷ []))) }
 {
     let left = flagged(alloc, left)?;
     let right = flagged(alloc, right)?;

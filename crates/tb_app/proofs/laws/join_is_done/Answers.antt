@@ -1,4 +1,4 @@
-use Rattle.tb_app.proofs.JoinIsDone.{join_is_done}
+use Rattle.tb_app.proofs.Commands.{join_is_done}
 use Rattle.tb_app.proofs.laws.join_is_done.Goals as goal
 
 pub returns : goal.returns

@@ -1,0 +1,47 @@
+-- What `done` says of each word, in the words of its command.
+use Rattle.std.proofs.Common.{◌≡◌, ℕ, List, Option, Result, Ok, Err, None, refl, sym, subst}
+use Rattle.tb_request.specs.declared.request.Reason.{Reason}
+use Rattle.tb_request.specs.Reading.{JoinRequest, UnpivotRequest, join_request_of, unpivot_request_of}
+use Rattle.tb_app.specs.declared.words.Command.TheVariants.{Join, Unpivot}
+use Rattle.tb_app.specs.Due.{DoneFor}
+use Rattle.tb_app.specs.Headline.{JoinDone, UnpivotDone}
+use Rattle.tb_app.specs.Requests.{Request, join, unpivot, as_request, request_of, refusal_of, IsAnswerText}
+use Rattle.std.specs.Io.KnownBytes.{Appends}
+
+-- what is read as a request of one command is one
+read_as : {A : Type 0} (f : A → Request) (read : Result A Reason) (q : Request) → as_request f read ≡ Ok q → (r : A) × (read ≡ Ok r) × (q ≡ f r)
+read_as f (Ok r) q e = (r, refl, (cc))
+read_as f (Err why) q e = absurd (cc)
+
+pub join_is_done : (left left' written written' : Option (List ℕ)) → DoneFor Join left left' written written' → JoinDone left left' written written'
+unfolding request_of refusal_of IsAnswerText
+join_is_done left left' written written' d =
+    let (r, is_read, is) = read_as join (join_request_of d.bytes) d.request d.is_request in
+    let answer = subst (λ q. IsAnswerText q d.text) is d.is_answer in
+    record {
+      bytes = d.bytes;
+      told = d.told;
+      short = d.short;
+      read = d.read;
+      request = r;
+      is_request = is_read;
+      valid = subst (λ q. refusal_of q ≡ None) is d.valid;
+      table = answer.0;
+      is_answer = answer.1;
+      wrote = subst (Appends written written') answer.2 d.wrote;
+    }
+
+pub unpivot_is_done : (left left' written written' : Option (List ℕ)) → DoneFor Unpivot left left' written written' → UnpivotDone left left' written written'
+unfolding request_of refusal_of IsAnswerText
+unpivot_is_done left left' written written' d =
+    let (r, is_read, is) = read_as unpivot (unpivot_request_of d.bytes) d.request d.is_request in
+    record {
+      bytes = d.bytes;
+      told = d.told;
+      short = d.short;
+      read = d.read;
+      request = r;
+      is_request = is_read;
+      valid = subst (λ q. refusal_of q ≡ None) is d.valid;
+      wrote = subst (Appends written written') (subst (λ q. IsAnswerText q d.text) is d.is_answer) d.wrote;
+    }

@@ -1,0 +1,59 @@
+//! The members of a request with one table, before its values are read.
+ghost use Rattle.std.specs.Prelude.{◌≡◌, option_map, IfOk};
+ghost use Rattle.serde_json.specs.View.{view};
+ghost use Rattle.tb_request.specs.Written.{unpivot_of};
+ghost use Rattle.tb_request.specs.Lent.{written_unpivot};
+
+use crate::members::{has_only, text_at, texts_at};
+use crate::shape::{WrittenColumn, table_at};
+use serde_json::Value;
+use std::alloc::Global;
+use tb_value::{OutOfMemory, PlSmallStr};
+
+// A request to make a table long, whose values are not read yet.
+#[derive(Drop)]
+pub(crate) struct WrittenUnpivot<'v> {
+    pub table: Vec<WrittenColumn<'v>>,
+    pub on: Vec<PlSmallStr>,
+    pub index: Vec<PlSmallStr>,
+    pub variable_name: Option<PlSmallStr>,
+    pub value_name: Option<PlSmallStr>,
+}
+
+/// The members of a request to make a table long, or None where the value has not the form of one.
+#[tactic(auto, unfolding(crate::specs::Written::unpivot_of))]
+pub(crate) fn unpivot_of<'v>(
+    alloc: Global,
+    value: &'v Value,
+) -> Result<Option<WrittenUnpivot<'v>>, OutOfMemory>
+    ensures { IfOk result (λ o. option_map written_unpivot o ≡ unpivot_of (view value.now)) }
+{
+    if !has_only(
+        value,
+        &["index", "on", "table", "value_name", "variable_name"],
+    ) {
+        return Ok(None);
+    }
+    let Some(table) = table_at(alloc, value, "table")? else {
+        return Ok(None);
+    };
+    let Some(on) = texts_at(alloc, value, "on")? else {
+        return Ok(None);
+    };
+    let Some(index) = texts_at(alloc, value, "index")? else {
+        return Ok(None);
+    };
+    let Some(variable_name) = text_at(alloc, value, "variable_name")? else {
+        return Ok(None);
+    };
+    let Some(value_name) = text_at(alloc, value, "value_name")? else {
+        return Ok(None);
+    };
+    Ok(Some(WrittenUnpivot {
+        table,
+        on,
+        index,
+        variable_name,
+        value_name,
+    }))
+}
