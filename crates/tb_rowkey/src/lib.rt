@@ -18,8 +18,6 @@ mod fit;
 mod keys;
 pub mod laws;
 mod lent;
-#[cfg(test)]
-mod tests;
 
 pub use fit::keys_fit;
 pub use keys::{lent_keys, prepare_keys_multiple};

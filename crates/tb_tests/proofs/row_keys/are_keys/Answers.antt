@@ -5,7 +5,7 @@ use Rattle.std.proofs.lemmas.List.{take_more, take_all}
 use Rattle.std.proofs.lemmas.List.Elements.{All-push}
 use Rattle.tb_value.specs.SameKind.{is_key}
 use Rattle.tb_chunk.specs.Col.{Col, values}
-use Rattle.tb_rowkey.proofs.tests.are_keys.Goals as goal
+use Rattle.tb_tests.proofs.row_keys.are_keys.Goals as goal
 
 pub loop-column-preserved : goal.loop-column-preserved
 loop-column-preserved c =

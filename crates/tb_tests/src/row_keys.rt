@@ -1,16 +1,15 @@
 //! Keys of rows, byte by byte.
-ghost use Rattle.std.specs.Prelude.{◌≡◌, ◌↔◌, IsTrue, length};
+ghost use Rattle.std.specs.Prelude.{◌≡◌, ◌↔◌, IfOk, IsTrue, length};
 ghost use Rattle.std.specs.List.{All};
 ghost use Rattle.tb_value.specs.SameKind.{is_key};
 ghost use Rattle.tb_chunk.specs.Col.{values};
-ghost use Rattle.tb_rowkey.specs.Columns.{row_count};
+ghost use Rattle.tb_rowkey.specs.Columns.{lent_columns};
 
-use crate::lent::lend;
-use crate::{keys_fit, prepare_keys_multiple};
 use std::alloc::Global;
 use std::process::Abort;
 use std::test::Fail;
-use tb_store::{AnyValue, DataType, PlSmallStr, Series, ValueRef};
+use tb_rowkey::{keys_fit, prepare_keys_multiple};
+use tb_store::{AnyValue, DataType, OutOfMemory, PlSmallStr, Series, ValueRef};
 
 fn text(alloc: Global, word: &str) -> Result<AnyValue, Fail> {
     Ok(AnyValue::String(PlSmallStr::from_str(alloc, word)?))
@@ -61,6 +60,17 @@ fn are_keys(columns: &[Series], rows: usize) -> bool
         }
     }
     true
+}
+
+// The columns, lent one by one.
+fn lend(alloc: Global, columns: &[Series]) -> Result<Vec<&Series>, OutOfMemory>
+    ensures { IfOk result (λ v. lent_columns v.items ≡ columns.now) }
+{
+    let mut lent = Vec::with_capacity(alloc, columns.len())?;
+    for column in columns {
+        lent.push(column)?;
+    }
+    Ok(lent)
 }
 
 fn keys_of(
