@@ -5,3 +5,4 @@ pub mod PairLists
 pub mod Listed
 pub mod Hashed
 pub mod JoinRows
+pub mod Twins

@@ -5,6 +5,9 @@ pub mod Plan
 pub mod TableView
 pub mod Probing
 pub mod Hashing
+pub mod Twins
+pub mod SeenKeys
+pub mod Hashed
 pub mod JoinIds
 pub mod KeyCells
 pub mod CellValues

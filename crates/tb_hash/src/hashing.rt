@@ -1,18 +1,21 @@
 //! The pairs of two key columns, by hash tables of one of them.
 ghost use Rattle.std.specs.Prelude.{◌≡◌, ◌≤◌, true, IfOk, if◌then◌else◌, length};
-ghost use Rattle.tb_value.specs.Refusals.{Settles};
+ghost use Rattle.tb_value.specs.Refusals.{Settles, first_cause};
 ghost use Rattle.tb_value.specs.SameKind.{is_key};
 ghost use Rattle.tb_chunk.specs.Col.{flat, values};
 ghost use Rattle.tb_chunk.specs.Seen.{chunk_lists, storage};
 ghost use Rattle.tb_hash.specs.CellValues.{binary_values, cell_values, text_values};
+ghost use Rattle.tb_hash.specs.Hashed.{AreKeysHashed, AreValuesHashed};
 ghost use Rattle.tb_hash.specs.Hashing.{IsHashed, builds_left, one_part, value_listing};
 ghost use Rattle.tb_hash.specs.Keys.{key_listing, probe_listing};
 ghost use Rattle.tb_hash.specs.Probing.{AllowsSide, IsProbed, probed_order, too_many};
+ghost use Rattle.tb_hash.specs.Twins.{value_causes};
 
 use crate::keys::JoinKey;
 use crate::probing::{Probed, probe};
 use crate::tables::{Built, build_tables};
 use crate::typed::{KeyCell, joined_bytes, joined_cells, joined_texts};
+use crate::validation::check_keys;
 use std::alloc::Global;
 use std::thread::Threads;
 use tb_frame::{Direction, JoinType, JoinValidation};
@@ -25,6 +28,7 @@ use tb_value::{MAX_ROWS, PolarsResult};
 struct KeyJoin<'a> {
     alloc: Global,
     how: JoinType,
+    validate: JoinValidation,
     join_nulls: bool,
     exec: &'a Exec,
 }
@@ -50,6 +54,7 @@ fn build_and_probe<K: JoinKey, G: Gate>(
         how,
         join_nulls,
         exec,
+        ..
     } = *join;
     let (tables, plan) = build_tables(rt, alloc, built, join_nulls, left_built, exec, gate)?;
     let pairs = probe(rt, alloc, how, &tables, probed, exec, gate)?;
@@ -80,7 +85,26 @@ pub fn probed_order(how: JoinType, left_built: bool) -> Direction
     }
 }
 
-// The pairs of two lists of keys.
+// The pairs of two lists of keys, whatever is asked of their sides.
+fn built_pairs<K: JoinKey, G: Gate>(
+    rt: &(impl Threads + Sync),
+    gate: &G,
+    join: &KeyJoin<'_>,
+    left: &[Option<K>],
+    right: &[Option<K>],
+) -> PolarsResult<(Probed, Built)>
+    requires left { length left.now ≤ MAX_ROWS }
+    requires right { length right.now ≤ MAX_ROWS }
+    ensures { IsHashed join.now.how (length left.now) (length right.now) (key_listing K.eq join.now.join_nulls join.now.how left.now right.now) (too_many (length (key_listing K.eq join.now.join_nulls join.now.how left.now right.now))) result }
+{
+    if builds_left(join.how, left.len(), right.len()) {
+        build_and_probe(rt, gate, join, true, left, right)
+    } else {
+        build_and_probe(rt, gate, join, false, right, left)
+    }
+}
+
+// The pairs of two lists of keys, whose sides are looked at first.
 fn pairs_of_keys<K: JoinKey, G: Gate>(
     rt: &(impl Threads + Sync),
     gate: &G,
@@ -90,13 +114,47 @@ fn pairs_of_keys<K: JoinKey, G: Gate>(
 ) -> PolarsResult<(Probed, Built)>
     requires left { length left.now ≤ MAX_ROWS }
     requires right { length right.now ≤ MAX_ROWS }
-    ensures { IsHashed join.now.how (length left.now) (length right.now) (key_listing K.eq join.now.join_nulls join.now.how left.now right.now) result }
+    ensures { AreKeysHashed K.eq join.now.validate join.now.join_nulls join.now.how left.now right.now result }
 {
-    if builds_left(join.how, left.len(), right.len()) {
-        build_and_probe(rt, gate, join, true, left, right)
-    } else {
-        build_and_probe(rt, gate, join, false, right, left)
-    }
+    check_keys(
+        join.alloc,
+        join.how,
+        left,
+        right,
+        join.validate,
+        join.join_nulls,
+    )?;
+    built_pairs(rt, gate, join, left, right)
+}
+
+/// The pairs of a join by two lists of keys, in the order of the probed rows, and what was built, as `hash_pairs` says.
+///
+/// # Errors
+///
+/// As of `hash_pairs`.
+pub fn hash_keys<K: JoinKey, G: Gate>(
+    rt: &(impl Threads + Sync),
+    alloc: Global,
+    how: JoinType,
+    left: &[Option<K>],
+    right: &[Option<K>],
+    validate: JoinValidation,
+    join_nulls: bool,
+    exec: &Exec,
+    gate: &G,
+) -> PolarsResult<(Probed, Built)>
+    requires left { length left.now ≤ MAX_ROWS }
+    requires right { length right.now ≤ MAX_ROWS }
+    ensures { AreKeysHashed K.eq validate join_nulls how left.now right.now result }
+{
+    let join = KeyJoin {
+        alloc,
+        how,
+        validate,
+        join_nulls,
+        exec,
+    };
+    pairs_of_keys(rt, gate, &join, left, right)
 }
 
 fn pairs_of_cells<N: KeyCell, G: Gate>(
@@ -108,7 +166,7 @@ fn pairs_of_cells<N: KeyCell, G: Gate>(
 ) -> PolarsResult<(Probed, Built)>
     requires left { length (cell_values N.shows left.now) ≤ MAX_ROWS }
     requires right { length (cell_values N.shows right.now) ≤ MAX_ROWS }
-    ensures { IsHashed join.now.how (length (cell_values N.shows left.now)) (length (cell_values N.shows right.now)) (value_listing join.now.join_nulls join.now.how (cell_values N.shows left.now) (cell_values N.shows right.now)) result }
+    ensures { AreValuesHashed join.now.validate join.now.join_nulls join.now.how (cell_values N.shows left.now) (cell_values N.shows right.now) result }
 {
     let left = joined_cells(join.alloc, left)?;
     let right = joined_cells(join.alloc, right)?;
@@ -124,7 +182,7 @@ fn pairs_of_texts<G: Gate>(
 ) -> PolarsResult<(Probed, Built)>
     requires left { length (text_values left.now) ≤ MAX_ROWS }
     requires right { length (text_values right.now) ≤ MAX_ROWS }
-    ensures { IsHashed join.now.how (length (text_values left.now)) (length (text_values right.now)) (value_listing join.now.join_nulls join.now.how (text_values left.now) (text_values right.now)) result }
+    ensures { AreValuesHashed join.now.validate join.now.join_nulls join.now.how (text_values left.now) (text_values right.now) result }
 {
     let left = joined_texts(join.alloc, left)?;
     let right = joined_texts(join.alloc, right)?;
@@ -140,7 +198,7 @@ fn pairs_of_bytes<G: Gate>(
 ) -> PolarsResult<(Probed, Built)>
     requires left { length (binary_values left.now) ≤ MAX_ROWS }
     requires right { length (binary_values right.now) ≤ MAX_ROWS }
-    ensures { IsHashed join.now.how (length (binary_values left.now)) (length (binary_values right.now)) (value_listing join.now.join_nulls join.now.how (binary_values left.now) (binary_values right.now)) result }
+    ensures { AreValuesHashed join.now.validate join.now.join_nulls join.now.how (binary_values left.now) (binary_values right.now) result }
 {
     let left = joined_bytes(join.alloc, left)?;
     let right = joined_bytes(join.alloc, right)?;
@@ -159,7 +217,7 @@ fn pairs_of_chunks<G: Gate>(
     requires key { is_key (storage left.now) ≡ true }
     requires left { length (flat (chunk_lists left.now)) ≤ MAX_ROWS }
     requires right { length (flat (chunk_lists right.now)) ≤ MAX_ROWS }
-    ensures { IsHashed join.now.how (length (flat (chunk_lists left.now))) (length (flat (chunk_lists right.now))) (value_listing join.now.join_nulls join.now.how (flat (chunk_lists left.now)) (flat (chunk_lists right.now))) result }
+    ensures { AreValuesHashed join.now.validate join.now.join_nulls join.now.how (flat (chunk_lists left.now)) (flat (chunk_lists right.now)) result }
 {
     match (left, right) {
         (Chunks::BooleanType(l), Chunks::BooleanType(r)) => pairs_of_cells(rt, gate, join, l, r),
@@ -179,8 +237,13 @@ fn pairs_of_chunks<G: Gate>(
 }
 
 /// The pairs of a join by one key column of each side, in the order of the probed rows, and what was built: the left
-/// side of Right, and of Inner and Full where it isn't longer than the right one, else the right side. Refuses more
-/// than `MAX_ROWS` pairs (TooManyRows). No validation is asked for so far.
+/// side of Right, and of Inner and Full where it isn't longer than the right one, else the right side.
+///
+/// # Errors
+///
+/// `Validation` of a side that is asked to have each key once and has a key twice, the left one first; Semi and Anti
+/// look at neither, and absent keys are the same key only where absent keys match. `TooManyRows` where there are more
+/// than `MAX_ROWS` pairs, or `OutOfMemory`.
 pub fn hash_pairs<G: Gate>(
     rt: &(impl Threads + Sync),
     alloc: Global,
@@ -194,16 +257,15 @@ pub fn hash_pairs<G: Gate>(
 ) -> PolarsResult<(Probed, Built)>
     requires key { is_key left.now.kind ≡ true }
     requires same { left.now.kind ≡ right.now.kind }
-    requires many { validate ≡ JoinValidation.ManyToMany }
-    ensures settles { Settles result (too_many (length (value_listing join_nulls how (values left.now) (values right.now)))) }
+    ensures settles { Settles result (first_cause (value_causes validate join_nulls how (values left.now) (values right.now))) }
     ensures listed { let side = builds_left how (length (values left.now)) (length (values right.now)) in IfOk result (λ r. IsProbed how side (value_listing join_nulls how (values left.now) (values right.now)) r.0) }
     ensures built { let side = builds_left how (length (values left.now)) (length (values right.now)) in IfOk result (λ r. r.1 ≡ one_part side (if side then length (values left.now) else length (values right.now))) }
 {
-    prove!(validate == JoinValidation::ManyToMany);
     let _lengths = (left.len(), right.len());
     let join = KeyJoin {
         alloc,
         how,
+        validate,
         join_nulls,
         exec,
     };

@@ -8,8 +8,9 @@ mod probing;
 mod series_join;
 mod tables;
 mod typed;
+mod validation;
 
-pub use hashing::{hash_pairs, probed_order};
+pub use hashing::{hash_keys, hash_pairs, probed_order};
 pub use join_ids::{
     ChunkJoinIds, ChunkJoinOptIds, InnerJoinIds, LeftJoinIds, default_join_ids, left_numbers,
     right_numbers,

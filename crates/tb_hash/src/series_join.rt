@@ -6,7 +6,7 @@ ghost use Rattle.tb_value.specs.Refusals.{Settles};
 ghost use Rattle.tb_value.specs.SameKind.{is_key};
 ghost use Rattle.tb_chunk.specs.Col.{values};
 ghost use Rattle.tb_hash.specs.Hashing.{value_listing};
-ghost use Rattle.tb_hash.specs.JoinIds.{AreIdsOf, AreRowsOf, builds_left_of, rows_of_ids, too_many_pairs};
+ghost use Rattle.tb_hash.specs.JoinIds.{AreIdsOf, AreRowsOf, builds_left_of, pair_cause, rows_of_ids};
 
 use crate::hashing::hash_pairs;
 use crate::join_ids::{
@@ -22,8 +22,8 @@ use tb_pool::{Exec, OpenGate};
 use tb_store::Series;
 use tb_value::{IdxSize, PolarsResult};
 
-/// A key column, which is joined with another one of its type. No validation is asked for so far. Each call refuses
-/// more than `MAX_ROWS` pairs (TooManyRows), but for `hash_join_semi_anti`, where there can't be so many.
+/// A key column, which is joined with another one of its type. Each call refuses as `hash_pairs` does, but for
+/// `hash_join_semi_anti`, which looks at no validation and can't have too many pairs.
 pub trait SeriesJoin: Sized {
     ghost use Rattle.tb_chunk.specs.Col.{Col};
 
@@ -48,8 +48,7 @@ pub trait SeriesJoin: Sized {
     ) -> PolarsResult<LeftJoinIds>
         requires key { is_key (column self.now).kind ≡ true }
         requires same { (column self.now).kind ≡ other.now.kind }
-        requires many { validate ≡ JoinValidation.ManyToMany }
-        ensures settles { Settles result (too_many_pairs JoinType.Left join_nulls (column self.now) other.now) }
+        ensures settles { Settles result (pair_cause validate JoinType.Left join_nulls (column self.now) other.now) }
         ensures rows { IfOk result (λ r. AreRowsOf JoinType.Left join_nulls (column self.now) other.now (rows_of_ids Some (column self.now) r.0) (rows_of_ids (λ row. row) other.now r.1)) }
         ensures left_ids { IfOk result (λ r. AreIdsOf (column self.now) r.0) }
         ensures right_ids { IfOk result (λ r. AreIdsOf other.now r.1) }
@@ -77,8 +76,7 @@ pub trait SeriesJoin: Sized {
     ) -> PolarsResult<(InnerJoinIds, bool)>
         requires key { is_key (column self.now).kind ≡ true }
         requires same { (column self.now).kind ≡ other.now.kind }
-        requires many { validate ≡ JoinValidation.ManyToMany }
-        ensures settles { Settles result (too_many_pairs JoinType.Inner join_nulls (column self.now) other.now) }
+        ensures settles { Settles result (pair_cause validate JoinType.Inner join_nulls (column self.now) other.now) }
         ensures rows { IfOk result (λ r. AreRowsOf JoinType.Inner join_nulls (column self.now) other.now (map Some r.0.0.items) (map Some r.0.1.items)) }
         ensures built { IfOk result (λ r. r.1 ≡ not (builds_left_of JoinType.Inner (column self.now) other.now)) }
     {
@@ -104,8 +102,7 @@ pub trait SeriesJoin: Sized {
     ) -> PolarsResult<(Vec<Option<IdxSize>>, Vec<Option<IdxSize>>)>
         requires key { is_key (column self.now).kind ≡ true }
         requires same { (column self.now).kind ≡ other.now.kind }
-        requires many { validate ≡ JoinValidation.ManyToMany }
-        ensures settles { Settles result (too_many_pairs JoinType.Full join_nulls (column self.now) other.now) }
+        ensures settles { Settles result (pair_cause validate JoinType.Full join_nulls (column self.now) other.now) }
         ensures rows { IfOk result (λ r. AreRowsOf JoinType.Full join_nulls (column self.now) other.now r.0.items r.1.items) }
     {
         let left = self.as_series();
@@ -172,8 +169,7 @@ fn joined_pairs(
 ) -> PolarsResult<(Probed, Built)>
     requires key { is_key left.now.kind ≡ true }
     requires same { left.now.kind ≡ right.now.kind }
-    requires many { validate ≡ JoinValidation.ManyToMany }
-    ensures settles { Settles result (too_many_pairs how join_nulls left.now right.now) }
+    ensures settles { Settles result (pair_cause validate how join_nulls left.now right.now) }
     ensures rows { IfOk result (λ r. AreRowsOf how join_nulls left.now right.now (map (λ (p : JoinPair). p.left) r.0) (map (λ (p : JoinPair). p.right) r.0)) }
     ensures built { IfOk result (λ r. r.1.left_built ≡ builds_left_of how left.now right.now) }
 {

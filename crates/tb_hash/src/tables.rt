@@ -1,5 +1,6 @@
 //! The tables of the built keys: for each key its rows.
 ghost use Rattle.std.specs.Prelude.{◌≡◌, ◌^◌, ◌<◌, ◌≤◌, length, All, IfOk, OnOk, Some, None, true, [], ◌∷◌, ◌++◌, if◌then◌else◌, unwrap_or};
+ghost use Rattle.tb_hash.specs.Codes.{part_of};
 ghost use Rattle.tb_hash.specs.Keys.{keys_match, rows_with};
 ghost use Rattle.tb_hash.specs.Plan.{entry_unless_empty, part_sizes};
 ghost use Rattle.tb_hash.specs.TableView.{rows_at, map_entry, IsParted, IsTableOf};
@@ -40,7 +41,7 @@ impl<K: JoinKey> Tables<K> {
     {
         match key {
             Some(key) => {
-                let part = partition_of(key.code(), self.maps.len() as u32);
+                let part = part_in(key, self.maps.len() as u32);
                 match self.maps[part as usize].get(&key) {
                     Some(rows) => rows.as_slice(),
                     None => &[],
@@ -64,6 +65,18 @@ impl<K: JoinKey> Tables<K> {
     {
         self.left_built
     }
+}
+
+// The map, of so many, that has the key. Where there is one, no code is needed.
+fn part_in<K: JoinKey>(key: K, maps: u32) -> u32
+    requires { 1 ≤ maps }
+    ensures value { result ≡ part_of (K.code key) maps }
+    ensures below { result < maps }
+{
+    if maps == 1 {
+        return 0;
+    }
+    partition_of(key.code(), maps)
 }
 
 /// How tables were built. `build_tables` alone makes one.

@@ -14,4 +14,4 @@ returns-in_err-right g c = record { settles = search rules; listed = search rule
 pub returns : goal.returns
 returns g c =
     let f = or_null (λ k. binary k.bytes.now) in
-    hashed-values (λ k. binary k.bytes.now) _ (λ x. refl) (λ x y. same_bytes x.bytes.now y.bytes.now) c.args.join.now.join_nulls c.deref.result.now c.deref-2.result.now _ _ (ap (map f) c.deref.ensures.value ∙ c.in_ok-left.ensures) (ap (map f) c.deref-2.ensures.value ∙ c.in_ok-right.ensures) c.args.join.now.how c.pairs_of_keys.result c.pairs_of_keys.ensures
+    hashed-values (λ k. binary k.bytes.now) _ (λ x. refl) (λ x y. same_bytes x.bytes.now y.bytes.now) c.args.join.now.join_nulls c.deref.result.now c.deref-2.result.now _ _ (ap (map f) c.deref.ensures.value ∙ c.in_ok-left.ensures) (ap (map f) c.deref-2.ensures.value ∙ c.in_ok-right.ensures) c.args.join.now.validate c.args.join.now.how c.pairs_of_keys.result c.pairs_of_keys.ensures

@@ -7,10 +7,10 @@ use Rattle.tb_hash.proofs.tables.Tables.rows.Goals as goal
 pub returns-in-Some-get : goal.returns-in-Some-get
 returns-in-Some-get g c =
     let maps = c.self.inside.maps.items in
-    let part : c.partition_of-part.result ≡ part_of (g.K.JoinKey.code c.in-Some.key) (length maps)
-    = c.partition_of-part.ensures.value ∙ ap (λ n. n * c.len.result / 2 ^ 64) c.code.ensures ∙ ap (λ n. g.K.JoinKey.code c.in-Some.key * n / 2 ^ 64) (c.len.ensures ∙ c.self.inside.maps.ok.0) in
-    let within : c.partition_of-part.result < length maps = omega (arith, c.partition_of-part.ensures.below, c.len.ensures, c.self.inside.maps.ok.0) in
-    let e = c.as_slice.ensures.value ∙ sym (found-in_part g.K.PartialEq.eq g.K.JoinKey.code maps c.in-Some.key c.partition_of-part.result c.index.result.now (Some c.in-Some-get.rows.now) part within c.index.ensures c.in-Some-get.ensures.value) in
+    let part : c.part_in-part.result ≡ part_of (g.K.JoinKey.code c.in-Some.key) (length maps)
+    = c.part_in-part.ensures.value ∙ ap (λ n. g.K.JoinKey.code c.in-Some.key * n / 2 ^ 64) (c.len.ensures ∙ c.self.inside.maps.ok.0) in
+    let within : c.part_in-part.result < length maps = omega (arith, c.part_in-part.ensures.below, c.len.ensures, c.self.inside.maps.ok.0) in
+    let e = c.as_slice.ensures.value ∙ sym (found-in_part g.K.PartialEq.eq g.K.JoinKey.code maps c.in-Some.key c.part_in-part.result c.index.result.now (Some c.in-Some-get.rows.now) part within c.index.ensures c.in-Some-get.ensures.value) in
     record {
       value = rw (← c.self.view_is, c.in-Some.is) e;
       below = rw (← c.self.view_is) (All-same (λ row. row < c.self.inside.built_len) _ _ e (c.self.invariant.below (Some c.in-Some.key)));
@@ -19,10 +19,10 @@ returns-in-Some-get g c =
 pub returns-in-None-get : goal.returns-in-None-get
 returns-in-None-get g c =
     let maps = c.self.inside.maps.items in
-    let part : c.partition_of-part.result ≡ part_of (g.K.JoinKey.code c.in-Some.key) (length maps)
-    = c.partition_of-part.ensures.value ∙ ap (λ n. n * c.len.result / 2 ^ 64) c.code.ensures ∙ ap (λ n. g.K.JoinKey.code c.in-Some.key * n / 2 ^ 64) (c.len.ensures ∙ c.self.inside.maps.ok.0) in
-    let within : c.partition_of-part.result < length maps = omega (arith, c.partition_of-part.ensures.below, c.len.ensures, c.self.inside.maps.ok.0) in
-    let e = sym (found-in_part g.K.PartialEq.eq g.K.JoinKey.code maps c.in-Some.key c.partition_of-part.result c.index.result.now None part within c.index.ensures c.in-None-get.ensures.value) in
+    let part : c.part_in-part.result ≡ part_of (g.K.JoinKey.code c.in-Some.key) (length maps)
+    = c.part_in-part.ensures.value ∙ ap (λ n. g.K.JoinKey.code c.in-Some.key * n / 2 ^ 64) (c.len.ensures ∙ c.self.inside.maps.ok.0) in
+    let within : c.part_in-part.result < length maps = omega (arith, c.part_in-part.ensures.below, c.len.ensures, c.self.inside.maps.ok.0) in
+    let e = sym (found-in_part g.K.PartialEq.eq g.K.JoinKey.code maps c.in-Some.key c.part_in-part.result c.index.result.now None part within c.index.ensures c.in-None-get.ensures.value) in
     record {
       value = rw (← c.self.view_is, c.in-Some.is) e;
       below = rw (← c.self.view_is) (All-same (λ row. row < c.self.inside.built_len) _ _ e (c.self.invariant.below (Some c.in-Some.key)));
