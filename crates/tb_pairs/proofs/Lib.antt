@@ -1,5 +1,7 @@
 pub mod Keys
 pub mod Requested
+pub mod Twins
+pub mod Causes
 pub mod RowKeys
 pub mod Checked
 pub mod Unbroken

@@ -29,7 +29,7 @@ columns_listing nulls how ls rs = listing_of how (row_count ls) (row_count rs) (
 abbrev pub keys_listing : Bool → JoinType → ℕ → ℕ → List TableColumn → List TableColumn → List JoinPair
 keys_listing nulls how l r ls rs = listing_of how l r (λ i j. list_all (λ p. agrees nulls (field ls p i) (field rs p j)) (row_numbers (min (length ls) (length rs))))
 
-field_is : (cs : List Col) (p i : ℕ) → field_of cs p i ≡ field (table_of cs) p i
+pub field_is : (cs : List Col) (p i : ℕ) → field_of cs p i ≡ field (table_of cs) p i
 field_is cs p i = ap (λ (vs : List (List Datum)). get_or (get_or vs p []) i null) (sym (map-map (λ (c : TableColumn). c.values) plain cs))
 
 places_are : (ls rs : List Col) → length ls ≡ length rs → length ls ≡ min (length (table_of ls)) (length (table_of rs))

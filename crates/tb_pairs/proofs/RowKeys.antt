@@ -26,10 +26,10 @@ module _ (nulls : ℕ → Bool) (cs : List Col) where
   key_values : values (key_column cs nulls) ≡ map (key_at cs nulls) (row_numbers (row_count cs))
   key_values = append-nil (map (key_at cs nulls) (row_numbers (row_count cs)))
 
-  key_count : length (values (key_column cs nulls)) ≡ row_count cs
+  pub key_count : length (values (key_column cs nulls)) ≡ row_count cs
   key_count = ap (λ (vs : List Datum). length vs) key_values ∙ length-map (row_numbers (row_count cs)) (key_at cs nulls) ∙ length-range_with_len 0 (row_count cs)
 
-  key_is : (i : ℕ) → i < row_count cs → get_or (values (key_column cs nulls)) i null ≡ key_at cs nulls i
+  pub key_is : (i : ℕ) → i < row_count cs → get_or (values (key_column cs nulls)) i null ≡ key_at cs nulls i
   key_is i low = ap (λ (vs : List Datum). get_or vs i null) key_values ∙ get_or-map-range_with_len (key_at cs nulls) 0 (row_count cs) i i null low (zero-add i)
 
 -- where Nulls don't match among the keys, the listing of the key columns is that of the columns

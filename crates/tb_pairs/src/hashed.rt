@@ -1,13 +1,13 @@
 //! Pairs by hash tables.
 ghost use Rattle.std.specs.Prelude.{◌≡◌, true, IfOk, length};
-ghost use Rattle.tb_value.specs.Refusals.{Settles};
+ghost use Rattle.tb_value.specs.Refusals.{Settles, first_cause};
 ghost use Rattle.tb_value.specs.SameKind.{is_key};
 ghost use Rattle.tb_chunk.specs.Col.{values};
 ghost use Rattle.tb_chunk.specs.Lent.{lent_columns};
 ghost use Rattle.tb_frame.specs.Join.{listing};
-ghost use Rattle.tb_frame.specs.Refusal.{too_many_rows};
+ghost use Rattle.tb_frame.specs.Refusal.{row_causes};
 ghost use Rattle.tb_hash.specs.Hashing.{value_listing};
-ghost use Rattle.tb_hash.specs.Probing.{too_many};
+ghost use Rattle.tb_hash.specs.Twins.{value_causes};
 ghost use Rattle.tb_rowkey.specs.Columns.{AreShortRows};
 ghost use Rattle.tb_keys.specs.Asked.{asked};
 ghost use Rattle.tb_pairs.specs.Found.{IsFound};
@@ -31,17 +31,17 @@ fn hashed_pairs(
     how: JoinType,
     left: &Series,
     right: &Series,
+    validate: JoinValidation,
     join_nulls: bool,
     exec: &Exec,
 ) -> PolarsResult<FoundPairs>
     requires key { is_key left.now.kind ≡ true }
     requires same { left.now.kind ≡ right.now.kind }
-    ensures settles { Settles result (too_many (length (value_listing join_nulls how (values left.now) (values right.now)))) }
+    ensures settles { Settles result (first_cause (value_causes validate join_nulls how (values left.now) (values right.now))) }
     ensures found { IfOk result (IsFound (value_listing join_nulls how (values left.now) (values right.now))) }
 {
-    let many = JoinValidation::ManyToMany;
     let (probed, built) = hash_pairs(
-        rt, alloc, how, left, right, many, join_nulls, exec, &OpenGate,
+        rt, alloc, how, left, right, validate, join_nulls, exec, &OpenGate,
     )?;
     let order = probed_order(how, built.left_built());
     let pairs = probed.into_pairs();
@@ -57,13 +57,15 @@ pub(crate) fn pairs_by_key(
 ) -> PolarsResult<FoundPairs>
     requires one { length request.now.left_keys.now ≡ 1 }
     requires alike { AreAlike (lent_columns request.now.left_keys.now) (lent_columns request.now.right_keys.now) }
-    ensures settles { Settles result (too_many_rows (asked request.now)) }
+    ensures settles { Settles result (first_cause (row_causes (asked request.now))) }
     ensures found { IfOk result (IsFound (listing (asked request.now))) }
 {
     let left = request.left_keys[0];
     let right = request.right_keys[0];
+    let how = request.how;
+    let validate = request.args.validation;
     let join_nulls = request.args.join_nulls;
-    hashed_pairs(rt, alloc, request.how, left, right, join_nulls, exec)
+    hashed_pairs(rt, alloc, how, left, right, validate, join_nulls, exec)
 }
 
 /// The pairs of a request by the keys of its rows, which are short enough to have one. Where absent fields match,
@@ -77,12 +79,14 @@ pub(crate) fn pairs_by_row_key(
     requires alike { AreAlike (lent_columns request.now.left_keys.now) (lent_columns request.now.right_keys.now) }
     requires left_short { AreShortRows (lent_columns request.now.left_keys.now) }
     requires right_short { AreShortRows (lent_columns request.now.right_keys.now) }
-    ensures settles { Settles result (too_many_rows (asked request.now)) }
+    ensures settles { Settles result (first_cause (row_causes (asked request.now))) }
     ensures found { IfOk result (IsFound (listing (asked request.now))) }
 {
     know_columns(request.left_keys);
     know_columns(request.right_keys);
     let left = lent_keys(alloc, request.left_keys, request.args.join_nulls)?;
     let right = lent_keys(alloc, request.right_keys, request.args.join_nulls)?;
-    hashed_pairs(rt, alloc, request.how, &left, &right, false, exec)
+    let how = request.how;
+    let validate = request.args.validation;
+    hashed_pairs(rt, alloc, how, &left, &right, validate, false, exec)
 }

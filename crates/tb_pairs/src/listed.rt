@@ -2,10 +2,9 @@
 ghost use Rattle.std.specs.Prelude.{◌≡◌, ◌↔◌, IfOk, IsTrue};
 ghost use Rattle.tb_value.specs.Refusals.{Settles, first_cause};
 ghost use Rattle.tb_chunk.specs.Lent.{lent_columns};
-ghost use Rattle.tb_frame.specs.declared.args.JoinValidation.TheVariants.{ManyToMany};
 ghost use Rattle.tb_frame.specs.Answer.{IsListed};
 ghost use Rattle.tb_frame.specs.Join.{listing};
-ghost use Rattle.tb_frame.specs.Refusal.{row_causes, too_many_rows};
+ghost use Rattle.tb_frame.specs.Refusal.{row_causes};
 ghost use Rattle.tb_rowkey.specs.Columns.{AreShortRows};
 ghost use Rattle.tb_keys.specs.Asked.{asked};
 ghost use Rattle.tb_pairs.specs.Found.{IsFound};
@@ -17,16 +16,17 @@ use crate::hashed::{pairs_by_key, pairs_by_row_key};
 use std::alloc::Global;
 use std::thread::Threads;
 use tb_frame::Direction;
-use tb_keys::{LentRequest, check_size, list_pairs};
+use tb_keys::{LentRequest, check_sides, check_size, list_pairs};
 use tb_pool::Exec;
 use tb_rowkey::keys_fit;
 use tb_value::{JoinPair, PolarsResult};
 
 // The pairs of a request, whose fields are compared one by one.
 fn pairs_by_field(alloc: Global, request: &LentRequest<'_>) -> PolarsResult<FoundPairs>
-    ensures settles { Settles result (too_many_rows (asked request.now)) }
+    ensures settles { Settles result (first_cause (row_causes (asked request.now))) }
     ensures found { IfOk result (IsFound (listing (asked request.now))) }
 {
+    check_sides(request)?;
     let pairs = list_pairs(alloc, request)?;
     check_size(&pairs)?;
     let order = Direction::Free;
@@ -49,7 +49,7 @@ fn found_pairs(
     exec: &Exec,
 ) -> PolarsResult<FoundPairs>
     requires { AreAlike (lent_columns request.now.left_keys.now) (lent_columns request.now.right_keys.now) }
-    ensures settles { Settles result (too_many_rows (asked request.now)) }
+    ensures settles { Settles result (first_cause (row_causes (asked request.now))) }
     ensures found { IfOk result (IsFound (listing (asked request.now))) }
 {
     if request.left_keys.len() == 1 {
@@ -62,14 +62,15 @@ fn found_pairs(
 }
 
 /// The pairs of a request, in the order that is asked, and of them those that the slice keeps. There are as many keys
-/// on each side, one at least, of equal key types, and no validation is asked for so far.
+/// on each side, one at least, of equal key types.
 ///
 /// One key on each side is hashed as it is, and of several each row's key. Where a row of either side is too long for
 /// a key, which takes 2^32 bytes, each left row is compared with each right one, field by field.
 ///
 /// # Errors
 ///
-/// `TooManyRows` where there are more than `MAX_ROWS` pairs before they are cut, or `OutOfMemory`.
+/// `Validation` of a side that is asked to have each key once and has a key twice, the left one first; Semi and Anti
+/// look at neither. `TooManyRows` where there are more than `MAX_ROWS` pairs before they are cut, or `OutOfMemory`.
 pub fn listed_pairs(
     rt: &(impl Threads + Sync),
     alloc: Global,
@@ -77,7 +78,6 @@ pub fn listed_pairs(
     exec: &Exec,
 ) -> PolarsResult<Vec<JoinPair>>
     requires alike { AreAlike (lent_columns request.now.left_keys.now) (lent_columns request.now.right_keys.now) }
-    requires many { request.now.args.now.validation ≡ ManyToMany }
     ensures settles { Settles result (first_cause (row_causes (asked request.now))) }
     ensures listed { IfOk result (λ v. IsListed request.now.how request.now.args.now.maintain_order request.now.args.now.slice (listing (asked request.now)) v.items) }
 {

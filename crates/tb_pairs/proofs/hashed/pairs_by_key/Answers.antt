@@ -1,8 +1,9 @@
-use Rattle.std.proofs.Common.{List, length, subst, arith}
+use Rattle.std.proofs.Common.{Option, List, length, subst, arith}
 use Rattle.std.specs.Prelude.{IfOk}
 use Rattle.tb_value.specs.Refusals.{Settles}
 use Rattle.tb_value.specs.declared.index.JoinPair.{JoinPair}
-use Rattle.tb_hash.specs.Probing.{too_many}
+use Rattle.tb_value.specs.declared.error.PolarsError.{PolarsError}
+use Rattle.tb_pairs.proofs.Causes.{one_key_causes}
 use Rattle.tb_pairs.specs.Found.{IsFound}
 use Rattle.tb_pairs.proofs.Requested.{one_key_listing, one_key_types, one_right}
 use Rattle.tb_pairs.proofs.hashed.pairs_by_key.Goals as goal
@@ -18,8 +19,7 @@ hashed_pairs-requires-clause-same g c κs within = (one_key_types c.args.request
 
 pub returns-clause-settles : goal.returns-clause-settles
 returns-clause-settles g c =
-    let same = one_key_listing c.args.request.now c.requires.alike c.index-request-0.result c.index-request-0-2.result c.requires.one in
-    subst (λ (ps : List JoinPair). Settles c.hashed_pairs.result (too_many (length ps))) same c.hashed_pairs.ensures.settles
+    subst (λ (cause : Option PolarsError). Settles c.hashed_pairs.result cause) (one_key_causes c.args.request.now c.requires.alike c.index-request-0.result c.index-request-0-2.result c.requires.one) c.hashed_pairs.ensures.settles
 
 pub returns-clause-found : goal.returns-clause-found
 returns-clause-found g c =

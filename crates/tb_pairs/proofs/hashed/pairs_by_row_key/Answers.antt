@@ -1,4 +1,4 @@
-use Rattle.std.proofs.Common.{◌∙◌, List, length, ap, sym, subst}
+use Rattle.std.proofs.Common.{Option, ◌∙◌, List, length, ap, sym, subst}
 use Rattle.std.specs.Prelude.{IfOk}
 use Rattle.tb_value.specs.Refusals.{Settles}
 use Rattle.tb_value.specs.SameKind.{is_key}
@@ -6,7 +6,8 @@ use Rattle.tb_value.specs.declared.index.JoinPair.{JoinPair}
 use Rattle.tb_chunk.specs.Col.{Col}
 use Rattle.tb_chunk.specs.Lent.{lent_columns}
 use Rattle.tb_frame.specs.Table.{height, table_of}
-use Rattle.tb_hash.specs.Probing.{too_many}
+use Rattle.tb_value.specs.declared.error.PolarsError.{PolarsError}
+use Rattle.tb_pairs.proofs.Causes.{row_key_causes}
 use Rattle.tb_pairs.specs.Found.{IsFound}
 use Rattle.tb_pairs.proofs.Keys.{level, right_keys, some_right}
 use Rattle.tb_pairs.proofs.RowKeys.{row_key_listing}
@@ -34,8 +35,7 @@ hashed_pairs-requires-clause-same g c κs within = ap (λ (s : Col). s.kind) c.i
 pub returns-clause-settles : goal.returns-clause-settles
 returns-clause-settles g c =
     let r = c.args.request.now in
-    let same = row_key_listing r c.in_ok-left.left c.in_ok-right.right c.requires.alike c.know_columns.ensures c.know_columns-2.ensures c.in_ok-left.ensures c.in_ok-right.ensures in
-    subst (λ (ps : List JoinPair). Settles c.hashed_pairs.result (too_many (length ps))) same c.hashed_pairs.ensures.settles
+    subst (λ (cause : Option PolarsError). Settles c.hashed_pairs.result cause) (row_key_causes r c.requires.alike c.in_ok-left.left c.in_ok-right.right c.know_columns.ensures c.know_columns-2.ensures c.in_ok-left.ensures c.in_ok-right.ensures) c.hashed_pairs.ensures.settles
 
 pub returns-clause-found : goal.returns-clause-found
 returns-clause-found g c =
