@@ -1,7 +1,7 @@
 -- The columns over the listed pairs are those of the answer.
-use Rattle.std.proofs.Common.{◌≡◌, ◌≤◌, ◌<◌, ◌⊎◌, ℕ, Bool, true, false, cond, not, ◌||◌, List, [], ◌∷◌, ◌++◌, length, get_or, map, refl, ap, sym, ◌∙◌, subst, arith, Option, Some, None}
-use Rattle.std.specs.Prelude.{All, position, slice_get, unwrap_or}
-use Rattle.std.specs.List.{cons_option, filter_map, find}
+use Rattle.std.proofs.Common.{◌≡◌, ℕ, Bool, true, false, cond, not, ◌||◌, List, [], ◌∷◌, ◌++◌, get_or, map, refl, ap, sym, ◌∙◌, subst, arith, Option, Some, None}
+use Rattle.std.specs.Prelude.{All, position, slice_get}
+use Rattle.std.specs.List.{cons_option, find}
 use Rattle.std.specs.Option.{ForSome, option_and_then, option_map}
 use Rattle.std.proofs.lemmas.List.{length-map}
 use Rattle.std.proofs.lemmas.Option.{slice_get-map}
@@ -9,12 +9,12 @@ use Rattle.std.proofs.lemmas.List.Elements.{All-map}
 use Rattle.tb_value.specs.Names.{Name, same_name}
 use Rattle.tb_value.specs.declared.index.JoinPair.{JoinPair}
 use Rattle.tb_value.proofs.Loops.{map-map}
-use Rattle.tb_chunk.specs.Col.{Col, values}
+use Rattle.tb_chunk.specs.Col.{Col}
 use Rattle.tb_frame.specs.declared.args.JoinType.{JoinType}
 use Rattle.tb_frame.specs.declared.args.JoinType.TheVariants.{Inner, Left, Right, Full, Semi, Anti}
 use Rattle.tb_frame.specs.Answer.{fill}
 use Rattle.tb_frame.specs.Frame.{opt_taken, selected, without_names}
-use Rattle.tb_frame.specs.Join.{MergesAlike, Request, named, out, partner}
+use Rattle.tb_frame.specs.Join.{Request, named, out, partner}
 use Rattle.tb_frame.specs.Naming.{coalesces, drops_left_keys, drops_right_keys, has_right, is_among, merges_keys}
 use Rattle.tb_frame.specs.Refusal.{first_unknown}
 use Rattle.tb_frame.specs.RightColumns.{gone_left, gone_right, right_column, right_columns, right_side}

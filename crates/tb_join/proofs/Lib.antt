@@ -4,5 +4,5 @@ pub mod KeptColumns
 pub mod AnswerMade
 pub mod EachOnce
 pub mod NamedKeys
-pub mod Cleared
 pub mod NamesStand
+pub mod Beside

@@ -1,14 +1,11 @@
 -- What a request has whose names are not refused.
-use Rattle.std.proofs.Common.{◌≡◌, ◌==◌, ◌<◌, ◌≤◌, ◌++◌, Bool, true, List, [], ◌∷◌, length, get_or, map, min, ap, sym, ◌∙◌, subst, arith, Option, Some, None}
-use Rattle.std.specs.Prelude.{All, AllPairs, ◌≢◌, not}
+use Rattle.std.proofs.Common.{◌≡◌, ◌==◌, ◌<◌, ◌++◌, List, [], length, get_or, min, ap, sym, ◌∙◌, subst, arith, Option, Some, None}
+use Rattle.std.specs.Prelude.{All, not}
 use Rattle.std.specs.List.{filter_map, find}
 use Rattle.std.specs.Option.{ForSome, option_map}
 use Rattle.std.proofs.lemmas.Bool.{eqb-true}
-use Rattle.std.proofs.lemmas.List.{length-map}
 use Rattle.std.proofs.lemmas.List.Elements.{All-map}
-use Rattle.tb_value.specs.Names.{Name}
 use Rattle.tb_value.specs.Pairs.{row_numbers}
-use Rattle.tb_value.specs.Refusals.{first_cause}
 use Rattle.tb_value.specs.SameKind.{same_kind}
 use Rattle.tb_value.specs.declared.error.ComputeCause.TheVariants.{KeyTypes}
 use Rattle.tb_value.specs.declared.error.InvalidCause.TheVariants.{NoKeys, KeyCounts}
@@ -16,10 +13,10 @@ use Rattle.tb_value.specs.declared.error.PolarsError.{PolarsError}
 use Rattle.tb_value.specs.declared.error.PolarsError.TheVariants.{ColumnNotFound, ComputeError, InvalidOperation}
 use Rattle.tb_chunk.specs.Col.{Col}
 use Rattle.tb_frame.specs.Frame.{selected}
-use Rattle.tb_frame.specs.Join.{MergesAlike, Request, named, out, partner, places}
+use Rattle.tb_frame.specs.Join.{Request, named, out, partner, places}
 use Rattle.tb_frame.specs.Naming.{coalesces, merges_keys}
 use Rattle.tb_frame.specs.Refusal.{first_unknown, key_types, kind_at, list_causes, name_causes}
-use Rattle.tb_frame.specs.Table.{IsTable, Table, TableColumn, names_of, plain, table_of}
+use Rattle.tb_frame.specs.Table.{IsTable, Table, TableColumn, plain, table_of}
 use Rattle.tb_frame.proofs.Causes.{has_column, map_none, no_cause, some_keys, some_right_keys}
 use Rattle.tb_frame.proofs.Frames.{when_not}
 use Rattle.tb_frame.proofs.Outs.{out_wide}

@@ -3,5 +3,3 @@ pub mod Laws
 pub mod Rows
 pub mod AnswerColumns
 pub mod Ready
-pub mod Given
-pub mod Series

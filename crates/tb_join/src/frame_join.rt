@@ -2,24 +2,21 @@
 ghost use Rattle.std.specs.Prelude.{◌≡◌, ◌<◌, IfOk, None, length};
 ghost use Rattle.tb_value.specs.Refusals.{Settles};
 ghost use Rattle.tb_frame.specs.Answer.{IsListed};
-ghost use Rattle.tb_frame.specs.Join.{IsAnswer, MergesAlike, lent_request, listing, out};
-ghost use Rattle.tb_frame.specs.Refusal.{given_refusal, join_refusal, key_types};
+ghost use Rattle.tb_frame.specs.Join.{IsAnswer, lent_request, listing, out};
+ghost use Rattle.tb_frame.specs.Refusal.{join_refusal, key_types};
 ghost use Rattle.tb_frame.specs.Table.{table_of};
 ghost use Rattle.tb_keys.specs.Asked.{asked, asked_by_names};
 ghost use Rattle.tb_keys.specs.Causes.{later_refusal};
 ghost use Rattle.tb_join.specs.Asked.{plainly};
-ghost use Rattle.tb_join.specs.Given.{by_columns};
 ghost use Rattle.tb_join.specs.Ready.{CanMerge};
 
 use crate::general::finish_join;
-use crate::given::join_given;
 use std::alloc::Global;
 use std::thread::Threads;
 use tb_frame::{DataFrame, IntoDf, JoinArgs, JoinType};
 use tb_keys::{LentRequest, NamedRequest, check_columns};
 use tb_pairs::listed_pairs;
 use tb_pool::Exec;
-use tb_store::Series;
 use tb_value::{JoinPair, PlSmallStr, PolarsResult};
 
 /// Joins of the table that `self` lends with another.
@@ -63,43 +60,6 @@ pub trait DataFrameJoinOps: IntoDf {
             args: &args,
         };
         join_tables(rt, alloc, &request, exec)
-    }
-
-    /// The join by these key columns, each under the name of a column of its table. A key of one value beside a table
-    /// without rows stands for one without values. Where a Full join coalesces its keys, it merges the tables' columns of
-    /// the keys' names, which must have one type at each place.
-    ///
-    /// # Errors
-    ///
-    /// The first of these that holds, or OutOfMemory:
-    /// 1. ColumnNotFound: the name of a left key is no column of the left table, and then that of a right one of the right;
-    /// 2. ShapeMismatch: a key is not as long as its table is high, and has not one value beside a table without rows;
-    /// 3. NoKeys, and all that follow it, as those of `join`.
-    final fn _join_impl(
-        &self,
-        rt: &(impl Threads + Sync),
-        alloc: Global,
-        other: &DataFrame,
-        selected_left: Vec<Series>,
-        selected_right: Vec<Series>,
-        args: JoinArgs,
-        exec: &Exec,
-    ) -> PolarsResult<DataFrame>
-        requires { MergesAlike (by_columns (table_of (Self.frame self.now)) (table_of other.now) (table_of selected_left.items) (table_of selected_right.items) args) }
-        ensures settles { Settles result (given_refusal (by_columns (table_of (Self.frame self.now)) (table_of other.now) (table_of selected_left.items) (table_of selected_right.items) args)) }
-        ensures answer { IfOk result (λ t. IsAnswer (by_columns (table_of (Self.frame self.now)) (table_of other.now) (table_of selected_left.items) (table_of selected_right.items) args) (table_of t)) }
-    {
-        let left = self.to_df();
-        join_given(
-            rt,
-            alloc,
-            left,
-            other,
-            selected_left,
-            selected_right,
-            &args,
-            exec,
-        )
     }
 
     /// The Inner join by these keys, with nothing else asked: `join` with `JoinArgs::new`.
@@ -185,7 +145,7 @@ fn checked_pairs(
 }
 
 /// The join of a request whose keys stand in columns of their names.
-pub(crate) fn join_columns(
+pub fn join_columns(
     rt: &(impl Threads + Sync),
     alloc: Global,
     request: &LentRequest<'_>,

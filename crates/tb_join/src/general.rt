@@ -24,7 +24,7 @@ use tb_value::{JoinPair, MAX_ROWS, NullableIdxSize, OutOfMemory, PlSmallStr, Pol
 
 /// The columns of a table over these rows, but for those of the names that go, which are left out before the rest is
 /// gathered.
-pub(crate) fn kept_table(
+pub fn kept_table(
     rt: &(impl Threads + Sync),
     alloc: Global,
     table: &DataFrame,
@@ -104,7 +104,7 @@ fn answer_columns(
 }
 
 /// The table of the columns over the pairs of a request. Only memory may be wanting.
-pub(crate) fn finish_join(
+pub fn finish_join(
     rt: &(impl Threads + Sync),
     alloc: Global,
     request: &LentRequest<'_>,

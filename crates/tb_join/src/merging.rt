@@ -6,7 +6,7 @@ ghost use Rattle.tb_value.specs.Refusals.{Settles};
 ghost use Rattle.tb_chunk.specs.Col.{Col, values};
 ghost use Rattle.tb_chunk.specs.Lent.{lent_columns};
 ghost use Rattle.tb_frame.specs.Answer.{IsPairOf, fill};
-ghost use Rattle.tb_frame.specs.Frame.{selected, without_names};
+ghost use Rattle.tb_frame.specs.Frame.{selected};
 ghost use Rattle.tb_frame.specs.Join.{out};
 ghost use Rattle.tb_frame.specs.NamedColumns.{column_by};
 ghost use Rattle.tb_frame.specs.Naming.{coalesces, merges_keys};
@@ -14,13 +14,13 @@ ghost use Rattle.tb_frame.specs.Refusal.{unknown_key};
 ghost use Rattle.tb_frame.specs.Table.{height, table_of};
 ghost use Rattle.tb_keys.specs.Asked.{asked};
 ghost use Rattle.tb_keys.specs.Merging.{key_beside};
-ghost use Rattle.tb_join.specs.AnswerColumns.{Fits, filled_up};
+ghost use Rattle.tb_join.specs.AnswerColumns.{Fits, filled_up, merged_part};
 ghost use Rattle.tb_join.specs.Ready.{CanMerge};
 
 use crate::names::side_by_side;
 use std::alloc::Global;
 use std::thread::Threads;
-use tb_frame::{NamedColumns, left_rows, lend_columns, name_set, right_rows, suffix_of};
+use tb_frame::{NamedColumns, left_rows, lend_columns, right_rows, suffix_of};
 use tb_gather::gather_rows;
 use tb_keys::LentRequest;
 use tb_store::{Column, Series};
@@ -43,12 +43,12 @@ fn columns_beside<'a>(
 }
 
 // A column, with the values of another where it has none.
-fn filled_up(alloc: Global, column: Column, other: Option<&Series>) -> Result<Column, OutOfMemory>
-    requires { ForSome (option_copied other) (Fits column) }
-    ensures { IfOk result (λ c. c ≡ filled_up (option_copied other.entry) column) }
+fn filled_up(alloc: Global, column: &Column, other: Option<&Series>) -> Result<Column, OutOfMemory>
+    requires { ForSome (option_copied other) (Fits column.now) }
+    ensures { IfOk result (λ c. c ≡ filled_up (option_copied other.entry) column.now) }
 {
     match other {
-        None => Ok(column),
+        None => column.copy(alloc),
         Some(other) => {
             let merged = column.as_materialized_series().merged(alloc, other)?;
             Ok(merged.into_column())
@@ -56,14 +56,14 @@ fn filled_up(alloc: Global, column: Column, other: Option<&Series>) -> Result<Co
     }
 }
 
-/// Each column, with the values of the one that is under its name where it has none.
+// Each column, with the values of the one that is under its name where it has none.
 fn all_filled_up(
     alloc: Global,
-    columns: Vec<Column>,
+    columns: &[Column],
     others: &NamedColumns<'_>,
 ) -> Result<Vec<Column>, OutOfMemory>
-    requires { All (λ (c : Col). ForSome (column_by others.now c.name) (Fits c)) columns.items }
-    ensures { IfOk result (λ v. v.items ≡ map (λ (c : Col). filled_up (column_by others.now c.name) c) columns.items) }
+    requires { All (λ (c : Col). ForSome (column_by others.now c.name) (Fits c)) columns.now }
+    ensures { IfOk result (λ v. v.items ≡ map (λ (c : Col). filled_up (column_by others.now c.name) c) columns.now) }
 {
     let mut filled = Vec::with_capacity(alloc, columns.len())?;
     for column in columns {
@@ -75,40 +75,22 @@ fn all_filled_up(
 
 /// The left columns, those of the names on the left with the values of the right column at the same place where they
 /// have none. All right names are those of columns.
-pub(crate) fn merged_left(
+pub fn merged_left(
     alloc: Global,
-    left: Vec<Column>,
+    left: &[Column],
     right: &[Column],
     left_on: &[PlSmallStr],
     right_on: &[PlSmallStr],
 ) -> PolarsResult<Vec<Column>>
     requires known { unknown_key (table_of right.now) right_on.now ≡ None }
-    requires many { length left_on.now ≤ length right_on.now }
-    requires fit { All (λ (c : Col). ForSome (key_beside left_on.now (selected right_on.now right.now) c.name) (Fits c)) left.items }
+    requires many { length left_on.now ≤ length (selected right_on.now right.now) }
+    requires fit { All (λ (c : Col). ForSome (key_beside left_on.now (selected right_on.now right.now) c.name) (Fits c)) left.now }
     ensures settles { Settles result None }
-    ensures columns { IfOk result (λ v. v.items ≡ map (λ (c : Col). filled_up (key_beside left_on.now (selected right_on.now right.now) c.name) c) left.items) }
+    ensures columns { IfOk result (λ v. v.items ≡ merged_part left_on.now (selected right_on.now right.now) left.now) }
 {
     let keys = lend_columns(alloc, right, right_on)?;
     let beside = columns_beside(alloc, left_on, &keys)?;
     Ok(all_filled_up(alloc, left, &beside)?)
-}
-
-/// The columns whose names are not among these, handed over.
-pub(crate) fn other_columns(
-    alloc: Global,
-    columns: Vec<Column>,
-    names: &[PlSmallStr],
-) -> Result<Vec<Column>, OutOfMemory>
-    ensures { IfOk result (λ v. v.items ≡ without_names names.now columns.items) }
-{
-    let gone = name_set(alloc, names)?;
-    let mut others = Vec::new(alloc);
-    for column in columns {
-        if !gone.contains(column.name()) {
-            others.push(column)?;
-        }
-    }
-    Ok(others)
 }
 
 /// The columns of the answer over the pairs, where the right keys are merged into the left ones. Only memory may be
@@ -127,10 +109,16 @@ pub(crate) fn merged_columns(
     ensures columns { IfOk result (λ v. table_of v.items ≡ map (fill pairs.now) (out (asked request.now))) }
 {
     let rows = left_rows(alloc, pairs)?;
-    let left = gather_rows(rt, alloc, request.left, &rows)?.into_columns();
+    let left = gather_rows(rt, alloc, request.left, &rows)?;
     let rows = right_rows(alloc, pairs)?;
-    let right = gather_rows(rt, alloc, request.right, &rows)?.into_columns();
-    let left = merged_left(alloc, left, &right, request.left_on, request.right_on)?;
-    let right = other_columns(alloc, right, request.right_on)?;
-    Ok(side_by_side(alloc, left, right, suffix_of(request.args))?)
+    let right = gather_rows(rt, alloc, request.right, &rows)?;
+    let columns = merged_left(
+        alloc,
+        left.get_columns(),
+        right.get_columns(),
+        request.left_on,
+        request.right_on,
+    )?;
+    let rest = right.drop_many(alloc, request.right_on)?.into_columns();
+    Ok(side_by_side(alloc, columns, rest, suffix_of(request.args))?)
 }

@@ -28,7 +28,7 @@ fn named_right(
 }
 
 /// The left columns, and then the right ones, whose names the suffix follows where a left column has them.
-pub(crate) fn side_by_side(
+pub fn side_by_side(
     alloc: Global,
     left: Vec<Column>,
     right: Vec<Column>,

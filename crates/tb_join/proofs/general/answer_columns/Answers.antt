@@ -4,8 +4,8 @@ use Rattle.tb_keys.specs.Asked.{asked}
 use Rattle.tb_join.proofs.AnswerMade.{columns-are}
 use Rattle.tb_join.proofs.general.answer_columns.Goals as goal
 
-pub returns-else-merges_keys-clause-columns : goal.returns-else-merges_keys-clause-columns
-returns-else-merges_keys-clause-columns g c =
+pub returns-in_ok-plain_columns-clause-columns : goal.returns-in_ok-plain_columns-clause-columns
+returns-in_ok-plain_columns-clause-columns g c =
     let r = c.args.request.now in
     ap table_of c.in_ok-plain_columns.ensures
     ∙ columns-are (asked r) r.left.now r.right.now c.args.pairs.now (sym c.merges_keys.ensures ∙ c.if-merges_keys.false) (λ _. table_of r.left.now) (λ _. table_of r.right.now)

@@ -7,11 +7,10 @@ use Rattle.tb_frame.specs.Frame.{opt_taken, without_names}
 use Rattle.tb_frame.specs.RightColumns.{right_side}
 use Rattle.tb_frame.specs.Table.{table_of, height}
 use Rattle.tb_frame.proofs.Filled.{right_within}
-use Rattle.std.proofs.lemmas.Result.{IfOk-weaker}
 use Rattle.tb_join.proofs.general.right_columns.Goals as goal
 
-pub kept_columns-requires-clause-rows : goal.kept_columns-requires-clause-rows
-kept_columns-requires-clause-rows g c κs within =
+pub kept_table-requires-clause-rows : goal.kept_table-requires-clause-rows
+kept_table-requires-clause-rows g c κs within =
     let r = height (table_of c.args.request.now.right.now) in
     subst (λ (rows : List (Option ℕ)). All (IsRowOf r) rows) (sym (c.deref.ensures.value ∙ c.in_ok-rows.ensures)) (right_within r c.args.pairs.now c.requires.pairs)
 
@@ -22,4 +21,4 @@ returns g c =
     let rows : c.deref.result.now ≡ map (λ (p : JoinPair). p.right) c.args.pairs.now = c.deref.ensures.value ∙ c.in_ok-rows.ensures in
     let some : has_right request.how ≡ true = sym c.has_right.ensures ∙ c.if-not-has_right.false in
     let side : right ≡ right_side request.how right = sym (ap (λ (b : Bool). cond b right []) some) in
-    IfOk-weaker c.kept_columns.result _ _ (λ v h. h ∙ (λ t. map (opt_taken (rows t)) (without_names (c.gone_right-gone.ensures t) (side t)))) c.kept_columns.ensures
+    c.into_columns.ensures ∙ c.in_ok-kept_table.ensures ∙ (λ t. map (opt_taken (rows t)) (without_names (c.gone_right-gone.ensures t) (side t)))

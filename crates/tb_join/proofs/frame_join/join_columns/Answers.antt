@@ -1,0 +1,40 @@
+use Rattle.std.proofs.Common.{◌≡◌, ◌++◌, List, Option, None, length, inl, sym, subst, arith}
+use Rattle.std.specs.Prelude.{All}
+use Rattle.tb_value.specs.declared.error.ComputeCause.TheVariants.{TooManyRows}
+use Rattle.tb_value.specs.declared.error.PolarsError.{PolarsError}
+use Rattle.tb_value.specs.declared.error.PolarsError.TheVariants.{ComputeError}
+use Rattle.tb_value.specs.declared.index.JoinPair.{JoinPair}
+use Rattle.tb_value.specs.declared.limits.TheConstants.{MAX_ROWS}
+use Rattle.tb_frame.specs.Answer.{IsListed}
+use Rattle.tb_frame.specs.Join.{Request, listing}
+use Rattle.tb_frame.specs.Refusal.{column_causes, row_causes}
+use Rattle.tb_frame.proofs.Causes.{no_cause, when_not_above}
+use Rattle.tb_keys.specs.Asked.{asked}
+use Rattle.tb_keys.specs.Causes.{later_refusal}
+use Rattle.tb_join.proofs.Finishing.{settled}
+use Rattle.tb_join.proofs.frame_join.join_columns.Goals as goal
+
+each : (q : Request) → later_refusal q ≡ None → All (λ (o : Option PolarsError). o ≡ None) (column_causes q ++ row_causes q)
+each q h = no_cause (column_causes q ++ row_causes q) h
+
+pub finish_join-requires-clause-named : goal.finish_join-requires-clause-named
+finish_join-requires-clause-named g c κs within = each (asked c.args.request.now) c.in_ok-pairs.ensures.settles 2 None (omega arith)
+
+pub finish_join-requires-clause-few : goal.finish_join-requires-clause-few
+finish_join-requires-clause-few g c κs within =
+    let q = asked c.args.request.now in
+    when_not_above MAX_ROWS (length (listing q)) (ComputeError TooManyRows) (each q c.in_ok-pairs.ensures.settles 5 None (omega arith))
+
+pub finish_join-requires-clause-merge : goal.finish_join-requires-clause-merge
+finish_join-requires-clause-merge g c κs within = c.requires.merge (each (asked c.args.request.now) c.in_ok-pairs.ensures.settles 0 None (omega arith))
+
+pub finish_join-requires-clause-some : goal.finish_join-requires-clause-some
+finish_join-requires-clause-some g c κs within = inl c.requires.wide
+
+pub finish_join-requires-clause-listed : goal.finish_join-requires-clause-listed
+finish_join-requires-clause-listed g c κs within =
+    let r = c.args.request.now in
+    subst (λ (ps : List JoinPair). IsListed r.how r.args.now.maintain_order r.args.now.slice (listing (asked r)) ps) (sym c.deref.ensures.value) c.in_ok-pairs.ensures.listed
+
+pub returns-clause-settles : goal.returns-clause-settles
+returns-clause-settles g c = settled c.finish_join.result None _ (sym c.in_ok-pairs.ensures.settles) c.finish_join.ensures.settles
