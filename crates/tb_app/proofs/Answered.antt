@@ -1,12 +1,11 @@
 -- What is due for a request, by what its operation answers.
-use Rattle.std.proofs.Common.{◌≡◌, ◌⊎◌, ◌<◌, ◌^◌, ℕ, List, length, Option, None, Some, Result, Ok, Err, IfOk, MatchOption, refl, sym, ap, subst}
+use Rattle.std.proofs.Common.{◌≡◌, ◌<◌, ◌^◌, ℕ, List, length, Option, Result, Ok, Err, IfOk, MatchOption, refl, sym, ap, subst}
 use mathlib.Core.Logic.{inl, inr}
 use Rattle.std.specs.List.{All}
 use Rattle.std.proofs.lemmas.List.Elements.{All-map}
 use Rattle.tb_value.specs.Names.{Name}
 use Rattle.tb_value.specs.Refusals.{Settles}
 use Rattle.tb_value.specs.declared.error.PolarsError.{PolarsError}
-use Rattle.tb_value.specs.declared.error.PolarsError.TheVariants.{OutOfMemory}
 use Rattle.tb_chunk.specs.Col.{Col}
 use Rattle.tb_frame.specs.Join.{IsAnswer, lent_request}
 use Rattle.tb_frame.specs.Refusal.{join_refusal}
@@ -19,7 +18,7 @@ use Rattle.tb_request.specs.Reading.{JoinRequest, UnpivotRequest, FaultIs}
 use Rattle.tb_unpivot.specs.Unpivot.{HasShortNames, unpivot_refusal, unpivot_table}
 use Rattle.tb_app.specs.declared.status.Status.{Status}
 use Rattle.tb_app.specs.declared.status.Status.TheVariants as status
-use Rattle.tb_app.specs.Due.{DueOfReading, DueOfRequest, IsOutcome, IsRefusal}
+use Rattle.tb_app.specs.Due.{DueOfReading, DueOfRequest, IsOutcome}
 use Rattle.tb_app.specs.Requests.{Request, as_request, asked_long, join, unpivot, refusal_of, IsAnswerText, text_of_refusal}
 
 -- ---- no request

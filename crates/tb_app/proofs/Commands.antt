@@ -1,7 +1,7 @@
 -- What `done` says of each word, in the words of its command.
-use Rattle.std.proofs.Common.{◌≡◌, ℕ, List, Option, Result, Ok, Err, None, refl, sym, subst}
+use Rattle.std.proofs.Common.{◌≡◌, ℕ, List, Option, Result, Ok, Err, None, refl, subst}
 use Rattle.tb_request.specs.declared.request.Reason.{Reason}
-use Rattle.tb_request.specs.Reading.{JoinRequest, UnpivotRequest, join_request_of, unpivot_request_of}
+use Rattle.tb_request.specs.Reading.{join_request_of, unpivot_request_of}
 use Rattle.tb_app.specs.declared.words.Command.TheVariants.{Join, Unpivot}
 use Rattle.tb_app.specs.Due.{DoneFor}
 use Rattle.tb_app.specs.Headline.{JoinDone, UnpivotDone}
