@@ -2,7 +2,6 @@ pub mod Table
 pub mod Naming
 pub mod Join
 pub mod Refusal
-pub mod Built
 pub mod Frame
 pub mod NameSets
 pub mod NamedColumns

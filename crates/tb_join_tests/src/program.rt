@@ -50,8 +50,7 @@ fn by_join(
     rt: &(impl Threads + Sync),
     alloc: Global,
     request: JoinRequest,
-) -> PolarsResult<DataFrame>
-{
+) -> PolarsResult<DataFrame> {
     let JoinRequest {
         left,
         right,
