@@ -15,6 +15,8 @@ mod reading;
 mod running;
 mod status;
 mod std_ends;
+#[cfg(test)]
+mod tests;
 mod words;
 mod writing;
 
