@@ -1,0 +1,5 @@
+pub mod Outcomes
+pub mod Picked
+pub mod Ranges
+pub mod Steps
+pub mod Totals

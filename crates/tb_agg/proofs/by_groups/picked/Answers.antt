@@ -1,0 +1,26 @@
+use Rattle.std.proofs.Common.{◌≡◌, ◌∙◌, ◌∷◌, [], IfOk, length, List, map, arith, ap, subst}
+use Rattle.std.proofs.lemmas.List.FromFn.{length-map-range_with_len}
+use Rattle.tb_value.specs.Datum.{Datum}
+use Rattle.tb_value.specs.Pairs.{row_numbers}
+use Rattle.tb_chunk.specs.Col.{Col, values}
+use Rattle.tb_chunk.specs.Rows.{value_or_null}
+use Rattle.tb_agg.specs.Grouped.{rows_of}
+use Rattle.tb_agg.specs.Picking.{picked_row}
+use Rattle.tb_value.specs.declared.sorted.IsSorted.TheVariants.{Not}
+use Rattle.tb_agg.proofs.Picked.{all_picked}
+use Rattle.tb_agg.proofs.by_groups.picked.Goals as goal
+
+pub take_opt-requires-clause-few : goal.take_opt-requires-clause-few
+take_opt-requires-clause-few c =
+    let vs = values c.args.column.now in
+    let long = ap length (c.deref.ensures.value ∙ c.in_ok-rows.ensures.picked) ∙ length-map-range_with_len (λ k. picked_row c.args.pick vs (rows_of c.args.groups.now.numbers.items (length vs) k)) 0 (length c.args.groups.now.firsts.items) in
+    omega (arith, long, c.requires.few)
+
+pub returns : goal.returns
+returns c =
+    let vs = values c.args.column.now in
+    let column = c.args.column.now in
+    subst (λ (l : List Datum). IfOk c.take_opt.result (λ (s : Col). s ≡ record { name = column.name; kind = column.kind; chunks = l ∷ []; flag = Not }))
+    (ap (map (value_or_null vs)) (c.deref.ensures.value ∙ c.in_ok-rows.ensures.picked)
+    ∙ all_picked vs c.args.pick (rows_of c.args.groups.now.numbers.items (length vs)) (row_numbers (length c.args.groups.now.firsts.items)))
+    c.take_opt.ensures

@@ -1,0 +1,14 @@
+use Rattle.std.proofs.Common.{◌≡◌, ℕ, Option, length, map}
+use Rattle.std.specs.List.{All}
+use Rattle.tb_value.specs.Pairs.{row_numbers}
+use Rattle.tb_chunk.specs.Col.{values}
+use Rattle.tb_chunk.specs.Rows.{IsRowOf}
+use Rattle.tb_agg.specs.Grouped.{rows_of}
+use Rattle.tb_agg.specs.Picking.{picked_row}
+use Rattle.tb_agg.proofs.picks.picked_rows.Given as goal
+
+abbrev pub invariant-loop-row : goal.invariant-loop-row
+invariant-loop-row l = record {
+  picked : map (λ (o : Option ℕ). o) l.picked.items ≡ map (λ k. picked_row l.pick (values l.column) (rows_of l.groups.numbers.items l.row k)) (row_numbers (length l.groups.firsts.items));
+  within : All (IsRowOf (length (values l.column))) l.picked.items;
+}

@@ -1,0 +1,5 @@
+pub mod Aggregates
+pub mod Grouped
+pub mod Outcome
+pub mod Picking
+pub mod Running

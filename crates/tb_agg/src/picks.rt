@@ -1,0 +1,112 @@
+//! The rows whose values stand for groups.
+ghost use Rattle.std.specs.Prelude.{◌≡◌, ◌<◌, IfOk, length, map};
+ghost use Rattle.std.specs.List.{All};
+ghost use Rattle.tb_value.specs.Pairs.{row_numbers};
+ghost use Rattle.tb_value.specs.See.{lent};
+ghost use Rattle.tb_chunk.specs.Col.{values};
+ghost use Rattle.tb_chunk.specs.Order.{order_of};
+ghost use Rattle.tb_chunk.specs.Rows.{value_or_null, IsRowOf};
+ghost use Rattle.tb_agg.specs.Aggregates.{beats};
+ghost use Rattle.tb_agg.specs.Grouped.{rows_of, AreGroupsOf};
+ghost use Rattle.tb_agg.specs.Picking.{next_pick, picked_row, replaces};
+
+use std::alloc::Global;
+use std::cmp::Ordering;
+use tb_rows::Groups;
+use tb_store::Series;
+use tb_value::{IdxSize, NullableIdxSize, OutOfMemory, ValueRef};
+
+/// Which row of a group stands for it.
+#[derive(Clone, Copy)]
+pub(crate) enum Pick {
+    FirstRow,
+    LastRow,
+    LeastValue,
+    GreatestValue,
+}
+
+// How two values of a key type compare, where values are to descend or to ascend.
+fn compare_in(first: ValueRef<'_>, second: ValueRef<'_>, descending: bool) -> Ordering
+    ensures { result ≡ order_of descending (lent first.entry) (lent second.entry) }
+{
+    let (first, second) = if descending {
+        (second, first)
+    } else {
+        (first, second)
+    };
+    match (first, second) {
+        (ValueRef::Boolean(a), ValueRef::Boolean(b)) => a.cmp(&b),
+        (ValueRef::Int(a), ValueRef::Int(b)) => a.cmp(&b),
+        (ValueRef::String(a), ValueRef::String(b)) => a.cmp(b),
+        (ValueRef::Binary(a), ValueRef::Binary(b)) => a.cmp(b),
+        _ => Ordering::Equal,
+    }
+}
+
+fn beats(best: ValueRef<'_>, value: ValueRef<'_>, greatest: bool) -> bool
+    ensures { result ≡ beats greatest (lent best.entry) (lent value.entry) }
+{
+    match (best, value) {
+        (_, ValueRef::Null) => false,
+        (ValueRef::Null, _) => true,
+        _ => compare_in(value, best, greatest).is_lt(),
+    }
+}
+
+// The value of a row, and Null of none.
+fn value_or_null(column: &Series, row: NullableIdxSize) -> ValueRef<'_>
+    requires { IsRowOf (length (values column.now)) row }
+    ensures { lent result ≡ value_or_null (values column.now) row }
+{
+    match row.row() {
+        Some(row) => column.get(row as usize),
+        None => ValueRef::Null,
+    }
+}
+
+fn replaces(pick: Pick, column: &Series, best: NullableIdxSize, row: IdxSize) -> bool
+    requires best { IsRowOf (length (values column.now)) best }
+    requires row { row < length (values column.now) }
+    ensures { result ≡ replaces pick (values column.now) best row }
+{
+    match pick {
+        Pick::FirstRow => best.is_null_idx(),
+        Pick::LastRow => true,
+        Pick::LeastValue => beats(value_or_null(column, best), column.get(row as usize), false),
+        Pick::GreatestValue => beats(value_or_null(column, best), column.get(row as usize), true),
+    }
+}
+
+fn next_pick(pick: Pick, column: &Series, best: NullableIdxSize, row: IdxSize) -> NullableIdxSize
+    requires best { IsRowOf (length (values column.now)) best }
+    requires row { row < length (values column.now) }
+    ensures next { result ≡ next_pick pick (values column.now) best row }
+    ensures within { IsRowOf (length (values column.now)) result }
+{
+    let _len = column.len();
+    if replaces(pick, column, best, row) {
+        NullableIdxSize::some(row)
+    } else {
+        best
+    }
+}
+
+// For each group the row that stands for it.
+pub(crate) fn picked_rows(
+    alloc: Global,
+    column: &Series,
+    groups: &Groups,
+    pick: Pick,
+) -> Result<Vec<NullableIdxSize>, OutOfMemory>
+    requires { AreGroupsOf (length (values column.now)) groups.now }
+    ensures picked { IfOk result (λ v. v.items ≡ map (λ k. picked_row pick (values column.now) (rows_of groups.now.numbers.items (length (values column.now)) k)) (row_numbers (length groups.now.firsts.items))) }
+    ensures within { IfOk result (λ v. All (IsRowOf (length (values column.now))) v.items) }
+{
+    let rows = column.len();
+    let mut picked = vec![in alloc; NullableIdxSize::null(); groups.firsts().len()]?;
+    for row in 0..rows {
+        let place = groups.numbers()[row] as usize;
+        picked[place] = next_pick(pick, column, picked[place], row as IdxSize);
+    }
+    Ok(picked)
+}
