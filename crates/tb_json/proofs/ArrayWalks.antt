@@ -1,8 +1,7 @@
 -- Columns of nulls alone.
 use Rattle.std.proofs.Common.{◌≡◌, ℕ, ℤ, zero, suc, List, [], ◌∷◌, length, map, replicate, Bool, true, false, cond, ◌&&◌, Option, Some, None, option_map, option_and_then, refl, sym, ap, ◌∙◌, arith}
 use Rattle.std.specs.Prelude.{is_some}
-use Rattle.std.specs.List.{All, list_all}
-use Rattle.std.proofs.lemmas.List.Elements.{All-cons, All-append}
+use Rattle.std.specs.List.{list_all}
 use Rattle.serde_json.specs.Data.{Data, null, boolean, number, string, array, object}
 use Rattle.serde_json.specs.Find.{as_null, as_integer}
 use Rattle.serde_json.specs.View.{view}
@@ -10,14 +9,8 @@ use Rattle.serde_json.specs.declared.value.Value.{Value}
 use Rattle.tb_value.specs.Datum as value
 use Rattle.tb_value.specs.Datum.{Datum}
 use Rattle.tb_value.specs.Kind as kind
-use Rattle.tb_value.specs.Typed.{HasType}
-use Rattle.tb_chunk.specs.Col.{flat}
-use Rattle.tb_chunk.specs.Made.{IsTyped}
 use Rattle.tb_json.specs.Lists.{each}
 use Rattle.tb_json.specs.Cells.{ranged, cell_in}
-
-All-none : {A : Type 0} (P : A → Type 0) → All P []
-All-none P k d h = absurd (omega arith)
 
 no_number : (o : Option ℤ) → option_and_then (ranged kind.null) o ≡ None
 no_number None = refl
@@ -44,12 +37,3 @@ pub nulls-each : (vs : List Value) → cond (list_all (λ v. is_some (as_null (v
 nulls-each [] = refl
 nulls-each (v ∷ vs) =
     one_more (is_some (as_null (view v))) (list_all (λ u. is_some (as_null (view u))) vs) (length vs) (cell_in kind.null (view v)) (each (cell_in kind.null) (map view vs)) (only_null (view v)) (nulls-each vs)
-
-nulls_typed : (n : ℕ) → All (HasType kind.null) (replicate n value.null)
-nulls_typed zero = All-none (HasType kind.null)
-nulls_typed (suc n) = All-cons (HasType kind.null) value.null (replicate n value.null) tt (nulls_typed n)
-
--- nulls are of the type Null
-pub nulls-IsTyped : (ns : List ℕ) → IsTyped kind.null (map (λ n. replicate n value.null) ns)
-nulls-IsTyped [] = All-none (HasType kind.null)
-nulls-IsTyped (n ∷ ns) = All-append (HasType kind.null) (replicate n value.null) (flat (map (λ m. replicate m value.null) ns)) (nulls_typed n) (nulls-IsTyped ns)

@@ -7,16 +7,9 @@ use Rattle.tb_json.specs.Lists.{each}
 abbrev pub EachSoFar : {A B : Type 0} → (A → Option B) → List A → List B → List A → Type 0
 EachSoFar f xs done rest = each f xs ≡ option_map (λ ys. done ++ ys) (each f rest)
 
-option_map_same : {A : Type 0} (o : Option A) → o ≡ option_map (λ x. x) o
-option_map_same None = refl
-option_map_same (Some x) = refl
-
 moved : {B : Type 0} (done : List B) (y : B) (o : Option (List B)) → option_map (λ ys. done ++ ys) (option_map (λ ys. y ∷ ys) o) ≡ option_map (λ ys. (done ++ y ∷ []) ++ ys) o
 moved done y None = refl
 moved done y (Some ys) = ap Some (sym (append_assoc done (y ∷ []) ys))
-
-pub EachSoFar-start : {A B : Type 0} (f : A → Option B) (xs : List A) → EachSoFar f xs [] (drop 0 xs)
-EachSoFar-start f xs = option_map_same (each f xs)
 
 pub EachSoFar-more : {A B : Type 0} (f : A → Option B) (xs : List A) (done : List B) (i : ℕ) (d : A) (y : B) → i < length xs → f (get_or xs i d) ≡ Some y → EachSoFar f xs done (drop i xs) → EachSoFar f xs (done ++ y ∷ []) (drop (i + 1) xs)
 EachSoFar-more f xs done i d y within e so_far =

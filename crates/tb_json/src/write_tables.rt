@@ -1,129 +1,187 @@
-//! The texts of tables.
-ghost use Rattle.std.specs.Prelude.{◌≡◌, ◌++◌, IfOk, OnOk, codes, map, string_bytes};
+//! The texts of tables, written item by item behind one another.
+ghost use Rattle.std.specs.Prelude.{◌≡◌, ◌++◌, false, IfOk, OnOk, codes, map, string_bytes};
 ghost use Rattle.std.specs.List.{All};
-ghost use Rattle.serde_json.specs.View.{view, items_view};
-ghost use Rattle.serde_json.specs.Data.{object, member, no_members, array, string};
+ghost use Rattle.serde_json.specs.View.{view, items_of};
+ghost use Rattle.serde_json.specs.Data.{array};
+ghost use Rattle.serde_json.specs.Written.{comma_if, compact_text, has_float};
+ghost use Rattle.tb_value.specs.See.{lent};
 ghost use Rattle.tb_value.specs.SeeKind.{kind_of};
 ghost use Rattle.tb_value.specs.Typed.{HasType};
 ghost use Rattle.tb_chunk.specs.Col.{flat, values};
 ghost use Rattle.tb_chunk.specs.Seen.{chunk_lists};
 ghost use Rattle.tb_frame.specs.Table.{plain, table_of};
-ghost use Rattle.tb_json.specs.Text.{value_data, column_data, table_data, text_of};
+ghost use Rattle.tb_json.specs.Text.{value_data, column_data, text_of};
+ghost use Rattle.tb_json.specs.Written.{heading, with_items};
 
 use crate::write_cells::cell_value;
 use crate::write_kinds::type_value;
-use serde_json::{Value, json};
+use serde_json::Value;
 use std::alloc::Global;
 use tb_frame::DataFrame;
 use tb_store::{Chunk, Chunks, Column};
-use tb_value::{DataType, OutOfMemory};
+use tb_value::{DataType, OutOfMemory, ValueRef};
 
-fn push_chunk<C: Chunk>(
-    alloc: Global,
-    written: &mut Vec<Value>,
-    chunk: &C,
-    dtype: &DataType,
-) -> Result<(), OutOfMemory>
-    requires { All (HasType (kind_of dtype.now)) (C.shown chunk.now) }
-    ensures { OnOk result (map view written.new.items
-        ≡ map view written.old.items ++ map (value_data (kind_of dtype.now)) (C.shown chunk.now)) }
+// A comma, where an item stands before.
+fn push_comma(text: &mut String, later: bool) -> Result<(), OutOfMemory>
+    ensures { OnOk result (string_bytes text.new ≡ string_bytes text.old ++ comma_if later) }
 {
-    for row in 0..chunk.len() {
-        written.push(cell_value(alloc, chunk.value(row), dtype)?)?;
+    if later {
+        text.push_str(",")?;
     }
     Ok(())
+}
+
+// The text of a value without floats.
+fn push_value(alloc: Global, text: &mut String, value: &Value) -> Result<(), OutOfMemory>
+    requires { has_float (view value.now) ≡ false }
+    ensures { OnOk result (string_bytes text.new ≡ string_bytes text.old ++ compact_text (view value.now)) }
+{
+    let written = value.to_string(alloc)?;
+    text.push_str(written.as_str())?;
+    Ok(())
+}
+
+fn push_cell(
+    alloc: Global,
+    text: &mut String,
+    value: ValueRef<'_>,
+    dtype: &DataType,
+) -> Result<(), OutOfMemory>
+    requires { HasType (kind_of dtype.now) (lent value) }
+    ensures { OnOk result (string_bytes text.new
+        ≡ string_bytes text.old ++ compact_text (value_data (kind_of dtype.now) (lent value.entry))) }
+{
+    let cell = cell_value(alloc, value, dtype)?;
+    push_value(alloc, text, &cell)
+}
+
+// The values of a chunk, as items of an array in which one stands already if `later` says so. Answers whether one
+// does after them.
+fn push_chunk<C: Chunk>(
+    alloc: Global,
+    text: &mut String,
+    later: bool,
+    chunk: &C,
+    dtype: &DataType,
+) -> Result<bool, OutOfMemory>
+    requires { All (HasType (kind_of dtype.now)) (C.shown chunk.now) }
+    ensures { IfOk result (λ after. (string_bytes text.new, after)
+        ≡ with_items (string_bytes text.old, later) (map (value_data (kind_of dtype.now)) (C.shown chunk.now))) }
+{
+    let mut later = later;
+    for row in 0..chunk.len() {
+        push_comma(text, later)?;
+        push_cell(alloc, text, chunk.value(row), dtype)?;
+        later = true;
+    }
+    Ok(later)
 }
 
 fn push_chunks<C: Chunk>(
     alloc: Global,
-    written: &mut Vec<Value>,
+    text: &mut String,
     chunks: &[C],
     dtype: &DataType,
 ) -> Result<(), OutOfMemory>
     requires { All (HasType (kind_of dtype.now)) (flat (map C.shown chunks.now)) }
-    ensures { OnOk result (map view written.new.items
-        ≡ map view written.old.items ++ map (value_data (kind_of dtype.now)) (flat (map C.shown chunks.now))) }
+    ensures { OnOk result (string_bytes text.new
+        ≡ (with_items (string_bytes text.old, false) (map (value_data (kind_of dtype.now)) (flat (map C.shown chunks.now)))).0) }
 {
+    let mut later = false;
     for chunk in chunks {
-        push_chunk(alloc, written, chunk, dtype)?;
+        later = push_chunk(alloc, text, later, chunk, dtype)?;
     }
     Ok(())
 }
 
+// The values of a column, as items of an array.
 fn push_values(
     alloc: Global,
-    written: &mut Vec<Value>,
+    text: &mut String,
     chunks: &Chunks,
     dtype: &DataType,
 ) -> Result<(), OutOfMemory>
     requires { All (HasType (kind_of dtype.now)) (flat (chunk_lists chunks.now)) }
-    ensures { OnOk result (map view written.new.items
-        ≡ map view written.old.items ++ map (value_data (kind_of dtype.now)) (flat (chunk_lists chunks.now))) }
+    ensures { OnOk result (string_bytes text.new
+        ≡ (with_items (string_bytes text.old, false) (map (value_data (kind_of dtype.now)) (flat (chunk_lists chunks.now)))).0) }
 {
     match chunks {
-        Chunks::BooleanType(chunks) => push_chunks(alloc, written, chunks, dtype),
-        Chunks::Int8Type(chunks) => push_chunks(alloc, written, chunks, dtype),
-        Chunks::Int16Type(chunks) => push_chunks(alloc, written, chunks, dtype),
-        Chunks::Int32Type(chunks) => push_chunks(alloc, written, chunks, dtype),
-        Chunks::Int64Type(chunks) => push_chunks(alloc, written, chunks, dtype),
-        Chunks::Int128Type(chunks) => push_chunks(alloc, written, chunks, dtype),
-        Chunks::UInt8Type(chunks) => push_chunks(alloc, written, chunks, dtype),
-        Chunks::UInt16Type(chunks) => push_chunks(alloc, written, chunks, dtype),
-        Chunks::UInt32Type(chunks) => push_chunks(alloc, written, chunks, dtype),
-        Chunks::UInt64Type(chunks) => push_chunks(alloc, written, chunks, dtype),
-        Chunks::StringType(chunks) => push_chunks(alloc, written, chunks, dtype),
-        Chunks::BinaryType(chunks) => push_chunks(alloc, written, chunks, dtype),
-        Chunks::ListType(chunks) => push_chunks(alloc, written, chunks, dtype),
-        Chunks::StructType(chunks) => push_chunks(alloc, written, chunks, dtype),
-        Chunks::Null(chunks) => push_chunks(alloc, written, chunks, dtype),
+        Chunks::BooleanType(chunks) => push_chunks(alloc, text, chunks, dtype),
+        Chunks::Int8Type(chunks) => push_chunks(alloc, text, chunks, dtype),
+        Chunks::Int16Type(chunks) => push_chunks(alloc, text, chunks, dtype),
+        Chunks::Int32Type(chunks) => push_chunks(alloc, text, chunks, dtype),
+        Chunks::Int64Type(chunks) => push_chunks(alloc, text, chunks, dtype),
+        Chunks::Int128Type(chunks) => push_chunks(alloc, text, chunks, dtype),
+        Chunks::UInt8Type(chunks) => push_chunks(alloc, text, chunks, dtype),
+        Chunks::UInt16Type(chunks) => push_chunks(alloc, text, chunks, dtype),
+        Chunks::UInt32Type(chunks) => push_chunks(alloc, text, chunks, dtype),
+        Chunks::UInt64Type(chunks) => push_chunks(alloc, text, chunks, dtype),
+        Chunks::StringType(chunks) => push_chunks(alloc, text, chunks, dtype),
+        Chunks::BinaryType(chunks) => push_chunks(alloc, text, chunks, dtype),
+        Chunks::ListType(chunks) => push_chunks(alloc, text, chunks, dtype),
+        Chunks::StructType(chunks) => push_chunks(alloc, text, chunks, dtype),
+        Chunks::Null(chunks) => push_chunks(alloc, text, chunks, dtype),
     }
 }
 
-fn values_of(alloc: Global, column: &Column) -> Result<Vec<Value>, OutOfMemory>
-    ensures { IfOk result (λ v. map view v.items ≡ map (value_data column.now.kind) (values column.now)) }
+// The values of a column, as an array.
+fn push_array(alloc: Global, text: &mut String, column: &Column) -> Result<(), OutOfMemory>
+    ensures { OnOk result (string_bytes text.new
+        ≡ string_bytes text.old ++ compact_text (array (items_of (map (value_data column.now.kind) (values column.now))))) }
 {
-    let mut written = Vec::with_capacity(alloc, column.len())?;
+    text.reserve(column.len())?;
     let series = column.as_materialized_series();
-    push_values(alloc, &mut written, series.chunks(), column.dtype())?;
-    Ok(written)
+    text.push_str("[")?;
+    push_values(alloc, text, series.chunks(), series.dtype())?;
+    text.push_str("]")?;
+    Ok(())
 }
 
-fn column_object(
-    alloc: Global,
-    name: &str,
-    dtype: Value,
-    values: Vec<Value>,
-) -> Result<Value, OutOfMemory>
-    ensures { IfOk result (λ v. view v
-        ≡ object (member (codes "name") (string name.now) (member (codes "type") (view dtype)
-        (member (codes "values") (array (items_view values.items)) no_members)))) }
+// The name and the type of a column, as the first members of an object.
+fn push_heading(alloc: Global, text: &mut String, column: &Column) -> Result<(), OutOfMemory>
+    ensures { OnOk result (string_bytes text.new ≡ string_bytes text.old ++ heading (plain column.now)) }
 {
-    Ok(json!(in alloc; {"name": name, "type": dtype, "values": values})?)
-}
-
-fn column_value(alloc: Global, column: &Column) -> Result<Value, OutOfMemory>
-    ensures { IfOk result (λ v. view v ≡ column_data (plain column.now)) }
-{
-    let values = values_of(alloc, column)?;
+    text.push_str("{\"name\":")?;
+    let name = Value::try_from_str(alloc, column.name().as_str())?;
+    push_value(alloc, text, &name)?;
+    text.push_str(",\"type\":")?;
     let dtype = type_value(alloc, column.dtype())?;
-    column_object(alloc, column.name().as_str(), dtype, values)
+    push_value(alloc, text, &dtype)
 }
 
-fn table_value(alloc: Global, table: &DataFrame) -> Result<Value, OutOfMemory>
-    ensures { IfOk result (λ v. view v ≡ table_data (table_of table.now)) }
+fn push_column(alloc: Global, text: &mut String, column: &Column) -> Result<(), OutOfMemory>
+    ensures { OnOk result (string_bytes text.new ≡ string_bytes text.old ++ compact_text (column_data (plain column.now))) }
 {
-    let mut columns = Vec::with_capacity(alloc, table.width())?;
-    for column in table.get_columns() {
-        columns.push(column_value(alloc, column)?)?;
+    push_heading(alloc, text, column)?;
+    text.push_str(",\"values\":")?;
+    push_array(alloc, text, column)?;
+    text.push_str("}")?;
+    Ok(())
+}
+
+// The columns of a table, as items of an array.
+fn push_columns(alloc: Global, text: &mut String, columns: &[Column]) -> Result<(), OutOfMemory>
+    ensures { OnOk result (string_bytes text.new
+        ≡ (with_items (string_bytes text.old, false) (map column_data (table_of columns.now))).0) }
+{
+    let mut later = false;
+    for column in columns {
+        push_comma(text, later)?;
+        push_column(alloc, text, column)?;
+        later = true;
     }
-    Ok(json!(in alloc; {"columns": columns, "height": table.height()})?)
+    Ok(())
 }
 
 /// The text of a table, with the newline that ends it.
 pub fn text_of(alloc: Global, table: &DataFrame) -> Result<String, OutOfMemory>
     ensures { IfOk result (λ s. string_bytes s ≡ text_of (table_of table.now)) }
 {
-    let mut text = table_value(alloc, table)?.to_string(alloc)?;
-    text.push_str("\n")?;
+    let mut text = String::new(alloc);
+    text.push_str("{\"columns\":[")?;
+    push_columns(alloc, &mut text, table.get_columns())?;
+    text.push_str("],\"height\":")?;
+    push_value(alloc, &mut text, &Value::from(table.height()))?;
+    text.push_str("}\n")?;
     Ok(text)
 }

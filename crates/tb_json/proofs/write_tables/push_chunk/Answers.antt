@@ -1,17 +1,23 @@
-use Rattle.std.proofs.Common.{map, ap, ◌∙◌, arith}
-use Rattle.std.proofs.lemmas.List.{map_push}
-use Rattle.serde_json.specs.View.{view}
+use Rattle.std.proofs.Common.{◌<◌, length, map, sym, arith, get_or}
+use Rattle.std.proofs.lemmas.List.{get_or-map, length-map}
 use Rattle.tb_value.specs.Datum.{null}
 use Rattle.tb_value.specs.SeeKind.{kind_of}
-use Rattle.tb_json.proofs.Runs.{value_step, values_end}
+use Rattle.tb_json.specs.Text.{value_data}
+use Rattle.tb_json.proofs.Runs.{item_step, items_end}
 use Rattle.tb_json.proofs.write_tables.push_chunk.Goals as goal
 
-pub cell_value-requires : goal.cell_value-requires
-cell_value-requires g c = rw c.value.ensures.value (c.requires c.loop-row.row null (omega (arith, c.len-row-end.ensures)))
+pub push_cell-requires : goal.push_cell-requires
+push_cell-requires g c = rw c.value.ensures.value (c.requires c.loop-row.row null (omega (arith, c.len-row-end.ensures)))
 
 pub loop-row-preserved : goal.loop-row-preserved
 loop-row-preserved g c =
-    value_step (kind_of c.args.dtype.now) (g.C.Chunk.shown c.args.chunk.now) c.loop-row.row _ _ _ _ _ (omega (arith, c.len-row-end.ensures)) c.value.ensures.value c.in_ok-cell_value.ensures (ap (map view) c.in_ok-push.ensures.items ∙ map_push view _ _) c.loop-row.invariant
+    let f = value_data (kind_of c.args.dtype.now) in
+    let xs = g.C.Chunk.shown c.args.chunk.now in
+    let i = c.loop-row.row in
+    let x = get_or xs i null in
+    let within : i < length xs = omega (arith, c.len-row-end.ensures) in
+    item_step (map f xs) i (f x) _ _ _ _ _ (rw length-map within) (sym (get_or-map f xs i null (f x) within)) c.in_ok-push_comma.ensures
+    (rw c.value.ensures.value at c.in_ok-push_cell.ensures) c.loop-row.invariant
 
 pub returns : goal.returns
-returns g c = values_end (kind_of c.args.dtype.now) (g.C.Chunk.shown c.args.chunk.now) c.loop-row.row _ _ (omega (arith, c.len-row-end.ensures)) c.loop-row.invariant
+returns g c = items_end (map (value_data (kind_of c.args.dtype.now)) (g.C.Chunk.shown c.args.chunk.now)) c.loop-row.row _ _ (rw length-map (omega (arith, c.len-row-end.ensures))) c.loop-row.invariant

@@ -1,0 +1,9 @@
+use Rattle.std.proofs.Common.{◌≡◌, false, map, drop, string_bytes}
+use Rattle.tb_frame.specs.Table.{table_of}
+use Rattle.tb_json.specs.Text.{column_data}
+use Rattle.tb_json.specs.Written.{with_items}
+use Rattle.tb_json.proofs.write_tables.push_columns.Given as goal
+
+-- what is written, and what is left
+abbrev pub invariant-loop-column : goal.invariant-loop-column
+invariant-loop-column l = with_items (string_bytes l.text, l.later) (drop l.column-index (map column_data (table_of l.columns))) ≡ with_items (string_bytes l.initial.text, false) (map column_data (table_of l.columns))
