@@ -1,5 +1,5 @@
 -- What the program's values stand for.
-use Rattle.std.specs.Prelude.{map}
+use Rattle.std.specs.Prelude.{map, option_map}
 use Rattle.serde_json.specs.View.{view}
 use Rattle.tb_value.specs.SeeKind.{kind_of}
 use Rattle.tb_pool.specs.ExecView.{ExecView}
@@ -8,6 +8,7 @@ use Rattle.tb_request.specs.declared.shape.ExecNumbers.{ExecNumbers}
 use Rattle.tb_request.specs.declared.shape.WrittenColumn.{WrittenColumn}
 use Rattle.tb_request.specs.declared.shape.WrittenJoin.{WrittenJoin}
 use Rattle.tb_request.specs.declared.one_table.WrittenUnpivot.{WrittenUnpivot}
+use Rattle.tb_request.specs.declared.one_table.WrittenDummies.{WrittenDummies}
 use Rattle.tb_request.specs.declared.values.ClaimedColumn.{ClaimedColumn}
 use Rattle.tb_request.specs.Written as written
 
@@ -35,6 +36,14 @@ written_unpivot w = record {
   index = w.index.items;
   variable_name = w.variable_name;
   value_name = w.value_name;
+}
+
+abbrev pub written_dummies : WrittenDummies → written.WrittenDummies
+written_dummies w = record {
+  table = map written_view w.table.items;
+  columns = option_map (λ v. v.items) w.columns;
+  separator = w.separator;
+  drop_first = w.drop_first;
 }
 
 -- the column, as if it had the flag that is claimed

@@ -1,5 +1,5 @@
 -- The requests that bytes are, or the first reason why they are none.
-use Rattle.std.specs.Prelude.{◌≡◌, ℕ, List, [], ◌∷◌, map, nat_le, Bool, ◌&&◌, not, if◌then◌else◌, Option, None, is_none, Result, Ok, Err, ok_or, ⊤}
+use Rattle.std.specs.Prelude.{◌≡◌, ℕ, List, [], ◌∷◌, map, nat_le, Bool, ◌&&◌, not, if◌then◌else◌, Option, None, is_none, option_map, Result, Ok, Err, ok_or, ⊤}
 use Rattle.std.specs.List.{list_all}
 use Rattle.std.specs.Str.{is_utf8}
 use Rattle.serde_json.specs.Data.{Data}
@@ -16,11 +16,12 @@ use Rattle.tb_frame.specs.Join.{Request, by_names}
 use Rattle.tb_frame.specs.Refusal.{first_repeated}
 use Rattle.tb_request.specs.declared.request.JoinRequest as rust_join
 use Rattle.tb_request.specs.declared.request.UnpivotRequest as rust_unpivot
+use Rattle.tb_request.specs.declared.request.DummiesRequest as rust_dummies
 use Rattle.tb_request.specs.declared.request.Reason.{Reason}
 use Rattle.tb_request.specs.declared.request.Reason.TheVariants as why
 use Rattle.tb_request.specs.declared.request.RequestFault.{RequestFault}
 use Rattle.tb_request.specs.declared.request.RequestFault.TheVariants.{OutOfMemory, NoRequest}
-use Rattle.tb_request.specs.Written.{Written, join_of, unpivot_of}
+use Rattle.tb_request.specs.Written.{Written, join_of, unpivot_of, dummies_of}
 use Rattle.tb_request.specs.Columns.{tables_of, columns_from}
 use Rattle.tb_request.specs.Flags.{flags_hold}
 
@@ -39,6 +40,12 @@ pub record UnpivotRequest : Type 0 where
   pub index : List Name
   pub variable_name : Option Name
   pub value_name : Option Name
+
+pub record DummiesRequest : Type 0 where
+  pub table : List Col
+  pub columns : Option (List Name)
+  pub separator : Option Name
+  pub drop_first : Bool
 
 infixl 10 ◌>>=◌
 abbrev pub ◌>>=◌ : {A B : Type 0} → Result A Reason → (A → Result B Reason) → Result B Reason
@@ -93,6 +100,12 @@ unpivot_in d = do
   table ← table_from written.table
   Ok (record { table = table; on = written.on; index = written.index; variable_name = written.variable_name; value_name = written.value_name })
 
+unfoldable pub dummies_in : Data → Result DummiesRequest Reason
+dummies_in d = do
+  written ← ok_or (dummies_of d) why.Shape
+  table ← table_from written.table
+  Ok (record { table = table; columns = written.columns; separator = written.separator; drop_first = written.drop_first })
+
 -- the value of a text, where the bytes are UTF-8
 unfoldable pub value_of : List ℕ → Result Data Reason
 value_of bytes = ok_or (if is_utf8 bytes then read bytes else None) why.Json
@@ -104,6 +117,9 @@ join_request_of bytes = value_of bytes >>= join_in
 unfoldable pub unpivot_request_of : List ℕ → Result UnpivotRequest Reason
 unpivot_request_of bytes = value_of bytes >>= unpivot_in
 
+unfoldable pub dummies_request_of : List ℕ → Result DummiesRequest Reason
+dummies_request_of bytes = value_of bytes >>= dummies_in
+
 -- what is asked of the join
 abbrev pub asked : JoinRequest → Request
 asked r = by_names (table_of r.left) (table_of r.right) r.left_on r.right_on r.args
@@ -113,6 +129,9 @@ request_view r = record { left = r.left; right = r.right; left_on = r.left_on.it
 
 abbrev pub unpivot_view : rust_unpivot.UnpivotRequest → UnpivotRequest
 unpivot_view r = record { table = r.table; on = r.on.items; index = r.index.items; variable_name = r.variable_name; value_name = r.value_name }
+
+abbrev pub dummies_view : rust_dummies.DummiesRequest → DummiesRequest
+dummies_view r = record { table = r.table; columns = option_map (λ v. v.items) r.columns; separator = r.separator; drop_first = r.drop_first }
 
 -- want of memory says nothing, and a reason is the definition's
 abbrev pub FaultIs : {A : Type 0} → RequestFault → Result A Reason → Type 0

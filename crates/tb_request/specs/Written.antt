@@ -41,6 +41,10 @@ text_at name d = text_or None (λ s. Some (Some s)) (get name d)
 abbrev pub texts_at : List ℕ → Data → Option (List Name)
 texts_at name d = get name d >>= list_of as_str
 
+-- the same, where the member is there
+abbrev pub texts_if_at : List ℕ → Data → Option (Option (List Name))
+texts_if_at name d = optional None (λ m. option_map Some (list_of as_str m)) (get name d)
+
 -- ---- tables
 
 -- a column with its values as they stand in the text, and the flag that is claimed of them
@@ -220,3 +224,20 @@ unpivot_of d = do
   variable_name ← text_at (codes "variable_name") d
   value_name ← text_at (codes "value_name") d
   Some (record { table = table; on = on; index = index; variable_name = variable_name; value_name = value_name })
+
+-- ---- a request for dummies
+
+pub record WrittenDummies : Type 0 where
+  pub table : List Written
+  pub columns : Option (List Name)
+  pub separator : Option Name
+  pub drop_first : Bool
+
+unfoldable pub dummies_of : Data → Option WrittenDummies
+dummies_of d = do
+  known ← check (has_only (codes "columns" ∷ codes "drop_first" ∷ codes "separator" ∷ codes "table" ∷ []) d)
+  table ← table_at (codes "table") d
+  columns ← texts_if_at (codes "columns") d
+  separator ← text_at (codes "separator") d
+  drop_first ← truth_at (codes "drop_first") d
+  Some (record { table = table; columns = columns; separator = separator; drop_first = drop_first })

@@ -12,5 +12,5 @@ mod shape;
 mod tables;
 mod values;
 
-pub use reading::{join_request_of, unpivot_request_of};
-pub use request::{JoinRequest, Reason, RequestFault, UnpivotRequest};
+pub use reading::{dummies_request_of, join_request_of, unpivot_request_of};
+pub use request::{DummiesRequest, JoinRequest, Reason, RequestFault, UnpivotRequest};

@@ -3,7 +3,7 @@ ghost use Rattle.std.specs.Prelude.{◌≡◌, map, option_map, IfOk};
 ghost use Rattle.serde_json.specs.View.{view};
 ghost use Rattle.serde_json.specs.Find.{as_str};
 ghost use Rattle.tb_json.specs.Lists.{is_among, has_only, list_of};
-ghost use Rattle.tb_request.specs.Written.{text_at, texts_at, truth_at};
+ghost use Rattle.tb_request.specs.Written.{text_at, texts_at, texts_if_at, truth_at};
 
 use serde_json::Value;
 use std::alloc::Global;
@@ -89,6 +89,23 @@ pub(crate) fn texts_at(
 {
     match object.get(name) {
         Some(member) => texts_of(alloc, member),
+        None => Ok(None),
+    }
+}
+
+/// The same, or no texts where the member is absent.
+pub(crate) fn texts_if_at(
+    alloc: Global,
+    object: &Value,
+    name: &str,
+) -> Result<Option<Option<Vec<PlSmallStr>>>, OutOfMemory>
+    ensures { IfOk result (λ o. option_map (option_map (λ v. v.items)) o ≡ texts_if_at name.now (view object.now)) }
+{
+    let Some(member) = object.get(name) else {
+        return Ok(Some(None));
+    };
+    match texts_of(alloc, member)? {
+        Some(texts) => Ok(Some(Some(texts))),
         None => Ok(None),
     }
 }

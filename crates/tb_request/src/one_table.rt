@@ -1,10 +1,10 @@
 //! The members of a request with one table, before its values are read.
 ghost use Rattle.std.specs.Prelude.{◌≡◌, option_map, IfOk};
 ghost use Rattle.serde_json.specs.View.{view};
-ghost use Rattle.tb_request.specs.Written.{unpivot_of};
-ghost use Rattle.tb_request.specs.Lent.{written_unpivot};
+ghost use Rattle.tb_request.specs.Written.{dummies_of, unpivot_of};
+ghost use Rattle.tb_request.specs.Lent.{written_dummies, written_unpivot};
 
-use crate::members::{has_only, text_at, texts_at};
+use crate::members::{has_only, text_at, texts_at, texts_if_at, truth_at};
 use crate::shape::{WrittenColumn, table_at};
 use serde_json::Value;
 use std::alloc::Global;
@@ -55,5 +55,45 @@ pub(crate) fn unpivot_of<'v>(
         index,
         variable_name,
         value_name,
+    }))
+}
+
+// A request for dummies, whose values are not read yet.
+#[derive(Drop)]
+pub(crate) struct WrittenDummies<'v> {
+    pub table: Vec<WrittenColumn<'v>>,
+    pub columns: Option<Vec<PlSmallStr>>,
+    pub separator: Option<PlSmallStr>,
+    pub drop_first: bool,
+}
+
+/// The members of a request for dummies, or None where the value has not the form of one.
+#[tactic(auto, unfolding(crate::specs::Written::dummies_of))]
+pub(crate) fn dummies_of<'v>(
+    alloc: Global,
+    value: &'v Value,
+) -> Result<Option<WrittenDummies<'v>>, OutOfMemory>
+    ensures { IfOk result (λ o. option_map written_dummies o ≡ dummies_of (view value.now)) }
+{
+    if !has_only(value, &["columns", "drop_first", "separator", "table"]) {
+        return Ok(None);
+    }
+    let Some(table) = table_at(alloc, value, "table")? else {
+        return Ok(None);
+    };
+    let Some(columns) = texts_if_at(alloc, value, "columns")? else {
+        return Ok(None);
+    };
+    let Some(separator) = text_at(alloc, value, "separator")? else {
+        return Ok(None);
+    };
+    let Some(drop_first) = truth_at(value, "drop_first") else {
+        return Ok(None);
+    };
+    Ok(Some(WrittenDummies {
+        table,
+        columns,
+        separator,
+        drop_first,
     }))
 }

@@ -1,11 +1,11 @@
 //! The requests that bytes are.
 ghost use Rattle.std.specs.Prelude.{◌≡◌, if◌then◌else◌, IfOk, IfErr, MatchResult, Ok, Some, None};
 ghost use Rattle.serde_json.specs.View.{view};
-ghost use Rattle.tb_request.specs.Lent.{written_join, written_unpivot, exec_view};
-ghost use Rattle.tb_request.specs.Reading.{may_stand, value_of, join_in, unpivot_in, join_request_of, unpivot_request_of, request_view, unpivot_view, FaultIs};
+ghost use Rattle.tb_request.specs.Lent.{written_dummies, written_join, written_unpivot, exec_view};
+ghost use Rattle.tb_request.specs.Reading.{may_stand, value_of, dummies_in, join_in, unpivot_in, dummies_request_of, join_request_of, unpivot_request_of, dummies_view, request_view, unpivot_view, FaultIs};
 
-use crate::one_table::unpivot_of;
-use crate::request::{JoinRequest, Reason, RequestFault, UnpivotRequest};
+use crate::one_table::{dummies_of, unpivot_of};
+use crate::request::{DummiesRequest, JoinRequest, Reason, RequestFault, UnpivotRequest};
 use crate::shape::{ExecNumbers, join_of};
 use crate::tables::{table_from, tables_of};
 use crate::values::columns_of;
@@ -95,6 +95,22 @@ fn unpivot_in(alloc: Global, value: &Value) -> Result<UnpivotRequest, RequestFau
     })
 }
 
+#[tactic(auto, unfolding(crate::specs::Reading::dummies_in))]
+fn dummies_in(alloc: Global, value: &Value) -> Result<DummiesRequest, RequestFault>
+    ensures { MatchResult result (λ q. dummies_in (view value.now) ≡ Ok (dummies_view q))
+        (λ e. FaultIs e (dummies_in (view value.now))) }
+{
+    let Some(written) = dummies_of(alloc, value)? else {
+        return Err(RequestFault::NoRequest(Reason::Shape));
+    };
+    Ok(DummiesRequest {
+        table: table_from(alloc, &written.table)?,
+        columns: written.columns,
+        separator: written.separator,
+        drop_first: written.drop_first,
+    })
+}
+
 /// The request to join that the bytes are.
 ///
 /// They are a JSON object with the members `left`, `right`, `left_on`, `right_on` and `args`, and
@@ -146,4 +162,21 @@ pub fn unpivot_request_of(alloc: Global, bytes: &[u8]) -> Result<UnpivotRequest,
 {
     let value = value_of(alloc, bytes)?;
     unpivot_in(alloc, &value)
+}
+
+/// The request for dummies that the bytes are.
+///
+/// They are a JSON object with the member `table`, a table as in a request to join, and perhaps `columns`,
+/// a list of texts, `separator`, a text, and `drop_first`, a truth value.
+///
+/// # Errors
+///
+/// As those of `unpivot_request_of`.
+#[tactic(auto, unfolding(crate::specs::Reading::dummies_request_of))]
+pub fn dummies_request_of(alloc: Global, bytes: &[u8]) -> Result<DummiesRequest, RequestFault>
+    ensures { MatchResult result (λ q. dummies_request_of bytes.now ≡ Ok (dummies_view q))
+        (λ e. FaultIs e (dummies_request_of bytes.now)) }
+{
+    let value = value_of(alloc, bytes)?;
+    dummies_in(alloc, &value)
 }

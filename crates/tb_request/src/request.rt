@@ -35,6 +35,18 @@ pub struct UnpivotRequest {
     pub value_name: Option<PlSmallStr>,
 }
 
+/// A request for dummies.
+#[derive(Drop)]
+pub struct DummiesRequest {
+    pub table: DataFrame,
+    /// The names of the columns that are replaced, if they are given.
+    pub columns: Option<Vec<PlSmallStr>>,
+    /// What stands between a column's name and a value's text, if it is given.
+    pub separator: Option<PlSmallStr>,
+    /// Whether the value of row 0 is left out.
+    pub drop_first: bool,
+}
+
 /// Why bytes are no request: the first of these that holds.
 #[derive(Clone, Copy, PartialEq, Eq, Debug)]
 pub enum Reason {
