@@ -1,0 +1,60 @@
+-- Requests whose key columns are given beside the tables.
+use Rattle.std.specs.Prelude.{◌≡◌, ◌==◌, ℕ, Bool, true, if◌then◌else◌, List, [], ◌∷◌, map, length, Option, None, ℤ}
+use Rattle.tb_value.specs.SameKind.{is_key}
+use Rattle.tb_chunk.specs.Col.{Col, values}
+use Rattle.tb_frame.specs.declared.args.JoinArgs.{JoinArgs}
+use Rattle.tb_frame.specs.declared.args.JoinType.{JoinType}
+use Rattle.tb_frame.specs.declared.args.JoinType.TheVariants.{Semi, Anti}
+use Rattle.tb_frame.specs.Join.{MergesAlike, Request}
+use Rattle.tb_frame.specs.Naming.{coalesces, merges_keys}
+use Rattle.tb_frame.specs.Refusal.{first_unknown}
+use Rattle.tb_frame.specs.Sides.{asking}
+use Rattle.tb_frame.specs.Table.{height, names_of, table_of}
+use Rattle.tb_join.specs.Asked.{plainly}
+
+-- the request by columns that are given, under their names
+abbrev pub given : List Col → List Col → List Col → List Col → JoinArgs → Request
+given left right left_keys right_keys args = record {
+  left = table_of left;
+  right = table_of right;
+  left_on = names_of (table_of left_keys);
+  right_on = names_of (table_of right_keys);
+  left_keys = table_of left_keys;
+  right_keys = table_of right_keys;
+  args = args;
+}
+
+-- the same by one column of each side, asked for a kind, whichever the arguments name
+abbrev pub by_series : JoinType → List Col → List Col → Col → Col → JoinArgs → Request
+by_series how left right l r args = asking how (given left right (l ∷ []) (r ∷ []) args)
+
+-- the left rows with a match, or with `anti` those without one; the right side is its key column alone
+abbrev pub semi_or_anti : Bool → JoinType
+semi_or_anti anti = (if anti then Anti else Semi)
+
+abbrev pub by_match : Bool → Bool → Option (ℤ × ℕ) → List Col → Col → Col → Request
+by_match anti nulls slice left l r = given left (r ∷ []) (l ∷ []) (r ∷ []) (record (plainly (semi_or_anti anti)) { slice = slice; join_nulls = nulls })
+
+-- both have one key type
+pub record AreKeys (l r : Col) : Type 0 where
+  pub key : is_key l.kind ≡ true
+  pub same : l.kind ≡ r.kind
+
+-- and they are as long as their tables are high
+pub record StandBeside (left right : List Col) (l r : Col) : Type 0 where
+  pub types : AreKeys l r
+  pub left_rows : length (values l) ≡ height (table_of left)
+  pub right_rows : length (values r) ≡ height (table_of right)
+
+-- where keys are merged, their names are columns of their tables, and two columns that are merged have one type
+pub record CanCoalesce (q : Request) : Type 0 where
+  pub known_left : merges_keys q.args.how (coalesces q.args) ≡ true → first_unknown q.left q.left_on ≡ None
+  pub known_right : merges_keys q.args.how (coalesces q.args) ≡ true → first_unknown q.right q.right_on ≡ None
+  pub alike : MergesAlike q
+
+-- keys beside a table of that height, without their values where it has no rows
+abbrev pub emptied : Col → Col
+emptied c = record c { chunks = [] ∷ [] }
+
+abbrev pub cleared : ℕ → List Col → List Col
+cleared n keys = (if n == 0 then map emptied keys else keys)

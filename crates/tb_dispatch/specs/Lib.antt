@@ -1,0 +1,4 @@
+pub mod Given
+pub mod Halves
+pub mod Rows
+pub mod Standing

@@ -1,0 +1,180 @@
+//! Tables by rows that were found before, and by one key column of each side.
+ghost use Rattle.std.specs.Prelude.{◌≡◌, ◌<◌, ◌≤◌, ◌∷◌, All, IfOk, IsSome, IsTrue, length, map};
+ghost use Rattle.tb_value.specs.Refusals.{Settles, first_cause};
+ghost use Rattle.tb_chunk.specs.Col.{values};
+ghost use Rattle.tb_chunk.specs.Lent.{lent_columns};
+ghost use Rattle.tb_frame.specs.Frame.{taken};
+ghost use Rattle.tb_frame.specs.Join.{IsAnswer, cut};
+ghost use Rattle.tb_frame.specs.Refusal.{repeated_name, row_causes};
+ghost use Rattle.tb_frame.specs.Table.{height, table_of};
+ghost use Rattle.tb_gather.specs.Gathered.{NameRows, gathered};
+ghost use Rattle.tb_gather.specs.Ids.{Id, RunsBy};
+ghost use Rattle.tb_keys.specs.Asked.{asked};
+ghost use Rattle.tb_pairs.specs.KeyColumns.{AreAlike};
+ghost use Rattle.tb_dispatch.specs.Given.{AreKeys, CanCoalesce, StandBeside, by_match, by_series};
+ghost use Rattle.tb_dispatch.specs.Rows.{Rise, runs};
+
+use crate::memory::only_memory;
+use std::alloc::Global;
+use std::slice;
+use std::thread::Threads;
+use tb_frame::{DataFrame, IntoDf, JoinArgs, JoinType, kept_part};
+use tb_gather::TakeChunkedHorPar;
+use tb_hash::SeriesJoin;
+use tb_join::finish_join;
+use tb_keys::{LentRequest, check_answer_names};
+use tb_pairs::listed_pairs;
+use tb_pool::Exec;
+use tb_store::Series;
+use tb_value::{IdxSize, IsSorted, MAX_ROWS, OutOfMemory, PolarsResult, StandardChunkId};
+
+// The ids of a Left join ascend.
+fn runs(left_join: bool) -> IsSorted
+    ensures { result ≡ runs left_join }
+{
+    if left_join {
+        IsSorted::Ascending
+    } else {
+        IsSorted::Not
+    }
+}
+
+/// Tables made of the table that `self` lends, by rows or by a key column.
+pub trait JoinDispatch: IntoDf {
+    /// The rows that the ids name, each column in one chunk. Each id names a row of each column. With `left_join` the
+    /// ids ascend by chunk and row, and the columns keep their flags.
+    final fn create_left_df_chunked(
+        &self,
+        rt: &(impl Threads + Sync),
+        alloc: Global,
+        chunk_ids: &[StandardChunkId],
+        left_join: bool,
+        _was_sliced: bool,
+    ) -> Result<DataFrame, OutOfMemory>
+        requires present { All (λ (id : Id). IsSome id) chunk_ids.now }
+        requires named { All (NameRows chunk_ids.now) (Self.frame self.now) }
+        requires runs { RunsBy (runs left_join) chunk_ids.now }
+        requires few { length chunk_ids.now ≤ MAX_ROWS }
+        ensures { IfOk result (λ t. t ≡ map (gathered chunk_ids.now (runs left_join)) (Self.frame self.now)) }
+    {
+        let sorted = runs(left_join);
+        self.to_df()
+            ._take_chunked_unchecked_hor_par(rt, alloc, chunk_ids, sorted)
+    }
+
+    /// These rows of the table, each column in one chunk.
+    final fn _create_left_df_from_slice(
+        &self,
+        _rt: &(impl Threads + Sync),
+        alloc: Global,
+        join_tuples: &[IdxSize],
+        _left_join: bool,
+        _was_sliced: bool,
+        _sorted_tuple_idx: bool,
+    ) -> Result<DataFrame, OutOfMemory>
+        requires rows { All (λ r. r < height (table_of (Self.frame self.now))) join_tuples.now }
+        requires few { length join_tuples.now ≤ MAX_ROWS }
+        ensures { IfOk result (λ t. t ≡ map (taken join_tuples.now) (Self.frame self.now)) }
+    {
+        self.to_df().take(alloc, join_tuples)
+    }
+
+    /// Those of these rows of the table that the slice keeps. The row numbers rise.
+    final fn _finish_anti_semi_join(
+        &self,
+        _rt: &(impl Threads + Sync),
+        alloc: Global,
+        idx: &[IdxSize],
+        slice: Option<(i64, usize)>,
+    ) -> Result<DataFrame, OutOfMemory>
+        requires rows { All (λ r. r < height (table_of (Self.frame self.now))) idx.now }
+        requires rise { Rise idx.now }
+        ensures { IfOk result (λ t. t ≡ map (taken (cut slice idx.now)) (Self.frame self.now)) }
+    {
+        self.to_df().take(alloc, kept_part(idx, slice))
+    }
+
+    /// The Semi join of the table, by a key column that is as long as the table is high, with another key column of its
+    /// type, or with `anti` the Anti join.
+    final fn _semi_anti_join_from_series(
+        &self,
+        rt: &(impl Threads + Sync),
+        alloc: Global,
+        s_left: &Series,
+        s_right: &Series,
+        slice: Option<(i64, usize)>,
+        anti: bool,
+        join_nulls: bool,
+        exec: &Exec,
+    ) -> Result<DataFrame, OutOfMemory>
+        requires types { AreKeys s_left.now s_right.now }
+        requires rows { length (values s_left.now) ≡ height (table_of (Self.frame self.now)) }
+        ensures { IfOk result (λ t. IsAnswer (by_match anti join_nulls slice (Self.frame self.now) s_left.now s_right.now) (table_of t)) }
+    {
+        let rows = s_left.hash_join_semi_anti(rt, alloc, s_right, anti, join_nulls, exec);
+        let rows = only_memory(rows)?;
+        self._finish_anti_semi_join(rt, alloc, &rows, slice)
+    }
+
+    /// The Full join of the table with another, by one key column of each side; where the arguments ask for coalesced
+    /// columns, the table's columns of the keys' names are merged. The kind that the arguments name is not read.
+    ///
+    /// Each key column is as long as its table is high, and both have one key type. Where columns are coalesced, the
+    /// names of the keys are columns of their tables, and these have one type.
+    ///
+    /// # Errors
+    ///
+    /// The first of these that holds, or OutOfMemory:
+    /// 1. Duplicate: two columns of the answer, before any are merged, would have this name, the first that stood before;
+    /// 2. Validation: two left rows have equal keys and may not, and then two right rows;
+    /// 3. TooManyRows: there are more than `MAX_ROWS` pairs of rows before they are cut.
+    final fn _full_join_from_series(
+        &self,
+        rt: &(impl Threads + Sync),
+        alloc: Global,
+        other: &DataFrame,
+        s_left: &Series,
+        s_right: &Series,
+        args: JoinArgs,
+        exec: &Exec,
+    ) -> PolarsResult<DataFrame>
+        requires keys { StandBeside (Self.frame self.now) other.now s_left.now s_right.now }
+        requires merge { CanCoalesce (by_series JoinType.Full (Self.frame self.now) other.now s_left.now s_right.now args) }
+        ensures settles { Settles result (first_cause (repeated_name (by_series JoinType.Full (Self.frame self.now) other.now s_left.now s_right.now args) ∷ row_causes (by_series JoinType.Full (Self.frame self.now) other.now s_left.now s_right.now args))) }
+        ensures answer { IfOk result (λ t. IsAnswer (by_series JoinType.Full (Self.frame self.now) other.now s_left.now s_right.now args) (table_of t)) }
+    {
+        let request = LentRequest {
+            left: self.to_df(),
+            right: other,
+            left_on: slice::from_ref(s_left.name()),
+            right_on: slice::from_ref(s_right.name()),
+            left_keys: &[s_left],
+            right_keys: &[s_right],
+            how: JoinType::Full,
+            args: &args,
+        };
+        full_join(rt, alloc, &request, exec)
+    }
+}
+
+impl JoinDispatch for DataFrame {}
+
+// The Full join of a request.
+fn full_join(
+    rt: &(impl Threads + Sync),
+    alloc: Global,
+    request: &LentRequest<'_>,
+    exec: &Exec,
+) -> PolarsResult<DataFrame>
+    requires full { request.now.how ≡ JoinType.Full }
+    requires alike { AreAlike (lent_columns request.now.left_keys.now) (lent_columns request.now.right_keys.now) }
+    requires some_left { 0 < length request.now.left_on.now }
+    requires as_many { length request.now.left_on.now ≡ length request.now.right_on.now }
+    requires merge { CanCoalesce (asked request.now) }
+    ensures settles { Settles result (first_cause (repeated_name (asked request.now) ∷ row_causes (asked request.now))) }
+    ensures answer { IfOk result (λ t. IsAnswer (asked request.now) (table_of t)) }
+{
+    check_answer_names(alloc, request)?;
+    let pairs = listed_pairs(rt, alloc, request, exec)?;
+    finish_join(rt, alloc, request, &pairs)
+}
