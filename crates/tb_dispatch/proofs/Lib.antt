@@ -1,1 +1,7 @@
-
+pub mod Alone
+pub mod Cleared
+pub mod Cuts
+pub mod KeyColumns
+pub mod Level
+pub mod Mergeable
+pub mod Standing

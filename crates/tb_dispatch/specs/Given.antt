@@ -1,15 +1,20 @@
 -- Requests whose key columns are given beside the tables.
-use Rattle.std.specs.Prelude.{◌≡◌, ◌==◌, ℕ, Bool, true, if◌then◌else◌, List, [], ◌∷◌, map, length, Option, None, ℤ}
+use Rattle.std.specs.Prelude.{◌≡◌, ◌==◌, ◌&&◌, not, ℕ, Bool, true, if◌then◌else◌, List, [], ◌∷◌, map, length, Option, None, ℤ}
+use Rattle.std.specs.List.{list_all}
+use Rattle.tb_value.specs.Names.{Name}
+use Rattle.tb_value.specs.Refusals.{first_cause, when}
 use Rattle.tb_value.specs.SameKind.{is_key}
+use Rattle.tb_value.specs.declared.error.PolarsError.{PolarsError}
+use Rattle.tb_value.specs.declared.error.PolarsError.TheVariants.{ShapeMismatch}
 use Rattle.tb_chunk.specs.Col.{Col, values}
 use Rattle.tb_frame.specs.declared.args.JoinArgs.{JoinArgs}
 use Rattle.tb_frame.specs.declared.args.JoinType.{JoinType}
 use Rattle.tb_frame.specs.declared.args.JoinType.TheVariants.{Semi, Anti}
 use Rattle.tb_frame.specs.Join.{MergesAlike, Request}
 use Rattle.tb_frame.specs.Naming.{coalesces, merges_keys}
-use Rattle.tb_frame.specs.Refusal.{first_unknown}
+use Rattle.tb_frame.specs.Refusal.{first_unknown, fits, list_causes, name_causes}
 use Rattle.tb_frame.specs.Sides.{asking}
-use Rattle.tb_frame.specs.Table.{height, names_of, table_of}
+use Rattle.tb_frame.specs.Table.{height, names_of, plain, table_of}
 use Rattle.tb_join.specs.Asked.{plainly}
 
 -- the request by columns that are given, under their names
@@ -58,3 +63,16 @@ emptied c = record c { chunks = [] ∷ [] }
 
 abbrev pub cleared : ℕ → List Col → List Col
 cleared n keys = (if n == 0 then map emptied keys else keys)
+
+-- each key is as long as its table is high, or has one value beside a table without rows
+abbrev pub all_fit : ℕ → List Col → Bool
+all_fit n keys = list_all (λ (c : Col). fits n (plain c)) keys
+
+-- a key of a side is not
+abbrev pub misfit : List Col → List Col → List Col → List Col → Option PolarsError
+misfit left right left_keys right_keys = when (not (all_fit (height (table_of left)) left_keys && all_fit (height (table_of right)) right_keys)) ShapeMismatch
+
+-- the causes before the keys' types: unknown names, misfit keys, and then what the lists of names are refused for
+abbrev pub early_refusal : List Col → List Col → List Col → List Col → List Name → List Name → Option PolarsError
+early_refusal left right left_keys right_keys left_on right_on =
+    first_cause (first_cause (name_causes (table_of left) (table_of right) left_on right_on) ∷ misfit left right left_keys right_keys ∷ first_cause (list_causes left_on right_on) ∷ [])

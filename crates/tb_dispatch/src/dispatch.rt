@@ -1,17 +1,20 @@
 //! Tables by rows that were found before, and by one key column of each side.
-ghost use Rattle.std.specs.Prelude.{◌≡◌, ◌<◌, ◌≤◌, ◌∷◌, All, IfOk, IsSome, IsTrue, length, map};
+ghost use Rattle.std.specs.Prelude.{◌≡◌, ◌<◌, ◌≤◌, ◌⊎◌, ◌∷◌, [], All, IfOk, IsSome, length, map};
+ghost use Rattle.tb_value.specs.Pairs.{left_only};
 ghost use Rattle.tb_value.specs.Refusals.{Settles, first_cause};
 ghost use Rattle.tb_chunk.specs.Col.{values};
 ghost use Rattle.tb_chunk.specs.Lent.{lent_columns};
 ghost use Rattle.tb_frame.specs.Frame.{taken};
-ghost use Rattle.tb_frame.specs.Join.{IsAnswer, cut};
+ghost use Rattle.tb_frame.specs.Join.{IsAnswer, cut, listing, out};
 ghost use Rattle.tb_frame.specs.Refusal.{repeated_name, row_causes};
 ghost use Rattle.tb_frame.specs.Table.{height, table_of};
 ghost use Rattle.tb_gather.specs.Gathered.{NameRows, gathered};
 ghost use Rattle.tb_gather.specs.Ids.{Id, RunsBy};
+ghost use Rattle.tb_hash.specs.Hashing.{value_listing};
 ghost use Rattle.tb_keys.specs.Asked.{asked};
+ghost use Rattle.tb_join.specs.Ready.{CanMerge};
 ghost use Rattle.tb_pairs.specs.KeyColumns.{AreAlike};
-ghost use Rattle.tb_dispatch.specs.Given.{AreKeys, CanCoalesce, StandBeside, by_match, by_series};
+ghost use Rattle.tb_dispatch.specs.Given.{AreKeys, CanCoalesce, StandBeside, by_match, by_series, semi_or_anti};
 ghost use Rattle.tb_dispatch.specs.Rows.{Rise, runs};
 
 use crate::memory::only_memory;
@@ -91,7 +94,9 @@ pub trait JoinDispatch: IntoDf {
         requires rise { Rise idx.now }
         ensures { IfOk result (λ t. t ≡ map (taken (cut slice idx.now)) (Self.frame self.now)) }
     {
-        self.to_df().take(alloc, kept_part(idx, slice))
+        let table = self.to_df();
+        let _height = table.height();
+        table.take(alloc, kept_part(idx, slice))
     }
 
     /// The Semi join of the table, by a key column that is as long as the table is high, with another key column of its
@@ -111,8 +116,8 @@ pub trait JoinDispatch: IntoDf {
         requires rows { length (values s_left.now) ≡ height (table_of (Self.frame self.now)) }
         ensures { IfOk result (λ t. IsAnswer (by_match anti join_nulls slice (Self.frame self.now) s_left.now s_right.now) (table_of t)) }
     {
-        let rows = s_left.hash_join_semi_anti(rt, alloc, s_right, anti, join_nulls, exec);
-        let rows = only_memory(rows)?;
+        let _columns = self.to_df().get_columns();
+        let rows = rows_alone(rt, alloc, s_left, s_right, anti, join_nulls, exec)?;
         self._finish_anti_semi_join(rt, alloc, &rows, slice)
     }
 
@@ -143,34 +148,68 @@ pub trait JoinDispatch: IntoDf {
         ensures settles { Settles result (first_cause (repeated_name (by_series JoinType.Full (Self.frame self.now) other.now s_left.now s_right.now args) ∷ row_causes (by_series JoinType.Full (Self.frame self.now) other.now s_left.now s_right.now args))) }
         ensures answer { IfOk result (λ t. IsAnswer (by_series JoinType.Full (Self.frame self.now) other.now s_left.now s_right.now args) (table_of t)) }
     {
-        let request = LentRequest {
-            left: self.to_df(),
-            right: other,
-            left_on: slice::from_ref(s_left.name()),
-            right_on: slice::from_ref(s_right.name()),
-            left_keys: &[s_left],
-            right_keys: &[s_right],
-            how: JoinType::Full,
-            args: &args,
-        };
-        full_join(rt, alloc, &request, exec)
+        full_join_by(rt, alloc, self.to_df(), other, s_left, s_right, &args, exec)
     }
 }
 
 impl JoinDispatch for DataFrame {}
 
-// The Full join of a request.
-fn full_join(
+// The left rows that have a match, or with `anti` those that have none.
+fn rows_alone(
+    rt: &(impl Threads + Sync),
+    alloc: Global,
+    s_left: &Series,
+    s_right: &Series,
+    anti: bool,
+    join_nulls: bool,
+    exec: &Exec,
+) -> Result<Vec<IdxSize>, OutOfMemory>
+    requires { AreKeys s_left.now s_right.now }
+    ensures { IfOk result (λ v. map left_only v.items ≡ value_listing join_nulls (semi_or_anti anti) (values s_left.now) (values s_right.now)) }
+{
+    let answer = s_left.hash_join_semi_anti(rt, alloc, s_right, anti, join_nulls, exec);
+    only_memory(answer)
+}
+
+// The Full join by one key column of each side.
+fn full_join_by(
+    rt: &(impl Threads + Sync),
+    alloc: Global,
+    left: &DataFrame,
+    right: &DataFrame,
+    s_left: &Series,
+    s_right: &Series,
+    args: &JoinArgs,
+    exec: &Exec,
+) -> PolarsResult<DataFrame>
+    requires keys { StandBeside left.now right.now s_left.now s_right.now }
+    requires merge { CanCoalesce (by_series JoinType.Full left.now right.now s_left.now s_right.now args.now) }
+    ensures settles { Settles result (first_cause (repeated_name (by_series JoinType.Full left.now right.now s_left.now s_right.now args.now) ∷ row_causes (by_series JoinType.Full left.now right.now s_left.now s_right.now args.now))) }
+    ensures answer { IfOk result (λ t. IsAnswer (by_series JoinType.Full left.now right.now s_left.now s_right.now args.now) (table_of t)) }
+{
+    let request = LentRequest {
+        left,
+        right,
+        left_on: slice::from_ref(s_left.name()),
+        right_on: slice::from_ref(s_right.name()),
+        left_keys: &[s_left],
+        right_keys: &[s_right],
+        how: JoinType::Full,
+        args,
+    };
+    join_named(rt, alloc, &request, exec)
+}
+
+// The join of a request whose names alone are still to be looked at.
+fn join_named(
     rt: &(impl Threads + Sync),
     alloc: Global,
     request: &LentRequest<'_>,
     exec: &Exec,
 ) -> PolarsResult<DataFrame>
-    requires full { request.now.how ≡ JoinType.Full }
     requires alike { AreAlike (lent_columns request.now.left_keys.now) (lent_columns request.now.right_keys.now) }
-    requires some_left { 0 < length request.now.left_on.now }
-    requires as_many { length request.now.left_on.now ≡ length request.now.right_on.now }
-    requires merge { CanCoalesce (asked request.now) }
+    requires wide { (0 < length (out (asked request.now))) ⊎ (listing (asked request.now) ≡ []) }
+    requires merge { CanMerge (asked request.now) }
     ensures settles { Settles result (first_cause (repeated_name (asked request.now) ∷ row_causes (asked request.now))) }
     ensures answer { IfOk result (λ t. IsAnswer (asked request.now) (table_of t)) }
 {

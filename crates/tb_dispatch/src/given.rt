@@ -1,14 +1,12 @@
 //! The join by key columns that are given.
-ghost use Rattle.std.specs.Prelude.{◌≡◌, ◌&&◌, ◌∷◌, [], IfOk, not};
-ghost use Rattle.std.specs.List.{list_all};
-ghost use Rattle.tb_value.specs.Refusals.{Settles, SettlesOutright, first_cause, when};
-ghost use Rattle.tb_value.specs.declared.error.PolarsError.TheVariants.{ShapeMismatch};
+ghost use Rattle.std.specs.Prelude.{◌≡◌, IfOk};
+ghost use Rattle.tb_value.specs.Refusals.{Settles, SettlesOutright, first_cause};
 ghost use Rattle.tb_chunk.specs.Lent.{lent_columns};
 ghost use Rattle.tb_frame.specs.Join.{IsAnswer, MergesAlike};
-ghost use Rattle.tb_frame.specs.Refusal.{fits, given_refusal, key_shapes, list_causes, name_causes};
-ghost use Rattle.tb_frame.specs.Table.{height, names_of, table_of};
-ghost use Rattle.tb_keys.specs.Causes.{later_refusal};
-ghost use Rattle.tb_dispatch.specs.Given.{cleared, given};
+ghost use Rattle.tb_frame.specs.Refusal.{fits, given_refusal, name_causes};
+ghost use Rattle.tb_frame.specs.Table.{height, names_of, plain, table_of};
+ghost use Rattle.tb_keys.specs.Rows.{HasRows};
+ghost use Rattle.tb_dispatch.specs.Given.{all_fit, cleared, early_refusal, given, misfit};
 
 use std::alloc::Global;
 use std::thread::Threads;
@@ -42,7 +40,7 @@ pub trait GivenJoin: IntoDf {
         args: JoinArgs,
         exec: &Exec,
     ) -> PolarsResult<DataFrame>
-        requires merge { MergesAlike (given (Self.frame self.now) other.now selected_left.items selected_right.items args) }
+        requires { MergesAlike (given (Self.frame self.now) other.now selected_left.items selected_right.items args) }
         ensures settles { Settles result (given_refusal (given (Self.frame self.now) other.now selected_left.items selected_right.items args)) }
         ensures answer { IfOk result (λ t. IsAnswer (given (Self.frame self.now) other.now selected_left.items selected_right.items args) (table_of t)) }
     {
@@ -66,9 +64,15 @@ fn key_names(alloc: Global, keys: &[Series]) -> Result<Vec<PlSmallStr>, OutOfMem
     Ok(names)
 }
 
-// The columns, lent one by one.
-fn lent_keys(alloc: Global, keys: &[Series]) -> Result<Vec<&Series>, OutOfMemory>
-    ensures { IfOk result (λ v. lent_columns v.items ≡ keys.now) }
+// The columns beside a table, lent one by one.
+fn lent_keys<'a>(
+    alloc: Global,
+    _table: &DataFrame,
+    keys: &'a [Series],
+) -> Result<Vec<&'a Series>, OutOfMemory>
+    requires { HasRows (height (table_of _table.now)) keys.now }
+    ensures lent { IfOk result (λ v. lent_columns v.items ≡ keys.now) }
+    ensures rows { IfOk result (λ v. HasRows (height (table_of _table.now)) (lent_columns v.items)) }
 {
     let mut lent = Vec::with_capacity(alloc, keys.len())?;
     for key in keys {
@@ -92,12 +96,22 @@ fn check_names(
     Ok(())
 }
 
-// Whether each key is as long as its table is high, or has one value where that has no rows.
-fn all_fit(height: usize, keys: &[Series]) -> bool
-    ensures { result ≡ list_all (fits height) (table_of keys.now) }
+// Whether a key is as long as its table is high, or has one value where that has no rows.
+fn fits(height: usize, key: &Series) -> bool
+    ensures { result ≡ fits height (plain key.now) }
 {
-    keys.iter()
-        .all(|key| key.len() == height || height == 0 && key.len() == 1)
+    key.len() == height || height == 0 && key.len() == 1
+}
+
+fn all_fit(height: usize, keys: &[Series]) -> bool
+    ensures { result ≡ all_fit height keys.now }
+{
+    for key in keys {
+        if !fits(height, key) {
+            return false;
+        }
+    }
+    true
 }
 
 // Refuses keys of another length (ShapeMismatch).
@@ -107,7 +121,7 @@ fn check_shapes(
     left_keys: &[Series],
     right_keys: &[Series],
 ) -> PolarsResult<()>
-    ensures { SettlesOutright result (when (not (list_all (fits (height (table_of left.now))) (table_of left_keys.now) && list_all (fits (height (table_of right.now))) (table_of right_keys.now))) ShapeMismatch) }
+    ensures { SettlesOutright result (misfit left.now right.now left_keys.now right_keys.now) }
 {
     if all_fit(left.height(), left_keys) && all_fit(right.height(), right_keys) {
         Ok(())
@@ -141,9 +155,7 @@ fn check_given(
     left_on: &[PlSmallStr],
     right_on: &[PlSmallStr],
 ) -> PolarsResult<()>
-    ensures { Settles result (first_cause (first_cause (name_causes (table_of left.now) (table_of right.now) left_on.now right_on.now)
-        ∷ when (not (list_all (fits (height (table_of left.now))) (table_of left_keys.now) && list_all (fits (height (table_of right.now))) (table_of right_keys.now))) ShapeMismatch
-        ∷ first_cause (list_causes left_on.now right_on.now) ∷ [])) }
+    ensures { Settles result (early_refusal left.now right.now left_keys.now right_keys.now left_on.now right_on.now) }
 {
     check_names(alloc, left, right, left_on, right_on)?;
     check_shapes(left, right, left_keys, right_keys)?;
@@ -171,8 +183,8 @@ fn join_given(
     )?;
     let left_keys = cleared(alloc, left.height(), left_keys)?;
     let right_keys = cleared(alloc, right.height(), right_keys)?;
-    let left_lent = lent_keys(alloc, &left_keys)?;
-    let right_lent = lent_keys(alloc, &right_keys)?;
+    let left_lent = lent_keys(alloc, left, &left_keys)?;
+    let right_lent = lent_keys(alloc, right, &right_keys)?;
     let request = LentRequest {
         left,
         right,

@@ -49,5 +49,6 @@ pub fn _finish_join(
     let suffix = suffix_text(&suffix);
     let left = df_left.into_columns();
     let right = df_right.into_columns();
-    DataFrame::new(alloc, side_by_side(alloc, left, right, suffix)?)
+    let columns = side_by_side(alloc, left, right, suffix)?;
+    DataFrame::new(alloc, columns)
 }

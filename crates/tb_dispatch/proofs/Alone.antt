@@ -1,0 +1,106 @@
+-- The rows of a Semi or Anti join.
+use Rattle.std.proofs.Common.{◌≡◌, ◌<◌, ◌∙◌, ℕ, Bool, true, false, ◌⊎◌, inl, inr, List, [], ◌∷◌, length, map, refl, ap, sym, subst, append-nil, arith, Option, Some, None}
+use Rattle.std.specs.Prelude.{All, IsSorted, filter, unwrap_or, ℤ}
+use Rattle.std.proofs.lemmas.List.{nil_from_length}
+use Rattle.std.proofs.lemmas.List.Elements.{All-filter}
+use Rattle.std.proofs.lemmas.List.Sorted.{IsPermutation-refl}
+use Rattle.tb_value.specs.Pairs.{left_first, left_only, row_numbers}
+use Rattle.tb_value.specs.declared.index.JoinPair.{JoinPair}
+use Rattle.tb_value.proofs.Ascending.{kept_ascend, left_met-sorted, left_unmet-sorted, pairs_from-Ascends_by}
+use Rattle.tb_value.proofs.Loops.{map-map}
+use Rattle.tb_chunk.specs.Col.{Col, values}
+use Rattle.tb_chunk.specs.Rows.{value_or_null}
+use Rattle.tb_frame.specs.Answer.{IsListed, fill}
+use Rattle.tb_frame.specs.Frame.{opt_taken, taken, without_names}
+use Rattle.tb_frame.specs.Join.{IsAnswer, IsOrdered, Request, cut, listing, out}
+use Rattle.tb_frame.specs.Table.{IsTable, Table, height, table_of}
+use Rattle.tb_frame.specs.declared.args.MaintainOrderJoin.TheVariants as order
+use Rattle.tb_frame.proofs.Assembled.{makes_answer}
+use Rattle.tb_frame.proofs.Ranges.{rows_below}
+use Rattle.tb_frame.proofs.Taking.{IsTable-taken}
+use Rattle.tb_hash.specs.Hashing.{value_listing}
+use Rattle.tb_join.proofs.AnswerMade.{columns-are}
+use Rattle.tb_join.proofs.KeptColumns.{without_names_none}
+use Rattle.tb_pairs.proofs.Requested.{columns_listed, one_listed}
+use Rattle.tb_dispatch.specs.Given.{by_match, semi_or_anti}
+use Rattle.tb_dispatch.specs.Rows.{Rise}
+use Rattle.tb_dispatch.proofs.Cuts.{cut-map, few_risen}
+
+cut_none : (s : Option (ℤ × ℕ)) → cut s (map left_only []) ≡ []
+cut_none None = refl
+cut_none (Some s) = refl
+
+-- the numbers of rows alone
+numbers : (rows : List ℕ) → map (λ (p : JoinPair). unwrap_or p.left 0) (map left_only rows) ≡ rows
+numbers [] = refl
+numbers (i ∷ rows) = ap (λ (is : List ℕ). i ∷ is) (numbers rows)
+
+same_numbers : (rows is : List ℕ) → map left_only rows ≡ map left_only is → rows ≡ is
+same_numbers rows is e = sym (numbers rows) ∙ ap (map (λ (p : JoinPair). unwrap_or p.left 0)) e ∙ numbers is
+
+taken-is : (rows : List ℕ) (c : Col) → taken rows c ≡ opt_taken (map (λ (i : ℕ). Some i) rows) c
+taken-is rows c = λ t. record c { chunks = sym (map-map (value_or_null (values c)) (λ (i : ℕ). Some i) rows) t ∷ []; flag = (taken rows c).flag }
+
+module _ (nulls anti : Bool) (l r : Col) (rows : List ℕ) (is : map left_only rows ≡ value_listing nulls (semi_or_anti anti) (values l) (values r)) where
+  -- those of the left key column that pass a test
+  kept : (p : ℕ → Bool) × (rows ≡ filter p (row_numbers (length (values l))))
+  kept = at anti is
+    where
+      at : (b : Bool) → map left_only rows ≡ value_listing nulls (semi_or_anti b) (values l) (values r) → (p : ℕ → Bool) × (rows ≡ filter p (row_numbers (length (values l))))
+      at true e = (_, same_numbers rows _ e)
+      at false e = (_, same_numbers rows _ e)
+
+  pub rise : Rise rows
+  rise = subst Rise (sym kept.1) (pairs_from-Ascends_by ◌<◌ (filter kept.0 (row_numbers (length (values l)))) (kept_ascend kept.0 0 (length (values l))))
+
+  pub within : (n : ℕ) → length (values l) ≡ n → All (λ i. i < n) rows
+  within n e =
+      subst (λ (k : ℕ). All (λ i. i < k) rows) e
+      (subst (λ (xs : List ℕ). All (λ i. i < length (values l)) xs) (sym kept.1) (All-filter kept.0 (λ i. i < length (values l)) (row_numbers (length (values l))) (rows_below (length (values l)))))
+
+  module _ (s : Option (ℤ × ℕ)) (left : List Col) (table : IsTable (table_of left)) (high : length (values l) ≡ height (table_of left)) where
+    abbrev q : Request
+    q = by_match anti nulls s left l r
+
+    abbrev items : List JoinPair
+    items = cut s (map left_only rows)
+
+    listing_is : map left_only rows ≡ listing q
+    listing_is = is ∙ one_listed nulls (semi_or_anti anti) (l ∷ []) (r ∷ []) l r refl refl ∙ columns_listed nulls (semi_or_anti anti) (l ∷ []) (r ∷ []) (height (table_of left)) (length (values r)) refl high refl
+
+    ordered : IsOrdered (semi_or_anti anti) order.None (map left_only rows) (listing q)
+    ordered = subst (λ (ps : List JoinPair). IsOrdered (semi_or_anti anti) order.None (map left_only rows) ps) listing_is (at anti is)
+      where
+        at : (b : Bool) → map left_only rows ≡ value_listing nulls (semi_or_anti b) (values l) (values r) → IsOrdered (semi_or_anti b) order.None (map left_only rows) (map left_only rows)
+        at true e = record { permutation = IsPermutation-refl (map left_only rows); ascends = subst (IsSorted left_first) (sym e) (left_unmet-sorted (length (values l)) (length (values r)) _) }
+        at false e = record { permutation = IsPermutation-refl (map left_only rows); ascends = subst (IsSorted left_first) (sym e) (left_met-sorted (length (values l)) (length (values r)) _) }
+
+    listed : IsListed q.args.how q.args.maintain_order q.args.slice (listing q) items
+    listed = record { pairs = map left_only rows; ordered = ordered; is = refl }
+
+    lefts : map (λ (p : JoinPair). p.left) items ≡ map (λ (i : ℕ). Some i) (cut s rows)
+    lefts = ap (map (λ (p : JoinPair). p.left)) (cut-map left_only s rows) ∙ map-map (λ (p : JoinPair). p.left) left_only (cut s rows)
+
+    made : map (taken (cut s rows)) left ≡ map (opt_taken (map (λ (p : JoinPair). p.left) items)) (without_names [] left)
+    made = (λ t. map (λ (c : Col). taken-is (cut s rows) c t) left) ∙ (λ t. map (opt_taken (sym lefts t)) (sym (without_names_none left) t))
+
+    columns : table_of (map (taken (cut s rows)) left) ≡ map (fill items) (out q)
+    columns = at anti
+      where
+        at : (b : Bool) → table_of (map (taken (cut s rows)) left) ≡ map (fill items) (out (by_match b nulls s left l r))
+        at true = ap table_of (made ∙ sym (append-nil (map (opt_taken (map (λ (p : JoinPair). p.left) items)) (without_names [] left)))) ∙ columns-are (by_match true nulls s left l r) left (r ∷ []) items refl refl refl
+        at false = ap table_of (made ∙ sym (append-nil (map (opt_taken (map (λ (p : JoinPair). p.left) items)) (without_names [] left)))) ∙ columns-are (by_match false nulls s left l r) left (r ∷ []) items refl refl refl
+
+    pub alone_answer : IsAnswer q (table_of (map (taken (cut s rows)) left))
+    alone_answer = makes_answer q items (table_of (map (taken (cut s rows)) left)) columns (at left table high) (IsTable-taken (cut s rows) left table) listed
+      where
+        none : (n : ℕ) → length (values l) ≡ n → n ≡ 0 → rows ≡ []
+        none n e zero = nil_from_length rows (let few = few_risen n rows rise (within n e) in omega (arith, few, zero))
+
+        at : (cs : List Col) → IsTable (table_of cs) → length (values l) ≡ height (table_of cs) → (0 < length (out (by_match anti nulls s cs l r))) ⊎ (items ≡ [])
+        at [] t e = inr (ap (λ (xs : List ℕ). cut s (map left_only xs)) (none 0 e refl) ∙ cut_none s)
+        at (c ∷ cs) t e = inl (first anti)
+          where
+            first : (b : Bool) → 0 < length (out (by_match b nulls s (c ∷ cs) l r))
+            first true = omega arith
+            first false = omega arith

@@ -1,0 +1,31 @@
+use Rattle.std.proofs.Common.{◌≡◌, ◌∙◌, ◌<◌, ◌⊎◌, ◌∷◌, [], List, length, ap, sym, subst}
+use Rattle.std.specs.Prelude.{IfOk}
+use Rattle.tb_value.specs.Names.{Name}
+use Rattle.tb_value.specs.Refusals.{Settles, first_cause}
+use Rattle.tb_frame.specs.declared.args.JoinType.TheVariants.{Full}
+use Rattle.tb_frame.specs.Join.{IsAnswer, Request, listing, out}
+use Rattle.tb_frame.specs.Refusal.{repeated_name, row_causes}
+use Rattle.tb_frame.specs.Table.{table_of}
+use Rattle.tb_join.specs.Ready.{CanMerge}
+use Rattle.tb_dispatch.specs.Given.{by_series}
+use Rattle.tb_dispatch.proofs.KeyColumns.{alike_one, can_merge, full_wide, series_is}
+use Rattle.tb_dispatch.proofs.dispatch.full_join_by.Goals as goal
+
+pub join_named-requires-clause-alike : goal.join_named-requires-clause-alike
+join_named-requires-clause-alike g c κs within = alike_one c.args.s_left.now c.args.s_right.now c.requires.keys.types
+
+pub join_named-requires-clause-wide : goal.join_named-requires-clause-wide
+join_named-requires-clause-wide g c κs within =
+    subst (λ (q : Request). (0 < length (out q)) ⊎ (listing q ≡ [])) (sym (series_is c.args.left.now c.args.right.now c.args.s_left.now c.args.s_right.now c.args.args.now c.from_ref.result.now c.from_ref-2.result.now (c.from_ref.ensures.value ∙ ap (λ (n : Name). n ∷ []) c.name.ensures) (c.from_ref-2.ensures.value ∙ ap (λ (n : Name). n ∷ []) c.name-2.ensures))) (full_wide c.args.left.now c.args.right.now c.args.s_left.now c.args.s_right.now c.args.args.now c.requires.merge)
+
+pub join_named-requires-clause-merge : goal.join_named-requires-clause-merge
+join_named-requires-clause-merge g c κs within =
+    subst CanMerge (sym (series_is c.args.left.now c.args.right.now c.args.s_left.now c.args.s_right.now c.args.args.now c.from_ref.result.now c.from_ref-2.result.now (c.from_ref.ensures.value ∙ ap (λ (n : Name). n ∷ []) c.name.ensures) (c.from_ref-2.ensures.value ∙ ap (λ (n : Name). n ∷ []) c.name-2.ensures))) (can_merge c.args.left.now c.args.right.now c.args.s_left.now c.args.s_right.now c.args.args.now c.requires.merge)
+
+pub returns-clause-settles : goal.returns-clause-settles
+returns-clause-settles g c =
+    subst (λ (q : Request). Settles c.join_named.result (first_cause (repeated_name q ∷ row_causes q))) (series_is c.args.left.now c.args.right.now c.args.s_left.now c.args.s_right.now c.args.args.now c.from_ref.result.now c.from_ref-2.result.now (c.from_ref.ensures.value ∙ ap (λ (n : Name). n ∷ []) c.name.ensures) (c.from_ref-2.ensures.value ∙ ap (λ (n : Name). n ∷ []) c.name-2.ensures)) c.join_named.ensures.settles
+
+pub returns-clause-answer : goal.returns-clause-answer
+returns-clause-answer g c =
+    subst (λ (q : Request). IfOk c.join_named.result (λ t. IsAnswer q (table_of t))) (series_is c.args.left.now c.args.right.now c.args.s_left.now c.args.s_right.now c.args.args.now c.from_ref.result.now c.from_ref-2.result.now (c.from_ref.ensures.value ∙ ap (λ (n : Name). n ∷ []) c.name.ensures) (c.from_ref-2.ensures.value ∙ ap (λ (n : Name). n ∷ []) c.name-2.ensures)) c.join_named.ensures.answer
