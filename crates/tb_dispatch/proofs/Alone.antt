@@ -13,7 +13,7 @@ use Rattle.tb_chunk.specs.Rows.{value_or_null}
 use Rattle.tb_frame.specs.Answer.{IsListed, fill}
 use Rattle.tb_frame.specs.Frame.{opt_taken, taken, without_names}
 use Rattle.tb_frame.specs.Join.{IsAnswer, IsOrdered, Request, cut, listing, out}
-use Rattle.tb_frame.specs.Table.{IsTable, Table, height, table_of}
+use Rattle.tb_frame.specs.Table.{IsTable, height, table_of}
 use Rattle.tb_frame.specs.declared.args.MaintainOrderJoin.TheVariants as order
 use Rattle.tb_frame.proofs.Assembled.{makes_answer}
 use Rattle.tb_frame.proofs.Ranges.{rows_below}

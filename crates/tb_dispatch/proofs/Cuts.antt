@@ -1,6 +1,6 @@
 -- Parts of lists, and of rows that rise.
-use Rattle.std.proofs.Common.{◌≡◌, ◌≤◌, ◌<◌, ◌+◌, ◌-◌, ◌∙◌, ℕ, zero, suc, List, [], ◌∷◌, length, get_or, map, take, drop, refl, ap, sym, subst, arith, ℤ, Option, Some, None}
-use Rattle.std.specs.Prelude.{All, IsPermutation}
+use Rattle.std.proofs.Common.{◌≡◌, ◌≤◌, ◌<◌, ◌+◌, ◌-◌, ◌∙◌, ℕ, zero, suc, List, [], ◌∷◌, length, map, take, drop, refl, ap, sym, arith, ℤ, Option, Some, None}
+use Rattle.std.specs.Prelude.{All}
 use Rattle.std.proofs.lemmas.List.{drop-map, length-drop, length-map, length-take, nil_from_length}
 use Rattle.std.proofs.lemmas.List.Elements.{All-head, All-tail, All-weaker}
 use Rattle.std.proofs.lemmas.List.Sorted.{length_permutation}

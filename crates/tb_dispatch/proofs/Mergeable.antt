@@ -12,7 +12,7 @@ use Rattle.tb_chunk.proofs.Merging.{length-merged}
 use Rattle.tb_frame.specs.Frame.{frame_refusal, selected, without_names}
 use Rattle.tb_frame.specs.Naming.{is_among}
 use Rattle.tb_frame.specs.Refusal.{first_repeated, unknown_key}
-use Rattle.tb_frame.specs.Table.{IsTable, Table, height, names_of, table_of}
+use Rattle.tb_frame.specs.Table.{IsTable, height, names_of, table_of}
 use Rattle.tb_frame.proofs.Causes.{unrepeated_names}
 use Rattle.tb_frame.proofs.Frames.{IsTable-where, no_refusal, without-table}
 use Rattle.tb_frame.proofs.Selected.{selected-table}

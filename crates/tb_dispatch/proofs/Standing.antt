@@ -1,5 +1,5 @@
 -- Two lists of names, place by place.
-use Rattle.std.proofs.Common.{◌≡◌, ◌<◌, ◌++◌, ◌+◌, ℕ, zero, suc, List, [], ◌∷◌, length, get_or, map, take, ap, sym, arith}
+use Rattle.std.proofs.Common.{◌≡◌, ◌<◌, ◌++◌, ℕ, zero, suc, List, [], ◌∷◌, length, get_or, map, take, ap, sym, arith}
 use Rattle.std.specs.List.{zip}
 
 -- the pairs of one more place

@@ -46,7 +46,14 @@ pub trait GivenJoin: IntoDf {
     {
         let left = self.to_df();
         join_given(
-            rt, alloc, left, other, selected_left, selected_right, &args, exec,
+            rt,
+            alloc,
+            left,
+            other,
+            selected_left,
+            selected_right,
+            &args,
+            exec,
         )
     }
 }
@@ -172,14 +179,20 @@ fn join_given(
     args: &JoinArgs,
     exec: &Exec,
 ) -> PolarsResult<DataFrame>
-    requires { MergesAlike (given left.now right.now left_keys.items right_keys.items args.now) }
+    requires merge { MergesAlike (given left.now right.now left_keys.items right_keys.items args.now) }
     ensures settles { Settles result (given_refusal (given left.now right.now left_keys.items right_keys.items args.now)) }
     ensures answer { IfOk result (λ t. IsAnswer (given left.now right.now left_keys.items right_keys.items args.now) (table_of t)) }
 {
     let left_on = key_names(alloc, &left_keys)?;
     let right_on = key_names(alloc, &right_keys)?;
     check_given(
-        alloc, left, right, &left_keys, &right_keys, &left_on, &right_on,
+        alloc,
+        left,
+        right,
+        &left_keys,
+        &right_keys,
+        &left_on,
+        &right_on,
     )?;
     let left_keys = cleared(alloc, left.height(), left_keys)?;
     let right_keys = cleared(alloc, right.height(), right_keys)?;

@@ -1,10 +1,8 @@
-use Rattle.std.proofs.Common.{◌≡◌, ◌≤◌, ◌∙◌, List, Option, length, None, ap, sym, subst}
+use Rattle.std.proofs.Common.{◌≡◌, ◌≤◌, ◌∙◌, List, length, None, ap, sym, subst}
 use Rattle.std.specs.Prelude.{All, IfOk}
 use Rattle.std.specs.Option.{ForSome}
-use Rattle.tb_value.specs.Refusals.{Settles}
-use Rattle.tb_value.specs.declared.error.PolarsError.{PolarsError}
 use Rattle.tb_chunk.specs.Col.{Col}
-use Rattle.tb_frame.specs.Frame.{frame_refusal, selected, without_names}
+use Rattle.tb_frame.specs.Frame.{frame_refusal, selected}
 use Rattle.tb_frame.specs.Refusal.{unknown_key}
 use Rattle.tb_frame.specs.Table.{table_of}
 use Rattle.tb_keys.specs.Merging.{key_beside}

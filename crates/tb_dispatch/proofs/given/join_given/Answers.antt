@@ -53,6 +53,12 @@ lent_keys-requires-2 g c =
     let args = c.args.args.now in
     subst (λ (cs : List Col). HasRows (height (table_of right)) cs) (sym (c.deref-8.ensures.value ∙ c.in_ok-right_keys.ensures ∙ (λ t. cleared (c.height-2.ensures.height t) rk))) (right_fit left right lk rk args (sym (none_of left right lk rk c.deref-3.result.now c.deref-4.result.now c.deref-5.result.now c.deref-6.result.now c.deref-3.ensures.value c.deref-4.ensures.value (c.deref-5.ensures.value ∙ c.in_ok-left_on.ensures ∙ ap (λ (cs : List Col). names_of (table_of cs)) c.deref.ensures.value) (c.deref-6.ensures.value ∙ c.in_ok-right_on.ensures ∙ ap (λ (cs : List Col). names_of (table_of cs)) c.deref-2.ensures.value)) ∙ c.in_ok-check_given.ensures))
 
+pub invariant_of-request-clause-left_rows : goal.invariant_of-request-clause-left_rows
+invariant_of-request-clause-left_rows g c = subst (λ (rs : List (Bor Col)). HasRows (height (table_of c.args.left.now)) (lent_columns rs)) (sym c.deref-11.ensures.value) c.in_ok-left_lent.ensures.rows
+
+pub invariant_of-request-clause-right_rows : goal.invariant_of-request-clause-right_rows
+invariant_of-request-clause-right_rows g c = subst (λ (rs : List (Bor Col)). HasRows (height (table_of c.args.right.now)) (lent_columns rs)) (sym c.deref-12.ensures.value) c.in_ok-right_lent.ensures.rows
+
 pub join_columns-requires-clause-some : goal.join_columns-requires-clause-some
 join_columns-requires-clause-some g c κs within =
     let left = c.args.left.now in
@@ -94,7 +100,7 @@ join_columns-requires-clause-merge g c κs within =
     let lk = c.args.left_keys.items in
     let rk = c.args.right_keys.items in
     let args = c.args.args.now in
-    subst (λ (q : Request). key_types q ≡ None → CanMerge q) (sym (fitted_is left right lk rk args c.deref-9.result.now c.deref-10.result.now (lent_columns c.deref-11.result.now) (lent_columns c.deref-12.result.now) (c.deref-9.ensures.value ∙ c.in_ok-left_on.ensures ∙ ap (λ (cs : List Col). names_of (table_of cs)) c.deref.ensures.value) (c.deref-10.ensures.value ∙ c.in_ok-right_on.ensures ∙ ap (λ (cs : List Col). names_of (table_of cs)) c.deref-2.ensures.value) (ap lent_columns c.deref-11.ensures.value ∙ c.in_ok-left_lent.ensures.lent ∙ (c.deref-7.ensures.value ∙ c.in_ok-left_keys.ensures ∙ (λ t. cleared (c.height.ensures.height t) lk))) (ap lent_columns c.deref-12.ensures.value ∙ c.in_ok-right_lent.ensures.lent ∙ (c.deref-8.ensures.value ∙ c.in_ok-right_keys.ensures ∙ (λ t. cleared (c.height-2.ensures.height t) rk))))) (λ types. mergeable left right lk rk args (sym (none_of left right lk rk c.deref-3.result.now c.deref-4.result.now c.deref-5.result.now c.deref-6.result.now c.deref-3.ensures.value c.deref-4.ensures.value (c.deref-5.ensures.value ∙ c.in_ok-left_on.ensures ∙ ap (λ (cs : List Col). names_of (table_of cs)) c.deref.ensures.value) (c.deref-6.ensures.value ∙ c.in_ok-right_on.ensures ∙ ap (λ (cs : List Col). names_of (table_of cs)) c.deref-2.ensures.value)) ∙ c.in_ok-check_given.ensures) c.requires)
+    subst (λ (q : Request). key_types q ≡ None → CanMerge q) (sym (fitted_is left right lk rk args c.deref-9.result.now c.deref-10.result.now (lent_columns c.deref-11.result.now) (lent_columns c.deref-12.result.now) (c.deref-9.ensures.value ∙ c.in_ok-left_on.ensures ∙ ap (λ (cs : List Col). names_of (table_of cs)) c.deref.ensures.value) (c.deref-10.ensures.value ∙ c.in_ok-right_on.ensures ∙ ap (λ (cs : List Col). names_of (table_of cs)) c.deref-2.ensures.value) (ap lent_columns c.deref-11.ensures.value ∙ c.in_ok-left_lent.ensures.lent ∙ (c.deref-7.ensures.value ∙ c.in_ok-left_keys.ensures ∙ (λ t. cleared (c.height.ensures.height t) lk))) (ap lent_columns c.deref-12.ensures.value ∙ c.in_ok-right_lent.ensures.lent ∙ (c.deref-8.ensures.value ∙ c.in_ok-right_keys.ensures ∙ (λ t. cleared (c.height-2.ensures.height t) rk))))) (λ types. mergeable left right lk rk args (sym (none_of left right lk rk c.deref-3.result.now c.deref-4.result.now c.deref-5.result.now c.deref-6.result.now c.deref-3.ensures.value c.deref-4.ensures.value (c.deref-5.ensures.value ∙ c.in_ok-left_on.ensures ∙ ap (λ (cs : List Col). names_of (table_of cs)) c.deref.ensures.value) (c.deref-6.ensures.value ∙ c.in_ok-right_on.ensures ∙ ap (λ (cs : List Col). names_of (table_of cs)) c.deref-2.ensures.value)) ∙ c.in_ok-check_given.ensures) c.requires.merge)
 
 pub returns-clause-settles : goal.returns-clause-settles
 returns-clause-settles g c =

@@ -1,4 +1,4 @@
-use Rattle.std.proofs.Common.{◌≡◌, ◌∙◌, List, Option, ℕ, map, sym, subst}
+use Rattle.std.proofs.Common.{◌∙◌, List, Option, ℕ, map, sym, subst}
 use Rattle.std.specs.Prelude.{All}
 use Rattle.std.proofs.lemmas.List.Elements.{All-weaker}
 use Rattle.tb_value.specs.declared.index.JoinPair.{JoinPair}

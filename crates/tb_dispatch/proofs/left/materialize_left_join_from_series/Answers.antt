@@ -1,21 +1,18 @@
-use Rattle.std.proofs.Common.{◌≡◌, ◌∙◌, ◌≤◌, ◌++◌, List, Option, None, length, map, ap, sym, subst, arith}
-use Rattle.std.specs.Prelude.{All, IfOk}
-use Rattle.std.proofs.lemmas.Result.{IfOk-weaker}
+use Rattle.std.proofs.Common.{◌∙◌, ◌≤◌, List, None, length, map, sym, subst, arith}
+use Rattle.std.specs.Prelude.{All}
 use Rattle.tb_value.specs.declared.error.ComputeCause.TheVariants.{TooManyRows}
-use Rattle.tb_value.specs.declared.error.PolarsError.{PolarsError}
 use Rattle.tb_value.specs.declared.error.PolarsError.TheVariants.{ComputeError}
 use Rattle.tb_value.specs.declared.index.JoinPair.{JoinPair}
 use Rattle.tb_value.specs.declared.limits.TheConstants.{MAX_ROWS}
 use Rattle.tb_frame.specs.declared.args.JoinType.TheVariants.{Left}
 use Rattle.tb_frame.specs.Answer.{IsPairOf}
 use Rattle.tb_frame.specs.Frame.{opt_taken, without_names}
-use Rattle.tb_frame.specs.Join.{Request, listing}
+use Rattle.tb_frame.specs.Join.{listing}
 use Rattle.tb_frame.specs.Refusal.{row_causes}
-use Rattle.tb_frame.specs.Table.{height, table_of}
+use Rattle.tb_frame.specs.Table.{height}
 use Rattle.tb_frame.proofs.Assembled.{few_listed, pairs_in_range}
 use Rattle.tb_frame.proofs.Causes.{no_cause, when_not_above}
 use Rattle.tb_dispatch.specs.Given.{by_series}
-use Rattle.tb_dispatch.specs.Halves.{AreOver, dropped}
 use Rattle.tb_dispatch.proofs.KeyColumns.{alike_one}
 use Rattle.tb_dispatch.proofs.left.materialize_left_join_from_series.Goals as goal
 

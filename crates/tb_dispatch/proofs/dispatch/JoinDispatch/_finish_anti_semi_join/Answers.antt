@@ -1,9 +1,6 @@
-use Rattle.std.proofs.Common.{◌≡◌, ◌∙◌, ◌<◌, ◌≤◌, ℕ, List, length, map, ap, sym, subst, arith}
+use Rattle.std.proofs.Common.{◌<◌, ℕ, List, length, ap, sym, subst, arith}
 use Rattle.std.specs.Prelude.{All}
-use Rattle.tb_value.specs.declared.limits.TheConstants.{MAX_ROWS}
 use Rattle.tb_chunk.specs.Col.{Col}
-use Rattle.tb_frame.specs.Frame.{taken}
-use Rattle.tb_frame.specs.Join.{cut}
 use Rattle.tb_frame.specs.Table.{height, table_of}
 use Rattle.tb_frame.proofs.Ranges.{All-cut}
 use Rattle.tb_dispatch.proofs.Cuts.{cut_short, few_risen}

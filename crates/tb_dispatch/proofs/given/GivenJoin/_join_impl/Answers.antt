@@ -8,8 +8,8 @@ use Rattle.tb_join.proofs.Finishing.{settled}
 use Rattle.tb_dispatch.specs.Given.{given}
 use Rattle.tb_dispatch.proofs.given.GivenJoin._join_impl.Goals as goal
 
-pub join_given-requires : goal.join_given-requires
-join_given-requires g c = subst (λ (cs : List Col). MergesAlike (given cs c.args.other.now c.args.selected_left.items c.args.selected_right.items c.args.args)) (sym c.to_df-left.ensures) c.requires
+pub join_given-requires-clause-merge : goal.join_given-requires-clause-merge
+join_given-requires-clause-merge g c κs within = subst (λ (cs : List Col). MergesAlike (given cs c.args.other.now c.args.selected_left.items c.args.selected_right.items c.args.args)) (sym c.to_df-left.ensures) c.requires
 
 pub returns-clause-settles : goal.returns-clause-settles
 returns-clause-settles g c =
