@@ -1,10 +1,11 @@
 -- The causes of key columns are those of the request whose keys they are.
-use Rattle.std.proofs.Common.{◌≡◌, ℕ, Bool, true, false, ◌&&◌, List, [], ◌∷◌, length, get_or, refl, ap, sym, ◌∙◌}
+use Rattle.std.proofs.Common.{◌≡◌, ℕ, Bool, true, false, ◌&&◌, List, [], ◌∷◌, length, get_or, refl, ap, sym, ◌∙◌, Option}
 use Rattle.std.specs.Prelude.{All}
 use Rattle.std.specs.Borrow.{Bor}
 use Rattle.tb_value.specs.Datum.{Datum, null}
 use Rattle.tb_value.specs.Refusals.{first_cause}
 use Rattle.tb_value.specs.Same.{agrees}
+use Rattle.tb_value.specs.declared.error.PolarsError.{PolarsError}
 use Rattle.tb_value.specs.declared.error.Side.TheVariants as side
 use Rattle.tb_chunk.specs.Col.{Col, IsColumn, values}
 use Rattle.tb_chunk.specs.Lent.{lent_columns}
@@ -14,14 +15,14 @@ use Rattle.tb_frame.specs.Table.{height, table_of}
 use Rattle.tb_hash.specs.Hashing.{value_listing}
 use Rattle.tb_hash.specs.Probing.{too_many}
 use Rattle.tb_hash.specs.Twins.{broken, twins_among, value_causes, value_twins}
-use Rattle.tb_rowkey.specs.Columns.{AreKeyColumns, columns_meet, key_column, row_count}
+use Rattle.tb_rowkey.specs.Columns.{AreKeyColumns, columns_meet, key_column, keys_at, row_count}
 use Rattle.tb_rowkey.proofs.ColumnRows.{columns_match}
 use Rattle.tb_keys.specs.Asked.{asked}
 use Rattle.tb_keys.specs.declared.request.LentRequest.{LentRequest}
 use Rattle.tb_pairs.specs.KeyColumns.{AreAlike}
 use Rattle.tb_pairs.proofs.Keys.{key_columns, right_keys, rows_counted, some_right}
 use Rattle.tb_pairs.proofs.Requested.{one_column, one_key_listing, one_right}
-use Rattle.tb_pairs.proofs.RowKeys.{key_count, key_is, row_key_listing}
+use Rattle.tb_pairs.proofs.RowKeys.{key_count, key_is, key_values, row_key_listing}
 use Rattle.tb_pairs.proofs.Twins.{columns_twins, twins_same}
 
 and_true : (b : Bool) → (b && true) ≡ b
@@ -84,3 +85,15 @@ module _ (r : LentRequest) where
         (ap (λ (c : Col). value_twins false (values c)) is_left ∙ sym (columns_twins nulls ls (height (table_of r.left.now)) left_rows ∙ row_twins nulls ls left_keys))
         (ap (λ (c : Col). value_twins false (values c)) is_right ∙ sym (columns_twins nulls rs (height (table_of r.right.now)) right_rows ∙ row_twins nulls rs right_keys))
         (row_key_listing r left right alike in_left in_right is_left is_right)
+
+    -- of keys that are made of both sides
+    pub row_keys_causes : (us vs : List Datum) → All IsColumn (lent_columns r.left_keys.now) → All IsColumn (lent_columns r.right_keys.now)
+        → us ≡ keys_at (lent_columns r.left_keys.now) (λ p. r.args.now.join_nulls) → vs ≡ keys_at (lent_columns r.right_keys.now) (λ p. r.args.now.join_nulls)
+        → first_cause (value_causes r.args.now.validation false r.how us vs) ≡ first_cause (row_causes (asked r))
+    row_keys_causes us vs in_left in_right is_left is_right =
+        let n : ℕ → Bool = λ p. r.args.now.join_nulls in
+        let ls : List Col = lent_columns r.left_keys.now in
+        let rs : List Col = lent_columns r.right_keys.now in
+        let left : us ≡ values (key_column ls n) = is_left ∙ sym (key_values n ls) in
+        let right : vs ≡ values (key_column rs n) = is_right ∙ sym (key_values n rs) in
+        ◌∙◌ {A = Option PolarsError} (λ t. first_cause (value_causes r.args.now.validation false r.how (left t) (right t))) (row_key_causes (key_column ls n) (key_column rs n) in_left in_right refl refl)

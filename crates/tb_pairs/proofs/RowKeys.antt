@@ -1,5 +1,5 @@
 -- A join by row keys is a join by the fields of the rows.
-use Rattle.std.proofs.Common.{◌≡◌, ℕ, ◌<◌, Bool, false, List, length, get_or, map, ap, ◌∙◌, zero-add}
+use Rattle.std.proofs.Common.{◌≡◌, ℕ, ◌<◌, Bool, false, List, length, get_or, map, refl, ap, sym, ◌∙◌, zero-add}
 use Rattle.std.specs.Prelude.{All}
 use Rattle.std.proofs.lemmas.List.{append-nil, length-map}
 use Rattle.std.proofs.lemmas.List.FromFn.{length-range_with_len, get_or-map-range_with_len}
@@ -14,7 +14,7 @@ use Rattle.tb_frame.specs.Join.{listing, listing_of}
 use Rattle.tb_frame.specs.Table.{height, table_of}
 use Rattle.tb_frame.proofs.Listings.{listing-same}
 use Rattle.tb_hash.specs.Hashing.{value_listing}
-use Rattle.tb_rowkey.specs.Columns.{AreKeyColumns, kinds, row_count, key_at, key_column, columns_meet}
+use Rattle.tb_rowkey.specs.Columns.{AreKeyColumns, kinds, row_count, key_at, keys_at, key_column, columns_meet}
 use Rattle.tb_rowkey.proofs.ColumnRows.{columns_match}
 use Rattle.tb_keys.specs.Asked.{asked}
 use Rattle.tb_keys.specs.declared.request.LentRequest.{LentRequest}
@@ -23,7 +23,7 @@ use Rattle.tb_pairs.proofs.Keys.{key_columns, right_keys, some_right}
 use Rattle.tb_pairs.proofs.Requested.{asked_listing, columns_listing}
 
 module _ (nulls : ℕ → Bool) (cs : List Col) where
-  key_values : values (key_column cs nulls) ≡ map (key_at cs nulls) (row_numbers (row_count cs))
+  pub key_values : values (key_column cs nulls) ≡ map (key_at cs nulls) (row_numbers (row_count cs))
   key_values = append-nil (map (key_at cs nulls) (row_numbers (row_count cs)))
 
   pub key_count : length (values (key_column cs nulls)) ≡ row_count cs
@@ -55,3 +55,15 @@ row_key_listing r left right alike in_left in_right is_left is_right =
     (key_columns (height (table_of r.left.now)) ls alike.some r.left_rows in_left alike.keys)
     (key_columns (height (table_of r.right.now)) rs (some_right ls rs alike) r.right_rows in_right (right_keys ls rs alike)) alike.types
     ∙ asked_listing r alike)
+
+-- of keys that are made of both sides
+pub row_keys_listing : (r : LentRequest) (us vs : List Datum) → AreAlike (lent_columns r.left_keys.now) (lent_columns r.right_keys.now) → All IsColumn (lent_columns r.left_keys.now) → All IsColumn (lent_columns r.right_keys.now)
+    → us ≡ keys_at (lent_columns r.left_keys.now) (λ p. r.args.now.join_nulls) → vs ≡ keys_at (lent_columns r.right_keys.now) (λ p. r.args.now.join_nulls)
+    → value_listing false r.how us vs ≡ listing (asked r)
+row_keys_listing r us vs alike in_left in_right is_left is_right =
+    let n : ℕ → Bool = λ p. r.args.now.join_nulls in
+    let ls : List Col = lent_columns r.left_keys.now in
+    let rs : List Col = lent_columns r.right_keys.now in
+    let left : us ≡ values (key_column ls n) = is_left ∙ sym (key_values n ls) in
+    let right : vs ≡ values (key_column rs n) = is_right ∙ sym (key_values n rs) in
+    ◌∙◌ {A = List JoinPair} (λ t. value_listing false r.how (left t) (right t)) (row_key_listing r (key_column ls n) (key_column rs n) alike in_left in_right refl refl)

@@ -1,11 +1,10 @@
 //! The pairs of a request.
-ghost use Rattle.std.specs.Prelude.{◌≡◌, ◌↔◌, IfOk, IsTrue};
+ghost use Rattle.std.specs.Prelude.{IfOk};
 ghost use Rattle.tb_value.specs.Refusals.{Settles, first_cause};
 ghost use Rattle.tb_chunk.specs.Lent.{lent_columns};
 ghost use Rattle.tb_frame.specs.Answer.{IsListed};
 ghost use Rattle.tb_frame.specs.Join.{listing};
 ghost use Rattle.tb_frame.specs.Refusal.{row_causes};
-ghost use Rattle.tb_rowkey.specs.Columns.{AreShortRows};
 ghost use Rattle.tb_keys.specs.Asked.{asked};
 ghost use Rattle.tb_pairs.specs.Found.{IsFound};
 ghost use Rattle.tb_pairs.specs.KeyColumns.{AreAlike};
@@ -18,7 +17,7 @@ use std::thread::Threads;
 use tb_frame::Direction;
 use tb_keys::{LentRequest, check_sides, check_size, list_pairs};
 use tb_pool::Exec;
-use tb_rowkey::keys_fit;
+use tb_rowkey::RowKeys;
 use tb_value::{JoinPair, PolarsResult};
 
 // The pairs of a request, whose fields are compared one by one.
@@ -33,12 +32,24 @@ fn pairs_by_field(alloc: Global, request: &LentRequest<'_>) -> PolarsResult<Foun
     Ok(FoundPairs { pairs, order })
 }
 
-// Whether the rows of both sides are short enough to have keys.
-fn have_row_keys(request: &LentRequest<'_>) -> bool
+// The pairs of a request by several keys: by the keys of its rows, or where a row is too long to have one by its fields.
+fn pairs_by_rows(
+    rt: &(impl Threads + Sync),
+    alloc: Global,
+    request: &LentRequest<'_>,
+    exec: &Exec,
+) -> PolarsResult<FoundPairs>
     requires { AreAlike (lent_columns request.now.left_keys.now) (lent_columns request.now.right_keys.now) }
-    ensures { IsTrue result ↔ (AreShortRows (lent_columns request.now.left_keys.now) × AreShortRows (lent_columns request.now.right_keys.now)) }
+    ensures settles { Settles result (first_cause (row_causes (asked request.now))) }
+    ensures found { IfOk result (IsFound (listing (asked request.now))) }
 {
-    keys_fit(request.left_keys) && keys_fit(request.right_keys)
+    let join_nulls = request.args.join_nulls;
+    let left = RowKeys::of_columns(alloc, request.left_keys, join_nulls)?;
+    let right = RowKeys::of_columns(alloc, request.right_keys, join_nulls)?;
+    match (&left, &right) {
+        (Some(left), Some(right)) => pairs_by_row_key(rt, alloc, request, left, right, exec),
+        _ => pairs_by_field(alloc, request),
+    }
 }
 
 // The pairs of a request, in the order in which they are found.
@@ -54,10 +65,8 @@ fn found_pairs(
 {
     if request.left_keys.len() == 1 {
         pairs_by_key(rt, alloc, request, exec)
-    } else if have_row_keys(request) {
-        pairs_by_row_key(rt, alloc, request, exec)
     } else {
-        pairs_by_field(alloc, request)
+        pairs_by_rows(rt, alloc, request, exec)
     }
 }
 

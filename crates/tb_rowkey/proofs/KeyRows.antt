@@ -1,18 +1,19 @@
 -- The key of a row, read from the columns one after another.
-use Rattle.std.proofs.Common.{◌≡◌, ◌+◌, ◌<◌, ◌≤◌, ℕ, Bool, true, false, not, ◌&&◌, ◌||◌, List, ◌++◌, length, get_or, drop, Bor, ◌⊎◌, inl, inr, arith, refl, ap, sym, ◌∙◌}
+use Rattle.std.proofs.Common.{◌≡◌, ◌+◌, ◌<◌, ◌≤◌, ℕ, Bool, true, false, not, ◌&&◌, ◌||◌, List, [], ◌∷◌, ◌++◌, ◌^◌, length, get_or, take, drop, Bor, ◌⊎◌, inl, inr, arith, refl, ap, sym, ◌∙◌}
 use Rattle.std.specs.Prelude.{if◌then◌else◌}
 use Rattle.std.proofs.lemmas.Bool.{false≢true}
-use Rattle.std.proofs.lemmas.List.{length-append, length-map, append_assoc, at_drop_more, at_drop_all}
-use Rattle.tb_value.specs.Datum.{Datum, null, binary, is_null, is_present}
+use Rattle.std.proofs.lemmas.List.{append-nil, take_at, length-append, length-map, append_assoc, at_drop_more, at_drop_all}
+use Rattle.tb_value.specs.Datum.{Datum, null, boolean, int, string, binary, list, struct, is_null, is_present}
+use Rattle.tb_value.specs.Kind.{Kind}
+use Rattle.tb_chunk.specs.Chunk.{or_null}
+use Rattle.std.specs.List.{All}
 use Rattle.tb_chunk.specs.Col.{Col, values}
 use Rattle.tb_chunk.proofs.Lent.{low_lent, lent_is}
-use Rattle.tb_rowkey.specs.RowKey.{field_code, rowkey, has_key}
-use Rattle.tb_rowkey.specs.Columns.{lent_columns, kinds, fields_at, key_at}
+use Rattle.tb_rowkey.specs.RowKey.{field_code, has_key}
+use Rattle.tb_rowkey.specs.Columns.{lent_columns, fields_at, key_at, row_bytes, IsShortRow}
+use Rattle.tb_rowkey.specs.RowKeys.{bytes_of, key_of}
 
--- the bytes of row i, and whether its key is present
-abbrev pub row_bytes : List Col → ℕ → List ℕ
-row_bytes cs i = rowkey (kinds cs) (fields_at cs i)
-
+-- whether the key of row i is present
 abbrev pub has_key_at : Bool → List Col → ℕ → Bool
 has_key_at join_nulls cs i = has_key (λ _. join_nulls) (fields_at cs i)
 
@@ -68,3 +69,89 @@ pub no_length : (rs : List (Bor Col)) (i n : ℕ) → length rs ≤ n → length
 no_length rs i n past =
     let long = length-map rs (λ (c : Bor Col). c.now) in
     at_drop_all (λ ds. length (row_bytes ds i)) (lent_columns rs) n (omega (arith, long, past))
+
+-- A ROW THAT IS WRITTEN
+
+and_true : (a : Bool) → (a && true) ≡ a
+and_true true = refl
+and_true false = refl
+
+and_assoc : (a b c : Bool) → ((a && b) && c) ≡ (a && (b && c))
+and_assoc true b c = refl
+and_assoc false b c = refl
+
+module _ (rs : List (Bor Col)) (join_nulls : Bool) (i n : ℕ) where
+  -- one field more
+  module _ (r : Bor Col) (low : n < length rs) (is : r ≡ get_or rs n r) where
+    pub bytes_read : (bytes more all : List ℕ) → more ≡ bytes ++ field_code r.now.kind (get_or (values r.now) i null) → bytes ++ row_bytes (drop n (lent_columns rs)) i ≡ all → more ++ row_bytes (drop (n + 1) (lent_columns rs)) i ≡ all
+    bytes_read bytes more all e so_far =
+        let v : Datum = get_or (values r.now) i null in
+        ap (λ l. l ++ row_bytes (drop (n + 1) (lent_columns rs)) i) e
+        ∙ append_assoc bytes (field_code r.now.kind v) (row_bytes (drop (n + 1) (lent_columns rs)) i)
+        ∙ ap (λ l. bytes ++ l) (more_bytes (lent_columns rs) join_nulls i n r.now v (low_lent rs n r low is) (lent_is rs n r low is) refl)
+        ∙ so_far
+
+    pub key_read : (b c all : Bool) → c ≡ (b && (is_present (get_or (values r.now) i null) || join_nulls)) → (b && has_key_at join_nulls (drop n (lent_columns rs)) i) ≡ all → (c && has_key_at join_nulls (drop (n + 1) (lent_columns rs)) i) ≡ all
+    key_read b c all e so_far =
+        let v : Datum = get_or (values r.now) i null in
+        let next : Bool = has_key_at join_nulls (drop (n + 1) (lent_columns rs)) i in
+        ap (λ x. x && next) e
+        ∙ and_assoc b (is_present v || join_nulls) next
+        ∙ ap (λ x. b && x) (more_key (lent_columns rs) join_nulls i n r.now v (low_lent rs n r low is) (lent_is rs n r low is) refl)
+        ∙ so_far
+
+  -- all fields
+  module _ (past : length rs ≤ n) where
+    past_all : length (lent_columns rs) ≤ n
+    past_all = let long = length-map rs (λ (c : Bor Col). c.now) in omega (arith, long, past)
+
+    pub bytes_all : (bytes all : List ℕ) → bytes ++ row_bytes (drop n (lent_columns rs)) i ≡ all → bytes ≡ all
+    bytes_all bytes all e = sym (append-nil bytes) ∙ ap (λ l. bytes ++ l) (sym (at_drop_all (λ ds. row_bytes ds i) (lent_columns rs) n past_all)) ∙ e
+
+    pub key_all : (b all : Bool) → (b && has_key_at join_nulls (drop n (lent_columns rs)) i) ≡ all → b ≡ all
+    key_all b all e = sym (and_true b) ∙ ap (λ x. b && x) (sym (at_drop_all (λ ds. has_key_at join_nulls ds i) (lent_columns rs) n past_all)) ∙ e
+
+-- THE BYTES OF A KEY
+
+pub no_key_written : (has_key : Bool) (s : List ℕ) → has_key ≡ false → bytes_of (if has_key then binary s else null) ≡ []
+no_key_written true s e = absurd (false≢true (sym e))
+no_key_written false s e = refl
+
+pub key_written : (has_key : Bool) (s : List ℕ) → has_key ≡ true → bytes_of (if has_key then binary s else null) ≡ s
+key_written true s e = refl
+key_written false s e = absurd (false≢true e)
+
+code_shown : (t : Kind) (f : Datum) (rest : List ℕ) → or_null binary (key_of (field_code t f ++ rest)) ≡ binary (field_code t f ++ rest)
+code_shown t null rest = refl
+code_shown t (boolean b) rest = refl
+code_shown t (int z) rest = refl
+code_shown t (string s) rest = refl
+code_shown t (binary s) rest = refl
+code_shown t (list vs) rest = refl
+code_shown t (struct vs) rest = refl
+
+shown_if : (has_key : Bool) (s : List ℕ) → or_null binary (key_of s) ≡ binary s → or_null binary (key_of (bytes_of (if has_key then binary s else null))) ≡ (if has_key then binary s else null)
+shown_if true s e = e
+shown_if false s e = refl
+
+-- the key of a row is what its bytes are, since there are some
+pub key_shown : (cs : List Col) (nulls : ℕ → Bool) (i : ℕ) → 0 < length cs → or_null binary (key_of (bytes_of (key_at cs nulls i))) ≡ key_at cs nulls i
+key_shown [] nulls i some = absurd (omega (arith, some))
+key_shown (c ∷ cs) nulls i some = shown_if (has_key nulls (fields_at (c ∷ cs) i)) (row_bytes (c ∷ cs) i) (code_shown c.kind (get_or (values c) i null) (row_bytes cs i))
+
+key_below : (has_key : Bool) (s : List ℕ) → length s < 2 ^ 32 → length (bytes_of (if has_key then binary s else null)) < 2 ^ 32
+key_below true s short = short
+key_below false s short = omega arith
+
+pub short_key : (cs : List Col) (nulls : ℕ → Bool) (i : ℕ) → IsShortRow cs i → length (bytes_of (key_at cs nulls i)) < 2 ^ 32
+short_key cs nulls i short = key_below (has_key nulls (fields_at cs i)) (row_bytes cs i) short
+
+pub rows_below : (cs : List Col) (n i : ℕ) → All (λ (c : Col). length (values c) ≡ n) cs → i < n → All (λ (c : Col). i < length (values c)) cs
+rows_below cs n i rows low = λ k d in_cs. let long = rows k d in_cs in omega (arith, long, low)
+
+-- what is written behind bytes, and taken away again
+pub grown : (bytes more all : List ℕ) → more ≡ bytes ++ all → length more ≡ length bytes + length all
+grown bytes more all e = ap length e ∙ length-append bytes all
+
+pub taken_back : (bytes more all : List ℕ) (start : ℕ) → more ≡ bytes ++ all → start ≡ length bytes → take start more ≡ bytes
+taken_back bytes more all start e f = ap (take start) e ∙ take_at bytes all start (sym f)

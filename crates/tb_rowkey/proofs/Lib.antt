@@ -7,3 +7,4 @@ pub mod KeyRows
 pub mod KeyColumns
 pub mod ColumnRows
 pub mod WholeColumns
+pub mod Written

@@ -5,11 +5,9 @@ use Rattle.std.proofs.lemmas.List.{append-nil}
 use Rattle.std.proofs.lemmas.List.Elements.{All-map}
 use Rattle.tb_value.specs.Datum.{Datum, null}
 use Rattle.tb_value.specs.Kind.{Kind}
-use Rattle.tb_value.specs.Kind as kind
 use Rattle.tb_value.specs.Pairs.{row_numbers}
-use Rattle.tb_value.specs.declared.sorted.IsSorted.TheVariants.{Not}
 use Rattle.tb_chunk.specs.Col.{Col, values}
-use Rattle.tb_rowkey.specs.Columns.{one_chunk, row_count, kinds, fields_at, AreShortRows, key_column}
+use Rattle.tb_rowkey.specs.Columns.{one_chunk, row_count, kinds, fields_at, AreShortRows, keys_at}
 use Rattle.tb_rowkey.specs.RowKey.{rowkey, key_row}
 
 abbrev pub in_one_chunk : List Col → List Col
@@ -41,5 +39,10 @@ whole_short cs h = λ i low.
     subst (λ (fs : List Datum). length (rowkey (kinds (in_one_chunk cs)) fs) < 2 ^ 32) (sym (whole_fields cs i))
     (subst (λ (ts : List Kind). length (rowkey ts (fields_at cs i)) < 2 ^ 32) (sym (whole_kinds cs)) (h i (subst (λ n. i < n) (whole_count cs) low)))
 
-pub whole_keys : (cs : List Col) (nulls : ℕ → Bool) → key_column (in_one_chunk cs) nulls ≡ key_column cs nulls
-whole_keys cs nulls = λ t. record { name = []; kind = kind.binary; chunks = map (λ i. key_row (whole_kinds cs t) nulls (whole_fields cs i t)) (row_numbers (whole_count cs t)) ∷ []; flag = Not }
+pub whole_short_back : (cs : List Col) → AreShortRows (in_one_chunk cs) → AreShortRows cs
+whole_short_back cs h = λ i low.
+    subst (λ (fs : List Datum). length (rowkey (kinds cs) fs) < 2 ^ 32) (whole_fields cs i)
+    (subst (λ (ts : List Kind). length (rowkey ts (fields_at (in_one_chunk cs) i)) < 2 ^ 32) (whole_kinds cs) (h i (subst (λ n. i < n) (sym (whole_count cs)) low)))
+
+pub whole_keys : (cs : List Col) (nulls : ℕ → Bool) → keys_at (in_one_chunk cs) nulls ≡ keys_at cs nulls
+whole_keys cs nulls = λ t. map (λ i. key_row (whole_kinds cs t) nulls (whole_fields cs i t)) (row_numbers (whole_count cs t))

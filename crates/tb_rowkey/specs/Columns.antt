@@ -28,9 +28,13 @@ kinds cs = map (λ (c : Col). c.kind) cs
 abbrev pub fields_at : List Col → ℕ → List Datum
 fields_at cs i = map (λ (c : Col). slice_index_or (values c) i null) cs
 
--- the bytes of row i are fewer than 2^32
+-- the bytes of row i
+abbrev pub row_bytes : List Col → ℕ → List ℕ
+row_bytes cs i = rowkey (kinds cs) (fields_at cs i)
+
+-- they are fewer than 2^32
 abbrev pub IsShortRow : List Col → ℕ → Type 0
-IsShortRow cs i = length (rowkey (kinds cs) (fields_at cs i)) < 2 ^ 32
+IsShortRow cs i = length (row_bytes cs i) < 2 ^ 32
 
 abbrev pub AreShortRows : List Col → Type 0
 AreShortRows cs = (i : ℕ) → i < row_count cs → IsShortRow cs i
@@ -39,9 +43,13 @@ AreShortRows cs = (i : ℕ) → i < row_count cs → IsShortRow cs i
 abbrev pub key_at : List Col → (ℕ → Bool) → ℕ → Datum
 key_at cs nulls i = key_row (kinds cs) nulls (fields_at cs i)
 
+-- the keys of all rows
+abbrev pub keys_at : List Col → (ℕ → Bool) → List Datum
+keys_at cs nulls = map (key_at cs nulls) (row_numbers (row_count cs))
+
 -- a column without a name, with the key of each row, in one chunk
 abbrev pub key_column : List Col → (ℕ → Bool) → Col
-key_column cs nulls = record { name = []; kind = kind.binary; chunks = map (key_at cs nulls) (row_numbers (row_count cs)) ∷ []; flag = Not }
+key_column cs nulls = record { name = []; kind = kind.binary; chunks = keys_at cs nulls ∷ []; flag = Not }
 
 -- the field of row i in the column at place p
 abbrev pub field_of : List Col → ℕ → ℕ → Datum

@@ -11,9 +11,7 @@ ghost use Rattle.tb_rowkey.specs.RowKey.{field_code};
 use crate::fields::width_of;
 use crate::lent::know_columns;
 use tb_store::{DataType, Series, ValueRef};
-
-// One more than the greatest length of a key.
-const KEY_END: usize = 0x1_0000_0000;
+use tb_value::TOO_LONG;
 
 // The number of bytes of a field.
 fn field_len(dtype: &DataType, value: ValueRef<'_>) -> usize
@@ -41,7 +39,7 @@ fn row_fits(columns: &[&Series], row: usize) -> bool
     for column in columns {
         let value = column.get(row);
         len += field_len(column.dtype(), value);
-        if len >= KEY_END {
+        if len >= TOO_LONG {
             return false;
         }
     }

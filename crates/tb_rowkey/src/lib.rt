@@ -18,7 +18,9 @@ mod fit;
 mod keys;
 pub mod laws;
 mod lent;
+mod row_keys;
 
 pub use fit::keys_fit;
-pub use keys::{lent_keys, prepare_keys_multiple};
+pub use keys::prepare_keys_multiple;
 pub use lent::know_columns;
+pub use row_keys::RowKeys;

@@ -4,9 +4,9 @@ use Rattle.tb_value.specs.Datum.{null}
 use Rattle.tb_value.specs.See.{lent}
 use Rattle.tb_chunk.specs.Col.{Col, IsColumn, values}
 use Rattle.tb_rowkey.specs.RowKey.{field_code}
-use Rattle.tb_rowkey.specs.Columns.{lent_columns}
+use Rattle.tb_rowkey.specs.Columns.{lent_columns, row_bytes}
 use Rattle.tb_chunk.proofs.Lent.{lent_has}
-use Rattle.tb_rowkey.proofs.KeyRows.{row_bytes, more_length}
+use Rattle.tb_rowkey.proofs.KeyRows.{more_length}
 use Rattle.tb_rowkey.proofs.fit.row_fits.Goals as goal
 use Rattle.tb_rowkey.proofs.fit.row_fits.Goals.{After-field_len-len}
 
@@ -27,9 +27,9 @@ here c =
     let len = c.field_len-len.ensures.exact ∙ ap (λ t. length (field_code t v)) c.dtype.ensures in
     omega (arith, more, len, c.loop-column.invariant.sum)
 
-pub returns-then-len-ge-KEY_END : goal.returns-then-len-ge-KEY_END
-returns-then-len-ge-KEY_END c =
-    let sum = here (goal.at.returns-then-len-ge-KEY_END c).After-field_len-len in
+pub returns-then-len-ge-TOO_LONG : goal.returns-then-len-ge-TOO_LONG
+returns-then-len-ge-TOO_LONG c =
+    let sum = here (goal.at.returns-then-len-ge-TOO_LONG c).After-field_len-len in
     (λ h. absurd (false≢true h), λ short. absurd (omega (arith, sum, short)))
 
 pub loop-column-preserved : goal.loop-column-preserved

@@ -1,6 +1,5 @@
 use Rattle.std.proofs.Common.{◌≡◌, ◌+◌, ◌<◌, ◌^◌, drop, length}
-use Rattle.tb_rowkey.specs.Columns.{lent_columns}
-use Rattle.tb_rowkey.proofs.KeyRows.{row_bytes}
+use Rattle.tb_rowkey.specs.Columns.{lent_columns, row_bytes}
 use Rattle.tb_rowkey.proofs.fit.row_fits.Given as goal
 
 -- the bytes of the columns so far are few

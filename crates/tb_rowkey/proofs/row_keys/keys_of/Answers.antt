@@ -1,0 +1,69 @@
+use Rattle.std.proofs.Common.{◌≡◌, ◌<◌, ℕ, Bool, List, [], ◌∷◌, ◌++◌, length, map, ap, sym, ◌∙◌, refl, arith}
+use Rattle.std.proofs.lemmas.Bool.{false≢true}
+use Rattle.std.proofs.lemmas.List.{length-map}
+use Rattle.tb_value.specs.Datum.{binary}
+use Rattle.tb_value.specs.Pairs.{row_numbers}
+use Rattle.tb_chunk.specs.Col.{Col, values}
+use Rattle.tb_chunk.proofs.Lent.{lent_has}
+use Rattle.tb_rowkey.specs.Columns.{lent_columns, row_count, key_at, IsShortRow}
+use Rattle.tb_rowkey.specs.RowKeys.{bytes_of}
+use Rattle.tb_rowkey.proofs.KeyRows.{key_shown, rows_below, short_key}
+use Rattle.tb_rowkey.proofs.Written.{below_more, first_written, written_keys, written_more, written_places}
+use Rattle.tb_rowkey.proofs.row_keys.keys_of.Goals as goal
+
+-- the bytes of the key of a row
+abbrev key : List Col → Bool → ℕ → List ℕ
+key cs join_nulls i = bytes_of (key_at cs (λ _. join_nulls) i)
+
+pub overflow_add-rows : goal.overflow_add-rows
+overflow_add-rows c = omega (arith, c.len-rows.ensures.len, c.len-rows.ensures.column.short)
+
+pub loop-row-init : goal.loop-row-init
+loop-row-init c = record {
+  written = first_written (key (lent_columns c.args.columns.now) c.args.join_nulls) c.new-bytes.result.items c.push.new.self.items c.new-bytes.ensures.items (c.in_ok-push.ensures.items ∙ ap (λ l. l ++ 0 ∷ []) c.in_ok-places.ensures.items);
+  short = λ i low. absurd (omega (arith, low));
+}
+
+pub push_key-requires-clause-rows : goal.push_key-requires-clause-rows
+push_key-requires-clause-rows c =
+    let cs = lent_columns c.args.columns.now in
+    let rows : c.len-rows.result ≡ row_count cs = c.len-rows.ensures.len ∙ lent_has c.args.columns.now 0 c.index-columns-0.result c.requires.some c.index-columns-0.is (λ (d : Col). length (values d) ≡ row_count cs) c.requires.rows in
+    rows_below cs (row_count cs) c.loop-row.row c.requires.rows (omega (arith, rows, c.loop-row-test.true))
+
+pub returns-then-branch-ge-TOO_LONG-clause-short : goal.returns-then-branch-ge-TOO_LONG-clause-short
+returns-then-branch-ge-TOO_LONG-clause-short c =
+    let cs = lent_columns c.args.columns.now in
+    let rows : c.len-rows.result ≡ row_count cs = c.len-rows.ensures.len ∙ lent_has c.args.columns.now 0 c.index-columns-0.result c.requires.some c.index-columns-0.is (λ (d : Col). length (values d) ≡ row_count cs) c.requires.rows in
+    (λ h. absurd (false≢true h), λ short. let here = short c.loop-row.row (omega (arith, rows, c.loop-row-test.true)) in absurd (omega (arith, here, c.in_ok-push_key.ensures.len, c.if-branch-ge-TOO_LONG.true)))
+
+pub loop-row-preserved : goal.loop-row-preserved
+loop-row-preserved c =
+    let cs = lent_columns c.args.columns.now in
+    record {
+      written =
+          written_more (key cs c.args.join_nulls) c.loop-row.row c.loop-row.bytes.items c.loop-row.places.items c.push_key.new.bytes.items c.push-in-loop-row.new.self.items c.loop-row.invariant.written
+          c.in_ok-push_key.ensures.bytes (c.in_ok-push-2.ensures.items ∙ ap (λ n. c.loop-row.places.items ++ n ∷ []) (c.len.ensures ∙ c.push_key.new.bytes.ok.0));
+      short = below_more (IsShortRow cs) c.loop-row.row c.loop-row.invariant.short (omega (arith, c.in_ok-push_key.ensures.len, c.if-branch-ge-TOO_LONG.false));
+    }
+
+pub invariant_of-result : goal.invariant_of-result
+invariant_of-result c =
+    let cs = lent_columns c.args.columns.now in
+    written_places (key cs c.args.join_nulls) c.loop-row.row c.loop-row.bytes.items c.loop-row.places.items c.loop-row.invariant.written (omega (arith, c.loop-row.auto.row-end, c.len-rows.ensures.len, c.len-rows.ensures.column.short))
+    (λ i low. short_key cs (λ _. c.args.join_nulls) i (c.loop-row.invariant.short i low))
+
+pub returns-clause-short : goal.returns-clause-short
+returns-clause-short c =
+    let cs = lent_columns c.args.columns.now in
+    let rows : c.len-rows.result ≡ row_count cs = c.len-rows.ensures.len ∙ lent_has c.args.columns.now 0 c.index-columns-0.result c.requires.some c.index-columns-0.is (λ (d : Col). length (values d) ≡ row_count cs) c.requires.rows in
+    (λ _ i low. c.loop-row.invariant.short i (omega (arith, rows, low)), λ _. refl)
+
+pub returns-clause-keys : goal.returns-clause-keys
+returns-clause-keys c =
+    let cs = lent_columns c.args.columns.now in
+    let nulls : ℕ → Bool = λ _. c.args.join_nulls in
+    let rows : c.len-rows.result ≡ row_count cs = c.len-rows.ensures.len ∙ lent_has c.args.columns.now 0 c.index-columns-0.result c.requires.some c.index-columns-0.is (λ (d : Col). length (values d) ≡ row_count cs) c.requires.rows in
+    let all : c.loop-row.row ≡ row_count cs = omega (arith, rows, c.loop-row.auto.row-end) in
+    let long = length-map c.args.columns.now (λ r. r.now) in
+    written_keys binary (key cs c.args.join_nulls) (key_at cs nulls) c.loop-row.row c.loop-row.bytes.items c.loop-row.places.items c.loop-row.invariant.written (λ i low. key_shown cs nulls i (omega (arith, c.requires.some, long)))
+    ∙ ap (λ n. map (key_at cs nulls) (row_numbers n)) all

@@ -1,0 +1,187 @@
+//! The keys of rows in one buffer.
+ghost use Rattle.std.specs.Prelude.{◌≡◌, ◌↔◌, ◌<◌, ◌≤◌, ◌^◌, ◌++◌, ◌&&◌, ◌||◌, ◌-◌, None, IfOk, IfSome, IsSome, OnOk, drop, length, map, slice_index_or, take};
+ghost use Rattle.std.specs.List.{All};
+ghost use Rattle.std.specs.Option.{option_copied};
+ghost use Rattle.tb_value.specs.Datum.{binary, is_null, is_present, null};
+ghost use Rattle.tb_value.specs.See.{lent};
+ghost use Rattle.tb_chunk.specs.Chunk.{or_null};
+ghost use Rattle.tb_chunk.specs.Col.{values, IsColumn};
+ghost use Rattle.tb_rowkey.specs.Columns.{lent_columns, fields_at, row_bytes, row_count, key_at, keys_at, AreShortRows};
+ghost use Rattle.tb_rowkey.specs.RowKey.{field_code, has_key};
+ghost use Rattle.tb_rowkey.specs.RowKeys.{bytes_of, key_of};
+
+use crate::fields::push_field;
+use crate::lent::{are_in_one_chunk, know_columns, lend, rechunked};
+use std::alloc::Global;
+use std::marker::Model;
+use tb_store::{MAX_ROWS, OutOfMemory, Series, ValueRef};
+use tb_value::TOO_LONG;
+
+/// The keys of rows, one behind another in one buffer. A row without a key has no bytes there. `of_columns` alone makes
+/// one.
+#[derive(Drop)]
+pub struct RowKeys {
+    bytes: Vec<u8>,
+    // Where the bytes of each row begin, and where those of the last one end.
+    places: Vec<usize>,
+}
+
+impl Model for RowKeys {
+    ghost use Rattle.std.specs.Prelude.{ℕ, List, Option};
+    ghost use Rattle.tb_rowkey.specs.RowKeys.{ArePlaces, keys_in};
+
+    ghost Value = { List (Option (List ℕ)) };
+
+    ghost view = { λ k. keys_in k.bytes.items k.places.items };
+
+    ghost invariant = { λ k. ArePlaces k.bytes.items k.places.items };
+}
+
+impl RowKeys {
+    /// The keys of the rows of these columns, or none where the bytes of a row are 2^32 or more, of a row without a key
+    /// too. The key of a row has the bytes of its fields in the order of the columns; without `join_nulls` a row with a
+    /// Null field has none. There is a column at least, and the columns are of one length.
+    ///
+    /// Where a column is cut into chunks, all are put into one chunk each before they are read by rows.
+    ///
+    /// # Errors
+    ///
+    /// `OutOfMemory` where memory is wanting.
+    pub fn of_columns(
+        alloc: Global,
+        columns: &[&Series],
+        join_nulls: bool,
+    ) -> Result<Option<RowKeys>, OutOfMemory>
+        requires some { 0 < length columns.now }
+        requires rows { All (λ c. length (values c) ≡ row_count (lent_columns columns.now)) (lent_columns columns.now) }
+        ensures short { IfOk result (λ keys. IsSome keys ↔ AreShortRows (lent_columns columns.now)) }
+        ensures keys { IfOk result (λ keys. IfSome keys (λ k. map (or_null binary) k ≡ keys_at (lent_columns columns.now) (λ _. join_nulls))) }
+    {
+        if are_in_one_chunk(columns) {
+            return keys_of(alloc, columns, join_nulls);
+        }
+        let whole = rechunked(alloc, columns)?;
+        let lent = lend(alloc, &whole)?;
+        keys_of(alloc, &lent, join_nulls)
+    }
+
+    /// The number of rows.
+    pub fn len(&self) -> usize
+        ensures exact { result ≡ length self.now }
+        ensures few { result ≤ MAX_ROWS }
+    {
+        self.places.len() - 1
+    }
+
+    /// The key of a row, lent.
+    pub fn get(&self, row: usize) -> Option<&[u8]>
+        requires { row < length self.now }
+        ensures value { option_copied result ≡ slice_index_or self.now row None }
+        ensures short { IfSome result (λ key. length key.now < 2 ^ 32) }
+    {
+        key_between(&self.bytes, self.places[row], self.places[row + 1])
+    }
+}
+
+// The bytes from one place to another, or none where there are no bytes.
+fn key_between(bytes: &[u8], start: usize, end: usize) -> Option<&[u8]>
+    requires order { start ≤ end }
+    requires within { end ≤ length bytes.now }
+    ensures value { option_copied result ≡ key_of (take (end - start) (drop start bytes.now)) }
+    ensures len { IfSome result (λ key. length key.now ≡ end - start) }
+{
+    let key = &bytes[start..end];
+    if key.is_empty() { None } else { Some(key) }
+}
+
+// Whether the value is absent.
+fn is_null(value: ValueRef<'_>) -> bool
+    ensures { result ≡ is_null (lent value.entry) }
+{
+    matches!(value, ValueRef::Null)
+}
+
+// Whether a row has a key that had one so far, and has this field.
+fn keeps_key(has_key: bool, is_present: bool, join_nulls: bool) -> bool
+    ensures { result ≡ (has_key && (is_present || join_nulls)) }
+{
+    has_key && (is_present || join_nulls)
+}
+
+// Writes a field behind the bytes, and says whether it is present.
+fn push_value(bytes: &mut Vec<u8>, column: &Series, row: usize) -> Result<bool, OutOfMemory>
+    requires column { IsColumn column.now }
+    requires row { row < length (values column.now) }
+    ensures bytes { OnOk result (bytes.new.items ≡ bytes.old.items ++ field_code column.now.kind (slice_index_or (values column.now) row null)) }
+    ensures present { IfOk result (λ b. b ≡ is_present (slice_index_or (values column.now) row null)) }
+{
+    let value = column.get(row);
+    push_field(bytes, column.dtype(), value)?;
+    Ok(!is_null(value))
+}
+
+// Writes the fields of a row behind the bytes, and says whether the row has a key.
+fn push_fields(
+    bytes: &mut Vec<u8>,
+    columns: &[&Series],
+    join_nulls: bool,
+    row: usize,
+) -> Result<bool, OutOfMemory>
+    requires columns { All IsColumn (lent_columns columns.now) }
+    requires rows { All (λ c. row < length (values c)) (lent_columns columns.now) }
+    ensures bytes { OnOk result (bytes.new.items ≡ bytes.old.items ++ row_bytes (lent_columns columns.now) row) }
+    ensures key { IfOk result (λ b. b ≡ has_key (λ _. join_nulls) (fields_at (lent_columns columns.now) row)) }
+{
+    let mut has_key = true;
+    for column in columns {
+        let is_present = push_value(bytes, column, row)?;
+        has_key = keeps_key(has_key, is_present, join_nulls);
+    }
+    Ok(has_key)
+}
+
+// Puts the key of a row behind the bytes, and says how many the fields have, of a row without a key too.
+fn push_key(
+    bytes: &mut Vec<u8>,
+    columns: &[&Series],
+    join_nulls: bool,
+    row: usize,
+) -> Result<usize, OutOfMemory>
+    requires columns { All IsColumn (lent_columns columns.now) }
+    requires rows { All (λ c. row < length (values c)) (lent_columns columns.now) }
+    ensures len { IfOk result (λ n. n ≡ length (row_bytes (lent_columns columns.now) row)) }
+    ensures bytes { OnOk result (bytes.new.items ≡ bytes.old.items ++ bytes_of (key_at (lent_columns columns.now) (λ _. join_nulls) row)) }
+{
+    let start = bytes.len();
+    let has_key = push_fields(bytes, columns, join_nulls, row)?;
+    let end = bytes.len();
+    if !has_key {
+        bytes.truncate(start);
+    }
+    Ok(end - start)
+}
+
+// The keys of the rows of these columns, however they are cut.
+fn keys_of(
+    alloc: Global,
+    columns: &[&Series],
+    join_nulls: bool,
+) -> Result<Option<RowKeys>, OutOfMemory>
+    requires some { 0 < length columns.now }
+    requires rows { All (λ c. length (values c) ≡ row_count (lent_columns columns.now)) (lent_columns columns.now) }
+    ensures short { IfOk result (λ keys. IsSome keys ↔ AreShortRows (lent_columns columns.now)) }
+    ensures keys { IfOk result (λ keys. IfSome keys (λ k. map (or_null binary) k ≡ keys_at (lent_columns columns.now) (λ _. join_nulls))) }
+{
+    know_columns(columns);
+    let rows = columns[0].len();
+    let mut bytes = Vec::new(alloc);
+    let mut places = Vec::with_capacity(alloc, rows + 1)?;
+    places.push(0)?;
+    for row in 0..rows {
+        if push_key(&mut bytes, columns, join_nulls, row)? >= TOO_LONG {
+            return Ok(None);
+        }
+        places.push(bytes.len())?;
+    }
+    Ok(Some(RowKeys { bytes, places }))
+}
