@@ -15,6 +15,7 @@ use Rattle.tb_chunk.specs.Made.{at_least_one}
 use Rattle.tb_chunk.proofs.Fitting.{fits_stored, null-only}
 use Rattle.tb_chunk.proofs.Lists.{All-map-at, replicate-nulls}
 use Rattle.tb_supertype.specs.Cast.{cast}
+use Rattle.tb_supertype.proofs.Casts.{cast-is}
 use Rattle.tb_supertype.specs.Columns.{cast_values, CastsTo, stacked}
 
 -- a column that is cast to a type stored as nulls has nothing else
@@ -58,3 +59,8 @@ stacked_column n t cs few typed =
 -- what a chunk can hold of all values holds of one
 pub fits_at : (k t : Kind) (vs : List Datum) (i : ℕ) (v : Datum) → i < length vs → v ≡ get_or vs i null → All (Fits k) (map (cast t) vs) → Fits k (cast t v)
 fits_at k t vs i v h e all = All-map-at (Fits k) (cast t) vs i v h (e ∙ get_or_default vs i null v h) all
+
+-- values of the type are cast to themselves
+pub cast-each : (t : Kind) (vs : List Datum) → All (HasType t) vs → map (cast t) vs ≡ vs
+cast-each t [] all = refl
+cast-each t (v ∷ vs) all = ap (λ x. x ∷ map (cast t) vs) (cast-is t v (All-head (HasType t) v vs all)) ∙ ap (λ xs. v ∷ xs) (cast-each t vs (All-tail (HasType t) v vs all))

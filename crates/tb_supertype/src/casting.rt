@@ -16,7 +16,9 @@ ghost use Rattle.tb_supertype.specs.Cast.{cast, cast_to, truth_number};
 ghost use Rattle.tb_supertype.specs.Columns.{cast_values, CastsTo, stacked};
 
 use crate::class::{Class, class_of};
+use crate::stored::StoredIn;
 use std::alloc::Global;
+use tb_chunk::join_one;
 use tb_label::value_text;
 use tb_store::{
     BinaryChunk, Cell, Cells, Chunk, Chunks, IsSorted, ListChunk, MAX_ROWS, Physical, Series,
@@ -167,8 +169,22 @@ impl CastChunk for usize {
     }
 }
 
-// The column's values cast to the type. More chunks than one are joined first, so that rows are found at once.
-fn whole_chunk<C: CastChunk>(
+// A typed copy of the values of a column.
+fn typed_copy<C: StoredIn>(alloc: Global, column: &Series) -> Result<C, OutOfMemory>
+    requires { physical column.now.kind ≡ C.kind }
+    ensures copy { IfOk result (λ c. C.shown c ≡ values column.now) }
+    ensures typed { All (HasType column.now.kind) (values column.now) }
+{
+    let rows = column.len();
+    match C::stored_in(column.chunks()) {
+        Some(chunks) => Ok(join_one(alloc, chunks, 0, rows)?.swap_remove(0)),
+        None => unreachable!(),
+    }
+}
+
+// The column's values cast to the type: those of a column of the type are copied. More chunks than one are joined
+// first, so that rows are found at once.
+fn whole_chunk<C: CastChunk + StoredIn>(
     alloc: Global,
     dtype: &DataType,
     column: &Series,
@@ -177,6 +193,9 @@ fn whole_chunk<C: CastChunk>(
     requires typed { CastsTo (kind_of dtype.now) column.now }
     ensures { IfOk result (λ c. C.shown c ≡ cast_values (kind_of dtype.now) column.now) }
 {
+    if column.dtype() == dtype {
+        return typed_copy(alloc, column);
+    }
     if column.n_chunks() == 1 {
         return C::cast_of(alloc, dtype, column);
     }
@@ -184,7 +203,7 @@ fn whole_chunk<C: CastChunk>(
     C::cast_of(alloc, dtype, &whole)
 }
 
-fn each_chunk<C: CastChunk>(
+fn each_chunk<C: CastChunk + StoredIn>(
     alloc: Global,
     dtype: &DataType,
     columns: &[&Series],
@@ -201,7 +220,7 @@ fn each_chunk<C: CastChunk>(
 }
 
 // A chunk for each column, and an empty one where there is no column.
-fn chunks_of<C: CastChunk>(
+fn chunks_of<C: CastChunk + StoredIn>(
     alloc: Global,
     dtype: &DataType,
     columns: &[&Series],

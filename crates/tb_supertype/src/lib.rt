@@ -15,6 +15,7 @@
 mod casting;
 mod class;
 pub mod laws;
+mod stored;
 mod types;
 
 pub use casting::stack;
