@@ -1,7 +1,9 @@
 -- What is due for a request, by what its operation answers.
 use Rattle.std.proofs.Common.{◌≡◌, ◌<◌, ◌^◌, ℕ, List, length, Option, Result, Ok, Err, IfOk, MatchOption, refl, sym, ap, subst}
 use mathlib.Core.Logic.{inl, inr}
+use Rattle.std.specs.Borrow.{Bor}
 use Rattle.std.specs.List.{All}
+use Rattle.std.specs.Option.{option_copied}
 use Rattle.std.proofs.lemmas.List.Elements.{All-map}
 use Rattle.tb_value.specs.Names.{Name}
 use Rattle.tb_value.specs.Refusals.{Settles}
@@ -14,12 +16,15 @@ use Rattle.tb_json.specs.Text.{text_of}
 use Rattle.tb_request.specs.declared.request.Reason.{Reason}
 use Rattle.tb_request.specs.declared.request.RequestFault.{RequestFault}
 use Rattle.tb_request.specs.declared.request.RequestFault.TheVariants.{NoRequest}
-use Rattle.tb_request.specs.Reading.{JoinRequest, UnpivotRequest, FaultIs}
+use Rattle.tb_request.specs.Reading.{JoinRequest, UnpivotRequest, DummiesRequest, FaultIs}
 use Rattle.tb_unpivot.specs.Unpivot.{HasShortNames, unpivot_refusal, unpivot_table}
+use Rattle.tb_dummies.specs.Dummies.{dummies_refusal, dummies_table, separator_or}
+use Rattle.tb_dummies.specs.Dummies as marked
+use Rattle.tb_dummies.specs.Lent as lent
 use Rattle.tb_app.specs.declared.status.Status.{Status}
 use Rattle.tb_app.specs.declared.status.Status.TheVariants as status
 use Rattle.tb_app.specs.Due.{DueOfReading, DueOfRequest, IsOutcome}
-use Rattle.tb_app.specs.Requests.{Request, as_request, asked_long, join, unpivot, refusal_of, IsAnswerText, text_of_refusal}
+use Rattle.tb_app.specs.Requests.{Request, as_request, asked_dummies, asked_long, join, unpivot, dummies, refusal_of, IsAnswerText, text_of_refusal}
 
 -- ---- no request
 
@@ -99,3 +104,30 @@ pub long_is_due : {A E : Type 0} (r : UnpivotRequest) (outcome : Result (List Co
     → IfOk result (λ a. IsOutcome outcome (s a) (text a)) → IfOk result (λ a. DueOfRequest (unpivot r) (s a) (text a))
 unfolding refusal_of
 long_is_due r outcome s text result settles table is = outcomes_are_due (unpivot r) outcome s text result settles (long_text r outcome table) is
+
+-- ---- a table whose columns are replaced
+
+dummies_text : (r : DummiesRequest) (outcome : Result (List Col) PolarsError) → IfOk outcome (λ t. table_of t ≡ dummies_table (asked_dummies r))
+    → IfOk outcome (λ t. IsAnswerText (dummies r) (text_of (table_of t)))
+unfolding IsAnswerText
+dummies_text r (Ok t) table = ap text_of table
+dummies_text r (Err e) table = tt
+
+module _ (r : DummiesRequest) (columns : Option (List Name)) (separator : Option (Bor Name)) (names : columns ≡ r.columns) (given : option_copied separator ≡ r.separator) where
+  abbrev lent_dummies : marked.Request
+  lent_dummies = lent.lent_request r.table columns separator r.drop_first
+
+  -- what is asked with what is lent of the request
+  lent_is : lent_dummies ≡ asked_dummies r
+  lent_is = λ t. record { table = table_of r.table; columns = names t; separator = separator_or (given t); drop_first = r.drop_first }
+
+  pub dummies_are_due : {A E : Type 0} (outcome : Result (List Col) PolarsError) (s : A → Status) (text : A → List ℕ) (result : Result A E)
+      → Settles outcome (dummies_refusal (lent.lent_request r.table columns separator r.drop_first))
+      → IfOk outcome (λ t. table_of t ≡ dummies_table (lent.lent_request r.table columns separator r.drop_first))
+      → IfOk result (λ a. IsOutcome outcome (s a) (text a)) → IfOk result (λ a. DueOfRequest (dummies r) (s a) (text a))
+  unfolding refusal_of
+  dummies_are_due outcome s text result settles table is =
+      outcomes_are_due (dummies r) outcome s text result
+      (subst (λ (q : marked.Request). Settles outcome (dummies_refusal q)) lent_is settles)
+      (dummies_text r outcome (subst (λ (q : marked.Request). IfOk outcome (λ t. table_of t ≡ dummies_table q)) lent_is table))
+      is

@@ -1,11 +1,11 @@
 -- What `done` says of each word, in the words of its command.
 use Rattle.std.proofs.Common.{◌≡◌, ℕ, List, Option, Result, Ok, Err, None, refl, subst}
 use Rattle.tb_request.specs.declared.request.Reason.{Reason}
-use Rattle.tb_request.specs.Reading.{join_request_of, unpivot_request_of}
-use Rattle.tb_app.specs.declared.words.Command.TheVariants.{Join, Unpivot}
+use Rattle.tb_request.specs.Reading.{join_request_of, unpivot_request_of, dummies_request_of}
+use Rattle.tb_app.specs.declared.words.Command.TheVariants.{Join, Unpivot, Dummies}
 use Rattle.tb_app.specs.Due.{DoneFor}
-use Rattle.tb_app.specs.Headline.{JoinDone, UnpivotDone}
-use Rattle.tb_app.specs.Requests.{Request, join, unpivot, as_request, request_of, refusal_of, IsAnswerText}
+use Rattle.tb_app.specs.Headline.{JoinDone, UnpivotDone, DummiesDone}
+use Rattle.tb_app.specs.Requests.{Request, join, unpivot, dummies, as_request, request_of, refusal_of, IsAnswerText}
 use Rattle.std.specs.Io.KnownBytes.{Appends}
 
 -- what is read as a request of one command is one
@@ -35,6 +35,21 @@ pub unpivot_is_done : (left left' written written' : Option (List ℕ)) → Done
 unfolding request_of refusal_of IsAnswerText
 unpivot_is_done left left' written written' d =
     let (r, is_read, is) = read_as unpivot (unpivot_request_of d.bytes) d.request d.is_request in
+    record {
+      bytes = d.bytes;
+      told = d.told;
+      short = d.short;
+      read = d.read;
+      request = r;
+      is_request = is_read;
+      valid = subst (λ q. refusal_of q ≡ None) is d.valid;
+      wrote = subst (Appends written written') (subst (λ q. IsAnswerText q d.text) is d.is_answer) d.wrote;
+    }
+
+pub dummies_is_done : (left left' written written' : Option (List ℕ)) → DoneFor Dummies left left' written written' → DummiesDone left left' written written'
+unfolding request_of refusal_of IsAnswerText
+dummies_is_done left left' written written' d =
+    let (r, is_read, is) = read_as dummies (dummies_request_of d.bytes) d.request d.is_request in
     record {
       bytes = d.bytes;
       told = d.told;

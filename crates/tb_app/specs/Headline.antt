@@ -5,11 +5,12 @@ use Rattle.tb_frame.specs.Join.{IsAnswer}
 use Rattle.tb_frame.specs.Refusal.{join_valid}
 use Rattle.tb_frame.specs.Table.{Table}
 use Rattle.tb_unpivot.specs.Unpivot.{unpivot_refusal, unpivot_table}
-use Rattle.tb_request.specs.Reading.{JoinRequest, UnpivotRequest, asked, join_request_of, unpivot_request_of}
+use Rattle.tb_dummies.specs.Dummies.{dummies_refusal, dummies_table}
+use Rattle.tb_request.specs.Reading.{JoinRequest, UnpivotRequest, DummiesRequest, asked, join_request_of, unpivot_request_of, dummies_request_of}
 use Rattle.tb_json.specs.Text.{text_of}
 use Rattle.tb_app.specs.Due.{Tells}
 use Rattle.tb_app.specs.Reading.{limit}
-use Rattle.tb_app.specs.Requests.{asked_long}
+use Rattle.tb_app.specs.Requests.{asked_dummies, asked_long}
 
 -- The bytes, read to their end, are a request to join that nothing refuses, and the text of a table that answers it was written.
 pub record JoinDone (left left' written written' : Option (List ℕ)) : Type 0 where
@@ -34,3 +35,14 @@ pub record UnpivotDone (left left' written written' : Option (List ℕ)) : Type 
   pub is_request : unpivot_request_of bytes ≡ Ok request
   pub valid : unpivot_refusal (asked_long request) ≡ None
   pub wrote : Appends written written' (text_of (unpivot_table (asked_long request)))
+
+-- The same for a table whose columns are replaced by dummies: the text of the table with the dummies was written.
+pub record DummiesDone (left left' written written' : Option (List ℕ)) : Type 0 where
+  pub bytes : List ℕ
+  pub told : Tells left bytes
+  pub short : length bytes ≤ limit
+  pub read : Consumes left left' bytes
+  pub request : DummiesRequest
+  pub is_request : dummies_request_of bytes ≡ Ok request
+  pub valid : dummies_refusal (asked_dummies request) ≡ None
+  pub wrote : Appends written written' (text_of (dummies_table (asked_dummies request)))

@@ -1,28 +1,28 @@
 //! A request that is read is answered: the one door to the commands.
 ghost use Rattle.std.specs.Prelude.{◌≡◌, ◌↔◌, ◌<◌, Err, IfOk, IsTrue, length, string_bytes};
 ghost use Rattle.std.specs.List.{All};
+ghost use Rattle.std.specs.Option.{option_copied, option_map};
 ghost use Rattle.tb_chunk.specs.Col.{Col};
-ghost use Rattle.tb_request.specs.Reading.{request_view, unpivot_view, join_request_of, unpivot_request_of};
+ghost use Rattle.tb_request.specs.Reading.{request_view, unpivot_view, dummies_view, join_request_of, unpivot_request_of, dummies_request_of};
 ghost use Rattle.tb_request.specs.Reasons.{reason_word};
 ghost use Rattle.tb_app.specs.Due.{DueOfReading, DueOfRequest, IsOutcome, IsRefusal, bad_request_text};
-ghost use Rattle.tb_app.specs.Requests.{request_of, as_request, join, unpivot};
+ghost use Rattle.tb_app.specs.Requests.{request_of, as_request, join, unpivot, dummies};
 
 use crate::status::Status;
 use crate::words::Command;
 use std::alloc::Global;
 use std::thread::Threads;
+use tb_dummies::DataFrameOps;
 use tb_frame::DataFrame;
 use tb_join::DataFrameJoinOps;
 use tb_json::{text_of, text_of_refusal};
 use tb_request::{
-    JoinRequest, Reason, RequestFault, UnpivotRequest, join_request_of, unpivot_request_of,
+    DummiesRequest, JoinRequest, Reason, RequestFault, UnpivotRequest, dummies_request_of,
+    join_request_of, unpivot_request_of,
 };
 use tb_store::Column;
 use tb_unpivot::{UnpivotArgsIR, UnpivotDF};
-use tb_value::{OutOfMemory, PolarsError, PolarsResult};
-
-// A name that becomes a value has fewer bytes.
-const NAME_LIMIT: usize = 1 << 32;
+use tb_value::{OutOfMemory, PlSmallStr, PolarsError, PolarsResult, TOO_LONG};
 
 /// What is written, and the status that goes with it.
 #[derive(Drop)]
@@ -43,6 +43,7 @@ pub(crate) fn answer_request(
     match command {
         Command::Join => answer_join(rt, alloc, bytes),
         Command::Unpivot => answer_unpivot(alloc, bytes),
+        Command::Dummies => answer_dummies(alloc, bytes),
     }
 }
 
@@ -64,6 +65,15 @@ fn answer_unpivot(alloc: Global, bytes: &[u8]) -> Result<Answer, OutOfMemory>
 {
     match unpivot_request_of(alloc, bytes) {
         Ok(request) => made_long(alloc, request),
+        Err(fault) => no_request(alloc, fault),
+    }
+}
+
+fn answer_dummies(alloc: Global, bytes: &[u8]) -> Result<Answer, OutOfMemory>
+    ensures { IfOk result (λ a. DueOfReading (as_request dummies (dummies_request_of bytes.now)) a.status (string_bytes a.text)) }
+{
+    match dummies_request_of(alloc, bytes) {
+        Ok(request) => with_dummies(alloc, request),
         Err(fault) => no_request(alloc, fault),
     }
 }
@@ -112,13 +122,42 @@ fn made_long(alloc: Global, request: UnpivotRequest) -> Result<Answer, OutOfMemo
     }
 }
 
+fn with_dummies(alloc: Global, request: DummiesRequest) -> Result<Answer, OutOfMemory>
+    ensures { IfOk result (λ a. DueOfRequest (dummies (dummies_view request)) a.status (string_bytes a.text)) }
+{
+    let columns = names_given(&request.columns);
+    let separator = text_given(&request.separator);
+    let outcome = request
+        .table
+        ._to_dummies(alloc, columns, separator, request.drop_first);
+    answered(alloc, outcome)
+}
+
+fn names_given(names: &Option<Vec<PlSmallStr>>) -> Option<&[PlSmallStr]>
+    ensures { option_copied result ≡ option_map (λ v. v.items) names.now }
+{
+    match names {
+        Some(names) => Some(names.as_slice()),
+        None => None,
+    }
+}
+
+fn text_given(text: &Option<PlSmallStr>) -> Option<&str>
+    ensures { option_copied result ≡ text.now }
+{
+    match text {
+        Some(text) => Some(text.as_str()),
+        None => None,
+    }
+}
+
 // Whether each name is short enough to be a value. A longer one is in no request that fits the limit.
 fn have_short_names(columns: &[Column]) -> bool
-    ensures { IsTrue result ↔ All (λ (c : Col). length c.name < NAME_LIMIT) columns.now }
+    ensures { IsTrue result ↔ All (λ (c : Col). length c.name < TOO_LONG) columns.now }
 {
     columns
         .iter()
-        .all(|column| column.name().as_str().len() < NAME_LIMIT)
+        .all(|column| column.name().as_str().len() < TOO_LONG)
 }
 
 // The text of the table that an operation gave, or of why it gave none.

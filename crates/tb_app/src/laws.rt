@@ -2,10 +2,10 @@
 ghost use Rattle.std.specs.Prelude.{◌≡◌, List, ℕ, Option};
 ghost use Rattle.tb_app.specs.declared.status.Status.{Status};
 ghost use Rattle.tb_app.specs.declared.status.Status.TheVariants.{Done};
-ghost use Rattle.tb_app.specs.declared.words.Command.TheVariants.{Join, Unpivot};
+ghost use Rattle.tb_app.specs.declared.words.Command.TheVariants.{Join, Unpivot, Dummies};
 ghost use Rattle.tb_app.specs.declared.words.Form.{Form};
 ghost use Rattle.tb_app.specs.Due.{due, DoneFor, IsDue, IsValid};
-ghost use Rattle.tb_app.specs.Headline.{JoinDone, UnpivotDone};
+ghost use Rattle.tb_app.specs.Headline.{JoinDone, UnpivotDone, DummiesDone};
 
 pub use tb_json::laws::text_one_to_one;
 use tb_value::PlSmallStr;
@@ -31,4 +31,10 @@ pub fn join_is_done()
 pub fn unpivot_is_done()
     ensures { (left left' written written' : Option (List ℕ))
         → DoneFor Unpivot left left' written written' → UnpivotDone left left' written written' }
+{}
+
+/// What `run` says of 0 under the word `dummies`, in the words of a table whose columns are replaced.
+pub fn dummies_is_done()
+    ensures { (left left' written written' : Option (List ℕ))
+        → DoneFor Dummies left left' written written' → DummiesDone left left' written written' }
 {}

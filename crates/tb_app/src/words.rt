@@ -9,6 +9,7 @@ use tb_value::PlSmallStr;
 pub enum Command {
     Join,
     Unpivot,
+    Dummies,
 }
 
 /// What the words ask for.
@@ -36,6 +37,7 @@ fn command_of(word: &str) -> Option<Command>
     match word {
         "join" => Some(Command::Join),
         "unpivot" => Some(Command::Unpivot),
+        "dummies" => Some(Command::Dummies),
         _ => None,
     }
 }
