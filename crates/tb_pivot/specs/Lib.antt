@@ -1,0 +1,4 @@
+pub mod Headers
+pub mod Pivot
+pub mod Refusal
+pub mod Request

@@ -1,0 +1,107 @@
+-- Which pivots are refused, and why: the first of twelve causes.
+use Rattle.std.specs.Prelude.{ℕ, nat_lt, Bool, true, false, ◌&&◌, not, List, [], ◌∷◌, ◌++◌, length, map, filter, Option, Some, None, is_none, Result, Ok, Err}
+use Rattle.std.specs.Option.{option_map}
+use Rattle.std.specs.List.{find, list_all}
+use Rattle.tb_value.specs.Names.{Name}
+use Rattle.tb_value.specs.Pairs.{row_numbers}
+use Rattle.tb_value.specs.Refusals.{first_cause, when}
+use Rattle.tb_value.specs.declared.error.ComputeCause.TheVariants.{EmptyIndex, EmptyOn, BraceName, ManyInGroup, SumRange}
+use Rattle.tb_value.specs.declared.error.InvalidCause.TheVariants.{BothNone, HeaderType, AggType}
+use Rattle.tb_value.specs.declared.error.PolarsError.{PolarsError}
+use Rattle.tb_value.specs.declared.error.PolarsError.TheVariants.{ComputeError, InvalidOperation}
+use Rattle.tb_frame.specs.Naming.{is_among}
+use Rattle.tb_frame.specs.Refusal.{repeated_among, unknown_key}
+use Rattle.tb_frame.specs.Table.{TableColumn, Table, height, names_of}
+use Rattle.tb_label.specs.Label.{is_header}
+use Rattle.tb_rows.specs.Rows.{value_at}
+use Rattle.tb_agg.specs.Aggregates.{result_kind, sum_kind, total}
+use Rattle.tb_agg.specs.Outcome.{are_in_range}
+use Rattle.tb_agg.specs.declared.table.Aggregate.{Aggregate}
+use Rattle.tb_agg.specs.declared.table.Aggregate.TheVariants.{Sum}
+use Rattle.tb_pivot.specs.Headers.{brace_name}
+use Rattle.tb_pivot.specs.Pivot.{alike, answered, distinct_rows, key_columns, pivot_table}
+use Rattle.tb_pivot.specs.Request.{Request, Way, one_row, aggregated, asked, index_names, on_columns, value_columns, value_names}
+
+-- NAMES
+
+-- 1 neither index nor values are named
+abbrev pub both_none : Request → Option PolarsError
+both_none q = when (is_none q.index && is_none q.values) (InvalidOperation BothNone)
+
+-- 2, 3 no index column, and no column for headers
+abbrev pub none_named : List Name → PolarsError → Option PolarsError
+none_named [] e = Some e
+none_named (n ∷ ns) e = None
+
+-- 6 several columns become headers, and a column has the name that is kept for them
+abbrev pub brace_taken : Request → Option PolarsError
+brace_taken q = when (nat_lt 1 (length q.on) && is_among (names_of q.table) (brace_name q.on)) (ComputeError (BraceName (brace_name q.on)))
+
+-- TYPES
+
+-- 7 the first column for headers whose values have no header texts
+abbrev pub header_cause : Request → Option PolarsError
+header_cause q = option_map (λ (c : TableColumn). InvalidOperation (HeaderType c.name)) (find (λ (c : TableColumn). not (is_header c.kind)) (on_columns q))
+
+-- 8 the first value column whose type the aggregate does not take
+abbrev pub has_no_kind : Way → TableColumn → Bool
+has_no_kind (aggregated agg) v = is_none (result_kind agg v.kind)
+has_no_kind way v = false
+
+abbrev pub agg_cause : Request → Option PolarsError
+agg_cause q = option_map (λ (c : TableColumn). InvalidOperation (AggType c.name)) (find (has_no_kind q.way) (value_columns q))
+
+-- VALUES
+
+-- 9 a cell is to have one row, there is a value column, and there are more rows than cells with rows
+abbrev pub has_more_rows : Request → Way → List TableColumn → Bool
+has_more_rows q one_row (v ∷ vs) = nat_lt (length (distinct_rows q (key_columns q))) (height q.table)
+has_more_rows q way vs = false
+
+abbrev pub many_cause : Request → Option PolarsError
+many_cause q = when (has_more_rows q q.way (value_columns q)) (ComputeError ManyInGroup)
+
+-- 10 the first value column of which the sum for a cell is outside the range of its type
+abbrev pub sums_of : Request → TableColumn → List ℕ → Bool
+sums_of q v firsts = are_in_range (sum_kind v.kind) (map (λ x. total (map (value_at v.values) (filter (alike (key_columns q) x) (row_numbers (height q.table))))) firsts)
+
+abbrev pub is_out_of_range : Request → Way → TableColumn → Bool
+is_out_of_range q (aggregated Sum) v = not (sums_of q v (distinct_rows q (key_columns q)))
+is_out_of_range q way v = false
+
+abbrev pub range_cause : Request → Option PolarsError
+range_cause q = option_map (λ (c : TableColumn). ComputeError (SumRange c.name)) (find (is_out_of_range q q.way) (value_columns q))
+
+-- 11 the first refusal of a caller's object
+abbrev pub refused_by : Result TableColumn PolarsError → Option PolarsError
+refused_by (Ok c) = None
+refused_by (Err e) = Some e
+
+abbrev pub way_cause : Request → Way → TableColumn → Option PolarsError
+way_cause q (asked name answers) v = refused_by (answered q v name answers)
+way_cause q way v = None
+
+abbrev pub answer_cause : Request → Option PolarsError
+answer_cause q = first_cause (map (way_cause q q.way) (value_columns q))
+
+-- THE REFUSAL
+
+-- 4 unknown names and 5 repeated ones, and the rest in order
+abbrev pub pivot_causes : Request → List (Option PolarsError)
+pivot_causes q =
+    both_none q
+    ∷ none_named (index_names q) (ComputeError EmptyIndex)
+    ∷ none_named q.on (ComputeError EmptyOn)
+    ∷ unknown_key q.table q.on ∷ unknown_key q.table (index_names q) ∷ unknown_key q.table (value_names q)
+    ∷ repeated_among (q.on ++ index_names q) ∷ repeated_among (value_names q)
+    ∷ brace_taken q
+    ∷ header_cause q
+    ∷ agg_cause q
+    ∷ many_cause q
+    ∷ range_cause q
+    ∷ answer_cause q
+    ∷ repeated_among (names_of (pivot_table q))
+    ∷ []
+
+abbrev pub pivot_refusal : Request → Option PolarsError
+pivot_refusal q = first_cause (pivot_causes q)
