@@ -19,7 +19,7 @@ fn are_present(ids: &[StandardChunkId]) -> bool
 }
 
 // The ids of two rows of the column.
-fn two_ids(alloc: Global, column: &Series) -> Result<Vec<StandardChunkId>, Fail>
+pub(crate) fn two_ids(alloc: Global, column: &Series) -> Result<Vec<StandardChunkId>, Fail>
     ensures named { IfOk result (λ v. All (NameRows v.items) (column.now ∷ [])) }
     ensures present { IfOk result (λ v. All (λ (id : Id). IsSome id) v.items) }
     ensures few { IfOk result (λ v. length v.items ≤ MAX_ROWS) }

@@ -48,7 +48,7 @@ pub(crate) fn left_keys(alloc: Global) -> Result<Series, Fail>
 }
 
 // The right keys of each test, of which one matches twice.
-fn right_keys(alloc: Global) -> Result<Series, Fail>
+pub(crate) fn right_keys(alloc: Global) -> Result<Series, Fail>
     ensures { IfOk result (λ s. s.kind ≡ int64) }
 {
     column(alloc, &[Some(1)], &[Some(1)])
