@@ -3,7 +3,7 @@ ghost use Rattle.std.specs.Prelude.{◌≡◌, ℕ, ◌/◌, ◌%◌, ◌^◌, �
 ghost use Rattle.tb_hash.specs.Codes.{modulo, code_or_none, part_of, code_of_bool, code_of_int, code_of_wide, fibonacci, fnv1a};
 ghost use Rattle.tb_hash.specs.CodeLaws.{bools_agree, numbers_agree, ints_agree, wides_agree, bytes_agree, bool_fits, number_fits, bytes_fit};
 
-use std::hash::Hash;
+use std::hash::{Hash, Hasher};
 
 // What whole numbers are multiplied by.
 const FIBONACCI: u64 = 0x9E37_79B9_7F4A_7C15;
@@ -153,9 +153,24 @@ impl JoinKey for u64 {
 }
 
 /// The bytes of a text, of a binary value or of the keys of a row.
-#[derive(Clone, Copy, PartialEq, Eq, Hash)]
+#[derive(Clone, Copy, PartialEq, Eq)]
 pub struct KeyBytes<'a> {
     pub bytes: &'a [u8],
+}
+
+// The bytes are fed as one piece: the derived hash feeds them one by one.
+impl Hash for KeyBytes<'_> {
+    ghost use Rattle.std.proofs.Common.{rules};
+    ghost use Rattle.std.specs.Prelude.{◌∷◌, []};
+    ghost use Rattle.std.specs.Cmp.Rules.{hashing};
+
+    ghost hash_input = { λ k. k.bytes.now ∷ [] };
+
+    ghost respects_eq = { Prim.search (hashing, rules) };
+
+    fn hash<H: Hasher>(&self, state: &mut H) {
+        state.write(self.bytes);
+    }
 }
 
 impl JoinKey for KeyBytes<'_> {
