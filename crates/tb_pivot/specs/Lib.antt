@@ -1,4 +1,5 @@
 pub mod Headers
+pub mod Lookup
 pub mod Pivot
 pub mod Refusal
 pub mod Request

@@ -20,7 +20,7 @@ use Rattle.tb_agg.specs.declared.table.Aggregate.{Aggregate}
 use Rattle.tb_agg.specs.declared.table.Aggregate.TheVariants.{Sum}
 use Rattle.tb_pivot.specs.Headers.{brace_name}
 use Rattle.tb_pivot.specs.Pivot.{alike, answered, distinct_rows, key_columns, pivot_table}
-use Rattle.tb_pivot.specs.Request.{Request, Way, one_row, aggregated, asked, index_names, on_columns, value_columns, value_names}
+use Rattle.tb_pivot.specs.Request.{Request, Way, one_row, aggregated, asked, columns_named, index_names, value_columns, value_names}
 
 -- NAMES
 
@@ -34,22 +34,22 @@ none_named [] e = Some e
 none_named (n ∷ ns) e = None
 
 -- 6 several columns become headers, and a column has the name that is kept for them
-abbrev pub brace_taken : Request → Option PolarsError
-brace_taken q = when (nat_lt 1 (length q.on) && is_among (names_of q.table) (brace_name q.on)) (ComputeError (BraceName (brace_name q.on)))
+abbrev pub brace_taken : Table → List Name → Option PolarsError
+brace_taken t on = when (nat_lt 1 (length on) && is_among (names_of t) (brace_name on)) (ComputeError (BraceName (brace_name on)))
 
 -- TYPES
 
 -- 7 the first column for headers whose values have no header texts
-abbrev pub header_cause : Request → Option PolarsError
-header_cause q = option_map (λ (c : TableColumn). InvalidOperation (HeaderType c.name)) (find (λ (c : TableColumn). not (is_header c.kind)) (on_columns q))
+abbrev pub header_cause : List TableColumn → Option PolarsError
+header_cause cs = option_map (λ (c : TableColumn). InvalidOperation (HeaderType c.name)) (find (λ (c : TableColumn). not (is_header c.kind)) cs)
 
 -- 8 the first value column whose type the aggregate does not take
 abbrev pub has_no_kind : Way → TableColumn → Bool
 has_no_kind (aggregated agg) v = is_none (result_kind agg v.kind)
 has_no_kind way v = false
 
-abbrev pub agg_cause : Request → Option PolarsError
-agg_cause q = option_map (λ (c : TableColumn). InvalidOperation (AggType c.name)) (find (has_no_kind q.way) (value_columns q))
+abbrev pub agg_cause : Way → List TableColumn → Option PolarsError
+agg_cause way vs = option_map (λ (c : TableColumn). InvalidOperation (AggType c.name)) (find (has_no_kind way) vs)
 
 -- VALUES
 
@@ -86,18 +86,23 @@ answer_cause q = first_cause (map (way_cause q q.way) (value_columns q))
 
 -- THE REFUSAL
 
--- 4 unknown names and 5 repeated ones, and the rest in order
+-- 4 to 8 unknown names, repeated ones, and what is said of the columns of these names
+abbrev pub column_causes : Table → List Name → List Name → List Name → Way → List (Option PolarsError)
+column_causes t on index values way =
+    unknown_key t on ∷ unknown_key t index ∷ unknown_key t values
+    ∷ repeated_among (on ++ index) ∷ repeated_among values
+    ∷ brace_taken t on
+    ∷ header_cause (columns_named t on)
+    ∷ agg_cause way (columns_named t values)
+    ∷ []
+
 abbrev pub pivot_causes : Request → List (Option PolarsError)
 pivot_causes q =
     both_none q
     ∷ none_named (index_names q) (ComputeError EmptyIndex)
     ∷ none_named q.on (ComputeError EmptyOn)
-    ∷ unknown_key q.table q.on ∷ unknown_key q.table (index_names q) ∷ unknown_key q.table (value_names q)
-    ∷ repeated_among (q.on ++ index_names q) ∷ repeated_among (value_names q)
-    ∷ brace_taken q
-    ∷ header_cause q
-    ∷ agg_cause q
-    ∷ many_cause q
+    ∷ column_causes q.table q.on (index_names q) (value_names q) q.way
+    ++ many_cause q
     ∷ range_cause q
     ∷ answer_cause q
     ∷ repeated_among (names_of (pivot_table q))

@@ -15,6 +15,11 @@ pub data Way : Type 0 where
   aggregated : Aggregate → Way
   asked : Result Name ℕ → (Table → List ℕ → List ℕ → Result TableColumn ℕ) → Way
 
+-- an aggregate where one is given, and else the value of the one row
+abbrev pub way_of : Option Aggregate → Way
+way_of None = one_row
+way_of (Some agg) = aggregated agg
+
 -- the table, the names of the columns whose rows become headers, those of the index and of the values, whether the columns of
 -- each value are sorted by their names, how cells are made, and what stands between a value's name and a header
 pub record Request : Type 0 where

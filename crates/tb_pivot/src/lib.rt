@@ -1,6 +1,10 @@
-//! Tables made wide: what a pivot is, and how its columns are called. The call itself is not written yet.
+//! Tables made wide: what a pivot is, how its columns are called, and the columns that a request names. The call itself is
+//! not written yet.
 #![tactic(auto)]
 
 mod headers;
+mod lookup;
 
 pub use headers::{block_name, brace_name, header_text};
+pub use lookup::{RequestColumns, found};
+pub use tb_agg::Aggregate;

@@ -1,0 +1,159 @@
+//! The columns that a request names, and its refusals by names and types.
+ghost use Rattle.std.specs.Prelude.{◌≡◌, ◌∷◌, [], ◌++◌, not, IfOk, OnOk, length, map};
+ghost use Rattle.tb_value.specs.Refusals.{Settles, first_cause};
+ghost use Rattle.tb_chunk.specs.Lent.{lent_columns};
+ghost use Rattle.tb_frame.specs.Naming.{is_among};
+ghost use Rattle.tb_frame.specs.Refusal.{repeated_among};
+ghost use Rattle.tb_frame.specs.Table.{names_of, plain, table_of};
+ghost use Rattle.tb_label.specs.Label.{is_header};
+ghost use Rattle.tb_pivot.specs.Lookup.{AreFound};
+ghost use Rattle.tb_pivot.specs.Refusal.{agg_cause, brace_taken, column_causes, has_no_kind, header_cause};
+ghost use Rattle.tb_pivot.specs.Request.{way_of};
+
+use crate::headers::brace_name;
+use std::alloc::Global;
+use tb_agg::Aggregate;
+use tb_frame::{DataFrame, check_distinct, check_repeated, lend_columns};
+use tb_label::is_header_type;
+use tb_store::Series;
+use tb_value::{ComputeCause, InvalidCause, OutOfMemory, PlSmallStr, PolarsError, PolarsResult};
+
+/// The columns that are named, in the order of their names.
+#[derive(Drop)]
+pub struct RequestColumns<'a> {
+    /// The columns whose rows become headers.
+    pub on: Vec<&'a Series>,
+    /// The columns of the index.
+    pub index: Vec<&'a Series>,
+    /// The columns of whose values cells are made.
+    pub values: Vec<&'a Series>,
+}
+
+// Puts the names behind the others.
+fn push_names<'a>(
+    names: &mut Vec<&'a PlSmallStr>,
+    more: &'a [PlSmallStr],
+) -> Result<(), OutOfMemory>
+    ensures { OnOk result (map (λ n. n.now) names.new.items ≡ map (λ n. n.now) names.old.items ++ more.now) }
+{
+    for name in more {
+        names.push(name)?;
+    }
+    Ok(())
+}
+
+// The names of both lists, lent.
+fn names_in_row<'a>(
+    alloc: Global,
+    first: &'a [PlSmallStr],
+    second: &'a [PlSmallStr],
+) -> Result<Vec<&'a PlSmallStr>, OutOfMemory>
+    ensures { IfOk result (λ v. map (λ n. n.now) v.items ≡ first.now ++ second.now) }
+{
+    let mut names = Vec::with_capacity(alloc, first.len())?;
+    push_names(&mut names, first)?;
+    push_names(&mut names, second)?;
+    Ok(names)
+}
+
+// Refuses the first name that stands twice in `on` followed by the index (Duplicate).
+fn check_keys(alloc: Global, on: &[PlSmallStr], index: &[PlSmallStr]) -> PolarsResult<()>
+    ensures { Settles result (repeated_among (on.now ++ index.now)) }
+{
+    check_distinct(alloc, &names_in_row(alloc, on, index)?)
+}
+
+fn has_column(table: &DataFrame, name: &PlSmallStr) -> bool
+    ensures { result ≡ is_among (names_of (table_of table.now)) name.now }
+{
+    table.position(name.as_str()).is_some()
+}
+
+// Refuses the name in braces, where several columns become headers and a column has it (BraceName).
+fn check_brace_name(alloc: Global, table: &DataFrame, on: &[PlSmallStr]) -> PolarsResult<()>
+    ensures { Settles result (brace_taken (table_of table.now) on.now) }
+{
+    if on.len() <= 1 {
+        return Ok(());
+    }
+    let name = brace_name(alloc, on)?;
+    if has_column(table, &name) {
+        return Err(PolarsError::ComputeError(ComputeCause::BraceName(name)));
+    }
+    Ok(())
+}
+
+// Refuses the first column whose values have no header texts (HeaderType).
+fn check_headers(alloc: Global, columns: &[&Series]) -> PolarsResult<()>
+    ensures { Settles result (header_cause (table_of (lent_columns columns.now))) }
+{
+    for column in columns {
+        if !is_header_type(column.dtype()) {
+            return Err(PolarsError::InvalidOperation(InvalidCause::HeaderType(
+                column.name().copy(alloc)?,
+            )));
+        }
+    }
+    Ok(())
+}
+
+// Whether cells can be made of the column, by an aggregate where one is given.
+fn is_taken(column: &Series, agg: Option<Aggregate>) -> bool
+    ensures { not result ≡ has_no_kind (way_of agg) (plain column.now) }
+{
+    match agg {
+        Some(agg) => agg.takes(column.dtype()),
+        None => true,
+    }
+}
+
+// Refuses the first column whose type the aggregate does not take (AggType).
+fn check_values(alloc: Global, columns: &[&Series], agg: Option<Aggregate>) -> PolarsResult<()>
+    ensures { Settles result (agg_cause (way_of agg) (table_of (lent_columns columns.now))) }
+{
+    for column in columns {
+        if !is_taken(column, agg) {
+            return Err(PolarsError::InvalidOperation(InvalidCause::AggType(
+                column.name().copy(alloc)?,
+            )));
+        }
+    }
+    Ok(())
+}
+
+/// What is found of the columns that are named. Without an aggregate a cell is the value of its one row, of any type.
+///
+/// # Errors
+///
+/// The first of these that holds, or `OutOfMemory`:
+/// 1. `ColumnNotFound`: a name is of no column, in `on`, then in `index`, then in `values`;
+/// 2. `Duplicate`: a name stands twice in `on` followed by `index`, and then in `values`;
+/// 3. `BraceName`: `on` has several names, and a column is called by them in quotes and braces;
+/// 4. `HeaderType`: values of a column of `on` have no header texts;
+/// 5. `AggType`: the aggregate doesn't take the type of a column of `values`.
+pub fn found<'a>(
+    alloc: Global,
+    table: &'a DataFrame,
+    on: &[PlSmallStr],
+    index: &[PlSmallStr],
+    values: &[PlSmallStr],
+    agg: Option<Aggregate>,
+) -> PolarsResult<RequestColumns<'a>>
+    ensures settles { Settles result (first_cause (column_causes (table_of table.now) on.now index.now values.now (way_of agg))) }
+    ensures found { IfOk result (AreFound table.now on.now index.now values.now) }
+{
+    let columns = table.get_columns();
+    let on_columns = lend_columns(alloc, columns, on)?;
+    let index_columns = lend_columns(alloc, columns, index)?;
+    let value_columns = lend_columns(alloc, columns, values)?;
+    check_keys(alloc, on, index)?;
+    check_repeated(alloc, values)?;
+    check_brace_name(alloc, table, on)?;
+    check_headers(alloc, &on_columns)?;
+    check_values(alloc, &value_columns, agg)?;
+    Ok(RequestColumns {
+        on: on_columns,
+        index: index_columns,
+        values: value_columns,
+    })
+}
