@@ -1,18 +1,25 @@
 // Tests of the calls beside the join.
-ghost use Rattle.std.specs.Prelude.{◌≡◌, ◌∷◌, [], IfOk};
+ghost use Rattle.std.specs.Prelude.{◌≡◌, ◌≤◌, ◌∷◌, [], All, IfOk, IsSome, length};
 ghost use Rattle.tb_value.specs.Kind.{int64};
+ghost use Rattle.tb_gather.specs.Gathered.{NameRows};
+ghost use Rattle.tb_gather.specs.Ids.{Id};
+ghost use Rattle.tb_join_tests.specs.Tables.{HasBothKeys};
 
 use crate::gathers::two_ids;
-use crate::pairs::{left_keys, right_keys, table_of};
+use crate::pairs::{column, left_keys, right_keys, table_of};
 use std::alloc::Global;
+use std::slice;
 use std::test::Fail;
+use std::thread::Threads;
 use tb_dispatch::{
     _coalesce_full_join, _finish_join, _join_suffix_name, GivenJoin, JoinDispatch,
     materialize_left_join_from_series,
 };
 use tb_frame::{DataFrame, JoinArgs, JoinType};
+use tb_json::text_of;
 use tb_pool::Exec;
 use tb_store::Series;
+use tb_value::{MAX_ROWS, OutOfMemory, PlSmallStr, PolarsError, PolarsResult, StandardChunkId};
 
 // The table of a key column, and the column.
 fn with_table(alloc: Global, key: Series) -> Result<(DataFrame, Series), Fail>
@@ -30,6 +37,7 @@ fn one_key(alloc: Global, key: Series) -> Result<Vec<Series>, Fail> {
     Ok(keys)
 }
 
+#[tactic(auto, using(crate::proofs::Sides::stands, crate::proofs::Sides::are_keys))]
 #[test]
 fn the_sides_of_a_left_join(rt: HostRuntime) -> Result<(), Fail> {
     let alloc = rt.alloc();
@@ -39,10 +47,14 @@ fn the_sides_of_a_left_join(rt: HostRuntime) -> Result<(), Fail> {
     let (left, right) = materialize_left_join_from_series(
         &rt, alloc, left, &right, &left_key, &right_key, &args, None, &exec,
     )?;
-    assert!(rt; left.height() == 4 && right.width() == 0);
+    assert!(rt; right.width() == 0);
+    let text = text_of(alloc, &left)?;
+    let line = r#"{"columns":[{"name":"k","type":"i64","values":[1,1,null,2]}],"height":4}"#;
+    assert_eq!(rt; text.trim_end(), line);
     Ok(())
 }
 
+#[tactic(auto, using(crate::proofs::Sides::stands, crate::proofs::Sides::are_keys))]
 #[test]
 fn joins_by_one_column_of_each_side(rt: HostRuntime) -> Result<(), Fail> {
     let alloc = rt.alloc();
@@ -71,34 +83,93 @@ fn a_join_by_given_columns(rt: HostRuntime) -> Result<(), Fail> {
     Ok(())
 }
 
+fn named_rows(
+    rt: &(impl Threads + Sync),
+    alloc: Global,
+    table: &DataFrame,
+    ids: &[StandardChunkId],
+) -> Result<DataFrame, OutOfMemory>
+    requires named { All (NameRows ids.now) table.now }
+    requires present { All (λ (id : Id). IsSome id) ids.now }
+    requires few { length ids.now ≤ MAX_ROWS }
+{
+    table.create_left_df_chunked(rt, alloc, ids, false, true)
+}
+
 #[test]
 fn rows_that_were_found_before(rt: HostRuntime) -> Result<(), Fail> {
     let alloc = rt.alloc();
-    let (table, key) = with_table(alloc, left_keys(alloc)?)?;
+    let key = left_keys(alloc)?;
+    let ids = two_ids(alloc, &key)?;
+    let table = table_of(alloc, key.into_column())?;
     if table.height() != 3 {
         return Err(Fail::from("another height"));
     }
-    let ids = two_ids(alloc, &key)?;
-    let named = table.create_left_df_chunked(&rt, alloc, &ids, false, true)?;
+    let named = named_rows(&rt, alloc, &table, &ids)?;
     let whole = table._create_left_df_from_slice(&rt, alloc, &[0, 1, 2], true, false, true)?;
     let kept = table._finish_anti_semi_join(&rt, alloc, &[0, 2], Some((1, 1)))?;
     assert!(rt; named.height() == 2 && whole.height() == 3 && kept.height() == 1);
     Ok(())
 }
 
+// A table of two columns, of which the first is called x.
+fn with_x(alloc: Global, other: &str) -> Result<DataFrame, Fail> {
+    let mut columns = Vec::new(alloc);
+    columns.push(column(alloc, "x", &[Some(1)], &[])?.into_column())?;
+    columns.push(column(alloc, other, &[None], &[])?.into_column())?;
+    Ok(DataFrame::new(alloc, columns)?)
+}
+
+// Two tables of one height side by side, where a suffix is given or none.
+fn side_by_side(
+    alloc: Global,
+    suffix: Option<PlSmallStr>,
+) -> Result<PolarsResult<DataFrame>, Fail> {
+    let (left, right) = (with_x(alloc, "y")?, with_x(alloc, "z")?);
+    if left.height() != right.height() {
+        return Err(Fail::from("other heights"));
+    }
+    Ok(_finish_join(alloc, left, right, suffix))
+}
+
 #[test]
 fn tables_side_by_side(rt: HostRuntime) -> Result<(), Fail> {
     let alloc = rt.alloc();
-    let (left, _) = with_table(alloc, left_keys(alloc)?)?;
-    let (first, _) = with_table(alloc, left_keys(alloc)?)?;
-    let (second, _) = with_table(alloc, left_keys(alloc)?)?;
-    if first.height() != second.height() {
-        return Err(Fail::from("other heights"));
-    }
-    let beside = _finish_join(alloc, first, second, None)?;
-    let merged = _coalesce_full_join(alloc, beside, &[], &[], None, &left)?;
-    assert!(rt; merged.width() == 2);
+    let table = side_by_side(alloc, None)??;
+    let text = text_of(alloc, &table)?;
+    let line =
+        r#"{"columns":[{"name":"x","type":"i64","values":[1]},{"name":"y","type":"i64","values":[null]},{"name":"x_right","type":"i64","values":[1]},{"name":"z","type":"i64","values":[null]}],"height":1}"#;
+    assert_eq!(rt; text.trim_end(), line);
+    let suffix = PlSmallStr::from_str(alloc, "")?;
+    let refused = side_by_side(alloc, Some(suffix))?;
+    assert!(rt; matches!(refused, Err(PolarsError::Duplicate(_))));
     let name = _join_suffix_name(alloc, "x", "_b")?;
     assert_eq!(rt; name.as_str(), "x_b");
+    Ok(())
+}
+
+// The columns of a Full join, whose keys stand side by side.
+fn with_both_keys(alloc: Global) -> Result<DataFrame, Fail>
+    ensures { IfOk result HasBothKeys }
+{
+    let mut columns = Vec::new(alloc);
+    columns.push(column(alloc, "k", &[Some(1), None], &[])?.into_column())?;
+    columns.push(column(alloc, "v", &[Some(7), Some(8)], &[])?.into_column())?;
+    columns.push(column(alloc, "k_right", &[None, Some(2)], &[])?.into_column())?;
+    Ok(DataFrame::new(alloc, columns)?)
+}
+
+#[test]
+fn keys_of_a_joined_table(rt: HostRuntime) -> Result<(), Fail> {
+    let alloc = rt.alloc();
+    let joined = with_both_keys(alloc)?;
+    let (left, _) = with_table(alloc, left_keys(alloc)?)?;
+    let key = PlSmallStr::from_str(alloc, "k")?;
+    let keys = slice::from_ref(&key);
+    let merged = _coalesce_full_join(alloc, joined, keys, keys, None, &left)?;
+    let text = text_of(alloc, &merged)?;
+    let line =
+        r#"{"columns":[{"name":"k","type":"i64","values":[1,2]},{"name":"v","type":"i64","values":[7,8]}],"height":2}"#;
+    assert_eq!(rt; text.trim_end(), line);
     Ok(())
 }

@@ -26,16 +26,22 @@ fn keys_have_the_published_codes(rt: HostRuntime) -> Result<(), Fail> {
     Ok(())
 }
 
-// A column of these keys, in two chunks.
-fn column(alloc: Global, front: &[Option<i64>], back: &[Option<i64>]) -> Result<Series, Fail>
-    ensures { IfOk result (λ s. s.kind ≡ int64) }
+// A column of these numbers, in two chunks.
+pub(crate) fn column(
+    alloc: Global,
+    name: &str,
+    front: &[Option<i64>],
+    back: &[Option<i64>],
+) -> Result<Series, Fail>
+    ensures name { IfOk result (λ s. s.name ≡ name.now) }
+    ensures kind { IfOk result (λ s. s.kind ≡ int64) }
 {
     let mut lists = Vec::new(alloc);
     for keys in [front, back] {
         let cells = keys.to_vec(alloc)?;
         lists.push(Cells { cells })?;
     }
-    let name = PlSmallStr::from_str(alloc, "k")?;
+    let name = PlSmallStr::from_str(alloc, name)?;
     let lists = Chunks::Int64Type(lists);
     Ok(Series::from_arrays(alloc, name, DataType::Int64, lists)?)
 }
@@ -44,14 +50,14 @@ fn column(alloc: Global, front: &[Option<i64>], back: &[Option<i64>]) -> Result<
 pub(crate) fn left_keys(alloc: Global) -> Result<Series, Fail>
     ensures { IfOk result (λ s. s.kind ≡ int64) }
 {
-    column(alloc, &[Some(1), None], &[Some(2)])
+    column(alloc, "k", &[Some(1), None], &[Some(2)])
 }
 
 // The right keys of each test, of which one matches twice.
 pub(crate) fn right_keys(alloc: Global) -> Result<Series, Fail>
     ensures { IfOk result (λ s. s.kind ≡ int64) }
 {
-    column(alloc, &[Some(1)], &[Some(1)])
+    column(alloc, "k", &[Some(1)], &[Some(1)])
 }
 
 // Row numbers, or ids of rows in chunks, by a Left join.
