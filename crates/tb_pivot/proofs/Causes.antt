@@ -72,7 +72,7 @@ lower m n true e = lt-ltb (suc m) (suc n) (omega (arith, ltb-true m n e))
 lower m n false e = le-ltb (suc m) (suc n) (omega (arith, ltb-false m n e))
 
 -- the first that passes has a place where one passes
-before_end : {X : Type 0} (p : X → Bool) (xs : List X) → ltb (position_or_len p xs) (length xs) ≡ list_any p xs
+pub before_end : {X : Type 0} (p : X → Bool) (xs : List X) → ltb (position_or_len p xs) (length xs) ≡ list_any p xs
 before_end p [] = refl
 before_end p (x ∷ xs) = by (p x) (before_end p xs)
   where

@@ -1,2 +1,4 @@
 pub mod Causes
+pub mod Groups
+pub mod Placed
 pub mod Texts

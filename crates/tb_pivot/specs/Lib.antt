@@ -1,4 +1,6 @@
+pub mod Grid
 pub mod Headers
+pub mod Laws
 pub mod Lookup
 pub mod Pivot
 pub mod Refusal

@@ -2,9 +2,12 @@
 //! not written yet.
 #![tactic(auto)]
 
+mod grid;
 mod headers;
+pub mod laws;
 mod lookup;
 
+pub use grid::grid_of;
 pub use headers::{block_name, brace_name, header_text};
 pub use lookup::{RequestColumns, found};
 pub use tb_agg::Aggregate;

@@ -1,7 +1,6 @@
 use Rattle.std.proofs.Common.{◌∙◌, ap, is_some}
 use Rattle.std.specs.Prelude.{position}
-use Rattle.tb_value.specs.Names.{Name, same_name}
-use Rattle.tb_chunk.specs.Col.{Col}
+use Rattle.tb_value.specs.Names.{Name}
 use Rattle.tb_frame.specs.Naming.{is_among}
 use Rattle.tb_frame.specs.Table.{names_of, table_of}
 use Rattle.tb_pivot.proofs.Causes.{place_of_name}

@@ -1,0 +1,59 @@
+-- One group more in its cell.
+use Rattle.std.proofs.Common.{◌≡◌, ◌≢◌, ◌∙◌, ◌<◌, ◌≤◌, ◌+◌, ◌*◌, ℕ, zero, suc, Bool, true, false, cond, eqb, List, ◌∷◌, get_or, set, length, map, replicate, refl, sym, ap, arith, Option, Some, None}
+use Rattle.std.specs.List.{range_with_len}
+use Rattle.std.proofs.lemmas.Bool.{eq-eqb, ne_eqb}
+use Rattle.std.proofs.lemmas.List.Elements.{All-get_or}
+use Rattle.std.proofs.lemmas.Nat.{mul-le}
+use Rattle.tb_value.specs.Pairs.{row_numbers}
+use Rattle.tb_rows.specs.declared.groups.Groups.{Groups}
+use Rattle.tb_agg.specs.Grouped.{AreGroupsOf}
+use Rattle.tb_pivot.specs.Grid.{last_below}
+
+agree_from : {X : Type 0} (f h : ℕ → X) (b n : ℕ) → ((k : ℕ) → b ≤ k → f k ≡ h k) → map f (range_with_len b n) ≡ map h (range_with_len b n)
+agree_from f h b zero e = refl
+agree_from {X} f h b (suc n) e =
+    ap (λ (x : X). x ∷ map f (range_with_len (b + 1) n)) (e b (omega arith))
+    ∙ ap (λ (xs : List X). h b ∷ xs) (agree_from f h (b + 1) n (λ k le. e k (omega (arith, le))))
+
+-- a function of the places of a list, changed at one place
+set_range : {X : Type 0} (f h : ℕ → X) (a n i : ℕ) → i < n → ((k : ℕ) → k ≢ a + i → f k ≡ h k) → set (map f (range_with_len a n)) i (h (a + i)) ≡ map h (range_with_len a n)
+set_range f h a zero i low e = absurd (omega (arith, low))
+set_range {X} f h a (suc n) zero low e =
+    ap (λ (k : ℕ). h k ∷ map f (range_with_len (a + 1) n)) (omega arith)
+    ∙ ap (λ (xs : List X). h a ∷ xs) (agree_from f h (a + 1) n (λ k le. e k (λ same. absurd (omega (arith, same, le)))))
+set_range {X} f h a (suc n) (suc i) low e =
+    let at : a + suc i ≡ (a + 1) + i = omega arith in
+    ap (λ (x : X). x ∷ set (map f (range_with_len (a + 1) n)) i (h (a + suc i))) (e a (λ same. absurd (omega (arith, same))))
+    ∙ ap (λ (k : ℕ). h a ∷ set (map f (range_with_len (a + 1) n)) i (h k)) at
+    ∙ ap (λ (xs : List X). h a ∷ xs) (set_range f h (a + 1) n i (omega (arith, low)) (λ k other. e k (λ same. other (same ∙ at))))
+
+-- no cell has a group yet
+pub no_group : (o : Option ℕ) (b n : ℕ) → replicate n o ≡ map (λ (j : ℕ). o) (range_with_len b n)
+no_group o b zero = refl
+no_group o b (suc n) = ap (λ (os : List (Option ℕ)). o ∷ os) (no_group o (b + 1) n)
+
+last_more : (p : ℕ → Bool) (n : ℕ) (b : Bool) → p n ≡ b → last_below p (n + 1) ≡ cond b (Some n) (last_below p n)
+last_more p n b e =
+    let next : n + 1 ≡ suc n = omega arith in
+    ap (last_below p) next ∙ ap (λ (c : Bool). cond c (Some n) (last_below p n)) e
+
+-- the next group stands in its cell
+pub group_more : (f : ℕ → ℕ) (cells n p : ℕ) (kept : List (Option ℕ)) → kept ≡ map (λ j. last_below (λ k. eqb (f k) j) n) (row_numbers cells) → p ≡ f n → p < cells
+    → set kept p (Some n) ≡ map (λ j. last_below (λ k. eqb (f k) j) (n + 1)) (row_numbers cells)
+group_more f cells n p kept so_far is low =
+    let old : ℕ → Option ℕ = λ j. last_below (λ k. eqb (f k) j) n in
+    let new : ℕ → Option ℕ = λ j. last_below (λ k. eqb (f k) j) (n + 1) in
+    let here : new (0 + p) ≡ Some n = last_more (λ k. eqb (f k) (0 + p)) n true (eq-eqb (f n) (0 + p) (omega (arith, is))) in
+    ap (λ (os : List (Option ℕ)). set os p (Some n)) so_far
+    ∙ ap (set (map old (row_numbers cells)) p) (sym here)
+    ∙ set_range old new 0 cells p low (λ k other. sym (last_more (λ i. eqb (f i) k) n false (ne_eqb (f n) k (λ same. other (omega (arith, same, is))))))
+
+-- a cell is below the number of cells
+pub cell_below : (height width x y : ℕ) → x < height → y < width → y * height + x < width * height
+cell_below height width x y low under =
+    let rows : (y + 1) * height ≤ width * height = mul-le (y + 1) height width height (omega (arith, under)) (omega arith) in
+    let more : (y + 1) * height ≡ y * height + height = omega arith in
+    omega (arith, rows, more, low)
+
+pub number_low : (n r : ℕ) (g : Groups) → AreGroupsOf n g → r < n → get_or g.numbers.items r 0 < length g.firsts.items
+number_low n r g groups low = All-get_or (λ k. k < length g.firsts.items) g.numbers.items r 0 (omega (arith, groups.each, low)) groups.within
