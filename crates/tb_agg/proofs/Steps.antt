@@ -17,7 +17,7 @@ agree_from {X} f h b (suc n) e =
     ∙ ap (λ (xs : List X). h b ∷ xs) (agree_from f h (b + 1) n (λ k le. e k (omega (arith, le))))
 
 -- a function of the places of a list, changed at one place
-set_range : {X : Type 0} (f h : ℕ → X) (a n i : ℕ) → i < n → ((k : ℕ) → k ≢ a + i → f k ≡ h k) → set (map f (range_with_len a n)) i (h (a + i)) ≡ map h (range_with_len a n)
+pub set_range : {X : Type 0} (f h : ℕ → X) (a n i : ℕ) → i < n → ((k : ℕ) → k ≢ a + i → f k ≡ h k) → set (map f (range_with_len a n)) i (h (a + i)) ≡ map h (range_with_len a n)
 set_range f h a zero i low e = absurd (omega (arith, low))
 set_range {X} f h a (suc n) zero low e =
     ap (λ (k : ℕ). h k ∷ map f (range_with_len (a + 1) n)) (omega arith)

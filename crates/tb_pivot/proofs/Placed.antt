@@ -1,5 +1,5 @@
 -- One group more in its cell.
-use Rattle.std.proofs.Common.{◌≡◌, ◌≢◌, ◌∙◌, ◌<◌, ◌≤◌, ◌+◌, ◌*◌, ℕ, zero, suc, Bool, true, false, cond, eqb, List, ◌∷◌, get_or, set, length, map, replicate, refl, sym, ap, arith, Option, Some, None}
+use Rattle.std.proofs.Common.{◌≡◌, ◌∙◌, ◌<◌, ◌≤◌, ◌+◌, ◌*◌, ℕ, zero, suc, Bool, true, false, cond, eqb, List, ◌∷◌, get_or, set, length, map, replicate, refl, sym, ap, arith, Option, Some}
 use Rattle.std.specs.List.{range_with_len}
 use Rattle.std.proofs.lemmas.Bool.{eq-eqb, ne_eqb}
 use Rattle.std.proofs.lemmas.List.Elements.{All-get_or}
@@ -7,25 +7,8 @@ use Rattle.std.proofs.lemmas.Nat.{mul-le}
 use Rattle.tb_value.specs.Pairs.{row_numbers}
 use Rattle.tb_rows.specs.declared.groups.Groups.{Groups}
 use Rattle.tb_agg.specs.Grouped.{AreGroupsOf}
+use Rattle.tb_agg.proofs.Steps.{set_range}
 use Rattle.tb_pivot.specs.Grid.{last_below}
-
-agree_from : {X : Type 0} (f h : ℕ → X) (b n : ℕ) → ((k : ℕ) → b ≤ k → f k ≡ h k) → map f (range_with_len b n) ≡ map h (range_with_len b n)
-agree_from f h b zero e = refl
-agree_from {X} f h b (suc n) e =
-    ap (λ (x : X). x ∷ map f (range_with_len (b + 1) n)) (e b (omega arith))
-    ∙ ap (λ (xs : List X). h b ∷ xs) (agree_from f h (b + 1) n (λ k le. e k (omega (arith, le))))
-
--- a function of the places of a list, changed at one place
-set_range : {X : Type 0} (f h : ℕ → X) (a n i : ℕ) → i < n → ((k : ℕ) → k ≢ a + i → f k ≡ h k) → set (map f (range_with_len a n)) i (h (a + i)) ≡ map h (range_with_len a n)
-set_range f h a zero i low e = absurd (omega (arith, low))
-set_range {X} f h a (suc n) zero low e =
-    ap (λ (k : ℕ). h k ∷ map f (range_with_len (a + 1) n)) (omega arith)
-    ∙ ap (λ (xs : List X). h a ∷ xs) (agree_from f h (a + 1) n (λ k le. e k (λ same. absurd (omega (arith, same, le)))))
-set_range {X} f h a (suc n) (suc i) low e =
-    let at : a + suc i ≡ (a + 1) + i = omega arith in
-    ap (λ (x : X). x ∷ set (map f (range_with_len (a + 1) n)) i (h (a + suc i))) (e a (λ same. absurd (omega (arith, same))))
-    ∙ ap (λ (k : ℕ). h a ∷ set (map f (range_with_len (a + 1) n)) i (h k)) at
-    ∙ ap (λ (xs : List X). h a ∷ xs) (set_range f h (a + 1) n i (omega (arith, low)) (λ k other. e k (λ same. other (same ∙ at))))
 
 -- no cell has a group yet
 pub no_group : (o : Option ℕ) (b n : ℕ) → replicate n o ≡ map (λ (j : ℕ). o) (range_with_len b n)
