@@ -9,6 +9,7 @@ use Rattle.tb_request.specs.declared.shape.WrittenColumn.{WrittenColumn}
 use Rattle.tb_request.specs.declared.shape.WrittenJoin.{WrittenJoin}
 use Rattle.tb_request.specs.declared.one_table.WrittenUnpivot.{WrittenUnpivot}
 use Rattle.tb_request.specs.declared.one_table.WrittenDummies.{WrittenDummies}
+use Rattle.tb_request.specs.declared.one_table.WrittenPivot.{WrittenPivot}
 use Rattle.tb_request.specs.declared.values.ClaimedColumn.{ClaimedColumn}
 use Rattle.tb_request.specs.Written as written
 
@@ -44,6 +45,17 @@ written_dummies w = record {
   columns = option_map (λ v. v.items) w.columns;
   separator = w.separator;
   drop_first = w.drop_first;
+}
+
+abbrev pub written_pivot : WrittenPivot → written.WrittenPivot
+written_pivot w = record {
+  table = map written_view w.table.items;
+  on = w.on.items;
+  index = option_map (λ v. v.items) w.index;
+  values = option_map (λ v. v.items) w.values;
+  sort_columns = w.sort_columns;
+  agg = w.agg;
+  separator = w.separator;
 }
 
 -- the column, as if it had the flag that is claimed

@@ -8,6 +8,7 @@ use Rattle.tb_value.specs.Names.{Name}
 use Rattle.tb_value.specs.declared.error.PolarsError.{PolarsError}
 use Rattle.tb_value.specs.declared.error.PolarsError.TheVariants as refused
 use Rattle.tb_pool.specs.ExecView.{ExecView}
+use Rattle.tb_agg.specs.declared.table.Aggregate.{Aggregate}
 use Rattle.tb_chunk.specs.Col.{Col}
 use Rattle.tb_frame.specs.declared.args.JoinArgs.{JoinArgs}
 use Rattle.tb_frame.specs.Table.{Table, table_of, names_of}
@@ -17,11 +18,12 @@ use Rattle.tb_frame.specs.Refusal.{first_repeated}
 use Rattle.tb_request.specs.declared.request.JoinRequest as rust_join
 use Rattle.tb_request.specs.declared.request.UnpivotRequest as rust_unpivot
 use Rattle.tb_request.specs.declared.request.DummiesRequest as rust_dummies
+use Rattle.tb_request.specs.declared.request.PivotRequest as rust_pivot
 use Rattle.tb_request.specs.declared.request.Reason.{Reason}
 use Rattle.tb_request.specs.declared.request.Reason.TheVariants as why
 use Rattle.tb_request.specs.declared.request.RequestFault.{RequestFault}
 use Rattle.tb_request.specs.declared.request.RequestFault.TheVariants.{OutOfMemory, NoRequest}
-use Rattle.tb_request.specs.Written.{Written, join_of, unpivot_of, dummies_of}
+use Rattle.tb_request.specs.Written.{Written, join_of, unpivot_of, dummies_of, pivot_of}
 use Rattle.tb_request.specs.Columns.{tables_of, columns_from}
 use Rattle.tb_request.specs.Flags.{flags_hold}
 
@@ -46,6 +48,15 @@ pub record DummiesRequest : Type 0 where
   pub columns : Option (List Name)
   pub separator : Option Name
   pub drop_first : Bool
+
+pub record PivotRequest : Type 0 where
+  pub table : List Col
+  pub on : List Name
+  pub index : Option (List Name)
+  pub values : Option (List Name)
+  pub sort_columns : Bool
+  pub agg : Option Aggregate
+  pub separator : Option Name
 
 infixl 10 ◌>>=◌
 abbrev pub ◌>>=◌ : {A B : Type 0} → Result A Reason → (A → Result B Reason) → Result B Reason
@@ -106,6 +117,12 @@ dummies_in d = do
   table ← table_from written.table
   Ok (record { table = table; columns = written.columns; separator = written.separator; drop_first = written.drop_first })
 
+unfoldable pub pivot_in : Data → Result PivotRequest Reason
+pivot_in d = do
+  written ← ok_or (pivot_of d) why.Shape
+  table ← table_from written.table
+  Ok (record { table = table; on = written.on; index = written.index; values = written.values; sort_columns = written.sort_columns; agg = written.agg; separator = written.separator })
+
 -- the value of a text, where the bytes are UTF-8
 unfoldable pub value_of : List ℕ → Result Data Reason
 value_of bytes = ok_or (if is_utf8 bytes then read bytes else None) why.Json
@@ -120,6 +137,9 @@ unpivot_request_of bytes = value_of bytes >>= unpivot_in
 unfoldable pub dummies_request_of : List ℕ → Result DummiesRequest Reason
 dummies_request_of bytes = value_of bytes >>= dummies_in
 
+unfoldable pub pivot_request_of : List ℕ → Result PivotRequest Reason
+pivot_request_of bytes = value_of bytes >>= pivot_in
+
 -- what is asked of the join
 abbrev pub asked : JoinRequest → Request
 asked r = by_names (table_of r.left) (table_of r.right) r.left_on r.right_on r.args
@@ -132,6 +152,9 @@ unpivot_view r = record { table = r.table; on = r.on.items; index = r.index.item
 
 abbrev pub dummies_view : rust_dummies.DummiesRequest → DummiesRequest
 dummies_view r = record { table = r.table; columns = option_map (λ v. v.items) r.columns; separator = r.separator; drop_first = r.drop_first }
+
+abbrev pub pivot_view : rust_pivot.PivotRequest → PivotRequest
+pivot_view r = record { table = r.table; on = r.on.items; index = option_map (λ v. v.items) r.index; values = option_map (λ v. v.items) r.values; sort_columns = r.sort_columns; agg = r.agg; separator = r.separator }
 
 -- want of memory says nothing, and a reason is the definition's
 abbrev pub FaultIs : {A : Type 0} → RequestFault → Result A Reason → Type 0

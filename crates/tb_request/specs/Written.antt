@@ -8,6 +8,8 @@ use Rattle.tb_value.specs.Names.{Name}
 use Rattle.tb_value.specs.declared.sorted.IsSorted.{IsSorted}
 use Rattle.tb_value.specs.declared.sorted.IsSorted.TheVariants.{Ascending, Descending, Not}
 use Rattle.tb_pool.specs.ExecView.{ExecView}
+use Rattle.tb_agg.specs.declared.table.Aggregate.{Aggregate}
+use Rattle.tb_agg.specs.declared.table.Aggregate.TheVariants.{First, Last, Sum, Min, Max, Count}
 use Rattle.tb_frame.specs.declared.args.JoinArgs.{JoinArgs}
 use Rattle.tb_frame.specs.declared.args.JoinType.{JoinType}
 use Rattle.tb_frame.specs.declared.args.JoinType.TheVariants.{Inner, Left, Right, Full, Semi, Anti}
@@ -241,3 +243,39 @@ dummies_of d = do
   separator ← text_at (codes "separator") d
   drop_first ← truth_at (codes "drop_first") d
   Some (record { table = table; columns = columns; separator = separator; drop_first = drop_first })
+
+-- ---- a request to make a table wide
+
+abbrev pub agg_named : List ℕ → Option Aggregate
+agg_named s =
+    if bytes_eq s (codes "first") then Some First
+    else if bytes_eq s (codes "sum") then Some Sum
+    else if bytes_eq s (codes "min") then Some Min
+    else if bytes_eq s (codes "max") then Some Max
+    else if bytes_eq s (codes "count") then Some Count
+    else if bytes_eq s (codes "last") then Some Last
+    else None
+
+abbrev pub agg_of : Data → Option (Option Aggregate)
+agg_of d = text_or None (λ s. option_map Some (agg_named s)) (get (codes "agg") d)
+
+pub record WrittenPivot : Type 0 where
+  pub table : List Written
+  pub on : List Name
+  pub index : Option (List Name)
+  pub values : Option (List Name)
+  pub sort_columns : Bool
+  pub agg : Option Aggregate
+  pub separator : Option Name
+
+unfoldable pub pivot_of : Data → Option WrittenPivot
+pivot_of d = do
+  known ← check (has_only (codes "agg" ∷ codes "index" ∷ codes "on" ∷ codes "separator" ∷ codes "sort_columns" ∷ codes "table" ∷ codes "values" ∷ []) d)
+  table ← table_at (codes "table") d
+  on ← texts_at (codes "on") d
+  index ← texts_if_at (codes "index") d
+  values ← texts_if_at (codes "values") d
+  sort_columns ← truth_at (codes "sort_columns") d
+  agg ← agg_of d
+  separator ← text_at (codes "separator") d
+  Some (record { table = table; on = on; index = index; values = values; sort_columns = sort_columns; agg = agg; separator = separator })

@@ -12,5 +12,7 @@ mod shape;
 mod tables;
 mod values;
 
-pub use reading::{dummies_request_of, join_request_of, unpivot_request_of};
-pub use request::{DummiesRequest, JoinRequest, Reason, RequestFault, UnpivotRequest};
+pub use reading::{dummies_request_of, join_request_of, pivot_request_of, unpivot_request_of};
+pub use request::{
+    DummiesRequest, JoinRequest, PivotRequest, Reason, RequestFault, UnpivotRequest,
+};

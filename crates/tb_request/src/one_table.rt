@@ -1,13 +1,14 @@
 //! The members of a request with one table, before its values are read.
 ghost use Rattle.std.specs.Prelude.{◌≡◌, option_map, IfOk};
 ghost use Rattle.serde_json.specs.View.{view};
-ghost use Rattle.tb_request.specs.Written.{dummies_of, unpivot_of};
-ghost use Rattle.tb_request.specs.Lent.{written_dummies, written_unpivot};
+ghost use Rattle.tb_request.specs.Written.{agg_named, agg_of, dummies_of, pivot_of, unpivot_of};
+ghost use Rattle.tb_request.specs.Lent.{written_dummies, written_pivot, written_unpivot};
 
 use crate::members::{has_only, text_at, texts_at, texts_if_at, truth_at};
 use crate::shape::{WrittenColumn, table_at};
 use serde_json::Value;
 use std::alloc::Global;
+use tb_agg::Aggregate;
 use tb_value::{OutOfMemory, PlSmallStr};
 
 // A request to make a table long, whose values are not read yet.
@@ -95,5 +96,95 @@ pub(crate) fn dummies_of<'v>(
         columns,
         separator,
         drop_first,
+    }))
+}
+
+// A request to make a table wide, whose values are not read yet.
+#[derive(Drop)]
+pub(crate) struct WrittenPivot<'v> {
+    pub table: Vec<WrittenColumn<'v>>,
+    pub on: Vec<PlSmallStr>,
+    pub index: Option<Vec<PlSmallStr>>,
+    pub values: Option<Vec<PlSmallStr>>,
+    pub sort_columns: bool,
+    pub agg: Option<Aggregate>,
+    pub separator: Option<PlSmallStr>,
+}
+
+fn agg_named(text: &str) -> Option<Aggregate>
+    ensures { result ≡ agg_named text.now }
+{
+    match text {
+        "first" => Some(Aggregate::First),
+        "sum" => Some(Aggregate::Sum),
+        "min" => Some(Aggregate::Min),
+        "max" => Some(Aggregate::Max),
+        "count" => Some(Aggregate::Count),
+        "last" => Some(Aggregate::Last),
+        _ => None,
+    }
+}
+
+// No aggregate where the member is absent.
+fn agg_of(object: &Value) -> Option<Option<Aggregate>>
+    ensures { result ≡ agg_of (view object.now) }
+{
+    match object.get("agg") {
+        Some(member) => Some(Some(agg_named(member.as_str()?)?)),
+        None => Some(None),
+    }
+}
+
+/// The members of a request to make a table wide, or None where the value has not the form of one.
+#[tactic(auto, unfolding(crate::specs::Written::pivot_of))]
+pub(crate) fn pivot_of<'v>(
+    alloc: Global,
+    value: &'v Value,
+) -> Result<Option<WrittenPivot<'v>>, OutOfMemory>
+    ensures { IfOk result (λ o. option_map written_pivot o ≡ pivot_of (view value.now)) }
+{
+    if !has_only(
+        value,
+        &[
+            "agg",
+            "index",
+            "on",
+            "separator",
+            "sort_columns",
+            "table",
+            "values",
+        ],
+    ) {
+        return Ok(None);
+    }
+    let Some(table) = table_at(alloc, value, "table")? else {
+        return Ok(None);
+    };
+    let Some(on) = texts_at(alloc, value, "on")? else {
+        return Ok(None);
+    };
+    let Some(index) = texts_if_at(alloc, value, "index")? else {
+        return Ok(None);
+    };
+    let Some(values) = texts_if_at(alloc, value, "values")? else {
+        return Ok(None);
+    };
+    let Some(sort_columns) = truth_at(value, "sort_columns") else {
+        return Ok(None);
+    };
+    let Some(agg) = agg_of(value) else {
+        return Ok(None);
+    };
+    let Some(separator) = text_at(alloc, value, "separator")? else {
+        return Ok(None);
+    };
+    Ok(Some(WrittenPivot {
+        table,
+        on,
+        index,
+        values,
+        sort_columns,
+        agg,
+        separator,
     }))
 }

@@ -1,11 +1,13 @@
 //! The requests that bytes are.
 ghost use Rattle.std.specs.Prelude.{◌≡◌, if◌then◌else◌, IfOk, IfErr, MatchResult, Ok, Some, None};
 ghost use Rattle.serde_json.specs.View.{view};
-ghost use Rattle.tb_request.specs.Lent.{written_dummies, written_join, written_unpivot, exec_view};
-ghost use Rattle.tb_request.specs.Reading.{may_stand, value_of, dummies_in, join_in, unpivot_in, dummies_request_of, join_request_of, unpivot_request_of, dummies_view, request_view, unpivot_view, FaultIs};
+ghost use Rattle.tb_request.specs.Lent.{written_dummies, written_join, written_pivot, written_unpivot, exec_view};
+ghost use Rattle.tb_request.specs.Reading.{may_stand, value_of, dummies_in, join_in, pivot_in, unpivot_in, dummies_request_of, join_request_of, pivot_request_of, unpivot_request_of, dummies_view, pivot_view, request_view, unpivot_view, FaultIs};
 
-use crate::one_table::{dummies_of, unpivot_of};
-use crate::request::{DummiesRequest, JoinRequest, Reason, RequestFault, UnpivotRequest};
+use crate::one_table::{dummies_of, pivot_of, unpivot_of};
+use crate::request::{
+    DummiesRequest, JoinRequest, PivotRequest, Reason, RequestFault, UnpivotRequest,
+};
 use crate::shape::{ExecNumbers, join_of};
 use crate::tables::{table_from, tables_of};
 use crate::values::columns_of;
@@ -111,6 +113,25 @@ fn dummies_in(alloc: Global, value: &Value) -> Result<DummiesRequest, RequestFau
     })
 }
 
+#[tactic(auto, unfolding(crate::specs::Reading::pivot_in))]
+fn pivot_in(alloc: Global, value: &Value) -> Result<PivotRequest, RequestFault>
+    ensures { MatchResult result (λ q. pivot_in (view value.now) ≡ Ok (pivot_view q))
+        (λ e. FaultIs e (pivot_in (view value.now))) }
+{
+    let Some(written) = pivot_of(alloc, value)? else {
+        return Err(RequestFault::NoRequest(Reason::Shape));
+    };
+    Ok(PivotRequest {
+        table: table_from(alloc, &written.table)?,
+        on: written.on,
+        index: written.index,
+        values: written.values,
+        sort_columns: written.sort_columns,
+        agg: written.agg,
+        separator: written.separator,
+    })
+}
+
 /// The request to join that the bytes are.
 ///
 /// They are a JSON object with the members `left`, `right`, `left_on`, `right_on` and `args`, and
@@ -179,4 +200,22 @@ pub fn dummies_request_of(alloc: Global, bytes: &[u8]) -> Result<DummiesRequest,
 {
     let value = value_of(alloc, bytes)?;
     dummies_in(alloc, &value)
+}
+
+/// The request to make a table wide that the bytes are.
+///
+/// They are a JSON object with the members `table`, a table as in a request to join, and `on`, a list of texts,
+/// and perhaps `index` and `values`, lists of texts, `sort_columns`, a truth value, `agg`, `"first"`, `"sum"`,
+/// `"min"`, `"max"`, `"count"` or `"last"`, and `separator`, a text.
+///
+/// # Errors
+///
+/// As those of `unpivot_request_of`.
+#[tactic(auto, unfolding(crate::specs::Reading::pivot_request_of))]
+pub fn pivot_request_of(alloc: Global, bytes: &[u8]) -> Result<PivotRequest, RequestFault>
+    ensures { MatchResult result (λ q. pivot_request_of bytes.now ≡ Ok (pivot_view q))
+        (λ e. FaultIs e (pivot_request_of bytes.now)) }
+{
+    let value = value_of(alloc, bytes)?;
+    pivot_in(alloc, &value)
 }

@@ -1,6 +1,7 @@
 //! The requests, and why bytes are none.
 
 use std::alloc::AllocError;
+use tb_agg::Aggregate;
 use tb_frame::{DataFrame, JoinArgs};
 use tb_pool::Exec;
 use tb_value::{OutOfMemory, PlSmallStr};
@@ -45,6 +46,24 @@ pub struct DummiesRequest {
     pub separator: Option<PlSmallStr>,
     /// Whether the value of row 0 is left out.
     pub drop_first: bool,
+}
+
+/// A request to make a table wide.
+#[derive(Drop)]
+pub struct PivotRequest {
+    pub table: DataFrame,
+    /// The names of the columns whose rows become headers.
+    pub on: Vec<PlSmallStr>,
+    /// The names of the columns whose rows become the rows, if they are given.
+    pub index: Option<Vec<PlSmallStr>>,
+    /// The names of the columns of whose values cells are made, if they are given.
+    pub values: Option<Vec<PlSmallStr>>,
+    /// Whether the columns of each of these are sorted by their names.
+    pub sort_columns: bool,
+    /// What a cell is of the values of its rows. Where it is absent, a cell is the value of its one row.
+    pub agg: Option<Aggregate>,
+    /// What stands between a value column's name and a header, if it is given.
+    pub separator: Option<PlSmallStr>,
 }
 
 /// Why bytes are no request: the first of these that holds.

@@ -1,0 +1,14 @@
+use Rattle.std.proofs.lemmas.Result.{err_from_is_err_and}
+use Rattle.tb_request.specs.Reading.{pivot_in, pivot_request_of}
+use Rattle.tb_request.proofs.FromBytes.{fault_passes}
+use Rattle.tb_request.proofs.reading.pivot_request_of.Goals as goal
+
+pub returns : goal.returns
+unfolding pivot_request_of
+returns c = rw c.in_ok-value.ensures c.pivot_in.ensures
+
+pub returns-in_err-value : goal.returns-in_err-value
+unfolding pivot_request_of
+returns-in_err-value c =
+    let p = err_from_is_err_and c.from_residual.result c.from_residual.ensures.1 in
+    rw (p.1, p.2) (fault_passes _ _ pivot_in c.in_err-value.ensures)
