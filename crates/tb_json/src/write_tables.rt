@@ -1,8 +1,9 @@
 //! The texts of tables, written item by item behind one another.
-ghost use Rattle.std.specs.Prelude.{◌≡◌, ◌++◌, false, IfOk, OnOk, codes, map, string_bytes};
+ghost use Rattle.std.specs.Prelude.{◌≡◌, ◌≤ℤ◌, ◌++◌, false, IfOk, OnOk, codes, map, negsuc, pos, string_bytes};
 ghost use Rattle.std.specs.List.{All};
 ghost use Rattle.serde_json.specs.View.{view, items_of};
-ghost use Rattle.serde_json.specs.Data.{array};
+ghost use Rattle.serde_json.specs.Data.{array, number};
+ghost use Rattle.serde_json.specs.Find.{of_integer};
 ghost use Rattle.serde_json.specs.Written.{comma_if, compact_text, has_float};
 ghost use Rattle.tb_value.specs.See.{lent};
 ghost use Rattle.tb_value.specs.SeeKind.{kind_of};
@@ -13,7 +14,7 @@ ghost use Rattle.tb_frame.specs.Table.{plain, table_of};
 ghost use Rattle.tb_json.specs.Text.{value_data, column_data, text_of};
 ghost use Rattle.tb_json.specs.Written.{heading, with_items};
 
-use crate::write_cells::cell_value;
+use crate::write_cells::{cell_value, is_wide};
 use crate::write_kinds::type_value;
 use serde_json::Value;
 use std::alloc::Global;
@@ -41,6 +42,22 @@ fn push_value(alloc: Global, text: &mut String, value: &Value) -> Result<(), Out
     Ok(())
 }
 
+// A whole number of at most 64 bits.
+fn push_number(text: &mut String, integer: i128) -> Result<(), OutOfMemory>
+    requires low { negsuc 9223372036854775807 ≤ℤ integer }
+    requires high { integer ≤ℤ pos 18446744073709551615 }
+    ensures { OnOk result (string_bytes text.new ≡ string_bytes text.old ++ compact_text (number (of_integer integer))) }
+{
+    if integer < 0 {
+        write!(text, "{}", integer as i64)?;
+    } else {
+        write!(text, "{}", integer as u64)?;
+    }
+    Ok(())
+}
+
+// Numbers, truth values and Nulls, which are most of the cells, are written without a JSON value.
+#[tactic(auto, using(crate::proofs::Narrow::narrow))]
 fn push_cell(
     alloc: Global,
     text: &mut String,
@@ -51,8 +68,13 @@ fn push_cell(
     ensures { OnOk result (string_bytes text.new
         ≡ string_bytes text.old ++ compact_text (value_data (kind_of dtype.now) (lent value.entry))) }
 {
-    let cell = cell_value(alloc, value, dtype)?;
-    push_value(alloc, text, &cell)
+    match value {
+        ValueRef::Null => Ok(text.push_str("null")?),
+        ValueRef::Boolean(true) => Ok(text.push_str("true")?),
+        ValueRef::Boolean(false) => Ok(text.push_str("false")?),
+        ValueRef::Int(integer) if !is_wide(dtype) => push_number(text, integer),
+        _ => push_value(alloc, text, &cell_value(alloc, value, dtype)?),
+    }
 }
 
 // The values of a chunk, as items of an array in which one stands already if `later` says so. Answers whether one

@@ -6,4 +6,4 @@ use Rattle.tb_json.proofs.PlainTables.{plain_value}
 use Rattle.tb_json.proofs.write_tables.push_cell.Goals as goal
 
 pub push_value-requires : goal.push_value-requires
-push_value-requires c = ap has_float c.in_ok-cell.ensures ∙ plain_value (kind_of c.args.dtype.now) (lent c.args.value)
+push_value-requires c = ap has_float c.in_ok-cell_value-in_default.ensures ∙ plain_value (kind_of c.args.dtype.now) (lent c.args.value)
