@@ -1,0 +1,4 @@
+pub mod Numbers
+pub mod Flagged
+pub mod Turned
+pub mod OneKey

@@ -1,0 +1,95 @@
+-- Stored keys, their values and the whole numbers that they are.
+use Rattle.std.proofs.Common.{◌≡◌, ℕ, ◌+◌, ◌<◌, ◌≤◌, Bool, true, false, cond, ◌||◌, List, [], ◌∷◌, length, get_or, map, refl, sym, ap, ap₂, ◌∙◌, subst, arith, append-nil, ℤ, pos, Option, Some, None, Result}
+use Rattle.std.specs.Prelude.{IsSorted}
+use Rattle.std.specs.Ordering.{is_lt, int_cmp, int_eq}
+use Rattle.std.specs.declared.cmp.Ordering.{Ordering}
+use Rattle.std.specs.declared.vec.Vec.{Vec}
+use Rattle.std.proofs.lemmas.List.{length-map, get_or-map}
+use Rattle.tb_value.specs.Datum.{Datum, null, int, is_null}
+use Rattle.tb_value.specs.Same.{agrees}
+use Rattle.tb_value.specs.declared.error.PolarsError.{PolarsError}
+use Rattle.tb_value.specs.declared.index.JoinPair.{JoinPair}
+use Rattle.tb_value.specs.declared.limits.TheConstants.{MAX_ROWS}
+use Rattle.tb_chunk.specs.Chunk.{or_null}
+use Rattle.tb_chunk.specs.Col.{flat}
+use Rattle.tb_chunk.specs.Flag.{datum_cmp, nulls}
+use Rattle.tb_chunk.specs.declared.chunk.Cells.{Cells}
+use Rattle.tb_frame.specs.declared.args.JoinType.{JoinType}
+use Rattle.tb_frame.specs.Join.{listing_of}
+use Rattle.tb_frame.proofs.Listings.{listing-same}
+use Rattle.tb_merge.specs.Keys.{keys_match}
+use Rattle.tb_sorted.specs.Columns.{AreSortedKeys, cell_lists, value_listing}
+use Rattle.tb_sorted.specs.Keys.{kind_of_merge, number_listing, number_or_zero}
+use Rattle.tb_sorted.specs.Listed.{IsMerged}
+
+-- what is in order by its images is in order
+pub sorted_back : {X Y : Type 0} (f : X → Y) (order : X → X → Ordering) (image : Y → Y → Ordering) → ((x y : X) → image (f x) (f y) ≡ order x y) → (xs : List X) → IsSorted image (map f xs) → IsSorted order xs
+sorted_back f order image agree xs s = λ k d from high.
+    let long : length (map f xs) ≡ length xs = length-map xs f in
+    let next : get_or (map f xs) (k + 1) (f d) ≡ f (get_or xs (k + 1) d) = get_or-map f xs (k + 1) d (f d) (omega arith) in
+    let this : get_or (map f xs) k (f d) ≡ f (get_or xs k d) = get_or-map f xs k d (f d) (omega arith) in
+    ap is_lt (sym (agree (get_or xs (k + 1) d) (get_or xs k d)) ∙ sym (ap₂ image next this)) ∙ s k (f d) from (omega (arith, long))
+
+-- LISTINGS
+
+or_false : (b : Bool) → (b || false) ≡ b
+or_false true = refl
+or_false false = refl
+
+-- the listing of values is that of the numbers that they are
+pub numbers_listed : (null_matches : Bool) (how : JoinType) (ls rs : List ℤ) → value_listing null_matches how (map int ls) (map int rs) ≡ listing_of how (length ls) (length rs) (keys_match ls rs)
+numbers_listed null_matches how ls rs =
+    let m : ℕ → ℕ → Bool = λ i j. agrees null_matches (get_or (map int ls) i null) (get_or (map int rs) j null) in
+    ◌∙◌ {A = List JoinPair} (λ t. listing_of how (length-map ls int t) (length-map rs int t) m)
+    (listing-same how (length ls) (length rs) m (keys_match ls rs)
+    (λ i j low under. ◌∙◌ {A = Bool} (λ t. agrees null_matches (get_or-map int ls i (pos 0) null low t) (get_or-map int rs j (pos 0) null under t)) (or_false (int_eq (get_or ls i (pos 0)) (get_or rs j (pos 0))))))
+
+-- CELLS
+
+pub one_list : {X : Type 0} (f : X → List Datum) (xs : List X) (d : X) → length (map f xs) ≡ 1 → flat (map f xs) ≡ f (get_or xs 0 d)
+one_list f [] d one = absurd (omega arith)
+one_list f (x ∷ []) d one = append-nil (f x)
+one_list f (x ∷ y ∷ xs) d one = absurd (omega arith)
+
+pub one_there : {X Y : Type 0} (f : X → Y) (xs : List X) → length (map f xs) ≡ 1 → 0 < length xs
+one_there f xs one = let long : length (map f xs) ≡ length xs = length-map xs f in omega (arith, long, one)
+
+module _ {N : Type 0} (shows : N → Datum) (number : N → ℤ) (law : (x : N) → shows x ≡ int (number x)) where
+  abbrev pub numbers : List (Option N) → List ℤ
+  numbers cells = map (number_or_zero number) cells
+
+  -- cells of which none is absent show their numbers
+  pub shown_numbers : (cells : List (Option N)) → length (nulls (map (or_null shows) cells)) ≡ 0 → map (or_null shows) cells ≡ map int (numbers cells)
+  shown_numbers [] none = refl
+  shown_numbers (None ∷ cells) none = absurd (omega arith)
+  shown_numbers (Some x ∷ cells) none =
+      let rest : List Datum = nulls (map (or_null shows) cells) in
+      let later : length rest ≡ 0 = ap (λ (v : Datum). length (cond (is_null v) (shows x ∷ rest) rest)) (sym (law x)) ∙ none in
+      λ t. law x t ∷ shown_numbers cells later t
+
+  -- the cells of one chunk
+  module _ (chunks : List (Cells N)) (cells : List (Option N)) (is : flat (cell_lists shows chunks) ≡ map (or_null shows) cells) (keys : AreSortedKeys (flat (cell_lists shows chunks))) where
+    pub chunk_numbers : flat (cell_lists shows chunks) ≡ map int (numbers cells)
+    chunk_numbers = is ∙ shown_numbers cells (sym (ap (λ (vs : List Datum). length (nulls vs)) is) ∙ keys.present)
+
+    pub numbers_ascend : IsSorted int_cmp (numbers cells)
+    numbers_ascend = sorted_back int int_cmp datum_cmp (λ x y. refl) (numbers cells) (subst (IsSorted datum_cmp) chunk_numbers keys.ascends)
+
+    pub numbers_few : length (numbers cells) ≤ MAX_ROWS
+    numbers_few =
+        let long : length (flat (cell_lists shows chunks)) ≡ length (numbers cells) = ap (λ (vs : List Datum). length vs) chunk_numbers ∙ length-map (numbers cells) int in
+        let few = keys.few in
+        omega (arith, long, few)
+
+-- what was merged of numbers was merged of the values
+pub merged_values : {A : Type 0} (null_matches keep : Bool) (us vs : List Datum) (ls rs : List ℤ) (answer : Result (Vec JoinPair A) PolarsError) → us ≡ map int ls → vs ≡ map int rs
+    → IsMerged (number_listing keep ls rs) answer → IsMerged (value_listing null_matches (kind_of_merge keep) us vs) answer
+merged_values null_matches keep us vs ls rs answer is_left is_right h =
+    subst (λ (ps : List JoinPair). IsMerged ps answer)
+    (sym (◌∙◌ {A = List JoinPair} (λ t. value_listing null_matches (kind_of_merge keep) (is_left t) (is_right t)) (numbers_listed null_matches (kind_of_merge keep) ls rs))) h
+
+-- of the values of chunks
+pub merged_lists : {A : Type 0} (null_matches keep : Bool) (answer : Result (Vec JoinPair A) PolarsError) (a b us vs : List (List Datum)) → a ≡ us → b ≡ vs
+    → IsMerged (value_listing null_matches (kind_of_merge keep) (flat a) (flat b)) answer → IsMerged (value_listing null_matches (kind_of_merge keep) (flat us) (flat vs)) answer
+merged_lists null_matches keep answer a b us vs e f h =
+    subst (λ (ps : List JoinPair). IsMerged ps answer) (λ t. value_listing null_matches (kind_of_merge keep) (flat (e t)) (flat (f t))) h

@@ -1,0 +1,122 @@
+-- Requests with one key on each side.
+use Rattle.std.proofs.Common.{◌≡◌, ℕ, Bool, true, false, ◌&&◌, List, [], ◌∷◌, length, get_or, refl, sym, ◌∙◌, subst, arith, Option}
+use Rattle.std.specs.Prelude.{min}
+use Rattle.std.specs.List.{list_all}
+use Rattle.std.specs.Borrow.{Bor}
+use Rattle.std.proofs.lemmas.List.Elements.{All-head}
+use Rattle.tb_value.specs.Datum.{null}
+use Rattle.tb_value.specs.Pairs.{row_numbers}
+use Rattle.tb_value.specs.Refusals.{first_cause, when}
+use Rattle.tb_value.specs.Same.{agrees}
+use Rattle.tb_value.specs.declared.error.PolarsError.{PolarsError}
+use Rattle.tb_value.specs.declared.index.JoinPair.{JoinPair}
+use Rattle.tb_chunk.specs.Col.{Col, values}
+use Rattle.tb_chunk.specs.Lent.{lent_columns}
+use Rattle.tb_frame.specs.declared.args.JoinType.{JoinType}
+use Rattle.tb_frame.specs.declared.args.JoinType.TheVariants.{Inner, Left, Right, Full, Semi, Anti}
+use Rattle.tb_frame.specs.declared.args.JoinValidation.{JoinValidation}
+use Rattle.tb_frame.specs.declared.args.JoinValidation.TheVariants.{ManyToMany, ManyToOne, OneToMany, OneToOne}
+use Rattle.tb_frame.specs.Join.{field, listing, listing_of}
+use Rattle.tb_frame.specs.Refusal.{asks_left, asks_right, is_validated, row_causes}
+use Rattle.tb_frame.specs.Table.{height, table_of}
+use Rattle.tb_frame.proofs.Causes.{first_cause-one}
+use Rattle.tb_keys.specs.Asked.{asked}
+use Rattle.tb_keys.specs.Rows.{HasRows}
+use Rattle.tb_keys.specs.declared.request.LentRequest.{LentRequest}
+use Rattle.tb_sorted.specs.Columns.{value_listing}
+use Rattle.tb_sorted.specs.Keys.{too_long}
+use Rattle.tb_sorted.specs.Path.{are_flagged, asks_nothing, has_merge, is_merge_key, takes_flagged_path, takes_path_by}
+use Rattle.tb_sorted.proofs.Flagged.{first_of, second_of}
+
+pub one_column : (rs : List (Bor Col)) (d : Bor Col) → length rs ≡ 1 → lent_columns rs ≡ (get_or rs 0 d).now ∷ []
+one_column [] d one = absurd (omega arith)
+one_column (s ∷ []) d one = refl
+one_column (s ∷ u ∷ rs) d one = absurd (omega arith)
+
+-- keys that are merged are one on each side
+pub one_each : (how : JoinType) (validation : JoinValidation) (ls rs : List (Bor Col)) → takes_path_by how validation (lent_columns ls) (lent_columns rs) ≡ true → (length ls ≡ 1) × (length rs ≡ 1)
+one_each how validation [] rs e = absurd (cc)
+one_each how validation (l ∷ m ∷ ls) rs e = absurd (cc)
+one_each how validation (l ∷ []) [] e = absurd (cc)
+one_each how validation (l ∷ []) (r ∷ s ∷ rs) e = absurd (cc)
+one_each how validation (l ∷ []) (r ∷ []) e = (refl, refl)
+
+-- and their path is taken
+path_of_keys : (how : JoinType) (validation : JoinValidation) (ls rs : List (Bor Col)) (d e : Bor Col) → takes_path_by how validation (lent_columns ls) (lent_columns rs) ≡ true
+    → takes_flagged_path how validation (get_or ls 0 d).now (get_or rs 0 e).now ≡ true
+path_of_keys how validation [] rs d e h = absurd (cc)
+path_of_keys how validation (l ∷ m ∷ ls) rs d e h = absurd (cc)
+path_of_keys how validation (l ∷ []) [] d e h = absurd (cc)
+path_of_keys how validation (l ∷ []) (r ∷ s ∷ rs) d e h = absurd (cc)
+path_of_keys how validation (l ∷ []) (r ∷ []) d e h = h
+
+-- what it means that the path of two keys is taken
+pub record IsTaken (how : JoinType) (validation : JoinValidation) (l r : Col) : Type 0 where
+  pub merges : has_merge how ≡ true
+  pub nothing : asks_nothing validation ≡ true
+  pub left : is_merge_key l ≡ true
+  pub right : is_merge_key r ≡ true
+  pub flagged : are_flagged l r ≡ true
+
+taken_parts : (how : JoinType) (validation : JoinValidation) (l r : Col) → takes_flagged_path how validation l r ≡ true → IsTaken how validation l r
+taken_parts how validation l r h =
+    let m = has_merge how in
+    let n = asks_nothing validation in
+    let keys = first_of (m && n && is_merge_key l && is_merge_key r) (are_flagged l r) h in
+    let one = first_of (m && n && is_merge_key l) (is_merge_key r) keys in
+    let asked = first_of (m && n) (is_merge_key l) one in
+    record {
+      merges = first_of m n asked;
+      nothing = second_of m n asked;
+      left = second_of (m && n) (is_merge_key l) one;
+      right = second_of (m && n && is_merge_key l) (is_merge_key r) keys;
+      flagged = second_of (m && n && is_merge_key l && is_merge_key r) (are_flagged l r) h;
+    }
+
+pub taken_keys : (how : JoinType) (validation : JoinValidation) (ls rs : List (Bor Col)) (d e : Bor Col) → takes_path_by how validation (lent_columns ls) (lent_columns rs) ≡ true
+    → IsTaken how validation (get_or ls 0 d).now (get_or rs 0 e).now
+taken_keys how validation ls rs d e h = taken_parts how validation (get_or ls 0 d).now (get_or rs 0 e).now (path_of_keys how validation ls rs d e h)
+
+-- the listing of their values is that of the request
+and_true : (b : Bool) → b ≡ (b && true)
+and_true true = refl
+and_true false = refl
+
+rows_are : (n : ℕ) (cs : List Col) (c : Col) → cs ≡ c ∷ [] → HasRows n cs → length (values c) ≡ n
+rows_are n cs c is h = All-head (λ (d : Col). length (values d) ≡ n) c [] (subst (HasRows n) is h)
+
+-- whether rows match by the columns of keys
+abbrev one_key_matches : Bool → List Col → List Col → ℕ → ℕ → Bool
+one_key_matches null_matches ls rs i j = list_all (λ p. agrees null_matches (field (table_of ls) p i) (field (table_of rs) p j)) (row_numbers (min (length (table_of ls)) (length (table_of rs))))
+
+module _ (r : LentRequest) (a b : Col) (is_left : lent_columns r.left_keys.now ≡ a ∷ []) (is_right : lent_columns r.right_keys.now ≡ b ∷ []) where
+  pub requested_listing : value_listing r.args.now.join_nulls r.how (values a) (values b) ≡ listing (asked r)
+  requested_listing =
+      let high_left : length (values a) ≡ height (table_of r.left.now) = rows_are (height (table_of r.left.now)) (lent_columns r.left_keys.now) a is_left r.left_rows in
+      let high_right : length (values b) ≡ height (table_of r.right.now) = rows_are (height (table_of r.right.now)) (lent_columns r.right_keys.now) b is_right r.right_rows in
+      ◌∙◌ {A = List JoinPair} (λ t. listing_of r.how (high_left t) (high_right t) (λ i j. and_true (agrees r.args.now.join_nulls (get_or (values a) i null) (get_or (values b) j null)) t))
+      (λ t. listing_of r.how (height (table_of r.left.now)) (height (table_of r.right.now)) (one_key_matches r.args.now.join_nulls (sym is_left t) (sym is_right t)))
+
+-- THE CAUSES
+
+-- nothing is asked of the sides, so they are not broken
+no_cause : (how : JoinType) (v : JoinValidation) (x y : Bool) (d e : PolarsError) (o : Option PolarsError) → has_merge how ≡ true → asks_nothing v ≡ true
+    → first_cause (when (is_validated how && asks_left v && x) d ∷ when (is_validated how && asks_right v && y) e ∷ o ∷ []) ≡ o
+no_cause Inner ManyToMany x y d e o h n = first_cause-one o
+no_cause Left ManyToMany x y d e o h n = first_cause-one o
+no_cause Right ManyToMany x y d e o h n = first_cause-one o
+no_cause Full v x y d e o h n = absurd (cc)
+no_cause Semi v x y d e o h n = absurd (cc)
+no_cause Anti v x y d e o h n = absurd (cc)
+no_cause Inner ManyToOne x y d e o h n = absurd (cc)
+no_cause Inner OneToMany x y d e o h n = absurd (cc)
+no_cause Inner OneToOne x y d e o h n = absurd (cc)
+no_cause Left ManyToOne x y d e o h n = absurd (cc)
+no_cause Left OneToMany x y d e o h n = absurd (cc)
+no_cause Left OneToOne x y d e o h n = absurd (cc)
+no_cause Right ManyToOne x y d e o h n = absurd (cc)
+no_cause Right OneToMany x y d e o h n = absurd (cc)
+no_cause Right OneToOne x y d e o h n = absurd (cc)
+
+pub size_alone : (r : LentRequest) → has_merge r.how ≡ true → asks_nothing r.args.now.validation ≡ true → first_cause (row_causes (asked r)) ≡ too_long (listing (asked r))
+size_alone r how nothing = no_cause r.how r.args.now.validation _ _ _ _ (too_long (listing (asked r))) how nothing

@@ -1,0 +1,32 @@
+-- Key columns, and the pairs of two by their values.
+use Rattle.std.specs.Prelude.{◌≡◌, Bool, ◌≤◌, List, [], ◌∷◌, length, map, slice_index_or, Option, Some, None}
+use Rattle.std.specs.Prelude.{IsSorted as IsInOrder}
+use Rattle.tb_value.specs.Datum.{Datum, null}
+use Rattle.tb_value.specs.Same.{agrees}
+use Rattle.tb_value.specs.declared.index.JoinPair.{JoinPair}
+use Rattle.tb_value.specs.declared.limits.TheConstants.{MAX_ROWS}
+use Rattle.tb_chunk.specs.Chunk.{or_null}
+use Rattle.tb_chunk.specs.Col.{Col, values}
+use Rattle.tb_chunk.specs.Flag.{datum_cmp, nulls}
+use Rattle.tb_chunk.specs.declared.chunk.Cells.{Cells}
+use Rattle.tb_frame.specs.declared.args.JoinType.{JoinType}
+use Rattle.tb_frame.specs.Join.{listing_of}
+
+-- the values of each chunk, of cells that show themselves so
+abbrev pub cell_lists : {N : Type 0} → (N → Datum) → List (Cells N) → List (List Datum)
+cell_lists shows chunks = map (λ c. map (or_null shows) c.cells.items) chunks
+
+-- keys that ascend, none of which is Null
+pub record AreSortedKeys (vs : List Datum) : Type 0 where
+  pub present : length (nulls vs) ≡ 0
+  pub ascends : IsInOrder datum_cmp vs
+  pub few : length vs ≤ MAX_ROWS
+
+-- the listing of two columns by their values
+abbrev pub value_listing : Bool → JoinType → List Datum → List Datum → List JoinPair
+value_listing null_matches how us vs = listing_of how (length us) (length vs) (λ i j. agrees null_matches (slice_index_or us i null) (slice_index_or vs j null))
+
+-- a column that has one chunk, or one made of it that has
+abbrev pub IsInOneChunk : Col → Option Col → Type 0
+IsInOneChunk c None = length c.chunks ≡ 1
+IsInOneChunk c (Some d) = d ≡ record c { chunks = values c ∷ [] }

@@ -1,0 +1,36 @@
+-- Keys as the whole numbers that they are.
+use Rattle.std.specs.Prelude.{ℤ, pos, Bool, if◌then◌else◌, List, length, nat_lt, Option, Some, None}
+use Rattle.tb_value.specs.declared.error.ComputeCause.TheVariants.{TooManyRows}
+use Rattle.tb_value.specs.declared.error.PolarsError.{PolarsError}
+use Rattle.tb_value.specs.declared.error.PolarsError.TheVariants as error
+use Rattle.tb_value.specs.declared.index.JoinPair.{JoinPair}
+use Rattle.tb_value.specs.declared.limits.TheConstants.{MAX_ROWS}
+use Rattle.tb_value.specs.Refusals.{when}
+use Rattle.tb_frame.specs.declared.args.JoinType.{JoinType}
+use Rattle.tb_frame.specs.declared.args.JoinType.TheVariants.{Inner, Left}
+use Rattle.tb_frame.specs.Join.{listing_of}
+use Rattle.tb_merge.specs.Keys.{keys_match}
+use Rattle.tb_merge.specs.declared.fault.MergeFault.{MergeFault}
+use Rattle.tb_merge.specs.declared.fault.MergeFault.TheVariants as fault
+
+-- the number of a cell, and of an absent one, of which there is none where keys are merged, 0
+abbrev pub number_or_zero : {N : Type 0} → (N → ℤ) → Option N → ℤ
+number_or_zero number None = pos 0
+number_or_zero number (Some x) = number x
+
+-- the kind of a join that keeps the left rows without a match, or that doesn't
+abbrev pub kind_of_merge : Bool → JoinType
+kind_of_merge keep = (if keep then Left else Inner)
+
+-- the listing of keys
+abbrev pub number_listing : Bool → List ℤ → List ℤ → List JoinPair
+number_listing keep left right = listing_of (kind_of_merge keep) (length left) (length right) (keys_match left right)
+
+-- so many pairs are too many
+abbrev pub too_long : List JoinPair → Option PolarsError
+too_long ps = when (nat_lt MAX_ROWS (length ps)) (error.ComputeError TooManyRows)
+
+-- the refusal that a fault of a merge is
+abbrev pub refusal_of : MergeFault → PolarsError
+refusal_of fault.TooManyRows = error.ComputeError TooManyRows
+refusal_of fault.OutOfMemory = error.OutOfMemory

@@ -1,0 +1,15 @@
+//! The pairs of a join by one key of whole numbers whose order is known: merged, and not hashed.
+#![tactic(auto)]
+
+mod cells;
+mod key_lists;
+mod merging;
+mod one_chunk;
+mod pairs;
+mod path;
+mod requested;
+mod sides;
+mod typed;
+
+pub use pairs::SortedPairs;
+pub use requested::merged_pairs;

@@ -1,0 +1,86 @@
+//! Two ascending lists of keys, merged.
+ghost use Rattle.std.specs.Prelude.{◌≡◌, ◌<◌, ◌≤◌, length, IfOk, IsSorted, IsPermutation};
+ghost use Rattle.std.specs.Ordering.{int_cmp};
+ghost use Rattle.tb_value.specs.Pairs.{left_first};
+ghost use Rattle.tb_merge.specs.Faults.{SettlesCount};
+ghost use Rattle.tb_sorted.specs.Keys.{number_listing, refusal_of};
+ghost use Rattle.tb_sorted.specs.Listed.{IsMerged};
+
+use crate::key_lists::KeyList;
+use crate::sides::Sides;
+use std::alloc::Global;
+use std::marker::{Brand, PhantomData, Sync};
+use std::sync::ledger::{Blank, Ledger};
+use tb_merge::{Ascend, MergeFault, Merged, Steps, merge_inner, merge_left};
+use tb_pool::Exec;
+use tb_value::{ComputeCause, JoinPair, MAX_ROWS, PolarsError, PolarsResult};
+
+fn refused(fault: MergeFault) -> PolarsError
+    ensures { result ≡ refusal_of fault }
+{
+    match fault {
+        MergeFault::TooManyRows => PolarsError::ComputeError(ComputeCause::TooManyRows),
+        MergeFault::OutOfMemory => PolarsError::OutOfMemory,
+    }
+}
+
+// The pairs of a Left join, or of an Inner one, of two lists that ascend, in the order of the left rows.
+fn counted_pairs<A: KeyList, B: KeyList, L: Ledger + Sync>(
+    alloc: Global,
+    keep_unmatched: bool,
+    left: &A,
+    right: &B,
+    exec: &Exec,
+    blank: Blank,
+) -> Result<(Vec<JoinPair>, Merged), MergeFault>
+    requires name { blank.name ≡ L.name }
+    requires parts { blank.parts ≡ L.parts }
+    requires some { 0 < blank.parts }
+    requires left_sorted { IsSorted int_cmp (A.keys left.now) }
+    requires right_sorted { IsSorted int_cmp (B.keys right.now) }
+    requires left_few { length (A.keys left.now) ≤ MAX_ROWS }
+    requires right_few { length (B.keys right.now) ≤ MAX_ROWS }
+    ensures settles { SettlesCount result (length (number_listing keep_unmatched (A.keys left.now) (B.keys right.now))) }
+    ensures pairs { IfOk result (λ r. IsPermutation (number_listing keep_unmatched (A.keys left.now) (B.keys right.now)) r.0.items) }
+    ensures order { IfOk result (λ r. IsSorted left_first r.0.items) }
+{
+    let mut steps = Steps::<L>::open(blank);
+    let keys = Sides::<A, B, L> {
+        left,
+        right,
+        ledger: PhantomData,
+    };
+    if keep_unmatched {
+        merge_left(alloc, &keys, exec, &mut steps)
+    } else {
+        merge_inner(alloc, &keys, exec, &mut steps)
+    }
+}
+
+/// The pairs of a Left join, or of an Inner one, of two lists that ascend, in the order of the left rows.
+pub(crate) fn merged_lists<A: KeyList, B: KeyList>(
+    alloc: Global,
+    keep_unmatched: bool,
+    left: &A,
+    right: &B,
+    exec: &Exec,
+) -> PolarsResult<Vec<JoinPair>>
+    requires left_sorted { IsSorted int_cmp (A.keys left.now) }
+    requires right_sorted { IsSorted int_cmp (B.keys right.now) }
+    requires left_few { length (A.keys left.now) ≤ MAX_ROWS }
+    requires right_few { length (B.keys right.now) ≤ MAX_ROWS }
+    ensures { IsMerged (number_listing keep_unmatched (A.keys left.now) (B.keys right.now)) result }
+{
+    let counted = counted_pairs::<A, B, Brand>(
+        alloc,
+        keep_unmatched,
+        left,
+        right,
+        exec,
+        Blank::new(1),
+    );
+    match counted {
+        Ok((pairs, _)) => Ok(pairs),
+        Err(fault) => Err(refused(fault)),
+    }
+}
