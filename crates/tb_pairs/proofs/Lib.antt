@@ -7,3 +7,4 @@ pub mod Checked
 pub mod Unbroken
 pub mod InOrder
 pub mod LeftJoins
+pub mod Merged

@@ -1,4 +1,3 @@
 pub mod AllColumns
 pub mod Directions
-pub mod Found
 pub mod KeyColumns

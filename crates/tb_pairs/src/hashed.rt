@@ -14,10 +14,9 @@ ghost use Rattle.tb_hash.specs.Probing.{IsProbed};
 ghost use Rattle.tb_hash.specs.Twins.{value_causes};
 ghost use Rattle.tb_rowkey.specs.Columns.{keys_at};
 ghost use Rattle.tb_keys.specs.Asked.{asked};
-ghost use Rattle.tb_pairs.specs.Found.{IsFound};
+ghost use Rattle.tb_sorted.specs.Listed.{IsListedIn};
 ghost use Rattle.tb_pairs.specs.KeyColumns.{AreAlike};
 
-use crate::found::FoundPairs;
 use std::alloc::Global;
 use std::thread::Threads;
 use tb_frame::{JoinType, JoinValidation};
@@ -25,6 +24,7 @@ use tb_hash::{Built, KeyBytes, Probed, hash_keys, hash_pairs, probed_order};
 use tb_keys::LentRequest;
 use tb_pool::{Exec, OpenGate};
 use tb_rowkey::{RowKeys, know_columns};
+use tb_sorted::SortedPairs;
 use tb_store::Series;
 use tb_value::{MAX_ROWS, OutOfMemory, PolarsResult};
 
@@ -38,18 +38,18 @@ fn hashed_pairs(
     validate: JoinValidation,
     join_nulls: bool,
     exec: &Exec,
-) -> PolarsResult<FoundPairs>
+) -> PolarsResult<SortedPairs>
     requires key { is_key left.now.kind ≡ true }
     requires same { left.now.kind ≡ right.now.kind }
     ensures settles { Settles result (first_cause (value_causes validate join_nulls how (values left.now) (values right.now))) }
-    ensures found { IfOk result (IsFound (value_listing join_nulls how (values left.now) (values right.now))) }
+    ensures found { IfOk result (IsListedIn (value_listing join_nulls how (values left.now) (values right.now))) }
 {
     let (probed, built) = hash_pairs(
         rt, alloc, how, left, right, validate, join_nulls, exec, &OpenGate,
     )?;
     let order = probed_order(how, built.left_built());
     let pairs = probed.into_pairs();
-    Ok(FoundPairs { pairs, order })
+    Ok(SortedPairs { pairs, order })
 }
 
 /// The pairs of a request with one key on each side.
@@ -58,11 +58,11 @@ pub(crate) fn pairs_by_key(
     alloc: Global,
     request: &LentRequest<'_>,
     exec: &Exec,
-) -> PolarsResult<FoundPairs>
+) -> PolarsResult<SortedPairs>
     requires one { length request.now.left_keys.now ≡ 1 }
     requires alike { AreAlike (lent_columns request.now.left_keys.now) (lent_columns request.now.right_keys.now) }
     ensures settles { Settles result (first_cause (row_causes (asked request.now))) }
-    ensures found { IfOk result (IsFound (listing (asked request.now))) }
+    ensures found { IfOk result (IsListedIn (listing (asked request.now))) }
 {
     let left = request.left_keys[0];
     let right = request.right_keys[0];
@@ -124,14 +124,14 @@ fn hashed_row_keys(
     right: &RowKeys,
     validate: JoinValidation,
     exec: &Exec,
-) -> PolarsResult<FoundPairs>
+) -> PolarsResult<SortedPairs>
     ensures settles { Settles result (first_cause (value_causes validate false how (map (or_null binary) left.now) (map (or_null binary) right.now))) }
-    ensures found { IfOk result (IsFound (value_listing false how (map (or_null binary) left.now) (map (or_null binary) right.now))) }
+    ensures found { IfOk result (IsListedIn (value_listing false how (map (or_null binary) left.now) (map (or_null binary) right.now))) }
 {
     let (probed, built) = joined_row_keys(rt, alloc, how, left, right, validate, exec)?;
     let order = probed_order(how, built.left_built());
     let pairs = probed.into_pairs();
-    Ok(FoundPairs { pairs, order })
+    Ok(SortedPairs { pairs, order })
 }
 
 /// The pairs of a request by the keys of its rows. Where absent fields match, each row has a key; where they don't, a
@@ -143,12 +143,12 @@ pub(crate) fn pairs_by_row_key(
     left: &RowKeys,
     right: &RowKeys,
     exec: &Exec,
-) -> PolarsResult<FoundPairs>
+) -> PolarsResult<SortedPairs>
     requires alike { AreAlike (lent_columns request.now.left_keys.now) (lent_columns request.now.right_keys.now) }
     requires left { map (or_null binary) left.now ≡ keys_at (lent_columns request.now.left_keys.now) (λ _. request.now.args.now.join_nulls) }
     requires right { map (or_null binary) right.now ≡ keys_at (lent_columns request.now.right_keys.now) (λ _. request.now.args.now.join_nulls) }
     ensures settles { Settles result (first_cause (row_causes (asked request.now))) }
-    ensures found { IfOk result (IsFound (listing (asked request.now))) }
+    ensures found { IfOk result (IsListedIn (listing (asked request.now))) }
 {
     know_columns(request.left_keys);
     know_columns(request.right_keys);

@@ -3,7 +3,6 @@
 #![tactic(auto)]
 
 mod arranged;
-mod found;
 mod hashed;
 mod listed;
 mod multiple;

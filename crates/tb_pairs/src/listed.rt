@@ -6,11 +6,10 @@ ghost use Rattle.tb_frame.specs.Answer.{IsListed};
 ghost use Rattle.tb_frame.specs.Join.{listing};
 ghost use Rattle.tb_frame.specs.Refusal.{row_causes};
 ghost use Rattle.tb_keys.specs.Asked.{asked};
-ghost use Rattle.tb_pairs.specs.Found.{IsFound};
+ghost use Rattle.tb_sorted.specs.Listed.{IsListedIn};
 ghost use Rattle.tb_pairs.specs.KeyColumns.{AreAlike};
 
 use crate::arranged::arranged;
-use crate::found::FoundPairs;
 use crate::hashed::{pairs_by_key, pairs_by_row_key};
 use std::alloc::Global;
 use std::thread::Threads;
@@ -18,18 +17,19 @@ use tb_frame::Direction;
 use tb_keys::{LentRequest, check_sides, check_size, list_pairs};
 use tb_pool::Exec;
 use tb_rowkey::RowKeys;
+use tb_sorted::{SortedPairs, merged_pairs};
 use tb_value::{JoinPair, PolarsResult};
 
 // The pairs of a request, whose fields are compared one by one.
-fn pairs_by_field(alloc: Global, request: &LentRequest<'_>) -> PolarsResult<FoundPairs>
+fn pairs_by_field(alloc: Global, request: &LentRequest<'_>) -> PolarsResult<SortedPairs>
     ensures settles { Settles result (first_cause (row_causes (asked request.now))) }
-    ensures found { IfOk result (IsFound (listing (asked request.now))) }
+    ensures found { IfOk result (IsListedIn (listing (asked request.now))) }
 {
     check_sides(request)?;
     let pairs = list_pairs(alloc, request)?;
     check_size(&pairs)?;
     let order = Direction::Free;
-    Ok(FoundPairs { pairs, order })
+    Ok(SortedPairs { pairs, order })
 }
 
 // The pairs of a request by several keys: by the keys of its rows, or where a row is too long to have one by its fields.
@@ -38,10 +38,10 @@ fn pairs_by_rows(
     alloc: Global,
     request: &LentRequest<'_>,
     exec: &Exec,
-) -> PolarsResult<FoundPairs>
+) -> PolarsResult<SortedPairs>
     requires { AreAlike (lent_columns request.now.left_keys.now) (lent_columns request.now.right_keys.now) }
     ensures settles { Settles result (first_cause (row_causes (asked request.now))) }
-    ensures found { IfOk result (IsFound (listing (asked request.now))) }
+    ensures found { IfOk result (IsListedIn (listing (asked request.now))) }
 {
     let join_nulls = request.args.join_nulls;
     let left = RowKeys::of_columns(alloc, request.left_keys, join_nulls)?;
@@ -58,11 +58,14 @@ fn found_pairs(
     alloc: Global,
     request: &LentRequest<'_>,
     exec: &Exec,
-) -> PolarsResult<FoundPairs>
+) -> PolarsResult<SortedPairs>
     requires { AreAlike (lent_columns request.now.left_keys.now) (lent_columns request.now.right_keys.now) }
     ensures settles { Settles result (first_cause (row_causes (asked request.now))) }
-    ensures found { IfOk result (IsFound (listing (asked request.now))) }
+    ensures found { IfOk result (IsListedIn (listing (asked request.now))) }
 {
+    if let Some(merged) = merged_pairs(alloc, request, exec)? {
+        return Ok(merged);
+    }
     if request.left_keys.len() == 1 {
         pairs_by_key(rt, alloc, request, exec)
     } else {
@@ -73,7 +76,7 @@ fn found_pairs(
 /// The pairs of a request, in the order that is asked, and of them those that the slice keeps. There are as many keys
 /// on each side, one at least, of equal key types.
 ///
-/// One key on each side is hashed as it is, and of several each row's key. Where a row of either side is too long for
+/// One key on each side is merged where `tb_sorted` says so, and else hashed as it is; of several each row's key is hashed. Where a row of either side is too long for
 /// a key, which takes 2^32 bytes, each left row is compared with each right one, field by field.
 ///
 /// # Errors

@@ -1,4 +1,4 @@
-use Rattle.std.proofs.Common.{List, ◌≡◌, ◌∙◌, ◌++◌, ◌∷◌, [], None, map, ap, sym, take, length, arith}
+use Rattle.std.proofs.Common.{List, ◌∙◌, ◌++◌, ◌∷◌, [], None, map, ap, sym, take, length, arith}
 use Rattle.std.proofs.lemmas.List.{length-map, map-append, take_more, take_all}
 use Rattle.tb_value.specs.Datum.{Datum, binary}
 use Rattle.tb_chunk.specs.Chunk.{or_null}

@@ -1,10 +1,10 @@
-use Rattle.std.proofs.Common.{Option, List, length, subst, arith}
+use Rattle.std.proofs.Common.{Option, List, subst, arith}
 use Rattle.std.specs.Prelude.{IfOk}
 use Rattle.tb_value.specs.Refusals.{Settles}
 use Rattle.tb_value.specs.declared.index.JoinPair.{JoinPair}
 use Rattle.tb_value.specs.declared.error.PolarsError.{PolarsError}
 use Rattle.tb_pairs.proofs.Causes.{one_key_causes}
-use Rattle.tb_pairs.specs.Found.{IsFound}
+use Rattle.tb_sorted.specs.Listed.{IsListedIn}
 use Rattle.tb_pairs.proofs.Requested.{one_key_listing, one_key_types, one_right}
 use Rattle.tb_pairs.proofs.hashed.pairs_by_key.Goals as goal
 
@@ -24,4 +24,4 @@ returns-clause-settles g c =
 pub returns-clause-found : goal.returns-clause-found
 returns-clause-found g c =
     let same = one_key_listing c.args.request.now c.requires.alike c.index-request-0.result c.index-request-0-2.result c.requires.one in
-    subst (λ (ps : List JoinPair). IfOk c.hashed_pairs.result (IsFound ps)) same c.hashed_pairs.ensures.found
+    subst (λ (ps : List JoinPair). IfOk c.hashed_pairs.result (IsListedIn ps)) same c.hashed_pairs.ensures.found

@@ -1,0 +1,20 @@
+-- What is refused where keys are merged.
+use Rattle.std.proofs.Common.{◌≡◌, Bool, true, false, cond, Option, Some, None, inl, inr}
+use Rattle.std.specs.Prelude.{◌⊎◌}
+use Rattle.tb_value.specs.Refusals.{first_cause}
+use Rattle.tb_value.specs.declared.error.PolarsError.{PolarsError}
+use Rattle.tb_value.specs.declared.error.PolarsError.TheVariants.{OutOfMemory}
+use Rattle.tb_frame.specs.Refusal.{row_causes}
+use Rattle.tb_keys.specs.Asked.{asked}
+use Rattle.tb_keys.specs.declared.request.LentRequest.{LentRequest}
+use Rattle.tb_sorted.specs.Listed.{merge_refusal}
+use Rattle.tb_sorted.specs.Path.{takes_merge_path}
+
+refused_alike : (b : Bool) (cause : Option PolarsError) (e : PolarsError) → cond b cause None ≡ Some e → cause ≡ Some e
+refused_alike true cause e h = h
+refused_alike false cause e h = absurd (cc)
+
+-- what refuses a merge refuses the request
+pub merge_refuses : (r : LentRequest) (e : PolarsError) → (e ≡ OutOfMemory) ⊎ (merge_refusal r ≡ Some e) → (e ≡ OutOfMemory) ⊎ (first_cause (row_causes (asked r)) ≡ Some e)
+merge_refuses r e (inl want) = inl want
+merge_refuses r e (inr h) = inr (refused_alike (takes_merge_path r) (first_cause (row_causes (asked r))) e h)
