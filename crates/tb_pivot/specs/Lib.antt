@@ -1,7 +1,9 @@
+pub mod Cells
 pub mod Grid
 pub mod Headers
 pub mod Laws
 pub mod Lookup
+pub mod Made
 pub mod Pivot
 pub mod Refusal
 pub mod Request

@@ -1,9 +1,13 @@
 -- What is found of the columns that a request names.
-use Rattle.std.specs.Prelude.{◌≡◌, List}
+use Rattle.std.specs.Prelude.{◌≡◌, ℕ, Bool, List, length}
+use Rattle.std.specs.Borrow.{Bor}
+use Rattle.std.specs.List.{All}
 use Rattle.tb_value.specs.Names.{Name}
-use Rattle.tb_chunk.specs.Col.{Col}
+use Rattle.tb_chunk.specs.Col.{Col, values}
 use Rattle.tb_chunk.specs.Lent.{lent_columns}
 use Rattle.tb_frame.specs.Frame.{selected}
+use Rattle.tb_frame.specs.Table.{table_of}
+use Rattle.tb_pivot.specs.Request.{Chosen, Way}
 use Rattle.tb_pivot.specs.declared.lookup.RequestColumns.{RequestColumns}
 
 -- the columns of these names, in the order of the names
@@ -11,3 +15,21 @@ pub record AreFound (cs : List Col) (keys rows others : List Name) (f : RequestC
   pub on : lent_columns f.on.items ≡ selected keys cs
   pub index : lent_columns f.index.items ≡ selected rows cs
   pub values : lent_columns f.values.items ≡ selected others cs
+
+-- the columns that were found, and what is made of them
+abbrev pub chosen_of : ℕ → RequestColumns → Bool → Way → Name → Chosen
+chosen_of height f sorts way separator = record {
+  height = height;
+  on = table_of (lent_columns f.on.items);
+  index = table_of (lent_columns f.index.items);
+  values = table_of (lent_columns f.values.items);
+  sorts = sorts;
+  way = way;
+  separator = separator;
+}
+
+-- the columns have as many rows as the table
+pub record AreAsHigh (height : ℕ) (f : RequestColumns) : Type 0 where
+  pub on : All (λ (c : Bor Col). length (values c.now) ≡ height) f.on.items
+  pub index : All (λ (c : Bor Col). length (values c.now) ≡ height) f.index.items
+  pub values : All (λ (c : Bor Col). length (values c.now) ≡ height) f.values.items

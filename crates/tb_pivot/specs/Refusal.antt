@@ -11,7 +11,7 @@ use Rattle.tb_value.specs.declared.error.PolarsError.{PolarsError}
 use Rattle.tb_value.specs.declared.error.PolarsError.TheVariants.{ComputeError, InvalidOperation}
 use Rattle.tb_frame.specs.Naming.{is_among}
 use Rattle.tb_frame.specs.Refusal.{repeated_among, unknown_key}
-use Rattle.tb_frame.specs.Table.{TableColumn, Table, height, names_of}
+use Rattle.tb_frame.specs.Table.{TableColumn, Table, names_of}
 use Rattle.tb_label.specs.Label.{is_header}
 use Rattle.tb_rows.specs.Rows.{value_at}
 use Rattle.tb_agg.specs.Aggregates.{result_kind, sum_kind, total}
@@ -19,8 +19,8 @@ use Rattle.tb_agg.specs.Outcome.{are_in_range}
 use Rattle.tb_agg.specs.declared.table.Aggregate.{Aggregate}
 use Rattle.tb_agg.specs.declared.table.Aggregate.TheVariants.{Sum}
 use Rattle.tb_pivot.specs.Headers.{brace_name}
-use Rattle.tb_pivot.specs.Pivot.{alike, answered, distinct_rows, key_columns, pivot_table}
-use Rattle.tb_pivot.specs.Request.{Request, Way, one_row, aggregated, asked, columns_named, index_names, value_columns, value_names}
+use Rattle.tb_pivot.specs.Pivot.{alike, answered, distinct_rows, key_columns, wide}
+use Rattle.tb_pivot.specs.Request.{Chosen, Request, Way, one_row, aggregated, asked, chosen, columns_named, index_names, value_names}
 
 -- NAMES
 
@@ -54,35 +54,35 @@ agg_cause way vs = option_map (λ (c : TableColumn). InvalidOperation (AggType c
 -- VALUES
 
 -- 9 a cell is to have one row, there is a value column, and there are more rows than cells with rows
-abbrev pub has_more_rows : Request → Way → List TableColumn → Bool
-has_more_rows q one_row (v ∷ vs) = nat_lt (length (distinct_rows q (key_columns q))) (height q.table)
-has_more_rows q way vs = false
+abbrev pub is_one_row : Way → Bool
+is_one_row one_row = true
+is_one_row way = false
 
-abbrev pub many_cause : Request → Option PolarsError
-many_cause q = when (has_more_rows q q.way (value_columns q)) (ComputeError ManyInGroup)
+abbrev pub many_cause : Chosen → Option PolarsError
+many_cause q = when (is_one_row q.way && (nat_lt 0 (length q.values) && nat_lt (length (distinct_rows q (key_columns q))) q.height)) (ComputeError ManyInGroup)
 
 -- 10 the first value column of which the sum for a cell is outside the range of its type
-abbrev pub sums_of : Request → TableColumn → List ℕ → Bool
-sums_of q v firsts = are_in_range (sum_kind v.kind) (map (λ x. total (map (value_at v.values) (filter (alike (key_columns q) x) (row_numbers (height q.table))))) firsts)
+abbrev pub sums_of : Chosen → TableColumn → List ℕ → Bool
+sums_of q v firsts = are_in_range (sum_kind v.kind) (map (λ x. total (map (value_at v.values) (filter (alike (key_columns q) x) (row_numbers q.height)))) firsts)
 
-abbrev pub is_out_of_range : Request → Way → TableColumn → Bool
+abbrev pub is_out_of_range : Chosen → Way → TableColumn → Bool
 is_out_of_range q (aggregated Sum) v = not (sums_of q v (distinct_rows q (key_columns q)))
 is_out_of_range q way v = false
 
-abbrev pub range_cause : Request → Option PolarsError
-range_cause q = option_map (λ (c : TableColumn). ComputeError (SumRange c.name)) (find (is_out_of_range q q.way) (value_columns q))
+abbrev pub range_cause : Chosen → Option PolarsError
+range_cause q = option_map (λ (c : TableColumn). ComputeError (SumRange c.name)) (find (is_out_of_range q q.way) q.values)
 
 -- 11 the first refusal of a caller's object
 abbrev pub refused_by : Result TableColumn PolarsError → Option PolarsError
 refused_by (Ok c) = None
 refused_by (Err e) = Some e
 
-abbrev pub way_cause : Request → Way → TableColumn → Option PolarsError
+abbrev pub way_cause : Chosen → Way → TableColumn → Option PolarsError
 way_cause q (asked name answers) v = refused_by (answered q v name answers)
 way_cause q way v = None
 
-abbrev pub answer_cause : Request → Option PolarsError
-answer_cause q = first_cause (map (way_cause q q.way) (value_columns q))
+abbrev pub answer_cause : Chosen → Option PolarsError
+answer_cause q = first_cause (map (way_cause q q.way) q.values)
 
 -- THE REFUSAL
 
@@ -96,17 +96,17 @@ column_causes t on index values way =
     ∷ agg_cause way (columns_named t values)
     ∷ []
 
+-- 9 to 12 what is said of values, and of the names of the answer
+abbrev pub value_causes : Chosen → List (Option PolarsError)
+value_causes q = many_cause q ∷ range_cause q ∷ answer_cause q ∷ repeated_among (names_of (wide q)) ∷ []
+
 abbrev pub pivot_causes : Request → List (Option PolarsError)
 pivot_causes q =
     both_none q
     ∷ none_named (index_names q) (ComputeError EmptyIndex)
     ∷ none_named q.on (ComputeError EmptyOn)
     ∷ column_causes q.table q.on (index_names q) (value_names q) q.way
-    ++ many_cause q
-    ∷ range_cause q
-    ∷ answer_cause q
-    ∷ repeated_among (names_of (pivot_table q))
-    ∷ []
+    ++ value_causes (chosen q)
 
 abbrev pub pivot_refusal : Request → Option PolarsError
 pivot_refusal q = first_cause (pivot_causes q)

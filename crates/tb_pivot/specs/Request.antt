@@ -4,7 +4,7 @@ use Rattle.std.specs.List.{filter_map}
 use Rattle.tb_value.specs.Names.{Name}
 use Rattle.tb_frame.specs.Join.{named}
 use Rattle.tb_frame.specs.Naming.{is_among}
-use Rattle.tb_frame.specs.Table.{TableColumn, Table, names_of}
+use Rattle.tb_frame.specs.Table.{TableColumn, Table, height, names_of}
 use Rattle.tb_agg.specs.declared.table.Aggregate.{Aggregate}
 
 -- what a cell is made by: the value of its one row; an aggregate of its rows; or what a caller's object answers for all
@@ -53,11 +53,24 @@ value_names q = given_or_rest q.table q.on q.values q.index
 abbrev pub columns_named : Table → List Name → List TableColumn
 columns_named t names = filter_map (named t) names
 
-abbrev pub on_columns : Request → List TableColumn
-on_columns q = columns_named q.table q.on
+-- what a request chooses of its table: how many rows there are, the columns whose rows become headers, those of the index and of
+-- the values, and what is made of them
+pub record Chosen : Type 0 where
+  pub height : ℕ
+  pub on : List TableColumn
+  pub index : List TableColumn
+  pub values : List TableColumn
+  pub sorts : Bool
+  pub way : Way
+  pub separator : Name
 
-abbrev pub index_columns : Request → List TableColumn
-index_columns q = columns_named q.table (index_names q)
-
-abbrev pub value_columns : Request → List TableColumn
-value_columns q = columns_named q.table (value_names q)
+abbrev pub chosen : Request → Chosen
+chosen q = record {
+  height = height q.table;
+  on = columns_named q.table q.on;
+  index = columns_named q.table (index_names q);
+  values = columns_named q.table (value_names q);
+  sorts = q.sorts;
+  way = q.way;
+  separator = q.separator;
+}

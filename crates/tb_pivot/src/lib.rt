@@ -2,12 +2,15 @@
 //! not written yet.
 #![tactic(auto)]
 
+mod cells;
 mod grid;
 mod headers;
 pub mod laws;
 mod lookup;
+mod maker;
 
 pub use grid::grid_of;
 pub use headers::{block_name, brace_name, header_text};
 pub use lookup::{RequestColumns, found};
+pub use maker::CellMaker;
 pub use tb_agg::Aggregate;

@@ -1,0 +1,14 @@
+-- Where each cell of the answer finds its value.
+use Rattle.std.specs.Prelude.{◌≡◌, ℕ, List, ◌++◌}
+use Rattle.tb_frame.specs.Table.{TableColumn}
+use Rattle.tb_rows.specs.Grouped.{AreGroups}
+use Rattle.tb_pivot.specs.Grid.{grid}
+use Rattle.tb_pivot.specs.Pivot.{alike}
+use Rattle.tb_pivot.specs.declared.cells.Cells.{Cells}
+
+-- the groups of rows by their index and header, by their index, and by their header, and for each cell its group
+pub record AreCells (height : ℕ) (index on : List TableColumn) (c : Cells) : Type 0 where
+  pub groups : AreGroups (alike (index ++ on)) height c.groups
+  pub rows : AreGroups (alike index) height c.rows
+  pub headers : AreGroups (alike on) height c.headers
+  pub grid : c.grid.items ≡ grid c.groups c.rows c.headers

@@ -1,0 +1,39 @@
+//! What makes the values of cells.
+ghost use Rattle.tb_value.specs.Refusals.{Settles};
+
+use std::alloc::Global;
+use tb_rows::Groups;
+use tb_store::Series;
+use tb_value::{DataType, PolarsResult};
+
+/// What makes one value for each group of rows. Contracts see the way in which it does.
+pub trait CellMaker {
+    ghost use Rattle.std.specs.Prelude.{◌≡◌, IfOk, length};
+    ghost use Rattle.tb_value.specs.Refusals.{Settles};
+    ghost use Rattle.tb_value.specs.SeeKind.{kind_of};
+    ghost use Rattle.tb_chunk.specs.Col.{values};
+    ghost use Rattle.tb_agg.specs.Grouped.{AreGroupsOf};
+    ghost use Rattle.tb_pivot.specs.Made.{made_cause, takes, IsMade};
+    ghost use Rattle.tb_pivot.specs.Refusal.{is_one_row};
+    ghost use Rattle.tb_pivot.specs.Request.{Way};
+
+    ghost way: { Self → Way };
+
+    /// Whether values of the type are taken.
+    fn takes(&self, dtype: &DataType) -> bool
+        ensures { result ≡ takes (way self.now) (kind_of dtype.now) };
+
+    /// Whether a group is to have one row.
+    fn wants_one_row(&self) -> bool
+        ensures { result ≡ is_one_row (way self.now) };
+
+    /// The column of one value for each group, of a column whose rows are in the groups.
+    ///
+    /// # Errors
+    ///
+    /// What the way has to say of the values, or `OutOfMemory`.
+    fn made(&self, alloc: Global, column: &Series, groups: &Groups) -> PolarsResult<Series>
+        requires { AreGroupsOf (length (values column.now)) groups.now }
+        ensures settles { Settles result (made_cause (way self.now) groups.now column.now) }
+        ensures made { IfOk result (IsMade (way self.now) groups.now column.now) };
+}
