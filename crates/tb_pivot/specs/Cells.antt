@@ -1,5 +1,5 @@
 -- Where each cell of the answer finds its value.
-use Rattle.std.specs.Prelude.{◌≡◌, ℕ, List, ◌++◌}
+use Rattle.std.specs.Prelude.{◌≡◌, ℕ, ◌+◌, ◌*◌, List, ◌++◌, length, Option, slice_range}
 use Rattle.tb_frame.specs.Table.{TableColumn}
 use Rattle.tb_rows.specs.Grouped.{AreGroups}
 use Rattle.tb_pivot.specs.Grid.{grid}
@@ -12,3 +12,9 @@ pub record AreCells (height : ℕ) (index on : List TableColumn) (c : Cells) : T
   pub rows : AreGroups (alike index) height c.rows
   pub headers : AreGroups (alike on) height c.headers
   pub grid : c.grid.items ≡ grid c.groups c.rows c.headers
+
+-- for each cell of a header its group, in the order of the answer's rows
+abbrev pub cells_under : Cells → ℕ → List (Option ℕ)
+cells_under c y =
+    let height : ℕ = length c.rows.firsts.items in
+    slice_range c.grid.items (y * height) (y * height + height)

@@ -1,7 +1,19 @@
 //! The cells of the answer.
+ghost use Rattle.std.specs.Prelude.{◌≡◌, ◌≤◌, ◌<◌, ◌*◌, ◌∷◌, [], ◌++◌, IfOk, OnOk, length, map};
+ghost use Rattle.tb_value.specs.declared.sorted.IsSorted.TheVariants.{Not};
+ghost use Rattle.tb_chunk.specs.Col.{values};
+ghost use Rattle.tb_chunk.specs.Lent.{lent_columns};
+ghost use Rattle.tb_chunk.specs.Rows.{value_or_null};
+ghost use Rattle.tb_frame.specs.Table.{table_of};
+ghost use Rattle.tb_pivot.specs.Cells.{AreCells, cells_under};
+ghost use Rattle.tb_pivot.specs.Grid.{grid};
 
-use tb_rows::Groups;
-use tb_value::NullableIdxSize;
+use crate::grid::grid_of;
+use crate::lookup::RequestColumns;
+use std::alloc::Global;
+use tb_rows::{Groups, group_rows};
+use tb_store::Series;
+use tb_value::{IdxSize, MAX_ROWS, NullableIdxSize, OutOfMemory};
 
 /// The groups of a table's rows, by index and header, by index, and by header, and for each cell its group.
 #[derive(Drop)]
@@ -10,4 +22,99 @@ pub(crate) struct Cells {
     rows: Groups,
     headers: Groups,
     grid: Vec<NullableIdxSize>,
+}
+
+// Puts the columns behind the others.
+fn push_columns<'a>(columns: &mut Vec<&'a Series>, more: &[&'a Series]) -> Result<(), OutOfMemory>
+    ensures { OnOk result (lent_columns columns.new.items ≡ lent_columns columns.old.items ++ lent_columns more.now) }
+{
+    for column in more {
+        columns.push(*column)?;
+    }
+    Ok(())
+}
+
+// The columns of the index, and then those whose rows become headers.
+fn key_columns<'a>(
+    alloc: Global,
+    columns: &RequestColumns<'a>,
+) -> Result<Vec<&'a Series>, OutOfMemory>
+    ensures { IfOk result (λ v. lent_columns v.items ≡ lent_columns columns.now.index.items ++ lent_columns columns.now.on.items) }
+{
+    let mut keys = Vec::with_capacity(alloc, columns.index.len())?;
+    push_columns(&mut keys, &columns.index)?;
+    push_columns(&mut keys, &columns.on)?;
+    Ok(keys)
+}
+
+impl Cells {
+    /// The cells of a table of so many rows, each of which has an index and a header.
+    pub(crate) fn of(
+        alloc: Global,
+        height: usize,
+        columns: &RequestColumns<'_>,
+    ) -> Result<Cells, OutOfMemory>
+        requires { height ≤ MAX_ROWS }
+        ensures { IfOk result (AreCells height (table_of (lent_columns columns.now.index.items)) (table_of (lent_columns columns.now.on.items))) }
+    {
+        let keys = key_columns(alloc, columns)?;
+        let groups = group_rows(alloc, &keys, height)?;
+        let rows = group_rows(alloc, &columns.index, height)?;
+        let headers = group_rows(alloc, &columns.on, height)?;
+        let grid = grid_of(alloc, &groups, &rows, &headers)?;
+        Ok(Cells {
+            groups,
+            rows,
+            headers,
+            grid,
+        })
+    }
+
+    /// The table's rows in groups by index and header.
+    pub(crate) fn groups(&self) -> &Groups
+        ensures { result.now ≡ self.now.groups }
+    {
+        &self.groups
+    }
+
+    /// For each row of the answer the first row of the table with its index.
+    pub(crate) fn answer_rows(&self) -> &[IdxSize]
+        ensures { result.now ≡ self.now.rows.firsts.items }
+    {
+        self.rows.firsts()
+    }
+
+    /// For each header the first row of the table that has it.
+    pub(crate) fn header_rows(&self) -> &[IdxSize]
+        ensures { result.now ≡ self.now.headers.firsts.items }
+    {
+        self.headers.firsts()
+    }
+
+    // The groups in the cells of a header.
+    fn cells_under(&self, header: usize) -> &[NullableIdxSize]
+        requires grid { length self.now.grid.items ≡ length self.now.headers.firsts.items * length self.now.rows.firsts.items }
+        requires header { header < length self.now.headers.firsts.items }
+        ensures { result.now ≡ cells_under self.now header }
+    {
+        let height = self.rows.firsts().len();
+        let start = header * height;
+        &self.grid[start..start + height]
+    }
+
+    /// The column of the cells of a header, of the column of one value for each group.
+    pub(crate) fn column(
+        &self,
+        alloc: Global,
+        made: &Series,
+        header: usize,
+    ) -> Result<Series, OutOfMemory>
+        requires grid { self.now.grid.items ≡ grid self.now.groups self.now.rows self.now.headers }
+        requires rows { length self.now.rows.firsts.items ≤ MAX_ROWS }
+        requires header { header < length self.now.headers.firsts.items }
+        requires made { length (values made.now) ≡ length self.now.groups.firsts.items }
+        ensures { IfOk result (λ s. s ≡ record made.now { chunks = map (value_or_null (values made.now)) (cells_under self.now header) ∷ []; flag = Not }) }
+    {
+        made.take_opt(alloc, self.cells_under(header))
+    }
 }
