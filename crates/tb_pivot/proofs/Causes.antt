@@ -1,10 +1,11 @@
 -- Causes that are looked at one after another, and what they say of the columns of a table.
-use Rattle.std.proofs.Common.{◌≡◌, ◌∙◌, ◌+◌, ℕ, suc, ltb, Bool, true, false, cond, ◌||◌, not, List, [], ◌∷◌, ◌++◌, length, Option, Some, None, is_some, inl, inr, refl, sym, ap, arith}
+use Rattle.std.proofs.Common.{◌≡◌, ◌∙◌, ◌+◌, ℕ, suc, ltb, Bool, true, false, cond, ◌||◌, not, List, [], ◌∷◌, ◌++◌, length, Option, Some, None, is_some, is_none, inl, inr, refl, sym, ap, arith}
 use Rattle.std.specs.Prelude.{◌⊎◌, position}
 use Rattle.std.specs.Borrow.{Bor}
 use Rattle.std.specs.List.{list_any, position_or_len}
 use Rattle.std.proofs.lemmas.Bool.{le-ltb, lt-ltb, ltb-false, ltb-true}
 use Rattle.std.proofs.lemmas.Cmp.{nat_list_eq_equiv}
+use Rattle.tb_value.specs.Kind.{Kind}
 use Rattle.tb_value.specs.Names.{Name, same_name}
 use Rattle.tb_value.specs.Refusals.{first_cause}
 use Rattle.tb_value.specs.declared.error.PolarsError.{PolarsError}
@@ -14,10 +15,12 @@ use Rattle.tb_chunk.specs.Lent.{lent_columns}
 use Rattle.tb_frame.specs.Frame.{selected}
 use Rattle.tb_frame.specs.Naming.{is_among}
 use Rattle.tb_frame.specs.Refusal.{repeated_among, unknown_key}
-use Rattle.tb_frame.specs.Table.{Table, names_of, table_of}
+use Rattle.tb_frame.specs.Table.{Table, TableColumn, names_of, table_of}
 use Rattle.tb_frame.proofs.Selected.{selected-table}
-use Rattle.tb_pivot.specs.Refusal.{agg_cause, brace_taken, column_causes, header_cause}
-use Rattle.tb_pivot.specs.Request.{Way, columns_named}
+use Rattle.tb_agg.specs.Aggregates.{result_kind}
+use Rattle.tb_pivot.specs.Made.{takes}
+use Rattle.tb_pivot.specs.Refusal.{agg_cause, brace_taken, column_causes, has_no_kind, header_cause}
+use Rattle.tb_pivot.specs.Request.{Way, one_row, aggregated, asked, columns_named}
 
 -- a cause that holds is the first
 stops : (e : PolarsError) (a : Option PolarsError) (rest : List (Option PolarsError)) → (e ≡ OutOfMemory) ⊎ (a ≡ Some e) → (e ≡ OutOfMemory) ⊎ (first_cause (a ∷ rest) ≡ Some e)
@@ -96,3 +99,13 @@ place_of_name n cs =
     some_where (ltb (position_or_len (λ (c : Col). same_name c.name n) cs) (length cs)) (position_or_len (λ (c : Col). same_name c.name n) cs)
     ∙ before_end (λ (c : Col). same_name c.name n) cs
     ∙ named_among n cs
+
+-- what is taken has a type of cells
+pub not_taken : (way : Way) (v : TableColumn) → not (takes way v.kind) ≡ has_no_kind way v
+not_taken one_row v = refl
+not_taken (aggregated agg) v = by (result_kind agg v.kind)
+  where
+    by : (o : Option Kind) → not (is_some o) ≡ is_none o
+    by None = refl
+    by (Some t) = refl
+not_taken (asked name answers) v = refl

@@ -8,11 +8,10 @@ ghost use Rattle.tb_frame.specs.Table.{names_of, plain, table_of};
 ghost use Rattle.tb_label.specs.Label.{is_header};
 ghost use Rattle.tb_pivot.specs.Lookup.{AreFound};
 ghost use Rattle.tb_pivot.specs.Refusal.{agg_cause, brace_taken, column_causes, has_no_kind, header_cause};
-ghost use Rattle.tb_pivot.specs.Request.{way_of};
 
 use crate::headers::brace_name;
+use crate::maker::CellMaker;
 use std::alloc::Global;
-use tb_agg::Aggregate;
 use tb_frame::{DataFrame, check_distinct, check_repeated, lend_columns};
 use tb_label::is_header_type;
 use tb_store::Series;
@@ -97,22 +96,19 @@ fn check_headers(alloc: Global, columns: &[&Series]) -> PolarsResult<()>
     Ok(())
 }
 
-// Whether cells can be made of the column, by an aggregate where one is given.
-fn is_taken(column: &Series, agg: Option<Aggregate>) -> bool
-    ensures { not result ≡ has_no_kind (way_of agg) (plain column.now) }
+// Whether cells are made of the column's values.
+fn is_taken<M: CellMaker>(column: &Series, maker: &M) -> bool
+    ensures { not result ≡ has_no_kind (M.way maker.now) (plain column.now) }
 {
-    match agg {
-        Some(agg) => agg.takes(column.dtype()),
-        None => true,
-    }
+    maker.takes(column.dtype())
 }
 
-// Refuses the first column whose type the aggregate does not take (AggType).
-fn check_values(alloc: Global, columns: &[&Series], agg: Option<Aggregate>) -> PolarsResult<()>
-    ensures { Settles result (agg_cause (way_of agg) (table_of (lent_columns columns.now))) }
+// Refuses the first column whose type is not taken (AggType).
+fn check_values<M: CellMaker>(alloc: Global, columns: &[&Series], maker: &M) -> PolarsResult<()>
+    ensures { Settles result (agg_cause (M.way maker.now) (table_of (lent_columns columns.now))) }
 {
     for column in columns {
-        if !is_taken(column, agg) {
+        if !is_taken(column, maker) {
             return Err(PolarsError::InvalidOperation(InvalidCause::AggType(
                 column.name().copy(alloc)?,
             )));
@@ -121,7 +117,7 @@ fn check_values(alloc: Global, columns: &[&Series], agg: Option<Aggregate>) -> P
     Ok(())
 }
 
-/// What is found of the columns that are named. Without an aggregate a cell is the value of its one row, of any type.
+/// What is found of the columns that are named, for cells that `maker` makes.
 ///
 /// # Errors
 ///
@@ -130,16 +126,16 @@ fn check_values(alloc: Global, columns: &[&Series], agg: Option<Aggregate>) -> P
 /// 2. `Duplicate`: a name stands twice in `on` followed by `index`, and then in `values`;
 /// 3. `BraceName`: `on` has several names, and a column is called by them in quotes and braces;
 /// 4. `HeaderType`: values of a column of `on` have no header texts;
-/// 5. `AggType`: the aggregate doesn't take the type of a column of `values`.
-pub fn found<'a>(
+/// 5. `AggType`: `maker` doesn't take the type of a column of `values`.
+pub fn found<'a, M: CellMaker>(
     alloc: Global,
     table: &'a DataFrame,
     on: &[PlSmallStr],
     index: &[PlSmallStr],
     values: &[PlSmallStr],
-    agg: Option<Aggregate>,
+    maker: &M,
 ) -> PolarsResult<RequestColumns<'a>>
-    ensures settles { Settles result (first_cause (column_causes (table_of table.now) on.now index.now values.now (way_of agg))) }
+    ensures settles { Settles result (first_cause (column_causes (table_of table.now) on.now index.now values.now (M.way maker.now))) }
     ensures found { IfOk result (AreFound table.now on.now index.now values.now) }
 {
     let columns = table.get_columns();
@@ -150,7 +146,7 @@ pub fn found<'a>(
     check_repeated(alloc, values)?;
     check_brace_name(alloc, table, on)?;
     check_headers(alloc, &on_columns)?;
-    check_values(alloc, &value_columns, agg)?;
+    check_values(alloc, &value_columns, maker)?;
     Ok(RequestColumns {
         on: on_columns,
         index: index_columns,

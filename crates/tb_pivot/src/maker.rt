@@ -2,6 +2,7 @@
 ghost use Rattle.tb_value.specs.Refusals.{Settles};
 
 use std::alloc::Global;
+use tb_agg::{Aggregate, aggregated};
 use tb_rows::Groups;
 use tb_store::Series;
 use tb_value::{DataType, PolarsResult};
@@ -36,4 +37,29 @@ pub trait CellMaker {
         requires { AreGroupsOf (length (values column.now)) groups.now }
         ensures settles { Settles result (made_cause (way self.now) groups.now column.now) }
         ensures made { IfOk result (IsMade (way self.now) groups.now column.now) };
+}
+
+/// An aggregate, and without one the value of the one row.
+impl CellMaker for Option<Aggregate> {
+    ghost use Rattle.tb_pivot.specs.Request.{way_of};
+
+    ghost way = { way_of };
+
+    fn takes(&self, dtype: &DataType) -> bool {
+        match self {
+            Some(agg) => agg.takes(dtype),
+            None => true,
+        }
+    }
+
+    fn wants_one_row(&self) -> bool {
+        self.is_none()
+    }
+
+    fn made(&self, alloc: Global, column: &Series, groups: &Groups) -> PolarsResult<Series> {
+        match self {
+            Some(agg) => aggregated(alloc, column, groups, *agg),
+            None => aggregated(alloc, column, groups, Aggregate::First),
+        }
+    }
 }
