@@ -23,20 +23,20 @@ use Rattle.tb_pivot.specs.Refusal.{agg_cause, brace_taken, column_causes, has_no
 use Rattle.tb_pivot.specs.Request.{Way, one_row, aggregated, asked, columns_named}
 
 -- a cause that holds is the first
-stops : (e : PolarsError) (a : Option PolarsError) (rest : List (Option PolarsError)) → (e ≡ OutOfMemory) ⊎ (a ≡ Some e) → (e ≡ OutOfMemory) ⊎ (first_cause (a ∷ rest) ≡ Some e)
+pub stops : (e : PolarsError) (a : Option PolarsError) (rest : List (Option PolarsError)) → (e ≡ OutOfMemory) ⊎ (a ≡ Some e) → (e ≡ OutOfMemory) ⊎ (first_cause (a ∷ rest) ≡ Some e)
 stops e a rest (inl h) = inl h
 stops e a rest (inr h) = inr (λ t. first_cause (h t ∷ rest))
 
 -- and one that doesn't is passed by
-goes_on : (a : Option PolarsError) (rest : List (Option PolarsError)) → a ≡ None → first_cause (a ∷ rest) ≡ first_cause rest
+pub goes_on : (a : Option PolarsError) (rest : List (Option PolarsError)) → a ≡ None → first_cause (a ∷ rest) ≡ first_cause rest
 goes_on a rest none = λ t. first_cause (none t ∷ rest)
 
-onward : (e : PolarsError) (a b : Option PolarsError) → b ≡ a → (e ≡ OutOfMemory) ⊎ (a ≡ Some e) → (e ≡ OutOfMemory) ⊎ (b ≡ Some e)
+pub onward : (e : PolarsError) (a b : Option PolarsError) → b ≡ a → (e ≡ OutOfMemory) ⊎ (a ≡ Some e) → (e ≡ OutOfMemory) ⊎ (b ≡ Some e)
 onward e a b same (inl h) = inl h
 onward e a b same (inr h) = inr (same ∙ h)
 
 -- columns that were found are those of the table
-columns_found : (cs ds : List Col) (names : List Name) (rs : List (Bor Col)) → ds ≡ cs → lent_columns rs ≡ selected names ds → table_of (lent_columns rs) ≡ columns_named (table_of cs) names
+pub columns_found : (cs ds : List Col) (names : List Name) (rs : List (Bor Col)) → ds ≡ cs → lent_columns rs ≡ selected names ds → table_of (lent_columns rs) ≡ columns_named (table_of cs) names
 columns_found cs ds names rs same found = ap table_of found ∙ ap (λ (t : List Col). table_of (selected names t)) same ∙ selected-table names cs
 
 -- where the names are known and distinct, the types of the columns decide

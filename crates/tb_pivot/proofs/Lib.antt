@@ -3,6 +3,7 @@ pub mod Causes
 pub mod Cell
 pub mod Groups
 pub mod Members
+pub mod Named
 pub mod Placed
 pub mod Refused
 pub mod Texts

@@ -2,6 +2,7 @@ pub mod Cells
 pub mod Grid
 pub mod Headers
 pub mod Laws
+pub mod Lent
 pub mod Lookup
 pub mod Made
 pub mod Pivot

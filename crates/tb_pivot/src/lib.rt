@@ -8,6 +8,7 @@ mod headers;
 pub mod laws;
 mod lookup;
 mod maker;
+mod naming;
 
 pub use grid::grid_of;
 pub use headers::{block_name, brace_name, header_text};

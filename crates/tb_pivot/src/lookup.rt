@@ -1,12 +1,14 @@
 //! The columns that a request names, and its refusals by names and types.
-ghost use Rattle.std.specs.Prelude.{◌≡◌, ◌∷◌, [], ◌++◌, not, IfOk, OnOk, length, map};
+ghost use Rattle.std.specs.Prelude.{◌≡◌, ◌∷◌, [], ◌++◌, not, true, IfOk, OnOk, length, map};
+ghost use Rattle.std.specs.List.{All};
 ghost use Rattle.tb_value.specs.Refusals.{Settles, first_cause};
 ghost use Rattle.tb_chunk.specs.Lent.{lent_columns};
 ghost use Rattle.tb_frame.specs.Naming.{is_among};
 ghost use Rattle.tb_frame.specs.Refusal.{repeated_among};
-ghost use Rattle.tb_frame.specs.Table.{names_of, plain, table_of};
+ghost use Rattle.tb_frame.specs.Table.{height, names_of, plain, table_of};
 ghost use Rattle.tb_label.specs.Label.{is_header};
-ghost use Rattle.tb_pivot.specs.Lookup.{AreFound};
+ghost use Rattle.tb_pivot.specs.Lookup.{AreAsHigh, AreFound};
+ghost use Rattle.tb_pivot.specs.Made.{takes};
 ghost use Rattle.tb_pivot.specs.Refusal.{agg_cause, brace_taken, column_causes, has_no_kind, header_cause};
 
 use crate::headers::brace_name;
@@ -117,7 +119,7 @@ fn check_values<M: CellMaker>(alloc: Global, columns: &[&Series], maker: &M) -> 
     Ok(())
 }
 
-/// What is found of the columns that are named, for cells that `maker` makes.
+/// What is found of the columns that are named, for cells that `maker` makes. They have as many rows as the table.
 ///
 /// # Errors
 ///
@@ -137,6 +139,8 @@ pub fn found<'a, M: CellMaker>(
 ) -> PolarsResult<RequestColumns<'a>>
     ensures settles { Settles result (first_cause (column_causes (table_of table.now) on.now index.now values.now (M.way maker.now))) }
     ensures found { IfOk result (AreFound table.now on.now index.now values.now) }
+    ensures high { IfOk result (AreAsHigh (height (table_of table.now))) }
+    ensures taken { IfOk result (λ f. All (λ c. takes (M.way maker.now) c.now.kind ≡ true) f.values.items) }
 {
     let columns = table.get_columns();
     let on_columns = lend_columns(alloc, columns, on)?;

@@ -1,7 +1,13 @@
-use Rattle.std.proofs.Common.{◌∙◌, ap}
+use Rattle.std.proofs.Common.{◌≡◌, ◌∙◌, List, None, ap, sym}
+use Rattle.std.specs.Borrow.{Bor}
 use Rattle.std.proofs.lemmas.Result.{err_from_is_err_and}
+use Rattle.tb_chunk.specs.Col.{Col}
 use Rattle.tb_chunk.specs.Lent.{lent_columns}
+use Rattle.tb_frame.specs.Frame.{selected}
+use Rattle.tb_frame.specs.Table.{table_of}
+use Rattle.tb_pivot.specs.Refusal.{agg_cause}
 use Rattle.tb_pivot.proofs.Causes.{header_stops, none_holds, value_stops}
+use Rattle.tb_pivot.proofs.Named.{all_taken, are_as_high}
 use Rattle.tb_pivot.proofs.lookup.found.Goals as goal
 
 pub returns-in_err-check_headers-clause-settles : goal.returns-in_err-check_headers-clause-settles
@@ -30,3 +36,20 @@ returns-clause-settles g c =
     c.deref.result.now (ap lent_columns c.deref.ensures.value ∙ c.in_ok-on_columns.ensures.columns)
     c.in_ok-check_headers.ensures c.deref-2.result.now (ap lent_columns c.deref-2.ensures.value ∙ c.in_ok-value_columns.ensures.columns)
     c.in_ok-check_values.ensures
+
+pub returns-clause-high : goal.returns-clause-high
+returns-clause-high g c =
+    are_as_high c.args.table.now c.args.on.now c.args.index.now c.args.values.now
+    (record { on = c.in_ok-on_columns.on_columns; index = c.in_ok-index_columns.index_columns; values = c.in_ok-value_columns.value_columns })
+    c.get_columns-columns.ensures.table
+    (record {
+      on = c.in_ok-on_columns.ensures.columns ∙ ap (selected c.args.on.now) c.get_columns-columns.ensures.columns;
+      index = c.in_ok-index_columns.ensures.columns ∙ ap (selected c.args.index.now) c.get_columns-columns.ensures.columns;
+      values = c.in_ok-value_columns.ensures.columns ∙ ap (selected c.args.values.now) c.get_columns-columns.ensures.columns;
+    })
+
+pub returns-clause-taken : goal.returns-clause-taken
+returns-clause-taken g c =
+    let way = g.M.CellMaker.way c.args.maker.now in
+    let none : agg_cause way (table_of (lent_columns c.deref-2.result.now)) ≡ None = c.in_ok-check_values.ensures in
+    all_taken way c.in_ok-value_columns.value_columns.items (ap (λ (rs : List (Bor Col)). agg_cause way (table_of (lent_columns rs))) (sym c.deref-2.ensures.value) ∙ none)

@@ -1,0 +1,34 @@
+-- A request as it is lent.
+use Rattle.std.specs.Prelude.{Bool, ◌&&◌, List, [], ◌∷◌, Option, is_none}
+use Rattle.std.specs.Borrow.{Bor}
+use Rattle.std.specs.Option.{option_copied}
+use Rattle.tb_value.specs.Names.{Name}
+use Rattle.tb_value.specs.Refusals.{when}
+use Rattle.tb_value.specs.declared.error.ComputeCause.TheVariants.{EmptyIndex, EmptyOn}
+use Rattle.tb_value.specs.declared.error.InvalidCause.TheVariants.{BothNone}
+use Rattle.tb_value.specs.declared.error.PolarsError.{PolarsError}
+use Rattle.tb_value.specs.declared.error.PolarsError.TheVariants.{ComputeError, InvalidOperation}
+use Rattle.tb_chunk.specs.Col.{Col}
+use Rattle.tb_frame.specs.Table.{Table, table_of}
+use Rattle.tb_pivot.specs.Refusal.{none_named}
+use Rattle.tb_pivot.specs.Request.{Request, Way, given_or_rest, separator_or}
+
+-- the request of columns, names and a separator that are lent
+abbrev pub lent_request : List Col → List Name → Option (List Name) → Option (List Name) → Bool → Way → Option (Bor Name) → Request
+lent_request cs on index values sorts way separator = record {
+  table = table_of cs;
+  on = on;
+  index = index;
+  values = values;
+  sorts = sorts;
+  way = way;
+  separator = separator_or (option_copied separator);
+}
+
+-- 1 to 3 what is said of how many names there are
+abbrev pub name_causes : Table → List Name → Option (List Name) → Option (List Name) → List (Option PolarsError)
+name_causes t on index values =
+    when (is_none index && is_none values) (InvalidOperation BothNone)
+    ∷ none_named (given_or_rest t on index values) (ComputeError EmptyIndex)
+    ∷ none_named on (ComputeError EmptyOn)
+    ∷ []
