@@ -1,7 +1,6 @@
 -- The value of each cell is that of the group that stands in it.
-use Rattle.std.proofs.Common.{◌≡◌, ◌∙◌, ◌<◌, ◌≤◌, ◌+◌, ◌-◌, ◌*◌, ℕ, zero, suc, Bool, true, false, ◌&&◌, cond, eqb, List, [], ◌∷◌, ◌++◌, drop, filter, get_or, length, map, take, Option, Some, None, Ok, Err, IsSomeAnd, ℤ, inl, inr, ⊎_elim, refl, sym, ap, subst, arith}
+use Rattle.std.proofs.Common.{◌≡◌, ◌∙◌, ◌<◌, ◌≤◌, ◌+◌, ◌-◌, ◌*◌, ℕ, zero, suc, Bool, true, false, ◌&&◌, cond, eqb, List, [], ◌∷◌, ◌++◌, drop, filter, get_or, length, map, Option, Some, None, Ok, Err, IsSomeAnd, ℤ, ⊎_elim, refl, sym, ap, subst, arith}
 use Rattle.std.specs.Prelude.{Result, unwrap_or}
-use Rattle.std.specs.Cmp.{IsEquivalence}
 use Rattle.std.specs.List.{All}
 use Rattle.std.proofs.lemmas.Bool.{and_parts, cases_lt, eq-eqb, eqb-true, eqb-false, ne_eqb}
 use Rattle.std.proofs.lemmas.List.{append-nil, get_or_default, get_or-drop, get_or-map, get_or-take, length-drop, length-map, length-take-le, same_lists}

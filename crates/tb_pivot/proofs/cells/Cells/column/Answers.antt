@@ -1,5 +1,4 @@
 use Rattle.std.proofs.Common.{length}
-use Rattle.std.proofs.lemmas.List.{length-map}
 use Rattle.tb_chunk.specs.Col.{values}
 use Rattle.tb_pivot.proofs.Cell.{grid_long, under_within}
 use Rattle.tb_pivot.proofs.cells.Cells.column.Goals as goal
