@@ -1,6 +1,7 @@
 pub mod Alike
 pub mod Causes
 pub mod Cell
+pub mod Columns
 pub mod Groups
 pub mod Members
 pub mod Named

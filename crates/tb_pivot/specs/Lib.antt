@@ -3,6 +3,7 @@ pub mod Grid
 pub mod Headers
 pub mod Laws
 pub mod Lent
+pub mod Layout
 pub mod Lookup
 pub mod Made
 pub mod Pivot

@@ -2,6 +2,7 @@
 //! not written yet.
 #![tactic(auto)]
 
+mod blocks;
 mod cells;
 mod grid;
 mod headers;
@@ -9,6 +10,7 @@ pub mod laws;
 mod lookup;
 mod maker;
 mod naming;
+mod wide;
 
 pub use grid::grid_of;
 pub use headers::{block_name, brace_name, header_text};
