@@ -57,7 +57,7 @@ last_row : (p : ℕ → Bool) (n : ℕ) → IsRowOf n (last_below p n)
 last_row p n = at_last p n (IsRowOf n) (λ k low passes. low) (λ fail. cc)
 
 -- two places of a grid are one where their rows and columns are
-same_place : (h a b x y : ℕ) → a < h → x < h → eqb (b * h + a) (y * h + x) ≡ (eqb a x && eqb b y)
+pub same_place : (h a b x y : ℕ) → a < h → x < h → eqb (b * h + a) (y * h + x) ≡ (eqb a x && eqb b y)
 same_place h a b x y low under = by (eqb a x) refl (eqb b y) refl
   where
     by : (c : Bool) → eqb a x ≡ c → (d : Bool) → eqb b y ≡ d → eqb (b * h + a) (y * h + x) ≡ (c && d)

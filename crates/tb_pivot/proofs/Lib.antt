@@ -7,4 +7,5 @@ pub mod Members
 pub mod Named
 pub mod Placed
 pub mod Refused
+pub mod SameTable
 pub mod Texts

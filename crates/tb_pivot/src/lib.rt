@@ -10,6 +10,7 @@ pub mod laws;
 mod lookup;
 mod maker;
 mod naming;
+mod whole;
 mod wide;
 
 pub use grid::grid_of;
