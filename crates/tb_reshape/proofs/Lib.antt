@@ -1,0 +1,4 @@
+pub mod Back
+pub mod Lookups
+pub mod Places
+pub mod Stacked

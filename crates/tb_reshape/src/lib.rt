@@ -1,0 +1,4 @@
+//! Tables made long and wide again.
+#![tactic(auto)]
+
+pub mod laws;
