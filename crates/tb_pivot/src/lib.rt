@@ -1,9 +1,9 @@
-//! Tables made wide: what a pivot is, how its columns are called, and the columns that a request names. The call itself is
-//! not written yet.
+//! Tables made wide: what a pivot is, how its columns are called, the columns that a request names, and the call itself.
 #![tactic(auto)]
 
 mod blocks;
 mod cells;
+mod frame_pivot;
 mod grid;
 mod headers;
 pub mod laws;
@@ -13,6 +13,7 @@ mod naming;
 mod whole;
 mod wide;
 
+pub use frame_pivot::pivot_by;
 pub use grid::grid_of;
 pub use headers::{block_name, brace_name, header_text};
 pub use lookup::{RequestColumns, found};

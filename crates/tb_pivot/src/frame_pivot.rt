@@ -1,0 +1,78 @@
+//! The calls by which a table is made wide.
+ghost use Rattle.std.specs.Prelude.{◌≡◌, ◌++◌, IfOk};
+ghost use Rattle.std.specs.Option.{option_copied};
+ghost use Rattle.tb_value.specs.Refusals.{Settles, first_cause};
+ghost use Rattle.tb_frame.specs.Table.{table_of};
+ghost use Rattle.tb_pivot.specs.Lent.{lent_request};
+ghost use Rattle.tb_pivot.specs.Pivot.{pivot_table};
+ghost use Rattle.tb_pivot.specs.Refusal.{pivot_refusal};
+ghost use Rattle.tb_pivot.specs.Request.{separator_or};
+
+use crate::lookup::found;
+use crate::maker::CellMaker;
+use crate::naming::request_names;
+use crate::whole::wide_of_chunks;
+use std::alloc::Global;
+use tb_frame::DataFrame;
+use tb_value::{PlSmallStr, PolarsResult};
+
+fn given_separator<'a>(separator: Option<&'a str>) -> &'a str
+    ensures { result.now ≡ separator_or (option_copied separator.entry) }
+{
+    match separator {
+        Some(separator) => separator,
+        None => "_",
+    }
+}
+
+/// The table made wide: a row for each distinct row of the index columns, and for each value column a column for each
+/// distinct row of the columns `on`, in the order in which these rows stand first. A cell is what `maker` makes of the
+/// value column's rows with that index and that header, and Null where there are none. Its column is called by the
+/// header, and where there are several value columns by the value column's name, the separator (`_` where none is given)
+/// and the header. `sort_columns` puts the columns of each value column in the order of their names' bytes. The index
+/// columns stand first. Without value columns there is no column at all.
+///
+/// Where no index is given it is the columns that are neither in `on` nor in `values`; where no values are given they are
+/// the columns that are neither in `on` nor in `index`.
+///
+/// # Errors
+///
+/// The first of these that holds, or `OutOfMemory`:
+/// 1. `BothNone`: neither index nor values are given;
+/// 2. `EmptyIndex`: the index has no name;
+/// 3. `EmptyOn`: `on` has no name;
+/// 4. `ColumnNotFound`: a name is of no column, in `on`, then in the index, then in the values;
+/// 5. `Duplicate`: a name stands twice in `on` followed by the index, and then in the values;
+/// 6. `BraceName`: `on` has several names, and a column is called by them in quotes and braces;
+/// 7. `HeaderType`: a column of `on` is not of type Null, Boolean, a whole number or String;
+/// 8. `AggType`: `maker` doesn't take the type of a value column;
+/// 9. `ManyInGroup`: a cell is to have one row, there is a value column, and a cell has several rows;
+/// 10. `SumRange`: a sum is outside the range of its type;
+/// 11. `Evaluate` or `EvaluateLength`: a caller's object refused, or answered another number of values than there are
+///     cells with rows;
+/// 12. `Duplicate`: two columns of the answer would have this name.
+pub fn pivot_by<M: CellMaker>(
+    alloc: Global,
+    table: &DataFrame,
+    on: &[PlSmallStr],
+    index: Option<&[PlSmallStr]>,
+    values: Option<&[PlSmallStr]>,
+    sort_columns: bool,
+    maker: &M,
+    separator: Option<&str>,
+) -> PolarsResult<DataFrame>
+    ensures settles { Settles result (pivot_refusal (lent_request table.now on.now (option_copied index.entry) (option_copied values.entry) sort_columns (M.way maker.now) separator.entry)) }
+    ensures table { IfOk result (λ t. table_of t ≡ pivot_table (lent_request table.now on.now (option_copied index.entry) (option_copied values.entry) sort_columns (M.way maker.now) separator.entry)) }
+{
+    let names = request_names(alloc, table, on, index, values)?;
+    let columns = found(alloc, table, on, &names.index, &names.values, maker)?;
+    let height = table.height();
+    wide_of_chunks(
+        alloc,
+        height,
+        &columns,
+        maker,
+        sort_columns,
+        given_separator(separator),
+    )
+}
