@@ -113,6 +113,12 @@ some_blocks q (v ∷ vs) low = refl
 
 -- THE COLUMNS OF A LAYOUT
 
+-- values in one chunk make the same block
+pub whole_block : (l : Layout) (v made whole : Col) → whole ≡ record made { chunks = values made ∷ [] } → laid_block l v whole ≡ laid_block l v made
+whole_block l v made whole is =
+    let of : List Datum → List TableColumn = λ vs. map (λ y. record { name = block_name (length l.columns.now.values.items) l.separator.now v.name (get_or l.texts.items y []); kind = made.kind; values = map (value_or_null vs) (cells_under l.cells y) }) (row_numbers (length l.texts.items)) in
+    ap (laid_block l v) is ∙ ap (λ vs. cond l.sorts (in_order by_name (of vs)) (of vs)) (append-nil (values made))
+
 module _ (l : Layout) (h : IsLayout l) where
   abbrev lent_values : List (Bor Col)
   lent_values = l.columns.now.values.items

@@ -186,6 +186,24 @@ impl<'a, 'b> Layout<'a, 'b> {
         }
     }
 
+    // The same from values in any chunks, which are joined once where each header would join them anew.
+    fn block_of_chunks(
+        &self,
+        alloc: Global,
+        value: &Series,
+        made: &Series,
+    ) -> Result<Vec<Column>, OutOfMemory>
+        requires layout { IsLayout self.now }
+        requires made { length (values made.now) ≡ length self.now.cells.groups.firsts.items }
+        ensures { IfOk result (λ v. table_of v.items ≡ laid_block self.now value.now made.now) }
+    {
+        if made.n_chunks() == 1 {
+            return self.block(alloc, value, made);
+        }
+        let whole = made.rechunk(alloc)?;
+        self.block(alloc, value, &whole)
+    }
+
     // Puts the block of a value column behind others.
     fn push_block(
         &self,
@@ -198,7 +216,7 @@ impl<'a, 'b> Layout<'a, 'b> {
         requires made { length (values made.now) ≡ length self.now.cells.groups.firsts.items }
         ensures { OnOk result (table_of columns.new.items ≡ table_of columns.old.items ++ laid_block self.now value.now made.now) }
     {
-        let mut block = self.block(alloc, value, made)?;
+        let mut block = self.block_of_chunks(alloc, value, made)?;
         columns.append(&mut block)?;
         Ok(())
     }
