@@ -1,0 +1,37 @@
+-- Columns of a number for each row.
+use Rattle.std.proofs.Common.{◌≡◌, ◌∙◌, ℕ, ◌<◌, ℤ, pos, List, [], length, map, get_or, Option, Some, ap, sym, subst, arith, rules}
+use Rattle.std.specs.List.{All}
+use Rattle.std.proofs.lemmas.List.FromFn.{length-map-range_with_len, get_or-map-range_with_len}
+use Rattle.tb_value.specs.Datum.{Datum, int}
+use Rattle.tb_value.specs.Kind.{int64}
+use Rattle.tb_value.specs.Names.{Name}
+use Rattle.tb_value.specs.Pairs.{row_numbers}
+use Rattle.tb_value.specs.Typed.{HasType}
+use Rattle.tb_value.proofs.Loops.{map-map}
+use Rattle.tb_chunk.specs.Chunk.{or_null}
+use Rattle.tb_chunk.specs.Col.{Col}
+use Rattle.tb_frame.specs.Table.{IsTyped, plain}
+use Rattle.tb_sample.specs.Sample.{numbers}
+
+number_typed : (k : ℕ) → k < 9223372036854775808 → HasType int64 (int (pos k))
+number_typed k h = search rules
+
+-- numbers of 64 bits are of type Int64
+pub numbers_typed : (name : Name) (f : ℕ → ℕ) (n : ℕ) → ((i : ℕ) → i < n → f i < 9223372036854775808) → IsTyped (numbers name f n)
+numbers_typed name f n h = λ k d low.
+    let in_n : k < n = omega (arith, length-map-range_with_len (λ i. int (pos (f i))) 0 n) in
+    let at : get_or (map (λ i. int (pos (f i))) (row_numbers n)) k d ≡ int (pos (f k)) = get_or-map-range_with_len (λ i. int (pos (f i))) 0 n k k d in_n (omega arith) in
+    subst (HasType int64) (sym at) (number_typed (f k) (h k in_n))
+
+module _ (f : ℕ → ℕ) (n : ℕ) (cells : List (Option ℤ)) (are : cells ≡ map (λ i. Some (pos (f i))) (row_numbers n)) where
+  shown : map (or_null int) cells ≡ map (λ i. int (pos (f i))) (row_numbers n)
+  shown = ap (map (or_null int)) are ∙ map-map (or_null int) (λ i. Some (pos (f i))) (row_numbers n)
+
+  pub long : length cells ≡ n
+  long = ap length are ∙ length-map-range_with_len (λ i. Some (pos (f i))) 0 n
+
+  pub cells_typed : ((i : ℕ) → i < n → f i < 9223372036854775808) → All (HasType int64) (map (or_null int) cells)
+  cells_typed h = subst (λ (vs : List Datum). All (HasType int64) vs) (sym shown) (numbers_typed [] f n h)
+
+  pub column_is : (name : Name) (c : Col) → plain c ≡ record { name = name; kind = int64; values = map (or_null int) cells } → plain c ≡ numbers name f n
+  column_is name c e = e ∙ ap (λ (vs : List Datum). record { name = name; kind = int64; values = vs }) shown

@@ -1,0 +1,12 @@
+use Rattle.std.proofs.Common.{◌≡◌, map, take}
+use Rattle.tb_value.specs.Datum.{int}
+use Rattle.tb_chunk.specs.Chunk.{or_null}
+use Rattle.tb_agg.specs.Aggregates.{total}
+use Rattle.tb_sample.specs.Bounds.{IsSumOf}
+use Rattle.tb_sample.proofs.summary.cells_sum.Given as goal
+
+abbrev pub invariant-loop-cell : goal.invariant-loop-cell
+invariant-loop-cell l = record {
+  sum : l.sum ≡ total (map (or_null int) (take l.cell-index l.cells));
+  near : IsSumOf l.cell-index l.sum;
+}

@@ -1,0 +1,3 @@
+pub mod Sample
+pub mod Bounds
+pub mod Laws
