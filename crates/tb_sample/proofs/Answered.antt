@@ -49,14 +49,14 @@ module _ (n : ℕ) (left right : Name) (f g : ℕ → ℕ) where
       (All-cons IsTyped (numbers right g n) [] (numbers_typed right g n fits_g) (All-nil IsTyped))
 
 module _ (n : ℕ) (few : n ≤ MAX_ROWS) where
-  left_is : IsTable (left_table n)
+  pub left_is : IsTable (left_table n)
   left_is = record {
     distinct = distinct_names (codes "key" ∷ codes "v" ∷ []) refl;
     one_height = level n (codes "key") (codes "v") (λ i. i) (λ i. 3 * i);
     typed = two_typed n (codes "key") (codes "v") (λ i. i) (λ i. 3 * i) (λ i low. omega (arith, few)) (λ i low. omega (arith, few));
   }
 
-  right_is : IsTable (right_table n)
+  pub right_is : IsTable (right_table n)
   right_is = record {
     distinct = distinct_names (codes "key" ∷ codes "w" ∷ []) refl;
     one_height = level n (codes "key") (codes "w") (λ j. (7 * j) % n) (λ j. j);

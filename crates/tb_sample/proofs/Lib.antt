@@ -2,3 +2,4 @@ pub mod Numbers
 pub mod Totals
 pub mod Pairs
 pub mod Answered
+pub mod Exact

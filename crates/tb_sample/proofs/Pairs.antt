@@ -1,12 +1,11 @@
--- How many pairs the join has, and that nothing refuses it.
-use Rattle.std.proofs.Common.{◌≡◌, ◌∙◌, ◌==◌, ◌*◌, ◌%◌, ℕ, ◌+◌, ◌<◌, ◌≤◌, pos, Bool, true, false, List, length, map, get_or, refl, ap, sym, arith, eq-eqb}
-use Rattle.std.specs.Prelude.{filter, All, nat_lt, ◌&&◌}
+-- The pairs of the join, and that nothing refuses it.
+use Rattle.std.proofs.Common.{◌≡◌, ◌∙◌, ◌==◌, ◌*◌, ◌%◌, ℕ, zero, suc, ◌+◌, ◌<◌, ◌≤◌, pos, Bool, true, false, List, length, map, get_or, refl, ap, sym, arith, eq-eqb}
+use Rattle.std.specs.Prelude.{filter, sum_by, nat_lt, ◌&&◌}
+use Rattle.std.specs.List.{range_with_len}
 use Rattle.std.proofs.lemmas.Bool.{eqb-true, le-ltb}
-use Rattle.std.proofs.lemmas.List.{length-map}
-use Rattle.std.proofs.lemmas.List.Concat.{length-flat_map}
-use Rattle.std.proofs.lemmas.List.FromFn.{length-range_with_len, length-map-range_with_len, get_or-range_with_len, get_or-map-range_with_len}
-use Rattle.std.proofs.lemmas.List.Sorted.{length_permutation}
-use Rattle.std.proofs.lemmas.List.Sums.{length-filter, sum_by-le}
+use Rattle.std.proofs.lemmas.List.FromFn.{length-range_with_len, length-map-range_with_len, get_or-map-range_with_len}
+use Rattle.std.proofs.lemmas.List.Sorted.{sum_by-IsPermutation}
+use Rattle.std.proofs.lemmas.List.Sums.{sum_by-cons}
 use Rattle.tb_value.specs.Datum.{int, null}
 use Rattle.tb_value.specs.Pairs.{row_numbers, both, matched, turn}
 use Rattle.tb_value.specs.Proved.ValueTests.{same-Decides}
@@ -17,7 +16,7 @@ use Rattle.tb_value.specs.declared.error.ComputeCause.TheVariants.{TooManyRows}
 use Rattle.tb_value.specs.declared.error.PolarsError.TheVariants.{ComputeError}
 use Rattle.tb_value.specs.Refusals.{when}
 use Rattle.tb_value.proofs.Ascending.{matched-same}
-use Rattle.tb_value.proofs.Counts.{sum_one}
+use Rattle.tb_value.proofs.Counts.{sum_by-filter, sum_by-flat_map, sum_by-map, sum_by_ones, sum_one}
 use Rattle.tb_value.proofs.Loops.{turned_matches}
 use Rattle.tb_frame.specs.Join.{listing, matches}
 use Rattle.tb_frame.specs.Refusal.{join_valid, too_many_rows}
@@ -25,36 +24,37 @@ use Rattle.tb_frame.specs.Table.{height}
 use Rattle.tb_frame.proofs.Causes.{first_cause-one}
 use Rattle.tb_sample.specs.Sample.{left_table, right_table, request}
 
--- where each right row matches one left row alone, there are no more pairs than right rows
-module _ (l r : ℕ) (partner : ℕ → ℕ) where
-  meets : ℕ → ℕ → Bool
-  meets i j = partner j == i
+-- SUMS OVER PAIRS
 
-  lefts : ℕ → List JoinPair
-  lefts j = map (both j) (filter (λ i. meets i j) (row_numbers l))
+sum_by-rows : (f g : ℕ → ℕ) (a n : ℕ) → ((k : ℕ) → a ≤ k → k < a + n → f k ≡ g k) → sum_by f (range_with_len a n) ≡ sum_by g (range_with_len a n)
+sum_by-rows f g a zero h = refl
+sum_by-rows f g a (suc n) h =
+    let here = h a (omega arith) (omega arith) in
+    let rest = sum_by-rows f g (a + 1) n (λ k low high. h k (omega arith) (omega arith)) in
+    let one = sum_by-cons f a (range_with_len (a + 1) n) in
+    let other = sum_by-cons g a (range_with_len (a + 1) n) in
+    one ∙ omega (arith, here, rest) ∙ sym other
 
-  one_left : (j : ℕ) → partner j < l → length (lefts j) ≡ 1
-  unfolding lefts meets
-  one_left j low =
-      length-map (filter (λ i. meets i j) (row_numbers l)) (both j)
-      ∙ length-filter (λ i. meets i j) (row_numbers l)
-      ∙ sum_one (λ _. 1) (partner j) 0 l (omega arith) (omega arith)
+-- numbers that agree on the rows have one sum
+pub same_sum : (f g : ℕ → ℕ) (n : ℕ) → ((k : ℕ) → k < n → f k ≡ g k) → sum_by f (row_numbers n) ≡ sum_by g (row_numbers n)
+same_sum f g n h = sum_by-rows f g 0 n (λ k low high. h k (omega arith))
 
-  pub few_pairs : ((j : ℕ) → j < r → partner j < l) → length (matched l r (λ i j. partner j == i)) ≤ r
-  unfolding lefts meets
-  few_pairs below =
-      let turned : length (matched l r meets) ≡ length (matched r l (λ j i. meets i j)) =
-      length_permutation (map turn (matched r l (λ j i. meets i j))) (matched l r meets) (turned_matches l r meets) ∙ length-map (matched r l (λ j i. meets i j)) turn
+-- where each right row matches one left row alone, a sum over the pairs is one over the right rows
+module _ (l r : ℕ) (partner : ℕ → ℕ) (below : (j : ℕ) → j < r → partner j < l) (h : JoinPair → ℕ) where
+  pub sum_pairs : sum_by h (matched l r (λ i j. partner j == i)) ≡ sum_by (λ j. h (both (partner j) j)) (row_numbers r)
+  sum_pairs =
+      let lefts : ℕ → List JoinPair = λ j. map (both j) (filter (λ i. partner j == i) (row_numbers l)) in
+      let one : (j : ℕ) → j < r → sum_by (λ p. h (turn p)) (lefts j) ≡ h (both (partner j) j) = λ j low.
+      sum_by-map (λ p. h (turn p)) (both j) (filter (λ i. partner j == i) (row_numbers l))
+      ∙ sum_by-filter (λ i. h (both i j)) (λ i. partner j == i) (row_numbers l)
+      ∙ sum_one (λ i. h (both i j)) (partner j) 0 l (omega arith) (omega (arith, below j low))
       in
-      let rows : length (row_numbers r) ≡ r = length-range_with_len 0 r in
-      let each : All (λ j. length (lefts j) ≤ 1) (row_numbers r) = λ k d low.
-      let at : get_or (row_numbers r) k d ≡ 0 + k = get_or-range_with_len 0 r k d (omega arith) in
-      let one = one_left (get_or (row_numbers r) k d) (below (get_or (row_numbers r) k d) (omega arith)) in
-      omega (arith, one)
-      in
-      let sum = length-flat_map lefts (row_numbers r) in
-      let most = sum_by-le (λ j. length (lefts j)) 1 (row_numbers r) each in
-      omega (arith, turned, rows, sum, most)
+      sum_by-IsPermutation h (map turn (matched r l (λ j i. partner j == i))) (matched l r (λ i j. partner j == i)) (turned_matches l r (λ i j. partner j == i))
+      ∙ sum_by-map h turn (matched r l (λ j i. partner j == i))
+      ∙ sum_by-flat_map (λ p. h (turn p)) lefts (row_numbers r)
+      ∙ same_sum (λ j. sum_by (λ p. h (turn p)) (lefts j)) (λ j. h (both (partner j) j)) r one
+
+-- KEYS
 
 and_true : (b : Bool) → (b && true) ≡ b
 and_true true = refl
@@ -92,20 +92,29 @@ module _ (n : ℕ) where
   right_high : height (right_table n) ≡ n
   right_high = length-map-range_with_len (λ j. int (pos ((7 * j) % n))) 0 n
 
-  few_rows : length (listing (request n)) ≤ n
+  below : (j : ℕ) → j < height (right_table n) → key j < height (left_table n)
+  unfolding key
+  below j low = omega (arith, left_high, right_high)
+
+  -- the pairs that are listed
+  listing_is : listing (request n) ≡ matched (height (left_table n)) (height (right_table n)) (λ i j. key j == i)
   unfolding request key
-  few_rows =
-      let l : ℕ = height (left_table n) in
-      let r : ℕ = height (right_table n) in
-      let same : matched l r (matches (request n)) ≡ matched l r (λ i j. key j == i) =
-      matched-same l r (matches (request n)) (λ i j. key j == i) (λ i j low high. rows_match i j (omega (arith, left_high)) (omega (arith, right_high)))
-      in
-      let few = few_pairs l r key (λ j high. omega (arith, left_high, right_high)) in
-      let long = ap (λ (ps : List JoinPair). length ps) same in
-      omega (arith, few, long, right_high)
+  listing_is =
+      matched-same (height (left_table n)) (height (right_table n)) (matches (request n)) (λ i j. key j == i) (λ i j low high. rows_match i j (omega (arith, left_high)) (omega (arith, right_high)))
+
+  -- a sum over them is one over the right rows, each with its left row
+  pub sum_of_pairs : (h : JoinPair → ℕ) → sum_by h (listing (request n)) ≡ sum_by (λ j. h (both ((7 * j) % n) j)) (row_numbers n)
+  unfolding key
+  sum_of_pairs h =
+      ap (sum_by h) listing_is
+      ∙ sum_pairs (height (left_table n)) (height (right_table n)) key below h
+      ∙ ap (λ (r : ℕ). sum_by (λ j. h (both ((7 * j) % n) j)) (row_numbers r)) right_high
+
+  pub pairs_count : length (listing (request n)) ≡ n
+  pairs_count = sym (sum_by_ones (listing (request n))) ∙ sum_of_pairs (λ _. 1) ∙ sum_by_ones (row_numbers n) ∙ length-range_with_len 0 n
 
   pub valid : n ≤ MAX_ROWS → join_valid (request n)
   unfolding request
   valid few =
-      let small : nat_lt MAX_ROWS (length (listing (request n))) ≡ false = le-ltb MAX_ROWS (length (listing (request n))) (omega (arith, few_rows, few)) in
+      let small : nat_lt MAX_ROWS (length (listing (request n))) ≡ false = le-ltb MAX_ROWS (length (listing (request n))) (omega (arith, pairs_count, few)) in
       first_cause-one (too_many_rows (request n)) ∙ ap (λ (b : Bool). when b (ComputeError TooManyRows)) small
