@@ -1,14 +1,23 @@
 -- Columns that are flagged as ascending, and their one chunk.
-use Rattle.std.proofs.Common.{◌≡◌, ◌==◌, Bool, true, false, cond, ◌&&◌, List, [], ◌∷◌, length, refl, sym, ap, ◌∙◌, subst, arith, append-nil, eqb-true}
-use Rattle.std.specs.Prelude.{IsSorted as IsInOrder}
-use Rattle.tb_value.specs.Datum.{Datum, is_null}
+use Rattle.std.proofs.Common.{◌≡◌, ℕ, zero, suc, ◌<◌, ◌==◌, Bool, true, false, cond, ◌&&◌, ◌||◌, List, [], ◌∷◌, length, get_or, refl, sym, ap, ◌∙◌, subst, arith, append-nil, eqb-true}
+use Rattle.std.specs.Prelude.{IsSorted as IsInOrder, if◌then◌else◌}
+use Rattle.tb_value.specs.Datum.{Datum, null, is_null, is_present}
+use Rattle.tb_value.specs.Same.{agrees, same}
 use Rattle.tb_value.specs.Typed.{is_whole_physical}
 use Rattle.tb_value.specs.declared.sorted.IsSorted.{IsSorted}
 use Rattle.tb_value.specs.declared.sorted.IsSorted.TheVariants.{Ascending, Descending, Not}
 use Rattle.tb_chunk.specs.Col.{Col, IsColumn, flat, values}
 use Rattle.tb_chunk.specs.Flag.{FlagHolds, datum_cmp, nulls, present}
-use Rattle.tb_sorted.specs.Columns.{AreSortedKeys}
-use Rattle.tb_sorted.specs.Path.{is_flagged, is_merge_key}
+use Rattle.tb_frame.specs.declared.args.Direction.TheVariants.{ByLeft}
+use Rattle.tb_frame.specs.declared.args.JoinType.{JoinType}
+use Rattle.tb_frame.specs.declared.args.JoinType.TheVariants.{Left}
+use Rattle.tb_frame.proofs.Listings.{listing-same}
+use Rattle.tb_pool.specs.ExecView.{ExecView}
+use Rattle.tb_sorted.specs.Columns.{AreMergeKeys, MayMerge, value_listing}
+use Rattle.tb_sorted.specs.Keys.{kind_of_merge}
+use Rattle.tb_sorted.specs.Path.{have_order, is_flagged, is_inner, is_merge_key, is_worth, order_after, sorted_first}
+use Rattle.tb_sorted.specs.declared.path.SortedFirst.{SortedFirst}
+use Rattle.tb_sorted.specs.declared.path.SortedFirst.TheVariants as the
 
 pub first_of : (a b : Bool) → (a && b) ≡ true → a ≡ true
 first_of true b e = refl
@@ -35,20 +44,78 @@ flag_is Ascending e = refl
 flag_is Descending e = absurd (cc)
 flag_is Not e = absurd (cc)
 
--- the values of a flagged key are keys that ascend
-pub flagged_keys : (c : Col) → IsColumn c → is_merge_key c ≡ true → is_flagged c.flag ≡ true → AreSortedKeys (values c)
-flagged_keys c column key flagged =
-    let none : length (nulls (values c)) ≡ 0 = eqb-true (length (nulls (values c))) 0 (second_of (is_whole_physical c.kind) (length (nulls (values c)) == 0) key) in
+-- a key that can be merged has no Null
+pub no_nulls : (c : Col) → is_merge_key c ≡ true → length (nulls (values c)) ≡ 0
+no_nulls c key = eqb-true (length (nulls (values c))) 0 (second_of (is_whole_physical c.kind) (length (nulls (values c)) == 0) key)
+
+pub merge_keys : (c : Col) → IsColumn c → is_merge_key c ≡ true → AreMergeKeys (values c)
+merge_keys c column key = record { present = no_nulls c key; few = column.short }
+
+-- and ascends where it is flagged
+flagged_ascend : (c : Col) → IsColumn c → is_merge_key c ≡ true → is_flagged c.flag ≡ true → IsInOrder datum_cmp (values c)
+flagged_ascend c column key flagged =
     let ordered : FlagHolds Ascending c.kind (values c) = subst (λ (f : IsSorted). FlagHolds f c.kind (values c)) (flag_is c.flag flagged) column.flag_holds in
-    record { present = none; ascends = subst (IsInOrder datum_cmp) (all_present (values c) none) ordered.1; few = column.short }
+    subst (IsInOrder datum_cmp) (all_present (values c) (no_nulls c key)) ordered.1
+
+-- two keys that have the order for a merge, one of which may be sorted first
+abbrev pub first_by : Bool → Bool → SortedFirst
+first_by left right = (if left then (if right then the.Neither else the.Right) else the.Left)
+
+module _ (us vs : List Datum) where
+  by_flags : (keep a b x y : Bool) → (a ≡ true → IsInOrder datum_cmp us) → (b ≡ true → IsInOrder datum_cmp vs)
+      → ((a && b) || ((a && x) || (is_inner (kind_of_merge keep) && b && y))) ≡ true → MayMerge (first_by a b) keep us vs
+  by_flags keep true true x y l r h = (l refl, r refl)
+  by_flags keep true false x y l r h = l refl
+  by_flags false false true x y l r h = (refl, r refl)
+  by_flags true false true x y l r h = absurd (cc)
+  by_flags true false false x y l r h = absurd (cc)
+  by_flags false false false x y l r h = absurd (cc)
+
+pub may_merge : (keep : Bool) (exec : ExecView) (l r : Col) → IsColumn l → IsColumn r → is_merge_key l ≡ true → is_merge_key r ≡ true → have_order (kind_of_merge keep) exec l r ≡ true
+    → MayMerge (sorted_first l r) keep (values l) (values r)
+may_merge keep exec l r left right left_key right_key h =
+    by_flags (values l) (values r) keep (is_flagged l.flag) (is_flagged r.flag) (is_worth exec (length (values r)) (length (values l))) (is_worth exec (length (values l)) (length (values r)))
+    (flagged_ascend l left left_key) (flagged_ascend r right right_key) h
+
+-- where the left rows without a match are kept, the pairs stand by left rows
+left_first_by : (a b x y : Bool) → ((a && b) || ((a && x) || (false && b && y))) ≡ true → order_after (first_by a b) ≡ ByLeft
+left_first_by true true x y h = refl
+left_first_by true false x y h = refl
+left_first_by false b x y h = absurd (cc)
+
+pub by_left : (exec : ExecView) (l r : Col) → have_order Left exec l r ≡ true → order_after (sorted_first l r) ≡ ByLeft
+by_left exec l r h = left_first_by (is_flagged l.flag) (is_flagged r.flag) (is_worth exec (length (values r)) (length (values l))) (is_worth exec (length (values l)) (length (values r))) h
+
+-- Nulls that aren't there match or not
+none_null : (vs : List Datum) → length (nulls vs) ≡ 0 → (i : ℕ) → i < length vs → is_null (get_or vs i null) ≡ false
+none_null [] none i low = absurd (omega arith)
+none_null (v ∷ vs) none i low = at (is_null v) refl i low (none_null vs)
+  where
+    at : (b : Bool) → is_null v ≡ b → (i : ℕ) → i < length (v ∷ vs) → (length (nulls vs) ≡ 0 → (k : ℕ) → k < length vs → is_null (get_or vs k null) ≡ false) → is_null (get_or (v ∷ vs) i null) ≡ false
+    at true e i low rest = absurd (let c : length (v ∷ nulls vs) ≡ 0 = ap (λ (b : Bool). length (cond b (v ∷ nulls vs) (nulls vs))) (sym e) ∙ none in omega (arith, c))
+    at false e zero low rest = e
+    at false e (suc i) low rest = rest (ap (λ (b : Bool). length (cond b (v ∷ nulls vs) (nulls vs))) (sym e) ∙ none) i (omega arith)
+
+pub nulls_apart : (null_matches : Bool) (how : JoinType) (us vs : List Datum) → length (nulls us) ≡ 0 → value_listing false how us vs ≡ value_listing null_matches how us vs
+nulls_apart null_matches how us vs none =
+    listing-same how (length us) (length vs) (λ i j. agrees false (get_or us i null) (get_or vs j null)) (λ i j. agrees null_matches (get_or us i null) (get_or vs j null))
+    (λ i j low under.
+    let a : Datum = get_or us i null in
+    let b : Datum = get_or vs j null in
+    let no : is_null a ≡ false = none_null us none i low in
+    let here : Bool = is_present a && is_present b && same a b in
+    ◌∙◌ {A = Bool} (λ t. here || (no t && is_null b && false)) (λ t. here || (sym no t && is_null b && null_matches)))
 
 -- a list alone
 pub alone : (vs : List Datum) → flat (vs ∷ []) ≡ vs
 alone vs = append-nil vs
 
 -- the same of the chunk that it has
-pub lone_keys : (c : Col) (lists : List (List Datum)) → lists ≡ values c ∷ [] → AreSortedKeys (values c) → AreSortedKeys (flat lists)
-lone_keys c lists is keys = subst AreSortedKeys (sym (ap flat is ∙ alone (values c))) keys
+pub lone_list : (c : Col) (lists : List (List Datum)) → lists ≡ values c ∷ [] → flat lists ≡ values c
+lone_list c lists is = ap flat is ∙ alone (values c)
+
+pub lone_keys : (c : Col) (lists : List (List Datum)) → lists ≡ values c ∷ [] → AreMergeKeys (values c) → AreMergeKeys (flat lists)
+lone_keys c lists is keys = subst AreMergeKeys (sym (lone_list c lists is)) keys
 
 -- one list of values is all of them
 pub only_list : (lists : List (List Datum)) → length lists ≡ 1 → lists ≡ flat lists ∷ []

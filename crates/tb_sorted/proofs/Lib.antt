@@ -2,3 +2,4 @@ pub mod Numbers
 pub mod Flagged
 pub mod Turned
 pub mod OneKey
+pub mod Places

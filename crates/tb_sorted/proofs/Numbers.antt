@@ -1,5 +1,5 @@
 -- Stored keys, their values and the whole numbers that they are.
-use Rattle.std.proofs.Common.{◌≡◌, ℕ, ◌+◌, ◌<◌, ◌≤◌, Bool, true, false, cond, ◌||◌, List, [], ◌∷◌, length, get_or, map, refl, sym, ap, ap₂, ◌∙◌, subst, arith, append-nil, ℤ, pos, Option, Some, None, Result}
+use Rattle.std.proofs.Common.{◌≡◌, ℕ, ◌+◌, ◌<◌, Bool, true, false, cond, ◌||◌, List, [], ◌∷◌, length, get_or, map, refl, sym, ap, ap₂, ◌∙◌, subst, arith, append-nil, ℤ, pos, Option, Some, None, Result}
 use Rattle.std.specs.Prelude.{IsSorted}
 use Rattle.std.specs.Ordering.{is_lt, int_cmp, int_eq}
 use Rattle.std.specs.declared.cmp.Ordering.{Ordering}
@@ -9,16 +9,15 @@ use Rattle.tb_value.specs.Datum.{Datum, null, int, is_null}
 use Rattle.tb_value.specs.Same.{agrees}
 use Rattle.tb_value.specs.declared.error.PolarsError.{PolarsError}
 use Rattle.tb_value.specs.declared.index.JoinPair.{JoinPair}
-use Rattle.tb_value.specs.declared.limits.TheConstants.{MAX_ROWS}
 use Rattle.tb_chunk.specs.Chunk.{or_null}
 use Rattle.tb_chunk.specs.Col.{flat}
 use Rattle.tb_chunk.specs.Flag.{datum_cmp, nulls}
-use Rattle.tb_chunk.specs.declared.chunk.Cells.{Cells}
+use Rattle.tb_frame.specs.declared.args.Direction.{Direction}
 use Rattle.tb_frame.specs.declared.args.JoinType.{JoinType}
 use Rattle.tb_frame.specs.Join.{listing_of}
 use Rattle.tb_frame.proofs.Listings.{listing-same}
 use Rattle.tb_merge.specs.Keys.{keys_match}
-use Rattle.tb_sorted.specs.Columns.{AreSortedKeys, cell_lists, value_listing}
+use Rattle.tb_sorted.specs.Columns.{AreMergeKeys, value_listing}
 use Rattle.tb_sorted.specs.Keys.{kind_of_merge, number_listing, number_or_zero}
 use Rattle.tb_sorted.specs.Listed.{IsMerged}
 
@@ -67,29 +66,17 @@ module _ {N : Type 0} (shows : N → Datum) (number : N → ℤ) (law : (x : N) 
       let later : length rest ≡ 0 = ap (λ (v : Datum). length (cond (is_null v) (shows x ∷ rest) rest)) (sym (law x)) ∙ none in
       λ t. law x t ∷ shown_numbers cells later t
 
-  -- the cells of one chunk
-  module _ (chunks : List (Cells N)) (cells : List (Option N)) (is : flat (cell_lists shows chunks) ≡ map (or_null shows) cells) (keys : AreSortedKeys (flat (cell_lists shows chunks))) where
-    pub chunk_numbers : flat (cell_lists shows chunks) ≡ map int (numbers cells)
-    chunk_numbers = is ∙ shown_numbers cells (sym (ap (λ (vs : List Datum). length (nulls vs)) is) ∙ keys.present)
+  -- cells that are keys
+  module _ (cells : List (Option N)) (keys : AreMergeKeys (map (or_null shows) cells)) where
+    pub cell_numbers : map (or_null shows) cells ≡ map int (numbers cells)
+    cell_numbers = shown_numbers cells keys.present
 
-    pub numbers_ascend : IsSorted int_cmp (numbers cells)
-    numbers_ascend = sorted_back int int_cmp datum_cmp (λ x y. refl) (numbers cells) (subst (IsSorted datum_cmp) chunk_numbers keys.ascends)
-
-    pub numbers_few : length (numbers cells) ≤ MAX_ROWS
-    numbers_few =
-        let long : length (flat (cell_lists shows chunks)) ≡ length (numbers cells) = ap (λ (vs : List Datum). length vs) chunk_numbers ∙ length-map (numbers cells) int in
-        let few = keys.few in
-        omega (arith, long, few)
+    pub numbers_ascend : IsSorted datum_cmp (map (or_null shows) cells) → IsSorted int_cmp (numbers cells)
+    numbers_ascend s = sorted_back int int_cmp datum_cmp (λ x y. refl) (numbers cells) (subst (IsSorted datum_cmp) cell_numbers s)
 
 -- what was merged of numbers was merged of the values
-pub merged_values : {A : Type 0} (null_matches keep : Bool) (us vs : List Datum) (ls rs : List ℤ) (answer : Result (Vec JoinPair A) PolarsError) → us ≡ map int ls → vs ≡ map int rs
-    → IsMerged (number_listing keep ls rs) answer → IsMerged (value_listing null_matches (kind_of_merge keep) us vs) answer
-merged_values null_matches keep us vs ls rs answer is_left is_right h =
-    subst (λ (ps : List JoinPair). IsMerged ps answer)
-    (sym (◌∙◌ {A = List JoinPair} (λ t. value_listing null_matches (kind_of_merge keep) (is_left t) (is_right t)) (numbers_listed null_matches (kind_of_merge keep) ls rs))) h
-
--- of the values of chunks
-pub merged_lists : {A : Type 0} (null_matches keep : Bool) (answer : Result (Vec JoinPair A) PolarsError) (a b us vs : List (List Datum)) → a ≡ us → b ≡ vs
-    → IsMerged (value_listing null_matches (kind_of_merge keep) (flat a) (flat b)) answer → IsMerged (value_listing null_matches (kind_of_merge keep) (flat us) (flat vs)) answer
-merged_lists null_matches keep answer a b us vs e f h =
-    subst (λ (ps : List JoinPair). IsMerged ps answer) (λ t. value_listing null_matches (kind_of_merge keep) (flat (e t)) (flat (f t))) h
+pub merged_values : {A : Type 0} (order : Direction) (keep : Bool) (us vs : List Datum) (ls rs : List ℤ) (answer : Result (Vec JoinPair A) PolarsError) → us ≡ map int ls → vs ≡ map int rs
+    → IsMerged order (number_listing keep ls rs) answer → IsMerged order (value_listing false (kind_of_merge keep) us vs) answer
+merged_values order keep us vs ls rs answer is_left is_right h =
+    subst (λ (ps : List JoinPair). IsMerged order ps answer)
+    (sym (◌∙◌ {A = List JoinPair} (λ t. value_listing false (kind_of_merge keep) (is_left t) (is_right t)) (numbers_listed false (kind_of_merge keep) ls rs))) h

@@ -20,12 +20,13 @@ use Rattle.tb_frame.specs.Join.{field, listing, listing_of}
 use Rattle.tb_frame.specs.Refusal.{asks_left, asks_right, is_validated, row_causes}
 use Rattle.tb_frame.specs.Table.{height, table_of}
 use Rattle.tb_frame.proofs.Causes.{first_cause-one}
+use Rattle.tb_pool.specs.ExecView.{ExecView}
 use Rattle.tb_keys.specs.Asked.{asked}
 use Rattle.tb_keys.specs.Rows.{HasRows}
 use Rattle.tb_keys.specs.declared.request.LentRequest.{LentRequest}
 use Rattle.tb_sorted.specs.Columns.{value_listing}
 use Rattle.tb_sorted.specs.Keys.{too_long}
-use Rattle.tb_sorted.specs.Path.{are_flagged, asks_nothing, has_merge, is_merge_key, takes_flagged_path, takes_path_by}
+use Rattle.tb_sorted.specs.Path.{are_ordered, asks_nothing, has_merge, is_merge_key, takes_key_path, takes_path_by}
 use Rattle.tb_sorted.proofs.Flagged.{first_of, second_of}
 
 pub one_column : (rs : List (Bor Col)) (d : Bor Col) → length rs ≡ 1 → lent_columns rs ≡ (get_or rs 0 d).now ∷ []
@@ -34,35 +35,35 @@ one_column (s ∷ []) d one = refl
 one_column (s ∷ u ∷ rs) d one = absurd (omega arith)
 
 -- keys that are merged are one on each side
-pub one_each : (how : JoinType) (validation : JoinValidation) (ls rs : List (Bor Col)) → takes_path_by how validation (lent_columns ls) (lent_columns rs) ≡ true → (length ls ≡ 1) × (length rs ≡ 1)
-one_each how validation [] rs e = absurd (cc)
-one_each how validation (l ∷ m ∷ ls) rs e = absurd (cc)
-one_each how validation (l ∷ []) [] e = absurd (cc)
-one_each how validation (l ∷ []) (r ∷ s ∷ rs) e = absurd (cc)
-one_each how validation (l ∷ []) (r ∷ []) e = (refl, refl)
+pub one_each : (how : JoinType) (validation : JoinValidation) (exec : ExecView) (ls rs : List (Bor Col)) → takes_path_by how validation exec (lent_columns ls) (lent_columns rs) ≡ true → (length ls ≡ 1) × (length rs ≡ 1)
+one_each how validation exec [] rs e = absurd (cc)
+one_each how validation exec (l ∷ m ∷ ls) rs e = absurd (cc)
+one_each how validation exec (l ∷ []) [] e = absurd (cc)
+one_each how validation exec (l ∷ []) (r ∷ s ∷ rs) e = absurd (cc)
+one_each how validation exec (l ∷ []) (r ∷ []) e = (refl, refl)
 
 -- and their path is taken
-path_of_keys : (how : JoinType) (validation : JoinValidation) (ls rs : List (Bor Col)) (d e : Bor Col) → takes_path_by how validation (lent_columns ls) (lent_columns rs) ≡ true
-    → takes_flagged_path how validation (get_or ls 0 d).now (get_or rs 0 e).now ≡ true
-path_of_keys how validation [] rs d e h = absurd (cc)
-path_of_keys how validation (l ∷ m ∷ ls) rs d e h = absurd (cc)
-path_of_keys how validation (l ∷ []) [] d e h = absurd (cc)
-path_of_keys how validation (l ∷ []) (r ∷ s ∷ rs) d e h = absurd (cc)
-path_of_keys how validation (l ∷ []) (r ∷ []) d e h = h
+path_of_keys : (how : JoinType) (validation : JoinValidation) (exec : ExecView) (ls rs : List (Bor Col)) (d e : Bor Col) → takes_path_by how validation exec (lent_columns ls) (lent_columns rs) ≡ true
+    → takes_key_path how validation exec (get_or ls 0 d).now (get_or rs 0 e).now ≡ true
+path_of_keys how validation exec [] rs d e h = absurd (cc)
+path_of_keys how validation exec (l ∷ m ∷ ls) rs d e h = absurd (cc)
+path_of_keys how validation exec (l ∷ []) [] d e h = absurd (cc)
+path_of_keys how validation exec (l ∷ []) (r ∷ s ∷ rs) d e h = absurd (cc)
+path_of_keys how validation exec (l ∷ []) (r ∷ []) d e h = h
 
 -- what it means that the path of two keys is taken
-pub record IsTaken (how : JoinType) (validation : JoinValidation) (l r : Col) : Type 0 where
+pub record IsTaken (how : JoinType) (validation : JoinValidation) (exec : ExecView) (l r : Col) : Type 0 where
   pub merges : has_merge how ≡ true
   pub nothing : asks_nothing validation ≡ true
   pub left : is_merge_key l ≡ true
   pub right : is_merge_key r ≡ true
-  pub flagged : are_flagged l r ≡ true
+  pub ordered : are_ordered how exec l r ≡ true
 
-taken_parts : (how : JoinType) (validation : JoinValidation) (l r : Col) → takes_flagged_path how validation l r ≡ true → IsTaken how validation l r
-taken_parts how validation l r h =
+taken_parts : (how : JoinType) (validation : JoinValidation) (exec : ExecView) (l r : Col) → takes_key_path how validation exec l r ≡ true → IsTaken how validation exec l r
+taken_parts how validation exec l r h =
     let m = has_merge how in
     let n = asks_nothing validation in
-    let keys = first_of (m && n && is_merge_key l && is_merge_key r) (are_flagged l r) h in
+    let keys = first_of (m && n && is_merge_key l && is_merge_key r) (are_ordered how exec l r) h in
     let one = first_of (m && n && is_merge_key l) (is_merge_key r) keys in
     let asked = first_of (m && n) (is_merge_key l) one in
     record {
@@ -70,12 +71,12 @@ taken_parts how validation l r h =
       nothing = second_of m n asked;
       left = second_of (m && n) (is_merge_key l) one;
       right = second_of (m && n && is_merge_key l) (is_merge_key r) keys;
-      flagged = second_of (m && n && is_merge_key l && is_merge_key r) (are_flagged l r) h;
+      ordered = second_of (m && n && is_merge_key l && is_merge_key r) (are_ordered how exec l r) h;
     }
 
-pub taken_keys : (how : JoinType) (validation : JoinValidation) (ls rs : List (Bor Col)) (d e : Bor Col) → takes_path_by how validation (lent_columns ls) (lent_columns rs) ≡ true
-    → IsTaken how validation (get_or ls 0 d).now (get_or rs 0 e).now
-taken_keys how validation ls rs d e h = taken_parts how validation (get_or ls 0 d).now (get_or rs 0 e).now (path_of_keys how validation ls rs d e h)
+pub taken_keys : (how : JoinType) (validation : JoinValidation) (exec : ExecView) (ls rs : List (Bor Col)) (d e : Bor Col) → takes_path_by how validation exec (lent_columns ls) (lent_columns rs) ≡ true
+    → IsTaken how validation exec (get_or ls 0 d).now (get_or rs 0 e).now
+taken_keys how validation exec ls rs d e h = taken_parts how validation exec (get_or ls 0 d).now (get_or rs 0 e).now (path_of_keys how validation exec ls rs d e h)
 
 -- the listing of their values is that of the request
 and_true : (b : Bool) → b ≡ (b && true)

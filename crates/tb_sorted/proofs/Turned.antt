@@ -16,6 +16,10 @@ use Rattle.tb_frame.proofs.Turns.{agrees_symm, turned_listing}
 use Rattle.tb_sorted.specs.Columns.{value_listing}
 use Rattle.tb_sorted.specs.Keys.{too_long}
 
+-- lists of one length are both too long, or neither
+pub as_long : (ps qs : List JoinPair) → length ps ≡ length qs → too_long ps ≡ too_long qs
+as_long ps qs e = ap (λ (n : ℕ). when (nat_lt MAX_ROWS n) (ComputeError TooManyRows)) e
+
 module _ (null_matches : Bool) (us vs : List Datum) where
   exchanged_listing : IsPermutation (map turn (value_listing null_matches Left vs us)) (value_listing null_matches Right us vs)
   exchanged_listing =
@@ -34,7 +38,7 @@ module _ (null_matches : Bool) (us vs : List Datum) where
       ∙ sym (length_permutation (map turn (value_listing null_matches Left vs us)) (value_listing null_matches Right us vs) exchanged_listing)
 
   pub too_long_turned : too_long (value_listing null_matches Left vs us) ≡ too_long (value_listing null_matches Right us vs)
-  too_long_turned = ap (λ (n : ℕ). when (nat_lt MAX_ROWS n) (ComputeError TooManyRows)) as_many_turned
+  too_long_turned = as_long (value_listing null_matches Left vs us) (value_listing null_matches Right us vs) as_many_turned
 
 -- IN PLACE
 
@@ -42,7 +46,14 @@ module _ (null_matches : Bool) (us vs : List Datum) where
 abbrev pub mapped_so_far : {X : Type 0} → (X → X) → ℕ → List X → List X
 mapped_so_far f i xs = map f (take i xs) ++ drop i xs
 
-mapped_long : {X : Type 0} (f : X → X) (xs : List X) (i : ℕ) → length (mapped_so_far f i xs) ≡ length xs
+-- the one at the index isn't yet
+pub mapped_here : {X : Type 0} (f : X → X) (xs : List X) (i : ℕ) (d : X) → get_or (mapped_so_far f i xs) i d ≡ get_or xs i d
+mapped_here f [] zero d = refl
+mapped_here f [] (suc i) d = refl
+mapped_here f (x ∷ xs) zero d = refl
+mapped_here f (x ∷ xs) (suc i) d = mapped_here f xs i d
+
+pub mapped_long : {X : Type 0} (f : X → X) (xs : List X) (i : ℕ) → length (mapped_so_far f i xs) ≡ length xs
 mapped_long f [] zero = refl
 mapped_long f [] (suc i) = refl
 mapped_long f (x ∷ xs) zero = refl

@@ -1,5 +1,5 @@
 -- Key columns, and the pairs of two by their values.
-use Rattle.std.specs.Prelude.{◌≡◌, Bool, ◌≤◌, List, [], ◌∷◌, length, map, slice_index_or, Option, Some, None}
+use Rattle.std.specs.Prelude.{◌≡◌, Bool, false, ◌≤◌, List, [], ◌∷◌, length, map, slice_index_or, Option, Some, None}
 use Rattle.std.specs.Prelude.{IsSorted as IsInOrder}
 use Rattle.tb_value.specs.Datum.{Datum, null}
 use Rattle.tb_value.specs.Same.{agrees}
@@ -11,16 +11,23 @@ use Rattle.tb_chunk.specs.Flag.{datum_cmp, nulls}
 use Rattle.tb_chunk.specs.declared.chunk.Cells.{Cells}
 use Rattle.tb_frame.specs.declared.args.JoinType.{JoinType}
 use Rattle.tb_frame.specs.Join.{listing_of}
+use Rattle.tb_sorted.specs.declared.path.SortedFirst.{SortedFirst}
+use Rattle.tb_sorted.specs.declared.path.SortedFirst.TheVariants as the
 
 -- the values of each chunk, of cells that show themselves so
 abbrev pub cell_lists : {N : Type 0} → (N → Datum) → List (Cells N) → List (List Datum)
 cell_lists shows chunks = map (λ c. map (or_null shows) c.cells.items) chunks
 
--- keys that ascend, none of which is Null
-pub record AreSortedKeys (vs : List Datum) : Type 0 where
+-- keys, none of which is Null
+pub record AreMergeKeys (vs : List Datum) : Type 0 where
   pub present : length (nulls vs) ≡ 0
-  pub ascends : IsInOrder datum_cmp vs
   pub few : length vs ≤ MAX_ROWS
+
+-- The side that isn't sorted first ascends, or both do where none is. The left one is sorted only where its rows without a match are dropped
+abbrev pub MayMerge : SortedFirst → Bool → List Datum → List Datum → Type 0
+MayMerge the.Neither keep us vs = IsInOrder datum_cmp us × IsInOrder datum_cmp vs
+MayMerge the.Right keep us vs = IsInOrder datum_cmp us
+MayMerge the.Left keep us vs = (keep ≡ false) × IsInOrder datum_cmp vs
 
 -- the listing of two columns by their values
 abbrev pub value_listing : Bool → JoinType → List Datum → List Datum → List JoinPair

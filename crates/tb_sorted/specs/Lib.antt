@@ -1,4 +1,5 @@
 pub mod Keys
+pub mod SortedRows
 pub mod Columns
 pub mod Path
 pub mod Listed

@@ -1,5 +1,5 @@
 -- When keys are merged and not hashed.
-use Rattle.std.specs.Prelude.{◌==◌, Bool, true, false, ◌&&◌, List, [], ◌∷◌, length}
+use Rattle.std.specs.Prelude.{ℕ, ◌==◌, ◌*◌, nat_lt, Bool, true, false, ◌&&◌, ◌||◌, if◌then◌else◌, List, [], ◌∷◌, length}
 use Rattle.tb_value.specs.Typed.{is_whole_physical}
 use Rattle.tb_value.specs.declared.sorted.IsSorted.{IsSorted}
 use Rattle.tb_value.specs.declared.sorted.IsSorted.TheVariants.{Ascending, Descending, Not}
@@ -10,7 +10,12 @@ use Rattle.tb_frame.specs.declared.args.JoinType.{JoinType}
 use Rattle.tb_frame.specs.declared.args.JoinType.TheVariants.{Inner, Left, Right, Full, Semi, Anti}
 use Rattle.tb_frame.specs.declared.args.JoinValidation.{JoinValidation}
 use Rattle.tb_frame.specs.declared.args.JoinValidation.TheVariants.{ManyToMany, ManyToOne, OneToMany, OneToOne}
+use Rattle.tb_frame.specs.declared.args.Direction.{Direction}
+use Rattle.tb_frame.specs.declared.args.Direction.TheVariants.{Free, ByLeft}
+use Rattle.tb_pool.specs.ExecView.{ExecView}
 use Rattle.tb_keys.specs.declared.request.LentRequest.{LentRequest}
+use Rattle.tb_sorted.specs.declared.path.SortedFirst.{SortedFirst}
+use Rattle.tb_sorted.specs.declared.path.SortedFirst.TheVariants as the
 
 -- Inner, Left and Right joins are merged
 abbrev pub has_merge : JoinType → Bool
@@ -37,20 +42,53 @@ is_flagged Not = false
 abbrev pub is_merge_key : Col → Bool
 is_merge_key c = is_whole_physical c.kind && length (nulls (values c)) == 0
 
--- both keys are flagged as ascending
-abbrev pub are_flagged : Col → Col → Bool
-are_flagged left right = is_flagged left.flag && is_flagged right.flag
+-- sorting so many rows is worth it beside so many that ascend
+abbrev pub is_worth : ExecView → ℕ → ℕ → Bool
+is_worth exec rows ascending = nat_lt (rows * exec.den) (exec.num * ascending)
 
--- two keys are merged: nothing is asked of them, both can be, and both are flagged
-abbrev pub takes_flagged_path : JoinType → JoinValidation → Col → Col → Bool
-takes_flagged_path how validation left right =
-    has_merge how && asks_nothing validation && is_merge_key left && is_merge_key right && are_flagged left right
+abbrev pub is_inner : JoinType → Bool
+is_inner Inner = true
+is_inner Left = false
+is_inner Right = false
+is_inner Full = false
+is_inner Semi = false
+is_inner Anti = false
+
+-- Both keys are flagged as ascending. Or the left one is, and the right one is worth sorting. Or, in an Inner join, the right
+-- one is, and the left one is worth sorting
+abbrev pub have_order : JoinType → ExecView → Col → Col → Bool
+have_order how exec left right =
+    (is_flagged left.flag && is_flagged right.flag)
+    || ((is_flagged left.flag && is_worth exec (length (values right)) (length (values left)))
+    || (is_inner how && is_flagged right.flag && is_worth exec (length (values left)) (length (values right))))
+
+-- a Right join is judged with its sides exchanged
+abbrev pub are_ordered : JoinType → ExecView → Col → Col → Bool
+are_ordered Inner exec left right = have_order Inner exec left right
+are_ordered Left exec left right = have_order Left exec left right
+are_ordered Right exec left right = have_order Right exec right left
+are_ordered how exec left right = false
+
+-- two keys are merged: nothing is asked of them, both can be, and they have the order for it
+abbrev pub takes_key_path : JoinType → JoinValidation → ExecView → Col → Col → Bool
+takes_key_path how validation exec left right =
+    has_merge how && asks_nothing validation && is_merge_key left && is_merge_key right && are_ordered how exec left right
 
 -- one key on each side
-abbrev pub takes_path_by : JoinType → JoinValidation → List Col → List Col → Bool
-takes_path_by how validation (l ∷ []) (r ∷ []) = takes_flagged_path how validation l r
-takes_path_by how validation _ _ = false
+abbrev pub takes_path_by : JoinType → JoinValidation → ExecView → List Col → List Col → Bool
+takes_path_by how validation exec (l ∷ []) (r ∷ []) = takes_key_path how validation exec l r
+takes_path_by how validation exec _ _ = false
 
 -- whether the keys of a request are merged
-abbrev pub takes_merge_path : LentRequest → Bool
-takes_merge_path r = takes_path_by r.how r.args.now.validation (lent_columns r.left_keys.now) (lent_columns r.right_keys.now)
+abbrev pub takes_merge_path : LentRequest → ExecView → Bool
+takes_merge_path r exec = takes_path_by r.how r.args.now.validation exec (lent_columns r.left_keys.now) (lent_columns r.right_keys.now)
+
+-- which of two such keys is sorted first: one that isn't flagged
+abbrev pub sorted_first : Col → Col → SortedFirst
+sorted_first left right = (if is_flagged left.flag then (if is_flagged right.flag then the.Neither else the.Right) else the.Left)
+
+-- the order in which the pairs stand then
+abbrev pub order_after : SortedFirst → Direction
+order_after the.Neither = ByLeft
+order_after the.Right = ByLeft
+order_after the.Left = Free

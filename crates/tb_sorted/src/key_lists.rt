@@ -5,6 +5,7 @@ ghost use Rattle.tb_sorted.specs.Keys.{number_or_zero};
 
 use crate::cells::WholeCell;
 use std::marker::Sync;
+use tb_value::IdxSize;
 
 /// A list of keys, each a whole number.
 pub(crate) trait KeyList: Sync {
@@ -39,5 +40,25 @@ impl<N: WholeCell> KeyList for LentCells<'_, N> {
             None => 0,
             Some(cell) => cell.whole(),
         }
+    }
+}
+
+/// Keys with their rows, sorted by key.
+#[derive(Clone, Copy)]
+pub(crate) struct SortedRows<'a> {
+    pub rows: &'a [(i128, IdxSize)],
+}
+
+impl KeyList for SortedRows<'_> {
+    ghost use Rattle.tb_sorted.specs.SortedRows.{keys_of};
+
+    ghost keys = { λ s. keys_of s.rows.now };
+
+    fn len(&self) -> usize {
+        self.rows.len()
+    }
+
+    fn key(&self, row: usize) -> i128 {
+        self.rows[row].0
     }
 }

@@ -5,9 +5,11 @@ mod cells;
 mod key_lists;
 mod merging;
 mod one_chunk;
+mod one_sorted;
 mod pairs;
 mod path;
 mod requested;
+mod row_sorting;
 mod sides;
 mod typed;
 

@@ -2,6 +2,7 @@
 ghost use Rattle.std.specs.Prelude.{◌≡◌, ◌<◌, ◌≤◌, length, IfOk, IsSorted, IsPermutation};
 ghost use Rattle.std.specs.Ordering.{int_cmp};
 ghost use Rattle.tb_value.specs.Pairs.{left_first};
+ghost use Rattle.tb_frame.specs.declared.args.Direction.TheVariants.{ByLeft};
 ghost use Rattle.tb_merge.specs.Faults.{SettlesCount};
 ghost use Rattle.tb_sorted.specs.Keys.{number_listing, refusal_of};
 ghost use Rattle.tb_sorted.specs.Listed.{IsMerged};
@@ -69,7 +70,7 @@ pub(crate) fn merged_lists<A: KeyList, B: KeyList>(
     requires right_sorted { IsSorted int_cmp (B.keys right.now) }
     requires left_few { length (A.keys left.now) ≤ MAX_ROWS }
     requires right_few { length (B.keys right.now) ≤ MAX_ROWS }
-    ensures { IsMerged (number_listing keep_unmatched (A.keys left.now) (B.keys right.now)) result }
+    ensures { IsMerged ByLeft (number_listing keep_unmatched (A.keys left.now) (B.keys right.now)) result }
 {
     let counted = counted_pairs::<A, B, Brand>(
         alloc,

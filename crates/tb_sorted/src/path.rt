@@ -1,10 +1,11 @@
 //! Whether keys are merged.
-ghost use Rattle.std.specs.Prelude.{◌≡◌};
-ghost use Rattle.tb_sorted.specs.Path.{are_flagged, asks_nothing, has_merge, is_flagged, is_merge_key, takes_flagged_path};
+ghost use Rattle.std.specs.Prelude.{◌≡◌, ◌≤◌};
+ghost use Rattle.tb_sorted.specs.Path.{are_ordered, asks_nothing, has_merge, have_order, is_flagged, is_inner, is_merge_key, is_worth, order_after, sorted_first, takes_key_path};
 
-use tb_frame::{JoinType, JoinValidation};
+use tb_frame::{Direction, JoinType, JoinValidation};
+use tb_pool::Exec;
 use tb_store::Series;
-use tb_value::IsSorted;
+use tb_value::{IsSorted, MAX_ROWS};
 
 fn has_merge(how: JoinType) -> bool
     ensures { result ≡ has_merge how }
@@ -13,6 +14,12 @@ fn has_merge(how: JoinType) -> bool
         JoinType::Inner | JoinType::Left | JoinType::Right => true,
         JoinType::Full | JoinType::Semi | JoinType::Anti => false,
     }
+}
+
+fn is_inner(how: JoinType) -> bool
+    ensures { result ≡ is_inner how }
+{
+    matches!(how, JoinType::Inner)
 }
 
 fn asks_nothing(validation: JoinValidation) -> bool
@@ -39,24 +46,84 @@ fn is_merge_key(key: &Series) -> bool
     key.dtype().is_whole_physical() && key.null_count() == 0
 }
 
-fn are_flagged(left: &Series, right: &Series) -> bool
-    ensures { result ≡ are_flagged left.now right.now }
+// Whether sorting so many rows is worth it beside so many that ascend.
+fn is_worth(exec: &Exec, rows: usize, ascending: usize) -> bool
+    requires rows { rows ≤ MAX_ROWS }
+    requires ascending { ascending ≤ MAX_ROWS }
+    ensures { result ≡ is_worth exec.now rows ascending }
 {
-    is_flagged(left.is_sorted_flag()) && is_flagged(right.is_sorted_flag())
+    let cost = rows as u64 * u64::from(exec.den());
+    let gain = u64::from(exec.num()) * ascending as u64;
+    cost < gain
+}
+
+// Whether the keys have the order for a merge: both are flagged as ascending, or one is and the other is worth sorting.
+fn have_order(how: JoinType, exec: &Exec, left: &Series, right: &Series) -> bool
+    ensures { result ≡ have_order how exec.now left.now right.now }
+{
+    let left_ascends = is_flagged(left.is_sorted_flag());
+    let right_ascends = is_flagged(right.is_sorted_flag());
+    let (left_len, right_len) = (left.len(), right.len());
+    (left_ascends && right_ascends)
+        || (left_ascends && is_worth(exec, right_len, left_len))
+        || (is_inner(how) && right_ascends && is_worth(exec, left_len, right_len))
+}
+
+fn are_ordered(how: JoinType, exec: &Exec, left: &Series, right: &Series) -> bool
+    ensures { result ≡ are_ordered how exec.now left.now right.now }
+{
+    match how {
+        JoinType::Inner | JoinType::Left => have_order(how, exec, left, right),
+        JoinType::Right => have_order(how, exec, right, left),
+        JoinType::Full | JoinType::Semi | JoinType::Anti => false,
+    }
 }
 
 /// Whether two keys are merged.
-pub(crate) fn takes_flagged_path(
+pub(crate) fn takes_key_path(
     how: JoinType,
     validation: JoinValidation,
+    exec: &Exec,
     left: &Series,
     right: &Series,
 ) -> bool
-    ensures { result ≡ takes_flagged_path how validation left.now right.now }
+    ensures { result ≡ takes_key_path how validation exec.now left.now right.now }
 {
     has_merge(how)
         && asks_nothing(validation)
         && is_merge_key(left)
         && is_merge_key(right)
-        && are_flagged(left, right)
+        && are_ordered(how, exec, left, right)
+}
+
+/// Which of two keys is sorted before they are merged.
+#[derive(Clone, Copy, PartialEq, Eq, Debug)]
+pub(crate) enum SortedFirst {
+    Neither,
+    Right,
+    Left,
+}
+
+/// The key that is sorted first: one that isn't flagged as ascending.
+pub(crate) fn sorted_first(left: &Series, right: &Series) -> SortedFirst
+    ensures { result ≡ sorted_first left.now right.now }
+{
+    if !is_flagged(left.is_sorted_flag()) {
+        return SortedFirst::Left;
+    }
+    if is_flagged(right.is_sorted_flag()) {
+        SortedFirst::Neither
+    } else {
+        SortedFirst::Right
+    }
+}
+
+/// The order in which the pairs stand then.
+pub(crate) fn order_after(first: SortedFirst) -> Direction
+    ensures { result ≡ order_after first }
+{
+    match first {
+        SortedFirst::Neither | SortedFirst::Right => Direction::ByLeft,
+        SortedFirst::Left => Direction::Free,
+    }
 }

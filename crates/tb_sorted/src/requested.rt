@@ -1,5 +1,5 @@
 //! The pairs of a request whose keys are merged.
-ghost use Rattle.std.specs.Prelude.{◌≡◌, true, IfOk, IfSome, is_some, map};
+ghost use Rattle.std.specs.Prelude.{◌≡◌, true, false, IfOk, IfSome, is_some, map};
 ghost use Rattle.tb_value.specs.Pairs.{turn};
 ghost use Rattle.tb_value.specs.Refusals.{Settles, first_cause};
 ghost use Rattle.tb_chunk.specs.Col.{Col, values};
@@ -10,11 +10,11 @@ ghost use Rattle.tb_keys.specs.Asked.{asked};
 ghost use Rattle.tb_sorted.specs.Columns.{IsInOneChunk, value_listing};
 ghost use Rattle.tb_sorted.specs.Keys.{kind_of_merge, too_long};
 ghost use Rattle.tb_sorted.specs.Listed.{IsListedIn, IsMerged, merge_refusal};
-ghost use Rattle.tb_sorted.specs.Path.{are_flagged, has_merge, is_merge_key, takes_merge_path};
+ghost use Rattle.tb_sorted.specs.Path.{are_ordered, has_merge, have_order, is_merge_key, order_after, sorted_first, takes_merge_path};
 
 use crate::one_chunk::{joined_key, lone_chunk};
 use crate::pairs::SortedPairs;
-use crate::path::takes_flagged_path;
+use crate::path::{order_after, sorted_first, takes_key_path};
 use crate::typed::pairs_of_chunks;
 use std::alloc::Global;
 use tb_frame::{Direction, JoinType};
@@ -23,12 +23,10 @@ use tb_pool::Exec;
 use tb_store::Series;
 use tb_value::{JoinPair, PolarsResult};
 
-// The pairs of a Left join, or of an Inner one, of two keys that are flagged as ascending, in the order of the left
-// rows.
-fn flagged_pairs(
+// The pairs of a Left join, or of an Inner one, of two keys that have the order for a merge.
+fn ordered_pairs(
     alloc: Global,
     keep_unmatched: bool,
-    null_matches: bool,
     left: &Series,
     right: &Series,
     exec: &Exec,
@@ -36,16 +34,16 @@ fn flagged_pairs(
     requires same { left.now.kind ≡ right.now.kind }
     requires left { is_merge_key left.now ≡ true }
     requires right { is_merge_key right.now ≡ true }
-    requires flagged { are_flagged left.now right.now ≡ true }
-    ensures { IsMerged (value_listing null_matches (kind_of_merge keep_unmatched) (values left.now) (values right.now)) result }
+    requires ordered { have_order (kind_of_merge keep_unmatched) exec.now left.now right.now ≡ true }
+    ensures { IsMerged (order_after (sorted_first left.now right.now)) (value_listing false (kind_of_merge keep_unmatched) (values left.now) (values right.now)) result }
 {
     let _lengths = (left.len(), right.len());
     let left_joined = joined_key(alloc, left)?;
     let right_joined = joined_key(alloc, right)?;
     pairs_of_chunks(
         alloc,
+        sorted_first(left, right),
         keep_unmatched,
-        null_matches,
         lone_chunk(left, &left_joined),
         lone_chunk(right, &right_joined),
         exec,
@@ -69,7 +67,6 @@ fn turned(mut pairs: Vec<JoinPair>) -> Vec<JoinPair>
 fn left_way_pairs(
     alloc: Global,
     keep_unmatched: bool,
-    null_matches: bool,
     left: &Series,
     right: &Series,
     exec: &Exec,
@@ -77,19 +74,18 @@ fn left_way_pairs(
     requires same { left.now.kind ≡ right.now.kind }
     requires left { is_merge_key left.now ≡ true }
     requires right { is_merge_key right.now ≡ true }
-    requires flagged { are_flagged left.now right.now ≡ true }
-    ensures settles { Settles result (too_long (value_listing null_matches (kind_of_merge keep_unmatched) (values left.now) (values right.now))) }
-    ensures found { IfOk result (IsListedIn (value_listing null_matches (kind_of_merge keep_unmatched) (values left.now) (values right.now))) }
+    requires ordered { have_order (kind_of_merge keep_unmatched) exec.now left.now right.now ≡ true }
+    ensures settles { Settles result (too_long (value_listing false (kind_of_merge keep_unmatched) (values left.now) (values right.now))) }
+    ensures found { IfOk result (IsListedIn (value_listing false (kind_of_merge keep_unmatched) (values left.now) (values right.now))) }
 {
-    let pairs = flagged_pairs(alloc, keep_unmatched, null_matches, left, right, exec)?;
-    let order = Direction::ByLeft;
+    let pairs = ordered_pairs(alloc, keep_unmatched, left, right, exec)?;
+    let order = order_after(sorted_first(left, right));
     Ok(SortedPairs { pairs, order })
 }
 
 // The pairs of a Right join of two keys that are merged: those of the Left join of the right side, turned round.
 fn right_way_pairs(
     alloc: Global,
-    null_matches: bool,
     left: &Series,
     right: &Series,
     exec: &Exec,
@@ -97,11 +93,11 @@ fn right_way_pairs(
     requires same { left.now.kind ≡ right.now.kind }
     requires left { is_merge_key left.now ≡ true }
     requires right { is_merge_key right.now ≡ true }
-    requires flagged { are_flagged left.now right.now ≡ true }
-    ensures settles { Settles result (too_long (value_listing null_matches JoinType.Right (values left.now) (values right.now))) }
-    ensures found { IfOk result (IsListedIn (value_listing null_matches JoinType.Right (values left.now) (values right.now))) }
+    requires ordered { have_order JoinType.Right exec.now right.now left.now ≡ true }
+    ensures settles { Settles result (too_long (value_listing false JoinType.Right (values left.now) (values right.now))) }
+    ensures found { IfOk result (IsListedIn (value_listing false JoinType.Right (values left.now) (values right.now))) }
 {
-    let pairs = turned(flagged_pairs(alloc, true, null_matches, right, left, exec)?);
+    let pairs = turned(ordered_pairs(alloc, true, right, left, exec)?);
     let order = Direction::ByRight;
     Ok(SortedPairs { pairs, order })
 }
@@ -110,7 +106,6 @@ fn right_way_pairs(
 fn sorted_pairs(
     alloc: Global,
     how: JoinType,
-    null_matches: bool,
     left: &Series,
     right: &Series,
     exec: &Exec,
@@ -119,46 +114,52 @@ fn sorted_pairs(
     requires same { left.now.kind ≡ right.now.kind }
     requires left { is_merge_key left.now ≡ true }
     requires right { is_merge_key right.now ≡ true }
-    requires flagged { are_flagged left.now right.now ≡ true }
-    ensures settles { Settles result (too_long (value_listing null_matches how (values left.now) (values right.now))) }
-    ensures found { IfOk result (IsListedIn (value_listing null_matches how (values left.now) (values right.now))) }
+    requires ordered { are_ordered how exec.now left.now right.now ≡ true }
+    ensures settles { Settles result (too_long (value_listing false how (values left.now) (values right.now))) }
+    ensures found { IfOk result (IsListedIn (value_listing false how (values left.now) (values right.now))) }
 {
     match how {
-        JoinType::Inner => left_way_pairs(alloc, false, null_matches, left, right, exec),
-        JoinType::Left => left_way_pairs(alloc, true, null_matches, left, right, exec),
-        JoinType::Right => right_way_pairs(alloc, null_matches, left, right, exec),
+        JoinType::Inner => left_way_pairs(alloc, false, left, right, exec),
+        JoinType::Left => left_way_pairs(alloc, true, left, right, exec),
+        JoinType::Right => right_way_pairs(alloc, left, right, exec),
         _ => unreachable!(),
     }
 }
 
 // Whether the keys of the request are merged.
-fn takes_merge_path(request: &LentRequest<'_>) -> bool
-    ensures { result ≡ takes_merge_path request.now }
+fn takes_merge_path(request: &LentRequest<'_>, exec: &Exec) -> bool
+    ensures { result ≡ takes_merge_path request.now exec.now }
 {
     let (lefts, rights) = (request.left_keys, request.right_keys);
     if lefts.len() != 1 || rights.len() != 1 {
         return false;
     }
-    takes_flagged_path(request.how, request.args.validation, lefts[0], rights[0])
+    let (left, right) = (lefts[0], rights[0]);
+    takes_key_path(request.how, request.args.validation, exec, left, right)
 }
 
 // The pairs of a request whose keys are merged.
 fn taken_pairs(alloc: Global, request: &LentRequest<'_>, exec: &Exec) -> PolarsResult<SortedPairs>
     requires alike { map (λ (c : Col). c.kind) (lent_columns request.now.left_keys.now) ≡ map (λ (c : Col). c.kind) (lent_columns request.now.right_keys.now) }
-    requires taken { takes_merge_path request.now ≡ true }
+    requires taken { takes_merge_path request.now exec.now ≡ true }
     ensures settles { Settles result (first_cause (row_causes (asked request.now))) }
     ensures found { IfOk result (IsListedIn (listing (asked request.now))) }
 {
     let left = request.left_keys[0];
     let right = request.right_keys[0];
-    let null_matches = request.args.join_nulls;
-    sorted_pairs(alloc, request.how, null_matches, left, right, exec)
+    sorted_pairs(alloc, request.how, left, right, exec)
 }
 
 /// The pairs of a request whose keys are merged, and none where they are hashed. They are merged exactly where the kind
 /// is Inner, Left or Right, nothing is asked of either side's keys (ManyToMany), there is one key on each side, stored
-/// as whole numbers of which none is Null, and both are flagged as ascending. A Right join is merged with its sides
-/// exchanged, and its pairs stand by right rows; the others stand by left rows.
+/// as whole numbers of which none is Null, and one of these holds, for keys of l left and r right rows:
+///
+/// 1. Both keys are flagged as ascending.
+/// 2. The left key is, and `r * den < num * l`. The right rows are sorted by key first.
+/// 3. The kind is Inner, the right key is flagged, and `l * den < num * r`. The left rows are sorted by key first.
+///
+/// A Right join is judged and merged with its sides exchanged. Its pairs stand by right rows. Those of the others stand
+/// by left rows, and in no order under 3.
 ///
 /// # Errors
 ///
@@ -169,11 +170,11 @@ pub fn merged_pairs(
     exec: &Exec,
 ) -> PolarsResult<Option<SortedPairs>>
     requires alike { map (λ (c : Col). c.kind) (lent_columns request.now.left_keys.now) ≡ map (λ (c : Col). c.kind) (lent_columns request.now.right_keys.now) }
-    ensures taken { IfOk result (λ o. is_some o ≡ takes_merge_path request.now) }
-    ensures settles { Settles result (merge_refusal request.now) }
+    ensures taken { IfOk result (λ o. is_some o ≡ takes_merge_path request.now exec.now) }
+    ensures settles { Settles result (merge_refusal request.now exec.now) }
     ensures found { IfOk result (λ o. IfSome o (IsListedIn (listing (asked request.now)))) }
 {
-    if !takes_merge_path(request) {
+    if !takes_merge_path(request, exec) {
         return Ok(None);
     }
     let pairs = taken_pairs(alloc, request, exec)?;

@@ -1,31 +1,38 @@
-use Rattle.std.proofs.Common.{ap, map, sym, ◌∙◌}
+use Rattle.std.proofs.Common.{List, ap, false, map, subst, sym, ◌∙◌}
+use Rattle.tb_value.specs.Datum.{Datum}
+use Rattle.tb_value.specs.declared.index.JoinPair.{JoinPair}
 use Rattle.tb_chunk.specs.Chunk.{or_null}
-use Rattle.tb_sorted.proofs.Numbers.{chunk_numbers, merged_values, numbers, numbers_ascend, one_list}
+use Rattle.tb_chunk.specs.Col.{flat}
+use Rattle.tb_sorted.specs.Columns.{AreMergeKeys, MayMerge, cell_lists, value_listing}
+use Rattle.tb_sorted.specs.Keys.{kind_of_merge}
+use Rattle.tb_sorted.specs.Listed.{IsMerged}
+use Rattle.tb_sorted.specs.Path.{order_after}
+use Rattle.tb_sorted.proofs.Numbers.{one_list}
 use Rattle.tb_sorted.proofs.typed.pairs_of_cells.Goals as goal
 
-pub merged_lists-requires-clause-left_sorted : goal.merged_lists-requires-clause-left_sorted
-merged_lists-requires-clause-left_sorted g c κs within =
-    let law = (g.met.N.WholeCell g.world.𝓛 g.world.𝓜 g.world.𝓡 ((λ s x. x), (λ x. x), (λ x. x), λ x. x)).shown in
+pub merged_cells-requires-clause-left : goal.merged_cells-requires-clause-left
+merged_cells-requires-clause-left g c κs within =
     let f = or_null g.N.Cell.shows in
     let is = one_list (λ k. map f k.cells.items) c.args.left.now c.index-left-0.result c.requires.left_one ∙ sym (ap (map f) c.deref.ensures.value) in
-    numbers_ascend g.N.Cell.shows g.N.WholeCell.number law c.args.left.now c.deref.result.now is c.requires.left
+    subst AreMergeKeys is c.requires.left
 
-pub merged_lists-requires-clause-right_sorted : goal.merged_lists-requires-clause-right_sorted
-merged_lists-requires-clause-right_sorted g c κs within =
-    let law = (g.met.N.WholeCell g.world.𝓛 g.world.𝓜 g.world.𝓡 ((λ s x. x), (λ x. x), (λ x. x), λ x. x)).shown in
+pub merged_cells-requires-clause-right : goal.merged_cells-requires-clause-right
+merged_cells-requires-clause-right g c κs within =
     let f = or_null g.N.Cell.shows in
     let is = one_list (λ k. map f k.cells.items) c.args.right.now c.index-right-0.result c.requires.right_one ∙ sym (ap (map f) c.deref-2.ensures.value) in
-    numbers_ascend g.N.Cell.shows g.N.WholeCell.number law c.args.right.now c.deref-2.result.now is c.requires.right
+    subst AreMergeKeys is c.requires.right
+
+pub merged_cells-requires-clause-may : goal.merged_cells-requires-clause-may
+merged_cells-requires-clause-may g c κs within =
+    let f = or_null g.N.Cell.shows in
+    let left = one_list (λ k. map f k.cells.items) c.args.left.now c.index-left-0.result c.requires.left_one ∙ sym (ap (map f) c.deref.ensures.value) in
+    let right = one_list (λ k. map f k.cells.items) c.args.right.now c.index-right-0.result c.requires.right_one ∙ sym (ap (map f) c.deref-2.ensures.value) in
+    subst (λ (us : List Datum). MayMerge c.args.first c.args.keep_unmatched us (map f c.deref-2.result.now)) left
+    (subst (λ (vs : List Datum). MayMerge c.args.first c.args.keep_unmatched (flat (cell_lists g.N.Cell.shows c.args.left.now)) vs) right c.requires.may)
 
 pub returns : goal.returns
 returns g c =
-    let law = (g.met.N.WholeCell g.world.𝓛 g.world.𝓜 g.world.𝓡 ((λ s x. x), (λ x. x), (λ x. x), λ x. x)).shown in
-    let shows = g.N.Cell.shows in
-    let number = g.N.WholeCell.number in
-    let f = or_null shows in
+    let f = or_null g.N.Cell.shows in
     let left = one_list (λ k. map f k.cells.items) c.args.left.now c.index-left-0.result c.requires.left_one ∙ sym (ap (map f) c.deref.ensures.value) in
     let right = one_list (λ k. map f k.cells.items) c.args.right.now c.index-right-0.result c.requires.right_one ∙ sym (ap (map f) c.deref-2.ensures.value) in
-    merged_values c.args.null_matches c.args.keep_unmatched _ _ (numbers shows number law c.deref.result.now) (numbers shows number law c.deref-2.result.now) c.merged_lists.result
-    (chunk_numbers shows number law c.args.left.now c.deref.result.now left c.requires.left)
-    (chunk_numbers shows number law c.args.right.now c.deref-2.result.now right c.requires.right)
-    c.merged_lists.ensures
+    subst (λ (ps : List JoinPair). IsMerged (order_after c.args.first) ps c.merged_cells.result) (λ t. value_listing false (kind_of_merge c.args.keep_unmatched) (sym left t) (sym right t)) c.merged_cells.ensures

@@ -1,0 +1,59 @@
+use Rattle.std.proofs.Common.{◌≡◌, List, ℤ, ℕ, arith, length, map, rules, subst, sym, ◌∙◌}
+use Rattle.std.specs.Prelude.{IsPermutation, IsSorted}
+use Rattle.tb_value.specs.Pairs.{left_first}
+use Rattle.tb_value.specs.Refusals.{Settles}
+use Rattle.tb_value.specs.declared.index.JoinPair.{JoinPair}
+use Rattle.tb_frame.specs.Answer.{AreRightRows}
+use Rattle.tb_sorted.specs.Keys.{number_listing}
+use Rattle.tb_sorted.specs.SortedRows.{AreSortedRows, keys_of, right_placed}
+use Rattle.tb_sorted.proofs.Places.{as_many_keys, right_many, right_places, right_way, rows_few, way_permutation, way_sorted}
+use Rattle.tb_sorted.proofs.Turned.{as_long}
+use Rattle.tb_sorted.proofs.one_sorted.right_sorted_lists.Goals as goal
+
+pub merged_lists-requires-clause-right_few : goal.merged_lists-requires-clause-right_few
+merged_lists-requires-clause-right_few g c κs within =
+    let keys = g.B.KeyList.keys c.args.right.now in
+    let rows = c.deref.result.now in
+    let many = as_many_keys keys rows (subst (AreSortedRows keys) (sym c.deref.ensures.value) c.in_ok-rows.ensures) in
+    omega (arith, many, c.requires.right_few)
+
+pub returns-in_err-pairs : goal.returns-in_err-pairs
+returns-in_err-pairs g c =
+    let left = g.A.KeyList.keys c.args.left.now in
+    let keys = g.B.KeyList.keys c.args.right.now in
+    let rows = c.deref.result.now in
+    let keep = c.args.keep_unmatched in
+    let many = right_many keys rows (subst (AreSortedRows keys) (sym c.deref.ensures.value) c.in_ok-rows.ensures) keep left in
+    record { settles = subst (Settles c.from_residual-in_err-pairs.result) (as_long (number_listing keep left (keys_of rows)) (number_listing keep left keys) many) (search rules); pairs = search rules; ascends = search rules }
+
+pub with_right_rows-requires-clause-places : goal.with_right_rows-requires-clause-places
+with_right_rows-requires-clause-places g c =
+    let left = g.A.KeyList.keys c.args.left.now in
+    let keys = g.B.KeyList.keys c.args.right.now in
+    let rows = c.deref.result.now in
+    let same = c.deref.ensures.value ∙ sym c.deref-2.ensures.value in
+    let sorted = subst (AreSortedRows keys) (sym c.deref.ensures.value) c.in_ok-rows.ensures in
+    subst (λ (l : List (ℤ × ℕ)). AreRightRows (length l) c.in_ok-pairs.pairs.items) same (right_places keys rows sorted c.args.keep_unmatched left c.in_ok-pairs.pairs.items c.in_ok-pairs.ensures.pairs)
+
+pub with_right_rows-requires-clause-rows : goal.with_right_rows-requires-clause-rows
+with_right_rows-requires-clause-rows g c =
+    let keys = g.B.KeyList.keys c.args.right.now in
+    rows_few keys c.deref-2.result.now (subst (AreSortedRows keys) (sym c.deref-2.ensures.value) c.in_ok-rows.ensures) c.requires.right_few
+
+pub returns : goal.returns
+returns g c =
+    let left = g.A.KeyList.keys c.args.left.now in
+    let keys = g.B.KeyList.keys c.args.right.now in
+    let rows = c.deref.result.now in
+    let keep = c.args.keep_unmatched in
+    let ps = c.in_ok-pairs.pairs.items in
+    let same : c.deref-2.result.now ≡ rows = c.deref-2.ensures.value ∙ sym c.deref.ensures.value in
+    let sorted = subst (AreSortedRows keys) (sym c.deref.ensures.value) c.in_ok-rows.ensures in
+    let h = c.in_ok-pairs.ensures in
+    let list = number_listing keep left keys in
+    let is = ◌∙◌ {A = List JoinPair} c.with_right_rows.ensures (◌∙◌ {A = List JoinPair} (λ t. map (right_placed (same t)) ps) (right_way keys rows sorted keep left ps h.pairs h.ascends)) in
+    record {
+      settles = sym (as_long (number_listing keep left (keys_of rows)) list (right_many keys rows sorted keep left)) ∙ h.settles;
+      pairs = subst (λ (l : List JoinPair). IsPermutation list l) (sym is) (way_permutation keep left keys);
+      ascends = subst (λ (l : List JoinPair). IsSorted left_first l) (sym is) (way_sorted keep left keys);
+    }

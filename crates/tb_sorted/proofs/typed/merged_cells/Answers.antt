@@ -1,0 +1,84 @@
+use Rattle.std.proofs.Common.{Bool, map, subst, sym}
+use Rattle.tb_chunk.specs.Chunk.{or_null}
+use Rattle.tb_frame.specs.declared.args.Direction.TheVariants.{ByLeft, Free}
+use Rattle.std.specs.Prelude.{false}
+use Rattle.tb_sorted.specs.Columns.{MayMerge, value_listing}
+use Rattle.tb_sorted.specs.Keys.{kind_of_merge}
+use Rattle.tb_sorted.specs.Listed.{IsMerged}
+use Rattle.tb_sorted.specs.Path.{order_after}
+use Rattle.tb_sorted.specs.declared.path.SortedFirst.{SortedFirst}
+use Rattle.tb_sorted.proofs.Numbers.{cell_numbers, merged_values, numbers, numbers_ascend}
+use Rattle.tb_sorted.proofs.typed.merged_cells.Goals as goal
+
+pub merged_lists-requires-clause-left_sorted : goal.merged_lists-requires-clause-left_sorted
+merged_lists-requires-clause-left_sorted g c κs within =
+    let law = (g.met.N.WholeCell g.world.𝓛 g.world.𝓜 g.world.𝓡 ((λ s x. x), (λ x. x), (λ x. x), λ x. x)).shown in
+    let us = map (or_null g.N.Cell.shows) c.args.left.now.cells.now in
+    let vs = map (or_null g.N.Cell.shows) c.args.right.now.cells.now in
+    let may = subst (λ (f : SortedFirst). MayMerge f c.args.keep_unmatched us vs) c.in-Neither.is c.requires.may in
+    numbers_ascend g.N.Cell.shows g.N.WholeCell.number law c.args.left.now.cells.now c.requires.left may.0
+
+pub merged_lists-requires-clause-right_sorted : goal.merged_lists-requires-clause-right_sorted
+merged_lists-requires-clause-right_sorted g c κs within =
+    let law = (g.met.N.WholeCell g.world.𝓛 g.world.𝓜 g.world.𝓡 ((λ s x. x), (λ x. x), (λ x. x), λ x. x)).shown in
+    let us = map (or_null g.N.Cell.shows) c.args.left.now.cells.now in
+    let vs = map (or_null g.N.Cell.shows) c.args.right.now.cells.now in
+    let may = subst (λ (f : SortedFirst). MayMerge f c.args.keep_unmatched us vs) c.in-Neither.is c.requires.may in
+    numbers_ascend g.N.Cell.shows g.N.WholeCell.number law c.args.right.now.cells.now c.requires.right may.1
+
+pub right_sorted_lists-requires-clause-left_sorted : goal.right_sorted_lists-requires-clause-left_sorted
+right_sorted_lists-requires-clause-left_sorted g c κs within =
+    let law = (g.met.N.WholeCell g.world.𝓛 g.world.𝓜 g.world.𝓡 ((λ s x. x), (λ x. x), (λ x. x), λ x. x)).shown in
+    let us = map (or_null g.N.Cell.shows) c.args.left.now.cells.now in
+    let vs = map (or_null g.N.Cell.shows) c.args.right.now.cells.now in
+    let may = subst (λ (f : SortedFirst). MayMerge f c.args.keep_unmatched us vs) c.in-Right.is c.requires.may in
+    numbers_ascend g.N.Cell.shows g.N.WholeCell.number law c.args.left.now.cells.now c.requires.left may
+
+pub left_sorted_lists-requires-clause-right_sorted : goal.left_sorted_lists-requires-clause-right_sorted
+left_sorted_lists-requires-clause-right_sorted g c κs within =
+    let law = (g.met.N.WholeCell g.world.𝓛 g.world.𝓜 g.world.𝓡 ((λ s x. x), (λ x. x), (λ x. x), λ x. x)).shown in
+    let us = map (or_null g.N.Cell.shows) c.args.left.now.cells.now in
+    let vs = map (or_null g.N.Cell.shows) c.args.right.now.cells.now in
+    let may = subst (λ (f : SortedFirst). MayMerge f c.args.keep_unmatched us vs) c.in-Left.is c.requires.may in
+    numbers_ascend g.N.Cell.shows g.N.WholeCell.number law c.args.right.now.cells.now c.requires.right may.1
+
+pub returns-in-Neither : goal.returns-in-Neither
+returns-in-Neither g c =
+    let law = (g.met.N.WholeCell g.world.𝓛 g.world.𝓜 g.world.𝓡 ((λ s x. x), (λ x. x), (λ x. x), λ x. x)).shown in
+    let shows = g.N.Cell.shows in
+    let number = g.N.WholeCell.number in
+    let ls = c.args.left.now.cells.now in
+    let rs = c.args.right.now.cells.now in
+    let us = map (or_null shows) ls in
+    let vs = map (or_null shows) rs in
+    subst (λ (f : SortedFirst). IsMerged (order_after f) (value_listing false (kind_of_merge c.args.keep_unmatched) us vs) c.merged_lists.result) (sym c.in-Neither.is)
+    (merged_values ByLeft c.args.keep_unmatched us vs (numbers shows number law ls) (numbers shows number law rs) c.merged_lists.result
+    (cell_numbers shows number law ls c.requires.left) (cell_numbers shows number law rs c.requires.right) c.merged_lists.ensures)
+
+pub returns-in-Right : goal.returns-in-Right
+returns-in-Right g c =
+    let law = (g.met.N.WholeCell g.world.𝓛 g.world.𝓜 g.world.𝓡 ((λ s x. x), (λ x. x), (λ x. x), λ x. x)).shown in
+    let shows = g.N.Cell.shows in
+    let number = g.N.WholeCell.number in
+    let ls = c.args.left.now.cells.now in
+    let rs = c.args.right.now.cells.now in
+    let us = map (or_null shows) ls in
+    let vs = map (or_null shows) rs in
+    subst (λ (f : SortedFirst). IsMerged (order_after f) (value_listing false (kind_of_merge c.args.keep_unmatched) us vs) c.right_sorted_lists.result) (sym c.in-Right.is)
+    (merged_values ByLeft c.args.keep_unmatched us vs (numbers shows number law ls) (numbers shows number law rs) c.right_sorted_lists.result
+    (cell_numbers shows number law ls c.requires.left) (cell_numbers shows number law rs c.requires.right) c.right_sorted_lists.ensures)
+
+pub returns-in-Left : goal.returns-in-Left
+returns-in-Left g c =
+    let law = (g.met.N.WholeCell g.world.𝓛 g.world.𝓜 g.world.𝓡 ((λ s x. x), (λ x. x), (λ x. x), λ x. x)).shown in
+    let shows = g.N.Cell.shows in
+    let number = g.N.WholeCell.number in
+    let ls = c.args.left.now.cells.now in
+    let rs = c.args.right.now.cells.now in
+    let us = map (or_null shows) ls in
+    let vs = map (or_null shows) rs in
+    let may = subst (λ (f : SortedFirst). MayMerge f c.args.keep_unmatched us vs) c.in-Left.is c.requires.may in
+    subst (λ (f : SortedFirst). IsMerged (order_after f) (value_listing false (kind_of_merge c.args.keep_unmatched) us vs) c.left_sorted_lists.result) (sym c.in-Left.is)
+    (subst (λ (keep : Bool). IsMerged Free (value_listing false (kind_of_merge keep) us vs) c.left_sorted_lists.result) (sym may.0)
+    (merged_values Free false us vs (numbers shows number law ls) (numbers shows number law rs) c.left_sorted_lists.result
+    (cell_numbers shows number law ls c.requires.left) (cell_numbers shows number law rs c.requires.right) c.left_sorted_lists.ensures))

@@ -1,0 +1,81 @@
+//! Keys with their rows, sorted by key, and the rows that pairs of places stand for.
+ghost use Rattle.std.specs.Prelude.{◌≡◌, ◌<◌, ◌≤◌, ℕ, ℤ, All, IfOk, length, map};
+ghost use Rattle.tb_chunk.specs.Rows.{IsRowOf};
+ghost use Rattle.tb_frame.specs.Answer.{AreLeftRows, AreRightRows};
+ghost use Rattle.tb_merge.specs.Keys.{key_at};
+ghost use Rattle.tb_sorted.specs.SortedRows.{AreSortedRows, left_placed, right_placed, row_or_none, with_rows};
+
+use crate::key_lists::KeyList;
+use std::alloc::Global;
+use tb_value::{IdxSize, JoinPair, MAX_ROWS, NullableIdxSize, OutOfMemory};
+
+// A key of the list, with its row.
+fn key_with_row<K: KeyList>(list: &K, row: usize) -> (i128, IdxSize)
+    requires row { row < length (K.keys list.now) }
+    requires few { length (K.keys list.now) ≤ MAX_ROWS }
+    ensures { result ≡ (key_at (K.keys list.now) row, row) }
+{
+    (list.key(row), row as IdxSize)
+}
+
+// The keys of the list, each with its row.
+fn keys_with_rows<K: KeyList>(alloc: Global, list: &K) -> Result<Vec<(i128, IdxSize)>, OutOfMemory>
+    requires { length (K.keys list.now) ≤ MAX_ROWS }
+    ensures rows { IfOk result (λ v. v.items ≡ with_rows (K.keys list.now)) }
+{
+    let len = list.len();
+    let mut rows = Vec::with_capacity(alloc, len)?;
+    for row in 0..len {
+        rows.push(key_with_row(list, row))?;
+    }
+    Ok(rows)
+}
+
+/// The keys of the list with their rows, sorted by key; the rows of one key stay in their order.
+pub(crate) fn sorted_rows<K: KeyList>(
+    alloc: Global,
+    list: &K,
+) -> Result<Vec<(i128, IdxSize)>, OutOfMemory>
+    requires { length (K.keys list.now) ≤ MAX_ROWS }
+    ensures { IfOk result (λ v. AreSortedRows (K.keys list.now) v.items) }
+{
+    let mut rows = keys_with_rows(alloc, list)?;
+    rows.sort_by_key(|row| row.0)?;
+    Ok(rows)
+}
+
+// The row that stands at the place.
+fn row_at(rows: &[(i128, IdxSize)], place: NullableIdxSize) -> NullableIdxSize
+    requires place { IsRowOf (length rows.now) place }
+    requires rows { All (λ (p : ℤ × ℕ). p.1 < MAX_ROWS) rows.now }
+    ensures { result ≡ row_or_none rows.now place }
+{
+    match place.row() {
+        None => NullableIdxSize::null(),
+        Some(row) => NullableIdxSize::some(rows[row as usize].1),
+    }
+}
+
+/// The pairs whose right places stand for the rows there.
+pub(crate) fn with_right_rows(mut pairs: Vec<JoinPair>, rows: &[(i128, IdxSize)]) -> Vec<JoinPair>
+    requires places { AreRightRows (length rows.now) pairs.items }
+    requires rows { All (λ (p : ℤ × ℕ). p.1 < MAX_ROWS) rows.now }
+    ensures { result.items ≡ map (right_placed rows.now) pairs.items }
+{
+    for pair in pairs.iter_mut() {
+        pair.right = row_at(rows, pair.right);
+    }
+    pairs
+}
+
+/// The pairs whose left places stand for the rows there.
+pub(crate) fn with_left_rows(mut pairs: Vec<JoinPair>, rows: &[(i128, IdxSize)]) -> Vec<JoinPair>
+    requires places { AreLeftRows (length rows.now) pairs.items }
+    requires rows { All (λ (p : ℤ × ℕ). p.1 < MAX_ROWS) rows.now }
+    ensures { result.items ≡ map (left_placed rows.now) pairs.items }
+{
+    for pair in pairs.iter_mut() {
+        pair.left = row_at(rows, pair.left);
+    }
+    pairs
+}
