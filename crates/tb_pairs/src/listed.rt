@@ -76,8 +76,9 @@ fn found_pairs(
 /// The pairs of a request, in the order that is asked, and of them those that the slice keeps. There are as many keys
 /// on each side, one at least, of equal key types.
 ///
-/// One key on each side is merged where `tb_sorted` says so, and else hashed as it is; of several each row's key is hashed. Where a row of either side is too long for
-/// a key, which takes 2^32 bytes, each left row is compared with each right one, field by field.
+/// One key on each side is merged where `tb_sorted` says so, and else hashed as it is; of several each row's key is
+/// hashed. Where a row of either side is too long for a key, which takes 2^32 bytes, each left row is compared with each
+/// right one, field by field.
 ///
 /// # Errors
 ///
