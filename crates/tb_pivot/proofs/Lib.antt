@@ -9,3 +9,4 @@ pub mod Placed
 pub mod Refused
 pub mod SameTable
 pub mod Texts
+pub mod Ways

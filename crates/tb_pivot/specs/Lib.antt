@@ -1,3 +1,5 @@
+pub mod AggWay
+pub mod Answered
 pub mod Cells
 pub mod Grid
 pub mod Headers

@@ -235,7 +235,8 @@ impl<'a, 'b> Layout<'a, 'b> {
         alloc: Global,
         maker: &M,
     ) -> PolarsResult<Vec<Column>>
-        requires { IsLayout self.now }
+        requires layout { IsLayout self.now }
+        requires ready { M.IsReady maker.now }
         ensures settles { Settles result (first_cause (map (made_cause (M.way maker.now) self.now.cells.groups) (lent_columns self.now.columns.now.values.items))) }
         ensures table { IfOk result (λ v. table_of v.items ≡ index_and_blocks (laid_out self.now (M.way maker.now))) }
     {

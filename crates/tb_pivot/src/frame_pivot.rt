@@ -1,19 +1,29 @@
 //! The calls by which a table is made wide.
-ghost use Rattle.std.specs.Prelude.{◌≡◌, ◌++◌, IfOk};
+ghost use Rattle.std.specs.Prelude.{◌≡◌, ◌++◌, IfOk, option_map};
 ghost use Rattle.std.specs.Option.{option_copied};
 ghost use Rattle.tb_value.specs.Refusals.{Settles, first_cause};
 ghost use Rattle.tb_frame.specs.Table.{table_of};
 ghost use Rattle.tb_pivot.specs.Lent.{lent_request};
 ghost use Rattle.tb_pivot.specs.Pivot.{pivot_table};
 ghost use Rattle.tb_pivot.specs.Refusal.{pivot_refusal};
-ghost use Rattle.tb_pivot.specs.Request.{separator_or};
+ghost use Rattle.tb_pivot.specs.AggWay.{agg_way, way_or_row};
+ghost use Rattle.tb_pivot.specs.Answered.{Gives};
+ghost use Rattle.tb_frame.specs.Table.{plain};
+ghost use Rattle.tb_pivot.specs.Pivot.{answer_of};
+ghost use Rattle.tb_pivot.specs.Request.{asked, separator_or, way_of};
 
+use crate::asking::{Asked, Told, answer_to};
+use crate::expr::{PhysicalAggExpr, PivotAgg};
 use crate::lookup::found;
 use crate::maker::CellMaker;
 use crate::naming::request_names;
 use crate::whole::wide_of_chunks;
 use std::alloc::Global;
+use std::marker::{Brand, PhantomData};
+use tb_agg::Aggregate;
 use tb_frame::DataFrame;
+use tb_rows::Groups;
+use tb_store::Series;
 use tb_value::{PlSmallStr, PolarsResult};
 
 fn given_separator<'a>(separator: Option<&'a str>) -> &'a str
@@ -30,7 +40,7 @@ fn given_separator<'a>(separator: Option<&'a str>) -> &'a str
 /// value column's rows with that index and that header, and Null where there are none. Its column is called by the
 /// header, and where there are several value columns by the value column's name, the separator (`_` where none is given)
 /// and the header. `sort_columns` puts the columns of each value column in the order of their names' bytes. The index
-/// columns stand first. Without value columns there is no column at all.
+/// columns stand first. Without value columns there is no column at all. `maker` is ready: an aggregate always is.
 ///
 /// Where no index is given it is the columns that are neither in `on` nor in `values`; where no values are given they are
 /// the columns that are neither in `on` nor in `index`.
@@ -61,6 +71,7 @@ pub fn pivot_by<M: CellMaker>(
     maker: &M,
     separator: Option<&str>,
 ) -> PolarsResult<DataFrame>
+    requires { M.IsReady maker.now }
     ensures settles { Settles result (pivot_refusal (lent_request table.now on.now (option_copied index.entry) (option_copied values.entry) sort_columns (M.way maker.now) separator.entry)) }
     ensures table { IfOk result (λ t. table_of t ≡ pivot_table (lent_request table.now on.now (option_copied index.entry) (option_copied values.entry) sort_columns (M.way maker.now) separator.entry)) }
 {
@@ -74,5 +85,131 @@ pub fn pivot_by<M: CellMaker>(
         maker,
         sort_columns,
         given_separator(separator),
+    )
+}
+
+// The same of a caller's object, of which it is told what it answers.
+fn pivot_asked<K: Told>(
+    alloc: Global,
+    table: &DataFrame,
+    on: &[PlSmallStr],
+    index: Option<&[PlSmallStr]>,
+    values: Option<&[PlSmallStr]>,
+    sort_columns: bool,
+    expr: &dyn PhysicalAggExpr,
+    separator: Option<&str>,
+) -> PolarsResult<DataFrame>
+    requires name { K.told_name ≡ named expr.now }
+    requires answers { K.told_answers ≡ answers expr.now }
+    ensures settles { Settles result (pivot_refusal (lent_request table.now on.now (option_copied index.entry) (option_copied values.entry) sort_columns (asked K.told_name K.told_answers) separator.entry)) }
+    ensures table { IfOk result (λ t. table_of t ≡ pivot_table (lent_request table.now on.now (option_copied index.entry) (option_copied values.entry) sort_columns (asked K.told_name K.told_answers) separator.entry)) }
+{
+    let ask = |alloc: Global, column: &Series, groups: &Groups| -> PolarsResult<Series>
+        ensures { Gives result (answer_of groups.now.firsts.items groups.now.numbers.items (plain column.now) (named expr.entry.now) (answers expr.entry.now)) }
+    { answer_to(alloc, expr, column, groups) };
+    let maker = Asked::<K, _> {
+        ask,
+        told: PhantomData,
+    };
+    pivot_by(
+        alloc,
+        table,
+        on,
+        index,
+        values,
+        sort_columns,
+        &maker,
+        separator,
+    )
+}
+
+/// The table made wide, as `pivot_by` does, of cells that `agg_fn` makes: by an aggregate, or by a caller's object. The
+/// object is asked once for each value column, for all groups of rows by index and header: it is given the column as the
+/// only one of a table, under the name that it asks for, and answers one value for each group. Without `agg_fn` a cell is
+/// the value of its one row.
+///
+/// # Errors
+///
+/// Those of `pivot_by`, in their order.
+pub fn pivot_stable(
+    alloc: Global,
+    pivot_df: &DataFrame,
+    on: &[PlSmallStr],
+    index: Option<&[PlSmallStr]>,
+    values: Option<&[PlSmallStr]>,
+    sort_columns: bool,
+    agg_fn: Option<&PivotAgg>,
+    separator: Option<&str>,
+) -> PolarsResult<DataFrame>
+    ensures settles { let of = ⟦<dyn PhysicalAggExpr as PhysicalAggExpr>⟧ in Settles result (pivot_refusal (lent_request pivot_df.now on.now (option_copied index.entry) (option_copied values.entry) sort_columns (way_or_row (option_map (λ a. agg_way (λ d. (of d).named) (λ d. (of d).answers) a.now) agg_fn.entry)) separator.entry)) }
+    ensures table { let of = ⟦<dyn PhysicalAggExpr as PhysicalAggExpr>⟧ in IfOk result (λ t. table_of t ≡ pivot_table (lent_request pivot_df.now on.now (option_copied index.entry) (option_copied values.entry) sort_columns (way_or_row (option_map (λ a. agg_way (λ d. (of d).named) (λ d. (of d).answers) a.now) agg_fn.entry)) separator.entry)) }
+{
+    match agg_fn {
+        Some(PivotAgg::Expr(expr)) => pivot_asked::<Brand>(
+            alloc,
+            pivot_df,
+            on,
+            index,
+            values,
+            sort_columns,
+            &**expr,
+            separator,
+        ),
+        Some(agg) => {
+            let aggregate = agg.aggregate();
+            pivot_by(
+                alloc,
+                pivot_df,
+                on,
+                index,
+                values,
+                sort_columns,
+                &aggregate,
+                separator,
+            )
+        }
+        None => {
+            let aggregate: Option<Aggregate> = None;
+            pivot_by(
+                alloc,
+                pivot_df,
+                on,
+                index,
+                values,
+                sort_columns,
+                &aggregate,
+                separator,
+            )
+        }
+    }
+}
+
+/// As `pivot_stable`: rows and headers stand in the order in which they come first in the table.
+///
+/// # Errors
+///
+/// Those of `pivot_by`, in their order.
+pub fn pivot(
+    alloc: Global,
+    pivot_df: &DataFrame,
+    on: &[PlSmallStr],
+    index: Option<&[PlSmallStr]>,
+    values: Option<&[PlSmallStr]>,
+    sort_columns: bool,
+    agg_fn: Option<&PivotAgg>,
+    separator: Option<&str>,
+) -> PolarsResult<DataFrame>
+    ensures settles { let of = ⟦<dyn PhysicalAggExpr as PhysicalAggExpr>⟧ in Settles result (pivot_refusal (lent_request pivot_df.now on.now (option_copied index.entry) (option_copied values.entry) sort_columns (way_or_row (option_map (λ a. agg_way (λ d. (of d).named) (λ d. (of d).answers) a.now) agg_fn.entry)) separator.entry)) }
+    ensures table { let of = ⟦<dyn PhysicalAggExpr as PhysicalAggExpr>⟧ in IfOk result (λ t. table_of t ≡ pivot_table (lent_request pivot_df.now on.now (option_copied index.entry) (option_copied values.entry) sort_columns (way_or_row (option_map (λ a. agg_way (λ d. (of d).named) (λ d. (of d).answers) a.now) agg_fn.entry)) separator.entry)) }
+{
+    pivot_stable(
+        alloc,
+        pivot_df,
+        on,
+        index,
+        values,
+        sort_columns,
+        agg_fn,
+        separator,
     )
 }

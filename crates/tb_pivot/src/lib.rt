@@ -1,8 +1,10 @@
 //! Tables made wide: what a pivot is, how its columns are called, the columns that a request names, and the call itself.
 #![tactic(auto)]
 
+mod asking;
 mod blocks;
 mod cells;
+mod expr;
 mod frame_pivot;
 mod grid;
 mod headers;
@@ -13,7 +15,8 @@ mod naming;
 mod whole;
 mod wide;
 
-pub use frame_pivot::pivot_by;
+pub use expr::{ExprFault, PhysicalAggExpr, PivotAgg};
+pub use frame_pivot::{pivot, pivot_by, pivot_stable};
 pub use grid::grid_of;
 pub use headers::{block_name, brace_name, header_text};
 pub use lookup::{RequestColumns, found};

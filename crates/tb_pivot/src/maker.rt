@@ -20,6 +20,9 @@ pub trait CellMaker {
 
     ghost way: { Self → Way };
 
+    /// That it makes cells in its way.
+    ghost IsReady: { Self → Type 0 };
+
     /// Whether values of the type are taken.
     fn takes(&self, dtype: &DataType) -> bool
         ensures { result ≡ takes (way self.now) (kind_of dtype.now) };
@@ -34,16 +37,20 @@ pub trait CellMaker {
     ///
     /// What the way has to say of the values, or `OutOfMemory`.
     fn made(&self, alloc: Global, column: &Series, groups: &Groups) -> PolarsResult<Series>
-        requires { AreGroupsOf (length (values column.now)) groups.now }
+        requires ready { IsReady self.now }
+        requires groups { AreGroupsOf (length (values column.now)) groups.now }
         ensures settles { Settles result (made_cause (way self.now) groups.now column.now) }
         ensures made { IfOk result (IsMade (way self.now) groups.now column.now) };
 }
 
 /// An aggregate, and without one the value of the one row.
 impl CellMaker for Option<Aggregate> {
+    ghost use Rattle.std.specs.Prelude.{⊤};
     ghost use Rattle.tb_pivot.specs.Request.{way_of};
 
     ghost way = { way_of };
+
+    ghost IsReady = { λ _. ⊤ };
 
     fn takes(&self, dtype: &DataType) -> bool {
         match self {

@@ -108,6 +108,7 @@ pub(crate) fn wide_of_chunks<M: CellMaker>(
     sorts: bool,
     separator: &str,
 ) -> PolarsResult<DataFrame>
+    requires ready { M.IsReady maker.now }
     requires few { height ≤ MAX_ROWS }
     requires high { AreAsHigh height columns.now }
     requires taken { All (λ c. takes (M.way maker.now) c.now.kind ≡ true) columns.now.values.items }

@@ -22,6 +22,7 @@ fn laid_table<M: CellMaker>(
     layout: &Layout<'_, '_>,
     maker: &M,
 ) -> PolarsResult<DataFrame>
+    requires ready { M.IsReady maker.now }
     requires layout { IsLayout layout.now }
     requires taken { All (λ c. takes (M.way maker.now) c.now.kind ≡ true) layout.now.columns.now.values.items }
     requires some { 0 < length layout.now.columns.now.values.items }
@@ -49,6 +50,7 @@ pub(crate) fn wide<M: CellMaker>(
     sorts: bool,
     separator: &str,
 ) -> PolarsResult<DataFrame>
+    requires ready { M.IsReady maker.now }
     requires few { height ≤ MAX_ROWS }
     requires high { AreAsHigh height columns.now }
     requires taken { All (λ c. takes (M.way maker.now) c.now.kind ≡ true) columns.now.values.items }

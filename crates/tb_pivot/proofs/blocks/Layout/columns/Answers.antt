@@ -18,20 +18,20 @@ loop-value-init g c =
     let l = c.args.self.now in
     let way = g.M.CellMaker.way c.args.maker.now in
     let q = laid_out l way in
-    (index_is l c.requires way c.in_ok-columns.columns.items c.in_ok-columns.ensures ∙ sym (append-nil (map (index_column q) q.index)), refl)
+    (index_is l c.requires.layout way c.in_ok-columns.columns.items c.in_ok-columns.ensures ∙ sym (append-nil (map (index_column q) q.index)), refl)
 
 -- a value column of the loop
 item_high : (vs bs : List (Bor Col)) (i n : ℕ) (b : Bor Col) → bs ≡ vs → All (λ (c : Bor Col). length (values c.now) ≡ n) vs → i < length bs → b ≡ get_or bs i b → length (values b.now) ≡ n
 item_high vs bs i n b same high low is =
     subst (λ (d : Bor Col). length (values d.now) ≡ n) (sym is) (subst (λ (cs : List (Bor Col)). length (values (get_or cs i b).now) ≡ n) (sym same) (high i b (subst (λ (cs : List (Bor Col)). i < length cs) same low)))
 
-pub made-requires : goal.made-requires
-made-requires g c =
+pub made-requires-clause-groups : goal.made-requires-clause-groups
+made-requires-clause-groups g c =
     let l = c.args.self.now in
     let b = c.value-item.result in
-    let high = item_high l.columns.now.values.items c.deref-value-items.result.now c.loop-value.value-index l.height b c.deref-value-items.ensures.value c.requires.high.values c.loop-value-test.true c.value-item.is in
+    let high = item_high l.columns.now.values.items c.deref-value-items.result.now c.loop-value.value-index l.height b c.deref-value-items.ensures.value c.requires.layout.high.values c.loop-value-test.true c.value-item.is in
     subst (λ (gs : Groups). AreGroupsOf (length (values b.now)) gs) (sym c.groups.ensures)
-    (subst (λ (n : ℕ). AreGroupsOf n l.cells.groups) (sym high) (cells_fit _ _ l.height l.cells c.requires.cells c.requires.few))
+    (subst (λ (n : ℕ). AreGroupsOf n l.cells.groups) (sym high) (cells_fit _ _ l.height l.cells c.requires.layout.cells c.requires.layout.few))
 
 pub push_block-requires-clause-made : goal.push_block-requires-clause-made
 push_block-requires-clause-made g c =
@@ -52,11 +52,11 @@ loop-value-preserved g c =
     let here = c.deref-value-items.ensures.value in
     let low : i < length vs = subst (λ (bs : List (Bor Col)). i < length bs) here c.loop-value-test.true in
     let item : b ≡ get_or vs i b = c.value-item.is ∙ ap (λ (bs : List (Bor Col)). get_or bs i b) here in
-    let high = item_high vs c.deref-value-items.result.now i l.height b here c.requires.high.values c.loop-value-test.true c.value-item.is in
+    let high = item_high vs c.deref-value-items.result.now i l.height b here c.requires.layout.high.values c.loop-value-test.true c.value-item.is in
     let is : IsMade way l.cells.groups b.now made = subst (λ (gs : Groups). IsMade way gs b.now made) c.groups.ensures c.in_ok-made.ensures.made in
     let none : made_cause way l.cells.groups b.now ≡ None = subst (λ (gs : Groups). made_cause way gs b.now ≡ None) c.groups.ensures c.in_ok-made.ensures.settles in (
-      blocks_more l c.requires way b.now made high is (table_of c.loop-value.columns.items) (table_of c.push_block.new.columns.items) i b low item refl c.in_ok-push_block.ensures c.loop-value.invariant.0,
-      c.loop-value.invariant.1 ∙ passed_by l c.requires way i b low item none,
+      blocks_more l c.requires.layout way b.now made high is (table_of c.loop-value.columns.items) (table_of c.push_block.new.columns.items) i b low item refl c.in_ok-push_block.ensures c.loop-value.invariant.0,
+      c.loop-value.invariant.1 ∙ passed_by l c.requires.layout way i b low item none,
     )
 
 pub returns-clause-table : goal.returns-clause-table
