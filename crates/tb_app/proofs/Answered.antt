@@ -16,15 +16,20 @@ use Rattle.tb_json.specs.Text.{text_of}
 use Rattle.tb_request.specs.declared.request.Reason.{Reason}
 use Rattle.tb_request.specs.declared.request.RequestFault.{RequestFault}
 use Rattle.tb_request.specs.declared.request.RequestFault.TheVariants.{NoRequest}
-use Rattle.tb_request.specs.Reading.{JoinRequest, UnpivotRequest, DummiesRequest, FaultIs}
+use Rattle.tb_request.specs.Reading.{JoinRequest, UnpivotRequest, DummiesRequest, PivotRequest, FaultIs}
 use Rattle.tb_unpivot.specs.Unpivot.{HasShortNames, unpivot_refusal, unpivot_table}
 use Rattle.tb_dummies.specs.Dummies.{dummies_refusal, dummies_table, separator_or}
 use Rattle.tb_dummies.specs.Dummies as marked
 use Rattle.tb_dummies.specs.Lent as lent
+use Rattle.tb_pivot.specs.Lent as borrowed
+use Rattle.tb_pivot.specs.Pivot.{pivot_table}
+use Rattle.tb_pivot.specs.Refusal.{pivot_refusal}
+use Rattle.tb_pivot.specs.Request.{way_of}
+use Rattle.tb_pivot.specs.Request as wide
 use Rattle.tb_app.specs.declared.status.Status.{Status}
 use Rattle.tb_app.specs.declared.status.Status.TheVariants as status
 use Rattle.tb_app.specs.Due.{DueOfReading, DueOfRequest, IsOutcome}
-use Rattle.tb_app.specs.Requests.{Request, as_request, asked_dummies, asked_long, join, unpivot, dummies, refusal_of, IsAnswerText, text_of_refusal}
+use Rattle.tb_app.specs.Requests.{Request, as_request, asked_dummies, asked_long, asked_wide, join, unpivot, dummies, pivot, refusal_of, IsAnswerText, text_of_refusal}
 
 -- ---- no request
 
@@ -130,4 +135,32 @@ module _ (r : DummiesRequest) (columns : Option (List Name)) (separator : Option
       outcomes_are_due (dummies r) outcome s text result
       (subst (λ (q : marked.Request). Settles outcome (dummies_refusal q)) lent_is settles)
       (dummies_text r outcome (subst (λ (q : marked.Request). IfOk outcome (λ t. table_of t ≡ dummies_table q)) lent_is table))
+      is
+
+-- ---- a table that is made wide
+
+wide_text : (r : PivotRequest) (outcome : Result (List Col) PolarsError) → IfOk outcome (λ t. table_of t ≡ pivot_table (asked_wide r))
+    → IfOk outcome (λ t. IsAnswerText (pivot r) (text_of (table_of t)))
+unfolding IsAnswerText
+wide_text r (Ok t) table = ap text_of table
+wide_text r (Err e) table = tt
+
+module _ (r : PivotRequest) (on : List Name) (index values : Option (List Name)) (separator : Option (Bor Name))
+    (keys : on ≡ r.on) (rows : index ≡ r.index) (others : values ≡ r.values) (given : option_copied separator ≡ r.separator) where
+  abbrev lent_pivot : wide.Request
+  lent_pivot = borrowed.lent_request r.table on index values r.sort_columns (way_of r.agg) separator
+
+  -- what is asked with what is lent of the request
+  lent_pivot_is : lent_pivot ≡ asked_wide r
+  lent_pivot_is = λ t. record { table = table_of r.table; on = keys t; index = rows t; values = others t; sorts = r.sort_columns; way = way_of r.agg; separator = wide.separator_or (given t) }
+
+  pub pivot_is_due : {A E : Type 0} (outcome : Result (List Col) PolarsError) (s : A → Status) (text : A → List ℕ) (result : Result A E)
+      → Settles outcome (pivot_refusal (borrowed.lent_request r.table on index values r.sort_columns (way_of r.agg) separator))
+      → IfOk outcome (λ t. table_of t ≡ pivot_table (borrowed.lent_request r.table on index values r.sort_columns (way_of r.agg) separator))
+      → IfOk result (λ a. IsOutcome outcome (s a) (text a)) → IfOk result (λ a. DueOfRequest (pivot r) (s a) (text a))
+  unfolding refusal_of
+  pivot_is_due outcome s text result settles table is =
+      outcomes_are_due (pivot r) outcome s text result
+      (subst (λ (q : wide.Request). Settles outcome (pivot_refusal q)) lent_pivot_is settles)
+      (wide_text r outcome (subst (λ (q : wide.Request). IfOk outcome (λ t. table_of t ≡ pivot_table q)) lent_pivot_is table))
       is

@@ -1,11 +1,11 @@
 -- What `done` says of each word, in the words of its command.
 use Rattle.std.proofs.Common.{◌≡◌, ℕ, List, Option, Result, Ok, Err, None, refl, subst}
 use Rattle.tb_request.specs.declared.request.Reason.{Reason}
-use Rattle.tb_request.specs.Reading.{join_request_of, unpivot_request_of, dummies_request_of}
-use Rattle.tb_app.specs.declared.words.Command.TheVariants.{Join, Unpivot, Dummies}
+use Rattle.tb_request.specs.Reading.{join_request_of, unpivot_request_of, dummies_request_of, pivot_request_of}
+use Rattle.tb_app.specs.declared.words.Command.TheVariants.{Join, Unpivot, Dummies, Pivot}
 use Rattle.tb_app.specs.Due.{DoneFor}
-use Rattle.tb_app.specs.Headline.{JoinDone, UnpivotDone, DummiesDone}
-use Rattle.tb_app.specs.Requests.{Request, join, unpivot, dummies, as_request, request_of, refusal_of, IsAnswerText}
+use Rattle.tb_app.specs.Headline.{JoinDone, UnpivotDone, DummiesDone, PivotDone}
+use Rattle.tb_app.specs.Requests.{Request, join, unpivot, dummies, pivot, as_request, request_of, refusal_of, IsAnswerText}
 use Rattle.std.specs.Io.KnownBytes.{Appends}
 
 -- what is read as a request of one command is one
@@ -50,6 +50,21 @@ pub dummies_is_done : (left left' written written' : Option (List ℕ)) → Done
 unfolding request_of refusal_of IsAnswerText
 dummies_is_done left left' written written' d =
     let (r, is_read, is) = read_as dummies (dummies_request_of d.bytes) d.request d.is_request in
+    record {
+      bytes = d.bytes;
+      told = d.told;
+      short = d.short;
+      read = d.read;
+      request = r;
+      is_request = is_read;
+      valid = subst (λ q. refusal_of q ≡ None) is d.valid;
+      wrote = subst (Appends written written') (subst (λ q. IsAnswerText q d.text) is d.is_answer) d.wrote;
+    }
+
+pub pivot_is_done : (left left' written written' : Option (List ℕ)) → DoneFor Pivot left left' written written' → PivotDone left left' written written'
+unfolding request_of refusal_of IsAnswerText
+pivot_is_done left left' written written' d =
+    let (r, is_read, is) = read_as pivot (pivot_request_of d.bytes) d.request d.is_request in
     record {
       bytes = d.bytes;
       told = d.told;

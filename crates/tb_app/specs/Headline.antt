@@ -6,11 +6,13 @@ use Rattle.tb_frame.specs.Refusal.{join_valid}
 use Rattle.tb_frame.specs.Table.{Table}
 use Rattle.tb_unpivot.specs.Unpivot.{unpivot_refusal, unpivot_table}
 use Rattle.tb_dummies.specs.Dummies.{dummies_refusal, dummies_table}
-use Rattle.tb_request.specs.Reading.{JoinRequest, UnpivotRequest, DummiesRequest, asked, join_request_of, unpivot_request_of, dummies_request_of}
+use Rattle.tb_pivot.specs.Pivot.{pivot_table}
+use Rattle.tb_pivot.specs.Refusal.{pivot_refusal}
+use Rattle.tb_request.specs.Reading.{JoinRequest, UnpivotRequest, DummiesRequest, PivotRequest, asked, join_request_of, unpivot_request_of, dummies_request_of, pivot_request_of}
 use Rattle.tb_json.specs.Text.{text_of}
 use Rattle.tb_app.specs.Due.{Tells}
 use Rattle.tb_app.specs.Reading.{limit}
-use Rattle.tb_app.specs.Requests.{asked_dummies, asked_long}
+use Rattle.tb_app.specs.Requests.{asked_dummies, asked_long, asked_wide}
 
 -- The bytes, read to their end, are a request to join that nothing refuses, and the text of a table that answers it was written.
 pub record JoinDone (left left' written written' : Option (List ℕ)) : Type 0 where
@@ -46,3 +48,14 @@ pub record DummiesDone (left left' written written' : Option (List ℕ)) : Type 
   pub is_request : dummies_request_of bytes ≡ Ok request
   pub valid : dummies_refusal (asked_dummies request) ≡ None
   pub wrote : Appends written written' (text_of (dummies_table (asked_dummies request)))
+
+-- The same for a table that is made wide: the text of the wide table was written.
+pub record PivotDone (left left' written written' : Option (List ℕ)) : Type 0 where
+  pub bytes : List ℕ
+  pub told : Tells left bytes
+  pub short : length bytes ≤ limit
+  pub read : Consumes left left' bytes
+  pub request : PivotRequest
+  pub is_request : pivot_request_of bytes ≡ Ok request
+  pub valid : pivot_refusal (asked_wide request) ≡ None
+  pub wrote : Appends written written' (text_of (pivot_table (asked_wide request)))

@@ -8,18 +8,23 @@ use Rattle.tb_unpivot.specs.Unpivot.{variable_or, value_or, unpivot_refusal, unp
 use Rattle.tb_unpivot.specs.Unpivot as long
 use Rattle.tb_dummies.specs.Dummies.{separator_or, dummies_refusal, dummies_table}
 use Rattle.tb_dummies.specs.Dummies as marked
+use Rattle.tb_pivot.specs.Pivot.{pivot_table}
+use Rattle.tb_pivot.specs.Refusal.{pivot_refusal}
+use Rattle.tb_pivot.specs.Request.{way_of}
+use Rattle.tb_pivot.specs.Request as wide
 use Rattle.tb_request.specs.declared.request.Reason.{Reason}
-use Rattle.tb_request.specs.Reading.{JoinRequest, UnpivotRequest, DummiesRequest, asked, join_request_of, unpivot_request_of, dummies_request_of}
+use Rattle.tb_request.specs.Reading.{JoinRequest, UnpivotRequest, DummiesRequest, PivotRequest, asked, join_request_of, unpivot_request_of, dummies_request_of, pivot_request_of}
 use Rattle.tb_json.specs.Text.{text_of}
 use Rattle.tb_json.specs.Text as texts
 use Rattle.tb_app.specs.declared.words.Command.{Command}
-use Rattle.tb_app.specs.declared.words.Command.TheVariants.{Join, Unpivot, Dummies}
+use Rattle.tb_app.specs.declared.words.Command.TheVariants.{Join, Unpivot, Dummies, Pivot}
 
 -- a request of each command
 pub data Request : Type 0 where
   join : JoinRequest → Request
   unpivot : UnpivotRequest → Request
   dummies : DummiesRequest → Request
+  pivot : PivotRequest → Request
 
 -- what is read is a request of one command
 abbrev pub as_request : {A : Type 0} → (A → Request) → Result A Reason → Result Request Reason
@@ -31,6 +36,7 @@ unfoldable pub request_of : Command → List ℕ → Result Request Reason
 request_of Join bytes = as_request join (join_request_of bytes)
 request_of Unpivot bytes = as_request unpivot (unpivot_request_of bytes)
 request_of Dummies bytes = as_request dummies (dummies_request_of bytes)
+request_of Pivot bytes = as_request pivot (pivot_request_of bytes)
 
 -- what is asked of the table that is made long
 abbrev pub asked_long : UnpivotRequest → long.Request
@@ -40,17 +46,23 @@ asked_long r = record { table = table_of r.table; on = r.on; index = r.index; va
 abbrev pub asked_dummies : DummiesRequest → marked.Request
 asked_dummies r = record { table = table_of r.table; columns = r.columns; separator = separator_or r.separator; drop_first = r.drop_first }
 
+-- what is asked of the table that is made wide
+abbrev pub asked_wide : PivotRequest → wide.Request
+asked_wide r = record { table = table_of r.table; on = r.on; index = r.index; values = r.values; sorts = r.sort_columns; way = way_of r.agg; separator = wide.separator_or r.separator }
+
 -- why the operation refuses the request
 unfoldable pub refusal_of : Request → Option PolarsError
 refusal_of (join r) = join_refusal (asked r)
 refusal_of (unpivot r) = unpivot_refusal (asked_long r)
 refusal_of (dummies r) = dummies_refusal (asked_dummies r)
+refusal_of (pivot r) = pivot_refusal (asked_wide r)
 
 -- the text is that of some answer to the request
 unfoldable pub IsAnswerText : Request → List ℕ → Type 0
 IsAnswerText (join r) text = (t : Table) × IsAnswer (asked r) t × (text ≡ text_of t)
 IsAnswerText (unpivot r) text = text ≡ text_of (unpivot_table (asked_long r))
 IsAnswerText (dummies r) text = text ≡ text_of (dummies_table (asked_dummies r))
+IsAnswerText (pivot r) text = text ≡ text_of (pivot_table (asked_wide r))
 
 unfoldable pub text_of_refusal : PolarsError → List ℕ
 text_of_refusal error = texts.text_of_refusal error

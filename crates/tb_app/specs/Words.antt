@@ -2,7 +2,7 @@
 use Rattle.std.specs.Prelude.{ℕ, List, [], ◌∷◌, codes, Option, Some, None, if◌then◌else◌}
 use Rattle.std.specs.Str.{bytes_eq, is_utf8}
 use Rattle.tb_app.specs.declared.words.Command.{Command}
-use Rattle.tb_app.specs.declared.words.Command.TheVariants.{Join, Unpivot, Dummies}
+use Rattle.tb_app.specs.declared.words.Command.TheVariants.{Join, Unpivot, Dummies, Pivot}
 use Rattle.tb_app.specs.declared.words.Form.{Form}
 use Rattle.tb_app.specs.declared.words.Form.TheVariants.{Reads, Unknown}
 
@@ -12,6 +12,7 @@ command word =
     if bytes_eq word (codes "join") then Some Join
     else if bytes_eq word (codes "unpivot") then Some Unpivot
     else if bytes_eq word (codes "dummies") then Some Dummies
+    else if bytes_eq word (codes "pivot") then Some Pivot
     else None
 
 abbrev pub form_of_one : Option Command → Form

@@ -3,10 +3,10 @@ ghost use Rattle.std.specs.Prelude.{◌≡◌, ◌↔◌, ◌<◌, Err, IfOk, Is
 ghost use Rattle.std.specs.List.{All};
 ghost use Rattle.std.specs.Option.{option_copied, option_map};
 ghost use Rattle.tb_chunk.specs.Col.{Col};
-ghost use Rattle.tb_request.specs.Reading.{request_view, unpivot_view, dummies_view, join_request_of, unpivot_request_of, dummies_request_of};
+ghost use Rattle.tb_request.specs.Reading.{request_view, unpivot_view, dummies_view, pivot_view, join_request_of, unpivot_request_of, dummies_request_of, pivot_request_of};
 ghost use Rattle.tb_request.specs.Reasons.{reason_word};
 ghost use Rattle.tb_app.specs.Due.{DueOfReading, DueOfRequest, IsOutcome, IsRefusal, bad_request_text};
-ghost use Rattle.tb_app.specs.Requests.{request_of, as_request, join, unpivot, dummies};
+ghost use Rattle.tb_app.specs.Requests.{request_of, as_request, join, unpivot, dummies, pivot};
 
 use crate::status::Status;
 use crate::words::Command;
@@ -16,9 +16,10 @@ use tb_dummies::DataFrameOps;
 use tb_frame::DataFrame;
 use tb_join::DataFrameJoinOps;
 use tb_json::{text_of, text_of_refusal};
+use tb_pivot::pivot_by;
 use tb_request::{
-    DummiesRequest, JoinRequest, Reason, RequestFault, UnpivotRequest, dummies_request_of,
-    join_request_of, unpivot_request_of,
+    DummiesRequest, JoinRequest, PivotRequest, Reason, RequestFault, UnpivotRequest,
+    dummies_request_of, join_request_of, pivot_request_of, unpivot_request_of,
 };
 use tb_store::Column;
 use tb_unpivot::{UnpivotArgsIR, UnpivotDF};
@@ -44,6 +45,7 @@ pub(crate) fn answer_request(
         Command::Join => answer_join(rt, alloc, bytes),
         Command::Unpivot => answer_unpivot(alloc, bytes),
         Command::Dummies => answer_dummies(alloc, bytes),
+        Command::Pivot => answer_pivot(alloc, bytes),
     }
 }
 
@@ -74,6 +76,15 @@ fn answer_dummies(alloc: Global, bytes: &[u8]) -> Result<Answer, OutOfMemory>
 {
     match dummies_request_of(alloc, bytes) {
         Ok(request) => with_dummies(alloc, request),
+        Err(fault) => no_request(alloc, fault),
+    }
+}
+
+fn answer_pivot(alloc: Global, bytes: &[u8]) -> Result<Answer, OutOfMemory>
+    ensures { IfOk result (λ a. DueOfReading (as_request pivot (pivot_request_of bytes.now)) a.status (string_bytes a.text)) }
+{
+    match pivot_request_of(alloc, bytes) {
+        Ok(request) => made_wide(alloc, request),
         Err(fault) => no_request(alloc, fault),
     }
 }
@@ -130,6 +141,25 @@ fn with_dummies(alloc: Global, request: DummiesRequest) -> Result<Answer, OutOfM
     let outcome = request
         .table
         ._to_dummies(alloc, columns, separator, request.drop_first);
+    answered(alloc, outcome)
+}
+
+fn made_wide(alloc: Global, request: PivotRequest) -> Result<Answer, OutOfMemory>
+    ensures { IfOk result (λ a. DueOfRequest (pivot (pivot_view request)) a.status (string_bytes a.text)) }
+{
+    let index = names_given(&request.index);
+    let values = names_given(&request.values);
+    let separator = text_given(&request.separator);
+    let outcome = pivot_by(
+        alloc,
+        &request.table,
+        &request.on,
+        index,
+        values,
+        request.sort_columns,
+        &request.agg,
+        separator,
+    );
     answered(alloc, outcome)
 }
 

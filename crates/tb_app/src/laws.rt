@@ -2,10 +2,10 @@
 ghost use Rattle.std.specs.Prelude.{◌≡◌, List, ℕ, Option};
 ghost use Rattle.tb_app.specs.declared.status.Status.{Status};
 ghost use Rattle.tb_app.specs.declared.status.Status.TheVariants.{Done};
-ghost use Rattle.tb_app.specs.declared.words.Command.TheVariants.{Join, Unpivot, Dummies};
+ghost use Rattle.tb_app.specs.declared.words.Command.TheVariants.{Join, Unpivot, Dummies, Pivot};
 ghost use Rattle.tb_app.specs.declared.words.Form.{Form};
 ghost use Rattle.tb_app.specs.Due.{due, DoneFor, IsDue, IsValid};
-ghost use Rattle.tb_app.specs.Headline.{JoinDone, UnpivotDone, DummiesDone};
+ghost use Rattle.tb_app.specs.Headline.{JoinDone, UnpivotDone, DummiesDone, PivotDone};
 
 pub use tb_json::laws::text_one_to_one;
 use tb_value::PlSmallStr;
@@ -37,4 +37,10 @@ pub fn unpivot_is_done()
 pub fn dummies_is_done()
     ensures { (left left' written written' : Option (List ℕ))
         → DoneFor Dummies left left' written written' → DummiesDone left left' written written' }
+{}
+
+/// What `run` says of 0 under the word `pivot`, in the words of a table that is made wide.
+pub fn pivot_is_done()
+    ensures { (left left' written written' : Option (List ℕ))
+        → DoneFor Pivot left left' written written' → PivotDone left left' written written' }
 {}

@@ -10,6 +10,7 @@ pub enum Command {
     Join,
     Unpivot,
     Dummies,
+    Pivot,
 }
 
 /// What the words ask for.
@@ -38,6 +39,7 @@ fn command_of(word: &str) -> Option<Command>
         "join" => Some(Command::Join),
         "unpivot" => Some(Command::Unpivot),
         "dummies" => Some(Command::Dummies),
+        "pivot" => Some(Command::Pivot),
         _ => None,
     }
 }
