@@ -7,7 +7,7 @@ use Rattle.std.proofs.KnownBytes.{Consumes-nil}
 use Rattle.std.specs.Io.KnownBytes.{Consumes, Appends, IsAtEnd}
 use Rattle.tb_app.specs.declared.words.Command.{Command}
 use Rattle.tb_app.specs.declared.words.Form.{Form}
-use Rattle.tb_app.specs.declared.words.Form.TheVariants.{Reads, Unknown}
+use Rattle.tb_app.specs.declared.words.Form.TheVariants.{Reads, Sample, Unknown}
 use Rattle.tb_app.specs.declared.status.Status.{Status}
 use Rattle.tb_app.specs.declared.status.Status.TheVariants as status
 use Rattle.tb_value.specs.declared.error.PolarsError.{PolarsError}
@@ -15,7 +15,7 @@ use Rattle.tb_request.specs.declared.request.Reason.{Reason}
 use Rattle.tb_app.specs.Ends.{Rose, AppendsPart}
 use Rattle.tb_app.specs.Reading.{limit}
 use Rattle.tb_app.specs.Requests.{Request, request_of, refusal_of, IsAnswerText, text_of_refusal}
-use Rattle.tb_app.specs.Due.{DoneFor, DueOfReading, DueOfForm, Tells, read_for, IsDue, HasText, IsCommand, IsValid, usage_text, too_long_text}
+use Rattle.tb_app.specs.Due.{DoneFor, DueOfReading, DueOfForm, IsSampleText, Tells, read_for, IsDue, HasText, IsCommand, IsValid, usage_text, too_long_text}
 use Rattle.tb_app.specs.Run.{IsReply}
 
 -- WHAT WAS READ
@@ -70,6 +70,7 @@ told_known (Some xs) = refl
 pub unread_is_due : (asked : Form) (before : Option (List ℕ)) (s : Status) (text : List ℕ) → ¬ IsCommand asked → ((bytes : List ℕ) → DueOfForm asked bytes s text)
     → IsDue asked before before s text
 unread_is_due (Reads command) before s text none is_due = absurd (none tt)
+unread_is_due (Sample rows) before s text none is_due = record { bytes = known_or_none before; told = told_known before; due = is_due (known_or_none before); read = Consumes-nil before }
 unread_is_due Unknown before s text none is_due = record { bytes = known_or_none before; told = told_known before; due = is_due (known_or_none before); read = Consumes-nil before }
 
 -- WHAT HAS A TEXT
@@ -93,12 +94,18 @@ answers_command command false bytes s text d = answers_reading (request_of comma
 
 pub due_has_text : (asked : Form) (bytes : List ℕ) (s : Status) (text : List ℕ) → DueOfForm asked bytes s text → HasText s
 due_has_text (Reads command) bytes s text d = answers_command command (nat_lt limit (length bytes)) bytes s text d
+due_has_text (Sample rows) bytes s text d = has_text s status.Done d.0 tt
 due_has_text Unknown bytes s text d = has_text s status.Usage d.0 tt
 
 -- WHAT WAS WRITTEN
 
 pub usage_is_due : (asked : Form) (before : Option (List ℕ)) → Unknown ≡ asked → IsDue asked before before status.Usage usage_text
 usage_is_due asked before e = subst (λ f. IsDue f before before status.Usage usage_text) e (unread_is_due Unknown before status.Usage usage_text (λ h. h) (λ bytes. (refl, refl)))
+
+pub sample_is_due : (asked : Form) (rows : ℕ) (before : Option (List ℕ)) (given text : List ℕ) → Sample rows ≡ asked → given ≡ text → IsSampleText rows text → IsDue asked before before status.Done given
+sample_is_due asked rows before given text e same told =
+    subst (λ f. IsDue f before before status.Done given) e
+    (unread_is_due (Sample rows) before status.Done given (λ h. h) (λ bytes. (refl, subst (IsSampleText rows) (sym same) told)))
 
 pub answer_is_due : (asked : Form) (command : Command) (before after : Option (List ℕ)) (s : Status) (given text : List ℕ) → Reads command ≡ asked → given ≡ text → IsDue (Reads command) before after s text → IsDue asked before after s given
 answer_is_due asked command before after s given text e same is_due =
@@ -164,6 +171,7 @@ valid_is_done (Reads command) (Some known) left' s text valid is_due =
     let read : request_of command bytes ≡ Ok valid.1.0 = subst (λ l. request_of command l ≡ Ok valid.1.0) is_due.told valid.1.1 in
     let P : Bool → Type 0 = λ b. MatchBool b ((s ≡ status.TooLong) × (text ≡ too_long_text)) (DueOfReading (request_of command bytes) s text) in
     done_reading (request_of command bytes) valid.1.0 s text read valid.1.2 (subst P (le-ltb limit (length bytes) short) is_due.due)
+valid_is_done (Sample rows) left left' s text valid is_due = is_due.due.0
 valid_is_done Unknown left left' s text valid is_due = absurd valid
 
 pub replied_done : (asked : Form) (left left' written written' : Option (List ℕ)) (faults faults' : ℕ) (s : Status) (text : List ℕ) (result : Status)

@@ -5,3 +5,4 @@ mod Frame
 mod OneStatus
 mod Commands
 mod Answered
+mod SampleRows

@@ -3,7 +3,7 @@ use Rattle.std.proofs.Common.{◌≡◌, ℕ, List, length, Option, None, Some, 
 use Rattle.tb_value.specs.declared.error.PolarsError.{PolarsError}
 use Rattle.tb_app.specs.declared.words.Command.{Command}
 use Rattle.tb_app.specs.declared.words.Form.{Form}
-use Rattle.tb_app.specs.declared.words.Form.TheVariants.{Reads, Unknown}
+use Rattle.tb_app.specs.declared.words.Form.TheVariants.{Reads, Sample, Unknown}
 use Rattle.tb_app.specs.declared.status.Status.{Status}
 use Rattle.tb_app.specs.declared.status.Status.TheVariants as status
 use Rattle.tb_app.specs.Reading.{limit}
@@ -29,6 +29,7 @@ one_command command false bytes s s' text text' d d' = one_reading (request_of c
 
 one_form : (asked : Form) (bytes : List ℕ) (s s' : Status) (text text' : List ℕ) → DueOfForm asked bytes s text → DueOfForm asked bytes s' text' → s ≡ s'
 one_form (Reads command) bytes s s' text text' d d' = one_command command (nat_lt limit (length bytes)) bytes s s' text text' d d'
+one_form (Sample rows) bytes s s' text text' d d' = d.0 ∙ sym d'.0
 one_form Unknown bytes s s' text text' d d' = d.0 ∙ sym d'.0
 
 pub one_status : (words : List (List ℕ)) (bytes : List ℕ) (s s' : Status) (text text' : List ℕ) → due words bytes s text → due words bytes s' text' → s ≡ s'

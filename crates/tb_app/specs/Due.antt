@@ -6,11 +6,13 @@ use Rattle.tb_value.specs.declared.error.PolarsError.TheVariants.{OutOfMemory}
 use Rattle.tb_chunk.specs.Col.{Col}
 use Rattle.tb_frame.specs.Table.{table_of}
 use Rattle.tb_json.specs.Text.{text_of}
+use Rattle.tb_sample.specs.Sample.{IsSummary, text_of_summary}
+use Rattle.tb_sample.specs.declared.summary.Summary.{Summary}
 use Rattle.tb_request.specs.declared.request.Reason.{Reason}
 use Rattle.tb_request.specs.Reasons.{reason_word}
 use Rattle.tb_app.specs.declared.words.Command.{Command}
 use Rattle.tb_app.specs.declared.words.Form.{Form}
-use Rattle.tb_app.specs.declared.words.Form.TheVariants.{Reads, Unknown}
+use Rattle.tb_app.specs.declared.words.Form.TheVariants.{Reads, Sample, Unknown}
 use Rattle.tb_app.specs.declared.status.Status.{Status}
 use Rattle.tb_app.specs.declared.status.Status.TheVariants as status
 use Rattle.tb_app.specs.Reading.{limit}
@@ -49,9 +51,14 @@ abbrev pub DueOfReading : Result Request Reason → Status → List ℕ → Type
 DueOfReading (Ok q) s text = DueOfRequest q s text
 DueOfReading (Err reason) s text = (s ≡ status.BadRequest) × (text ≡ bad_request_text reason)
 
+-- the text tells of an answer to the join of the sample's tables
+abbrev pub IsSampleText : ℕ → List ℕ → Type 0
+IsSampleText rows text = (told : Summary) × IsSummary rows told × (text ≡ text_of_summary told)
+
 -- the table of what is due for each form of words, and for a command by its bytes
 abbrev pub DueOfForm : Form → List ℕ → Status → List ℕ → Type 0
 DueOfForm Unknown bytes s text = (s ≡ status.Usage) × (text ≡ usage_text)
+DueOfForm (Sample rows) bytes s text = (s ≡ status.Done) × IsSampleText rows text
 DueOfForm (Reads command) bytes s text = MatchBool (nat_lt limit (length bytes))
     ((s ≡ status.TooLong) × (text ≡ too_long_text))
     (DueOfReading (request_of command bytes) s text)
@@ -70,6 +77,7 @@ Tells (Some known) bytes = known ≡ bytes
 -- what is read of the bytes: for a command all of them, up to the first one past the limit
 abbrev pub read_for : Form → List ℕ → List ℕ
 read_for (Reads command) bytes = take (limit + 1) bytes
+read_for (Sample rows) bytes = []
 read_for Unknown bytes = []
 
 -- The status and the text are due for the words and the source's bytes, and of these the call has read what it is to read.
@@ -93,16 +101,19 @@ HasText status.OutOfMemory = ⊥
 -- the words ask for a command, which reads a request
 abbrev pub IsCommand : Form → Type 0
 IsCommand (Reads command) = ⊤
+IsCommand (Sample rows) = ⊥
 IsCommand Unknown = ⊥
 
 -- the words have a form
 abbrev pub IsKnown : Form → Type 0
 IsKnown (Reads command) = ⊤
+IsKnown (Sample rows) = ⊤
 IsKnown Unknown = ⊥
 
--- the words have a form, and the source tells a request that nothing refuses
+-- the words have a form, and under a command the source tells a request that nothing refuses
 abbrev pub IsValid : Form → Option (List ℕ) → Type 0
 IsValid (Reads command) told = IsSomeAnd told (λ bytes. (length bytes ≤ limit) × ((q : Request) × (request_of command bytes ≡ Ok q) × (refusal_of q ≡ None)))
+IsValid (Sample rows) told = ⊤
 IsValid Unknown told = ⊥
 
 -- The headline: the bytes, read to their end, are a request that nothing refuses, and the text of an answer to it was written.

@@ -1,8 +1,8 @@
 //! One run of the program.
-ghost use Rattle.std.specs.Prelude.{◌≡◌, ◌≢◌, ◌⊎◌, List, ℕ, IfOk, string_bytes};
+ghost use Rattle.std.specs.Prelude.{◌≡◌, ◌≢◌, ◌≤◌, ◌⊎◌, List, ℕ, IfOk, string_bytes};
 ghost use Rattle.std.specs.Io.KnownBytes.{Appends};
 ghost use Rattle.tb_app.specs.declared.words.Command.{Command};
-ghost use Rattle.tb_app.specs.Due.{due, DoneFor, IsDue, HasText, IsCommand, IsKnown, IsValid};
+ghost use Rattle.tb_app.specs.Due.{due, DoneFor, IsDue, HasText, IsCommand, IsKnown, IsSampleText, IsValid};
 ghost use Rattle.tb_app.specs.Ends.{Rose, AppendsPart};
 ghost use Rattle.tb_app.specs.Reading.{CountsReads};
 ghost use Rattle.tb_app.specs.Words.{form};
@@ -17,7 +17,8 @@ use crate::words::{Command, Form, form_of};
 use crate::writing::write_text;
 use std::alloc::Global;
 use std::thread::Threads;
-use tb_value::PlSmallStr;
+use tb_sample::{sample, text_of_summary};
+use tb_value::{OutOfMemory, PlSmallStr};
 
 const USAGE: &str = "{\"error\":\"Usage\"}\n";
 
@@ -68,6 +69,10 @@ pub fn run<S: Source, K: Sink>(
 {
     match form_of(words) {
         Form::Unknown => reply(sink, Status::Usage, USAGE),
+        Form::Sample(rows) => match sampled(rt, alloc, rows) {
+            Ok(text) => reply(sink, Status::Done, text.as_str()),
+            Err(OutOfMemory) => Status::OutOfMemory,
+        },
         Form::Reads(command) => match respond(rt, alloc, command, source) {
             Ok(answer) => reply(sink, answer.status, answer.text.as_str()),
             Err(ReadError::Failed) => Status::ReadFault,
@@ -93,6 +98,16 @@ fn respond<S: Source>(
             text: String::from_str(alloc, TOO_LONG)?,
         }),
     }
+}
+
+// The text that tells of a sample of so many rows.
+fn sampled(rt: &(impl Threads + Sync), alloc: Global, rows: u32) -> Result<String, OutOfMemory>
+    requires some { 1 ≤ rows }
+    requires few { rows ≤ 2000000 }
+    ensures { IfOk result (λ text. IsSampleText rows (string_bytes text)) }
+{
+    let summary = sample(rt, alloc, rows)?;
+    text_of_summary(alloc, &summary)
 }
 
 // Writes a text, and answers with its status.
