@@ -1,9 +1,9 @@
 -- Columns of given names, and causes that are looked at in parts.
-use Rattle.std.proofs.Common.{◌≡◌, ◌∙◌, ◌+◌, ◌<◌, ℕ, Bool, true, false, cond, not, ◌||◌, List, [], ◌∷◌, ◌++◌, length, map, get_or, take, Option, Some, None, is_none, refl, sym, ap, subst, arith}
+use Rattle.std.proofs.Common.{◌≡◌, ◌∙◌, ◌+◌, ◌<◌, ℕ, Bool, true, false, cond, not, List, [], ◌∷◌, ◌++◌, length, map, get_or, take, Option, Some, None, refl, sym, ap, subst}
 use Rattle.std.specs.Prelude.{◌⊎◌, filter}
 use Rattle.std.specs.Borrow.{Bor}
 use Rattle.std.specs.List.{All, find}
-use Rattle.std.specs.Option.{option_copied, option_map}
+use Rattle.std.specs.Option.{option_copied}
 use Rattle.std.proofs.lemmas.List.{map-append, take_more}
 use Rattle.std.proofs.lemmas.List.Elements.{All-nil, All-cons, All-head, All-tail, filter-append}
 use Rattle.tb_value.specs.Names.{Name}
@@ -14,14 +14,13 @@ use Rattle.tb_value.specs.declared.error.PolarsError.TheVariants.{InvalidOperati
 use Rattle.tb_chunk.specs.Col.{Col, values}
 use Rattle.tb_chunk.specs.Lent.{lent_columns}
 use Rattle.tb_frame.specs.Frame.{selected}
-use Rattle.tb_frame.specs.Join.{named}
 use Rattle.tb_frame.specs.Table.{IsTable, Table, TableColumn, height, names_of, plain, table_of}
 use Rattle.tb_frame.proofs.Causes.{find_none, first_cause-append, map_none, selected_hold}
 use Rattle.tb_pivot.specs.Lent.{lent_request, name_causes}
 use Rattle.tb_pivot.specs.Lookup.{AreAsHigh, AreFound, chosen_of}
 use Rattle.tb_pivot.specs.Made.{takes}
 use Rattle.tb_pivot.specs.Refusal.{agg_cause, column_causes, has_no_kind, pivot_refusal, value_causes}
-use Rattle.tb_pivot.specs.Request.{Chosen, Request, Way, chosen, columns_named, given_or_rest, index_names, separator_or, value_names}
+use Rattle.tb_pivot.specs.Request.{Request, Way, chosen, columns_named, given_or_rest, index_names, separator_or, value_names}
 use Rattle.tb_pivot.specs.declared.lookup.RequestColumns.{RequestColumns}
 use Rattle.tb_pivot.proofs.Causes.{columns_found, goes_on, not_taken, onward, stops}
 

@@ -1,5 +1,5 @@
 -- Why there are no values for groups, as a pivot is refused.
-use Rattle.std.proofs.Common.{◌≡◌, ◌∙◌, ℕ, ℤ, Bool, true, false, not, List, [], ◌∷◌, length, Option, Some, None, is_none, is_some, Result, refl, sym, ap}
+use Rattle.std.proofs.Common.{◌≡◌, ◌∙◌, ℤ, true, not, List, [], ◌∷◌, length, Option, Some, None, is_none, is_some, refl, sym, ap}
 use Rattle.tb_value.specs.Kind.{Kind}
 use Rattle.tb_value.specs.Refusals.{first_cause, when}
 use Rattle.tb_value.specs.declared.error.ComputeCause.TheVariants.{SumRange}

@@ -1,5 +1,5 @@
 -- Columns that make the same table, whatever their chunks are.
-use Rattle.std.proofs.Common.{◌≡◌, ◌∙◌, ◌≤◌, ℕ, Bool, List, get_or, length, map, sym, ap, subst, arith}
+use Rattle.std.proofs.Common.{◌≡◌, ◌∙◌, ℕ, Bool, List, length, map, sym, ap, subst, arith}
 use Rattle.std.specs.Borrow.{Bor}
 use Rattle.std.specs.List.{All}
 use Rattle.std.proofs.lemmas.List.{get_or-map, length-map}
@@ -8,10 +8,10 @@ use Rattle.tb_value.specs.Names.{Name}
 use Rattle.tb_chunk.specs.Col.{Col}
 use Rattle.tb_chunk.specs.Lent.{lent_columns}
 use Rattle.tb_frame.specs.Frame.{in_one_chunk}
-use Rattle.tb_frame.specs.Table.{TableColumn, Table, plain, table_of}
+use Rattle.tb_frame.specs.Table.{TableColumn, plain, table_of}
 use Rattle.tb_frame.proofs.Cuts.{table-whole}
 use Rattle.tb_pivot.specs.Lookup.{AreAsHigh, chosen_of}
-use Rattle.tb_pivot.specs.Request.{Chosen, Way}
+use Rattle.tb_pivot.specs.Request.{Way}
 use Rattle.tb_pivot.specs.declared.lookup.RequestColumns.{RequestColumns}
 use Rattle.tb_pivot.proofs.Texts.{map_twice}
 

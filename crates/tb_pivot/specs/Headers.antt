@@ -1,5 +1,5 @@
 -- How the columns are called that are made of rows.
-use Rattle.std.specs.Prelude.{ℕ, nat_lt, List, [], ◌∷◌, ◌++◌, length, map, if◌then◌else◌, codes}
+use Rattle.std.specs.Prelude.{ℕ, nat_lt, List, [], ◌∷◌, ◌++◌, map, if◌then◌else◌, codes}
 use Rattle.std.specs.List.{join_with_byte}
 use Rattle.tb_value.specs.Datum.{Datum, string}
 use Rattle.tb_value.specs.Names.{Name}

@@ -1,5 +1,5 @@
 -- One value for each group of rows, as each way makes it.
-use Rattle.std.specs.Prelude.{◌≡◌, List, not, Bool, true, is_some, Option, None, Result, Ok}
+use Rattle.std.specs.Prelude.{◌≡◌, Bool, true, is_some, Option, None, Ok}
 use Rattle.tb_value.specs.Kind.{Kind}
 use Rattle.tb_value.specs.declared.error.PolarsError.{PolarsError}
 use Rattle.tb_chunk.specs.Col.{Col}

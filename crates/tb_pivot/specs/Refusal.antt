@@ -1,7 +1,7 @@
 -- Which pivots are refused, and why: the first of twelve causes.
 use Rattle.std.specs.Prelude.{ℕ, nat_lt, Bool, true, false, ◌&&◌, not, List, [], ◌∷◌, ◌++◌, length, map, filter, Option, Some, None, is_none, Result, Ok, Err}
 use Rattle.std.specs.Option.{option_map}
-use Rattle.std.specs.List.{find, list_all}
+use Rattle.std.specs.List.{find}
 use Rattle.tb_value.specs.Names.{Name}
 use Rattle.tb_value.specs.Pairs.{row_numbers}
 use Rattle.tb_value.specs.Refusals.{first_cause, when}
@@ -16,7 +16,6 @@ use Rattle.tb_label.specs.Label.{is_header}
 use Rattle.tb_rows.specs.Rows.{value_at}
 use Rattle.tb_agg.specs.Aggregates.{result_kind, sum_kind, total}
 use Rattle.tb_agg.specs.Outcome.{are_in_range}
-use Rattle.tb_agg.specs.declared.table.Aggregate.{Aggregate}
 use Rattle.tb_agg.specs.declared.table.Aggregate.TheVariants.{Sum}
 use Rattle.tb_pivot.specs.Headers.{brace_name}
 use Rattle.tb_pivot.specs.Pivot.{alike, answered, distinct_rows, key_columns, wide}

@@ -5,7 +5,6 @@ use Rattle.tb_value.specs.Refusals.{Settles}
 use Rattle.tb_value.specs.declared.error.PolarsError.{PolarsError}
 use Rattle.tb_frame.specs.Table.{table_of}
 use Rattle.tb_pivot.specs.Lent.{lent_request}
-use Rattle.tb_pivot.specs.Lookup.{AreAsHigh, chosen_of}
 use Rattle.tb_pivot.specs.Pivot.{wide}
 use Rattle.tb_pivot.specs.Refusal.{value_causes}
 use Rattle.tb_pivot.specs.Request.{Chosen, Request}

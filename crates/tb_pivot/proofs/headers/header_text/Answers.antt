@@ -1,9 +1,8 @@
 use Rattle.std.proofs.Common.{◌≡◌, ◌∙◌, IfOk, List, ℕ, length, map, sym, ap, subst, arith}
 use Rattle.std.proofs.lemmas.List.{length-map}
-use Rattle.tb_value.specs.Datum.{Datum}
 use Rattle.tb_chunk.specs.Col.{values}
 use Rattle.tb_rows.specs.Rows.{value_at}
-use Rattle.tb_pivot.specs.Headers.{field_text, header_text, in_braces}
+use Rattle.tb_pivot.specs.Headers.{field_text, in_braces}
 use Rattle.tb_pivot.proofs.Texts.{header_of_many, map_twice}
 use Rattle.tb_pivot.proofs.headers.header_text.Goals as goal
 

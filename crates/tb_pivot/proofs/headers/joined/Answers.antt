@@ -1,4 +1,4 @@
-use Rattle.std.proofs.Common.{◌≡◌, ◌∙◌, ◌+◌, List, ◌∷◌, ◌++◌, ℕ, get_or, take, sym, ap}
+use Rattle.std.proofs.Common.{◌∙◌, List, ◌∷◌, ◌++◌, ℕ, get_or, take, sym, ap}
 use Rattle.std.specs.List.{join_with_byte}
 use Rattle.std.proofs.lemmas.List.{take_more}
 use Rattle.tb_pivot.proofs.Texts.{joined_more}

@@ -1,5 +1,4 @@
 use Rattle.std.proofs.Common.{◌∙◌, ap, is_some}
-use Rattle.std.specs.Prelude.{position}
 use Rattle.tb_value.specs.Names.{Name}
 use Rattle.tb_frame.specs.Naming.{is_among}
 use Rattle.tb_frame.specs.Table.{names_of, table_of}
