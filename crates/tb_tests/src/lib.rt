@@ -6,6 +6,8 @@ mod columns;
 #[cfg(test)]
 mod merging;
 #[cfg(test)]
+mod pivoting;
+#[cfg(test)]
 mod row_keys;
 #[cfg(test)]
 mod tables;

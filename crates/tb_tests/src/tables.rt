@@ -5,7 +5,7 @@ use std::test::Fail;
 use tb_frame::{DataFrame, coalesce_columns};
 use tb_store::{AnyValue, Column, DataType, NullableIdxSize, PlSmallStr};
 
-fn column(alloc: Global, name: &str, ints: &[i128]) -> Result<Column, Fail> {
+pub(crate) fn column(alloc: Global, name: &str, ints: &[i128]) -> Result<Column, Fail> {
     let mut chunk = Vec::new(alloc);
     for int in ints {
         chunk.push(AnyValue::Int(*int))?;
@@ -23,7 +23,7 @@ fn keyed(alloc: Global, name: &str, keys: &[i128], ints: &[i128]) -> Result<Data
     Ok(DataFrame::new(alloc, columns)?)
 }
 
-fn name(alloc: Global, text: &str) -> Result<Vec<PlSmallStr>, Fail> {
+pub(crate) fn name(alloc: Global, text: &str) -> Result<Vec<PlSmallStr>, Fail> {
     let mut names = Vec::new(alloc);
     names.push(PlSmallStr::from_str(alloc, text)?)?;
     Ok(names)

@@ -1,0 +1,158 @@
+//! A table made wide by an object of the caller's.
+
+use crate::tables::{column, name};
+use std::alloc::Global;
+use std::test::Fail;
+use tb_frame::DataFrame;
+use tb_pivot::{ExprFault, PhysicalAggExpr, PivotAgg, pivot_stable};
+use tb_rows::Groups;
+use tb_store::{PlSmallStr, Series};
+use tb_value::{ComputeCause, PolarsError, PolarsResult};
+
+// Answers a column of its own, whatever it is asked.
+#[derive(Drop)]
+struct Given {
+    name: PlSmallStr,
+    column: Series,
+}
+
+impl PhysicalAggExpr for Given {
+    ghost use Rattle.std.specs.Prelude.{Ok};
+    ghost use Rattle.tb_frame.specs.Table.{plain};
+
+    ghost named = { λ given. Ok given.name };
+
+    ghost answers = { λ given table firsts numbers. Ok (plain given.column) };
+
+    fn root_name(&self) -> Result<&PlSmallStr, ExprFault> {
+        Ok(&self.name)
+    }
+
+    fn evaluate(
+        &self,
+        alloc: Global,
+        _df: &DataFrame,
+        _groups: &Groups,
+    ) -> Result<Series, ExprFault> {
+        match self.column.copy(alloc) {
+            Ok(column) => Ok(column),
+            Err(_) => Err(ExprFault::OutOfMemory),
+        }
+    }
+}
+
+// Refuses to name a column, or else to answer one.
+#[derive(Drop)]
+struct Refusing {
+    name: Option<PlSmallStr>,
+    code: u32,
+}
+
+impl PhysicalAggExpr for Refusing {
+    ghost use Rattle.std.specs.Prelude.{Err};
+    ghost use Rattle.tb_tests.specs.Objects.{name_or_refusal};
+
+    ghost named = { λ refusing. name_or_refusal refusing.code refusing.name };
+
+    ghost answers = { λ refusing table firsts numbers. Err refusing.code };
+
+    fn root_name(&self) -> Result<&PlSmallStr, ExprFault> {
+        match &self.name {
+            Some(name) => Ok(name),
+            None => Err(ExprFault::Refused(self.code)),
+        }
+    }
+
+    fn evaluate(
+        &self,
+        _alloc: Global,
+        _df: &DataFrame,
+        _groups: &Groups,
+    ) -> Result<Series, ExprFault> {
+        Err(ExprFault::Refused(self.code))
+    }
+}
+
+// Two rows of the first index and one of the second, with three cells.
+fn three_cells(alloc: Global) -> Result<DataFrame, Fail> {
+    let mut columns = Vec::new(alloc);
+    columns.push(column(alloc, "i", &[1, 1, 2])?)?;
+    columns.push(column(alloc, "o", &[5, 6, 5])?)?;
+    columns.push(column(alloc, "v", &[7, 8, 9])?)?;
+    Ok(DataFrame::new(alloc, columns)?)
+}
+
+fn made_wide(alloc: Global, agg: &PivotAgg) -> Result<PolarsResult<DataFrame>, Fail> {
+    let table = three_cells(alloc)?;
+    let on = name(alloc, "o")?;
+    let index = name(alloc, "i")?;
+    Ok(pivot_stable(
+        alloc,
+        &table,
+        &on,
+        Some(&index),
+        None,
+        false,
+        Some(agg),
+        None,
+    ))
+}
+
+fn an_answer(alloc: Global, ints: &[i128]) -> Result<Given, Fail> {
+    Ok(Given {
+        name: PlSmallStr::from_str(alloc, "w")?,
+        column: column(alloc, "x", ints)?
+            .as_materialized_series()
+            .copy(alloc)?,
+    })
+}
+
+#[test]
+fn the_values_of_an_object_stand_in_their_cells(rt: HostRuntime) -> Result<(), Fail> {
+    let alloc = rt.alloc();
+    let agg = PivotAgg::Expr(Box::new(alloc, an_answer(alloc, &[70, 80, 90])?)?);
+    let wide = made_wide(alloc, &agg)??;
+    let mut expected = Vec::new(alloc);
+    expected.push(column(alloc, "i", &[1, 2])?)?;
+    expected.push(column(alloc, "5", &[70, 90])?)?;
+    assert!(rt;
+        wide.width() == 3
+            && wide
+                .drop_many(alloc, &name(alloc, "6")?)?
+                .equals_missing(&DataFrame::new(alloc, expected)?)
+    );
+    Ok(())
+}
+
+#[test]
+fn two_values_for_three_cells(rt: HostRuntime) -> Result<(), Fail> {
+    let alloc = rt.alloc();
+    let agg = PivotAgg::Expr(Box::new(alloc, an_answer(alloc, &[70, 80])?)?);
+    let cause = ComputeCause::EvaluateLength {
+        groups: 3,
+        values: 2,
+    };
+    assert!(rt; made_wide(alloc, &agg)?.err() == Some(PolarsError::ComputeError(cause)));
+    Ok(())
+}
+
+#[test]
+fn an_object_refuses(rt: HostRuntime) -> Result<(), Fail> {
+    let alloc = rt.alloc();
+    let nameless = PivotAgg::Expr(Box::new(
+        alloc,
+        Refusing {
+            name: None,
+            code: 3,
+        },
+    )?);
+    let refusing = Refusing {
+        name: Some(PlSmallStr::from_str(alloc, "w")?),
+        code: 7,
+    };
+    let named = PivotAgg::Expr(Box::new(alloc, refusing)?);
+    let (third, seventh) = (ComputeCause::Evaluate(3), ComputeCause::Evaluate(7));
+    assert!(rt; made_wide(alloc, &nameless)?.err() == Some(PolarsError::ComputeError(third)));
+    assert!(rt; made_wide(alloc, &named)?.err() == Some(PolarsError::ComputeError(seventh)));
+    Ok(())
+}
