@@ -1,11 +1,11 @@
 -- The flag of gathered values.
-use Rattle.std.proofs.Common.{◌≡◌, ◌∙◌, ℕ, ◌<◌, ◌≤◌, inl, inr, not, Bool, true, false, List, length, map, get_or, refl, ap, sym, subst, None, arith}
+use Rattle.std.proofs.Common.{◌≡◌, ◌∙◌, ℕ, ◌<◌, ◌≤◌, inl, inr, not, Bool, true, false, List, length, map, get_or, refl, ap, sym, subst, Option, Some, None, arith}
 use Rattle.std.specs.Prelude.{IsSome}
 use Rattle.std.specs.List.{All, AllPairs}
 use Rattle.std.specs.Ordering.{flip_args}
 use Rattle.std.specs.declared.cmp.Ordering.{Ordering}
 use Rattle.std.proofs.lemmas.List.{get_or-map, length-map, append-nil}
-use Rattle.std.proofs.lemmas.List.Elements.{filter_passes, All-filter}
+use Rattle.std.proofs.lemmas.List.Elements.{filter_passes, All-filter, All-map}
 use Rattle.tb_value.specs.Datum.{Datum, null, is_null, is_present}
 use Rattle.tb_value.specs.Kind.{Kind}
 use Rattle.tb_value.specs.Typed.{HasType}
@@ -13,11 +13,14 @@ use Rattle.tb_value.specs.declared.sorted.IsSorted.{IsSorted}
 use Rattle.tb_value.specs.declared.sorted.IsSorted.TheVariants.{Ascending, Descending, Not}
 use Rattle.tb_chunk.specs.Col.{Col, flat, values, IsColumn}
 use Rattle.tb_chunk.specs.Flag.{datum_cmp, present, nulls, IsOrdered, FlagHolds}
-use Rattle.tb_gather.specs.Ids.{Id, AreRun, NamesRow, IsUpTo, RunsBy}
+use Rattle.tb_chunk.specs.Rows.{IsRowOf, value_or_null}
 use Rattle.tb_frame.specs.Frame.{lengths}
+use Rattle.tb_gather.specs.Ids.{Id, AreRun, NamesRow, RunsBy, IsRowUpTo, RowsRunBy, RowsAreRun, row_or_none}
 use Rattle.tb_gather.specs.Gathered.{value_at, gathered_flag, gathered, named_rows, opt_gathered, NameRows}
 use Rattle.tb_gather.proofs.Comparing.{IsOf, Orders, ascending-orders, descending-orders}
-use Rattle.tb_gather.proofs.Naming.{number, number-value, number-low, number-up}
+use Rattle.tb_gather.proofs.Cuts.{gathered-pick}
+use Rattle.tb_gather.proofs.Naming.{named-row}
+use Rattle.tb_gather.proofs.Running.{rows-run, rows-there}
 use Rattle.tb_gather.proofs.Standing.{Stands, turned, nulls-first, nulls-last, ends-of-pairs, in-order-of-pairs}
 
 -- any value stands right before any later one
@@ -34,59 +37,114 @@ module _ (order : Datum → Datum → Ordering) (t : Kind) (o : Orders order (Is
         | inr e ↦ (false, subst (AllStand false order) (sym e) (nulls-last order (IsOf t) o (nulls vs) (present vs) (filter_passes is_null vs) (filter_passes is_present vs) fit h.1))
       ]
 
-module _ (chunks : List (List Datum)) (ids : List Id) (some : All (λ (id : Id). IsSome id) ids) (named : All (NamesRow (lengths chunks)) ids) where
+-- ROWS THAT RUN
+
+-- the number of a row that is there
+abbrev the_row : Option ℕ → ℕ
+the_row None = 0
+the_row (Some r) = r
+
+row-value : (vs : List Datum) (row : Option ℕ) → IsSome row → value_or_null vs row ≡ get_or vs (the_row row) null
+row-value vs None some = absurd (cc)
+row-value vs (Some r) some = refl
+
+row-low : (n : ℕ) (row : Option ℕ) → IsSome row → IsRowOf n row → the_row row < n
+row-low n None some within = absurd (cc)
+row-low n (Some r) some within = within
+
+row-up : (a b : Option ℕ) → IsSome a → IsSome b → IsRowUpTo a b → the_row a ≤ the_row b
+row-up None b some other up = absurd (cc)
+row-up (Some r) None some other up = absurd (cc)
+row-up (Some r) (Some s) some other up = up
+
+module _ (vs : List Datum) (rows : List (Option ℕ)) (some : All (λ (row : Option ℕ). IsSome row) rows) (within : All (IsRowOf (length vs)) rows) where
   abbrev place : ℕ → ℕ
-  place i = number (lengths chunks) (get_or ids i None)
+  place i = the_row (get_or rows i None)
 
-  at : (i : ℕ) (d : Datum) → i < length ids → get_or (map (value_at chunks) ids) i d ≡ get_or (flat chunks) (place i) null
-  at i d low = get_or-map (value_at chunks) ids i None d low ∙ number-value chunks (get_or ids i None) (some i None low)
+  at : (i : ℕ) (d : Datum) → i < length rows → get_or (map (value_or_null vs) rows) i d ≡ get_or vs (place i) null
+  at i d low = get_or-map (value_or_null vs) rows i None d low ∙ row-value vs (get_or rows i None) (some i None low)
 
-  within : (i : ℕ) → i < length ids → place i < length (flat chunks)
-  within i low = number-low chunks (get_or ids i None) (some i None low) (named i None low)
+  place-low : (i : ℕ) → i < length rows → place i < length vs
+  place-low i low = row-low (length vs) (get_or rows i None) (some i None low) (within i None low)
 
-  upwards : (i j : ℕ) → i < length ids → j < length ids → IsUpTo (get_or ids i None) (get_or ids j None) → place i ≤ place j
-  upwards i j low high up = number-up (lengths chunks) (get_or ids i None) (get_or ids j None) (some i None low) (some j None high) (named i None low) (named j None high) up
+  place-up : (i j : ℕ) → i < length rows → j < length rows → IsRowUpTo (get_or rows i None) (get_or rows j None) → place i ≤ place j
+  place-up i j low high up = row-up (get_or rows i None) (get_or rows j None) (some i None low) (some j None high) up
 
-  module _ (first : Bool) (order : Datum → Datum → Ordering) (stand : AllStand first order (flat chunks)) where
-    pairs-kept : AllPairs IsUpTo ids → AllPairs (Stands first order) (map (value_at chunks) ids)
+  module _ (first : Bool) (order : Datum → Datum → Ordering) (stand : AllStand first order vs) where
+    pairs-kept : AllPairs IsRowUpTo rows → AllPairs (Stands first order) (map (value_or_null vs) rows)
     unfolding AllStand
     pairs-kept runs = λ i j d low high.
-        let n : length (map (value_at chunks) ids) ≡ length ids = length-map ids (value_at chunks) in
-        let j-low : j < length ids = omega (arith, n) in
-        let i-low : i < length ids = omega arith in
-        rw (at i d i-low, at j d j-low) (stand (place i) (place j) (upwards i j i-low j-low (runs i j None low j-low)) (within j j-low))
+        let n : length (map (value_or_null vs) rows) ≡ length rows = length-map rows (value_or_null vs) in
+        let j-low : j < length rows = omega (arith, n) in
+        let i-low : i < length rows = omega arith in
+        rw (at i d i-low, at j d j-low) (stand (place i) (place j) (place-up i j i-low j-low (runs i j None low j-low)) (place-low j j-low))
 
-    pairs-turned : AllPairs (λ (a b : Id). IsUpTo b a) ids → AllPairs (Stands (not first) (flip_args order)) (map (value_at chunks) ids)
+    pairs-turned : AllPairs (λ (a b : Option ℕ). IsRowUpTo b a) rows → AllPairs (Stands (not first) (flip_args order)) (map (value_or_null vs) rows)
     unfolding AllStand
     pairs-turned runs = λ i j d low high.
-        let n : length (map (value_at chunks) ids) ≡ length ids = length-map ids (value_at chunks) in
-        let j-low : j < length ids = omega (arith, n) in
-        let i-low : i < length ids = omega arith in
-        rw (at i d i-low, at j d j-low) (turned first order (get_or (flat chunks) (place j) null) (get_or (flat chunks) (place i) null) (stand (place j) (place i) (upwards j i j-low i-low (runs i j None low j-low)) (within i i-low)))
+        let n : length (map (value_or_null vs) rows) ≡ length rows = length-map rows (value_or_null vs) in
+        let j-low : j < length rows = omega (arith, n) in
+        let i-low : i < length rows = omega arith in
+        rw (at i d i-low, at j d j-low) (turned first order (get_or vs (place j) null) (get_or vs (place i) null) (stand (place j) (place i) (place-up j i j-low i-low (runs i j None low j-low)) (place-low i i-low)))
 
-  module _ (order : Datum → Datum → Ordering) (t : Kind) (o : Orders order (IsOf t)) (typed : All (HasType t) (flat chunks)) (ordered : IsOrdered order t (flat chunks)) where
-    order-kept : AllPairs IsUpTo ids → IsOrdered order t (map (value_at chunks) ids)
+  module _ (order : Datum → Datum → Ordering) (t : Kind) (o : Orders order (IsOf t)) (typed : All (HasType t) vs) (ordered : IsOrdered order t vs) where
+    order-kept : AllPairs IsRowUpTo rows → IsOrdered order t (map (value_or_null vs) rows)
     order-kept runs =
-        let s = all-stand order t o (flat chunks) typed ordered in
+        let s = all-stand order t o vs typed ordered in
         let pairs = pairs-kept s.0 order s.1 runs in
-        (ordered.0, in-order-of-pairs s.0 order (map (value_at chunks) ids) pairs, ends-of-pairs s.0 order (map (value_at chunks) ids) pairs)
+        (ordered.0, in-order-of-pairs s.0 order (map (value_or_null vs) rows) pairs, ends-of-pairs s.0 order (map (value_or_null vs) rows) pairs)
 
-    order-turned : AllPairs (λ (a b : Id). IsUpTo b a) ids → IsOrdered (flip_args order) t (map (value_at chunks) ids)
+    order-turned : AllPairs (λ (a b : Option ℕ). IsRowUpTo b a) rows → IsOrdered (flip_args order) t (map (value_or_null vs) rows)
     order-turned runs =
-        let s = all-stand order t o (flat chunks) typed ordered in
+        let s = all-stand order t o vs typed ordered in
         let pairs = pairs-turned s.0 order s.1 runs in
-        (ordered.0, in-order-of-pairs (not s.0) (flip_args order) (map (value_at chunks) ids) pairs, ends-of-pairs (not s.0) (flip_args order) (map (value_at chunks) ids) pairs)
+        (ordered.0, in-order-of-pairs (not s.0) (flip_args order) (map (value_or_null vs) rows) pairs, ends-of-pairs (not s.0) (flip_args order) (map (value_or_null vs) rows) pairs)
 
-  flag-picked : (t : Kind) (flag sorted : IsSorted) → All (HasType t) (flat chunks) → FlagHolds flag t (flat chunks) → RunsBy sorted ids → FlagHolds (gathered_flag flag sorted) t (map (value_at chunks) ids)
-  flag-picked t Ascending Ascending typed holds runs = order-kept datum_cmp t (ascending-orders t holds.0) typed holds runs
-  flag-picked t Ascending Descending typed holds runs = order-turned datum_cmp t (ascending-orders t holds.0) typed holds runs
-  flag-picked t Descending Ascending typed holds runs = order-kept (flip_args datum_cmp) t (descending-orders t holds.0) typed holds runs
-  flag-picked t Descending Descending typed holds runs = order-turned (flip_args datum_cmp) t (descending-orders t holds.0) typed holds runs
-  flag-picked t Ascending Not typed holds runs = tt
-  flag-picked t Descending Not typed holds runs = tt
-  flag-picked t Not Ascending typed holds runs = tt
-  flag-picked t Not Descending typed holds runs = tt
-  flag-picked t Not Not typed holds runs = tt
+  flag-taken : (t : Kind) (flag sorted : IsSorted) → All (HasType t) vs → FlagHolds flag t vs → RowsRunBy sorted rows → FlagHolds (gathered_flag flag sorted) t (map (value_or_null vs) rows)
+  flag-taken t Ascending Ascending typed holds runs = order-kept datum_cmp t (ascending-orders t holds.0) typed holds runs
+  flag-taken t Ascending Descending typed holds runs = order-turned datum_cmp t (ascending-orders t holds.0) typed holds runs
+  flag-taken t Descending Ascending typed holds runs = order-kept (flip_args datum_cmp) t (descending-orders t holds.0) typed holds runs
+  flag-taken t Descending Descending typed holds runs = order-turned (flip_args datum_cmp) t (descending-orders t holds.0) typed holds runs
+  flag-taken t Ascending Not typed holds runs = tt
+  flag-taken t Descending Not typed holds runs = tt
+  flag-taken t Not Ascending typed holds runs = tt
+  flag-taken t Not Descending typed holds runs = tt
+  flag-taken t Not Not typed holds runs = tt
+
+flag-not : (flag : IsSorted) → gathered_flag flag Not ≡ Not
+flag-not Ascending = refl
+flag-not Descending = refl
+flag-not Not = refl
+
+pub flags-turned : (a b : IsSorted) → gathered_flag a b ≡ gathered_flag b a
+flags-turned Ascending Ascending = refl
+flags-turned Ascending Descending = refl
+flags-turned Ascending Not = refl
+flags-turned Descending Ascending = refl
+flags-turned Descending Descending = refl
+flags-turned Descending Not = refl
+flags-turned Not Ascending = refl
+flags-turned Not Descending = refl
+flags-turned Not Not = refl
+
+-- where values run in one direction and rows in one, what is taken by them runs so too
+flag-of-taken : (c : Col) (rows : List (Option ℕ)) (sorted : IsSorted) → IsColumn c → All (IsRowOf (length (values c))) rows → RowsAreRun sorted rows → FlagHolds (gathered_flag c.flag sorted) c.kind (map (value_or_null (values c)) rows)
+flag-of-taken c rows Ascending column within run = flag-taken (values c) rows run.0 within c.kind c.flag Ascending column.typed column.flag_holds run.1
+flag-of-taken c rows Descending column within run = flag-taken (values c) rows run.0 within c.kind c.flag Descending column.typed column.flag_holds run.1
+flag-of-taken c rows Not column within run = subst (λ (f : IsSorted). FlagHolds f c.kind (map (value_or_null (values c)) rows)) (sym (flag-not c.flag)) tt
+
+pub flag-of-rows : (c : Col) (rows : List (Option ℕ)) (sorted : IsSorted) → IsColumn c → All (IsRowOf (length (values c))) rows → RowsAreRun sorted rows → FlagHolds (gathered_flag sorted c.flag) c.kind (map (value_or_null (values c)) rows)
+flag-of-rows c rows sorted column within run =
+    subst (λ (f : IsSorted). FlagHolds f c.kind (map (value_or_null (values c)) rows)) (flags-turned c.flag sorted) (flag-of-taken c rows sorted column within run)
+
+-- IDS THAT RUN
+
+flag-picked : (chunks : List (List Datum)) (ids : List Id) (some : All (λ (id : Id). IsSome id) ids) (named : All (NamesRow (lengths chunks)) ids) (t : Kind) (flag sorted : IsSorted) → All (HasType t) (flat chunks) → FlagHolds flag t (flat chunks) → RunsBy sorted ids → FlagHolds (gathered_flag flag sorted) t (map (value_at chunks) ids)
+flag-picked chunks ids some named t flag sorted typed holds runs =
+    let rows = map (row_or_none (lengths chunks)) ids in
+    subst (FlagHolds (gathered_flag flag sorted) t) (sym (gathered-pick chunks ids))
+    (flag-taken (flat chunks) rows (rows-there (lengths chunks) ids some) (All-map (IsRowOf (length (flat chunks))) (row_or_none (lengths chunks)) ids (λ k d low. named-row chunks (get_or ids k d) (named k d low))) t flag sorted typed holds
+    (rows-run (lengths chunks) ids some named sorted runs))
 
 -- what a column's flag and the run of ids say of the gathered values
 pub gathered-flag : (c : Col) (ids : List Id) (sorted : IsSorted) → IsColumn c → All (λ (id : Id). IsSome id) ids → NameRows ids c → RunsBy sorted ids → FlagHolds (gathered ids sorted c).flag c.kind (values (gathered ids sorted c))
@@ -97,11 +155,6 @@ gathered-flag c ids sorted column some named runs =
 pub flag-of-named : (c : Col) (ids : List Id) (sorted flag : IsSorted) → IsColumn c → All (λ (id : Id). IsSome id) ids → NameRows ids c → RunsBy sorted ids → flag ≡ gathered_flag c.flag sorted → FlagHolds flag c.kind (map (value_at c.chunks) ids)
 flag-of-named c ids sorted flag column some named runs is =
     subst (λ (f : IsSorted). FlagHolds f c.kind (map (value_at c.chunks) ids)) (sym is) (flag-picked c.chunks ids some named c.kind c.flag sorted column.typed column.flag_holds runs)
-
-flag-not : (flag : IsSorted) → gathered_flag flag Not ≡ Not
-flag-not Ascending = refl
-flag-not Descending = refl
-flag-not Not = refl
 
 -- the flag of what such ids gather is true
 pub flag-of-run : (c : Col) (ids : List Id) (sorted flag : IsSorted) → IsColumn c → NameRows ids c → AreRun sorted ids → flag ≡ gathered_flag c.flag sorted → FlagHolds flag c.kind (map (value_at c.chunks) ids)

@@ -1,5 +1,5 @@
 -- What gathered tables are.
-use Rattle.std.proofs.Common.{◌≡◌, ◌∙◌, List, length, map, get_or, sym, subst, Some, None, refl, inl, inr, ◌⊎◌}
+use Rattle.std.proofs.Common.{◌≡◌, ◌∙◌, ℕ, List, [], ◌∷◌, length, map, get_or, ap, sym, subst, Option, Some, None, refl, inl, inr, ◌⊎◌}
 use Rattle.std.specs.Prelude.{All}
 use Rattle.std.proofs.lemmas.List.Elements.{All-map}
 use Rattle.tb_value.specs.Datum.{Datum}
@@ -9,11 +9,11 @@ use Rattle.tb_value.specs.declared.error.PolarsError.TheVariants.{OutOfMemory}
 use Rattle.tb_value.specs.declared.sorted.IsSorted.{IsSorted}
 use Rattle.tb_chunk.specs.Col.{Col, values}
 use Rattle.tb_frame.specs.Table.{Table, plain, table_of, IsTable, IsTyped}
-use Rattle.tb_frame.specs.Frame.{frame_refusal, lengths}
+use Rattle.tb_frame.specs.Frame.{frame_refusal, lengths, opt_taken}
 use Rattle.tb_frame.proofs.Frames.{IsTable-refusal}
-use Rattle.tb_frame.proofs.Taking.{IsTable-made, at_row}
+use Rattle.tb_frame.proofs.Taking.{IsTable-made, IsTable-opt_taken, at_row}
 use Rattle.tb_gather.specs.Ids.{Id, row_or_none}
-use Rattle.tb_gather.specs.Gathered.{gathered, gathered_flag, named_rows, value_at}
+use Rattle.tb_gather.specs.Gathered.{gathered, gathered_flag, named_rows, rows_gathered, value_at}
 use Rattle.tb_gather.proofs.Columns.{length-named, values-named}
 
 -- columns of a table are refused for want of memory alone
@@ -29,3 +29,11 @@ typed-named ids flag c h = subst (λ (vs : List Datum). All (HasType c.kind) vs)
 
 pub IsTable-gathered : (ids : List Id) (sorted : IsSorted) (cs : List Col) → IsTable (table_of cs) → IsTable (table_of (map (gathered ids sorted) cs))
 IsTable-gathered ids sorted cs t = IsTable-made (gathered ids sorted) (λ c. refl) (length ids) cs (lengths-gathered ids sorted cs) (λ c h. typed-named ids (gathered_flag c.flag sorted) c h) t
+
+-- what a table shows of rows doesn't depend on how they run
+pub table-rows : (rows : List (Option ℕ)) (sorted : IsSorted) (cs : List Col) → table_of (map (rows_gathered rows sorted) cs) ≡ table_of (map (opt_taken rows) cs)
+table-rows rows sorted [] = refl
+table-rows rows sorted (c ∷ cs) = ap (λ (t : Table). plain (opt_taken rows c) ∷ t) (table-rows rows sorted cs)
+
+pub IsTable-rows : (rows : List (Option ℕ)) (sorted : IsSorted) (cs : List Col) → IsTable (table_of cs) → IsTable (table_of (map (rows_gathered rows sorted) cs))
+IsTable-rows rows sorted cs t = subst (λ (made : Table). IsTable made) (sym (table-rows rows sorted cs)) (IsTable-opt_taken rows cs t)

@@ -1,12 +1,11 @@
 -- The rows that ids name.
-use Rattle.std.proofs.Common.{arith, ◌≡◌, ◌∙◌, ℕ, ◌<◌, ◌≤◌, ◌+◌, suc, zero, List, [], ◌∷◌, ◌++◌, length, map, get_or, take, refl, ap, sym, Some, None, inl, inr, length-append}
+use Rattle.std.proofs.Common.{arith, ◌≡◌, ◌∙◌, ℕ, ◌<◌, ◌+◌, suc, zero, List, [], ◌∷◌, ◌++◌, length, map, get_or, take, refl, ap, sym, Some, None, length-append}
 use Rattle.std.specs.List.{sum, fold}
 use Rattle.std.proofs.lemmas.List.{get_or_append_left, get_or-append-add, get_or-map, length-map}
 use Rattle.tb_value.specs.Datum.{Datum, null}
 use Rattle.tb_chunk.specs.Col.{flat}
-use Rattle.std.specs.Prelude.{IsSome}
 use Rattle.tb_chunk.specs.Rows.{IsRowOf}
-use Rattle.tb_gather.specs.Ids.{Id, row_of, row_or_none, NamesRow, IsUpTo}
+use Rattle.tb_gather.specs.Ids.{Id, row_of, row_or_none, NamesRow}
 use Rattle.tb_frame.specs.Frame.{lengths}
 use Rattle.tb_gather.specs.Gathered.{value_at}
 
@@ -45,13 +44,7 @@ module _ {X : Type 0} (f : X → List Datum) (xs : List X) (c : ℕ) (x : X) (is
   pub named-value : (r : ℕ) → NamesRow (lengths (map f xs)) (Some (c, r)) → value_at (map f xs) (Some (c, r)) ≡ get_or (f x) r null
   named-value r h = value-at (map f xs) c r h.1 ∙ ap (λ (vs : List Datum). get_or vs r null) (chunk-at (chunk-low r h))
 
--- THE NUMBERS OF IDS
-
-abbrev pub number : List ℕ → Id → ℕ
-number lens None = 0
-number lens (Some p) = row_of lens p
-
-pub row-low : (chunks : List (List Datum)) (c r : ℕ) → r < get_or (lengths chunks) c 0 → row_of (lengths chunks) (c, r) < length (flat chunks)
+row-low : (chunks : List (List Datum)) (c r : ℕ) → r < get_or (lengths chunks) c 0 → row_of (lengths chunks) (c, r) < length (flat chunks)
 row-low [] c r h = absurd (omega arith)
 row-low (vs ∷ rest) zero r h = omega (arith, h, length-append vs (flat rest))
 row-low (vs ∷ rest) (suc c) r h = omega (arith, sum-cons (length vs) (take c (lengths rest)), row-low rest c r h, length-append vs (flat rest))
@@ -61,20 +54,6 @@ row-before [] c d r s less high h = absurd (omega arith)
 row-before (n ∷ ns) c zero r s less high h = absurd (omega arith)
 row-before (n ∷ ns) zero (suc d) r s less high h = omega (arith, h, sum-cons n (take d ns))
 row-before (n ∷ ns) (suc c) (suc d) r s less high h = omega (arith, sum-cons n (take c ns), sum-cons n (take d ns), row-before ns c d r s (omega arith) (omega arith) h)
-
-pub number-value : (chunks : List (List Datum)) (id : Id) → IsSome id → value_at chunks id ≡ get_or (flat chunks) (number (lengths chunks) id) null
-number-value chunks None some = absurd (cc)
-number-value chunks (Some p) some = refl
-
-pub number-low : (chunks : List (List Datum)) (id : Id) → IsSome id → NamesRow (lengths chunks) id → number (lengths chunks) id < length (flat chunks)
-number-low chunks None some named = absurd (cc)
-number-low chunks (Some p) some named = row-low chunks p.0 p.1 named.1
-
-pub number-up : (lens : List ℕ) (a b : Id) → IsSome a → IsSome b → NamesRow lens a → NamesRow lens b → IsUpTo a b → number lens a ≤ number lens b
-number-up lens None b some other named too up = absurd (cc)
-number-up lens (Some p) None some other named too up = absurd (cc)
-number-up lens (Some p) (Some q) some other named too (inl less) = omega (arith, row-before lens p.0 q.0 p.1 q.1 less too.0 named.1)
-number-up lens (Some p) (Some q) some other named too (inr same) = omega (arith, ap (λ k. sum (take k lens)) same.0, same.1)
 
 -- the rows that ids name are rows of the values of all chunks
 pub named-row : (chunks : List (List Datum)) (id : Id) → NamesRow (lengths chunks) id → IsRowOf (length (flat chunks)) (row_or_none (lengths chunks) id)

@@ -5,7 +5,7 @@ use Rattle.tb_value.specs.declared.sorted.IsSorted.{IsSorted}
 use Rattle.tb_value.specs.declared.sorted.IsSorted.TheVariants.{Ascending, Descending, Not}
 use Rattle.tb_chunk.specs.Col.{Col, flat}
 use Rattle.tb_chunk.specs.Rows.{value_or_null}
-use Rattle.tb_frame.specs.Frame.{lens, lengths}
+use Rattle.tb_frame.specs.Frame.{lens, lengths, opt_taken}
 use Rattle.tb_gather.specs.Ids.{Id, row_or_none, NamesRow}
 
 -- the values at these numbers, Null for none
@@ -35,6 +35,10 @@ gathered ids sorted c = named_rows ids (gathered_flag c.flag sorted) c
 -- the rows that ids name, whatever their order
 abbrev pub opt_gathered : List Id → Col → Col
 opt_gathered ids c = named_rows ids Not c
+
+-- the rows of these numbers, which run so: where they ascend the column's flag stays, where they descend it is turned round, and where nothing is said of them it is Not
+abbrev pub rows_gathered : List (Option ℕ) → IsSorted → Col → Col
+rows_gathered rows sorted c = record (opt_taken rows c) { flag = gathered_flag sorted c.flag }
 
 -- each id is none or names a row of the column
 abbrev pub NameRows : List Id → Col → Type 0

@@ -51,6 +51,12 @@ RowsRunBy Ascending rows = AllPairs IsRowUpTo rows
 RowsRunBy Descending rows = AllPairs (λ (i j : Option ℕ). IsRowUpTo j i) rows
 RowsRunBy Not rows = Unit {0}
 
+-- row numbers of which a direction is said are all there and run so
+abbrev pub RowsAreRun : IsSorted → List (Option ℕ) → Type 0
+RowsAreRun Ascending rows = All (λ (row : Option ℕ). IsSome row) rows × RowsRunBy Ascending rows
+RowsAreRun Descending rows = All (λ (row : Option ℕ). IsSome row) rows × RowsRunBy Descending rows
+RowsAreRun Not rows = Unit {0}
+
 -- where each chunk of these lengths starts, as a row number
 pub record AreStarts (lens starts : List ℕ) : Type 0 where
   pub whole : length starts ≡ length lens

@@ -2,36 +2,52 @@
 ghost use Rattle.std.specs.Prelude.{◌≡◌, ◌<◌, ◌≤◌, ◌↔◌, All, IfOk, IsTrue, length, map};
 ghost use Rattle.tb_chunk.specs.Col.{Col};
 ghost use Rattle.tb_chunk.specs.Rows.{IsRowOf};
-ghost use Rattle.tb_frame.specs.Frame.{AreCutAlike, in_one_chunk, opt_taken};
+ghost use Rattle.tb_frame.specs.Frame.{AreCutAlike};
 ghost use Rattle.tb_frame.specs.Table.{height, table_of};
-ghost use Rattle.tb_gather.specs.Ids.{AreCutForIds};
+ghost use Rattle.tb_gather.specs.Gathered.{rows_gathered};
+ghost use Rattle.tb_gather.specs.Ids.{AreCutForIds, RowsAreRun};
 
 use crate::ids::ids_of;
-use crate::side_by_side::TakeChunkedHorPar;
+use crate::side_by_side::{gather_side_by_side, take_side_by_side};
 use crate::tables::made_table;
 use std::alloc::Global;
 use std::thread::Threads;
-use tb_frame::{DataFrame, rechunk_columns};
+use tb_frame::DataFrame;
 use tb_store::Column;
-use tb_value::{MAX_ROWS, NullableIdxSize, OutOfMemory, StandardChunkId, TOO_MANY_CHUNKS};
+use tb_value::{
+    IsSorted, MAX_ROWS, NullableIdxSize, OutOfMemory, StandardChunkId, TOO_MANY_CHUNKS,
+};
 
-/// The rows of a table that these numbers name, in one chunk, Null for none. A table whose columns are cut differently,
-/// or that has `TOO_MANY_CHUNKS`, is made one chunk first.
+/// The rows of a table that these numbers name, in one chunk, Null for none. `sorted` says how the numbers run, which
+/// are all there unless it is Not, and with the flag of a column makes the flag of what is gathered from it: the same
+/// flag where they ascend.
+///
+/// Columns that are cut alike are gathered by ids of chunks and rows, and others as they are where they are in one
+/// chunk. One that is cut in another way than the first, or into `TOO_MANY_CHUNKS`, is put into one chunk for it.
 pub fn gather_rows(
     rt: &(impl Threads + Sync),
     alloc: Global,
     table: &DataFrame,
     rows: &[NullableIdxSize],
+    sorted: IsSorted,
 ) -> Result<DataFrame, OutOfMemory>
     requires rows { All (IsRowOf (height (table_of table.now))) rows.now }
+    requires runs { RowsAreRun sorted rows.now }
     requires few { length rows.now ≤ MAX_ROWS }
-    ensures { IfOk result (λ t. t ≡ map (opt_taken rows.now) table.now) }
+    ensures { IfOk result (λ t. t ≡ map (rows_gathered rows.now sorted) table.now) }
 {
-    if is_cut_for_ids(table) {
-        return gather_by_ids(rt, alloc, table, rows);
+    if are_in_one_chunk(table.get_columns()) || !is_cut_for_ids(table) {
+        take_by_rows(rt, alloc, table, rows, sorted)
+    } else {
+        gather_by_ids(rt, alloc, table, rows, sorted)
     }
-    let whole = made_one_chunk(alloc, table)?;
-    gather_by_ids(rt, alloc, &whole, rows)
+}
+
+// Whether no chunk has to be looked for.
+fn are_in_one_chunk(columns: &[Column]) -> bool
+    ensures { IsTrue result ↔ All (λ (c : Col). length c.chunks ≡ 1) columns.now }
+{
+    columns.iter().all(|column| column.n_chunks() == 1)
 }
 
 // Whether one list of ids names the rows of all columns.
@@ -49,12 +65,20 @@ fn have_few_chunks(columns: &[Column]) -> bool
         .all(|column| column.n_chunks() < TOO_MANY_CHUNKS)
 }
 
-// Each column in one chunk.
-fn made_one_chunk(alloc: Global, table: &DataFrame) -> Result<DataFrame, OutOfMemory>
-    ensures whole { IfOk result (λ t. t ≡ map in_one_chunk table.now) }
-    ensures cut { IfOk result AreCutForIds }
+// The rows of each column by itself.
+fn take_by_rows(
+    rt: &(impl Threads + Sync),
+    alloc: Global,
+    table: &DataFrame,
+    rows: &[NullableIdxSize],
+    sorted: IsSorted,
+) -> Result<DataFrame, OutOfMemory>
+    requires rows { All (IsRowOf (height (table_of table.now))) rows.now }
+    requires runs { RowsAreRun sorted rows.now }
+    requires few { length rows.now ≤ MAX_ROWS }
+    ensures { IfOk result (λ t. t ≡ map (rows_gathered rows.now sorted) table.now) }
 {
-    let columns = rechunk_columns(alloc, table.get_columns())?;
+    let columns = take_side_by_side(rt, alloc, table.get_columns(), rows, sorted)?;
     made_table(alloc, columns)
 }
 
@@ -64,17 +88,20 @@ fn gather_by_ids(
     alloc: Global,
     table: &DataFrame,
     rows: &[NullableIdxSize],
+    sorted: IsSorted,
 ) -> Result<DataFrame, OutOfMemory>
     requires cut { AreCutForIds table.now }
     requires rows { All (IsRowOf (height (table_of table.now))) rows.now }
+    requires runs { RowsAreRun sorted rows.now }
     requires few { length rows.now ≤ MAX_ROWS }
-    ensures { IfOk result (λ t. t ≡ map (opt_taken rows.now) table.now) }
+    ensures { IfOk result (λ t. t ≡ map (rows_gathered rows.now sorted) table.now) }
 {
     match table.get_columns().first() {
         None => table.copy(alloc),
         Some(column) => {
             let ids: Vec<StandardChunkId> = ids_of(alloc, column.as_materialized_series(), rows)?;
-            table._take_opt_chunked_unchecked_hor_par(rt, alloc, &ids)
+            let columns = gather_side_by_side(rt, alloc, table.get_columns(), &ids, sorted)?;
+            made_table(alloc, columns)
         }
     }
 }

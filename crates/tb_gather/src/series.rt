@@ -1,15 +1,17 @@
 //! Rows of a series and of a column, gathered by ids.
-ghost use Rattle.std.specs.Prelude.{◌≡◌, ◌≤◌, IfOk, length, map};
+ghost use Rattle.std.specs.Prelude.{◌≡◌, ◌≤◌, All, IfOk, length, map};
+ghost use Rattle.tb_chunk.specs.Col.{values};
 ghost use Rattle.tb_chunk.specs.Flag.{FlagHolds};
-ghost use Rattle.tb_gather.specs.Ids.{AreRun};
-ghost use Rattle.tb_gather.specs.Gathered.{NameRows, gathered, named_rows, value_at};
+ghost use Rattle.tb_chunk.specs.Rows.{IsRowOf};
+ghost use Rattle.tb_gather.specs.Ids.{AreRun, RowsAreRun};
+ghost use Rattle.tb_gather.specs.Gathered.{NameRows, gathered, named_rows, rows_gathered, value_at};
 
 use crate::directions::gathered_flag;
 use crate::gathering::gather_chunks;
 use crate::take_chunked::TakeChunked;
 use std::alloc::Global;
 use tb_store::{Column, Series};
-use tb_value::{ChunkId, IsSorted, MAX_ROWS, OutOfMemory};
+use tb_value::{ChunkId, IsSorted, MAX_ROWS, NullableIdxSize, OutOfMemory};
 
 // The rows that the ids name, in one chunk, with this flag.
 fn gather_series<const B: u64>(
@@ -45,6 +47,25 @@ pub(crate) fn gather_column<const B: u64>(
     let _len = column.len();
     let flag = gathered_flag(column.is_sorted_flag(), sorted);
     Ok(gather_series(alloc, column.as_materialized_series(), by, flag)?.into_column())
+}
+
+/// The rows of a column that the numbers name, in one chunk, with the flag that the column's and `sorted` make.
+pub(crate) fn take_column(
+    alloc: Global,
+    column: &Column,
+    rows: &[NullableIdxSize],
+    sorted: IsSorted,
+) -> Result<Column, OutOfMemory>
+    requires rows { All (IsRowOf (length (values column.now))) rows.now }
+    requires runs { RowsAreRun sorted rows.now }
+    requires few { length rows.now ≤ MAX_ROWS }
+    ensures { IfOk result (λ c. c ≡ rows_gathered rows.now sorted column.now) }
+{
+    let _len = column.len();
+    let flag = gathered_flag(sorted, column.is_sorted_flag());
+    let mut taken = column.take_opt(alloc, rows)?;
+    taken.set_sorted_flag(flag);
+    Ok(taken)
 }
 
 impl<const B: u64> TakeChunked<B> for Series {

@@ -1,16 +1,18 @@
 //! Rows of a table, gathered from its columns side by side.
 ghost use Rattle.std.specs.Prelude.{◌≡◌, ◌≤◌, All, IfOk, IsSome, length, map};
-ghost use Rattle.tb_gather.specs.Ids.{AreRun, Id, RunsBy};
-ghost use Rattle.tb_gather.specs.Gathered.{NameRows, gathered, opt_gathered};
+ghost use Rattle.tb_chunk.specs.Col.{Col, values};
+ghost use Rattle.tb_chunk.specs.Rows.{IsRowOf};
+ghost use Rattle.tb_gather.specs.Ids.{AreRun, Id, RowsAreRun, RunsBy};
+ghost use Rattle.tb_gather.specs.Gathered.{NameRows, gathered, opt_gathered, rows_gathered};
 
-use crate::series::gather_column;
+use crate::series::{gather_column, take_column};
 use crate::tables::made_table;
 use rayon::prelude::*;
 use std::alloc::Global;
 use std::thread::Threads;
 use tb_frame::{DataFrame, IntoDf};
 use tb_store::Column;
-use tb_value::{ChunkId, IsSorted, MAX_ROWS, OutOfMemory};
+use tb_value::{ChunkId, IsSorted, MAX_ROWS, NullableIdxSize, OutOfMemory};
 
 // A column of fewer rows is gathered in less time than a thread takes to start.
 const WORTH_A_THREAD: usize = 8_192;
@@ -55,16 +57,12 @@ pub trait TakeChunkedHorPar<const B: u64>: IntoDf {
 impl<const B: u64> TakeChunkedHorPar<B> for DataFrame {}
 
 // How many columns a thread gathers at least.
-fn columns_a_thread<const B: u64>(columns: &[Column], by: &[ChunkId<B>]) -> usize {
-    if by.len() < WORTH_A_THREAD {
-        columns.len()
-    } else {
-        1
-    }
+fn columns_a_thread(columns: usize, rows: usize) -> usize {
+    if rows < WORTH_A_THREAD { columns } else { 1 }
 }
 
-// The rows of each column that the ids name, with the flag that the column's and `sorted` make.
-fn gather_side_by_side<const B: u64>(
+/// The rows of each column that the ids name, with the flag that the column's and `sorted` make.
+pub(crate) fn gather_side_by_side<const B: u64>(
     rt: &(impl Threads + Sync),
     alloc: Global,
     columns: &[Column],
@@ -78,7 +76,7 @@ fn gather_side_by_side<const B: u64>(
 {
     columns
         .par_iter()
-        .with_min_len(columns_a_thread(columns, by))
+        .with_min_len(columns_a_thread(columns.len(), by.len()))
         .map(
             |column: &Column| -> Result<Column, OutOfMemory>
                 requires named { NameRows by.now column.now }
@@ -86,6 +84,33 @@ fn gather_side_by_side<const B: u64>(
                 requires few { length by.now ≤ MAX_ROWS }
                 ensures { IfOk result (λ c. c ≡ gathered by.entry.now sorted column.now) }
             { gather_column(alloc, column, by, sorted) },
+        )
+        .collect(rt, alloc)?
+}
+
+/// The rows of each column that the numbers name, with the flag that the column's and `sorted` make.
+pub(crate) fn take_side_by_side(
+    rt: &(impl Threads + Sync),
+    alloc: Global,
+    columns: &[Column],
+    rows: &[NullableIdxSize],
+    sorted: IsSorted,
+) -> Result<Vec<Column>, OutOfMemory>
+    requires rows { All (λ (c : Col). All (IsRowOf (length (values c))) rows.now) columns.now }
+    requires runs { RowsAreRun sorted rows.now }
+    requires few { length rows.now ≤ MAX_ROWS }
+    ensures { IfOk result (λ v. v.items ≡ map (rows_gathered rows.now sorted) columns.now) }
+{
+    columns
+        .par_iter()
+        .with_min_len(columns_a_thread(columns.len(), rows.len()))
+        .map(
+            |column: &Column| -> Result<Column, OutOfMemory>
+                requires rows { All (IsRowOf (length (values column.now))) rows.now }
+                requires runs { RowsAreRun sorted rows.now }
+                requires few { length rows.now ≤ MAX_ROWS }
+                ensures { IfOk result (λ c. c ≡ rows_gathered rows.entry.now sorted column.now) }
+            { take_column(alloc, column, rows, sorted) },
         )
         .collect(rt, alloc)?
 }

@@ -81,7 +81,7 @@ fn column_of(alloc: Global, cells: Vec<Option<Bytes>>) -> Result<Series, OutOfMe
 /// The row keys of the columns, as a Binary column without a name, in one chunk and with the flag Not.
 /// The key of a row has the bytes of its fields in the order of the columns; without `join_nulls` a row
 /// with a Null field is Null. There is a column at least, the columns are of key types and of one length,
-/// and the bytes of each row are fewer than 2^32, of a row with a Null field too, which `keys_fit` tells.
+/// and the bytes of each row are fewer than 2^32, of a row with a Null field too, which `RowKeys::of_columns` tells.
 ///
 /// Each key is copied out of one buffer, which `RowKeys` lends from without copies.
 ///

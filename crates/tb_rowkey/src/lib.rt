@@ -14,13 +14,13 @@
 #![tactic(auto)]
 
 mod fields;
-mod fit;
 mod keys;
 pub mod laws;
 mod lent;
+mod places;
+mod room;
 mod row_keys;
 
-pub use fit::keys_fit;
 pub use keys::prepare_keys_multiple;
 pub use lent::know_columns;
 pub use row_keys::RowKeys;

@@ -12,6 +12,8 @@ ghost use Rattle.tb_rowkey.specs.RowKeys.{bytes_of, key_of};
 
 use crate::fields::push_field;
 use crate::lent::{are_in_one_chunk, know_columns, lend, rechunked};
+use crate::places::Places;
+use crate::room::room_for;
 use std::alloc::Global;
 use std::marker::Model;
 use tb_store::{MAX_ROWS, OutOfMemory, Series, ValueRef};
@@ -23,18 +25,19 @@ use tb_value::TOO_LONG;
 pub struct RowKeys {
     bytes: Vec<u8>,
     // Where the bytes of each row begin, and where those of the last one end.
-    places: Vec<usize>,
+    places: Places,
 }
 
 impl Model for RowKeys {
     ghost use Rattle.std.specs.Prelude.{ℕ, List, Option};
+    ghost use Rattle.tb_rowkey.specs.Places.{places_in};
     ghost use Rattle.tb_rowkey.specs.RowKeys.{ArePlaces, keys_in};
 
     ghost Value = { List (Option (List ℕ)) };
 
-    ghost view = { λ k. keys_in k.bytes.items k.places.items };
+    ghost view = { λ k. keys_in k.bytes.items (places_in k.places) };
 
-    ghost invariant = { λ k. ArePlaces k.bytes.items k.places.items };
+    ghost invariant = { λ k. ArePlaces k.bytes.items (places_in k.places) };
 }
 
 impl RowKeys {
@@ -79,7 +82,7 @@ impl RowKeys {
         ensures value { option_copied result ≡ slice_index_or self.now row None }
         ensures short { IfSome result (λ key. length key.now < 2 ^ 32) }
     {
-        key_between(&self.bytes, self.places[row], self.places[row + 1])
+        key_between(&self.bytes, self.places.at(row), self.places.at(row + 1))
     }
 }
 
@@ -174,14 +177,14 @@ fn keys_of(
 {
     know_columns(columns);
     let rows = columns[0].len();
-    let mut bytes = Vec::new(alloc);
-    let mut places = Vec::with_capacity(alloc, rows + 1)?;
-    places.push(0)?;
+    let mut bytes = Vec::with_capacity(alloc, room_for(columns))?;
+    let mut places = Places::with_capacity(alloc, rows + 1)?;
+    places.push(alloc, 0)?;
     for row in 0..rows {
         if push_key(&mut bytes, columns, join_nulls, row)? >= TOO_LONG {
             return Ok(None);
         }
-        places.push(bytes.len())?;
+        places.push(alloc, bytes.len())?;
     }
     Ok(Some(RowKeys { bytes, places }))
 }

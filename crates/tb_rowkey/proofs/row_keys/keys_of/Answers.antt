@@ -6,6 +6,7 @@ use Rattle.tb_value.specs.Pairs.{row_numbers}
 use Rattle.tb_chunk.specs.Col.{Col, values}
 use Rattle.tb_chunk.proofs.Lent.{lent_has}
 use Rattle.tb_rowkey.specs.Columns.{lent_columns, row_count, key_at, IsShortRow}
+use Rattle.tb_rowkey.specs.Places.{places_in}
 use Rattle.tb_rowkey.specs.RowKeys.{bytes_of}
 use Rattle.tb_rowkey.proofs.KeyRows.{key_shown, rows_below, short_key}
 use Rattle.tb_rowkey.proofs.Written.{below_more, first_written, written_keys, written_more, written_places}
@@ -20,7 +21,7 @@ overflow_add-rows c = omega (arith, c.len-rows.ensures.len, c.len-rows.ensures.c
 
 pub loop-row-init : goal.loop-row-init
 loop-row-init c = record {
-  written = first_written (key (lent_columns c.args.columns.now) c.args.join_nulls) c.new-bytes.result.items c.push.new.self.items c.new-bytes.ensures.items (c.in_ok-push.ensures.items ∙ ap (λ l. l ++ 0 ∷ []) c.in_ok-places.ensures.items);
+  written = first_written (key (lent_columns c.args.columns.now) c.args.join_nulls) c.in_ok-bytes.bytes.items (places_in c.push.new.self) c.in_ok-bytes.ensures.items (c.in_ok-push.ensures ∙ ap (λ l. l ++ 0 ∷ []) c.in_ok-places.ensures);
   short = λ i low. absurd (omega (arith, low));
 }
 
@@ -41,15 +42,15 @@ loop-row-preserved c =
     let cs = lent_columns c.args.columns.now in
     record {
       written =
-          written_more (key cs c.args.join_nulls) c.loop-row.row c.loop-row.bytes.items c.loop-row.places.items c.push_key.new.bytes.items c.push-in-loop-row.new.self.items c.loop-row.invariant.written
-          c.in_ok-push_key.ensures.bytes (c.in_ok-push-2.ensures.items ∙ ap (λ n. c.loop-row.places.items ++ n ∷ []) (c.len.ensures ∙ c.push_key.new.bytes.ok.0));
+          written_more (key cs c.args.join_nulls) c.loop-row.row c.loop-row.bytes.items (places_in c.loop-row.places) c.push_key.new.bytes.items (places_in c.push-in-loop-row.new.self) c.loop-row.invariant.written
+          c.in_ok-push_key.ensures.bytes (c.in_ok-push-2.ensures ∙ ap (λ n. places_in c.loop-row.places ++ n ∷ []) (c.len.ensures ∙ c.push_key.new.bytes.ok.0));
       short = below_more (IsShortRow cs) c.loop-row.row c.loop-row.invariant.short (omega (arith, c.in_ok-push_key.ensures.len, c.if-branch-ge-TOO_LONG.false));
     }
 
 pub invariant_of-result : goal.invariant_of-result
 invariant_of-result c =
     let cs = lent_columns c.args.columns.now in
-    written_places (key cs c.args.join_nulls) c.loop-row.row c.loop-row.bytes.items c.loop-row.places.items c.loop-row.invariant.written (omega (arith, c.loop-row.auto.row-end, c.len-rows.ensures.len, c.len-rows.ensures.column.short))
+    written_places (key cs c.args.join_nulls) c.loop-row.row c.loop-row.bytes.items (places_in c.loop-row.places) c.loop-row.invariant.written (omega (arith, c.loop-row.auto.row-end, c.len-rows.ensures.len, c.len-rows.ensures.column.short))
     (λ i low. short_key cs (λ _. c.args.join_nulls) i (c.loop-row.invariant.short i low))
 
 pub returns-clause-short : goal.returns-clause-short
@@ -65,5 +66,5 @@ returns-clause-keys c =
     let rows : c.len-rows.result ≡ row_count cs = c.len-rows.ensures.len ∙ lent_has c.args.columns.now 0 c.index-columns-0.result c.requires.some c.index-columns-0.is (λ (d : Col). length (values d) ≡ row_count cs) c.requires.rows in
     let all : c.loop-row.row ≡ row_count cs = omega (arith, rows, c.loop-row.auto.row-end) in
     let long = length-map c.args.columns.now (λ r. r.now) in
-    written_keys binary (key cs c.args.join_nulls) (key_at cs nulls) c.loop-row.row c.loop-row.bytes.items c.loop-row.places.items c.loop-row.invariant.written (λ i low. key_shown cs nulls i (omega (arith, c.requires.some, long)))
+    written_keys binary (key cs c.args.join_nulls) (key_at cs nulls) c.loop-row.row c.loop-row.bytes.items (places_in c.loop-row.places) c.loop-row.invariant.written (λ i low. key_shown cs nulls i (omega (arith, c.requires.some, long)))
     ∙ ap (λ n. map (key_at cs nulls) (row_numbers n)) all

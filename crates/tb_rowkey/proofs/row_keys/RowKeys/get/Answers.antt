@@ -1,49 +1,44 @@
 use Rattle.std.proofs.Common.{◌≡◌, ◌-◌, ◌<◌, ◌^◌, ◌+◌, Option, None, List, ℕ, length, get_or, take, drop, ap, sym, ◌∙◌, arith}
-use Rattle.std.proofs.lemmas.List.{get_or_default}
+use Rattle.tb_rowkey.specs.Places.{places_in}
 use Rattle.tb_rowkey.specs.RowKeys.{key_of}
 use Rattle.tb_rowkey.proofs.Written.{key_is, row_low, some_weaker}
 use Rattle.tb_rowkey.proofs.row_keys.RowKeys.get.Goals as goal
 
-pub index-requires : goal.index-requires
-index-requires c =
-    let low = row_low c.self.inside.bytes.items c.self.inside.places.items c.args.self.now c.args.row c.self.view_is c.requires in
-    omega (arith, low, c.self.inside.places.ok.0)
+pub at-requires : goal.at-requires
+at-requires c =
+    let low = row_low c.self.inside.bytes.items (places_in c.self.inside.places) c.args.self.now c.args.row c.self.view_is c.requires in
+    omega (arith, low)
 
 pub overflow_add-row : goal.overflow_add-row
 overflow_add-row c =
-    let low = row_low c.self.inside.bytes.items c.self.inside.places.items c.args.self.now c.args.row c.self.view_is c.requires in
+    let low = row_low c.self.inside.bytes.items (places_in c.self.inside.places) c.args.self.now c.args.row c.self.view_is c.requires in
     omega (arith, low, c.self.invariant.few)
 
-pub index-requires-2 : goal.index-requires-2
-index-requires-2 c =
-    let low = row_low c.self.inside.bytes.items c.self.inside.places.items c.args.self.now c.args.row c.self.view_is c.requires in
-    omega (arith, low, c.self.inside.places.ok.0)
+pub at-requires-2 : goal.at-requires-2
+at-requires-2 c =
+    let low = row_low c.self.inside.bytes.items (places_in c.self.inside.places) c.args.self.now c.args.row c.self.view_is c.requires in
+    omega (arith, low)
 
 pub key_between-requires-clause-order : goal.key_between-requires-clause-order
 key_between-requires-clause-order c =
-    let places = c.self.inside.places.items in
-    let low = row_low c.self.inside.bytes.items places c.args.self.now c.args.row c.self.view_is c.requires in
-    let a = c.index.ensures ∙ get_or_default places c.args.row c.index.result.now 0 (omega (arith, low)) in
-    let b = c.index-2.ensures ∙ get_or_default places (c.args.row + 1) c.index-2.result.now 0 (omega (arith, low)) in
+    let low = row_low c.self.inside.bytes.items (places_in c.self.inside.places) c.args.self.now c.args.row c.self.view_is c.requires in
     let up = c.self.invariant.ordered c.args.row (omega (arith, low)) in
-    omega (arith, a, b, up)
+    omega (arith, c.at.ensures, c.at-2.ensures, up)
 
 pub key_between-requires-clause-within : goal.key_between-requires-clause-within
 key_between-requires-clause-within c =
-    let places = c.self.inside.places.items in
-    let low = row_low c.self.inside.bytes.items places c.args.self.now c.args.row c.self.view_is c.requires in
-    let b = c.index-2.ensures ∙ get_or_default places (c.args.row + 1) c.index-2.result.now 0 (omega (arith, low)) in
+    let low = row_low c.self.inside.bytes.items (places_in c.self.inside.places) c.args.self.now c.args.row c.self.view_is c.requires in
     let in_bytes = c.self.invariant.within (c.args.row + 1) (omega (arith, low)) in
     let same = ap length c.deref.ensures.value in
-    omega (arith, b, in_bytes, same)
+    omega (arith, c.at-2.ensures, in_bytes, same)
 
 pub returns-clause-value : goal.returns-clause-value
 returns-clause-value c =
     let bytes = c.self.inside.bytes.items in
-    let places = c.self.inside.places.items in
+    let places = places_in c.self.inside.places in
     let low = row_low bytes places c.args.self.now c.args.row c.self.view_is c.requires in
-    let a : c.index.result.now ≡ get_or places c.args.row 0 = c.index.ensures ∙ get_or_default places c.args.row c.index.result.now 0 (omega (arith, low)) in
-    let b : c.index-2.result.now ≡ get_or places (c.args.row + 1) 0 = c.index-2.ensures ∙ get_or_default places (c.args.row + 1) c.index-2.result.now 0 (omega (arith, low)) in
+    let a : c.at.result ≡ get_or places c.args.row 0 = c.at.ensures in
+    let b : c.at-2.result ≡ get_or places (c.args.row + 1) 0 = c.at-2.ensures in
     let same : c.deref.result.now ≡ bytes = c.deref.ensures.value in
     c.key_between.ensures.value
     ∙ ◌∙◌ {A = Option (List ℕ)} (λ t. key_of (take (b t - a t) (drop (a t) (same t)))) (sym (key_is bytes places c.args.row low))
@@ -51,9 +46,6 @@ returns-clause-value c =
 
 pub returns-clause-short : goal.returns-clause-short
 returns-clause-short c =
-    let places = c.self.inside.places.items in
-    let low = row_low c.self.inside.bytes.items places c.args.self.now c.args.row c.self.view_is c.requires in
-    let a = c.index.ensures ∙ get_or_default places c.args.row c.index.result.now 0 (omega (arith, low)) in
-    let b = c.index-2.ensures ∙ get_or_default places (c.args.row + 1) c.index-2.result.now 0 (omega (arith, low)) in
+    let low = row_low c.self.inside.bytes.items (places_in c.self.inside.places) c.args.self.now c.args.row c.self.view_is c.requires in
     let short = c.self.invariant.short c.args.row (omega (arith, low)) in
-    some_weaker c.key_between.result (λ key. length key.now ≡ c.index-2.result.now - c.index.result.now) (λ key. length key.now < 2 ^ 32) (λ key len. omega (arith, a, b, short, len)) c.key_between.ensures.len
+    some_weaker c.key_between.result (λ key. length key.now ≡ c.at-2.result - c.at.result) (λ key. length key.now < 2 ^ 32) (λ key len. omega (arith, c.at.ensures, c.at-2.ensures, short, len)) c.key_between.ensures.len
