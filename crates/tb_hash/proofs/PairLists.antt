@@ -1,10 +1,9 @@
 -- The pairs of probed rows, one row more at a time.
-use Rattle.std.proofs.Common.{◌≡◌, ◌⊎◌, inl, inr, ℕ, zero, suc, ◌+◌, ◌-◌, ◌<◌, ◌≤◌, ◌==◌, nat_eq, nat_lt, Bool, true, false, not, cond, ◌||◌, List, [], ◌∷◌, ◌++◌, length, map, get_or, sym, refl, ap, ◌∙◌, arith, Some, None, append-nil, length-append}
+use Rattle.std.proofs.Common.{◌≡◌, ◌⊎◌, inl, inr, ℕ, zero, suc, ◌+◌, ◌-◌, ◌<◌, ◌≤◌, ◌==◌, nat_lt, Bool, true, false, not, cond, List, [], ◌∷◌, ◌++◌, length, map, sym, refl, ap, ◌∙◌, arith, Some, None, append-nil, length-append}
 use Rattle.std.specs.Prelude.{filter}
-use Rattle.std.specs.List.{flat_map, list_any}
+use Rattle.std.specs.List.{flat_map, range_with_len}
 use Rattle.std.proofs.lemmas.Bool.{ltb-true, lt-ltb}
 use Rattle.std.proofs.lemmas.List.Concat.{flat_map-append}
-use Rattle.std.proofs.lemmas.List.Folds.{list_any-append}
 use Rattle.std.proofs.Math.Dec.{eqb-suc-zero}
 use mathlib.Core.Bool.{beq}
 use Rattle.tb_value.specs.declared.error.PolarsError.{PolarsError}
@@ -13,9 +12,9 @@ use Rattle.tb_value.specs.declared.error.ComputeCause.TheVariants.{TooManyRows}
 use Rattle.tb_value.specs.declared.index.JoinPair.{JoinPair}
 use Rattle.tb_value.specs.Pairs.{row_numbers}
 use Rattle.tb_value.specs.Refusals.{when}
-use Rattle.tb_value.proofs.RowNumbers.{row_numbers_more, kept_more}
+use Rattle.tb_value.proofs.RowNumbers.{kept_more, range_cut, range_more}
 use Rattle.tb_frame.proofs.Causes.{when_not_above}
-use Rattle.tb_hash.specs.Probing.{AreMet, too_many, row_pairs, is_kept, probed_pairs}
+use Rattle.tb_hash.specs.Probing.{too_many, is_kept}
 
 -- TOO MANY
 
@@ -41,43 +40,39 @@ not_too_many n few = few_case n few (nat_lt 4294967294 n) refl
 -- ROW AFTER ROW
 
 module _ (f : ℕ → List JoinPair) where
-  flat_more : (n : ℕ) → flat_map f (row_numbers (n + 1)) ≡ flat_map f (row_numbers n) ++ f n
-  flat_more n =
-      ap (flat_map f) (row_numbers_more n) ∙ flat_map-append f (row_numbers n) (n ∷ [])
-      ∙ ap (λ (x : List JoinPair). flat_map f (row_numbers n) ++ x) (append-nil (f n))
-
-  length-flat_more : (n : ℕ) → length (flat_map f (row_numbers (n + 1))) ≡ length (flat_map f (row_numbers n)) + length (f n)
-  length-flat_more n = ap (λ (ps : List JoinPair). length ps) (flat_more n) ∙ length-append (flat_map f (row_numbers n)) (f n)
-
   -- more rows make no fewer pairs
-  flat_grows : (k d : ℕ) → length (flat_map f (row_numbers k)) ≤ length (flat_map f (row_numbers (k + d)))
-  flat_grows k zero = let e : k + 0 ≡ k = omega arith in let s : length (flat_map f (row_numbers (k + 0))) ≡ length (flat_map f (row_numbers k)) = ap (λ (n : ℕ). length (flat_map f (row_numbers n))) e in omega (arith, s)
-  flat_grows k (suc d) =
-      let e : k + suc d ≡ (k + d) + 1 = omega arith in
-      let s : length (flat_map f (row_numbers (k + suc d))) ≡ length (flat_map f (row_numbers ((k + d) + 1))) = ap (λ (n : ℕ). length (flat_map f (row_numbers n))) e in
-      let g = length-flat_more (k + d) in
-      let rest = flat_grows k d in
-      omega (arith, s, g, rest)
+  flat_grows : (a k d : ℕ) → length (flat_map f (range_with_len a k)) ≤ length (flat_map f (range_with_len a (k + d)))
+  flat_grows a k d =
+      let e = ap (λ (is : List ℕ). length (flat_map f is)) (range_cut a k d) in
+      let m = ap (λ (ps : List JoinPair). length ps) (flat_map-append f (range_with_len a k) (range_with_len (a + k) d)) in
+      let s = length-append (flat_map f (range_with_len a k)) (flat_map f (range_with_len (a + k) d)) in
+      omega (arith, e, m, s)
 
--- a loop's step at row i, whose built rows are rs
-module _ (rows : ℕ → List ℕ) (left_built keep : Bool) (i : ℕ) (rs : List ℕ) (same : rs ≡ rows i) (side : Bool) (same_side : side ≡ left_built) (old : List JoinPair) (so_far : old ≡ probed_pairs rows left_built keep i) where
-  here : row_pairs side keep i rs ≡ row_pairs left_built keep i (rows i)
-  here = λ t. row_pairs (same_side t) keep i (same t)
+  -- a loop's step at row i, whose pairs are ps
+  module _ (offset i : ℕ) (le : offset ≤ i) (ps : List JoinPair) (here : ps ≡ f i) (old : List JoinPair) (so_far : old ≡ flat_map f (range_with_len offset (i - offset))) where
+    grown : old ++ ps ≡ flat_map f (range_with_len offset ((i - offset) + 1))
+    grown =
+        let at : offset + (i - offset) ≡ i = omega (arith, le) in
+        (λ t. so_far t ++ here t)
+        ∙ sym
+        (ap (flat_map f) (range_more offset (i - offset)) ∙ flat_map-append f (range_with_len offset (i - offset)) ((offset + (i - offset)) ∷ [])
+        ∙ ap (λ (x : List JoinPair). flat_map f (range_with_len offset (i - offset)) ++ x) (append-nil (f (offset + (i - offset))) ∙ ap f at))
 
-  pub pairs-step : (new : List JoinPair) → new ≡ old ++ row_pairs side keep i rs → new ≡ probed_pairs rows left_built keep (i + 1)
-  pairs-step new step = step ∙ (λ t. so_far t ++ here t) ∙ sym (flat_more (λ p. row_pairs left_built keep p (rows p)) i)
+    pub rows-step : (new : List JoinPair) → new ≡ old ++ ps → new ≡ flat_map f (range_with_len offset (i + 1 - offset))
+    rows-step new step =
+        let e : (i - offset) + 1 ≡ i + 1 - offset = omega (arith, le) in
+        step ∙ grown ∙ ap (λ (k : ℕ). flat_map f (range_with_len offset k)) e
 
-  -- where the row's pairs are too many, all are
-  pub too_many-step : (n : ℕ) → i < n → (e : PolarsError) → (e ≡ OutOfMemory) ⊎ (too_many (length old + length (row_pairs side keep i rs)) ≡ Some e) → (e ≡ OutOfMemory) ⊎ (too_many (length (probed_pairs rows left_built keep n)) ≡ Some e)
-  too_many-step n low e h =
-      let f : ℕ → List JoinPair = λ p. row_pairs left_built keep p (rows p) in
-      let before = ap (λ (ps : List JoinPair). length ps) so_far in
-      let more = ap (λ (ps : List JoinPair). length ps) here in
-      let next = length-flat_more f i in
-      let grows = flat_grows f (i + 1) (n - (i + 1)) in
-      let all : (i + 1) + (n - (i + 1)) ≡ n = omega arith in
-      let whole : length (flat_map f (row_numbers ((i + 1) + (n - (i + 1))))) ≡ length (flat_map f (row_numbers n)) = ap (λ (k : ℕ). length (flat_map f (row_numbers k))) all in
-      still_too_many (length old + length (row_pairs side keep i rs)) (length (flat_map f (row_numbers n))) e (omega (arith, before, more, next, grows, whole)) h
+    -- where the row's pairs are too many, all are
+    pub too_many-step : (len : ℕ) → i < offset + len → (e : PolarsError) → (e ≡ OutOfMemory) ⊎ (too_many (length old + length ps) ≡ Some e) → (e ≡ OutOfMemory) ⊎ (too_many (length (flat_map f (range_with_len offset len))) ≡ Some e)
+    too_many-step len low e h =
+        let k = (i - offset) + 1 in
+        let long = ap (λ (qs : List JoinPair). length qs) grown in
+        let parts = length-append old ps in
+        let grows = flat_grows offset k (len - k) in
+        let all : k + (len - k) ≡ len = omega (arith, le, low) in
+        let whole : length (flat_map f (range_with_len offset (k + (len - k)))) ≡ length (flat_map f (range_with_len offset len)) = ap (λ (n : ℕ). length (flat_map f (range_with_len offset n))) all in
+        still_too_many (length old + length ps) (length (flat_map f (range_with_len offset len))) e (omega (arith, long, parts, grows, whole)) h
 
 -- pairs that were put behind others had room
 pub room-step : (old more new : List JoinPair) → new ≡ old ++ more → too_many (length old + length more) ≡ None → length new ≤ 4294967294
@@ -86,22 +81,6 @@ room-step old more new e h =
     let parts = length-append old more in
     let fits = when_not_above 4294967294 (length old + length more) (ComputeError TooManyRows) h in
     omega (arith, long, parts, fits)
-
--- MARKS
-
--- the marks of the rows so far, with those of row i
-pub marks-step : (rows : ℕ → List ℕ) (i : ℕ) (rs : List ℕ) → rs ≡ rows i → (old new : List Bool) → length new ≡ length old
-    → ((k : ℕ) → k < length old → get_or new k false ≡ (get_or old k false || list_any (nat_eq k) rs)) → AreMet rows i old → AreMet rows (i + 1) new
-marks-step rows i rs same old new len marks was k low =
-    let low' : k < length old = omega (arith, len, low) in
-    let p : ℕ → Bool = λ p. list_any (nat_eq k) (rows p) in
-    marks k low' ∙ ap (λ b. b || list_any (nat_eq k) rs) (was k low') ∙ ap (λ r. list_any p (row_numbers i) || list_any (nat_eq k) r) same
-    ∙ ap (λ b. list_any p (row_numbers i) || b) (sym (or_false (p i)))
-    ∙ sym (ap (list_any p) (row_numbers_more i) ∙ list_any-append p (row_numbers i) (i ∷ []))
-  where
-    or_false : (b : Bool) → (b || false) ≡ b
-    or_false true = refl
-    or_false false = refl
 
 -- ROWS ALONE
 

@@ -17,7 +17,7 @@ use Rattle.tb_frame.specs.declared.args.JoinValidation.TheVariants.{ManyToMany}
 use Rattle.tb_frame.specs.Refusal.{is_validated}
 use Rattle.tb_frame.proofs.Causes.{first_cause-one}
 use Rattle.tb_hash.specs.Hashing.{value_listing}
-use Rattle.tb_hash.specs.Keys.{keys_match, rows_match}
+use Rattle.tb_build.specs.Keys.{keys_match, rows_match}
 use Rattle.tb_hash.specs.Probing.{too_many}
 use Rattle.tb_hash.specs.SeenKeys.{has_match}
 use Rattle.tb_hash.specs.Twins.{key_twins, value_causes, value_twins}

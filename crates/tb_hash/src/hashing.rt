@@ -2,22 +2,23 @@
 ghost use Rattle.std.specs.Prelude.{◌≡◌, ◌≤◌, true, IfOk, if◌then◌else◌, length};
 ghost use Rattle.tb_value.specs.Refusals.{Settles, first_cause};
 ghost use Rattle.tb_value.specs.SameKind.{is_key};
+ghost use Rattle.tb_value.specs.Kind as kind;
 ghost use Rattle.tb_chunk.specs.Col.{flat, values};
+ghost use Rattle.tb_build.specs.Plan.{codes_of, plan_of};
 ghost use Rattle.tb_chunk.specs.Seen.{chunk_lists, storage};
 ghost use Rattle.tb_hash.specs.CellValues.{binary_values, cell_values, text_values};
 ghost use Rattle.tb_hash.specs.Hashed.{AreKeysHashed, AreValuesHashed};
-ghost use Rattle.tb_hash.specs.Hashing.{IsHashed, builds_left, one_part, value_listing};
-ghost use Rattle.tb_hash.specs.Keys.{key_listing, probe_listing};
+ghost use Rattle.tb_hash.specs.Hashing.{IsHashed, builds_left, key_plan, value_listing, value_plan};
+ghost use Rattle.tb_hash.specs.Listings.{key_listing, probe_listing};
 ghost use Rattle.tb_hash.specs.Probing.{AllowsSide, IsProbed, probed_order, too_many};
 ghost use Rattle.tb_hash.specs.Twins.{value_causes};
 
-use crate::keys::JoinKey;
 use crate::probing::{Probed, probe};
-use crate::tables::{Built, build_tables};
-use crate::typed::{KeyCell, joined_bytes, joined_cells, joined_texts};
+use crate::typed::{KeyCell, joined_bytes, joined_texts, keys_of_cells};
 use crate::validation::check_keys;
 use std::alloc::Global;
 use std::thread::Threads;
+use tb_build::{Built, JoinKey, build_tables};
 use tb_frame::{Direction, JoinType, JoinValidation};
 use tb_pool::{Exec, Gate};
 use tb_store::{BinaryChunk, Cells, Chunks, Series, StringChunk};
@@ -47,7 +48,7 @@ fn build_and_probe<K: JoinKey, G: Gate>(
     requires probed { length probed.now ≤ MAX_ROWS }
     ensures settles { Settles result (too_many (length (probe_listing K.eq join.now.join_nulls join.now.how left_built built.now probed.now))) }
     ensures listed { IfOk result (λ r. IsProbed join.now.how left_built (probe_listing K.eq join.now.join_nulls join.now.how left_built built.now probed.now) r.0) }
-    ensures built { IfOk result (λ r. r.1 ≡ one_part left_built (length built.now)) }
+    ensures built { IfOk result (λ r. r.1 ≡ plan_of join.now.exec.now left_built (codes_of K.code built.now)) }
 {
     let KeyJoin {
         alloc,
@@ -95,7 +96,7 @@ fn built_pairs<K: JoinKey, G: Gate>(
 ) -> PolarsResult<(Probed, Built)>
     requires left { length left.now ≤ MAX_ROWS }
     requires right { length right.now ≤ MAX_ROWS }
-    ensures { IsHashed join.now.how (length left.now) (length right.now) (key_listing K.eq join.now.join_nulls join.now.how left.now right.now) (too_many (length (key_listing K.eq join.now.join_nulls join.now.how left.now right.now))) result }
+    ensures { IsHashed join.now.how (length left.now) (length right.now) (key_plan K.code join.now.exec.now join.now.how left.now right.now) (key_listing K.eq join.now.join_nulls join.now.how left.now right.now) (too_many (length (key_listing K.eq join.now.join_nulls join.now.how left.now right.now))) result }
 {
     if builds_left(join.how, left.len(), right.len()) {
         build_and_probe(rt, gate, join, true, left, right)
@@ -114,7 +115,7 @@ fn pairs_of_keys<K: JoinKey, G: Gate>(
 ) -> PolarsResult<(Probed, Built)>
     requires left { length left.now ≤ MAX_ROWS }
     requires right { length right.now ≤ MAX_ROWS }
-    ensures { AreKeysHashed K.eq join.now.validate join.now.join_nulls join.now.how left.now right.now result }
+    ensures { AreKeysHashed K.eq K.code join.now.exec.now join.now.validate join.now.join_nulls join.now.how left.now right.now result }
 {
     check_keys(
         join.alloc,
@@ -145,7 +146,7 @@ pub fn hash_keys<K: JoinKey, G: Gate>(
 ) -> PolarsResult<(Probed, Built)>
     requires left { length left.now ≤ MAX_ROWS }
     requires right { length right.now ≤ MAX_ROWS }
-    ensures { AreKeysHashed K.eq validate join_nulls how left.now right.now result }
+    ensures { AreKeysHashed K.eq K.code exec.now validate join_nulls how left.now right.now result }
 {
     let join = KeyJoin {
         alloc,
@@ -157,6 +158,7 @@ pub fn hash_keys<K: JoinKey, G: Gate>(
     pairs_of_keys(rt, gate, &join, left, right)
 }
 
+// The pairs of the cells of two sides, which store values of a type with these codes.
 fn pairs_of_cells<N: KeyCell, G: Gate>(
     rt: &(impl Threads + Sync),
     gate: &G,
@@ -166,11 +168,11 @@ fn pairs_of_cells<N: KeyCell, G: Gate>(
 ) -> PolarsResult<(Probed, Built)>
     requires left { length (cell_values N.shows left.now) ≤ MAX_ROWS }
     requires right { length (cell_values N.shows right.now) ≤ MAX_ROWS }
-    ensures { AreValuesHashed join.now.validate join.now.join_nulls join.now.how (cell_values N.shows left.now) (cell_values N.shows right.now) result }
+    ensures { AreValuesHashed join.now.exec.now join.now.validate join.now.join_nulls join.now.how N.kind (cell_values N.shows left.now) (cell_values N.shows right.now) result }
 {
-    let left = joined_cells(join.alloc, left)?;
-    let right = joined_cells(join.alloc, right)?;
-    pairs_of_keys(rt, gate, join, &left, &right)
+    let left = keys_of_cells(join.alloc, left)?;
+    let right = keys_of_cells(join.alloc, right)?;
+    pairs_of_keys(rt, gate, join, left.keys(), right.keys())
 }
 
 fn pairs_of_texts<G: Gate>(
@@ -182,7 +184,7 @@ fn pairs_of_texts<G: Gate>(
 ) -> PolarsResult<(Probed, Built)>
     requires left { length (text_values left.now) ≤ MAX_ROWS }
     requires right { length (text_values right.now) ≤ MAX_ROWS }
-    ensures { AreValuesHashed join.now.validate join.now.join_nulls join.now.how (text_values left.now) (text_values right.now) result }
+    ensures { AreValuesHashed join.now.exec.now join.now.validate join.now.join_nulls join.now.how kind.string (text_values left.now) (text_values right.now) result }
 {
     let left = joined_texts(join.alloc, left)?;
     let right = joined_texts(join.alloc, right)?;
@@ -198,7 +200,7 @@ fn pairs_of_bytes<G: Gate>(
 ) -> PolarsResult<(Probed, Built)>
     requires left { length (binary_values left.now) ≤ MAX_ROWS }
     requires right { length (binary_values right.now) ≤ MAX_ROWS }
-    ensures { AreValuesHashed join.now.validate join.now.join_nulls join.now.how (binary_values left.now) (binary_values right.now) result }
+    ensures { AreValuesHashed join.now.exec.now join.now.validate join.now.join_nulls join.now.how kind.binary (binary_values left.now) (binary_values right.now) result }
 {
     let left = joined_bytes(join.alloc, left)?;
     let right = joined_bytes(join.alloc, right)?;
@@ -217,7 +219,7 @@ fn pairs_of_chunks<G: Gate>(
     requires key { is_key (storage left.now) ≡ true }
     requires left { length (flat (chunk_lists left.now)) ≤ MAX_ROWS }
     requires right { length (flat (chunk_lists right.now)) ≤ MAX_ROWS }
-    ensures { AreValuesHashed join.now.validate join.now.join_nulls join.now.how (flat (chunk_lists left.now)) (flat (chunk_lists right.now)) result }
+    ensures { AreValuesHashed join.now.exec.now join.now.validate join.now.join_nulls join.now.how (storage left.now) (flat (chunk_lists left.now)) (flat (chunk_lists right.now)) result }
 {
     match (left, right) {
         (Chunks::BooleanType(l), Chunks::BooleanType(r)) => pairs_of_cells(rt, gate, join, l, r),
@@ -259,7 +261,7 @@ pub fn hash_pairs<G: Gate>(
     requires same { left.now.kind ≡ right.now.kind }
     ensures settles { Settles result (first_cause (value_causes validate join_nulls how (values left.now) (values right.now))) }
     ensures listed { let side = builds_left how (length (values left.now)) (length (values right.now)) in IfOk result (λ r. IsProbed how side (value_listing join_nulls how (values left.now) (values right.now)) r.0) }
-    ensures built { let side = builds_left how (length (values left.now)) (length (values right.now)) in IfOk result (λ r. r.1 ≡ one_part side (if side then length (values left.now) else length (values right.now))) }
+    ensures built { IfOk result (λ r. r.1 ≡ value_plan exec.now how left.now.kind (values left.now) (values right.now)) }
 {
     let _lengths = (left.len(), right.len());
     let join = KeyJoin {

@@ -3,11 +3,12 @@
 
 mod hashing;
 mod join_ids;
-mod keys;
+mod portion;
 mod probing;
+mod pushing;
 mod series_join;
-mod tables;
 mod typed;
+mod unmet;
 mod validation;
 
 pub use hashing::{hash_keys, hash_pairs, probed_order};
@@ -15,8 +16,8 @@ pub use join_ids::{
     ChunkJoinIds, ChunkJoinOptIds, InnerJoinIds, LeftJoinIds, default_join_ids, left_numbers,
     right_numbers,
 };
-pub use keys::{JoinKey, KeyBytes, code_of, partition_of};
 pub use probing::{Probed, probe};
 pub use series_join::SeriesJoin;
-pub use tables::{Built, Tables, build_tables};
-pub use typed::joined_cells;
+pub use tb_build::{
+    Built, JoinKey, KeyBytes, KeyCode, Tables, build_tables, code_of, partition_of,
+};

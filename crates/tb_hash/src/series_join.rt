@@ -14,9 +14,9 @@ use crate::join_ids::{
     right_join_ids, right_numbers,
 };
 use crate::probing::Probed;
-use crate::tables::Built;
 use std::alloc::Global;
 use std::thread::Threads;
+use tb_build::Built;
 use tb_frame::{JoinType, JoinValidation};
 use tb_pool::{Exec, OpenGate};
 use tb_store::Series;

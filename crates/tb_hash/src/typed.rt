@@ -1,23 +1,26 @@
 //! The keys of a column, read as they are stored.
-ghost use Rattle.std.specs.Prelude.{◌≡◌, ◌++◌, ℕ, IfOk, List, OnOk, map};
+ghost use Rattle.std.specs.Prelude.{◌≡◌, ◌≤◌, ◌++◌, ℕ, IfOk, List, OnOk, length, map};
 ghost use Rattle.tb_value.specs.Datum.{Datum, binary, string};
 ghost use Rattle.tb_chunk.specs.Chunk.{or_null};
-ghost use Rattle.tb_hash.specs.CellValues.{binary_values, cell_values, text_values};
+ghost use Rattle.tb_hash.specs.CellValues.{binary_values, cell_values, listed_keys, text_values};
 
-use crate::keys::{JoinKey, KeyBytes};
 use std::alloc::Global;
+use tb_build::{JoinKey, KeyBytes};
 use tb_store::{BinaryChunk, Cell, Cells, StringChunk};
-use tb_value::{Bytes, OutOfMemory, PlSmallStr};
+use tb_value::{Bytes, MAX_ROWS, OutOfMemory, PlSmallStr};
 
 /// A key that is stored as it is: two are equal exactly where their values are.
 pub(crate) trait KeyCell: Cell + JoinKey {
     ghost use Rattle.std.specs.Prelude.{◌≡◌, false};
     ghost use Rattle.tb_value.specs.Datum.{is_null};
     ghost use Rattle.tb_value.specs.Same.{same};
+    ghost use Rattle.tb_hash.specs.Hashing.{value_code};
 
     ghost there: { (x : Self) → is_null (Self.shows x) ≡ false };
 
     ghost equal: { (x y : Self) → same (Self.shows x) (Self.shows y) ≡ Self.eq x y };
+
+    ghost coded: { (x : Self) → value_code Self.kind (Self.shows x) ≡ Self.code x };
 }
 
 impl KeyCell for bool {
@@ -26,6 +29,8 @@ impl KeyCell for bool {
     ghost there = { λ x. refl };
 
     ghost equal = { λ x y. refl };
+
+    ghost coded = { λ x. refl };
 }
 
 impl KeyCell for i8 {
@@ -34,6 +39,8 @@ impl KeyCell for i8 {
     ghost there = { λ x. refl };
 
     ghost equal = { λ x y. refl };
+
+    ghost coded = { λ x. refl };
 }
 
 impl KeyCell for i16 {
@@ -42,6 +49,8 @@ impl KeyCell for i16 {
     ghost there = { λ x. refl };
 
     ghost equal = { λ x y. refl };
+
+    ghost coded = { λ x. refl };
 }
 
 impl KeyCell for i32 {
@@ -50,6 +59,8 @@ impl KeyCell for i32 {
     ghost there = { λ x. refl };
 
     ghost equal = { λ x y. refl };
+
+    ghost coded = { λ x. refl };
 }
 
 impl KeyCell for i64 {
@@ -58,6 +69,8 @@ impl KeyCell for i64 {
     ghost there = { λ x. refl };
 
     ghost equal = { λ x y. refl };
+
+    ghost coded = { λ x. refl };
 }
 
 impl KeyCell for i128 {
@@ -66,52 +79,109 @@ impl KeyCell for i128 {
     ghost there = { λ x. refl };
 
     ghost equal = { λ x y. refl };
+
+    ghost coded = { λ x. refl };
 }
 
 impl KeyCell for u8 {
     ghost use Rattle.std.specs.Prelude.{refl};
-    ghost use Rattle.tb_hash.specs.KeyCells.{same_number};
+    ghost use Rattle.tb_hash.specs.KeyCells.{same_code, same_number};
 
     ghost there = { λ x. refl };
 
     ghost equal = { same_number };
+
+    ghost coded = { same_code };
 }
 
 impl KeyCell for u16 {
     ghost use Rattle.std.specs.Prelude.{refl};
-    ghost use Rattle.tb_hash.specs.KeyCells.{same_number};
+    ghost use Rattle.tb_hash.specs.KeyCells.{same_code, same_number};
 
     ghost there = { λ x. refl };
 
     ghost equal = { same_number };
+
+    ghost coded = { same_code };
 }
 
 impl KeyCell for u32 {
     ghost use Rattle.std.specs.Prelude.{refl};
-    ghost use Rattle.tb_hash.specs.KeyCells.{same_number};
+    ghost use Rattle.tb_hash.specs.KeyCells.{same_code, same_number};
 
     ghost there = { λ x. refl };
 
     ghost equal = { same_number };
+
+    ghost coded = { same_code };
 }
 
 impl KeyCell for u64 {
     ghost use Rattle.std.specs.Prelude.{refl};
-    ghost use Rattle.tb_hash.specs.KeyCells.{same_number};
+    ghost use Rattle.tb_hash.specs.KeyCells.{same_code, same_number};
 
     ghost there = { λ x. refl };
 
     ghost equal = { same_number };
+
+    ghost coded = { same_code };
 }
 
-/// The cells of these chunks, one chunk after another.
-pub fn joined_cells<N: Cell + Copy>(
+/// The keys of a side in one list: lent where a single chunk has them, and joined where several have.
+#[derive(Drop)]
+pub(crate) enum KeyList<'a, N> {
+    Lent(&'a [Option<N>]),
+    Joined(Vec<Option<N>>),
+}
+
+impl<N> KeyList<'_, N> {
+    /// The keys.
+    pub fn keys(&self) -> &[Option<N>]
+        ensures { result.now ≡ listed_keys self.now }
+    {
+        match self {
+            KeyList::Lent(keys) => keys,
+            KeyList::Joined(keys) => keys.as_slice(),
+        }
+    }
+}
+
+/// The cells of these chunks, one chunk after another, as keys.
+pub(crate) fn keys_of_cells<N: Cell + Copy>(
+    alloc: Global,
+    chunks: &[Cells<N>],
+) -> Result<KeyList<'_, N>, OutOfMemory>
+    requires { length (cell_values N.shows chunks.now) ≤ MAX_ROWS }
+    ensures { IfOk result (λ k. map (or_null N.shows) (listed_keys k) ≡ cell_values N.shows chunks.now) }
+{
+    if chunks.len() == 1 {
+        Ok(KeyList::Lent(&chunks[0].cells))
+    } else {
+        Ok(KeyList::Joined(joined_cells(alloc, chunks)?))
+    }
+}
+
+// The number of the cells of these chunks.
+fn count_cells<N: Cell>(chunks: &[Cells<N>]) -> usize
+    requires { length (cell_values N.shows chunks.now) ≤ MAX_ROWS }
+    ensures { result ≡ length (cell_values N.shows chunks.now) }
+{
+    let mut count = 0;
+    for chunk in chunks {
+        count += chunk.cells.len();
+    }
+    count
+}
+
+// The cells of these chunks, one chunk after another.
+fn joined_cells<N: Cell + Copy>(
     alloc: Global,
     chunks: &[Cells<N>],
 ) -> Result<Vec<Option<N>>, OutOfMemory>
+    requires { length (cell_values N.shows chunks.now) ≤ MAX_ROWS }
     ensures { IfOk result (λ v. map (or_null N.shows) v.items ≡ cell_values N.shows chunks.now) }
 {
-    let mut keys = Vec::new(alloc);
+    let mut keys = Vec::with_capacity(alloc, count_cells(chunks))?;
     for chunk in chunks {
         keys.extend_from_slice(&chunk.cells)?;
     }

@@ -3,20 +3,20 @@ ghost use Rattle.std.specs.Prelude.{◌≡◌, ◌&&◌, ◌||◌, ◌∷◌, []
 ghost use Rattle.tb_value.specs.Refusals.{Settles, first_cause};
 ghost use Rattle.tb_value.specs.declared.error.Side.TheVariants as side;
 ghost use Rattle.tb_frame.specs.Refusal.{asks_left, asks_right, is_validated};
-ghost use Rattle.tb_hash.specs.Keys.{keys_match};
+ghost use Rattle.tb_build.specs.Keys.{keys_match};
 ghost use Rattle.tb_hash.specs.SeenKeys.{has_match};
 ghost use Rattle.tb_hash.specs.Twins.{broken, key_twins};
 
-use crate::keys::JoinKey;
 use std::alloc::Global;
 use std::collections::HashSet;
+use tb_build::{JoinKey, KeyHashers};
 use tb_frame::{JoinType, JoinValidation};
 use tb_value::{ComputeCause, OutOfMemory, PolarsError, PolarsResult, Side};
 
 // Adds the key to those that were seen, and says whether it matches none of them. An absent key is not added where
 // absent keys don't match.
 fn see_key<K: JoinKey>(
-    seen: &mut HashSet<Option<K>>,
+    seen: &mut HashSet<Option<K>, KeyHashers>,
     key: Option<K>,
     join_nulls: bool,
 ) -> Result<bool, OutOfMemory>
@@ -37,7 +37,7 @@ fn have_twins<K: JoinKey>(
 ) -> Result<bool, OutOfMemory>
     ensures { IfOk result (λ b. b ≡ key_twins K.eq join_nulls keys.now) }
 {
-    let mut seen = HashSet::new(alloc);
+    let mut seen = HashSet::with_hasher(alloc, KeyHashers::of_keys(keys));
     for key in keys {
         if !see_key(&mut seen, *key, join_nulls)? {
             return Ok(true);

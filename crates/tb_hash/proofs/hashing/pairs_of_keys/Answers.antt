@@ -1,6 +1,5 @@
-use Rattle.std.proofs.lemmas.Result.{err_from_is_err_and}
-use Rattle.tb_hash.proofs.Hashed.{hashed-checked, broken-first}
+use Rattle.tb_hash.proofs.Hashed.{hashed-checked}
 use Rattle.tb_hash.proofs.hashing.pairs_of_keys.Goals as goal
 
 pub returns : goal.returns
-returns g c = hashed-checked c.args.join.now.how _ _ _ _ _ _ c.built_pairs.result c.in_ok-check_keys.ensures c.built_pairs.ensures
+returns g c = hashed-checked c.args.join.now.how _ _ _ _ _ _ _ c.built_pairs.result c.in_ok-check_keys.ensures c.built_pairs.ensures

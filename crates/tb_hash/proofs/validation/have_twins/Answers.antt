@@ -1,4 +1,4 @@
-use Rattle.std.proofs.Common.{◌≡◌, ◌<◌, ℕ, false, get_or, length, subst, sym, ◌∙◌, arith, None}
+use Rattle.std.proofs.Common.{◌≡◌, ℕ, false, get_or, length, subst, sym, ◌∙◌, arith, None}
 use Rattle.std.specs.List.{list_any}
 use Rattle.std.proofs.lemmas.List.{get_or_default}
 use Rattle.tb_value.specs.Pairs.{row_numbers}
@@ -6,7 +6,7 @@ use Rattle.tb_hash.proofs.Twins.{has_twin, none-seen, one-seen, one-twice}
 use Rattle.tb_hash.proofs.validation.have_twins.Goals as goal
 
 pub loop-key-init : goal.loop-key-init
-loop-key-init g c = none-seen g.K.PartialEq.eq c.args.join_nulls c.args.keys.now c.new-seen.result c.new-seen.ensures.empty
+loop-key-init g c = none-seen g.K.PartialEq.eq c.args.join_nulls c.args.keys.now c.with_hasher-seen.result c.with_hasher-seen.ensures.empty
 
 pub loop-key-preserved : goal.loop-key-preserved
 loop-key-preserved g c =

@@ -1,0 +1,13 @@
+pub mod Lists
+pub mod Rows
+pub mod Parts
+pub mod Portions
+pub mod PartPieces
+pub mod PartTables
+pub mod Slots
+pub mod Places
+pub mod GroupSteps
+pub mod GroupRows
+pub mod HashPieces
+pub mod Numbers
+pub mod FlatTables

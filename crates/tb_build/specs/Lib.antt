@@ -1,0 +1,11 @@
+pub mod Codes
+pub mod CodeLaws
+pub mod Keys
+pub mod Plan
+pub mod TableView
+pub mod Grouping
+pub mod Flat
+pub mod Hashing
+pub mod Phases
+pub mod Scattering
+pub mod SlotLaws

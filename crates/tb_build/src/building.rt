@@ -1,0 +1,134 @@
+//! The flat tables of all parts of the keys.
+ghost use Rattle.std.specs.Prelude.{◌≡◌, ℕ, ◌+◌, ◌-◌, ◌<◌, ◌≤◌, length, map, slice_index_or, IfOk};
+ghost use Rattle.tb_value.specs.Pairs.{row_numbers};
+ghost use Rattle.tb_build.specs.Plan.{codes_of, part_count, part_sizes};
+ghost use Rattle.tb_build.specs.Scattering.{HasPart, IsTableOfPart};
+ghost use Rattle.tb_build.specs.TableView.{ArePartTables};
+
+use crate::flat::{FlatTable, flat_table};
+use crate::groups::RowNames;
+use crate::hashing::KeyHashers;
+use crate::keys::{JoinKey, KeyCode};
+use crate::phases::run_phase;
+use crate::scattered::Scatter;
+use crate::scattering::scatter;
+use std::alloc::Global;
+use std::hash::Hash;
+use std::thread::Threads;
+use tb_pool::{Exec, Gate, Parts};
+use tb_value::{MAX_ROWS, OutOfMemory};
+
+// The one table of few keys, and its size.
+fn one_table<K: KeyCode>(
+    alloc: Global,
+    keys: &[Option<K>],
+) -> Result<(Vec<FlatTable<K>>, Vec<usize>), OutOfMemory>
+    requires { length keys.now ≤ MAX_ROWS }
+    ensures tables { IfOk result (λ r. ArePartTables K.eq K.code keys.now 1 r.0.items) }
+    ensures sizes { IfOk result (λ r. r.1.items ≡ part_sizes (codes_of K.code keys.now) 1) }
+{
+    let table = flat_table(alloc, keys, RowNames::From(0), KeyHashers::of_keys(keys))?;
+    let mut tables = Vec::new(alloc);
+    tables.push(table)?;
+    let mut sizes = Vec::new(alloc);
+    sizes.push(keys.len())?;
+    Ok((tables, sizes))
+}
+
+// The table of the keys of one part.
+fn part_table<K: Copy + Eq + Hash>(
+    alloc: Global,
+    scatter: &Scatter<K>,
+    part: u32,
+    hashers: KeyHashers,
+) -> Result<FlatTable<K>, OutOfMemory>
+    requires { HasPart scatter.now part }
+    ensures { IfOk result (λ t. IsTableOfPart K.eq scatter.now part t) }
+{
+    let start = scatter.starts[part as usize];
+    let end = scatter.starts[part as usize + 1];
+    let rows = &scatter.idxs[start..end];
+    let keys = &scatter.keys[start..end];
+    let table = flat_table(alloc, keys, RowNames::Listed(rows), hashers)?;
+    Ok(table)
+}
+
+// Scattered keys, each part of which becomes a table.
+#[derive(Drop)]
+struct Building<'a, K: JoinKey> {
+    alloc: Global,
+    scatter: &'a Scatter<K>,
+    hashers: KeyHashers,
+}
+
+impl<K: JoinKey> Parts for Building<'_, K> {
+    ghost use Rattle.tb_build.specs.Scattering.{HasPart, IsTableOfPart};
+
+    type Out = FlatTable<K>;
+
+    ghost may_run = { λ w part. HasPart w.scatter.now part };
+
+    ghost gives = { λ w part out. IsTableOfPart K.eq w.scatter.now part out };
+
+    fn run(&self, part: u32) -> Result<FlatTable<K>, OutOfMemory> {
+        part_table(self.alloc, self.scatter, part, self.hashers)
+    }
+}
+
+// How many keys lie between each start and the next one.
+fn sizes(alloc: Global, starts: &[usize]) -> Result<Vec<usize>, OutOfMemory>
+    requires some { 1 ≤ length starts.now }
+    requires order { (d : ℕ) → d + 1 < length starts.now → slice_index_or starts.now d 0 ≤ slice_index_or starts.now (d + 1) 0 }
+    ensures { IfOk result (λ v. v.items ≡ map (λ p. slice_index_or starts.now (p + 1) 0 - slice_index_or starts.now p 0) (row_numbers (length starts.now - 1))) }
+{
+    let parts = starts.len() - 1;
+    let mut sizes = Vec::with_capacity(alloc, parts)?;
+    for part in 0..parts {
+        sizes.push(starts[part + 1] - starts[part])?;
+    }
+    Ok(sizes)
+}
+
+/// The tables of all partitions, each built as a part of one phase, and their sizes.
+pub fn part_tables<K: JoinKey, G: Gate>(
+    rt: &(impl Threads + Sync),
+    alloc: Global,
+    keys: &[Option<K>],
+    exec: &Exec,
+    gate: &G,
+) -> Result<(Vec<FlatTable<K>>, Vec<usize>), OutOfMemory>
+    requires { length keys.now ≤ MAX_ROWS }
+    ensures tables { IfOk result (λ r. ArePartTables K.eq K.code keys.now exec.now.partitions r.0.items) }
+    ensures sizes { IfOk result (λ r. r.1.items ≡ part_sizes (codes_of K.code keys.now) exec.now.partitions) }
+{
+    let scattered = scatter(rt, alloc, keys, exec, gate)?;
+    let work = Building {
+        alloc,
+        scatter: &scattered,
+        hashers: KeyHashers::of_keys(keys),
+    };
+    let tables = run_phase(rt, alloc, exec, exec.partitions(), &work, gate)?;
+    let sizes = sizes(alloc, scattered.starts.as_slice())?;
+    Ok((tables, sizes))
+}
+
+/// The tables of as many parts as are planned, and their sizes. One part is built on the caller, of the keys as they
+/// stand.
+pub fn planned_tables<K: JoinKey, G: Gate>(
+    rt: &(impl Threads + Sync),
+    alloc: Global,
+    keys: &[Option<K>],
+    exec: &Exec,
+    gate: &G,
+) -> Result<(Vec<FlatTable<K>>, Vec<usize>), OutOfMemory>
+    requires { length keys.now ≤ MAX_ROWS }
+    ensures count { IfOk result (λ r. (1 ≤ length r.0.items) × (length r.0.items ≤ 1024)) }
+    ensures tables { IfOk result (λ r. ArePartTables K.eq K.code keys.now (part_count exec.now (length keys.now)) r.0.items) }
+    ensures sizes { IfOk result (λ r. r.1.items ≡ part_sizes (codes_of K.code keys.now) (part_count exec.now (length keys.now))) }
+{
+    if keys.len() < exec.small() as usize || exec.partitions() == 1 {
+        gate.enter(0);
+        return one_table(alloc, keys);
+    }
+    part_tables(rt, alloc, keys, exec, gate)
+}
