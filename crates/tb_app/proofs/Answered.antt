@@ -1,5 +1,5 @@
 -- What is due for a request, by what its operation answers.
-use Rattle.std.proofs.Common.{◌≡◌, ◌<◌, ◌^◌, ℕ, List, length, Option, Result, Ok, Err, IfOk, MatchOption, refl, sym, ap, subst}
+use Rattle.std.proofs.Common.{◌≡◌, ◌<◌, ◌^◌, ◌∙◌, ℕ, List, length, Option, Result, Ok, Err, IfOk, MatchOption, refl, sym, ap, subst}
 use mathlib.Core.Logic.{inl, inr}
 use Rattle.std.specs.Borrow.{Bor}
 use Rattle.std.specs.List.{All}
@@ -26,9 +26,13 @@ use Rattle.tb_pivot.specs.Pivot.{pivot_table}
 use Rattle.tb_pivot.specs.Refusal.{pivot_refusal}
 use Rattle.tb_pivot.specs.Request.{way_of}
 use Rattle.tb_pivot.specs.Request as wide
+use Rattle.tb_pairs.specs.Trace.{IsTraced, Trace, told}
+use Rattle.tb_pairs.specs.declared.trace.JoinTrace.{JoinTrace}
+use Rattle.tb_join.specs.Traced.{named_trace}
 use Rattle.tb_app.specs.declared.status.Status.{Status}
 use Rattle.tb_app.specs.declared.status.Status.TheVariants as status
-use Rattle.tb_app.specs.Due.{DueOfReading, DueOfRequest, IsOutcome}
+use Rattle.tb_app.specs.Due.{DueOfReading, DueOfRequest, IsJoinOutcome, IsOutcome}
+use Rattle.tb_app.specs.Traces.{due_trace, joined_text}
 use Rattle.tb_app.specs.Requests.{Request, as_request, asked_dummies, asked_long, asked_wide, join, unpivot, dummies, pivot, refusal_of, IsAnswerText, text_of_refusal}
 
 -- ---- no request
@@ -74,22 +78,40 @@ module _ (r : JoinRequest) (left_on right_on : List Name) (left : left_on ≡ r.
   of_request : (P : List Name → List Name → Type 0) → P left_on right_on → P r.left_on r.right_on
   of_request P p = subst (λ ns. P r.left_on ns) right (subst (λ ns. P ns right_on) left p)
 
-  joined_text : (outcome : Result (List Col) PolarsError)
-      → IfOk outcome (λ t. IsAnswer (lent_request r.left r.right r.left_on r.right_on r.args) (table_of t))
-      → IfOk outcome (λ t. IsAnswerText (join r) (text_of (table_of t)))
-  unfolding IsAnswerText
-  joined_text (Ok t) answer = (table_of t, answer, refl)
-  joined_text (Err e) answer = tt
+  -- the table that the join gave answers the request, and its trace is the one that is due
+  joined_is_due : (outcome : Result (List Col × JoinTrace) PolarsError) (s : Status) (text : List ℕ)
+      → Settles outcome (join_refusal (lent_request r.left r.right r.left_on r.right_on r.args))
+      → IfOk outcome (λ x. IsAnswer (lent_request r.left r.right r.left_on r.right_on r.args) (table_of x.0))
+      → IfOk outcome (λ x. told x.1 ≡ due_trace r)
+      → IsJoinOutcome r.trace outcome s text → DueOfRequest (join r) s text
+  unfolding DueOf IsAnswerText refusal_of
+  joined_is_due (Ok (t, how)) s text settles answer traced is =
+      subst (DueOf (join r) s text) (sym settles) (is.0, (table_of t, answer, is.1 ∙ ap (joined_text r.trace (table_of t)) traced))
+  joined_is_due (Err e) s text (inl want) answer traced is = absurd (is.0 want)
+  joined_is_due (Err e) s text (inr cause) answer traced is = subst (DueOf (join r) s text) (sym cause) (is.1, is.2)
 
-  pub join_is_due : {A E : Type 0} (outcome : Result (List Col) PolarsError) (s : A → Status) (text : A → List ℕ) (result : Result A E)
+  joins_are_due : {A E : Type 0} (outcome : Result (List Col × JoinTrace) PolarsError) (s : A → Status) (text : A → List ℕ) (result : Result A E)
+      → Settles outcome (join_refusal (lent_request r.left r.right r.left_on r.right_on r.args))
+      → IfOk outcome (λ x. IsAnswer (lent_request r.left r.right r.left_on r.right_on r.args) (table_of x.0))
+      → IfOk outcome (λ x. told x.1 ≡ due_trace r)
+      → IfOk result (λ a. IsJoinOutcome r.trace outcome (s a) (text a)) → IfOk result (λ a. DueOfRequest (join r) (s a) (text a))
+  joins_are_due outcome s text (Ok a) settles answer traced is = joined_is_due outcome (s a) (text a) settles answer traced is
+  joins_are_due outcome s text (Err e) settles answer traced is = is
+
+  told_as_due : (outcome : Result (List Col × JoinTrace) PolarsError) (due : Trace) → IfOk outcome (λ x. IsTraced r.exec due x.1) → IfOk outcome (λ x. told x.1 ≡ due)
+  told_as_due (Ok x) due traced = traced.tells
+  told_as_due (Err e) due traced = tt
+
+  pub join_is_due : {A E : Type 0} (outcome : Result (List Col × JoinTrace) PolarsError) (s : A → Status) (text : A → List ℕ) (result : Result A E)
       → Settles outcome (join_refusal (lent_request r.left r.right left_on right_on r.args))
-      → IfOk outcome (λ t. IsAnswer (lent_request r.left r.right left_on right_on r.args) (table_of t))
-      → IfOk result (λ a. IsOutcome outcome (s a) (text a)) → IfOk result (λ a. DueOfRequest (join r) (s a) (text a))
-  unfolding refusal_of
-  join_is_due outcome s text result settles answer is =
-      outcomes_are_due (join r) outcome s text result
+      → IfOk outcome (λ x. IsAnswer (lent_request r.left r.right left_on right_on r.args) (table_of x.0))
+      → IfOk outcome (λ x. IsTraced r.exec (named_trace r.left r.right left_on right_on r.args r.exec) x.1)
+      → IfOk result (λ a. IsJoinOutcome r.trace outcome (s a) (text a)) → IfOk result (λ a. DueOfRequest (join r) (s a) (text a))
+  join_is_due outcome s text result settles answer traced is =
+      joins_are_due outcome s text result
       (of_request (λ a b. Settles outcome (join_refusal (lent_request r.left r.right a b r.args))) settles)
-      (joined_text outcome (of_request (λ a b. IfOk outcome (λ t. IsAnswer (lent_request r.left r.right a b r.args) (table_of t))) answer))
+      (of_request (λ a b. IfOk outcome (λ x. IsAnswer (lent_request r.left r.right a b r.args) (table_of x.0))) answer)
+      (told_as_due outcome (due_trace r) (of_request (λ a b. IfOk outcome (λ x. IsTraced r.exec (named_trace r.left r.right a b r.args r.exec) x.1)) traced))
       is
 
 -- ---- a table that is made long

@@ -4,5 +4,6 @@ mod WordTexts
 mod Frame
 mod OneStatus
 mod Commands
+mod TraceTexts
 mod Answered
 mod SampleRows

@@ -1,5 +1,5 @@
 -- What is due for the words and the bytes, and what one run has done of it.
-use Rattle.std.specs.Prelude.{◌≡◌, ◌≢◌, ℕ, ◌+◌, ◌++◌, List, [], ◌∷◌, take, length, codes, Option, Some, None, Result, Ok, Err, MatchOption, MatchBool, IsSomeAnd, nat_lt, ◌≤◌, ⊤}
+use Rattle.std.specs.Prelude.{◌≡◌, ◌≢◌, ℕ, ◌+◌, ◌++◌, Bool, List, [], ◌∷◌, take, length, codes, Option, Some, None, Result, Ok, Err, MatchOption, MatchBool, IsSomeAnd, nat_lt, ◌≤◌, ⊤}
 use Rattle.std.specs.Io.KnownBytes.{Consumes, Appends}
 use Rattle.tb_value.specs.declared.error.PolarsError.{PolarsError}
 use Rattle.tb_value.specs.declared.error.PolarsError.TheVariants.{OutOfMemory}
@@ -10,6 +10,9 @@ use Rattle.tb_sample.specs.Sample.{IsSummary, text_of_summary}
 use Rattle.tb_sample.specs.declared.summary.Summary.{Summary}
 use Rattle.tb_request.specs.declared.request.Reason.{Reason}
 use Rattle.tb_request.specs.Reasons.{reason_word}
+use Rattle.tb_pairs.specs.Trace.{told}
+use Rattle.tb_pairs.specs.declared.trace.JoinTrace.{JoinTrace}
+use Rattle.tb_app.specs.Traces.{joined_text}
 use Rattle.tb_app.specs.declared.words.Command.{Command}
 use Rattle.tb_app.specs.declared.words.Form.{Form}
 use Rattle.tb_app.specs.declared.words.Form.TheVariants.{Reads, Sample, Unknown}
@@ -39,6 +42,11 @@ IsRefusal e s text = (e ≢ OutOfMemory) × (s ≡ status.Refused) × (text ≡ 
 abbrev pub IsOutcome : Result (List Col) PolarsError → Status → List ℕ → Type 0
 IsOutcome (Ok table) s text = (s ≡ status.Done) × (text ≡ text_of (table_of table))
 IsOutcome (Err e) s text = IsRefusal e s text
+
+-- the same of a join, whose table is written with its trace where that is asked
+abbrev pub IsJoinOutcome : Bool → Result (List Col × JoinTrace) PolarsError → Status → List ℕ → Type 0
+IsJoinOutcome asks (Ok joined) s text = (s ≡ status.Done) × (text ≡ joined_text asks (table_of joined.0) (told joined.1))
+IsJoinOutcome asks (Err e) s text = IsRefusal e s text
 
 -- a request is refused, or it is done
 abbrev pub DueOfRequest : Request → Status → List ℕ → Type 0

@@ -13,8 +13,10 @@ use Rattle.tb_json.specs.Text.{text_of}
 use Rattle.tb_app.specs.Due.{Tells}
 use Rattle.tb_app.specs.Reading.{limit}
 use Rattle.tb_app.specs.Requests.{asked_dummies, asked_long, asked_wide}
+use Rattle.tb_app.specs.Traces.{due_trace, joined_text}
 
--- The bytes, read to their end, are a request to join that nothing refuses, and the text of a table that answers it was written.
+-- The bytes, read to their end, are a request to join that nothing refuses, and the text of a table that answers it was written,
+-- with the trace of the join where the request asks for it.
 pub record JoinDone (left left' written written' : Option (List ℕ)) : Type 0 where
   pub bytes : List ℕ
   pub told : Tells left bytes
@@ -25,7 +27,7 @@ pub record JoinDone (left left' written written' : Option (List ℕ)) : Type 0 w
   pub valid : join_valid (asked request)
   pub table : Table
   pub is_answer : IsAnswer (asked request) table
-  pub wrote : Appends written written' (text_of table)
+  pub wrote : Appends written written' (joined_text request.trace table (due_trace request))
 
 -- The same for a table that is made long: the text of the long table was written.
 pub record UnpivotDone (left left' written written' : Option (List ℕ)) : Type 0 where

@@ -2,6 +2,7 @@ pub mod Ends
 pub mod Memory
 pub mod Reading
 pub mod Words
+pub mod Traces
 pub mod Requests
 pub mod Due
 pub mod Run

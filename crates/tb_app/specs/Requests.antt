@@ -16,6 +16,7 @@ use Rattle.tb_request.specs.declared.request.Reason.{Reason}
 use Rattle.tb_request.specs.Reading.{JoinRequest, UnpivotRequest, DummiesRequest, PivotRequest, asked, join_request_of, unpivot_request_of, dummies_request_of, pivot_request_of}
 use Rattle.tb_json.specs.Text.{text_of}
 use Rattle.tb_json.specs.Text as texts
+use Rattle.tb_app.specs.Traces.{due_trace, joined_text}
 use Rattle.tb_app.specs.declared.words.Command.{Command}
 use Rattle.tb_app.specs.declared.words.Command.TheVariants.{Join, Unpivot, Dummies, Pivot}
 
@@ -59,7 +60,7 @@ refusal_of (pivot r) = pivot_refusal (asked_wide r)
 
 -- the text is that of some answer to the request
 unfoldable pub IsAnswerText : Request → List ℕ → Type 0
-IsAnswerText (join r) text = (t : Table) × IsAnswer (asked r) t × (text ≡ text_of t)
+IsAnswerText (join r) text = (t : Table) × IsAnswer (asked r) t × (text ≡ joined_text r.trace t (due_trace r))
 IsAnswerText (unpivot r) text = text ≡ text_of (unpivot_table (asked_long r))
 IsAnswerText (dummies r) text = text ≡ text_of (dummies_table (asked_dummies r))
 IsAnswerText (pivot r) text = text ≡ text_of (pivot_table (asked_wide r))

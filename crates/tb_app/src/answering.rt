@@ -5,18 +5,20 @@ ghost use Rattle.std.specs.Option.{option_copied, option_map};
 ghost use Rattle.tb_chunk.specs.Col.{Col};
 ghost use Rattle.tb_request.specs.Reading.{request_view, unpivot_view, dummies_view, pivot_view, join_request_of, unpivot_request_of, dummies_request_of, pivot_request_of};
 ghost use Rattle.tb_request.specs.Reasons.{reason_word};
-ghost use Rattle.tb_app.specs.Due.{DueOfReading, DueOfRequest, IsOutcome, IsRefusal, bad_request_text};
+ghost use Rattle.tb_app.specs.Due.{DueOfReading, DueOfRequest, IsJoinOutcome, IsOutcome, IsRefusal, bad_request_text};
 ghost use Rattle.tb_app.specs.Requests.{request_of, as_request, join, unpivot, dummies, pivot};
 
 use crate::status::Status;
+use crate::tracing::text_with_trace;
 use crate::words::Command;
 use std::alloc::Global;
 use std::thread::Threads;
 use tb_dummies::DataFrameOps;
 use tb_frame::DataFrame;
-use tb_join::DataFrameJoinOps;
+use tb_join::{DataFrameJoinOps, JoinTrace};
 use tb_json::{text_of, text_of_refusal};
 use tb_pivot::pivot_by;
+use tb_pool::OpenGate;
 use tb_request::{
     DummiesRequest, JoinRequest, PivotRequest, Reason, RequestFault, UnpivotRequest,
     dummies_request_of, join_request_of, pivot_request_of, unpivot_request_of,
@@ -103,10 +105,11 @@ fn joined(
         right_on,
         args,
         exec,
-        trace: _,
+        trace,
     } = request;
-    let outcome = left.join(rt, alloc, &right, &left_on, &right_on, args, &exec);
-    answered(alloc, outcome)
+    let gate = &OpenGate;
+    let outcome = left.join_traced(rt, alloc, &right, &left_on, &right_on, args, &exec, gate);
+    join_answered(alloc, trace, outcome)
 }
 
 fn made_long(alloc: Global, request: UnpivotRequest) -> Result<Answer, OutOfMemory>
@@ -190,6 +193,24 @@ fn have_short_names(columns: &[Column]) -> bool
         .all(|column| column.name().as_str().len() < TOO_LONG)
 }
 
+// The text of the table that a join gave, with its trace where that is asked, or of why it gave none.
+fn join_answered(
+    alloc: Global,
+    asks_trace: bool,
+    outcome: PolarsResult<(DataFrame, JoinTrace)>,
+) -> Result<Answer, OutOfMemory>
+    ensures { IfOk result (λ a. IsJoinOutcome asks_trace outcome a.status (string_bytes a.text)) }
+{
+    match outcome {
+        Ok((table, trace)) if asks_trace => Ok(Answer {
+            status: Status::Done,
+            text: text_with_trace(alloc, &table, &trace)?,
+        }),
+        Ok((table, _)) => answered(alloc, Ok(table)),
+        Err(error) => refused(alloc, error),
+    }
+}
+
 // The text of the table that an operation gave, or of why it gave none.
 fn answered(alloc: Global, outcome: PolarsResult<DataFrame>) -> Result<Answer, OutOfMemory>
     ensures { IfOk result (λ a. IsOutcome outcome a.status (string_bytes a.text)) }
@@ -251,6 +272,5 @@ fn reason_word(reason: Reason) -> &'static str
         Reason::Heights => "Heights",
         Reason::Name => "Name",
         Reason::Flag => "Flag",
-        Reason::NotYet => "NotYet",
     }
 }

@@ -17,6 +17,7 @@ mod status;
 mod std_ends;
 #[cfg(test)]
 mod tests;
+mod tracing;
 mod words;
 mod writing;
 

@@ -1,11 +1,12 @@
 -- The rows of a Semi or Anti join.
-use Rattle.std.proofs.Common.{◌≡◌, ◌<◌, ◌∙◌, ℕ, Bool, true, false, ◌⊎◌, inl, inr, List, [], ◌∷◌, length, map, refl, ap, sym, subst, append-nil, arith, Option, Some, None}
+use Rattle.std.proofs.Common.{◌≡◌, ◌<◌, ◌∙◌, ℕ, Bool, true, false, ◌⊎◌, inl, inr, List, [], ◌∷◌, ◌++◌, length, map, refl, ap, sym, subst, append-nil, arith, Option, Some, None}
 use Rattle.std.specs.Prelude.{All, IsSorted, filter, unwrap_or, ℤ}
 use Rattle.std.proofs.lemmas.List.{nil_from_length}
 use Rattle.std.proofs.lemmas.List.Elements.{All-filter}
 use Rattle.std.proofs.lemmas.List.Sorted.{IsPermutation-refl}
 use Rattle.tb_value.specs.Pairs.{left_first, left_only, row_numbers}
 use Rattle.tb_value.specs.declared.index.JoinPair.{JoinPair}
+use Rattle.tb_value.specs.declared.sorted.IsSorted.TheVariants.{Ascending}
 use Rattle.tb_value.proofs.Ascending.{kept_ascend, left_met-sorted, left_unmet-sorted, pairs_from-Ascends_by}
 use Rattle.tb_value.proofs.Loops.{map-map}
 use Rattle.tb_chunk.specs.Col.{Col, values}
@@ -13,11 +14,12 @@ use Rattle.tb_chunk.specs.Rows.{value_or_null}
 use Rattle.tb_frame.specs.Answer.{IsListed, fill}
 use Rattle.tb_frame.specs.Frame.{opt_taken, taken, without_names}
 use Rattle.tb_frame.specs.Join.{IsAnswer, IsOrdered, Request, cut, listing, out}
-use Rattle.tb_frame.specs.Table.{IsTable, height, table_of}
+use Rattle.tb_frame.specs.Table.{IsTable, Table, height, plain, table_of}
 use Rattle.tb_frame.specs.declared.args.MaintainOrderJoin.TheVariants as order
 use Rattle.tb_frame.proofs.Assembled.{makes_answer}
 use Rattle.tb_frame.proofs.Ranges.{rows_below}
 use Rattle.tb_frame.proofs.Taking.{IsTable-taken}
+use Rattle.tb_gather.specs.Gathered.{rows_gathered}
 use Rattle.tb_hash.specs.Hashing.{value_listing}
 use Rattle.tb_join.proofs.AnswerMade.{columns-are}
 use Rattle.tb_join.proofs.KeptColumns.{without_names_none}
@@ -25,6 +27,10 @@ use Rattle.tb_pairs.proofs.Requested.{columns_listed, one_listed}
 use Rattle.tb_dispatch.specs.Given.{by_match, semi_or_anti}
 use Rattle.tb_dispatch.specs.Rows.{Rise}
 use Rattle.tb_dispatch.proofs.Cuts.{cut-map, few_risen}
+
+without_flags : (rows : List (Option ℕ)) (cs : List Col) → table_of (map (opt_taken rows) cs) ≡ table_of (map (rows_gathered rows Ascending) cs)
+without_flags rows [] = refl
+without_flags rows (c ∷ cs) = ap (λ (t : Table). plain (opt_taken rows c) ∷ t) (without_flags rows cs)
 
 cut_none : (s : Option (ℤ × ℕ)) → cut s (map left_only []) ≡ []
 cut_none None = refl
@@ -84,12 +90,21 @@ module _ (nulls anti : Bool) (l r : Col) (rows : List ℕ) (is : map left_only r
     made : map (taken (cut s rows)) left ≡ map (opt_taken (map (λ (p : JoinPair). p.left) items)) (without_names [] left)
     made = (λ t. map (λ (c : Col). taken-is (cut s rows) c t) left) ∙ (λ t. map (opt_taken (sym lefts t)) (sym (without_names_none left) t))
 
+    -- a join gathers the same rows, which ascend, with flags that a table doesn't have
+    gathered : List Col
+    gathered = map (rows_gathered (map (λ (p : JoinPair). p.left) items) Ascending) (without_names [] left)
+
+    same : table_of (map (taken (cut s rows)) left) ≡ table_of (gathered ++ [])
+    unfolding gathered
+    same = ap table_of made ∙ without_flags (map (λ (p : JoinPair). p.left) items) (without_names [] left) ∙ ap table_of (sym (append-nil gathered))
+
     columns : table_of (map (taken (cut s rows)) left) ≡ map (fill items) (out q)
+    unfolding gathered
     columns = at anti
       where
         at : (b : Bool) → table_of (map (taken (cut s rows)) left) ≡ map (fill items) (out (by_match b nulls s left l r))
-        at true = ap table_of (made ∙ sym (append-nil (map (opt_taken (map (λ (p : JoinPair). p.left) items)) (without_names [] left)))) ∙ columns-are (by_match true nulls s left l r) left (r ∷ []) items refl refl refl
-        at false = ap table_of (made ∙ sym (append-nil (map (opt_taken (map (λ (p : JoinPair). p.left) items)) (without_names [] left)))) ∙ columns-are (by_match false nulls s left l r) left (r ∷ []) items refl refl refl
+        at true = same ∙ columns-are (by_match true nulls s left l r) left (r ∷ []) items refl refl refl
+        at false = same ∙ columns-are (by_match false nulls s left l r) left (r ∷ []) items refl refl refl
 
     pub alone_answer : IsAnswer q (table_of (map (taken (cut s rows)) left))
     alone_answer = makes_answer q items (table_of (map (taken (cut s rows)) left)) columns (at left table high) (IsTable-taken (cut s rows) left table) listed

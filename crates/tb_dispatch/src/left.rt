@@ -18,7 +18,7 @@ use tb_keys::LentRequest;
 use tb_pairs::listed_pairs;
 use tb_pool::Exec;
 use tb_store::Series;
-use tb_value::{JoinPair, MAX_ROWS, OutOfMemory, PlSmallStr, PolarsResult};
+use tb_value::{IsSorted, JoinPair, MAX_ROWS, OutOfMemory, PlSmallStr, PolarsResult};
 
 // The left columns over the pairs, and the right ones but for those of the names that go.
 fn halves(
@@ -34,9 +34,9 @@ fn halves(
     ensures { IfOk result (AreOver pairs.now left.now (without_names gone.now right.now)) }
 {
     let rows = left_rows(alloc, pairs)?;
-    let left = gather_rows(rt, alloc, left, &rows)?;
+    let left = gather_rows(rt, alloc, left, &rows, IsSorted::Not)?;
     let rows = right_rows(alloc, pairs)?;
-    let right = kept_table(rt, alloc, right, gone, &rows)?;
+    let right = kept_table(rt, alloc, right, gone, &rows, IsSorted::Not)?;
     Ok((left, right))
 }
 

@@ -3,11 +3,12 @@ use Rattle.std.proofs.Common.{◌≡◌, ℕ, Bool, true, false, cond, not, ◌|
 use Rattle.std.specs.Prelude.{All, position, slice_get}
 use Rattle.std.specs.List.{cons_option, find}
 use Rattle.std.specs.Option.{ForSome, option_and_then, option_map}
-use Rattle.std.proofs.lemmas.List.{length-map}
+use Rattle.std.proofs.lemmas.List.{length-map, map-append}
 use Rattle.std.proofs.lemmas.Option.{slice_get-map}
 use Rattle.std.proofs.lemmas.List.Elements.{All-map}
 use Rattle.tb_value.specs.Names.{Name, same_name}
 use Rattle.tb_value.specs.declared.index.JoinPair.{JoinPair}
+use Rattle.tb_value.specs.declared.sorted.IsSorted.{IsSorted}
 use Rattle.tb_value.proofs.Loops.{map-map}
 use Rattle.tb_chunk.specs.Col.{Col}
 use Rattle.tb_frame.specs.declared.args.JoinType.{JoinType}
@@ -25,14 +26,33 @@ use Rattle.tb_frame.proofs.Taking.{all_plain as plain_all, length-opt_taken, nam
 use Rattle.tb_keys.specs.Merging.{key_beside, left_column, merged_key}
 use Rattle.tb_keys.proofs.KeysNamed.{keys_many, keys_own}
 use Rattle.tb_keys.proofs.MergedColumns.{columns-made, partner-key}
-use Rattle.tb_join.specs.AnswerColumns.{Fits, answer_columns, called, filled_up, left_part, merged_part, side_by_side, suffix_in}
+use Rattle.tb_gather.specs.Gathered.{rows_gathered}
+use Rattle.tb_gather.proofs.Frames.{table-rows}
+use Rattle.tb_join.specs.AnswerColumns.{Fits, answer_columns, called, filled_up, merged_part, side_by_side, suffix_in}
 use Rattle.tb_join.specs.Ready.{CanMerge}
+use Rattle.tb_join.specs.Runs.{left_asked, right_asked}
 use Rattle.tb_join.proofs.KeptColumns.{without_names_none}
 
 -- rows that are taken of right columns, beside left columns of these names
 beside-taken : (ls xs : List Col) (names : List Name) (suffix : Name) (rows : List (Option ℕ)) → names_of (table_of ls) ≡ names → side_by_side suffix ls (map (opt_taken rows) xs) ≡ ls ++ map (right_column names suffix rows) xs
 beside-taken ls xs names suffix rows is =
     ap (λ (ns : List Name). ls ++ map (called ns suffix) (map (opt_taken rows) xs)) is ∙ ap (λ (cs : List Col). ls ++ cs) (map-map (called names suffix) (opt_taken rows) xs)
+
+-- flags don't show in the columns of an answer
+called-rows : (names : List Name) (suffix : Name) (rows : List (Option ℕ)) (sorted : IsSorted) (cs : List Col) → table_of (map (called names suffix) (map (rows_gathered rows sorted) cs)) ≡ table_of (map (called names suffix) (map (opt_taken rows) cs))
+called-rows names suffix rows sorted [] = refl
+called-rows names suffix rows sorted (c ∷ cs) = ap (λ (t : Table). plain (called names suffix (opt_taken rows c)) ∷ t) (called-rows names suffix rows sorted cs)
+
+flags-aside : (suffix : Name) (lefts rights : List (Option ℕ)) (s t : IsSorted) (xs ys : List Col)
+    → table_of (side_by_side suffix (map (rows_gathered lefts s) xs) (map (rows_gathered rights t) ys)) ≡ table_of (side_by_side suffix (map (opt_taken lefts) xs) (map (opt_taken rights) ys))
+flags-aside suffix lefts rights s t xs ys =
+    let kept : List Col = map (rows_gathered lefts s) xs in
+    let plainly : List Col = map (opt_taken lefts) xs in
+    let beside : Table → Table = λ left. left ++ table_of (map (called (names_of left) suffix) (map (rows_gathered rights t) ys)) in
+    map-append plain kept (map (called (names_of (table_of kept)) suffix) (map (rows_gathered rights t) ys))
+    ∙ ap beside (table-rows lefts s xs)
+    ∙ ap (λ (right : Table). table_of plainly ++ right) (called-rows (names_of (table_of plainly)) suffix rights t ys)
+    ∙ sym (map-append plain plainly (map (called (names_of (table_of plainly)) suffix) (map (opt_taken rights) ys)))
 
 -- where keys are not merged, no column has a partner
 alone : (q : Request) → merges_keys q.args.how (coalesces q.args) ≡ false → (n : Name) → partner q n ≡ None
@@ -44,7 +64,9 @@ columns-are q left right ps apart is_left is_right =
     let kept : List Col = without_names (gone_left q.args q.left_on) left in
     let lefts : List (Option ℕ) = map (λ (p : JoinPair). p.left) ps in
     let rights : List (Option ℕ) = map (λ (p : JoinPair). p.right) ps in
-    ap table_of (beside-taken (left_part q.args q.left_on ps left) (without_names (gone_right q.args q.right_on) (right_side q.args.how right)) (names_of (table_of kept)) (suffix_in q.args) rights (names-opt_taken lefts kept))
+    let beside : List Col = without_names (gone_right q.args q.right_on) (right_side q.args.how right) in
+    flags-aside (suffix_in q.args) lefts rights (left_asked q.args) (right_asked q.args) kept beside
+    ∙ ap table_of (beside-taken (map (opt_taken lefts) kept) beside (names_of (table_of kept)) (suffix_in q.args) rights (names-opt_taken lefts kept))
     ∙ columns-made q (λ n. None) (λ c. alone q apart c.name) ps left right kept is_left is_right refl
 
 -- MERGED KEYS

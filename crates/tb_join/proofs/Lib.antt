@@ -6,3 +6,4 @@ pub mod EachOnce
 pub mod NamedKeys
 pub mod NamesStand
 pub mod Beside
+pub mod Running

@@ -4,11 +4,13 @@ use Rattle.tb_value.specs.Names.{Name}
 use Rattle.tb_value.specs.declared.index.JoinPair.{JoinPair}
 use Rattle.tb_chunk.specs.Col.{Col, values}
 use Rattle.tb_frame.specs.declared.args.JoinArgs.{JoinArgs}
-use Rattle.tb_frame.specs.Frame.{coalesced, opt_taken, without_names}
+use Rattle.tb_frame.specs.Frame.{coalesced, without_names}
 use Rattle.tb_frame.specs.Naming.{default_suffix, right_name}
 use Rattle.tb_frame.specs.RightColumns.{gone_left, gone_right, right_side}
 use Rattle.tb_frame.specs.Table.{names_of, table_of}
+use Rattle.tb_gather.specs.Gathered.{rows_gathered}
 use Rattle.tb_keys.specs.Merging.{key_beside}
+use Rattle.tb_join.specs.Runs.{left_asked, right_asked}
 
 abbrev pub suffix_in : JoinArgs → Name
 suffix_in a = unwrap_or a.suffix default_suffix
@@ -17,13 +19,13 @@ suffix_in a = unwrap_or a.suffix default_suffix
 abbrev pub called : List Name → Name → Col → Col
 called taken suffix c = record c { name = right_name taken (Some suffix) c.name }
 
--- the left columns over the pairs
+-- the left columns over the pairs, which keep their flags where the left rows ascend
 abbrev pub left_part : JoinArgs → List Name → List JoinPair → List Col → List Col
-left_part a left_on ps cs = map (opt_taken (map (λ (p : JoinPair). p.left) ps)) (without_names (gone_left a left_on) cs)
+left_part a left_on ps cs = map (rows_gathered (map (λ (p : JoinPair). p.left) ps) (left_asked a)) (without_names (gone_left a left_on) cs)
 
 -- the right columns over the pairs
 abbrev pub right_part : JoinArgs → List Name → List JoinPair → List Col → List Col
-right_part a right_on ps cs = map (opt_taken (map (λ (p : JoinPair). p.right) ps)) (without_names (gone_right a right_on) (right_side a.how cs))
+right_part a right_on ps cs = map (rows_gathered (map (λ (p : JoinPair). p.right) ps) (right_asked a)) (without_names (gone_right a right_on) (right_side a.how cs))
 
 -- columns, and others beside them
 abbrev pub side_by_side : Name → List Col → List Col → List Col

@@ -8,16 +8,18 @@ ghost use Rattle.tb_frame.specs.Table.{table_of};
 ghost use Rattle.tb_keys.specs.Asked.{asked, asked_by_names};
 ghost use Rattle.tb_keys.specs.Causes.{later_refusal};
 ghost use Rattle.tb_join.specs.Asked.{plainly};
+ghost use Rattle.tb_pairs.specs.Trace.{IsTraced, requested_trace};
 ghost use Rattle.tb_join.specs.Ready.{CanMerge};
+ghost use Rattle.tb_join.specs.Traced.{named_trace};
 
 use crate::general::finish_join;
 use std::alloc::Global;
 use std::thread::Threads;
 use tb_frame::{DataFrame, IntoDf, JoinArgs, JoinType};
 use tb_keys::{LentRequest, NamedRequest, check_columns};
-use tb_pairs::listed_pairs;
-use tb_pool::Exec;
-use tb_value::{JoinPair, PlSmallStr, PolarsResult};
+use tb_pairs::{JoinTrace, ListedPairs, traced_pairs};
+use tb_pool::{Exec, Gate, OpenGate};
+use tb_value::{PlSmallStr, PolarsResult};
 
 /// Joins of the table that `self` lends with another.
 pub trait DataFrameJoinOps: IntoDf {
@@ -52,6 +54,34 @@ pub trait DataFrameJoinOps: IntoDf {
         ensures settles { Settles result (join_refusal (lent_request (Self.frame self.now) other.now left_on.now right_on.now args)) }
         ensures answer { IfOk result (λ t. IsAnswer (lent_request (Self.frame self.now) other.now left_on.now right_on.now args) (table_of t)) }
     {
+        let gate = &OpenGate;
+        let (table, _trace) = self.join_traced(
+            rt, alloc, other, left_on, right_on, args, exec, gate,
+        )?;
+        Ok(table)
+    }
+
+    /// The same, and how the join went: what was hashed, or how much was merged. The gate lets in each part of the work
+    /// that hashes.
+    ///
+    /// # Errors
+    ///
+    /// Those of `join`.
+    final fn join_traced<G: Gate>(
+        &self,
+        rt: &(impl Threads + Sync),
+        alloc: Global,
+        other: &DataFrame,
+        left_on: &[PlSmallStr],
+        right_on: &[PlSmallStr],
+        args: JoinArgs,
+        exec: &Exec,
+        gate: &G,
+    ) -> PolarsResult<(DataFrame, JoinTrace)>
+        ensures settles { Settles result (join_refusal (lent_request (Self.frame self.now) other.now left_on.now right_on.now args)) }
+        ensures answer { IfOk result (λ r. IsAnswer (lent_request (Self.frame self.now) other.now left_on.now right_on.now args) (table_of r.0)) }
+        ensures traced { IfOk result (λ r. IsTraced exec.now (named_trace (Self.frame self.now) other.now left_on.now right_on.now args exec.now) r.1) }
+    {
         let request = NamedRequest {
             left: self.to_df(),
             right: other,
@@ -59,7 +89,7 @@ pub trait DataFrameJoinOps: IntoDf {
             right_on,
             args: &args,
         };
-        join_tables(rt, alloc, &request, exec)
+        join_tables(rt, alloc, &request, exec, gate)
     }
 
     /// The Inner join by these keys, with nothing else asked: `join` with `JoinArgs::new`.
@@ -129,19 +159,42 @@ pub trait DataFrameJoinOps: IntoDf {
 impl DataFrameJoinOps for DataFrame {}
 
 // The pairs of a request, where no cause refuses its key columns, the names of its answer, its sides or their number.
-fn checked_pairs(
+fn checked_pairs<G: Gate>(
     rt: &(impl Threads + Sync),
     alloc: Global,
     request: &LentRequest<'_>,
     exec: &Exec,
-) -> PolarsResult<Vec<JoinPair>>
+    gate: &G,
+) -> PolarsResult<ListedPairs>
     requires some { 0 < length request.now.left_keys.now }
     requires as_many { length request.now.left_keys.now ≡ length request.now.right_keys.now }
     ensures settles { Settles result (later_refusal (asked request.now)) }
-    ensures listed { IfOk result (λ v. IsListed request.now.how request.now.args.now.maintain_order request.now.args.now.slice (listing (asked request.now)) v.items) }
+    ensures listed { IfOk result (λ l. IsListed request.now.how request.now.args.now.maintain_order request.now.args.now.slice (listing (asked request.now)) l.pairs.items) }
+    ensures traced { IfOk result (λ l. IsTraced exec.now (requested_trace request.now exec.now) l.trace) }
 {
     check_columns(alloc, request)?;
-    listed_pairs(rt, alloc, request, exec)
+    traced_pairs(rt, alloc, request, exec, gate)
+}
+
+// The join of a request whose keys stand in columns of their names, and how it went.
+fn traced_columns<G: Gate>(
+    rt: &(impl Threads + Sync),
+    alloc: Global,
+    request: &LentRequest<'_>,
+    exec: &Exec,
+    gate: &G,
+) -> PolarsResult<(DataFrame, JoinTrace)>
+    requires some { 0 < length request.now.left_keys.now }
+    requires as_many { length request.now.left_keys.now ≡ length request.now.right_keys.now }
+    requires wide { 0 < length (out (asked request.now)) }
+    requires merge { key_types (asked request.now) ≡ None → CanMerge (asked request.now) }
+    ensures settles { Settles result (later_refusal (asked request.now)) }
+    ensures answer { IfOk result (λ r. IsAnswer (asked request.now) (table_of r.0)) }
+    ensures traced { IfOk result (λ r. IsTraced exec.now (requested_trace request.now exec.now) r.1) }
+{
+    let ListedPairs { pairs, trace } = checked_pairs(rt, alloc, request, exec, gate)?;
+    let table = finish_join(rt, alloc, request, &pairs)?;
+    Ok((table, trace))
 }
 
 /// The join of a request whose keys stand in columns of their names.
@@ -158,21 +211,23 @@ pub fn join_columns(
     ensures settles { Settles result (later_refusal (asked request.now)) }
     ensures answer { IfOk result (λ t. IsAnswer (asked request.now) (table_of t)) }
 {
-    let pairs = checked_pairs(rt, alloc, request, exec)?;
-    finish_join(rt, alloc, request, &pairs)
+    let (table, _trace) = traced_columns(rt, alloc, request, exec, &OpenGate)?;
+    Ok(table)
 }
 
-fn join_tables(
+fn join_tables<G: Gate>(
     rt: &(impl Threads + Sync),
     alloc: Global,
     request: &NamedRequest<'_>,
     exec: &Exec,
-) -> PolarsResult<DataFrame>
+    gate: &G,
+) -> PolarsResult<(DataFrame, JoinTrace)>
     ensures settles { Settles result (join_refusal (asked_by_names request.now)) }
-    ensures answer { IfOk result (λ t. IsAnswer (asked_by_names request.now) (table_of t)) }
+    ensures answer { IfOk result (λ r. IsAnswer (asked_by_names request.now) (table_of r.0)) }
+    ensures traced { IfOk result (λ r. IsTraced exec.now (named_trace request.now.left.now request.now.right.now request.now.left_on.now request.now.right_on.now request.now.args.now exec.now) r.1) }
 {
     let _columns = request.left.get_columns();
     let keys = request.key_columns(alloc)?;
     let lent = request.with_keys(&keys);
-    join_columns(rt, alloc, &lent, exec)
+    traced_columns(rt, alloc, &lent, exec, gate)
 }

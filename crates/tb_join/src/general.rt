@@ -3,47 +3,55 @@ ghost use Rattle.std.specs.Prelude.{◌≡◌, ◌<◌, ◌≤◌, ◌⊎◌, �
 ghost use Rattle.tb_value.specs.Refusals.{Settles};
 ghost use Rattle.tb_chunk.specs.Rows.{IsRowOf};
 ghost use Rattle.tb_frame.specs.Answer.{IsListed, IsPairOf, fill};
-ghost use Rattle.tb_frame.specs.Frame.{opt_taken, without_names};
+ghost use Rattle.tb_frame.specs.Frame.{without_names};
 ghost use Rattle.tb_frame.specs.Join.{IsAnswer, listing, out};
 ghost use Rattle.tb_frame.specs.Naming.{coalesces, merges_keys};
 ghost use Rattle.tb_frame.specs.Refusal.{repeated_name};
 ghost use Rattle.tb_frame.specs.Table.{height, table_of};
+ghost use Rattle.tb_gather.specs.Gathered.{rows_gathered};
+ghost use Rattle.tb_gather.specs.Ids.{RowsAreRun};
 ghost use Rattle.tb_keys.specs.Asked.{asked};
 ghost use Rattle.tb_join.specs.AnswerColumns.{answer_columns, right_part, side_by_side};
 ghost use Rattle.tb_join.specs.Ready.{CanMerge};
+ghost use Rattle.tb_join.specs.Runs.{RunAsAsked, right_asked};
 
 use crate::merging::merged_columns;
 use crate::names::side_by_side;
+use crate::runs::{left_run, right_run};
 use std::alloc::Global;
 use std::thread::Threads;
 use tb_frame::{DataFrame, gone_left, gone_right, has_right, left_rows, right_rows, suffix_of};
 use tb_gather::gather_rows;
 use tb_keys::LentRequest;
 use tb_store::Column;
-use tb_value::{JoinPair, MAX_ROWS, NullableIdxSize, OutOfMemory, PlSmallStr, PolarsResult};
+use tb_value::{
+    IsSorted, JoinPair, MAX_ROWS, NullableIdxSize, OutOfMemory, PlSmallStr, PolarsResult,
+};
 
 /// The columns of a table over these rows, but for those of the names that go, which are left out before the rest is
-/// gathered.
+/// gathered. `sorted` says how the rows run, as in `gather_rows`.
 pub fn kept_table(
     rt: &(impl Threads + Sync),
     alloc: Global,
     table: &DataFrame,
     gone: &[PlSmallStr],
     rows: &[NullableIdxSize],
+    sorted: IsSorted,
 ) -> Result<DataFrame, OutOfMemory>
     requires rows { All (IsRowOf (height (table_of table.now))) rows.now }
+    requires runs { RowsAreRun sorted rows.now }
     requires few { length rows.now ≤ MAX_ROWS }
-    ensures { IfOk result (λ t. t ≡ map (opt_taken rows.now) (without_names gone.now table.now)) }
+    ensures { IfOk result (λ t. t ≡ map (rows_gathered rows.now sorted) (without_names gone.now table.now)) }
 {
     if gone.is_empty() {
-        return gather_rows(rt, alloc, table, rows);
+        return gather_rows(rt, alloc, table, rows, sorted);
     }
     let _columns = table.get_columns();
     let kept = table.drop_many(alloc, gone)?;
     if kept.width() == 0 {
         return Ok(kept);
     }
-    gather_rows(rt, alloc, &kept, rows)
+    gather_rows(rt, alloc, &kept, rows, sorted)
 }
 
 // The right columns over the pairs, but for those that go.
@@ -54,6 +62,7 @@ fn right_columns(
     pairs: &[JoinPair],
 ) -> Result<Vec<Column>, OutOfMemory>
     requires pairs { All (λ p. IsRowOf (height (table_of request.now.right.now)) p.right) pairs.now }
+    requires runs { RowsAreRun (right_asked (asked request.now).args) (map (λ p. p.right) pairs.now) }
     requires few { length pairs.now ≤ MAX_ROWS }
     ensures { IfOk result (λ v. v.items ≡ right_part (asked request.now).args request.now.right_on.now pairs.now request.now.right.now) }
 {
@@ -62,7 +71,8 @@ fn right_columns(
     }
     let rows = right_rows(alloc, pairs)?;
     let gone = gone_right(request.how, request.args, request.right_on);
-    Ok(kept_table(rt, alloc, request.right, gone, &rows)?.into_columns())
+    let sorted = right_run(request.how, request.args);
+    Ok(kept_table(rt, alloc, request.right, gone, &rows, sorted)?.into_columns())
 }
 
 // The left columns over the pairs, and then the right ones, of which none are merged.
@@ -73,12 +83,14 @@ fn plain_columns(
     pairs: &[JoinPair],
 ) -> Result<Vec<Column>, OutOfMemory>
     requires pairs { All (IsPairOf (height (table_of request.now.left.now)) (height (table_of request.now.right.now))) pairs.now }
+    requires runs { RunAsAsked (asked request.now).args pairs.now }
     requires few { length pairs.now ≤ MAX_ROWS }
     ensures { IfOk result (λ v. v.items ≡ answer_columns (asked request.now).args request.now.left_on.now request.now.right_on.now pairs.now request.now.left.now request.now.right.now) }
 {
     let rows = left_rows(alloc, pairs)?;
     let gone = gone_left(request.how, request.args, request.left_on);
-    let left = kept_table(rt, alloc, request.left, gone, &rows)?.into_columns();
+    let sorted = left_run(request.how, request.args);
+    let left = kept_table(rt, alloc, request.left, gone, &rows, sorted)?.into_columns();
     let right = right_columns(rt, alloc, request, pairs)?;
     side_by_side(alloc, left, right, suffix_of(request.args))
 }
@@ -91,6 +103,7 @@ fn answer_columns(
     pairs: &[JoinPair],
 ) -> PolarsResult<Vec<Column>>
     requires pairs { All (IsPairOf (height (table_of request.now.left.now)) (height (table_of request.now.right.now))) pairs.now }
+    requires runs { RunAsAsked (asked request.now).args pairs.now }
     requires few { length pairs.now ≤ MAX_ROWS }
     requires merge { CanMerge (asked request.now) }
     ensures settles { Settles result None }

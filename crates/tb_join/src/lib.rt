@@ -6,9 +6,10 @@ mod general;
 pub mod laws;
 mod merging;
 mod names;
+mod runs;
 
 pub use frame_join::{DataFrameJoinOps, join_columns};
 pub use general::{finish_join, kept_table};
 pub use merging::merged_left;
 pub use names::side_by_side;
-pub use tb_pairs::private_left_join_multiple_keys;
+pub use tb_pairs::{JoinTrace, private_left_join_multiple_keys};

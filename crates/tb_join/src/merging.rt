@@ -24,7 +24,7 @@ use tb_frame::{NamedColumns, left_rows, lend_columns, right_rows, suffix_of};
 use tb_gather::gather_rows;
 use tb_keys::LentRequest;
 use tb_store::{Column, Series};
-use tb_value::{JoinPair, MAX_ROWS, OutOfMemory, PlSmallStr, PolarsResult};
+use tb_value::{IsSorted, JoinPair, MAX_ROWS, OutOfMemory, PlSmallStr, PolarsResult};
 
 // The column at each place under the name at that place.
 fn columns_beside<'a>(
@@ -109,9 +109,9 @@ pub(crate) fn merged_columns(
     ensures columns { IfOk result (λ v. table_of v.items ≡ map (fill pairs.now) (out (asked request.now))) }
 {
     let rows = left_rows(alloc, pairs)?;
-    let left = gather_rows(rt, alloc, request.left, &rows)?;
+    let left = gather_rows(rt, alloc, request.left, &rows, IsSorted::Not)?;
     let rows = right_rows(alloc, pairs)?;
-    let right = gather_rows(rt, alloc, request.right, &rows)?;
+    let right = gather_rows(rt, alloc, request.right, &rows, IsSorted::Not)?;
     let columns = merged_left(
         alloc,
         left.get_columns(),

@@ -10,8 +10,8 @@ use Rattle.tb_value.specs.Kind.{Kind}
 use Rattle.tb_chunk.specs.Col.{flat}
 use Rattle.tb_chunk.proofs.Lists.{flat_drop}
 use Rattle.tb_frame.specs.Table.{TableColumn, Table, height}
-use Rattle.tb_json.specs.Text.{value_data, kind_data, column_data, text_of}
-use Rattle.tb_json.specs.Written.{heading, with_items}
+use Rattle.tb_json.specs.Text.{value_data, kind_data, column_data, text_of, traced_text_of}
+use Rattle.tb_json.specs.Written.{heading, open_table, with_items}
 
 pub with_items-append : (s : List ℕ × Bool) (ds es : List Data) → with_items s (ds ++ es) ≡ with_items (with_items s ds) es
 with_items-append s [] es = refl
@@ -70,10 +70,9 @@ column_text c s headed named arrayed text h n a t =
     ∙ four s (heading c) values array (codes "}")
     ∙ ap (λ x. s ++ x) (behind name called type kind (values ++ (array ++ codes "}")))
 
--- the object of a table, and the newline behind it
-pub table_text : (t : Table) (empty opened items named counted text : List ℕ) → empty ≡ [] → opened ≡ empty ++ codes "{\"columns\":[" → items ≡ (with_items (opened, false) (map column_data t)).0 → named ≡ items ++ codes "],\"height\":" → counted ≡ named ++ compact_text (number (unsigned (height t))) → text ≡ counted ++ codes "}\n" → text ≡ text_of t
-unfolding text_of escape_byte
-table_text t empty opened items named counted text z o i n h e =
+-- the members of a table
+pub open_text : (t : Table) (empty opened items named counted : List ℕ) → empty ≡ [] → opened ≡ empty ++ codes "{\"columns\":[" → items ≡ (with_items (opened, false) (map column_data t)).0 → named ≡ items ++ codes "],\"height\":" → counted ≡ named ++ compact_text (number (unsigned (height t))) → counted ≡ open_table t
+open_text t empty opened items named counted z o i n h =
     let columns = items_text false (items_of (map column_data t)) in
     let behind_columns = codes ",\"height\":" in
     let count = compact_text (number (unsigned (height t))) in
@@ -81,6 +80,32 @@ table_text t empty opened items named counted text z o i n h e =
     let all : named ≡ (start ++ columns) ++ behind_columns =
     n ∙ ap (λ x. x ++ codes "],\"height\":") i ∙ sym (append_assoc (with_items (opened, false) (map column_data t)).0 (93 ∷ []) behind_columns)
     ∙ ap (λ x. x ++ behind_columns) (closed opened false (map column_data t) ∙ ap (λ x. x ++ columns) (o ∙ ap (λ x. x ++ start) z)) in
-    e ∙ ap (λ x. x ++ codes "}\n") (h ∙ ap (λ x. x ++ count) all)
-    ∙ four start columns behind_columns count (codes "}\n")
+    h ∙ ap (λ x. x ++ count) all ∙ append_assoc (start ++ columns) behind_columns count ∙ append_assoc start columns (behind_columns ++ count)
+
+-- the object of a table, and the newline behind it
+pub table_text : (t : Table) → open_table t ++ codes "}\n" ≡ text_of t
+unfolding text_of escape_byte
+table_text t =
+    let columns = items_text false (items_of (map column_data t)) in
+    let behind_columns = codes ",\"height\":" in
+    let count = compact_text (number (unsigned (height t))) in
+    let start = codes "{\"columns\":[" in
+    behind start columns behind_columns count (codes "}\n")
     ∙ sym (append_assoc start (columns ++ (behind_columns ++ (count ++ codes "}"))) (10 ∷ []) ∙ ap (λ x. start ++ x) (behind columns behind_columns count (codes "}") (10 ∷ [])))
+
+-- and the same with a trace
+pub traced_text : (t : Table) (trace : Data) (named told text : List ℕ) → named ≡ open_table t ++ codes ",\"trace\":" → told ≡ named ++ compact_text trace → text ≡ told ++ codes "}\n" → text ≡ traced_text_of t trace
+unfolding traced_text_of escape_byte
+traced_text t trace named told text n w e =
+    let columns = items_text false (items_of (map column_data t)) in
+    let behind_columns = codes ",\"height\":" in
+    let count = compact_text (number (unsigned (height t))) in
+    let start = codes "{\"columns\":[" in
+    let key = codes ",\"trace\":" in
+    let how = compact_text trace in
+    e ∙ ap (λ x. x ++ codes "}\n") (w ∙ ap (λ x. x ++ how) n)
+    ∙ append_assoc (open_table t ++ key) how (codes "}\n") ∙ append_assoc (open_table t) key (how ++ codes "}\n")
+    ∙ behind start columns behind_columns count (key ++ (how ++ codes "}\n"))
+    ∙ sym (append_assoc start (columns ++ (behind_columns ++ (count ++ (key ++ (how ++ codes "}"))))) (10 ∷ [])
+    ∙ ap (λ x. start ++ x) (behind columns behind_columns count (key ++ (how ++ codes "}")) (10 ∷ [])
+    ∙ ap (λ x. columns ++ (behind_columns ++ (count ++ x))) (append_assoc key (how ++ codes "}") (10 ∷ []) ∙ ap (λ x. key ++ x) (append_assoc how (codes "}") (10 ∷ [])))))

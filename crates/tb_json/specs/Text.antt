@@ -115,6 +115,13 @@ table_data t = object (member (codes "columns") (array (items_of (map column_dat
 unfoldable pub text_of : Table → List ℕ
 text_of t = compact_text (table_data t) ++ 10 ∷ []
 
+-- the same of a table and, behind its height, of how it was made
+abbrev pub traced_data : Table → Data → Data
+traced_data t trace = object (member (codes "columns") (array (items_of (map column_data t))) (member (codes "height") (number (unsigned (height t))) (member (codes "trace") trace no_members)))
+
+unfoldable pub traced_text_of : Table → Data → List ℕ
+traced_text_of t trace = compact_text (traced_data t trace) ++ 10 ∷ []
+
 -- ---- refusals
 
 -- an error alone, and with a name

@@ -17,4 +17,4 @@ mod write_tables;
 pub use read_arrays::arrays_in;
 pub use read_kinds::type_of;
 pub use write_refusals::text_of_refusal;
-pub use write_tables::text_of;
+pub use write_tables::{text_of, traced_text_of};

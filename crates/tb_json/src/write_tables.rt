@@ -11,8 +11,8 @@ ghost use Rattle.tb_value.specs.Typed.{HasType};
 ghost use Rattle.tb_chunk.specs.Col.{flat, values};
 ghost use Rattle.tb_chunk.specs.Seen.{chunk_lists};
 ghost use Rattle.tb_frame.specs.Table.{plain, table_of};
-ghost use Rattle.tb_json.specs.Text.{value_data, column_data, text_of};
-ghost use Rattle.tb_json.specs.Written.{heading, with_items};
+ghost use Rattle.tb_json.specs.Text.{value_data, column_data, text_of, traced_text_of};
+ghost use Rattle.tb_json.specs.Written.{heading, open_table, with_items};
 
 use crate::write_cells::{cell_value, is_wide};
 use crate::write_kinds::type_value;
@@ -195,15 +195,39 @@ fn push_columns(alloc: Global, text: &mut String, columns: &[Column]) -> Result<
     Ok(())
 }
 
-/// The text of a table, with the newline that ends it.
-pub fn text_of(alloc: Global, table: &DataFrame) -> Result<String, OutOfMemory>
-    ensures { IfOk result (λ s. string_bytes s ≡ text_of (table_of table.now)) }
+// The members of a table, in an object that is left open.
+fn open_table(alloc: Global, table: &DataFrame) -> Result<String, OutOfMemory>
+    ensures { IfOk result (λ s. string_bytes s ≡ open_table (table_of table.now)) }
 {
     let mut text = String::new(alloc);
     text.push_str("{\"columns\":[")?;
     push_columns(alloc, &mut text, table.get_columns())?;
     text.push_str("],\"height\":")?;
     push_value(alloc, &mut text, &Value::from(table.height()))?;
+    Ok(text)
+}
+
+/// The text of a table, with the newline that ends it.
+pub fn text_of(alloc: Global, table: &DataFrame) -> Result<String, OutOfMemory>
+    ensures { IfOk result (λ s. string_bytes s ≡ text_of (table_of table.now)) }
+{
+    let mut text = open_table(alloc, table)?;
+    text.push_str("}\n")?;
+    Ok(text)
+}
+
+/// The same, with the member `trace` behind the others: how the table was made.
+pub fn traced_text_of(
+    alloc: Global,
+    table: &DataFrame,
+    trace: &Value,
+) -> Result<String, OutOfMemory>
+    requires { has_float (view trace.now) ≡ false }
+    ensures { IfOk result (λ s. string_bytes s ≡ traced_text_of (table_of table.now) (view trace.now)) }
+{
+    let mut text = open_table(alloc, table)?;
+    text.push_str(",\"trace\":")?;
+    push_value(alloc, &mut text, trace)?;
     text.push_str("}\n")?;
     Ok(text)
 }

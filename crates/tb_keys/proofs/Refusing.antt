@@ -1,5 +1,5 @@
 -- The keys of a request, and the causes why it is refused.
-use Rattle.std.proofs.Common.{◌≡◌, List, [], ◌∷◌, ◌++◌, length, refl, sym, ◌∙◌, subst, Option, Some, None, ◌⊎◌, inl, inr}
+use Rattle.std.proofs.Common.{◌≡◌, List, [], ◌∷◌, ◌++◌, length, refl, sym, ap, ◌∙◌, subst, Option, Some, None, ◌⊎◌, inl, inr}
 use Rattle.std.specs.Prelude.{All}
 use Rattle.std.specs.List.{filter_map}
 use Rattle.tb_value.specs.Names.{Name}
@@ -7,10 +7,12 @@ use Rattle.tb_value.specs.Refusals.{first_cause}
 use Rattle.tb_value.specs.declared.error.PolarsError.{PolarsError}
 use Rattle.tb_value.specs.declared.error.PolarsError.TheVariants.{OutOfMemory}
 use Rattle.tb_chunk.specs.Col.{Col}
+use Rattle.tb_frame.specs.Frame.{selected}
 use Rattle.tb_frame.specs.Join.{Request, named}
 use Rattle.tb_frame.specs.Refusal.{join_refusal, key_causes, column_causes, row_causes}
 use Rattle.tb_frame.specs.Table.{TableColumn, Table, IsTable, height, table_of}
 use Rattle.tb_frame.proofs.Causes.{first_cause-one, selected_hold}
+use Rattle.tb_frame.proofs.Selected.{selected-table}
 use Rattle.tb_frame.proofs.Taking.{all_plain}
 use Rattle.tb_keys.specs.Causes.{names_refusal, later_refusal}
 use Rattle.tb_keys.specs.Asked.{AreKeysOf}
@@ -50,7 +52,8 @@ pub by_none : (j a b : Option PolarsError) → j ≡ first_cause (a ∷ b ∷ []
 by_none j a b is x y = is ∙ (λ t. first_cause (x t ∷ y t ∷ []))
 
 -- the columns of the names, which were found in the columns that the table lends
-pub keys_are : (cs lent : List Col) (names : List Name) (keys : List Col) → IsTable (table_of cs) → lent ≡ cs → table_of keys ≡ filter_map (named (table_of lent)) names → AreKeysOf cs names keys
+pub keys_are : (cs lent : List Col) (names : List Name) (keys : List Col) → IsTable (table_of cs) → lent ≡ cs → keys ≡ selected names lent → AreKeysOf cs names keys
 keys_are cs lent names keys t same is =
-    let here : table_of keys ≡ filter_map (named (table_of cs)) names = is ∙ (λ i. filter_map (named (table_of (same i))) names) in
-    record { of_names = here; rows = key_rows cs keys names t here }
+    let here : keys ≡ selected names cs = is ∙ ap (selected names) same in
+    let of_names : table_of keys ≡ filter_map (named (table_of cs)) names = ap table_of here ∙ selected-table names cs in
+    record { columns = here; of_names = of_names; rows = key_rows cs keys names t of_names }

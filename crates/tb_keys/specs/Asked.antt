@@ -3,6 +3,7 @@ use Rattle.std.specs.Prelude.{◌≡◌, ℕ, List, min, length}
 use Rattle.std.specs.List.{filter_map}
 use Rattle.tb_value.specs.Names.{Name}
 use Rattle.tb_chunk.specs.Col.{Col}
+use Rattle.tb_frame.specs.Frame.{selected}
 use Rattle.tb_frame.specs.Join.{Request, lent_request, named}
 use Rattle.tb_frame.specs.Sides.{asking}
 use Rattle.tb_frame.specs.Table.{height, table_of}
@@ -37,5 +38,6 @@ place_count r = min (length (table_of (lent_columns r.left_keys.now))) (length (
 
 -- the columns of these names, in the order of the names, each as long as the table is high
 pub record AreKeysOf (cs : List Col) (names : List Name) (keys : List Col) : Type 0 where
+  pub columns : keys ≡ selected names cs
   pub of_names : table_of keys ≡ filter_map (named (table_of cs)) names
   pub rows : HasRows (height (table_of cs)) keys

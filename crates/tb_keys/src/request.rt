@@ -1,4 +1,5 @@
 //! Requests to join whose parts are lent.
+ghost use Rattle.tb_frame.specs.Frame.{selected};
 ghost use Rattle.tb_frame.specs.Table.{table_of, height};
 ghost use Rattle.tb_chunk.specs.Lent.{lent_columns};
 ghost use Rattle.tb_keys.specs.Rows.{HasRows};
@@ -92,6 +93,10 @@ impl<'a> NamedRequest<'a> {
         requires right { AreKeysOf self.now.right.now self.now.right_on.now (lent_columns keys.now.right.items) }
         ensures asked { asked result ≡ asked_by_names self.now }
         ensures named { IsByNames result }
+        ensures left { lent_columns result.left_keys.now ≡ selected self.now.left_on.now self.now.left.now }
+        ensures right { lent_columns result.right_keys.now ≡ selected self.now.right_on.now self.now.right.now }
+        ensures how { result.how ≡ self.now.args.now.how }
+        ensures args { result.args.now ≡ self.now.args.now }
     {
         LentRequest {
             left: self.left,

@@ -19,9 +19,10 @@ use Rattle.tb_rowkey.specs.Columns.{AreKeyColumns, columns_meet, key_column, key
 use Rattle.tb_rowkey.proofs.ColumnRows.{columns_match}
 use Rattle.tb_keys.specs.Asked.{asked}
 use Rattle.tb_keys.specs.declared.request.LentRequest.{LentRequest}
+use Rattle.tb_sorted.proofs.OneKey.{one_column}
 use Rattle.tb_pairs.specs.KeyColumns.{AreAlike}
 use Rattle.tb_pairs.proofs.Keys.{key_columns, right_keys, rows_counted, some_right}
-use Rattle.tb_pairs.proofs.Requested.{one_column, one_key_listing, one_right}
+use Rattle.tb_pairs.proofs.Requested.{one_key_listing, one_right}
 use Rattle.tb_pairs.proofs.RowKeys.{key_count, key_is, key_values, row_key_listing}
 use Rattle.tb_pairs.proofs.Twins.{columns_twins, twins_same}
 

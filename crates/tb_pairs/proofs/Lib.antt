@@ -8,3 +8,4 @@ pub mod Unbroken
 pub mod InOrder
 pub mod LeftJoins
 pub mod Merged
+pub mod Traces

@@ -16,6 +16,7 @@ use Rattle.tb_frame.specs.Join.{field, listing, listing_of}
 use Rattle.tb_frame.specs.Table.{TableColumn, height, plain, table_of}
 use Rattle.tb_hash.specs.Hashing.{value_listing}
 use Rattle.tb_rowkey.specs.Columns.{columns_meet, field_of, row_count}
+use Rattle.tb_sorted.proofs.OneKey.{one_column}
 use Rattle.tb_keys.specs.Asked.{asked}
 use Rattle.tb_keys.specs.declared.request.LentRequest.{LentRequest}
 use Rattle.tb_pairs.specs.KeyColumns.{AreAlike}
@@ -51,11 +52,6 @@ pub one_listed : (nulls : Bool) (how : JoinType) (ls rs : List Col) (a b : Col) 
 one_listed nulls how ls rs a b is_a is_b =
     ◌∙◌ {A = List JoinPair} (λ t. listing_of how (length (values a)) (length (values b)) (λ i j. and_true (agrees nulls (get_or (values a) i null) (get_or (values b) j null)) t))
     (λ t. columns_listing nulls how (sym is_a t) (sym is_b t))
-
-pub one_column : (rs : List (Bor Col)) (d : Bor Col) → length rs ≡ 1 → lent_columns rs ≡ (get_or rs 0 d).now ∷ []
-one_column [] d one = absurd (omega arith)
-one_column (s ∷ []) d one = refl
-one_column (s ∷ u ∷ rs) d one = absurd (omega arith)
 
 -- THE REQUEST
 

@@ -28,10 +28,10 @@ case_of : (b : Bool) (P : Type 0) → (b ≡ true → P) → (b ≡ false → P)
 case_of true P f g = f refl
 case_of false P f g = g refl
 
-any_false : (f : ℕ → Bool) (n : ℕ) → list_any f (row_numbers n) ≡ false → (k : ℕ) → k < n → f k ≡ false
+pub any_false : (f : ℕ → Bool) (n : ℕ) → list_any f (row_numbers n) ≡ false → (k : ℕ) → k < n → f k ≡ false
 any_false f n h k low = case_of (f k) (f k ≡ false) (λ e. absurd (let stop = any_stop f k n low e in cc)) (λ e. e)
 
-any_none : (f : ℕ → Bool) (n : ℕ) → ((k : ℕ) → k < n → f k ≡ false) → list_any f (row_numbers n) ≡ false
+pub any_none : (f : ℕ → Bool) (n : ℕ) → ((k : ℕ) → k < n → f k ≡ false) → list_any f (row_numbers n) ≡ false
 any_none f zero h = refl
 any_none f (suc n) h =
     let e : n + 1 ≡ suc n = omega arith in

@@ -1,3 +1,4 @@
 pub mod AllColumns
 pub mod Directions
 pub mod KeyColumns
+pub mod Trace

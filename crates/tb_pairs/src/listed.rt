@@ -1,21 +1,23 @@
 //! The pairs of a request.
-ghost use Rattle.std.specs.Prelude.{IfOk};
+ghost use Rattle.std.specs.Prelude.{◌≡◌, ◌<◌, IfOk, length, true};
 ghost use Rattle.tb_value.specs.Refusals.{Settles, first_cause};
 ghost use Rattle.tb_chunk.specs.Lent.{lent_columns};
 ghost use Rattle.tb_frame.specs.Answer.{IsListed};
 ghost use Rattle.tb_frame.specs.Join.{listing};
 ghost use Rattle.tb_frame.specs.Refusal.{row_causes};
-ghost use Rattle.tb_keys.specs.Asked.{asked};
 ghost use Rattle.tb_sorted.specs.Listed.{IsListedIn};
+ghost use Rattle.tb_keys.specs.Asked.{asked};
 ghost use Rattle.tb_pairs.specs.KeyColumns.{AreAlike};
+ghost use Rattle.tb_pairs.specs.Trace.{IsFound, IsTraced, lacks_keys, requested_trace};
 
 use crate::arranged::arranged;
 use crate::hashed::{pairs_by_key, pairs_by_row_key};
+use crate::trace::{FoundPairs, JoinTrace, ListedPairs};
 use std::alloc::Global;
 use std::thread::Threads;
 use tb_frame::Direction;
 use tb_keys::{LentRequest, check_sides, check_size, list_pairs};
-use tb_pool::Exec;
+use tb_pool::{Exec, Gate, OpenGate};
 use tb_rowkey::RowKeys;
 use tb_sorted::{SortedPairs, merged_pairs};
 use tb_value::{JoinPair, PolarsResult};
@@ -32,48 +34,68 @@ fn pairs_by_field(alloc: Global, request: &LentRequest<'_>) -> PolarsResult<Sort
     Ok(SortedPairs { pairs, order })
 }
 
+// The same, where a row is too long for a key, with their trace.
+fn plain_pairs(alloc: Global, request: &LentRequest<'_>, exec: &Exec) -> PolarsResult<FoundPairs>
+    requires long { lacks_keys (lent_columns request.now.left_keys.now) (lent_columns request.now.right_keys.now) ≡ true }
+    ensures settles { Settles result (first_cause (row_causes (asked request.now))) }
+    ensures found { IfOk result (IsFound request.now exec.now) }
+{
+    let listed = pairs_by_field(alloc, request)?;
+    let trace = JoinTrace::Plain;
+    Ok(FoundPairs { listed, trace })
+}
+
 // The pairs of a request by several keys: by the keys of its rows, or where a row is too long to have one by its fields.
-fn pairs_by_rows(
+fn pairs_by_rows<G: Gate>(
     rt: &(impl Threads + Sync),
     alloc: Global,
     request: &LentRequest<'_>,
     exec: &Exec,
-) -> PolarsResult<SortedPairs>
-    requires { AreAlike (lent_columns request.now.left_keys.now) (lent_columns request.now.right_keys.now) }
+    gate: &G,
+) -> PolarsResult<FoundPairs>
+    requires several { 1 < length request.now.left_keys.now }
+    requires alike { AreAlike (lent_columns request.now.left_keys.now) (lent_columns request.now.right_keys.now) }
     ensures settles { Settles result (first_cause (row_causes (asked request.now))) }
-    ensures found { IfOk result (IsListedIn (listing (asked request.now))) }
+    ensures found { IfOk result (IsFound request.now exec.now) }
 {
     let join_nulls = request.args.join_nulls;
     let left = RowKeys::of_columns(alloc, request.left_keys, join_nulls)?;
     let right = RowKeys::of_columns(alloc, request.right_keys, join_nulls)?;
     match (&left, &right) {
-        (Some(left), Some(right)) => pairs_by_row_key(rt, alloc, request, left, right, exec),
-        _ => pairs_by_field(alloc, request),
+        (Some(left), Some(right)) => {
+            pairs_by_row_key(rt, alloc, request, left, right, exec, gate)
+        }
+        _ => plain_pairs(alloc, request, exec),
     }
 }
 
 // The pairs of a request, in the order in which they are found.
-fn found_pairs(
+fn found_pairs<G: Gate>(
     rt: &(impl Threads + Sync),
     alloc: Global,
     request: &LentRequest<'_>,
     exec: &Exec,
-) -> PolarsResult<SortedPairs>
-    requires { AreAlike (lent_columns request.now.left_keys.now) (lent_columns request.now.right_keys.now) }
+    gate: &G,
+) -> PolarsResult<FoundPairs>
+    requires alike { AreAlike (lent_columns request.now.left_keys.now) (lent_columns request.now.right_keys.now) }
     ensures settles { Settles result (first_cause (row_causes (asked request.now))) }
-    ensures found { IfOk result (IsListedIn (listing (asked request.now))) }
+    ensures found { IfOk result (IsFound request.now exec.now) }
 {
     if let Some(merged) = merged_pairs(alloc, request, exec)? {
-        return Ok(merged);
+        return Ok(FoundPairs {
+            listed: merged.listed,
+            trace: JoinTrace::Merge(merged.merged),
+        });
     }
     if request.left_keys.len() == 1 {
-        pairs_by_key(rt, alloc, request, exec)
+        pairs_by_key(rt, alloc, request, exec, gate)
     } else {
-        pairs_by_rows(rt, alloc, request, exec)
+        pairs_by_rows(rt, alloc, request, exec, gate)
     }
 }
 
-/// The pairs of a request, in the order that is asked, and of them those that the slice keeps. There are as many keys
+/// The pairs of a request, in the order that is asked, and of them those that the slice keeps, with how they were found.
+/// There are as many keys
 /// on each side, one at least, of equal key types.
 ///
 /// One key on each side is merged where `tb_sorted` says so, and else hashed as it is; of several each row's key is
@@ -84,6 +106,31 @@ fn found_pairs(
 ///
 /// `Validation` of a side that is asked to have each key once and has a key twice, the left one first; Semi and Anti
 /// look at neither. `TooManyRows` where there are more than `MAX_ROWS` pairs before they are cut, or `OutOfMemory`.
+pub fn traced_pairs<G: Gate>(
+    rt: &(impl Threads + Sync),
+    alloc: Global,
+    request: &LentRequest<'_>,
+    exec: &Exec,
+    gate: &G,
+) -> PolarsResult<ListedPairs>
+    requires alike { AreAlike (lent_columns request.now.left_keys.now) (lent_columns request.now.right_keys.now) }
+    ensures settles { Settles result (first_cause (row_causes (asked request.now))) }
+    ensures listed { IfOk result (λ l. IsListed request.now.how request.now.args.now.maintain_order request.now.args.now.slice (listing (asked request.now)) l.pairs.items) }
+    ensures traced { IfOk result (λ l. IsTraced exec.now (requested_trace request.now exec.now) l.trace) }
+{
+    let found = found_pairs(rt, alloc, request, exec, gate)?;
+    let pairs = arranged(alloc, found.listed, request.how, request.args)?;
+    Ok(ListedPairs {
+        pairs,
+        trace: found.trace,
+    })
+}
+
+/// The pairs of `traced_pairs` alone.
+///
+/// # Errors
+///
+/// As of `traced_pairs`.
 pub fn listed_pairs(
     rt: &(impl Threads + Sync),
     alloc: Global,
@@ -94,6 +141,5 @@ pub fn listed_pairs(
     ensures settles { Settles result (first_cause (row_causes (asked request.now))) }
     ensures listed { IfOk result (λ v. IsListed request.now.how request.now.args.now.maintain_order request.now.args.now.slice (listing (asked request.now)) v.items) }
 {
-    let found = found_pairs(rt, alloc, request, exec)?;
-    Ok(arranged(alloc, found, request.how, request.args)?)
+    Ok(traced_pairs(rt, alloc, request, exec, &OpenGate)?.pairs)
 }

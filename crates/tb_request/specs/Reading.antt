@@ -1,5 +1,5 @@
 -- The requests that bytes are, or the first reason why they are none.
-use Rattle.std.specs.Prelude.{◌≡◌, ℕ, List, [], ◌∷◌, map, nat_le, Bool, ◌&&◌, not, if◌then◌else◌, Option, None, is_none, option_map, Result, Ok, Err, ok_or, ⊤}
+use Rattle.std.specs.Prelude.{◌≡◌, ℕ, List, [], ◌∷◌, map, nat_le, Bool, ◌&&◌, if◌then◌else◌, Option, None, is_none, option_map, Result, Ok, Err, ok_or, ⊤}
 use Rattle.std.specs.List.{list_all}
 use Rattle.std.specs.Str.{is_utf8}
 use Rattle.serde_json.specs.Data.{Data}
@@ -95,7 +95,6 @@ join_in d = do
   tables ← ok_or (tables_of written) why.Value
   standing ← only_if (may_stand written.exec) why.Exec
   valid ← are_tables (tables.0 ∷ tables.1 ∷ [])
-  built ← only_if (not written.trace) why.NotYet
   Ok (record { left = tables.0; right = tables.1; left_on = written.left_on; right_on = written.right_on; args = written.args; exec = written.exec; trace = written.trace })
 
 -- the one table of a request

@@ -49,9 +49,6 @@ fn join_in(alloc: Global, value: &Value) -> Result<JoinRequest, RequestFault>
         return Err(RequestFault::NoRequest(Reason::Exec));
     };
     let (left, right) = tables_of(alloc, left, right)?;
-    if written.trace {
-        return Err(RequestFault::NoRequest(Reason::NotYet));
-    }
     Ok(JoinRequest {
         left,
         right,
@@ -157,7 +154,6 @@ fn pivot_in(alloc: Global, value: &Value) -> Result<PivotRequest, RequestFault>
 /// 5. `Heights`: two columns of a table differ in length.
 /// 6. `Name`: two columns of a table have one name.
 /// 7. `Flag`: a column is not in the order that `sorted` claims.
-/// 8. `NotYet`: `trace` is true.
 #[tactic(auto, unfolding(crate::specs::Reading::join_request_of))]
 pub fn join_request_of(alloc: Global, bytes: &[u8]) -> Result<JoinRequest, RequestFault>
     ensures { MatchResult result (λ q. join_request_of bytes.now ≡ Ok (request_view q))

@@ -83,8 +83,6 @@ pub enum Reason {
     Name,
     /// A column is claimed to be in an order that it is not in.
     Flag,
-    /// It is asked how a join went, which is not built yet.
-    NotYet,
 }
 
 /// Why no request was read.

@@ -1,11 +1,12 @@
 -- Stored keys, their values and the whole numbers that they are.
 use Rattle.std.proofs.Common.{◌≡◌, ℕ, ◌+◌, ◌<◌, Bool, true, false, cond, ◌||◌, List, [], ◌∷◌, length, get_or, map, refl, sym, ap, ap₂, ◌∙◌, subst, arith, append-nil, ℤ, pos, Option, Some, None, Result}
-use Rattle.std.specs.Prelude.{IsSorted}
+use Rattle.std.specs.Prelude.{IfOk, IsPermutation, IsSorted}
 use Rattle.std.specs.Ordering.{is_lt, int_cmp, int_eq}
 use Rattle.std.specs.declared.cmp.Ordering.{Ordering}
 use Rattle.std.specs.declared.vec.Vec.{Vec}
 use Rattle.std.proofs.lemmas.List.{length-map, get_or-map}
 use Rattle.tb_value.specs.Datum.{Datum, null, int, is_null}
+use Rattle.tb_value.specs.Refusals.{Settles}
 use Rattle.tb_value.specs.Same.{agrees}
 use Rattle.tb_value.specs.declared.error.PolarsError.{PolarsError}
 use Rattle.tb_value.specs.declared.index.JoinPair.{JoinPair}
@@ -17,9 +18,11 @@ use Rattle.tb_frame.specs.declared.args.JoinType.{JoinType}
 use Rattle.tb_frame.specs.Join.{listing_of}
 use Rattle.tb_frame.proofs.Listings.{listing-same}
 use Rattle.tb_merge.specs.Keys.{keys_match}
-use Rattle.tb_sorted.specs.Columns.{AreMergeKeys, value_listing}
-use Rattle.tb_sorted.specs.Keys.{kind_of_merge, number_listing, number_or_zero}
-use Rattle.tb_sorted.specs.Listed.{IsMerged}
+use Rattle.tb_merge.specs.MergedView.{MergedView}
+use Rattle.tb_pool.specs.ExecView.{ExecView}
+use Rattle.tb_sorted.specs.Columns.{AreMergeKeys, value_listing, value_sizes}
+use Rattle.tb_sorted.specs.Keys.{MergeSizes, kind_of_merge, number_listing, number_or_zero, number_sizes, too_long}
+use Rattle.tb_sorted.specs.Listed.{AreKeysMerged, AreValuesMerged, IsMergeWithin}
 
 -- what is in order by its images is in order
 pub sorted_back : {X Y : Type 0} (f : X → Y) (order : X → X → Ordering) (image : Y → Y → Ordering) → ((x y : X) → image (f x) (f y) ≡ order x y) → (xs : List X) → IsSorted image (map f xs) → IsSorted order xs
@@ -75,8 +78,28 @@ module _ {N : Type 0} (shows : N → Datum) (number : N → ℤ) (law : (x : N) 
     numbers_ascend s = sorted_back int int_cmp datum_cmp (λ x y. refl) (numbers cells) (subst (IsSorted datum_cmp) cell_numbers s)
 
 -- what was merged of numbers was merged of the values
-pub merged_values : {A : Type 0} (order : Direction) (keep : Bool) (us vs : List Datum) (ls rs : List ℤ) (answer : Result (Vec JoinPair A) PolarsError) → us ≡ map int ls → vs ≡ map int rs
-    → IsMerged order (number_listing keep ls rs) answer → IsMerged order (value_listing false (kind_of_merge keep) us vs) answer
-merged_values order keep us vs ls rs answer is_left is_right h =
-    subst (λ (ps : List JoinPair). IsMerged order ps answer)
-    (sym (◌∙◌ {A = List JoinPair} (λ t. value_listing false (kind_of_merge keep) (is_left t) (is_right t)) (numbers_listed false (kind_of_merge keep) ls rs))) h
+module _ (us vs : List Datum) (ls rs : List ℤ) (is_left : us ≡ map int ls) (is_right : vs ≡ map int rs) where
+  values_listed : (keep : Bool) → number_listing keep ls rs ≡ value_listing false (kind_of_merge keep) us vs
+  values_listed keep = sym (◌∙◌ {A = List JoinPair} (λ t. value_listing false (kind_of_merge keep) (is_left t) (is_right t)) (numbers_listed false (kind_of_merge keep) ls rs))
+
+  values_sized : number_sizes ls rs ≡ value_sizes us vs
+  values_sized =
+      let left : length ls ≡ length us = sym (ap (λ (xs : List Datum). length xs) is_left ∙ length-map ls int) in
+      let right : length rs ≡ length vs = sym (ap (λ (xs : List Datum). length xs) is_right ∙ length-map rs int) in
+      λ t. record { left_len = left t; right_len = right t; pairs = length (values_listed false t) }
+
+  pub merged_values : {A : Type 0} (order : Direction) (exec : ExecView) (keep : Bool) (answer : Result (Vec JoinPair A × MergedView) PolarsError)
+      → AreKeysMerged order exec keep ls rs answer → AreValuesMerged order exec keep us vs answer
+  merged_values order exec keep answer h = record {
+    settles = subst (λ (ps : List JoinPair). Settles answer (too_long ps)) (values_listed keep) h.settles;
+    pairs = subst (λ (ps : List JoinPair). IfOk answer (λ x. IsPermutation ps x.0.items)) (values_listed keep) h.pairs;
+    ascends = h.ascends;
+    merged = subst (λ (s : MergeSizes). IfOk answer (λ x. IsMergeWithin exec s x.1)) values_sized h.merged;
+  }
+
+-- what was merged of chunks was merged of those with equal values
+pub chunks_merged : {A : Type 0} (order : Direction) (exec : ExecView) (keep : Bool) (ls rs ls' rs' : List (List Datum)) (answer : Result (Vec JoinPair A × MergedView) PolarsError)
+    → ls ≡ ls' → rs ≡ rs' → AreValuesMerged order exec keep (flat ls) (flat rs) answer → AreValuesMerged order exec keep (flat ls') (flat rs') answer
+chunks_merged order exec keep ls rs ls' rs' answer left right h =
+    subst (λ (xs : List (List Datum)). AreValuesMerged order exec keep (flat xs) (flat rs') answer) left
+    (subst (λ (xs : List (List Datum)). AreValuesMerged order exec keep (flat ls) (flat xs) answer) right h)

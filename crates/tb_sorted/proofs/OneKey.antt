@@ -26,7 +26,7 @@ use Rattle.tb_keys.specs.Rows.{HasRows}
 use Rattle.tb_keys.specs.declared.request.LentRequest.{LentRequest}
 use Rattle.tb_sorted.specs.Columns.{value_listing}
 use Rattle.tb_sorted.specs.Keys.{too_long}
-use Rattle.tb_sorted.specs.Path.{are_ordered, asks_nothing, has_merge, is_merge_key, takes_key_path, takes_path_by}
+use Rattle.tb_sorted.specs.Path.{are_ordered, asks_nothing, is_merge_key, takes_key_path, takes_path_by}
 use Rattle.tb_sorted.proofs.Flagged.{first_of, second_of}
 
 pub one_column : (rs : List (Bor Col)) (d : Bor Col) → length rs ≡ 1 → lent_columns rs ≡ (get_or rs 0 d).now ∷ []
@@ -53,7 +53,6 @@ path_of_keys how validation exec (l ∷ []) (r ∷ []) d e h = h
 
 -- what it means that the path of two keys is taken
 pub record IsTaken (how : JoinType) (validation : JoinValidation) (exec : ExecView) (l r : Col) : Type 0 where
-  pub merges : has_merge how ≡ true
   pub nothing : asks_nothing validation ≡ true
   pub left : is_merge_key l ≡ true
   pub right : is_merge_key r ≡ true
@@ -61,17 +60,14 @@ pub record IsTaken (how : JoinType) (validation : JoinValidation) (exec : ExecVi
 
 taken_parts : (how : JoinType) (validation : JoinValidation) (exec : ExecView) (l r : Col) → takes_key_path how validation exec l r ≡ true → IsTaken how validation exec l r
 taken_parts how validation exec l r h =
-    let m = has_merge how in
     let n = asks_nothing validation in
-    let keys = first_of (m && n && is_merge_key l && is_merge_key r) (are_ordered how exec l r) h in
-    let one = first_of (m && n && is_merge_key l) (is_merge_key r) keys in
-    let asked = first_of (m && n) (is_merge_key l) one in
+    let keys = first_of (n && is_merge_key l && is_merge_key r) (are_ordered how exec l r) h in
+    let one = first_of (n && is_merge_key l) (is_merge_key r) keys in
     record {
-      merges = first_of m n asked;
-      nothing = second_of m n asked;
-      left = second_of (m && n) (is_merge_key l) one;
-      right = second_of (m && n && is_merge_key l) (is_merge_key r) keys;
-      ordered = second_of (m && n && is_merge_key l && is_merge_key r) (are_ordered how exec l r) h;
+      nothing = first_of n (is_merge_key l) one;
+      left = second_of n (is_merge_key l) one;
+      right = second_of (n && is_merge_key l) (is_merge_key r) keys;
+      ordered = second_of (n && is_merge_key l && is_merge_key r) (are_ordered how exec l r) h;
     }
 
 pub taken_keys : (how : JoinType) (validation : JoinValidation) (exec : ExecView) (ls rs : List (Bor Col)) (d e : Bor Col) → takes_path_by how validation exec (lent_columns ls) (lent_columns rs) ≡ true
@@ -101,23 +97,23 @@ module _ (r : LentRequest) (a b : Col) (is_left : lent_columns r.left_keys.now �
 -- THE CAUSES
 
 -- nothing is asked of the sides, so they are not broken
-no_cause : (how : JoinType) (v : JoinValidation) (x y : Bool) (d e : PolarsError) (o : Option PolarsError) → has_merge how ≡ true → asks_nothing v ≡ true
+no_cause : (how : JoinType) (exec : ExecView) (a b : Col) (v : JoinValidation) (x y : Bool) (d e : PolarsError) (o : Option PolarsError) → are_ordered how exec a b ≡ true → asks_nothing v ≡ true
     → first_cause (when (is_validated how && asks_left v && x) d ∷ when (is_validated how && asks_right v && y) e ∷ o ∷ []) ≡ o
-no_cause Inner ManyToMany x y d e o h n = first_cause-one o
-no_cause Left ManyToMany x y d e o h n = first_cause-one o
-no_cause Right ManyToMany x y d e o h n = first_cause-one o
-no_cause Full v x y d e o h n = absurd (cc)
-no_cause Semi v x y d e o h n = absurd (cc)
-no_cause Anti v x y d e o h n = absurd (cc)
-no_cause Inner ManyToOne x y d e o h n = absurd (cc)
-no_cause Inner OneToMany x y d e o h n = absurd (cc)
-no_cause Inner OneToOne x y d e o h n = absurd (cc)
-no_cause Left ManyToOne x y d e o h n = absurd (cc)
-no_cause Left OneToMany x y d e o h n = absurd (cc)
-no_cause Left OneToOne x y d e o h n = absurd (cc)
-no_cause Right ManyToOne x y d e o h n = absurd (cc)
-no_cause Right OneToMany x y d e o h n = absurd (cc)
-no_cause Right OneToOne x y d e o h n = absurd (cc)
+no_cause Inner exec a b ManyToMany x y d e o h n = first_cause-one o
+no_cause Left exec a b ManyToMany x y d e o h n = first_cause-one o
+no_cause Right exec a b ManyToMany x y d e o h n = first_cause-one o
+no_cause Full exec a b v x y d e o h n = absurd (cc)
+no_cause Semi exec a b v x y d e o h n = absurd (cc)
+no_cause Anti exec a b v x y d e o h n = absurd (cc)
+no_cause Inner exec a b ManyToOne x y d e o h n = absurd (cc)
+no_cause Inner exec a b OneToMany x y d e o h n = absurd (cc)
+no_cause Inner exec a b OneToOne x y d e o h n = absurd (cc)
+no_cause Left exec a b ManyToOne x y d e o h n = absurd (cc)
+no_cause Left exec a b OneToMany x y d e o h n = absurd (cc)
+no_cause Left exec a b OneToOne x y d e o h n = absurd (cc)
+no_cause Right exec a b ManyToOne x y d e o h n = absurd (cc)
+no_cause Right exec a b OneToMany x y d e o h n = absurd (cc)
+no_cause Right exec a b OneToOne x y d e o h n = absurd (cc)
 
-pub size_alone : (r : LentRequest) → has_merge r.how ≡ true → asks_nothing r.args.now.validation ≡ true → first_cause (row_causes (asked r)) ≡ too_long (listing (asked r))
-size_alone r how nothing = no_cause r.how r.args.now.validation _ _ _ _ (too_long (listing (asked r))) how nothing
+pub size_alone : (r : LentRequest) (exec : ExecView) (a b : Col) → are_ordered r.how exec a b ≡ true → asks_nothing r.args.now.validation ≡ true → first_cause (row_causes (asked r)) ≡ too_long (listing (asked r))
+size_alone r exec a b ordered nothing = no_cause r.how exec a b r.args.now.validation _ _ _ _ (too_long (listing (asked r))) ordered nothing

@@ -29,7 +29,7 @@ use Rattle.tb_frame.proofs.Ranges.{listing_rows, rows_below}
 use Rattle.tb_merge.specs.Keys.{key_at, keys_match}
 use Rattle.tb_merge.specs.RowPairs.{pairs_of, row_pairs, rows_of}
 use Rattle.tb_merge.proofs.Matches.{inner_is, left_is}
-use Rattle.tb_sorted.specs.Keys.{kind_of_merge, number_listing}
+use Rattle.tb_sorted.specs.Keys.{kind_of_merge, number_listing, number_sizes}
 use Rattle.tb_sorted.specs.SortedRows.{AreSortedRows, has_key, keys_of, left_placed, right_placed, row_at, with_rows}
 
 -- THE ORDER OF A SORT
@@ -160,6 +160,9 @@ module _ (keys : List ℤ) (rows : List (ℤ × ℕ)) (sorted : AreSortedRows ke
       ∙ ap (λ (l : List JoinPair). length l) (placed_way keep left)
       ∙ length_permutation (number_listing keep left keys) (way keep left keys) (way_permutation keep left keys)
 
+  pub right_sizes : (left : List ℤ) → number_sizes left (keys_of rows) ≡ number_sizes left keys
+  right_sizes left = λ t. record { left_len = length left; right_len = as_many_keys t; pairs = right_many false left t }
+
   pub right_places : (keep : Bool) (left : List ℤ) (ps : List JoinPair) → IsPermutation (number_listing keep left (keys_of rows)) ps → AreRightRows (length rows) ps
   right_places keep left ps h =
       let n : ℕ = length (keys_of rows) in
@@ -198,6 +201,9 @@ module _ (keys : List ℤ) (rows : List (ℤ × ℕ)) (sorted : AreSortedRows ke
         let list : List JoinPair = number_listing false (keys_of rows) right in
         sym (length-map list (left_placed rows))
         ∙ length_permutation (number_listing false keys right) (map (left_placed rows) list) (left_way list (IsPermutation-refl list))
+
+    pub left_sizes : number_sizes (keys_of rows) right ≡ number_sizes keys right
+    left_sizes = λ t. record { left_len = as_many_keys t; right_len = length right; pairs = left_many t }
 
     pub left_places : (ps : List JoinPair) → IsPermutation (number_listing false (keys_of rows) right) ps → AreLeftRows (length rows) ps
     left_places ps h =

@@ -1,19 +1,20 @@
 -- The listing of a Right join by values is that of a Left join of the other side, turned round.
-use Rattle.std.proofs.Common.{◌≡◌, ℕ, zero, suc, ◌+◌, ◌<◌, Bool, List, [], ◌∷◌, ◌++◌, length, get_or, set, take, drop, map, refl, sym, ap, ◌∙◌, arith}
+use Rattle.std.proofs.Common.{◌≡◌, ℕ, zero, suc, ◌+◌, ◌<◌, Bool, false, List, [], ◌∷◌, ◌++◌, length, get_or, set, take, drop, map, refl, sym, ap, ◌∙◌, arith}
 use Rattle.std.specs.Prelude.{IsPermutation, nat_lt}
 use Rattle.std.proofs.lemmas.List.{length-map}
 use Rattle.std.proofs.lemmas.List.Sorted.{IsPermutation-map, IsPermutation-sym, IsPermutation-trans, length_permutation}
 use Rattle.tb_value.specs.Datum.{Datum, null}
-use Rattle.tb_value.specs.Pairs.{turn}
+use Rattle.tb_value.specs.Pairs.{matched, turn}
 use Rattle.tb_value.specs.Refusals.{when}
 use Rattle.tb_value.specs.Same.{agrees}
 use Rattle.tb_value.specs.declared.error.ComputeCause.TheVariants.{TooManyRows}
 use Rattle.tb_value.specs.declared.error.PolarsError.TheVariants.{ComputeError}
 use Rattle.tb_value.specs.declared.index.JoinPair.{JoinPair}
 use Rattle.tb_value.specs.declared.limits.TheConstants.{MAX_ROWS}
-use Rattle.tb_frame.specs.declared.args.JoinType.TheVariants.{Left, Right}
+use Rattle.tb_frame.specs.declared.args.JoinType.TheVariants.{Inner, Left, Right}
+use Rattle.tb_value.proofs.Loops.{turned_matches}
 use Rattle.tb_frame.proofs.Turns.{agrees_symm, turned_listing}
-use Rattle.tb_sorted.specs.Columns.{value_listing}
+use Rattle.tb_sorted.specs.Columns.{match_count, sizes_by, value_listing, value_sizes}
 use Rattle.tb_sorted.specs.Keys.{too_long}
 
 -- lists of one length are both too long, or neither
@@ -39,6 +40,17 @@ module _ (null_matches : Bool) (us vs : List Datum) where
 
   pub too_long_turned : too_long (value_listing null_matches Left vs us) ≡ too_long (value_listing null_matches Right us vs)
   too_long_turned = as_long (value_listing null_matches Left vs us) (value_listing null_matches Right us vs) as_many_turned
+
+-- as many rows match whichever side is the left one
+pub sizes_turned : (us vs : List Datum) → value_sizes vs us ≡ sizes_by Right us vs
+sizes_turned us vs =
+    let here : ℕ → ℕ → Bool = λ i j. agrees false (get_or us i null) (get_or vs j null) in
+    let there : List JoinPair = matched (length vs) (length us) (λ j i. here i j) in
+    let same : value_listing false Inner vs us ≡ there = λ t. matched (length vs) (length us) (λ j i. agrees_symm false (get_or vs j null) (get_or us i null) t) in
+    let many : match_count vs us ≡ match_count us vs =
+    ap (λ (ps : List JoinPair). length ps) same ∙ sym (length-map there turn)
+    ∙ sym (length_permutation (map turn there) (matched (length us) (length vs) here) (turned_matches (length us) (length vs) here)) in
+    λ t. record { left_len = length vs; right_len = length us; pairs = many t }
 
 -- IN PLACE
 

@@ -1,5 +1,5 @@
 -- Keys as the whole numbers that they are.
-use Rattle.std.specs.Prelude.{ℤ, pos, Bool, if◌then◌else◌, List, length, nat_lt, Option, Some, None}
+use Rattle.std.specs.Prelude.{ℕ, ℤ, pos, Bool, false, if◌then◌else◌, List, length, nat_lt, Option, Some, None}
 use Rattle.tb_value.specs.declared.error.ComputeCause.TheVariants.{TooManyRows}
 use Rattle.tb_value.specs.declared.error.PolarsError.{PolarsError}
 use Rattle.tb_value.specs.declared.error.PolarsError.TheVariants as error
@@ -25,6 +25,16 @@ kind_of_merge keep = (if keep then Left else Inner)
 -- the listing of keys
 abbrev pub number_listing : Bool → List ℤ → List ℤ → List JoinPair
 number_listing keep left right = listing_of (kind_of_merge keep) (length left) (length right) (keys_match left right)
+
+-- how many keys of each side are merged, and how many pairs of rows match
+pub record MergeSizes : Type 0 where
+  pub left_len : ℕ
+  pub right_len : ℕ
+  pub pairs : ℕ
+
+-- the sizes of a merge of keys
+abbrev pub number_sizes : List ℤ → List ℤ → MergeSizes
+number_sizes left right = record { left_len = length left; right_len = length right; pairs = length (number_listing false left right) }
 
 -- so many pairs are too many
 abbrev pub too_long : List JoinPair → Option PolarsError

@@ -1,16 +1,20 @@
 -- Pairs of a listing, in an order that is said.
-use Rattle.std.specs.Prelude.{if◌then◌else◌, List, Option, None, Result, IfOk, IsPermutation}
+use Rattle.std.specs.Prelude.{◌≡◌, ◌+◌, ◌*◌, ◌≤◌, ℤ, Bool, false, if◌then◌else◌, List, Option, None, Result, IfOk, IsPermutation}
 use Rattle.std.specs.declared.vec.Vec.{Vec}
+use Rattle.tb_value.specs.Datum.{Datum}
 use Rattle.tb_value.specs.Refusals.{Settles, first_cause}
 use Rattle.tb_value.specs.declared.error.PolarsError.{PolarsError}
 use Rattle.tb_value.specs.declared.index.JoinPair.{JoinPair}
+use Rattle.tb_chunk.specs.Lent.{lent_columns}
 use Rattle.tb_frame.specs.declared.args.Direction.{Direction}
 use Rattle.tb_frame.specs.Join.{Ascends}
 use Rattle.tb_frame.specs.Refusal.{row_causes}
 use Rattle.tb_pool.specs.ExecView.{ExecView}
 use Rattle.tb_keys.specs.Asked.{asked}
 use Rattle.tb_keys.specs.declared.request.LentRequest.{LentRequest}
-use Rattle.tb_sorted.specs.Keys.{too_long}
+use Rattle.tb_merge.specs.MergedView.{MergedView}
+use Rattle.tb_sorted.specs.Columns.{first_values, sizes_by, value_listing, value_sizes}
+use Rattle.tb_sorted.specs.Keys.{MergeSizes, kind_of_merge, number_listing, number_sizes, too_long}
 use Rattle.tb_sorted.specs.Path.{takes_merge_path}
 use Rattle.tb_sorted.specs.declared.pairs.SortedPairs.{SortedPairs}
 
@@ -19,11 +23,32 @@ pub record IsListedIn (list : List JoinPair) (found : SortedPairs) : Type 0 wher
   pub permutation : IsPermutation list found.pairs.items
   pub ascends : Ascends found.order found.pairs.items
 
--- the pairs of the list, in this order, unless they are too many
-pub record IsMerged {A : Type 0} (order : Direction) (list : List JoinPair) (answer : Result (Vec JoinPair A) PolarsError) : Type 0 where
-  pub settles : Settles answer (too_long list)
-  pub pairs : IfOk answer (λ v. IsPermutation list v.items)
-  pub ascends : IfOk answer (λ v. Ascends order v.items)
+-- the merge was of this size
+abbrev pub sizes_of : MergedView → MergeSizes
+sizes_of merged = record { left_len = merged.left_len; right_len = merged.right_len; pairs = merged.pairs }
+
+-- a merge of these sizes, of l left and r right keys, that made at most 2 * l + workers * r comparisons
+pub record IsMergeWithin (exec : ExecView) (due : MergeSizes) (merged : MergedView) : Type 0 where
+  pub sizes : sizes_of merged ≡ due
+  pub cost : merged.comparisons ≤ 2 * due.left_len + exec.workers * due.right_len
+
+-- the pairs that two sides list, in this order, and the merge of the sides' sizes that gave them, unless the pairs are too many
+pub record IsMerged {A X : Type 0} (list : List X → List X → List JoinPair) (sizes : List X → List X → MergeSizes) (order : Direction) (exec : ExecView) (left right : List X) (answer : Result (Vec JoinPair A × MergedView) PolarsError) : Type 0 where
+  pub settles : Settles answer (too_long (list left right))
+  pub pairs : IfOk answer (λ x. IsPermutation (list left right) x.0.items)
+  pub ascends : IfOk answer (λ x. Ascends order x.0.items)
+  pub merged : IfOk answer (λ x. IsMergeWithin exec (sizes left right) x.1)
+
+-- two lists of keys are merged, and two columns by their values
+abbrev pub AreKeysMerged : {A : Type 0} → Direction → ExecView → Bool → List ℤ → List ℤ → Result (Vec JoinPair A × MergedView) PolarsError → Type 0
+AreKeysMerged order exec keep left right answer = IsMerged (number_listing keep) number_sizes order exec left right answer
+
+abbrev pub AreValuesMerged : {A : Type 0} → Direction → ExecView → Bool → List Datum → List Datum → Result (Vec JoinPair A × MergedView) PolarsError → Type 0
+AreValuesMerged order exec keep us vs answer = IsMerged (value_listing false (kind_of_merge keep)) value_sizes order exec us vs answer
+
+-- the sizes of the merge of a request's keys
+abbrev pub requested_sizes : LentRequest → MergeSizes
+requested_sizes r = sizes_by r.how (first_values (lent_columns r.left_keys.now)) (first_values (lent_columns r.right_keys.now))
 
 -- the cause why a request is refused, where its keys are merged
 abbrev pub merge_refusal : LentRequest → ExecView → Option PolarsError

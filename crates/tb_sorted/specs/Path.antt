@@ -17,15 +17,6 @@ use Rattle.tb_keys.specs.declared.request.LentRequest.{LentRequest}
 use Rattle.tb_sorted.specs.declared.path.SortedFirst.{SortedFirst}
 use Rattle.tb_sorted.specs.declared.path.SortedFirst.TheVariants as the
 
--- Inner, Left and Right joins are merged
-abbrev pub has_merge : JoinType → Bool
-has_merge Inner = true
-has_merge Left = true
-has_merge Right = true
-has_merge Full = false
-has_merge Semi = false
-has_merge Anti = false
-
 -- nothing is asked of either side
 abbrev pub asks_nothing : JoinValidation → Bool
 asks_nothing ManyToMany = true
@@ -62,7 +53,7 @@ have_order how exec left right =
     || ((is_flagged left.flag && is_worth exec (length (values right)) (length (values left)))
     || (is_inner how && is_flagged right.flag && is_worth exec (length (values left)) (length (values right))))
 
--- a Right join is judged with its sides exchanged
+-- a Right join is judged with its sides exchanged, and no Full, Semi or Anti join is merged
 abbrev pub are_ordered : JoinType → ExecView → Col → Col → Bool
 are_ordered Inner exec left right = have_order Inner exec left right
 are_ordered Left exec left right = have_order Left exec left right
@@ -72,7 +63,7 @@ are_ordered how exec left right = false
 -- two keys are merged: nothing is asked of them, both can be, and they have the order for it
 abbrev pub takes_key_path : JoinType → JoinValidation → ExecView → Col → Col → Bool
 takes_key_path how validation exec left right =
-    has_merge how && asks_nothing validation && is_merge_key left && is_merge_key right && are_ordered how exec left right
+    asks_nothing validation && is_merge_key left && is_merge_key right && are_ordered how exec left right
 
 -- one key on each side
 abbrev pub takes_path_by : JoinType → JoinValidation → ExecView → List Col → List Col → Bool

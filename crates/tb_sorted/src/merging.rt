@@ -1,11 +1,12 @@
 //! Two ascending lists of keys, merged.
-ghost use Rattle.std.specs.Prelude.{◌≡◌, ◌<◌, ◌≤◌, length, IfOk, IsSorted, IsPermutation};
+ghost use Rattle.std.specs.Prelude.{◌≡◌, ◌+◌, ◌*◌, ◌<◌, ◌≤◌, length, IfOk, IsSorted, IsPermutation};
 ghost use Rattle.std.specs.Ordering.{int_cmp};
 ghost use Rattle.tb_value.specs.Pairs.{left_first};
 ghost use Rattle.tb_frame.specs.declared.args.Direction.TheVariants.{ByLeft};
 ghost use Rattle.tb_merge.specs.Faults.{SettlesCount};
+ghost use Rattle.tb_merge.specs.MergedView.{IsMergeOf};
 ghost use Rattle.tb_sorted.specs.Keys.{number_listing, refusal_of};
-ghost use Rattle.tb_sorted.specs.Listed.{IsMerged};
+ghost use Rattle.tb_sorted.specs.Listed.{AreKeysMerged};
 
 use crate::key_lists::KeyList;
 use crate::sides::Sides;
@@ -44,6 +45,8 @@ fn counted_pairs<A: KeyList, B: KeyList, L: Ledger + Sync>(
     ensures settles { SettlesCount result (length (number_listing keep_unmatched (A.keys left.now) (B.keys right.now))) }
     ensures pairs { IfOk result (λ r. IsPermutation (number_listing keep_unmatched (A.keys left.now) (B.keys right.now)) r.0.items) }
     ensures order { IfOk result (λ r. IsSorted left_first r.0.items) }
+    ensures merged { IfOk result (λ r. IsMergeOf (A.keys left.now) (B.keys right.now) r.1) }
+    ensures cost { IfOk result (λ r. r.1.comparisons ≤ 2 * length (A.keys left.now) + exec.now.workers * length (B.keys right.now)) }
 {
     let mut steps = Steps::<L>::open(blank);
     let keys = Sides::<A, B, L> {
@@ -65,12 +68,12 @@ pub(crate) fn merged_lists<A: KeyList, B: KeyList>(
     left: &A,
     right: &B,
     exec: &Exec,
-) -> PolarsResult<Vec<JoinPair>>
+) -> PolarsResult<(Vec<JoinPair>, Merged)>
     requires left_sorted { IsSorted int_cmp (A.keys left.now) }
     requires right_sorted { IsSorted int_cmp (B.keys right.now) }
     requires left_few { length (A.keys left.now) ≤ MAX_ROWS }
     requires right_few { length (B.keys right.now) ≤ MAX_ROWS }
-    ensures { IsMerged ByLeft (number_listing keep_unmatched (A.keys left.now) (B.keys right.now)) result }
+    ensures { AreKeysMerged ByLeft exec.now keep_unmatched (A.keys left.now) (B.keys right.now) result }
 {
     let counted = counted_pairs::<A, B, Brand>(
         alloc,
@@ -81,7 +84,7 @@ pub(crate) fn merged_lists<A: KeyList, B: KeyList>(
         Blank::new(1),
     );
     match counted {
-        Ok((pairs, _)) => Ok(pairs),
+        Ok(done) => Ok(done),
         Err(fault) => Err(refused(fault)),
     }
 }

@@ -2,13 +2,13 @@
 ghost use Rattle.std.specs.Prelude.{◌≤◌, false, length, IfOk, IsSorted, IsPermutation};
 ghost use Rattle.std.specs.Ordering.{int_cmp};
 ghost use Rattle.tb_frame.specs.declared.args.Direction.TheVariants.{ByLeft, Free};
-ghost use Rattle.tb_sorted.specs.Keys.{number_listing};
-ghost use Rattle.tb_sorted.specs.Listed.{IsMerged};
+ghost use Rattle.tb_sorted.specs.Listed.{AreKeysMerged};
 
 use crate::key_lists::{KeyList, SortedRows};
 use crate::merging::merged_lists;
 use crate::row_sorting::{sorted_rows, with_left_rows, with_right_rows};
 use std::alloc::Global;
+use tb_merge::Merged;
 use tb_pool::Exec;
 use tb_value::{JoinPair, MAX_ROWS, PolarsResult};
 
@@ -20,16 +20,16 @@ pub(crate) fn right_sorted_lists<A: KeyList, B: KeyList>(
     left: &A,
     right: &B,
     exec: &Exec,
-) -> PolarsResult<Vec<JoinPair>>
+) -> PolarsResult<(Vec<JoinPair>, Merged)>
     requires left_sorted { IsSorted int_cmp (A.keys left.now) }
     requires left_few { length (A.keys left.now) ≤ MAX_ROWS }
     requires right_few { length (B.keys right.now) ≤ MAX_ROWS }
-    ensures { IsMerged ByLeft (number_listing keep_unmatched (A.keys left.now) (B.keys right.now)) result }
+    ensures { AreKeysMerged ByLeft exec.now keep_unmatched (A.keys left.now) (B.keys right.now) result }
 {
     let rows = sorted_rows(alloc, right)?;
     let sorted = SortedRows { rows: &rows };
-    let pairs = merged_lists(alloc, keep_unmatched, left, &sorted, exec)?;
-    Ok(with_right_rows(pairs, &rows))
+    let (pairs, merged) = merged_lists(alloc, keep_unmatched, left, &sorted, exec)?;
+    Ok((with_right_rows(pairs, &rows), merged))
 }
 
 /// The pairs of an Inner join of a left list that is sorted first and a right one that ascends.
@@ -38,14 +38,14 @@ pub(crate) fn left_sorted_lists<A: KeyList, B: KeyList>(
     left: &A,
     right: &B,
     exec: &Exec,
-) -> PolarsResult<Vec<JoinPair>>
+) -> PolarsResult<(Vec<JoinPair>, Merged)>
     requires right_sorted { IsSorted int_cmp (B.keys right.now) }
     requires left_few { length (A.keys left.now) ≤ MAX_ROWS }
     requires right_few { length (B.keys right.now) ≤ MAX_ROWS }
-    ensures { IsMerged Free (number_listing false (A.keys left.now) (B.keys right.now)) result }
+    ensures { AreKeysMerged Free exec.now false (A.keys left.now) (B.keys right.now) result }
 {
     let rows = sorted_rows(alloc, left)?;
     let sorted = SortedRows { rows: &rows };
-    let pairs = merged_lists(alloc, false, &sorted, right, exec)?;
-    Ok(with_left_rows(pairs, &rows))
+    let (pairs, merged) = merged_lists(alloc, false, &sorted, right, exec)?;
+    Ok((with_left_rows(pairs, &rows), merged))
 }

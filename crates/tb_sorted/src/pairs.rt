@@ -1,6 +1,7 @@
 //! Pairs, and the order in which they stand.
 
 use tb_frame::Direction;
+use tb_merge::Merged;
 use tb_value::JoinPair;
 
 /// The pairs of a listing, and the order in which they stand.
@@ -8,4 +9,11 @@ use tb_value::JoinPair;
 pub struct SortedPairs {
     pub pairs: Vec<JoinPair>,
     pub order: Direction,
+}
+
+/// Pairs that were merged, and what the merge was.
+#[derive(Drop)]
+pub struct MergedPairs {
+    pub listed: SortedPairs,
+    pub merged: Merged,
 }

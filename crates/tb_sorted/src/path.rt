@@ -1,20 +1,11 @@
 //! Whether keys are merged.
 ghost use Rattle.std.specs.Prelude.{◌≡◌, ◌≤◌};
-ghost use Rattle.tb_sorted.specs.Path.{are_ordered, asks_nothing, has_merge, have_order, is_flagged, is_inner, is_merge_key, is_worth, order_after, sorted_first, takes_key_path};
+ghost use Rattle.tb_sorted.specs.Path.{are_ordered, asks_nothing, have_order, is_flagged, is_inner, is_merge_key, is_worth, order_after, sorted_first, takes_key_path};
 
 use tb_frame::{Direction, JoinType, JoinValidation};
 use tb_pool::Exec;
 use tb_store::Series;
 use tb_value::{IsSorted, MAX_ROWS};
-
-fn has_merge(how: JoinType) -> bool
-    ensures { result ≡ has_merge how }
-{
-    match how {
-        JoinType::Inner | JoinType::Left | JoinType::Right => true,
-        JoinType::Full | JoinType::Semi | JoinType::Anti => false,
-    }
-}
 
 fn is_inner(how: JoinType) -> bool
     ensures { result ≡ is_inner how }
@@ -89,8 +80,7 @@ pub(crate) fn takes_key_path(
 ) -> bool
     ensures { result ≡ takes_key_path how validation exec.now left.now right.now }
 {
-    has_merge(how)
-        && asks_nothing(validation)
+    asks_nothing(validation)
         && is_merge_key(left)
         && is_merge_key(right)
         && are_ordered(how, exec, left, right)

@@ -7,18 +7,19 @@ ghost use Rattle.tb_chunk.specs.Lent.{lent_columns};
 ghost use Rattle.tb_frame.specs.Join.{listing};
 ghost use Rattle.tb_frame.specs.Refusal.{row_causes};
 ghost use Rattle.tb_keys.specs.Asked.{asked};
-ghost use Rattle.tb_sorted.specs.Columns.{IsInOneChunk, value_listing};
+ghost use Rattle.tb_sorted.specs.Columns.{IsInOneChunk, sizes_by, value_listing, value_sizes};
 ghost use Rattle.tb_sorted.specs.Keys.{kind_of_merge, too_long};
-ghost use Rattle.tb_sorted.specs.Listed.{IsListedIn, IsMerged, merge_refusal};
-ghost use Rattle.tb_sorted.specs.Path.{are_ordered, has_merge, have_order, is_merge_key, order_after, sorted_first, takes_merge_path};
+ghost use Rattle.tb_sorted.specs.Listed.{AreValuesMerged, IsListedIn, IsMergeWithin, merge_refusal, requested_sizes};
+ghost use Rattle.tb_sorted.specs.Path.{are_ordered, have_order, is_merge_key, order_after, sorted_first, takes_merge_path};
 
 use crate::one_chunk::{joined_key, lone_chunk};
-use crate::pairs::SortedPairs;
+use crate::pairs::{MergedPairs, SortedPairs};
 use crate::path::{order_after, sorted_first, takes_key_path};
 use crate::typed::pairs_of_chunks;
 use std::alloc::Global;
 use tb_frame::{Direction, JoinType};
 use tb_keys::LentRequest;
+use tb_merge::Merged;
 use tb_pool::Exec;
 use tb_store::Series;
 use tb_value::{JoinPair, PolarsResult};
@@ -30,12 +31,12 @@ fn ordered_pairs(
     left: &Series,
     right: &Series,
     exec: &Exec,
-) -> PolarsResult<Vec<JoinPair>>
+) -> PolarsResult<(Vec<JoinPair>, Merged)>
     requires same { left.now.kind ≡ right.now.kind }
     requires left { is_merge_key left.now ≡ true }
     requires right { is_merge_key right.now ≡ true }
     requires ordered { have_order (kind_of_merge keep_unmatched) exec.now left.now right.now ≡ true }
-    ensures { IsMerged (order_after (sorted_first left.now right.now)) (value_listing false (kind_of_merge keep_unmatched) (values left.now) (values right.now)) result }
+    ensures { AreValuesMerged (order_after (sorted_first left.now right.now)) exec.now keep_unmatched (values left.now) (values right.now) result }
 {
     let _lengths = (left.len(), right.len());
     let left_joined = joined_key(alloc, left)?;
@@ -70,17 +71,19 @@ fn left_way_pairs(
     left: &Series,
     right: &Series,
     exec: &Exec,
-) -> PolarsResult<SortedPairs>
+) -> PolarsResult<MergedPairs>
     requires same { left.now.kind ≡ right.now.kind }
     requires left { is_merge_key left.now ≡ true }
     requires right { is_merge_key right.now ≡ true }
     requires ordered { have_order (kind_of_merge keep_unmatched) exec.now left.now right.now ≡ true }
     ensures settles { Settles result (too_long (value_listing false (kind_of_merge keep_unmatched) (values left.now) (values right.now))) }
-    ensures found { IfOk result (IsListedIn (value_listing false (kind_of_merge keep_unmatched) (values left.now) (values right.now))) }
+    ensures found { IfOk result (λ m. IsListedIn (value_listing false (kind_of_merge keep_unmatched) (values left.now) (values right.now)) m.listed) }
+    ensures merged { IfOk result (λ m. IsMergeWithin exec.now (value_sizes (values left.now) (values right.now)) m.merged) }
 {
-    let pairs = ordered_pairs(alloc, keep_unmatched, left, right, exec)?;
+    let (pairs, merged) = ordered_pairs(alloc, keep_unmatched, left, right, exec)?;
     let order = order_after(sorted_first(left, right));
-    Ok(SortedPairs { pairs, order })
+    let listed = SortedPairs { pairs, order };
+    Ok(MergedPairs { listed, merged })
 }
 
 // The pairs of a Right join of two keys that are merged: those of the Left join of the right side, turned round.
@@ -89,17 +92,20 @@ fn right_way_pairs(
     left: &Series,
     right: &Series,
     exec: &Exec,
-) -> PolarsResult<SortedPairs>
+) -> PolarsResult<MergedPairs>
     requires same { left.now.kind ≡ right.now.kind }
     requires left { is_merge_key left.now ≡ true }
     requires right { is_merge_key right.now ≡ true }
     requires ordered { have_order JoinType.Right exec.now right.now left.now ≡ true }
     ensures settles { Settles result (too_long (value_listing false JoinType.Right (values left.now) (values right.now))) }
-    ensures found { IfOk result (IsListedIn (value_listing false JoinType.Right (values left.now) (values right.now))) }
+    ensures found { IfOk result (λ m. IsListedIn (value_listing false JoinType.Right (values left.now) (values right.now)) m.listed) }
+    ensures merged { IfOk result (λ m. IsMergeWithin exec.now (sizes_by JoinType.Right (values left.now) (values right.now)) m.merged) }
 {
-    let pairs = turned(ordered_pairs(alloc, true, right, left, exec)?);
+    let (pairs, merged) = ordered_pairs(alloc, true, right, left, exec)?;
     let order = Direction::ByRight;
-    Ok(SortedPairs { pairs, order })
+    let pairs = turned(pairs);
+    let listed = SortedPairs { pairs, order };
+    Ok(MergedPairs { listed, merged })
 }
 
 // The pairs of two keys that are merged.
@@ -109,14 +115,14 @@ fn sorted_pairs(
     left: &Series,
     right: &Series,
     exec: &Exec,
-) -> PolarsResult<SortedPairs>
-    requires how { has_merge how ≡ true }
+) -> PolarsResult<MergedPairs>
     requires same { left.now.kind ≡ right.now.kind }
     requires left { is_merge_key left.now ≡ true }
     requires right { is_merge_key right.now ≡ true }
     requires ordered { are_ordered how exec.now left.now right.now ≡ true }
     ensures settles { Settles result (too_long (value_listing false how (values left.now) (values right.now))) }
-    ensures found { IfOk result (IsListedIn (value_listing false how (values left.now) (values right.now))) }
+    ensures found { IfOk result (λ m. IsListedIn (value_listing false how (values left.now) (values right.now)) m.listed) }
+    ensures merged { IfOk result (λ m. IsMergeWithin exec.now (sizes_by how (values left.now) (values right.now)) m.merged) }
 {
     match how {
         JoinType::Inner => left_way_pairs(alloc, false, left, right, exec),
@@ -139,18 +145,19 @@ fn takes_merge_path(request: &LentRequest<'_>, exec: &Exec) -> bool
 }
 
 // The pairs of a request whose keys are merged.
-fn taken_pairs(alloc: Global, request: &LentRequest<'_>, exec: &Exec) -> PolarsResult<SortedPairs>
+fn taken_pairs(alloc: Global, request: &LentRequest<'_>, exec: &Exec) -> PolarsResult<MergedPairs>
     requires alike { map (λ (c : Col). c.kind) (lent_columns request.now.left_keys.now) ≡ map (λ (c : Col). c.kind) (lent_columns request.now.right_keys.now) }
     requires taken { takes_merge_path request.now exec.now ≡ true }
     ensures settles { Settles result (first_cause (row_causes (asked request.now))) }
-    ensures found { IfOk result (IsListedIn (listing (asked request.now))) }
+    ensures found { IfOk result (λ m. IsListedIn (listing (asked request.now)) m.listed) }
+    ensures merged { IfOk result (λ m. IsMergeWithin exec.now (requested_sizes request.now) m.merged) }
 {
     let left = request.left_keys[0];
     let right = request.right_keys[0];
     sorted_pairs(alloc, request.how, left, right, exec)
 }
 
-/// The pairs of a request whose keys are merged, and none where they are hashed. They are merged exactly where the kind
+/// The pairs of a request whose keys are merged, with what the merge was, and none where they are hashed. They are merged exactly where the kind
 /// is Inner, Left or Right, nothing is asked of either side's keys (ManyToMany), there is one key on each side, stored
 /// as whole numbers of which none is Null, and one of these holds, for keys of l left and r right rows:
 ///
@@ -158,7 +165,9 @@ fn taken_pairs(alloc: Global, request: &LentRequest<'_>, exec: &Exec) -> PolarsR
 /// 2. The left key is, and `r * den < num * l`. The right rows are sorted by key first.
 /// 3. The kind is Inner, the right key is flagged, and `l * den < num * r`. The left rows are sorted by key first.
 ///
-/// A Right join is judged and merged with its sides exchanged. Its pairs stand by right rows. Those of the others stand
+/// A Right join is judged and merged with its sides exchanged, also in what is told of the merge: how many keys of each
+/// side there were, how many pairs of rows matched, and how many comparisons were made, which are at most
+/// `2 * l + workers * r`. Its pairs stand by right rows. Those of the others stand
 /// by left rows, and in no order under 3.
 ///
 /// # Errors
@@ -168,15 +177,16 @@ pub fn merged_pairs(
     alloc: Global,
     request: &LentRequest<'_>,
     exec: &Exec,
-) -> PolarsResult<Option<SortedPairs>>
+) -> PolarsResult<Option<MergedPairs>>
     requires alike { map (λ (c : Col). c.kind) (lent_columns request.now.left_keys.now) ≡ map (λ (c : Col). c.kind) (lent_columns request.now.right_keys.now) }
     ensures taken { IfOk result (λ o. is_some o ≡ takes_merge_path request.now exec.now) }
     ensures settles { Settles result (merge_refusal request.now exec.now) }
-    ensures found { IfOk result (λ o. IfSome o (IsListedIn (listing (asked request.now)))) }
+    ensures found { IfOk result (λ o. IfSome o (λ m. IsListedIn (listing (asked request.now)) m.listed)) }
+    ensures merged { IfOk result (λ o. IfSome o (λ m. IsMergeWithin exec.now (requested_sizes request.now) m.merged)) }
 {
     if !takes_merge_path(request, exec) {
         return Ok(None);
     }
-    let pairs = taken_pairs(alloc, request, exec)?;
-    Ok(Some(pairs))
+    let merged = taken_pairs(alloc, request, exec)?;
+    Ok(Some(merged))
 }

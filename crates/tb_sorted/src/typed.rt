@@ -4,9 +4,8 @@ ghost use Rattle.tb_value.specs.Typed.{is_whole_physical};
 ghost use Rattle.tb_chunk.specs.Chunk.{or_null};
 ghost use Rattle.tb_chunk.specs.Col.{flat};
 ghost use Rattle.tb_chunk.specs.Seen.{chunk_lists, storage};
-ghost use Rattle.tb_sorted.specs.Columns.{AreMergeKeys, MayMerge, cell_lists, value_listing};
-ghost use Rattle.tb_sorted.specs.Keys.{kind_of_merge};
-ghost use Rattle.tb_sorted.specs.Listed.{IsMerged};
+ghost use Rattle.tb_sorted.specs.Columns.{AreMergeKeys, MayMerge, cell_lists};
+ghost use Rattle.tb_sorted.specs.Listed.{AreValuesMerged};
 ghost use Rattle.tb_sorted.specs.Path.{order_after};
 
 use crate::cells::WholeCell;
@@ -15,6 +14,7 @@ use crate::merging::merged_lists;
 use crate::one_sorted::{left_sorted_lists, right_sorted_lists};
 use crate::path::SortedFirst;
 use std::alloc::Global;
+use tb_merge::Merged;
 use tb_pool::Exec;
 use tb_store::{Cells, Chunks};
 use tb_value::{JoinPair, PolarsResult};
@@ -27,11 +27,11 @@ fn merged_cells<N: WholeCell>(
     left: &LentCells<'_, N>,
     right: &LentCells<'_, N>,
     exec: &Exec,
-) -> PolarsResult<Vec<JoinPair>>
+) -> PolarsResult<(Vec<JoinPair>, Merged)>
     requires left { AreMergeKeys (map (or_null N.shows) left.now.cells.now) }
     requires right { AreMergeKeys (map (or_null N.shows) right.now.cells.now) }
     requires may { MayMerge first keep_unmatched (map (or_null N.shows) left.now.cells.now) (map (or_null N.shows) right.now.cells.now) }
-    ensures { IsMerged (order_after first) (value_listing false (kind_of_merge keep_unmatched) (map (or_null N.shows) left.now.cells.now) (map (or_null N.shows) right.now.cells.now)) result }
+    ensures { AreValuesMerged (order_after first) exec.now keep_unmatched (map (or_null N.shows) left.now.cells.now) (map (or_null N.shows) right.now.cells.now) result }
 {
     match first {
         SortedFirst::Neither => merged_lists(alloc, keep_unmatched, left, right, exec),
@@ -48,13 +48,13 @@ fn pairs_of_cells<N: WholeCell>(
     left: &[Cells<N>],
     right: &[Cells<N>],
     exec: &Exec,
-) -> PolarsResult<Vec<JoinPair>>
+) -> PolarsResult<(Vec<JoinPair>, Merged)>
     requires left_one { length (cell_lists N.shows left.now) ≡ 1 }
     requires right_one { length (cell_lists N.shows right.now) ≡ 1 }
     requires left { AreMergeKeys (flat (cell_lists N.shows left.now)) }
     requires right { AreMergeKeys (flat (cell_lists N.shows right.now)) }
     requires may { MayMerge first keep_unmatched (flat (cell_lists N.shows left.now)) (flat (cell_lists N.shows right.now)) }
-    ensures { IsMerged (order_after first) (value_listing false (kind_of_merge keep_unmatched) (flat (cell_lists N.shows left.now)) (flat (cell_lists N.shows right.now))) result }
+    ensures { AreValuesMerged (order_after first) exec.now keep_unmatched (flat (cell_lists N.shows left.now)) (flat (cell_lists N.shows right.now)) result }
 {
     let left = LentCells {
         cells: &left[0].cells,
@@ -73,7 +73,7 @@ pub(crate) fn pairs_of_chunks(
     left: &Chunks,
     right: &Chunks,
     exec: &Exec,
-) -> PolarsResult<Vec<JoinPair>>
+) -> PolarsResult<(Vec<JoinPair>, Merged)>
     requires whole { is_whole_physical (storage left.now) ≡ true }
     requires same { storage left.now ≡ storage right.now }
     requires left_one { length (chunk_lists left.now) ≡ 1 }
@@ -81,7 +81,7 @@ pub(crate) fn pairs_of_chunks(
     requires left { AreMergeKeys (flat (chunk_lists left.now)) }
     requires right { AreMergeKeys (flat (chunk_lists right.now)) }
     requires may { MayMerge first keep_unmatched (flat (chunk_lists left.now)) (flat (chunk_lists right.now)) }
-    ensures { IsMerged (order_after first) (value_listing false (kind_of_merge keep_unmatched) (flat (chunk_lists left.now)) (flat (chunk_lists right.now))) result }
+    ensures { AreValuesMerged (order_after first) exec.now keep_unmatched (flat (chunk_lists left.now)) (flat (chunk_lists right.now)) result }
 {
     match (left, right) {
         (Chunks::Int8Type(l), Chunks::Int8Type(r)) => {

@@ -19,8 +19,8 @@ returns-in_err-check_columns-clause-settles g c =
     let p = err_from_is_err_and c.from_residual.result c.from_residual.ensures.1 in
     rw (p.1, p.2) (by_first _ _ _ _ _ (two_parts (column_causes q) (row_causes q)) refl c.in_err-check_columns.ensures)
 
-pub listed_pairs-requires-clause-alike : goal.listed_pairs-requires-clause-alike
-listed_pairs-requires-clause-alike g c κs within =
+pub traced_pairs-requires-clause-alike : goal.traced_pairs-requires-clause-alike
+traced_pairs-requires-clause-alike g c κs within =
     let r = c.args.request.now in
     let left = length-map r.left_keys.now (λ (b : Bor Col). b.now) in
     let right = length-map r.right_keys.now (λ (b : Bor Col). b.now) in
@@ -32,4 +32,4 @@ listed_pairs-requires-clause-alike g c κs within =
 pub returns-clause-settles : goal.returns-clause-settles
 returns-clause-settles g c =
     let q = asked c.args.request.now in
-    subst (λ (o : Option PolarsError). Settles c.listed_pairs.result o) (sym (second_part (column_causes q) (row_causes q) c.in_ok-check_columns.ensures)) c.listed_pairs.ensures.settles
+    subst (λ (o : Option PolarsError). Settles c.traced_pairs.result o) (sym (second_part (column_causes q) (row_causes q) c.in_ok-check_columns.ensures)) c.traced_pairs.ensures.settles

@@ -10,6 +10,7 @@ use Rattle.tb_frame.specs.Table.{table_of}
 use Rattle.tb_keys.specs.Asked.{asked_by_names}
 use Rattle.tb_keys.specs.Causes.{later_refusal}
 use Rattle.tb_keys.proofs.Refusing.{by_first, second_part, two_causes}
+use Rattle.tb_pairs.specs.Trace.{IsTraced, Trace, trace_of}
 use Rattle.tb_join.specs.Ready.{CanMerge}
 use Rattle.tb_join.proofs.NamedKeys.{keys_as_many, keys_there}
 use Rattle.tb_join.proofs.NamesStand.{can_merge, names_stand, wide_out}
@@ -23,32 +24,38 @@ returns-in_err-keys-clause-settles g c =
 pub returns-clause-settles : goal.returns-clause-settles
 returns-clause-settles g c =
     let q = asked_by_names c.args.request.now in
-    subst (λ (o : Option PolarsError). Settles c.join_columns.result o)
+    subst (λ (o : Option PolarsError). Settles c.traced_columns.result o)
     (ap later_refusal c.with_keys-lent.ensures.asked ∙ sym (second_part (key_causes q) (column_causes q ++ row_causes q) c.in_ok-keys.ensures.settles))
-    c.join_columns.ensures.settles
+    c.traced_columns.ensures.settles
 
 pub returns-clause-answer : goal.returns-clause-answer
 returns-clause-answer g c =
-    subst (λ (q : Request). IfOk c.join_columns.result (λ t. IsAnswer q (table_of t))) c.with_keys-lent.ensures.asked c.join_columns.ensures.answer
+    subst (λ (q : Request). IfOk c.traced_columns.result (λ r. IsAnswer q (table_of r.0))) c.with_keys-lent.ensures.asked c.traced_columns.ensures.answer
 
-pub join_columns-requires-clause-wide : goal.join_columns-requires-clause-wide
-join_columns-requires-clause-wide g c κs within =
+pub traced_columns-requires-clause-wide : goal.traced_columns-requires-clause-wide
+traced_columns-requires-clause-wide g c κs within =
     let q = asked_by_names c.args.request.now in
     subst (λ (x : Request). 0 < length (out x)) (sym c.with_keys-lent.ensures.asked) (wide_out q (names_stand q c.in_ok-keys.ensures.settles))
 
-pub join_columns-requires-clause-merge : goal.join_columns-requires-clause-merge
-join_columns-requires-clause-merge g c κs within =
+pub traced_columns-requires-clause-merge : goal.traced_columns-requires-clause-merge
+traced_columns-requires-clause-merge g c κs within =
     let n = c.args.request.now in
     let keys = c.in_ok-keys in
     subst (λ (x : Request). key_types x ≡ None → CanMerge x) (sym c.with_keys-lent.ensures.asked)
     (can_merge (asked_by_names n) n.left.now n.right.now (λ _. table_of n.left.now) (λ _. table_of n.right.now) (names_stand (asked_by_names n) keys.ensures.settles) c.get_columns-columns.ensures.table refl refl)
 
-pub join_columns-requires-clause-some : goal.join_columns-requires-clause-some
-join_columns-requires-clause-some g c κs within =
+pub traced_columns-requires-clause-some : goal.traced_columns-requires-clause-some
+traced_columns-requires-clause-some g c κs within =
     let keys = c.in_ok-keys.ensures in
     keys_there c.args.request.now c.with_keys-lent.result (lent_columns c.in_ok-keys.keys.left.items) (lent_columns c.in_ok-keys.keys.right.items) c.with_keys-lent.ensures.asked keys.settles keys.left keys.right
 
-pub join_columns-requires-clause-as_many : goal.join_columns-requires-clause-as_many
-join_columns-requires-clause-as_many g c κs within =
+pub traced_columns-requires-clause-as_many : goal.traced_columns-requires-clause-as_many
+traced_columns-requires-clause-as_many g c κs within =
     let keys = c.in_ok-keys.ensures in
     keys_as_many c.args.request.now c.with_keys-lent.result (lent_columns c.in_ok-keys.keys.left.items) (lent_columns c.in_ok-keys.keys.right.items) c.with_keys-lent.ensures.asked keys.settles keys.left keys.right
+
+pub returns-clause-traced : goal.returns-clause-traced
+returns-clause-traced g c =
+    let lent = c.with_keys-lent.ensures in
+    let exec = c.args.exec.now in
+    subst (λ (due : Trace). IfOk c.traced_columns.result (λ r. IsTraced exec due r.1)) (λ t. trace_of (lent.how t) (lent.args t) exec (lent.left t) (lent.right t)) c.traced_columns.ensures.traced

@@ -2,11 +2,13 @@ use Rattle.std.proofs.Common.{None}
 use Rattle.tb_value.specs.declared.error.PolarsError.TheVariants.{Duplicate}
 use Rattle.tb_frame.specs.Naming.{joined_names}
 use Rattle.tb_frame.specs.Refusal.{first_repeated}
-use Rattle.tb_frame.specs.Table.{names_of}
+use Rattle.tb_frame.specs.Join.{matches}
+use Rattle.tb_frame.specs.Table.{height, names_of}
 use Rattle.tb_frame.proofs.Assembled.{few_listed, makes_frame, pairs_in_range, table_answers}
 use Rattle.tb_frame.proofs.Causes.{distinct_names, map_none}
 use Rattle.tb_keys.specs.Asked.{asked}
 use Rattle.tb_join.proofs.Finishing.{settled}
+use Rattle.tb_join.proofs.Running.{run-as-asked}
 use Rattle.tb_join.proofs.general.finish_join.Goals as goal
 
 pub answer_columns-requires-clause-pairs : goal.answer_columns-requires-clause-pairs
@@ -14,6 +16,11 @@ answer_columns-requires-clause-pairs g c κs within = pairs_in_range (asked c.ar
 
 pub answer_columns-requires-clause-few : goal.answer_columns-requires-clause-few
 answer_columns-requires-clause-few g c κs within = few_listed (asked c.args.request.now) c.args.pairs.now c.requires.few c.requires.listed
+
+pub answer_columns-requires-clause-runs : goal.answer_columns-requires-clause-runs
+answer_columns-requires-clause-runs g c κs within =
+    let q = asked c.args.request.now in
+    run-as-asked q.args (height q.left) (height q.right) (matches q) c.args.pairs.now c.requires.listed
 
 pub returns-clause-settles : goal.returns-clause-settles
 returns-clause-settles g c =

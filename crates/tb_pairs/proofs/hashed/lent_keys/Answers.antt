@@ -2,7 +2,7 @@ use Rattle.std.proofs.Common.{List, ◌∙◌, ◌++◌, ◌∷◌, [], None, ma
 use Rattle.std.proofs.lemmas.List.{length-map, map-append, take_more, take_all}
 use Rattle.tb_value.specs.Datum.{Datum, binary}
 use Rattle.tb_chunk.specs.Chunk.{or_null}
-use Rattle.tb_hash.specs.declared.keys.KeyBytes.{KeyBytes}
+use Rattle.tb_build.specs.declared.keys.KeyBytes.{KeyBytes}
 use Rattle.tb_pairs.proofs.hashed.lent_keys.Goals as goal
 
 pub loop-row-preserved : goal.loop-row-preserved

@@ -3,9 +3,10 @@ use Rattle.std.specs.Prelude.{IsPermutation}
 use Rattle.tb_value.specs.Refusals.{Settles}
 use Rattle.tb_value.specs.declared.index.JoinPair.{JoinPair}
 use Rattle.tb_frame.specs.Answer.{AreLeftRows}
-use Rattle.tb_sorted.specs.Keys.{number_listing}
+use Rattle.tb_sorted.specs.Keys.{MergeSizes, number_listing}
+use Rattle.tb_sorted.specs.Listed.{IsMergeWithin}
 use Rattle.tb_sorted.specs.SortedRows.{AreSortedRows, keys_of, left_placed}
-use Rattle.tb_sorted.proofs.Places.{as_many_keys, left_many, left_places, left_way, rows_few}
+use Rattle.tb_sorted.proofs.Places.{as_many_keys, left_many, left_places, left_sizes, left_way, rows_few}
 use Rattle.tb_sorted.proofs.Turned.{as_long}
 use Rattle.tb_sorted.proofs.one_sorted.left_sorted_lists.Goals as goal
 
@@ -22,7 +23,7 @@ returns-in_err-pairs g c =
     let right = g.B.KeyList.keys c.args.right.now in
     let rows = c.deref.result.now in
     let many = left_many keys rows (subst (AreSortedRows keys) (sym c.deref.ensures.value) c.in_ok-rows.ensures) right in
-    record { settles = subst (Settles c.from_residual-in_err-pairs.result) (as_long (number_listing false (keys_of rows) right) (number_listing false keys right) many) (search rules); pairs = search rules; ascends = search rules }
+    record { settles = subst (Settles c.from_residual-in_err-pairs.result) (as_long (number_listing false (keys_of rows) right) (number_listing false keys right) many) (search rules); pairs = search rules; ascends = search rules; merged = search rules }
 
 pub with_left_rows-requires-clause-places : goal.with_left_rows-requires-clause-places
 with_left_rows-requires-clause-places g c =
@@ -53,4 +54,5 @@ returns g c =
       settles = sym (as_long (number_listing false (keys_of rows) right) list (left_many keys rows sorted right)) ∙ h.settles;
       pairs = subst (λ (l : List JoinPair). IsPermutation list l) (sym is) (left_way keys rows sorted right ps h.pairs);
       ascends = tt;
+      merged = subst (λ (s : MergeSizes). IsMergeWithin c.args.exec.now s c.in_ok-pairs.merged) (left_sizes keys rows sorted right) h.merged;
     }

@@ -4,9 +4,10 @@ use Rattle.tb_value.specs.Pairs.{left_first}
 use Rattle.tb_value.specs.Refusals.{Settles}
 use Rattle.tb_value.specs.declared.index.JoinPair.{JoinPair}
 use Rattle.tb_frame.specs.Answer.{AreRightRows}
-use Rattle.tb_sorted.specs.Keys.{number_listing}
+use Rattle.tb_sorted.specs.Keys.{MergeSizes, number_listing}
+use Rattle.tb_sorted.specs.Listed.{IsMergeWithin}
 use Rattle.tb_sorted.specs.SortedRows.{AreSortedRows, keys_of, right_placed}
-use Rattle.tb_sorted.proofs.Places.{as_many_keys, right_many, right_places, right_way, rows_few, way_permutation, way_sorted}
+use Rattle.tb_sorted.proofs.Places.{as_many_keys, right_many, right_places, right_sizes, right_way, rows_few, way_permutation, way_sorted}
 use Rattle.tb_sorted.proofs.Turned.{as_long}
 use Rattle.tb_sorted.proofs.one_sorted.right_sorted_lists.Goals as goal
 
@@ -24,7 +25,7 @@ returns-in_err-pairs g c =
     let rows = c.deref.result.now in
     let keep = c.args.keep_unmatched in
     let many = right_many keys rows (subst (AreSortedRows keys) (sym c.deref.ensures.value) c.in_ok-rows.ensures) keep left in
-    record { settles = subst (Settles c.from_residual-in_err-pairs.result) (as_long (number_listing keep left (keys_of rows)) (number_listing keep left keys) many) (search rules); pairs = search rules; ascends = search rules }
+    record { settles = subst (Settles c.from_residual-in_err-pairs.result) (as_long (number_listing keep left (keys_of rows)) (number_listing keep left keys) many) (search rules); pairs = search rules; ascends = search rules; merged = search rules }
 
 pub with_right_rows-requires-clause-places : goal.with_right_rows-requires-clause-places
 with_right_rows-requires-clause-places g c =
@@ -56,4 +57,5 @@ returns g c =
       settles = sym (as_long (number_listing keep left (keys_of rows)) list (right_many keys rows sorted keep left)) ∙ h.settles;
       pairs = subst (λ (l : List JoinPair). IsPermutation list l) (sym is) (way_permutation keep left keys);
       ascends = subst (λ (l : List JoinPair). IsSorted left_first l) (sym is) (way_sorted keep left keys);
+      merged = subst (λ (s : MergeSizes). IsMergeWithin c.args.exec.now s c.in_ok-pairs.merged) (right_sizes keys rows sorted left) h.merged;
     }

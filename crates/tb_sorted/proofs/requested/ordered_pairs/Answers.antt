@@ -3,7 +3,8 @@ use Rattle.tb_value.specs.Datum.{Datum}
 use Rattle.tb_chunk.specs.Col.{flat, values}
 use Rattle.tb_chunk.specs.Seen.{chunk_lists}
 use Rattle.tb_sorted.specs.Columns.{MayMerge}
-use Rattle.tb_sorted.specs.Path.{sorted_first}
+use Rattle.tb_sorted.specs.Listed.{AreValuesMerged}
+use Rattle.tb_sorted.specs.Path.{order_after, sorted_first}
 use Rattle.tb_sorted.specs.declared.path.SortedFirst.{SortedFirst}
 use Rattle.tb_sorted.proofs.Flagged.{lone_keys, lone_list, may_merge, merge_keys}
 use Rattle.tb_sorted.proofs.requested.ordered_pairs.Goals as goal
@@ -26,3 +27,16 @@ pairs_of_chunks-requires-clause-may c =
     subst (λ (f : SortedFirst). MayMerge f keep us vs) (sym c.sorted_first.ensures)
     (subst (λ (xs : List Datum). MayMerge first keep xs vs) (sym (lone_list l (chunk_lists c.lone_chunk.result.now) c.lone_chunk.ensures.lists))
     (subst (λ (xs : List Datum). MayMerge first keep (values l) xs) (sym (lone_list r (chunk_lists c.lone_chunk-2.result.now) c.lone_chunk-2.ensures.lists)) may))
+
+pub returns : goal.returns
+returns c =
+    let l = c.args.left.now in
+    let r = c.args.right.now in
+    let us = flat (chunk_lists c.lone_chunk.result.now) in
+    let vs = flat (chunk_lists c.lone_chunk-2.result.now) in
+    let there = c.pairs_of_chunks.result in
+    let keep = c.args.keep_unmatched in
+    let exec = c.args.exec.now in
+    subst (λ (f : SortedFirst). AreValuesMerged (order_after f) exec keep (values l) (values r) there) c.sorted_first.ensures
+    (subst (λ (xs : List Datum). AreValuesMerged (order_after c.sorted_first.result) exec keep xs (values r) there) (lone_list l (chunk_lists c.lone_chunk.result.now) c.lone_chunk.ensures.lists)
+    (subst (λ (xs : List Datum). AreValuesMerged (order_after c.sorted_first.result) exec keep us xs there) (lone_list r (chunk_lists c.lone_chunk-2.result.now) c.lone_chunk-2.ensures.lists) c.pairs_of_chunks.ensures))

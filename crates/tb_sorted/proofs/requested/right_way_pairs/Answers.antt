@@ -10,21 +10,27 @@ use Rattle.tb_frame.specs.declared.args.JoinType.TheVariants.{Right}
 use Rattle.tb_frame.specs.Join.{Ascends}
 use Rattle.tb_sorted.specs.Columns.{value_listing}
 use Rattle.tb_sorted.proofs.Flagged.{by_left}
-use Rattle.tb_sorted.proofs.Turned.{too_long_turned, turned_pairs}
+use Rattle.tb_sorted.specs.Keys.{MergeSizes}
+use Rattle.tb_sorted.specs.Listed.{IsMergeWithin}
+use Rattle.tb_sorted.proofs.Turned.{sizes_turned, too_long_turned, turned_pairs}
 use Rattle.tb_sorted.proofs.requested.right_way_pairs.Goals as goal
 
-pub returns-in_err-ordered_pairs-clause-settles : goal.returns-in_err-ordered_pairs-clause-settles
-returns-in_err-ordered_pairs-clause-settles c = subst (Settles c.from_residual.result) (too_long_turned false (values c.args.left.now) (values c.args.right.now)) (search rules)
+pub returns-in_err-pairs-clause-settles : goal.returns-in_err-pairs-clause-settles
+returns-in_err-pairs-clause-settles c = subst (Settles c.from_residual.result) (too_long_turned false (values c.args.left.now) (values c.args.right.now)) (search rules)
 
 pub returns-clause-settles : goal.returns-clause-settles
-returns-clause-settles c = sym (too_long_turned false (values c.args.left.now) (values c.args.right.now)) ∙ c.in_ok-ordered_pairs.ensures.settles
+returns-clause-settles c = sym (too_long_turned false (values c.args.left.now) (values c.args.right.now)) ∙ c.in_ok-pairs.ensures.settles
 
 pub returns-clause-found : goal.returns-clause-found
 returns-clause-found c =
-    let ps = c.in_ok-ordered_pairs.field-0.items in
+    let ps = c.in_ok-pairs.pairs.items in
     let list = value_listing false Right (values c.args.left.now) (values c.args.right.now) in
     let is = sym c.turned-pairs.ensures in
     record {
-      permutation = subst (λ (l : List JoinPair). IsPermutation list l) is (turned_pairs false (values c.args.left.now) (values c.args.right.now) ps c.in_ok-ordered_pairs.ensures.pairs);
-      ascends = subst (λ (l : List JoinPair). IsSorted right_first l) is (turned_to_right ps (subst (λ (d : Direction). Ascends d ps) (by_left c.args.exec.now c.args.right.now c.args.left.now c.requires.ordered) c.in_ok-ordered_pairs.ensures.ascends));
+      permutation = subst (λ (l : List JoinPair). IsPermutation list l) is (turned_pairs false (values c.args.left.now) (values c.args.right.now) ps c.in_ok-pairs.ensures.pairs);
+      ascends = subst (λ (l : List JoinPair). IsSorted right_first l) is (turned_to_right ps (subst (λ (d : Direction). Ascends d ps) (by_left c.args.exec.now c.args.right.now c.args.left.now c.requires.ordered) c.in_ok-pairs.ensures.ascends));
     }
+
+pub returns-clause-merged : goal.returns-clause-merged
+returns-clause-merged c =
+    subst (λ (s : MergeSizes). IsMergeWithin c.args.exec.now s c.in_ok-pairs.merged) (sizes_turned (values c.args.left.now) (values c.args.right.now)) c.in_ok-pairs.ensures.merged

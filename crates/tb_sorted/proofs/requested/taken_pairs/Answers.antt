@@ -41,7 +41,7 @@ returns-clause-settles c =
     let a = (get_or r.left_keys.now 0 d).now in
     let b = (get_or r.right_keys.now 0 e).now in
     let listed = ◌∙◌ {A = List JoinPair} (nulls_apart r.args.now.join_nulls r.how (values a) (values b) (no_nulls a taken.left)) (requested_listing r a b (one_column r.left_keys.now d one.0) (one_column r.right_keys.now e one.1)) in
-    subst (λ (o : Option PolarsError). Settles c.sorted_pairs.result o) (ap too_long listed ∙ sym (size_alone r taken.merges taken.nothing)) c.sorted_pairs.ensures.settles
+    subst (λ (o : Option PolarsError). Settles c.sorted_pairs.result o) (ap too_long listed ∙ sym (size_alone r c.args.exec.now a b taken.ordered taken.nothing)) c.sorted_pairs.ensures.settles
 
 pub returns-clause-found : goal.returns-clause-found
 returns-clause-found c =
@@ -53,4 +53,4 @@ returns-clause-found c =
     let a = (get_or r.left_keys.now 0 d).now in
     let b = (get_or r.right_keys.now 0 e).now in
     let listed = ◌∙◌ {A = List JoinPair} (nulls_apart r.args.now.join_nulls r.how (values a) (values b) (no_nulls a taken.left)) (requested_listing r a b (one_column r.left_keys.now d one.0) (one_column r.right_keys.now e one.1)) in
-    subst (λ (ps : List JoinPair). IfOk c.sorted_pairs.result (IsListedIn ps)) listed c.sorted_pairs.ensures.found
+    subst (λ (ps : List JoinPair). IfOk c.sorted_pairs.result (λ m. IsListedIn ps m.listed)) listed c.sorted_pairs.ensures.found

@@ -1,10 +1,8 @@
-use Rattle.std.proofs.Common.{Bool, map, subst, sym}
+use Rattle.std.proofs.Common.{Bool, false, map, subst, sym}
 use Rattle.tb_chunk.specs.Chunk.{or_null}
 use Rattle.tb_frame.specs.declared.args.Direction.TheVariants.{ByLeft, Free}
-use Rattle.std.specs.Prelude.{false}
-use Rattle.tb_sorted.specs.Columns.{MayMerge, value_listing}
-use Rattle.tb_sorted.specs.Keys.{kind_of_merge}
-use Rattle.tb_sorted.specs.Listed.{IsMerged}
+use Rattle.tb_sorted.specs.Columns.{MayMerge}
+use Rattle.tb_sorted.specs.Listed.{AreValuesMerged}
 use Rattle.tb_sorted.specs.Path.{order_after}
 use Rattle.tb_sorted.specs.declared.path.SortedFirst.{SortedFirst}
 use Rattle.tb_sorted.proofs.Numbers.{cell_numbers, merged_values, numbers, numbers_ascend}
@@ -51,9 +49,9 @@ returns-in-Neither g c =
     let rs = c.args.right.now.cells.now in
     let us = map (or_null shows) ls in
     let vs = map (or_null shows) rs in
-    subst (λ (f : SortedFirst). IsMerged (order_after f) (value_listing false (kind_of_merge c.args.keep_unmatched) us vs) c.merged_lists.result) (sym c.in-Neither.is)
-    (merged_values ByLeft c.args.keep_unmatched us vs (numbers shows number law ls) (numbers shows number law rs) c.merged_lists.result
-    (cell_numbers shows number law ls c.requires.left) (cell_numbers shows number law rs c.requires.right) c.merged_lists.ensures)
+    subst (λ (f : SortedFirst). AreValuesMerged (order_after f) c.args.exec.now c.args.keep_unmatched us vs c.merged_lists.result) (sym c.in-Neither.is)
+    (merged_values us vs (numbers shows number law ls) (numbers shows number law rs) (cell_numbers shows number law ls c.requires.left) (cell_numbers shows number law rs c.requires.right)
+    ByLeft c.args.exec.now c.args.keep_unmatched c.merged_lists.result c.merged_lists.ensures)
 
 pub returns-in-Right : goal.returns-in-Right
 returns-in-Right g c =
@@ -64,9 +62,9 @@ returns-in-Right g c =
     let rs = c.args.right.now.cells.now in
     let us = map (or_null shows) ls in
     let vs = map (or_null shows) rs in
-    subst (λ (f : SortedFirst). IsMerged (order_after f) (value_listing false (kind_of_merge c.args.keep_unmatched) us vs) c.right_sorted_lists.result) (sym c.in-Right.is)
-    (merged_values ByLeft c.args.keep_unmatched us vs (numbers shows number law ls) (numbers shows number law rs) c.right_sorted_lists.result
-    (cell_numbers shows number law ls c.requires.left) (cell_numbers shows number law rs c.requires.right) c.right_sorted_lists.ensures)
+    subst (λ (f : SortedFirst). AreValuesMerged (order_after f) c.args.exec.now c.args.keep_unmatched us vs c.right_sorted_lists.result) (sym c.in-Right.is)
+    (merged_values us vs (numbers shows number law ls) (numbers shows number law rs) (cell_numbers shows number law ls c.requires.left) (cell_numbers shows number law rs c.requires.right)
+    ByLeft c.args.exec.now c.args.keep_unmatched c.right_sorted_lists.result c.right_sorted_lists.ensures)
 
 pub returns-in-Left : goal.returns-in-Left
 returns-in-Left g c =
@@ -78,7 +76,7 @@ returns-in-Left g c =
     let us = map (or_null shows) ls in
     let vs = map (or_null shows) rs in
     let may = subst (λ (f : SortedFirst). MayMerge f c.args.keep_unmatched us vs) c.in-Left.is c.requires.may in
-    subst (λ (f : SortedFirst). IsMerged (order_after f) (value_listing false (kind_of_merge c.args.keep_unmatched) us vs) c.left_sorted_lists.result) (sym c.in-Left.is)
-    (subst (λ (keep : Bool). IsMerged Free (value_listing false (kind_of_merge keep) us vs) c.left_sorted_lists.result) (sym may.0)
-    (merged_values Free false us vs (numbers shows number law ls) (numbers shows number law rs) c.left_sorted_lists.result
-    (cell_numbers shows number law ls c.requires.left) (cell_numbers shows number law rs c.requires.right) c.left_sorted_lists.ensures))
+    subst (λ (f : SortedFirst). AreValuesMerged (order_after f) c.args.exec.now c.args.keep_unmatched us vs c.left_sorted_lists.result) (sym c.in-Left.is)
+    (subst (λ (keep : Bool). AreValuesMerged Free c.args.exec.now keep us vs c.left_sorted_lists.result) (sym may.0)
+    (merged_values us vs (numbers shows number law ls) (numbers shows number law rs) (cell_numbers shows number law ls c.requires.left) (cell_numbers shows number law rs c.requires.right)
+    Free c.args.exec.now false c.left_sorted_lists.result c.left_sorted_lists.ensures))

@@ -1,11 +1,9 @@
-use Rattle.std.proofs.Common.{List, ap, false, map, subst, sym, ◌∙◌}
+use Rattle.std.proofs.Common.{List, ap, map, subst, sym, ◌∙◌}
 use Rattle.tb_value.specs.Datum.{Datum}
-use Rattle.tb_value.specs.declared.index.JoinPair.{JoinPair}
 use Rattle.tb_chunk.specs.Chunk.{or_null}
 use Rattle.tb_chunk.specs.Col.{flat}
-use Rattle.tb_sorted.specs.Columns.{AreMergeKeys, MayMerge, cell_lists, value_listing}
-use Rattle.tb_sorted.specs.Keys.{kind_of_merge}
-use Rattle.tb_sorted.specs.Listed.{IsMerged}
+use Rattle.tb_sorted.specs.Columns.{AreMergeKeys, MayMerge, cell_lists}
+use Rattle.tb_sorted.specs.Listed.{AreValuesMerged}
 use Rattle.tb_sorted.specs.Path.{order_after}
 use Rattle.tb_sorted.proofs.Numbers.{one_list}
 use Rattle.tb_sorted.proofs.typed.pairs_of_cells.Goals as goal
@@ -35,4 +33,5 @@ returns g c =
     let f = or_null g.N.Cell.shows in
     let left = one_list (λ k. map f k.cells.items) c.args.left.now c.index-left-0.result c.requires.left_one ∙ sym (ap (map f) c.deref.ensures.value) in
     let right = one_list (λ k. map f k.cells.items) c.args.right.now c.index-right-0.result c.requires.right_one ∙ sym (ap (map f) c.deref-2.ensures.value) in
-    subst (λ (ps : List JoinPair). IsMerged (order_after c.args.first) ps c.merged_cells.result) (λ t. value_listing false (kind_of_merge c.args.keep_unmatched) (sym left t) (sym right t)) c.merged_cells.ensures
+    subst (λ (us : List Datum). AreValuesMerged (order_after c.args.first) c.args.exec.now c.args.keep_unmatched us (flat (cell_lists g.N.Cell.shows c.args.right.now)) c.merged_cells.result) (sym left)
+    (subst (λ (vs : List Datum). AreValuesMerged (order_after c.args.first) c.args.exec.now c.args.keep_unmatched (map f c.deref.result.now) vs c.merged_cells.result) (sym right) c.merged_cells.ensures)

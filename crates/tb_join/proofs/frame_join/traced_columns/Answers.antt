@@ -12,7 +12,7 @@ use Rattle.tb_frame.proofs.Causes.{no_cause, when_not_above}
 use Rattle.tb_keys.specs.Asked.{asked}
 use Rattle.tb_keys.specs.Causes.{later_refusal}
 use Rattle.tb_join.proofs.Finishing.{settled}
-use Rattle.tb_join.proofs.frame_join.join_columns.Goals as goal
+use Rattle.tb_join.proofs.frame_join.traced_columns.Goals as goal
 
 each : (q : Request) → later_refusal q ≡ None → All (λ (o : Option PolarsError). o ≡ None) (column_causes q ++ row_causes q)
 each q h = no_cause (column_causes q ++ row_causes q) h
@@ -37,4 +37,4 @@ finish_join-requires-clause-listed g c κs within =
     subst (λ (ps : List JoinPair). IsListed r.how r.args.now.maintain_order r.args.now.slice (listing (asked r)) ps) (sym c.deref.ensures.value) c.in_ok-pairs.ensures.listed
 
 pub returns-clause-settles : goal.returns-clause-settles
-returns-clause-settles g c = settled c.finish_join.result None _ (sym c.in_ok-pairs.ensures.settles) c.finish_join.ensures.settles
+returns-clause-settles g c = c.in_ok-pairs.ensures.settles
