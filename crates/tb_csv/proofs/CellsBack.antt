@@ -1,0 +1,216 @@
+-- A value, from its field.
+use Rattle.std.proofs.Common.{◌≡◌, ◌≢◌, ◌≤◌, ◌<◌, ◌^◌, ◌+◌, ◌∷◌, ◌∙◌, ◌≤ℤ◌, [], ℕ, ℤ, pos, negsuc, zero, suc, List, Bool, true, false, Option, Some, None, length, get_or, refl, sym, ap, arith, ◌&&◌, nat_le, neg_ℤ, ne_eqb, codes, true≢false, ◌%◌, ◌||◌}
+use Rattle.std.specs.Prelude.{is_none, option_and_then, IsSomeAnd, int_le, nat_lt}
+use Rattle.std.specs.Fmt.{decimal, signed_decimal}
+use Rattle.std.specs.Str.{bytes_eq, is_utf8}
+use Rattle.std.proofs.lemmas.Str.{IsUtf8-from_ascii, IsUtf8-nil, is_utf8-from_IsUtf8}
+use Rattle.std.proofs.lemmas.Str.Ascii.{IsAscii-cons}
+use Rattle.std.specs.Str.Parse.{AllDigits, digits_value, signed_digits_value}
+use Rattle.std.proofs.lemmas.Bool.Decides.{nat_tests}
+use Rattle.std.proofs.lemmas.Fmt.{IsAscii-decimal_wide, decimal_by_steps_wide, decimal_digit, decimal_is_IsNumeral_wide}
+use Rattle.std.proofs.lemmas.Int.{ints}
+use Rattle.std.proofs.Math.ListN.{get_or-append}
+use Rattle.std.proofs.lemmas.List.{length-append}
+use Rattle.std.proofs.lemmas.Str.Parse.{digit_from_value}
+use Rattle.tb_value.specs.Datum.{Datum}
+use Rattle.tb_value.specs.Datum as value
+use Rattle.tb_value.specs.Kind.{Kind, Parts}
+use Rattle.tb_value.specs.Kind as kind
+use Rattle.tb_value.specs.Typed.{HasType, IsListOf, IsStructOf, ends}
+use Rattle.tb_csv.specs.Numerals.{are_digits, fits, is_digit, is_counting, is_whole, whole_in}
+use Rattle.tb_csv.specs.Texts.{field_of, field_type}
+use Rattle.tb_csv.specs.Types.{cell_value, field_value, is_within, kind_at, or_string, ranged}
+use Rattle.tb_csv.specs.declared.field_type.FieldType.{FieldType}
+use Rattle.tb_csv.specs.declared.field_type.FieldType.TheVariants as field
+
+-- DIGITS
+
+first_digit : (n : ℕ) → 0 < n → n < 10 ^ 64 → 48 < get_or (decimal n) 0 0
+first_digit n some small = (decimal_by_steps_wide (λ m ds. (0 < length ds) × (0 < m → 48 < get_or ds 0 0)) (λ m l. (omega arith, λ a. omega arith))
+    (λ m ds l h. (omega (arith, length-append ds ((48 + m % 10) ∷ [])), λ a. omega (arith, get_or-append ds ((48 + m % 10) ∷ []) 0 0 h.0, h.1 (omega arith)))) n small).1 some
+
+digit_true : (c : ℕ) → 48 ≤ c → c ≤ 57 → is_digit c ≡ true
+digit_true c low high = grind (arith, nat_tests)
+
+lead_true : (c : ℕ) → 48 < c → c ≤ 57 → (nat_le 49 c && nat_le c 57) ≡ true
+lead_true c low high = grind (arith, nat_tests)
+
+digits : (ds : List ℕ) → AllDigits 10 ds → are_digits ds ≡ true
+digits [] d = refl
+digits (c ∷ cs) d = let r = digit_from_value c d.0 in rw (digit_true c (omega (arith, r)) (omega (arith, r)), digits cs d.1) refl
+
+counting : (ds : List ℕ) → 48 < get_or ds 0 0 → AllDigits 10 ds → is_counting ds ≡ true
+counting [] first d = absurd (omega (arith, first))
+counting (c ∷ cs) first d = let r = digit_from_value c d.0 in rw (lead_true c (omega (arith, first)) (omega (arith, r)), digits cs d.1) refl
+
+or_true : (b : Bool) → (b || true) ≡ true
+or_true true = refl
+or_true false = refl
+
+is_whole_of : (ds : List ℕ) → 48 < get_or ds 0 0 → AllDigits 10 ds → is_whole ds ≡ true
+is_whole_of [] first d = absurd (omega (arith, first))
+is_whole_of (c ∷ cs) first d =
+    let r = digit_from_value c d.0 in
+    rw (ne_eqb c 45 (λ e. omega (arith, r, e)), counting (c ∷ cs) first d) (or_true (bytes_eq (c ∷ cs) (codes "0")))
+
+value_of : (ds : List ℕ) → AllDigits 10 ds → 0 < length ds → signed_digits_value 10 ds ≡ pos (digits_value 10 ds)
+value_of [] d h = absurd (omega (arith, h))
+value_of (c ∷ cs) d h =
+    let r = digit_from_value c d.0 in
+    rw (ne_eqb c 45 (λ e. omega (arith, r, e)), ne_eqb c 43 (λ e. omega (arith, r, e))) refl
+
+abbrev IsBelow : ℤ → Type 0
+IsBelow z = (negsuc 170141183460469231731687303715884105727 ≤ℤ z) × (z ≤ℤ pos 170141183460469231731687303715884105727)
+
+fits_of : (z : ℤ) → IsBelow z → fits z ≡ true
+fits_of (pos n) h = grind (arith, nat_tests, ints)
+fits_of (negsuc n) h = grind (arith, nat_tests, ints)
+
+whole_back : (z : ℤ) → IsBelow z → whole_in (signed_decimal z) ≡ Some z
+unfolding whole_in
+whole_back (pos zero) h = rw (decimal_digit 0 (omega arith)) refl
+whole_back (pos (suc n)) h =
+    let small : suc n < 10 ^ 64 = omega (arith, ints) in
+    let k = decimal_is_IsNumeral_wide (suc n) small in
+    let is : signed_digits_value 10 (decimal (suc n)) ≡ pos (suc n) = value_of (decimal (suc n)) k.0.1 k.0.0 ∙ ap pos k.1 in
+    rw (is_whole_of (decimal (suc n)) (first_digit (suc n) (omega arith) small) k.0.1, is, fits_of (pos (suc n)) h) refl
+whole_back (negsuc n) h =
+    let small : suc n < 10 ^ 64 = omega (arith, ints) in
+    let k = decimal_is_IsNumeral_wide (suc n) small in
+    let is : signed_digits_value 10 (45 ∷ decimal (suc n)) ≡ negsuc n = ap (λ m. neg_ℤ (pos m)) k.1 in
+    rw (counting (decimal (suc n)) (first_digit (suc n) (omega arith) small) k.0.1, is, fits_of (negsuc n) h) refl
+
+number_long : (z : ℤ) → IsBelow z → 0 < length (signed_decimal z)
+number_long (pos n) h = (decimal_is_IsNumeral_wide n (omega (arith, ints))).0.0
+number_long (negsuc n) h = omega arith
+
+-- CELLS
+
+present : (t : FieldType) (s : List ℕ) → 0 < length s → cell_value t s ≡ field_value t s
+present t [] h = absurd (omega (arith, h))
+present t (c ∷ cs) h = refl
+
+le_true : (a b : ℤ) → a ≤ℤ b → int_le a b ≡ true
+le_true (pos a) (pos b) h = grind (arith, nat_tests, ints)
+le_true (pos a) (negsuc b) h = grind (arith, nat_tests, ints)
+le_true (negsuc a) (pos b) h = grind (arith, nat_tests, ints)
+le_true (negsuc a) (negsuc b) h = grind (arith, nat_tests, ints)
+
+within : (o : Option (ℤ × ℤ)) (z : ℤ) → IsSomeAnd o (λ e. (e.0 ≤ℤ z) × (z ≤ℤ e.1)) → is_within o z ≡ true
+within None z h = absurd h
+within (Some e) z h = rw (le_true e.0 z h.0, le_true z e.1 h.1) refl
+
+ranged_back : (k : Kind) (z : ℤ) → HasType k (value.int z) → ranged k z ≡ Some (value.int z)
+ranged_back k z h = rw (within (ends k) z h) refl
+
+number_back : (t : FieldType) (k : Kind) (z : ℤ) → field_value t (signed_decimal z) ≡ option_and_then (ranged k) (whole_in (signed_decimal z)) → HasType k (value.int z) → IsBelow z
+    → cell_value t (signed_decimal z) ≡ Some (value.int z)
+number_back t k z e h below =
+    present t (signed_decimal z) (number_long z below) ∙ e ∙ ap (λ (o : Option ℤ). option_and_then (ranged k) o) (whole_back z below) ∙ ranged_back k z h
+
+no_list : (k : Kind) (P : Kind → Type 0) → IsListOf k P → is_none (ends k) ≡ true
+no_list (kind.list t) P h = refl
+no_list _ P h = absurd h
+
+no_struct : (k : Kind) (P : Parts → Type 0) → IsStructOf k P → is_none (ends k) ≡ true
+no_struct (kind.struct t) P h = refl
+no_struct _ P h = absurd h
+
+-- of a type of whole numbers
+whole_cells : (t : FieldType) (k : Kind) (v : Datum) → is_none (ends k) ≡ false → ((s : List ℕ) → field_value t s ≡ option_and_then (ranged k) (whole_in s)) → ((z : ℤ) → HasType k (value.int z) → IsBelow z)
+    → HasType k v → cell_value t (field_of v) ≡ Some v
+whole_cells t k value.null some e below h = refl
+whole_cells t k (value.boolean b) some e below h = absurd (true≢false (rw h at some))
+whole_cells t k (value.int z) some e below h = number_back t k z (e (signed_decimal z)) h (below z h)
+whole_cells t k (value.string s) some e below h = absurd (true≢false (rw h.0 at some))
+whole_cells t k (value.binary s) some e below h = absurd (true≢false (rw h.0 at some))
+whole_cells t k (value.list vs) some e below h = absurd (true≢false (sym (no_list k _ h) ∙ some))
+whole_cells t k (value.struct vs) some e below h = absurd (true≢false (sym (no_struct k _ h) ∙ some))
+
+truth_cells : (v : Datum) → HasType kind.boolean v → cell_value field.Boolean (field_of v) ≡ Some v
+truth_cells value.null h = refl
+truth_cells (value.boolean true) h = refl
+truth_cells (value.boolean false) h = refl
+truth_cells (value.int z) h = absurd h
+truth_cells (value.string s) h = cc h.0
+truth_cells (value.binary s) h = cc h.0
+truth_cells (value.list vs) h = absurd h
+truth_cells (value.struct vs) h = absurd h
+
+text_cells : (v : Datum) → HasType kind.string v → v ≢ value.string [] → cell_value field.String (field_of v) ≡ Some v
+text_cells value.null h full = refl
+text_cells (value.boolean b) h full = cc h
+text_cells (value.int z) h full = absurd h
+text_cells (value.string []) h full = absurd (full refl)
+text_cells (value.string (c ∷ cs)) h full =
+    let short : length (c ∷ cs) < 4294967296 = omega (arith, h.1) in
+    let e : nat_lt (length (c ∷ cs)) 4294967296 ≡ true = grind (arith, nat_tests) in rw e refl
+text_cells (value.binary s) h full = cc h.0
+text_cells (value.list vs) h full = absurd h
+text_cells (value.struct vs) h full = absurd h
+
+pub cells_back : (k : Kind) → is_none (field_type k) ≡ false → (v : Datum) → HasType k v → v ≢ value.string [] → cell_value (or_string (field_type k)) (field_of v) ≡ Some v
+cells_back kind.boolean some v h full = truth_cells v h
+cells_back kind.int8 some v h full = whole_cells field.Int8 kind.int8 v refl (λ s. refl) (λ z k. (omega (arith, ints, k.0), omega (arith, ints, k.1))) h
+cells_back kind.int16 some v h full = whole_cells field.Int16 kind.int16 v refl (λ s. refl) (λ z k. (omega (arith, ints, k.0), omega (arith, ints, k.1))) h
+cells_back kind.int32 some v h full = whole_cells field.Int32 kind.int32 v refl (λ s. refl) (λ z k. (omega (arith, ints, k.0), omega (arith, ints, k.1))) h
+cells_back kind.int64 some v h full = whole_cells field.Int64 kind.int64 v refl (λ s. refl) (λ z k. (omega (arith, ints, k.0), omega (arith, ints, k.1))) h
+cells_back kind.int128 some v h full = whole_cells field.Int128 kind.int128 v refl (λ s. refl) (λ z k. (omega (arith, ints, k.0), omega (arith, ints, k.1))) h
+cells_back kind.uint8 some v h full = whole_cells field.UInt8 kind.uint8 v refl (λ s. refl) (λ z k. (omega (arith, ints, k.0), omega (arith, ints, k.1))) h
+cells_back kind.uint16 some v h full = whole_cells field.UInt16 kind.uint16 v refl (λ s. refl) (λ z k. (omega (arith, ints, k.0), omega (arith, ints, k.1))) h
+cells_back kind.uint32 some v h full = whole_cells field.UInt32 kind.uint32 v refl (λ s. refl) (λ z k. (omega (arith, ints, k.0), omega (arith, ints, k.1))) h
+cells_back kind.uint64 some v h full = whole_cells field.UInt64 kind.uint64 v refl (λ s. refl) (λ z k. (omega (arith, ints, k.0), omega (arith, ints, k.1))) h
+cells_back kind.string some v h full = text_cells v h full
+cells_back _ some v h full = absurd (true≢false some)
+
+-- FIELDS ARE TEXTS
+
+any_below : (k : Kind) (z : ℤ) → HasType k (value.int z) → IsBelow z
+any_below kind.int8 z k = (omega (arith, ints, k.0), omega (arith, ints, k.1))
+any_below kind.int16 z k = (omega (arith, ints, k.0), omega (arith, ints, k.1))
+any_below kind.int32 z k = (omega (arith, ints, k.0), omega (arith, ints, k.1))
+any_below kind.int64 z k = (omega (arith, ints, k.0), omega (arith, ints, k.1))
+any_below kind.int128 z k = (omega (arith, ints, k.0), omega (arith, ints, k.1))
+any_below kind.uint8 z k = (omega (arith, ints, k.0), omega (arith, ints, k.1))
+any_below kind.uint16 z k = (omega (arith, ints, k.0), omega (arith, ints, k.1))
+any_below kind.uint32 z k = (omega (arith, ints, k.0), omega (arith, ints, k.1))
+any_below kind.uint64 z k = (omega (arith, ints, k.0), omega (arith, ints, k.1))
+any_below kind.date z k = (omega (arith, ints, k.0), omega (arith, ints, k.1))
+any_below kind.time z k = (omega (arith, ints, k.0), omega (arith, ints, k.1))
+any_below (kind.datetime u n) z k = (omega (arith, ints, k.0), omega (arith, ints, k.1))
+any_below (kind.duration u) z k = (omega (arith, ints, k.0), omega (arith, ints, k.1))
+any_below _ z k = absurd k
+
+number_text : (z : ℤ) → IsBelow z → is_utf8 (signed_decimal z) ≡ true
+number_text (pos n) h = is_utf8-from_IsUtf8 (decimal n) (IsUtf8-from_ascii (decimal n) (IsAscii-decimal_wide n (omega (arith, ints))))
+number_text (negsuc n) h =
+    is_utf8-from_IsUtf8 (45 ∷ decimal (suc n)) (IsUtf8-from_ascii (45 ∷ decimal (suc n)) (IsAscii-cons 45 (decimal (suc n)) (omega arith) (IsAscii-decimal_wide (suc n) (omega (arith, ints)))))
+
+none_text : is_utf8 [] ≡ true
+none_text = is_utf8-from_IsUtf8 [] IsUtf8-nil
+
+-- the field of each value of a type is UTF-8
+pub field_text : (k : Kind) (v : Datum) → HasType k v → is_utf8 (field_of v) ≡ true
+field_text k value.null h = none_text
+field_text k (value.boolean true) h = is_utf8-from_IsUtf8 (codes "true") (IsUtf8-from_ascii (codes "true") (IsAscii-cons 116 (114 ∷ 117 ∷ 101 ∷ []) (omega arith) (IsAscii-cons 114 (117 ∷ 101 ∷ []) (omega arith) (IsAscii-cons 117 (101 ∷ []) (omega arith) (IsAscii-cons 101 ([]) (omega arith) (λ i. omega arith))))))
+field_text k (value.boolean false) h = is_utf8-from_IsUtf8 (codes "false") (IsUtf8-from_ascii (codes "false") (IsAscii-cons 102 (97 ∷ 108 ∷ 115 ∷ 101 ∷ []) (omega arith) (IsAscii-cons 97 (108 ∷ 115 ∷ 101 ∷ []) (omega arith) (IsAscii-cons 108 (115 ∷ 101 ∷ []) (omega arith) (IsAscii-cons 115 (101 ∷ []) (omega arith) (IsAscii-cons 101 ([]) (omega arith) (λ i. omega arith)))))))
+field_text k (value.int z) h = number_text z (any_below k z h)
+field_text k (value.string s) h = is_utf8-from_IsUtf8 s h.2
+field_text k (value.binary s) h = none_text
+field_text k (value.list vs) h = none_text
+field_text k (value.struct vs) h = none_text
+
+-- the type that a field is read as is the type of its value
+pub kind_back : (k : Kind) → is_none (field_type k) ≡ false → kind_at (or_string (field_type k)) ≡ k
+kind_back kind.boolean h = refl
+kind_back kind.int8 h = refl
+kind_back kind.int16 h = refl
+kind_back kind.int32 h = refl
+kind_back kind.int64 h = refl
+kind_back kind.int128 h = refl
+kind_back kind.uint8 h = refl
+kind_back kind.uint16 h = refl
+kind_back kind.uint32 h = refl
+kind_back kind.uint64 h = refl
+kind_back kind.string h = refl
+kind_back _ h = absurd (true≢false h)

@@ -1,0 +1,7 @@
+use Rattle.std.proofs.Common.{◌≡◌, map, take, true}
+use Rattle.std.specs.List.{list_all}
+use Rattle.tb_csv.specs.Types.{is_of}
+use Rattle.tb_csv.proofs.cells.are_of.Given as goal
+
+abbrev pub invariant-loop-field : goal.invariant-loop-field
+invariant-loop-field g l = list_all (is_of l.field_type) (map (λ f. f.now) (take l.field-index l.fields)) ≡ true

@@ -1,0 +1,14 @@
+use Rattle.std.proofs.Common.{◌≡◌, List, None, map}
+use Rattle.tb_value.specs.Pairs.{row_numbers}
+use Rattle.tb_frame.specs.Table.{table_of}
+use Rattle.tb_csv.specs.Faults.{first_fault, typed_fault}
+use Rattle.tb_csv.specs.Read.{AreRows}
+use Rattle.tb_csv.specs.Records.{Record}
+use Rattle.tb_csv.specs.Tables.{csv_column}
+use Rattle.tb_csv.proofs.columns.csv_columns.Given as goal
+
+abbrev pub invariant-loop-column : goal.invariant-loop-column
+invariant-loop-column l =
+    (rows : List Record) → AreRows l.records rows
+    → (table_of l.columns.items ≡ map (csv_column l.types l.records.names.items rows) (row_numbers l.column))
+    × (first_fault (map (typed_fault l.types l.records.names.items rows) (row_numbers l.column)) ≡ None)

@@ -1,0 +1,65 @@
+-- Why a text is no table: the first cause that holds.
+use Rattle.std.specs.Prelude.{◌≡◌, ◌⊎◌, ◌+◌, ◌==◌, ℕ, Bool, not, nat_lt, List, [], ◌∷◌, length, map, Option, Some, None, if◌then◌else◌, Result, MatchResult}
+use Rattle.std.specs.Option.{option_map}
+use Rattle.tb_value.specs.Names.{Name}
+use Rattle.tb_value.specs.Pairs.{row_numbers}
+use Rattle.tb_value.specs.declared.limits.TheConstants.{MAX_ROWS}
+use Rattle.tb_frame.specs.Refusal.{first_repeated, name_at}
+use Rattle.tb_csv.specs.Records.{Record, column_fields, is_text}
+use Rattle.tb_csv.specs.Types.{column_type, is_of}
+use Rattle.tb_csv.specs.declared.fault.CsvFault.{CsvFault}
+use Rattle.tb_csv.specs.declared.fault.CsvFault.TheVariants.{Empty, NotUtf8, RepeatedName, FieldCount, TooManyRows, NotOfType, OutOfMemory}
+use Rattle.tb_csv.specs.declared.field_type.FieldType.{FieldType}
+use Rattle.tb_csv.specs.declared.options.TypeOf.{TypeOf}
+
+-- the first that is there
+abbrev pub first_fault : List (Option CsvFault) → Option CsvFault
+first_fault [] = None
+first_fault (None ∷ cs) = first_fault cs
+first_fault (Some e ∷ cs) = Some e
+
+-- the fault, where the test holds
+abbrev pub when : Bool → CsvFault → Option CsvFault
+when b e = (if b then Some e else None)
+
+-- A call settles a fault: it passes exactly where there is none, and else refuses by it. Want of memory may come at any time.
+abbrev pub Settles : {T : Type 0} → Result T CsvFault → Option CsvFault → Type 0
+Settles r fault = MatchResult r (λ _. fault ≡ None) (λ e. (e ≡ OutOfMemory) ⊎ (fault ≡ Some e))
+
+-- record i has another number of fields than there are names, or is not UTF-8
+abbrev pub row_fault : ℕ → ℕ → Record → Option CsvFault
+row_fault width i r = first_fault (when (not (length r == width)) (FieldCount i width (length r)) ∷ when (not (is_text r)) (NotUtf8 i) ∷ [])
+
+-- the first fault of rows, of which the first is record i
+abbrev pub rows_fault : ℕ → ℕ → List Record → Option CsvFault
+rows_fault width i [] = None
+rows_fault width i (r ∷ rs) = first_fault (row_fault width i r ∷ rows_fault width (i + 1) rs ∷ [])
+
+abbrev pub repeated_name : List Name → Option CsvFault
+repeated_name names = option_map (λ n. RepeatedName n) (first_repeated names)
+
+-- the first field of a column that is none of its type. The first field stands in record i
+abbrev pub column_fault : Name → FieldType → ℕ → List (List ℕ) → Option CsvFault
+column_fault name t i [] = None
+column_fault name t i (s ∷ ss) = if is_of t s then column_fault name t (i + 1) ss else Some (NotOfType i name t)
+
+-- names, rows and their number. The record of names is number 0
+abbrev pub records_fault : List Record → Option CsvFault
+records_fault [] = Some Empty
+records_fault (names ∷ rows) = first_fault (when (not (is_text names)) (NotUtf8 0) ∷ repeated_name names ∷ rows_fault (length names) 1 rows ∷ when (nat_lt MAX_ROWS (length rows)) TooManyRows ∷ [])
+
+-- column j of the table
+abbrev pub typed_fault : List TypeOf → List Name → List Record → ℕ → Option CsvFault
+typed_fault types names rows j =
+    let fields = column_fields rows j in
+    let name = name_at names j in
+    column_fault name (column_type types name fields) 1 fields
+
+-- the columns, from the left
+abbrev pub columns_fault : List TypeOf → List Record → Option CsvFault
+columns_fault types [] = None
+columns_fault types (names ∷ rows) = first_fault (map (typed_fault types names rows) (row_numbers (length names)))
+
+-- why records are no table
+abbrev pub csv_refusal : List TypeOf → List Record → Option CsvFault
+csv_refusal types records = first_fault (records_fault records ∷ columns_fault types records ∷ [])

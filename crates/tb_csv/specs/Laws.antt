@@ -1,0 +1,44 @@
+-- What holds of texts and tables.
+use Rattle.std.specs.Prelude.{◌≡◌, ◌≢◌, ◌≤◌, ℕ, List, [], map, Some, None, is_none, true, false}
+use Rattle.std.specs.List.{All}
+use Rattle.csv.specs.Reading.{strip_bom}
+use Rattle.tb_value.specs.Datum.{Datum, string}
+use Rattle.tb_value.specs.Kind.{Kind}
+use Rattle.tb_value.specs.Typed.{HasType}
+use Rattle.tb_value.specs.declared.limits.TheConstants.{MAX_ROWS}
+use Rattle.tb_frame.specs.Table.{IsTable, Table, TableColumn, height, names_of}
+use Rattle.tb_csv.specs.Faults.{csv_refusal}
+use Rattle.tb_csv.specs.Records.{is_text, records_of}
+use Rattle.tb_csv.specs.Tables.{csv_table}
+use Rattle.tb_csv.specs.Texts.{csv_text, field_of, field_type, no_column, table_records, text_refusal}
+use Rattle.tb_csv.specs.Types.{cell_value, or_string}
+use Rattle.tb_csv.specs.declared.options.TypeOf.{TypeOf}
+
+abbrev pub comma : ℕ
+comma = 44
+
+-- the records of the text of a table with columns, written with commas and with no byte-order mark at its front, are those of the table
+abbrev pub RecordsBack : Type 0
+RecordsBack = (t : Table) → no_column t ≡ None → strip_bom (csv_text comma t) ≡ csv_text comma t → records_of comma (csv_text comma t) ≡ table_records t
+
+-- a value of a type with a text form, other than the empty text, is what its field is at the type
+abbrev pub CellsBack : Type 0
+CellsBack = (k : Kind) → is_none (field_type k) ≡ false → (v : Datum) → HasType k v → v ≢ string [] → cell_value (or_string (field_type k)) (field_of v) ≡ Some v
+
+-- the types of the columns by their names
+abbrev pub types_of : Table → List TypeOf
+types_of t = map (λ (c : TableColumn). record { name = c.name; field_type = or_string (field_type c.kind) }) t
+
+-- a table that has a text, without an empty text among its values, with names of UTF-8 and with no byte-order mark at the front of its text
+pub record IsTold (t : Table) : Type 0 where
+  pub table : IsTable t
+  pub few : height t ≤ MAX_ROWS
+  pub written : text_refusal t ≡ None
+  pub names : is_text (names_of t) ≡ true
+  pub full : All (λ (c : TableColumn). All (λ (v : Datum). v ≢ string []) c.values) t
+  pub front : strip_bom (csv_text comma t) ≡ csv_text comma t
+
+-- such a table, written with commas and read back with its types given, is the same table
+abbrev pub RoundTrip : Type 0
+RoundTrip = (t : Table) → IsTold t
+    → (csv_refusal (types_of t) (records_of comma (csv_text comma t)) ≡ None) × (csv_table (types_of t) (records_of comma (csv_text comma t)) ≡ t)

@@ -1,0 +1,10 @@
+pub mod Numerals
+pub mod Types
+pub mod Records
+pub mod Faults
+pub mod Tables
+pub mod Texts
+pub mod Left
+pub mod Read
+pub mod Written
+pub mod Laws

@@ -1,0 +1,169 @@
+//! The fields of a column, read into typed chunks.
+ghost use Rattle.std.specs.Prelude.{◌≡◌, ◌∷◌, [], map, option_map, is_some, IfOk, IfSome};
+ghost use Rattle.std.specs.List.{All, list_all};
+ghost use Rattle.tb_value.specs.Kind.{Kind};
+ghost use Rattle.tb_value.specs.Kind as kind;
+ghost use Rattle.tb_value.specs.Typed.{HasType};
+ghost use Rattle.tb_chunk.specs.Chunk.{or_null};
+ghost use Rattle.tb_chunk.specs.Seen.{chunk_lists, storage};
+ghost use Rattle.tb_csv.specs.Faults.{Settles, column_fault};
+ghost use Rattle.tb_csv.specs.Types.{cell_of, cell_value, is_of, kind_at};
+
+use crate::fault::CsvFault;
+use crate::field_type::FieldType;
+use crate::fields::ReadField;
+use std::alloc::Global;
+use tb_store::{Cells, Chunk, Chunks, Stored, StringChunk};
+use tb_value::{OutOfMemory, PlSmallStr};
+
+// The cell of a field, or None where it is none of the type.
+fn cell_in<N: ReadField>(
+    alloc: Global,
+    field_type: FieldType,
+    field: &str,
+) -> Result<Option<Option<N>>, OutOfMemory>
+    requires { kind_at field_type ≡ N.stored }
+    ensures value { IfOk result (λ o. option_map (or_null N.shows) o ≡ cell_value field_type field.now) }
+    ensures typed { IfOk result (λ o. IfSome o (λ c. HasType (kind_at field_type) (or_null N.shows c))) }
+{
+    if field.is_empty() {
+        return Ok(Some(None));
+    }
+    match N::read(alloc, field_type, field)? {
+        Some(cell) => Ok(Some(Some(cell))),
+        None => Ok(None),
+    }
+}
+
+/// Whether all fields are values of the type, or empty.
+pub(crate) fn are_of<N: ReadField>(
+    alloc: Global,
+    field_type: FieldType,
+    fields: &[&str],
+) -> Result<bool, OutOfMemory>
+    requires { kind_at field_type ≡ N.stored }
+    ensures { IfOk result (λ b. b ≡ list_all (is_of field_type) (map (λ f. f.now) fields.now)) }
+{
+    for field in fields {
+        if cell_in::<N>(alloc, field_type, *field)?.is_none() {
+            return Ok(false);
+        }
+    }
+    Ok(true)
+}
+
+// The cells of the fields of a column, or the first field that is none of the type.
+fn cells_of<N: ReadField>(
+    alloc: Global,
+    name: &PlSmallStr,
+    field_type: FieldType,
+    fields: &[&str],
+) -> Result<Cells<N>, CsvFault>
+    requires { kind_at field_type ≡ N.stored }
+    ensures settles { Settles result (column_fault name.now field_type 1 (map (λ f. f.now) fields.now)) }
+    ensures cells { IfOk result (λ c. map (or_null N.shows) c.cells.items ≡ map (cell_of field_type) (map (λ f. f.now) fields.now)) }
+    ensures typed { IfOk result (λ c. All (HasType (kind_at field_type)) (map (or_null N.shows) c.cells.items)) }
+{
+    let mut cells = Vec::with_capacity(alloc, fields.len())?;
+    for i in 0..fields.len() {
+        let Some(cell) = cell_in(alloc, field_type, fields[i])? else {
+            return Err(CsvFault::NotOfType {
+                record: i as u64 + 1,
+                column: name.copy(alloc)?,
+                expected: field_type,
+            });
+        };
+        cells.push(cell)?;
+    }
+    Ok(Cells { cells })
+}
+
+/// A chunk of a column, read from fields. `stored` is the type that its values are stored as.
+trait ReadChunk: Chunk {
+    ghost stored: { Kind };
+
+    /// The chunk of these fields, or the first of them that is none of the type.
+    fn read(
+        alloc: Global,
+        name: &PlSmallStr,
+        field_type: FieldType,
+        fields: &[&str],
+    ) -> Result<Self, CsvFault>
+        requires { kind_at field_type ≡ stored }
+        ensures settles { Settles result (column_fault name.now field_type 1 (map (λ f. f.now) fields.now)) }
+        ensures values { IfOk result (λ c. Self.shown c ≡ map (cell_of field_type) (map (λ f. f.now) fields.now)) }
+        ensures typed { IfOk result (λ c. All (HasType (kind_at field_type)) (Self.shown c)) };
+}
+
+impl<N: ReadField> ReadChunk for Cells<N> {
+    ghost stored = { N.stored };
+
+    fn read(
+        alloc: Global,
+        name: &PlSmallStr,
+        field_type: FieldType,
+        fields: &[&str],
+    ) -> Result<Cells<N>, CsvFault> {
+        cells_of(alloc, name, field_type, fields)
+    }
+}
+
+impl ReadChunk for StringChunk {
+    ghost stored = { kind.string };
+
+    fn read(
+        alloc: Global,
+        name: &PlSmallStr,
+        field_type: FieldType,
+        fields: &[&str],
+    ) -> Result<StringChunk, CsvFault> {
+        let cells = cells_of(alloc, name, field_type, fields)?;
+        Ok(StringChunk::from_cells(cells))
+    }
+}
+
+// The one chunk of these fields, as that of a column.
+fn read_stored<C: ReadChunk + Stored>(
+    alloc: Global,
+    name: &PlSmallStr,
+    field_type: FieldType,
+    fields: &[&str],
+) -> Result<Chunks, CsvFault>
+    requires { kind_at field_type ≡ C.stored }
+    ensures settles { Settles result (column_fault name.now field_type 1 (map (λ f. f.now) fields.now)) }
+    ensures lists { IfOk result (λ c. chunk_lists c ≡ map (cell_of field_type) (map (λ f. f.now) fields.now) ∷ []) }
+    ensures typed { IfOk result (λ c. All (HasType (kind_at field_type)) (map (cell_of field_type) (map (λ f. f.now) fields.now))) }
+    ensures stored { IfOk result (λ c. storage c ≡ C.kind) }
+{
+    let chunk = C::read(alloc, name, field_type, fields)?;
+    let mut chunks = Vec::with_capacity(alloc, 1)?;
+    chunks.push(chunk)?;
+    Ok(C::wrap(chunks))
+}
+
+/// The fields of the column of this name as one chunk, or the first that is none of the type.
+pub(crate) fn read_chunk(
+    alloc: Global,
+    name: &PlSmallStr,
+    field_type: FieldType,
+    fields: &[&str],
+) -> Result<Chunks, CsvFault>
+    ensures settles { Settles result (column_fault name.now field_type 1 (map (λ f. f.now) fields.now)) }
+    ensures lists { IfOk result (λ c. chunk_lists c ≡ map (cell_of field_type) (map (λ f. f.now) fields.now) ∷ []) }
+    ensures typed { IfOk result (λ c. All (HasType (kind_at field_type)) (map (cell_of field_type) (map (λ f. f.now) fields.now))) }
+    ensures stored { IfOk result (λ c. storage c ≡ kind_at field_type) }
+{
+    match field_type {
+        FieldType::Boolean => read_stored::<Cells<bool>>(alloc, name, field_type, fields),
+        FieldType::Int8 => read_stored::<Cells<i8>>(alloc, name, field_type, fields),
+        FieldType::Int16 => read_stored::<Cells<i16>>(alloc, name, field_type, fields),
+        FieldType::Int32 => read_stored::<Cells<i32>>(alloc, name, field_type, fields),
+        FieldType::Int64 => read_stored::<Cells<i64>>(alloc, name, field_type, fields),
+        FieldType::Int128 => read_stored::<Cells<i128>>(alloc, name, field_type, fields),
+        FieldType::UInt8 => read_stored::<Cells<u8>>(alloc, name, field_type, fields),
+        FieldType::UInt16 => read_stored::<Cells<u16>>(alloc, name, field_type, fields),
+        FieldType::UInt32 => read_stored::<Cells<u32>>(alloc, name, field_type, fields),
+        FieldType::UInt64 => read_stored::<Cells<u64>>(alloc, name, field_type, fields),
+        FieldType::String => read_stored::<StringChunk>(alloc, name, field_type, fields),
+    }
+}

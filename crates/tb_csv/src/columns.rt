@@ -1,0 +1,113 @@
+//! The columns of what was read.
+ghost use Rattle.std.specs.Prelude.{◌≡◌, ◌≤◌, ◌<◌, ◌*◌, ◌∷◌, List, length, map, IfOk};
+ghost use Rattle.csv.specs.Records.{fields_of};
+ghost use Rattle.tb_value.specs.declared.limits.TheConstants.{MAX_ROWS};
+ghost use Rattle.tb_frame.specs.Table.{plain, table_of};
+ghost use Rattle.tb_csv.specs.Faults.{Settles, column_fault, columns_fault, typed_fault};
+ghost use Rattle.tb_csv.specs.Read.{AreRows};
+ghost use Rattle.tb_csv.specs.Records.{Record};
+ghost use Rattle.tb_csv.specs.Tables.{csv_column, csv_table, typed_column};
+ghost use Rattle.tb_csv.specs.Types.{column_type, given_type, told_type};
+
+use crate::cells::{are_of, read_chunk};
+use crate::fault::CsvFault;
+use crate::field_type::FieldType;
+use crate::options::TypeOf;
+use crate::records::Records;
+use std::alloc::Global;
+use tb_store::{Column, IsSorted, Series};
+use tb_value::{OutOfMemory, PlSmallStr};
+
+fn given_type(types: &[TypeOf], name: &PlSmallStr) -> Option<FieldType>
+    ensures { result ≡ given_type types.now name.now }
+{
+    types
+        .iter()
+        .find(|given| given.name == *name)
+        .map(|given| given.field_type)
+}
+
+fn told_type(alloc: Global, fields: &[&str]) -> Result<FieldType, OutOfMemory>
+    ensures { IfOk result (λ t. t ≡ told_type (map (λ f. f.now) fields.now)) }
+{
+    if are_of::<i64>(alloc, FieldType::Int64, fields)? {
+        return Ok(FieldType::Int64);
+    }
+    if are_of::<bool>(alloc, FieldType::Boolean, fields)? {
+        return Ok(FieldType::Boolean);
+    }
+    Ok(FieldType::String)
+}
+
+// The type that is given for the name, or the one that the fields tell.
+fn column_type(
+    alloc: Global,
+    types: &[TypeOf],
+    name: &PlSmallStr,
+    fields: &[&str],
+) -> Result<FieldType, OutOfMemory>
+    ensures { IfOk result (λ t. t ≡ column_type types.now name.now (map (λ f. f.now) fields.now)) }
+{
+    match given_type(types, name) {
+        Some(given) => Ok(given),
+        None => told_type(alloc, fields),
+    }
+}
+
+// The column of this name whose fields are read as this type.
+fn read_column(
+    alloc: Global,
+    name: &PlSmallStr,
+    field_type: FieldType,
+    fields: &[&str],
+) -> Result<Column, CsvFault>
+    requires { length fields.now ≤ MAX_ROWS }
+    ensures settles { Settles result (column_fault name.now field_type 1 (map (λ f. f.now) fields.now)) }
+    ensures column { IfOk result (λ c. plain c ≡ typed_column name.now field_type (map (λ f. f.now) fields.now)) }
+{
+    let chunks = read_chunk(alloc, name, field_type, fields)?;
+    let name = name.copy(alloc)?;
+    let series = Series::from_parts(name, field_type.data_type(), chunks, IsSorted::Not);
+    Ok(series.into_column())
+}
+
+// A column of the table.
+fn csv_column(
+    alloc: Global,
+    records: &Records,
+    types: &[TypeOf],
+    column: usize,
+) -> Result<Column, CsvFault>
+    requires column { column < length records.now.names.items }
+    requires full { length (fields_of records.now.fields) ≡ records.now.height * length records.now.names.items }
+    requires few { records.now.height ≤ MAX_ROWS }
+    ensures settles { (rows : List Record) → AreRows records.now rows
+        → Settles result (typed_fault types.now records.now.names.items rows column) }
+    ensures column { (rows : List Record) → AreRows records.now rows
+        → IfOk result (λ c. plain c ≡ csv_column types.now records.now.names.items rows column) }
+{
+    let fields = records.column(alloc, column)?;
+    let name = &records.names[column];
+    let field_type = column_type(alloc, types, name, &fields)?;
+    read_column(alloc, name, field_type, &fields)
+}
+
+/// The columns of the table.
+pub(crate) fn csv_columns(
+    alloc: Global,
+    records: &Records,
+    types: &[TypeOf],
+) -> Result<Vec<Column>, CsvFault>
+    requires full { length (fields_of records.now.fields) ≡ records.now.height * length records.now.names.items }
+    requires few { records.now.height ≤ MAX_ROWS }
+    ensures settles { (rows : List Record) → AreRows records.now rows
+        → Settles result (columns_fault types.now (records.now.names.items ∷ rows)) }
+    ensures columns { (rows : List Record) → AreRows records.now rows
+        → IfOk result (λ v. table_of v.items ≡ csv_table types.now (records.now.names.items ∷ rows)) }
+{
+    let mut columns = Vec::with_capacity(alloc, records.names.len())?;
+    for column in 0..records.names.len() {
+        columns.push(csv_column(alloc, records, types, column)?)?;
+    }
+    Ok(columns)
+}
