@@ -1,13 +1,15 @@
 // Tests of the calls beside the join.
-ghost use Rattle.std.specs.Prelude.{◌≡◌, ◌≤◌, ◌∷◌, [], All, IfOk, IsSome, length};
+ghost use Rattle.std.specs.Prelude.{◌≡◌, ◌≤◌, ◌∷◌, [], All, IfOk, IsSome, codes, length};
 ghost use Rattle.tb_value.specs.Kind.{int64};
 ghost use Rattle.tb_gather.specs.Gathered.{NameRows};
 ghost use Rattle.tb_gather.specs.Ids.{Id};
+ghost use Rattle.tb_dispatch.specs.Given.{AreKeys, StandBeside};
 ghost use Rattle.tb_join_tests.specs.Tables.{HasBothKeys};
 
 use crate::gathers::two_ids;
 use crate::pairs::{column, left_keys, right_keys, table_of};
 use std::alloc::Global;
+use std::process::Abort;
 use std::slice;
 use std::test::Fail;
 use std::thread::Threads;
@@ -37,21 +39,64 @@ fn one_key(alloc: Global, key: Series) -> Result<Vec<Series>, Fail> {
     Ok(keys)
 }
 
-#[tactic(auto, using(crate::proofs::Sides::stands, crate::proofs::Sides::are_keys))]
-#[test]
-fn the_sides_of_a_left_join(rt: HostRuntime) -> Result<(), Fail> {
-    let alloc = rt.alloc();
-    let (left, left_key) = with_table(alloc, left_keys(alloc)?)?;
-    let (right, right_key) = with_table(alloc, right_keys(alloc)?)?;
-    let (args, exec) = (JoinArgs::new(JoinType::Left), Exec::standard());
-    let (left, right) = materialize_left_join_from_series(
-        &rt, alloc, left, &right, &left_key, &right_key, &args, None, &exec,
-    )?;
-    assert!(rt; right.width() == 0);
-    let text = text_of(alloc, &left)?;
-    let line = r#"{"columns":[{"name":"k","type":"i64","values":[1,1,null,2]}],"height":4}"#;
+fn check_text(rt: &impl Abort, alloc: Global, table: &DataFrame, line: &str) -> Result<(), Fail> {
+    let text = text_of(alloc, table)?;
     assert_eq!(rt; text.trim_end(), line);
     Ok(())
+}
+
+// The two sides of a Left join, of which the right one has nothing but its key.
+fn check_sides(
+    rt: &(impl Threads + Sync + Abort),
+    alloc: Global,
+    left: DataFrame,
+    right: &DataFrame,
+    left_key: &Series,
+    right_key: &Series,
+) -> Result<(), Fail>
+    requires { StandBeside left right.now left_key.now right_key.now }
+{
+    let (args, exec) = (JoinArgs::new(JoinType::Left), Exec::standard());
+    let (left, right) = materialize_left_join_from_series(
+        rt, alloc, left, right, left_key, right_key, &args, None, &exec,
+    )?;
+    assert!(rt; right.width() == 0);
+    let line = r#"{"columns":[{"name":"k","type":"i64","values":[1,1,null,2]}],"height":4}"#;
+    check_text(rt, alloc, &left, line)
+}
+
+// How many left rows have a match.
+fn met_rows(
+    rt: &(impl Threads + Sync),
+    alloc: Global,
+    left: &DataFrame,
+    left_key: &Series,
+    right_key: &Series,
+) -> Result<usize, Fail>
+    requires keys { AreKeys left_key.now right_key.now }
+    requires rows { left.now ≡ left_key.now ∷ [] }
+{
+    let exec = Exec::standard();
+    let met = left._semi_anti_join_from_series(
+        rt, alloc, left_key, right_key, None, false, false, &exec,
+    )?;
+    Ok(met.height())
+}
+
+// How many rows a Full join has.
+fn full_rows(
+    rt: &(impl Threads + Sync),
+    alloc: Global,
+    left: &DataFrame,
+    right: &DataFrame,
+    left_key: &Series,
+    right_key: &Series,
+) -> Result<usize, Fail>
+    requires { StandBeside left.now right.now left_key.now right_key.now }
+{
+    let (args, exec) = (JoinArgs::new(JoinType::Full), Exec::standard());
+    let full = left._full_join_from_series(rt, alloc, right, left_key, right_key, args, &exec)?;
+    Ok(full.height())
 }
 
 #[tactic(auto, using(crate::proofs::Sides::stands, crate::proofs::Sides::are_keys))]
@@ -60,22 +105,17 @@ fn joins_by_one_column_of_each_side(rt: HostRuntime) -> Result<(), Fail> {
     let alloc = rt.alloc();
     let (left, left_key) = with_table(alloc, left_keys(alloc)?)?;
     let (right, right_key) = with_table(alloc, right_keys(alloc)?)?;
-    let exec = Exec::standard();
-    let met = left._semi_anti_join_from_series(
-        &rt, alloc, &left_key, &right_key, None, false, false, &exec,
-    )?;
-    let args = JoinArgs::new(JoinType::Full);
-    let full = left._full_join_from_series(&rt, alloc, &right, &left_key, &right_key, args, &exec)?;
-    assert!(rt; met.height() == 1 && full.height() == 4);
-    Ok(())
+    assert!(rt; met_rows(&rt, alloc, &left, &left_key, &right_key)? == 1);
+    assert!(rt; full_rows(&rt, alloc, &left, &right, &left_key, &right_key)? == 4);
+    check_sides(&rt, alloc, left, &right, &left_key, &right_key)
 }
 
 #[test]
 fn a_join_by_given_columns(rt: HostRuntime) -> Result<(), Fail> {
     let alloc = rt.alloc();
     let (left, left_key) = with_table(alloc, left_keys(alloc)?)?;
-    let (right, right_key) = with_table(alloc, right_keys(alloc)?)?;
     let left_keys = one_key(alloc, left_key)?;
+    let (right, right_key) = with_table(alloc, right_keys(alloc)?)?;
     let right_keys = one_key(alloc, right_key)?;
     let (args, exec) = (JoinArgs::new(JoinType::Inner), Exec::standard());
     let joined = left._join_impl(&rt, alloc, &right, left_keys, right_keys, args, &exec)?;
@@ -135,11 +175,9 @@ fn side_by_side(
 #[test]
 fn tables_side_by_side(rt: HostRuntime) -> Result<(), Fail> {
     let alloc = rt.alloc();
-    let table = side_by_side(alloc, None)??;
-    let text = text_of(alloc, &table)?;
     let line =
         r#"{"columns":[{"name":"x","type":"i64","values":[1]},{"name":"y","type":"i64","values":[null]},{"name":"x_right","type":"i64","values":[1]},{"name":"z","type":"i64","values":[null]}],"height":1}"#;
-    assert_eq!(rt; text.trim_end(), line);
+    check_text(&rt, alloc, &side_by_side(alloc, None)??, line)?;
     let suffix = PlSmallStr::from_str(alloc, "")?;
     let refused = side_by_side(alloc, Some(suffix))?;
     assert!(rt; matches!(refused, Err(PolarsError::Duplicate(_))));
@@ -159,17 +197,28 @@ fn with_both_keys(alloc: Global) -> Result<DataFrame, Fail>
     Ok(DataFrame::new(alloc, columns)?)
 }
 
+// Such a table with its keys in one column.
+fn merged_keys(
+    alloc: Global,
+    joined: DataFrame,
+    key: &PlSmallStr,
+    left: &DataFrame,
+) -> Result<DataFrame, OutOfMemory>
+    requires both { HasBothKeys joined }
+    requires name { key.now ≡ codes "k" }
+{
+    let keys = slice::from_ref(key);
+    _coalesce_full_join(alloc, joined, keys, keys, None, left)
+}
+
 #[test]
 fn keys_of_a_joined_table(rt: HostRuntime) -> Result<(), Fail> {
     let alloc = rt.alloc();
     let joined = with_both_keys(alloc)?;
-    let (left, _) = with_table(alloc, left_keys(alloc)?)?;
+    let left = table_of(alloc, left_keys(alloc)?.into_column())?;
     let key = PlSmallStr::from_str(alloc, "k")?;
-    let keys = slice::from_ref(&key);
-    let merged = _coalesce_full_join(alloc, joined, keys, keys, None, &left)?;
-    let text = text_of(alloc, &merged)?;
+    let merged = merged_keys(alloc, joined, &key, &left)?;
     let line =
         r#"{"columns":[{"name":"k","type":"i64","values":[1,2]},{"name":"v","type":"i64","values":[7,8]}],"height":2}"#;
-    assert_eq!(rt; text.trim_end(), line);
-    Ok(())
+    check_text(&rt, alloc, &merged, line)
 }

@@ -5,11 +5,12 @@ ghost use Rattle.tb_gather.specs.Gathered.{NameRows, opt_gathered};
 
 use crate::pairs::{left_keys, table_of};
 use std::alloc::Global;
+use std::process::Abort;
 use std::test::Fail;
 use std::thread::Threads;
 use tb_frame::DataFrame;
 use tb_gather::{TakeChunked, TakeChunkedHorPar, ids_of};
-use tb_store::{ChunkedArray, Int64Type, Series};
+use tb_store::{ChunkedArray, Column, Int64Type, Series};
 use tb_value::{IsSorted, MAX_ROWS, NullableIdxSize, OutOfMemory, StandardChunkId};
 
 fn are_present(ids: &[StandardChunkId]) -> bool
@@ -66,12 +67,35 @@ fn side_by_side<T: TakeChunkedHorPar<24>>(
     from._take_opt_chunked_unchecked_hor_par(rt, alloc, by)
 }
 
-#[test]
-fn rows_of_a_series(rt: HostRuntime) -> Result<(), Fail> {
-    let alloc = rt.alloc();
-    let series = left_keys(alloc)?;
-    let by = two_ids(alloc, &series)?;
-    assert_eq!(rt; gathered(alloc, &series, &by)?.len(), 2);
+// The rows of a column, as a column and as a series.
+fn check_column(
+    rt: &impl Abort,
+    alloc: Global,
+    column: &Column,
+    by: &[StandardChunkId],
+) -> Result<(), Fail>
+    requires named { All (NameRows by.now) (column.now ∷ []) }
+    requires present { All (λ (id : Id). IsSome id) by.now }
+    requires few { length by.now ≤ MAX_ROWS }
+{
+    assert!(rt; gathered(alloc, column, by)?.len() == 2);
+    assert!(rt; gathered(alloc, column.as_materialized_series(), by)?.len() == 2);
+    Ok(())
+}
+
+// The rows of a table, by one thread and by several.
+fn check_table(
+    rt: &(impl Threads + Sync + Abort),
+    alloc: Global,
+    table: &DataFrame,
+    by: &[StandardChunkId],
+) -> Result<(), Fail>
+    requires named { All (NameRows by.now) table.now }
+    requires present { All (λ (id : Id). IsSome id) by.now }
+    requires few { length by.now ≤ MAX_ROWS }
+{
+    assert!(rt; gathered(alloc, table, by)?.height() == 2);
+    assert!(rt; side_by_side(rt, alloc, table, by)?.height() == 2);
     Ok(())
 }
 
@@ -81,28 +105,16 @@ fn rows_of_an_array(rt: HostRuntime) -> Result<(), Fail> {
     let series = left_keys(alloc)?;
     let by = two_ids(alloc, &series)?;
     let array: ChunkedArray<Int64Type> = ChunkedArray::from_series(series)?;
-    assert_eq!(rt; gathered(alloc, &array, &by)?.len(), 2);
+    assert!(rt; gathered(alloc, &array, &by)?.len() == 2);
     Ok(())
 }
 
 #[test]
 fn rows_of_a_column(rt: HostRuntime) -> Result<(), Fail> {
     let alloc = rt.alloc();
-    let series = left_keys(alloc)?;
-    let by = two_ids(alloc, &series)?;
-    let column = series.into_column();
-    assert_eq!(rt; gathered(alloc, &column, &by)?.len(), 2);
-    Ok(())
-}
-
-#[test]
-fn rows_of_a_table_side_by_side(rt: HostRuntime) -> Result<(), Fail> {
-    let alloc = rt.alloc();
-    let series = left_keys(alloc)?;
-    let by = two_ids(alloc, &series)?;
-    let table = table_of(alloc, series.into_column())?;
-    assert_eq!(rt; side_by_side(&rt, alloc, &table, &by)?.height(), 2);
-    Ok(())
+    let column = left_keys(alloc)?.into_column();
+    let by = two_ids(alloc, column.as_materialized_series())?;
+    check_column(&rt, alloc, &column, &by)
 }
 
 #[test]
@@ -111,6 +123,5 @@ fn rows_of_a_table(rt: HostRuntime) -> Result<(), Fail> {
     let series = left_keys(alloc)?;
     let by = two_ids(alloc, &series)?;
     let table = table_of(alloc, series.into_column())?;
-    assert_eq!(rt; gathered(alloc, &table, &by)?.height(), 2);
-    Ok(())
+    check_table(&rt, alloc, &table, &by)
 }

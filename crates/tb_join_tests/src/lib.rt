@@ -9,3 +9,5 @@ mod gathers;
 mod pairs;
 #[cfg(test)]
 mod program;
+#[cfg(test)]
+mod workers;

@@ -1,20 +1,18 @@
-// Tests of codes of keys, of pairs of rows, and of what gathers rows.
-ghost use Rattle.std.specs.Prelude.{◌≡◌, ◌↔◌, ◌∷◌, [], All, IfOk, IsTrue, true};
+// Tests of codes of keys, and of pairs of rows.
+ghost use Rattle.std.specs.Prelude.{◌≡◌, ◌∷◌, [], IfOk, true};
 ghost use Rattle.tb_value.specs.Kind.{int64};
 ghost use Rattle.tb_value.specs.SameKind.{is_key};
-ghost use Rattle.tb_chunk.specs.Rows.{IsRowOf};
 
 use std::alloc::Global;
 use std::process::Abort;
 use std::test::Fail;
 use std::thread::Threads;
 use tb_frame::{DataFrame, JoinValidation};
-use tb_gather::gather_rows;
 use tb_hash::{KeyBytes, SeriesJoin, code_of, partition_of};
 use tb_join::private_left_join_multiple_keys;
 use tb_pool::Exec;
 use tb_store::{Cells, Chunks, Column, DataType, Series};
-use tb_value::{NullableIdxSize, PlSmallStr};
+use tb_value::PlSmallStr;
 
 // Codes as others compute them: that of a text by the tables of FNV-1a.
 #[test]
@@ -76,14 +74,6 @@ fn join_left<S: SeriesJoin>(
     Ok(())
 }
 
-#[test]
-fn rows_of_a_left_join(rt: HostRuntime) -> Result<(), Fail> {
-    let alloc = rt.alloc();
-    let left = left_keys(alloc)?;
-    let right = right_keys(alloc)?;
-    join_left(&rt, alloc, &left, &right)
-}
-
 // How many rows of each side an Inner join has.
 fn inner_rows<S: SeriesJoin>(
     rt: &(impl Threads + Sync),
@@ -99,15 +89,6 @@ fn inner_rows<S: SeriesJoin>(
     Ok((rows.0.len(), rows.1.len()))
 }
 
-#[test]
-fn rows_of_an_inner_join(rt: HostRuntime) -> Result<(), Fail> {
-    let alloc = rt.alloc();
-    let left = left_keys(alloc)?;
-    let right = right_keys(alloc)?;
-    assert_eq!(rt; inner_rows(&rt, alloc, &left, &right)?, (2, 2));
-    Ok(())
-}
-
 // How many rows of each side a Full join has.
 fn full_rows<S: SeriesJoin>(
     rt: &(impl Threads + Sync),
@@ -121,15 +102,6 @@ fn full_rows<S: SeriesJoin>(
     let (exec, many) = (Exec::standard(), JoinValidation::ManyToMany);
     let rows = left.hash_join_outer(rt, alloc, right, many, false, &exec)?;
     Ok((rows.0.len(), rows.1.len()))
-}
-
-#[test]
-fn rows_of_a_full_join(rt: HostRuntime) -> Result<(), Fail> {
-    let alloc = rt.alloc();
-    let left = left_keys(alloc)?;
-    let right = right_keys(alloc)?;
-    assert_eq!(rt; full_rows(&rt, alloc, &left, &right)?, (4, 4));
-    Ok(())
 }
 
 // How many left rows have a match, or have none.
@@ -148,22 +120,30 @@ fn rows_by_match<S: SeriesJoin>(
     Ok(rows.len())
 }
 
-#[test]
-fn rows_with_a_match(rt: HostRuntime) -> Result<(), Fail> {
-    let alloc = rt.alloc();
-    let left = left_keys(alloc)?;
-    let right = right_keys(alloc)?;
-    assert_eq!(rt; rows_by_match(&rt, alloc, &left, &right, false)?, 1);
+// Each join of two columns by itself.
+fn check_rows(
+    rt: &(impl Threads + Sync + Abort),
+    alloc: Global,
+    left: &Series,
+    right: &Series,
+) -> Result<(), Fail>
+    requires key { is_key left.now.kind ≡ true }
+    requires same { left.now.kind ≡ right.now.kind }
+{
+    join_left(rt, alloc, left, right)?;
+    assert!(rt; inner_rows(rt, alloc, left, right)? == (2, 2));
+    assert!(rt; full_rows(rt, alloc, left, right)? == (4, 4));
+    assert!(rt; rows_by_match(rt, alloc, left, right, false)? == 1);
+    assert!(rt; rows_by_match(rt, alloc, left, right, true)? == 2);
     Ok(())
 }
 
 #[test]
-fn rows_without_a_match(rt: HostRuntime) -> Result<(), Fail> {
+fn rows_of_each_join(rt: HostRuntime) -> Result<(), Fail> {
     let alloc = rt.alloc();
     let left = left_keys(alloc)?;
     let right = right_keys(alloc)?;
-    assert_eq!(rt; rows_by_match(&rt, alloc, &left, &right, true)?, 2);
-    Ok(())
+    check_rows(&rt, alloc, &left, &right)
 }
 
 // The table of one column.
@@ -184,33 +164,5 @@ fn rows_by_all_columns(rt: HostRuntime) -> Result<(), Fail> {
     let exec = Exec::standard();
     let (lefts, rights) = private_left_join_multiple_keys(&rt, alloc, &left, &right, false, &exec)?;
     assert!(rt; lefts.is_left() && rights.is_left());
-    Ok(())
-}
-
-fn is_row(height: usize, row: &NullableIdxSize) -> bool
-    ensures { IsTrue result ↔ IsRowOf height row.now }
-{
-    match row.row() {
-        None => true,
-        Some(row) => (row as usize) < height,
-    }
-}
-
-fn are_rows(height: usize, rows: &[NullableIdxSize]) -> bool
-    ensures { IsTrue result ↔ All (IsRowOf height) rows.now }
-{
-    rows.iter().all(|row| is_row(height, row))
-}
-
-// More than are gathered by one thread.
-#[test]
-fn many_rows(rt: HostRuntime) -> Result<(), Fail> {
-    let alloc = rt.alloc();
-    let keys = left_keys(alloc)?;
-    let table = table_of(alloc, keys.into_column())?;
-    let rows = vec![in alloc; NullableIdxSize::some(2); 9_000]?;
-    if rows.len() == 9_000 && are_rows(table.height(), &rows) {
-        assert_eq!(rt; gather_rows(&rt, alloc, &table, &rows)?.height(), 9_000);
-    }
     Ok(())
 }

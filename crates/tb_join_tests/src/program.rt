@@ -3,12 +3,12 @@ use std::alloc::Global;
 use std::process::Abort;
 use std::test::Fail;
 use std::thread::Threads;
-use tb_frame::{DataFrame, JoinArgs, JoinCoalesce, JoinType, MaintainOrderJoin};
+use tb_frame::{DataFrame, JoinArgs, JoinType};
 use tb_join::DataFrameJoinOps;
-use tb_json::{text_of, text_of_refusal};
+use tb_json::text_of;
 use tb_nested::nested_join;
 use tb_request::{JoinRequest, join_request_of};
-use tb_value::{ComputeCause, PolarsError, PolarsResult, Side};
+use tb_value::PolarsResult;
 
 // Absent keys on both sides, and one that matches twice.
 const BY_ONE_KEY: &str =
@@ -110,7 +110,19 @@ fn called(
     }
 }
 
-// Also the join by nested loops of a form that the program does not answer yet.
+// The call of a kind gives the rows that nested loops give.
+fn check_call(
+    rt: &(impl Threads + Sync + Abort),
+    alloc: Global,
+    request: &JoinRequest,
+    how: JoinType,
+) -> Result<(), Fail> {
+    let fast = rows_of(alloc, called(rt, alloc, request, how))?;
+    let slow = rows_of(alloc, by_nested_loops(alloc, request, &JoinArgs::new(how)))?;
+    assert_eq!(rt; fast.as_slice(), slow.as_slice());
+    Ok(())
+}
+
 #[test]
 fn kinds_that_have_a_call(rt: HostRuntime) -> Result<(), Fail> {
     let alloc = rt.alloc();
@@ -119,27 +131,7 @@ fn kinds_that_have_a_call(rt: HostRuntime) -> Result<(), Fail> {
         return Err("no request".into());
     };
     for how in [JoinType::Inner, JoinType::Left, JoinType::Full] {
-        let fast = rows_of(alloc, called(&rt, alloc, &request, how))?;
-        let slow = rows_of(alloc, by_nested_loops(alloc, &request, &JoinArgs::new(how)))?;
-        assert_eq!(rt; fast.as_slice(), slow.as_slice());
+        check_call(&rt, alloc, &request, how)?;
     }
-    let mut args = JoinArgs::new(JoinType::Full);
-    args.coalesce = JoinCoalesce::CoalesceColumns;
-    args.maintain_order = MaintainOrderJoin::RightLeft;
-    let Ok(table) = by_nested_loops(alloc, &request, &args) else {
-        return Err("no answer".into());
-    };
-    let text = text_of(alloc, &table)?;
-    let line = r#"{"columns":[{"name":"k","type":"i64","values":[null,1,1,3,null,2]}],"height":6}"#;
-    assert_eq!(rt; text.trim_end(), line);
-    Ok(())
-}
-
-#[test]
-fn a_refusal_that_no_request_meets_yet(rt: HostRuntime) -> Result<(), Fail> {
-    let error = PolarsError::ComputeError(ComputeCause::Validation(Side::Right));
-    let text = text_of_refusal(rt.alloc(), &error)?;
-    let line = "{\"cause\":\"Validation\",\"error\":\"ComputeError\",\"side\":\"right\"}\n";
-    assert_eq!(rt; text.as_str(), line);
     Ok(())
 }

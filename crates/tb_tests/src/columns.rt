@@ -5,8 +5,8 @@ use std::process::Abort;
 use std::test::Fail;
 use tb_store::{
     AnyValue, BinaryType, BooleanType, Bytes, Chunk, ChunkedArray, Column, DataType, Field, Fields,
-    Int64Type, ListType, NullableIdxSize, PlSmallStr, PolarsDataType, PolarsError, Series,
-    StringType, StructType, Values,
+    Int64Type, ListType, NullableIdxSize, OutOfMemory, PlSmallStr, PolarsDataType, PolarsError,
+    Series, StringType, StructType, Values,
 };
 use tb_value::equality::same_types;
 use tb_value::same_value;
@@ -24,28 +24,16 @@ fn two_chunks(alloc: Global, value: &AnyValue) -> Result<Vec<Vec<AnyValue>>, Fai
     Ok(chunks)
 }
 
-// Parts of a column of a value, a Null and the value.
-fn check_parts(rt: &impl Abort, alloc: Global, column: &Column) -> Result<(), Fail> {
+// The last two rows of a column: how many they are, and whether one is Null.
+fn last_rows(alloc: Global, column: &Column) -> Result<(usize, bool), OutOfMemory> {
     let part = column.slice(alloc, -2, 9)?;
-    assert_eq!(rt; part.len(), 2);
-    assert!(rt; part.null_count() > 0);
+    Ok((part.len(), part.null_count() > 0))
+}
+
+// A column put into one chunk: its chunks and its rows.
+fn in_one_chunk(alloc: Global, column: &Column) -> Result<(usize, usize), OutOfMemory> {
     let whole = column.rechunk(alloc)?;
-    assert_eq!(rt; whole.n_chunks(), 1);
-    assert_eq!(rt; whole.len(), 3);
-    Ok(())
-}
-
-// Rows of such a column: the value, and then a Null.
-fn rows_of(rt: &impl Abort, alloc: Global, column: &Column) -> Result<Column, Fail> {
-    assert_eq!(rt; column.len(), 3);
-    Ok(column.take(alloc, &[2, 1])?)
-}
-
-// No row, and the first row of a column.
-fn optional_rows_of(rt: &impl Abort, alloc: Global, column: &Column) -> Result<Column, Fail> {
-    assert_eq!(rt; column.len(), 2);
-    let rows = [NullableIdxSize::null(), NullableIdxSize::some(0)];
-    Ok(column.take_opt(alloc, &rows)?)
+    Ok((whole.n_chunks(), whole.len()))
 }
 
 // Two columns, one with a Null first and one with a Null last, have the value in each row together.
@@ -66,6 +54,33 @@ fn check_merged(
     Ok(())
 }
 
+// No row and the first row of a column of the value and a Null.
+fn check_optional_rows(
+    rt: &impl Abort,
+    alloc: Global,
+    column: &Column,
+    value: &AnyValue,
+) -> Result<(), Fail> {
+    assert_eq!(rt; column.len(), 2);
+    let rows = [NullableIdxSize::null(), NullableIdxSize::some(0)];
+    let optional = column.take_opt(alloc, &rows)?;
+    check_merged(rt, alloc, &optional, column, value)
+}
+
+// Rows and parts of a column of the value, a Null and the value.
+fn check_rows(
+    rt: &impl Abort,
+    alloc: Global,
+    column: &Column,
+    value: &AnyValue,
+) -> Result<(), Fail> {
+    assert!(rt; last_rows(alloc, column)? == (2, true));
+    assert!(rt; in_one_chunk(alloc, column)? == (1, 3));
+    assert_eq!(rt; column.len(), 3);
+    let taken = column.take(alloc, &[2, 1])?;
+    check_optional_rows(rt, alloc, &taken, value)
+}
+
 // A column of the value, a Null and the value.
 fn column_of(alloc: Global, dtype: &DataType, value: &AnyValue) -> Result<Column, Fail> {
     let chunks = two_chunks(alloc, value)?;
@@ -81,32 +96,58 @@ fn check_column(
     value: &AnyValue,
 ) -> Result<(), Fail> {
     let column = column_of(alloc, dtype, value)?;
-    check_parts(rt, alloc, &column)?;
-    let taken = rows_of(rt, alloc, &column)?;
-    let optional = optional_rows_of(rt, alloc, &taken)?;
-    check_merged(rt, alloc, &optional, &taken, value)
+    check_rows(rt, alloc, &column, value)
 }
 
-// The same of a column whose way to store values is known by a marker: its last row.
-fn check_array<T: PolarsDataType>(
-    rt: &impl Abort,
+// The same, where the way to store values is known by a marker.
+fn array_of<T: PolarsDataType>(
     alloc: Global,
     dtype: &DataType,
     value: &AnyValue,
-) -> Result<(), Fail> {
+) -> Result<ChunkedArray<T>, Fail> {
     let chunks = two_chunks(alloc, value)?;
-    let array = ChunkedArray::<T>::from_chunks(alloc, "s", dtype.copy(alloc)?, chunks)?;
-    let whole = array.copy(alloc)?.rechunk(alloc)?;
-    let last = whole.slice(alloc, -1, 1)?;
-    assert!(rt; last.len() == 1 && last.n_chunks() == 1);
-    assert!(rt; same_value(last.get(0), value.as_ref()));
-    Ok(())
+    let dtype = dtype.copy(alloc)?;
+    Ok(ChunkedArray::from_chunks(alloc, "s", dtype, chunks)?)
+}
+
+fn copy_in_one_chunk<T: PolarsDataType>(
+    alloc: Global,
+    array: &ChunkedArray<T>,
+) -> Result<ChunkedArray<T>, OutOfMemory> {
+    let copy = array.copy(alloc)?;
+    copy.rechunk(alloc)
+}
+
+// The last row, through a copy in one chunk.
+fn last_row<T: PolarsDataType>(
+    alloc: Global,
+    array: &ChunkedArray<T>,
+) -> Result<ChunkedArray<T>, OutOfMemory> {
+    let whole = copy_in_one_chunk(alloc, array)?;
+    whole.slice(alloc, -1, 1)
+}
+
+fn holds<T: PolarsDataType>(array: &ChunkedArray<T>, value: &AnyValue) -> bool {
+    array.n_chunks() == 1 && array.len() == 1 && same_value(array.get(0), value.as_ref())
 }
 
 // No marker accepts the type without values.
 fn check_refused<T: PolarsDataType>(rt: &impl Abort, alloc: Global) -> Result<(), Fail> {
     let refused = ChunkedArray::<T>::from_chunks(alloc, "s", DataType::Null, Vec::new(alloc));
     assert!(rt; matches!(refused, Err(PolarsError::SchemaMismatch)));
+    Ok(())
+}
+
+// The last row of such an array.
+fn check_array<T: PolarsDataType>(
+    rt: &impl Abort,
+    alloc: Global,
+    dtype: &DataType,
+    value: &AnyValue,
+) -> Result<(), Fail> {
+    let array = array_of::<T>(alloc, dtype, value)?;
+    let last = last_row(alloc, &array)?;
+    assert!(rt; holds(&last, value));
     Ok(())
 }
 
@@ -147,10 +188,15 @@ fn plain_columns(rt: HostRuntime) -> Result<(), Fail> {
 }
 
 #[test]
-fn columns_of_bytes(rt: HostRuntime) -> Result<(), Fail> {
+fn columns_of_texts(rt: HostRuntime) -> Result<(), Fail> {
     let alloc = rt.alloc();
     let text = AnyValue::String(PlSmallStr::from_str(alloc, "é")?);
-    check_marked::<StringType>(&rt, alloc, &DataType::String, &text)?;
+    check_marked::<StringType>(&rt, alloc, &DataType::String, &text)
+}
+
+#[test]
+fn columns_of_bytes(rt: HostRuntime) -> Result<(), Fail> {
+    let alloc = rt.alloc();
     let bytes = AnyValue::Binary(Bytes::from_vec(alloc, [0, 255].to_vec(alloc)?)?);
     check_marked::<BinaryType>(&rt, alloc, &DataType::Binary, &bytes)
 }
@@ -169,21 +215,25 @@ fn columns_of_lists(rt: HostRuntime) -> Result<(), Fail> {
     check_marked::<ListType>(&rt, alloc, &list, &AnyValue::List(inner_values(alloc)?))
 }
 
-#[test]
-fn columns_of_structs(rt: HostRuntime) -> Result<(), Fail> {
-    let alloc = rt.alloc();
+// One field of such numbers.
+fn one_field(alloc: Global) -> Result<Fields, Fail> {
     let mut fields = Vec::new(alloc);
     fields.push(Field {
         name: PlSmallStr::from_str(alloc, "f")?,
         dtype: DataType::UInt8,
     })?;
-    let fields = Fields::from_vec(fields);
-    assert!(rt; fields.copy(alloc)? == fields);
-    let structs = DataType::Struct(fields);
-    check_marked::<StructType>(
-        &rt,
-        alloc,
-        &structs,
-        &AnyValue::Struct(inner_values(alloc)?),
-    )
+    Ok(Fields::from_vec(fields))
+}
+
+fn is_like_its_copy(alloc: Global, fields: &Fields) -> Result<bool, OutOfMemory> {
+    Ok(fields.copy(alloc)? == *fields)
+}
+
+#[test]
+fn columns_of_structs(rt: HostRuntime) -> Result<(), Fail> {
+    let alloc = rt.alloc();
+    let fields = one_field(alloc)?;
+    assert!(rt; is_like_its_copy(alloc, &fields)?);
+    let value = AnyValue::Struct(inner_values(alloc)?);
+    check_marked::<StructType>(&rt, alloc, &DataType::Struct(fields), &value)
 }

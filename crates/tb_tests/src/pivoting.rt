@@ -99,12 +99,22 @@ fn made_wide(alloc: Global, agg: &PivotAgg) -> Result<PolarsResult<DataFrame>, F
 }
 
 fn an_answer(alloc: Global, ints: &[i128]) -> Result<Given, Fail> {
-    Ok(Given {
-        name: PlSmallStr::from_str(alloc, "w")?,
-        column: column(alloc, "x", ints)?
-            .as_materialized_series()
-            .copy(alloc)?,
-    })
+    let name = PlSmallStr::from_str(alloc, "w")?;
+    let column = column(alloc, "x", ints)?.take_materialized_series();
+    Ok(Given { name, column })
+}
+
+// The columns of the index and of the first header.
+fn two_columns(alloc: Global) -> Result<DataFrame, Fail> {
+    let mut columns = Vec::new(alloc);
+    columns.push(column(alloc, "i", &[1, 2])?)?;
+    columns.push(column(alloc, "5", &[70, 90])?)?;
+    Ok(DataFrame::new(alloc, columns)?)
+}
+
+fn has_two_columns_and_another(alloc: Global, wide: &DataFrame) -> Result<bool, Fail> {
+    let others = wide.drop_many(alloc, &name(alloc, "6")?)?;
+    Ok(wide.width() == 3 && others.equals_missing(&two_columns(alloc)?))
 }
 
 #[test]
@@ -112,16 +122,13 @@ fn the_values_of_an_object_stand_in_their_cells(rt: HostRuntime) -> Result<(), F
     let alloc = rt.alloc();
     let agg = PivotAgg::Expr(Box::new(alloc, an_answer(alloc, &[70, 80, 90])?)?);
     let wide = made_wide(alloc, &agg)??;
-    let mut expected = Vec::new(alloc);
-    expected.push(column(alloc, "i", &[1, 2])?)?;
-    expected.push(column(alloc, "5", &[70, 90])?)?;
-    assert!(rt;
-        wide.width() == 3
-            && wide
-                .drop_many(alloc, &name(alloc, "6")?)?
-                .equals_missing(&DataFrame::new(alloc, expected)?)
-    );
+    assert!(rt; has_two_columns_and_another(alloc, &wide)?);
     Ok(())
+}
+
+fn is_refused_for(alloc: Global, agg: &PivotAgg, cause: ComputeCause) -> Result<bool, Fail> {
+    let refusal = made_wide(alloc, agg)?.err();
+    Ok(refusal == Some(PolarsError::ComputeError(cause)))
 }
 
 #[test]
@@ -132,27 +139,30 @@ fn two_values_for_three_cells(rt: HostRuntime) -> Result<(), Fail> {
         groups: 3,
         values: 2,
     };
-    assert!(rt; made_wide(alloc, &agg)?.err() == Some(PolarsError::ComputeError(cause)));
+    assert!(rt; is_refused_for(alloc, &agg, cause)?);
     Ok(())
 }
 
 #[test]
-fn an_object_refuses(rt: HostRuntime) -> Result<(), Fail> {
+fn an_object_refuses_to_name_a_column(rt: HostRuntime) -> Result<(), Fail> {
     let alloc = rt.alloc();
-    let nameless = PivotAgg::Expr(Box::new(
-        alloc,
-        Refusing {
-            name: None,
-            code: 3,
-        },
-    )?);
+    let nameless = Refusing {
+        name: None,
+        code: 3,
+    };
+    let agg = PivotAgg::Expr(Box::new(alloc, nameless)?);
+    assert!(rt; is_refused_for(alloc, &agg, ComputeCause::Evaluate(3))?);
+    Ok(())
+}
+
+#[test]
+fn an_object_refuses_to_answer(rt: HostRuntime) -> Result<(), Fail> {
+    let alloc = rt.alloc();
     let refusing = Refusing {
         name: Some(PlSmallStr::from_str(alloc, "w")?),
         code: 7,
     };
-    let named = PivotAgg::Expr(Box::new(alloc, refusing)?);
-    let (third, seventh) = (ComputeCause::Evaluate(3), ComputeCause::Evaluate(7));
-    assert!(rt; made_wide(alloc, &nameless)?.err() == Some(PolarsError::ComputeError(third)));
-    assert!(rt; made_wide(alloc, &named)?.err() == Some(PolarsError::ComputeError(seventh)));
+    let agg = PivotAgg::Expr(Box::new(alloc, refusing)?);
+    assert!(rt; is_refused_for(alloc, &agg, ComputeCause::Evaluate(7))?);
     Ok(())
 }

@@ -8,7 +8,7 @@ ghost use Rattle.tb_rowkey.specs.Columns.{lent_columns};
 use std::alloc::Global;
 use std::process::Abort;
 use std::test::Fail;
-use tb_rowkey::{keys_fit, prepare_keys_multiple};
+use tb_rowkey::{RowKeys, prepare_keys_multiple};
 use tb_store::{AnyValue, DataType, OutOfMemory, PlSmallStr, Series, ValueRef};
 
 fn text(alloc: Global, word: &str) -> Result<AnyValue, Fail> {
@@ -34,13 +34,6 @@ fn cut_texts(alloc: Global, first: &str, second: &str) -> Result<Series, Fail> {
     chunks.push(chunk_of(alloc, text(alloc, first)?)?)?;
     chunks.push(chunk_of(alloc, text(alloc, second)?)?)?;
     Ok(Series::from_chunks(alloc, "k", DataType::String, chunks)?)
-}
-
-fn both(alloc: Global, first: Series, second: Series) -> Result<Vec<Series>, Fail> {
-    let mut columns = Vec::new(alloc);
-    columns.push(first)?;
-    columns.push(second)?;
-    Ok(columns)
 }
 
 // Whether the column is of a key type and of this length.
@@ -82,7 +75,7 @@ fn keys_of(
     assert!(rt; !columns.is_empty());
     assert!(rt; are_keys(columns, columns[0].len()));
     let lent = lend(alloc, columns)?;
-    assert!(rt; keys_fit(&lent));
+    assert!(rt; RowKeys::of_columns(alloc, &lent, join_nulls)?.is_some());
     Ok(prepare_keys_multiple(alloc, columns, join_nulls)?)
 }
 
@@ -99,38 +92,66 @@ fn has_none(keys: &Series, row: usize) -> bool {
     row < keys.len() && matches!(keys.get(row), ValueRef::Null)
 }
 
+// The key of a row has these bytes.
+fn check_key(
+    rt: &impl Abort,
+    alloc: Global,
+    columns: &[Series],
+    join_nulls: bool,
+    row: usize,
+    wanted: &[u8],
+) -> Result<(), Fail> {
+    let keys = keys_of(rt, alloc, columns, join_nulls)?;
+    assert!(rt; has_key(&keys, row, wanted));
+    Ok(())
+}
+
+// The first row has no key where nulls don't match.
+fn check_no_key(rt: &impl Abort, alloc: Global, columns: &[Series]) -> Result<(), Fail> {
+    let keys = keys_of(rt, alloc, columns, false)?;
+    assert!(rt; has_none(&keys, 0));
+    Ok(())
+}
+
 #[test]
 fn texts_in_two_chunks(rt: HostRuntime) -> Result<(), Fail> {
     let alloc = rt.alloc();
-    let first = cut_texts(alloc, "ab", "a")?;
-    let second = cut_texts(alloc, "c", "bc")?;
-    let columns = both(alloc, first, second)?;
-    let keys = keys_of(&rt, alloc, &columns, true)?;
-    assert!(rt; has_key(&keys, 0, b"\x01\x00\x00\x00\x02ab\x01\x00\x00\x00\x01c"));
-    assert!(rt; has_key(&keys, 1, b"\x01\x00\x00\x00\x01a\x01\x00\x00\x00\x02bc"));
-    Ok(())
+    let mut columns = Vec::new(alloc);
+    columns.push(cut_texts(alloc, "ab", "a")?)?;
+    columns.push(cut_texts(alloc, "c", "bc")?)?;
+    check_key(
+        &rt,
+        alloc,
+        &columns,
+        true,
+        0,
+        b"\x01\x00\x00\x00\x02ab\x01\x00\x00\x00\x01c",
+    )?;
+    check_key(
+        &rt,
+        alloc,
+        &columns,
+        true,
+        1,
+        b"\x01\x00\x00\x00\x01a\x01\x00\x00\x00\x02bc",
+    )
 }
 
 #[test]
 fn absent_field(rt: HostRuntime) -> Result<(), Fail> {
     let alloc = rt.alloc();
-    let first = column(alloc, DataType::String, AnyValue::Null)?;
-    let second = column(alloc, DataType::Int32, AnyValue::Int(5))?;
-    let columns = both(alloc, first, second)?;
-    let keys = keys_of(&rt, alloc, &columns, true)?;
-    assert!(rt; has_key(&keys, 0, b"\x00\x01\x00\x00\x00\x05"));
-    let none = keys_of(&rt, alloc, &columns, false)?;
-    assert!(rt; has_none(&none, 0));
-    Ok(())
+    let mut columns = Vec::new(alloc);
+    columns.push(column(alloc, DataType::String, AnyValue::Null)?)?;
+    columns.push(column(alloc, DataType::Int32, AnyValue::Int(5))?)?;
+    check_key(&rt, alloc, &columns, true, 0, b"\x00\x01\x00\x00\x00\x05")?;
+    check_no_key(&rt, alloc, &columns)
 }
 
 #[test]
 fn number_and_truth(rt: HostRuntime) -> Result<(), Fail> {
     let alloc = rt.alloc();
-    let first = column(alloc, DataType::Int16, AnyValue::Int(-1))?;
-    let second = column(alloc, DataType::Boolean, AnyValue::Boolean(true))?;
-    let columns = both(alloc, first, second)?;
-    let keys = keys_of(&rt, alloc, &columns, false)?;
-    assert!(rt; has_key(&keys, 0, b"\x01\xff\xff\x01\x01"));
-    Ok(())
+    let mut columns = Vec::new(alloc);
+    columns.push(column(alloc, DataType::Int16, AnyValue::Int(-1))?)?;
+    columns.push(column(alloc, DataType::Boolean, AnyValue::Boolean(true))?)?;
+    check_key(&rt, alloc, &columns, false, 0, b"\x01\xff\xff\x01\x01")
 }

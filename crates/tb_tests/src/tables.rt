@@ -29,6 +29,17 @@ pub(crate) fn name(alloc: Global, text: &str) -> Result<Vec<PlSmallStr>, Fail> {
     Ok(names)
 }
 
+// Whether a table is its column `k` beside its others.
+fn is_put_together_again(alloc: Global, table: &DataFrame) -> Result<bool, Fail> {
+    let key = name(alloc, "k")?;
+    let keys = table.select(alloc, &key)?;
+    let others = table.drop_many(alloc, &key)?;
+    Ok(
+        keys.hstack(alloc, others.get_columns())?
+            .equals_missing(table),
+    )
+}
+
 #[test]
 fn columns_of_a_table(rt: HostRuntime) -> Result<(), Fail> {
     let alloc = rt.alloc();
@@ -36,34 +47,45 @@ fn columns_of_a_table(rt: HostRuntime) -> Result<(), Fail> {
     assert!(rt; table.width() == 2 && table.get_columns().len() == 2);
     assert!(rt; table.position("a") == Some(1));
     assert!(rt; table.column(alloc, "a")?.name().as_str() == "a");
-    let keys = table.select(alloc, &name(alloc, "k")?)?;
-    let others = table.drop_many(alloc, &name(alloc, "k")?)?;
-    let stacked = keys.hstack(alloc, others.get_columns())?;
-    assert!(rt; stacked.equals_missing(&table));
+    assert!(rt; is_put_together_again(alloc, &table)?);
     assert!(rt; table.copy(alloc)?.into_columns().len() == 2);
     Ok(())
+}
+
+// Whether rows that may be absent are taken as others are, and are another table.
+fn are_taken_alike(alloc: Global, table: &DataFrame) -> Result<bool, Fail> {
+    if table.height() != 3 {
+        return Ok(false);
+    }
+    let taken = table.take(alloc, &[2, 1])?;
+    let rows = [NullableIdxSize::some(2), NullableIdxSize::some(1)];
+    let opt_taken = table.take_opt(alloc, &rows)?;
+    Ok(taken.equals_missing(&opt_taken) && !taken.equals_missing(table))
 }
 
 #[test]
 fn rows_of_a_table(rt: HostRuntime) -> Result<(), Fail> {
     let alloc = rt.alloc();
     let mut table = keyed(alloc, "a", &[1, 2, 3], &[10, 20, 30])?;
-    assert_eq!(rt; table.height(), 3);
-    let taken = table.take(alloc, &[2, 1])?;
-    let opt_taken = table.take_opt(alloc, &[NullableIdxSize::some(2), NullableIdxSize::some(1)])?;
-    assert!(rt; taken.equals_missing(&opt_taken) && !taken.equals_missing(&table));
-    assert_eq!(rt; table.slice(alloc, -2, 1)?.height(), 1);
+    assert!(rt; are_taken_alike(alloc, &table)?);
+    assert!(rt; table.slice(alloc, -2, 1)?.height() == 1);
     assert!(rt; !table.should_rechunk());
     table.as_single_chunk_par(alloc)?;
-    assert_eq!(rt; table.height(), 3);
+    assert!(rt; table.height() == 3);
     Ok(())
+}
+
+// How many rows a column has whose nulls are filled from itself.
+fn coalesced_rows(alloc: Global, column: &Column) -> Result<usize, Fail> {
+    Ok(coalesce_columns(alloc, column, column)?.len())
 }
 
 #[test]
 fn coalesced_columns(rt: HostRuntime) -> Result<(), Fail> {
     let alloc = rt.alloc();
-    let column = column(alloc, "a", &[1, 2])?;
-    let merged = coalesce_columns(alloc, &column, &column)?;
-    assert_eq!(rt; merged.len(), 2);
+    let table = keyed(alloc, "a", &[1, 2], &[10, 20])?;
+    for column in table.get_columns() {
+        assert!(rt; coalesced_rows(alloc, column)? == 2);
+    }
     Ok(())
 }
