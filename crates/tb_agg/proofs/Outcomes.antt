@@ -14,6 +14,7 @@ use Rattle.tb_value.specs.declared.error.PolarsError.TheVariants.{ComputeError}
 use Rattle.tb_value.specs.declared.limits.TheConstants.{MAX_ROWS}
 use Rattle.tb_value.specs.declared.sorted.IsSorted.TheVariants.{Not}
 use Rattle.tb_chunk.specs.Col.{Col, values}
+use Rattle.tb_chunk.specs.Lent.{in_one_chunk}
 use Rattle.tb_rows.specs.Rows.{value_at}
 use Rattle.tb_rows.specs.declared.groups.Groups.{Groups}
 use Rattle.tb_agg.specs.Aggregates.{result_kind, sum_kind, total}
@@ -22,9 +23,6 @@ use Rattle.tb_agg.specs.Outcome.{agg_column, are_in_range, range_cause, totals, 
 use Rattle.tb_agg.specs.declared.table.Aggregate.{Aggregate}
 use Rattle.tb_agg.specs.declared.table.Aggregate.TheVariants.{First, Last, Sum, Min, Max, Count}
 use Rattle.tb_agg.proofs.Steps.{rows_few}
-
-abbrev pub in_one_chunk : Col → Col
-in_one_chunk c = record c { chunks = values c ∷ [] }
 
 -- a column in one chunk is refused as it was, and its aggregates are the same
 pub whole_cause : (agg : Aggregate) (g : Groups) (c : Col) → range_cause agg g (in_one_chunk c) ≡ range_cause agg g c

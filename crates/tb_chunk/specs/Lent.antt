@@ -1,7 +1,11 @@
--- Columns that are lent.
-use Rattle.std.specs.Prelude.{List, map}
+-- Columns that are lent, and columns put into one chunk.
+use Rattle.std.specs.Prelude.{List, [], ◌∷◌, map}
 use Rattle.std.specs.Borrow.{Bor}
-use Rattle.tb_chunk.specs.Col.{Col}
+use Rattle.tb_chunk.specs.Col.{Col, values}
 
 abbrev pub lent_columns : List (Bor Col) → List Col
 lent_columns rs = map (λ (r : Bor Col). r.now) rs
+
+-- the same values in one chunk
+abbrev pub in_one_chunk : Col → Col
+in_one_chunk c = record c { chunks = values c ∷ [] }

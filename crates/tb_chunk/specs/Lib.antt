@@ -12,3 +12,7 @@ pub mod Rows
 pub mod Seen
 pub mod Stored
 pub mod Window
+pub mod Held
+pub mod Layout
+pub mod Texts
+pub mod View

@@ -1,24 +1,32 @@
 //! A run of values of a column.
-ghost use Rattle.std.specs.Prelude.{◌≡◌, ◌<◌, ◌^◌, ◌++◌, ◌∷◌, [], IfOk, OnOk, OnErr, is_none, length, get_or, map, replicate};
+ghost use Rattle.std.specs.Prelude.{◌≡◌, ◌<◌, ◌^◌, ◌++◌, ◌∷◌, [], IfOk, OnOk, OnErr, None, is_none, length, get_or, map, replicate};
 ghost use Rattle.std.specs.List.{All, count_by};
+ghost use Rattle.std.specs.Option.{option_map};
 ghost use Rattle.tb_value.specs.Datum.{Datum, null, string};
 ghost use Rattle.tb_value.specs.Kind as kinds;
 ghost use Rattle.tb_value.specs.See.{data_of, datum, lent, IsText};
 ghost use Rattle.tb_chunk.specs.Chunk.{or_null};
 ghost use Rattle.tb_chunk.specs.Fits.{Fits};
 ghost use Rattle.tb_chunk.specs.Flag.{nulls};
+ghost use Rattle.tb_chunk.specs.Held.{Holds};
+ghost use Rattle.tb_chunk.specs.Texts.{IsUtf8Row};
+ghost use Rattle.tb_chunk.specs.View.{texts};
+ghost use Rattle.std.proofs.Props.{props};
 
 use crate::cell::Cell;
+use crate::view_chunk::ViewChunk;
 use std::alloc::Global;
 use tb_value::{AnyValue, OutOfMemory, PlSmallStr, ValueRef};
 
 /// Values of a column that stand together, and to which values can be appended. `shown` is what contracts see of them,
-/// and `kind` is the type by which they are stored.
+/// `kind` is the type by which they are stored, and `buffers` are the bytes of long texts that they share with others.
 pub trait Chunk: Drop {
-    ghost use Rattle.std.specs.Prelude.{List};
+    ghost use Rattle.std.specs.Prelude.{ℕ, List};
     ghost use Rattle.tb_value.specs.Kind.{Kind};
 
     ghost shown: { Self → List Datum };
+
+    ghost buffers: { Self → List (List ℕ) };
 
     ghost kind: { Kind };
 
@@ -49,18 +57,43 @@ pub trait Chunk: Drop {
     fn empty(alloc: Global) -> Self
         ensures { shown result ≡ [] };
 
-    /// Appends a row of another chunk. After a refusal the chunk is as it was.
-    fn push_from(&mut self, alloc: Global, other: &Self, row: usize) -> Result<(), OutOfMemory>
+    /// The chunk of no value and no buffer, with room for as many values as are given.
+    fn with_capacity(alloc: Global, rows: usize) -> Result<Self, OutOfMemory>
+        ensures shown { IfOk result (λ c. shown c ≡ []) }
+        ensures buffers { IfOk result (λ c. buffers c ≡ []) };
+
+    /// Takes up the buffers of another chunk behind its own, before there is a value, and gives the
+    /// number of the first. No byte is copied.
+    fn add_buffers(&mut self, alloc: Global, other: &Self) -> Result<u32, OutOfMemory>
+        requires none { shown self.old ≡ [] }
+        ensures number { IfOk result (λ n. n ≡ length (buffers self.old)) }
+        ensures shown { IfOk result (λ n. shown self.new ≡ []) }
+        ensures buffers { IfOk result (λ n. buffers self.new ≡ buffers self.old ++ buffers other.now) }
+        ensures few { IfOk result (λ n. length (buffers self.new) < 2 ^ 32) };
+
+    /// Appends a row of another chunk, whose buffers stand in this one from number `base` on. After a
+    /// refusal the chunk is as it was.
+    fn push_from(
+        &mut self,
+        alloc: Global,
+        other: &Self,
+        base: u32,
+        row: usize,
+    ) -> Result<(), OutOfMemory>
         requires room { length (shown self.old) < 2 ^ 63 }
         requires row { row < length (shown other.now) }
+        requires held { Holds (buffers self.old) base (buffers other.now) }
+        requires few { length (buffers self.old) < 2 ^ 32 }
         ensures ok { OnOk result (shown self.new ≡ shown self.old ++ get_or (shown other.now) row null ∷ []) }
-        ensures err { OnErr result (shown self.new ≡ shown self.old) };
+        ensures err { OnErr result (shown self.new ≡ shown self.old) }
+        ensures buffers { buffers self.new ≡ buffers self.old };
 
     /// Appends a Null. After a refusal the chunk is as it was.
     fn push_null(&mut self) -> Result<(), OutOfMemory>
         requires { length (shown self.old) < 2 ^ 63 }
         ensures ok { OnOk result (shown self.new ≡ shown self.old ++ null ∷ []) }
-        ensures err { OnErr result (shown self.new ≡ shown self.old) };
+        ensures err { OnErr result (shown self.new ≡ shown self.old) }
+        ensures buffers { buffers self.new ≡ buffers self.old };
 }
 
 /// Optional values, each stored as it is; `None` is Null.
@@ -71,6 +104,8 @@ pub struct Cells<N> {
 
 impl<N: Cell> Chunk for Cells<N> {
     ghost shown = { λ c. map (or_null N.shows) c.cells.items };
+
+    ghost buffers = { λ _. [] };
 
     ghost kind = { N.kind };
 
@@ -111,10 +146,21 @@ impl<N: Cell> Chunk for Cells<N> {
         }
     }
 
+    fn with_capacity(alloc: Global, rows: usize) -> Result<Cells<N>, OutOfMemory> {
+        Ok(Cells {
+            cells: Vec::with_capacity(alloc, rows)?,
+        })
+    }
+
+    fn add_buffers(&mut self, _alloc: Global, _other: &Cells<N>) -> Result<u32, OutOfMemory> {
+        Ok(0)
+    }
+
     fn push_from(
         &mut self,
         alloc: Global,
         other: &Cells<N>,
+        _base: u32,
         row: usize,
     ) -> Result<(), OutOfMemory> {
         let cell = copy_cell(alloc, &other.cells[row])?;
@@ -157,6 +203,8 @@ pub(crate) fn copy_cell<N: Cell>(alloc: Global, cell: &Option<N>) -> Result<Opti
 impl Chunk for usize {
     ghost shown = { λ n. replicate n null };
 
+    ghost buffers = { λ _. [] };
+
     ghost kind = { kinds.null };
 
     fn len(&self) -> usize {
@@ -183,7 +231,21 @@ impl Chunk for usize {
         0
     }
 
-    fn push_from(&mut self, alloc: Global, other: &usize, row: usize) -> Result<(), OutOfMemory> {
+    fn with_capacity(alloc: Global, rows: usize) -> Result<usize, OutOfMemory> {
+        Ok(0)
+    }
+
+    fn add_buffers(&mut self, _alloc: Global, _other: &usize) -> Result<u32, OutOfMemory> {
+        Ok(0)
+    }
+
+    fn push_from(
+        &mut self,
+        alloc: Global,
+        other: &usize,
+        _base: u32,
+        row: usize,
+    ) -> Result<(), OutOfMemory> {
         *self += 1;
         Ok(())
     }
@@ -194,25 +256,29 @@ impl Chunk for usize {
     }
 }
 
-/// Optional texts.
+/// Optional texts, each as a view over shared buffers.
 #[derive(Drop)]
 pub struct StringChunk {
-    pub(crate) inner: Cells<PlSmallStr>,
+    pub(crate) inner: ViewChunk,
+    ghost utf8: { All IsUtf8Row (texts inner.buffers.items inner.views.items) } by { Prim.hlevel props },
 }
 
 impl StringChunk {
-    /// The texts, row by row; `None` is Null.
-    pub fn texts(&self) -> &[Option<PlSmallStr>]
-        ensures { result.now ≡ self.now.inner.cells.items }
+    /// The text of a row, lent; `None` is Null.
+    pub fn get(&self, row: usize) -> Option<&[u8]>
+        requires { row < length (texts self.now.inner.buffers.items self.now.inner.views.items) }
+        ensures { option_map (λ t. t.now) result ≡ get_or (texts self.now.inner.buffers.items self.now.inner.views.items) row None }
     {
-        &self.inner.cells
+        self.inner.get(row)
     }
 
     /// The chunk of these texts.
-    pub fn from_cells(texts: Cells<PlSmallStr>) -> StringChunk
-        ensures { map (or_null string) result.inner.cells.items ≡ map (or_null string) texts.cells.items }
+    pub fn from_cells(alloc: Global, cells: &Cells<PlSmallStr>) -> Result<StringChunk, OutOfMemory>
+        ensures { IfOk result (λ c. map (or_null string) (texts c.inner.buffers.items c.inner.views.items) ≡ map (or_null string) cells.now.cells.items) }
     {
-        StringChunk { inner: texts }
+        Ok(StringChunk {
+            inner: ViewChunk::from_texts(alloc, &cells.cells)?,
+        })
     }
 }
 
@@ -221,8 +287,11 @@ impl Chunk for StringChunk {
     ghost use Rattle.tb_value.specs.Datum.{string};
     ghost use Rattle.tb_value.specs.Kind as kinds;
     ghost use Rattle.tb_chunk.specs.Chunk.{or_null};
+    ghost use Rattle.tb_chunk.specs.View.{texts};
 
-    ghost shown = { λ c. map (or_null string) c.inner.cells.items };
+    ghost shown = { λ c. map (or_null string) (texts c.inner.buffers.items c.inner.views.items) };
+
+    ghost buffers = { λ c. c.inner.buffers.items };
 
     ghost kind = { kinds.string };
 
@@ -235,12 +304,15 @@ impl Chunk for StringChunk {
     }
 
     fn value(&self, row: usize) -> ValueRef<'_> {
-        self.inner.value(row)
+        match self.inner.get(row) {
+            None => ValueRef::Null,
+            Some(text) => ValueRef::String(text),
+        }
     }
 
     fn from_values(alloc: Global, values: &[AnyValue]) -> Result<StringChunk, OutOfMemory> {
         Ok(StringChunk {
-            inner: Cells::from_values(alloc, values)?,
+            inner: ViewChunk::from_texts(alloc, values)?,
         })
     }
 
@@ -252,17 +324,28 @@ impl Chunk for StringChunk {
 
     fn empty(alloc: Global) -> StringChunk {
         StringChunk {
-            inner: Cells::empty(alloc),
+            inner: ViewChunk::empty(alloc),
         }
+    }
+
+    fn with_capacity(alloc: Global, rows: usize) -> Result<StringChunk, OutOfMemory> {
+        Ok(StringChunk {
+            inner: ViewChunk::with_capacity(alloc, rows)?,
+        })
+    }
+
+    fn add_buffers(&mut self, alloc: Global, other: &StringChunk) -> Result<u32, OutOfMemory> {
+        self.inner.add_buffers(alloc, &other.inner)
     }
 
     fn push_from(
         &mut self,
-        alloc: Global,
+        _alloc: Global,
         other: &StringChunk,
+        base: u32,
         row: usize,
     ) -> Result<(), OutOfMemory> {
-        self.inner.push_from(alloc, &other.inner, row)
+        self.inner.push_from(&other.inner, base, row)
     }
 
     fn push_null(&mut self) -> Result<(), OutOfMemory> {

@@ -1,35 +1,41 @@
 //! Chunks made of the rows of others.
-ghost use Rattle.std.specs.Prelude.{◌≡◌, ◌<◌, ◌≤◌, ◌^◌, ◌+◌, ◌++◌, ◌∷◌, [], IfOk, OnOk, length, map, take, drop};
+ghost use Rattle.std.specs.Prelude.{◌≡◌, ◌<◌, ◌≤◌, ◌^◌, ◌+◌, ◌++◌, ◌∷◌, [], IfOk, OnOk, get_or, length, map, take, drop};
 ghost use Rattle.tb_chunk.specs.Col.{flat};
+ghost use Rattle.tb_chunk.specs.Held.{AreHeld};
 ghost use Rattle.tb_chunk.specs.Seen.{chunk_lists, storage};
 
 use crate::chunk::Chunk;
 use crate::chunks::Chunks;
 use crate::each::for_chunks;
+use crate::growing::Growing;
 use crate::stored::Stored;
 use std::alloc::Global;
 use tb_value::OutOfMemory;
 
-// Appends these rows of a chunk.
+// Appends these rows of one of the chunks.
 fn push_rows<C: Chunk>(
     alloc: Global,
-    out: &mut C,
-    chunk: &C,
+    out: &mut Growing<C>,
+    chunks: &[C],
+    chunk: usize,
     from: usize,
     count: usize,
 ) -> Result<(), OutOfMemory>
-    requires room { length (C.shown out.old) + count < 2 ^ 63 }
-    requires within { from + count ≤ length (C.shown chunk.now) }
-    ensures { OnOk result (C.shown out.new ≡ C.shown out.old ++ take count (drop from (C.shown chunk.now))) }
+    requires held { AreHeld (C.buffers out.old.chunk) out.old.bases.items (map C.buffers chunks.now) }
+    requires room { length (C.shown out.old.chunk) + count < 2 ^ 63 }
+    requires chunk { chunk < length chunks.now }
+    requires within { from + count ≤ length (get_or (map C.shown chunks.now) chunk []) }
+    ensures shown { OnOk result (C.shown out.new.chunk ≡ C.shown out.old.chunk ++ take count (drop from (get_or (map C.shown chunks.now) chunk []))) }
+    ensures held { AreHeld (C.buffers out.new.chunk) out.new.bases.items (map C.buffers chunks.now) }
 {
-    let _rows = chunk.len();
+    let _rows = chunks[chunk].len();
     for i in 0..count {
-        out.push_from(alloc, chunk, from + i)?;
+        out.push(alloc, chunks, chunk, from + i)?;
     }
     Ok(())
 }
 
-/// The rows from `start` on, in one chunk.
+/// The rows from `start` on, in one chunk, with the buffers of all.
 pub fn join_rows<C: Chunk>(
     alloc: Global,
     chunks: &[C],
@@ -40,18 +46,18 @@ pub fn join_rows<C: Chunk>(
     requires short { length (flat (map C.shown chunks.now)) < 2 ^ 32 }
     ensures { IfOk result (λ c. C.shown c ≡ take len (drop start (flat (map C.shown chunks.now)))) }
 {
-    let mut out = C::empty(alloc);
+    let mut out = Growing::over(alloc, chunks, len)?;
     let mut skip = start;
     let mut left = len;
-    for chunk in chunks {
-        let rows = chunk.len();
+    for chunk in 0..chunks.len() {
+        let rows = chunks[chunk].len();
         let from = skip.min(rows);
         let count = left.min(rows - from);
-        push_rows(alloc, &mut out, chunk, from, count)?;
+        push_rows(alloc, &mut out, chunks, chunk, from, count)?;
         skip -= from;
         left -= count;
     }
-    Ok(out)
+    Ok(out.finish())
 }
 
 /// The rows from `start` on, as the only chunk.

@@ -1,5 +1,5 @@
 //! Columns made of two others, of which the second stands in where the first has no value.
-ghost use Rattle.std.specs.Prelude.{◌≡◌, ◌<◌, ◌^◌, ◌∷◌, [], IfOk, length, map};
+ghost use Rattle.std.specs.Prelude.{◌≡◌, ◌<◌, ◌^◌, ◌∷◌, [], IfOk, get_or, length, map};
 ghost use Rattle.tb_value.specs.declared.sorted.IsSorted.TheVariants.{Not};
 ghost use Rattle.tb_chunk.specs.Col.{flat, values};
 ghost use Rattle.tb_chunk.specs.Merged.{merged};
@@ -7,26 +7,29 @@ ghost use Rattle.tb_chunk.specs.Seen.{chunk_lists, storage};
 
 use crate::chunk::Chunk;
 use crate::chunks::{Chunks, rows_in};
-use crate::each::for_pairs;
+use crate::each::for_chunks;
 use crate::grow::join_rows;
+use crate::growing::Growing;
 use crate::stored::Stored;
 use std::alloc::Global;
 use tb_value::{IsSorted, OutOfMemory, ValueRef};
 
-// The values of a chunk, and those of another where they are Null.
-fn merge_rows<C: Chunk>(alloc: Global, first: &C, second: &C) -> Result<C, OutOfMemory>
-    requires same_len { length (C.shown first.now) ≡ length (C.shown second.now) }
-    requires short { length (C.shown first.now) < 2 ^ 32 }
-    ensures { IfOk result (λ c. C.shown c ≡ merged (C.shown first.now) (C.shown second.now)) }
+// The values of the first of two chunks, and those of the second where they are Null.
+fn merge_rows<C: Chunk>(alloc: Global, pair: &[C]) -> Result<C, OutOfMemory>
+    requires pair { length pair.now ≡ 2 }
+    requires same_len { length (get_or (map C.shown pair.now) 0 []) ≡ length (get_or (map C.shown pair.now) 1 []) }
+    requires short { length (get_or (map C.shown pair.now) 0 []) < 2 ^ 32 }
+    ensures { IfOk result (λ c. C.shown c ≡ merged (get_or (map C.shown pair.now) 0 []) (get_or (map C.shown pair.now) 1 [])) }
 {
-    let mut out = C::empty(alloc);
+    let first = &pair[0];
+    let mut out = Growing::over(alloc, pair, first.len())?;
     for row in 0..first.len() {
         match first.value(row) {
-            ValueRef::Null => out.push_from(alloc, second, row)?,
-            _ => out.push_from(alloc, first, row)?,
+            ValueRef::Null => out.push(alloc, pair, 1, row)?,
+            _ => out.push(alloc, pair, 0, row)?,
         }
     }
-    Ok(out)
+    Ok(out.finish())
 }
 
 // The values of all chunks, and those of others where they are Null, as the only chunk.
@@ -36,12 +39,31 @@ fn merge_one<C: Stored>(alloc: Global, first: &[C], second: &[C]) -> Result<Chun
     ensures lists { IfOk result (λ c. chunk_lists c ≡ merged (flat (map C.shown first.now)) (flat (map C.shown second.now)) ∷ []) }
     ensures storage { IfOk result (λ c. storage c ≡ C.kind) }
 {
-    let first = join_rows(alloc, first, 0, rows_in(first))?;
-    let second = join_rows(alloc, second, 0, rows_in(second))?;
-    let chunk = merge_rows(alloc, &first, &second)?;
+    let mut pair = Vec::with_capacity(alloc, 2)?;
+    pair.push(join_rows(alloc, first, 0, rows_in(first))?)?;
+    pair.push(join_rows(alloc, second, 0, rows_in(second))?)?;
+    let chunk = merge_rows(alloc, &pair)?;
     let mut one = Vec::new(alloc);
     one.push(chunk)?;
     Ok(C::wrap(one))
+}
+
+// The same, where the others are those of a column that is stored alike.
+fn merge_stored<C: Stored>(
+    alloc: Global,
+    first: &[C],
+    other: &Chunks,
+) -> Result<Chunks, OutOfMemory>
+    requires same_storage { C.kind ≡ storage other.now }
+    requires same_len { length (flat (map C.shown first.now)) ≡ length (flat (chunk_lists other.now)) }
+    requires short { length (flat (map C.shown first.now)) < 2 ^ 32 }
+    ensures lists { IfOk result (λ c. chunk_lists c ≡ merged (flat (map C.shown first.now)) (flat (chunk_lists other.now)) ∷ []) }
+    ensures storage { IfOk result (λ c. storage c ≡ C.kind) }
+{
+    match C::stored_in(other) {
+        Some(second) => merge_one(alloc, first, second),
+        None => unreachable!(),
+    }
 }
 
 impl Chunks {
@@ -53,6 +75,6 @@ impl Chunks {
         ensures lists { IfOk result (λ c. chunk_lists c ≡ merged (flat (chunk_lists self.now)) (flat (chunk_lists other.now)) ∷ []) }
         ensures storage { IfOk result (λ c. storage c ≡ storage self.now) }
     {
-        for_pairs!(self, other, (a, b) => merge_one(alloc, a, b))
+        for_chunks!(self, chunks => merge_stored(alloc, chunks, other))
     }
 }

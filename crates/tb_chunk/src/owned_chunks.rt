@@ -1,22 +1,46 @@
 //! Runs of bytes, of lists and of structs.
-ghost use Rattle.std.specs.Prelude.{map};
+ghost use Rattle.std.specs.Prelude.{◌≡◌, ◌<◌, [], IfOk, None, get_or, length, map};
+ghost use Rattle.std.specs.Option.{option_map};
 ghost use Rattle.tb_value.specs.Datum.{binary, list, struct, items_of};
 ghost use Rattle.tb_value.specs.Kind as kinds;
 ghost use Rattle.tb_chunk.specs.Chunk.{or_null};
+ghost use Rattle.tb_chunk.specs.View.{texts};
 
 use crate::cell::FieldValues;
 use crate::chunk::{Cells, Chunk};
+use crate::view_chunk::ViewChunk;
 use std::alloc::Global;
 use tb_value::{AnyValue, Bytes, OutOfMemory, ValueRef, Values};
 
-/// Optional bytes.
+/// Optional bytes, each as a view over shared buffers.
 #[derive(Drop)]
 pub struct BinaryChunk {
-    pub inner: Cells<Bytes>,
+    pub(crate) inner: ViewChunk,
+}
+
+impl BinaryChunk {
+    /// The bytes of a row, lent; `None` is Null.
+    pub fn get(&self, row: usize) -> Option<&[u8]>
+        requires { row < length (texts self.now.inner.buffers.items self.now.inner.views.items) }
+        ensures { option_map (λ t. t.now) result ≡ get_or (texts self.now.inner.buffers.items self.now.inner.views.items) row None }
+    {
+        self.inner.get(row)
+    }
+
+    /// The chunk of these bytes.
+    pub fn from_cells(alloc: Global, cells: &Cells<Bytes>) -> Result<BinaryChunk, OutOfMemory>
+        ensures { IfOk result (λ c. map (or_null binary) (texts c.inner.buffers.items c.inner.views.items) ≡ map (or_null binary) cells.now.cells.items) }
+    {
+        Ok(BinaryChunk {
+            inner: ViewChunk::from_texts(alloc, &cells.cells)?,
+        })
+    }
 }
 
 impl Chunk for BinaryChunk {
-    ghost shown = { λ c. map (or_null binary) c.inner.cells.items };
+    ghost shown = { λ c. map (or_null binary) (texts c.inner.buffers.items c.inner.views.items) };
+
+    ghost buffers = { λ c. c.inner.buffers.items };
 
     ghost kind = { kinds.binary };
 
@@ -29,12 +53,15 @@ impl Chunk for BinaryChunk {
     }
 
     fn value(&self, row: usize) -> ValueRef<'_> {
-        self.inner.value(row)
+        match self.inner.get(row) {
+            None => ValueRef::Null,
+            Some(bytes) => ValueRef::Binary(bytes),
+        }
     }
 
     fn from_values(alloc: Global, values: &[AnyValue]) -> Result<BinaryChunk, OutOfMemory> {
         Ok(BinaryChunk {
-            inner: Cells::from_values(alloc, values)?,
+            inner: ViewChunk::from_texts(alloc, values)?,
         })
     }
 
@@ -46,17 +73,28 @@ impl Chunk for BinaryChunk {
 
     fn empty(alloc: Global) -> BinaryChunk {
         BinaryChunk {
-            inner: Cells::empty(alloc),
+            inner: ViewChunk::empty(alloc),
         }
+    }
+
+    fn with_capacity(alloc: Global, rows: usize) -> Result<BinaryChunk, OutOfMemory> {
+        Ok(BinaryChunk {
+            inner: ViewChunk::with_capacity(alloc, rows)?,
+        })
+    }
+
+    fn add_buffers(&mut self, alloc: Global, other: &BinaryChunk) -> Result<u32, OutOfMemory> {
+        self.inner.add_buffers(alloc, &other.inner)
     }
 
     fn push_from(
         &mut self,
-        alloc: Global,
+        _alloc: Global,
         other: &BinaryChunk,
+        base: u32,
         row: usize,
     ) -> Result<(), OutOfMemory> {
-        self.inner.push_from(alloc, &other.inner, row)
+        self.inner.push_from(&other.inner, base, row)
     }
 
     fn push_null(&mut self) -> Result<(), OutOfMemory> {
@@ -72,6 +110,8 @@ pub struct ListChunk {
 
 impl Chunk for ListChunk {
     ghost shown = { λ c. map (or_null (λ vs. list (items_of vs))) c.inner.cells.items };
+
+    ghost buffers = { λ _. [] };
 
     ghost kind = { kinds.list kinds.null };
 
@@ -105,13 +145,24 @@ impl Chunk for ListChunk {
         }
     }
 
+    fn with_capacity(alloc: Global, rows: usize) -> Result<ListChunk, OutOfMemory> {
+        Ok(ListChunk {
+            inner: Cells::with_capacity(alloc, rows)?,
+        })
+    }
+
+    fn add_buffers(&mut self, _alloc: Global, _other: &ListChunk) -> Result<u32, OutOfMemory> {
+        Ok(0)
+    }
+
     fn push_from(
         &mut self,
         alloc: Global,
         other: &ListChunk,
+        base: u32,
         row: usize,
     ) -> Result<(), OutOfMemory> {
-        self.inner.push_from(alloc, &other.inner, row)
+        self.inner.push_from(alloc, &other.inner, base, row)
     }
 
     fn push_null(&mut self) -> Result<(), OutOfMemory> {
@@ -127,6 +178,8 @@ pub struct StructChunk {
 
 impl Chunk for StructChunk {
     ghost shown = { λ c. map (or_null (λ s. struct (items_of s.values))) c.inner.cells.items };
+
+    ghost buffers = { λ _. [] };
 
     ghost kind = { kinds.struct kinds.end };
 
@@ -160,13 +213,24 @@ impl Chunk for StructChunk {
         }
     }
 
+    fn with_capacity(alloc: Global, rows: usize) -> Result<StructChunk, OutOfMemory> {
+        Ok(StructChunk {
+            inner: Cells::with_capacity(alloc, rows)?,
+        })
+    }
+
+    fn add_buffers(&mut self, _alloc: Global, _other: &StructChunk) -> Result<u32, OutOfMemory> {
+        Ok(0)
+    }
+
     fn push_from(
         &mut self,
         alloc: Global,
         other: &StructChunk,
+        base: u32,
         row: usize,
     ) -> Result<(), OutOfMemory> {
-        self.inner.push_from(alloc, &other.inner, row)
+        self.inner.push_from(alloc, &other.inner, base, row)
     }
 
     fn push_null(&mut self) -> Result<(), OutOfMemory> {

@@ -9,26 +9,33 @@ ghost use Rattle.tb_chunk.specs.Seen.{chunk_lists, storage};
 
 use crate::chunk::Chunk;
 use crate::chunks::{Chunks, rows_in};
-use crate::each::map_chunks;
-use crate::grow::join_rows;
+use crate::each::for_chunks;
+use crate::grow::join_one;
+use crate::growing::Growing;
 use crate::row_number::RowNumber;
+use crate::stored::Stored;
 use std::alloc::Global;
 use tb_value::{IdxSize, IsSorted, OutOfMemory};
 
-// The values of these rows of a chunk.
-fn pick_rows<C: Chunk, R: RowNumber>(alloc: Global, chunk: &C, rows: &[R]) -> Result<C, OutOfMemory>
-    requires rows { All (λ r. IsRowOf (length (C.shown chunk.now)) (R.number r)) rows.now }
+// The values of these rows of the only chunk.
+fn pick_rows<C: Chunk, R: RowNumber>(
+    alloc: Global,
+    chunks: &[C],
+    rows: &[R],
+) -> Result<C, OutOfMemory>
+    requires one { length chunks.now ≡ 1 }
+    requires rows { All (λ r. IsRowOf (length (flat (map C.shown chunks.now))) (R.number r)) rows.now }
     requires few { length rows.now < 2 ^ 32 }
-    ensures { IfOk result (λ c. C.shown c ≡ map (λ r. value_or_null (C.shown chunk.now) (R.number r)) rows.now) }
+    ensures { IfOk result (λ c. C.shown c ≡ map (λ r. value_or_null (flat (map C.shown chunks.now)) (R.number r)) rows.now) }
 {
-    let mut out = C::empty(alloc);
+    let mut out = Growing::over(alloc, chunks, rows.len())?;
     for row in rows {
         match row.number() {
-            Some(row) => out.push_from(alloc, chunk, row as usize)?,
+            Some(row) => out.push(alloc, chunks, 0, row as usize)?,
             None => out.push_null()?,
         }
     }
-    Ok(out)
+    Ok(out.finish())
 }
 
 // The values of these rows of all chunks. One chunk is picked from as it is, and more are joined first.
@@ -39,27 +46,27 @@ fn pick<C: Chunk, R: RowNumber>(alloc: Global, chunks: &[C], rows: &[R]) -> Resu
     ensures { IfOk result (λ c. C.shown c ≡ map (λ r. value_or_null (flat (map C.shown chunks.now)) (R.number r)) rows.now) }
 {
     if chunks.len() == 1 {
-        return pick_rows(alloc, &chunks[0], rows);
+        return pick_rows(alloc, chunks, rows);
     }
-    let joined = join_rows(alloc, chunks, 0, rows_in(chunks))?;
+    let joined = join_one(alloc, chunks, 0, rows_in(chunks))?;
     pick_rows(alloc, &joined, rows)
 }
 
-// The values of these rows, as the only chunk.
-fn pick_one<C: Chunk, R: RowNumber>(
+// The same, as the only chunk of a column.
+fn pick_stored<C: Stored, R: RowNumber>(
     alloc: Global,
     chunks: &[C],
     rows: &[R],
-) -> Result<Vec<C>, OutOfMemory>
+) -> Result<Chunks, OutOfMemory>
     requires rows { All (λ r. IsRowOf (length (flat (map C.shown chunks.now))) (R.number r)) rows.now }
     requires few { length rows.now < 2 ^ 32 }
     requires short { length (flat (map C.shown chunks.now)) < 2 ^ 32 }
-    ensures { IfOk result (λ v. map C.shown v.items ≡ map (λ r. value_or_null (flat (map C.shown chunks.now)) (R.number r)) rows.now ∷ []) }
+    ensures lists { IfOk result (λ c. chunk_lists c ≡ map (λ r. value_or_null (flat (map C.shown chunks.now)) (R.number r)) rows.now ∷ []) }
+    ensures storage { IfOk result (λ c. storage c ≡ C.kind) }
 {
-    let chunk = pick(alloc, chunks, rows)?;
     let mut one = Vec::new(alloc);
-    one.push(chunk)?;
-    Ok(one)
+    one.push(pick(alloc, chunks, rows)?)?;
+    Ok(C::wrap(one))
 }
 
 impl Chunks {
@@ -72,6 +79,6 @@ impl Chunks {
         ensures lists { IfOk result (λ c. chunk_lists c ≡ map (λ r. value_or_null (flat (chunk_lists self.now)) (R.number r)) rows.now ∷ []) }
         ensures storage { IfOk result (λ c. storage c ≡ storage self.now) }
     {
-        map_chunks!(self, chunks => pick_one(alloc, chunks, rows)?)
+        for_chunks!(self, chunks => pick_stored(alloc, chunks, rows))
     }
 }

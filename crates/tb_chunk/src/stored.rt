@@ -1,5 +1,5 @@
 //! The chunks of a column, made of chunks of one stored type.
-ghost use Rattle.std.specs.Prelude.{◌≡◌, map};
+ghost use Rattle.std.specs.Prelude.{◌≡◌, ◌≢◌, MatchOption, map};
 ghost use Rattle.tb_chunk.specs.Seen.{chunk_lists, storage};
 
 use crate::chunk::{Cells, Chunk, StringChunk};
@@ -12,6 +12,10 @@ pub trait Stored: Chunk {
     fn wrap(chunks: Vec<Self>) -> Chunks
         ensures lists { chunk_lists result ≡ map Self.shown chunks.items }
         ensures storage { storage result ≡ Self.kind };
+
+    /// The chunks of a column, lent. None where they are not stored so.
+    fn stored_in(chunks: &Chunks) -> Option<&[Self]>
+        ensures { MatchOption result (storage chunks.now ≢ Self.kind) (λ v. (storage chunks.now ≡ Self.kind) × (chunk_lists chunks.now ≡ map Self.shown v.now)) };
 }
 
 impl Stored for Cells<bool> {
@@ -20,6 +24,13 @@ impl Stored for Cells<bool> {
         ensures storage { storage result ≡ ⟦<Cells<bool> as Chunk>⟧.kind }
     {
         Chunks::BooleanType(chunks)
+    }
+
+    fn stored_in(chunks: &Chunks) -> Option<&[Cells<bool>]> {
+        match chunks {
+            Chunks::BooleanType(chunks) => Some(chunks.as_slice()),
+            _ => None,
+        }
     }
 }
 
@@ -30,6 +41,13 @@ impl Stored for Cells<i8> {
     {
         Chunks::Int8Type(chunks)
     }
+
+    fn stored_in(chunks: &Chunks) -> Option<&[Cells<i8>]> {
+        match chunks {
+            Chunks::Int8Type(chunks) => Some(chunks.as_slice()),
+            _ => None,
+        }
+    }
 }
 
 impl Stored for Cells<i16> {
@@ -38,6 +56,13 @@ impl Stored for Cells<i16> {
         ensures storage { storage result ≡ ⟦<Cells<i16> as Chunk>⟧.kind }
     {
         Chunks::Int16Type(chunks)
+    }
+
+    fn stored_in(chunks: &Chunks) -> Option<&[Cells<i16>]> {
+        match chunks {
+            Chunks::Int16Type(chunks) => Some(chunks.as_slice()),
+            _ => None,
+        }
     }
 }
 
@@ -48,6 +73,13 @@ impl Stored for Cells<i32> {
     {
         Chunks::Int32Type(chunks)
     }
+
+    fn stored_in(chunks: &Chunks) -> Option<&[Cells<i32>]> {
+        match chunks {
+            Chunks::Int32Type(chunks) => Some(chunks.as_slice()),
+            _ => None,
+        }
+    }
 }
 
 impl Stored for Cells<i64> {
@@ -56,6 +88,13 @@ impl Stored for Cells<i64> {
         ensures storage { storage result ≡ ⟦<Cells<i64> as Chunk>⟧.kind }
     {
         Chunks::Int64Type(chunks)
+    }
+
+    fn stored_in(chunks: &Chunks) -> Option<&[Cells<i64>]> {
+        match chunks {
+            Chunks::Int64Type(chunks) => Some(chunks.as_slice()),
+            _ => None,
+        }
     }
 }
 
@@ -66,6 +105,13 @@ impl Stored for Cells<i128> {
     {
         Chunks::Int128Type(chunks)
     }
+
+    fn stored_in(chunks: &Chunks) -> Option<&[Cells<i128>]> {
+        match chunks {
+            Chunks::Int128Type(chunks) => Some(chunks.as_slice()),
+            _ => None,
+        }
+    }
 }
 
 impl Stored for Cells<u8> {
@@ -74,6 +120,13 @@ impl Stored for Cells<u8> {
         ensures storage { storage result ≡ ⟦<Cells<u8> as Chunk>⟧.kind }
     {
         Chunks::UInt8Type(chunks)
+    }
+
+    fn stored_in(chunks: &Chunks) -> Option<&[Cells<u8>]> {
+        match chunks {
+            Chunks::UInt8Type(chunks) => Some(chunks.as_slice()),
+            _ => None,
+        }
     }
 }
 
@@ -84,6 +137,13 @@ impl Stored for Cells<u16> {
     {
         Chunks::UInt16Type(chunks)
     }
+
+    fn stored_in(chunks: &Chunks) -> Option<&[Cells<u16>]> {
+        match chunks {
+            Chunks::UInt16Type(chunks) => Some(chunks.as_slice()),
+            _ => None,
+        }
+    }
 }
 
 impl Stored for Cells<u32> {
@@ -92,6 +152,13 @@ impl Stored for Cells<u32> {
         ensures storage { storage result ≡ ⟦<Cells<u32> as Chunk>⟧.kind }
     {
         Chunks::UInt32Type(chunks)
+    }
+
+    fn stored_in(chunks: &Chunks) -> Option<&[Cells<u32>]> {
+        match chunks {
+            Chunks::UInt32Type(chunks) => Some(chunks.as_slice()),
+            _ => None,
+        }
     }
 }
 
@@ -102,6 +169,13 @@ impl Stored for Cells<u64> {
     {
         Chunks::UInt64Type(chunks)
     }
+
+    fn stored_in(chunks: &Chunks) -> Option<&[Cells<u64>]> {
+        match chunks {
+            Chunks::UInt64Type(chunks) => Some(chunks.as_slice()),
+            _ => None,
+        }
+    }
 }
 
 impl Stored for StringChunk {
@@ -110,6 +184,13 @@ impl Stored for StringChunk {
         ensures storage { storage result ≡ ⟦<StringChunk as Chunk>⟧.kind }
     {
         Chunks::StringType(chunks)
+    }
+
+    fn stored_in(chunks: &Chunks) -> Option<&[StringChunk]> {
+        match chunks {
+            Chunks::StringType(chunks) => Some(chunks.as_slice()),
+            _ => None,
+        }
     }
 }
 
@@ -120,6 +201,13 @@ impl Stored for BinaryChunk {
     {
         Chunks::BinaryType(chunks)
     }
+
+    fn stored_in(chunks: &Chunks) -> Option<&[BinaryChunk]> {
+        match chunks {
+            Chunks::BinaryType(chunks) => Some(chunks.as_slice()),
+            _ => None,
+        }
+    }
 }
 
 impl Stored for ListChunk {
@@ -128,6 +216,13 @@ impl Stored for ListChunk {
         ensures storage { storage result ≡ ⟦<ListChunk as Chunk>⟧.kind }
     {
         Chunks::ListType(chunks)
+    }
+
+    fn stored_in(chunks: &Chunks) -> Option<&[ListChunk]> {
+        match chunks {
+            Chunks::ListType(chunks) => Some(chunks.as_slice()),
+            _ => None,
+        }
     }
 }
 
@@ -138,6 +233,13 @@ impl Stored for StructChunk {
     {
         Chunks::StructType(chunks)
     }
+
+    fn stored_in(chunks: &Chunks) -> Option<&[StructChunk]> {
+        match chunks {
+            Chunks::StructType(chunks) => Some(chunks.as_slice()),
+            _ => None,
+        }
+    }
 }
 
 impl Stored for usize {
@@ -146,5 +248,12 @@ impl Stored for usize {
         ensures storage { storage result ≡ ⟦<usize as Chunk>⟧.kind }
     {
         Chunks::Null(chunks)
+    }
+
+    fn stored_in(chunks: &Chunks) -> Option<&[usize]> {
+        match chunks {
+            Chunks::Null(chunks) => Some(chunks.as_slice()),
+            _ => None,
+        }
     }
 }

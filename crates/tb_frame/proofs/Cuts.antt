@@ -5,8 +5,9 @@ use Rattle.std.specs.List.{slice_get}
 use Rattle.std.proofs.lemmas.List.{ext_get_or, length-map, get_or-map}
 use Rattle.tb_value.specs.Datum.{Datum}
 use Rattle.tb_chunk.specs.Col.{Col, values}
+use Rattle.tb_chunk.specs.Lent.{in_one_chunk}
 use Rattle.tb_frame.specs.Table.{TableColumn, plain, table_of, IsTable}
-use Rattle.tb_frame.specs.Frame.{lens, AreCutAlike, in_one_chunk}
+use Rattle.tb_frame.specs.Frame.{lens, AreCutAlike}
 
 -- as many chunks, and each as long as its fellow
 pub lens-alike : (a b : Col) → length a.chunks ≡ length b.chunks → ((k : ℕ) → k < length a.chunks → length (get_or a.chunks k []) ≡ length (get_or b.chunks k [])) → lens a ≡ lens b

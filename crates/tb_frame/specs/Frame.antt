@@ -58,10 +58,6 @@ lens c = lengths c.chunks
 abbrev pub AreCutAlike : List Col → Type 0
 AreCutAlike cs = AllPairs (λ (a b : Col). lens a ≡ lens b) cs
 
--- the values of a column in one chunk
-abbrev pub in_one_chunk : Col → Col
-in_one_chunk c = record c { chunks = values c ∷ [] }
-
 -- the first column, with the values of the second where its own are Null, in one chunk
 abbrev pub coalesced : Col → Col → Col
 coalesced c d = record c { chunks = merged (values c) (values d) ∷ []; flag = Not }

@@ -1,13 +1,12 @@
 -- The rows that ids name.
-use Rattle.std.proofs.Common.{arith, ◌≡◌, ◌∙◌, ℕ, ◌<◌, ◌+◌, suc, zero, List, [], ◌∷◌, ◌++◌, length, map, get_or, take, refl, ap, sym, Some, None, length-append}
+use Rattle.std.proofs.Common.{arith, ◌≡◌, ◌∙◌, ℕ, ◌<◌, ◌+◌, suc, zero, List, [], ◌∷◌, ◌++◌, length, get_or, take, ap, Some, None, length-append}
 use Rattle.std.specs.List.{sum, fold}
-use Rattle.std.proofs.lemmas.List.{get_or_append_left, get_or-append-add, get_or-map, length-map}
+use Rattle.std.proofs.lemmas.List.{get_or_append_left, get_or-append-add}
 use Rattle.tb_value.specs.Datum.{Datum, null}
 use Rattle.tb_chunk.specs.Col.{flat}
 use Rattle.tb_chunk.specs.Rows.{IsRowOf}
 use Rattle.tb_gather.specs.Ids.{Id, row_of, row_or_none, NamesRow}
 use Rattle.tb_frame.specs.Frame.{lengths}
-use Rattle.tb_gather.specs.Gathered.{value_at}
 
 sum_from : (a : ℕ) (ns : List ℕ) → fold (λ s n. s + n) a ns ≡ a + sum ns
 sum_from a [] = omega arith
@@ -26,23 +25,6 @@ value-at (vs ∷ rest) (suc c) r h =
     let s : ℕ = sum (take c (lengths rest)) in
     let n : sum (length vs ∷ take c (lengths rest)) + r ≡ length vs + (s + r) = omega (arith, sum-cons (length vs) (take c (lengths rest))) in
     ap (λ k. get_or (vs ++ flat rest) k null) n ∙ get_or-append-add vs (flat rest) (s + r) null ∙ value-at rest c r h
-
--- the same of chunks that show values
-module _ {X : Type 0} (f : X → List Datum) (xs : List X) (c : ℕ) (x : X) (is : x ≡ get_or xs c x) where
-  chunk-low : (r : ℕ) → NamesRow (lengths (map f xs)) (Some (c, r)) → c < length xs
-  chunk-low r h = omega (arith, h.0, length-map (map f xs) (λ (vs : List Datum). length vs), length-map xs f)
-
-  chunk-at : c < length xs → get_or (map f xs) c [] ≡ f x
-  chunk-at low = get_or-map f xs c x [] low ∙ ap f (sym is)
-
-  length-at : c < length xs → get_or (lengths (map f xs)) c 0 ≡ length (f x)
-  length-at low = get_or-map (λ (vs : List Datum). length vs) (map f xs) c [] 0 (rw (length-map xs f) low) ∙ ap (λ (vs : List Datum). length vs) (chunk-at low)
-
-  pub row-within : (r : ℕ) → NamesRow (lengths (map f xs)) (Some (c, r)) → r < length (f x)
-  row-within r h = omega (arith, h.1, length-at (chunk-low r h))
-
-  pub named-value : (r : ℕ) → NamesRow (lengths (map f xs)) (Some (c, r)) → value_at (map f xs) (Some (c, r)) ≡ get_or (f x) r null
-  named-value r h = value-at (map f xs) c r h.1 ∙ ap (λ (vs : List Datum). get_or vs r null) (chunk-at (chunk-low r h))
 
 row-low : (chunks : List (List Datum)) (c r : ℕ) → r < get_or (lengths chunks) c 0 → row_of (lengths chunks) (c, r) < length (flat chunks)
 row-low [] c r h = absurd (omega arith)

@@ -1,33 +1,36 @@
 //! Chunks made of the rows that ids name.
 ghost use Rattle.std.specs.Prelude.{◌≡◌, ◌<◌, ◌^◌, ◌∷◌, ◌++◌, [], All, IfOk, OnOk, length, map};
+ghost use Rattle.tb_chunk.specs.Held.{AreHeld};
 ghost use Rattle.tb_chunk.specs.Seen.{chunk_lists, storage};
 ghost use Rattle.tb_gather.specs.Ids.{NamesRow};
 ghost use Rattle.tb_frame.specs.Frame.{lengths};
 ghost use Rattle.tb_gather.specs.Gathered.{value_at};
 
 use std::alloc::Global;
-use tb_store::{Chunk, Chunks, Stored};
+use tb_store::{Chunk, Chunks, Growing, Stored};
 use tb_value::{ChunkId, OutOfMemory};
 
 // Appends the row that an id names, Null for none.
 fn push_named<C: Chunk, const B: u64>(
     alloc: Global,
-    out: &mut C,
+    out: &mut Growing<C>,
     chunks: &[C],
     id: &ChunkId<B>,
 ) -> Result<(), OutOfMemory>
-    requires room { length (C.shown out.old) < 2 ^ 63 }
+    requires held { AreHeld (C.buffers out.old.chunk) out.old.bases.items (map C.buffers chunks.now) }
+    requires room { length (C.shown out.old.chunk) < 2 ^ 63 }
     requires named { NamesRow (lengths (map C.shown chunks.now)) id.now }
-    ensures { OnOk result (C.shown out.new ≡ C.shown out.old ++ value_at (map C.shown chunks.now) id.now ∷ []) }
+    ensures shown { OnOk result (C.shown out.new.chunk ≡ C.shown out.old.chunk ++ value_at (map C.shown chunks.now) id.now ∷ []) }
+    ensures held { AreHeld (C.buffers out.new.chunk) out.new.bases.items (map C.buffers chunks.now) }
 {
     if id.is_null() {
         return out.push_null();
     }
     let (chunk, row) = id.extract();
-    out.push_from(alloc, &chunks[chunk as usize], row as usize)
+    out.push(alloc, chunks, chunk as usize, row as usize)
 }
 
-// The rows that the ids name, Null for none. It takes steps in the number of ids.
+// The rows that the ids name, Null for none. It takes steps in the number of ids, and of buffers.
 fn gather<C: Chunk, const B: u64>(
     alloc: Global,
     chunks: &[C],
@@ -37,11 +40,11 @@ fn gather<C: Chunk, const B: u64>(
     requires few { length ids.now < 2 ^ 32 }
     ensures { IfOk result (λ c. C.shown c ≡ map (value_at (map C.shown chunks.now)) ids.now) }
 {
-    let mut out = C::empty(alloc);
+    let mut out = Growing::over(alloc, chunks, ids.len())?;
     for id in ids {
         push_named(alloc, &mut out, chunks, id)?;
     }
-    Ok(out)
+    Ok(out.finish())
 }
 
 /// The rows that the ids name, as the only chunk.

@@ -3,6 +3,7 @@ use Rattle.std.specs.Prelude.{List, Option, map}
 use Rattle.tb_value.specs.Datum.{Datum, string, binary}
 use Rattle.tb_chunk.specs.Chunk.{or_null}
 use Rattle.tb_chunk.specs.Col.{flat}
+use Rattle.tb_chunk.specs.View.{texts}
 use Rattle.tb_chunk.specs.declared.chunk.Cells.{Cells}
 use Rattle.tb_chunk.specs.declared.chunk.StringChunk.{StringChunk}
 use Rattle.tb_chunk.specs.declared.owned_chunks.BinaryChunk.{BinaryChunk}
@@ -14,10 +15,10 @@ abbrev pub cell_values : {N : Type 0} → (N → Datum) → List (Cells N) → L
 cell_values shows chunks = flat (map (λ c. map (or_null shows) c.cells.items) chunks)
 
 abbrev pub text_values : List StringChunk → List Datum
-text_values chunks = flat (map (λ c. map (or_null string) c.inner.cells.items) chunks)
+text_values chunks = flat (map (λ c. map (or_null string) (texts c.inner.buffers.items c.inner.views.items)) chunks)
 
 abbrev pub binary_values : List BinaryChunk → List Datum
-binary_values chunks = flat (map (λ c. map (or_null binary) c.inner.cells.items) chunks)
+binary_values chunks = flat (map (λ c. map (or_null binary) (texts c.inner.buffers.items c.inner.views.items)) chunks)
 
 -- the keys of a list, lent or joined
 abbrev pub listed_keys : {N : Type 0} → KeyList N → List (Option N)

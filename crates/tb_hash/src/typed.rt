@@ -1,13 +1,14 @@
 //! The keys of a column, read as they are stored.
 ghost use Rattle.std.specs.Prelude.{◌≡◌, ◌≤◌, ◌++◌, ℕ, IfOk, List, OnOk, length, map};
+ghost use Rattle.std.specs.Option.{option_map};
 ghost use Rattle.tb_value.specs.Datum.{Datum, binary, string};
 ghost use Rattle.tb_chunk.specs.Chunk.{or_null};
 ghost use Rattle.tb_hash.specs.CellValues.{binary_values, cell_values, listed_keys, text_values};
 
 use std::alloc::Global;
 use tb_build::{JoinKey, KeyBytes};
-use tb_store::{BinaryChunk, Cell, Cells, StringChunk};
-use tb_value::{Bytes, MAX_ROWS, OutOfMemory, PlSmallStr};
+use tb_store::{BinaryChunk, Cell, Cells, Chunk, StringChunk};
+use tb_value::{MAX_ROWS, OutOfMemory};
 
 /// A key that is stored as it is: two are equal exactly where their values are.
 pub(crate) trait KeyCell: Cell + JoinKey {
@@ -188,53 +189,69 @@ fn joined_cells<N: Cell + Copy>(
     Ok(keys)
 }
 
-// A value that is stored as bytes.
-trait ByteCell {
-    ghost use Rattle.std.specs.Prelude.{◌≡◌, ℕ, List};
+// A chunk of values that are stored as bytes.
+trait ByteChunk {
+    ghost use Rattle.std.specs.Prelude.{◌≡◌, ◌<◌, ℕ, List, Option, None, get_or, length};
+    ghost use Rattle.std.specs.Option.{option_map};
 
-    ghost bytes: { Self → List ℕ };
+    ghost bytes: { Self → List (Option (List ℕ)) };
 
-    fn lent(&self) -> &[u8]
-        ensures { result.now ≡ bytes self.now };
+    fn rows(&self) -> usize
+        ensures { result ≡ length (bytes self.now) };
+
+    fn lent(&self, row: usize) -> Option<&[u8]>
+        requires { row < length (bytes self.now) }
+        ensures { option_map (λ t. t.now) result ≡ get_or (bytes self.now) row None };
 }
 
-impl ByteCell for PlSmallStr {
-    ghost bytes = { λ text. text };
+impl ByteChunk for StringChunk {
+    ghost use Rattle.tb_chunk.specs.View.{texts};
 
-    fn lent(&self) -> &[u8] {
-        self.as_str().as_bytes()
+    ghost bytes = { λ c. texts c.inner.buffers.items c.inner.views.items };
+
+    fn rows(&self) -> usize {
+        self.len()
+    }
+
+    fn lent(&self, row: usize) -> Option<&[u8]> {
+        self.get(row)
     }
 }
 
-impl ByteCell for Bytes {
-    ghost bytes = { λ bytes. bytes };
+impl ByteChunk for BinaryChunk {
+    ghost use Rattle.tb_chunk.specs.View.{texts};
 
-    fn lent(&self) -> &[u8] {
-        self.as_slice()
+    ghost bytes = { λ c. texts c.inner.buffers.items c.inner.views.items };
+
+    fn rows(&self) -> usize {
+        self.len()
+    }
+
+    fn lent(&self, row: usize) -> Option<&[u8]> {
+        self.get(row)
     }
 }
 
-fn lent_key<B: ByteCell>(cell: &Option<B>) -> Option<KeyBytes<'_>>
-    ensures { (shows : List ℕ → Datum) → or_null (λ k. shows k.bytes.now) result ≡ or_null (λ b. shows (B.bytes b)) cell.now }
+fn lent_key(bytes: Option<&[u8]>) -> Option<KeyBytes<'_>>
+    ensures { (shows : List ℕ → Datum) → or_null (λ k. shows k.bytes.now) result ≡ or_null shows (option_map (λ t. t.now) bytes.entry) }
 {
-    match cell {
-        Some(value) => Some(KeyBytes {
-            bytes: value.lent(),
-        }),
+    match bytes {
+        Some(bytes) => Some(KeyBytes { bytes }),
         None => None,
     }
 }
 
-// Puts the keys of these cells behind the others, however bytes are shown.
-fn push_keys<'a, B: ByteCell>(
+// Puts the keys of this chunk behind the others, however bytes are shown.
+fn push_keys<'a, B: ByteChunk>(
     keys: &mut Vec<Option<KeyBytes<'a>>>,
-    cells: &'a [Option<B>],
+    chunk: &'a B,
 ) -> Result<(), OutOfMemory>
-    ensures { (shows : List ℕ → Datum) → OnOk result (map (or_null (λ k. shows k.bytes.now)) keys.new.items ≡ map (or_null (λ k. shows k.bytes.now)) keys.old.items ++ map (or_null (λ b. shows (B.bytes b))) cells.now) }
+    ensures { (shows : List ℕ → Datum) → OnOk result (map (or_null (λ k. shows k.bytes.now)) keys.new.items ≡ map (or_null (λ k. shows k.bytes.now)) keys.old.items ++ map (or_null shows) (B.bytes chunk.now)) }
 {
-    keys.reserve(cells.len())?;
-    for cell in cells {
-        keys.push(lent_key(cell))?;
+    let rows = chunk.rows();
+    keys.reserve(rows)?;
+    for row in 0..rows {
+        keys.push(lent_key(chunk.lent(row)))?;
     }
     Ok(())
 }
@@ -248,7 +265,7 @@ pub(crate) fn joined_texts(
 {
     let mut keys = Vec::new(alloc);
     for chunk in chunks {
-        push_keys(&mut keys, chunk.texts())?;
+        push_keys(&mut keys, chunk)?;
     }
     Ok(keys)
 }
@@ -262,7 +279,7 @@ pub(crate) fn joined_bytes(
 {
     let mut keys = Vec::new(alloc);
     for chunk in chunks {
-        push_keys(&mut keys, &chunk.inner.cells)?;
+        push_keys(&mut keys, chunk)?;
     }
     Ok(keys)
 }

@@ -6,8 +6,7 @@ use Rattle.std.proofs.lemmas.List.{get_or-map, length-map}
 use Rattle.std.proofs.lemmas.List.Elements.{All-map, All-same}
 use Rattle.tb_value.specs.Names.{Name}
 use Rattle.tb_chunk.specs.Col.{Col}
-use Rattle.tb_chunk.specs.Lent.{lent_columns}
-use Rattle.tb_frame.specs.Frame.{in_one_chunk}
+use Rattle.tb_chunk.specs.Lent.{in_one_chunk, lent_columns}
 use Rattle.tb_frame.specs.Table.{TableColumn, plain, table_of}
 use Rattle.tb_frame.proofs.Cuts.{table-whole}
 use Rattle.tb_pivot.specs.Lookup.{AreAsHigh, chosen_of}

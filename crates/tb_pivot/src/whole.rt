@@ -2,8 +2,7 @@
 ghost use Rattle.std.specs.Prelude.{◌≡◌, ◌↔◌, ◌≤◌, true, IfOk, IsTrue, length, map};
 ghost use Rattle.std.specs.List.{All};
 ghost use Rattle.tb_value.specs.Refusals.{Settles, first_cause};
-ghost use Rattle.tb_chunk.specs.Lent.{lent_columns};
-ghost use Rattle.tb_frame.specs.Frame.{in_one_chunk};
+ghost use Rattle.tb_chunk.specs.Lent.{in_one_chunk, lent_columns};
 ghost use Rattle.tb_frame.specs.Table.{table_of};
 ghost use Rattle.tb_pivot.specs.Lookup.{AreAsHigh, chosen_of};
 ghost use Rattle.tb_pivot.specs.Made.{takes};
@@ -15,7 +14,7 @@ use crate::maker::CellMaker;
 use crate::wide::wide;
 use std::alloc::Global;
 use tb_frame::DataFrame;
-use tb_store::Series;
+use tb_store::{Series, are_in_one_chunk, lend, rechunked};
 use tb_value::{MAX_ROWS, OutOfMemory, PolarsResult};
 
 // The columns of an index and those whose rows become headers, each in one chunk.
@@ -23,35 +22,6 @@ use tb_value::{MAX_ROWS, OutOfMemory, PolarsResult};
 struct WholeKeys {
     on: Vec<Series>,
     index: Vec<Series>,
-}
-
-// Whether each column has one chunk.
-fn are_in_one_chunk(columns: &[&Series]) -> bool
-    ensures { IsTrue result ↔ All (λ c. length c.now.chunks ≡ 1) columns.now }
-{
-    columns.iter().all(|column| column.n_chunks() == 1)
-}
-
-// The columns, each in one chunk.
-fn rechunked(alloc: Global, columns: &[&Series]) -> Result<Vec<Series>, OutOfMemory>
-    ensures { IfOk result (λ v. v.items ≡ map in_one_chunk (lent_columns columns.now)) }
-{
-    let mut whole = Vec::with_capacity(alloc, columns.len())?;
-    for column in columns {
-        whole.push(column.rechunk(alloc)?)?;
-    }
-    Ok(whole)
-}
-
-// The columns, lent one by one.
-fn lend(alloc: Global, columns: &[Series]) -> Result<Vec<&Series>, OutOfMemory>
-    ensures { IfOk result (λ v. lent_columns v.items ≡ columns.now) }
-{
-    let mut lent = Vec::with_capacity(alloc, columns.len())?;
-    for column in columns {
-        lent.push(column)?;
-    }
-    Ok(lent)
 }
 
 // The columns, lent once more.

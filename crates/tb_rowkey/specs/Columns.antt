@@ -12,10 +12,6 @@ pub use Rattle.tb_chunk.specs.Lent.{lent_columns}
 use Rattle.tb_rowkey.specs.RowKey.{rowkey, key_row}
 use Rattle.tb_value.specs.Same.{agrees}
 
--- the same values in one chunk
-abbrev pub one_chunk : Col → Col
-one_chunk c = record c { chunks = values c ∷ [] }
-
 -- the length of the columns
 abbrev pub row_count : List Col → ℕ
 row_count [] = 0

@@ -12,12 +12,11 @@ ghost use Rattle.tb_chunk.specs.Chunk.{or_null};
 ghost use Rattle.tb_chunk.specs.Col.{values};
 ghost use Rattle.tb_rowkey.specs.Columns.{row_count, key_column, AreShortRows};
 
-use crate::lent::lend;
 use crate::row_keys::RowKeys;
 use std::alloc::Global;
 use tb_store::{
     BinaryChunk, Bytes, Cells, Chunks, DataType, IsSorted, MAX_ROWS, OutOfMemory, PlSmallStr,
-    Series,
+    Series, lend,
 };
 
 // A copy of the bytes, in no more memory than they take.
@@ -67,9 +66,7 @@ fn column_of(alloc: Global, cells: Vec<Option<Bytes>>) -> Result<Series, OutOfMe
 {
     let name = PlSmallStr::from_str(alloc, "")?;
     let mut chunks = Vec::with_capacity(alloc, 1)?;
-    chunks.push(BinaryChunk {
-        inner: Cells { cells },
-    })?;
+    chunks.push(BinaryChunk::from_cells(alloc, &Cells { cells })?)?;
     Ok(Series::from_parts(
         name,
         binary_type(),

@@ -11,12 +11,12 @@ ghost use Rattle.tb_rowkey.specs.RowKey.{field_code, has_key};
 ghost use Rattle.tb_rowkey.specs.RowKeys.{bytes_of, key_of};
 
 use crate::fields::push_field;
-use crate::lent::{are_in_one_chunk, know_columns, lend, rechunked};
+use crate::lent::know_columns;
 use crate::places::Places;
 use crate::room::room_for;
 use std::alloc::Global;
 use std::marker::Model;
-use tb_store::{MAX_ROWS, OutOfMemory, Series, ValueRef};
+use tb_store::{MAX_ROWS, OutOfMemory, Series, ValueRef, are_in_one_chunk, lend, rechunked};
 use tb_value::TOO_LONG;
 
 /// The keys of rows, one behind another in one buffer. A row without a key has no bytes there. `of_columns` alone makes

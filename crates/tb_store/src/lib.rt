@@ -5,6 +5,7 @@ mod chunked_array;
 mod column;
 mod data_type;
 pub mod laws;
+mod lent;
 mod making;
 mod merging;
 mod ordering;
@@ -18,10 +19,11 @@ pub use data_type::{
     BinaryType, BooleanType, Int8Type, Int16Type, Int32Type, Int64Type, Int128Type, ListType,
     PolarsDataType, StringType, StructType, UInt8Type, UInt16Type, UInt32Type, UInt64Type,
 };
+pub use lent::{are_in_one_chunk, lend, rechunked};
 pub use series::Series;
 pub use tb_chunk::{
-    BinaryChunk, Cell, Cells, Chunk, Chunks, FieldValues, ListChunk, Physical, Stored, StringChunk,
-    StructChunk, physical_of, slice_offsets,
+    BinaryChunk, Cell, Cells, Chunk, Chunks, FieldValues, Growing, ListChunk, Physical, Stored,
+    StringChunk, StructChunk, physical_of, slice_offsets,
 };
 pub use tb_value::{
     AnyValue, Bytes, ChunkId, ComputeCause, DataType, Field, Fields, IdxSize, InvalidCause,

@@ -13,12 +13,23 @@ use tb_chunk::Chunks;
 use tb_value::{DataType, IsSorted, OutOfMemory, PlSmallStr, ValueRef};
 
 /// A column: a name, a type, one or more chunks and a flag.
-#[derive(Drop)]
 pub struct Series {
     name: PlSmallStr,
     dtype: DataType,
     chunks: Chunks,
     flag: IsSorted,
+}
+
+// Written out, so that whoever lets a column go calls it: a derived one stands in line there, with a case for each storage.
+impl Drop for Series {
+    fn drop(self) {
+        let Series {
+            name,
+            dtype,
+            chunks,
+            flag,
+        } = self;
+    }
 }
 
 impl Model for Series {

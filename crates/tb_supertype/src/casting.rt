@@ -16,13 +16,12 @@ ghost use Rattle.tb_supertype.specs.Cast.{cast, cast_to, truth_number};
 ghost use Rattle.tb_supertype.specs.Columns.{cast_values, CastsTo, stacked};
 
 use crate::class::{Class, class_of};
-use crate::stored::StoredIn;
 use std::alloc::Global;
 use tb_chunk::join_one;
 use tb_label::value_text;
 use tb_store::{
     BinaryChunk, Cell, Cells, Chunk, Chunks, IsSorted, ListChunk, MAX_ROWS, Physical, Series,
-    StringChunk, StructChunk, physical_of,
+    Stored, StringChunk, StructChunk, physical_of,
 };
 use tb_value::{AnyValue, DataType, OutOfMemory, PlSmallStr, ValueRef};
 
@@ -127,7 +126,7 @@ impl CastChunk for StringChunk {
         dtype: &DataType,
         column: &Series,
     ) -> Result<StringChunk, OutOfMemory> {
-        Ok(StringChunk::from_cells(texts_of(alloc, column)?))
+        StringChunk::from_cells(alloc, &texts_of(alloc, column)?)
     }
 }
 
@@ -137,9 +136,7 @@ impl CastChunk for BinaryChunk {
         dtype: &DataType,
         column: &Series,
     ) -> Result<BinaryChunk, OutOfMemory> {
-        Ok(BinaryChunk {
-            inner: cells_of(alloc, dtype, column)?,
-        })
+        BinaryChunk::from_cells(alloc, &cells_of(alloc, dtype, column)?)
     }
 }
 
@@ -170,7 +167,7 @@ impl CastChunk for usize {
 }
 
 // A typed copy of the values of a column.
-fn typed_copy<C: StoredIn>(alloc: Global, column: &Series) -> Result<C, OutOfMemory>
+fn typed_copy<C: Stored>(alloc: Global, column: &Series) -> Result<C, OutOfMemory>
     requires { physical column.now.kind ≡ C.kind }
     ensures copy { IfOk result (λ c. C.shown c ≡ values column.now) }
     ensures typed { All (HasType column.now.kind) (values column.now) }
@@ -184,7 +181,7 @@ fn typed_copy<C: StoredIn>(alloc: Global, column: &Series) -> Result<C, OutOfMem
 
 // The column's values cast to the type: those of a column of the type are copied. More chunks than one are joined
 // first, so that rows are found at once.
-fn whole_chunk<C: CastChunk + StoredIn>(
+fn whole_chunk<C: CastChunk + Stored>(
     alloc: Global,
     dtype: &DataType,
     column: &Series,
@@ -203,7 +200,7 @@ fn whole_chunk<C: CastChunk + StoredIn>(
     C::cast_of(alloc, dtype, &whole)
 }
 
-fn each_chunk<C: CastChunk + StoredIn>(
+fn each_chunk<C: CastChunk + Stored>(
     alloc: Global,
     dtype: &DataType,
     columns: &[&Series],
@@ -219,21 +216,22 @@ fn each_chunk<C: CastChunk + StoredIn>(
     Ok(chunks)
 }
 
-// A chunk for each column, and an empty one where there is no column.
-fn chunks_of<C: CastChunk + StoredIn>(
+// A chunk for each column, and an empty one where there is no column, as those of a column.
+fn chunks_of<C: CastChunk + Stored>(
     alloc: Global,
     dtype: &DataType,
     columns: &[&Series],
-) -> Result<Vec<C>, OutOfMemory>
+) -> Result<Chunks, OutOfMemory>
     requires stored { physical (kind_of dtype.now) ≡ C.kind }
     requires typed { All (λ c. CastsTo (kind_of dtype.now) c.now) columns.now }
-    ensures { IfOk result (λ v. map C.shown v.items ≡ at_least_one (map (λ c. cast_values (kind_of dtype.now) c.now) columns.now)) }
+    ensures lists { IfOk result (λ c. chunk_lists c ≡ at_least_one (map (λ c. cast_values (kind_of dtype.now) c.now) columns.now)) }
+    ensures storage { IfOk result (λ c. storage c ≡ C.kind) }
 {
     let mut chunks = each_chunk(alloc, dtype, columns)?;
     if chunks.is_empty() {
         chunks.push(C::empty(alloc))?;
     }
-    Ok(chunks)
+    Ok(C::wrap(chunks))
 }
 
 fn cast_chunks(alloc: Global, dtype: &DataType, columns: &[&Series]) -> Result<Chunks, OutOfMemory>
@@ -242,21 +240,21 @@ fn cast_chunks(alloc: Global, dtype: &DataType, columns: &[&Series]) -> Result<C
     ensures storage { IfOk result (λ c. storage c ≡ physical (kind_of dtype.now)) }
 {
     match physical_of(dtype) {
-        Physical::Null => Ok(Chunks::Null(chunks_of(alloc, dtype, columns)?)),
-        Physical::Boolean => Ok(Chunks::BooleanType(chunks_of(alloc, dtype, columns)?)),
-        Physical::Int8 => Ok(Chunks::Int8Type(chunks_of(alloc, dtype, columns)?)),
-        Physical::Int16 => Ok(Chunks::Int16Type(chunks_of(alloc, dtype, columns)?)),
-        Physical::Int32 => Ok(Chunks::Int32Type(chunks_of(alloc, dtype, columns)?)),
-        Physical::Int64 => Ok(Chunks::Int64Type(chunks_of(alloc, dtype, columns)?)),
-        Physical::Int128 => Ok(Chunks::Int128Type(chunks_of(alloc, dtype, columns)?)),
-        Physical::UInt8 => Ok(Chunks::UInt8Type(chunks_of(alloc, dtype, columns)?)),
-        Physical::UInt16 => Ok(Chunks::UInt16Type(chunks_of(alloc, dtype, columns)?)),
-        Physical::UInt32 => Ok(Chunks::UInt32Type(chunks_of(alloc, dtype, columns)?)),
-        Physical::UInt64 => Ok(Chunks::UInt64Type(chunks_of(alloc, dtype, columns)?)),
-        Physical::String => Ok(Chunks::StringType(chunks_of(alloc, dtype, columns)?)),
-        Physical::Binary => Ok(Chunks::BinaryType(chunks_of(alloc, dtype, columns)?)),
-        Physical::List => Ok(Chunks::ListType(chunks_of(alloc, dtype, columns)?)),
-        Physical::Struct => Ok(Chunks::StructType(chunks_of(alloc, dtype, columns)?)),
+        Physical::Null => chunks_of::<usize>(alloc, dtype, columns),
+        Physical::Boolean => chunks_of::<Cells<bool>>(alloc, dtype, columns),
+        Physical::Int8 => chunks_of::<Cells<i8>>(alloc, dtype, columns),
+        Physical::Int16 => chunks_of::<Cells<i16>>(alloc, dtype, columns),
+        Physical::Int32 => chunks_of::<Cells<i32>>(alloc, dtype, columns),
+        Physical::Int64 => chunks_of::<Cells<i64>>(alloc, dtype, columns),
+        Physical::Int128 => chunks_of::<Cells<i128>>(alloc, dtype, columns),
+        Physical::UInt8 => chunks_of::<Cells<u8>>(alloc, dtype, columns),
+        Physical::UInt16 => chunks_of::<Cells<u16>>(alloc, dtype, columns),
+        Physical::UInt32 => chunks_of::<Cells<u32>>(alloc, dtype, columns),
+        Physical::UInt64 => chunks_of::<Cells<u64>>(alloc, dtype, columns),
+        Physical::String => chunks_of::<StringChunk>(alloc, dtype, columns),
+        Physical::Binary => chunks_of::<BinaryChunk>(alloc, dtype, columns),
+        Physical::List => chunks_of::<ListChunk>(alloc, dtype, columns),
+        Physical::Struct => chunks_of::<StructChunk>(alloc, dtype, columns),
     }
 }
 

@@ -15,7 +15,6 @@
 mod casting;
 mod class;
 pub mod laws;
-mod stored;
 mod types;
 
 pub use casting::stack;

@@ -108,7 +108,7 @@ fn text_column(
     ensures { IfOk result (λ c. plain c ≡ record { name = name; kind = kind.string; values = map (or_null string) cells.items }) }
 {
     let mut chunks = Vec::with_capacity(alloc, 1)?;
-    chunks.push(StringChunk::from_cells(Cells { cells }))?;
+    chunks.push(StringChunk::from_cells(alloc, &Cells { cells })?)?;
     let series = Series::from_parts(name, text_type(), Chunks::StringType(chunks), IsSorted::Not);
     Ok(series.into_column())
 }

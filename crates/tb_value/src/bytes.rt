@@ -1,31 +1,35 @@
 //! Lists of bytes.
-ghost use Rattle.std.specs.Prelude.{◌≡◌, IfOk, IsOkAnd};
+ghost use Rattle.std.specs.Prelude.{◌≡◌, IfOk};
 
 use crate::error::OutOfMemory;
 use std::alloc::Global;
 use std::hash::{Hash, Hasher};
 use std::marker::Model;
+use std::sync::ArcSlice;
 
-/// An own list of bytes.
+/// An own list of bytes. Copies share their memory.
 #[derive(Drop)]
 pub struct Bytes {
-    bytes: Vec<u8>,
+    bytes: ArcSlice<u8>,
 }
 
 impl Model for Bytes {
     ghost use Rattle.std.specs.Prelude.{ℕ, List};
+    ghost use Rattle.std.specs.Arc.{arc_slice_items};
 
     ghost Value = { List ℕ };
 
-    ghost view = { λ b. b.bytes.items };
+    ghost view = { λ b. arc_slice_items b.bytes };
 }
 
 impl Bytes {
-    /// The bytes as they are. Today it takes no memory of the allocator, and always answers `Ok`.
+    /// The bytes as they are. They are not copied.
     pub fn from_vec(_alloc: Global, bytes: Vec<u8>) -> Result<Bytes, OutOfMemory>
-        ensures { IsOkAnd result (λ b. b ≡ bytes.items) }
+        ensures { IfOk result (λ b. b ≡ bytes.items) }
     {
-        Ok(Bytes { bytes })
+        Ok(Bytes {
+            bytes: ArcSlice::from_vec(bytes)?,
+        })
     }
 
     /// The bytes, lent.
@@ -35,12 +39,12 @@ impl Bytes {
         self.bytes.as_slice()
     }
 
-    /// An equal list.
-    pub fn copy(&self, alloc: Global) -> Result<Bytes, OutOfMemory>
+    /// An equal list. It copies no byte.
+    pub fn copy(&self, _alloc: Global) -> Result<Bytes, OutOfMemory>
         ensures { IfOk result (λ b. b ≡ self.now) }
     {
         Ok(Bytes {
-            bytes: Vec::from_slice(alloc, self.as_slice())?,
+            bytes: self.bytes.clone()?,
         })
     }
 }
@@ -56,7 +60,7 @@ impl PartialEq for Bytes {
     ghost laws = { Prim.search (comparing, rules) };
 
     fn eq(&self, other: &Bytes) -> bool {
-        self.bytes == other.bytes
+        self.as_slice() == other.as_slice()
     }
 }
 
@@ -77,6 +81,6 @@ impl Hash for Bytes {
     ghost respects_eq = { Prim.search (hashing, rules) };
 
     fn hash<H: Hasher>(&self, state: &mut H) {
-        self.bytes.hash(state);
+        self.as_slice().hash(state);
     }
 }

@@ -1,5 +1,9 @@
-use Rattle.std.proofs.Common.{◌≡◌, ◌++◌, take, drop}
+use Rattle.std.proofs.Common.{◌≡◌, ◌++◌, [], get_or, map, take, drop}
+use Rattle.tb_chunk.specs.Held.{AreHeld}
 use Rattle.tb_chunk.proofs.grow.push_rows.Given as goal
 
 abbrev pub invariant-loop-i : goal.invariant-loop-i
-invariant-loop-i g l = g.C.Chunk.shown l.out ≡ g.C.Chunk.shown l.initial.out ++ take l.i (drop l.from (g.C.Chunk.shown l.chunk))
+invariant-loop-i g l = record {
+  same : g.C.Chunk.shown l.out.chunk ≡ g.C.Chunk.shown l.initial.out.chunk ++ take l.i (drop l.from (get_or (map g.C.Chunk.shown l.chunks) l.chunk []));
+  held : AreHeld (g.C.Chunk.buffers l.out.chunk) l.out.bases.items (map g.C.Chunk.buffers l.chunks);
+}

@@ -1,5 +1,5 @@
 use Rattle.std.proofs.Common.{◌≡◌, take, map}
-use Rattle.tb_frame.specs.Frame.{in_one_chunk}
+use Rattle.tb_chunk.specs.Lent.{in_one_chunk}
 use Rattle.tb_frame.proofs.chunking.rechunk_columns.Given as goal
 
 abbrev pub invariant-loop-column : goal.invariant-loop-column

@@ -2,28 +2,28 @@ use Rattle.std.proofs.Common.{◌≡◌, ℕ, Bool, List, Bor, Option, length, m
 use Rattle.std.specs.Prelude.{◌↔◌, IfSome, IsSome}
 use Rattle.std.specs.List.{All}
 use Rattle.std.proofs.lemmas.List.{length-map}
-use Rattle.std.proofs.lemmas.Simd.{map-map}
 use Rattle.std.proofs.lemmas.Result.{IfOk-weaker}
 use Rattle.tb_value.specs.Datum.{Datum, binary}
 use Rattle.tb_chunk.specs.Chunk.{or_null}
 use Rattle.tb_chunk.specs.Col.{Col, values}
-use Rattle.tb_rowkey.specs.Columns.{lent_columns, one_chunk, row_count, AreShortRows, keys_at}
-use Rattle.tb_rowkey.proofs.WholeColumns.{in_one_chunk, whole_rows, whole_short, whole_short_back, whole_keys}
+use Rattle.tb_chunk.specs.Lent.{in_one_chunk}
+use Rattle.tb_rowkey.specs.Columns.{lent_columns, row_count, AreShortRows, keys_at}
+use Rattle.tb_rowkey.proofs.WholeColumns.{whole, whole_rows, whole_short, whole_short_back, whole_keys}
 use Rattle.tb_rowkey.proofs.Written.{some_weaker}
 use Rattle.tb_rowkey.proofs.row_keys.RowKeys.of_columns.Goals as goal
 
 -- the columns that are lent again are the given ones, in one chunk each
-lent_again : (rs ls more : List (Bor Col)) (ws made : List Col) → ls ≡ more → lent_columns more ≡ ws → ws ≡ made → made ≡ map (λ (r : Bor Col). one_chunk r.now) rs → lent_columns ls ≡ in_one_chunk (lent_columns rs)
-lent_again rs ls more ws made e f g h = ap lent_columns e ∙ f ∙ g ∙ h ∙ sym (map-map one_chunk (λ (r : Bor Col). r.now) rs)
+lent_again : (rs ls more : List (Bor Col)) (ws made : List Col) → ls ≡ more → lent_columns more ≡ ws → ws ≡ made → made ≡ whole (lent_columns rs) → lent_columns ls ≡ whole (lent_columns rs)
+lent_again rs ls more ws made e f g h = ap lent_columns e ∙ f ∙ g ∙ h
 
 pub keys_of-requires-2-clause-some : goal.keys_of-requires-2-clause-some
 keys_of-requires-2-clause-some c =
     let e = lent_again c.args.columns.now c.deref-2.result.now c.in_ok-lent.lent.items c.deref.result.now c.in_ok-whole.whole.items c.deref-2.ensures.value c.in_ok-lent.ensures c.deref.ensures.value c.in_ok-whole.ensures in
     let again = length-map c.deref-2.result.now (λ (r : Bor Col). r.now) in
     let same = ap length e in
-    let whole = length-map (lent_columns c.args.columns.now) one_chunk in
+    let kept = length-map (lent_columns c.args.columns.now) in_one_chunk in
     let given = length-map c.args.columns.now (λ (r : Bor Col). r.now) in
-    omega (arith, again, same, whole, given, c.requires.some)
+    omega (arith, again, same, kept, given, c.requires.some)
 
 pub keys_of-requires-2-clause-rows : goal.keys_of-requires-2-clause-rows
 keys_of-requires-2-clause-rows c =

@@ -1,0 +1,22 @@
+use Rattle.std.proofs.Common.{arith, ◌≡◌, ◌<◌, ◌^◌, ◌++◌, ◌∷◌, [], ◌∙◌, ◌+◌, List, ℕ, ap, sym, subst, length, map, take}
+use Rattle.std.proofs.lemmas.List.{map_more}
+use Rattle.tb_chunk.proofs.Held.{AreHeld-nil, AreHeld-push}
+use Rattle.tb_chunk.proofs.growing.Growing.over.Goals as goal
+
+pub loop-other-init : goal.loop-other-init
+loop-other-init g c = record { none = c.in_ok-chunk.ensures.shown; held = rw (c.in_ok-chunk.ensures.buffers, c.in_ok-bases.ensures.items) (AreHeld-nil [] (omega arith)) }
+
+pub loop-other-preserved : goal.loop-other-preserved
+loop-other-preserved g c =
+    let l = c.loop-other in
+    let buffers = g.C.Chunk.buffers in
+    let chunks = c.args.chunks.now in
+    let x = c.other-item.result in
+    let n = l.other-index in
+    let next : map buffers (take (n + 1) chunks) ≡ map buffers (take n chunks) ++ buffers x ∷ [] = map_more buffers chunks n x (omega arith) ∙ ap (λ y. map buffers (take n chunks) ++ buffers y ∷ []) (sym c.other-item.is) in
+    let few : length (buffers l.chunk ++ buffers x) < 2 ^ 32 = subst (λ (bs : List (List ℕ)). length bs < 2 ^ 32) c.in_ok-add_buffers.ensures.buffers c.in_ok-add_buffers.ensures.few in
+    let p = AreHeld-push (buffers l.chunk) l.bases.items (map buffers (take n chunks)) (buffers x) l.invariant.held few in
+    record {
+      none = c.in_ok-add_buffers.ensures.shown;
+      held = rw (next, c.in_ok-push.ensures.items, c.in_ok-add_buffers.ensures.buffers, c.in_ok-add_buffers.ensures.number) p;
+    }

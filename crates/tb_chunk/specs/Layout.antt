@@ -1,0 +1,50 @@
+-- Where the texts of a chunk are put.
+use Rattle.std.specs.Prelude.{◌≡◌, ◌+◌, ◌++◌, if◌then◌else◌, ℕ, List, [], ◌∷◌, Option, Some, None, nat_le, length}
+use Rattle.std.specs.List.{All, fold}
+use Rattle.tb_chunk.specs.View.{view_text, row_text, texts, IsView, IsViewOrNone}
+use Rattle.tb_chunk.specs.declared.view.View.{View}
+
+-- full buffers, and the one that is being filled
+abbrev pub Filling : Type 0
+Filling = List (List ℕ) × List ℕ
+
+-- a text longer than 12 bytes goes behind the others, into a new buffer where the sum would pass 2^32 - 1
+abbrev pub placed : Filling → Option (List ℕ) → Filling
+placed s None = s
+placed s (Some t) = (if nat_le (length t) 12 then s else (if nat_le (length s.1 + length t) 4294967295 then (s.0, s.1 ++ t) else (s.0 ++ s.1 ∷ [], t)))
+
+abbrev pub filled : List (Option (List ℕ)) → Filling
+filled ts = fold placed ([], []) ts
+
+-- all buffers; one that nothing was put into is none
+abbrev pub begun : Filling → List (List ℕ)
+begun (full, []) = full
+begun (full, b ∷ bs) = full ++ (b ∷ bs) ∷ []
+
+-- the buffers of a chunk of these texts
+abbrev pub laid_out : List (Option (List ℕ)) → List (List ℕ)
+laid_out ts = begun (filled ts)
+
+-- the buffers with the one that is being filled, which may be empty
+abbrev pub all_of : Filling → List (List ℕ)
+all_of s = s.0 ++ s.1 ∷ []
+
+-- the text is put behind the others, and the view is that of the text
+pub record IsPut (t : List ℕ) (old new : Filling) (v : View) : Type 0 where
+  pub placed : new ≡ placed old (Some t)
+  pub kept : (vs : List (Option View)) → All (IsViewOrNone (all_of old)) vs → All (IsViewOrNone (all_of new)) vs × (texts (all_of new) vs ≡ texts (all_of old) vs)
+  pub view : IsView (all_of new) v
+  pub text : view_text v (all_of new) ≡ t
+
+-- the same of an optional text, which may be short
+pub record IsRow (o : Option (List ℕ)) (old new : Filling) (w : Option View) : Type 0 where
+  pub placed : new ≡ placed old o
+  pub kept : (vs : List (Option View)) → All (IsViewOrNone (all_of old)) vs → All (IsViewOrNone (all_of new)) vs × (texts (all_of new) vs ≡ texts (all_of old) vs)
+  pub view : IsViewOrNone (all_of new) w
+  pub text : row_text (all_of new) w ≡ o
+
+-- views of these texts over the buffers so far
+pub record AreLaid (s : Filling) (vs : List (Option View)) (ts : List (Option (List ℕ))) : Type 0 where
+  pub formed : All (IsViewOrNone (all_of s)) vs
+  pub same : texts (all_of s) vs ≡ ts
+  pub placed : s ≡ filled ts

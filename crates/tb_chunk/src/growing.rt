@@ -1,0 +1,67 @@
+//! Chunks that take up rows of others.
+ghost use Rattle.std.specs.Prelude.{◌≡◌, ◌<◌, ◌^◌, ◌++◌, ◌∷◌, [], IfOk, OnOk, length, map, get_or};
+ghost use Rattle.tb_value.specs.Datum.{null};
+ghost use Rattle.tb_chunk.specs.Held.{AreHeld};
+
+use crate::chunk::Chunk;
+use std::alloc::Global;
+use tb_value::OutOfMemory;
+
+/// A chunk that takes up rows of some others, and where in it the buffers of each begin.
+#[derive(Drop)]
+pub struct Growing<C> {
+    pub chunk: C,
+    pub bases: Vec<u32>,
+}
+
+impl<C: Chunk> Growing<C> {
+    /// The chunk of no value that rows of these can be put into, with room for as many as are given.
+    pub fn over(alloc: Global, chunks: &[C], rows: usize) -> Result<Growing<C>, OutOfMemory>
+        ensures none { IfOk result (λ g. C.shown g.chunk ≡ []) }
+        ensures held { IfOk result (λ g. AreHeld (C.buffers g.chunk) g.bases.items (map C.buffers chunks.now)) }
+    {
+        let mut chunk = C::with_capacity(alloc, rows)?;
+        let mut bases = Vec::with_capacity(alloc, chunks.len())?;
+        for other in chunks {
+            bases.push(chunk.add_buffers(alloc, other)?)?;
+        }
+        Ok(Growing { chunk, bases })
+    }
+
+    /// Appends a row of one of the chunks.
+    pub fn push(
+        &mut self,
+        alloc: Global,
+        chunks: &[C],
+        chunk: usize,
+        row: usize,
+    ) -> Result<(), OutOfMemory>
+        requires held { AreHeld (C.buffers self.old.chunk) self.old.bases.items (map C.buffers chunks.now) }
+        requires room { length (C.shown self.old.chunk) < 2 ^ 63 }
+        requires chunk { chunk < length chunks.now }
+        requires row { row < length (get_or (map C.shown chunks.now) chunk []) }
+        ensures shown { OnOk result (C.shown self.new.chunk ≡ C.shown self.old.chunk ++ get_or (get_or (map C.shown chunks.now) chunk []) row null ∷ []) }
+        ensures held { AreHeld (C.buffers self.new.chunk) self.new.bases.items (map C.buffers chunks.now) }
+    {
+        self.chunk
+            .push_from(alloc, &chunks[chunk], self.bases[chunk], row)
+    }
+
+    /// Appends a Null.
+    pub fn push_null(&mut self) -> Result<(), OutOfMemory>
+        requires { length (C.shown self.old.chunk) < 2 ^ 63 }
+        ensures shown { OnOk result (C.shown self.new.chunk ≡ C.shown self.old.chunk ++ null ∷ []) }
+        ensures buffers { C.buffers self.new.chunk ≡ C.buffers self.old.chunk }
+        ensures bases { self.new.bases.items ≡ self.old.bases.items }
+    {
+        self.chunk.push_null()
+    }
+
+    /// The chunk of the rows.
+    pub fn finish(self) -> C
+        ensures { result ≡ self.chunk }
+    {
+        let Growing { chunk, bases } = self;
+        chunk
+    }
+}

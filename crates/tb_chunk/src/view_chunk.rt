@@ -1,0 +1,154 @@
+//! Runs of optional texts.
+ghost use Rattle.std.specs.Prelude.{◌≡◌, ◌<◌, ◌≤◌, ◌+◌, ◌^◌, ◌∷◌, ◌++◌, [], All, IfOk, OnOk, OnErr, None, is_none, length, map, take, drop, slice_index_or};
+ghost use Rattle.std.proofs.Props.{props};
+ghost use Rattle.std.specs.List.{count_by};
+ghost use Rattle.std.specs.Option.{option_map};
+ghost use Rattle.tb_chunk.specs.Held.{Holds};
+ghost use Rattle.tb_chunk.specs.View.{texts, row_text, IsViewOrNone};
+
+use crate::view::View;
+use std::alloc::Global;
+use tb_value::{Bytes, OutOfMemory};
+
+/// Optional texts, each as a view over the buffers.
+#[derive(Drop)]
+pub struct ViewChunk {
+    pub(crate) views: Vec<Option<View>>,
+    pub(crate) buffers: Vec<Bytes>,
+    ghost formed: { All (IsViewOrNone buffers.items) views.items } by { Prim.hlevel props },
+}
+
+impl ViewChunk {
+    /// The chunk of no row. It takes no memory yet.
+    pub fn empty(alloc: Global) -> ViewChunk
+        ensures views { result.views.items ≡ [] }
+        ensures buffers { result.buffers.items ≡ [] }
+    {
+        ViewChunk {
+            views: Vec::new(alloc),
+            buffers: Vec::new(alloc),
+        }
+    }
+
+    /// The chunk of no row, with room for as many as are given.
+    pub fn with_capacity(alloc: Global, rows: usize) -> Result<ViewChunk, OutOfMemory>
+        ensures views { IfOk result (λ c. c.views.items ≡ []) }
+        ensures buffers { IfOk result (λ c. c.buffers.items ≡ []) }
+    {
+        Ok(ViewChunk {
+            views: Vec::with_capacity(alloc, rows)?,
+            buffers: Vec::new(alloc),
+        })
+    }
+
+    /// The number of rows.
+    pub fn len(&self) -> usize
+        ensures { result ≡ length self.now.views.items }
+    {
+        self.views.len()
+    }
+
+    /// The number of rows without a text.
+    pub fn null_count(&self) -> usize
+        ensures { result ≡ count_by is_none self.now.views.items }
+    {
+        self.views.iter().filter(|view| view.is_none()).count()
+    }
+
+    /// The text of a row, lent.
+    pub fn get(&self, row: usize) -> Option<&[u8]>
+        requires { row < length self.now.views.items }
+        ensures { option_map (λ t. t.now) result ≡ slice_index_or (texts self.now.buffers.items self.now.views.items) row None }
+    {
+        match &self.views[row] {
+            None => None,
+            Some(view) => Some(view.text(&self.buffers)),
+        }
+    }
+
+    /// The same rows. Their bytes are shared.
+    pub fn copy(&self, alloc: Global) -> Result<ViewChunk, OutOfMemory>
+        ensures views { IfOk result (λ c. c.views.items ≡ self.now.views.items) }
+        ensures buffers { IfOk result (λ c. c.buffers.items ≡ self.now.buffers.items) }
+    {
+        let buffers = copy_buffers(alloc, &self.buffers)?;
+        let views = Vec::from_slice(alloc, &self.views)?;
+        Ok(ViewChunk { views, buffers })
+    }
+
+    /// Takes up the buffers of another chunk behind its own, before there is a row, and gives the
+    /// number of the first.
+    pub fn add_buffers(&mut self, alloc: Global, other: &ViewChunk) -> Result<u32, OutOfMemory>
+        requires none { self.old.views.items ≡ [] }
+        ensures number { IfOk result (λ n. n ≡ length self.old.buffers.items) }
+        ensures views { self.new.views.items ≡ [] }
+        ensures buffers { IfOk result (λ n. self.new.buffers.items ≡ self.old.buffers.items ++ other.now.buffers.items) }
+        ensures few { IfOk result (λ n. length self.new.buffers.items < 2 ^ 32) }
+    {
+        let first = self.buffers.len();
+        push_buffers(alloc, &mut self.buffers, &other.buffers)?;
+        match u32::try_from(self.buffers.len()) {
+            Ok(_) => Ok(first as u32),
+            Err(_) => Err(OutOfMemory),
+        }
+    }
+
+    /// Appends a row of another chunk, whose buffers stand in this one from number `base` on. After a
+    /// refusal the chunk is as it was.
+    pub fn push_from(&mut self, other: &ViewChunk, base: u32, row: usize) -> Result<(), OutOfMemory>
+        requires row { row < length other.now.views.items }
+        requires held { Holds self.old.buffers.items base other.now.buffers.items }
+        requires few { length self.old.buffers.items < 2 ^ 32 }
+        ensures ok { OnOk result (texts self.new.buffers.items self.new.views.items ≡ texts self.old.buffers.items self.old.views.items ++ slice_index_or (texts other.now.buffers.items other.now.views.items) row None ∷ []) }
+        ensures err { OnErr result (self.new.views.items ≡ self.old.views.items) }
+        ensures buffers { self.new.buffers.items ≡ self.old.buffers.items }
+    {
+        let view = view_over(&other.views[row], base, &other.buffers, &self.buffers);
+        self.views.push(view)?;
+        Ok(())
+    }
+
+    /// Appends a row without a text. After a refusal the chunk is as it was.
+    pub fn push_null(&mut self) -> Result<(), OutOfMemory>
+        ensures ok { OnOk result (texts self.new.buffers.items self.new.views.items ≡ texts self.old.buffers.items self.old.views.items ++ None ∷ []) }
+        ensures err { OnErr result (self.new.views.items ≡ self.old.views.items) }
+        ensures buffers { self.new.buffers.items ≡ self.old.buffers.items }
+    {
+        self.views.push(None)?;
+        Ok(())
+    }
+}
+
+fn copy_buffers(alloc: Global, buffers: &[Bytes]) -> Result<Vec<Bytes>, OutOfMemory>
+    ensures { IfOk result (λ v. v.items ≡ buffers.now) }
+{
+    let mut copies = Vec::with_capacity(alloc, buffers.len())?;
+    for buffer in buffers {
+        copies.push(buffer.copy(alloc)?)?;
+    }
+    Ok(copies)
+}
+
+fn push_buffers(alloc: Global, buffers: &mut Vec<Bytes>, more: &[Bytes]) -> Result<(), OutOfMemory>
+    ensures { OnOk result (buffers.new.items ≡ buffers.old.items ++ more.now) }
+{
+    buffers.reserve(more.len())?;
+    for buffer in more {
+        buffers.push(buffer.copy(alloc)?)?;
+    }
+    Ok(())
+}
+
+// The view of the same text where its buffers stand among all from number `base` on.
+fn view_over(view: &Option<View>, base: u32, buffers: &[Bytes], all: &[Bytes]) -> Option<View>
+    requires view { IsViewOrNone buffers.now view.now }
+    requires held { Holds all.now base buffers.now }
+    requires few { length all.now < 2 ^ 32 }
+    ensures view { IsViewOrNone all.now result }
+    ensures text { row_text all.now result ≡ row_text buffers.now view.now }
+{
+    match view {
+        Some(view) if view.length > 12 => Some(view.renumbered(base + view.buffer())),
+        _ => *view,
+    }
+}

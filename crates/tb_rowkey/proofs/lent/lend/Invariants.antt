@@ -1,5 +1,0 @@
-use Rattle.std.proofs.Common.{◌≡◌, map, take}
-use Rattle.tb_rowkey.proofs.lent.lend.Given as goal
-
-abbrev pub invariant-loop-column : goal.invariant-loop-column
-invariant-loop-column l = map (λ c. c.now) l.lent.items ≡ take l.column-index l.columns
