@@ -17,7 +17,7 @@ use Rattle.tb_value.specs.Datum as value
 use Rattle.tb_value.specs.Kind.{Kind, Parts}
 use Rattle.tb_value.specs.Kind as kind
 use Rattle.tb_value.specs.Typed.{HasType, IsListOf, IsStructOf, ends}
-use Rattle.tb_csv.specs.Numerals.{are_digits, fits, is_digit, is_counting, is_whole, whole_in}
+use Rattle.tb_label.specs.Numerals.{are_digits, fits, is_digit, is_counting, is_whole, whole_in}
 use Rattle.tb_csv.specs.Texts.{field_of, field_type}
 use Rattle.tb_csv.specs.Types.{cell_value, field_value, is_within, kind_at, or_string, ranged}
 use Rattle.tb_csv.specs.declared.field_type.FieldType.{FieldType}

@@ -1,4 +1,3 @@
-pub mod Numerals
 pub mod Types
 pub mod Records
 pub mod Faults

@@ -118,7 +118,7 @@ impl ReadChunk for StringChunk {
         fields: &[&str],
     ) -> Result<StringChunk, CsvFault> {
         let cells = cells_of(alloc, name, field_type, fields)?;
-        Ok(StringChunk::from_cells(cells))
+        Ok(StringChunk::from_cells(alloc, &cells)?)
     }
 }
 

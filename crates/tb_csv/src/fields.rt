@@ -7,8 +7,8 @@ ghost use Rattle.tb_value.specs.Typed.{HasType};
 ghost use Rattle.tb_csv.specs.Types.{field_value, kind_at, text_in, truth_in};
 
 use crate::field_type::FieldType;
-use crate::numerals::whole_in;
 use std::alloc::Global;
+use tb_label::whole_in;
 use tb_store::Cell;
 use tb_value::{OutOfMemory, PlSmallStr, TOO_LONG};
 

@@ -7,7 +7,6 @@ mod fault;
 mod field_type;
 mod fields;
 pub mod laws;
-mod numerals;
 mod options;
 mod reading;
 mod records;

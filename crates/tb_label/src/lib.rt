@@ -1,4 +1,4 @@
-//! The texts of values, by which columns are named that are made of values.
+//! The texts of values, by which columns are named that are made of values, and whole numbers read from texts.
 //!
 //! | value | text |
 //! |---|---|
@@ -10,5 +10,7 @@
 
 mod label;
 pub mod laws;
+mod numerals;
 
 pub use label::{is_header_type, truth_text, value_text};
+pub use numerals::whole_in;

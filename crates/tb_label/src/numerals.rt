@@ -1,6 +1,6 @@
 //! Whole numbers, read from texts.
 ghost use Rattle.std.specs.Prelude.{◌≡◌};
-ghost use Rattle.tb_csv.specs.Numerals.{are_digits, is_counting, is_whole, whole_in};
+ghost use Rattle.tb_label.specs.Numerals.{are_digits, is_counting, is_whole, whole_in};
 
 fn are_digits(bytes: &[u8]) -> bool
     ensures { result ≡ are_digits bytes.now }
@@ -37,7 +37,7 @@ fn is_whole(text: &str) -> bool
 }
 
 /// The number that a text is, or None where it is none of 128 bits or is written in another way.
-pub(crate) fn whole_in(text: &str) -> Option<i128>
+pub fn whole_in(text: &str) -> Option<i128>
     ensures { result ≡ whole_in text.now }
 {
     if !is_whole(text) {
