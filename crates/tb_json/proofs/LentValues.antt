@@ -1,14 +1,14 @@
 -- The values that `serde_json` lends, as the definitions see them.
-use Rattle.std.proofs.Common.{◌≡◌, ℕ, ◌+◌, ◌<◌, ◌≤◌, List, [], ◌∷◌, ◌++◌, map, length, get_or, drop, Option, Some, None, option_and_then, Bool, true, false, cond, String, Global, string_bytes, refl, sym, ap, ◌∙◌}
+use Rattle.std.proofs.Common.{◌≡◌, ℕ, ◌+◌, ◌<◌, ◌≤◌, List, [], ◌∷◌, ◌++◌, map, length, get_or, drop, Option, Some, None, option_and_then, Bool, true, false, cond, String, Vec, Global, string_bytes, refl, sym, ap, ◌∙◌, arith}
 use Rattle.std.proofs.lemmas.List.{get_or-map, length-map}
 use Rattle.std.specs.Map.{keys_of}
 use Rattle.serde_json.specs.Data.{Data, null, boolean, number, string, array, object, Items, Members}
 use Rattle.serde_json.specs.Find.{as_array, as_object}
 use Rattle.serde_json.specs.View.{view, items_of, items_view, members_view}
-use Rattle.serde_json.specs.declared.value.Value.{Value}
-use Rattle.serde_json.proofs.Views.{Entry}
+use Rattle.serde_json.specs.declared.value.Value.{Value, Array}
+use Rattle.serde_json.proofs.Views.{Entry, view-Array}
 use Rattle.tb_json.specs.Lists.{each, list_from, as_list, list_of, is_among, are_among, has_only}
-use Rattle.tb_json.proofs.Walks.{EachSoFar, EachSoFar-more, EachSoFar-fails, EachSoFar-all}
+use Rattle.tb_json.proofs.Walks.{EachSoFar, EachSoFar-more, EachSoFar-fails, EachSoFar-all, EachSoFar-start, EachSoFar-next, EachSoFar-stops, EachSoFar-end}
 
 pub list_from-items_of : (ds : List Data) → list_from (items_of ds) ≡ ds
 list_from-items_of [] = refl
@@ -79,3 +79,29 @@ Walk-all g f vs done i past so_far = EachSoFar-all f (map g vs) done i (rw lengt
 -- each value of an array, under f
 pub each_in : {B : Type 0} (f : Data → Option B) (d : Data) (vs ws : List Value) → Some (items_view vs) ≡ as_array d → ws ≡ vs → list_of f d ≡ each f (map view ws)
 each_in f d vs ws e same = ap (option_and_then (each f)) (as_list-array d vs e) ∙ ap (λ us. each f (map view us)) (sym same)
+
+-- ---- values that are taken out of a list one after another, the first of which gave `done`
+
+abbrev pub Taking : {V A B : Type 0} → (V → A) → (A → Option B) → List V → List B → List V → Type 0
+Taking g f all done rest = EachSoFar f (map g all) done (map g rest)
+
+pub Taking-start : {V A B : Type 0} (g : V → A) (f : A → Option B) (all : List V) → Taking g f all [] all
+Taking-start g f all = EachSoFar-start f (map g all)
+
+pub Taking-next : {V A B : Type 0} (g : V → A) (f : A → Option B) (all : List V) (done : List B) (old : List V) (v : V) (new : List V) (y : B) → old ≡ v ∷ new → f (g v) ≡ Some y → Taking g f all done old → Taking g f all (done ++ y ∷ []) new
+Taking-next g f all done old v new y is e so_far = EachSoFar-next f (map g all) done (g v) (map g new) y e (rw is at so_far)
+
+pub Taking-stops : {V A B : Type 0} (g : V → A) (f : A → Option B) (all : List V) (done : List B) (old : List V) (v : V) (new : List V) → old ≡ v ∷ new → f (g v) ≡ None → Taking g f all done old → None ≡ each f (map g all)
+Taking-stops g f all done old v new is e so_far = EachSoFar-stops f (map g all) done (g v) (map g new) e (rw is at so_far)
+
+pub Taking-end : {V A B : Type 0} (g : V → A) (f : A → Option B) (all : List V) (done : List B) (rest : List V) → length rest ≡ 0 → Taking g f all done rest → Some done ≡ each f (map g all)
+Taking-end g f all done [] none so_far = EachSoFar-end f (map g all) done so_far
+Taking-end g f all done (v ∷ rest) none so_far = absurd (omega (arith, none))
+
+-- the values that an array owns
+pub as_list-taken : (v : Value) (vs : Vec Value Global) → v ≡ Array vs → as_list (view v) ≡ Some (map view vs.items)
+as_list-taken v vs is = ap (λ w. as_list (view w)) is ∙ ap as_list (view-Array vs) ∙ ap Some (list_from-items_of (map view vs.items))
+
+-- each value that was taken out of an array, under f
+pub each_taken : {B : Type 0} (f : Data → Option B) (d : Data) (all vs : List Value) → Some (map view vs) ≡ as_list d → all ≡ vs → list_of f d ≡ each f (map view all)
+each_taken f d all vs e same = ap (option_and_then (each f)) (sym e) ∙ ap (λ ws. each f (map view ws)) (sym same)

@@ -26,3 +26,20 @@ append_none (x ∷ xs) = ap (λ ys. x ∷ ys) (append_none xs)
 pub EachSoFar-all : {A B : Type 0} (f : A → Option B) (xs : List A) (done : List B) (i : ℕ) → length xs ≤ i → EachSoFar f xs done (drop i xs) → Some done ≡ each f xs
 EachSoFar-all f xs done i past so_far =
     sym (so_far ∙ ap (option_map (λ ys. done ++ ys)) (at_drop_all (each f) xs i past) ∙ ap Some (append_none done))
+
+-- ---- the same, where the items are taken out one after another
+
+pub EachSoFar-start : {A B : Type 0} (f : A → Option B) (xs : List A) → EachSoFar f xs [] xs
+EachSoFar-start f xs = unmoved (each f xs) where
+  unmoved : {B : Type 0} (o : Option (List B)) → o ≡ option_map (λ ys. ys) o
+  unmoved None = refl
+  unmoved (Some ys) = refl
+
+pub EachSoFar-next : {A B : Type 0} (f : A → Option B) (xs : List A) (done : List B) (d : A) (rest : List A) (y : B) → f d ≡ Some y → EachSoFar f xs done (d ∷ rest) → EachSoFar f xs (done ++ y ∷ []) rest
+EachSoFar-next f xs done d rest y e so_far = so_far ∙ ap (λ o. option_map (λ ys. done ++ ys) (option_and_then (λ z. option_map (λ zs. z ∷ zs) (each f rest)) o)) e ∙ moved done y (each f rest)
+
+pub EachSoFar-stops : {A B : Type 0} (f : A → Option B) (xs : List A) (done : List B) (d : A) (rest : List A) → f d ≡ None → EachSoFar f xs done (d ∷ rest) → None ≡ each f xs
+EachSoFar-stops f xs done d rest e so_far = sym (so_far ∙ ap (λ o. option_map (λ ys. done ++ ys) (option_and_then (λ z. option_map (λ zs. z ∷ zs) (each f rest)) o)) e)
+
+pub EachSoFar-end : {A B : Type 0} (f : A → Option B) (xs : List A) (done : List B) → EachSoFar f xs done [] → Some done ≡ each f xs
+EachSoFar-end f xs done so_far = sym (so_far ∙ ap Some (append_none done))

@@ -12,7 +12,7 @@ use Rattle.tb_value.specs.Kind.{Kind, Parts}
 use Rattle.tb_value.specs.Typed.{ends}
 use Rattle.tb_json.specs.Lists.{◌>>=◌, check}
 use Rattle.tb_json.specs.Text.{is_wide}
-use Rattle.tb_json.specs.Wide.{is_digit, wide_in}
+use Rattle.tb_label.specs.Numerals.{is_digit, whole_in}
 
 -- a whole number of the type
 abbrev pub ranged : Kind → ℤ → Option Datum
@@ -41,7 +41,7 @@ unfoldable pub bytes_in : List ℕ → Option (List ℕ)
 bytes_in s = if list_all is_lower_digit s then result_ok (decode_of s) else None
 
 abbrev pub text_in : Kind → List ℕ → Option Datum
-text_in kind.int128 s = option_map value.int (wide_in s)
+text_in kind.int128 s = option_map value.int (whole_in s)
 text_in kind.string s = option_map value.string (short s)
 text_in kind.binary s = option_map value.binary (bytes_in s >>= short)
 text_in _ s = None

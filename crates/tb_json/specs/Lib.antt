@@ -1,7 +1,6 @@
 pub mod Lists
 pub mod Text
 pub mod Kinds
-pub mod Wide
 pub mod Written
 pub mod Cells
 pub mod Writable

@@ -12,6 +12,7 @@ ghost use Rattle.tb_chunk.specs.Chunk.{or_null};
 ghost use Rattle.tb_chunk.specs.Col.{physical};
 ghost use Rattle.tb_chunk.specs.Made.{IsTyped};
 ghost use Rattle.tb_chunk.specs.Seen.{chunk_lists, storage};
+ghost use Rattle.tb_chunk.specs.View.{texts};
 ghost use Rattle.tb_json.specs.Lists.{each};
 ghost use Rattle.tb_json.specs.Cells.{cell_in};
 
@@ -85,50 +86,50 @@ fn nulls_of(items: &Vec<Value>) -> Option<usize>
 trait Wrapped: Chunk {
     type Item: ReadCell;
 
-    /// The chunk of these cells. It takes no memory.
-    fn from_cells(cells: Cells<Self::Item>) -> Self
-        ensures { Self.shown result ≡ map (or_null Self.Item.shows) cells.cells.items };
+    /// The chunk of these cells.
+    fn from_cells(alloc: Global, cells: Cells<Self::Item>) -> Result<Self, OutOfMemory>
+        ensures { IfOk result (λ c. Self.shown c ≡ map (or_null Self.Item.shows) cells.cells.items) };
 }
 
 impl Wrapped for StringChunk {
     type Item = PlSmallStr;
 
-    fn from_cells(cells: Cells<PlSmallStr>) -> StringChunk
-        ensures { map (or_null string) result.inner.cells.items ≡ map (or_null string) cells.cells.items }
+    fn from_cells(alloc: Global, cells: Cells<PlSmallStr>) -> Result<StringChunk, OutOfMemory>
+        ensures { IfOk result (λ c. map (or_null string) (texts c.inner.buffers.items c.inner.views.items) ≡ map (or_null string) cells.cells.items) }
     {
-        StringChunk::from_cells(cells)
+        StringChunk::from_cells(alloc, &cells)
     }
 }
 
 impl Wrapped for BinaryChunk {
     type Item = Bytes;
 
-    fn from_cells(cells: Cells<Bytes>) -> BinaryChunk
-        ensures { map (or_null binary) result.inner.cells.items ≡ map (or_null binary) cells.cells.items }
+    fn from_cells(alloc: Global, cells: Cells<Bytes>) -> Result<BinaryChunk, OutOfMemory>
+        ensures { IfOk result (λ c. map (or_null binary) (texts c.inner.buffers.items c.inner.views.items) ≡ map (or_null binary) cells.cells.items) }
     {
-        BinaryChunk { inner: cells }
+        BinaryChunk::from_cells(alloc, &cells)
     }
 }
 
 impl Wrapped for ListChunk {
     type Item = Values;
 
-    fn from_cells(cells: Cells<Values>) -> ListChunk
-        ensures { map (or_null (λ vs. list (items_of vs))) result.inner.cells.items
-            ≡ map (or_null (λ vs. list (items_of vs))) cells.cells.items }
+    fn from_cells(_alloc: Global, cells: Cells<Values>) -> Result<ListChunk, OutOfMemory>
+        ensures { IfOk result (λ c. map (or_null (λ vs. list (items_of vs))) c.inner.cells.items
+            ≡ map (or_null (λ vs. list (items_of vs))) cells.cells.items) }
     {
-        ListChunk { inner: cells }
+        Ok(ListChunk { inner: cells })
     }
 }
 
 impl Wrapped for StructChunk {
     type Item = FieldValues;
 
-    fn from_cells(cells: Cells<FieldValues>) -> StructChunk
-        ensures { map (or_null (λ s. struct (items_of s.values))) result.inner.cells.items
-            ≡ map (or_null (λ s. struct (items_of s.values))) cells.cells.items }
+    fn from_cells(_alloc: Global, cells: Cells<FieldValues>) -> Result<StructChunk, OutOfMemory>
+        ensures { IfOk result (λ c. map (or_null (λ s. struct (items_of s.values))) c.inner.cells.items
+            ≡ map (or_null (λ s. struct (items_of s.values))) cells.cells.items) }
     {
-        StructChunk { inner: cells }
+        Ok(StructChunk { inner: cells })
     }
 }
 
@@ -165,7 +166,7 @@ impl<W: Wrapped> ReadChunk for W {
 
     fn read(alloc: Global, dtype: &DataType, items: &Vec<Value>) -> Result<Option<W>, OutOfMemory> {
         match cells_of(alloc, dtype, items)? {
-            Some(cells) => Ok(Some(W::from_cells(cells))),
+            Some(cells) => Ok(Some(W::from_cells(alloc, cells)?)),
             None => Ok(None),
         }
     }
@@ -186,16 +187,16 @@ impl ReadChunk for usize {
 fn chunks_of<C: ReadChunk>(
     alloc: Global,
     dtype: &DataType,
-    written: &Vec<&Vec<Value>>,
+    written: &Vec<Vec<Value>>,
 ) -> Result<Option<Vec<C>>, OutOfMemory>
     requires { physical (kind_of dtype.now) ≡ C.stored }
     ensures chunks { IfOk result (λ o. option_map (λ v. map C.shown v.items) o
-        ≡ each (each (cell_in (kind_of dtype.now))) (map (λ v. map view v.now.items) written.now.items)) }
+        ≡ each (each (cell_in (kind_of dtype.now))) (map (λ v. map view v.items) written.now.items)) }
     ensures typed { IfOk result (λ o. IfSome o (λ v. IsTyped (kind_of dtype.now) (map C.shown v.items))) }
 {
     let mut chunks = Vec::with_capacity(alloc, written.len())?;
     for items in written {
-        let Some(chunk) = C::read(alloc, dtype, *items)? else {
+        let Some(chunk) = C::read(alloc, dtype, items)? else {
             return Ok(None);
         };
         chunks.push(chunk)?;
@@ -207,11 +208,11 @@ fn chunks_of<C: ReadChunk>(
 fn read_stored<C: ReadChunk + Stored>(
     alloc: Global,
     dtype: &DataType,
-    written: &Vec<&Vec<Value>>,
+    written: &Vec<Vec<Value>>,
 ) -> Result<Option<Chunks>, OutOfMemory>
     requires { physical (kind_of dtype.now) ≡ C.stored }
     ensures chunks { IfOk result (λ o. option_map chunk_lists o
-        ≡ each (each (cell_in (kind_of dtype.now))) (map (λ v. map view v.now.items) written.now.items)) }
+        ≡ each (each (cell_in (kind_of dtype.now))) (map (λ v. map view v.items) written.now.items)) }
     ensures typed { IfOk result (λ o. IfSome o (λ c. IsTyped (kind_of dtype.now) (chunk_lists c))) }
     ensures stored { IfOk result (λ o. IfSome o (λ c. storage c ≡ C.kind)) }
 {
@@ -225,10 +226,10 @@ fn read_stored<C: ReadChunk + Stored>(
 pub fn arrays_in(
     alloc: Global,
     dtype: &DataType,
-    written: &Vec<&Vec<Value>>,
+    written: &Vec<Vec<Value>>,
 ) -> Result<Option<Chunks>, OutOfMemory>
     ensures chunks { IfOk result (λ o. option_map chunk_lists o
-        ≡ each (each (cell_in (kind_of dtype.now))) (map (λ v. map view v.now.items) written.now.items)) }
+        ≡ each (each (cell_in (kind_of dtype.now))) (map (λ v. map view v.items) written.now.items)) }
     ensures typed { IfOk result (λ o. IfSome o (λ c. IsTyped (kind_of dtype.now) (chunk_lists c))) }
     ensures stored { IfOk result (λ o. IfSome o (λ c. storage c ≡ physical (kind_of dtype.now))) }
 {

@@ -13,10 +13,10 @@ ghost use Rattle.tb_json.specs.Cells.{cell_in};
 
 use crate::read_any_cells::{each_value, row_of};
 use crate::read_plain_cells::{short_bytes, short_text};
-use crate::read_wide::wide_in;
 use crate::scalar::scalar_type;
 use serde_json::Value;
 use std::alloc::Global;
+use tb_label::whole_in;
 use tb_store::{Cell, FieldValues};
 use tb_value::{AnyValue, Bytes, DataType, Fields, OutOfMemory, PlSmallStr, Values};
 
@@ -118,7 +118,7 @@ impl ReadCell for i128 {
     ghost stored = { kind.int128 };
 
     fn read(alloc: Global, dtype: &DataType, value: &Value) -> Result<Option<i128>, OutOfMemory> {
-        Ok(value.as_str().and_then(|text| wide_in(text)))
+        Ok(value.as_str().and_then(|text| whole_in(text)))
     }
 }
 

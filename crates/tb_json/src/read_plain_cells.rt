@@ -8,13 +8,13 @@ ghost use Rattle.tb_value.specs.See.{datum};
 ghost use Rattle.tb_value.specs.SeeKind.{kind_of};
 ghost use Rattle.tb_value.specs.Typed.{HasType};
 ghost use Rattle.tb_json.specs.Cells.{ranged, boolean_in, number_in, short, is_lower_digit, bytes_in, text_in};
-ghost use Rattle.tb_json.specs.Wide.{wide_in};
+ghost use Rattle.tb_label.specs.Numerals.{whole_in};
 
-use crate::read_wide::wide_in;
 use crate::write_cells::is_wide;
 use hex::FromHexError;
 use serde_json::Number;
 use std::alloc::Global;
+use tb_label::whole_in;
 use tb_value::{AnyValue, Bytes, DataType, OutOfMemory, PlSmallStr, TOO_LONG};
 
 /// An own copy of a text, or None where the text is too long to be a value.
@@ -121,10 +121,10 @@ pub(crate) fn number_of(number: &Number, dtype: &DataType) -> Option<AnyValue>
 }
 
 fn wide_of(text: &str) -> Option<AnyValue>
-    ensures value { option_map datum result ≡ option_map int (wide_in text.now) }
+    ensures value { option_map datum result ≡ option_map int (whole_in text.now) }
     ensures typed { IfSome result (λ v. HasType kind.int128 (datum v)) }
 {
-    match wide_in(text) {
+    match whole_in(text) {
         Some(integer) => Some(AnyValue::Int(integer)),
         None => None,
     }

@@ -1,3 +1,4 @@
 pub mod Refused
 pub mod FlagTests
 pub mod FromBytes
+pub mod Taken

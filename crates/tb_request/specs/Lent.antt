@@ -14,7 +14,7 @@ use Rattle.tb_request.specs.declared.values.ClaimedColumn.{ClaimedColumn}
 use Rattle.tb_request.specs.Written as written
 
 abbrev pub written_view : WrittenColumn → written.Written
-written_view c = record { name = c.name.now; kind = kind_of c.dtype; chunks = map (λ v. map view v.now.items) c.chunks.items; flag = c.flag }
+written_view c = record { name = c.name; kind = kind_of c.dtype; chunks = map (λ v. map view v.items) c.chunks.items; flag = c.flag }
 
 abbrev pub exec_view : ExecNumbers → ExecView
 exec_view e = record { workers = e.workers; partitions = e.partitions; small = e.small; num = e.num; den = e.den }

@@ -13,8 +13,8 @@ use tb_value::{OutOfMemory, PlSmallStr};
 
 // A request to make a table long, whose values are not read yet.
 #[derive(Drop)]
-pub(crate) struct WrittenUnpivot<'v> {
-    pub table: Vec<WrittenColumn<'v>>,
+pub(crate) struct WrittenUnpivot {
+    pub table: Vec<WrittenColumn>,
     pub on: Vec<PlSmallStr>,
     pub index: Vec<PlSmallStr>,
     pub variable_name: Option<PlSmallStr>,
@@ -23,31 +23,24 @@ pub(crate) struct WrittenUnpivot<'v> {
 
 /// The members of a request to make a table long, or None where the value has not the form of one.
 #[tactic(auto, unfolding(crate::specs::Written::unpivot_of))]
-pub(crate) fn unpivot_of<'v>(
-    alloc: Global,
-    value: &'v Value,
-) -> Result<Option<WrittenUnpivot<'v>>, OutOfMemory>
-    ensures { IfOk result (λ o. option_map written_unpivot o ≡ unpivot_of (view value.now)) }
+pub(crate) fn unpivot_of(alloc: Global, value: Value) -> Result<Option<WrittenUnpivot>, OutOfMemory>
+    ensures { IfOk result (λ o. option_map written_unpivot o ≡ unpivot_of (view value)) }
 {
     if !has_only(
-        value,
+        &value,
         &["index", "on", "table", "value_name", "variable_name"],
     ) {
         return Ok(None);
     }
-    let Some(table) = table_at(alloc, value, "table")? else {
+    let on = texts_at(alloc, &value, "on")?;
+    let index = texts_at(alloc, &value, "index")?;
+    let variable_name = text_at(alloc, &value, "variable_name")?;
+    let value_name = text_at(alloc, &value, "value_name")?;
+    let table = table_at(alloc, value, "table")?;
+    let (Some(table), Some(on), Some(index)) = (table, on, index) else {
         return Ok(None);
     };
-    let Some(on) = texts_at(alloc, value, "on")? else {
-        return Ok(None);
-    };
-    let Some(index) = texts_at(alloc, value, "index")? else {
-        return Ok(None);
-    };
-    let Some(variable_name) = text_at(alloc, value, "variable_name")? else {
-        return Ok(None);
-    };
-    let Some(value_name) = text_at(alloc, value, "value_name")? else {
+    let (Some(variable_name), Some(value_name)) = (variable_name, value_name) else {
         return Ok(None);
     };
     Ok(Some(WrittenUnpivot {
@@ -61,8 +54,8 @@ pub(crate) fn unpivot_of<'v>(
 
 // A request for dummies, whose values are not read yet.
 #[derive(Drop)]
-pub(crate) struct WrittenDummies<'v> {
-    pub table: Vec<WrittenColumn<'v>>,
+pub(crate) struct WrittenDummies {
+    pub table: Vec<WrittenColumn>,
     pub columns: Option<Vec<PlSmallStr>>,
     pub separator: Option<PlSmallStr>,
     pub drop_first: bool,
@@ -70,25 +63,19 @@ pub(crate) struct WrittenDummies<'v> {
 
 /// The members of a request for dummies, or None where the value has not the form of one.
 #[tactic(auto, unfolding(crate::specs::Written::dummies_of))]
-pub(crate) fn dummies_of<'v>(
-    alloc: Global,
-    value: &'v Value,
-) -> Result<Option<WrittenDummies<'v>>, OutOfMemory>
-    ensures { IfOk result (λ o. option_map written_dummies o ≡ dummies_of (view value.now)) }
+pub(crate) fn dummies_of(alloc: Global, value: Value) -> Result<Option<WrittenDummies>, OutOfMemory>
+    ensures { IfOk result (λ o. option_map written_dummies o ≡ dummies_of (view value)) }
 {
-    if !has_only(value, &["columns", "drop_first", "separator", "table"]) {
+    if !has_only(&value, &["columns", "drop_first", "separator", "table"]) {
         return Ok(None);
     }
-    let Some(table) = table_at(alloc, value, "table")? else {
-        return Ok(None);
-    };
-    let Some(columns) = texts_if_at(alloc, value, "columns")? else {
-        return Ok(None);
-    };
-    let Some(separator) = text_at(alloc, value, "separator")? else {
-        return Ok(None);
-    };
-    let Some(drop_first) = truth_at(value, "drop_first") else {
+    let columns = texts_if_at(alloc, &value, "columns")?;
+    let separator = text_at(alloc, &value, "separator")?;
+    let drop_first = truth_at(&value, "drop_first");
+    let table = table_at(alloc, value, "table")?;
+    let (Some(table), Some(columns), Some(separator), Some(drop_first)) = (
+        table, columns, separator, drop_first,
+    ) else {
         return Ok(None);
     };
     Ok(Some(WrittenDummies {
@@ -101,8 +88,8 @@ pub(crate) fn dummies_of<'v>(
 
 // A request to make a table wide, whose values are not read yet.
 #[derive(Drop)]
-pub(crate) struct WrittenPivot<'v> {
-    pub table: Vec<WrittenColumn<'v>>,
+pub(crate) struct WrittenPivot {
+    pub table: Vec<WrittenColumn>,
     pub on: Vec<PlSmallStr>,
     pub index: Option<Vec<PlSmallStr>>,
     pub values: Option<Vec<PlSmallStr>>,
@@ -137,14 +124,11 @@ fn agg_of(object: &Value) -> Option<Option<Aggregate>>
 
 /// The members of a request to make a table wide, or None where the value has not the form of one.
 #[tactic(auto, unfolding(crate::specs::Written::pivot_of))]
-pub(crate) fn pivot_of<'v>(
-    alloc: Global,
-    value: &'v Value,
-) -> Result<Option<WrittenPivot<'v>>, OutOfMemory>
-    ensures { IfOk result (λ o. option_map written_pivot o ≡ pivot_of (view value.now)) }
+pub(crate) fn pivot_of(alloc: Global, value: Value) -> Result<Option<WrittenPivot>, OutOfMemory>
+    ensures { IfOk result (λ o. option_map written_pivot o ≡ pivot_of (view value)) }
 {
     if !has_only(
-        value,
+        &value,
         &[
             "agg",
             "index",
@@ -157,25 +141,26 @@ pub(crate) fn pivot_of<'v>(
     ) {
         return Ok(None);
     }
-    let Some(table) = table_at(alloc, value, "table")? else {
+    let on = texts_at(alloc, &value, "on")?;
+    let index = texts_if_at(alloc, &value, "index")?;
+    let values = texts_if_at(alloc, &value, "values")?;
+    let sort_columns = truth_at(&value, "sort_columns");
+    let agg = agg_of(&value);
+    let separator = text_at(alloc, &value, "separator")?;
+    let table = table_at(alloc, value, "table")?;
+    let Some(table) = table else {
         return Ok(None);
     };
-    let Some(on) = texts_at(alloc, value, "on")? else {
+    let Some(on) = on else {
         return Ok(None);
     };
-    let Some(index) = texts_if_at(alloc, value, "index")? else {
+    let Some(index) = index else {
         return Ok(None);
     };
-    let Some(values) = texts_if_at(alloc, value, "values")? else {
+    let Some(values) = values else {
         return Ok(None);
     };
-    let Some(sort_columns) = truth_at(value, "sort_columns") else {
-        return Ok(None);
-    };
-    let Some(agg) = agg_of(value) else {
-        return Ok(None);
-    };
-    let Some(separator) = text_at(alloc, value, "separator")? else {
+    let (Some(sort_columns), Some(agg), Some(separator)) = (sort_columns, agg, separator) else {
         return Ok(None);
     };
     Ok(Some(WrittenPivot {

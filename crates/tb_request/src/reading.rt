@@ -32,17 +32,17 @@ fn exec_of(numbers: ExecNumbers) -> Option<Exec>
 }
 
 #[tactic(auto, unfolding(crate::specs::Reading::join_in, crate::specs::Columns::tables_of))]
-fn join_in(alloc: Global, value: &Value) -> Result<JoinRequest, RequestFault>
-    ensures { MatchResult result (λ q. join_in (view value.now) ≡ Ok (request_view q))
-        (λ e. FaultIs e (join_in (view value.now))) }
+fn join_in(alloc: Global, value: Value) -> Result<JoinRequest, RequestFault>
+    ensures { MatchResult result (λ q. join_in (view value) ≡ Ok (request_view q))
+        (λ e. FaultIs e (join_in (view value))) }
 {
     let Some(written) = join_of(alloc, value)? else {
         return Err(RequestFault::NoRequest(Reason::Shape));
     };
-    let Some(left) = columns_of(alloc, &written.left)? else {
+    let Some(left) = columns_of(alloc, written.left)? else {
         return Err(RequestFault::NoRequest(Reason::Value));
     };
-    let Some(right) = columns_of(alloc, &written.right)? else {
+    let Some(right) = columns_of(alloc, written.right)? else {
         return Err(RequestFault::NoRequest(Reason::Value));
     };
     let Some(exec) = exec_of(written.exec) else {
@@ -78,15 +78,15 @@ fn value_of(alloc: Global, bytes: &[u8]) -> Result<Value, RequestFault>
 }
 
 #[tactic(auto, unfolding(crate::specs::Reading::unpivot_in))]
-fn unpivot_in(alloc: Global, value: &Value) -> Result<UnpivotRequest, RequestFault>
-    ensures { MatchResult result (λ q. unpivot_in (view value.now) ≡ Ok (unpivot_view q))
-        (λ e. FaultIs e (unpivot_in (view value.now))) }
+fn unpivot_in(alloc: Global, value: Value) -> Result<UnpivotRequest, RequestFault>
+    ensures { MatchResult result (λ q. unpivot_in (view value) ≡ Ok (unpivot_view q))
+        (λ e. FaultIs e (unpivot_in (view value))) }
 {
     let Some(written) = unpivot_of(alloc, value)? else {
         return Err(RequestFault::NoRequest(Reason::Shape));
     };
     Ok(UnpivotRequest {
-        table: table_from(alloc, &written.table)?,
+        table: table_from(alloc, written.table)?,
         on: written.on,
         index: written.index,
         variable_name: written.variable_name,
@@ -95,15 +95,15 @@ fn unpivot_in(alloc: Global, value: &Value) -> Result<UnpivotRequest, RequestFau
 }
 
 #[tactic(auto, unfolding(crate::specs::Reading::dummies_in))]
-fn dummies_in(alloc: Global, value: &Value) -> Result<DummiesRequest, RequestFault>
-    ensures { MatchResult result (λ q. dummies_in (view value.now) ≡ Ok (dummies_view q))
-        (λ e. FaultIs e (dummies_in (view value.now))) }
+fn dummies_in(alloc: Global, value: Value) -> Result<DummiesRequest, RequestFault>
+    ensures { MatchResult result (λ q. dummies_in (view value) ≡ Ok (dummies_view q))
+        (λ e. FaultIs e (dummies_in (view value))) }
 {
     let Some(written) = dummies_of(alloc, value)? else {
         return Err(RequestFault::NoRequest(Reason::Shape));
     };
     Ok(DummiesRequest {
-        table: table_from(alloc, &written.table)?,
+        table: table_from(alloc, written.table)?,
         columns: written.columns,
         separator: written.separator,
         drop_first: written.drop_first,
@@ -111,15 +111,15 @@ fn dummies_in(alloc: Global, value: &Value) -> Result<DummiesRequest, RequestFau
 }
 
 #[tactic(auto, unfolding(crate::specs::Reading::pivot_in))]
-fn pivot_in(alloc: Global, value: &Value) -> Result<PivotRequest, RequestFault>
-    ensures { MatchResult result (λ q. pivot_in (view value.now) ≡ Ok (pivot_view q))
-        (λ e. FaultIs e (pivot_in (view value.now))) }
+fn pivot_in(alloc: Global, value: Value) -> Result<PivotRequest, RequestFault>
+    ensures { MatchResult result (λ q. pivot_in (view value) ≡ Ok (pivot_view q))
+        (λ e. FaultIs e (pivot_in (view value))) }
 {
     let Some(written) = pivot_of(alloc, value)? else {
         return Err(RequestFault::NoRequest(Reason::Shape));
     };
     Ok(PivotRequest {
-        table: table_from(alloc, &written.table)?,
+        table: table_from(alloc, written.table)?,
         on: written.on,
         index: written.index,
         values: written.values,
@@ -160,7 +160,7 @@ pub fn join_request_of(alloc: Global, bytes: &[u8]) -> Result<JoinRequest, Reque
         (λ e. FaultIs e (join_request_of bytes.now)) }
 {
     let value = value_of(alloc, bytes)?;
-    join_in(alloc, &value)
+    join_in(alloc, value)
 }
 
 /// The request to make a table long that the bytes are.
@@ -178,7 +178,7 @@ pub fn unpivot_request_of(alloc: Global, bytes: &[u8]) -> Result<UnpivotRequest,
         (λ e. FaultIs e (unpivot_request_of bytes.now)) }
 {
     let value = value_of(alloc, bytes)?;
-    unpivot_in(alloc, &value)
+    unpivot_in(alloc, value)
 }
 
 /// The request for dummies that the bytes are.
@@ -195,7 +195,7 @@ pub fn dummies_request_of(alloc: Global, bytes: &[u8]) -> Result<DummiesRequest,
         (λ e. FaultIs e (dummies_request_of bytes.now)) }
 {
     let value = value_of(alloc, bytes)?;
-    dummies_in(alloc, &value)
+    dummies_in(alloc, value)
 }
 
 /// The request to make a table wide that the bytes are.
@@ -213,5 +213,5 @@ pub fn pivot_request_of(alloc: Global, bytes: &[u8]) -> Result<PivotRequest, Req
         (λ e. FaultIs e (pivot_request_of bytes.now)) }
 {
     let value = value_of(alloc, bytes)?;
-    pivot_in(alloc, &value)
+    pivot_in(alloc, value)
 }

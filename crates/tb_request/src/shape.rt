@@ -1,24 +1,27 @@
 //! The members of a request, before its values are read.
-ghost use Rattle.std.specs.Prelude.{◌≡◌, map, option_map, IfOk};
+ghost use Rattle.std.specs.Prelude.{◌≡◌, codes, map, option_and_then, option_map, IfOk};
+ghost use Rattle.serde_json.specs.Find.{as_str, get};
 ghost use Rattle.serde_json.specs.View.{view};
+ghost use Rattle.tb_json.specs.Kinds.{kind_in};
 ghost use Rattle.tb_json.specs.Lists.{as_list, list_of};
+ghost use Rattle.tb_value.specs.SeeKind.{kind_of};
 ghost use Rattle.tb_request.specs.Written.{flag_named, flag_of, count_of, plan_of, exec_of, join_of, column_of, table_of, table_at};
 ghost use Rattle.tb_request.specs.Lent.{written_view, exec_view, written_join};
 
 use crate::arguments::args_of;
-use crate::members::{has_only, texts_at, truth_at};
+use crate::members::{has_only, into_array, into_member, into_sides, texts_at, truth_at};
 use serde_json::Value;
 use std::alloc::Global;
 use tb_frame::JoinArgs;
 use tb_json::type_of;
 use tb_value::{DataType, IsSorted, OutOfMemory, PlSmallStr};
 
-// A column whose values still stand in the request, and the flag that is claimed of them.
+// A column whose values are not read yet, and the flag that is claimed of them.
 #[derive(Drop)]
-pub(crate) struct WrittenColumn<'v> {
-    pub name: &'v str,
+pub(crate) struct WrittenColumn {
+    pub name: PlSmallStr,
     pub dtype: DataType,
-    pub chunks: Vec<&'v Vec<Value>>,
+    pub chunks: Vec<Vec<Value>>,
     pub flag: IsSorted,
 }
 
@@ -34,12 +37,12 @@ pub(crate) struct ExecNumbers {
 
 // A request to join, whose values are not read yet.
 #[derive(Drop)]
-pub(crate) struct WrittenJoin<'v> {
+pub(crate) struct WrittenJoin {
     pub args: JoinArgs,
     pub exec: ExecNumbers,
-    pub left: Vec<WrittenColumn<'v>>,
+    pub left: Vec<WrittenColumn>,
     pub left_on: Vec<PlSmallStr>,
-    pub right: Vec<WrittenColumn<'v>>,
+    pub right: Vec<WrittenColumn>,
     pub right_on: Vec<PlSmallStr>,
     pub trace: bool,
 }
@@ -63,16 +66,35 @@ fn flag_of(column: &Value) -> Option<IsSorted>
     }
 }
 
-fn chunks_of(alloc: Global, value: &Value) -> Result<Option<Vec<&Vec<Value>>>, OutOfMemory>
-    ensures { IfOk result (λ o. option_map (λ v. map (λ c. map view c.now.items) v.items) o
-        ≡ list_of as_list (view value.now)) }
+fn name_of(alloc: Global, column: &Value) -> Result<Option<PlSmallStr>, OutOfMemory>
+    ensures { IfOk result (λ o. o ≡ option_and_then as_str (get (codes "name") (view column.now))) }
 {
-    let Some(items) = value.as_array() else {
+    match column.get("name").and_then(Value::as_str) {
+        Some(name) => Ok(Some(PlSmallStr::from_str(alloc, name)?)),
+        None => Ok(None),
+    }
+}
+
+fn dtype_of(alloc: Global, column: &Value) -> Result<Option<DataType>, OutOfMemory>
+    ensures { IfOk result (λ o. option_map kind_of o
+        ≡ option_and_then kind_in (get (codes "type") (view column.now))) }
+{
+    match column.get("type") {
+        Some(kind) => type_of(alloc, kind),
+        None => Ok(None),
+    }
+}
+
+fn chunks_of(alloc: Global, value: Value) -> Result<Option<Vec<Vec<Value>>>, OutOfMemory>
+    ensures { IfOk result (λ o. option_map (λ v. map (λ c. map view c.items) v.items) o
+        ≡ list_of as_list (view value)) }
+{
+    let Some(items) = into_array(value) else {
         return Ok(None);
     };
-    let mut chunks = Vec::new(alloc);
+    let mut chunks = Vec::with_capacity(alloc, items.len())?;
     for item in items {
-        let Some(chunk) = item.as_array() else {
+        let Some(chunk) = into_array(item) else {
             return Ok(None);
         };
         chunks.push(chunk)?;
@@ -80,29 +102,28 @@ fn chunks_of(alloc: Global, value: &Value) -> Result<Option<Vec<&Vec<Value>>>, O
     Ok(Some(chunks))
 }
 
-#[tactic(auto, unfolding(crate::specs::Written::column_of))]
-fn column_of<'v>(alloc: Global, value: &'v Value) -> Result<Option<WrittenColumn<'v>>, OutOfMemory>
-    ensures { IfOk result (λ o. option_map written_view o ≡ column_of (view value.now)) }
+fn chunks_in(alloc: Global, column: Value) -> Result<Option<Vec<Vec<Value>>>, OutOfMemory>
+    ensures { IfOk result (λ o. option_map (λ v. map (λ c. map view c.items) v.items) o
+        ≡ option_and_then (list_of as_list) (get (codes "chunks") (view column))) }
 {
-    if !has_only(value, &["chunks", "name", "sorted", "type"]) {
+    match into_member(column, "chunks") {
+        Some(chunks) => chunks_of(alloc, chunks),
+        None => Ok(None),
+    }
+}
+
+#[tactic(auto, unfolding(crate::specs::Written::column_of))]
+fn column_of(alloc: Global, value: Value) -> Result<Option<WrittenColumn>, OutOfMemory>
+    ensures { IfOk result (λ o. option_map written_view o ≡ column_of (view value)) }
+{
+    if !has_only(&value, &["chunks", "name", "sorted", "type"]) {
         return Ok(None);
     }
-    let Some(chunks) = value.get("chunks") else {
-        return Ok(None);
-    };
-    let Some(chunks) = chunks_of(alloc, chunks)? else {
-        return Ok(None);
-    };
-    let Some(name) = value.get("name").and_then(Value::as_str) else {
-        return Ok(None);
-    };
-    let Some(flag) = flag_of(value) else {
-        return Ok(None);
-    };
-    let Some(kind) = value.get("type") else {
-        return Ok(None);
-    };
-    let Some(dtype) = type_of(alloc, kind)? else {
+    let name = name_of(alloc, &value)?;
+    let flag = flag_of(&value);
+    let dtype = dtype_of(alloc, &value)?;
+    let chunks = chunks_in(alloc, value)?;
+    let (Some(chunks), Some(name), Some(flag), Some(dtype)) = (chunks, name, flag, dtype) else {
         return Ok(None);
     };
     Ok(Some(WrittenColumn {
@@ -113,17 +134,14 @@ fn column_of<'v>(alloc: Global, value: &'v Value) -> Result<Option<WrittenColumn
     }))
 }
 
-fn columns_of<'v>(
-    alloc: Global,
-    value: &'v Value,
-) -> Result<Option<Vec<WrittenColumn<'v>>>, OutOfMemory>
+fn columns_of(alloc: Global, value: Value) -> Result<Option<Vec<WrittenColumn>>, OutOfMemory>
     ensures { IfOk result (λ o. option_map (λ v. map written_view v.items) o
-        ≡ list_of column_of (view value.now)) }
+        ≡ list_of column_of (view value)) }
 {
-    let Some(items) = value.as_array() else {
+    let Some(items) = into_array(value) else {
         return Ok(None);
     };
-    let mut columns = Vec::new(alloc);
+    let mut columns = Vec::with_capacity(alloc, items.len())?;
     for item in items {
         let Some(column) = column_of(alloc, item)? else {
             return Ok(None);
@@ -134,35 +152,40 @@ fn columns_of<'v>(
 }
 
 #[tactic(auto, unfolding(crate::specs::Written::table_of))]
-fn table_of<'v>(
-    alloc: Global,
-    value: &'v Value,
-) -> Result<Option<Vec<WrittenColumn<'v>>>, OutOfMemory>
+fn table_of(alloc: Global, value: Value) -> Result<Option<Vec<WrittenColumn>>, OutOfMemory>
     ensures { IfOk result (λ o. option_map (λ v. map written_view v.items) o
-        ≡ table_of (view value.now)) }
+        ≡ table_of (view value)) }
 {
-    if !has_only(value, &["columns"]) {
+    if !has_only(&value, &["columns"]) {
         return Ok(None);
     }
-    match value.get("columns") {
+    match into_member(value, "columns") {
         Some(columns) => columns_of(alloc, columns),
         None => Ok(None),
     }
 }
 
-/// The columns of a member that is a table.
-pub(crate) fn table_at<'v>(
-    alloc: Global,
-    object: &'v Value,
-    name: &str,
-) -> Result<Option<Vec<WrittenColumn<'v>>>, OutOfMemory>
+// The columns of a table, if there is one.
+fn table_in(alloc: Global, member: Option<Value>) -> Result<Option<Vec<WrittenColumn>>, OutOfMemory>
     ensures { IfOk result (λ o. option_map (λ v. map written_view v.items) o
-        ≡ table_at name.now (view object.now)) }
+        ≡ option_and_then table_of (option_map view member)) }
 {
-    match object.get(name) {
+    match member {
         Some(member) => table_of(alloc, member),
         None => Ok(None),
     }
+}
+
+/// The columns of a member that is a table.
+pub(crate) fn table_at(
+    alloc: Global,
+    object: Value,
+    name: &str,
+) -> Result<Option<Vec<WrittenColumn>>, OutOfMemory>
+    ensures { IfOk result (λ o. option_map (λ v. map written_view v.items) o
+        ≡ table_at name.now (view object)) }
+{
+    table_in(alloc, into_member(object, name))
 }
 
 // A whole number below 2^32.
@@ -216,14 +239,11 @@ fn exec_of(request: &Value) -> Option<ExecNumbers>
 
 /// The members of a request to join, or None where the value has not the form of one.
 #[tactic(auto, unfolding(crate::specs::Written::join_of))]
-pub(crate) fn join_of<'v>(
-    alloc: Global,
-    value: &'v Value,
-) -> Result<Option<WrittenJoin<'v>>, OutOfMemory>
-    ensures { IfOk result (λ o. option_map written_join o ≡ join_of (view value.now)) }
+pub(crate) fn join_of(alloc: Global, value: Value) -> Result<Option<WrittenJoin>, OutOfMemory>
+    ensures { IfOk result (λ o. option_map written_join o ≡ join_of (view value)) }
 {
     if !has_only(
-        value,
+        &value,
         &[
             "args", "exec", "left", "left_on", "right", "right_on", "trace",
         ],
@@ -236,19 +256,16 @@ pub(crate) fn join_of<'v>(
     let Some(args) = args_of(alloc, args)? else {
         return Ok(None);
     };
-    let (Some(exec), Some(trace)) = (exec_of(value), truth_at(value, "trace")) else {
+    let (Some(exec), Some(trace)) = (exec_of(&value), truth_at(&value, "trace")) else {
         return Ok(None);
     };
-    let Some(left) = table_at(alloc, value, "left")? else {
-        return Ok(None);
-    };
-    let Some(left_on) = texts_at(alloc, value, "left_on")? else {
-        return Ok(None);
-    };
-    let Some(right) = table_at(alloc, value, "right")? else {
-        return Ok(None);
-    };
-    let Some(right_on) = texts_at(alloc, value, "right_on")? else {
+    let left_on = texts_at(alloc, &value, "left_on")?;
+    let right_on = texts_at(alloc, &value, "right_on")?;
+    let (left, right) = into_sides(value);
+    let left = table_in(alloc, left)?;
+    let right = table_in(alloc, right)?;
+    let (Some(left), Some(left_on), Some(right), Some(right_on)) = (left, left_on, right, right_on)
+    else {
         return Ok(None);
     };
     Ok(Some(WrittenJoin {

@@ -102,10 +102,10 @@ fn table_of(alloc: Global, claimed: Vec<ClaimedColumn>) -> Result<DataFrame, Req
 #[tactic(auto, unfolding(crate::specs::Reading::table_from))]
 pub(crate) fn table_from(
     alloc: Global,
-    written: &Vec<WrittenColumn<'_>>,
+    written: Vec<WrittenColumn>,
 ) -> Result<DataFrame, RequestFault>
-    ensures { MatchResult result (λ t. table_from (map written_view written.now.items) ≡ Ok t)
-        (λ e. FaultIs e (table_from (map written_view written.now.items))) }
+    ensures { MatchResult result (λ t. table_from (map written_view written.items) ≡ Ok t)
+        (λ e. FaultIs e (table_from (map written_view written.items))) }
 {
     match columns_of(alloc, written)? {
         Some(columns) => table_of(alloc, columns),

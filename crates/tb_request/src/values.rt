@@ -7,7 +7,7 @@ use crate::shape::WrittenColumn;
 use std::alloc::Global;
 use tb_json::arrays_in;
 use tb_store::{Column, Series};
-use tb_value::{IsSorted, OutOfMemory, PlSmallStr, PolarsError};
+use tb_value::{IsSorted, OutOfMemory, PolarsError};
 
 // A column, and the flag that is claimed of its values.
 #[derive(Drop)]
@@ -17,21 +17,22 @@ pub(crate) struct ClaimedColumn {
 }
 
 #[tactic(auto, unfolding(crate::specs::Columns::values_of))]
-fn column_of(
-    alloc: Global,
-    written: &WrittenColumn<'_>,
-) -> Result<Option<ClaimedColumn>, OutOfMemory>
-    ensures { IfOk result (λ o. option_map claimed_view o ≡ values_of (written_view written.now)) }
+fn column_of(alloc: Global, written: WrittenColumn) -> Result<Option<ClaimedColumn>, OutOfMemory>
+    ensures { IfOk result (λ o. option_map claimed_view o ≡ values_of (written_view written)) }
 {
-    let Some(arrays) = arrays_in(alloc, &written.dtype, &written.chunks)? else {
+    let WrittenColumn {
+        name,
+        dtype,
+        chunks,
+        flag,
+    } = written;
+    let Some(arrays) = arrays_in(alloc, &dtype, &chunks)? else {
         return Ok(None);
     };
-    let name = PlSmallStr::from_str(alloc, written.name)?;
-    let dtype = written.dtype.copy(alloc)?;
     match Series::from_arrays(alloc, name, dtype, arrays) {
         Ok(series) => Ok(Some(ClaimedColumn {
             column: series.into_column(),
-            flag: written.flag,
+            flag,
         })),
         Err(PolarsError::OutOfMemory) => Err(OutOfMemory),
         Err(_) => Ok(None),
@@ -41,10 +42,10 @@ fn column_of(
 /// The columns of a table, or None where a value is not of its column's type or a column is too long.
 pub(crate) fn columns_of(
     alloc: Global,
-    written: &Vec<WrittenColumn<'_>>,
+    written: Vec<WrittenColumn>,
 ) -> Result<Option<Vec<ClaimedColumn>>, OutOfMemory>
     ensures { IfOk result (λ o. option_map (λ v. map claimed_view v.items) o
-        ≡ columns_from (map written_view written.now.items)) }
+        ≡ columns_from (map written_view written.items)) }
 {
     let mut columns = Vec::with_capacity(alloc, written.len())?;
     for item in written {

@@ -12,13 +12,13 @@ use Rattle.tb_json.proofs.read_arrays.chunks_of.Goals as goal
 
 pub returns-in_default-clause-chunks : goal.returns-in_default-clause-chunks
 returns-in_default-clause-chunks g c =
-    Walk-fails (λ v. map view v.now.items) (each (cell_in (kind_of c.args.dtype.now))) _ _ _ _ c.loop-items-test.true c.items-item.is (sym c.in_ok-chunk.ensures.values ∙ ap (option_map g.C.Chunk.shown) c.in_default.is) c.loop-items.invariant.walked
-    ∙ ap (λ vs. each (each (cell_in (kind_of c.args.dtype.now))) (map (λ v. map view v.now.items) vs)) c.deref-items-items.ensures.value
+    Walk-fails (λ v. map view v.items) (each (cell_in (kind_of c.args.dtype.now))) _ _ _ _ c.loop-items-test.true c.items-item.is (sym c.in_ok-chunk.ensures.values ∙ ap (option_map g.C.Chunk.shown) c.in_default.is) c.loop-items.invariant.walked
+    ∙ ap (λ vs. each (each (cell_in (kind_of c.args.dtype.now))) (map (λ v. map view v.items) vs)) c.deref-items-items.ensures.value
 
 pub loop-items-preserved : goal.loop-items-preserved
 loop-items-preserved g c = record {
   walked =
       rw (c.in_ok-push.ensures.items, map_push)
-      (Walk-more (λ v. map view v.now.items) (each (cell_in (kind_of c.args.dtype.now))) _ _ _ _ _ c.loop-items-test.true c.items-item.is (sym c.in_ok-chunk.ensures.values ∙ ap (option_map g.C.Chunk.shown) c.in-Some.is) c.loop-items.invariant.walked);
+      (Walk-more (λ v. map view v.items) (each (cell_in (kind_of c.args.dtype.now))) _ _ _ _ _ c.loop-items-test.true c.items-item.is (sym c.in_ok-chunk.ensures.values ∙ ap (option_map g.C.Chunk.shown) c.in-Some.is) c.loop-items.invariant.walked);
   typed = rw (c.in_ok-push.ensures.items, map_push, flat-push) (All-append (HasType (kind_of c.args.dtype.now)) _ _ c.loop-items.invariant.typed (rw c.in-Some.is at c.in_ok-chunk.ensures.typed));
 }

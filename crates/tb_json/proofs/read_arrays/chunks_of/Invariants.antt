@@ -9,6 +9,6 @@ use Rattle.tb_json.proofs.read_arrays.chunks_of.Given as goal
 
 abbrev pub invariant-loop-items : goal.invariant-loop-items
 invariant-loop-items g l = record {
-  walked : Walk (λ v. map view v.now.items) (each (cell_in (kind_of l.dtype))) l.items-items (map g.C.Chunk.shown l.chunks.items) l.items-index;
+  walked : Walk (λ v. map view v.items) (each (cell_in (kind_of l.dtype))) l.items-items (map g.C.Chunk.shown l.chunks.items) l.items-index;
   typed : IsTyped (kind_of l.dtype) (map g.C.Chunk.shown l.chunks.items);
 }

@@ -1,20 +1,23 @@
-use Rattle.std.proofs.Common.{◌∙◌, sym, arith}
+use Rattle.std.proofs.Common.{◌∙◌, sym}
+use Rattle.std.proofs.lemmas.List.{map_push}
 use Rattle.serde_json.specs.View.{view}
 use Rattle.tb_json.specs.Lists.{as_list}
-use Rattle.std.proofs.lemmas.List.{map_push}
-use Rattle.tb_json.proofs.LentValues.{as_list-array, as_list-other, each_in, Walk-more, Walk-fails, Walk-all}
+use Rattle.tb_json.proofs.LentValues.{Taking-start, Taking-next, Taking-stops, Taking-end, each_taken}
 use Rattle.tb_request.proofs.shape.chunks_of.Goals as goal
 
-pub returns-in_default-as_array : goal.returns-in_default-as_array
-returns-in_default-as_array c =
-    Walk-fails view as_list _ _ _ _ c.loop-item-test.true c.item-item.is (as_list-other _ c.in_default-as_array.ensures) c.loop-item.invariant
-    ∙ sym (each_in as_list _ _ _ c.in-Some.ensures c.deref-item-items.ensures.value)
+pub loop-item-init : goal.loop-item-init
+loop-item-init c = rw c.in_ok-chunks.ensures.items (Taking-start view as_list _)
+
+pub returns-in_default-into_array : goal.returns-in_default-into_array
+returns-in_default-into_array c =
+    Taking-stops view as_list _ _ _ _ _ c.in-Some-item.ensures.steps.0 (sym c.in_default-into_array.ensures) c.loop-item.invariant
+    ∙ sym (each_taken as_list _ _ _ c.in-Some.ensures c.into_iter-item-iterator.ensures.into_iter_gives.0)
 
 pub loop-item-preserved : goal.loop-item-preserved
 loop-item-preserved c =
-    rw (c.in_ok-push.ensures.items, map_push) (Walk-more view as_list _ _ _ _ _ c.loop-item-test.true c.item-item.is (as_list-array _ _ c.in-Some-as_array.ensures) c.loop-item.invariant)
+    rw (c.in_ok-push.ensures.items, map_push) (Taking-next view as_list _ _ _ _ _ _ c.in-Some-item.ensures.steps.0 (sym c.in-Some-into_array.ensures) c.loop-item.invariant)
 
 pub returns : goal.returns
 returns c =
-    Walk-all view as_list _ _ _ (omega arith) c.loop-item.invariant
-    ∙ sym (each_in as_list _ _ _ c.in-Some.ensures c.deref-item-items.ensures.value)
+    Taking-end view as_list _ _ _ (sym c.loop-item.item-iterator.rest.ok.0 ∙ c.in-None.ensures.steps.0) c.loop-item.invariant
+    ∙ sym (each_taken as_list _ _ _ c.in-Some.ensures c.into_iter-item-iterator.ensures.into_iter_gives.0)

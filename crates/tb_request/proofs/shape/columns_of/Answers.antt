@@ -1,22 +1,25 @@
-use Rattle.serde_json.specs.View.{view}
-use Rattle.std.proofs.Common.{◌∙◌, sym, ap, option_map, arith}
+use Rattle.std.proofs.Common.{◌∙◌, option_map, sym, ap}
 use Rattle.std.proofs.lemmas.List.{map_push}
+use Rattle.serde_json.specs.View.{view}
 use Rattle.tb_request.specs.Written.{column_of}
 use Rattle.tb_request.specs.Lent.{written_view}
-use Rattle.tb_json.proofs.LentValues.{each_in, Walk-more, Walk-fails, Walk-all}
+use Rattle.tb_json.proofs.LentValues.{Taking-start, Taking-next, Taking-stops, Taking-end, each_taken}
 use Rattle.tb_request.proofs.shape.columns_of.Goals as goal
+
+pub loop-item-init : goal.loop-item-init
+loop-item-init c = rw c.in_ok-columns.ensures.items (Taking-start view column_of _)
 
 pub returns-in_default-2 : goal.returns-in_default-2
 returns-in_default-2 c =
-    Walk-fails view column_of _ _ _ _ c.loop-item-test.true c.item-item.is (sym c.in_ok-column.ensures ∙ ap (option_map written_view) c.in_default-2.is) c.loop-item.invariant
-    ∙ sym (each_in column_of _ _ _ c.in-Some.ensures c.deref-item-items.ensures.value)
+    Taking-stops view column_of _ _ _ _ _ c.in-Some-item.ensures.steps.0 (sym c.in_ok-column.ensures ∙ ap (option_map written_view) c.in_default-2.is) c.loop-item.invariant
+    ∙ sym (each_taken column_of _ _ _ c.in-Some.ensures c.into_iter-item-iterator.ensures.into_iter_gives.0)
 
 pub loop-item-preserved : goal.loop-item-preserved
 loop-item-preserved c =
     rw (c.in_ok-push.ensures.items, map_push)
-    (Walk-more view column_of _ _ _ _ _ c.loop-item-test.true c.item-item.is (sym c.in_ok-column.ensures ∙ ap (option_map written_view) c.in-Some-2.is) c.loop-item.invariant)
+    (Taking-next view column_of _ _ _ _ _ _ c.in-Some-item.ensures.steps.0 (sym c.in_ok-column.ensures ∙ ap (option_map written_view) c.in-Some-2.is) c.loop-item.invariant)
 
 pub returns : goal.returns
 returns c =
-    Walk-all view column_of _ _ _ (omega arith) c.loop-item.invariant
-    ∙ sym (each_in column_of _ _ _ c.in-Some.ensures c.deref-item-items.ensures.value)
+    Taking-end view column_of _ _ _ (sym c.loop-item.item-iterator.rest.ok.0 ∙ c.in-None.ensures.steps.0) c.loop-item.invariant
+    ∙ sym (each_taken column_of _ _ _ c.in-Some.ensures c.into_iter-item-iterator.ensures.into_iter_gives.0)
