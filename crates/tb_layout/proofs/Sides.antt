@@ -1,0 +1,54 @@
+-- Walks over the columns of a table that is laid out.
+use Rattle.std.proofs.Common.{◌≡◌, ◌<◌, ◌+◌, ◌∷◌, ◌++◌, ◌∙◌, [], ℕ, Bool, List, length, map, take, get_or, sym, ap, arith, subst, append-nil, append_assoc, replicate}
+use Rattle.std.specs.List.{All}
+use Rattle.std.proofs.Math.ListN as listn
+use Rattle.std.proofs.lemmas.List.{get_or-map, get_or_default, length-map, take_more}
+use Rattle.tb_value.specs.Kind as kind
+use Rattle.tb_value.specs.declared.sorted.IsSorted.TheVariants.{Not}
+use Rattle.tb_chunk.specs.Col.{Col, values}
+use Rattle.tb_frame.specs.Table.{TableColumn, height, plain, table_of}
+use Rattle.tb_layout.specs.Lines.{blanks, column_width, dashes_in, padded, side_by_side}
+
+sides_push : (f : TableColumn → List ℕ) (cs : List Col) (c : Col) → side_by_side f (table_of (cs ++ c ∷ [])) ≡ side_by_side f (table_of cs) ++ (f (plain c) ++ blanks 2)
+sides_push f [] c = append-nil (f (plain c) ++ blanks 2)
+sides_push f (d ∷ cs) c =
+    let first = f (plain d) ++ blanks 2 in
+    ap (λ (s : List ℕ). first ++ s) (sides_push f cs c) ∙ sym (append_assoc first (side_by_side f (table_of cs)) (f (plain c) ++ blanks 2))
+
+-- one more column is appended
+pub side_more : (f : TableColumn → List ℕ) (cs : List Col) (k : ℕ) (c : Col) (old new x : List ℕ) → k < length cs → c ≡ get_or cs k c → x ≡ f (plain c) → new ≡ old ++ (x ++ blanks 2) → old ≡ side_by_side f (table_of (take k cs)) → new ≡ side_by_side f (table_of (take (k + 1) cs))
+side_more f cs k c old new x low is cell push so_far =
+    push ∙ ap (λ (s : List ℕ). s ++ (x ++ blanks 2)) so_far
+    ∙ ap (λ (s : List ℕ). side_by_side f (table_of (take k cs)) ++ (s ++ blanks 2)) cell
+    ∙ sym (sides_push f (take k cs) c)
+    ∙ ap (λ (d : Col). side_by_side f (table_of (take k cs ++ d ∷ []))) is
+    ∙ ap (λ (ds : List Col). side_by_side f (table_of ds)) (sym (take_more cs k c low))
+
+-- the width at the place of a column is that of the column
+pub width_at : (line : ℕ) (cs : List Col) (ws : List ℕ) (k : ℕ) (c : Col) (w : ℕ) → ws ≡ map (column_width line) (table_of cs) → k < length cs → c ≡ get_or cs k c → w ≡ get_or ws k w → w ≡ column_width line (plain c)
+width_at line cs ws k c w are low is at =
+    at ∙ ap (λ (ns : List ℕ). get_or ns k w) are
+    ∙ get_or-map (column_width line) (table_of cs) k (plain c) w (rw (length-map cs plain) low)
+    ∙ ap (column_width line) (get_or-map plain cs k c (plain c) low ∙ ap plain (sym is))
+
+pub padded_same : (a b : Bool) (v w : ℕ) (s t : List ℕ) → a ≡ b → v ≡ w → s ≡ t → padded a v s ≡ padded b w t
+padded_same a b v w s t right wide same = ap (λ x. padded x v s) right ∙ ap (λ x. padded b x s) wide ∙ ap (λ x. padded b w x) same
+
+no_column : Col
+no_column = record { name = []; kind = kind.null; chunks = []; flag = Not }
+
+-- one more column's dashes are appended
+pub dashes_more : (line : ℕ) (cs : List Col) (ws : List ℕ) (k w : ℕ) (old mid new : List ℕ) → ws ≡ map (column_width line) (table_of cs) → k < length cs → w ≡ get_or ws k w → mid ≡ old ++ replicate w 45 → new ≡ mid ++ blanks 2
+    → old ≡ side_by_side (dashes_in line) (table_of (take k cs)) → new ≡ side_by_side (dashes_in line) (table_of (take (k + 1) cs))
+dashes_more line cs ws k w old mid new are low at dashes gap so_far =
+    let c = get_or cs k no_column in
+    let is = get_or_default cs k no_column c low in
+    side_more (dashes_in line) cs k c old new (replicate w 45) low is
+    (ap (λ n. replicate n 45) (width_at line cs ws k c w are low is at))
+    (gap ∙ ap (λ s. s ++ blanks 2) dashes ∙ append_assoc old (replicate w 45) (blanks 2)) so_far
+
+-- a row of the table is one of each column
+pub row_in_all : (cs ks : List Col) (i h : ℕ) → ks ≡ cs → h ≡ height (table_of cs) → i < h → All (λ (c : TableColumn). length c.values ≡ height (table_of cs)) (table_of cs) → All (λ (c : Col). i < length (values c)) ks
+row_in_all cs ks i h same high low all = rw same (λ k d within.
+    let level : length (values (get_or cs k d)) ≡ height (table_of cs) = subst (λ (c : TableColumn). length c.values ≡ height (table_of cs)) (listn.get_or-map plain cs k d) (all k (plain d) (rw (length-map cs plain) within)) in
+    omega arith)

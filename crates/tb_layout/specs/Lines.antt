@@ -1,0 +1,65 @@
+-- The lines of a table.
+use Rattle.std.specs.Prelude.{ℕ, ◌-◌, ◌++◌, ◌∷◌, [], Bool, true, false, List, codes, map, max, min, replicate, slice_index_or}
+use Rattle.std.specs.List.{flat_map, fold}
+use Rattle.tb_value.specs.Datum.{Datum, null, int, binary, list, struct}
+use Rattle.tb_value.specs.Pairs.{row_numbers}
+use Rattle.tb_label.specs.Label.{value_text}
+use Rattle.tb_frame.specs.Table.{Table, TableColumn, height}
+use Rattle.tb_layout.specs.Characters.{cut, shown, trimmed, width_of}
+
+-- Null is a word; of bytes, lists and structs nothing is shown but that they are there
+abbrev pub cell_text : Datum → List ℕ
+cell_text (binary s) = codes ".."
+cell_text (list vs) = codes ".."
+cell_text (struct vs) = codes ".."
+cell_text v = value_text v
+
+abbrev pub cell_of : Datum → List ℕ
+cell_of v = shown (cell_text v)
+
+abbrev pub is_number : Datum → Bool
+is_number (int z) = true
+is_number _ = false
+
+-- as wide as the widest of its name and its cells, or as the line where that is less
+abbrev pub column_width : ℕ → TableColumn → ℕ
+column_width line c = min line (fold (λ w v. max w (width_of (cell_of v))) (width_of (shown c.name)) c.values)
+
+abbrev pub blanks : ℕ → List ℕ
+blanks n = replicate n 32
+
+-- a cell at the right of its column, or at the left
+abbrev pub padded : Bool → ℕ → List ℕ → List ℕ
+padded true width cell = blanks (width - width_of cell) ++ cell
+padded false width cell = cell ++ blanks (width - width_of cell)
+
+-- what each column shows, with two blanks behind it
+abbrev pub side_by_side : (TableColumn → List ℕ) → Table → List ℕ
+side_by_side f t = flat_map (λ c. f c ++ blanks 2) t
+
+abbrev pub name_in : ℕ → TableColumn → List ℕ
+name_in line c = padded false (column_width line c) (shown c.name)
+
+abbrev pub dashes_in : ℕ → TableColumn → List ℕ
+dashes_in line c = replicate (column_width line c) 45
+
+-- whole numbers stand at the right
+abbrev pub cell_in : ℕ → ℕ → TableColumn → List ℕ
+cell_in line i c =
+    let v = slice_index_or c.values i null in
+    padded (is_number v) (column_width line c) (cell_of v)
+
+-- the names, the dashes, and each row
+abbrev pub whole_lines : ℕ → Table → List (List ℕ)
+whole_lines line t =
+    side_by_side (name_in line) t
+    ∷ side_by_side (dashes_in line) t
+    ∷ map (λ i. side_by_side (cell_in line i) t) (row_numbers (height t))
+
+-- cut to the width of the terminal, without blanks at their ends
+abbrev pub lines : ℕ → Table → List (List ℕ)
+lines line t = map (λ l. trimmed (cut line l)) (whole_lines line t)
+
+-- each line ends in a line feed
+unfoldable pub layout : ℕ → Table → List ℕ
+layout line t = flat_map (λ l. l ++ 10 ∷ []) (lines line t)

@@ -1,0 +1,14 @@
+//! Tables as texts that people read on a terminal.
+//!
+//! A line of the names, a line of dashes and a line for each row, with two blanks between the columns. Whole numbers stand at
+//! the right of their column, and all else at the left.
+#![tactic(auto)]
+
+mod cells;
+mod characters;
+mod grid;
+pub mod laws;
+mod layout;
+mod lines;
+
+pub use layout::layout_of_table;
