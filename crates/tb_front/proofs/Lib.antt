@@ -1,0 +1,4 @@
+pub mod Steps
+pub mod Outcomes
+pub mod Joined
+pub mod OneTable

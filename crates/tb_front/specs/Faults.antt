@@ -1,0 +1,42 @@
+-- Why there is no text of an answer: the first fault that holds.
+use Rattle.std.specs.Prelude.{◌≡◌, ◌⊎◌, ℕ, List, [], ◌∷◌, map, Option, Some, None, option_map, Result, MatchResult}
+use Rattle.tb_value.specs.Kind.{Kind}
+use Rattle.tb_value.specs.Names.{Name}
+use Rattle.tb_value.specs.declared.error.PolarsError.{PolarsError}
+use Rattle.tb_frame.specs.Table.{Table}
+use Rattle.tb_csv.specs.Faults.{csv_refusal}
+use Rattle.tb_csv.specs.Records.{records_of}
+use Rattle.tb_csv.specs.Texts.{text_refusal}
+use Rattle.tb_csv.specs.declared.options.CsvOptions.{CsvOptions}
+use Rattle.tb_front.specs.declared.arguments.TextForm.{TextForm}
+use Rattle.tb_front.specs.declared.arguments.TextForm.TheVariants.{Csv, Json}
+use Rattle.tb_front.specs.declared.fault.FrontFault.{FrontFault}
+use Rattle.tb_front.specs.declared.fault.FrontFault.TheVariants.{NoTable, Refused, NoText, OutOfMemory}
+use Rattle.tb_front.specs.declared.fault.Place.{Place}
+
+-- the first that is there
+abbrev pub first_fault : List (Option FrontFault) → Option FrontFault
+first_fault [] = None
+first_fault (None ∷ fs) = first_fault fs
+first_fault (Some e ∷ fs) = Some e
+
+-- A call settles a fault: it passes exactly where there is none, and else refuses by it. Want of memory may come at any time.
+abbrev pub Settles : {T : Type 0} → Result T FrontFault → Option FrontFault → Type 0
+Settles r fault = MatchResult r (λ _. fault ≡ None) (λ e. (e ≡ OutOfMemory) ⊎ (fault ≡ Some e))
+
+-- why the text at a place is no table
+abbrev pub no_table : CsvOptions → Place → List ℕ → Option FrontFault
+no_table options place text = option_map (λ e. NoTable place e) (csv_refusal options.types.items (records_of options.separator text))
+
+-- why the operation refuses
+abbrev pub refused : Option PolarsError → Option FrontFault
+refused cause = option_map (λ e. Refused e) cause
+
+-- why a table has no text in a form
+abbrev pub not_written : TextForm → Table → Option FrontFault
+not_written Csv t = option_map (λ e. NoText e) (text_refusal t)
+not_written Json t = None
+
+-- a table of these names and types, without rows
+abbrev pub bare : List (Name × Kind) → Table
+bare schema = map (λ (s : Name × Kind). record { name = s.0; kind = s.1; values = [] }) schema
