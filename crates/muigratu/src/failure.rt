@@ -1,0 +1,114 @@
+//! Why there is no answer: a sentence and a status.
+
+use crate::sentences::{CsvSentence, RefusalSentence};
+use std::alloc::{AllocError, AllocFailed};
+use std::{fmt, io};
+use tb_csv::CsvFault;
+use tb_value::{OutOfMemory, PolarsError};
+
+/// Why there is no answer.
+#[derive(Drop)]
+pub(crate) enum Failure<'a> {
+    /// The operation refuses the tables.
+    Refused(PolarsError),
+    /// The answer has no text.
+    NoText(CsvFault),
+    /// The word is no type of a column.
+    NoType(&'a str),
+    /// The word is no slice.
+    NoSlice(&'a str),
+    /// The word is no separator.
+    NoSeparator(&'a str),
+    /// Both tables are to be read from standard input.
+    OneInput,
+    /// A word is not UTF-8.
+    NotWords,
+    /// The text of this file is no table.
+    NoTable(&'a str, CsvFault),
+    /// This file was not read.
+    Reading(&'a str, io::Error),
+    /// This file was not written.
+    Writing(&'a str, io::Error),
+    OutOfMemory,
+    /// The text of this file has too many bytes.
+    TooLong(&'a str),
+}
+
+impl Failure<'_> {
+    /// The exit status.
+    pub(crate) fn status(&self) -> u8 {
+        match self {
+            Failure::Refused(_) | Failure::NoText(_) => 1,
+            Failure::NoType(_)
+            | Failure::NoSlice(_)
+            | Failure::NoSeparator(_)
+            | Failure::OneInput
+            | Failure::NotWords => 2,
+            Failure::NoTable(_, _) => 3,
+            Failure::Reading(_, _) => 4,
+            Failure::Writing(_, _) => 5,
+            Failure::OutOfMemory => 6,
+            Failure::TooLong(_) => 7,
+        }
+    }
+}
+
+impl From<OutOfMemory> for Failure<'_> {
+    fn from(_error: OutOfMemory) -> Self {
+        Failure::OutOfMemory
+    }
+}
+
+impl From<AllocError> for Failure<'_> {
+    fn from(_error: AllocError) -> Self {
+        Failure::OutOfMemory
+    }
+}
+
+impl<T: Drop> From<AllocFailed<T>> for Failure<'_> {
+    fn from(_error: AllocFailed<T>) -> Self {
+        Failure::OutOfMemory
+    }
+}
+
+// The name of a file, as sentences have it.
+fn title(file: &str) -> &str {
+    if file == "-" { "standard input" } else { file }
+}
+
+fn output_title(file: &str) -> &str {
+    if file == "-" { "standard output" } else { file }
+}
+
+impl fmt::Display for Failure<'_> {
+    fn fmt<W: fmt::Write>(&self, f: &mut fmt::Formatter<W>) -> fmt::Result {
+        match self {
+            Failure::Refused(error) => write!(f, "{}", RefusalSentence(error)),
+            Failure::NoText(fault) => write!(
+                f,
+                "the answer is not written: {}",
+                CsvSentence(fault)
+            ),
+            Failure::NoType(word) => write!(f, "--types takes NAME=TYPE, and not \"{word}\""),
+            Failure::NoSlice(word) => {
+                write!(
+                    f,
+                    "--slice takes OFFSET,LENGTH, two whole numbers, and not \"{word}\""
+                )
+            }
+            Failure::NoSeparator(word) => {
+                write!(
+                    f,
+                    "--separator takes one ASCII character, and not \"{word}\""
+                )
+            }
+            Failure::OneInput => f.write_str("standard input can be one table only"),
+            Failure::NotWords => f.write_str("a word is not UTF-8"),
+            Failure::NoTable(file, fault) => write!(f, "{}: {}", title(file), CsvSentence(fault)),
+            Failure::Reading(file, error) => write!(f, "{}: {error}", title(file)),
+            Failure::Writing(file, error) => write!(f, "{}: {error}", output_title(file)),
+            Failure::OutOfMemory => f.write_str("memory is wanting"),
+            Failure::TooLong(file) => write!(f, "{}: more than 67108864 bytes", title(file)),
+        }
+    }
+}

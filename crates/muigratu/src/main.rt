@@ -1,0 +1,81 @@
+//! Joins and reshapes tables that lie in files.
+#![tactic(auto)]
+
+mod commands;
+mod failure;
+mod files;
+mod running;
+mod sentences;
+mod words;
+
+use clap::error::ErrorKind;
+use commands::program;
+use failure::Failure;
+use running::run_command;
+use std::env::{self, Env};
+use std::io::{self, Input};
+use std::process::ExitCode;
+use std::rt::Files;
+use std::thread::Threads;
+
+// The words that the program is called with, its name first.
+fn words_given<'a>(rt: &(impl Env + AllocGlobal)) -> Result<Vec<String>, Failure<'a>> {
+    let mut words = Vec::new(rt.alloc());
+    match env::args(rt) {
+        Ok(all) => {
+            for word in all {
+                words.push(word)?;
+            }
+            Ok(words)
+        }
+        Err(error) if error.kind() == io::ErrorKind::OutOfMemory => Err(Failure::OutOfMemory),
+        Err(_) => Err(Failure::NotWords),
+    }
+}
+
+// Tells why there is no answer, and gives the status.
+fn told(rt: &impl Eprint, failure: &Failure<'_>) -> u8 {
+    // Where standard error is gone the status alone tells.
+    let _ = eprintln!(rt; "muigratu: {failure}");
+    failure.status()
+}
+
+// Prints what the parse of the words has to say, and gives the status.
+fn shown(rt: &(impl Print + Eprint), error: &clap::Error) -> u8 {
+    if error.kind() == ErrorKind::OutOfMemory {
+        return told(rt, &Failure::OutOfMemory);
+    }
+    match error.print(rt) {
+        Ok(()) if error.use_stderr() => 2,
+        Ok(()) => 0,
+        Err(error) => told(rt, &Failure::Writing("-", error)),
+    }
+}
+
+// Does what the words ask, and gives the status.
+fn run(
+    rt: &(impl Files + Input + Print + Eprint + AllocGlobal + Threads + Sync),
+    words: &[String],
+) -> u8 {
+    let Ok(command) = program(rt.alloc()) else {
+        return told(rt, &Failure::OutOfMemory);
+    };
+    let matches = match command.try_get_matches_from(words) {
+        Ok(matches) => matches,
+        Err(error) => return shown(rt, &error),
+    };
+    let Some((name, matches)) = matches.subcommand() else {
+        return 2;
+    };
+    match run_command(rt, rt.alloc(), name, matches) {
+        Ok(()) => 0,
+        Err(failure) => told(rt, &failure),
+    }
+}
+
+fn main(rt: HostRuntime) -> ExitCode {
+    match words_given(&rt) {
+        Ok(words) => ExitCode::from(run(&rt, &words)),
+        Err(failure) => ExitCode::from(told(&rt, &failure)),
+    }
+}

@@ -1,0 +1,271 @@
+//! Words that stand for arguments.
+
+use crate::failure::Failure;
+use clap::ArgMatches;
+use std::alloc::Global;
+use tb_agg::Aggregate;
+use tb_csv::{CsvOptions, FieldType, TypeOf};
+use tb_frame::{JoinArgs, JoinCoalesce, JoinType, JoinValidation, MaintainOrderJoin};
+use tb_front::{DummiesArguments, JoinArguments, PivotArguments, TextForm, UnpivotArguments};
+use tb_value::{OutOfMemory, PlSmallStr};
+
+fn names_of(alloc: Global, words: Option<&[&str]>) -> Result<Vec<PlSmallStr>, OutOfMemory> {
+    let mut names = Vec::new(alloc);
+    if let Some(words) = words {
+        for word in words {
+            names.push(PlSmallStr::from_str(alloc, word)?)?;
+        }
+    }
+    Ok(names)
+}
+
+fn names_given(
+    alloc: Global,
+    words: Option<&[&str]>,
+) -> Result<Option<Vec<PlSmallStr>>, OutOfMemory> {
+    if words.is_some() {
+        Ok(Some(names_of(alloc, words)?))
+    } else {
+        Ok(None)
+    }
+}
+
+fn text_given(alloc: Global, word: Option<&str>) -> Result<Option<PlSmallStr>, OutOfMemory> {
+    match word {
+        Some(word) => Ok(Some(PlSmallStr::from_str(alloc, word)?)),
+        None => Ok(None),
+    }
+}
+
+// The names of the two keys of a place: one name is that of both.
+fn key_pair(word: &str) -> (&str, &str) {
+    match word.split_once('=') {
+        Some(pair) => pair,
+        None => (word, word),
+    }
+}
+
+fn left_keys(alloc: Global, words: Option<&[&str]>) -> Result<Vec<PlSmallStr>, OutOfMemory> {
+    let mut names = Vec::new(alloc);
+    if let Some(words) = words {
+        for word in words {
+            let (left, _right) = key_pair(word);
+            names.push(PlSmallStr::from_str(alloc, left)?)?;
+        }
+    }
+    Ok(names)
+}
+
+fn right_keys(alloc: Global, words: Option<&[&str]>) -> Result<Vec<PlSmallStr>, OutOfMemory> {
+    let mut names = Vec::new(alloc);
+    if let Some(words) = words {
+        for word in words {
+            let (_left, right) = key_pair(word);
+            names.push(PlSmallStr::from_str(alloc, right)?)?;
+        }
+    }
+    Ok(names)
+}
+
+fn field_type(word: &str) -> Option<FieldType> {
+    match word {
+        "bool" => Some(FieldType::Boolean),
+        "i8" => Some(FieldType::Int8),
+        "i16" => Some(FieldType::Int16),
+        "i32" => Some(FieldType::Int32),
+        "i64" => Some(FieldType::Int64),
+        "i128" => Some(FieldType::Int128),
+        "u8" => Some(FieldType::UInt8),
+        "u16" => Some(FieldType::UInt16),
+        "u32" => Some(FieldType::UInt32),
+        "u64" => Some(FieldType::UInt64),
+        "str" => Some(FieldType::String),
+        _ => None,
+    }
+}
+
+// The type is the part behind the last `=`, so that a name may have one.
+fn type_given<'a>(alloc: Global, word: &'a str) -> Result<TypeOf, Failure<'a>> {
+    let Some((name, type_name)) = word.rsplit_once('=') else {
+        return Err(Failure::NoType(word));
+    };
+    match field_type(type_name) {
+        Some(field_type) => Ok(TypeOf {
+            name: PlSmallStr::from_str(alloc, name)?,
+            field_type,
+        }),
+        None => Err(Failure::NoType(word)),
+    }
+}
+
+fn types_given<'a>(alloc: Global, words: Option<&[&'a str]>) -> Result<Vec<TypeOf>, Failure<'a>> {
+    let mut types = Vec::new(alloc);
+    if let Some(words) = words {
+        for word in words {
+            types.push(type_given(alloc, word)?)?;
+        }
+    }
+    Ok(types)
+}
+
+// A character of one byte that is neither a quote nor ends a line; `\t` stands for a tab.
+fn separator_given<'a>(word: Option<&'a str>) -> Result<u8, Failure<'a>> {
+    let Some(word) = word else {
+        return Ok(b',');
+    };
+    match word.as_bytes() {
+        [b'\\', b't'] => Ok(b'\t'),
+        [byte] if *byte != b'"' && *byte != b'\n' && *byte != b'\r' => Ok(*byte),
+        _ => Err(Failure::NoSeparator(word)),
+    }
+}
+
+fn options<'a>(alloc: Global, matches: &ArgMatches<'a>) -> Result<CsvOptions, Failure<'a>> {
+    Ok(CsvOptions {
+        separator: separator_given(matches.get_str("separator"))?,
+        types: types_given(alloc, matches.get_strs("types"))?,
+    })
+}
+
+fn form(matches: &ArgMatches<'_>) -> TextForm {
+    match matches.get_str("as").unwrap_or("csv") {
+        "json" => TextForm::Json,
+        _ => TextForm::Csv,
+    }
+}
+
+fn kind(word: &str) -> JoinType {
+    match word {
+        "left" => JoinType::Left,
+        "right" => JoinType::Right,
+        "full" => JoinType::Full,
+        "semi" => JoinType::Semi,
+        "anti" => JoinType::Anti,
+        _ => JoinType::Inner,
+    }
+}
+
+fn order(word: &str) -> MaintainOrderJoin {
+    match word {
+        "left" => MaintainOrderJoin::Left,
+        "right" => MaintainOrderJoin::Right,
+        "left-right" => MaintainOrderJoin::LeftRight,
+        "right-left" => MaintainOrderJoin::RightLeft,
+        _ => MaintainOrderJoin::None,
+    }
+}
+
+fn validation(word: &str) -> JoinValidation {
+    match word {
+        "m:1" => JoinValidation::ManyToOne,
+        "1:m" => JoinValidation::OneToMany,
+        "1:1" => JoinValidation::OneToOne,
+        _ => JoinValidation::ManyToMany,
+    }
+}
+
+fn coalesce(word: &str) -> JoinCoalesce {
+    match word {
+        "coalesce" => JoinCoalesce::CoalesceColumns,
+        "keep" => JoinCoalesce::KeepColumns,
+        _ => JoinCoalesce::JoinSpecific,
+    }
+}
+
+fn slice_in(word: &str) -> Option<(i64, usize)> {
+    let (offset, length) = word.split_once(',')?;
+    let offset = offset.parse::<i64>().ok()?;
+    let length = length.parse::<usize>().ok()?;
+    Some((offset, length))
+}
+
+fn slice_given<'a>(word: Option<&'a str>) -> Result<Option<(i64, usize)>, Failure<'a>> {
+    let Some(word) = word else {
+        return Ok(None);
+    };
+    match slice_in(word) {
+        Some(slice) => Ok(Some(slice)),
+        None => Err(Failure::NoSlice(word)),
+    }
+}
+
+fn join_args<'a>(alloc: Global, matches: &ArgMatches<'a>) -> Result<JoinArgs, Failure<'a>> {
+    Ok(JoinArgs {
+        how: kind(matches.get_str("how").unwrap_or("inner")),
+        validation: validation(matches.get_str("validate").unwrap_or("m:m")),
+        suffix: text_given(alloc, matches.get_str("suffix"))?,
+        slice: slice_given(matches.get_str("slice"))?,
+        join_nulls: matches.get_flag("join-nulls"),
+        coalesce: coalesce(matches.get_str("coalesce").unwrap_or("specific")),
+        maintain_order: order(matches.get_str("order").unwrap_or("none")),
+    })
+}
+
+pub(crate) fn join_arguments<'a>(
+    alloc: Global,
+    matches: &ArgMatches<'a>,
+) -> Result<JoinArguments, Failure<'a>> {
+    let keys = matches.get_strs("on");
+    Ok(JoinArguments {
+        options: options(alloc, matches)?,
+        left_on: left_keys(alloc, keys)?,
+        right_on: right_keys(alloc, keys)?,
+        args: join_args(alloc, matches)?,
+        form: form(matches),
+    })
+}
+
+pub(crate) fn unpivot_arguments<'a>(
+    alloc: Global,
+    matches: &ArgMatches<'a>,
+) -> Result<UnpivotArguments, Failure<'a>> {
+    Ok(UnpivotArguments {
+        options: options(alloc, matches)?,
+        on: names_of(alloc, matches.get_strs("on"))?,
+        index: names_of(alloc, matches.get_strs("index"))?,
+        variable_name: text_given(alloc, matches.get_str("variable-name"))?,
+        value_name: text_given(alloc, matches.get_str("value-name"))?,
+        form: form(matches),
+    })
+}
+
+pub(crate) fn dummies_arguments<'a>(
+    alloc: Global,
+    matches: &ArgMatches<'a>,
+) -> Result<DummiesArguments, Failure<'a>> {
+    Ok(DummiesArguments {
+        options: options(alloc, matches)?,
+        columns: names_given(alloc, matches.get_strs("columns"))?,
+        separator: text_given(alloc, matches.get_str("name-separator"))?,
+        drop_first: matches.get_flag("drop-first"),
+        form: form(matches),
+    })
+}
+
+fn aggregate(word: &str) -> Option<Aggregate> {
+    match word {
+        "first" => Some(Aggregate::First),
+        "last" => Some(Aggregate::Last),
+        "sum" => Some(Aggregate::Sum),
+        "min" => Some(Aggregate::Min),
+        "max" => Some(Aggregate::Max),
+        "count" => Some(Aggregate::Count),
+        _ => None,
+    }
+}
+
+pub(crate) fn pivot_arguments<'a>(
+    alloc: Global,
+    matches: &ArgMatches<'a>,
+) -> Result<PivotArguments, Failure<'a>> {
+    Ok(PivotArguments {
+        options: options(alloc, matches)?,
+        on: names_of(alloc, matches.get_strs("on"))?,
+        index: names_given(alloc, matches.get_strs("index"))?,
+        values: names_given(alloc, matches.get_strs("values"))?,
+        sort_columns: matches.get_flag("sort-columns"),
+        agg: aggregate(matches.get_str("agg").unwrap_or("")),
+        separator: text_given(alloc, matches.get_str("name-separator"))?,
+        form: form(matches),
+    })
+}
