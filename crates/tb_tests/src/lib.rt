@@ -4,8 +4,6 @@
 #[cfg(test)]
 mod columns;
 #[cfg(test)]
-mod csv;
-#[cfg(test)]
 mod merging;
 #[cfg(test)]
 mod pivoting;
