@@ -3,23 +3,13 @@
 use clap::{Arg, ArgAction, Command};
 use std::alloc::{AllocError, Global};
 
-static FORMS: [&str; 2] = ["csv", "json"];
-
-static KINDS: [&str; 6] = ["inner", "left", "right", "full", "semi", "anti"];
-
-static ORDERS: [&str; 5] = ["none", "left", "right", "left-right", "right-left"];
-
-static VALIDATIONS: [&str; 4] = ["m:m", "m:1", "1:m", "1:1"];
-
-static COALESCES: [&str; 3] = ["specific", "coalesce", "keep"];
-
-static AGGREGATES: [&str; 6] = ["first", "last", "sum", "min", "max", "count"];
-
 // What an argument takes.
 #[derive(Clone, Copy)]
 enum Takes {
     // A file, at its place among the words.
     File,
+    // A file to write, which `-o` names too.
+    Output,
     // One text, which this word stands for in the help.
     Text(&'static str),
     // One text, which may begin with a hyphen.
@@ -37,70 +27,56 @@ enum Takes {
 #[derive(Clone, Copy)]
 struct Word(&'static str, Takes, &'static str);
 
-fn named_arg<'a>(alloc: Global, name: &'a str, takes: Takes) -> Arg<'a> {
-    let arg = Arg::new(alloc, name).long(name).action(ArgAction::Set);
-    match takes {
-        Takes::File => Arg::new(alloc, name).action(ArgAction::Set).required(true),
-        Takes::Text(value) => arg.value_name(value),
-        Takes::Hyphened(value) => arg.value_name(value).allow_hyphen_values(true),
-        Takes::Names(value) => many(arg, value),
-        Takes::SomeNames(value) => many(arg, value).required(true),
-        Takes::Choice(words) => arg.value_name("WORD").value_parser(words),
-        Takes::Nothing => arg.action(ArgAction::SetTrue),
-    }
+// A command: its name, what it does, its own words, and those that it shares with others.
+#[derive(Clone, Copy)]
+struct Form {
+    name: &'static str,
+    about: &'static str,
+    words: &'static [Word],
+    shared: &'static [Word],
 }
 
-fn many<'a>(arg: Arg<'a>, value: &'a str) -> Arg<'a> {
-    arg.value_name(value)
-        .num_args(1..)
-        .action(ArgAction::Append)
-}
+const TABLE: Word = Word("TABLE", Takes::File, "The table, or - for standard input");
 
-fn with_words<'a>(
-    alloc: Global,
-    command: Command<'a>,
-    words: &[Word],
-) -> Result<Command<'a>, AllocError> {
-    let mut command = command;
-    for Word(name, takes, help) in words {
-        command = command.arg(named_arg(alloc, name, *takes).help(help))?;
-    }
-    Ok(command)
-}
+const NAME_SEPARATOR: Word = Word(
+    "name-separator",
+    Takes::Text("TEXT"),
+    "Between a name and a value [default: _]",
+);
 
-// A command with its own words, and those that each command has.
-fn command_of<'a>(
-    alloc: Global,
-    name: &'a str,
-    about: &'a str,
-    words: &[Word],
-) -> Result<Command<'a>, AllocError> {
-    let command = with_words(alloc, Command::new(alloc, name).about(about), words)?;
-    let ends = [
-        Word(
-            "types",
-            Takes::Names("NAME=TYPE"),
-            "Types of columns: bool, i8 to i128, u8 to u64, or str",
-        ),
-        Word(
-            "separator",
-            Takes::Text("CHARACTER"),
-            "What stands between two fields [default: ,]",
-        ),
-        Word(
-            "as",
-            Takes::Choice(FORMS.as_slice()),
-            "The form of the answer [default: csv]",
-        ),
-    ];
-    let output = named_arg(alloc, "output", Takes::Text("FILE"))
-        .short('o')
-        .help("Where the answer goes [default: standard output]");
-    with_words(alloc, command, &ends)?.arg(output)
-}
+// What each command has that reads files and writes an answer.
+const SHARED: &[Word] = &[
+    Word(
+        "types",
+        Takes::Names("NAME=TYPE"),
+        "Types: bool, date, i8 to i128, u8 to u64, str",
+    ),
+    Word(
+        "separator",
+        Takes::Text("CHARACTER"),
+        "What stands between fields [default: ,]",
+    ),
+    Word(
+        "as",
+        Takes::Choice(&["csv", "json", "table"]),
+        "csv (default), json or table, which people read",
+    ),
+    Word(
+        "width",
+        Takes::Text("COLUMNS"),
+        "Columns of the lines of a table [default: 80]",
+    ),
+    Word(
+        "output",
+        Takes::Output,
+        "Where the answer goes, else standard output",
+    ),
+];
 
-fn join_command<'a>(alloc: Global) -> Result<Command<'a>, AllocError> {
-    let words = [
+const JOIN: Form = Form {
+    name: "join",
+    about: "Joins two tables",
+    words: &[
         Word(
             "LEFT",
             Takes::File,
@@ -113,33 +89,33 @@ fn join_command<'a>(alloc: Global) -> Result<Command<'a>, AllocError> {
         ),
         Word(
             "on",
-            Takes::SomeNames("KEY[=RIGHT_KEY]"),
+            Takes::SomeNames("KEY[=KEY]"),
             "Names of the key columns",
         ),
         Word(
             "how",
-            Takes::Choice(KINDS.as_slice()),
-            "The kind of join [default: inner]",
+            Takes::Choice(&["inner", "left", "right", "full", "semi", "anti"]),
+            "inner (default), left, right, full, semi, anti",
         ),
         Word(
             "order",
-            Takes::Choice(ORDERS.as_slice()),
-            "By which rows the answer is ordered [default: none]",
+            Takes::Choice(&["none", "left", "right", "left-right", "right-left"]),
+            "left, right, left-right, right-left, else none",
         ),
         Word(
             "validate",
-            Takes::Choice(VALIDATIONS.as_slice()),
-            "Where keys must be unique [default: m:m]",
+            Takes::Choice(&["m:m", "m:1", "1:m", "1:1"]),
+            "Unique keys: m:m (default), m:1, 1:m or 1:1",
         ),
         Word(
             "coalesce",
-            Takes::Choice(COALESCES.as_slice()),
-            "Whether two keys become one column [default: specific]",
+            Takes::Choice(&["specific", "coalesce", "keep"]),
+            "Two keys: specific (default), coalesce or keep",
         ),
         Word(
             "suffix",
             Takes::Text("TEXT"),
-            "What is put behind a right name that is taken [default: _right]",
+            "Behind a name that is taken [default: _right]",
         ),
         Word(
             "join-nulls",
@@ -151,17 +127,54 @@ fn join_command<'a>(alloc: Global) -> Result<Command<'a>, AllocError> {
             Takes::Hyphened("OFFSET,LENGTH"),
             "The rows of the answer that are kept",
         ),
-    ];
-    command_of(alloc, "join", "Joins two tables", &words)
-}
+    ],
+    shared: SHARED,
+};
 
-fn unpivot_command<'a>(alloc: Global) -> Result<Command<'a>, AllocError> {
-    let words = [
-        Word("TABLE", Takes::File, "The table, or - for standard input"),
+const PIVOT: Form = Form {
+    name: "pivot",
+    about: "Makes a table wide",
+    words: &[
+        TABLE,
+        Word(
+            "on",
+            Takes::SomeNames("NAME"),
+            "Columns whose values become columns",
+        ),
+        Word(
+            "index",
+            Takes::Names("NAME"),
+            "Whose values become rows [default: all others]",
+        ),
+        Word(
+            "values",
+            Takes::Names("NAME"),
+            "Whose values are cells [default: all others]",
+        ),
+        Word(
+            "agg",
+            Takes::Choice(&["first", "last", "sum", "min", "max", "count"]),
+            "first, last, sum, min, max or count of a cell",
+        ),
+        Word(
+            "sort-columns",
+            Takes::Nothing,
+            "The new columns go by their names",
+        ),
+        NAME_SEPARATOR,
+    ],
+    shared: SHARED,
+};
+
+const UNPIVOT: Form = Form {
+    name: "unpivot",
+    about: "Makes a table long",
+    words: &[
+        TABLE,
         Word(
             "on",
             Takes::Names("NAME"),
-            "Columns that are put one below the other [default: all others]",
+            "Put one below another [default: all others]",
         ),
         Word(
             "index",
@@ -178,77 +191,84 @@ fn unpivot_command<'a>(alloc: Global) -> Result<Command<'a>, AllocError> {
             Takes::Text("TEXT"),
             "The column of values [default: value]",
         ),
-    ];
-    command_of(alloc, "unpivot", "Makes a table long", &words)
-}
+    ],
+    shared: SHARED,
+};
 
-fn pivot_command<'a>(alloc: Global) -> Result<Command<'a>, AllocError> {
-    let words = [
-        Word("TABLE", Takes::File, "The table, or - for standard input"),
-        Word(
-            "on",
-            Takes::SomeNames("NAME"),
-            "Columns whose values become columns",
-        ),
-        Word(
-            "index",
-            Takes::Names("NAME"),
-            "Columns whose values become rows [default: all others]",
-        ),
-        Word(
-            "values",
-            Takes::Names("NAME"),
-            "Columns whose values become cells [default: all others]",
-        ),
-        Word(
-            "agg",
-            Takes::Choice(AGGREGATES.as_slice()),
-            "What a cell is of several values",
-        ),
-        Word(
-            "sort-columns",
-            Takes::Nothing,
-            "The new columns go by their names",
-        ),
-        Word(
-            "name-separator",
-            Takes::Text("TEXT"),
-            "What joins a name and a value [default: _]",
-        ),
-    ];
-    command_of(alloc, "pivot", "Makes a table wide", &words)
-}
-
-fn dummies_command<'a>(alloc: Global) -> Result<Command<'a>, AllocError> {
-    let words = [
-        Word("TABLE", Takes::File, "The table, or - for standard input"),
+const DUMMIES: Form = Form {
+    name: "dummies",
+    about: "Marks the values of columns with 1 and 0",
+    words: &[
+        TABLE,
         Word(
             "columns",
             Takes::Names("NAME"),
             "Columns that are replaced [default: all]",
         ),
-        Word(
-            "name-separator",
-            Takes::Text("TEXT"),
-            "What joins a name and a value [default: _]",
-        ),
+        NAME_SEPARATOR,
         Word(
             "drop-first",
             Takes::Nothing,
             "The value of the first row is left out",
         ),
-    ];
-    command_of(
-        alloc,
-        "dummies",
-        "Marks the values of columns with 1 and 0",
-        &words,
-    )
+    ],
+    shared: SHARED,
+};
+
+const FORMS: [Form; 4] = [JOIN, PIVOT, UNPIVOT, DUMMIES];
+
+fn many<'a>(arg: Arg<'a>, value: &'a str) -> Arg<'a> {
+    arg.value_name(value)
+        .num_args(1..)
+        .action(ArgAction::Append)
+}
+
+fn named_arg<'a>(alloc: Global, name: &'a str, takes: Takes) -> Arg<'a> {
+    let arg = Arg::new(alloc, name).long(name).action(ArgAction::Set);
+    match takes {
+        Takes::File => Arg::new(alloc, name).action(ArgAction::Set).required(true),
+        Takes::Output => arg.short('o').value_name("FILE"),
+        Takes::Text(value) => arg.value_name(value),
+        Takes::Hyphened(value) => arg.value_name(value).allow_hyphen_values(true),
+        Takes::Names(value) => many(arg, value),
+        Takes::SomeNames(value) => many(arg, value).required(true),
+        Takes::Choice(words) => arg
+            .value_name("WORD")
+            .value_parser(words)
+            .hide_possible_values(true),
+        Takes::Nothing => arg.action(ArgAction::SetTrue),
+    }
+}
+
+fn with_words<'a>(
+    alloc: Global,
+    command: Command<'a>,
+    words: &[Word],
+) -> Result<Command<'a>, AllocError> {
+    let mut command = command;
+    for Word(name, takes, help) in words {
+        command = command.arg(named_arg(alloc, name, *takes).help(help))?;
+    }
+    Ok(command)
+}
+
+fn command_of<'a>(alloc: Global, form: Form) -> Result<Command<'a>, AllocError> {
+    let command = Command::new(alloc, form.name).about(form.about);
+    let command = with_words(alloc, command, form.words)?;
+    with_words(alloc, command, form.shared)
+}
+
+fn with_command<'a>(
+    alloc: Global,
+    program: Command<'a>,
+    form: Form,
+) -> Result<Command<'a>, AllocError> {
+    program.subcommand(command_of(alloc, form)?)
 }
 
 fn named_program<'a>(alloc: Global) -> Result<Command<'a>, AllocError> {
     Command::new(alloc, "muigratu")
-        .version("0.2.0")
+        .version("0.3.0")
         .propagate_version(true)
         .about("Joins and reshapes tables of comma-separated values")
         .subcommand_required(true)
@@ -258,9 +278,9 @@ fn named_program<'a>(alloc: Global) -> Result<Command<'a>, AllocError> {
 
 /// The program's command, with its subcommands.
 pub(crate) fn program<'a>(alloc: Global) -> Result<Command<'a>, AllocError> {
-    named_program(alloc)?
-        .subcommand(join_command(alloc)?)?
-        .subcommand(pivot_command(alloc)?)?
-        .subcommand(unpivot_command(alloc)?)?
-        .subcommand(dummies_command(alloc)?)
+    let mut program = named_program(alloc)?;
+    for form in &FORMS {
+        program = with_command(alloc, program, *form)?;
+    }
+    Ok(program)
 }

@@ -19,6 +19,8 @@ pub(crate) enum Failure<'a> {
     NoSlice(&'a str),
     /// The word is no separator.
     NoSeparator(&'a str),
+    /// The word is no width.
+    NoWidth(&'a str),
     /// Both tables are to be read from standard input.
     OneInput,
     /// A word is not UTF-8.
@@ -42,6 +44,7 @@ impl Failure<'_> {
             Failure::NoType(_)
             | Failure::NoSlice(_)
             | Failure::NoSeparator(_)
+            | Failure::NoWidth(_)
             | Failure::OneInput
             | Failure::NotWords => 2,
             Failure::NoTable(_, _) => 3,
@@ -102,6 +105,10 @@ impl fmt::Display for Failure<'_> {
                     "--separator takes one ASCII character, and not \"{word}\""
                 )
             }
+            Failure::NoWidth(word) => write!(
+                f,
+                "--width takes a whole number from 1 on, and not \"{word}\""
+            ),
             Failure::OneInput => f.write_str("standard input can be one table only"),
             Failure::NotWords => f.write_str("a word is not UTF-8"),
             Failure::NoTable(file, fault) => write!(f, "{}: {}", title(file), CsvSentence(fault)),

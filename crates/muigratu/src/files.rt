@@ -2,12 +2,15 @@
 
 use crate::failure::Failure;
 use std::alloc::Global;
-use std::fs;
-use std::io::{self, ErrorKind, Input, Read};
+use std::fs::{self, File, OpenFile, OpenOptions, Permissions};
+use std::io::{self, ErrorKind, Input, Read, Write};
 use std::rt::Files;
 
 // The most bytes that a text may have.
 const LIMIT: usize = 67_108_864;
+
+// How many names a new file may be given, of which others may be taken.
+const NAMES: u32 = 1_000;
 
 fn read_failure<'a>(file: &'a str, error: io::Error) -> Failure<'a> {
     if error.kind() == ErrorKind::OutOfMemory {
@@ -46,9 +49,75 @@ pub(crate) fn read_text<'a>(
     }
 }
 
+// A file that nothing had the name of, open for writing.
+#[derive(Drop)]
+struct NewFile<F: Drop> {
+    name: String,
+    opened: F,
+}
+
+fn open_beside<R: Files>(rt: &R, alloc: Global, file: &str) -> io::Result<NewFile<R::File>> {
+    for number in 0..NAMES {
+        let name = format!(in alloc; "{file}.{number}.new")?;
+        match File::create_new(rt, name.as_str()) {
+            Ok(opened) => return Ok(NewFile { name, opened }),
+            Err(error) if error.kind() == ErrorKind::AlreadyExists => {}
+            Err(error) => return Err(error),
+        }
+    }
+    Err(io::Error::from(ErrorKind::AlreadyExists))
+}
+
+// Writes the text, down to the disk.
+fn fill<F: Write + OpenFile>(
+    opened: &mut F,
+    permissions: Option<Permissions>,
+    text: &[u8],
+) -> io::Result<()> {
+    if let Some(permissions) = permissions {
+        opened.set_permissions(permissions)?;
+    }
+    opened.write_all(text)?;
+    opened.sync_all()
+}
+
+// Writes a new file beside the file and puts it in its place, so that the file is never half written.
+fn replace(
+    rt: &impl Files,
+    alloc: Global,
+    file: &str,
+    permissions: Option<Permissions>,
+    text: &[u8],
+) -> io::Result<()> {
+    let mut beside = open_beside(rt, alloc, file)?;
+    let outcome = match fill(&mut beside.opened, permissions, text) {
+        Ok(()) => rt.rename(beside.name.as_str(), file),
+        Err(error) => Err(error),
+    };
+    if outcome.is_err() {
+        // What failed first is told.
+        let _ = rt.remove_file(beside.name.as_str());
+    }
+    outcome
+}
+
+fn write_file(rt: &impl Files, alloc: Global, file: &str, text: &[u8]) -> io::Result<()> {
+    match fs::symlink_metadata(rt, file) {
+        Ok(old) if old.is_file() => {
+            // A file that may not be written stays as it is.
+            let _ = OpenOptions::new().write(true).open(rt, file)?;
+            replace(rt, alloc, file, Some(old.permissions()), text)
+        }
+        Err(error) if error.kind() == ErrorKind::NotFound => replace(rt, alloc, file, None, text),
+        // A link, a pipe or a device stays what it is.
+        _ => fs::write(rt, file, text),
+    }
+}
+
 /// Writes the text to the file of this name, or to standard output.
 pub(crate) fn write_text<'a>(
     rt: &(impl Files + Print),
+    alloc: Global,
     output: Option<&'a str>,
     text: &[u8],
 ) -> Result<(), Failure<'a>> {
@@ -56,10 +125,11 @@ pub(crate) fn write_text<'a>(
     let outcome = if file == "-" {
         rt.write_all(text)
     } else {
-        fs::write(rt, file, text)
+        write_file(rt, alloc, file, text)
     };
     match outcome {
         Ok(()) => Ok(()),
+        Err(error) if error.kind() == ErrorKind::OutOfMemory => Err(Failure::OutOfMemory),
         Err(error) => Err(Failure::Writing(file, error)),
     }
 }

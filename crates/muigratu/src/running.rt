@@ -8,7 +8,10 @@ use std::alloc::Global;
 use std::io::Input;
 use std::rt::Files;
 use std::thread::Threads;
-use tb_front::{FrontFault, Place, dummies_text, join_texts, pivot_text, unpivot_text};
+use tb_front::{
+    DummiesArguments, FrontFault, PivotArguments, Place, UnpivotArguments, dummies_text,
+    join_texts, pivot_text, unpivot_text,
+};
 
 // The fault of texts that come from these files.
 fn failure<'a>(first: &'a str, second: &'a str, fault: FrontFault) -> Failure<'a> {
@@ -34,51 +37,81 @@ fn joined<'a>(
     let arguments = join_arguments(alloc, matches)?;
     let left = read_text(rt, alloc, first)?;
     let right = read_text(rt, alloc, second)?;
-    match join_texts(rt, alloc, &left, &right, arguments) {
-        Ok(text) => Ok(text),
-        Err(fault) => Err(failure(first, second, fault)),
+    join_texts(rt, alloc, left, right, arguments).map_err(|fault| failure(first, second, fault))
+}
+
+// What is asked of one table.
+trait Asked: Drop + Sized {
+    // What the words ask.
+    fn of_words<'a>(alloc: Global, matches: &ArgMatches<'a>) -> Result<Self, Failure<'a>>;
+
+    // The text of the answer.
+    fn answered(self, alloc: Global, text: Vec<u8>) -> Result<Vec<u8>, FrontFault>;
+}
+
+impl Asked for UnpivotArguments {
+    fn of_words<'a>(
+        alloc: Global,
+        matches: &ArgMatches<'a>,
+    ) -> Result<UnpivotArguments, Failure<'a>> {
+        unpivot_arguments(alloc, matches)
+    }
+
+    fn answered(self, alloc: Global, text: Vec<u8>) -> Result<Vec<u8>, FrontFault> {
+        unpivot_text(alloc, text, self)
     }
 }
 
-fn made_long<'a>(
+impl Asked for DummiesArguments {
+    fn of_words<'a>(
+        alloc: Global,
+        matches: &ArgMatches<'a>,
+    ) -> Result<DummiesArguments, Failure<'a>> {
+        dummies_arguments(alloc, matches)
+    }
+
+    fn answered(self, alloc: Global, text: Vec<u8>) -> Result<Vec<u8>, FrontFault> {
+        dummies_text(alloc, text, &self)
+    }
+}
+
+impl Asked for PivotArguments {
+    fn of_words<'a>(
+        alloc: Global,
+        matches: &ArgMatches<'a>,
+    ) -> Result<PivotArguments, Failure<'a>> {
+        pivot_arguments(alloc, matches)
+    }
+
+    fn answered(self, alloc: Global, text: Vec<u8>) -> Result<Vec<u8>, FrontFault> {
+        pivot_text(alloc, text, &self)
+    }
+}
+
+fn reshaped<'a, A: Asked>(
     rt: &(impl Files + Input),
     alloc: Global,
     matches: &ArgMatches<'a>,
 ) -> Result<Vec<u8>, Failure<'a>> {
     let file = matches.get_str("TABLE").unwrap_or("-");
-    let arguments = unpivot_arguments(alloc, matches)?;
+    let arguments = A::of_words(alloc, matches)?;
     let text = read_text(rt, alloc, file)?;
-    match unpivot_text(alloc, &text, arguments) {
-        Ok(text) => Ok(text),
-        Err(fault) => Err(failure(file, file, fault)),
-    }
+    arguments
+        .answered(alloc, text)
+        .map_err(|fault| failure(file, file, fault))
 }
 
-fn with_dummies<'a>(
-    rt: &(impl Files + Input),
+fn answer<'a>(
+    rt: &(impl Files + Input + Threads + Sync),
     alloc: Global,
+    name: &str,
     matches: &ArgMatches<'a>,
 ) -> Result<Vec<u8>, Failure<'a>> {
-    let file = matches.get_str("TABLE").unwrap_or("-");
-    let arguments = dummies_arguments(alloc, matches)?;
-    let text = read_text(rt, alloc, file)?;
-    match dummies_text(alloc, &text, &arguments) {
-        Ok(text) => Ok(text),
-        Err(fault) => Err(failure(file, file, fault)),
-    }
-}
-
-fn made_wide<'a>(
-    rt: &(impl Files + Input),
-    alloc: Global,
-    matches: &ArgMatches<'a>,
-) -> Result<Vec<u8>, Failure<'a>> {
-    let file = matches.get_str("TABLE").unwrap_or("-");
-    let arguments = pivot_arguments(alloc, matches)?;
-    let text = read_text(rt, alloc, file)?;
-    match pivot_text(alloc, &text, &arguments) {
-        Ok(text) => Ok(text),
-        Err(fault) => Err(failure(file, file, fault)),
+    match name {
+        "join" => joined(rt, alloc, matches),
+        "pivot" => reshaped::<PivotArguments>(rt, alloc, matches),
+        "dummies" => reshaped::<DummiesArguments>(rt, alloc, matches),
+        _ => reshaped::<UnpivotArguments>(rt, alloc, matches),
     }
 }
 
@@ -89,11 +122,6 @@ pub(crate) fn run_command<'a>(
     name: &str,
     matches: &ArgMatches<'a>,
 ) -> Result<(), Failure<'a>> {
-    let text = match name {
-        "join" => joined(rt, alloc, matches)?,
-        "pivot" => made_wide(rt, alloc, matches)?,
-        "dummies" => with_dummies(rt, alloc, matches)?,
-        _ => made_long(rt, alloc, matches)?,
-    };
-    write_text(rt, matches.get_str("output"), &text)
+    let text = answer(rt, alloc, name, matches)?;
+    write_text(rt, alloc, matches.get_str("output"), &text)
 }

@@ -17,6 +17,7 @@ fn type_word(field_type: FieldType) -> &'static str {
         FieldType::UInt32 => "u32",
         FieldType::UInt64 => "u64",
         FieldType::String => "str",
+        FieldType::Date => "date",
     }
 }
 

@@ -9,12 +9,30 @@ use tb_frame::{JoinArgs, JoinCoalesce, JoinType, JoinValidation, MaintainOrderJo
 use tb_front::{DummiesArguments, JoinArguments, PivotArguments, TextForm, UnpivotArguments};
 use tb_value::{OutOfMemory, PlSmallStr};
 
-fn names_of(alloc: Global, words: Option<&[&str]>) -> Result<Vec<PlSmallStr>, OutOfMemory> {
+// The part of a word that is a name. A word without `=` is a name as a whole.
+#[derive(Clone, Copy)]
+enum Part {
+    Whole,
+    BeforeSign,
+    BehindSign,
+}
+
+fn name_in(part: Part, word: &str) -> &str {
+    match (part, word.split_once('=')) {
+        (Part::BeforeSign, Some((before, _))) => before,
+        (Part::BehindSign, Some((_, behind))) => behind,
+        _ => word,
+    }
+}
+
+fn names_of(
+    alloc: Global,
+    part: Part,
+    words: Option<&[&str]>,
+) -> Result<Vec<PlSmallStr>, OutOfMemory> {
     let mut names = Vec::new(alloc);
-    if let Some(words) = words {
-        for word in words {
-            names.push(PlSmallStr::from_str(alloc, word)?)?;
-        }
+    for word in words.unwrap_or(&[]) {
+        names.push(PlSmallStr::from_str(alloc, name_in(part, word))?)?;
     }
     Ok(names)
 }
@@ -23,10 +41,9 @@ fn names_given(
     alloc: Global,
     words: Option<&[&str]>,
 ) -> Result<Option<Vec<PlSmallStr>>, OutOfMemory> {
-    if words.is_some() {
-        Ok(Some(names_of(alloc, words)?))
-    } else {
-        Ok(None)
+    match words {
+        Some(_) => Ok(Some(names_of(alloc, Part::Whole, words)?)),
+        None => Ok(None),
     }
 }
 
@@ -35,36 +52,6 @@ fn text_given(alloc: Global, word: Option<&str>) -> Result<Option<PlSmallStr>, O
         Some(word) => Ok(Some(PlSmallStr::from_str(alloc, word)?)),
         None => Ok(None),
     }
-}
-
-// The names of the two keys of a place: one name is that of both.
-fn key_pair(word: &str) -> (&str, &str) {
-    match word.split_once('=') {
-        Some(pair) => pair,
-        None => (word, word),
-    }
-}
-
-fn left_keys(alloc: Global, words: Option<&[&str]>) -> Result<Vec<PlSmallStr>, OutOfMemory> {
-    let mut names = Vec::new(alloc);
-    if let Some(words) = words {
-        for word in words {
-            let (left, _right) = key_pair(word);
-            names.push(PlSmallStr::from_str(alloc, left)?)?;
-        }
-    }
-    Ok(names)
-}
-
-fn right_keys(alloc: Global, words: Option<&[&str]>) -> Result<Vec<PlSmallStr>, OutOfMemory> {
-    let mut names = Vec::new(alloc);
-    if let Some(words) = words {
-        for word in words {
-            let (_left, right) = key_pair(word);
-            names.push(PlSmallStr::from_str(alloc, right)?)?;
-        }
-    }
-    Ok(names)
 }
 
 fn field_type(word: &str) -> Option<FieldType> {
@@ -80,6 +67,7 @@ fn field_type(word: &str) -> Option<FieldType> {
         "u32" => Some(FieldType::UInt32),
         "u64" => Some(FieldType::UInt64),
         "str" => Some(FieldType::String),
+        "date" => Some(FieldType::Date),
         _ => None,
     }
 }
@@ -100,10 +88,8 @@ fn type_given<'a>(alloc: Global, word: &'a str) -> Result<TypeOf, Failure<'a>> {
 
 fn types_given<'a>(alloc: Global, words: Option<&[&'a str]>) -> Result<Vec<TypeOf>, Failure<'a>> {
     let mut types = Vec::new(alloc);
-    if let Some(words) = words {
-        for word in words {
-            types.push(type_given(alloc, word)?)?;
-        }
+    for word in words.unwrap_or(&[]) {
+        types.push(type_given(alloc, word)?)?;
     }
     Ok(types)
 }
@@ -127,10 +113,22 @@ fn options<'a>(alloc: Global, matches: &ArgMatches<'a>) -> Result<CsvOptions, Fa
     })
 }
 
-fn form(matches: &ArgMatches<'_>) -> TextForm {
+fn width_given<'a>(word: Option<&'a str>) -> Result<usize, Failure<'a>> {
+    let Some(word) = word else {
+        return Ok(80);
+    };
+    match word.parse::<usize>() {
+        Ok(width) if width > 0 => Ok(width),
+        _ => Err(Failure::NoWidth(word)),
+    }
+}
+
+fn form<'a>(matches: &ArgMatches<'a>) -> Result<TextForm, Failure<'a>> {
+    let width = width_given(matches.get_str("width"))?;
     match matches.get_str("as").unwrap_or("csv") {
-        "json" => TextForm::Json,
-        _ => TextForm::Csv,
+        "json" => Ok(TextForm::Json),
+        "table" => Ok(TextForm::Layout(width)),
+        _ => Ok(TextForm::Csv),
     }
 }
 
@@ -208,10 +206,10 @@ pub(crate) fn join_arguments<'a>(
     let keys = matches.get_strs("on");
     Ok(JoinArguments {
         options: options(alloc, matches)?,
-        left_on: left_keys(alloc, keys)?,
-        right_on: right_keys(alloc, keys)?,
+        left_on: names_of(alloc, Part::BeforeSign, keys)?,
+        right_on: names_of(alloc, Part::BehindSign, keys)?,
         args: join_args(alloc, matches)?,
-        form: form(matches),
+        form: form(matches)?,
     })
 }
 
@@ -221,11 +219,11 @@ pub(crate) fn unpivot_arguments<'a>(
 ) -> Result<UnpivotArguments, Failure<'a>> {
     Ok(UnpivotArguments {
         options: options(alloc, matches)?,
-        on: names_of(alloc, matches.get_strs("on"))?,
-        index: names_of(alloc, matches.get_strs("index"))?,
+        on: names_of(alloc, Part::Whole, matches.get_strs("on"))?,
+        index: names_of(alloc, Part::Whole, matches.get_strs("index"))?,
         variable_name: text_given(alloc, matches.get_str("variable-name"))?,
         value_name: text_given(alloc, matches.get_str("value-name"))?,
-        form: form(matches),
+        form: form(matches)?,
     })
 }
 
@@ -238,7 +236,7 @@ pub(crate) fn dummies_arguments<'a>(
         columns: names_given(alloc, matches.get_strs("columns"))?,
         separator: text_given(alloc, matches.get_str("name-separator"))?,
         drop_first: matches.get_flag("drop-first"),
-        form: form(matches),
+        form: form(matches)?,
     })
 }
 
@@ -260,12 +258,12 @@ pub(crate) fn pivot_arguments<'a>(
 ) -> Result<PivotArguments, Failure<'a>> {
     Ok(PivotArguments {
         options: options(alloc, matches)?,
-        on: names_of(alloc, matches.get_strs("on"))?,
+        on: names_of(alloc, Part::Whole, matches.get_strs("on"))?,
         index: names_given(alloc, matches.get_strs("index"))?,
         values: names_given(alloc, matches.get_strs("values"))?,
         sort_columns: matches.get_flag("sort-columns"),
         agg: aggregate(matches.get_str("agg").unwrap_or("")),
         separator: text_given(alloc, matches.get_str("name-separator"))?,
-        form: form(matches),
+        form: form(matches)?,
     })
 }

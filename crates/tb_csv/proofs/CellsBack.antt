@@ -1,9 +1,10 @@
 -- A value, from its field.
-use Rattle.std.proofs.Common.{◌≡◌, ◌≢◌, ◌≤◌, ◌<◌, ◌^◌, ◌+◌, ◌∷◌, ◌∙◌, ◌≤ℤ◌, [], ℕ, ℤ, pos, negsuc, zero, suc, List, Bool, true, false, Option, Some, None, length, get_or, refl, sym, ap, arith, ◌&&◌, nat_le, neg_ℤ, ne_eqb, codes, true≢false, ◌%◌, ◌||◌}
-use Rattle.std.specs.Prelude.{is_none, option_and_then, IsSomeAnd, int_le, nat_lt}
+use Rattle.std.proofs.Common.{◌≡◌, ◌≤◌, ◌<◌, ◌^◌, ◌+◌, ◌∷◌, ◌∙◌, ◌≤ℤ◌, [], ℕ, ℤ, pos, negsuc, zero, suc, List, Bool, true, false, Option, Some, None, length, get_or, refl, sym, ap, arith, ◌&&◌, nat_le, neg_ℤ, ne_eqb, codes, true≢false, ◌%◌, ◌/◌, ◌||◌}
+use Rattle.std.specs.Prelude.{is_none, option_and_then, option_map, IsSomeAnd, int_le, nat_lt, if◌then◌else◌}
 use Rattle.std.specs.Fmt.{decimal, signed_decimal}
 use Rattle.std.specs.Str.{bytes_eq, is_utf8}
 use Rattle.std.proofs.lemmas.Str.{IsUtf8-from_ascii, IsUtf8-nil, is_utf8-from_IsUtf8}
+use Rattle.std.specs.Str.{IsAscii}
 use Rattle.std.proofs.lemmas.Str.Ascii.{IsAscii-cons}
 use Rattle.std.specs.Str.Parse.{AllDigits, digits_value, signed_digits_value}
 use Rattle.std.proofs.lemmas.Bool.Decides.{nat_tests}
@@ -18,7 +19,11 @@ use Rattle.tb_value.specs.Kind.{Kind, Parts}
 use Rattle.tb_value.specs.Kind as kind
 use Rattle.tb_value.specs.Typed.{HasType, IsListOf, IsStructOf, ends}
 use Rattle.tb_label.specs.Numerals.{are_digits, fits, is_digit, is_counting, is_whole, whole_in}
-use Rattle.tb_csv.specs.Texts.{field_of, field_type}
+use Rattle.jiff_core.proofs.CalendarLemmas.{days_in_month_bounds}
+use Rattle.tb_csv.specs.Dates.{civil_text, date_text, day_of, has_text, month_of, year_of}
+use Rattle.tb_csv.specs.Laws.{IsPlain}
+use Rattle.tb_csv.specs.Texts.{field_of, field_type, is_date, number_text}
+use Rattle.tb_csv.proofs.DatesBack.{date_back, split}
 use Rattle.tb_csv.specs.Types.{cell_value, field_value, is_within, kind_at, or_string, ranged}
 use Rattle.tb_csv.specs.declared.field_type.FieldType.{FieldType}
 use Rattle.tb_csv.specs.declared.field_type.FieldType.TheVariants as field
@@ -117,17 +122,17 @@ no_struct (kind.struct t) P h = refl
 no_struct _ P h = absurd h
 
 -- of a type of whole numbers
-whole_cells : (t : FieldType) (k : Kind) (v : Datum) → is_none (ends k) ≡ false → ((s : List ℕ) → field_value t s ≡ option_and_then (ranged k) (whole_in s)) → ((z : ℤ) → HasType k (value.int z) → IsBelow z)
-    → HasType k v → cell_value t (field_of v) ≡ Some v
-whole_cells t k value.null some e below h = refl
-whole_cells t k (value.boolean b) some e below h = absurd (true≢false (rw h at some))
-whole_cells t k (value.int z) some e below h = number_back t k z (e (signed_decimal z)) h (below z h)
-whole_cells t k (value.string s) some e below h = absurd (true≢false (rw h.0 at some))
-whole_cells t k (value.binary s) some e below h = absurd (true≢false (rw h.0 at some))
-whole_cells t k (value.list vs) some e below h = absurd (true≢false (sym (no_list k _ h) ∙ some))
-whole_cells t k (value.struct vs) some e below h = absurd (true≢false (sym (no_struct k _ h) ∙ some))
+whole_cells : (t : FieldType) (k : Kind) (v : Datum) → is_none (ends k) ≡ false → is_date k ≡ false → ((s : List ℕ) → field_value t s ≡ option_and_then (ranged k) (whole_in s)) → ((z : ℤ) → HasType k (value.int z) → IsBelow z)
+    → HasType k v → cell_value t (field_of k v) ≡ Some v
+whole_cells t k value.null some none e below h = refl
+whole_cells t k (value.boolean b) some none e below h = absurd (true≢false (rw h at some))
+whole_cells t k (value.int z) some none e below h = rw none (number_back t k z (e (signed_decimal z)) h (below z h))
+whole_cells t k (value.string s) some none e below h = absurd (true≢false (rw h.0 at some))
+whole_cells t k (value.binary s) some none e below h = absurd (true≢false (rw h.0 at some))
+whole_cells t k (value.list vs) some none e below h = absurd (true≢false (sym (no_list k _ h) ∙ some))
+whole_cells t k (value.struct vs) some none e below h = absurd (true≢false (sym (no_struct k _ h) ∙ some))
 
-truth_cells : (v : Datum) → HasType kind.boolean v → cell_value field.Boolean (field_of v) ≡ Some v
+truth_cells : (v : Datum) → HasType kind.boolean v → cell_value field.Boolean (field_of kind.boolean v) ≡ Some v
 truth_cells value.null h = refl
 truth_cells (value.boolean true) h = refl
 truth_cells (value.boolean false) h = refl
@@ -137,7 +142,7 @@ truth_cells (value.binary s) h = cc h.0
 truth_cells (value.list vs) h = absurd h
 truth_cells (value.struct vs) h = absurd h
 
-text_cells : (v : Datum) → HasType kind.string v → v ≢ value.string [] → cell_value field.String (field_of v) ≡ Some v
+text_cells : (v : Datum) → HasType kind.string v → IsPlain kind.string v → cell_value field.String (field_of kind.string v) ≡ Some v
 text_cells value.null h full = refl
 text_cells (value.boolean b) h full = cc h
 text_cells (value.int z) h full = absurd h
@@ -149,18 +154,34 @@ text_cells (value.binary s) h full = cc h.0
 text_cells (value.list vs) h full = absurd h
 text_cells (value.struct vs) h full = absurd h
 
-pub cells_back : (k : Kind) → is_none (field_type k) ≡ false → (v : Datum) → HasType k v → v ≢ value.string [] → cell_value (or_string (field_type k)) (field_of v) ≡ Some v
+chosen : (b : Bool) (x y : List ℕ) → b ≡ true → (if b then x else y) ≡ x
+chosen true x y e = refl
+chosen false x y e = absurd (true≢false (sym e))
+
+date_cells : (v : Datum) → HasType kind.date v → IsPlain kind.date v → cell_value field.Date (field_of kind.date v) ≡ Some v
+date_cells value.null h plain = refl
+date_cells (value.boolean b) h plain = cc h
+date_cells (value.int z) h plain =
+    let written : number_text true z ≡ date_text z = chosen (has_text z) (date_text z) (signed_decimal z) (plain refl) in
+    ap (cell_value field.Date) written ∙ ap (option_map value.int) (date_back z (plain refl))
+date_cells (value.string s) h plain = cc h.0
+date_cells (value.binary s) h plain = cc h.0
+date_cells (value.list vs) h plain = absurd h
+date_cells (value.struct vs) h plain = absurd h
+
+pub cells_back : (k : Kind) → is_none (field_type k) ≡ false → (v : Datum) → HasType k v → IsPlain k v → cell_value (or_string (field_type k)) (field_of k v) ≡ Some v
 cells_back kind.boolean some v h full = truth_cells v h
-cells_back kind.int8 some v h full = whole_cells field.Int8 kind.int8 v refl (λ s. refl) (λ z k. (omega (arith, ints, k.0), omega (arith, ints, k.1))) h
-cells_back kind.int16 some v h full = whole_cells field.Int16 kind.int16 v refl (λ s. refl) (λ z k. (omega (arith, ints, k.0), omega (arith, ints, k.1))) h
-cells_back kind.int32 some v h full = whole_cells field.Int32 kind.int32 v refl (λ s. refl) (λ z k. (omega (arith, ints, k.0), omega (arith, ints, k.1))) h
-cells_back kind.int64 some v h full = whole_cells field.Int64 kind.int64 v refl (λ s. refl) (λ z k. (omega (arith, ints, k.0), omega (arith, ints, k.1))) h
-cells_back kind.int128 some v h full = whole_cells field.Int128 kind.int128 v refl (λ s. refl) (λ z k. (omega (arith, ints, k.0), omega (arith, ints, k.1))) h
-cells_back kind.uint8 some v h full = whole_cells field.UInt8 kind.uint8 v refl (λ s. refl) (λ z k. (omega (arith, ints, k.0), omega (arith, ints, k.1))) h
-cells_back kind.uint16 some v h full = whole_cells field.UInt16 kind.uint16 v refl (λ s. refl) (λ z k. (omega (arith, ints, k.0), omega (arith, ints, k.1))) h
-cells_back kind.uint32 some v h full = whole_cells field.UInt32 kind.uint32 v refl (λ s. refl) (λ z k. (omega (arith, ints, k.0), omega (arith, ints, k.1))) h
-cells_back kind.uint64 some v h full = whole_cells field.UInt64 kind.uint64 v refl (λ s. refl) (λ z k. (omega (arith, ints, k.0), omega (arith, ints, k.1))) h
+cells_back kind.int8 some v h full = whole_cells field.Int8 kind.int8 v refl refl (λ s. refl) (λ z k. (omega (arith, ints, k.0), omega (arith, ints, k.1))) h
+cells_back kind.int16 some v h full = whole_cells field.Int16 kind.int16 v refl refl (λ s. refl) (λ z k. (omega (arith, ints, k.0), omega (arith, ints, k.1))) h
+cells_back kind.int32 some v h full = whole_cells field.Int32 kind.int32 v refl refl (λ s. refl) (λ z k. (omega (arith, ints, k.0), omega (arith, ints, k.1))) h
+cells_back kind.int64 some v h full = whole_cells field.Int64 kind.int64 v refl refl (λ s. refl) (λ z k. (omega (arith, ints, k.0), omega (arith, ints, k.1))) h
+cells_back kind.int128 some v h full = whole_cells field.Int128 kind.int128 v refl refl (λ s. refl) (λ z k. (omega (arith, ints, k.0), omega (arith, ints, k.1))) h
+cells_back kind.uint8 some v h full = whole_cells field.UInt8 kind.uint8 v refl refl (λ s. refl) (λ z k. (omega (arith, ints, k.0), omega (arith, ints, k.1))) h
+cells_back kind.uint16 some v h full = whole_cells field.UInt16 kind.uint16 v refl refl (λ s. refl) (λ z k. (omega (arith, ints, k.0), omega (arith, ints, k.1))) h
+cells_back kind.uint32 some v h full = whole_cells field.UInt32 kind.uint32 v refl refl (λ s. refl) (λ z k. (omega (arith, ints, k.0), omega (arith, ints, k.1))) h
+cells_back kind.uint64 some v h full = whole_cells field.UInt64 kind.uint64 v refl refl (λ s. refl) (λ z k. (omega (arith, ints, k.0), omega (arith, ints, k.1))) h
 cells_back kind.string some v h full = text_cells v h full
+cells_back kind.date some v h full = date_cells v h full
 cells_back _ some v h full = absurd (true≢false some)
 
 -- FIELDS ARE TEXTS
@@ -181,20 +202,49 @@ any_below (kind.datetime u n) z k = (omega (arith, ints, k.0), omega (arith, int
 any_below (kind.duration u) z k = (omega (arith, ints, k.0), omega (arith, ints, k.1))
 any_below _ z k = absurd k
 
-number_text : (z : ℤ) → IsBelow z → is_utf8 (signed_decimal z) ≡ true
-number_text (pos n) h = is_utf8-from_IsUtf8 (decimal n) (IsUtf8-from_ascii (decimal n) (IsAscii-decimal_wide n (omega (arith, ints))))
-number_text (negsuc n) h =
+digits_text : (z : ℤ) → IsBelow z → is_utf8 (signed_decimal z) ≡ true
+digits_text (pos n) h = is_utf8-from_IsUtf8 (decimal n) (IsUtf8-from_ascii (decimal n) (IsAscii-decimal_wide n (omega (arith, ints))))
+digits_text (negsuc n) h =
     is_utf8-from_IsUtf8 (45 ∷ decimal (suc n)) (IsUtf8-from_ascii (45 ∷ decimal (suc n)) (IsAscii-cons 45 (decimal (suc n)) (omega arith) (IsAscii-decimal_wide (suc n) (omega (arith, ints)))))
+
+ascii_four : (a b c d : ℕ) (rest : List ℕ) → a < 128 → b < 128 → c < 128 → d < 128 → IsAscii rest → IsAscii (a ∷ b ∷ c ∷ d ∷ rest)
+ascii_four a b c d rest la lb lc ld h =
+    IsAscii-cons a (b ∷ c ∷ d ∷ rest) la (IsAscii-cons b (c ∷ d ∷ rest) lb (IsAscii-cons c (d ∷ rest) lc (IsAscii-cons d rest ld h)))
+
+ascii_six : (a b c d e f : ℕ) → a < 128 → b < 128 → c < 128 → d < 128 → e < 128 → f < 128 → IsAscii (a ∷ b ∷ c ∷ d ∷ e ∷ f ∷ [])
+ascii_six a b c d e f la lb lc ld le lf =
+    ascii_four a b c d (e ∷ f ∷ []) la lb lc ld (IsAscii-cons e (f ∷ []) le (IsAscii-cons f [] lf (λ i. omega arith)))
+
+-- what stands behind the year
+abbrev behind_year : ℕ → ℕ → List ℕ
+behind_year m d = 45 ∷ (48 + m / 10) ∷ (48 + m % 10) ∷ 45 ∷ (48 + d / 10) ∷ (48 + d % 10) ∷ []
+
+civil_is_text : (y m d : ℕ) → y < 10000 → m < 100 → d < 100 → is_utf8 (civil_text y m d) ≡ true
+civil_is_text y m d ly lm ld =
+    let behind = ascii_six 45 (48 + m / 10) (48 + m % 10) 45 (48 + d / 10) (48 + d % 10) (omega arith) (omega arith) (omega arith) (omega arith) (omega arith) (omega arith) in
+    let whole = ascii_four (48 + y / 100 / 10) (48 + y / 100 % 10) (48 + y % 100 / 10) (48 + y % 100 % 10) (behind_year m d) (omega arith) (omega arith) (omega arith) (omega arith) behind in
+    is_utf8-from_IsUtf8 (civil_text y m d) (IsUtf8-from_ascii (civil_text y m d) whole)
+
+day_is_text : (z : ℤ) (b : Bool) → has_text z ≡ b → IsBelow z → is_utf8 (if b then date_text z else signed_decimal z) ≡ true
+day_is_text z true e below =
+    let s = split z e in
+    let bound = (days_in_month_bounds (pos (year_of z)) (month_of z)).0 in
+    civil_is_text (year_of z) (month_of z) (day_of z) s.year_in (omega (arith, s.month_high)) (omega (arith, bound, s.day_high))
+day_is_text z false e below = digits_text z below
+
+number_is_text : (is_day : Bool) (z : ℤ) → IsBelow z → is_utf8 (number_text is_day z) ≡ true
+number_is_text true z below = day_is_text z (has_text z) refl below
+number_is_text false z below = digits_text z below
 
 none_text : is_utf8 [] ≡ true
 none_text = is_utf8-from_IsUtf8 [] IsUtf8-nil
 
 -- the field of each value of a type is UTF-8
-pub field_text : (k : Kind) (v : Datum) → HasType k v → is_utf8 (field_of v) ≡ true
+pub field_text : (k : Kind) (v : Datum) → HasType k v → is_utf8 (field_of k v) ≡ true
 field_text k value.null h = none_text
 field_text k (value.boolean true) h = is_utf8-from_IsUtf8 (codes "true") (IsUtf8-from_ascii (codes "true") (IsAscii-cons 116 (114 ∷ 117 ∷ 101 ∷ []) (omega arith) (IsAscii-cons 114 (117 ∷ 101 ∷ []) (omega arith) (IsAscii-cons 117 (101 ∷ []) (omega arith) (IsAscii-cons 101 ([]) (omega arith) (λ i. omega arith))))))
 field_text k (value.boolean false) h = is_utf8-from_IsUtf8 (codes "false") (IsUtf8-from_ascii (codes "false") (IsAscii-cons 102 (97 ∷ 108 ∷ 115 ∷ 101 ∷ []) (omega arith) (IsAscii-cons 97 (108 ∷ 115 ∷ 101 ∷ []) (omega arith) (IsAscii-cons 108 (115 ∷ 101 ∷ []) (omega arith) (IsAscii-cons 115 (101 ∷ []) (omega arith) (IsAscii-cons 101 ([]) (omega arith) (λ i. omega arith)))))))
-field_text k (value.int z) h = number_text z (any_below k z h)
+field_text k (value.int z) h = number_is_text (is_date k) z (any_below k z h)
 field_text k (value.string s) h = is_utf8-from_IsUtf8 s h.2
 field_text k (value.binary s) h = none_text
 field_text k (value.list vs) h = none_text
@@ -213,4 +263,5 @@ kind_back kind.uint16 h = refl
 kind_back kind.uint32 h = refl
 kind_back kind.uint64 h = refl
 kind_back kind.string h = refl
+kind_back kind.date h = refl
 kind_back _ h = absurd (true≢false h)

@@ -1,5 +1,9 @@
 pub mod Causes
 pub mod FieldWalks
+pub mod FirstFound
+pub mod CivilDays
+pub mod DateDigits
+pub mod DatesBack
 pub mod Left
 pub mod RecordWalks
 pub mod TextWalks

@@ -7,10 +7,10 @@ use Rattle.csv.specs.Writing.{default_writer, is_blank, read_back, row_body, row
 use Rattle.csv.specs.declared.parser.State.TheVariants as st
 use Rattle.csv.proofs.RoundTrip.{read-write, rows_text}
 use Rattle.tb_value.specs.Pairs.{row_numbers}
-use Rattle.tb_frame.specs.Table.{Table, TableColumn, height, row_at}
+use Rattle.tb_frame.specs.Table.{Table, TableColumn, height}
 use Rattle.tb_csv.specs.Laws.{comma}
 use Rattle.tb_csv.specs.Records.{Record, records_of}
-use Rattle.tb_csv.specs.Texts.{csv_text, field_of, no_column, records_text, table_records}
+use Rattle.tb_csv.specs.Texts.{csv_text, no_column, records_text, row_fields, table_records}
 
 same_text : (rs : List Record) → records_text comma rs ≡ rows_text rs
 unfolding rows_text
@@ -36,9 +36,9 @@ unfolding rows_text
 long [] = omega arith
 long (r ∷ rs) = let h = long rs in omega (arith, h, row_long r, length-append (row_text default_writer r) (rows_text rs))
 
-same_rows : (c : TableColumn) (cs : Table) (ns : List ℕ) → map read_back (map (map field_of) (map (row_at (c ∷ cs)) ns)) ≡ map (map field_of) (map (row_at (c ∷ cs)) ns)
+same_rows : (c : TableColumn) (cs : Table) (ns : List ℕ) → map read_back (map (row_fields (c ∷ cs)) ns) ≡ map (row_fields (c ∷ cs)) ns
 same_rows c cs [] = refl
-same_rows c cs (n ∷ ns) = ap (λ (rs : List Record). map field_of (row_at (c ∷ cs) n) ∷ rs) (same_rows c cs ns)
+same_rows c cs (n ∷ ns) = ap (λ (rs : List Record). row_fields (c ∷ cs) n ∷ rs) (same_rows c cs ns)
 
 same_records : (t : Table) → no_column t ≡ None → map read_back (table_records t) ≡ table_records t
 same_records [] h = cc h

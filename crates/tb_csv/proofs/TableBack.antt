@@ -9,7 +9,7 @@ use Rattle.std.proofs.lemmas.List.Elements.{All-head, All-tail}
 use Rattle.std.proofs.lemmas.List.FromFn.{length-range_with_len}
 use Rattle.std.proofs.lemmas.Cmp.{nat_list_eq_equiv}
 use Rattle.std.proofs.lemmas.Slice.Eq.{bytes_eq-Decides}
-use Rattle.tb_value.specs.Datum.{Datum, null, string}
+use Rattle.tb_value.specs.Datum.{Datum, null}
 use Rattle.tb_value.specs.Kind.{Kind}
 use Rattle.tb_value.specs.Kind as kind
 use Rattle.tb_value.specs.Names.{Name, same_name}
@@ -17,13 +17,13 @@ use Rattle.tb_value.specs.Pairs.{row_numbers}
 use Rattle.tb_value.specs.Typed.{HasType}
 use Rattle.tb_value.specs.declared.limits.TheConstants.{MAX_ROWS}
 use Rattle.tb_frame.specs.Refusal.{name_at}
-use Rattle.tb_frame.specs.Table.{IsTyped, Table, TableColumn, height, names_of, row_at, rows_of}
+use Rattle.tb_frame.specs.Table.{IsTyped, Table, TableColumn, height, names_of}
 use Rattle.tb_frame.proofs.Causes.{unrepeated_names}
 use Rattle.tb_csv.specs.Faults.{column_fault, columns_fault, csv_refusal, first_fault, records_fault, repeated_name, rows_fault, typed_fault, when}
-use Rattle.tb_csv.specs.Laws.{IsTold, comma, types_of}
+use Rattle.tb_csv.specs.Laws.{IsPlain, IsTold, comma, types_of}
 use Rattle.tb_csv.specs.Records.{Record, column_fields, is_text, records_of}
 use Rattle.tb_csv.specs.Tables.{csv_column, csv_table, typed_column}
-use Rattle.tb_csv.specs.Texts.{csv_text, field_of, field_type, no_column, no_text, table_records}
+use Rattle.tb_csv.specs.Texts.{csv_text, field_of, field_type, no_column, no_text, row_fields, table_records}
 use Rattle.tb_csv.specs.Types.{cell_of, column_type, given_type, or_string, or_told, value_or_null}
 use Rattle.tb_csv.specs.declared.fault.CsvFault.{CsvFault}
 use Rattle.tb_csv.specs.declared.fault.CsvFault.TheVariants.{NoText, NotUtf8, RepeatedName, TooManyRows}
@@ -58,39 +58,41 @@ maps f g h (x ∷ xs) = ap (λ ys. f (g (h x)) ∷ ys) (maps f g h xs)
 
 -- A COLUMN
 
+two_maps : {A B C : Type 0} (f : B → C) (g : A → B) (xs : List A) → map (λ x. f (g x)) xs ≡ map f (map g xs)
+two_maps f g [] = refl
+two_maps f g (x ∷ xs) = ap (λ ys. f (g x) ∷ ys) (two_maps f g xs)
+
 -- the rows of a table's text
 abbrev rows_text_of : Table → List Record
-rows_text_of t = map (map field_of) (rows_of t)
+rows_text_of t = map (row_fields t) (row_numbers (height t))
 
-field_at_place : (t : Table) (j n : ℕ) (c : TableColumn) → j < length t → get_or t j c ≡ c → get_or (map field_of (row_at t n)) j [] ≡ field_of (get_or c.values n null)
-field_at_place t j n c low is =
-    get_or-map field_of (row_at t n) j null [] (rw (length-map t (λ (k : TableColumn). get_or k.values n null)) low)
-    ∙ ap field_of (get_or-map (λ (k : TableColumn). get_or k.values n null) t j c null low ∙ ap (λ (k : TableColumn). get_or k.values n null) is)
+-- the field of a row of a column
+abbrev field_at : ℕ → TableColumn → List ℕ
+field_at n k = field_of k.kind (get_or k.values n null)
 
-fields_back : (t : Table) (j : ℕ) (c : TableColumn) → j < length t → get_or t j c ≡ c → length c.values ≡ height t → column_fields (rows_text_of t) j ≡ map field_of c.values
+field_at_place : (t : Table) (j n : ℕ) (c : TableColumn) → j < length t → get_or t j c ≡ c → get_or (row_fields t n) j [] ≡ field_of c.kind (get_or c.values n null)
+field_at_place t j n c low is = get_or-map (field_at n) t j c [] low ∙ ap (field_at n) is
+
+fields_back : (t : Table) (j : ℕ) (c : TableColumn) → j < length t → get_or t j c ≡ c → length c.values ≡ height t → column_fields (rows_text_of t) j ≡ map (field_of c.kind) c.values
 fields_back t j c low is level =
-    maps (λ (r : Record). get_or r j []) (map field_of) (row_at t) (row_numbers (height t))
-    ∙ same_map _ (λ n. field_of (get_or c.values n null)) (row_numbers (height t)) (λ n. field_at_place t j n c low is)
-    ∙ ap (λ h. map (λ n. field_of (get_or c.values n null)) (row_numbers h)) (sym level)
-    ∙ sym (map_of field_of (λ n. get_or c.values n null) (row_numbers (length c.values)))
-    ∙ ap (map field_of) (listed_by (λ n. get_or c.values n null) c.values 0 (λ i d small. let at : 0 + i ≡ i = omega arith in rw at (get_in c.values i null d small)))
-  where
-    map_of : (f : Datum → List ℕ) (g : ℕ → Datum) (ns : List ℕ) → map f (map g ns) ≡ map (λ n. f (g n)) ns
-    map_of f g [] = refl
-    map_of f g (n ∷ ns) = ap (λ ys. f (g n) ∷ ys) (map_of f g ns)
+    sym (two_maps (λ (r : Record). get_or r j []) (row_fields t) (row_numbers (height t)))
+    ∙ same_map _ (λ n. field_of c.kind (get_or c.values n null)) (row_numbers (height t)) (λ n. field_at_place t j n c low is)
+    ∙ ap (λ h. map (λ n. field_of c.kind (get_or c.values n null)) (row_numbers h)) (sym level)
+    ∙ two_maps (field_of c.kind) (λ n. get_or c.values n null) (row_numbers (length c.values))
+    ∙ ap (map (field_of c.kind)) (listed_by (λ n. get_or c.values n null) c.values 0 (λ i d small. let at : 0 + i ≡ i = omega arith in rw at (get_in c.values i null d small)))
 
-values_back : (k : Kind) (vs : List Datum) → is_none (field_type k) ≡ false → All (HasType k) vs → All (λ (v : Datum). v ≢ string []) vs → map (cell_of (or_string (field_type k))) (map field_of vs) ≡ vs
+values_back : (k : Kind) (vs : List Datum) → is_none (field_type k) ≡ false → All (HasType k) vs → All (IsPlain k) vs → map (cell_of (or_string (field_type k))) (map (field_of k) vs) ≡ vs
 values_back k [] some typed full = refl
 values_back k (v ∷ vs) some typed full =
-    let back = cells_back k some v (All-head (HasType k) v vs typed) (All-head (λ (x : Datum). x ≢ string []) v vs full) in
-    ap (λ x. x ∷ map (cell_of (or_string (field_type k))) (map field_of vs)) (ap value_or_null back)
-    ∙ ap (λ xs. v ∷ xs) (values_back k vs some (All-tail (HasType k) v vs typed) (All-tail (λ (x : Datum). x ≢ string []) v vs full))
+    let back = cells_back k some v (All-head (HasType k) v vs typed) (All-head (IsPlain k) v vs full) in
+    ap (λ x. x ∷ map (cell_of (or_string (field_type k))) (map (field_of k) vs)) (ap value_or_null back)
+    ∙ ap (λ xs. v ∷ xs) (values_back k vs some (All-tail (HasType k) v vs typed) (All-tail (IsPlain k) v vs full))
 
-no_fault : (k : Kind) (name : Name) (i : ℕ) (vs : List Datum) → is_none (field_type k) ≡ false → All (HasType k) vs → All (λ (v : Datum). v ≢ string []) vs → column_fault name (or_string (field_type k)) i (map field_of vs) ≡ None
+no_fault : (k : Kind) (name : Name) (i : ℕ) (vs : List Datum) → is_none (field_type k) ≡ false → All (HasType k) vs → All (IsPlain k) vs → column_fault name (or_string (field_type k)) i (map (field_of k) vs) ≡ None
 no_fault k name i [] some typed full = refl
 no_fault k name i (v ∷ vs) some typed full =
-    let back = cells_back k some v (All-head (HasType k) v vs typed) (All-head (λ (x : Datum). x ≢ string []) v vs full) in
-    rw back (no_fault k name (i + 1) vs some (All-tail (HasType k) v vs typed) (All-tail (λ (x : Datum). x ≢ string []) v vs full))
+    let back = cells_back k some v (All-head (HasType k) v vs typed) (All-head (IsPlain k) v vs full) in
+    rw back (no_fault k name (i + 1) vs some (All-tail (HasType k) v vs typed) (All-tail (IsPlain k) v vs full))
 
 -- ITS TYPE
 
@@ -137,14 +139,14 @@ column_back t told j c low is =
     let some = texts_at t j c (first_parts (no_text t) [] written.1).0 low is in
     let level = subst (λ (x : TableColumn). length x.values ≡ height t) is (told.table.one_height j c low) in
     let typed = subst (λ (x : TableColumn). All (HasType x.kind) x.values) is (told.table.typed j c low) in
-    let full = subst (λ (x : TableColumn). All (λ (v : Datum). v ≢ string []) x.values) is (told.full j c low) in
+    let full = subst (λ (x : TableColumn). All (IsPlain x.kind) x.values) is (told.plain j c low) in
     let fields = fields_back t j c low is level in
     let named : name_at (names_of t) j ≡ c.name = get_or-map (λ (x : TableColumn). x.name) t j c [] low ∙ ap (λ (x : TableColumn). x.name) is in
     let t_is : column_type (types_of t) (name_at (names_of t) j) (column_fields (rows_text_of t) j) ≡ or_string (field_type c.kind) =
     ap (λ (n : Name). or_told (column_fields (rows_text_of t) j) (given_type (types_of t) n)) named ∙ ap (or_told (column_fields (rows_text_of t) j)) (found_type t j c told.table.distinct low is) in (
-      typed_same _ c.name _ (or_string (field_type c.kind)) _ (map field_of c.values) named t_is fields
+      typed_same _ c.name _ (or_string (field_type c.kind)) _ (map (field_of c.kind) c.values) named t_is fields
           ∙ column_is c _ _ (kind_back c.kind some) (values_back c.kind c.values some typed full),
-      fault_same _ c.name _ (or_string (field_type c.kind)) _ (map field_of c.values) named t_is fields (no_fault c.kind c.name 1 c.values some typed full),
+      fault_same _ c.name _ (or_string (field_type c.kind)) _ (map (field_of c.kind) c.values) named t_is fields (no_fault c.kind c.name 1 c.values some typed full),
     )
 
 -- THE ROWS
@@ -154,7 +156,7 @@ typed_at k [] n all = tt
 typed_at k (v ∷ vs) zero all = All-head (HasType k) v vs all
 typed_at k (v ∷ vs) (suc n) all = typed_at k vs n (All-tail (HasType k) v vs all)
 
-row_is_text : (t : Table) (n : ℕ) → All IsTyped t → is_text (map field_of (row_at t n)) ≡ true
+row_is_text : (t : Table) (n : ℕ) → All IsTyped t → is_text (row_fields t n) ≡ true
 row_is_text [] n all = refl
 row_is_text (c ∷ cs) n all =
     rw (field_text c.kind (get_or c.values n null) (typed_at c.kind c.values n (All-head IsTyped c cs all)), row_is_text cs n (All-tail IsTyped c cs all)) refl
@@ -176,21 +178,16 @@ all_none f k (suc n) h =
     none_later (f k) (map f (range_with_len (k + 1) n)) (subst (λ (i : ℕ). f i ≡ None) at (h 0 (omega arith))) (all_none f (k + 1) n (λ i low.
     let next : k + suc i ≡ (k + 1) + i = omega arith in subst (λ (m : ℕ). f m ≡ None) next (h (suc i) (omega (arith, low)))))
 
-two_maps : {A B C : Type 0} (f : B → C) (g : A → B) (xs : List A) → map (λ x. f (g x)) xs ≡ map f (map g xs)
-two_maps f g [] = refl
-two_maps f g (x ∷ xs) = ap (λ ys. f (g x) ∷ ys) (two_maps f g xs)
-
-wide : (t : Table) (n : ℕ) → (length (map field_of (row_at t n)) == length (names_of t)) ≡ true
-wide t n = equal _ _ (length-map (row_at t n) field_of ∙ length-map t (λ (c : TableColumn). get_or c.values n null) ∙ sym (length-map t (λ (c : TableColumn). c.name)))
+wide : (t : Table) (n : ℕ) → (length (row_fields t n) == length (names_of t)) ≡ true
+wide t n = equal _ _ (length-map t (field_at n) ∙ sym (length-map t (λ (c : TableColumn). c.name)))
 
 rows_sound : (t : Table) → IsTold t → rows_fault (length (names_of t)) 1 (rows_text_of t) ≡ None
 rows_sound t told =
-    subst (λ (rs : List Record). rows_fault (length (names_of t)) 1 rs ≡ None) (two_maps (map field_of) (row_at t) (row_numbers (height t)))
-    (rows_pass (length (names_of t)) 1 (λ n. map field_of (row_at t n)) (row_numbers (height t)) (wide t) (λ n. row_is_text t n told.table.typed))
+    rows_pass (length (names_of t)) 1 (row_fields t) (row_numbers (height t)) (wide t) (λ n. row_is_text t n told.table.typed)
 
 few_rows : (t : Table) → IsTold t → nat_lt MAX_ROWS (length (rows_text_of t)) ≡ false
 few_rows t told =
-    let count : length (rows_text_of t) ≡ height t = length-map (rows_of t) (map field_of) ∙ length-map (row_numbers (height t)) (row_at t) ∙ length-range_with_len 0 (height t) in
+    let count : length (rows_text_of t) ≡ height t = length-map (row_numbers (height t)) (row_fields t) ∙ length-range_with_len 0 (height t) in
     not_more MAX_ROWS (length (rows_text_of t)) (omega (arith, count, told.few))
 
 records_sound : (t : Table) → IsTold t → records_fault (table_records t) ≡ None

@@ -9,24 +9,24 @@ use Rattle.std.specs.Io.KnownBytes.{Keeps}
 use Rattle.std.proofs.lemmas.List.{append-nil, length-map, map_more}
 use Rattle.std.proofs.lemmas.Grind.{flat_map-append}
 use Rattle.csv.specs.Writing.{row_text, text_written}
-use Rattle.tb_value.specs.Datum.{Datum, null}
+use Rattle.tb_value.specs.Datum.{null}
 use Rattle.csv.specs.declared.writer.Writer.{Writer}
 use Rattle.tb_value.specs.Names.{Name}
 use Rattle.tb_value.specs.Pairs.{row_numbers}
 use Rattle.tb_chunk.specs.Col.{Col, values}
-use Rattle.tb_frame.specs.Table.{Table, TableColumn, height, names_of, plain, row_at, table_of}
+use Rattle.tb_frame.specs.Table.{Table, TableColumn, height, names_of, plain, table_of}
 use Rattle.tb_csv.specs.Records.{Record}
-use Rattle.tb_csv.specs.Texts.{csv_text, field_of, field_type, no_column, no_text, records_text, style}
+use Rattle.tb_csv.specs.Texts.{csv_text, field_of, field_type, no_column, no_text, records_text, row_fields, style}
 use Rattle.tb_csv.specs.Written.{HasWritten, bytes_in}
 use Rattle.tb_csv.specs.declared.fault.CsvFault.TheVariants.{NoText}
 
 -- the field of a row of a column
 abbrev pub field_in : ℕ → Col → List ℕ
-field_in i c = field_of (get_or (values c) i null)
+field_in i c = field_of c.kind (get_or (values c) i null)
 
-pub row_fields : (cs : List Col) (i : ℕ) → map (field_in i) cs ≡ map field_of (row_at (table_of cs) i)
-row_fields [] i = refl
-row_fields (c ∷ cs) i = ap (λ (fs : List (List ℕ)). field_in i c ∷ fs) (row_fields cs i)
+pub fields_in : (cs : List Col) (i : ℕ) → map (field_in i) cs ≡ row_fields (table_of cs) i
+fields_in [] i = refl
+fields_in (c ∷ cs) i = ap (λ (fs : List (List ℕ)). field_in i c ∷ fs) (fields_in cs i)
 
 pub names_in : (cs : List Col) → map (λ (c : Col). c.name) cs ≡ names_of (table_of cs)
 names_in [] = refl
@@ -68,18 +68,14 @@ pub columns_there : (cs : List Col) → false ≡ (length cs == 0) → no_column
 columns_there [] e = cc e
 columns_there (c ∷ cs) e = refl
 
-all_rows_text : (f : List Datum → Record) (g : ℕ → List Datum) (ns : List ℕ) → map (λ i. f (g i)) ns ≡ map f (map g ns)
-all_rows_text f g [] = refl
-all_rows_text f g (n ∷ ns) = ap (λ (rs : List Record). f (g n) ∷ rs) (all_rows_text f g ns)
-
-pub text_of_records : (separator : ℕ) (t : Table) → records_text separator (names_of t ∷ map (λ i. map field_of (row_at t i)) (row_numbers (height t))) ≡ csv_text separator t
+text_of_records : (separator : ℕ) (t : Table) → records_text separator (names_of t ∷ map (row_fields t) (row_numbers (height t))) ≡ csv_text separator t
 unfolding csv_text
-text_of_records separator t = ap (λ (rs : List Record). records_text separator (names_of t ∷ rs)) (all_rows_text (map field_of) (row_at t) (row_numbers (height t)))
+text_of_records separator t = refl
 
 pub text_of_columns : (separator : ℕ) (columns cs : List Col) (h : ℕ) → columns ≡ cs → h ≡ height (table_of cs)
-    → records_text separator (names_of (table_of columns) ∷ map (λ i. map field_of (row_at (table_of columns) i)) (row_numbers h)) ≡ csv_text separator (table_of cs)
+    → records_text separator (names_of (table_of columns) ∷ map (row_fields (table_of columns)) (row_numbers h)) ≡ csv_text separator (table_of cs)
 text_of_columns separator columns cs h same high =
-    let text = λ (ks : List Col) (n : ℕ). records_text separator (names_of (table_of ks) ∷ map (λ i. map field_of (row_at (table_of ks) i)) (row_numbers n)) in
+    let text = λ (ks : List Col) (n : ℕ). records_text separator (names_of (table_of ks) ∷ map (row_fields (table_of ks)) (row_numbers n)) in
     ap (λ (ks : List Col). text ks h) same ∙ ap (λ (n : ℕ). text cs n) high ∙ text_of_records separator (table_of cs)
 
 kept : (a : Option (List ℕ)) (t ys : List ℕ) → a ≡ Some t → Keeps a (Some ys) → ys ≡ t

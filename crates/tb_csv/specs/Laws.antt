@@ -1,16 +1,17 @@
 -- What holds of texts and tables.
-use Rattle.std.specs.Prelude.{◌≡◌, ◌≢◌, ◌≤◌, ℕ, List, [], map, Some, None, is_none, true, false}
+use Rattle.std.specs.Prelude.{◌≡◌, ◌≢◌, ◌≤◌, ⊤, ℕ, List, [], map, Some, None, is_none, true, false}
 use Rattle.std.specs.List.{All}
 use Rattle.csv.specs.Reading.{strip_bom}
-use Rattle.tb_value.specs.Datum.{Datum, string}
+use Rattle.tb_value.specs.Datum.{Datum, int, string}
 use Rattle.tb_value.specs.Kind.{Kind}
 use Rattle.tb_value.specs.Typed.{HasType}
 use Rattle.tb_value.specs.declared.limits.TheConstants.{MAX_ROWS}
 use Rattle.tb_frame.specs.Table.{IsTable, Table, TableColumn, height, names_of}
+use Rattle.tb_csv.specs.Dates.{has_text}
 use Rattle.tb_csv.specs.Faults.{csv_refusal}
 use Rattle.tb_csv.specs.Records.{is_text, records_of}
 use Rattle.tb_csv.specs.Tables.{csv_table}
-use Rattle.tb_csv.specs.Texts.{csv_text, field_of, field_type, no_column, table_records, text_refusal}
+use Rattle.tb_csv.specs.Texts.{csv_text, field_of, field_type, is_date, no_column, table_records, text_refusal}
 use Rattle.tb_csv.specs.Types.{cell_value, or_string}
 use Rattle.tb_csv.specs.declared.options.TypeOf.{TypeOf}
 
@@ -21,21 +22,27 @@ comma = 44
 abbrev pub RecordsBack : Type 0
 RecordsBack = (t : Table) → no_column t ≡ None → strip_bom (csv_text comma t) ≡ csv_text comma t → records_of comma (csv_text comma t) ≡ table_records t
 
--- a value of a type with a text form, other than the empty text, is what its field is at the type
+-- a value that reads back: no empty text, and no day outside the years 0 to 9999
+abbrev pub IsPlain : Kind → Datum → Type 0
+IsPlain k (string s) = s ≢ []
+IsPlain k (int z) = is_date k ≡ true → has_text z ≡ true
+IsPlain k _ = ⊤
+
+-- a value of a type with a text form that reads back is what its field is at the type
 abbrev pub CellsBack : Type 0
-CellsBack = (k : Kind) → is_none (field_type k) ≡ false → (v : Datum) → HasType k v → v ≢ string [] → cell_value (or_string (field_type k)) (field_of v) ≡ Some v
+CellsBack = (k : Kind) → is_none (field_type k) ≡ false → (v : Datum) → HasType k v → IsPlain k v → cell_value (or_string (field_type k)) (field_of k v) ≡ Some v
 
 -- the types of the columns by their names
 abbrev pub types_of : Table → List TypeOf
 types_of t = map (λ (c : TableColumn). record { name = c.name; field_type = or_string (field_type c.kind) }) t
 
--- a table that has a text, without an empty text among its values, with names of UTF-8 and with no byte-order mark at the front of its text
+-- a table that has a text, whose values read back, with names of UTF-8 and with no byte-order mark at the front of its text
 pub record IsTold (t : Table) : Type 0 where
   pub table : IsTable t
   pub few : height t ≤ MAX_ROWS
   pub written : text_refusal t ≡ None
   pub names : is_text (names_of t) ≡ true
-  pub full : All (λ (c : TableColumn). All (λ (v : Datum). v ≢ string []) c.values) t
+  pub plain : All (λ (c : TableColumn). All (IsPlain c.kind) c.values) t
   pub front : strip_bom (csv_text comma t) ≡ csv_text comma t
 
 -- such a table, written with commas and read back with its types given, is the same table

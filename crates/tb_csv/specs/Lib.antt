@@ -1,3 +1,4 @@
+pub mod Dates
 pub mod Types
 pub mod Records
 pub mod Faults

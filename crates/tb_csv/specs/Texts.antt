@@ -1,5 +1,6 @@
 -- The text of a table.
-use Rattle.std.specs.Prelude.{ℕ, List, [], ◌∷◌, map, Option, Some, None, is_none}
+use Rattle.std.specs.Prelude.{ℕ, ℤ, List, [], ◌∷◌, ◌&&◌, map, slice_index_or, Bool, true, false, Option, Some, None, is_none, if◌then◌else◌}
+use Rattle.std.specs.Fmt.{signed_decimal}
 use Rattle.std.specs.Option.{option_map}
 use Rattle.std.specs.List.{find, flat_map}
 use Rattle.csv.specs.Writing.{default_writer, row_text, with_delimiter}
@@ -8,7 +9,9 @@ use Rattle.tb_value.specs.Datum.{Datum, null, boolean, int, string, binary, list
 use Rattle.tb_value.specs.Kind.{Kind}
 use Rattle.tb_value.specs.Kind as kind
 use Rattle.tb_label.specs.Label.{value_text}
-use Rattle.tb_frame.specs.Table.{Table, TableColumn, names_of, rows_of}
+use Rattle.tb_value.specs.Pairs.{row_numbers}
+use Rattle.tb_frame.specs.Table.{Table, TableColumn, height, names_of}
+use Rattle.tb_csv.specs.Dates.{date_text, has_text}
 use Rattle.tb_csv.specs.Records.{Record}
 use Rattle.tb_csv.specs.Faults.{first_fault}
 use Rattle.tb_csv.specs.declared.fault.CsvFault.{CsvFault}
@@ -29,21 +32,34 @@ field_type kind.uint16 = Some field.UInt16
 field_type kind.uint32 = Some field.UInt32
 field_type kind.uint64 = Some field.UInt64
 field_type kind.string = Some field.String
+field_type kind.date = Some field.Date
 field_type _ = None
 
+abbrev pub is_date : Kind → Bool
+is_date kind.date = true
+is_date _ = false
+
+-- a day of the years 0 to 9999 is written as its date, and each other number by its digits
+abbrev pub number_text : Bool → ℤ → List ℕ
+number_text is_day z = if is_day && has_text z then date_text z else signed_decimal z
+
 -- Null is an empty field, and each other value its text
-abbrev pub field_of : Datum → List ℕ
-field_of null = []
-field_of (boolean b) = value_text (boolean b)
-field_of (int z) = value_text (int z)
-field_of (string s) = value_text (string s)
-field_of (binary s) = []
-field_of (list vs) = []
-field_of (struct vs) = []
+abbrev pub field_of : Kind → Datum → List ℕ
+field_of k null = []
+field_of k (boolean b) = value_text (boolean b)
+field_of k (int z) = number_text (is_date k) z
+field_of k (string s) = value_text (string s)
+field_of k (binary s) = []
+field_of k (list vs) = []
+field_of k (struct vs) = []
+
+-- the fields of row i
+abbrev pub row_fields : Table → ℕ → Record
+row_fields t i = map (λ (c : TableColumn). field_of c.kind (slice_index_or c.values i null)) t
 
 -- the names, and the fields of each row
 abbrev pub table_records : Table → List Record
-table_records t = names_of t ∷ map (map field_of) (rows_of t)
+table_records t = names_of t ∷ map (row_fields t) (row_numbers (height t))
 
 -- quotes where they are needed, this byte between fields, and a line feed behind each record
 abbrev pub style : ℕ → WriterBuilder

@@ -8,6 +8,7 @@ use Rattle.tb_value.specs.Kind as kind
 use Rattle.tb_value.specs.Names.{Name, same_name}
 use Rattle.tb_value.specs.Typed.{ends}
 use Rattle.tb_label.specs.Numerals.{whole_in}
+use Rattle.tb_csv.specs.Dates.{date_in}
 use Rattle.tb_csv.specs.declared.field_type.FieldType.{FieldType}
 use Rattle.tb_csv.specs.declared.field_type.FieldType.TheVariants as field
 use Rattle.tb_csv.specs.declared.options.TypeOf.{TypeOf}
@@ -25,6 +26,7 @@ kind_at field.UInt16 = kind.uint16
 kind_at field.UInt32 = kind.uint32
 kind_at field.UInt64 = kind.uint64
 kind_at field.String = kind.string
+kind_at field.Date = kind.date
 
 abbrev pub is_within : Option (ℤ × ℤ) → ℤ → Bool
 is_within None z = false
@@ -46,6 +48,7 @@ text_in s = if nat_lt (length s) 4294967296 then Some (string s) else None
 abbrev pub field_value : FieldType → List ℕ → Option Datum
 field_value field.Boolean s = truth_in s
 field_value field.String s = text_in s
+field_value field.Date s = option_map int (date_in s)
 field_value t s = option_and_then (ranged (kind_at t)) (whole_in s)
 
 -- an empty field is Null at each type
@@ -69,9 +72,9 @@ abbrev pub or_string : Option FieldType → FieldType
 or_string None = field.String
 or_string (Some t) = t
 
--- the first of Int64 and Boolean that all fields are of, and else String
+-- the first of Int64, Boolean and Date that all fields are of, and else String
 abbrev pub told_type : List (List ℕ) → FieldType
-told_type fields = or_string (find (λ t. list_all (is_of t) fields) (field.Int64 ∷ field.Boolean ∷ []))
+told_type fields = or_string (find (λ t. list_all (is_of t) fields) (field.Int64 ∷ field.Boolean ∷ field.Date ∷ []))
 
 -- the type that is given for a name, the first where there are several
 abbrev pub given_type : List TypeOf → Name → Option FieldType

@@ -7,6 +7,7 @@ ghost use Rattle.tb_value.specs.Typed.{HasType};
 ghost use Rattle.tb_chunk.specs.Chunk.{or_null};
 ghost use Rattle.tb_chunk.specs.Seen.{chunk_lists, storage};
 ghost use Rattle.tb_csv.specs.Faults.{Settles, column_fault};
+ghost use Rattle.tb_chunk.specs.Col.{physical};
 ghost use Rattle.tb_csv.specs.Types.{cell_of, cell_value, is_of, kind_at};
 
 use crate::fault::CsvFault;
@@ -22,7 +23,7 @@ fn cell_in<N: ReadField>(
     field_type: FieldType,
     field: &str,
 ) -> Result<Option<Option<N>>, OutOfMemory>
-    requires { kind_at field_type ≡ N.stored }
+    requires { physical (kind_at field_type) ≡ N.stored }
     ensures value { IfOk result (λ o. option_map (or_null N.shows) o ≡ cell_value field_type field.now) }
     ensures typed { IfOk result (λ o. IfSome o (λ c. HasType (kind_at field_type) (or_null N.shows c))) }
 {
@@ -41,7 +42,7 @@ pub(crate) fn are_of<N: ReadField>(
     field_type: FieldType,
     fields: &[&str],
 ) -> Result<bool, OutOfMemory>
-    requires { kind_at field_type ≡ N.stored }
+    requires { physical (kind_at field_type) ≡ N.stored }
     ensures { IfOk result (λ b. b ≡ list_all (is_of field_type) (map (λ f. f.now) fields.now)) }
 {
     for field in fields {
@@ -59,7 +60,7 @@ fn cells_of<N: ReadField>(
     field_type: FieldType,
     fields: &[&str],
 ) -> Result<Cells<N>, CsvFault>
-    requires { kind_at field_type ≡ N.stored }
+    requires { physical (kind_at field_type) ≡ N.stored }
     ensures settles { Settles result (column_fault name.now field_type 1 (map (λ f. f.now) fields.now)) }
     ensures cells { IfOk result (λ c. map (or_null N.shows) c.cells.items ≡ map (cell_of field_type) (map (λ f. f.now) fields.now)) }
     ensures typed { IfOk result (λ c. All (HasType (kind_at field_type)) (map (or_null N.shows) c.cells.items)) }
@@ -89,7 +90,7 @@ trait ReadChunk: Chunk {
         field_type: FieldType,
         fields: &[&str],
     ) -> Result<Self, CsvFault>
-        requires { kind_at field_type ≡ stored }
+        requires { physical (kind_at field_type) ≡ stored }
         ensures settles { Settles result (column_fault name.now field_type 1 (map (λ f. f.now) fields.now)) }
         ensures values { IfOk result (λ c. Self.shown c ≡ map (cell_of field_type) (map (λ f. f.now) fields.now)) }
         ensures typed { IfOk result (λ c. All (HasType (kind_at field_type)) (Self.shown c)) };
@@ -129,7 +130,7 @@ fn read_stored<C: ReadChunk + Stored>(
     field_type: FieldType,
     fields: &[&str],
 ) -> Result<Chunks, CsvFault>
-    requires { kind_at field_type ≡ C.stored }
+    requires { physical (kind_at field_type) ≡ C.stored }
     ensures settles { Settles result (column_fault name.now field_type 1 (map (λ f. f.now) fields.now)) }
     ensures lists { IfOk result (λ c. chunk_lists c ≡ map (cell_of field_type) (map (λ f. f.now) fields.now) ∷ []) }
     ensures typed { IfOk result (λ c. All (HasType (kind_at field_type)) (map (cell_of field_type) (map (λ f. f.now) fields.now))) }
@@ -151,7 +152,7 @@ pub(crate) fn read_chunk(
     ensures settles { Settles result (column_fault name.now field_type 1 (map (λ f. f.now) fields.now)) }
     ensures lists { IfOk result (λ c. chunk_lists c ≡ map (cell_of field_type) (map (λ f. f.now) fields.now) ∷ []) }
     ensures typed { IfOk result (λ c. All (HasType (kind_at field_type)) (map (cell_of field_type) (map (λ f. f.now) fields.now))) }
-    ensures stored { IfOk result (λ c. storage c ≡ kind_at field_type) }
+    ensures stored { IfOk result (λ c. storage c ≡ physical (kind_at field_type)) }
 {
     match field_type {
         FieldType::Boolean => read_stored::<Cells<bool>>(alloc, name, field_type, fields),
@@ -165,5 +166,6 @@ pub(crate) fn read_chunk(
         FieldType::UInt32 => read_stored::<Cells<u32>>(alloc, name, field_type, fields),
         FieldType::UInt64 => read_stored::<Cells<u64>>(alloc, name, field_type, fields),
         FieldType::String => read_stored::<StringChunk>(alloc, name, field_type, fields),
+        FieldType::Date => read_stored::<Cells<i32>>(alloc, name, field_type, fields),
     }
 }

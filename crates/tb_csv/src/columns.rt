@@ -36,6 +36,9 @@ fn told_type(alloc: Global, fields: &[&str]) -> Result<FieldType, OutOfMemory>
     if are_of::<bool>(alloc, FieldType::Boolean, fields)? {
         return Ok(FieldType::Boolean);
     }
+    if are_of::<i32>(alloc, FieldType::Date, fields)? {
+        return Ok(FieldType::Date);
+    }
     Ok(FieldType::String)
 }
 

@@ -24,6 +24,8 @@ pub enum FieldType {
     UInt64,
     /// Any text of fewer than 2^32 bytes.
     String,
+    /// A day of the calendar, from `0000-01-01` to `9999-12-31`.
+    Date,
 }
 
 impl FieldType {
@@ -43,6 +45,7 @@ impl FieldType {
             FieldType::UInt32 => DataType::UInt32,
             FieldType::UInt64 => DataType::UInt64,
             FieldType::String => DataType::String,
+            FieldType::Date => DataType::Date,
         }
     }
 
@@ -62,9 +65,9 @@ impl FieldType {
             DataType::UInt32 => Some(FieldType::UInt32),
             DataType::UInt64 => Some(FieldType::UInt64),
             DataType::String => Some(FieldType::String),
+            DataType::Date => Some(FieldType::Date),
             DataType::Null
             | DataType::Binary
-            | DataType::Date
             | DataType::Datetime(_, _)
             | DataType::Duration(_)
             | DataType::Time

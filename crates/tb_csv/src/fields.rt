@@ -4,8 +4,10 @@ ghost use Rattle.tb_value.specs.Datum.{Datum, boolean, string};
 ghost use Rattle.tb_value.specs.Kind.{Kind};
 ghost use Rattle.tb_value.specs.Kind as kind;
 ghost use Rattle.tb_value.specs.Typed.{HasType};
+ghost use Rattle.tb_chunk.specs.Col.{physical};
 ghost use Rattle.tb_csv.specs.Types.{field_value, kind_at, text_in, truth_in};
 
+use crate::dates::date_in;
 use crate::field_type::FieldType;
 use std::alloc::Global;
 use tb_label::whole_in;
@@ -18,7 +20,7 @@ pub(crate) trait ReadField: Cell {
 
     /// The value of a field that isn't empty, or None where it is none of the type.
     fn read(alloc: Global, field_type: FieldType, field: &str) -> Result<Option<Self>, OutOfMemory>
-        requires { kind_at field_type ≡ stored }
+        requires { physical (kind_at field_type) ≡ stored }
         ensures value { IfOk result (λ o. option_map Self.shows o ≡ field_value field_type field.now) }
         ensures typed { IfOk result (λ o. IfSome o (λ c. HasType (kind_at field_type) (Self.shows c))) };
 }
@@ -78,7 +80,10 @@ impl ReadField for i32 {
     ghost stored = { kind.int32 };
 
     fn read(alloc: Global, field_type: FieldType, field: &str) -> Result<Option<i32>, OutOfMemory> {
-        Ok(whole_in(field).and_then(|number| i32::try_from(number).ok()))
+        match field_type {
+            FieldType::Date => Ok(date_in(field)),
+            _ => Ok(whole_in(field).and_then(|number| i32::try_from(number).ok())),
+        }
     }
 }
 

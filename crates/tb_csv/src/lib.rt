@@ -3,6 +3,7 @@
 
 mod cells;
 mod columns;
+mod dates;
 mod fault;
 mod field_type;
 mod fields;

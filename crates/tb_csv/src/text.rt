@@ -7,12 +7,14 @@ ghost use Rattle.csv.specs.Records.{fields_of};
 ghost use Rattle.csv.specs.Writing.{row_text};
 ghost use Rattle.tb_value.specs.Pairs.{row_numbers};
 ghost use Rattle.tb_value.specs.See.{lent};
+ghost use Rattle.tb_value.specs.SeeKind.{kind_of};
 ghost use Rattle.tb_chunk.specs.Col.{Col, values};
-ghost use Rattle.tb_frame.specs.Table.{height, names_of, row_at, rows_of, table_of};
+ghost use Rattle.tb_frame.specs.Table.{height, names_of, table_of};
 ghost use Rattle.tb_csv.specs.Faults.{Settles};
-ghost use Rattle.tb_csv.specs.Texts.{csv_text, field_of, field_type, records_text, style, table_records, text_refusal};
+ghost use Rattle.tb_csv.specs.Texts.{csv_text, field_of, field_type, is_date, number_text, records_text, row_fields, style, table_records, text_refusal};
 ghost use Rattle.tb_csv.specs.Written.{HasWritten, IsPushed};
 
+use crate::dates::{date_text, dated};
 use crate::fault::CsvFault;
 use crate::field_type::FieldType;
 use csv::{ByteRecord, Writer, WriterBuilder};
@@ -20,7 +22,7 @@ use std::alloc::Global;
 use tb_frame::DataFrame;
 use tb_label::truth_text;
 use tb_store::Column;
-use tb_value::{OutOfMemory, ValueRef};
+use tb_value::{DataType, OutOfMemory, ValueRef};
 
 // The first column of a type without a text form.
 fn without_text(columns: &[Column]) -> Option<&Column>
@@ -43,20 +45,50 @@ fn check_columns(alloc: Global, columns: &[Column]) -> Result<(), CsvFault>
     }
 }
 
-fn push_number(alloc: Global, row: &mut ByteRecord, number: i128) -> Result<(), OutOfMemory>
+fn is_date(dtype: &DataType) -> bool
+    ensures { result ≡ is_date (kind_of dtype.now) }
+{
+    matches!(dtype, DataType::Date)
+}
+
+// Appends the digits of a number.
+fn push_digits(alloc: Global, row: &mut ByteRecord, number: i128) -> Result<(), OutOfMemory>
     ensures { OnOk result (IsPushed row.old row.new (signed_decimal number)) }
 {
     let text = number.to_string(alloc)?;
     Ok(row.push_field(text.as_bytes())?)
 }
 
-// Appends the field of a value.
-fn push_value(alloc: Global, row: &mut ByteRecord, value: ValueRef<'_>) -> Result<(), OutOfMemory>
-    ensures { OnOk result (IsPushed row.old row.new (field_of (lent value.entry))) }
+// Appends the field of a number, which may be a day.
+fn push_number(
+    alloc: Global,
+    row: &mut ByteRecord,
+    is_day: bool,
+    number: i128,
+) -> Result<(), OutOfMemory>
+    ensures { OnOk result (IsPushed row.old row.new (number_text is_day number)) }
+{
+    if !is_day {
+        return push_digits(alloc, row, number);
+    }
+    match dated(number) {
+        Some(date) => Ok(row.push_field(&date_text(date))?),
+        None => push_digits(alloc, row, number),
+    }
+}
+
+// Appends the field of a value of a column of this type.
+fn push_value(
+    alloc: Global,
+    row: &mut ByteRecord,
+    dtype: &DataType,
+    value: ValueRef<'_>,
+) -> Result<(), OutOfMemory>
+    ensures { OnOk result (IsPushed row.old row.new (field_of (kind_of dtype.now) (lent value.entry))) }
 {
     match value {
         ValueRef::Boolean(b) => Ok(row.push_field(truth_text(b).as_bytes())?),
-        ValueRef::Int(number) => push_number(alloc, row, number),
+        ValueRef::Int(number) => push_number(alloc, row, is_date(dtype), number),
         ValueRef::String(s) => Ok(row.push_field(s)?),
         ValueRef::Null | ValueRef::Binary(_) | ValueRef::List(_) | ValueRef::Struct(_) => {
             Ok(row.push_field(b"")?)
@@ -72,11 +104,11 @@ fn fill_row(
     index: usize,
 ) -> Result<(), OutOfMemory>
     requires { All (λ (c : Col). index < length (values c)) columns.now }
-    ensures { OnOk result (fields_of row.new ≡ map field_of (row_at (table_of columns.now) index)) }
+    ensures { OnOk result (fields_of row.new ≡ row_fields (table_of columns.now) index) }
 {
     row.clear();
     for column in columns {
-        push_value(alloc, row, column.get(index))?;
+        push_value(alloc, row, column.dtype(), column.get(index))?;
     }
     Ok(())
 }
@@ -109,7 +141,7 @@ fn write_records(
     requires { All (λ (c : Col). length (values c) ≡ height) columns.now }
     ensures { (separator : ℕ) → HasWritten separator [] writer.old
         → OnOk result (HasWritten separator (records_text separator (names_of (table_of columns.now)
-        ∷ map (λ i. map field_of (row_at (table_of columns.now) i)) (row_numbers height))) writer.new) }
+        ∷ map (row_fields (table_of columns.now)) (row_numbers height))) writer.new) }
 {
     let mut row = ByteRecord::new(alloc);
     fill_names(&mut row, columns)?;
@@ -129,12 +161,13 @@ fn open_writer(alloc: Global, separator: u8) -> Writer<Vec<u8>>
         .from_writer(Vec::new(alloc))
 }
 
-/// The text of a table: a record of the names, and one for each row. Null is an empty field, and so is an empty text; other
-/// values are written as their texts, in quotes where they need them. Each record ends with a line feed.
+/// The text of a table: a record of the names, and one for each row. Null is an empty field, and so is an empty text. A day is
+/// written as its date, `YYYY-MM-DD`, or by its number where its year isn't one from 0 to 9999, and other values as their texts,
+/// in quotes where they need them. Each record ends with a line feed.
 ///
 /// # Errors
 ///
-/// 1 Empty where the table has no column, 2 NoText of the first column whose type isn't Boolean, a whole number or String, and
+/// 1 Empty where the table has no column, 2 NoText of the first column whose type isn't Boolean, a whole number, Date or String, and
 /// OutOfMemory.
 pub fn csv_of_table(alloc: Global, table: &DataFrame, separator: u8) -> Result<Vec<u8>, CsvFault>
     ensures settles { Settles result (text_refusal (table_of table.now)) }

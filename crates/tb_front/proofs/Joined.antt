@@ -17,7 +17,7 @@ use Rattle.tb_csv.specs.declared.fault.CsvFault.{CsvFault}
 use Rattle.tb_csv.specs.declared.fault.CsvFault.TheVariants.{NoText}
 use Rattle.tb_front.specs.declared.arguments.JoinArguments.{JoinArguments}
 use Rattle.tb_front.specs.declared.arguments.TextForm.{TextForm}
-use Rattle.tb_front.specs.declared.arguments.TextForm.TheVariants.{Csv, Json}
+use Rattle.tb_front.specs.declared.arguments.TextForm.TheVariants.{Csv, Json, Layout}
 use Rattle.tb_front.specs.declared.fault.FrontFault.{FrontFault}
 use Rattle.tb_front.specs.declared.fault.FrontFault.TheVariants as fault
 use Rattle.tb_front.specs.declared.fault.Place.TheVariants.{First, Second}
@@ -57,6 +57,7 @@ same_refusal t = λ i. csv.first_fault (same_no_column t i ∷ same_no_text t i 
 same_written : (form : TextForm) (t : Table) (schema : List (Name × Kind)) → schema_of t ≡ schema → not_written form t ≡ not_written form (bare schema)
 same_written Csv t schema is = ap (λ (r : Option CsvFault). option_map (λ e. fault.NoText e) r) (sym (same_refusal t) ∙ ap (λ (s : List (Name × Kind)). text_refusal (bare s)) is)
 same_written Json t schema is = refl
+same_written (Layout width) t schema is = refl
 
 -- ---- an answer
 

@@ -9,7 +9,7 @@ use Rattle.tb_csv.specs.Records.{records_of}
 use Rattle.tb_csv.specs.Texts.{text_refusal}
 use Rattle.tb_csv.specs.declared.options.CsvOptions.{CsvOptions}
 use Rattle.tb_front.specs.declared.arguments.TextForm.{TextForm}
-use Rattle.tb_front.specs.declared.arguments.TextForm.TheVariants.{Csv, Json}
+use Rattle.tb_front.specs.declared.arguments.TextForm.TheVariants.{Csv, Json, Layout}
 use Rattle.tb_front.specs.declared.fault.FrontFault.{FrontFault}
 use Rattle.tb_front.specs.declared.fault.FrontFault.TheVariants.{NoTable, Refused, NoText, OutOfMemory}
 use Rattle.tb_front.specs.declared.fault.Place.{Place}
@@ -36,6 +36,7 @@ refused cause = option_map (λ e. Refused e) cause
 abbrev pub not_written : TextForm → Table → Option FrontFault
 not_written Csv t = option_map (λ e. NoText e) (text_refusal t)
 not_written Json t = None
+not_written (Layout width) t = None
 
 -- a table of these names and types, without rows
 abbrev pub bare : List (Name × Kind) → Table

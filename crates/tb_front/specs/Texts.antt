@@ -1,5 +1,5 @@
 -- The tables that texts are, and the texts of answers.
-use Rattle.std.specs.Prelude.{◌≡◌, ℕ, List, Result, Ok, Err, IfOk}
+use Rattle.std.specs.Prelude.{◌≡◌, ℕ, List, Result, Ok, Err, IfOk, encode_utf8_all}
 use Rattle.std.specs.declared.vec.Vec.{Vec}
 use Rattle.std.specs.declared.alloc.Global.{Global}
 use Rattle.tb_value.specs.declared.error.PolarsError.{PolarsError}
@@ -11,8 +11,9 @@ use Rattle.tb_csv.specs.Tables.{csv_table}
 use Rattle.tb_csv.specs.Texts.{csv_text}
 use Rattle.tb_csv.specs.declared.options.CsvOptions.{CsvOptions}
 use Rattle.tb_json.specs.Text.{text_of}
+use Rattle.tb_layout.specs.Lines.{layout}
 use Rattle.tb_front.specs.declared.arguments.TextForm.{TextForm}
-use Rattle.tb_front.specs.declared.arguments.TextForm.TheVariants.{Csv, Json}
+use Rattle.tb_front.specs.declared.arguments.TextForm.TheVariants.{Csv, Json, Layout}
 use Rattle.tb_front.specs.declared.fault.FrontFault.{FrontFault}
 use Rattle.tb_front.specs.declared.fault.FrontFault.TheVariants as fault
 use Rattle.tb_front.specs.Faults.{Settles, not_written}
@@ -25,6 +26,7 @@ table_in options text = csv_table options.types.items (records_of options.separa
 abbrev pub text_in : TextForm → ℕ → Table → List ℕ
 text_in Csv separator t = csv_text separator t
 text_in Json separator t = text_of t
+text_in (Layout width) separator t = encode_utf8_all (layout width t)
 
 abbrev pub fault_of : PolarsError → FrontFault
 fault_of cause.OutOfMemory = fault.OutOfMemory

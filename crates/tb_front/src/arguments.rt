@@ -12,6 +12,8 @@ pub enum TextForm {
     Csv,
     /// JSON, as `tb_json` writes a table.
     Json,
+    /// Lines for people, as `tb_layout` lays a table out on a terminal of this many columns.
+    Layout(usize),
 }
 
 /// What is asked of two texts that are joined.

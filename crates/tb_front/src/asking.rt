@@ -28,12 +28,12 @@ use tb_value::{PlSmallStr, TOO_LONG};
 fn join_tables(
     rt: &(impl Threads + Sync),
     alloc: Global,
-    left: &DataFrame,
-    right: &DataFrame,
+    left: DataFrame,
+    right: DataFrame,
     arguments: JoinArguments,
 ) -> Result<Vec<u8>, FrontFault>
-    ensures settles { Settles result (first_fault (answer_faults arguments.form (asked_of arguments (table_of left.now) (table_of right.now)))) }
-    ensures answer { IfOk result (λ v. IsAnswerText arguments.form arguments.options.separator (asked_of arguments (table_of left.now) (table_of right.now)) v.items) }
+    ensures settles { Settles result (first_fault (answer_faults arguments.form (asked_of arguments (table_of left) (table_of right)))) }
+    ensures answer { IfOk result (λ v. IsAnswerText arguments.form arguments.options.separator (asked_of arguments (table_of left) (table_of right)) v.items) }
 {
     let JoinArguments {
         options,
@@ -43,11 +43,14 @@ fn join_tables(
         form,
     } = arguments;
     let exec = Exec::standard();
-    let outcome = left.join(rt, alloc, right, &left_on, &right_on, args, &exec);
+    let outcome = left.join(rt, alloc, &right, &left_on, &right_on, args, &exec);
+    drop(left);
+    drop(right);
     written(alloc, form, options.separator, outcome)
 }
 
-/// Joins the tables that two texts of comma-separated values are. The answer's text is that of a table that answers the
+/// Joins the tables that two texts of comma-separated values are. Each text is let go once it is read, and both tables before the
+/// answer's text is made. The answer's text is that of a table that answers the
 /// request, in the form that is asked.
 ///
 /// # Errors
@@ -57,16 +60,16 @@ fn join_tables(
 pub fn join_texts(
     rt: &(impl Threads + Sync),
     alloc: Global,
-    left: &[u8],
-    right: &[u8],
+    left: Vec<u8>,
+    right: Vec<u8>,
     arguments: JoinArguments,
 ) -> Result<Vec<u8>, FrontFault>
-    ensures settles { Settles result (join_fault arguments left.now right.now) }
-    ensures answer { IfOk result (λ v. IsAnswerText arguments.form arguments.options.separator (asked_join arguments left.now right.now) v.items) }
+    ensures settles { Settles result (join_fault arguments left.items right.items) }
+    ensures answer { IfOk result (λ v. IsAnswerText arguments.form arguments.options.separator (asked_join arguments left.items right.items) v.items) }
 {
     let left = read_table(alloc, &arguments.options, Place::First, left)?;
     let right = read_table(alloc, &arguments.options, Place::Second, right)?;
-    join_tables(rt, alloc, &left, &right, arguments)
+    join_tables(rt, alloc, left, right, arguments)
 }
 
 // Whether each name is short enough to be a value. A longer one is in no text that fits in memory beside its copy.
@@ -80,11 +83,11 @@ fn have_short_names(columns: &[Column]) -> bool
 
 fn made_long(
     alloc: Global,
-    table: &DataFrame,
+    table: DataFrame,
     arguments: UnpivotArguments,
 ) -> Result<Vec<u8>, FrontFault>
-    ensures settles { Settles result (first_fault (unpivot_faults arguments (table_of table.now))) }
-    ensures answer { IfOk result (λ v. v.items ≡ text_in arguments.form arguments.options.separator (unpivot_table (long_of arguments (table_of table.now)))) }
+    ensures settles { Settles result (first_fault (unpivot_faults arguments (table_of table))) }
+    ensures answer { IfOk result (λ v. v.items ≡ text_in arguments.form arguments.options.separator (unpivot_table (long_of arguments (table_of table)))) }
 {
     let UnpivotArguments {
         options,
@@ -102,6 +105,7 @@ fn made_long(
             value_name,
         };
         let outcome = table.unpivot2(alloc, args);
+        drop(table);
         written(alloc, form, options.separator, outcome)
     } else {
         Err(FrontFault::OutOfMemory)
@@ -115,14 +119,14 @@ fn made_long(
 /// The first of these that holds, or `OutOfMemory`: 1 `NoTable`, 2 `Refused`, as `unpivot2` refuses, 3 `NoText`.
 pub fn unpivot_text(
     alloc: Global,
-    text: &[u8],
+    text: Vec<u8>,
     arguments: UnpivotArguments,
 ) -> Result<Vec<u8>, FrontFault>
-    ensures settles { Settles result (unpivot_fault arguments text.now) }
-    ensures answer { IfOk result (λ v. v.items ≡ text_in arguments.form arguments.options.separator (unpivot_table (asked_long arguments text.now))) }
+    ensures settles { Settles result (unpivot_fault arguments text.items) }
+    ensures answer { IfOk result (λ v. v.items ≡ text_in arguments.form arguments.options.separator (unpivot_table (asked_long arguments text.items))) }
 {
     let table = read_table(alloc, &arguments.options, Place::First, text)?;
-    made_long(alloc, &table, arguments)
+    made_long(alloc, table, arguments)
 }
 
 fn names_given(names: &Option<Vec<PlSmallStr>>) -> Option<&[PlSmallStr]>
@@ -145,15 +149,16 @@ fn text_given(text: &Option<PlSmallStr>) -> Option<&str>
 
 fn with_dummies(
     alloc: Global,
-    table: &DataFrame,
+    table: DataFrame,
     arguments: &DummiesArguments,
 ) -> Result<Vec<u8>, FrontFault>
-    ensures settles { Settles result (first_fault (dummies_faults arguments.now (table_of table.now))) }
-    ensures answer { IfOk result (λ v. v.items ≡ text_in arguments.now.form arguments.now.options.separator (dummies_table (marked_of arguments.now (table_of table.now)))) }
+    ensures settles { Settles result (first_fault (dummies_faults arguments.now (table_of table))) }
+    ensures answer { IfOk result (λ v. v.items ≡ text_in arguments.now.form arguments.now.options.separator (dummies_table (marked_of arguments.now (table_of table)))) }
 {
     let columns = names_given(&arguments.columns);
     let separator = text_given(&arguments.separator);
     let outcome = table._to_dummies(alloc, columns, separator, arguments.drop_first);
+    drop(table);
     written(alloc, arguments.form, arguments.options.separator, outcome)
 }
 
@@ -164,30 +169,30 @@ fn with_dummies(
 /// The first of these that holds, or `OutOfMemory`: 1 `NoTable`, 2 `Refused`, as `_to_dummies` refuses, 3 `NoText`.
 pub fn dummies_text(
     alloc: Global,
-    text: &[u8],
+    text: Vec<u8>,
     arguments: &DummiesArguments,
 ) -> Result<Vec<u8>, FrontFault>
-    ensures settles { Settles result (dummies_fault arguments.now text.now) }
-    ensures answer { IfOk result (λ v. v.items ≡ text_in arguments.now.form arguments.now.options.separator (dummies_table (asked_dummies arguments.now text.now))) }
+    ensures settles { Settles result (dummies_fault arguments.now text.items) }
+    ensures answer { IfOk result (λ v. v.items ≡ text_in arguments.now.form arguments.now.options.separator (dummies_table (asked_dummies arguments.now text.items))) }
 {
     let table = read_table(alloc, &arguments.options, Place::First, text)?;
-    with_dummies(alloc, &table, arguments)
+    with_dummies(alloc, table, arguments)
 }
 
 fn made_wide(
     alloc: Global,
-    table: &DataFrame,
+    table: DataFrame,
     arguments: &PivotArguments,
 ) -> Result<Vec<u8>, FrontFault>
-    ensures settles { Settles result (first_fault (pivot_faults arguments.now (table_of table.now))) }
-    ensures answer { IfOk result (λ v. v.items ≡ text_in arguments.now.form arguments.now.options.separator (pivot_table (wide_of arguments.now (table_of table.now)))) }
+    ensures settles { Settles result (first_fault (pivot_faults arguments.now (table_of table))) }
+    ensures answer { IfOk result (λ v. v.items ≡ text_in arguments.now.form arguments.now.options.separator (pivot_table (wide_of arguments.now (table_of table)))) }
 {
     let index = names_given(&arguments.index);
     let values = names_given(&arguments.values);
     let separator = text_given(&arguments.separator);
     let outcome = pivot_by(
         alloc,
-        table,
+        &table,
         &arguments.on,
         index,
         values,
@@ -195,6 +200,7 @@ fn made_wide(
         &arguments.agg,
         separator,
     );
+    drop(table);
     written(alloc, arguments.form, arguments.options.separator, outcome)
 }
 
@@ -205,12 +211,12 @@ fn made_wide(
 /// The first of these that holds, or `OutOfMemory`: 1 `NoTable`, 2 `Refused`, as `pivot_by` refuses, 3 `NoText`.
 pub fn pivot_text(
     alloc: Global,
-    text: &[u8],
+    text: Vec<u8>,
     arguments: &PivotArguments,
 ) -> Result<Vec<u8>, FrontFault>
-    ensures settles { Settles result (pivot_fault arguments.now text.now) }
-    ensures answer { IfOk result (λ v. v.items ≡ text_in arguments.now.form arguments.now.options.separator (pivot_table (asked_wide arguments.now text.now))) }
+    ensures settles { Settles result (pivot_fault arguments.now text.items) }
+    ensures answer { IfOk result (λ v. v.items ≡ text_in arguments.now.form arguments.now.options.separator (pivot_table (asked_wide arguments.now text.items))) }
 {
     let table = read_table(alloc, &arguments.options, Place::First, text)?;
-    made_wide(alloc, &table, arguments)
+    made_wide(alloc, table, arguments)
 }

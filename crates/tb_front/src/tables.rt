@@ -11,19 +11,20 @@ use std::alloc::Global;
 use tb_csv::{CsvFault, CsvOptions, csv_of_table, table_of_csv};
 use tb_frame::DataFrame;
 use tb_json::text_of;
+use tb_layout::layout_of_table;
 use tb_value::{OutOfMemory, PolarsError, PolarsResult};
 
-/// The table of the text at this place.
+/// The table of the text at this place, which is let go.
 pub(crate) fn read_table(
     alloc: Global,
     options: &CsvOptions,
     place: Place,
-    text: &[u8],
+    text: Vec<u8>,
 ) -> Result<DataFrame, FrontFault>
-    ensures settles { Settles result (no_table options.now place text.now) }
-    ensures table { IfOk result (λ t. table_of t ≡ table_in options.now text.now) }
+    ensures settles { Settles result (no_table options.now place text.items) }
+    ensures table { IfOk result (λ t. table_of t ≡ table_in options.now text.items) }
 {
-    match table_of_csv(alloc, text, options) {
+    match table_of_csv(alloc, &text, options) {
         Ok(table) => Ok(table),
         Err(CsvFault::OutOfMemory) => Err(FrontFault::OutOfMemory),
         Err(fault) => Err(FrontFault::NoTable(place, fault)),
@@ -51,6 +52,16 @@ fn write_json(alloc: Global, table: &DataFrame) -> Result<Vec<u8>, FrontFault>
     }
 }
 
+fn write_lines(alloc: Global, width: usize, table: &DataFrame) -> Result<Vec<u8>, FrontFault>
+    ensures settles { Settles result (not_written (TextForm.Layout width) (table_of table.now)) }
+    ensures text { IfOk result (λ v. v.items ≡ text_in (TextForm.Layout width) 0 (table_of table.now)) }
+{
+    match layout_of_table(alloc, table, width) {
+        Ok(text) => Ok(text.into_bytes()),
+        Err(OutOfMemory) => Err(FrontFault::OutOfMemory),
+    }
+}
+
 fn write_table(
     alloc: Global,
     form: TextForm,
@@ -63,6 +74,7 @@ fn write_table(
     match form {
         TextForm::Csv => write_csv(alloc, separator, table),
         TextForm::Json => write_json(alloc, table),
+        TextForm::Layout(width) => write_lines(alloc, width, table),
     }
 }
 

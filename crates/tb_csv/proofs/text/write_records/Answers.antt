@@ -1,10 +1,10 @@
-use Rattle.std.proofs.Common.{◌≡◌, ◌∙◌, ◌∷◌, [], ℕ, ap, sym, arith, map}
+use Rattle.std.proofs.Common.{◌≡◌, ◌∙◌, ◌∷◌, [], ap, sym, arith, map}
 use Rattle.std.proofs.lemmas.List.{append-nil}
 use Rattle.csv.specs.Records.{fields_of}
 use Rattle.csv.specs.Writing.{row_text}
 use Rattle.tb_value.specs.Pairs.{row_numbers}
-use Rattle.tb_frame.specs.Table.{names_of, row_at, table_of}
-use Rattle.tb_csv.specs.Texts.{field_of, records_text, style}
+use Rattle.tb_frame.specs.Table.{names_of, table_of}
+use Rattle.tb_csv.specs.Texts.{records_text, row_fields, style}
 use Rattle.tb_csv.proofs.TextWalks.{grown, has_same}
 use Rattle.tb_csv.proofs.text.write_records.Goals as goal
 
@@ -15,7 +15,7 @@ loop-index-init c separator h =
 pub loop-index-preserved : goal.loop-index-preserved
 loop-index-preserved c separator h =
     let t = table_of c.args.columns.now in
-    let made = λ (i : ℕ). map field_of (row_at t i) in
+    let made = row_fields t in
     has_same separator _ _ c.write_row-in-loop-index.new.writer (grown separator (names_of t) made c.loop-index.index (fields_of c.fill_row.new.row) c.in_ok-fill_row.ensures)
     (c.in_ok-write_row-2.ensures separator (records_text separator (names_of t ∷ map made (row_numbers c.loop-index.index))) (c.loop-index.invariant separator h))
 

@@ -14,8 +14,8 @@ unpivot2-outcome-requires c =
 
 pub returns-then-have_short_names-clause-settles : goal.returns-then-have_short_names-clause-settles
 returns-then-have_short_names-clause-settles c =
-    table_settles c.args.arguments.form c.args.arguments.options.separator _ _ (unpivot_refusal (long_of c.args.arguments (table_of c.args.table.now))) (unpivot_table (long_of c.args.arguments (table_of c.args.table.now))) c.unpivot2-outcome.ensures.settles c.unpivot2-outcome.ensures.table c.written.ensures
+    table_settles c.args.arguments.form c.args.arguments.options.separator _ _ (unpivot_refusal (long_of c.args.arguments (table_of c.args.table))) (unpivot_table (long_of c.args.arguments (table_of c.args.table))) c.unpivot2-outcome.ensures.settles c.unpivot2-outcome.ensures.table c.written.ensures
 
 pub returns-then-have_short_names-clause-answer : goal.returns-then-have_short_names-clause-answer
 returns-then-have_short_names-clause-answer c =
-    table_text c.args.arguments.form c.args.arguments.options.separator _ _ (unpivot_table (long_of c.args.arguments (table_of c.args.table.now))) c.unpivot2-outcome.ensures.table c.written.ensures
+    table_text c.args.arguments.form c.args.arguments.options.separator _ _ (unpivot_table (long_of c.args.arguments (table_of c.args.table))) c.unpivot2-outcome.ensures.table c.written.ensures

@@ -5,8 +5,8 @@ use Rattle.tb_front.proofs.asking.unpivot_text.Goals as goal
 
 pub returns-clause-settles : goal.returns-clause-settles
 returns-clause-settles c =
-    read_settles c.args.arguments.options c.args.text.now _ (unpivot_faults c.args.arguments) _ c.in_ok-table.ensures.table c.in_ok-table.ensures.settles c.made_long.ensures.settles
+    read_settles c.args.arguments.options c.args.text.items _ (unpivot_faults c.args.arguments) _ c.in_ok-table.ensures.table c.in_ok-table.ensures.settles c.made_long.ensures.settles
 
 pub returns-clause-answer : goal.returns-clause-answer
 returns-clause-answer c =
-    read_answer c.args.arguments.form c.args.arguments.options c.args.text.now _ (λ t. unpivot_table (long_of c.args.arguments t)) _ c.in_ok-table.ensures.table c.made_long.ensures.answer
+    read_answer c.args.arguments.form c.args.arguments.options c.args.text.items _ (λ t. unpivot_table (long_of c.args.arguments t)) _ c.in_ok-table.ensures.table c.made_long.ensures.answer
