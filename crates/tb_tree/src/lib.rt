@@ -1,0 +1,9 @@
+//! JSON values of 16 bytes, read from a text.
+#![tactic(auto)]
+
+mod number;
+mod read;
+mod value;
+
+pub use read::Fault;
+pub use value::{Map, Value};

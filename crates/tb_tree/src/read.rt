@@ -1,0 +1,164 @@
+//! Values, read from a text in one pass over its tokens.
+ghost use Rattle.std.specs.Prelude.{◌≡◌, ◌<◌, length, Some, None, Err, IfOk, OnOk, IsUtf8};
+ghost use Rattle.json.specs.Json.{value, items, members};
+ghost use Rattle.serde_json.specs.Data.{string, no_members};
+ghost use Rattle.serde_json.specs.Read.{of_json, of_items, of_members, converted, read as read_text};
+ghost use Rattle.tb_tree.specs.View.{view, items_view, members_view};
+ghost use Rattle.tb_tree.specs.declared.read.Fault.TheVariants.{NoJson, OutOfMemory};
+
+use crate::number::number_of;
+use crate::value::{Map, Value};
+use arrayvec::ArrayString;
+use json::{Invalid, Reader, Scratch, Token};
+use std::alloc::{AllocError, AllocFailed, Global};
+
+/// How deep arrays and objects may nest.
+const MAX_DEPTH: usize = 127;
+
+/// Why bytes are read as no value.
+#[derive(Clone, Copy, Debug, PartialEq, Eq, Drop)]
+pub enum Fault {
+    /// They are no JSON text, or one that nests deeper than 127 levels or has a number that is too large for a float.
+    NoJson,
+    OutOfMemory,
+}
+
+impl From<Invalid> for Fault {
+    ghost from_gives = { λ _ f. f ≡ NoJson };
+
+    fn from(_invalid: Invalid) -> Fault {
+        Fault::NoJson
+    }
+}
+
+impl From<AllocError> for Fault {
+    ghost from_gives = { λ _ f. f ≡ OutOfMemory };
+
+    fn from(_refused: AllocError) -> Fault {
+        Fault::OutOfMemory
+    }
+}
+
+impl<T: Drop> From<AllocFailed<T>> for Fault {
+    ghost from_gives = { λ _ f. f ≡ OutOfMemory };
+
+    fn from(_refused: AllocFailed<T>) -> Fault {
+        Fault::OutOfMemory
+    }
+}
+
+impl Value {
+    /// The value that the bytes are.
+    ///
+    /// # Errors
+    ///
+    /// `OutOfMemory` may come at any time. Else `NoJson` where the bytes are not UTF-8 or the text is no value.
+    pub fn from_slice(alloc: Global, bytes: &[u8]) -> Result<Value, Fault>
+        ensures ok { IfOk result (λ v. IsUtf8 bytes.now × (read_text bytes.now ≡ Some (view v))) }
+        ensures err { result ≡ Err Fault.NoJson → IsUtf8 bytes.now → read_text bytes.now ≡ None }
+    {
+        match simdutf8::compat::from_utf8(bytes) {
+            Ok(text) => read_all(alloc, text, &mut Scratch::new(alloc)),
+            Err(_) => Err(Fault::NoJson),
+        }
+    }
+}
+
+fn read_all(alloc: Global, text: &str, scratch: &mut Scratch) -> Result<Value, Fault>
+    ensures ok { IfOk result (λ v. read_text text.now ≡ Some (view v)) }
+    ensures err { result ≡ Err Fault.NoJson → read_text text.now ≡ None }
+{
+    let mut reader = Reader::new(text, scratch)?;
+    let value = read(alloc, &mut reader, MAX_DEPTH)?;
+    if reader.next().is_some() {
+        return Err(Fault::NoJson);
+    }
+    Ok(value)
+}
+
+// An own copy of a text.
+fn text_of(alloc: Global, text: &str) -> Result<Value, AllocError>
+    ensures { IfOk result (λ v. view v ≡ string text.now) }
+{
+    match ArrayString::from(text) {
+        Ok(short) => Ok(Value::Short(Box::new(alloc, short)?)),
+        Err(_) => Ok(Value::Long(Box::new(alloc, String::from_str(alloc, text)?)?)),
+    }
+}
+
+// The next value of the reader. Arrays and objects may nest `depth` deep.
+#[cycle(read)]
+fn read(alloc: Global, reader: &mut Reader<'_>, depth: usize) -> Result<Value, Fault>
+    ensures ok { IfOk result
+        (λ v. converted of_json (value depth reader.old) ≡ Some (view v, reader.new)) }
+    ensures shorter { OnOk result (length reader.new < length reader.old) }
+    ensures err { result ≡ Err Fault.NoJson → converted of_json (value depth reader.old) ≡ None }
+{
+    let token = reader.next().ok_or(Fault::NoJson)?;
+    match token {
+        Token::String(text) => Ok(text_of(alloc, text)?),
+        Token::Number(text) => match number_of(text) {
+            Some(number) => Ok(number),
+            None => Err(Fault::NoJson),
+        },
+        Token::Bool(b) => Ok(Value::Bool(b)),
+        Token::Null => Ok(Value::Null),
+        Token::EndObject | Token::EndArray | Token::Key(_) | Token::Bad => Err(Fault::NoJson),
+        Token::BeginArray => {
+            if depth == 0 {
+                return Err(Fault::NoJson);
+            }
+            let items = read_items(alloc, reader, depth - 1)?;
+            Ok(Value::Array(Box::new(alloc, items)?))
+        }
+        Token::BeginObject => {
+            if depth == 0 {
+                return Err(Fault::NoJson);
+            }
+            let members = read_members(alloc, reader, depth - 1)?;
+            Ok(Value::Object(Box::new(alloc, members)?))
+        }
+    }
+}
+
+#[cycle(read)]
+fn read_items(alloc: Global, reader: &mut Reader<'_>, depth: usize) -> Result<Vec<Value>, Fault>
+    ensures ok { IfOk result
+        (λ v. converted of_items (items (value depth) (length reader.old) reader.old)
+        ≡ Some (items_view v.items, reader.new)) }
+    ensures shorter { OnOk result (length reader.new < length reader.old) }
+    ensures err { result ≡ Err Fault.NoJson
+        → converted of_items (items (value depth) (length reader.old) reader.old) ≡ None }
+{
+    let mut found = Vec::new(alloc);
+    'items: while !reader.take_end_array() {
+        let item = read(alloc, reader, depth)?;
+        found.push(item)?;
+    }
+    Ok(found)
+}
+
+// The members go in one after another, so the last value of a name stays.
+#[cycle(read)]
+fn read_members(
+    alloc: Global,
+    reader: &mut Reader<'_>,
+    depth: usize,
+) -> Result<Map<String, Value>, Fault>
+    ensures ok { IfOk result
+        (λ m. converted (λ ms. of_members ms no_members)
+        (members (value depth) (length reader.old) reader.old)
+        ≡ Some (members_view m.entries, reader.new)) }
+    ensures shorter { OnOk result (length reader.new < length reader.old) }
+    ensures err { result ≡ Err Fault.NoJson
+        → converted (λ ms. of_members ms no_members)
+        (members (value depth) (length reader.old) reader.old) ≡ None }
+{
+    let mut found = Map::new(alloc);
+    'members: while let Some(name) = reader.next_key()? {
+        let key = String::from_str(alloc, name)?;
+        let member = read(alloc, reader, depth)?;
+        drop(found.insert(key, member)?);
+    }
+    Ok(found)
+}
