@@ -39,9 +39,9 @@ pub(crate) fn answer_request(
     rt: &(impl Threads + Sync),
     alloc: Global,
     command: Command,
-    bytes: &[u8],
+    bytes: Vec<u8>,
 ) -> Result<Answer, OutOfMemory>
-    ensures { IfOk result (λ a. DueOfReading (request_of command bytes.now) a.status (string_bytes a.text)) }
+    ensures { IfOk result (λ a. DueOfReading (request_of command bytes.items) a.status (string_bytes a.text)) }
 {
     match command {
         Command::Join => answer_join(rt, alloc, bytes),
@@ -54,9 +54,9 @@ pub(crate) fn answer_request(
 fn answer_join(
     rt: &(impl Threads + Sync),
     alloc: Global,
-    bytes: &[u8],
+    bytes: Vec<u8>,
 ) -> Result<Answer, OutOfMemory>
-    ensures { IfOk result (λ a. DueOfReading (as_request join (join_request_of bytes.now)) a.status (string_bytes a.text)) }
+    ensures { IfOk result (λ a. DueOfReading (as_request join (join_request_of bytes.items)) a.status (string_bytes a.text)) }
 {
     match join_request_of(alloc, bytes) {
         Ok(request) => joined(rt, alloc, request),
@@ -64,8 +64,8 @@ fn answer_join(
     }
 }
 
-fn answer_unpivot(alloc: Global, bytes: &[u8]) -> Result<Answer, OutOfMemory>
-    ensures { IfOk result (λ a. DueOfReading (as_request unpivot (unpivot_request_of bytes.now)) a.status (string_bytes a.text)) }
+fn answer_unpivot(alloc: Global, bytes: Vec<u8>) -> Result<Answer, OutOfMemory>
+    ensures { IfOk result (λ a. DueOfReading (as_request unpivot (unpivot_request_of bytes.items)) a.status (string_bytes a.text)) }
 {
     match unpivot_request_of(alloc, bytes) {
         Ok(request) => made_long(alloc, request),
@@ -73,8 +73,8 @@ fn answer_unpivot(alloc: Global, bytes: &[u8]) -> Result<Answer, OutOfMemory>
     }
 }
 
-fn answer_dummies(alloc: Global, bytes: &[u8]) -> Result<Answer, OutOfMemory>
-    ensures { IfOk result (λ a. DueOfReading (as_request dummies (dummies_request_of bytes.now)) a.status (string_bytes a.text)) }
+fn answer_dummies(alloc: Global, bytes: Vec<u8>) -> Result<Answer, OutOfMemory>
+    ensures { IfOk result (λ a. DueOfReading (as_request dummies (dummies_request_of bytes.items)) a.status (string_bytes a.text)) }
 {
     match dummies_request_of(alloc, bytes) {
         Ok(request) => with_dummies(alloc, request),
@@ -82,8 +82,8 @@ fn answer_dummies(alloc: Global, bytes: &[u8]) -> Result<Answer, OutOfMemory>
     }
 }
 
-fn answer_pivot(alloc: Global, bytes: &[u8]) -> Result<Answer, OutOfMemory>
-    ensures { IfOk result (λ a. DueOfReading (as_request pivot (pivot_request_of bytes.now)) a.status (string_bytes a.text)) }
+fn answer_pivot(alloc: Global, bytes: Vec<u8>) -> Result<Answer, OutOfMemory>
+    ensures { IfOk result (λ a. DueOfReading (as_request pivot (pivot_request_of bytes.items)) a.status (string_bytes a.text)) }
 {
     match pivot_request_of(alloc, bytes) {
         Ok(request) => made_wide(alloc, request),
@@ -109,6 +109,9 @@ fn joined(
     } = request;
     let gate = &OpenGate;
     let outcome = left.join_traced(rt, alloc, &right, &left_on, &right_on, args, &exec, gate);
+    // The text of the answer is long, and needs none of what was joined.
+    drop(left);
+    drop(right);
     join_answered(alloc, trace, outcome)
 }
 

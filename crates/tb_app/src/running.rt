@@ -92,7 +92,7 @@ fn respond<S: Source>(
     ensures count { CountsReads (S.faults source.old) (S.faults source.new) result }
 {
     match read_request(alloc, source)? {
-        Input::Whole(bytes) => Ok(answer_request(rt, alloc, command, &bytes)?),
+        Input::Whole(bytes) => Ok(answer_request(rt, alloc, command, bytes)?),
         Input::TooLong => Ok(Answer {
             status: Status::TooLong,
             text: String::from_str(alloc, TOO_LONG)?,

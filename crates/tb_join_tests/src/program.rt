@@ -72,7 +72,7 @@ fn check_joins(
     tables: &str,
 ) -> Result<(), Fail> {
     let text = format!(in alloc; r#"{{"args":{{"how":"{how}","join_nulls":{nulls}}},{tables}}}"#)?;
-    let Ok(request) = join_request_of(alloc, text.as_bytes()) else {
+    let Ok(request) = join_request_of(alloc, text.as_bytes().to_vec(alloc)?) else {
         return Err("no request".into());
     };
     let slow = rows_of(alloc, by_nested_loops(alloc, &request, &request.args))?;
@@ -127,7 +127,7 @@ fn check_call(
 fn kinds_that_have_a_call(rt: HostRuntime) -> Result<(), Fail> {
     let alloc = rt.alloc();
     let text = format!(in alloc; r#"{{"args":{{"how":"inner"}},{BY_ONE_KEY}}}"#)?;
-    let Ok(request) = join_request_of(alloc, text.as_bytes()) else {
+    let Ok(request) = join_request_of(alloc, text.into_bytes()) else {
         return Err("no request".into());
     };
     for how in [JoinType::Inner, JoinType::Left, JoinType::Full] {

@@ -80,7 +80,7 @@ fn both_workers_enter_each_phase(rt: HostRuntime) -> Result<(), Fail> {
     let alloc = rt.alloc();
     for how in ["inner", "left", "right", "full", "semi", "anti"] {
         let text = format!(in alloc; r#"{{"args":{{"how":"{how}"}},{BY_TWO_WORKERS}}}"#)?;
-        let Ok(request) = join_request_of(alloc, text.as_bytes()) else {
+        let Ok(request) = join_request_of(alloc, text.into_bytes()) else {
             return Err("no request".into());
         };
         meet(&rt, alloc, request)?;

@@ -1,12 +1,13 @@
--- The values that `serde_json` lends, as the definitions see them.
-use Rattle.std.proofs.Common.{◌≡◌, ℕ, ◌+◌, ◌<◌, ◌≤◌, List, [], ◌∷◌, ◌++◌, map, length, get_or, drop, Option, Some, None, option_and_then, Bool, true, false, cond, String, Vec, Global, string_bytes, refl, sym, ap, ◌∙◌, arith}
+-- The values that a JSON value lends, as the definitions see them.
+use Rattle.std.proofs.Common.{◌≡◌, ℕ, ◌+◌, ◌<◌, ◌≤◌, List, [], ◌∷◌, ◌++◌, map, length, get_or, drop, Option, Some, None, option_map, option_and_then, Bool, true, false, cond, String, Vec, Global, string_bytes, refl, sym, ap, ◌∙◌, arith}
 use Rattle.std.proofs.lemmas.List.{get_or-map, length-map}
 use Rattle.std.specs.Map.{keys_of}
 use Rattle.serde_json.specs.Data.{Data, null, boolean, number, string, array, object, Items, Members}
 use Rattle.serde_json.specs.Find.{as_array, as_object}
-use Rattle.serde_json.specs.View.{view, items_of, items_view, members_view}
-use Rattle.serde_json.specs.declared.value.Value.{Value, Array}
-use Rattle.serde_json.proofs.Views.{Entry, view-Array}
+use Rattle.serde_json.specs.View.{items_of}
+use Rattle.tb_tree.specs.View.{view, items_view, members_view}
+use Rattle.tb_tree.specs.declared.value.Value.{Value}
+use Rattle.tb_tree.proofs.Views.{Entry}
 use Rattle.tb_json.specs.Lists.{each, list_from, as_list, list_of, is_among, are_among, has_only}
 use Rattle.tb_json.proofs.Walks.{EachSoFar, EachSoFar-more, EachSoFar-fails, EachSoFar-all, EachSoFar-start, EachSoFar-next, EachSoFar-stops, EachSoFar-end}
 
@@ -99,8 +100,9 @@ Taking-end g f all done [] none so_far = EachSoFar-end f (map g all) done so_far
 Taking-end g f all done (v ∷ rest) none so_far = absurd (omega (arith, none))
 
 -- the values that an array owns
-pub as_list-taken : (v : Value) (vs : Vec Value Global) → v ≡ Array vs → as_list (view v) ≡ Some (map view vs.items)
-as_list-taken v vs is = ap (λ w. as_list (view w)) is ∙ ap as_list (view-Array vs) ∙ ap Some (list_from-items_of (map view vs.items))
+pub as_list-taken : (d : Data) (o : Option (Vec Value Global)) → option_map (λ vs. items_view vs.items) o ≡ as_array d → option_map (λ vs. map view vs.items) o ≡ as_list d
+as_list-taken d None e = sym (as_list-other d e)
+as_list-taken d (Some vs) e = sym (as_list-array d vs.items e)
 
 -- each value that was taken out of an array, under f
 pub each_taken : {B : Type 0} (f : Data → Option B) (d : Data) (all vs : List Value) → Some (map view vs) ≡ as_list d → all ≡ vs → list_of f d ≡ each f (map view all)

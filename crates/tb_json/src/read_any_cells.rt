@@ -1,6 +1,6 @@
 //! Values of any type, read from JSON.
 ghost use Rattle.std.specs.Prelude.{◌≡◌, option_map, IfOk, IfSome};
-ghost use Rattle.serde_json.specs.View.{view, items_view};
+ghost use Rattle.tb_tree.specs.View.{view, items_view};
 ghost use Rattle.tb_value.specs.Datum.{items_of};
 ghost use Rattle.tb_value.specs.Kind.{parts_of};
 ghost use Rattle.tb_value.specs.See.{datum, data_of};
@@ -10,8 +10,8 @@ ghost use Rattle.tb_json.specs.Cells.{cell_in, items_in, row_in};
 
 use crate::read_plain_cells::{boolean_of, number_of, text_of};
 use crate::scalar::scalar_type;
-use serde_json::Value;
 use std::alloc::Global;
+use tb_tree::Value;
 use tb_value::{AnyValue, DataType, Fields, OutOfMemory, Values};
 
 /// The value that a JSON value stands for, or None where it is none of the type.
@@ -27,8 +27,9 @@ pub(crate) fn value_of(
     match value {
         Value::Null => Ok(Some(AnyValue::Null)),
         Value::Bool(b) => Ok(boolean_of(*b, dtype)),
-        Value::Number(number) => Ok(number_of(number, dtype)),
-        Value::String(text) => text_of(alloc, text.as_str(), dtype),
+        Value::Unsigned(_) | Value::Negative(_) | Value::Float(_) => Ok(number_of(value, dtype)),
+        Value::Short(text) => text_of(alloc, text.as_str(), dtype),
+        Value::Long(text) => text_of(alloc, text.as_str(), dtype),
         Value::Array(items) => match dtype {
             DataType::List(inner) => match each_value(alloc, items, inner)? {
                 Some(values) => Ok(Some(AnyValue::List(Values::from_vec(values)))),

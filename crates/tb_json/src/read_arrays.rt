@@ -2,7 +2,7 @@
 ghost use Rattle.std.specs.Prelude.{◌≡◌, map, replicate, option_map, IfOk, IfSome, is_some};
 ghost use Rattle.std.specs.List.{All, list_all};
 ghost use Rattle.serde_json.specs.Find.{as_null};
-ghost use Rattle.serde_json.specs.View.{view};
+ghost use Rattle.tb_tree.specs.View.{view};
 ghost use Rattle.tb_value.specs.Datum.{null, string, binary, list, struct, items_of};
 ghost use Rattle.tb_value.specs.Kind.{Kind};
 ghost use Rattle.tb_value.specs.Kind as kind;
@@ -17,12 +17,12 @@ ghost use Rattle.tb_json.specs.Lists.{each};
 ghost use Rattle.tb_json.specs.Cells.{cell_in};
 
 use crate::read_cell::ReadCell;
-use serde_json::Value;
 use std::alloc::Global;
 use tb_store::{
     BinaryChunk, Cells, Chunk, Chunks, FieldValues, ListChunk, Physical, Stored, StringChunk,
     StructChunk, physical_of,
 };
+use tb_tree::Value;
 use tb_value::{Bytes, DataType, OutOfMemory, PlSmallStr, Values};
 
 // A value that may be null.

@@ -2,7 +2,7 @@
 ghost use Rattle.std.specs.Prelude.{◌≡◌, ◌≢◌, option_map, option_and_then, IfOk, IfSome};
 ghost use Rattle.serde_json.specs.Data.{null};
 ghost use Rattle.serde_json.specs.Find.{as_number, as_integer};
-ghost use Rattle.serde_json.specs.View.{view};
+ghost use Rattle.tb_tree.specs.View.{view};
 ghost use Rattle.tb_value.specs.Datum.{list, struct, items_of};
 ghost use Rattle.tb_value.specs.Kind as kind;
 ghost use Rattle.tb_value.specs.Kind.{Kind, parts_of};
@@ -14,10 +14,10 @@ ghost use Rattle.tb_json.specs.Cells.{cell_in};
 use crate::read_any_cells::{each_value, row_of};
 use crate::read_plain_cells::{short_bytes, short_text};
 use crate::scalar::scalar_type;
-use serde_json::Value;
 use std::alloc::Global;
 use tb_label::whole_in;
 use tb_store::{Cell, FieldValues};
+use tb_tree::Value;
 use tb_value::{AnyValue, Bytes, DataType, Fields, OutOfMemory, PlSmallStr, Values};
 
 /// A value as a typed column stores it, read from JSON. `stored` is the type that it is stored as.
@@ -32,16 +32,6 @@ pub(crate) trait ReadCell: Cell {
         ensures typed { IfOk result (λ o. IfSome o (λ c. HasType (kind_of dtype.now) (Self.shows c))) };
 }
 
-// A whole number of at most 64 bits.
-fn whole(value: &Value) -> Option<i128>
-    ensures { result ≡ option_and_then as_integer (as_number (view value.now)) }
-{
-    match value.as_number() {
-        Some(number) => number.as_i128(),
-        None => None,
-    }
-}
-
 impl ReadCell for bool {
     ghost stored = { kind.boolean };
 
@@ -54,7 +44,7 @@ impl ReadCell for i8 {
     ghost stored = { kind.int8 };
 
     fn read(alloc: Global, dtype: &DataType, value: &Value) -> Result<Option<i8>, OutOfMemory> {
-        Ok(whole(value).and_then(|integer| i8::try_from(integer).ok()))
+        Ok(value.as_i128().and_then(|whole| i8::try_from(whole).ok()))
     }
 }
 
@@ -62,7 +52,7 @@ impl ReadCell for i16 {
     ghost stored = { kind.int16 };
 
     fn read(alloc: Global, dtype: &DataType, value: &Value) -> Result<Option<i16>, OutOfMemory> {
-        Ok(whole(value).and_then(|integer| i16::try_from(integer).ok()))
+        Ok(value.as_i128().and_then(|whole| i16::try_from(whole).ok()))
     }
 }
 
@@ -70,7 +60,7 @@ impl ReadCell for i32 {
     ghost stored = { kind.int32 };
 
     fn read(alloc: Global, dtype: &DataType, value: &Value) -> Result<Option<i32>, OutOfMemory> {
-        Ok(whole(value).and_then(|integer| i32::try_from(integer).ok()))
+        Ok(value.as_i128().and_then(|whole| i32::try_from(whole).ok()))
     }
 }
 
@@ -78,7 +68,7 @@ impl ReadCell for i64 {
     ghost stored = { kind.int64 };
 
     fn read(alloc: Global, dtype: &DataType, value: &Value) -> Result<Option<i64>, OutOfMemory> {
-        Ok(whole(value).and_then(|integer| i64::try_from(integer).ok()))
+        Ok(value.as_i128().and_then(|whole| i64::try_from(whole).ok()))
     }
 }
 
@@ -86,7 +76,7 @@ impl ReadCell for u8 {
     ghost stored = { kind.uint8 };
 
     fn read(alloc: Global, dtype: &DataType, value: &Value) -> Result<Option<u8>, OutOfMemory> {
-        Ok(whole(value).and_then(|integer| u8::try_from(integer).ok()))
+        Ok(value.as_i128().and_then(|whole| u8::try_from(whole).ok()))
     }
 }
 
@@ -94,7 +84,7 @@ impl ReadCell for u16 {
     ghost stored = { kind.uint16 };
 
     fn read(alloc: Global, dtype: &DataType, value: &Value) -> Result<Option<u16>, OutOfMemory> {
-        Ok(whole(value).and_then(|integer| u16::try_from(integer).ok()))
+        Ok(value.as_i128().and_then(|whole| u16::try_from(whole).ok()))
     }
 }
 
@@ -102,7 +92,7 @@ impl ReadCell for u32 {
     ghost stored = { kind.uint32 };
 
     fn read(alloc: Global, dtype: &DataType, value: &Value) -> Result<Option<u32>, OutOfMemory> {
-        Ok(whole(value).and_then(|integer| u32::try_from(integer).ok()))
+        Ok(value.as_i128().and_then(|whole| u32::try_from(whole).ok()))
     }
 }
 
@@ -110,7 +100,7 @@ impl ReadCell for u64 {
     ghost stored = { kind.uint64 };
 
     fn read(alloc: Global, dtype: &DataType, value: &Value) -> Result<Option<u64>, OutOfMemory> {
-        Ok(whole(value).and_then(|integer| u64::try_from(integer).ok()))
+        Ok(value.as_i128().and_then(|whole| u64::try_from(whole).ok()))
     }
 }
 

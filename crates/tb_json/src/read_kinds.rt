@@ -2,13 +2,13 @@
 ghost use Rattle.std.specs.Prelude.{◌≡◌, map, option_map, option_and_then, IfOk};
 ghost use Rattle.serde_json.specs.Data.{member, no_members};
 ghost use Rattle.serde_json.specs.Find.{as_str};
-ghost use Rattle.serde_json.specs.View.{view, items_view, members_view};
+ghost use Rattle.tb_tree.specs.View.{view, items_view, members_view};
 ghost use Rattle.tb_value.specs.Kind.{list, struct, parts_of};
 ghost use Rattle.tb_value.specs.SeeKind.{kind_of, part, parts};
 ghost use Rattle.tb_json.specs.Kinds.{number_kind, word_kind, unit_named, zone_in, datetime_in, duration_in, field_named, kind_in, members_kind, parts_in, each_part, part_in, members_part};
 
-use serde_json::{Map, Value};
 use std::alloc::Global;
+use tb_tree::{Map, Value};
 use tb_value::{DataType, Field, Fields, OutOfMemory, PlSmallStr, TimeUnit};
 
 fn number_type(word: &str) -> Option<DataType>
@@ -58,8 +58,9 @@ fn zone_of(alloc: Global, value: &Value) -> Result<Option<Option<PlSmallStr>>, O
 {
     match value {
         Value::Null => Ok(Some(None)),
-        Value::String(name) => Ok(Some(Some(PlSmallStr::from_str(alloc, name.as_str())?))),
-        Value::Bool(_) | Value::Number(_) | Value::Array(_) | Value::Object(_) => Ok(None),
+        Value::Short(name) => Ok(Some(Some(PlSmallStr::from_str(alloc, name.as_str())?))),
+        Value::Long(name) => Ok(Some(Some(PlSmallStr::from_str(alloc, name.as_str())?))),
+        _ => Ok(None),
     }
 }
 
@@ -133,9 +134,10 @@ pub fn type_of(alloc: Global, value: &Value) -> Result<Option<DataType>, OutOfMe
     ensures { IfOk result (λ o. option_map kind_of o ≡ kind_in (view value.now)) }
 {
     match value {
-        Value::String(word) => Ok(word_type(word.as_str())),
+        Value::Short(word) => Ok(word_type(word.as_str())),
+        Value::Long(word) => Ok(word_type(word.as_str())),
         Value::Object(members) => members_type(alloc, members),
-        Value::Null | Value::Bool(_) | Value::Number(_) | Value::Array(_) => Ok(None),
+        _ => Ok(None),
     }
 }
 

@@ -1,7 +1,8 @@
 //! Whole numbers, texts and bytes, read from JSON.
 ghost use Rattle.std.specs.Prelude.{◌≡◌, option_map, option_and_then, IfOk, IfSome};
 ghost use Rattle.std.specs.List.{list_all};
-ghost use Rattle.serde_json.specs.View.{number_view};
+ghost use Rattle.serde_json.specs.Find.{as_number};
+ghost use Rattle.tb_tree.specs.View.{view};
 ghost use Rattle.tb_value.specs.Datum.{int, string, binary};
 ghost use Rattle.tb_value.specs.Kind as kind;
 ghost use Rattle.tb_value.specs.See.{datum};
@@ -12,9 +13,9 @@ ghost use Rattle.tb_label.specs.Numerals.{whole_in};
 
 use crate::write_cells::is_wide;
 use hex::FromHexError;
-use serde_json::Number;
 use std::alloc::Global;
 use tb_label::whole_in;
+use tb_tree::Value;
 use tb_value::{AnyValue, Bytes, DataType, OutOfMemory, PlSmallStr, TOO_LONG};
 
 /// An own copy of a text, or None where the text is too long to be a value.
@@ -107,8 +108,8 @@ fn ranged(integer: i128, dtype: &DataType) -> Option<AnyValue>
 }
 
 /// The value that a number is, or None where it is none of the type.
-pub(crate) fn number_of(number: &Number, dtype: &DataType) -> Option<AnyValue>
-    ensures value { option_map datum result ≡ number_in (kind_of dtype.now) (number_view number.now) }
+pub(crate) fn number_of(number: &Value, dtype: &DataType) -> Option<AnyValue>
+    ensures value { option_map datum result ≡ option_and_then (number_in (kind_of dtype.now)) (as_number (view number.now)) }
     ensures typed { IfSome result (λ v. HasType (kind_of dtype.now) (datum v)) }
 {
     if is_wide(dtype) {

@@ -1,6 +1,6 @@
 -- What the program's values stand for.
 use Rattle.std.specs.Prelude.{map, option_map}
-use Rattle.serde_json.specs.View.{view}
+use Rattle.tb_tree.specs.View.{view}
 use Rattle.tb_value.specs.SeeKind.{kind_of}
 use Rattle.tb_pool.specs.ExecView.{ExecView}
 use Rattle.tb_chunk.specs.Col.{Col}

@@ -1,12 +1,12 @@
 //! The arguments of a join.
 ghost use Rattle.std.specs.Prelude.{◌≡◌, IfOk};
-ghost use Rattle.serde_json.specs.View.{view};
+ghost use Rattle.tb_tree.specs.View.{view};
 ghost use Rattle.tb_request.specs.Written.{how_named, validation_named, coalesce_named, order_named, how_of, validation_of, slice_in, slice_of, coalesce_of, order_of, args_of};
 
 use crate::members::{has_only, text_at, truth_at};
-use serde_json::Value;
 use std::alloc::Global;
 use tb_frame::{JoinArgs, JoinCoalesce, JoinType, JoinValidation, MaintainOrderJoin};
+use tb_tree::Value;
 use tb_value::OutOfMemory;
 
 fn how_named(text: &str) -> Option<JoinType>

@@ -1,12 +1,12 @@
 //! The members of an object.
 ghost use Rattle.std.specs.Prelude.{◌≡◌, codes, map, option_map, IfOk};
-ghost use Rattle.serde_json.specs.View.{view};
+ghost use Rattle.tb_tree.specs.View.{view};
 ghost use Rattle.serde_json.specs.Find.{as_str, get};
 ghost use Rattle.tb_json.specs.Lists.{as_list, is_among, has_only, list_of};
 ghost use Rattle.tb_request.specs.Written.{text_at, texts_at, texts_if_at, truth_at};
 
-use serde_json::Value;
 use std::alloc::Global;
+use tb_tree::Value;
 use tb_value::{OutOfMemory, PlSmallStr};
 
 fn is_among(name: &str, names: &[&str]) -> bool
@@ -114,20 +114,15 @@ pub(crate) fn texts_if_at(
 pub(crate) fn into_array(value: Value) -> Option<Vec<Value>>
     ensures { option_map (λ v. map view v.items) result ≡ as_list (view value) }
 {
-    match value {
-        Value::Array(items) => Some(items),
-        _ => None,
-    }
+    value.into_array()
 }
 
 /// The member of an object.
 pub(crate) fn into_member(object: Value, name: &str) -> Option<Value>
     ensures { option_map view result ≡ get name.now (view object) }
 {
-    match object {
-        Value::Object(mut members) => members.remove(name),
-        _ => None,
-    }
+    let mut members = object.into_object()?;
+    members.remove(name)
 }
 
 /// The members `left` and `right` of an object.
@@ -135,12 +130,10 @@ pub(crate) fn into_sides(object: Value) -> (Option<Value>, Option<Value>)
     ensures left { option_map view result.0 ≡ get (codes "left") (view object) }
     ensures right { option_map view result.1 ≡ get (codes "right") (view object) }
 {
-    match object {
-        Value::Object(mut members) => {
-            let left = members.remove("left");
-            let right = members.remove("right");
-            (left, right)
-        }
-        _ => (None, None),
-    }
+    let Some(mut members) = object.into_object() else {
+        return (None, None);
+    };
+    let left = members.remove("left");
+    let right = members.remove("right");
+    (left, right)
 }

@@ -1,14 +1,14 @@
 //! The members of a request with one table, before its values are read.
 ghost use Rattle.std.specs.Prelude.{◌≡◌, option_map, IfOk};
-ghost use Rattle.serde_json.specs.View.{view};
+ghost use Rattle.tb_tree.specs.View.{view};
 ghost use Rattle.tb_request.specs.Written.{agg_named, agg_of, dummies_of, pivot_of, unpivot_of};
 ghost use Rattle.tb_request.specs.Lent.{written_dummies, written_pivot, written_unpivot};
 
 use crate::members::{has_only, text_at, texts_at, texts_if_at, truth_at};
 use crate::shape::{WrittenColumn, table_at};
-use serde_json::Value;
 use std::alloc::Global;
 use tb_agg::Aggregate;
+use tb_tree::Value;
 use tb_value::{OutOfMemory, PlSmallStr};
 
 // A request to make a table long, whose values are not read yet.

@@ -1,6 +1,6 @@
 //! The requests that bytes are.
 ghost use Rattle.std.specs.Prelude.{◌≡◌, if◌then◌else◌, IfOk, IfErr, MatchResult, Ok, Some, None};
-ghost use Rattle.serde_json.specs.View.{view};
+ghost use Rattle.tb_tree.specs.View.{view};
 ghost use Rattle.tb_request.specs.Lent.{written_dummies, written_join, written_pivot, written_unpivot, exec_view};
 ghost use Rattle.tb_request.specs.Reading.{may_stand, value_of, dummies_in, join_in, pivot_in, unpivot_in, dummies_request_of, join_request_of, pivot_request_of, unpivot_request_of, dummies_view, pivot_view, request_view, unpivot_view, FaultIs};
 
@@ -11,9 +11,9 @@ use crate::request::{
 use crate::shape::{ExecNumbers, join_of};
 use crate::tables::{table_from, tables_of};
 use crate::values::columns_of;
-use serde_json::Value;
 use std::alloc::Global;
 use tb_pool::Exec;
+use tb_tree::{Fault, Value};
 
 fn exec_of(numbers: ExecNumbers) -> Option<Exec>
     ensures { result ≡ (if may_stand (exec_view numbers) then Some (exec_view numbers) else None) }
@@ -67,14 +67,18 @@ fn value_of(alloc: Global, bytes: &[u8]) -> Result<Value, RequestFault>
 {
     match Value::from_slice(alloc, bytes) {
         Ok(value) => Ok(value),
-        Err(error) => {
-            if error.is_memory() {
-                Err(RequestFault::OutOfMemory)
-            } else {
-                Err(RequestFault::NoRequest(Reason::Json))
-            }
-        }
+        Err(fault) => match fault {
+            Fault::OutOfMemory => Err(RequestFault::OutOfMemory),
+            Fault::NoJson => Err(RequestFault::NoRequest(Reason::Json)),
+        },
     }
+}
+
+// The same. The bytes are let go as soon as the value is made.
+fn value_in(alloc: Global, bytes: Vec<u8>) -> Result<Value, RequestFault>
+    ensures { MatchResult result (λ v. value_of bytes.items ≡ Ok (view v)) (λ e. FaultIs e (value_of bytes.items)) }
+{
+    value_of(alloc, &bytes)
 }
 
 #[tactic(auto, unfolding(crate::specs::Reading::unpivot_in))]
@@ -155,11 +159,11 @@ fn pivot_in(alloc: Global, value: Value) -> Result<PivotRequest, RequestFault>
 /// 6. `Name`: two columns of a table have one name.
 /// 7. `Flag`: a column is not in the order that `sorted` claims.
 #[tactic(auto, unfolding(crate::specs::Reading::join_request_of))]
-pub fn join_request_of(alloc: Global, bytes: &[u8]) -> Result<JoinRequest, RequestFault>
-    ensures { MatchResult result (λ q. join_request_of bytes.now ≡ Ok (request_view q))
-        (λ e. FaultIs e (join_request_of bytes.now)) }
+pub fn join_request_of(alloc: Global, bytes: Vec<u8>) -> Result<JoinRequest, RequestFault>
+    ensures { MatchResult result (λ q. join_request_of bytes.items ≡ Ok (request_view q))
+        (λ e. FaultIs e (join_request_of bytes.items)) }
 {
-    let value = value_of(alloc, bytes)?;
+    let value = value_in(alloc, bytes)?;
     join_in(alloc, value)
 }
 
@@ -173,11 +177,11 @@ pub fn join_request_of(alloc: Global, bytes: &[u8]) -> Result<JoinRequest, Reque
 /// `OutOfMemory` may come at any time. Else the first of these reasons of `join_request_of` that holds
 /// of the whole input: `Json`, `Shape`, `Value`, `Heights`, `Name`, `Flag`.
 #[tactic(auto, unfolding(crate::specs::Reading::unpivot_request_of))]
-pub fn unpivot_request_of(alloc: Global, bytes: &[u8]) -> Result<UnpivotRequest, RequestFault>
-    ensures { MatchResult result (λ q. unpivot_request_of bytes.now ≡ Ok (unpivot_view q))
-        (λ e. FaultIs e (unpivot_request_of bytes.now)) }
+pub fn unpivot_request_of(alloc: Global, bytes: Vec<u8>) -> Result<UnpivotRequest, RequestFault>
+    ensures { MatchResult result (λ q. unpivot_request_of bytes.items ≡ Ok (unpivot_view q))
+        (λ e. FaultIs e (unpivot_request_of bytes.items)) }
 {
-    let value = value_of(alloc, bytes)?;
+    let value = value_in(alloc, bytes)?;
     unpivot_in(alloc, value)
 }
 
@@ -190,11 +194,11 @@ pub fn unpivot_request_of(alloc: Global, bytes: &[u8]) -> Result<UnpivotRequest,
 ///
 /// As those of `unpivot_request_of`.
 #[tactic(auto, unfolding(crate::specs::Reading::dummies_request_of))]
-pub fn dummies_request_of(alloc: Global, bytes: &[u8]) -> Result<DummiesRequest, RequestFault>
-    ensures { MatchResult result (λ q. dummies_request_of bytes.now ≡ Ok (dummies_view q))
-        (λ e. FaultIs e (dummies_request_of bytes.now)) }
+pub fn dummies_request_of(alloc: Global, bytes: Vec<u8>) -> Result<DummiesRequest, RequestFault>
+    ensures { MatchResult result (λ q. dummies_request_of bytes.items ≡ Ok (dummies_view q))
+        (λ e. FaultIs e (dummies_request_of bytes.items)) }
 {
-    let value = value_of(alloc, bytes)?;
+    let value = value_in(alloc, bytes)?;
     dummies_in(alloc, value)
 }
 
@@ -208,10 +212,10 @@ pub fn dummies_request_of(alloc: Global, bytes: &[u8]) -> Result<DummiesRequest,
 ///
 /// As those of `unpivot_request_of`.
 #[tactic(auto, unfolding(crate::specs::Reading::pivot_request_of))]
-pub fn pivot_request_of(alloc: Global, bytes: &[u8]) -> Result<PivotRequest, RequestFault>
-    ensures { MatchResult result (λ q. pivot_request_of bytes.now ≡ Ok (pivot_view q))
-        (λ e. FaultIs e (pivot_request_of bytes.now)) }
+pub fn pivot_request_of(alloc: Global, bytes: Vec<u8>) -> Result<PivotRequest, RequestFault>
+    ensures { MatchResult result (λ q. pivot_request_of bytes.items ≡ Ok (pivot_view q))
+        (λ e. FaultIs e (pivot_request_of bytes.items)) }
 {
-    let value = value_of(alloc, bytes)?;
+    let value = value_in(alloc, bytes)?;
     pivot_in(alloc, value)
 }

@@ -1,7 +1,7 @@
 //! The members of a request, before its values are read.
 ghost use Rattle.std.specs.Prelude.{◌≡◌, codes, map, option_and_then, option_map, IfOk};
 ghost use Rattle.serde_json.specs.Find.{as_str, get};
-ghost use Rattle.serde_json.specs.View.{view};
+ghost use Rattle.tb_tree.specs.View.{view};
 ghost use Rattle.tb_json.specs.Kinds.{kind_in};
 ghost use Rattle.tb_json.specs.Lists.{as_list, list_of};
 ghost use Rattle.tb_value.specs.SeeKind.{kind_of};
@@ -10,10 +10,10 @@ ghost use Rattle.tb_request.specs.Lent.{written_view, exec_view, written_join};
 
 use crate::arguments::args_of;
 use crate::members::{has_only, into_array, into_member, into_sides, texts_at, truth_at};
-use serde_json::Value;
 use std::alloc::Global;
 use tb_frame::JoinArgs;
 use tb_json::type_of;
+use tb_tree::Value;
 use tb_value::{DataType, IsSorted, OutOfMemory, PlSmallStr};
 
 // A column whose values are not read yet, and the flag that is claimed of them.

@@ -1,4 +1,4 @@
-use Rattle.std.proofs.Common.{subst, sym}
+use Rattle.std.proofs.Common.{refl, subst, sym}
 use Rattle.tb_app.specs.declared.status.Status.TheVariants as status
 use Rattle.tb_app.specs.Reading.{WasRead}
 use Rattle.tb_app.specs.Due.{IsDue}
@@ -8,7 +8,7 @@ use Rattle.tb_app.proofs.running.respond.Goals as goal
 pub returns-in_ok-answer_request-in-Whole-clause-due : goal.returns-in_ok-answer_request-in-Whole-clause-due
 returns-in_ok-answer_request-in-Whole-clause-due g c =
     let read = subst (WasRead _ _) c.in-Whole.is c.in_ok-bytes.ensures.read in
-    whole_is_due _ _ _ _ _ _ _ read.0 read.1 read.2 c.deref.ensures.value c.in_ok-answer_request-in-Whole.ensures
+    whole_is_due _ _ _ _ _ _ _ read.0 read.1 read.2 refl c.in_ok-answer_request-in-Whole.ensures
 
 pub returns-in_ok-from_str-in-TooLong-clause-due : goal.returns-in_ok-from_str-in-TooLong-clause-due
 returns-in_ok-from_str-in-TooLong-clause-due g c =

@@ -1,7 +1,7 @@
 use Rattle.std.proofs.Common.{◌<◌, length, map, option_map, ◌∙◌, sym, ap, subst, arith}
 use Rattle.std.proofs.lemmas.List.{map_push, get_or-map, length-map, take_all}
 use Rattle.std.proofs.lemmas.List.Elements.{All-push}
-use Rattle.serde_json.specs.View.{view, items_view}
+use Rattle.tb_tree.specs.View.{view, items_view}
 use Rattle.tb_value.specs.Datum.{items_of}
 use Rattle.tb_value.specs.Kind.{Part, parts_of}
 use Rattle.tb_value.specs.See.{datum}

@@ -1,6 +1,6 @@
 use Rattle.std.proofs.Common.{map}
 use Rattle.std.specs.List.{All}
-use Rattle.serde_json.specs.View.{view}
+use Rattle.tb_tree.specs.View.{view}
 use Rattle.tb_value.specs.See.{datum}
 use Rattle.tb_value.specs.SeeKind.{kind_of, part}
 use Rattle.tb_value.specs.Typed.{HasType}

@@ -1,7 +1,7 @@
 use Rattle.std.proofs.Common.{map, option_map, ◌∙◌, sym, ap, arith}
 use Rattle.std.proofs.lemmas.List.{map_push}
 use Rattle.std.proofs.lemmas.List.Elements.{All-push}
-use Rattle.serde_json.specs.View.{view}
+use Rattle.tb_tree.specs.View.{view}
 use Rattle.tb_value.specs.Typed.{HasType}
 use Rattle.tb_chunk.specs.Chunk.{or_null}
 use Rattle.tb_json.specs.Lists.{each}

@@ -1,6 +1,6 @@
 use Rattle.std.proofs.Common.{map}
 use Rattle.std.specs.List.{All}
-use Rattle.serde_json.specs.View.{view}
+use Rattle.tb_tree.specs.View.{view}
 use Rattle.tb_value.specs.Typed.{HasType}
 use Rattle.tb_chunk.specs.Chunk.{or_null}
 use Rattle.tb_value.specs.SeeKind.{kind_of}

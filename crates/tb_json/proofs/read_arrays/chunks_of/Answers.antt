@@ -1,7 +1,7 @@
 use Rattle.std.proofs.Common.{map, option_map, ◌∙◌, sym, ap}
 use Rattle.std.proofs.lemmas.List.{map_push}
 use Rattle.std.proofs.lemmas.List.Elements.{All-append}
-use Rattle.serde_json.specs.View.{view}
+use Rattle.tb_tree.specs.View.{view}
 use Rattle.tb_value.specs.Typed.{HasType}
 use Rattle.tb_json.specs.Lists.{each}
 use Rattle.tb_json.proofs.Flat.{flat-push}

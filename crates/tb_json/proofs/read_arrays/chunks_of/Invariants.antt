@@ -1,5 +1,5 @@
 use Rattle.std.proofs.Common.{map}
-use Rattle.serde_json.specs.View.{view}
+use Rattle.tb_tree.specs.View.{view}
 use Rattle.tb_chunk.specs.Made.{IsTyped}
 use Rattle.tb_json.specs.Lists.{each}
 use Rattle.tb_value.specs.SeeKind.{kind_of}

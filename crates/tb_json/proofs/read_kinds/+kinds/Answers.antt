@@ -4,10 +4,11 @@ use Rattle.std.specs.Map.Iter.{TakesFirst}
 use Rattle.serde_json.specs.Data.{Data, Members, member, no_members}
 use Rattle.std.proofs.Common.{◌≡◌, ℕ, List, [], ◌∷◌, Option, Some, None, true, false, codes, refl, rules, tests, string_bytes, map, option_map, ◌∙◌, sym, ap, arith}
 use Rattle.std.proofs.lemmas.List.{map_push}
-use Rattle.serde_json.specs.View.{view, items_view, members_view}
+use Rattle.tb_tree.specs.View.{view, items_view, members_view}
 use Rattle.tb_value.specs.Kind.{parts_of}
 use Rattle.tb_value.specs.SeeKind.{part}
-use Rattle.tb_json.specs.Kinds.{part_in, members_part, field_named, kind_in, each_part}
+use Rattle.tb_tree.proofs.Views.{view-Object}
+use Rattle.tb_json.specs.Kinds.{part_in, members_part, members_kind, field_named, kind_in, each_part}
 use Rattle.tb_json.proofs.LentValues.{Walk-more, Walk-fails, Walk-all}
 use Rattle.tb_json.proofs.FieldWalks.{each_part-each}
 use Rattle.tb_json.proofs.read_kinds.+kinds.Goals as goal
@@ -43,3 +44,13 @@ members_field-returns t c =
     let second : bytes_eq (string_bytes c.in-Some-next.second.now) (codes "type") ≡ true = first_of (search (rules, tests), grind (arith, tests)) in
     let whole = two _ _ _ _ _ seen first second ∙ ap (λ k. field_named k (view c.in-Some.name.now)) (sym c.in_ok-dtype.ensures) in
     rw whole c.named.ensures
+
+pub type_of-returns-in-Object : goal.type_of-returns-in-Object
+type_of-returns-in-Object t c =
+    let seen = ap (λ v. kind_in (view v)) c.in-Object.is ∙ ap kind_in (view-Object c.in-Object.members) ∙ ap (λ m. members_kind (members_view m.entries)) (sym c.deref-in-Object.ensures) in
+    rw seen c.members_type.ensures
+
+pub field_of-returns-in-Object : goal.field_of-returns-in-Object
+field_of-returns-in-Object t c =
+    let seen = ap (λ v. part_in (view v)) c.in-Object.is ∙ ap part_in (view-Object c.in-Object.members) ∙ ap (λ m. members_part (members_view m.entries)) (sym c.deref.ensures) in
+    rw seen c.members_field.ensures

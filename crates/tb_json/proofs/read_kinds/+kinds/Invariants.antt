@@ -1,5 +1,5 @@
 use Rattle.std.proofs.Common.{map}
-use Rattle.serde_json.specs.View.{view}
+use Rattle.tb_tree.specs.View.{view}
 use Rattle.tb_value.specs.SeeKind.{part}
 use Rattle.tb_json.specs.Kinds.{part_in}
 use Rattle.tb_json.proofs.LentValues.{Walk}

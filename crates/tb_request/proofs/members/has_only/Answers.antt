@@ -1,5 +1,5 @@
 use Rattle.std.proofs.Common.{map}
-use Rattle.serde_json.specs.View.{view}
+use Rattle.tb_tree.specs.View.{view}
 use Rattle.tb_json.proofs.LentValues.{has_only-object}
 use Rattle.tb_request.proofs.members.has_only.Goals as goal
 

@@ -1,5 +1,5 @@
 use Rattle.std.proofs.Common.{◌∙◌, sym, arith}
-use Rattle.serde_json.specs.View.{view}
+use Rattle.tb_tree.specs.View.{view}
 use Rattle.serde_json.specs.Find.{as_str}
 use Rattle.tb_json.proofs.LentValues.{each_in, Walk-more, Walk-fails, Walk-all}
 use Rattle.tb_request.proofs.members.texts_of.Goals as goal

@@ -1,4 +1,4 @@
-use Rattle.serde_json.specs.View.{view}
+use Rattle.tb_tree.specs.View.{view}
 use Rattle.serde_json.specs.Find.{as_str}
 use Rattle.tb_json.proofs.LentValues.{Walk}
 use Rattle.tb_request.proofs.members.texts_of.Given as goal

@@ -1,5 +1,5 @@
 use Rattle.std.proofs.Common.{map}
-use Rattle.serde_json.specs.View.{view}
+use Rattle.tb_tree.specs.View.{view}
 use Rattle.tb_request.specs.Written.{column_of}
 use Rattle.tb_request.specs.Lent.{written_view}
 use Rattle.tb_json.proofs.LentValues.{Taking}
