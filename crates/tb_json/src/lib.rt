@@ -13,6 +13,7 @@ mod write_kinds;
 mod write_refusals;
 mod write_tables;
 
+pub use read_any_cells::value_of;
 pub use read_arrays::arrays_in;
 pub use read_kinds::type_of;
 pub use write_refusals::text_of_refusal;

@@ -16,7 +16,7 @@ use tb_value::{AnyValue, DataType, Fields, OutOfMemory, Values};
 
 /// The value that a JSON value stands for, or None where it is none of the type.
 #[cycle(any_cells)]
-pub(crate) fn value_of(
+pub fn value_of(
     alloc: Global,
     value: &Value,
     dtype: &DataType,
