@@ -1,0 +1,72 @@
+-- Walks over values, up to the first that is at fault.
+use Rattle.std.proofs.Common.{◌≡◌, ℕ, ◌+◌, ◌<◌, ◌≤◌, List, [], ◌∷◌, map, length, get_or, drop, Option, Some, None, String, Global, string_bytes, refl, sym, ap, ◌∙◌, arith, add-one, cond}
+use Rattle.std.proofs.Math.Seq.{drop-cons}
+use Rattle.std.proofs.lemmas.List.{get_or-map, length-map, length-drop}
+use Rattle.std.specs.Map.{keys_of}
+use Rattle.serde_json.specs.Data.{Data, null, boolean, number, string, array, object, Members}
+use Rattle.serde_json.specs.Find.{as_object}
+use Rattle.serde_json.specs.View.{view, members_view}
+use Rattle.serde_json.specs.declared.value.Value.{Value}
+use Rattle.serde_json.proofs.Views.{Entry}
+use Rattle.tb_value.specs.Names.{Name}
+use Rattle.tb_json.specs.Lists.{is_among}
+use Rattle.tb_why.specs.declared.spot.Step.TheVariants.{Index}
+use Rattle.tb_why.specs.Spots.{Spot, under, or_else, first_at}
+use Rattle.tb_why.specs.Members.{unknown_in, unknown_among}
+
+-- the first i values are not at fault
+abbrev pub Walk : (Data → Option Spot) → List Value → ℕ → Type 0
+Walk f vs i = first_at f 0 (map view vs) ≡ first_at f i (drop i (map view vs))
+
+-- the walk at the value in place i
+at_value : (f : Data → Option Spot) (vs : List Value) (i : ℕ) (v : Value) → i < length vs → v ≡ get_or vs i v → Walk f vs i
+    → first_at f 0 (map view vs) ≡ or_else (under (Index i) (f (view v))) (first_at f (i + 1) (drop (i + 1) (map view vs)))
+at_value f vs i v low is so_far =
+    let within : i < length (map view vs) = rw length-map low in
+    let same : get_or (map view vs) i (view v) ≡ view v = get_or-map view vs i v (view v) low ∙ ap view (sym is) in
+    so_far ∙ ap (first_at f i) (drop-cons (map view vs) i (view v) within) ∙ rw (same, add-one)
+
+pub Walk-next : (f : Data → Option Spot) (vs : List Value) (i : ℕ) (v : Value) → i < length vs → v ≡ get_or vs i v → f (view v) ≡ None → Walk f vs i → Walk f vs (i + 1)
+Walk-next f vs i v low is none so_far = at_value f vs i v low is so_far ∙ rw none
+
+pub Walk-found : (f : Data → Option Spot) (vs : List Value) (i : ℕ) (v : Value) (s : Spot) → i < length vs → v ≡ get_or vs i v → f (view v) ≡ Some s → Walk f vs i → under (Index i) (Some s) ≡ first_at f 0 (map view vs)
+Walk-found f vs i v s low is found so_far = sym (at_value f vs i v low is so_far ∙ rw found)
+
+nothing_left : (f : Data → Option Spot) (i : ℕ) (ds : List Data) → length ds ≡ 0 → None ≡ first_at f i ds
+nothing_left f i [] e = refl
+nothing_left f i (d ∷ ds) e = absurd (omega (arith, e))
+
+pub Walk-all : (f : Data → Option Spot) (vs : List Value) (i : ℕ) → length vs ≤ i → Walk f vs i → None ≡ first_at f 0 (map view vs)
+Walk-all f vs i past so_far = nothing_left f i (drop i (map view vs)) (let long = length-map vs view in let left = length-drop i (map view vs) in omega (arith, long, left)) ∙ sym so_far
+
+-- ---- members of other names
+
+abbrev pub unknown_from : List Name → List (String Global) → Option Name
+unknown_from names [] = None
+unknown_from names (k ∷ ks) = cond (is_among (string_bytes k) names) (unknown_from names ks) (Some (string_bytes k))
+
+unknown_among-members_view : (names : List Name) (es : List Entry) → unknown_among names (members_view es) ≡ unknown_from names (keys_of es)
+unknown_among-members_view names [] = refl
+unknown_among-members_view names (e ∷ es) = ap (λ o. cond (is_among (string_bytes e.0) names) o (Some (string_bytes e.0))) (unknown_among-members_view names es)
+
+some_parts : {A B : Type 0} (f : A → B) (x y : A) → Some x ≡ Some y → f x ≡ f y
+some_parts f x y e = cc
+
+unknown_in_members : (names : List Name) (d : Data) (ms : Members) → Some ms ≡ as_object d → unknown_in names d ≡ unknown_among names ms
+unknown_in_members names null ms e = cc
+unknown_in_members names (boolean b) ms e = cc
+unknown_in_members names (number n) ms e = cc
+unknown_in_members names (string s) ms e = cc
+unknown_in_members names (array es) ms e = cc
+unknown_in_members names (object ns) ms e = some_parts (unknown_among names) ns ms (sym e)
+
+pub unknown_in-object : (names : List Name) (d : Data) (es : List Entry) → Some (members_view es) ≡ as_object d → unknown_in names d ≡ unknown_from names (keys_of es)
+unknown_in-object names d es e = unknown_in_members names d (members_view es) e ∙ unknown_among-members_view names es
+
+pub unknown_in-other : (names : List Name) (d : Data) → None ≡ as_object d → None ≡ unknown_in names d
+unknown_in-other names null e = refl
+unknown_in-other names (boolean b) e = refl
+unknown_in-other names (number n) e = refl
+unknown_in-other names (string s) e = refl
+unknown_in-other names (array es) e = refl
+unknown_in-other names (object ns) e = cc

@@ -1,0 +1,11 @@
+use Rattle.std.proofs.Common.{◌≡◌, ◌*◌, ◌≤◌, List, length, map, take, sum_by}
+use Rattle.serde_json.specs.Data.{Data}
+use Rattle.serde_json.specs.View.{view}
+use Rattle.tb_why.specs.Columns.{items_of}
+use Rattle.tb_why.proofs.cells.count_at.Given as goal
+
+abbrev pub invariant-loop-chunk : goal.invariant-loop-chunk
+invariant-loop-chunk l = record {
+  counted : l.count ≡ sum_by (λ (c : List Data). length c) (map items_of (map view (take l.chunk-index l.chunks)));
+  low : l.count ≤ 18446744073709551616 * l.chunk-index;
+}

@@ -1,0 +1,4 @@
+pub mod Spots
+pub mod Members
+pub mod Columns
+pub mod Requests

@@ -1,0 +1,65 @@
+-- Why bytes are no request of a command, and where.
+use Rattle.std.specs.Prelude.{ℕ, List, [], Option, Some, None, unwrap_or, codes, Result, Ok, Err, ◌≡◌}
+use Rattle.serde_json.specs.Data.{Data}
+use Rattle.tb_request.specs.declared.request.Reason.{Reason}
+use Rattle.tb_request.specs.declared.request.Reason.TheVariants as why
+use Rattle.tb_request.specs.Reading.{join_request_of, unpivot_request_of, dummies_request_of, pivot_request_of, value_of}
+use Rattle.tb_why.specs.declared.spot.Command.{Command}
+use Rattle.tb_why.specs.declared.spot.Command.TheVariants as command
+use Rattle.tb_why.specs.declared.spot.Expected.TheVariants as expected
+use Rattle.tb_why.specs.declared.spot.Form.TheVariants as form
+use Rattle.tb_why.specs.declared.spot.Fault as rust
+use Rattle.tb_why.specs.declared.spot.Place.{Place}
+use Rattle.tb_why.specs.declared.spot.Place.TheVariants as place
+use Rattle.tb_why.specs.Spots.{Spot, or_else, inside}
+use Rattle.tb_why.specs.Members.{Known, members_spot, join_members, unpivot_members, dummies_members, pivot_members, args_members, exec_with}
+use Rattle.tb_why.specs.Columns.{table_spot}
+
+abbrev pub refusal : {A : Type 0} → Result A Reason → Option Reason
+refusal (Ok a) = None
+refusal (Err reason) = Some reason
+
+-- the reason why the bytes are no request of the command
+abbrev pub reason_of : Command → List ℕ → Option Reason
+reason_of command.Join bytes = refusal (join_request_of bytes)
+reason_of command.Unpivot bytes = refusal (unpivot_request_of bytes)
+reason_of command.Dummies bytes = refusal (dummies_request_of bytes)
+reason_of command.Pivot bytes = refusal (pivot_request_of bytes)
+
+abbrev pub members_of : Command → List Known
+members_of command.Join = join_members
+members_of command.Unpivot = unpivot_members
+members_of command.Dummies = dummies_members
+members_of command.Pivot = pivot_members
+
+abbrev pub exec_known : Reason → List Known
+exec_known why.Exec = exec_with form.Workers form.Divisor
+exec_known _ = exec_with form.Count form.Count
+
+-- the first of both tables
+abbrev pub sides_spot : Reason → Data → Option Spot
+sides_spot reason d = or_else (inside (codes "left") (table_spot reason) d) (inside (codes "right") (table_spot reason) d)
+
+-- the first that is at fault for the reason inside the members of a request
+abbrev pub parts_spot : Command → Reason → Data → Option Spot
+parts_spot command.Join reason d =
+    or_else (inside (codes "args") (members_spot args_members) d)
+    (or_else (inside (codes "exec") (members_spot (exec_known reason)) d) (sides_spot reason d))
+parts_spot _ reason d = inside (codes "table") (table_spot reason) d
+
+-- the first member, or part of one, that is at fault for the reason
+abbrev pub request_spot : Command → Reason → Data → Option Spot
+request_spot command reason d = or_else (members_spot (members_of command) d) (parts_spot command reason d)
+
+-- the same, and the whole where there is none
+abbrev pub spot_at : Command → Reason → Data → Spot
+spot_at command reason d = unwrap_or (request_spot command reason d) (record { path = []; expected = expected.Request })
+
+-- the place of a fault in a JSON value; in a text that is none it is free
+abbrev pub IsAt : Place → Spot → Type 0
+IsAt (place.Path steps) s = steps.items ≡ s.path
+IsAt (place.Text line column) s = ⊥
+
+-- where the bytes are the text of a JSON value, the fault is at the place in it
+abbrev pub IsPlaced : Command → List ℕ → rust.Fault → Type 0
+IsPlaced command bytes f = (d : Data) → value_of bytes ≡ Ok d → IsAt f.place (spot_at command f.reason d) × (f.expected ≡ (spot_at command f.reason d).expected)

@@ -1,0 +1,142 @@
+//! The forms of values.
+ghost use Rattle.std.specs.Prelude.{◌≡◌, is_some, IfOk};
+ghost use Rattle.std.specs.List.{list_all};
+ghost use Rattle.serde_json.specs.Find.{as_str};
+ghost use Rattle.serde_json.specs.View.{view};
+ghost use Rattle.tb_json.specs.Lists.{as_list};
+ghost use Rattle.tb_request.specs.Written.{how_named, validation_named, coalesce_named, order_named, flag_named, agg_named};
+ghost use Rattle.tb_why.specs.Members.{has_form, is_word};
+
+use crate::spot::{Form, Word};
+use crate::tree::{Tree, count, dtype, is_object, is_slice, is_truth, list, text};
+use std::alloc::Global;
+use tb_value::OutOfMemory;
+
+fn is_how(text: &str) -> bool
+    ensures { result ≡ is_some (how_named text.now) }
+{
+    matches!(text, "inner" | "left" | "right" | "full" | "semi" | "anti")
+}
+
+fn is_validation(text: &str) -> bool
+    ensures { result ≡ is_some (validation_named text.now) }
+{
+    matches!(text, "m:m" | "m:1" | "1:m" | "1:1")
+}
+
+fn is_coalesce(text: &str) -> bool
+    ensures { result ≡ is_some (coalesce_named text.now) }
+{
+    matches!(text, "specific" | "coalesce" | "keep")
+}
+
+fn is_order(text: &str) -> bool
+    ensures { result ≡ is_some (order_named text.now) }
+{
+    matches!(
+        text,
+        "none" | "left" | "right" | "left_right" | "right_left"
+    )
+}
+
+fn is_sorted(text: &str) -> bool
+    ensures { result ≡ is_some (flag_named text.now) }
+{
+    matches!(text, "ascending" | "descending")
+}
+
+fn is_aggregate(text: &str) -> bool
+    ensures { result ≡ is_some (agg_named text.now) }
+{
+    matches!(text, "first" | "sum" | "min" | "max" | "count" | "last")
+}
+
+fn is_word(word: Word, text: &str) -> bool
+    ensures { result ≡ is_word word text.now }
+{
+    match word {
+        Word::How => is_how(text),
+        Word::Validation => is_validation(text),
+        Word::Coalesce => is_coalesce(text),
+        Word::Order => is_order(text),
+        Word::Sorted => is_sorted(text),
+        Word::Aggregate => is_aggregate(text),
+    }
+}
+
+fn is_text_among(word: Word, value: &Tree) -> bool
+    ensures { result ≡ has_form (Form.Word word) (view value.now) }
+{
+    match text(value) {
+        Some(text) => is_word(word, text),
+        None => false,
+    }
+}
+
+fn all_texts(items: &[Tree]) -> bool
+    ensures { result ≡ list_all (λ v. is_some (as_str (view v))) items.now }
+{
+    items.iter().all(|item| text(item).is_some())
+}
+
+fn are_texts(value: &Tree) -> bool
+    ensures { result ≡ has_form Form.Texts (view value.now) }
+{
+    match list(value) {
+        Some(items) => all_texts(items),
+        None => false,
+    }
+}
+
+fn all_lists(items: &[Tree]) -> bool
+    ensures { result ≡ list_all (λ v. is_some (as_list (view v))) items.now }
+{
+    items.iter().all(|item| list(item).is_some())
+}
+
+fn are_lists(value: &Tree) -> bool
+    ensures { result ≡ has_form Form.Chunks (view value.now) }
+{
+    match list(value) {
+        Some(items) => all_lists(items),
+        None => false,
+    }
+}
+
+fn is_worker_count(value: &Tree) -> bool
+    ensures { result ≡ has_form Form.Workers (view value.now) }
+{
+    match count(value) {
+        Some(count) => 1 <= count && count <= 1024,
+        None => false,
+    }
+}
+
+fn is_divisor(value: &Tree) -> bool
+    ensures { result ≡ has_form Form.Divisor (view value.now) }
+{
+    match count(value) {
+        Some(count) => 1 <= count,
+        None => false,
+    }
+}
+
+/// Whether the value has the form.
+pub(crate) fn has_form(alloc: Global, form: Form, value: &Tree) -> Result<bool, OutOfMemory>
+    ensures { IfOk result (λ b. b ≡ has_form form (view value.now)) }
+{
+    match form {
+        Form::Object => Ok(is_object(value)),
+        Form::Values => Ok(list(value).is_some()),
+        Form::Chunks => Ok(are_lists(value)),
+        Form::Text => Ok(text(value).is_some()),
+        Form::Texts => Ok(are_texts(value)),
+        Form::Truth => Ok(is_truth(value)),
+        Form::Type => Ok(dtype(alloc, value)?.is_some()),
+        Form::Slice => Ok(is_slice(value)),
+        Form::Count => Ok(count(value).is_some()),
+        Form::Workers => Ok(is_worker_count(value)),
+        Form::Divisor => Ok(is_divisor(value)),
+        Form::Word(word) => Ok(is_text_among(word, value)),
+    }
+}

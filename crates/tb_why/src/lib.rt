@@ -1,0 +1,14 @@
+//! Where bytes are no request, and what is expected there.
+#![tactic(auto)]
+
+mod cells;
+mod columns;
+mod forms;
+mod members;
+mod names;
+mod spot;
+mod tree;
+mod why;
+
+pub use spot::{Command, Expected, Fault, Form, Place, Step, Word};
+pub use why::why_not;

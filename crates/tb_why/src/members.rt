@@ -1,0 +1,114 @@
+//! The members that objects of a request have.
+ghost use Rattle.std.specs.Prelude.{◌≡◌, option_map};
+ghost use Rattle.serde_json.specs.View.{view};
+ghost use Rattle.tb_json.specs.Lists.{is_among};
+ghost use Rattle.tb_why.specs.Members.{known_view, known_views, names_of, needed, optional, fault_of, each_known, unknown_spot, members_spot};
+ghost use Rattle.tb_why.specs.Spots.{spot_view, unless, Finds};
+
+use crate::forms::has_form;
+use crate::spot::{Expected, Form, Spot, here, under_member};
+use crate::tree::{Tree, is_object, member, unknown_in};
+use std::alloc::Global;
+use tb_value::OutOfMemory;
+
+/// A member that an object may have, or must.
+#[derive(Clone, Copy)]
+pub(crate) struct Known {
+    name: &'static str,
+    needed: bool,
+    form: Form,
+}
+
+/// A member that an object must have.
+pub(crate) fn needed(name: &'static str, form: Form) -> Known
+    ensures { known_view result ≡ needed name.now form }
+{
+    Known {
+        name,
+        needed: true,
+        form,
+    }
+}
+
+/// A member that an object may have.
+pub(crate) fn optional(name: &'static str, form: Form) -> Known
+    ensures { known_view result ≡ optional name.now form }
+{
+    Known {
+        name,
+        needed: false,
+        form,
+    }
+}
+
+/// Whether the name is that of one of the members.
+pub(crate) fn is_among(name: &str, known: &[Known]) -> bool
+    ensures { result ≡ is_among name.now (names_of (known_views known.now)) }
+{
+    for one in known {
+        if name == one.name {
+            return true;
+        }
+    }
+    false
+}
+
+/// What is expected, where it is not so.
+pub(crate) fn unless(alloc: Global, holds: bool, expected: Expected) -> Option<Spot>
+    ensures { option_map spot_view result ≡ unless holds expected }
+{
+    if holds {
+        None
+    } else {
+        Some(here(alloc, expected))
+    }
+}
+
+fn fault_of(alloc: Global, known: &Known, value: Option<&Tree>) -> Result<Option<Spot>, OutOfMemory>
+    ensures { Finds result (fault_of (known_view known.now) (option_map (λ v. view v.now) value.entry)) }
+{
+    match value {
+        Some(value) => {
+            let holds = has_form(alloc, known.form, value)?;
+            Ok(unless(alloc, holds, Expected::Form(known.form)))
+        }
+        None => Ok(unless(alloc, !known.needed, Expected::Wanting(known.form))),
+    }
+}
+
+fn each_known(alloc: Global, known: &[Known], object: &Tree) -> Result<Option<Spot>, OutOfMemory>
+    ensures { Finds result (each_known (known_views known.now) (view object.now)) }
+{
+    for one in known {
+        if let Some(spot) = fault_of(alloc, one, member(object, one.name))? {
+            return under_member(alloc, one.name, Some(spot));
+        }
+    }
+    Ok(None)
+}
+
+fn unknown_spot(alloc: Global, known: &[Known], object: &Tree) -> Result<Option<Spot>, OutOfMemory>
+    ensures { Finds result (unknown_spot (names_of (known_views known.now)) (view object.now)) }
+{
+    match unknown_in(object, known) {
+        Some(name) => under_member(alloc, name, Some(here(alloc, Expected::NoMember))),
+        None => Ok(None),
+    }
+}
+
+/// The first of its members that the object has not, or should not have, or that is of another form.
+pub(crate) fn members_spot(
+    alloc: Global,
+    known: &[Known],
+    object: &Tree,
+) -> Result<Option<Spot>, OutOfMemory>
+    ensures { Finds result (members_spot (known_views known.now) (view object.now)) }
+{
+    if !is_object(object) {
+        return Ok(Some(here(alloc, Expected::Form(Form::Object))));
+    }
+    match unknown_spot(alloc, known, object)? {
+        Some(spot) => Ok(Some(spot)),
+        None => each_known(alloc, known, object),
+    }
+}

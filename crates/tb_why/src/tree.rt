@@ -1,0 +1,182 @@
+//! The JSON values that requests are: all that is read of them is read here.
+ghost use Rattle.std.specs.Prelude.{◌≡◌, map, is_some, option_map, IfOk, IfSome, MatchResult, Ok, Err};
+ghost use Rattle.serde_json.specs.Find.{as_bool, as_object, as_str, get};
+ghost use Rattle.serde_json.specs.View.{view};
+ghost use Rattle.tb_value.specs.SeeKind.{kind_of};
+ghost use Rattle.tb_chunk.specs.Col.{physical};
+ghost use Rattle.tb_chunk.specs.Made.{IsTyped};
+ghost use Rattle.tb_chunk.specs.Seen.{chunk_lists, storage};
+ghost use Rattle.tb_json.specs.Cells.{cell_in};
+ghost use Rattle.tb_json.specs.Kinds.{kind_in};
+ghost use Rattle.tb_json.specs.Lists.{as_list, each};
+ghost use Rattle.tb_request.specs.declared.request.Reason.TheVariants.{Json};
+ghost use Rattle.tb_request.specs.Reading.{value_of};
+ghost use Rattle.tb_request.specs.Written.{count_of, slice_in};
+ghost use Rattle.tb_why.specs.Columns.{items_of, items_at, chunks_at};
+ghost use Rattle.tb_why.specs.Members.{known_views, names_of, unknown_in};
+
+use crate::members::{Known, is_among};
+use serde_json::Value;
+use std::alloc::Global;
+use tb_json::{arrays_in, type_of};
+use tb_store::Chunks;
+use tb_value::{DataType, OutOfMemory};
+
+/// The value of a JSON text.
+pub(crate) type Tree = Value;
+
+/// The line, counted from 1, and the column at which a text stops being JSON.
+#[derive(Clone, Copy)]
+pub(crate) struct TextPlace {
+    pub line: usize,
+    pub column: usize,
+}
+
+/// The value that the bytes are, or where they stop being the text of one.
+pub(crate) fn tree_of(alloc: Global, bytes: &[u8]) -> Result<Result<Tree, TextPlace>, OutOfMemory>
+    ensures { IfOk result (λ r. MatchResult r (λ v. value_of bytes.now ≡ Ok (view v)) (λ p. value_of bytes.now ≡ Err Json)) }
+{
+    match Value::from_slice(alloc, bytes) {
+        Ok(value) => Ok(Ok(value)),
+        Err(error) => {
+            if error.is_memory() {
+                return Err(OutOfMemory);
+            }
+            Ok(Err(TextPlace {
+                line: error.line(),
+                column: error.column(),
+            }))
+        }
+    }
+}
+
+/// The member of this name.
+pub(crate) fn member<'a>(object: &'a Tree, name: &str) -> Option<&'a Tree>
+    ensures { option_map (λ v. view v.now) result ≡ get name.now (view object.now) }
+{
+    object.get(name)
+}
+
+/// The text that the value is.
+pub(crate) fn text(value: &Tree) -> Option<&str>
+    ensures { option_map (λ s. s.now) result ≡ as_str (view value.now) }
+{
+    value.as_str()
+}
+
+/// The values of an array.
+pub(crate) fn list(value: &Tree) -> Option<&[Tree]>
+    ensures { option_map (λ s. map view s.now) result ≡ as_list (view value.now) }
+{
+    match value.as_array() {
+        Some(items) => Some(items.as_slice()),
+        None => None,
+    }
+}
+
+/// The same, and none where the value is no array.
+pub(crate) fn items(value: &Tree) -> &[Tree]
+    ensures { map view result.now ≡ items_of (view value.now) }
+{
+    list(value).unwrap_or(&[])
+}
+
+/// The values of a member that is an array, and none where it is none.
+pub(crate) fn items_at<'a>(object: &'a Tree, name: &str) -> &'a [Tree]
+    ensures { map view result.now ≡ items_at name.now (view object.now) }
+{
+    match member(object, name) {
+        Some(value) => items(value),
+        None => &[],
+    }
+}
+
+/// Whether the value is an object.
+pub(crate) fn is_object(value: &Tree) -> bool
+    ensures { result ≡ is_some (as_object (view value.now)) }
+{
+    value.is_object()
+}
+
+/// The first member of an object that is not of these names, in the order of the names.
+pub(crate) fn unknown_in<'a>(object: &'a Tree, known: &[Known]) -> Option<&'a str>
+    ensures { option_map (λ s. s.now) result ≡ unknown_in (names_of (known_views known.now)) (view object.now) }
+{
+    let members = object.as_object()?;
+    for name in members.keys() {
+        if !is_among(name.as_str(), known) {
+            return Some(name.as_str());
+        }
+    }
+    None
+}
+
+/// Whether the value is true or false.
+pub(crate) fn is_truth(value: &Tree) -> bool
+    ensures { result ≡ is_some (as_bool (view value.now)) }
+{
+    value.is_boolean()
+}
+
+/// The whole number below 2^32 that the value is.
+pub(crate) fn count(value: &Tree) -> Option<u64>
+    ensures { result ≡ count_of (view value.now) }
+{
+    let count = value.as_u64()?;
+    if count < 1 << 32 { Some(count) } else { None }
+}
+
+/// Whether the value is a list of an offset and a length.
+pub(crate) fn is_slice(value: &Tree) -> bool
+    ensures { result ≡ is_some (slice_in (view value.now)) }
+{
+    match list(value) {
+        Some(items) => items.len() == 2 && items[0].is_i64() && items[1].is_u64(),
+        None => false,
+    }
+}
+
+/// The type that the value is.
+pub(crate) fn dtype(alloc: Global, value: &Tree) -> Result<Option<DataType>, OutOfMemory>
+    ensures { IfOk result (λ o. option_map kind_of o ≡ kind_in (view value.now)) }
+{
+    type_of(alloc, value)
+}
+
+/// Whether the value is one of the type.
+pub(crate) fn is_cell(alloc: Global, dtype: &DataType, value: &Tree) -> Result<bool, OutOfMemory>
+    ensures { IfOk result (λ b. b ≡ is_some (cell_in (kind_of dtype.now) (view value.now))) }
+{
+    let chunk = vec![in alloc; value.clone()?]?;
+    let chunks = vec![in alloc; chunk]?;
+    Ok(arrays_in(alloc, dtype, &chunks)?.is_some())
+}
+
+// A copy of the values of an array, and none where the value is none.
+fn copy_of_items(alloc: Global, value: &Tree) -> Result<Vec<Value>, OutOfMemory>
+    ensures { IfOk result (λ v. map view v.items ≡ items_of (view value.now)) }
+{
+    match value.clone()? {
+        Value::Array(items) => Ok(items),
+        _ => Ok(Vec::new(alloc)),
+    }
+}
+
+/// The typed chunks of a column, or None where a value is none of the type.
+pub(crate) fn chunks_of(
+    alloc: Global,
+    dtype: &DataType,
+    column: &Tree,
+) -> Result<Option<Chunks>, OutOfMemory>
+    ensures chunks { IfOk result (λ o. option_map chunk_lists o
+        ≡ each (each (cell_in (kind_of dtype.now))) (chunks_at (view column.now))) }
+    ensures typed { IfOk result (λ o. IfSome o (λ c. IsTyped (kind_of dtype.now) (chunk_lists c))) }
+    ensures stored { IfOk result (λ o. IfSome o (λ c. storage c ≡ physical (kind_of dtype.now))) }
+{
+    let items = items_at(column, "chunks");
+    let mut chunks = Vec::with_capacity(alloc, items.len())?;
+    for item in items {
+        chunks.push(copy_of_items(alloc, item)?)?;
+    }
+    arrays_in(alloc, dtype, &chunks)
+}
