@@ -8,6 +8,8 @@ use std::alloc::{AllocError, Global};
 enum Takes {
     // A file, at its place among the words.
     File,
+    // One of these words, at its place among the words.
+    Place(&'static [&'static str]),
     // A file to write, which `-o` names too.
     Output,
     // One text, which this word stands for in the help.
@@ -215,7 +217,29 @@ const DUMMIES: Form = Form {
     shared: SHARED,
 };
 
-const FORMS: [Form; 4] = [JOIN, PIVOT, UNPIVOT, DUMMIES];
+const WHY: Form = Form {
+    name: "why",
+    about: "Tells whether a text is a request, or why not and where",
+    words: &[
+        Word(
+            "COMMAND",
+            Takes::Place(&["join", "unpivot", "dummies", "pivot"]),
+            "The command whose request it is to be",
+        ),
+        Word(
+            "REQUEST",
+            Takes::File,
+            "The request in JSON, or - for standard input",
+        ),
+    ],
+    shared: &[],
+};
+
+const FORMS: [Form; 5] = [JOIN, PIVOT, UNPIVOT, DUMMIES, WHY];
+
+fn placed_arg<'a>(alloc: Global, name: &'a str) -> Arg<'a> {
+    Arg::new(alloc, name).action(ArgAction::Set).required(true)
+}
 
 fn many<'a>(arg: Arg<'a>, value: &'a str) -> Arg<'a> {
     arg.value_name(value)
@@ -226,7 +250,8 @@ fn many<'a>(arg: Arg<'a>, value: &'a str) -> Arg<'a> {
 fn named_arg<'a>(alloc: Global, name: &'a str, takes: Takes) -> Arg<'a> {
     let arg = Arg::new(alloc, name).long(name).action(ArgAction::Set);
     match takes {
-        Takes::File => Arg::new(alloc, name).action(ArgAction::Set).required(true),
+        Takes::File => placed_arg(alloc, name),
+        Takes::Place(words) => placed_arg(alloc, name).value_parser(words),
         Takes::Output => arg.short('o').value_name("FILE"),
         Takes::Text(value) => arg.value_name(value),
         Takes::Hyphened(value) => arg.value_name(value).allow_hyphen_values(true),

@@ -3,9 +3,11 @@
 
 mod commands;
 mod failure;
+mod fault_sentence;
 mod files;
 mod running;
 mod sentences;
+mod why;
 mod words;
 
 use clap::error::ErrorKind;
@@ -17,6 +19,7 @@ use std::io::{self, Input};
 use std::process::ExitCode;
 use std::rt::Files;
 use std::thread::Threads;
+use why::tell_why;
 
 // The words that the program is called with, its name first.
 fn words_given<'a>(rt: &(impl Env + AllocGlobal)) -> Result<Vec<String>, Failure<'a>> {
@@ -67,8 +70,12 @@ fn run(
     let Some((name, matches)) = matches.subcommand() else {
         return 2;
     };
-    match run_command(rt, rt.alloc(), name, matches) {
-        Ok(()) => 0,
+    let done = match name {
+        "why" => tell_why(rt, rt.alloc(), matches),
+        _ => run_command(rt, rt.alloc(), name, matches).map(|_| 0),
+    };
+    match done {
+        Ok(status) => status,
         Err(failure) => told(rt, &failure),
     }
 }
