@@ -3,8 +3,8 @@ use Rattle.std.proofs.Common.{◌≡◌, List, [], ◌∷◌, map, Bool, ◌&&�
 use Rattle.std.specs.Prelude.{is_some, option_and_then, option_map}
 use Rattle.std.specs.List.{list_all}
 use Rattle.serde_json.specs.Data.{Data}
-use Rattle.serde_json.specs.View.{view}
-use Rattle.serde_json.specs.declared.value.Value.{Value}
+use Rattle.tb_tree.specs.View.{view}
+use Rattle.tb_tree.specs.declared.value.Value.{Value}
 use Rattle.tb_json.specs.Lists.{each, as_list, list_of}
 
 one_more : {B : Type 0} (o : Option B) (r : Option (List B)) (b : Bool) → is_some r ≡ b → is_some (option_and_then (λ y. option_map (λ ys. y ∷ ys) r) o) ≡ is_some o && b

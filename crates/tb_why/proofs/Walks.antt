@@ -5,9 +5,9 @@ use Rattle.std.proofs.lemmas.List.{get_or-map, length-map, length-drop}
 use Rattle.std.specs.Map.{keys_of}
 use Rattle.serde_json.specs.Data.{Data, null, boolean, number, string, array, object, Members}
 use Rattle.serde_json.specs.Find.{as_object}
-use Rattle.serde_json.specs.View.{view, members_view}
-use Rattle.serde_json.specs.declared.value.Value.{Value}
-use Rattle.serde_json.proofs.Views.{Entry}
+use Rattle.tb_tree.specs.View.{view, members_view}
+use Rattle.tb_tree.specs.declared.value.Value.{Value}
+use Rattle.tb_tree.proofs.Views.{Entry}
 use Rattle.tb_value.specs.Names.{Name}
 use Rattle.tb_json.specs.Lists.{is_among}
 use Rattle.tb_why.specs.declared.spot.Step.TheVariants.{Index}

@@ -1,6 +1,6 @@
 //! Values of columns that are none of the type.
 ghost use Rattle.std.specs.Prelude.{◌≡◌};
-ghost use Rattle.serde_json.specs.View.{view};
+ghost use Rattle.tb_tree.specs.View.{view};
 ghost use Rattle.tb_value.specs.SeeKind.{kind_of};
 ghost use Rattle.tb_why.specs.Columns.{value_expected, cell_spot, chunk_spot, chunks_spot, count_at, typed_spot, values_spot};
 ghost use Rattle.tb_why.specs.Spots.{Finds};

@@ -1,6 +1,6 @@
 //! Columns and tables that are at fault.
 ghost use Rattle.std.specs.Prelude.{◌≡◌, map, IfOk};
-ghost use Rattle.serde_json.specs.View.{view};
+ghost use Rattle.tb_tree.specs.View.{view};
 ghost use Rattle.tb_value.specs.SeeKind.{kind_of};
 ghost use Rattle.tb_chunk.specs.Col.{values};
 ghost use Rattle.tb_request.specs.Flags.{flag_holds};
@@ -13,11 +13,11 @@ use crate::cells::{count_at, values_spot};
 use crate::members::{members_spot, needed, optional, unless};
 use crate::names::name_spot;
 use crate::spot::{Expected, Form, Spot, Word, under_index, under_member};
-use crate::tree::{Tree, chunks_of, dtype, items_at, member, text};
+use crate::tree::{Tree, column_values, dtype, items_at, member, text};
 use std::alloc::Global;
 use tb_request::Reason;
 use tb_store::{Column, Series};
-use tb_value::{DataType, IsSorted, OutOfMemory, PlSmallStr, PolarsError};
+use tb_value::{DataType, IsSorted, OutOfMemory, PolarsError};
 
 fn shape_spot(alloc: Global, column: &Tree) -> Result<Option<Spot>, OutOfMemory>
     ensures { Finds result (members_spot column_members (view column.now)) }
@@ -73,10 +73,10 @@ fn is_ordered(
 ) -> Result<bool, OutOfMemory>
     ensures { IfOk result (λ b. b ≡ is_ordered flag (view column.now) (kind_of dtype)) }
 {
-    let Some(arrays) = chunks_of(alloc, &dtype, column)? else {
+    let Some(chunks) = column_values(alloc, &dtype, column)? else {
         return Ok(true);
     };
-    match Series::from_arrays(alloc, PlSmallStr::from_str(alloc, "")?, dtype, arrays) {
+    match Series::from_chunks(alloc, "", dtype, chunks) {
         Ok(series) => Ok(flag_holds(&series.into_column(), flag)),
         Err(PolarsError::OutOfMemory) => Err(OutOfMemory),
         Err(_) => Ok(true),

@@ -1,7 +1,7 @@
 //! Columns whose names other columns have.
 ghost use Rattle.std.specs.Prelude.{◌≡◌, length, map, IfOk};
 ghost use Rattle.std.specs.List.{find};
-ghost use Rattle.serde_json.specs.View.{view};
+ghost use Rattle.tb_tree.specs.View.{view};
 ghost use Rattle.tb_value.specs.Pairs.{row_numbers};
 ghost use Rattle.tb_frame.specs.Refusal.{repeats};
 ghost use Rattle.tb_why.specs.Columns.{name_at, name_spot};

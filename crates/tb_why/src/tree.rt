@@ -1,11 +1,10 @@
 //! The JSON values that requests are: all that is read of them is read here.
-ghost use Rattle.std.specs.Prelude.{◌≡◌, map, is_some, option_map, IfOk, IfSome, MatchResult, Ok, Err};
+ghost use Rattle.std.specs.Prelude.{◌≡◌, map, is_some, option_map, IfOk, MatchResult, Ok, Err};
 ghost use Rattle.serde_json.specs.Find.{as_bool, as_object, as_str, get};
-ghost use Rattle.serde_json.specs.View.{view};
+ghost use Rattle.tb_tree.specs.View.{view};
+ghost use Rattle.tb_value.specs.See.{data_of};
 ghost use Rattle.tb_value.specs.SeeKind.{kind_of};
-ghost use Rattle.tb_chunk.specs.Col.{physical};
-ghost use Rattle.tb_chunk.specs.Made.{IsTyped};
-ghost use Rattle.tb_chunk.specs.Seen.{chunk_lists, storage};
+ghost use Rattle.tb_chunk.specs.Made.{lists_of};
 ghost use Rattle.tb_json.specs.Cells.{cell_in};
 ghost use Rattle.tb_json.specs.Kinds.{kind_in};
 ghost use Rattle.tb_json.specs.Lists.{as_list, each};
@@ -16,11 +15,10 @@ ghost use Rattle.tb_why.specs.Columns.{items_of, items_at, chunks_at};
 ghost use Rattle.tb_why.specs.Members.{known_views, names_of, unknown_in};
 
 use crate::members::{Known, is_among};
-use serde_json::Value;
 use std::alloc::Global;
-use tb_json::{arrays_in, type_of};
-use tb_store::Chunks;
-use tb_value::{DataType, OutOfMemory};
+use tb_json::{type_of, value_of};
+use tb_tree::{Fault, Value};
+use tb_value::{AnyValue, DataType, OutOfMemory};
 
 /// The value of a JSON text.
 pub(crate) type Tree = Value;
@@ -32,21 +30,30 @@ pub(crate) struct TextPlace {
     pub column: usize,
 }
 
+// Where the bytes stop being a JSON text, as `serde_json` tells.
+fn place_of(alloc: Global, bytes: &[u8]) -> Result<TextPlace, OutOfMemory>
+    requires { value_of bytes.now ≡ Err Json }
+{
+    match serde_json::Value::from_slice(alloc, bytes) {
+        Ok(_) => unreachable!(),
+        Err(error) if error.is_memory() => Err(OutOfMemory),
+        Err(error) => Ok(TextPlace {
+            line: error.line(),
+            column: error.column(),
+        }),
+    }
+}
+
 /// The value that the bytes are, or where they stop being the text of one.
 pub(crate) fn tree_of(alloc: Global, bytes: &[u8]) -> Result<Result<Tree, TextPlace>, OutOfMemory>
     ensures { IfOk result (λ r. MatchResult r (λ v. value_of bytes.now ≡ Ok (view v)) (λ p. value_of bytes.now ≡ Err Json)) }
 {
     match Value::from_slice(alloc, bytes) {
         Ok(value) => Ok(Ok(value)),
-        Err(error) => {
-            if error.is_memory() {
-                return Err(OutOfMemory);
-            }
-            Ok(Err(TextPlace {
-                line: error.line(),
-                column: error.column(),
-            }))
-        }
+        Err(fault) => match fault {
+            Fault::OutOfMemory => Err(OutOfMemory),
+            Fault::NoJson => Ok(Err(place_of(alloc, bytes)?)),
+        },
     }
 }
 
@@ -95,7 +102,7 @@ pub(crate) fn items_at<'a>(object: &'a Tree, name: &str) -> &'a [Tree]
 pub(crate) fn is_object(value: &Tree) -> bool
     ensures { result ≡ is_some (as_object (view value.now)) }
 {
-    value.is_object()
+    value.as_object().is_some()
 }
 
 /// The first member of an object that is not of these names, in the order of the names.
@@ -115,7 +122,7 @@ pub(crate) fn unknown_in<'a>(object: &'a Tree, known: &[Known]) -> Option<&'a st
 pub(crate) fn is_truth(value: &Tree) -> bool
     ensures { result ≡ is_some (as_bool (view value.now)) }
 {
-    value.is_boolean()
+    value.as_bool().is_some()
 }
 
 /// The whole number below 2^32 that the value is.
@@ -131,7 +138,7 @@ pub(crate) fn is_slice(value: &Tree) -> bool
     ensures { result ≡ is_some (slice_in (view value.now)) }
 {
     match list(value) {
-        Some(items) => items.len() == 2 && items[0].is_i64() && items[1].is_u64(),
+        Some(items) => items.len() == 2 && items[0].as_i64().is_some() && items[1].as_u64().is_some(),
         None => false,
     }
 }
@@ -147,36 +154,45 @@ pub(crate) fn dtype(alloc: Global, value: &Tree) -> Result<Option<DataType>, Out
 pub(crate) fn is_cell(alloc: Global, dtype: &DataType, value: &Tree) -> Result<bool, OutOfMemory>
     ensures { IfOk result (λ b. b ≡ is_some (cell_in (kind_of dtype.now) (view value.now))) }
 {
-    let chunk = vec![in alloc; value.clone()?]?;
-    let chunks = vec![in alloc; chunk]?;
-    Ok(arrays_in(alloc, dtype, &chunks)?.is_some())
+    Ok(value_of(alloc, value, dtype)?.is_some())
 }
 
-// A copy of the values of an array, and none where the value is none.
-fn copy_of_items(alloc: Global, value: &Tree) -> Result<Vec<Value>, OutOfMemory>
-    ensures { IfOk result (λ v. map view v.items ≡ items_of (view value.now)) }
+// The values of a chunk, or None where one is none of the type.
+fn chunk_values(
+    alloc: Global,
+    dtype: &DataType,
+    chunk: &Tree,
+) -> Result<Option<Vec<AnyValue>>, OutOfMemory>
+    ensures { IfOk result (λ o. option_map (λ v. data_of v.items) o
+        ≡ each (cell_in (kind_of dtype.now)) (items_of (view chunk.now))) }
 {
-    match value.clone()? {
-        Value::Array(items) => Ok(items),
-        _ => Ok(Vec::new(alloc)),
+    let items = items(chunk);
+    let mut values = Vec::with_capacity(alloc, items.len())?;
+    for item in items {
+        let Some(value) = value_of(alloc, item, dtype)? else {
+            return Ok(None);
+        };
+        values.push(value)?;
     }
+    Ok(Some(values))
 }
 
-/// The typed chunks of a column, or None where a value is none of the type.
-pub(crate) fn chunks_of(
+/// The values of a column, chunk by chunk, or None where one is none of the type.
+pub(crate) fn column_values(
     alloc: Global,
     dtype: &DataType,
     column: &Tree,
-) -> Result<Option<Chunks>, OutOfMemory>
-    ensures chunks { IfOk result (λ o. option_map chunk_lists o
+) -> Result<Option<Vec<Vec<AnyValue>>>, OutOfMemory>
+    ensures { IfOk result (λ o. option_map (λ v. lists_of v.items) o
         ≡ each (each (cell_in (kind_of dtype.now))) (chunks_at (view column.now))) }
-    ensures typed { IfOk result (λ o. IfSome o (λ c. IsTyped (kind_of dtype.now) (chunk_lists c))) }
-    ensures stored { IfOk result (λ o. IfSome o (λ c. storage c ≡ physical (kind_of dtype.now))) }
 {
-    let items = items_at(column, "chunks");
-    let mut chunks = Vec::with_capacity(alloc, items.len())?;
-    for item in items {
-        chunks.push(copy_of_items(alloc, item)?)?;
+    let chunks = items_at(column, "chunks");
+    let mut lists = Vec::with_capacity(alloc, chunks.len())?;
+    for chunk in chunks {
+        let Some(values) = chunk_values(alloc, dtype, chunk)? else {
+            return Ok(None);
+        };
+        lists.push(values)?;
     }
-    arrays_in(alloc, dtype, &chunks)
+    Ok(Some(lists))
 }

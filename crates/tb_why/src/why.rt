@@ -1,6 +1,6 @@
 //! Why bytes are no request, and where.
 ghost use Rattle.std.specs.Prelude.{◌≡◌, codes, option_map, IfOk, IfSome};
-ghost use Rattle.serde_json.specs.View.{view};
+ghost use Rattle.tb_tree.specs.View.{view};
 ghost use Rattle.tb_request.specs.Reading.{dummies_request_of, join_request_of, pivot_request_of, unpivot_request_of};
 ghost use Rattle.tb_why.specs.Columns.{table_spot};
 ghost use Rattle.tb_why.specs.Members.{args_members, dummies_members, exec_with, join_members, members_spot, pivot_members, unpivot_members};
@@ -242,8 +242,8 @@ fn spot_at(
     }
 }
 
-fn join_reason(alloc: Global, bytes: &[u8]) -> Result<Option<Reason>, OutOfMemory>
-    ensures { IfOk result (λ o. o ≡ refusal (join_request_of bytes.now)) }
+fn join_reason(alloc: Global, bytes: Vec<u8>) -> Result<Option<Reason>, OutOfMemory>
+    ensures { IfOk result (λ o. o ≡ refusal (join_request_of bytes.items)) }
 {
     match join_request_of(alloc, bytes) {
         Ok(_) => Ok(None),
@@ -252,8 +252,8 @@ fn join_reason(alloc: Global, bytes: &[u8]) -> Result<Option<Reason>, OutOfMemor
     }
 }
 
-fn unpivot_reason(alloc: Global, bytes: &[u8]) -> Result<Option<Reason>, OutOfMemory>
-    ensures { IfOk result (λ o. o ≡ refusal (unpivot_request_of bytes.now)) }
+fn unpivot_reason(alloc: Global, bytes: Vec<u8>) -> Result<Option<Reason>, OutOfMemory>
+    ensures { IfOk result (λ o. o ≡ refusal (unpivot_request_of bytes.items)) }
 {
     match unpivot_request_of(alloc, bytes) {
         Ok(_) => Ok(None),
@@ -262,8 +262,8 @@ fn unpivot_reason(alloc: Global, bytes: &[u8]) -> Result<Option<Reason>, OutOfMe
     }
 }
 
-fn dummies_reason(alloc: Global, bytes: &[u8]) -> Result<Option<Reason>, OutOfMemory>
-    ensures { IfOk result (λ o. o ≡ refusal (dummies_request_of bytes.now)) }
+fn dummies_reason(alloc: Global, bytes: Vec<u8>) -> Result<Option<Reason>, OutOfMemory>
+    ensures { IfOk result (λ o. o ≡ refusal (dummies_request_of bytes.items)) }
 {
     match dummies_request_of(alloc, bytes) {
         Ok(_) => Ok(None),
@@ -272,8 +272,8 @@ fn dummies_reason(alloc: Global, bytes: &[u8]) -> Result<Option<Reason>, OutOfMe
     }
 }
 
-fn pivot_reason(alloc: Global, bytes: &[u8]) -> Result<Option<Reason>, OutOfMemory>
-    ensures { IfOk result (λ o. o ≡ refusal (pivot_request_of bytes.now)) }
+fn pivot_reason(alloc: Global, bytes: Vec<u8>) -> Result<Option<Reason>, OutOfMemory>
+    ensures { IfOk result (λ o. o ≡ refusal (pivot_request_of bytes.items)) }
 {
     match pivot_request_of(alloc, bytes) {
         Ok(_) => Ok(None),
@@ -282,8 +282,12 @@ fn pivot_reason(alloc: Global, bytes: &[u8]) -> Result<Option<Reason>, OutOfMemo
     }
 }
 
-fn reason_of(alloc: Global, command: Command, bytes: &[u8]) -> Result<Option<Reason>, OutOfMemory>
-    ensures { IfOk result (λ o. o ≡ reason_of command bytes.now) }
+fn reason_of(
+    alloc: Global,
+    command: Command,
+    bytes: Vec<u8>,
+) -> Result<Option<Reason>, OutOfMemory>
+    ensures { IfOk result (λ o. o ≡ reason_of command bytes.items) }
 {
     match command {
         Command::Join => join_reason(alloc, bytes),
@@ -339,7 +343,7 @@ pub fn why_not(alloc: Global, command: Command, bytes: &[u8]) -> Result<Option<F
     ensures reason { IfOk result (λ o. option_map (λ f. f.reason) o ≡ reason_of command bytes.now) }
     ensures place { IfOk result (λ o. IfSome o (λ f. IsPlaced command bytes.now f)) }
 {
-    match reason_of(alloc, command, bytes)? {
+    match reason_of(alloc, command, bytes.to_vec(alloc)?)? {
         Some(reason) => Ok(Some(fault_of(alloc, command, reason, bytes)?)),
         None => Ok(None),
     }

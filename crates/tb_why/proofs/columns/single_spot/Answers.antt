@@ -1,5 +1,5 @@
 use Rattle.std.proofs.Common.{map, option_map, ap, sym, subst, ◌∙◌}
-use Rattle.serde_json.specs.View.{view}
+use Rattle.tb_tree.specs.View.{view}
 use Rattle.tb_why.specs.Columns.{column_spot}
 use Rattle.tb_why.specs.Spots.{first_at, spot_view, Finds}
 use Rattle.tb_why.proofs.Walks.{Walk-next, Walk-found}

@@ -1,5 +1,5 @@
 use Rattle.std.proofs.Common.{◌≡◌, drop}
-use Rattle.serde_json.specs.View.{view}
+use Rattle.tb_tree.specs.View.{view}
 use Rattle.tb_why.specs.Members.{each_known, known_views}
 use Rattle.tb_why.proofs.members.each_known.Given as goal
 

@@ -1,5 +1,5 @@
 use Rattle.std.proofs.Common.{map, codes, sym, ap, subst, ◌∙◌}
-use Rattle.serde_json.specs.View.{view}
+use Rattle.tb_tree.specs.View.{view}
 use Rattle.tb_why.specs.declared.spot.Step.TheVariants.{Member, Index}
 use Rattle.tb_why.specs.Spots.{under, Finds}
 use Rattle.tb_why.proofs.Repeats.{name_spot_is}

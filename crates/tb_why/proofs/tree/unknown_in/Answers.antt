@@ -1,4 +1,4 @@
-use Rattle.serde_json.specs.View.{view}
+use Rattle.tb_tree.specs.View.{view}
 use Rattle.tb_why.specs.Members.{known_views, names_of}
 use Rattle.tb_why.proofs.Walks.{unknown_in-object}
 use Rattle.tb_why.proofs.tree.unknown_in.Goals as goal

@@ -1,5 +1,5 @@
 use Rattle.std.proofs.Common.{◌≡◌}
-use Rattle.serde_json.specs.View.{view}
+use Rattle.tb_tree.specs.View.{view}
 use Rattle.tb_why.specs.Members.{known_views, names_of, unknown_in}
 use Rattle.tb_why.proofs.Walks.{unknown_from}
 use Rattle.tb_why.proofs.tree.unknown_in.Given as goal

@@ -1,5 +1,5 @@
 use Rattle.std.proofs.Common.{◌≡◌, refl, subst, List, [], ◌∷◌}
-use Rattle.serde_json.specs.View.{view}
+use Rattle.tb_tree.specs.View.{view}
 use Rattle.tb_why.specs.Members.{Known, known_view, members_spot, args_members}
 use Rattle.tb_why.specs.Spots.{Finds}
 use Rattle.tb_why.proofs.Tests.{cons_is}
