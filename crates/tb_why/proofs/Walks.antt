@@ -13,6 +13,7 @@ use Rattle.tb_json.specs.Lists.{is_among}
 use Rattle.tb_why.specs.declared.spot.Step.TheVariants.{Index}
 use Rattle.tb_why.specs.Spots.{Spot, under, or_else, first_at}
 use Rattle.tb_why.specs.Members.{unknown_in, unknown_among}
+use Rattle.tb_why.specs.Columns.{items_of}
 
 -- the first i values are not at fault
 abbrev pub Walk : (Data → Option Spot) → List Value → ℕ → Type 0
@@ -70,3 +71,9 @@ unknown_in-other names (number n) e = refl
 unknown_in-other names (string s) e = refl
 unknown_in-other names (array es) e = refl
 unknown_in-other names (object ns) e = cc
+
+-- ---- chunks
+
+pub chunks-view : (vs : List Value) → map (λ v. items_of (view v)) vs ≡ map items_of (map view vs)
+chunks-view [] = refl
+chunks-view (v ∷ vs) = ap (λ chunks. items_of (view v) ∷ chunks) (chunks-view vs)

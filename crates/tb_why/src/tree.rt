@@ -1,10 +1,12 @@
 //! The JSON values that requests are: all that is read of them is read here.
-ghost use Rattle.std.specs.Prelude.{◌≡◌, map, is_some, option_map, IfOk, MatchResult, Ok, Err};
+ghost use Rattle.std.specs.Prelude.{◌≡◌, map, is_some, option_map, IfOk, IfSome, MatchResult, Ok, Err};
+ghost use Rattle.std.specs.List.{All};
 ghost use Rattle.serde_json.specs.Find.{as_bool, as_object, as_str, get};
 ghost use Rattle.tb_tree.specs.View.{view};
 ghost use Rattle.tb_value.specs.See.{data_of};
 ghost use Rattle.tb_value.specs.SeeKind.{kind_of};
-ghost use Rattle.tb_chunk.specs.Made.{lists_of};
+ghost use Rattle.tb_value.specs.Typed.{HasType};
+ghost use Rattle.tb_chunk.specs.Made.{lists_of, IsTyped};
 ghost use Rattle.tb_json.specs.Cells.{cell_in};
 ghost use Rattle.tb_json.specs.Kinds.{kind_in};
 ghost use Rattle.tb_json.specs.Lists.{as_list, each};
@@ -138,7 +140,9 @@ pub(crate) fn is_slice(value: &Tree) -> bool
     ensures { result ≡ is_some (slice_in (view value.now)) }
 {
     match list(value) {
-        Some(items) => items.len() == 2 && items[0].as_i64().is_some() && items[1].as_u64().is_some(),
+        Some(items) => items.len() == 2
+            && items[0].as_i64().is_some()
+            && items[1].as_u64().is_some(),
         None => false,
     }
 }
@@ -163,8 +167,9 @@ fn chunk_values(
     dtype: &DataType,
     chunk: &Tree,
 ) -> Result<Option<Vec<AnyValue>>, OutOfMemory>
-    ensures { IfOk result (λ o. option_map (λ v. data_of v.items) o
+    ensures values { IfOk result (λ o. option_map (λ v. data_of v.items) o
         ≡ each (cell_in (kind_of dtype.now)) (items_of (view chunk.now))) }
+    ensures typed { IfOk result (λ o. IfSome o (λ v. All (HasType (kind_of dtype.now)) (data_of v.items))) }
 {
     let items = items(chunk);
     let mut values = Vec::with_capacity(alloc, items.len())?;
@@ -183,8 +188,9 @@ pub(crate) fn column_values(
     dtype: &DataType,
     column: &Tree,
 ) -> Result<Option<Vec<Vec<AnyValue>>>, OutOfMemory>
-    ensures { IfOk result (λ o. option_map (λ v. lists_of v.items) o
+    ensures chunks { IfOk result (λ o. option_map (λ v. lists_of v.items) o
         ≡ each (each (cell_in (kind_of dtype.now))) (chunks_at (view column.now))) }
+    ensures typed { IfOk result (λ o. IfSome o (λ v. IsTyped (kind_of dtype.now) (lists_of v.items))) }
 {
     let chunks = items_at(column, "chunks");
     let mut lists = Vec::with_capacity(alloc, chunks.len())?;

@@ -282,11 +282,7 @@ fn pivot_reason(alloc: Global, bytes: Vec<u8>) -> Result<Option<Reason>, OutOfMe
     }
 }
 
-fn reason_of(
-    alloc: Global,
-    command: Command,
-    bytes: Vec<u8>,
-) -> Result<Option<Reason>, OutOfMemory>
+fn reason_of(alloc: Global, command: Command, bytes: Vec<u8>) -> Result<Option<Reason>, OutOfMemory>
     ensures { IfOk result (λ o. o ≡ reason_of command bytes.items) }
 {
     match command {

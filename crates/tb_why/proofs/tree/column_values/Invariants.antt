@@ -1,6 +1,6 @@
 use Rattle.tb_tree.specs.View.{view}
 use Rattle.tb_value.specs.SeeKind.{kind_of}
-use Rattle.tb_chunk.specs.Made.{lists_of}
+use Rattle.tb_chunk.specs.Made.{lists_of, IsTyped}
 use Rattle.tb_json.specs.Cells.{cell_in}
 use Rattle.tb_json.specs.Lists.{each}
 use Rattle.tb_json.proofs.LentValues.{Walk}
@@ -8,4 +8,7 @@ use Rattle.tb_why.specs.Columns.{items_of}
 use Rattle.tb_why.proofs.tree.column_values.Given as goal
 
 abbrev pub invariant-loop-chunk : goal.invariant-loop-chunk
-invariant-loop-chunk l = Walk (λ v. items_of (view v)) (each (cell_in (kind_of l.dtype))) l.chunks (lists_of l.lists.items) l.chunk-index
+invariant-loop-chunk l = record {
+  walked : Walk (λ v. items_of (view v)) (each (cell_in (kind_of l.dtype))) l.chunks (lists_of l.lists.items) l.chunk-index;
+  typed : IsTyped (kind_of l.dtype) (lists_of l.lists.items);
+}
