@@ -30,12 +30,12 @@ pub(crate) fn tell_why<'a>(
     match why_not(alloc, command_of(word), &text)? {
         Some(fault) => {
             let sentence = format!(in alloc; "not a request: {}\n", FaultSentence(&fault))?;
-            write_text(rt, None, sentence.as_bytes())?;
+            write_text(rt, alloc, None, sentence.as_bytes())?;
             Ok(3)
         }
         None => {
             let sentence = format!(in alloc; "a request of {word}\n")?;
-            write_text(rt, None, sentence.as_bytes())?;
+            write_text(rt, alloc, None, sentence.as_bytes())?;
             Ok(0)
         }
     }
