@@ -19,11 +19,11 @@ use Rattle.tb_value.specs.Kind.{Kind, Parts}
 use Rattle.tb_value.specs.Kind as kind
 use Rattle.tb_value.specs.Typed.{HasType, IsListOf, IsStructOf, ends}
 use Rattle.tb_label.specs.Numerals.{are_digits, fits, is_digit, is_counting, is_whole, whole_in}
-use Rattle.jiff_core.proofs.CalendarLemmas.{days_in_month_bounds}
-use Rattle.tb_csv.specs.Dates.{civil_text, date_text, day_of, has_text, month_of, year_of}
+use Rattle.tb_date.specs.Dates.{date_text, has_text, is_date, number_text}
 use Rattle.tb_csv.specs.Laws.{IsPlain}
-use Rattle.tb_csv.specs.Texts.{field_of, field_type, is_date, number_text}
-use Rattle.tb_csv.proofs.DatesBack.{date_back, split}
+use Rattle.tb_csv.specs.Texts.{field_of, field_type}
+use Rattle.tb_date.proofs.DateTexts.{date_is_text}
+use Rattle.tb_date.proofs.DatesBack.{date_back}
 use Rattle.tb_csv.specs.Types.{cell_value, field_value, is_within, kind_at, or_string, ranged}
 use Rattle.tb_csv.specs.declared.field_type.FieldType.{FieldType}
 use Rattle.tb_csv.specs.declared.field_type.FieldType.TheVariants as field
@@ -207,29 +207,8 @@ digits_text (pos n) h = is_utf8-from_IsUtf8 (decimal n) (IsUtf8-from_ascii (deci
 digits_text (negsuc n) h =
     is_utf8-from_IsUtf8 (45 ∷ decimal (suc n)) (IsUtf8-from_ascii (45 ∷ decimal (suc n)) (IsAscii-cons 45 (decimal (suc n)) (omega arith) (IsAscii-decimal_wide (suc n) (omega (arith, ints)))))
 
-ascii_four : (a b c d : ℕ) (rest : List ℕ) → a < 128 → b < 128 → c < 128 → d < 128 → IsAscii rest → IsAscii (a ∷ b ∷ c ∷ d ∷ rest)
-ascii_four a b c d rest la lb lc ld h =
-    IsAscii-cons a (b ∷ c ∷ d ∷ rest) la (IsAscii-cons b (c ∷ d ∷ rest) lb (IsAscii-cons c (d ∷ rest) lc (IsAscii-cons d rest ld h)))
-
-ascii_six : (a b c d e f : ℕ) → a < 128 → b < 128 → c < 128 → d < 128 → e < 128 → f < 128 → IsAscii (a ∷ b ∷ c ∷ d ∷ e ∷ f ∷ [])
-ascii_six a b c d e f la lb lc ld le lf =
-    ascii_four a b c d (e ∷ f ∷ []) la lb lc ld (IsAscii-cons e (f ∷ []) le (IsAscii-cons f [] lf (λ i. omega arith)))
-
--- what stands behind the year
-abbrev behind_year : ℕ → ℕ → List ℕ
-behind_year m d = 45 ∷ (48 + m / 10) ∷ (48 + m % 10) ∷ 45 ∷ (48 + d / 10) ∷ (48 + d % 10) ∷ []
-
-civil_is_text : (y m d : ℕ) → y < 10000 → m < 100 → d < 100 → is_utf8 (civil_text y m d) ≡ true
-civil_is_text y m d ly lm ld =
-    let behind = ascii_six 45 (48 + m / 10) (48 + m % 10) 45 (48 + d / 10) (48 + d % 10) (omega arith) (omega arith) (omega arith) (omega arith) (omega arith) (omega arith) in
-    let whole = ascii_four (48 + y / 100 / 10) (48 + y / 100 % 10) (48 + y % 100 / 10) (48 + y % 100 % 10) (behind_year m d) (omega arith) (omega arith) (omega arith) (omega arith) behind in
-    is_utf8-from_IsUtf8 (civil_text y m d) (IsUtf8-from_ascii (civil_text y m d) whole)
-
 day_is_text : (z : ℤ) (b : Bool) → has_text z ≡ b → IsBelow z → is_utf8 (if b then date_text z else signed_decimal z) ≡ true
-day_is_text z true e below =
-    let s = split z e in
-    let bound = (days_in_month_bounds (pos (year_of z)) (month_of z)).0 in
-    civil_is_text (year_of z) (month_of z) (day_of z) s.year_in (omega (arith, s.month_high)) (omega (arith, bound, s.day_high))
+day_is_text z true e below = is_utf8-from_IsUtf8 (date_text z) (date_is_text z e)
 day_is_text z false e below = digits_text z below
 
 number_is_text : (is_day : Bool) (z : ℤ) → IsBelow z → is_utf8 (number_text is_day z) ≡ true

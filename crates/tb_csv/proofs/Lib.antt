@@ -1,9 +1,5 @@
 pub mod Causes
 pub mod FieldWalks
-pub mod FirstFound
-pub mod CivilDays
-pub mod DateDigits
-pub mod DatesBack
 pub mod Left
 pub mod RecordWalks
 pub mod TextWalks

@@ -7,11 +7,11 @@ use Rattle.tb_value.specs.Kind.{Kind}
 use Rattle.tb_value.specs.Typed.{HasType}
 use Rattle.tb_value.specs.declared.limits.TheConstants.{MAX_ROWS}
 use Rattle.tb_frame.specs.Table.{IsTable, Table, TableColumn, height, names_of}
-use Rattle.tb_csv.specs.Dates.{has_text}
+use Rattle.tb_date.specs.Dates.{has_text, is_date}
 use Rattle.tb_csv.specs.Faults.{csv_refusal}
 use Rattle.tb_csv.specs.Records.{is_text, records_of}
 use Rattle.tb_csv.specs.Tables.{csv_table}
-use Rattle.tb_csv.specs.Texts.{csv_text, field_of, field_type, is_date, no_column, table_records, text_refusal}
+use Rattle.tb_csv.specs.Texts.{csv_text, field_of, field_type, no_column, table_records, text_refusal}
 use Rattle.tb_csv.specs.Types.{cell_value, or_string}
 use Rattle.tb_csv.specs.declared.options.TypeOf.{TypeOf}
 

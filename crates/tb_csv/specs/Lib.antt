@@ -1,4 +1,3 @@
-pub mod Dates
 pub mod Types
 pub mod Records
 pub mod Faults

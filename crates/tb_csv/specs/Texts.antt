@@ -1,6 +1,5 @@
 -- The text of a table.
-use Rattle.std.specs.Prelude.{ℕ, ℤ, List, [], ◌∷◌, ◌&&◌, map, slice_index_or, Bool, true, false, Option, Some, None, is_none, if◌then◌else◌}
-use Rattle.std.specs.Fmt.{signed_decimal}
+use Rattle.std.specs.Prelude.{ℕ, List, [], ◌∷◌, map, slice_index_or, Option, Some, None, is_none}
 use Rattle.std.specs.Option.{option_map}
 use Rattle.std.specs.List.{find, flat_map}
 use Rattle.csv.specs.Writing.{default_writer, row_text, with_delimiter}
@@ -11,7 +10,7 @@ use Rattle.tb_value.specs.Kind as kind
 use Rattle.tb_label.specs.Label.{value_text}
 use Rattle.tb_value.specs.Pairs.{row_numbers}
 use Rattle.tb_frame.specs.Table.{Table, TableColumn, height, names_of}
-use Rattle.tb_csv.specs.Dates.{date_text, has_text}
+use Rattle.tb_date.specs.Dates.{is_date, number_text}
 use Rattle.tb_csv.specs.Records.{Record}
 use Rattle.tb_csv.specs.Faults.{first_fault}
 use Rattle.tb_csv.specs.declared.fault.CsvFault.{CsvFault}
@@ -34,14 +33,6 @@ field_type kind.uint64 = Some field.UInt64
 field_type kind.string = Some field.String
 field_type kind.date = Some field.Date
 field_type _ = None
-
-abbrev pub is_date : Kind → Bool
-is_date kind.date = true
-is_date _ = false
-
--- a day of the years 0 to 9999 is written as its date, and each other number by its digits
-abbrev pub number_text : Bool → ℤ → List ℕ
-number_text is_day z = if is_day && has_text z then date_text z else signed_decimal z
 
 -- Null is an empty field, and each other value its text
 abbrev pub field_of : Kind → Datum → List ℕ

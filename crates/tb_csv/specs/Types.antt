@@ -8,7 +8,7 @@ use Rattle.tb_value.specs.Kind as kind
 use Rattle.tb_value.specs.Names.{Name, same_name}
 use Rattle.tb_value.specs.Typed.{ends}
 use Rattle.tb_label.specs.Numerals.{whole_in}
-use Rattle.tb_csv.specs.Dates.{date_in}
+use Rattle.tb_date.specs.Dates.{date_in}
 use Rattle.tb_csv.specs.declared.field_type.FieldType.{FieldType}
 use Rattle.tb_csv.specs.declared.field_type.FieldType.TheVariants as field
 use Rattle.tb_csv.specs.declared.options.TypeOf.{TypeOf}

@@ -7,9 +7,9 @@ ghost use Rattle.tb_value.specs.Typed.{HasType};
 ghost use Rattle.tb_chunk.specs.Col.{physical};
 ghost use Rattle.tb_csv.specs.Types.{field_value, kind_at, text_in, truth_in};
 
-use crate::dates::date_in;
 use crate::field_type::FieldType;
 use std::alloc::Global;
+use tb_date::date_in;
 use tb_label::whole_in;
 use tb_store::Cell;
 use tb_value::{OutOfMemory, PlSmallStr, TOO_LONG};

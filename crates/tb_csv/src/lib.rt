@@ -3,7 +3,6 @@
 
 mod cells;
 mod columns;
-mod dates;
 mod fault;
 mod field_type;
 mod fields;

@@ -11,14 +11,15 @@ ghost use Rattle.tb_value.specs.SeeKind.{kind_of};
 ghost use Rattle.tb_chunk.specs.Col.{Col, values};
 ghost use Rattle.tb_frame.specs.Table.{height, names_of, table_of};
 ghost use Rattle.tb_csv.specs.Faults.{Settles};
-ghost use Rattle.tb_csv.specs.Texts.{csv_text, field_of, field_type, is_date, number_text, records_text, row_fields, style, table_records, text_refusal};
+ghost use Rattle.tb_date.specs.Dates.{number_text};
+ghost use Rattle.tb_csv.specs.Texts.{csv_text, field_of, field_type, records_text, row_fields, style, table_records, text_refusal};
 ghost use Rattle.tb_csv.specs.Written.{HasWritten, IsPushed};
 
-use crate::dates::{date_text, dated};
 use crate::fault::CsvFault;
 use crate::field_type::FieldType;
 use csv::{ByteRecord, Writer, WriterBuilder};
 use std::alloc::Global;
+use tb_date::{date_text, dated, is_date};
 use tb_frame::DataFrame;
 use tb_label::truth_text;
 use tb_store::Column;
@@ -43,12 +44,6 @@ fn check_columns(alloc: Global, columns: &[Column]) -> Result<(), CsvFault>
         Some(column) => Err(CsvFault::NoText(column.name().copy(alloc)?)),
         None => Ok(()),
     }
-}
-
-fn is_date(dtype: &DataType) -> bool
-    ensures { result ≡ is_date (kind_of dtype.now) }
-{
-    matches!(dtype, DataType::Date)
 }
 
 // Appends the digits of a number.

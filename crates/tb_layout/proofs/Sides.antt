@@ -3,11 +3,13 @@ use Rattle.std.proofs.Common.{◌≡◌, ◌<◌, ◌+◌, ◌∷◌, ◌++◌, 
 use Rattle.std.specs.List.{All}
 use Rattle.std.proofs.Math.ListN as listn
 use Rattle.std.proofs.lemmas.List.{get_or-map, get_or_default, length-map, take_more}
+use Rattle.tb_value.specs.Datum.{Datum}
 use Rattle.tb_value.specs.Kind as kind
+use Rattle.tb_value.specs.Kind.{Kind}
 use Rattle.tb_value.specs.declared.sorted.IsSorted.TheVariants.{Not}
 use Rattle.tb_chunk.specs.Col.{Col, values}
 use Rattle.tb_frame.specs.Table.{TableColumn, height, plain, table_of}
-use Rattle.tb_layout.specs.Lines.{blanks, column_width, dashes_in, padded, side_by_side}
+use Rattle.tb_layout.specs.Lines.{blanks, cell_of, column_width, dashes_in, padded, side_by_side}
 
 sides_push : (f : TableColumn → List ℕ) (cs : List Col) (c : Col) → side_by_side f (table_of (cs ++ c ∷ [])) ≡ side_by_side f (table_of cs) ++ (f (plain c) ++ blanks 2)
 sides_push f [] c = append-nil (f (plain c) ++ blanks 2)
@@ -33,6 +35,9 @@ width_at line cs ws k c w are low is at =
 
 pub padded_same : (a b : Bool) (v w : ℕ) (s t : List ℕ) → a ≡ b → v ≡ w → s ≡ t → padded a v s ≡ padded b w t
 padded_same a b v w s t right wide same = ap (λ x. padded x v s) right ∙ ap (λ x. padded b x s) wide ∙ ap (λ x. padded b w x) same
+
+pub cell_same : (k l : Kind) (v w : Datum) → k ≡ l → v ≡ w → cell_of k v ≡ cell_of l w
+cell_same k l v w kinds values = ap (λ t. cell_of t v) kinds ∙ ap (cell_of l) values
 
 no_column : Col
 no_column = record { name = []; kind = kind.null; chunks = []; flag = Not }

@@ -2,20 +2,24 @@
 use Rattle.std.specs.Prelude.{ℕ, ◌-◌, ◌++◌, ◌∷◌, [], Bool, true, false, List, codes, map, max, min, replicate, slice_index_or}
 use Rattle.std.specs.List.{flat_map, fold}
 use Rattle.tb_value.specs.Datum.{Datum, null, int, binary, list, struct}
+use Rattle.tb_value.specs.Kind.{Kind}
 use Rattle.tb_value.specs.Pairs.{row_numbers}
 use Rattle.tb_label.specs.Label.{value_text}
+use Rattle.tb_date.specs.Dates.{is_date, number_text}
 use Rattle.tb_frame.specs.Table.{Table, TableColumn, height}
 use Rattle.tb_layout.specs.Characters.{cut, shown, trimmed, width_of}
 
--- Null is a word; of bytes, lists and structs nothing is shown but that they are there
-abbrev pub cell_text : Datum → List ℕ
-cell_text (binary s) = codes ".."
-cell_text (list vs) = codes ".."
-cell_text (struct vs) = codes ".."
-cell_text v = value_text v
+-- Null is a word, and a day its date; of bytes, lists and structs nothing is shown but that they are there
+abbrev pub cell_text : Kind → Datum → List ℕ
+cell_text k (int z) = number_text (is_date k) z
+cell_text k (binary s) = codes ".."
+cell_text k (list vs) = codes ".."
+cell_text k (struct vs) = codes ".."
+cell_text k v = value_text v
 
-abbrev pub cell_of : Datum → List ℕ
-cell_of v = shown (cell_text v)
+-- the characters by which a value of the type is shown
+abbrev pub cell_of : Kind → Datum → List ℕ
+cell_of k v = shown (cell_text k v)
 
 abbrev pub is_number : Datum → Bool
 is_number (int z) = true
@@ -23,7 +27,7 @@ is_number _ = false
 
 -- as wide as the widest of its name and its cells, or as the line where that is less
 abbrev pub column_width : ℕ → TableColumn → ℕ
-column_width line c = min line (fold (λ w v. max w (width_of (cell_of v))) (width_of (shown c.name)) c.values)
+column_width line c = min line (fold (λ w v. max w (width_of (cell_of c.kind v))) (width_of (shown c.name)) c.values)
 
 abbrev pub blanks : ℕ → List ℕ
 blanks n = replicate n 32
@@ -47,7 +51,7 @@ dashes_in line c = replicate (column_width line c) 45
 abbrev pub cell_in : ℕ → ℕ → TableColumn → List ℕ
 cell_in line i c =
     let v = slice_index_or c.values i null in
-    padded (is_number v) (column_width line c) (cell_of v)
+    padded (is_number v) (column_width line c) (cell_of c.kind v)
 
 -- the names, the dashes, and each row
 abbrev pub whole_lines : ℕ → Table → List (List ℕ)

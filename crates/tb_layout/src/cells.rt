@@ -1,20 +1,27 @@
 //! The cells of a table and the widths of its columns.
 ghost use Rattle.std.specs.Prelude.{◌≡◌, ◌++◌, IfOk, OnOk, map};
 ghost use Rattle.tb_value.specs.See.{lent, IsText};
+ghost use Rattle.tb_value.specs.SeeKind.{kind_of};
 ghost use Rattle.tb_frame.specs.Table.{plain, table_of};
 ghost use Rattle.tb_layout.specs.Lines.{blanks, cell_of, cell_text, column_width, is_number, padded};
 
 use crate::characters::{push_repeated, shown, width_within};
 use std::alloc::Global;
+use tb_date::{is_date, number_text};
 use tb_label::value_text;
 use tb_store::Column;
-use tb_value::{OutOfMemory, PlSmallStr, ValueRef};
+use tb_value::{DataType, OutOfMemory, PlSmallStr, ValueRef};
 
-fn cell_text(alloc: Global, value: ValueRef<'_>) -> Result<PlSmallStr, OutOfMemory>
+fn cell_text(
+    alloc: Global,
+    dtype: &DataType,
+    value: ValueRef<'_>,
+) -> Result<PlSmallStr, OutOfMemory>
     requires { IsText value }
-    ensures { IfOk result (λ s. s ≡ cell_text (lent value.entry)) }
+    ensures { IfOk result (λ s. s ≡ cell_text (kind_of dtype.now) (lent value.entry)) }
 {
     match value {
+        ValueRef::Int(number) => number_text(alloc, is_date(dtype), number),
         ValueRef::Binary(_) | ValueRef::List(_) | ValueRef::Struct(_) => {
             PlSmallStr::from_str(alloc, "..")
         }
@@ -22,12 +29,16 @@ fn cell_text(alloc: Global, value: ValueRef<'_>) -> Result<PlSmallStr, OutOfMemo
     }
 }
 
-/// The characters by which the value is shown.
-pub(crate) fn cell_of(alloc: Global, value: ValueRef<'_>) -> Result<Vec<char>, OutOfMemory>
+/// The characters by which the value of a column of this type is shown.
+pub(crate) fn cell_of(
+    alloc: Global,
+    dtype: &DataType,
+    value: ValueRef<'_>,
+) -> Result<Vec<char>, OutOfMemory>
     requires { IsText value }
-    ensures { IfOk result (λ v. v.items ≡ cell_of (lent value.entry)) }
+    ensures { IfOk result (λ v. v.items ≡ cell_of (kind_of dtype.now) (lent value.entry)) }
 {
-    let text = cell_text(alloc, value)?;
+    let text = cell_text(alloc, dtype, value)?;
     shown(alloc, text.as_str())
 }
 
@@ -65,7 +76,7 @@ fn column_width(alloc: Global, column: &Column, line: usize) -> Result<usize, Ou
     let name = shown(alloc, column.name().as_str())?;
     let mut widest = width_within(line, &name);
     for row in 0..column.len() {
-        let cell = cell_of(alloc, column.get(row))?;
+        let cell = cell_of(alloc, column.dtype(), column.get(row))?;
         widest = widest.max(width_within(line, &cell));
     }
     Ok(widest)

@@ -33,8 +33,8 @@ fn push_line(text: &mut String, line: &[char], width: usize) -> Result<(), OutOf
 /// The text of a table for a terminal that is `width` columns wide: a line of the names, a line of dashes, and a line for each
 /// row, each ended by a line feed.
 ///
-/// Columns are two blanks apart. Whole numbers, as dates and times are too, stand at the right of their column, all else at the
-/// left. A column is as wide as the widest of its name and values. A line that is wider than the terminal is cut between two
+/// Columns are two blanks apart. Whole numbers, dates and times stand at the right of their column, all else at the left. A day of
+/// the years 0 to 9999 is shown as its date, `YYYY-MM-DD`. A column is as wide as the widest of its name and values. A line that is wider than the terminal is cut between two
 /// characters; those of no width, such as combining ones, stay with the character before them. Blanks at the end of a line are
 /// left out. The width of a line is the sum of those of its characters, as the crate `unicode_width` tells them one by one.
 ///

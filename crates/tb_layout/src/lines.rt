@@ -42,8 +42,9 @@ pub(crate) fn row_line(alloc: Global, grid: &Grid<'_>, row: usize) -> Result<Vec
 {
     let mut text = Vec::new(alloc);
     for k in 0..grid.columns.len() {
-        let value = grid.columns[k].get(row);
-        let cell = cell_of(alloc, value)?;
+        let column = &grid.columns[k];
+        let value = column.get(row);
+        let cell = cell_of(alloc, column.dtype(), value)?;
         push_cell(&mut text, &cell, is_number(value), grid.widths[k])?;
     }
     Ok(text)

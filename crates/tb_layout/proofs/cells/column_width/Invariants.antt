@@ -6,4 +6,4 @@ use Rattle.tb_layout.specs.Lines.{cell_of}
 use Rattle.tb_layout.proofs.cells.column_width.Given as goal
 
 abbrev pub invariant-loop-row : goal.invariant-loop-row
-invariant-loop-row l = l.widest ≡ min l.line (fold (λ w v. max w (width_of (cell_of v))) (width_of (shown l.column.name)) (take l.row (values l.column)))
+invariant-loop-row l = l.widest ≡ min l.line (fold (λ w v. max w (width_of (cell_of l.column.kind v))) (width_of (shown l.column.name)) (take l.row (values l.column)))

@@ -3,9 +3,9 @@ use Rattle.std.specs.Int.{w128}
 use Rattle.jiff_core.specs.Calendar.{IsEpochDay}
 use Rattle.jiff_core.specs.Date.{epoch_day}
 use Rattle.jiff_core.proofs.SignedLemmas.{signed_arith}
-use Rattle.tb_csv.specs.Dates.{has_text}
-use Rattle.tb_csv.proofs.DatesBack.{early, late, outside}
-use Rattle.tb_csv.proofs.dates.dated.Goals as goal
+use Rattle.tb_date.specs.Dates.{has_text}
+use Rattle.tb_date.proofs.DatesBack.{early, late, outside}
+use Rattle.tb_date.proofs.dates.dated.Goals as goal
 
 fits : (z : ℤ) → IsEpochDay z → FitsSigned w64 z
 fits z h = omega (arith, signed_arith, h.0, h.1)

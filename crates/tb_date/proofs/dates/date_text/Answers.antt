@@ -1,8 +1,8 @@
 use Rattle.std.proofs.Common.{◌≡◌, ◌∙◌, rules, unsigned_abs, ap, refl}
 use Rattle.jiff_core.specs.Date.{epoch_day}
-use Rattle.tb_csv.specs.Dates.{day_of, month_of, year_of}
-use Rattle.tb_csv.proofs.DatesBack.{parts_of}
-use Rattle.tb_csv.proofs.dates.date_text.Goals as goal
+use Rattle.tb_date.specs.Dates.{day_of, month_of, year_of}
+use Rattle.tb_date.proofs.DatesBack.{parts_of}
+use Rattle.tb_date.proofs.dates.date_text.Goals as goal
 
 pub returns : goal.returns
 returns c =

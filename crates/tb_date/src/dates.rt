@@ -2,7 +2,7 @@
 ghost use Rattle.std.specs.Prelude.{◌≡◌, ◌^◌, ◌<◌, ◌≤◌, length, true, false, Some, IfSome, MatchOption};
 ghost use Rattle.jiff_core.specs.Calendar.{IsEpochDay};
 ghost use Rattle.jiff_core.specs.Date.{epoch_day};
-ghost use Rattle.tb_csv.specs.Dates.{civil_text, date_in, date_text, day_in, has_text, is_shaped, number_in, two_digits};
+ghost use Rattle.tb_date.specs.Dates.{civil_text, date_in, date_text, day_in, has_text, is_shaped, number_in, two_digits};
 
 use jiff_core::civil::Date;
 
@@ -43,7 +43,7 @@ fn civil_day(year: u16, month: u16, day: u16) -> Option<i32>
 }
 
 /// The day that a text is.
-pub(crate) fn date_in(text: &str) -> Option<i32>
+pub fn date_in(text: &str) -> Option<i32>
     ensures value { result ≡ date_in text.now }
     ensures within { IfSome result IsEpochDay }
 {
@@ -58,7 +58,7 @@ pub(crate) fn date_in(text: &str) -> Option<i32>
 }
 
 /// The date of a day that is written as its date, if it is one.
-pub(crate) fn dated(number: i128) -> Option<Date>
+pub fn dated(number: i128) -> Option<Date>
     ensures { MatchOption result (has_text number ≡ false) (λ d. (has_text number ≡ true) × (epoch_day d ≡ number)) }
 {
     let Ok(day) = i64::try_from(number) else {
@@ -78,7 +78,7 @@ fn two_digits(number: u16) -> [u8; 2]
 }
 
 /// The text of a date of a year from 0 on.
-pub(crate) fn date_text(date: Date) -> [u8; 10]
+pub fn date_text(date: Date) -> [u8; 10]
     requires { has_text (epoch_day date) ≡ true }
     ensures { result ≡ date_text (epoch_day date) }
 {

@@ -1,6 +1,6 @@
 use Rattle.std.proofs.Common.{rules, ◌≡◌, pos, w32, to_z, of_z}
-use Rattle.tb_csv.proofs.CivilDays.{day_of}
-use Rattle.tb_csv.proofs.dates.civil_day.Goals as goal
+use Rattle.tb_date.proofs.CivilDays.{day_of}
+use Rattle.tb_date.proofs.dates.civil_day.Goals as goal
 
 pub returns-in-Ok-clause-value : goal.returns-in-Ok-clause-value
 returns-in-Ok-clause-value c =

@@ -1,6 +1,9 @@
 -- Dates as texts, YYYY-MM-DD.
-use Rattle.std.specs.Prelude.{ℕ, zero, suc, ℤ, pos, ◌+◌, ◌-◌, ◌*◌, ◌/◌, ◌%◌, ◌==◌, ◌&&◌, ◌-ℤ◌, nat_le, int_le, int_lt, unsigned_abs, Bool, List, [], ◌∷◌, ◌++◌, drop, length, slice_index_or, take, Option, Some, None, if◌then◌else◌}
+use Rattle.std.specs.Prelude.{ℕ, zero, suc, ℤ, pos, ◌+◌, ◌-◌, ◌*◌, ◌/◌, ◌%◌, ◌==◌, ◌&&◌, ◌-ℤ◌, nat_le, int_le, int_lt, unsigned_abs, Bool, true, false, List, [], ◌∷◌, ◌++◌, drop, length, slice_index_or, take, Option, Some, None, if◌then◌else◌}
 use Rattle.std.specs.List.{fold, list_all}
+use Rattle.std.specs.Fmt.{signed_decimal}
+use Rattle.tb_value.specs.Kind.{Kind}
+use Rattle.tb_value.specs.Kind as kind
 use Rattle.tb_label.specs.Numerals.{is_digit}
 use Rattle.jiff_core.specs.Calendar.{days_from_civil, days_in_month}
 
@@ -55,3 +58,12 @@ civil_text y m d = two_digits (y / 100) ++ two_digits (y % 100) ++ 45 ∷ [] ++ 
 -- the text of a day that has one
 abbrev pub date_text : ℤ → List ℕ
 date_text z = civil_text (year_of z) (month_of z) (day_of z)
+
+-- the type is that of days
+abbrev pub is_date : Kind → Bool
+is_date kind.date = true
+is_date _ = false
+
+-- a day of the years 0 to 9999 is written as its date, and each other number by its digits
+abbrev pub number_text : Bool → ℤ → List ℕ
+number_text is_day z = if is_day && has_text z then date_text z else signed_decimal z

@@ -1,0 +1,5 @@
+pub mod FirstFound
+pub mod CivilDays
+pub mod DateDigits
+pub mod DatesBack
+pub mod DateTexts
