@@ -46,6 +46,12 @@ const NAME_SEPARATOR: Word = Word(
     "Between a name and a value [default: _]",
 );
 
+const OUTPUT: Word = Word(
+    "output",
+    Takes::Output,
+    "Where the answer goes, else standard output",
+);
+
 // What each command has that reads files and writes an answer.
 const SHARED: &[Word] = &[
     Word(
@@ -68,11 +74,7 @@ const SHARED: &[Word] = &[
         Takes::Text("COLUMNS"),
         "Columns of the lines of a table [default: 80]",
     ),
-    Word(
-        "output",
-        Takes::Output,
-        "Where the answer goes, else standard output",
-    ),
+    OUTPUT,
 ];
 
 const JOIN: Form = Form {
@@ -235,7 +237,18 @@ const WHY: Form = Form {
     shared: &[],
 };
 
-const FORMS: [Form; 5] = [JOIN, PIVOT, UNPIVOT, DUMMIES, WHY];
+const REQUEST: Form = Form {
+    name: "request",
+    about: "Makes an answer of the JSON program a table of a request",
+    words: &[Word(
+        "ANSWER",
+        Takes::File,
+        "The answer in JSON, or - for standard input",
+    )],
+    shared: &[OUTPUT],
+};
+
+const FORMS: [Form; 6] = [JOIN, PIVOT, UNPIVOT, DUMMIES, WHY, REQUEST];
 
 fn placed_arg<'a>(alloc: Global, name: &'a str) -> Arg<'a> {
     Arg::new(alloc, name).action(ArgAction::Set).required(true)

@@ -27,6 +27,8 @@ pub(crate) enum Failure<'a> {
     NotWords,
     /// The text of this file is no table.
     NoTable(&'a str, CsvFault),
+    /// The text of this file is no answer of the JSON program.
+    NoAnswer(&'a str),
     /// This file was not read.
     Reading(&'a str, io::Error),
     /// This file was not written.
@@ -47,7 +49,7 @@ impl Failure<'_> {
             | Failure::NoWidth(_)
             | Failure::OneInput
             | Failure::NotWords => 2,
-            Failure::NoTable(_, _) => 3,
+            Failure::NoTable(_, _) | Failure::NoAnswer(_) => 3,
             Failure::Reading(_, _) => 4,
             Failure::Writing(_, _) => 5,
             Failure::OutOfMemory => 6,
@@ -112,6 +114,9 @@ impl fmt::Display for Failure<'_> {
             Failure::OneInput => f.write_str("standard input can be one table only"),
             Failure::NotWords => f.write_str("a word is not UTF-8"),
             Failure::NoTable(file, fault) => write!(f, "{}: {}", title(file), CsvSentence(fault)),
+            Failure::NoAnswer(file) => {
+                write!(f, "{}: no answer of the JSON program", title(file))
+            }
             Failure::Reading(file, error) => write!(f, "{}: {error}", title(file)),
             Failure::Writing(file, error) => write!(f, "{}: {error}", output_title(file)),
             Failure::OutOfMemory => f.write_str("memory is wanting"),

@@ -5,6 +5,7 @@ mod commands;
 mod failure;
 mod fault_sentence;
 mod files;
+mod request;
 mod running;
 mod sentences;
 mod why;
@@ -13,6 +14,7 @@ mod words;
 use clap::error::ErrorKind;
 use commands::program;
 use failure::Failure;
+use request::make_request;
 use running::run_command;
 use std::env::{self, Env};
 use std::io::{self, Input};
@@ -72,6 +74,7 @@ fn run(
     };
     let done = match name {
         "why" => tell_why(rt, rt.alloc(), matches),
+        "request" => make_request(rt, rt.alloc(), matches).map(|_| 0),
         _ => run_command(rt, rt.alloc(), name, matches).map(|_| 0),
     };
     match done {
