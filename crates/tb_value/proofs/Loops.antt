@@ -3,6 +3,7 @@ use Rattle.std.proofs.Common.{◌≡◌, ℕ, Bool, true, false, cond, List, [],
 use Rattle.std.specs.Prelude.{filter, IsPermutation}
 use Rattle.std.specs.List.{flat_map}
 use Rattle.std.proofs.lemmas.List.{map-append}
+use Rattle.std.proofs.lemmas.List.Concat.{flat_map-append}
 use Rattle.std.proofs.lemmas.List.Sorted.{IsPermutation-refl, IsPermutation-trans, IsPermutation-append_comm, IsPermutation-append_left, IsPermutation-append_right}
 use Rattle.tb_value.specs.declared.index.JoinPair.{JoinPair}
 use Rattle.tb_value.specs.Pairs.{row_numbers, both, matched, turn}
@@ -27,6 +28,11 @@ zipped {X} {P} f g (x ∷ xs) =
 pub flat_map_none : {X P : Type 0} (xs : List X) → flat_map (λ (x : X). let none : List P = [] in none) xs ≡ []
 flat_map_none [] = refl
 flat_map_none (x ∷ xs) = flat_map_none xs
+
+-- a list of lists, each of which a function gives one after the other
+pub flat_map-flat_map : {X Y P : Type 0} (f : Y → List P) (g : X → List Y) (xs : List X) → flat_map (λ x. flat_map f (g x)) xs ≡ flat_map f (flat_map g xs)
+flat_map-flat_map f g [] = refl
+flat_map-flat_map f g (x ∷ xs) = ap (λ l. flat_map f (g x) ++ l) (flat_map-flat_map f g xs) ∙ sym (flat_map-append f (g x) (flat_map g xs))
 
 pub exchange : {X Y P : Type 0} (f : X → Y → List P) (xs : List X) (ys : List Y) → IsPermutation (flat_map (λ x. flat_map (f x) ys) xs) (flat_map (λ y. flat_map (λ x. f x y) xs) ys)
 exchange {X} {Y} {P} f [] ys = permuted [] [] (flat_map (λ (y : Y). flat_map (λ x. f x y) []) ys) (sym (flat_map_none ys)) (IsPermutation-refl [])

@@ -10,3 +10,6 @@ pub const TOO_LONG: usize = 4_294_967_296;
 /// The number of chunks from which on a column has too many for an id to name each of its rows: the greatest number of
 /// 24 bits stands for no chunk.
 pub const TOO_MANY_CHUNKS: usize = 16_777_215;
+
+/// The most bytes that a program takes from one file or stream.
+pub const MAX_INPUT: usize = 67_108_864;
