@@ -1,16 +1,14 @@
 -- The pairs of all portions, one portion more.
-use Rattle.std.proofs.Common.{◌≡◌, ℕ, ◌+◌, ◌-◌, ◌*◌, ◌/◌, ◌==◌, ◌<◌, ◌≤◌, Bool, true, false, cond, map, subst, List, [], ◌∷◌, ◌++◌, length, get_or, take, refl, sym, ap, ◌∙◌, arith, ℤ, length-append}
-use Rattle.std.specs.List.{flat_map, range_with_len}
+use Rattle.std.proofs.Common.{◌≡◌, ℕ, ◌+◌, ◌-◌, ◌*◌, ◌<◌, ◌≤◌, Bool, false, List, [], ◌∷◌, ◌++◌, length, get_or, take, sym, ap, ◌∙◌, arith, ℤ, length-append}
+use Rattle.std.specs.List.{flat_map}
 use Rattle.std.proofs.lemmas.List.{take_more}
 use Rattle.std.proofs.lemmas.List.Folds.{length-flat_map-take}
-use Rattle.std.proofs.lemmas.List.FromFn.{length-range_with_len, length-map-range_with_len, get_or-map-range_with_len}
-use Rattle.std.proofs.lemmas.List.Concat.{flat_map-append}
-use Rattle.std.specs.Prelude.{All}
-use Rattle.std.proofs.Math.Nat.{mul-le-mul_right, mul-div-le}
+use Rattle.std.proofs.lemmas.List.FromFn.{length-range_with_len}
+use Rattle.std.proofs.Math.Nat.{mul-le-mul_right}
 use Rattle.tb_value.specs.declared.index.JoinPair.{JoinPair}
 use Rattle.tb_value.specs.Pairs.{row_numbers}
-use Rattle.tb_pool.specs.Portions.{portion_of, places_of}
-use Rattle.tb_pool.proofs.Cover.{cover}
+use Rattle.tb_value.proofs.Loops.{flat_map-flat_map}
+use Rattle.tb_pool.specs.Portions.{places_of}
 use Rattle.tb_merge.specs.RowPairs.{row_pairs, rows_of, pairs_of, portion_pairs, portion_rows}
 use Rattle.tb_merge.proofs.Listings.{flat_more, listed_more}
 
@@ -71,42 +69,11 @@ times_fit i n r h = mul-le-mul_right r (omega arith)
 
 -- THE PORTIONS OF ALL LEFT ROWS
 
-flat_flat : {X Y Z : Type 0} (f : Y → List Z) (g : X → List Y) (xs : List X) → flat_map (λ x. flat_map f (g x)) xs ≡ flat_map f (flat_map g xs)
-flat_flat f g [] = refl
-flat_flat f g (x ∷ xs) = ap (λ l. flat_map f (g x) ++ l) (flat_flat f g xs) ∙ sym (flat_map-append f (g x) (flat_map g xs))
-
 -- portions that cover the left rows list the pairs of all left rows
 pub all_listed : (left right : List ℤ) (keep : Bool) (cuts : List (ℕ × ℕ)) → portion_rows cuts ≡ row_numbers (length left)
     → portion_pairs left right keep cuts ≡ pairs_of left right keep (row_numbers (length left))
 all_listed left right keep cuts e =
-    flat_flat (λ i. row_pairs keep i (rows_of left right i)) places_of cuts ∙ ap (pairs_of left right keep) e
-
-portion_fits : (len n i : ℕ) → i < n → (portion_of len n i).0 + (portion_of len n i).1 ≤ len
-portion_fits len n i low = at (i + 1 == n)
-  where
-    whole : n * (len / n) ≤ len
-    whole = mul-div-le len n
-
-    upto : (i + 1) * (len / n) ≤ n * (len / n)
-    upto = mul-le-mul_right (len / n) (omega arith)
-
-    at : (b : Bool) → i * (len / n) + cond b (len - i * (len / n)) (len / n) ≤ len
-    at true = let u = upto in let w = whole in omega (arith, u, w)
-    at false = let u = upto in let w = whole in omega (arith, u, w)
-
-pub portions_within : (len n : ℕ) (v : List (ℕ × ℕ)) → v ≡ map (portion_of len n) (range_with_len 0 n) → All (λ p. p.0 + p.1 ≤ len) v
-portions_within len n v e =
-    subst (λ (l : List (ℕ × ℕ)). All (λ p. p.0 + p.1 ≤ len) l) (sym e)
-    (λ i d low.
-    let low' : i < n = omega (arith, length-map-range_with_len (portion_of len n) 0 n) in
-    let is : get_or (map (portion_of len n) (range_with_len 0 n)) i d ≡ portion_of len n i = get_or-map-range_with_len (portion_of len n) 0 n i i d low' (omega arith) in
-    subst (λ (p : ℕ × ℕ). p.0 + p.1 ≤ len) (sym is) (portion_fits len n i low'))
-
-pub portions_count : (len n : ℕ) (v : List (ℕ × ℕ)) → v ≡ map (portion_of len n) (range_with_len 0 n) → length v ≡ n
-portions_count len n v e = ap (λ (l : List (ℕ × ℕ)). length l) e ∙ length-map-range_with_len (portion_of len n) 0 n
-
-pub portions_rows : (len n : ℕ) (v : List (ℕ × ℕ)) → 1 ≤ n → v ≡ map (portion_of len n) (range_with_len 0 n) → portion_rows v ≡ row_numbers len
-portions_rows len n v some e = ap portion_rows e ∙ cover len n some
+    flat_map-flat_map (λ i. row_pairs keep i (rows_of left right i)) places_of cuts ∙ ap (pairs_of left right keep) e
 
 -- portions of `len` rows are those of all l
 pub covered : (cuts items : List (ℕ × ℕ)) (len l : ℕ) → cuts ≡ items → portion_rows items ≡ row_numbers len → len ≡ l → portion_rows cuts ≡ row_numbers l

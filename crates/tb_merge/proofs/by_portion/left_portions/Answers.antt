@@ -2,8 +2,8 @@ use Rattle.std.proofs.Common.{◌≡◌, ◌+◌, ◌≤◌, length}
 use Rattle.std.specs.Prelude.{All}
 use Rattle.std.proofs.lemmas.Result.{IfOk-weaker}
 use Rattle.tb_value.specs.Pairs.{row_numbers}
+use Rattle.tb_pool.proofs.Cover.{portions_count, portions_within, portions_rows}
 use Rattle.tb_merge.specs.RowPairs.{portion_rows}
-use Rattle.tb_merge.proofs.Portions.{portions_count, portions_within, portions_rows}
 use Rattle.tb_merge.proofs.by_portion.left_portions.Goals as goal
 
 pub returns : goal.returns
