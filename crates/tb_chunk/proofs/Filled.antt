@@ -5,9 +5,9 @@ use Rattle.std.proofs.lemmas.List.{map_push}
 use Rattle.std.proofs.lemmas.List.Elements.{All-append, All-cons, All-nil}
 use Rattle.std.proofs.lemmas.List.Sums.{fold_push}
 use Rattle.tb_chunk.specs.Layout.{Filling, AreLaid, IsPut, IsRow, placed, filled, begun, all_of}
-use Rattle.tb_chunk.specs.View.{IsInline, buffer_of, offset_of, row_text, texts, IsViewOrNone}
+use Rattle.tb_chunk.specs.View.{buffer_of, offset_of, row_text, texts, IsViewOrNone}
 use Rattle.tb_chunk.specs.declared.view.View.{View}
-use Rattle.tb_chunk.proofs.Views.{IsView-last, IsView-short, Extend-further, Extend-last, rows-extend, rows-drop_last}
+use Rattle.tb_chunk.proofs.Views.{IsView-last, Extend-further, Extend-last, rows-extend, rows-drop_last}
 
 -- what the view of a text says that stands behind b in the buffer behind bs
 pub record IsBehind (bs : List (List ℕ)) (b t : List ℕ) (v : View) : Type 0 where
@@ -68,14 +68,3 @@ AreLaid-push s s' vs ts o w a r =
 pub rows-begun : (s : Filling) (vs : List (Option View)) → All (IsViewOrNone (all_of s)) vs → All (IsViewOrNone (begun s)) vs × (texts (begun s) vs ≡ texts (all_of s) vs)
 rows-begun (full, []) vs a = rows-drop_last full vs a
 rows-begun (full, b ∷ bs) vs a = (a, refl)
-
--- the view of a short text, with no buffer changed
-pub short_row : (t : List ℕ) (s : Filling) (v : View) → length t ≤ 12 → v.length ≡ length t → take (length t) v.rest ≡ t → IsInline v → IsRow (Some t) s s (Some v)
-short_row t s v h n e z =
-    let p = IsView-short (all_of s) t v h n e z in
-    record {
-      placed = grind arith;
-      kept = λ vs a. (a, refl);
-      view = p.0;
-      text = ap Some p.1;
-    }

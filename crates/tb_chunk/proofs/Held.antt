@@ -1,12 +1,8 @@
 -- Facts on buffers that stand among others.
-use Rattle.std.proofs.Common.{arith, ◌≡◌, ◌<◌, ◌+◌, ◌^◌, ◌++◌, ◌∷◌, [], ℕ, List, Option, inl, inr, length, map, get_or, refl, sym, ◌∙◌, ap, subst, length-append}
-use Rattle.std.specs.List.{All}
+use Rattle.std.proofs.Common.{arith, ◌≡◌, ◌<◌, ◌+◌, ◌^◌, ◌++◌, ◌∷◌, [], ℕ, List, inl, inr, length, get_or, refl, ◌∙◌, length-append}
 use Rattle.std.proofs.lemmas.Bool.{cases_lt}
-use Rattle.std.proofs.lemmas.List.{get_or_append_left, get_or-append-add, get_or_at, get_or-map, length-map, map_push}
-use Rattle.std.proofs.lemmas.List.Elements.{All-append, All-cons, All-nil}
+use Rattle.std.proofs.lemmas.List.{get_or_append_left, get_or-append-add, get_or_at}
 use Rattle.tb_chunk.specs.Held.{Holds, AreHeld}
-use Rattle.tb_chunk.specs.View.{row_text, texts, IsViewOrNone}
-use Rattle.tb_chunk.specs.declared.view.View.{View}
 
 -- further buffers change nothing of those that stand there
 Holds-more : (all more : List (List ℕ)) (b : ℕ) (bs : List (List ℕ)) → Holds all b bs → Holds (all ++ more) b bs
@@ -40,16 +36,3 @@ AreHeld-push all bases lists bs h few = record {
         rw (a, b) (Holds-last all bs)
   ];
 }
-
--- those of one of the chunks
-pub AreHeld-at : {X : Type 0} (f : X → List (List ℕ)) (all : List (List ℕ)) (bases : List ℕ) (xs : List X) (k : ℕ) (x : X) → AreHeld all bases (map f xs) → k < length xs → x ≡ get_or xs k x → Holds all (get_or bases k 0) (f x)
-AreHeld-at f all bases xs k x h low e =
-    let at : get_or (map f xs) k [] ≡ f x = get_or-map f xs k x [] low ∙ ap f (sym e) in
-    subst (λ bs. Holds all (get_or bases k 0) bs) at (h.each k (omega (arith, low, length-map xs f)))
-
--- one more row
-pub rows-push : (bs : List (List ℕ)) (vs : List (Option View)) (w : Option View) → All (IsViewOrNone bs) vs → IsViewOrNone bs w → All (IsViewOrNone bs) (vs ++ w ∷ [])
-rows-push bs vs w a f = All-append (IsViewOrNone bs) vs (w ∷ []) a (All-cons (IsViewOrNone bs) w [] f (All-nil (IsViewOrNone bs)))
-
-pub texts-push : (bs : List (List ℕ)) (vs : List (Option View)) (w : Option View) → texts bs (vs ++ w ∷ []) ≡ texts bs vs ++ row_text bs w ∷ []
-texts-push bs vs w = map_push (row_text bs) vs w

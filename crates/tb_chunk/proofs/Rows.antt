@@ -1,11 +1,11 @@
 -- Facts on the texts of rows.
-use Rattle.std.proofs.Common.{arith, suc, ◌≡◌, ◌<◌, ◌++◌, ◌∷◌, [], ℕ, false, List, Option, Some, None, length, map, get_or, refl, sym, ◌∙◌, ap, subst}
+use Rattle.std.proofs.Common.{arith, suc, ◌≡◌, ◌<◌, ◌∷◌, [], ℕ, false, List, Option, Some, None, length, map, get_or, refl, sym, ◌∙◌, ap, subst}
 use Rattle.std.specs.Prelude.{filter, is_none}
 use Rattle.std.specs.List.{All, count_by}
 use Rattle.std.specs.Str.{IsUtf8}
 use Rattle.std.proofs.lemmas.Str.{IsUtf8-from_is_utf8, is_utf8-from_IsUtf8}
 use Rattle.std.proofs.lemmas.List.Sums.{length-filter}
-use Rattle.std.proofs.lemmas.List.Elements.{All-append, All-cons, All-nil, All-head, All-tail, All-get_or}
+use Rattle.std.proofs.lemmas.List.Elements.{All-cons, All-nil, All-head, All-tail, All-get_or}
 use Rattle.tb_value.specs.Datum.{Datum, is_null, string, binary}
 use Rattle.tb_value.specs.Datum as value
 use Rattle.tb_value.specs.Kind as kind
@@ -64,10 +64,6 @@ utf8_of (value.struct vs) f = absurd f
 pub all_utf8 : (vs : List AnyValue) → All (Fits kind.string) (data_of vs) → All IsUtf8Row (map (λ v. text_of (datum v)) vs)
 all_utf8 [] a = All-nil IsUtf8Row
 all_utf8 (v ∷ vs) a = All-cons IsUtf8Row (text_of (datum v)) (map (λ x. text_of (datum x)) vs) (utf8_of (datum v) (All-head (Fits kind.string) (datum v) (data_of vs) a)) (all_utf8 vs (All-tail (Fits kind.string) (datum v) (data_of vs) a))
-
--- one more row
-pub utf8-push : (ts : List (Option (List ℕ))) (o : Option (List ℕ)) → All IsUtf8Row ts → IsUtf8Row o → All IsUtf8Row (ts ++ o ∷ [])
-utf8-push ts o a h = All-append IsUtf8Row ts (o ∷ []) a (All-cons IsUtf8Row o [] h (All-nil IsUtf8Row))
 
 pub utf8-at : (ts : List (Option (List ℕ))) (row : ℕ) → row < length ts → All IsUtf8Row ts → IsUtf8Row (get_or ts row None)
 utf8-at ts row low a = All-get_or IsUtf8Row ts row None low a

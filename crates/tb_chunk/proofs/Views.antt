@@ -4,7 +4,7 @@ use Rattle.std.specs.List.{All}
 use Rattle.std.proofs.lemmas.Bool.{cases_lt}
 use Rattle.std.proofs.lemmas.List.{take-take, drop-take, take_at, drop_at, take_all, get_or_at, get_or_append_left}
 use Rattle.std.proofs.lemmas.List.Elements.{All-head, All-tail, All-cons, All-nil}
-use Rattle.tb_chunk.specs.View.{buffer_of, offset_of, view_text, text_in, texts, IsInline, IsView, IsViewOrNone, LiesIn}
+use Rattle.tb_chunk.specs.View.{buffer_of, offset_of, view_text, text_in, texts, IsView, IsViewOrNone, LiesIn}
 use Rattle.tb_chunk.specs.declared.view.View.{View}
 
 -- each buffer begins as it did
@@ -86,10 +86,6 @@ IsView-last bs b t v h n e k o =
       grind (arith, p),
     )
 
--- the view of a short text
-pub IsView-short : (bs : List (List ℕ)) (t : List ℕ) (v : View) → length t ≤ 12 → v.length ≡ length t → take (length t) v.rest ≡ t → IsInline v → IsView bs v × (view_text v bs ≡ t)
-IsView-short bs t v h n e z = (record { short = λ s. z; long = λ l. absurd (omega arith) }, grind (arith, e, n))
-
 -- a last buffer without bytes holds no text
 not_in_last : (bs : List (List ℕ)) (v : View) → 12 < v.length → LiesIn (bs ++ [] ∷ []) v → buffer_of v < length bs
 not_in_last bs v h l = elim (cases_lt (buffer_of v) (length bs)) [
@@ -124,23 +120,3 @@ rows-drop_last bs (Some v ∷ vs) a =
     let r = rows-drop_last bs vs (All-tail (IsViewOrNone (bs ++ [] ∷ [])) (Some v) vs a) in
     let f = drops_last bs v (All-head (IsViewOrNone (bs ++ [] ∷ [])) (Some v) vs a) in
     (All-cons (IsViewOrNone bs) (Some v) vs f.0 r.0, λ i. Some (f.1 i) ∷ r.1 i)
-
--- a short view is the same over any buffers
-pub IsView-anywhere : (bs cs : List (List ℕ)) (v : View) → v.length ≤ 12 → IsView bs v → IsView cs v × (view_text v cs ≡ view_text v bs)
-IsView-anywhere bs cs v h f = (record { short = f.short; long = λ l. absurd (omega arith) }, grind arith)
-
--- a long one where its buffer has another number
-pub IsView-moved : (bs cs : List (List ℕ)) (v w : View) → 12 < v.length → IsView bs v → w.length ≡ v.length → take 4 w.rest ≡ take 4 v.rest → offset_of w ≡ offset_of v → buffer_of w < length cs → get_or cs (buffer_of w) [] ≡ get_or bs (buffer_of v) [] → IsView cs w × (view_text w cs ≡ view_text v bs)
-IsView-moved bs cs v w h f n e o k g =
-    let l = f.long h in
-    let p : text_in cs (buffer_of w) (offset_of w) w.length ≡ text_in bs (buffer_of v) (offset_of v) v.length = λ i. take (n i) (drop (o i) (g i)) in (
-      record {
-        short = λ s. absurd (omega arith);
-        long = λ _. record {
-          buffer = k;
-          within = rw g (omega (arith, l.within, n, o));
-          front = e ∙ l.front ∙ ap (take 4) (sym p);
-        };
-      },
-      grind (arith, p, n),
-    )
