@@ -13,6 +13,7 @@ mod lookup;
 mod names;
 mod order;
 mod right_columns;
+mod validated;
 
 pub use args::{Direction, JoinArgs, JoinCoalesce, JoinType, JoinValidation, MaintainOrderJoin};
 pub use arranging::{arrange, cut_pairs, kept_part};

@@ -1,6 +1,4 @@
 //! Why a call gave up.
-ghost use Rattle.std.specs.Prelude.{◌≡◌, IfOk, None, Ok};
-ghost use Rattle.tb_value.specs.Refusals.{Settles};
 
 use crate::pl_str::PlSmallStr;
 use std::alloc::{AllocError, AllocFailed};
@@ -110,17 +108,5 @@ impl From<OutOfMemory> for PolarsError {
 
     fn from(_error: OutOfMemory) -> PolarsError {
         PolarsError::OutOfMemory
-    }
-}
-
-/// The answer of a call that has no cause to refuse.
-pub fn only_memory<T>(answer: PolarsResult<T>) -> Result<T, OutOfMemory>
-    requires { Settles answer None }
-    ensures { IfOk result (λ t. answer ≡ Ok t) }
-{
-    match answer {
-        Ok(value) => Ok(value),
-        Err(PolarsError::OutOfMemory) => Err(OutOfMemory),
-        Err(_) => unreachable!(),
     }
 }
