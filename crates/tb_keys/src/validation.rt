@@ -15,7 +15,6 @@ ghost use Rattle.tb_keys.specs.Rows.{HasRow, HasRows};
 
 use crate::agreeing::is_null;
 use crate::request::LentRequest;
-use tb_frame::JoinType;
 use tb_store::Series;
 use tb_value::{ComputeCause, PolarsError, PolarsResult, Side, ValueRef, same_value};
 
@@ -91,21 +90,12 @@ fn has_twins(null_matches: bool, keys: &[&Series], n: usize) -> bool
     false
 }
 
-fn is_validated(how: JoinType) -> bool
-    ensures { result ≡ is_validated how }
-{
-    match how {
-        JoinType::Inner | JoinType::Left | JoinType::Right | JoinType::Full => true,
-        JoinType::Semi | JoinType::Anti => false,
-    }
-}
-
 // Whether a side of n rows has twins, where it is asked to have none.
 fn is_broken(request: &LentRequest<'_>, is_asked: bool, keys: &[&Series], n: usize) -> bool
     requires { HasRows n (lent_columns keys.now) }
     ensures { result ≡ (is_validated request.now.how && is_asked && has_twins (λ p. request.now.args.now.join_nulls) (table_of (lent_columns keys.now)) n) }
 {
-    is_validated(request.how) && is_asked && has_twins(request.args.join_nulls, keys, n)
+    request.how.is_validated() && is_asked && has_twins(request.args.join_nulls, keys, n)
 }
 
 // Refuses a side that is broken (Validation).
