@@ -1,10 +1,9 @@
 -- What numbers and groups make of the keys.
 use Rattle.std.proofs.Common.{◌≡◌, ℕ, ◌<◌, ◌==◌, Bool, true, false, List, [], ◌∷◌, length, get_or, refl, ap, sym, ◌∙◌, arith, Option, Some, None}
-use Rattle.std.specs.Prelude.{filter, All, map}
+use Rattle.std.specs.Prelude.{filter, map}
 use Rattle.std.specs.Option.{option_map}
 use Rattle.std.specs.Map.{lookup}
 use Rattle.std.proofs.lemmas.Bool.{eq-eqb}
-use Rattle.std.proofs.lemmas.List.Elements.{All-from_get_or}
 use Rattle.std.proofs.lemmas.List.FromFn.{length-map-range_with_len, get_or-map-range_with_len}
 use Rattle.std.proofs.lemmas.List.{length-map}
 use Rattle.std.proofs.lemmas.Map.Made.{lookup-map_values}
@@ -20,9 +19,6 @@ entry-full [] l = absurd (omega arith)
 entry-full (row ∷ rows) l = refl
 
 module _ {K : Type 0} (eq : K → K → Bool) (keys : List (Option K)) (entries : List (K × ℕ)) (numbers : List ℕ) (many : ℕ) (n : AreNumbers eq keys (length keys) (λ k. lookup (eq k) entries) numbers many) where
-  pub all_small : All (λ x. x < many) numbers
-  all_small = All-from_get_or (λ x. x < many) numbers 0 (λ j l. n.small j (omega (arith, n.count, l)))
-
   module _ (name : ℕ → ℕ) (groups : List (List ℕ)) (g : groups ≡ grouped_rows name numbers many) where
     long : length groups ≡ many
     long = ap length g ∙ length-map-range_with_len (λ d. map name (numbered_rows numbers d)) 0 many

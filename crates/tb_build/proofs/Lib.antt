@@ -1,7 +1,6 @@
 pub mod Lists
 pub mod Rows
 pub mod Parts
-pub mod Portions
 pub mod PartPieces
 pub mod PartTables
 pub mod Slots

@@ -19,27 +19,10 @@ some_of : (o : Option ℕ) (x : ℕ) → is_number o x ≡ true → o ≡ Some x
 some_of None x e = absurd (true≢false (sym e))
 some_of (Some d) x e = ap Some (sym (eqb-true x d e))
 
-not_none : (d : ℕ) → None ≡ Some d → ⊥
-not_none d e = cc
-
 same_number : (d e : ℕ) → Some d ≡ Some e → d ≡ e
 same_number d e h = cc
 
 module _ {K : Type 0} (eq : K → K → Bool) (laws : IsEquivalence eq) (keys : List (Option K)) where
-  -- before any row
-  pub numbers-none : (f : K → Option ℕ) → ((k : K) → f k ≡ None) → AreNumbers eq keys 0 f [] 1
-  numbers-none f none = record {
-    count = refl;
-    keyed = λ k j l. absurd (omega arith);
-    bare = λ j l. absurd (omega arith);
-    small = λ j l. absurd (omega arith);
-    known = λ k d e. absurd (not_none d (sym (none k) ∙ e));
-    used = λ k d e. absurd (not_none d (sym (none k) ∙ e));
-    one_key = λ a b d e h. absurd (not_none d (sym (none a) ∙ e));
-    some = omega arith;
-    few = omega arith;
-  }
-
   module _ (i : ℕ) (f : K → Option ℕ) (numbers : List ℕ) (many : ℕ) (n : AreNumbers eq keys i f numbers many) where
     old : (d j : ℕ) → j < i → get_or (numbers ++ d ∷ []) j 0 ≡ get_or numbers j 0
     old d j l = get_or_append_left numbers (d ∷ []) 0 j (omega (arith, n.count, l))
