@@ -1,25 +1,17 @@
 -- What gathered tables are.
-use Rattle.std.proofs.Common.{◌≡◌, ◌∙◌, ℕ, List, [], ◌∷◌, length, map, get_or, ap, sym, subst, Option, Some, None, refl, inl, inr, ◌⊎◌}
+use Rattle.std.proofs.Common.{◌≡◌, ℕ, List, [], ◌∷◌, length, map, get_or, ap, sym, subst, Option, refl}
 use Rattle.std.specs.Prelude.{All}
 use Rattle.std.proofs.lemmas.List.Elements.{All-map}
 use Rattle.tb_value.specs.Datum.{Datum}
 use Rattle.tb_value.specs.Typed.{HasType}
-use Rattle.tb_value.specs.declared.error.PolarsError.{PolarsError}
-use Rattle.tb_value.specs.declared.error.PolarsError.TheVariants.{OutOfMemory}
 use Rattle.tb_value.specs.declared.sorted.IsSorted.{IsSorted}
 use Rattle.tb_chunk.specs.Col.{Col, values}
 use Rattle.tb_frame.specs.Table.{Table, plain, table_of, IsTable, IsTyped}
-use Rattle.tb_frame.specs.Frame.{frame_refusal, lengths, opt_taken}
-use Rattle.tb_frame.proofs.Frames.{IsTable-refusal}
+use Rattle.tb_frame.specs.Frame.{lengths, opt_taken}
 use Rattle.tb_frame.proofs.Taking.{IsTable-made, IsTable-opt_taken, at_row}
 use Rattle.tb_gather.specs.Ids.{Id, row_or_none}
 use Rattle.tb_gather.specs.Gathered.{gathered, gathered_flag, named_rows, rows_gathered, value_at}
 use Rattle.tb_gather.proofs.Columns.{length-named, values-named}
-
--- columns of a table are refused for want of memory alone
-pub wants-memory : (t : Table) (e : PolarsError) → IsTable t → (e ≡ OutOfMemory) ⊎ (frame_refusal t ≡ Some e) → e ≡ OutOfMemory
-wants-memory t e h (inl is) = is
-wants-memory t e h (inr refused) = absurd (let c : None ≡ Some e = sym (IsTable-refusal t h) ∙ refused in cc)
 
 lengths-gathered : (ids : List Id) (sorted : IsSorted) (cs : List Col) → All (λ (c : Col). length (values (gathered ids sorted c)) ≡ length ids) cs
 lengths-gathered ids sorted cs = λ k d low. length-named ids (gathered_flag (get_or cs k d).flag sorted) (get_or cs k d)

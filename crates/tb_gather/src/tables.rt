@@ -1,6 +1,5 @@
 //! Rows of a table, gathered by ids.
 ghost use Rattle.std.specs.Prelude.{◌≡◌, ◌≤◌, All, IfOk, length, map};
-ghost use Rattle.tb_value.specs.declared.error.PolarsError.TheVariants as errors;
 ghost use Rattle.tb_frame.specs.Table.{table_of, IsTable};
 ghost use Rattle.tb_gather.specs.Ids.{AreRun};
 ghost use Rattle.tb_gather.specs.Gathered.{NameRows, gathered};
@@ -10,7 +9,7 @@ use crate::take_chunked::TakeChunked;
 use std::alloc::Global;
 use tb_frame::DataFrame;
 use tb_store::Column;
-use tb_value::{ChunkId, IsSorted, MAX_ROWS, OutOfMemory, PolarsError};
+use tb_value::{ChunkId, IsSorted, MAX_ROWS, OutOfMemory, only_memory};
 
 // The rows of each column that the ids name, with the flag that the column's and `sorted` make.
 fn gather_columns<const B: u64>(
@@ -36,20 +35,7 @@ pub(crate) fn made_table(alloc: Global, columns: Vec<Column>) -> Result<DataFram
     requires { IsTable (table_of columns.items) }
     ensures { IfOk result (λ t. t ≡ columns.items) }
 {
-    match DataFrame::new(alloc, columns) {
-        Ok(table) => Ok(table),
-        Err(error) => Err(want_of_memory(error)),
-    }
-}
-
-// The error, where it is want of memory.
-fn want_of_memory(error: PolarsError) -> OutOfMemory
-    requires { error ≡ errors.OutOfMemory }
-{
-    match error {
-        PolarsError::OutOfMemory => OutOfMemory,
-        _ => unreachable!(),
-    }
+    only_memory(DataFrame::new(alloc, columns))
 }
 
 impl<const B: u64> TakeChunked<B> for DataFrame {
