@@ -14,11 +14,6 @@ is_civil_of y m d a b c e = grind (arith, nat_tests)
 of_is_civil : (y m d : ℕ) → is_civil y m d ≡ true → (1 ≤ m) × (m ≤ 12) × (1 ≤ d) × (d ≤ days_in_month (pos y) m)
 of_is_civil y m d h = grind (arith, nat_tests)
 
-pub day_of_date : (y m d : ℕ) → IsDate (pos y) (pos m) (pos d) → day_in (Some y) (Some m) (Some d) ≡ Some (days_from_civil (pos y) m d)
-day_of_date y m d h =
-    let e = is_civil_of y m d (omega (arith, ints, h.1.0)) (omega (arith, ints, h.1.1)) (omega (arith, ints, h.2.0)) (omega (arith, ints, h.2.1)) in
-    rw e refl
-
 no_day : (b : Bool) (z : ℤ) → (b ≡ true → ⊥) → (if◌then◌else◌ b (Some z) None) ≡ None
 no_day true z h = absurd (h refl)
 no_day false z h = refl

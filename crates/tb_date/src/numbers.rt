@@ -32,8 +32,8 @@ fn text_of(alloc: Global, date: Date) -> Result<PlSmallStr, OutOfMemory>
 pub fn number_text(alloc: Global, is_day: bool, number: i128) -> Result<PlSmallStr, OutOfMemory>
     ensures { IfOk result (λ s. s ≡ number_text is_day number) }
 {
-    match dated(number) {
-        Some(date) if is_day => text_of(alloc, date),
-        _ => value_text(alloc, ValueRef::Int(number)),
+    if is_day && let Some(date) = dated(number) {
+        return text_of(alloc, date);
     }
+    value_text(alloc, ValueRef::Int(number))
 }
