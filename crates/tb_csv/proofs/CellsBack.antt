@@ -1,12 +1,12 @@
 -- A value, from its field.
-use Rattle.std.proofs.Common.{◌≡◌, ◌≤◌, ◌<◌, ◌^◌, ◌+◌, ◌∷◌, ◌∙◌, ◌≤ℤ◌, [], ℕ, ℤ, pos, negsuc, zero, suc, List, Bool, true, false, Option, Some, None, length, get_or, refl, sym, ap, arith, ◌&&◌, nat_le, neg_ℤ, ne_eqb, codes, true≢false, ◌%◌, ◌/◌, ◌||◌}
+use Rattle.std.proofs.Common.{◌≡◌, ◌≢◌, ◌==◌, subst, ◌≤◌, ◌<◌, ◌^◌, ◌+◌, ◌∷◌, ◌∙◌, ◌≤ℤ◌, [], ℕ, ℤ, pos, negsuc, zero, suc, List, Bool, true, false, Option, Some, None, length, get_or, refl, sym, ap, arith, ◌&&◌, nat_le, neg_ℤ, ne_eqb, codes, true≢false, ◌%◌, ◌||◌}
 use Rattle.std.specs.Prelude.{is_none, option_and_then, option_map, IsSomeAnd, int_le, nat_lt, if◌then◌else◌}
 use Rattle.std.specs.Fmt.{decimal, signed_decimal}
 use Rattle.std.specs.Str.{bytes_eq, is_utf8}
 use Rattle.std.proofs.lemmas.Str.{IsUtf8-from_ascii, IsUtf8-nil, is_utf8-from_IsUtf8}
-use Rattle.std.specs.Str.{IsAscii}
 use Rattle.std.proofs.lemmas.Str.Ascii.{IsAscii-cons}
 use Rattle.std.specs.Str.Parse.{AllDigits, digits_value, signed_digits_value}
+use Rattle.std.proofs.lemmas.Bool.{eqb-true}
 use Rattle.std.proofs.lemmas.Bool.Decides.{nat_tests}
 use Rattle.std.proofs.lemmas.Fmt.{IsAscii-decimal_wide, decimal_by_steps_wide, decimal_digit, decimal_is_IsNumeral_wide}
 use Rattle.std.proofs.lemmas.Int.{ints}
@@ -21,10 +21,11 @@ use Rattle.tb_value.specs.Typed.{HasType, IsListOf, IsStructOf, ends}
 use Rattle.tb_label.specs.Numerals.{are_digits, fits, is_digit, is_counting, is_whole, whole_in}
 use Rattle.tb_date.specs.Dates.{date_text, has_text, is_date, number_text}
 use Rattle.tb_csv.specs.Laws.{IsPlain}
-use Rattle.tb_csv.specs.Texts.{field_of, field_type}
+use Rattle.tb_csv.specs.Records.{bytes_of}
+use Rattle.tb_csv.specs.Texts.{field_among, field_of, field_type}
 use Rattle.tb_date.proofs.DateTexts.{date_is_text}
 use Rattle.tb_date.proofs.DatesBack.{date_back}
-use Rattle.tb_csv.specs.Types.{cell_value, field_value, is_within, kind_at, or_string, ranged}
+use Rattle.tb_csv.specs.Types.{cell_value, empty_value, field_value, is_within, kind_at, or_string, ranged}
 use Rattle.tb_csv.specs.declared.field_type.FieldType.{FieldType}
 use Rattle.tb_csv.specs.declared.field_type.FieldType.TheVariants as field
 
@@ -91,7 +92,7 @@ number_long (negsuc n) h = omega arith
 
 -- CELLS
 
-present : (t : FieldType) (s : List ℕ) → 0 < length s → cell_value t s ≡ field_value t s
+present : (t : FieldType) (s : List ℕ) → 0 < length s → cell_value t (Some s) ≡ field_value t s
 present t [] h = absurd (omega (arith, h))
 present t (c ∷ cs) h = refl
 
@@ -109,7 +110,7 @@ ranged_back : (k : Kind) (z : ℤ) → HasType k (value.int z) → ranged k z �
 ranged_back k z h = rw (within (ends k) z h) refl
 
 number_back : (t : FieldType) (k : Kind) (z : ℤ) → field_value t (signed_decimal z) ≡ option_and_then (ranged k) (whole_in (signed_decimal z)) → HasType k (value.int z) → IsBelow z
-    → cell_value t (signed_decimal z) ≡ Some (value.int z)
+    → cell_value t (Some (signed_decimal z)) ≡ Some (value.int z)
 number_back t k z e h below =
     present t (signed_decimal z) (number_long z below) ∙ e ∙ ap (λ (o : Option ℤ). option_and_then (ranged k) o) (whole_back z below) ∙ ranged_back k z h
 
@@ -142,47 +143,81 @@ truth_cells (value.binary s) h = cc h.0
 truth_cells (value.list vs) h = absurd h
 truth_cells (value.struct vs) h = absurd h
 
-text_cells : (v : Datum) → HasType kind.string v → IsPlain kind.string v → cell_value field.String (field_of kind.string v) ≡ Some v
-text_cells value.null h full = refl
-text_cells (value.boolean b) h full = cc h
-text_cells (value.int z) h full = absurd h
-text_cells (value.string []) h full = absurd (full refl)
-text_cells (value.string (c ∷ cs)) h full =
+text_cells : (v : Datum) → HasType kind.string v → cell_value field.String (field_of kind.string v) ≡ Some v
+text_cells value.null h = refl
+text_cells (value.boolean b) h = cc h
+text_cells (value.int z) h = absurd h
+text_cells (value.string []) h = refl
+text_cells (value.string (c ∷ cs)) h =
     let short : length (c ∷ cs) < 4294967296 = omega (arith, h.1) in
     let e : nat_lt (length (c ∷ cs)) 4294967296 ≡ true = grind (arith, nat_tests) in rw e refl
-text_cells (value.binary s) h full = cc h.0
-text_cells (value.list vs) h full = absurd h
-text_cells (value.struct vs) h full = absurd h
+text_cells (value.binary s) h = cc h.0
+text_cells (value.list vs) h = absurd h
+text_cells (value.struct vs) h = absurd h
 
 chosen : (b : Bool) (x y : List ℕ) → b ≡ true → (if b then x else y) ≡ x
 chosen true x y e = refl
 chosen false x y e = absurd (true≢false (sym e))
 
-date_cells : (v : Datum) → HasType kind.date v → IsPlain kind.date v → cell_value field.Date (field_of kind.date v) ≡ Some v
-date_cells value.null h plain = refl
-date_cells (value.boolean b) h plain = cc h
-date_cells (value.int z) h plain =
+date_cells : (n : ℕ) (v : Datum) → HasType kind.date v → IsPlain n kind.date v → cell_value field.Date (field_of kind.date v) ≡ Some v
+date_cells n value.null h plain = refl
+date_cells n (value.boolean b) h plain = cc h
+date_cells n (value.int z) h plain =
     let written : number_text true z ≡ date_text z = chosen (has_text z) (date_text z) (signed_decimal z) (plain refl) in
-    ap (cell_value field.Date) written ∙ ap (option_map value.int) (date_back z (plain refl))
-date_cells (value.string s) h plain = cc h.0
-date_cells (value.binary s) h plain = cc h.0
-date_cells (value.list vs) h plain = absurd h
-date_cells (value.struct vs) h plain = absurd h
+    ap (λ (s : List ℕ). cell_value field.Date (Some s)) written ∙ ap (option_map value.int) (date_back z (plain refl))
+date_cells n (value.string s) h plain = cc h.0
+date_cells n (value.binary s) h plain = cc h.0
+date_cells n (value.list vs) h plain = absurd h
+date_cells n (value.struct vs) h plain = absurd h
 
-pub cells_back : (k : Kind) → is_none (field_type k) ≡ false → (v : Datum) → HasType k v → IsPlain k v → cell_value (or_string (field_type k)) (field_of k v) ≡ Some v
-cells_back kind.boolean some v h full = truth_cells v h
-cells_back kind.int8 some v h full = whole_cells field.Int8 kind.int8 v refl refl (λ s. refl) (λ z k. (omega (arith, ints, k.0), omega (arith, ints, k.1))) h
-cells_back kind.int16 some v h full = whole_cells field.Int16 kind.int16 v refl refl (λ s. refl) (λ z k. (omega (arith, ints, k.0), omega (arith, ints, k.1))) h
-cells_back kind.int32 some v h full = whole_cells field.Int32 kind.int32 v refl refl (λ s. refl) (λ z k. (omega (arith, ints, k.0), omega (arith, ints, k.1))) h
-cells_back kind.int64 some v h full = whole_cells field.Int64 kind.int64 v refl refl (λ s. refl) (λ z k. (omega (arith, ints, k.0), omega (arith, ints, k.1))) h
-cells_back kind.int128 some v h full = whole_cells field.Int128 kind.int128 v refl refl (λ s. refl) (λ z k. (omega (arith, ints, k.0), omega (arith, ints, k.1))) h
-cells_back kind.uint8 some v h full = whole_cells field.UInt8 kind.uint8 v refl refl (λ s. refl) (λ z k. (omega (arith, ints, k.0), omega (arith, ints, k.1))) h
-cells_back kind.uint16 some v h full = whole_cells field.UInt16 kind.uint16 v refl refl (λ s. refl) (λ z k. (omega (arith, ints, k.0), omega (arith, ints, k.1))) h
-cells_back kind.uint32 some v h full = whole_cells field.UInt32 kind.uint32 v refl refl (λ s. refl) (λ z k. (omega (arith, ints, k.0), omega (arith, ints, k.1))) h
-cells_back kind.uint64 some v h full = whole_cells field.UInt64 kind.uint64 v refl refl (λ s. refl) (λ z k. (omega (arith, ints, k.0), omega (arith, ints, k.1))) h
-cells_back kind.string some v h full = text_cells v h full
-cells_back kind.date some v h full = date_cells v h full
-cells_back _ some v h full = absurd (true≢false some)
+cells_back : (n : ℕ) (k : Kind) → is_none (field_type k) ≡ false → (v : Datum) → HasType k v → IsPlain n k v → cell_value (or_string (field_type k)) (field_of k v) ≡ Some v
+cells_back n kind.boolean some v h full = truth_cells v h
+cells_back n kind.int8 some v h full = whole_cells field.Int8 kind.int8 v refl refl (λ s. refl) (λ z k. (omega (arith, ints, k.0), omega (arith, ints, k.1))) h
+cells_back n kind.int16 some v h full = whole_cells field.Int16 kind.int16 v refl refl (λ s. refl) (λ z k. (omega (arith, ints, k.0), omega (arith, ints, k.1))) h
+cells_back n kind.int32 some v h full = whole_cells field.Int32 kind.int32 v refl refl (λ s. refl) (λ z k. (omega (arith, ints, k.0), omega (arith, ints, k.1))) h
+cells_back n kind.int64 some v h full = whole_cells field.Int64 kind.int64 v refl refl (λ s. refl) (λ z k. (omega (arith, ints, k.0), omega (arith, ints, k.1))) h
+cells_back n kind.int128 some v h full = whole_cells field.Int128 kind.int128 v refl refl (λ s. refl) (λ z k. (omega (arith, ints, k.0), omega (arith, ints, k.1))) h
+cells_back n kind.uint8 some v h full = whole_cells field.UInt8 kind.uint8 v refl refl (λ s. refl) (λ z k. (omega (arith, ints, k.0), omega (arith, ints, k.1))) h
+cells_back n kind.uint16 some v h full = whole_cells field.UInt16 kind.uint16 v refl refl (λ s. refl) (λ z k. (omega (arith, ints, k.0), omega (arith, ints, k.1))) h
+cells_back n kind.uint32 some v h full = whole_cells field.UInt32 kind.uint32 v refl refl (λ s. refl) (λ z k. (omega (arith, ints, k.0), omega (arith, ints, k.1))) h
+cells_back n kind.uint64 some v h full = whole_cells field.UInt64 kind.uint64 v refl refl (λ s. refl) (λ z k. (omega (arith, ints, k.0), omega (arith, ints, k.1))) h
+cells_back n kind.string some v h full = text_cells v h
+cells_back n kind.date some v h full = date_cells n v h full
+cells_back n _ some v h full = absurd (true≢false some)
+
+-- ONE FIELD ALONE
+
+not_text : (k : Kind) → is_none (field_type k) ≡ false → k ≢ kind.string → empty_value (or_string (field_type k)) ≡ value.null
+not_text kind.boolean some other = refl
+not_text kind.int8 some other = refl
+not_text kind.int16 some other = refl
+not_text kind.int32 some other = refl
+not_text kind.int64 some other = refl
+not_text kind.int128 some other = refl
+not_text kind.uint8 some other = refl
+not_text kind.uint16 some other = refl
+not_text kind.uint32 some other = refl
+not_text kind.uint64 some other = refl
+not_text kind.string some other = absurd (other refl)
+not_text kind.date some other = refl
+not_text _ some other = absurd (true≢false some)
+
+alone_back : (k : Kind) → is_none (field_type k) ≡ false → (v : Datum) → HasType k v → IsPlain 1 k v → cell_value (or_string (field_type k)) (Some (bytes_of (field_of k v))) ≡ Some v
+alone_back k some value.null h plain = ap Some (not_text k some (plain refl))
+alone_back k some (value.boolean b) h plain = cells_back 1 k some (value.boolean b) h plain
+alone_back k some (value.int z) h plain = cells_back 1 k some (value.int z) h plain
+alone_back k some (value.string s) h plain = cells_back 1 k some (value.string s) h plain
+alone_back k some (value.binary s) h plain = cc (cells_back 1 k some (value.binary s) h plain)
+alone_back k some (value.list vs) h plain = cc (cells_back 1 k some (value.list vs) h plain)
+alone_back k some (value.struct vs) h plain = cc (cells_back 1 k some (value.struct vs) h plain)
+
+among_back : (b : Bool) (n : ℕ) (k : Kind) → is_none (field_type k) ≡ false → (v : Datum) → HasType k v → (n == 1) ≡ b → IsPlain n k v
+    → cell_value (or_string (field_type k)) (if b then Some (bytes_of (field_of k v)) else field_of k v) ≡ Some v
+among_back true n k some v h is plain = alone_back k some v h (subst (λ (m : ℕ). IsPlain m k v) (eqb-true n 1 is) plain)
+among_back false n k some v h is plain = cells_back n k some v h plain
+
+pub value_back : (n : ℕ) (k : Kind) → is_none (field_type k) ≡ false → (v : Datum) → HasType k v → IsPlain n k v → cell_value (or_string (field_type k)) (field_among n k v) ≡ Some v
+value_back n k some v h plain = among_back (n == 1) n k some v h refl plain
 
 -- FIELDS ARE TEXTS
 
@@ -219,7 +254,7 @@ none_text : is_utf8 [] ≡ true
 none_text = is_utf8-from_IsUtf8 [] IsUtf8-nil
 
 -- the field of each value of a type is UTF-8
-pub field_text : (k : Kind) (v : Datum) → HasType k v → is_utf8 (field_of k v) ≡ true
+field_text : (k : Kind) (v : Datum) → HasType k v → is_utf8 (bytes_of (field_of k v)) ≡ true
 field_text k value.null h = none_text
 field_text k (value.boolean true) h = is_utf8-from_IsUtf8 (codes "true") (IsUtf8-from_ascii (codes "true") (IsAscii-cons 116 (114 ∷ 117 ∷ 101 ∷ []) (omega arith) (IsAscii-cons 114 (117 ∷ 101 ∷ []) (omega arith) (IsAscii-cons 117 (101 ∷ []) (omega arith) (IsAscii-cons 101 ([]) (omega arith) (λ i. omega arith))))))
 field_text k (value.boolean false) h = is_utf8-from_IsUtf8 (codes "false") (IsUtf8-from_ascii (codes "false") (IsAscii-cons 102 (97 ∷ 108 ∷ 115 ∷ 101 ∷ []) (omega arith) (IsAscii-cons 97 (108 ∷ 115 ∷ 101 ∷ []) (omega arith) (IsAscii-cons 108 (115 ∷ 101 ∷ []) (omega arith) (IsAscii-cons 115 (101 ∷ []) (omega arith) (IsAscii-cons 101 ([]) (omega arith) (λ i. omega arith)))))))
@@ -228,6 +263,13 @@ field_text k (value.string s) h = is_utf8-from_IsUtf8 s h.2
 field_text k (value.binary s) h = none_text
 field_text k (value.list vs) h = none_text
 field_text k (value.struct vs) h = none_text
+
+same_bytes : (b : Bool) (k : Kind) (v : Datum) → bytes_of (if b then Some (bytes_of (field_of k v)) else field_of k v) ≡ bytes_of (field_of k v)
+same_bytes true k v = refl
+same_bytes false k v = refl
+
+pub field_is_text : (n : ℕ) (k : Kind) (v : Datum) → HasType k v → is_utf8 (bytes_of (field_among n k v)) ≡ true
+field_is_text n k v h = ap is_utf8 (same_bytes (n == 1) k v) ∙ field_text k v h
 
 -- the type that a field is read as is the type of its value
 pub kind_back : (k : Kind) → is_none (field_type k) ≡ false → kind_at (or_string (field_type k)) ≡ k

@@ -8,49 +8,47 @@ use Rattle.tb_value.specs.Datum.{Datum}
 use Rattle.tb_value.specs.Names.{Name}
 use Rattle.tb_chunk.specs.Chunk.{or_null}
 use Rattle.tb_csv.specs.Faults.{column_fault}
+use Rattle.tb_csv.specs.Read.{lent_field, lent_fields}
+use Rattle.tb_csv.specs.Records.{Field}
 use Rattle.tb_csv.specs.Types.{cell_of, cell_value, is_of, value_or_null}
 use Rattle.tb_csv.specs.declared.fault.CsvFault.TheVariants.{NotOfType}
 use Rattle.tb_csv.specs.declared.field_type.FieldType.{FieldType}
 
--- fields that are lent
-abbrev pub texts : List (Bor (List ℕ)) → List (List ℕ)
-texts fs = map (λ f. f.now) fs
-
 -- a field that is read, and one that isn't
-pub read_some : {N : Type 0} (f : N → Datum) (t : FieldType) (s : List ℕ) (o : Option N) (c : N) → option_map f o ≡ cell_value t s → o ≡ Some c → (is_of t s ≡ true) × (cell_of t s ≡ f c)
+pub read_some : {N : Type 0} (f : N → Datum) (t : FieldType) (s : Field) (o : Option N) (c : N) → option_map f o ≡ cell_value t s → o ≡ Some c → (is_of t s ≡ true) × (cell_of t s ≡ f c)
 read_some f t s None c e is = cc
 read_some f t s (Some x) c e is = (rw (sym e) refl, rw (sym e) (ap (λ (o : Option _). value_or_null (option_map f o)) is))
 
-pub read_none : {N : Type 0} (f : N → Datum) (t : FieldType) (s : List ℕ) (o : Option N) → option_map f o ≡ cell_value t s → o ≡ None → is_of t s ≡ false
+pub read_none : {N : Type 0} (f : N → Datum) (t : FieldType) (s : Field) (o : Option N) → option_map f o ≡ cell_value t s → o ≡ None → is_of t s ≡ false
 read_none f t s None e is = rw (sym e) refl
 read_none f t s (Some x) e is = cc
 
-pub read_is : {N : Type 0} (f : N → Datum) (t : FieldType) (s : List ℕ) (o : Option N) → option_map f o ≡ cell_value t s → is_of t s ≡ is_some o
+pub read_is : {N : Type 0} (f : N → Datum) (t : FieldType) (s : Field) (o : Option N) → option_map f o ≡ cell_value t s → is_of t s ≡ is_some o
 read_is f t s None e = rw (sym e) refl
 read_is f t s (Some x) e = rw (sym e) refl
 
-pub fault_here : (name : Name) (t : FieldType) (n : ℕ) (fs : List (Bor (List ℕ))) (i : ℕ) (d : Bor (List ℕ)) → i < length fs
-    → is_of t ((get_or fs i d).now) ≡ false → column_fault name t n (texts (drop i fs)) ≡ Some (NotOfType n name t)
-fault_here name t n fs i d h e = at_drop_more (λ xs. column_fault name t n (texts xs)) fs i d h ∙ rw e refl
+pub fault_here : (name : Name) (t : FieldType) (n : ℕ) (fs : List (Option (Bor (List ℕ)))) (i : ℕ) (d : Option (Bor (List ℕ))) → i < length fs
+    → is_of t (lent_field (get_or fs i d)) ≡ false → column_fault name t n (lent_fields (drop i fs)) ≡ Some (NotOfType n name t)
+fault_here name t n fs i d h e = at_drop_more (λ xs. column_fault name t n (lent_fields xs)) fs i d h ∙ rw e refl
 
-pub fault_more : (name : Name) (t : FieldType) (n : ℕ) (fs : List (Bor (List ℕ))) (i : ℕ) (d : Bor (List ℕ)) → i < length fs
-    → is_of t ((get_or fs i d).now) ≡ true → column_fault name t n (texts (drop i fs)) ≡ column_fault name t (n + 1) (texts (drop (i + 1) fs))
-fault_more name t n fs i d h e = at_drop_more (λ xs. column_fault name t n (texts xs)) fs i d h ∙ rw e refl
+pub fault_more : (name : Name) (t : FieldType) (n : ℕ) (fs : List (Option (Bor (List ℕ)))) (i : ℕ) (d : Option (Bor (List ℕ))) → i < length fs
+    → is_of t (lent_field (get_or fs i d)) ≡ true → column_fault name t n (lent_fields (drop i fs)) ≡ column_fault name t (n + 1) (lent_fields (drop (i + 1) fs))
+fault_more name t n fs i d h e = at_drop_more (λ xs. column_fault name t n (lent_fields xs)) fs i d h ∙ rw e refl
 
-pub all_more : (t : FieldType) (fs : List (Bor (List ℕ))) (i : ℕ) (d : Bor (List ℕ)) → i < length fs
-    → is_of t ((get_or fs i d).now) ≡ true → list_all (is_of t) (texts (take i fs)) ≡ true → list_all (is_of t) (texts (take (i + 1) fs)) ≡ true
+pub all_more : (t : FieldType) (fs : List (Option (Bor (List ℕ)))) (i : ℕ) (d : Option (Bor (List ℕ))) → i < length fs
+    → is_of t (lent_field (get_or fs i d)) ≡ true → list_all (is_of t) (lent_fields (take i fs)) ≡ true → list_all (is_of t) (lent_fields (take (i + 1) fs)) ≡ true
 all_more t fs i d h e all =
-    list_all-map (is_of t) (λ (f : Bor (List ℕ)). f.now) (take (i + 1) fs)
-    ∙ list_all_more (λ (f : Bor (List ℕ)). is_of t f.now) fs i d h
-    ∙ rw (e, sym (list_all-map (is_of t) (λ (f : Bor (List ℕ)). f.now) (take i fs)), all) refl
+    list_all-map (is_of t) lent_field (take (i + 1) fs)
+    ∙ list_all_more (λ (f : Option (Bor (List ℕ))). is_of t (lent_field f)) fs i d h
+    ∙ rw (e, sym (list_all-map (is_of t) lent_field (take i fs)), all) refl
 
-pub all_fails : (t : FieldType) (fs : List (Bor (List ℕ))) (i : ℕ) (d : Bor (List ℕ)) → i < length fs
-    → is_of t ((get_or fs i d).now) ≡ false → list_all (is_of t) (texts fs) ≡ false
+pub all_fails : (t : FieldType) (fs : List (Option (Bor (List ℕ)))) (i : ℕ) (d : Option (Bor (List ℕ))) → i < length fs
+    → is_of t (lent_field (get_or fs i d)) ≡ false → list_all (is_of t) (lent_fields fs) ≡ false
 all_fails t fs i d h e =
-    list_all-map (is_of t) (λ (f : Bor (List ℕ)). f.now) fs ∙ list_all_at (λ (f : Bor (List ℕ)). is_of t f.now) fs i d h e
+    list_all-map (is_of t) lent_field fs ∙ list_all_at (λ (f : Option (Bor (List ℕ))). is_of t (lent_field f)) fs i d h e
 
-pub cells_more : {N : Type 0} (f : N → Datum) (t : FieldType) (fs : List (Bor (List ℕ))) (i : ℕ) (d : Bor (List ℕ)) (cells : List (Option N)) (c : Option N) → i < length fs
-    → cell_of t ((get_or fs i d).now) ≡ or_null f c → map (or_null f) cells ≡ map (cell_of t) (texts (take i fs))
-    → map (or_null f) (cells ++ c ∷ []) ≡ map (cell_of t) (texts (take (i + 1) fs))
+pub cells_more : {N : Type 0} (f : N → Datum) (t : FieldType) (fs : List (Option (Bor (List ℕ)))) (i : ℕ) (d : Option (Bor (List ℕ))) (cells : List (Option N)) (c : Option N) → i < length fs
+    → cell_of t (lent_field (get_or fs i d)) ≡ or_null f c → map (or_null f) cells ≡ map (cell_of t) (lent_fields (take i fs))
+    → map (or_null f) (cells ++ c ∷ []) ≡ map (cell_of t) (lent_fields (take (i + 1) fs))
 cells_more f t fs i d cells c h e so_far =
-    map-append (or_null f) cells (c ∷ []) ∙ rw (so_far, sym e) (sym (ap (map (cell_of t)) (map_more (λ (f : Bor (List ℕ)). f.now) fs i d h) ∙ map-append (cell_of t) (texts (take i fs)) _))
+    map-append (or_null f) cells (c ∷ []) ∙ rw (so_far, sym e) (sym (ap (map (cell_of t)) (map_more lent_field fs i d h) ∙ map-append (cell_of t) (lent_fields (take i fs)) _))

@@ -1,8 +1,15 @@
 pub mod Causes
 pub mod FieldWalks
 pub mod Left
+pub mod EscapeWalks
+pub mod MarkWalks
+pub mod MarkedFields
+pub mod Unquoted
 pub mod RecordWalks
+pub mod ReadRecords
+pub mod MarksFit
 pub mod TextWalks
+pub mod LinesBack
 pub mod RecordsBack
 pub mod CellsBack
 pub mod TableBack

@@ -14,7 +14,7 @@ use Rattle.csv.specs.Records.{field_at}
 use Rattle.tb_value.specs.Pairs.{row_numbers}
 use Rattle.tb_csv.specs.Faults.{first_fault, row_fault, rows_fault, when}
 use Rattle.tb_csv.specs.Read.{all_fields}
-use Rattle.tb_csv.specs.Records.{Record, column_fields, is_text}
+use Rattle.tb_csv.specs.Records.{Field, Line, Record, column_fields, is_text}
 use Rattle.tb_csv.specs.declared.fault.CsvFault.{CsvFault}
 use Rattle.tb_csv.specs.declared.fault.CsvFault.TheVariants.{FieldCount, NotUtf8, OutOfMemory}
 
@@ -67,21 +67,21 @@ mul_more k w = omega arith
 
 -- FIELDS THAT STAND ROW BY ROW
 
-placed : (rows : List Record) (front : List (List ℕ)) (k w j : ℕ) → j < w → length front ≡ k * w → All (λ (r : Record). length r ≡ w) rows
-    → map (λ i. get_or (front ++ all_fields rows) (i * w + j) []) (range_with_len k (length rows)) ≡ column_fields rows j
+placed : (rows : List Record) (front : List Field) (k w j : ℕ) → j < w → length front ≡ k * w → All (λ (r : Record). length r ≡ w) rows
+    → map (λ i. get_or (front ++ all_fields rows) (i * w + j) None) (range_with_len k (length rows)) ≡ column_fields rows j
 placed [] front k w j h e all = refl
 placed (r ∷ rs) front k w j h e all =
     let wide : length r ≡ w = All-head (λ (r : Record). length r ≡ w) r rs all in
-    let head : get_or (front ++ (r ++ all_fields rs)) (k * w + j) [] ≡ get_or r j [] =
-    ap (λ n. get_or (front ++ (r ++ all_fields rs)) (n + j) []) (sym e)
-    ∙ get_or-append-add front (r ++ all_fields rs) j [] ∙ get_or_append_left r (all_fields rs) [] j (rw wide h) in
+    let head : get_or (front ++ (r ++ all_fields rs)) (k * w + j) None ≡ get_or r j None =
+    ap (λ n. get_or (front ++ (r ++ all_fields rs)) (n + j) None) (sym e)
+    ∙ get_or-append-add front (r ++ all_fields rs) j None ∙ get_or_append_left r (all_fields rs) None j (rw wide h) in
     let size : length (front ++ r) ≡ (k + 1) * w = length-append front r ∙ rw (e, wide) (omega (arith, mul_more k w)) in
     let rest = placed rs (front ++ r) (k + 1) w j h size (All-tail (λ (r : Record). length r ≡ w) r rs all) in
-    let more = subst (λ (l : List (List ℕ)). map (λ i. get_or l (i * w + j) []) (range_with_len (k + 1) (length rs)) ≡ column_fields rs j) (append_assoc front r (all_fields rs)) rest in
-    ap (λ (x : List ℕ). x ∷ map (λ i. get_or (front ++ (r ++ all_fields rs)) (i * w + j) []) (range_with_len (k + 1) (length rs))) head ∙ ap (λ (l : List (List ℕ)). get_or r j [] ∷ l) more
+    let more = subst (λ (l : List Field). map (λ i. get_or l (i * w + j) None) (range_with_len (k + 1) (length rs)) ≡ column_fields rs j) (append_assoc front r (all_fields rs)) rest in
+    ap (λ (x : Field). x ∷ map (λ i. get_or (front ++ (r ++ all_fields rs)) (i * w + j) None) (range_with_len (k + 1) (length rs))) head ∙ ap (λ (l : List Field). get_or r j None ∷ l) more
 
 pub in_column : (rows : List Record) (w j : ℕ) → j < w → All (λ (r : Record). length r ≡ w) rows
-    → map (λ i. get_or (all_fields rows) (i * w + j) []) (row_numbers (length rows)) ≡ column_fields rows j
+    → map (λ i. get_or (all_fields rows) (i * w + j) None) (row_numbers (length rows)) ≡ column_fields rows j
 in_column rows w j h all =
     let none : 0 ≡ 0 * w = omega arith in placed rows [] 0 w j h none all
 
@@ -106,10 +106,10 @@ when_none true e h = refl
 when_none false e h = cc h
 
 -- the fault of a row after rows without one
-pub fault_after : (w i : ℕ) (done : List Record) (r : Record) (rs : List Record) (e : CsvFault) → rows_fault w i done ≡ None → row_fault w (i + length done) r ≡ Some e
+pub fault_after : (w i : ℕ) (done : List Line) (r : Line) (rs : List Line) (e : CsvFault) → rows_fault w i done ≡ None → row_fault w (i + length done) r ≡ Some e
     → rows_fault w i (done ++ r ∷ rs) ≡ Some e
 fault_after w i [] r rs e none h =
-    let at : i + length {A = Record} [] ≡ i = omega arith in
+    let at : i + length {A = Line} [] ≡ i = omega arith in
     first_some (row_fault w i r) (rows_fault w (i + 1) rs) e (subst (λ (n : ℕ). row_fault w n r ≡ Some e) at h)
 fault_after w i (d ∷ ds) r rs e none h =
     let both = first_none (row_fault w i d) (rows_fault w (i + 1) ds) none in
@@ -118,9 +118,9 @@ fault_after w i (d ∷ ds) r rs e none h =
     ∙ fault_after w (i + 1) ds r rs e both.1 (subst (λ (n : ℕ). row_fault w n r ≡ Some e) at h)
 
 -- one more row without one
-pub none_after : (w i : ℕ) (done : List Record) (r : Record) → rows_fault w i done ≡ None → row_fault w (i + length done) r ≡ None → rows_fault w i (done ++ r ∷ []) ≡ None
+pub none_after : (w i : ℕ) (done : List Line) (r : Line) → rows_fault w i done ≡ None → row_fault w (i + length done) r ≡ None → rows_fault w i (done ++ r ∷ []) ≡ None
 none_after w i [] r none h =
-    let at : i + length {A = Record} [] ≡ i = omega arith in
+    let at : i + length {A = Line} [] ≡ i = omega arith in
     first_skip (row_fault w i r) None (subst (λ (n : ℕ). row_fault w n r ≡ None) at h)
 none_after w i (d ∷ ds) r none h =
     let both = first_none (row_fault w i d) (rows_fault w (i + 1) ds) none in
@@ -128,47 +128,47 @@ none_after w i (d ∷ ds) r none h =
     first_skip (row_fault w i d) (rows_fault w (i + 1) (ds ++ r ∷ [])) both.0
     ∙ none_after w (i + 1) ds r both.1 (subst (λ (n : ℕ). row_fault w n r ≡ None) at h)
 
-pub level_rows : (w i : ℕ) (rows : List Record) → rows_fault w i rows ≡ None → All (λ (r : Record). length r ≡ w) rows
-level_rows w i [] none = All-nil (λ (r : Record). length r ≡ w)
+pub level_rows : (w i : ℕ) (rows : List Line) → rows_fault w i rows ≡ None → All (λ (r : Line). length r ≡ w) rows
+level_rows w i [] none = All-nil (λ (r : Line). length r ≡ w)
 level_rows w i (r ∷ rs) none =
     let both = first_none (row_fault w i r) (rows_fault w (i + 1) rs) none in
     let wide = first_none (when (not (length r == w)) (FieldCount i w (length r))) (when (not (is_text r)) (NotUtf8 i)) both.0 in
-    All-cons (λ (r : Record). length r ≡ w) r rs (eqb-true (length r) w (when_none (length r == w) (FieldCount i w (length r)) wide.0)) (level_rows w (i + 1) rs both.1)
+    All-cons (λ (r : Line). length r ≡ w) r rs (eqb-true (length r) w (when_none (length r == w) (FieldCount i w (length r)) wide.0)) (level_rows w (i + 1) rs both.1)
 
-all_push : (done : List Record) (r : Record) → all_fields (done ++ r ∷ []) ≡ all_fields done ++ r
+all_push : (done : List Line) (r : Line) → all_fields (done ++ r ∷ []) ≡ all_fields done ++ r
 all_push [] r = append-nil r
 all_push (d ∷ ds) r = ap (λ (l : List (List ℕ)). d ++ l) (all_push ds r) ∙ sym (append_assoc d (all_fields ds) r)
 
 -- what the rows before a turn add to
-pub all_more : (done : List Record) (r : Record) (first old new : List (List ℕ)) → new ≡ old ++ r → old ≡ first ++ all_fields done → new ≡ first ++ all_fields (done ++ r ∷ [])
+pub all_more : (done : List Line) (r : Line) (first old new : List (List ℕ)) → new ≡ old ++ r → old ≡ first ++ all_fields done → new ≡ first ++ all_fields (done ++ r ∷ [])
 all_more done r first old new push so_far =
     push ∙ ap (λ (l : List (List ℕ)). l ++ r) so_far ∙ append_assoc first (all_fields done) r ∙ ap (λ (l : List (List ℕ)). first ++ l) (sym (all_push done r))
 
 -- a row that has a fault, and one that has none, in a walk over rows
-pub row_stops : (w turn : ℕ) (done rest records : List Record) (r : Record) (others : List Record) (e : CsvFault) → records ≡ done ++ rest → rest ≡ r ∷ others → length done ≡ turn
+pub row_stops : (w turn : ℕ) (done rest records : List Line) (r : Line) (others : List Line) (e : CsvFault) → records ≡ done ++ rest → rest ≡ r ∷ others → length done ≡ turn
     → rows_fault w 1 done ≡ None → (e ≡ OutOfMemory) ⊎ (row_fault w (turn + 1) r ≡ Some e) → (e ≡ OutOfMemory) ⊎ (rows_fault w 1 records ≡ Some e)
 row_stops w turn done rest records r others e is next count none (inl m) = inl m
 row_stops w turn done rest records r others e is next count none (inr h) =
     let at : turn + 1 ≡ 1 + length done = omega (arith, count) in
     inr (rw (is, next) (fault_after w 1 done r others e none (subst (λ (n : ℕ). row_fault w n r ≡ Some e) at h)))
 
-pub row_passes : (w turn : ℕ) (done : List Record) (r : Record) → length done ≡ turn → rows_fault w 1 done ≡ None → row_fault w (turn + 1) r ≡ None → rows_fault w 1 (done ++ r ∷ []) ≡ None
+pub row_passes : (w turn : ℕ) (done : List Line) (r : Line) → length done ≡ turn → rows_fault w 1 done ≡ None → row_fault w (turn + 1) r ≡ None → rows_fault w 1 (done ++ r ∷ []) ≡ None
 row_passes w turn done r count none h =
     let at : turn + 1 ≡ 1 + length done = omega (arith, count) in
     none_after w 1 done r none (subst (λ (n : ℕ). row_fault w n r ≡ None) at h)
 
-pub row_split : (done rest records : List Record) (r : Record) (others : List Record) → records ≡ done ++ rest → rest ≡ r ∷ others → records ≡ (done ++ r ∷ []) ++ others
+pub row_split : (done rest records : List Line) (r : Line) (others : List Line) → records ≡ done ++ rest → rest ≡ r ∷ others → records ≡ (done ++ r ∷ []) ++ others
 row_split done rest records r others is next = is ∙ rw next (sym (append_assoc done (r ∷ []) others))
 
 -- the fields of the rows, and of a column of them
-pub full_rows : (rows : List Record) (w : ℕ) → All (λ (r : Record). length r ≡ w) rows → length (all_fields rows) ≡ length rows * w
+pub full_rows : (rows : List Line) (w : ℕ) → All (λ (r : Line). length r ≡ w) rows → length (all_fields rows) ≡ length rows * w
 full_rows [] w all = let none : 0 ≡ 0 * w = omega arith in none
 full_rows (r ∷ rs) w all =
-    let wide : length r ≡ w = All-head (λ (r : Record). length r ≡ w) r rs all in
-    let more = full_rows rs w (All-tail (λ (r : Record). length r ≡ w) r rs all) in
+    let wide : length r ≡ w = All-head (λ (r : Line). length r ≡ w) r rs all in
+    let more = full_rows rs w (All-tail (λ (r : Line). length r ≡ w) r rs all) in
     let count : suc (length rs) * w ≡ length rs * w + w = omega arith in
     length-append r (all_fields rs) ∙ omega (arith, wide, more, count)
 
-pub column_of : (fields : List (List ℕ)) (rows : List Record) (height width w j turn : ℕ) → fields ≡ all_fields rows → height ≡ length rows → All (λ (r : Record). length r ≡ w) rows
-    → width ≡ w → j < w → turn ≡ height → map (λ i. get_or fields (i * width + j) []) (row_numbers turn) ≡ column_fields rows j
+pub column_of : (fields : List Field) (rows : List Record) (height width w j turn : ℕ) → fields ≡ all_fields rows → height ≡ length rows → All (λ (r : Record). length r ≡ w) rows
+    → width ≡ w → j < w → turn ≡ height → map (λ i. get_or fields (i * width + j) None) (row_numbers turn) ≡ column_fields rows j
 column_of fields rows height width w j turn are high all wide low end = rw (end, high, are, wide) (in_column rows w j low all)

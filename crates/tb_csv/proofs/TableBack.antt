@@ -21,15 +21,15 @@ use Rattle.tb_frame.specs.Table.{IsTyped, Table, TableColumn, height, names_of}
 use Rattle.tb_frame.proofs.Causes.{unrepeated_names}
 use Rattle.tb_csv.specs.Faults.{column_fault, columns_fault, csv_refusal, first_fault, records_fault, repeated_name, rows_fault, typed_fault, when}
 use Rattle.tb_csv.specs.Laws.{IsPlain, IsTold, comma, types_of}
-use Rattle.tb_csv.specs.Records.{Record, column_fields, is_text, records_of}
-use Rattle.tb_csv.specs.Tables.{csv_column, csv_table, typed_column}
-use Rattle.tb_csv.specs.Texts.{csv_text, field_of, field_type, no_column, no_text, row_fields, table_records}
+use Rattle.tb_csv.specs.Records.{Field, Record, bytes_of, column_fields, is_text, line_of, records_of}
+use Rattle.tb_csv.specs.Tables.{csv_column, csv_columns, csv_table, typed_column}
+use Rattle.tb_csv.specs.Texts.{csv_text, field_among, field_type, no_column, no_text, row_fields}
 use Rattle.tb_csv.specs.Types.{cell_of, column_type, given_type, or_string, or_told, value_or_null}
 use Rattle.tb_csv.specs.declared.fault.CsvFault.{CsvFault}
 use Rattle.tb_csv.specs.declared.fault.CsvFault.TheVariants.{NoText, NotUtf8, RepeatedName, TooManyRows}
 use Rattle.tb_csv.specs.declared.field_type.FieldType.{FieldType}
 use Rattle.tb_csv.proofs.Causes.{first_parts, none_later}
-use Rattle.tb_csv.proofs.CellsBack.{cells_back, field_text, kind_back}
+use Rattle.tb_csv.proofs.CellsBack.{field_is_text, kind_back, value_back}
 use Rattle.tb_csv.proofs.RecordsBack.{records_back}
 
 -- LISTS BY THEIR PLACES
@@ -67,32 +67,32 @@ abbrev rows_text_of : Table → List Record
 rows_text_of t = map (row_fields t) (row_numbers (height t))
 
 -- the field of a row of a column
-abbrev field_at : ℕ → TableColumn → List ℕ
-field_at n k = field_of k.kind (get_or k.values n null)
+abbrev field_at : ℕ → ℕ → TableColumn → Field
+field_at w n k = field_among w k.kind (get_or k.values n null)
 
-field_at_place : (t : Table) (j n : ℕ) (c : TableColumn) → j < length t → get_or t j c ≡ c → get_or (row_fields t n) j [] ≡ field_of c.kind (get_or c.values n null)
-field_at_place t j n c low is = get_or-map (field_at n) t j c [] low ∙ ap (field_at n) is
+field_at_place : (t : Table) (j n : ℕ) (c : TableColumn) → j < length t → get_or t j c ≡ c → get_or (row_fields t n) j None ≡ field_among (length t) c.kind (get_or c.values n null)
+field_at_place t j n c low is = get_or-map (field_at (length t) n) t j c None low ∙ ap (field_at (length t) n) is
 
-fields_back : (t : Table) (j : ℕ) (c : TableColumn) → j < length t → get_or t j c ≡ c → length c.values ≡ height t → column_fields (rows_text_of t) j ≡ map (field_of c.kind) c.values
+fields_back : (t : Table) (j : ℕ) (c : TableColumn) → j < length t → get_or t j c ≡ c → length c.values ≡ height t → column_fields (rows_text_of t) j ≡ map (field_among (length t) c.kind) c.values
 fields_back t j c low is level =
-    sym (two_maps (λ (r : Record). get_or r j []) (row_fields t) (row_numbers (height t)))
-    ∙ same_map _ (λ n. field_of c.kind (get_or c.values n null)) (row_numbers (height t)) (λ n. field_at_place t j n c low is)
-    ∙ ap (λ h. map (λ n. field_of c.kind (get_or c.values n null)) (row_numbers h)) (sym level)
-    ∙ two_maps (field_of c.kind) (λ n. get_or c.values n null) (row_numbers (length c.values))
-    ∙ ap (map (field_of c.kind)) (listed_by (λ n. get_or c.values n null) c.values 0 (λ i d small. let at : 0 + i ≡ i = omega arith in rw at (get_in c.values i null d small)))
+    sym (two_maps (λ (r : Record). get_or r j None) (row_fields t) (row_numbers (height t)))
+    ∙ same_map _ (λ n. field_among (length t) c.kind (get_or c.values n null)) (row_numbers (height t)) (λ n. field_at_place t j n c low is)
+    ∙ ap (λ h. map (λ n. field_among (length t) c.kind (get_or c.values n null)) (row_numbers h)) (sym level)
+    ∙ two_maps (field_among (length t) c.kind) (λ n. get_or c.values n null) (row_numbers (length c.values))
+    ∙ ap (map (field_among (length t) c.kind)) (listed_by (λ n. get_or c.values n null) c.values 0 (λ i d small. let at : 0 + i ≡ i = omega arith in rw at (get_in c.values i null d small)))
 
-values_back : (k : Kind) (vs : List Datum) → is_none (field_type k) ≡ false → All (HasType k) vs → All (IsPlain k) vs → map (cell_of (or_string (field_type k))) (map (field_of k) vs) ≡ vs
-values_back k [] some typed full = refl
-values_back k (v ∷ vs) some typed full =
-    let back = cells_back k some v (All-head (HasType k) v vs typed) (All-head (IsPlain k) v vs full) in
-    ap (λ x. x ∷ map (cell_of (or_string (field_type k))) (map (field_of k) vs)) (ap value_or_null back)
-    ∙ ap (λ xs. v ∷ xs) (values_back k vs some (All-tail (HasType k) v vs typed) (All-tail (IsPlain k) v vs full))
+values_back : (w : ℕ) (k : Kind) (vs : List Datum) → is_none (field_type k) ≡ false → All (HasType k) vs → All (IsPlain w k) vs → map (cell_of (or_string (field_type k))) (map (field_among w k) vs) ≡ vs
+values_back w k [] some typed full = refl
+values_back w k (v ∷ vs) some typed full =
+    let back = value_back w k some v (All-head (HasType k) v vs typed) (All-head (IsPlain w k) v vs full) in
+    ap (λ x. x ∷ map (cell_of (or_string (field_type k))) (map (field_among w k) vs)) (ap value_or_null back)
+    ∙ ap (λ xs. v ∷ xs) (values_back w k vs some (All-tail (HasType k) v vs typed) (All-tail (IsPlain w k) v vs full))
 
-no_fault : (k : Kind) (name : Name) (i : ℕ) (vs : List Datum) → is_none (field_type k) ≡ false → All (HasType k) vs → All (IsPlain k) vs → column_fault name (or_string (field_type k)) i (map (field_of k) vs) ≡ None
-no_fault k name i [] some typed full = refl
-no_fault k name i (v ∷ vs) some typed full =
-    let back = cells_back k some v (All-head (HasType k) v vs typed) (All-head (IsPlain k) v vs full) in
-    rw back (no_fault k name (i + 1) vs some (All-tail (HasType k) v vs typed) (All-tail (IsPlain k) v vs full))
+no_fault : (w : ℕ) (k : Kind) (name : Name) (i : ℕ) (vs : List Datum) → is_none (field_type k) ≡ false → All (HasType k) vs → All (IsPlain w k) vs → column_fault name (or_string (field_type k)) i (map (field_among w k) vs) ≡ None
+no_fault w k name i [] some typed full = refl
+no_fault w k name i (v ∷ vs) some typed full =
+    let back = value_back w k some v (All-head (HasType k) v vs typed) (All-head (IsPlain w k) v vs full) in
+    rw back (no_fault w k name (i + 1) vs some (All-tail (HasType k) v vs typed) (All-tail (IsPlain w k) v vs full))
 
 -- ITS TYPE
 
@@ -126,10 +126,10 @@ texts_at (k ∷ ks) (suc i) c none low is = texts_at ks i c (not_found (is_none 
 column_is : (c : TableColumn) (k : Kind) (vs : List Datum) → k ≡ c.kind → vs ≡ c.values → ◌≡◌ {A = TableColumn} (record { name = c.name; kind = k; values = vs }) c
 column_is c k vs kinds same = rw (kinds, same) refl
 
-typed_same : (m n : Name) (t u : FieldType) (fs gs : List (List ℕ)) → m ≡ n → t ≡ u → fs ≡ gs → typed_column m t fs ≡ typed_column n u gs
+typed_same : (m n : Name) (t u : FieldType) (fs gs : List Field) → m ≡ n → t ≡ u → fs ≡ gs → typed_column m t fs ≡ typed_column n u gs
 typed_same m n t u fs gs names types same = rw (names, types, same) refl
 
-fault_same : (m n : Name) (t u : FieldType) (fs gs : List (List ℕ)) → m ≡ n → t ≡ u → fs ≡ gs → column_fault n u 1 gs ≡ None → column_fault m t 1 fs ≡ None
+fault_same : (m n : Name) (t u : FieldType) (fs gs : List Field) → m ≡ n → t ≡ u → fs ≡ gs → column_fault n u 1 gs ≡ None → column_fault m t 1 fs ≡ None
 fault_same m n t u fs gs names types same none = rw (names, types, same) none
 
 column_back : (t : Table) → IsTold t → (j : ℕ) (c : TableColumn) → j < length t → get_or t j c ≡ c
@@ -139,14 +139,14 @@ column_back t told j c low is =
     let some = texts_at t j c (first_parts (no_text t) [] written.1).0 low is in
     let level = subst (λ (x : TableColumn). length x.values ≡ height t) is (told.table.one_height j c low) in
     let typed = subst (λ (x : TableColumn). All (HasType x.kind) x.values) is (told.table.typed j c low) in
-    let full = subst (λ (x : TableColumn). All (IsPlain x.kind) x.values) is (told.plain j c low) in
+    let full = subst (λ (x : TableColumn). All (IsPlain (length t) x.kind) x.values) is (told.plain j c low) in
     let fields = fields_back t j c low is level in
     let named : name_at (names_of t) j ≡ c.name = get_or-map (λ (x : TableColumn). x.name) t j c [] low ∙ ap (λ (x : TableColumn). x.name) is in
     let t_is : column_type (types_of t) (name_at (names_of t) j) (column_fields (rows_text_of t) j) ≡ or_string (field_type c.kind) =
     ap (λ (n : Name). or_told (column_fields (rows_text_of t) j) (given_type (types_of t) n)) named ∙ ap (or_told (column_fields (rows_text_of t) j)) (found_type t j c told.table.distinct low is) in (
-      typed_same _ c.name _ (or_string (field_type c.kind)) _ (map (field_of c.kind) c.values) named t_is fields
-          ∙ column_is c _ _ (kind_back c.kind some) (values_back c.kind c.values some typed full),
-      fault_same _ c.name _ (or_string (field_type c.kind)) _ (map (field_of c.kind) c.values) named t_is fields (no_fault c.kind c.name 1 c.values some typed full),
+      typed_same _ c.name _ (or_string (field_type c.kind)) _ (map (field_among (length t) c.kind) c.values) named t_is fields
+          ∙ column_is c _ _ (kind_back c.kind some) (values_back (length t) c.kind c.values some typed full),
+      fault_same _ c.name _ (or_string (field_type c.kind)) _ (map (field_among (length t) c.kind) c.values) named t_is fields (no_fault (length t) c.kind c.name 1 c.values some typed full),
     )
 
 -- THE ROWS
@@ -156,12 +156,12 @@ typed_at k [] n all = tt
 typed_at k (v ∷ vs) zero all = All-head (HasType k) v vs all
 typed_at k (v ∷ vs) (suc n) all = typed_at k vs n (All-tail (HasType k) v vs all)
 
-row_is_text : (t : Table) (n : ℕ) → All IsTyped t → is_text (row_fields t n) ≡ true
-row_is_text [] n all = refl
-row_is_text (c ∷ cs) n all =
-    rw (field_text c.kind (get_or c.values n null) (typed_at c.kind c.values n (All-head IsTyped c cs all)), row_is_text cs n (All-tail IsTyped c cs all)) refl
+row_is_text : (w : ℕ) (t : Table) (n : ℕ) → All IsTyped t → is_text (line_of (map (field_at w n) t)) ≡ true
+row_is_text w [] n all = refl
+row_is_text w (c ∷ cs) n all =
+    rw (field_is_text w c.kind (get_or c.values n null) (typed_at c.kind c.values n (All-head IsTyped c cs all)), row_is_text w cs n (All-tail IsTyped c cs all)) refl
 
-rows_pass : (w i : ℕ) (f : ℕ → Record) (ns : List ℕ) → ((n : ℕ) → (length (f n) == w) ≡ true) → ((n : ℕ) → is_text (f n) ≡ true) → rows_fault w i (map f ns) ≡ None
+rows_pass : (w i : ℕ) (f : ℕ → Record) (ns : List ℕ) → ((n : ℕ) → (length (line_of (f n)) == w) ≡ true) → ((n : ℕ) → is_text (line_of (f n)) ≡ true) → rows_fault w i (map line_of (map f ns)) ≡ None
 rows_pass w i f [] wide text = refl
 rows_pass w i f (n ∷ ns) wide text = rw (wide n, text n) (none_later _ _ (rows_pass w (i + 1) f ns wide text) refl)
 
@@ -178,26 +178,30 @@ all_none f k (suc n) h =
     none_later (f k) (map f (range_with_len (k + 1) n)) (subst (λ (i : ℕ). f i ≡ None) at (h 0 (omega arith))) (all_none f (k + 1) n (λ i low.
     let next : k + suc i ≡ (k + 1) + i = omega arith in subst (λ (m : ℕ). f m ≡ None) next (h (suc i) (omega (arith, low)))))
 
-wide : (t : Table) (n : ℕ) → (length (row_fields t n) == length (names_of t)) ≡ true
-wide t n = equal _ _ (length-map t (field_at n) ∙ sym (length-map t (λ (c : TableColumn). c.name)))
+wide : (t : Table) (n : ℕ) → (length (line_of (row_fields t n)) == length (names_of t)) ≡ true
+wide t n = equal _ _ (length-map (row_fields t n) bytes_of ∙ length-map t (field_at (length t) n) ∙ sym (length-map t (λ (c : TableColumn). c.name)))
 
-rows_sound : (t : Table) → IsTold t → rows_fault (length (names_of t)) 1 (rows_text_of t) ≡ None
+rows_sound : (t : Table) → IsTold t → rows_fault (length (names_of t)) 1 (map line_of (rows_text_of t)) ≡ None
 rows_sound t told =
-    rows_pass (length (names_of t)) 1 (row_fields t) (row_numbers (height t)) (wide t) (λ n. row_is_text t n told.table.typed)
+    rows_pass (length (names_of t)) 1 (row_fields t) (row_numbers (height t)) (wide t) (λ n. row_is_text (length t) t n told.table.typed)
 
-few_rows : (t : Table) → IsTold t → nat_lt MAX_ROWS (length (rows_text_of t)) ≡ false
+few_rows : (t : Table) → IsTold t → nat_lt MAX_ROWS (length (map line_of (rows_text_of t))) ≡ false
 few_rows t told =
-    let count : length (rows_text_of t) ≡ height t = length-map (row_numbers (height t)) (row_fields t) ∙ length-range_with_len 0 (height t) in
-    not_more MAX_ROWS (length (rows_text_of t)) (omega (arith, count, told.few))
+    let count : length (map line_of (rows_text_of t)) ≡ height t = length-map (rows_text_of t) line_of ∙ length-map (row_numbers (height t)) (row_fields t) ∙ length-range_with_len 0 (height t) in
+    not_more MAX_ROWS (length (map line_of (rows_text_of t))) (omega (arith, count, told.few))
 
-records_sound : (t : Table) → IsTold t → records_fault (table_records t) ≡ None
+names_back : (ns : List Name) → line_of (map (λ n. Some n) ns) ≡ ns
+names_back [] = refl
+names_back (n ∷ ns) = ap (λ (l : List Name). n ∷ l) (names_back ns)
+
+records_sound : (t : Table) → IsTold t → records_fault (names_of t ∷ map line_of (rows_text_of t)) ≡ None
 records_sound t told =
     let names : when (not (is_text (names_of t))) (NotUtf8 0) ≡ None = rw told.names refl in
     let apart : repeated_name (names_of t) ≡ None = ap (option_map (λ (n : Name). RepeatedName n)) (unrepeated_names (names_of t) told.table.distinct) in
-    let few : when (nat_lt MAX_ROWS (length (rows_text_of t))) TooManyRows ≡ None = rw (few_rows t told) refl in
+    let few : when (nat_lt MAX_ROWS (length (map line_of (rows_text_of t)))) TooManyRows ≡ None = rw (few_rows t told) refl in
     none_later _ _ names (none_later _ _ apart (none_later _ _ (rows_sound t told) (none_later _ [] few refl)))
 
-columns_sound : (t : Table) → IsTold t → columns_fault (types_of t) (table_records t) ≡ None
+columns_sound : (t : Table) → IsTold t → columns_fault (types_of t) (names_of t) (rows_text_of t) ≡ None
 columns_sound t told =
     all_none (typed_fault (types_of t) (names_of t) (rows_text_of t)) 0 (length (names_of t)) (λ i low.
     let at : 0 + i ≡ i = omega arith in
@@ -205,7 +209,7 @@ columns_sound t told =
     let small : i < length t = rw (length-map t (λ (c : TableColumn). c.name)) at low in
     rw at (column_back t told i d small (get_in t i d _ small)).1)
 
-columns_same : (t : Table) → IsTold t → csv_table (types_of t) (table_records t) ≡ t
+columns_same : (t : Table) → IsTold t → csv_columns (types_of t) (names_of t) (rows_text_of t) ≡ t
 columns_same t told =
     ap (λ (n : ℕ). map (csv_column (types_of t) (names_of t) (rows_text_of t)) (row_numbers n)) (length-map t (λ (c : TableColumn). c.name))
     ∙ listed_by (csv_column (types_of t) (names_of t) (rows_text_of t)) t 0 (λ i d low.
@@ -215,4 +219,5 @@ pub round_trip : (t : Table) → IsTold t
     → (csv_refusal (types_of t) (records_of comma (csv_text comma t)) ≡ None) × (csv_table (types_of t) (records_of comma (csv_text comma t)) ≡ t)
 round_trip t told =
     let written = first_parts (no_column t) (no_text t ∷ []) told.written in
-    rw (records_back t written.0 told.front) (none_later _ _ (records_sound t told) (none_later _ [] (columns_sound t told) refl), columns_same t told)
+    rw (records_back t written.0 told.front, names_back (names_of t))
+    (none_later _ _ (records_sound t told) (none_later _ [] (columns_sound t told) refl), columns_same t told)

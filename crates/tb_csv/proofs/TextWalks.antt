@@ -1,44 +1,85 @@
 -- Walks over the columns of a table that is written.
-use Rattle.std.proofs.Common.{◌≡◌, ◌<◌, ◌+◌, ◌∷◌, ◌++◌, ◌∙◌, [], ℕ, List, Option, Some, None, length, map, take, get_or, refl, sym, ap, arith, subst, true, false, Vec, Global, Result, Ok, Err, ◌==◌}
+use Rattle.std.proofs.Common.{◌≡◌, ◌<◌, ◌≤◌, ◌+◌, ◌∷◌, ◌++◌, ◌∙◌, [], ℕ, zero, suc, List, Option, Some, None, length, map, take, get_or, refl, sym, ap, arith, subst, append_assoc, true, false, ◌==◌}
 use Rattle.std.specs.Prelude.{Bool, is_none, option_map, cond}
 use Rattle.std.proofs.Math.ListN.{get_or-map}
 use Rattle.std.proofs.lemmas.List.FromFn.{map-range_with_len_more}
-use Rattle.std.specs.List.{All, find}
-use Rattle.std.specs.Result.{IfOk, MatchResult, IsErrAnd}
-use Rattle.std.specs.Io.KnownBytes.{Keeps}
-use Rattle.std.proofs.lemmas.List.{append-nil, length-map, map_more}
+use Rattle.std.specs.List.{All, find, flat_map}
+use Rattle.std.proofs.lemmas.List.{append-nil, length-map, map_more, length-take-le, take_all}
 use Rattle.std.proofs.lemmas.Grind.{flat_map-append}
-use Rattle.csv.specs.Writing.{row_text, text_written}
 use Rattle.tb_value.specs.Datum.{null}
-use Rattle.csv.specs.declared.writer.Writer.{Writer}
 use Rattle.tb_value.specs.Names.{Name}
 use Rattle.tb_value.specs.Pairs.{row_numbers}
 use Rattle.tb_chunk.specs.Col.{Col, values}
 use Rattle.tb_frame.specs.Table.{Table, TableColumn, height, names_of, plain, table_of}
-use Rattle.tb_csv.specs.Records.{Record}
-use Rattle.tb_csv.specs.Texts.{csv_text, field_of, field_type, no_column, no_text, records_text, row_fields, style}
-use Rattle.tb_csv.specs.Written.{HasWritten, bytes_in}
+use Rattle.tb_csv.specs.Records.{Field, Record}
+use Rattle.tb_csv.specs.Texts.{csv_text, field_among, field_text, field_type, line_text, no_column, no_text, record_text, records_text, row_fields}
 use Rattle.tb_csv.specs.declared.fault.CsvFault.TheVariants.{NoText}
 
--- the field of a row of a column
-abbrev pub field_in : ℕ → Col → List ℕ
-field_in i c = field_of c.kind (get_or (values c) i null)
+-- the field of a row of a column, among so many
+abbrev pub field_in : ℕ → ℕ → Col → Field
+field_in width i c = field_among width c.kind (get_or (values c) i null)
 
-pub fields_in : (cs : List Col) (i : ℕ) → map (field_in i) cs ≡ row_fields (table_of cs) i
-fields_in [] i = refl
-fields_in (c ∷ cs) i = ap (λ (fs : List (List ℕ)). field_in i c ∷ fs) (fields_in cs i)
+fields_in : (width : ℕ) (cs : List Col) (i : ℕ) → map (field_in width i) cs ≡ map (λ (c : TableColumn). field_among width c.kind (get_or c.values i null)) (table_of cs)
+fields_in width [] i = refl
+fields_in width (c ∷ cs) i = ap (λ (fs : Record). field_in width i c ∷ fs) (fields_in width cs i)
 
-pub names_in : (cs : List Col) → map (λ (c : Col). c.name) cs ≡ names_of (table_of cs)
+pub row_in : (cs : List Col) (i : ℕ) → map (field_in (length cs) i) cs ≡ row_fields (table_of cs) i
+row_in cs i = fields_in (length cs) cs i ∙ ap (λ (n : ℕ). map (λ (c : TableColumn). field_among n c.kind (get_or c.values i null)) (table_of cs)) (sym (length-map cs plain))
+
+-- the name of a column, as a field
+abbrev pub name_in : Col → Field
+name_in c = Some c.name
+
+pub names_in : (cs : List Col) → map name_in cs ≡ map (λ (n : Name). Some n) (names_of (table_of cs))
 names_in [] = refl
-names_in (c ∷ cs) = ap (λ (ns : List Name). c.name ∷ ns) (names_in cs)
+names_in (c ∷ cs) = ap (λ (fs : Record). Some c.name ∷ fs) (names_in cs)
 
--- one more field is appended
-pub field_more : (f : Col → List ℕ) (cs : List Col) (i : ℕ) (c : Col) (old new : List (List ℕ)) (x : List ℕ) → i < length cs → c ≡ get_or cs i c → x ≡ f c → new ≡ old ++ x ∷ [] → old ≡ map f (take i cs) → new ≡ map f (take (i + 1) cs)
-field_more f cs i c old new x low is field push so_far =
-    push ∙ ap (λ (fs : List (List ℕ)). fs ++ x ∷ []) so_far ∙ ap (λ (y : List ℕ). map f (take i cs) ++ y ∷ []) (field ∙ ap f is) ∙ sym (map_more f cs i c low)
+-- A LINE THAT GROWS
 
-pub text_more : (separator : ℕ) (rs : List Record) (r : Record) → records_text separator (rs ++ r ∷ []) ≡ records_text separator rs ++ row_text (style separator) r
-text_more separator rs r = flat_map-append (row_text (style separator)) rs (r ∷ []) ∙ ap (λ (s : List ℕ). records_text separator rs ++ s) (append-nil (row_text (style separator) r))
+-- what stands before the field at this place
+abbrev pub gap : ℕ → ℕ → List ℕ
+gap separator zero = []
+gap separator (suc place) = separator ∷ []
+
+pub gap_first : (separator place : ℕ) (so_far apart : List ℕ) → place ≤ 0 → apart ≡ so_far → apart ≡ so_far ++ gap separator place
+gap_first separator zero so_far apart low is = is ∙ sym (append-nil so_far)
+gap_first separator (suc place) so_far apart low is = absurd (omega (arith, low))
+
+pub gap_later : (separator place : ℕ) (so_far apart : List ℕ) → 0 < place → apart ≡ so_far ++ separator ∷ [] → apart ≡ so_far ++ gap separator place
+gap_later separator zero so_far apart low is = absurd (omega (arith, low))
+gap_later separator (suc place) so_far apart low is = is
+
+line_push : (separator : ℕ) (fs : Record) (f : Field) → line_text separator (fs ++ f ∷ []) ≡ line_text separator fs ++ (gap separator (length fs) ++ field_text separator f)
+line_push separator [] f = append-nil (field_text separator f)
+line_push separator (g ∷ fs) f =
+    let item = λ (h : Field). separator ∷ field_text separator h in
+    let more : flat_map item (fs ++ f ∷ []) ≡ flat_map item fs ++ (separator ∷ field_text separator f) = flat_map-append item fs (f ∷ []) ∙ ap (λ (s : List ℕ). flat_map item fs ++ s) (append-nil (item f)) in
+    ap (λ (s : List ℕ). field_text separator g ++ s) more ∙ sym (append_assoc (field_text separator g) (flat_map item fs) (separator ∷ field_text separator f))
+
+-- one more field of a line, behind its separator
+pub line_more : (separator : ℕ) (f : Col → Field) (cs : List Col) (place : ℕ) (c : Col) (old so_far apart new : List ℕ) (x : Field) → place < length cs → c ≡ get_or cs place c → x ≡ f c
+    → apart ≡ so_far ++ gap separator place → new ≡ apart ++ field_text separator x → so_far ≡ old ++ line_text separator (map f (take place cs)) → new ≡ old ++ line_text separator (map f (take (place + 1) cs))
+line_more separator f cs place c old so_far apart new x low is field first second before =
+    let front = map f (take place cs) in
+    let count : length front ≡ place = length-map (take place cs) f ∙ length-take-le place cs (omega (arith, low)) in
+    let here : x ≡ f (get_or cs place c) = field ∙ ap f is in
+    second ∙ ap (λ (s : List ℕ). s ++ field_text separator x) (first ∙ ap (λ (s : List ℕ). s ++ gap separator place) before)
+    ∙ append_assoc (old ++ line_text separator front) (gap separator place) (field_text separator x)
+    ∙ append_assoc old (line_text separator front) (gap separator place ++ field_text separator x)
+    ∙ ap (λ (s : List ℕ). old ++ s) (ap (λ (n : ℕ). line_text separator front ++ (gap separator n ++ field_text separator x)) (sym count)
+    ∙ sym (line_push separator front x)
+    ∙ ap (λ (y : Field). line_text separator (front ++ y ∷ [])) here
+    ∙ ap (line_text separator) (sym (map_more f cs place c low)))
+
+-- the whole line
+pub line_end : (separator : ℕ) (f : Col → Field) (cs : List Col) (place : ℕ) (old so_far new : List ℕ) (r : Record) → length cs ≤ place → map f cs ≡ r
+    → new ≡ so_far ++ 10 ∷ [] → so_far ≡ old ++ line_text separator (map f (take place cs)) → new ≡ old ++ record_text separator r
+line_end separator f cs place old so_far new r past is push before =
+    push ∙ ap (λ (s : List ℕ). s ++ 10 ∷ []) (before ∙ ap (λ (ds : List Col). old ++ line_text separator (map f ds)) (take_all place cs past))
+    ∙ append_assoc old (line_text separator (map f cs)) (10 ∷ []) ∙ ap (λ (r : Record). old ++ record_text separator r) is
+
+pub text_more : (separator : ℕ) (rs : List Record) (r : Record) → records_text separator (rs ++ r ∷ []) ≡ records_text separator rs ++ record_text separator r
+text_more separator rs r = flat_map-append (record_text separator) rs (r ∷ []) ∙ ap (λ (s : List ℕ). records_text separator rs ++ s) (append-nil (record_text separator r))
 
 picked : (b : Bool) (c : Col) (x : Option TableColumn) (y : Option Col) → option_map (λ (t : TableColumn). NoText t.name) x ≡ option_map (λ (k : Col). NoText k.name) y
     → option_map (λ (t : TableColumn). NoText t.name) (cond b (Some (plain c)) x) ≡ option_map (λ (k : Col). NoText k.name) (cond b (Some c) y)
@@ -52,15 +93,12 @@ no_text_of (c ∷ cs) = picked (is_none (field_type c.kind)) c _ _ (no_text_of c
 pub level_columns : (cs : List Col) (h : ℕ) → All (λ (c : TableColumn). length c.values ≡ h) (table_of cs) → All (λ (c : Col). length (values c) ≡ h) cs
 level_columns cs h all = λ k d low. subst (λ (c : TableColumn). length c.values ≡ h) (get_or-map plain cs k d) (all k (plain d) (rw (length-map cs plain) low))
 
-pub has_same : (separator : ℕ) (a b : List ℕ) (w : Writer (Vec ℕ Global)) → a ≡ b → HasWritten separator a w → HasWritten separator b w
-has_same separator a b w e h = subst (λ (t : List ℕ). HasWritten separator t w) e h
-
 -- the text grows by that of a row
-pub grown : (separator : ℕ) (names : Record) (f : ℕ → Record) (i : ℕ) (r : Record) → r ≡ f i
-    → records_text separator (names ∷ map f (row_numbers i)) ++ row_text (style separator) r ≡ records_text separator (names ∷ map f (row_numbers (i + 1)))
-grown separator names f i r is =
+pub grown : (separator : ℕ) (names : Record) (f : ℕ → Record) (i : ℕ) (so_far new : List ℕ) → new ≡ so_far ++ record_text separator (f i)
+    → so_far ≡ records_text separator (names ∷ map f (row_numbers i)) → new ≡ records_text separator (names ∷ map f (row_numbers (i + 1)))
+grown separator names f i so_far new push before =
     let next : 0 + i ≡ i = omega arith in
-    ap (λ (x : Record). records_text separator (names ∷ map f (row_numbers i)) ++ row_text (style separator) x) is
+    push ∙ ap (λ (s : List ℕ). s ++ record_text separator (f i)) before
     ∙ sym (text_more separator (names ∷ map f (row_numbers i)) (f i))
     ∙ ap (λ (l : List Record). records_text separator (names ∷ l)) (sym (map-range_with_len_more f 0 i i next))
 
@@ -68,23 +106,15 @@ pub columns_there : (cs : List Col) → false ≡ (length cs == 0) → no_column
 columns_there [] e = cc e
 columns_there (c ∷ cs) e = refl
 
-text_of_records : (separator : ℕ) (t : Table) → records_text separator (names_of t ∷ map (row_fields t) (row_numbers (height t))) ≡ csv_text separator t
+abbrev names_fields : Table → Record
+names_fields t = map (λ (n : Name). Some n) (names_of t)
+
+text_of_records : (separator : ℕ) (t : Table) → records_text separator (names_fields t ∷ map (row_fields t) (row_numbers (height t))) ≡ csv_text separator t
 unfolding csv_text
 text_of_records separator t = refl
 
 pub text_of_columns : (separator : ℕ) (columns cs : List Col) (h : ℕ) → columns ≡ cs → h ≡ height (table_of cs)
-    → records_text separator (names_of (table_of columns) ∷ map (row_fields (table_of columns)) (row_numbers h)) ≡ csv_text separator (table_of cs)
+    → records_text separator (names_fields (table_of columns) ∷ map (row_fields (table_of columns)) (row_numbers h)) ≡ csv_text separator (table_of cs)
 text_of_columns separator columns cs h same high =
-    let text = λ (ks : List Col) (n : ℕ). records_text separator (names_of (table_of ks) ∷ map (row_fields (table_of ks)) (row_numbers n)) in
+    let text = λ (ks : List Col) (n : ℕ). records_text separator (names_fields (table_of ks) ∷ map (row_fields (table_of ks)) (row_numbers n)) in
     ap (λ (ks : List Col). text ks h) same ∙ ap (λ (n : ℕ). text cs n) high ∙ text_of_records separator (table_of cs)
-
-kept : (a : Option (List ℕ)) (t ys : List ℕ) → a ≡ Some t → Keeps a (Some ys) → ys ≡ t
-kept None t ys e k = cc e
-kept (Some x) t ys e k = cc
-
--- what a writer hands over
-pub handed_over : {E D : Type 0} (separator : ℕ) (t : List ℕ) (w : Writer (Vec ℕ Global)) (r : Result (Vec ℕ Global) E) (m : Result (Vec ℕ Global) D) (Q : E → D → Type 0)
-    → HasWritten separator t w → IfOk r (λ v. Keeps (text_written bytes_in w) (Some v.items)) → MatchResult r (λ x. m ≡ Ok x) (λ e. IsErrAnd m (Q e)) → IfOk m (λ v. v.items ≡ t)
-handed_over separator t w (Ok v) m Q h keeps is = rw is (kept (text_written bytes_in w) t v.items h.3 keeps)
-handed_over separator t w (Err e) (Ok x) Q h keeps is = absurd is
-handed_over separator t w (Err e) (Err x) Q h keeps is = tt

@@ -5,7 +5,7 @@ use Rattle.tb_value.specs.Names.{Name}
 use Rattle.tb_value.specs.Pairs.{row_numbers}
 use Rattle.tb_value.specs.declared.limits.TheConstants.{MAX_ROWS}
 use Rattle.tb_frame.specs.Refusal.{first_repeated, name_at}
-use Rattle.tb_csv.specs.Records.{Record, column_fields, is_text}
+use Rattle.tb_csv.specs.Records.{Field, Line, Record, column_fields, is_text, line_of}
 use Rattle.tb_csv.specs.Types.{column_type, is_of}
 use Rattle.tb_csv.specs.declared.fault.CsvFault.{CsvFault}
 use Rattle.tb_csv.specs.declared.fault.CsvFault.TheVariants.{Empty, NotUtf8, RepeatedName, FieldCount, TooManyRows, NotOfType, OutOfMemory}
@@ -27,11 +27,11 @@ abbrev pub Settles : {T : Type 0} → Result T CsvFault → Option CsvFault → 
 Settles r fault = MatchResult r (λ _. fault ≡ None) (λ e. (e ≡ OutOfMemory) ⊎ (fault ≡ Some e))
 
 -- record i has another number of fields than there are names, or is not UTF-8
-abbrev pub row_fault : ℕ → ℕ → Record → Option CsvFault
+abbrev pub row_fault : ℕ → ℕ → Line → Option CsvFault
 row_fault width i r = first_fault (when (not (length r == width)) (FieldCount i width (length r)) ∷ when (not (is_text r)) (NotUtf8 i) ∷ [])
 
 -- the first fault of rows, of which the first is record i
-abbrev pub rows_fault : ℕ → ℕ → List Record → Option CsvFault
+abbrev pub rows_fault : ℕ → ℕ → List Line → Option CsvFault
 rows_fault width i [] = None
 rows_fault width i (r ∷ rs) = first_fault (row_fault width i r ∷ rows_fault width (i + 1) rs ∷ [])
 
@@ -39,12 +39,12 @@ abbrev pub repeated_name : List Name → Option CsvFault
 repeated_name names = option_map (λ n. RepeatedName n) (first_repeated names)
 
 -- the first field of a column that is none of its type. The first field stands in record i
-abbrev pub column_fault : Name → FieldType → ℕ → List (List ℕ) → Option CsvFault
+abbrev pub column_fault : Name → FieldType → ℕ → List Field → Option CsvFault
 column_fault name t i [] = None
-column_fault name t i (s ∷ ss) = if is_of t s then column_fault name t (i + 1) ss else Some (NotOfType i name t)
+column_fault name t i (f ∷ fs) = if is_of t f then column_fault name t (i + 1) fs else Some (NotOfType i name t)
 
 -- names, rows and their number. The record of names is number 0
-abbrev pub records_fault : List Record → Option CsvFault
+abbrev pub records_fault : List Line → Option CsvFault
 records_fault [] = Some Empty
 records_fault (names ∷ rows) = first_fault (when (not (is_text names)) (NotUtf8 0) ∷ repeated_name names ∷ rows_fault (length names) 1 rows ∷ when (nat_lt MAX_ROWS (length rows)) TooManyRows ∷ [])
 
@@ -55,11 +55,11 @@ typed_fault types names rows j =
     let name = name_at names j in
     column_fault name (column_type types name fields) 1 fields
 
--- the columns, from the left
-abbrev pub columns_fault : List TypeOf → List Record → Option CsvFault
-columns_fault types [] = None
-columns_fault types (names ∷ rows) = first_fault (map (typed_fault types names rows) (row_numbers (length names)))
+-- the columns of these names, from the left
+abbrev pub columns_fault : List TypeOf → List Name → List Record → Option CsvFault
+columns_fault types names rows = first_fault (map (typed_fault types names rows) (row_numbers (length names)))
 
 -- why records are no table
 abbrev pub csv_refusal : List TypeOf → List Record → Option CsvFault
-csv_refusal types records = first_fault (records_fault records ∷ columns_fault types records ∷ [])
+csv_refusal types [] = Some Empty
+csv_refusal types (names ∷ rows) = first_fault (records_fault (map line_of (names ∷ rows)) ∷ columns_fault types (line_of names) rows ∷ [])

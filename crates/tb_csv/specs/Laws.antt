@@ -1,36 +1,43 @@
 -- What holds of texts and tables.
-use Rattle.std.specs.Prelude.{◌≡◌, ◌≢◌, ◌≤◌, ⊤, ℕ, List, [], map, Some, None, is_none, true, false}
+use Rattle.std.specs.Prelude.{◌≡◌, ◌≢◌, ◌≤◌, ⊤, ℕ, List, length, map, Some, None, is_none, true, false}
 use Rattle.std.specs.List.{All}
 use Rattle.csv.specs.Reading.{strip_bom}
-use Rattle.tb_value.specs.Datum.{Datum, int, string}
+use Rattle.tb_value.specs.Datum.{Datum, int, null}
 use Rattle.tb_value.specs.Kind.{Kind}
+use Rattle.tb_value.specs.Kind as kind
 use Rattle.tb_value.specs.Typed.{HasType}
 use Rattle.tb_value.specs.declared.limits.TheConstants.{MAX_ROWS}
 use Rattle.tb_frame.specs.Table.{IsTable, Table, TableColumn, height, names_of}
 use Rattle.tb_date.specs.Dates.{has_text, is_date}
 use Rattle.tb_csv.specs.Faults.{csv_refusal}
-use Rattle.tb_csv.specs.Records.{is_text, records_of}
+use Rattle.tb_csv.specs.Read.{all_fields}
+use Rattle.tb_csv.specs.Records.{is_text, line_of, lines_of, marks_of, records_of}
 use Rattle.tb_csv.specs.Tables.{csv_table}
-use Rattle.tb_csv.specs.Texts.{csv_text, field_of, field_type, no_column, table_records, text_refusal}
+use Rattle.tb_csv.specs.Texts.{csv_text, field_among, field_type, no_column, table_records, text_refusal}
 use Rattle.tb_csv.specs.Types.{cell_value, or_string}
 use Rattle.tb_csv.specs.declared.options.TypeOf.{TypeOf}
 
 abbrev pub comma : ℕ
 comma = 44
 
+-- the bytes of the records of a text are those that the toolchain's reader reads, and each of their fields has a mark
+abbrev pub MarksFit : Type 0
+MarksFit = (separator : ℕ) (text : List ℕ)
+    → (map line_of (records_of separator text) ≡ lines_of separator text) × (length (marks_of separator text) ≡ length (all_fields (lines_of separator text)))
+
 -- the records of the text of a table with columns, written with commas and with no byte-order mark at its front, are those of the table
 abbrev pub RecordsBack : Type 0
 RecordsBack = (t : Table) → no_column t ≡ None → strip_bom (csv_text comma t) ≡ csv_text comma t → records_of comma (csv_text comma t) ≡ table_records t
 
--- a value that reads back: no empty text, and no day outside the years 0 to 9999
-abbrev pub IsPlain : Kind → Datum → Type 0
-IsPlain k (string s) = s ≢ []
-IsPlain k (int z) = is_date k ≡ true → has_text z ≡ true
-IsPlain k _ = ⊤
+-- a value that reads back in a record of so many fields: no Null where a text stands alone, and no day outside the years 0 to 9999
+abbrev pub IsPlain : ℕ → Kind → Datum → Type 0
+IsPlain n k null = n ≡ 1 → k ≢ kind.string
+IsPlain n k (int z) = is_date k ≡ true → has_text z ≡ true
+IsPlain n k _ = ⊤
 
 -- a value of a type with a text form that reads back is what its field is at the type
 abbrev pub CellsBack : Type 0
-CellsBack = (k : Kind) → is_none (field_type k) ≡ false → (v : Datum) → HasType k v → IsPlain k v → cell_value (or_string (field_type k)) (field_of k v) ≡ Some v
+CellsBack = (n : ℕ) (k : Kind) → is_none (field_type k) ≡ false → (v : Datum) → HasType k v → IsPlain n k v → cell_value (or_string (field_type k)) (field_among n k v) ≡ Some v
 
 -- the types of the columns by their names
 abbrev pub types_of : Table → List TypeOf
@@ -42,7 +49,7 @@ pub record IsTold (t : Table) : Type 0 where
   pub few : height t ≤ MAX_ROWS
   pub written : text_refusal t ≡ None
   pub names : is_text (names_of t) ≡ true
-  pub plain : All (λ (c : TableColumn). All (IsPlain c.kind) c.values) t
+  pub plain : All (λ (c : TableColumn). All (IsPlain (length t) c.kind) c.values) t
   pub front : strip_bom (csv_text comma t) ≡ csv_text comma t
 
 -- such a table, written with commas and read back with its types given, is the same table

@@ -5,5 +5,5 @@ pub mod Tables
 pub mod Texts
 pub mod Left
 pub mod Read
-pub mod Written
+pub mod Places
 pub mod Laws

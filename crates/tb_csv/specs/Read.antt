@@ -1,18 +1,30 @@
 -- What was read of a text.
-use Rattle.std.specs.Prelude.{◌≡◌, ◌≤◌, ℕ, List, [], ◌∷◌, length}
+use Rattle.std.specs.Prelude.{◌≡◌, ◌≤◌, ℕ, List, [], ◌∷◌, drop, length, map, Option, option_map}
+use Rattle.std.specs.Borrow.{Bor}
 use Rattle.std.specs.List.{All, flat_map}
 use Rattle.csv.specs.Records.{fields_of}
 use Rattle.tb_value.specs.declared.limits.TheConstants.{MAX_ROWS}
-use Rattle.tb_csv.specs.Records.{Record}
+use Rattle.tb_csv.specs.Records.{Field, Line, Record, line_of, marked}
+use Rattle.tb_csv.specs.declared.lines.Lines.{Lines}
 use Rattle.tb_csv.specs.declared.records.Records.{Records}
 
 -- the fields of records, one behind another
-abbrev pub all_fields : List Record → List (List ℕ)
-all_fields rows = flat_map (λ (r : Record). r) rows
+abbrev pub all_fields : {X : Type 0} → List (List X) → List X
+all_fields rows = flat_map (λ r. r) rows
+
+-- the bytes of the fields of the names, and those of the rows
+abbrev pub AreLines : Lines → List Line → Type 0
+AreLines r [] = ⊥
+AreLines r (names ∷ lines) = (r.names.items ≡ names) × (fields_of r.fields ≡ all_fields lines) × (r.height ≡ length lines)
+    × (length lines ≤ MAX_ROWS) × All (λ (l : Line). length l ≡ length names) lines
+
+-- the fields that were read, by the marks behind those of the names
+abbrev pub fields_read : Records → List Field
+fields_read r = marked (drop (length r.names.items) r.marks.items) (fields_of r.fields)
 
 -- the rows, each with as many fields as there are names
 pub record AreRows (r : Records) (rows : List Record) : Type 0 where
-  pub fields : fields_of r.fields ≡ all_fields rows
+  pub fields : fields_read r ≡ all_fields rows
   pub height : r.height ≡ length rows
   pub few : length rows ≤ MAX_ROWS
   pub level : All (λ (row : Record). length row ≡ length r.names.items) rows
@@ -20,4 +32,11 @@ pub record AreRows (r : Records) (rows : List Record) : Type 0 where
 -- the names and the rows
 abbrev pub IsRead : Records → List Record → Type 0
 IsRead r [] = ⊥
-IsRead r (names ∷ rows) = (r.names.items ≡ names) × AreRows r rows
+IsRead r (names ∷ rows) = (r.names.items ≡ line_of names) × AreRows r rows
+
+-- fields that are lent
+abbrev pub lent_field : Option (Bor (List ℕ)) → Field
+lent_field f = option_map (λ s. s.now) f
+
+abbrev pub lent_fields : List (Option (Bor (List ℕ))) → List Field
+lent_fields fs = map lent_field fs

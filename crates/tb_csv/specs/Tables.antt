@@ -4,13 +4,13 @@ use Rattle.tb_value.specs.Names.{Name}
 use Rattle.tb_value.specs.Pairs.{row_numbers}
 use Rattle.tb_frame.specs.Refusal.{name_at}
 use Rattle.tb_frame.specs.Table.{Table, TableColumn}
-use Rattle.tb_csv.specs.Records.{Record, column_fields}
+use Rattle.tb_csv.specs.Records.{Field, Record, column_fields, line_of}
 use Rattle.tb_csv.specs.Types.{cell_of, column_type, kind_at}
 use Rattle.tb_csv.specs.declared.field_type.FieldType.{FieldType}
 use Rattle.tb_csv.specs.declared.options.TypeOf.{TypeOf}
 
 -- the column of this name whose fields are read as this type
-abbrev pub typed_column : Name → FieldType → List (List ℕ) → TableColumn
+abbrev pub typed_column : Name → FieldType → List Field → TableColumn
 typed_column name t fields = record { name = name; kind = kind_at t; values = map (cell_of t) fields }
 
 -- column j of the table
@@ -20,7 +20,11 @@ csv_column types names rows j =
     let name = name_at names j in
     typed_column name (column_type types name fields) fields
 
+-- the columns of these names, from the left
+abbrev pub csv_columns : List TypeOf → List Name → List Record → Table
+csv_columns types names rows = map (csv_column types names rows) (row_numbers (length names))
+
 -- the first record has the names, and each other one the fields of a row
 abbrev pub csv_table : List TypeOf → List Record → Table
 csv_table types [] = []
-csv_table types (names ∷ rows) = map (csv_column types names rows) (row_numbers (length names))
+csv_table types (names ∷ rows) = csv_columns types (line_of names) rows

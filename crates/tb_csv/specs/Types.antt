@@ -9,6 +9,7 @@ use Rattle.tb_value.specs.Names.{Name, same_name}
 use Rattle.tb_value.specs.Typed.{ends}
 use Rattle.tb_label.specs.Numerals.{whole_in}
 use Rattle.tb_date.specs.Dates.{date_in}
+use Rattle.tb_csv.specs.Records.{Field}
 use Rattle.tb_csv.specs.declared.field_type.FieldType.{FieldType}
 use Rattle.tb_csv.specs.declared.field_type.FieldType.TheVariants as field
 use Rattle.tb_csv.specs.declared.options.TypeOf.{TypeOf}
@@ -51,39 +52,45 @@ field_value field.String s = text_in s
 field_value field.Date s = option_map int (date_in s)
 field_value t s = option_and_then (ranged (kind_at t)) (whole_in s)
 
--- an empty field is Null at each type
-abbrev pub cell_value : FieldType → List ℕ → Option Datum
-cell_value t [] = Some null
-cell_value t (c ∷ cs) = field_value t (c ∷ cs)
+-- a text without a byte is itself at String, and Null at each other type, which has no such value
+abbrev pub empty_value : FieldType → Datum
+empty_value field.String = string []
+empty_value _ = null
 
--- whether a field is a value of the type, or empty
-abbrev pub is_of : FieldType → List ℕ → Bool
-is_of t s = is_some (cell_value t s)
+-- an absent field is Null at each type
+abbrev pub cell_value : FieldType → Field → Option Datum
+cell_value t None = Some null
+cell_value t (Some []) = Some (empty_value t)
+cell_value t (Some (c ∷ cs)) = field_value t (c ∷ cs)
+
+-- whether a field is a value of the type, or has no byte
+abbrev pub is_of : FieldType → Field → Bool
+is_of t f = is_some (cell_value t f)
 
 abbrev pub value_or_null : Option Datum → Datum
 value_or_null None = null
 value_or_null (Some v) = v
 
 -- the value of a field that is one
-abbrev pub cell_of : FieldType → List ℕ → Datum
-cell_of t s = value_or_null (cell_value t s)
+abbrev pub cell_of : FieldType → Field → Datum
+cell_of t f = value_or_null (cell_value t f)
 
 abbrev pub or_string : Option FieldType → FieldType
 or_string None = field.String
 or_string (Some t) = t
 
 -- the first of Int64, Boolean and Date that all fields are of, and else String
-abbrev pub told_type : List (List ℕ) → FieldType
+abbrev pub told_type : List Field → FieldType
 told_type fields = or_string (find (λ t. list_all (is_of t) fields) (field.Int64 ∷ field.Boolean ∷ field.Date ∷ []))
 
 -- the type that is given for a name, the first where there are several
 abbrev pub given_type : List TypeOf → Name → Option FieldType
 given_type types name = option_map (λ (t : TypeOf). t.field_type) (find (λ (t : TypeOf). same_name t.name name) types)
 
-abbrev pub or_told : List (List ℕ) → Option FieldType → FieldType
+abbrev pub or_told : List Field → Option FieldType → FieldType
 or_told fields None = told_type fields
 or_told fields (Some t) = t
 
 -- the type of a column: the one that is given, or the one that its fields tell
-abbrev pub column_type : List TypeOf → Name → List (List ℕ) → FieldType
+abbrev pub column_type : List TypeOf → Name → List Field → FieldType
 column_type types name fields = or_told fields (given_type types name)

@@ -8,6 +8,7 @@ ghost use Rattle.tb_chunk.specs.Chunk.{or_null};
 ghost use Rattle.tb_chunk.specs.Seen.{chunk_lists, storage};
 ghost use Rattle.tb_csv.specs.Faults.{Settles, column_fault};
 ghost use Rattle.tb_chunk.specs.Col.{physical};
+ghost use Rattle.tb_csv.specs.Read.{lent_field, lent_fields};
 ghost use Rattle.tb_csv.specs.Types.{cell_of, cell_value, is_of, kind_at};
 
 use crate::fault::CsvFault;
@@ -21,29 +22,32 @@ use tb_value::{OutOfMemory, PlSmallStr};
 fn cell_in<N: ReadField>(
     alloc: Global,
     field_type: FieldType,
-    field: &str,
+    field: Option<&str>,
 ) -> Result<Option<Option<N>>, OutOfMemory>
     requires { physical (kind_at field_type) ≡ N.stored }
-    ensures value { IfOk result (λ o. option_map (or_null N.shows) o ≡ cell_value field_type field.now) }
+    ensures value { IfOk result (λ o. option_map (or_null N.shows) o ≡ cell_value field_type (lent_field field.entry)) }
     ensures typed { IfOk result (λ o. IfSome o (λ c. HasType (kind_at field_type) (or_null N.shows c))) }
 {
-    if field.is_empty() {
+    let Some(text) = field else {
+        return Ok(Some(None));
+    };
+    if text.is_empty() && !matches!(field_type, FieldType::String) {
         return Ok(Some(None));
     }
-    match N::read(alloc, field_type, field)? {
+    match N::read(alloc, field_type, text)? {
         Some(cell) => Ok(Some(Some(cell))),
         None => Ok(None),
     }
 }
 
-/// Whether all fields are values of the type, or empty.
+/// Whether all fields are values of the type, or have no byte.
 pub(crate) fn are_of<N: ReadField>(
     alloc: Global,
     field_type: FieldType,
-    fields: &[&str],
+    fields: &[Option<&str>],
 ) -> Result<bool, OutOfMemory>
     requires { physical (kind_at field_type) ≡ N.stored }
-    ensures { IfOk result (λ b. b ≡ list_all (is_of field_type) (map (λ f. f.now) fields.now)) }
+    ensures { IfOk result (λ b. b ≡ list_all (is_of field_type) (lent_fields fields.now)) }
 {
     for field in fields {
         if cell_in::<N>(alloc, field_type, *field)?.is_none() {
@@ -58,11 +62,11 @@ fn cells_of<N: ReadField>(
     alloc: Global,
     name: &PlSmallStr,
     field_type: FieldType,
-    fields: &[&str],
+    fields: &[Option<&str>],
 ) -> Result<Cells<N>, CsvFault>
     requires { physical (kind_at field_type) ≡ N.stored }
-    ensures settles { Settles result (column_fault name.now field_type 1 (map (λ f. f.now) fields.now)) }
-    ensures cells { IfOk result (λ c. map (or_null N.shows) c.cells.items ≡ map (cell_of field_type) (map (λ f. f.now) fields.now)) }
+    ensures settles { Settles result (column_fault name.now field_type 1 (lent_fields fields.now)) }
+    ensures cells { IfOk result (λ c. map (or_null N.shows) c.cells.items ≡ map (cell_of field_type) (lent_fields fields.now)) }
     ensures typed { IfOk result (λ c. All (HasType (kind_at field_type)) (map (or_null N.shows) c.cells.items)) }
 {
     let mut cells = Vec::with_capacity(alloc, fields.len())?;
@@ -88,11 +92,11 @@ trait ReadChunk: Chunk {
         alloc: Global,
         name: &PlSmallStr,
         field_type: FieldType,
-        fields: &[&str],
+        fields: &[Option<&str>],
     ) -> Result<Self, CsvFault>
         requires { physical (kind_at field_type) ≡ stored }
-        ensures settles { Settles result (column_fault name.now field_type 1 (map (λ f. f.now) fields.now)) }
-        ensures values { IfOk result (λ c. Self.shown c ≡ map (cell_of field_type) (map (λ f. f.now) fields.now)) }
+        ensures settles { Settles result (column_fault name.now field_type 1 (lent_fields fields.now)) }
+        ensures values { IfOk result (λ c. Self.shown c ≡ map (cell_of field_type) (lent_fields fields.now)) }
         ensures typed { IfOk result (λ c. All (HasType (kind_at field_type)) (Self.shown c)) };
 }
 
@@ -103,7 +107,7 @@ impl<N: ReadField> ReadChunk for Cells<N> {
         alloc: Global,
         name: &PlSmallStr,
         field_type: FieldType,
-        fields: &[&str],
+        fields: &[Option<&str>],
     ) -> Result<Cells<N>, CsvFault> {
         cells_of(alloc, name, field_type, fields)
     }
@@ -116,7 +120,7 @@ impl ReadChunk for StringChunk {
         alloc: Global,
         name: &PlSmallStr,
         field_type: FieldType,
-        fields: &[&str],
+        fields: &[Option<&str>],
     ) -> Result<StringChunk, CsvFault> {
         let cells = cells_of(alloc, name, field_type, fields)?;
         Ok(StringChunk::from_cells(alloc, &cells)?)
@@ -128,12 +132,12 @@ fn read_stored<C: ReadChunk + Stored>(
     alloc: Global,
     name: &PlSmallStr,
     field_type: FieldType,
-    fields: &[&str],
+    fields: &[Option<&str>],
 ) -> Result<Chunks, CsvFault>
     requires { physical (kind_at field_type) ≡ C.stored }
-    ensures settles { Settles result (column_fault name.now field_type 1 (map (λ f. f.now) fields.now)) }
-    ensures lists { IfOk result (λ c. chunk_lists c ≡ map (cell_of field_type) (map (λ f. f.now) fields.now) ∷ []) }
-    ensures typed { IfOk result (λ c. All (HasType (kind_at field_type)) (map (cell_of field_type) (map (λ f. f.now) fields.now))) }
+    ensures settles { Settles result (column_fault name.now field_type 1 (lent_fields fields.now)) }
+    ensures lists { IfOk result (λ c. chunk_lists c ≡ map (cell_of field_type) (lent_fields fields.now) ∷ []) }
+    ensures typed { IfOk result (λ c. All (HasType (kind_at field_type)) (map (cell_of field_type) (lent_fields fields.now))) }
     ensures stored { IfOk result (λ c. storage c ≡ C.kind) }
 {
     let chunk = C::read(alloc, name, field_type, fields)?;
@@ -147,11 +151,11 @@ pub(crate) fn read_chunk(
     alloc: Global,
     name: &PlSmallStr,
     field_type: FieldType,
-    fields: &[&str],
+    fields: &[Option<&str>],
 ) -> Result<Chunks, CsvFault>
-    ensures settles { Settles result (column_fault name.now field_type 1 (map (λ f. f.now) fields.now)) }
-    ensures lists { IfOk result (λ c. chunk_lists c ≡ map (cell_of field_type) (map (λ f. f.now) fields.now) ∷ []) }
-    ensures typed { IfOk result (λ c. All (HasType (kind_at field_type)) (map (cell_of field_type) (map (λ f. f.now) fields.now))) }
+    ensures settles { Settles result (column_fault name.now field_type 1 (lent_fields fields.now)) }
+    ensures lists { IfOk result (λ c. chunk_lists c ≡ map (cell_of field_type) (lent_fields fields.now) ∷ []) }
+    ensures typed { IfOk result (λ c. All (HasType (kind_at field_type)) (map (cell_of field_type) (lent_fields fields.now))) }
     ensures stored { IfOk result (λ c. storage c ≡ physical (kind_at field_type)) }
 {
     match field_type {

@@ -1,12 +1,12 @@
 //! The columns of what was read.
-ghost use Rattle.std.specs.Prelude.{◌≡◌, ◌≤◌, ◌<◌, ◌*◌, ◌∷◌, List, length, map, IfOk};
+ghost use Rattle.std.specs.Prelude.{◌≡◌, ◌≤◌, ◌<◌, ◌*◌, List, length, IfOk};
 ghost use Rattle.csv.specs.Records.{fields_of};
 ghost use Rattle.tb_value.specs.declared.limits.TheConstants.{MAX_ROWS};
 ghost use Rattle.tb_frame.specs.Table.{plain, table_of};
 ghost use Rattle.tb_csv.specs.Faults.{Settles, column_fault, columns_fault, typed_fault};
-ghost use Rattle.tb_csv.specs.Read.{AreRows};
+ghost use Rattle.tb_csv.specs.Read.{AreRows, lent_fields};
 ghost use Rattle.tb_csv.specs.Records.{Record};
-ghost use Rattle.tb_csv.specs.Tables.{csv_column, csv_table, typed_column};
+ghost use Rattle.tb_csv.specs.Tables.{csv_column, csv_columns, typed_column};
 ghost use Rattle.tb_csv.specs.Types.{column_type, given_type, told_type};
 
 use crate::cells::{are_of, read_chunk};
@@ -27,8 +27,8 @@ fn given_type(types: &[TypeOf], name: &PlSmallStr) -> Option<FieldType>
         .map(|given| given.field_type)
 }
 
-fn told_type(alloc: Global, fields: &[&str]) -> Result<FieldType, OutOfMemory>
-    ensures { IfOk result (λ t. t ≡ told_type (map (λ f. f.now) fields.now)) }
+fn told_type(alloc: Global, fields: &[Option<&str>]) -> Result<FieldType, OutOfMemory>
+    ensures { IfOk result (λ t. t ≡ told_type (lent_fields fields.now)) }
 {
     if are_of::<i64>(alloc, FieldType::Int64, fields)? {
         return Ok(FieldType::Int64);
@@ -47,9 +47,9 @@ fn column_type(
     alloc: Global,
     types: &[TypeOf],
     name: &PlSmallStr,
-    fields: &[&str],
+    fields: &[Option<&str>],
 ) -> Result<FieldType, OutOfMemory>
-    ensures { IfOk result (λ t. t ≡ column_type types.now name.now (map (λ f. f.now) fields.now)) }
+    ensures { IfOk result (λ t. t ≡ column_type types.now name.now (lent_fields fields.now)) }
 {
     match given_type(types, name) {
         Some(given) => Ok(given),
@@ -62,11 +62,11 @@ fn read_column(
     alloc: Global,
     name: &PlSmallStr,
     field_type: FieldType,
-    fields: &[&str],
+    fields: &[Option<&str>],
 ) -> Result<Column, CsvFault>
     requires { length fields.now ≤ MAX_ROWS }
-    ensures settles { Settles result (column_fault name.now field_type 1 (map (λ f. f.now) fields.now)) }
-    ensures column { IfOk result (λ c. plain c ≡ typed_column name.now field_type (map (λ f. f.now) fields.now)) }
+    ensures settles { Settles result (column_fault name.now field_type 1 (lent_fields fields.now)) }
+    ensures column { IfOk result (λ c. plain c ≡ typed_column name.now field_type (lent_fields fields.now)) }
 {
     let chunks = read_chunk(alloc, name, field_type, fields)?;
     let name = name.copy(alloc)?;
@@ -104,9 +104,9 @@ pub(crate) fn csv_columns(
     requires full { length (fields_of records.now.fields) ≡ records.now.height * length records.now.names.items }
     requires few { records.now.height ≤ MAX_ROWS }
     ensures settles { (rows : List Record) → AreRows records.now rows
-        → Settles result (columns_fault types.now (records.now.names.items ∷ rows)) }
+        → Settles result (columns_fault types.now records.now.names.items rows) }
     ensures columns { (rows : List Record) → AreRows records.now rows
-        → IfOk result (λ v. table_of v.items ≡ csv_table types.now (records.now.names.items ∷ rows)) }
+        → IfOk result (λ v. table_of v.items ≡ csv_columns types.now records.now.names.items rows) }
 {
     let mut columns = Vec::with_capacity(alloc, records.names.len())?;
     for column in 0..records.names.len() {

@@ -18,7 +18,7 @@ use tb_value::{OutOfMemory, PlSmallStr, TOO_LONG};
 pub(crate) trait ReadField: Cell {
     ghost stored: { Kind };
 
-    /// The value of a field that isn't empty, or None where it is none of the type.
+    /// The value of a text, or None where it is none of the type.
     fn read(alloc: Global, field_type: FieldType, field: &str) -> Result<Option<Self>, OutOfMemory>
         requires { physical (kind_at field_type) ≡ stored }
         ensures value { IfOk result (λ o. option_map Self.shows o ≡ field_value field_type field.now) }

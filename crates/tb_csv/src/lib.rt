@@ -7,6 +7,8 @@ mod fault;
 mod field_type;
 mod fields;
 pub mod laws;
+mod lines;
+mod marks;
 mod options;
 mod reading;
 mod records;

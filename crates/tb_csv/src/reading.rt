@@ -2,7 +2,7 @@
 ghost use Rattle.std.specs.Prelude.{◌+◌, ℕ, List, length, IfOk};
 ghost use Rattle.csv.specs.Records.{fields_of};
 ghost use Rattle.tb_csv.specs.Left.{IsNext, Leaves};
-ghost use Rattle.tb_csv.specs.Records.{Record, form, records_of};
+ghost use Rattle.tb_csv.specs.Records.{Line, form, lines_of};
 
 use csv::{ByteRecord, Reader, ReaderBuilder};
 use std::alloc::Global;
@@ -10,7 +10,7 @@ use tb_value::OutOfMemory;
 
 /// The reader of a text.
 pub(crate) fn open_reader(alloc: Global, text: &[u8], separator: u8) -> Reader<&[u8]>
-    ensures { Leaves (form separator) (length text.now + 1) (records_of separator text.now) result }
+    ensures { Leaves (form separator) (length text.now + 1) (lines_of separator text.now) result }
 {
     ReaderBuilder::new()
         .has_headers(false)
@@ -24,8 +24,8 @@ pub(crate) fn next_record(
     reader: &mut Reader<&[u8]>,
     row: &mut ByteRecord,
 ) -> Result<bool, OutOfMemory>
-    ensures { (separator : ℕ) (turns : ℕ) (records : List Record) → Leaves (form separator) (turns + 1) records reader.old
-        → IfOk result (λ found. IsNext (form separator) turns records found (fields_of row.new) reader.new) }
+    ensures { (separator : ℕ) (turns : ℕ) (lines : List Line) → Leaves (form separator) (turns + 1) lines reader.old
+        → IfOk result (λ found. IsNext (form separator) turns lines found (fields_of row.new) reader.new) }
 {
     // Bytes that are there are read, or memory is wanting; the reader's contract allows other errors.
     reader.read_byte_record(row).map_err(|_error| OutOfMemory)

@@ -1,10 +1,8 @@
 //! The text of a table.
-ghost use Rattle.std.specs.Prelude.{◌≡◌, ◌≢◌, ◌++◌, ◌∷◌, ◌<◌, [], ℕ, List, length, map, is_none, IfOk, OnOk};
+ghost use Rattle.std.specs.Prelude.{◌≡◌, ◌++◌, ◌∷◌, ◌<◌, [], ℕ, Some, length, map, is_none, if◌then◌else◌, IfOk, OnOk};
 ghost use Rattle.std.specs.List.{All, find};
 ghost use Rattle.std.specs.Option.{option_copied};
-ghost use Rattle.std.specs.Fmt.{signed_decimal};
-ghost use Rattle.csv.specs.Records.{fields_of};
-ghost use Rattle.csv.specs.Writing.{row_text};
+ghost use Rattle.csv.specs.Writing.{escaped, needs_quotes, quoted};
 ghost use Rattle.tb_value.specs.Pairs.{row_numbers};
 ghost use Rattle.tb_value.specs.See.{lent};
 ghost use Rattle.tb_value.specs.SeeKind.{kind_of};
@@ -12,12 +10,11 @@ ghost use Rattle.tb_chunk.specs.Col.{Col, values};
 ghost use Rattle.tb_frame.specs.Table.{height, names_of, table_of};
 ghost use Rattle.tb_csv.specs.Faults.{Settles};
 ghost use Rattle.tb_date.specs.Dates.{number_text};
-ghost use Rattle.tb_csv.specs.Texts.{csv_text, field_of, field_type, records_text, row_fields, style, table_records, text_refusal};
-ghost use Rattle.tb_csv.specs.Written.{HasWritten, IsPushed};
+ghost use Rattle.tb_csv.specs.Texts.{csv_text, field_among, field_text, field_type, record_text, records_text, row_fields, style, text_refusal};
 
 use crate::fault::CsvFault;
 use crate::field_type::FieldType;
-use csv::{ByteRecord, Writer, WriterBuilder};
+use itoa::Buffer;
 use std::alloc::Global;
 use tb_date::{date_text, dated, is_date};
 use tb_frame::DataFrame;
@@ -46,117 +43,144 @@ fn check_columns(alloc: Global, columns: &[Column]) -> Result<(), CsvFault>
     }
 }
 
-// Appends the digits of a number.
-fn push_digits(alloc: Global, row: &mut ByteRecord, number: i128) -> Result<(), OutOfMemory>
-    ensures { OnOk result (IsPushed row.old row.new (signed_decimal number)) }
+// Whether a field of these bytes stands in quotes.
+fn needs_quotes(separator: u8, field: &[u8]) -> bool
+    ensures { result ≡ needs_quotes (style separator) field.now }
 {
-    let text = number.to_string(alloc)?;
-    Ok(row.push_field(text.as_bytes())?)
+    field.iter().any(|byte| *byte == separator || *byte == b'"' || *byte == b'\r' || *byte == b'\n')
+}
+
+// Appends the bytes, with each quote among them twice.
+fn push_escaped(text: &mut Vec<u8>, field: &[u8]) -> Result<(), OutOfMemory>
+    ensures { (separator : ℕ) → OnOk result (text.new.items ≡ text.old.items ++ escaped (style separator) field.now) }
+{
+    for byte in field {
+        if *byte == b'"' {
+            text.push(b'"')?;
+        }
+        text.push(*byte)?;
+    }
+    Ok(())
+}
+
+fn push_quoted(text: &mut Vec<u8>, field: &[u8]) -> Result<(), OutOfMemory>
+    ensures { (separator : ℕ) → OnOk result (text.new.items ≡ text.old.items ++ quoted (style separator) field.now) }
+{
+    text.push(b'"')?;
+    push_escaped(text, field)?;
+    Ok(text.push(b'"')?)
+}
+
+// Appends a field that is a text of these bytes.
+fn push_field(text: &mut Vec<u8>, separator: u8, field: &[u8]) -> Result<(), OutOfMemory>
+    ensures { OnOk result (text.new.items ≡ text.old.items ++ field_text separator (Some field.now)) }
+{
+    if field.is_empty() || needs_quotes(separator, field) {
+        push_quoted(text, field)
+    } else {
+        Ok(text.extend_from_slice(field)?)
+    }
 }
 
 // Appends the field of a number, which may be a day.
 fn push_number(
-    alloc: Global,
-    row: &mut ByteRecord,
+    text: &mut Vec<u8>,
+    separator: u8,
     is_day: bool,
     number: i128,
 ) -> Result<(), OutOfMemory>
-    ensures { OnOk result (IsPushed row.old row.new (number_text is_day number)) }
+    ensures { OnOk result (text.new.items ≡ text.old.items ++ field_text separator (Some (number_text is_day number))) }
 {
-    if !is_day {
-        return push_digits(alloc, row, number);
+    if is_day && let Some(date) = dated(number) {
+        return push_field(text, separator, &date_text(date));
     }
-    match dated(number) {
-        Some(date) => Ok(row.push_field(&date_text(date))?),
-        None => push_digits(alloc, row, number),
-    }
+    push_field(text, separator, Buffer::new().format(number).as_bytes())
 }
 
-// Appends the field of a value of a column of this type.
+// Appends the field of a value of a column of this type, in a record of so many fields.
 fn push_value(
-    alloc: Global,
-    row: &mut ByteRecord,
+    text: &mut Vec<u8>,
+    separator: u8,
+    width: usize,
     dtype: &DataType,
     value: ValueRef<'_>,
 ) -> Result<(), OutOfMemory>
-    ensures { OnOk result (IsPushed row.old row.new (field_of (kind_of dtype.now) (lent value.entry))) }
+    ensures { OnOk result (text.new.items ≡ text.old.items ++ field_text separator (field_among width (kind_of dtype.now) (lent value.entry))) }
 {
     match value {
-        ValueRef::Boolean(b) => Ok(row.push_field(truth_text(b).as_bytes())?),
-        ValueRef::Int(number) => push_number(alloc, row, is_date(dtype), number),
-        ValueRef::String(s) => Ok(row.push_field(s)?),
+        ValueRef::Boolean(b) => push_field(text, separator, truth_text(b).as_bytes()),
+        ValueRef::Int(number) => push_number(text, separator, is_date(dtype), number),
+        ValueRef::String(s) => push_field(text, separator, s),
         ValueRef::Null | ValueRef::Binary(_) | ValueRef::List(_) | ValueRef::Struct(_) => {
-            Ok(row.push_field(b"")?)
+            if width == 1 {
+                push_field(text, separator, b"")
+            } else {
+                Ok(())
+            }
         }
     }
 }
 
-// Puts the fields of a row of the columns into the record.
-fn fill_row(
-    alloc: Global,
-    row: &mut ByteRecord,
+// Appends the record of a row of the columns.
+fn push_row(
+    text: &mut Vec<u8>,
+    separator: u8,
     columns: &[Column],
     index: usize,
 ) -> Result<(), OutOfMemory>
     requires { All (λ (c : Col). index < length (values c)) columns.now }
-    ensures { OnOk result (fields_of row.new ≡ row_fields (table_of columns.now) index) }
+    ensures { OnOk result (text.new.items ≡ text.old.items ++ record_text separator (row_fields (table_of columns.now) index)) }
 {
-    row.clear();
-    for column in columns {
-        push_value(alloc, row, column.dtype(), column.get(index))?;
+    for place in 0..columns.len() {
+        if place > 0 {
+            text.push(separator)?;
+        }
+        let column = &columns[place];
+        push_value(
+            text,
+            separator,
+            columns.len(),
+            column.dtype(),
+            column.get(index),
+        )?;
     }
-    Ok(())
+    Ok(text.push(b'\n')?)
 }
 
-// Puts the names of the columns into the record.
-fn fill_names(row: &mut ByteRecord, columns: &[Column]) -> Result<(), OutOfMemory>
-    ensures { OnOk result (fields_of row.new ≡ names_of (table_of columns.now)) }
+// Appends the record of the names of the columns.
+fn push_names(text: &mut Vec<u8>, separator: u8, columns: &[Column]) -> Result<(), OutOfMemory>
+    ensures { OnOk result (text.new.items ≡ text.old.items ++ record_text separator (map (λ n. Some n) (names_of (table_of columns.now)))) }
 {
-    row.clear();
-    for column in columns {
-        row.push_field(column.name().as_str().as_bytes())?;
+    for place in 0..columns.len() {
+        if place > 0 {
+            text.push(separator)?;
+        }
+        push_field(text, separator, columns[place].name().as_str().as_bytes())?;
     }
-    Ok(())
+    Ok(text.push(b'\n')?)
 }
 
-fn write_row(writer: &mut Writer<Vec<u8>>, row: &ByteRecord) -> Result<(), OutOfMemory>
-    ensures { (separator : ℕ) (text : List ℕ) → HasWritten separator text writer.old
-        → OnOk result (HasWritten separator (text ++ row_text (style separator) (fields_of row.now)) writer.new) }
-{
-    writer.write_byte_record(row).map_err(|_error| OutOfMemory)
-}
-
-// Writes the names and all rows.
-fn write_records(
+// The names and all rows.
+fn records_text(
     alloc: Global,
-    writer: &mut Writer<Vec<u8>>,
+    separator: u8,
     columns: &[Column],
     height: usize,
-) -> Result<(), OutOfMemory>
+) -> Result<Vec<u8>, OutOfMemory>
     requires { All (λ (c : Col). length (values c) ≡ height) columns.now }
-    ensures { (separator : ℕ) → HasWritten separator [] writer.old
-        → OnOk result (HasWritten separator (records_text separator (names_of (table_of columns.now)
-        ∷ map (row_fields (table_of columns.now)) (row_numbers height))) writer.new) }
+    ensures { IfOk result (λ v. v.items ≡ records_text separator (map (λ n. Some n) (names_of (table_of columns.now))
+        ∷ map (row_fields (table_of columns.now)) (row_numbers height))) }
 {
-    let mut row = ByteRecord::new(alloc);
-    fill_names(&mut row, columns)?;
-    write_row(writer, &row)?;
+    let mut text = Vec::new(alloc);
+    push_names(&mut text, separator, columns)?;
     for index in 0..height {
-        fill_row(alloc, &mut row, columns, index)?;
-        write_row(writer, &row)?;
+        push_row(&mut text, separator, columns, index)?;
     }
-    Ok(())
+    Ok(text)
 }
 
-fn open_writer(alloc: Global, separator: u8) -> Writer<Vec<u8>>
-    ensures { HasWritten separator [] result }
-{
-    WriterBuilder::new()
-        .delimiter(separator)
-        .from_writer(Vec::new(alloc))
-}
-
-/// The text of a table: a record of the names, and one for each row. Null is an empty field, and so is an empty text. A day is
+/// The text of a table: a record of the names, and one for each row. Null is a field without a byte, and the empty text stands in
+/// quotes. In a table of one column Null is written as the empty text is, since a line without a byte is no record. A day is
 /// written as its date, `YYYY-MM-DD`, or by its number where its year isn't one from 0 to 9999, and other values as their texts,
 /// in quotes where they need them. Each record ends with a line feed.
 ///
@@ -170,7 +194,5 @@ pub fn csv_of_table(alloc: Global, table: &DataFrame, separator: u8) -> Result<V
 {
     let columns = table.get_columns();
     check_columns(alloc, columns)?;
-    let mut writer = open_writer(alloc, separator);
-    write_records(alloc, &mut writer, columns, table.height())?;
-    writer.into_inner().map_err(|_error| CsvFault::OutOfMemory)
+    Ok(records_text(alloc, separator, columns, table.height())?)
 }

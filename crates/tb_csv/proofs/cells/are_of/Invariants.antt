@@ -1,7 +1,8 @@
-use Rattle.std.proofs.Common.{◌≡◌, map, take, true}
+use Rattle.std.proofs.Common.{◌≡◌, take, true}
 use Rattle.std.specs.List.{list_all}
+use Rattle.tb_csv.specs.Read.{lent_fields}
 use Rattle.tb_csv.specs.Types.{is_of}
 use Rattle.tb_csv.proofs.cells.are_of.Given as goal
 
 abbrev pub invariant-loop-field : goal.invariant-loop-field
-invariant-loop-field g l = list_all (is_of l.field_type) (map (λ f. f.now) (take l.field-index l.fields)) ≡ true
+invariant-loop-field g l = list_all (is_of l.field_type) (lent_fields (take l.field-index l.fields)) ≡ true

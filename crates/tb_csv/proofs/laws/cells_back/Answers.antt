@@ -1,5 +1,5 @@
-use Rattle.tb_csv.proofs.CellsBack.{cells_back}
+use Rattle.tb_csv.proofs.CellsBack.{value_back}
 use Rattle.tb_csv.proofs.laws.cells_back.Goals as goal
 
 pub returns : goal.returns
-returns c = cells_back
+returns c = value_back

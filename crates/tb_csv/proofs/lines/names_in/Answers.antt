@@ -3,7 +3,7 @@ use Rattle.std.specs.List.{list_all}
 use Rattle.std.specs.Str.{is_utf8}
 use Rattle.csv.specs.Records.{fields_of}
 use Rattle.tb_csv.proofs.RecordWalks.{take_end, text_fails, texts_more}
-use Rattle.tb_csv.proofs.records.names_in.Goals as goal
+use Rattle.tb_csv.proofs.lines.names_in.Goals as goal
 
 pub returns-in_default-clause-settles : goal.returns-in_default-clause-settles
 returns-in_default-clause-settles c =

@@ -2,7 +2,7 @@ use Rattle.std.proofs.Common.{◌≡◌, take, true}
 use Rattle.std.specs.List.{list_all}
 use Rattle.std.specs.Str.{is_utf8}
 use Rattle.csv.specs.Records.{fields_of}
-use Rattle.tb_csv.proofs.records.names_in.Given as goal
+use Rattle.tb_csv.proofs.lines.names_in.Given as goal
 
 abbrev pub invariant-loop-field : goal.invariant-loop-field
 invariant-loop-field l =

@@ -3,7 +3,7 @@ use Rattle.std.specs.List.{list_all}
 use Rattle.std.specs.Str.{is_utf8}
 use Rattle.csv.specs.Records.{fields_of}
 use Rattle.tb_csv.proofs.RecordWalks.{take_end, text_fails, texts_more}
-use Rattle.tb_csv.proofs.records.push_texts.Goals as goal
+use Rattle.tb_csv.proofs.lines.push_texts.Goals as goal
 
 pub returns-in_default-clause-text : goal.returns-in_default-clause-text
 returns-in_default-clause-text c =

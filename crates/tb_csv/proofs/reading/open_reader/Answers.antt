@@ -1,10 +1,10 @@
 use Rattle.std.proofs.Common.{refl, inr}
 use Rattle.csv.specs.Reading.{strip_bom}
-use Rattle.tb_csv.specs.Records.{records_of}
+use Rattle.tb_csv.specs.Records.{lines_of}
 use Rattle.tb_csv.proofs.reading.open_reader.Goals as goal
 
 pub returns : goal.returns
-unfolding records_of
+unfolding lines_of
 returns c =
     let f = c.from_reader.ensures in
     let d = c.delimiter.ensures in

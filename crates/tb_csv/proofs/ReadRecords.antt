@@ -1,0 +1,43 @@
+-- What was read of a text, with its marks.
+use Rattle.std.proofs.Common.{◌≡◌, ◌≤◌, ◌∷◌, ◌∙◌, [], ℕ, List, Bool, drop, length, map, get_or, Some, None, Option, Bor, false, sym, ap, subst}
+use Rattle.std.specs.List.{All}
+use Rattle.csv.specs.Records.{field_at, fields_of}
+use Rattle.tb_value.specs.declared.limits.TheConstants.{MAX_ROWS}
+use Rattle.tb_csv.specs.Places.{MarkAlike}
+use Rattle.tb_csv.specs.Read.{AreLines, IsRead, lent_field}
+use Rattle.tb_csv.specs.Records.{Line, field, line_of, lines_of, marked, marked_records, marks_of, records_of}
+use Rattle.tb_csv.specs.declared.lines.Lines.{Lines}
+use Rattle.tb_csv.specs.declared.records.Records.{Records}
+use Rattle.tb_csv.proofs.MarkedFields.{line_back, lines_back, marked_all, marked_at, marked_height, marked_level}
+use Rattle.tb_csv.proofs.RecordWalks.{found, place}
+
+pub lines_read : (separator : ℕ) (text : List ℕ) → map line_of (records_of separator text) ≡ lines_of separator text
+unfolding records_of
+lines_read separator text = lines_back (marks_of separator text) (lines_of separator text)
+
+by_marks : (r : Records) (l : Lines) (qs : List Bool) (ls : List Line) → r.names ≡ l.names → r.fields ≡ l.fields → r.height ≡ l.height → MarkAlike r.marks.items qs → AreLines l ls → IsRead r (marked_records qs ls)
+by_marks r l qs [] names fields height alike h = absurd h
+by_marks r l qs (first ∷ ls) names fields height alike h =
+    let named : r.names.items ≡ first = ap (λ v. v.items) names ∙ h.0 in
+    let count : length r.names.items ≡ length first = ap length named in
+    let rest = drop (length first) qs in (
+      named ∙ sym (line_back qs first),
+      record {
+        fields = alike (length r.names.items) (fields_of r.fields) ∙ ap (λ (n : ℕ). marked (drop n qs) (fields_of r.fields)) count
+            ∙ ap (marked rest) (ap fields_of fields ∙ h.1) ∙ marked_all rest ls;
+        height = height ∙ h.2 ∙ sym (marked_height rest ls);
+        few = subst (λ (n : ℕ). n ≤ MAX_ROWS) (sym (marked_height rest ls)) h.3;
+        level = marked_level (length r.names.items) rest ls (subst (λ (n : ℕ). All (λ (k : Line). length k ≡ n) ls) (sym count) h.4);
+      },
+    )
+
+pub records_read : (separator : ℕ) (text : List ℕ) (r : Records) (l : Lines) → r.names ≡ l.names → r.fields ≡ l.fields → r.height ≡ l.height → MarkAlike r.marks.items (marks_of separator text)
+    → AreLines l (lines_of separator text) → IsRead r (records_of separator text)
+unfolding records_of
+records_read separator text r l names fields height alike h = by_marks r l (marks_of separator text) (lines_of separator text) names fields height alike h
+
+-- a field that is lent, by its mark
+pub field_there : (qs : List Bool) (l : Line) (i : ℕ) (q : Bool) (s : List ℕ) (f : Option (Bor (List ℕ))) (ms : List Bool) → Some s ≡ field_at l i → ms ≡ qs → q ≡ get_or ms i false
+    → lent_field f ≡ field q s → lent_field f ≡ get_or (marked qs l) i None
+field_there qs l i q s f ms there marks mark is =
+    is ∙ ap (λ (b : Bool). field b s) (mark ∙ ap (λ (ns : List Bool). get_or ns i false) marks) ∙ ap (field (get_or qs i false)) (sym (found l i s [] there)) ∙ sym (marked_at qs l i (place l i s there))

@@ -1,0 +1,130 @@
+-- A text without a quote.
+use Rattle.std.proofs.Common.{◌≡◌, ◌<◌, ◌==◌, ◌∷◌, [], ℕ, zero, suc, List, Bool, true, false, cond, drop, take, length, get_or, ◌-◌, ◌≤◌, arith, refl}
+use Rattle.std.proofs.lemmas.List.{take_all}
+use Rattle.std.specs.Prelude.{◌||◌, if◌then◌else◌}
+use Rattle.std.specs.List.{list_any}
+use Rattle.csv.specs.Machine.{ends_at_end, in_field, step}
+use Rattle.csv.specs.Reading.{is_bom, strip_bom}
+use Rattle.csv.specs.declared.parser.Action.{Action}
+use Rattle.csv.specs.declared.parser.State.{State}
+use Rattle.csv.specs.declared.parser.State.TheVariants as st
+use Rattle.tb_csv.specs.Places.{MarkAlike, has_mark}
+use Rattle.tb_csv.specs.Records.{Line, ends_field, form, is_quoted, marked, marks_from, marks_of}
+
+-- states outside quotes
+abbrev outside : State → Bool
+outside st.StartRecord = true
+outside st.StartField = true
+outside st.InField = true
+outside st.AfterCr = true
+outside _ = false
+
+in_field_outside : (a b d : Bool) (x y z : Action) → outside (cond {A = State × Action} a (st.StartField, x) (cond {A = State × Action} b (cond d st.AfterCr st.StartRecord, y) (st.InField, z))).0 ≡ true
+in_field_outside true b d x y z = refl
+in_field_outside false true true x y z = refl
+in_field_outside false true false x y z = refl
+in_field_outside false false d x y z = refl
+
+field_outside : (separator c : ℕ) → outside (in_field (form separator) c).0 ≡ true
+field_outside separator c = in_field_outside (c == separator) ((c == 13) || (c == 10)) (c == 13) _ _ _
+
+chosen_outside : (b : Bool) (x y : State × Action) → outside x.0 ≡ true → outside y.0 ≡ true → outside (cond {A = State × Action} b x y).0 ≡ true
+chosen_outside true x y left right = left
+chosen_outside false x y left right = right
+
+stays_outside : (separator : ℕ) (s : State) (c : ℕ) → (c == 34) ≡ false → outside s ≡ true → outside (step (form separator) s c).0 ≡ true
+stays_outside separator st.StartRecord c other h = rw other (chosen_outside ((c == 13) || (c == 10)) _ _ refl (field_outside separator c))
+stays_outside separator st.StartField c other h = rw other (field_outside separator c)
+stays_outside separator st.InField c other h = field_outside separator c
+stays_outside separator st.AfterCr c other h = rw other (chosen_outside (c == 10) _ _ refl (chosen_outside ((c == 13) || (c == 10)) _ _ refl (field_outside separator c)))
+stays_outside separator st.InQuoted c other h = cc h
+stays_outside separator st.AfterQuote c other h = cc h
+stays_outside separator st.InEscape c other h = cc h
+stays_outside separator st.InComment c other h = cc h
+
+not_quoted : (s : State) → outside s ≡ true → is_quoted s ≡ false
+not_quoted st.InQuoted h = cc h
+not_quoted st.AfterQuote h = cc h
+not_quoted _ h = refl
+
+-- no field stands in quotes
+abbrev AreBare : List Bool → Type 0
+AreBare [] = Unit {0}
+AreBare (q ∷ qs) = (q ≡ false) × AreBare qs
+
+bare_after : (e : Bool) (q : Bool) (qs : List Bool) → q ≡ false → AreBare qs → AreBare (if e then q ∷ qs else qs)
+bare_after true q qs is bare = (is, bare)
+bare_after false q qs is bare = bare
+
+or_parts : (a b : Bool) → (a || b) ≡ false → (a ≡ false) × (b ≡ false)
+or_parts true b h = cc h
+or_parts false b h = (refl, h)
+
+bare_marks : (separator : ℕ) (s : State) (xs : List ℕ) → outside s ≡ true → list_any (λ y. y == 34) xs ≡ false → AreBare (marks_from (form separator) s xs)
+unfolding marks_from
+bare_marks separator s [] h none = bare_after (ends_at_end s) (is_quoted s) [] (not_quoted s h) tt
+bare_marks separator s (c ∷ xs) h none =
+    let p = or_parts (c == 34) (list_any (λ y. y == 34) xs) none in
+    bare_after (ends_field (step (form separator) s c).1) (is_quoted s) _ (not_quoted s h)
+    (bare_marks separator (step (form separator) s c).0 xs (stays_outside separator s c p.0 h) p.1)
+
+bare_drop : (n : ℕ) (qs : List Bool) → AreBare qs → AreBare (drop n qs)
+bare_drop zero qs h = h
+bare_drop (suc n) [] h = tt
+bare_drop (suc n) (q ∷ qs) h = bare_drop n qs h.1
+
+bare_marked : (qs : List Bool) (l : Line) → AreBare qs → marked [] l ≡ marked qs l
+bare_marked qs [] h = refl
+bare_marked [] (s ∷ ss) h = refl
+bare_marked (q ∷ qs) (s ∷ ss) h = rw (h.0, bare_marked qs ss h.1) refl
+
+no_bytes : (n : ℕ) → drop {A = Bool} n [] ≡ []
+no_bytes zero = refl
+no_bytes (suc n) = refl
+
+none_behind : (b : Bool) (x y z : ℕ) (rest : List ℕ) → list_any (λ y. y == 34) (x ∷ y ∷ z ∷ rest) ≡ false → list_any (λ y. y == 34) (if b then rest else x ∷ y ∷ z ∷ rest) ≡ false
+none_behind true x y z rest h = (or_parts (z == 34) _ (or_parts (y == 34) _ (or_parts (x == 34) _ h).1).1).1
+none_behind false x y z rest h = h
+
+none_stripped : (xs : List ℕ) → list_any (λ y. y == 34) xs ≡ false → list_any (λ y. y == 34) (strip_bom xs) ≡ false
+unfolding strip_bom
+none_stripped [] h = h
+none_stripped (x ∷ []) h = h
+none_stripped (x ∷ y ∷ []) h = h
+none_stripped (x ∷ y ∷ z ∷ rest) h = none_behind (is_bom x y z) x y z rest h
+
+-- a text without a quote has no field in quotes
+pub no_marks : (separator : ℕ) (xs : List ℕ) → list_any (λ y. y == 34) xs ≡ false → MarkAlike [] (marks_of separator xs)
+unfolding marks_of
+no_marks separator xs none n l =
+    let bare = bare_drop n (marks_of separator xs) (bare_marks separator st.StartRecord (strip_bom xs) refl (none_stripped xs none)) in
+    rw (no_bytes n) (bare_marked (drop n (marks_of separator xs)) l bare)
+
+-- a byte-order mark at the front
+pub stripped : (xs : List ℕ) → has_mark xs ≡ true → take (length xs - 3) (drop 3 xs) ≡ strip_bom xs
+unfolding strip_bom
+stripped [] h = cc
+stripped (x ∷ []) h = cc h
+stripped (x ∷ y ∷ []) h = cc h
+stripped (x ∷ y ∷ z ∷ rest) h =
+    let size : length (x ∷ y ∷ z ∷ rest) - 3 ≡ length rest = omega arith in
+    rw (size, h) (take_all (length rest) rest (omega arith))
+
+pub kept : (xs : List ℕ) → has_mark xs ≡ false → xs ≡ strip_bom xs
+unfolding strip_bom
+kept [] h = refl
+kept (x ∷ []) h = refl
+kept (x ∷ y ∷ []) h = refl
+kept (x ∷ y ∷ z ∷ rest) h = rw h refl
+
+pub mark_of : (xs : List ℕ) → 3 ≤ length xs → has_mark xs ≡ is_bom (get_or xs 0 0) (get_or xs 1 0) (get_or xs 2 0)
+mark_of [] long = absurd (omega (arith, long))
+mark_of (x ∷ []) long = absurd (omega (arith, long))
+mark_of (x ∷ y ∷ []) long = absurd (omega (arith, long))
+mark_of (x ∷ y ∷ z ∷ rest) long = refl
+
+pub no_mark : (xs : List ℕ) → length xs < 3 → has_mark xs ≡ false
+no_mark [] short = refl
+no_mark (x ∷ []) short = refl
+no_mark (x ∷ y ∷ []) short = refl
+no_mark (x ∷ y ∷ z ∷ rest) short = absurd (omega (arith, short))

@@ -1,0 +1,31 @@
+-- The places of a reader in a text.
+use Rattle.std.specs.Prelude.{◌≡◌, ℕ, Bool, false, List, ◌∷◌, drop}
+use Rattle.csv.specs.declared.parser.Action.{Action}
+use Rattle.csv.specs.declared.parser.State.{State}
+use Rattle.csv.specs.declared.parser.State.TheVariants as st
+use Rattle.csv.specs.Reading.{is_bom}
+use Rattle.tb_csv.specs.Records.{Line, ends_field, marked}
+use Rattle.tb_csv.specs.declared.marks.Place.{Place}
+use Rattle.tb_csv.specs.declared.marks.Place.TheVariants as place
+
+-- the state of the toolchain's reader at a place
+abbrev pub state_at : Place → State
+state_at place.StartRecord = st.StartRecord
+state_at place.StartField = st.StartField
+state_at place.InField = st.InField
+state_at place.InQuoted = st.InQuoted
+state_at place.AfterQuote = st.AfterQuote
+state_at place.AfterReturn = st.AfterCr
+
+-- a place and whether a field ends before it are those of a step
+abbrev pub IsStep : Place × Bool → State × Action → Type 0
+IsStep p s = (state_at p.0 ≡ s.0) × (p.1 ≡ ends_field s.1)
+
+-- a byte-order mark stands at the front
+abbrev pub has_mark : List ℕ → Bool
+has_mark (a ∷ b ∷ c ∷ rest) = is_bom a b c
+has_mark _ = false
+
+-- lists of marks from which fields are the same
+abbrev pub MarkAlike : List Bool → List Bool → Type 0
+MarkAlike ps qs = (n : ℕ) (l : Line) → marked (drop n ps) l ≡ marked (drop n qs) l

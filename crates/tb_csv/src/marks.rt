@@ -1,0 +1,135 @@
+//! Which fields of a text stand in quotes.
+ghost use Rattle.std.specs.Prelude.{◌≡◌, IfOk};
+ghost use Rattle.csv.specs.Machine as machine;
+ghost use Rattle.csv.specs.Reading.{strip_bom};
+ghost use Rattle.csv.specs.declared.parser.State.TheVariants as st;
+ghost use Rattle.tb_csv.specs.Places.{IsStep, MarkAlike, has_mark, state_at};
+ghost use Rattle.tb_csv.specs.Records.{form, is_quoted, marks_from, marks_of};
+
+use std::alloc::Global;
+use tb_value::OutOfMemory;
+
+// Where a reader stands in a text.
+#[derive(Clone, Copy, Debug)]
+enum Place {
+    StartRecord,
+    StartField,
+    InField,
+    InQuoted,
+    AfterQuote,
+    AfterReturn,
+}
+
+// The place behind a byte that is in a field, or ends it, and whether it ends it.
+fn in_field(separator: u8, byte: u8) -> (Place, bool)
+    ensures { IsStep result (machine.in_field (form separator) byte) }
+{
+    if byte == separator {
+        (Place::StartField, true)
+    } else if byte == b'\r' {
+        (Place::AfterReturn, true)
+    } else if byte == b'\n' {
+        (Place::StartRecord, true)
+    } else {
+        (Place::InField, false)
+    }
+}
+
+fn start_field(separator: u8, byte: u8) -> (Place, bool)
+    ensures { IsStep result (machine.start_field (form separator) byte) }
+{
+    if byte == b'"' {
+        (Place::InQuoted, false)
+    } else {
+        in_field(separator, byte)
+    }
+}
+
+fn start_record(separator: u8, byte: u8) -> (Place, bool)
+    ensures { IsStep result (machine.start_record (form separator) byte) }
+{
+    if byte == b'\r' || byte == b'\n' {
+        (Place::StartRecord, false)
+    } else {
+        start_field(separator, byte)
+    }
+}
+
+impl Place {
+    // The place behind a byte, and whether a field ends there.
+    fn after(self, separator: u8, byte: u8) -> (Place, bool)
+        ensures { IsStep result (machine.step (form separator) (state_at self) byte) }
+    {
+        match self {
+            Place::StartRecord => start_record(separator, byte),
+            Place::StartField => start_field(separator, byte),
+            Place::InField => in_field(separator, byte),
+            Place::InQuoted if byte == b'"' => (Place::AfterQuote, false),
+            Place::InQuoted => (Place::InQuoted, false),
+            Place::AfterQuote if byte == b'"' => (Place::InQuoted, false),
+            Place::AfterQuote => in_field(separator, byte),
+            Place::AfterReturn if byte == b'\n' => (Place::StartRecord, false),
+            Place::AfterReturn => start_record(separator, byte),
+        }
+    }
+
+    // Whether a field that ends here stands in quotes, be they closed or not.
+    fn is_quoted(self) -> bool
+        ensures { result ≡ is_quoted (state_at self) }
+    {
+        matches!(self, Place::InQuoted | Place::AfterQuote)
+    }
+
+    // Whether a field ends where the text does.
+    fn ends_at_end(self) -> bool
+        ensures { result ≡ machine.ends_at_end (state_at self) }
+    {
+        !matches!(self, Place::StartRecord | Place::AfterReturn)
+    }
+}
+
+fn has_byte_order_mark(text: &[u8]) -> bool
+    ensures { result ≡ has_mark text.now }
+{
+    text.len() >= 3 && text[0] == 0xEF && text[1] == 0xBB && text[2] == 0xBF
+}
+
+// The text behind a byte-order mark, if it begins with one.
+fn behind_mark(text: &[u8]) -> &[u8]
+    ensures { result.now ≡ strip_bom text.now }
+{
+    if has_byte_order_mark(text) {
+        &text[3..]
+    } else {
+        text
+    }
+}
+
+// Whether each field of the text stands in quotes.
+fn marks_from_start(alloc: Global, text: &[u8], separator: u8) -> Result<Vec<bool>, OutOfMemory>
+    ensures { IfOk result (λ v. v.items ≡ marks_from (form separator) st.StartRecord text.now) }
+{
+    let mut marks = Vec::new(alloc);
+    let mut place = Place::StartRecord;
+    for byte in text {
+        let (next, ends_field) = place.after(separator, *byte);
+        if ends_field {
+            marks.push(place.is_quoted())?;
+        }
+        place = next;
+    }
+    if place.ends_at_end() {
+        marks.push(place.is_quoted())?;
+    }
+    Ok(marks)
+}
+
+/// Whether each field of a text stands in quotes. It is no list where no field does.
+pub(crate) fn marks_of(alloc: Global, text: &[u8], separator: u8) -> Result<Vec<bool>, OutOfMemory>
+    ensures { IfOk result (λ v. MarkAlike v.items (marks_of separator text.now)) }
+{
+    if !text.contains(&b'"') {
+        return Ok(Vec::new(alloc));
+    }
+    marks_from_start(alloc, behind_mark(text), separator)
+}
