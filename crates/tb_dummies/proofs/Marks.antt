@@ -3,24 +3,19 @@ use Rattle.std.proofs.Common.{◌≡◌, ◌∙◌, ◌<◌, ◌≤◌, ◌+◌,
 use Rattle.std.specs.List.{All}
 use Rattle.std.specs.Cmp.{IsEquivalence}
 use Rattle.std.proofs.Math.Bool.{and-true}
-use Rattle.std.proofs.lemmas.List.{append-nil, map_push, take_all, take_more}
+use Rattle.std.proofs.lemmas.List.{map_push, take_all, take_more}
 use Rattle.std.proofs.lemmas.List.FromFn.{length-map-range_with_len}
 use Rattle.tb_value.proofs.RowNumbers.{row_numbers_more}
 use Rattle.tb_value.specs.Datum.{Datum, int, null}
 use Rattle.tb_value.specs.Pairs.{row_numbers}
 use Rattle.tb_value.specs.Proved.ValueTests.{pulled, same_equiv}
 use Rattle.tb_value.specs.Same.{same}
-use Rattle.tb_chunk.specs.Col.{Col, values}
 use Rattle.tb_rows.specs.Grouped.{AreGroups}
 use Rattle.tb_rows.specs.Rows.{first_rows, group_of, same_rows, value_at}
 use Rattle.tb_rows.specs.declared.groups.Groups.{Groups}
 use Rattle.tb_rows.proofs.FirstRows.{firsts_below, group_is}
 use Rattle.tb_dummies.specs.Dummies.{mark}
 use Rattle.tb_dummies.specs.Lent.{mark_in}
-
--- one chunk of all values
-pub whole_values : (c d : Col) → d ≡ record c { chunks = values c ∷ [] } → values d ≡ values c
-whole_values c d e = ap values e ∙ append-nil (values c)
 
 -- whether two rows have the same value
 abbrev pub same_at : List Datum → ℕ → ℕ → Bool
