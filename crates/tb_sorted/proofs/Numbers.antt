@@ -1,5 +1,5 @@
 -- Stored keys, their values and the whole numbers that they are.
-use Rattle.std.proofs.Common.{◌≡◌, ℕ, ◌+◌, ◌<◌, Bool, true, false, cond, ◌||◌, List, [], ◌∷◌, length, get_or, map, refl, sym, ap, ap₂, ◌∙◌, subst, arith, append-nil, ℤ, pos, Option, Some, None, Result}
+use Rattle.std.proofs.Common.{◌≡◌, ℕ, ◌+◌, Bool, true, false, cond, ◌||◌, List, [], ◌∷◌, length, get_or, map, refl, sym, ap, ap₂, ◌∙◌, subst, arith, append-nil, ℤ, pos, Option, Some, None, Result}
 use Rattle.std.specs.Prelude.{IfOk, IsPermutation, IsSorted}
 use Rattle.std.specs.Ordering.{is_lt, int_cmp, int_eq}
 use Rattle.std.specs.declared.cmp.Ordering.{Ordering}
@@ -52,9 +52,6 @@ pub one_list : {X : Type 0} (f : X → List Datum) (xs : List X) (d : X) → len
 one_list f [] d one = absurd (omega arith)
 one_list f (x ∷ []) d one = append-nil (f x)
 one_list f (x ∷ y ∷ xs) d one = absurd (omega arith)
-
-pub one_there : {X Y : Type 0} (f : X → Y) (xs : List X) → length (map f xs) ≡ 1 → 0 < length xs
-one_there f xs one = let long : length (map f xs) ≡ length xs = length-map xs f in omega (arith, long, one)
 
 module _ {N : Type 0} (shows : N → Datum) (number : N → ℤ) (law : (x : N) → shows x ≡ int (number x)) where
   abbrev pub numbers : List (Option N) → List ℤ
