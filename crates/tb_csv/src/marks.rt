@@ -124,7 +124,7 @@ fn marks_from_start(alloc: Global, text: &[u8], separator: u8) -> Result<Vec<boo
     Ok(marks)
 }
 
-/// Whether each field of a text stands in quotes. It is no list where no field does.
+/// Whether each field of a text stands in quotes. A text without a quote needs no marks, and gets none.
 pub(crate) fn marks_of(alloc: Global, text: &[u8], separator: u8) -> Result<Vec<bool>, OutOfMemory>
     ensures { IfOk result (λ v. MarkAlike v.items (marks_of separator text.now)) }
 {

@@ -14,8 +14,8 @@ use tb_frame::DataFrame;
 
 /// The table of a text of comma-separated values, as RFC 4180 has them. The first record has the names of the columns,
 /// and each other one the fields of a row. A byte-order mark before them is passed over, records end at a line feed, a
-/// carriage return or both, and lines without a byte are none. An absent field is Null. A field without a byte in quotes is the
-/// empty text where its column is of type String, and else Null; such fields don't keep a column from a type.
+/// carriage return or both, and lines without a byte are none. A field without a byte is Null, unless it stands in quotes and its
+/// column is of type String: there it is the empty text. Neither keeps a column from being told as another type.
 ///
 /// # Errors
 ///
