@@ -1,11 +1,11 @@
 -- Facts on texts that are put into buffers.
-use Rattle.std.proofs.Common.{arith, ◌≡◌, ◌≤◌, ◌<◌, ◌+◌, ◌++◌, ◌∷◌, [], ℕ, List, Option, Some, length, take, refl, sym, ◌∙◌, ap, subst}
+use Rattle.std.proofs.Common.{arith, ◌≡◌, ◌≤◌, ◌<◌, ◌+◌, ◌++◌, ◌∷◌, [], ℕ, List, Option, Some, None, length, take, replicate, map, zero, suc, refl, sym, ◌∙◌, ap}
 use Rattle.std.specs.List.{All}
-use Rattle.std.proofs.lemmas.List.{map_push}
-use Rattle.std.proofs.lemmas.List.Elements.{All-append, All-cons, All-nil}
+use Rattle.std.proofs.lemmas.List.{map-append}
+use Rattle.std.proofs.lemmas.List.Elements.{All-append, All-cons, All-nil, All-replicate}
 use Rattle.std.proofs.lemmas.List.Sums.{fold_push}
-use Rattle.tb_chunk.specs.Layout.{Filling, AreLaid, IsPut, IsRow, placed, filled, begun, all_of}
-use Rattle.tb_chunk.specs.View.{buffer_of, offset_of, row_text, texts, IsViewOrNone}
+use Rattle.tb_chunk.specs.Layout.{Filling, Building, IsPut, IsRow, placed, begun, all_of, built, with_row, with_rows}
+use Rattle.tb_chunk.specs.View.{IsInline, buffer_of, offset_of, row_text, texts, IsViewOrNone}
 use Rattle.tb_chunk.specs.declared.view.View.{View}
 use Rattle.tb_chunk.proofs.Views.{IsView-last, Extend-further, Extend-last, rows-extend, rows-drop_last}
 
@@ -16,53 +16,68 @@ pub record IsBehind (bs : List (List ℕ)) (b t : List ℕ) (v : View) : Type 0 
   pub buffer : buffer_of v ≡ length bs
   pub offset : offset_of v ≡ length b
 
-placed_fits : (full : List (List ℕ)) (last t : List ℕ) → 12 < length t → length last + length t ≤ 4294967295 → placed (full, last) (Some t) ≡ (full, last ++ t)
-placed_fits full last t l h = grind arith
+placed_fits : (s : Filling) (t : List ℕ) → 12 < length t → length s.1 + length t ≤ 4294967295 → placed s (Some t) ≡ (s.0, s.1 ++ t)
+placed_fits s t l h = grind arith
 
-placed_passes : (full : List (List ℕ)) (last t : List ℕ) → 12 < length t → 4294967295 < length last + length t → placed (full, last) (Some t) ≡ (full ++ last ∷ [], t)
-placed_passes full last t l h = grind arith
+placed_passes : (s : Filling) (t : List ℕ) → 12 < length t → 4294967295 < length s.1 + length t → placed s (Some t) ≡ (s.0 ++ s.1 ∷ [], t)
+placed_passes s t l h = grind arith
 
-pub put_fits : (full : List (List ℕ)) (last t : List ℕ) (v : View) → 12 < length t → length last + length t ≤ 4294967295 → IsBehind full last t v → IsPut t (full, last) (full, last ++ t) v
-put_fits full last t v l h p =
-    let n = IsView-last full last t v l p.len p.front p.buffer p.offset in
+pub put_fits : (s : Filling) (t : List ℕ) (v : View) → 12 < length t → length s.1 + length t ≤ 4294967295 → IsBehind s.0 s.1 t v → IsPut t s (s.0, s.1 ++ t) v
+put_fits s t v l h p =
+    let n = IsView-last s.0 s.1 t v l p.len p.front p.buffer p.offset in
     record {
-      placed = sym (placed_fits full last t l h);
-      kept = λ vs a. rows-extend (full ++ last ∷ []) (full ++ (last ++ t) ∷ []) vs (Extend-last full last t) a;
+      placed = sym (placed_fits s t l h);
+      kept = λ vs a. rows-extend (all_of s) (s.0 ++ (s.1 ++ t) ∷ []) vs (Extend-last s.0 s.1 t) a;
       view = n.0;
       text = n.1;
     }
 
-pub put_passes : (full : List (List ℕ)) (last t : List ℕ) (v : View) → 12 < length t → 4294967295 < length last + length t → IsBehind (full ++ last ∷ []) [] t v → IsPut t (full, last) (full ++ last ∷ [], t) v
-put_passes full last t v l h p =
-    let n = IsView-last (full ++ last ∷ []) [] t v l p.len p.front p.buffer p.offset in
+pub put_passes : (s : Filling) (t : List ℕ) (v : View) → 12 < length t → 4294967295 < length s.1 + length t → IsBehind (all_of s) [] t v → IsPut t s (all_of s, t) v
+put_passes s t v l h p =
+    let n = IsView-last (all_of s) [] t v l p.len p.front p.buffer p.offset in
     record {
-      placed = sym (placed_passes full last t l h);
-      kept = λ vs a. rows-extend (full ++ last ∷ []) ((full ++ last ∷ []) ++ t ∷ []) vs (Extend-further (full ++ last ∷ []) (t ∷ [])) a;
+      placed = sym (placed_passes s t l h);
+      kept = λ vs a. rows-extend (all_of s) (all_of s ++ t ∷ []) vs (Extend-further (all_of s) (t ∷ [])) a;
       view = n.0;
       text = n.1;
     }
 
--- the same where the parts are known by equations
-pub put_fits_at : (full : List (List ℕ)) (last t : List ℕ) (full2 : List (List ℕ)) (last2 last3 : List ℕ) (v : View) → 12 < length t → full2 ≡ full → last2 ≡ last → last3 ≡ last2 ++ t → length last + length t ≤ 4294967295 → IsBehind full2 last2 t v → IsPut t (full, last) (full2, last3) v
-put_fits_at full last t full2 last2 last3 v l e1 e2 e3 h p =
-    subst (λ (s : Filling). IsPut t s (full2, last3) v) (λ i. (e1 i, e2 i)) (subst (λ (x : List ℕ). IsPut t (full2, last2) (full2, x) v) (sym e3) (put_fits full2 last2 t v l (omega (arith, h, ap length e2)) p))
+-- more rows whose views stand over the new buffers
+pub rows_more : (s s' : Filling) (vs ws : List (Option View)) (o : Option (List ℕ)) (w : Option View) → IsRow o s s' w → All (IsViewOrNone (all_of s)) vs → All (IsViewOrNone (all_of s')) ws → All (IsViewOrNone (all_of s')) (vs ++ ws) × (texts (all_of s') (vs ++ ws) ≡ texts (all_of s) vs ++ texts (all_of s') ws)
+rows_more s s' vs ws o w r a b =
+    let k = r.kept vs a in (
+      All-append (IsViewOrNone (all_of s')) vs ws k.0 b,
+      map-append (row_text (all_of s')) vs ws ∙ ap (λ ts. ts ++ texts (all_of s') ws) k.1,
+    )
 
-pub put_passes_at : (full : List (List ℕ)) (last t : List ℕ) (full2 : List (List ℕ)) (last2 last3 : List ℕ) (v : View) → 12 < length t → full2 ≡ full ++ last ∷ [] → last2 ≡ [] → last3 ≡ last2 ++ t → 4294967295 < length last + length t → IsBehind full2 last2 t v → IsPut t (full, last) (full2, last3) v
-put_passes_at full last t full2 last2 last3 v l e1 e2 e3 h p =
-    let q : IsBehind (full ++ last ∷ []) [] t v = subst (λ (s : Filling). IsBehind s.0 s.1 t v) (λ i. (e1 i, e2 i)) p in
-    let e4 : last3 ≡ t = e3 ∙ ap (λ x. x ++ t) e2 in
-    subst (λ (s : Filling). IsPut t (full, last) s v) (sym (λ i. (e1 i, e4 i))) (put_passes full last t v l h q)
+-- what a builder of these views over these buffers holds
+abbrev pub seen : Filling → List (Option View) → Building
+seen s vs = record { rows = texts (all_of s) vs; laid = s }
 
 -- one more row
-pub AreLaid-push : (s s' : Filling) (vs : List (Option View)) (ts : List (Option (List ℕ))) (o : Option (List ℕ)) (w : Option View) → AreLaid s vs ts → IsRow o s s' w → AreLaid s' (vs ++ w ∷ []) (ts ++ o ∷ [])
-AreLaid-push s s' vs ts o w a r =
-    let k = r.kept vs a.formed in
-    let p : s' ≡ placed (filled ts) o = r.placed ∙ ap (λ x. placed x o) a.placed in
-    record {
-      formed = All-append (IsViewOrNone (all_of s')) vs (w ∷ []) k.0 (All-cons (IsViewOrNone (all_of s')) w [] r.view (All-nil (IsViewOrNone (all_of s'))));
-      same = map_push (row_text (all_of s')) vs w ∙ (λ i. (k.1 ∙ a.same) i ++ r.text i ∷ []);
-      placed = p ∙ sym (fold_push placed ([], []) ts o);
-    }
+pub row_pushed : (s s' : Filling) (vs : List (Option View)) (o : Option (List ℕ)) (w : Option View) → IsRow o s s' w → All (IsViewOrNone (all_of s)) vs → All (IsViewOrNone (all_of s')) (vs ++ w ∷ []) × (seen s' (vs ++ w ∷ []) ≡ with_row (seen s vs) o)
+row_pushed s s' vs o w r a =
+    let m = rows_more s s' vs (w ∷ []) o w r a (All-cons (IsViewOrNone (all_of s')) w [] r.view (All-nil (IsViewOrNone (all_of s')))) in
+    let e : texts (all_of s') (vs ++ w ∷ []) ≡ texts (all_of s) vs ++ o ∷ [] = m.1 ∙ ap (λ t. texts (all_of s) vs ++ t ∷ []) r.text in
+    (m.0, λ i. record { rows = e i; laid = r.placed i })
+
+pub map-replicate : {A B : Type 0} (f : A → B) (n : ℕ) (x : A) → map f (replicate n x) ≡ replicate n (f x)
+map-replicate f zero x = refl
+map-replicate f (suc n) x = ap (λ xs. f x ∷ xs) (map-replicate f n x)
+
+-- n more rows of one view
+pub rows_pushed : (s s' : Filling) (vs : List (Option View)) (t : List ℕ) (w : Option View) (n : ℕ) → IsRow (Some t) s s' w → All (IsViewOrNone (all_of s)) vs → All (IsViewOrNone (all_of s')) (vs ++ replicate n w) × (seen s' (vs ++ replicate n w) ≡ with_rows (seen s vs) t n)
+rows_pushed s s' vs t w n r a =
+    let m = rows_more s s' vs (replicate n w) (Some t) w r a (All-replicate (IsViewOrNone (all_of s')) n w r.view) in
+    let e : texts (all_of s') (vs ++ replicate n w) ≡ texts (all_of s) vs ++ replicate n (Some t) = m.1 ∙ ap (λ ts. texts (all_of s) vs ++ ts) (map-replicate (row_text (all_of s')) n w ∙ ap (replicate n) r.text) in
+    (m.0, λ i. record { rows = e i; laid = r.placed i })
+
+-- a row without a text
+pub null_row : (s : Filling) → IsRow None s s None
+null_row s = record { placed = refl; kept = λ vs a. (a, refl); view = tt; text = refl }
+
+pub built-push : (ts : List (Option (List ℕ))) (o : Option (List ℕ)) → with_row (built ts) o ≡ built (ts ++ o ∷ [])
+built-push ts o = let e = fold_push placed ([], []) ts o in λ i. record { rows = ts ++ o ∷ []; laid = sym e i }
 
 -- the buffers at the end hold the same texts
 pub rows-begun : (s : Filling) (vs : List (Option View)) → All (IsViewOrNone (all_of s)) vs → All (IsViewOrNone (begun s)) vs × (texts (begun s) vs ≡ texts (all_of s) vs)

@@ -14,3 +14,4 @@ pub mod Parts
 pub mod Rows
 pub mod Views
 pub mod Windows
+mod TypedRows

@@ -1,5 +1,5 @@
 -- Where the texts of a chunk are put.
-use Rattle.std.specs.Prelude.{◌≡◌, ◌+◌, ◌++◌, if◌then◌else◌, ℕ, List, [], ◌∷◌, Option, Some, None, nat_le, length}
+use Rattle.std.specs.Prelude.{◌≡◌, ◌+◌, ◌++◌, if◌then◌else◌, ℕ, List, [], ◌∷◌, Option, Some, None, nat_le, length, replicate}
 use Rattle.std.specs.List.{All, fold}
 use Rattle.tb_chunk.specs.View.{view_text, row_text, texts, IsView, IsViewOrNone}
 use Rattle.tb_chunk.specs.declared.view.View.{View}
@@ -43,8 +43,19 @@ pub record IsRow (o : Option (List ℕ)) (old new : Filling) (w : Option View) :
   pub view : IsViewOrNone (all_of new) w
   pub text : row_text (all_of new) w ≡ o
 
--- views of these texts over the buffers so far
-pub record AreLaid (s : Filling) (vs : List (Option View)) (ts : List (Option (List ℕ))) : Type 0 where
-  pub formed : All (IsViewOrNone (all_of s)) vs
-  pub same : texts (all_of s) vs ≡ ts
-  pub placed : s ≡ filled ts
+-- what a builder holds: the texts of its rows, and the buffers that they are put into
+pub record Building : Type 0 where
+  pub rows : List (Option (List ℕ))
+  pub laid : Filling
+
+-- the same after these rows, pushed one after another
+abbrev pub built : List (Option (List ℕ)) → Building
+built ts = record { rows = ts; laid = filled ts }
+
+-- one more row
+abbrev pub with_row : Building → Option (List ℕ) → Building
+with_row b o = record { rows = b.rows ++ o ∷ []; laid = placed b.laid o }
+
+-- n more rows of one text, which is put once
+abbrev pub with_rows : Building → List ℕ → ℕ → Building
+with_rows b t n = record { rows = b.rows ++ replicate n (Some t); laid = placed b.laid (Some t) }

@@ -1,13 +1,13 @@
 //! A value as a typed column stores it.
 ghost use Rattle.std.specs.Prelude.{◌≡◌, ◌≢◌, IfOk, false, pos, refl};
-ghost use Rattle.tb_value.specs.Datum.{Datum, null, boolean, int, string, binary, list, struct, items_of, is_null};
+ghost use Rattle.tb_value.specs.Datum.{Datum, null, boolean, int, string, list, struct, items_of, is_null};
 ghost use Rattle.tb_value.specs.Kind.{Kind};
 ghost use Rattle.tb_value.specs.Kind as kinds;
 ghost use Rattle.tb_value.specs.See.{datum, lent, IsText};
 ghost use Rattle.tb_chunk.specs.Fits.{Fits};
 
 use std::alloc::Global;
-use tb_value::{AnyValue, Bytes, OutOfMemory, PlSmallStr, ValueRef, Values};
+use tb_value::{AnyValue, OutOfMemory, PlSmallStr, ValueRef, Values};
 
 /// A value other than Null, as a typed column stores it. `shows` is what contracts see of it, and `kind` is the type by
 /// which it is stored.
@@ -289,29 +289,6 @@ impl Cell for PlSmallStr {
     }
 
     fn copy(&self, alloc: Global) -> Result<PlSmallStr, OutOfMemory> {
-        self.copy(alloc)
-    }
-}
-
-impl Cell for Bytes {
-    ghost shows = { binary };
-
-    ghost kind = { kinds.binary };
-
-    ghost some = { λ _. refl };
-
-    fn lend(&self) -> ValueRef<'_> {
-        ValueRef::Binary(self.as_slice())
-    }
-
-    fn from_value(alloc: Global, value: &AnyValue) -> Result<Bytes, OutOfMemory> {
-        match value {
-            AnyValue::Binary(s) => s.copy(alloc),
-            _ => unreachable!(),
-        }
-    }
-
-    fn copy(&self, alloc: Global) -> Result<Bytes, OutOfMemory> {
         self.copy(alloc)
     }
 }

@@ -16,7 +16,7 @@ ghost use Rattle.std.proofs.Props.{props};
 use crate::cell::Cell;
 use crate::view_chunk::ViewChunk;
 use std::alloc::Global;
-use tb_value::{AnyValue, OutOfMemory, PlSmallStr, ValueRef};
+use tb_value::{AnyValue, OutOfMemory, ValueRef};
 
 /// Values of a column that stand together, and to which values can be appended. `shown` is what contracts see of them,
 /// `kind` is the type by which they are stored, and `buffers` are the bytes of long texts that they share with others.
@@ -271,15 +271,6 @@ impl StringChunk {
     {
         self.inner.get(row)
     }
-
-    /// The chunk of these texts.
-    pub fn from_cells(alloc: Global, cells: &Cells<PlSmallStr>) -> Result<StringChunk, OutOfMemory>
-        ensures { IfOk result (λ c. map (or_null string) (texts c.inner.buffers.items c.inner.views.items) ≡ map (or_null string) cells.now.cells.items) }
-    {
-        Ok(StringChunk {
-            inner: ViewChunk::from_texts(alloc, &cells.cells)?,
-        })
-    }
 }
 
 impl Chunk for StringChunk {
@@ -312,7 +303,7 @@ impl Chunk for StringChunk {
 
     fn from_values(alloc: Global, values: &[AnyValue]) -> Result<StringChunk, OutOfMemory> {
         Ok(StringChunk {
-            inner: ViewChunk::from_texts(alloc, values)?,
+            inner: ViewChunk::from_values(alloc, values)?,
         })
     }
 

@@ -1,93 +1,55 @@
-//! Chunks made of texts.
-ghost use Rattle.std.specs.Prelude.{◌≡◌, ◌<◌, ◌≤◌, ◌+◌, ◌^◌, ◌∷◌, ◌++◌, [], All, IfOk, OnOk, IfSome, None, Some, length, map, take, drop};
-ghost use Rattle.std.specs.Option.{option_map};
-ghost use Rattle.tb_chunk.specs.Layout.{IsPut, IsRow, begun, laid_out};
-ghost use Rattle.tb_chunk.specs.View.{texts};
+//! Buffers that texts are put into.
+ghost use Rattle.std.specs.Prelude.{◌≡◌, ◌<◌, ◌≤◌, ◌+◌, ◌^◌, ◌∷◌, ◌++◌, [], IfOk, OnOk, OnErr, Some, length, map};
+ghost use Rattle.tb_chunk.specs.Layout.{IsPut, IsRow, begun};
 
 use crate::view::View;
-use crate::view_chunk::ViewChunk;
 use std::alloc::Global;
+use std::marker::Model;
 use std::mem;
-use tb_value::{AnyValue, Bytes, OutOfMemory, PlSmallStr};
+use tb_value::{Bytes, OutOfMemory};
 
-// A buffer has at most as many bytes.
+// A buffer has at most as many bytes, and a chunk as many full buffers.
 const MOST: usize = 4294967295;
 
-/// A value that has a text or bytes, or none. `text` is what contracts see of it.
-pub(crate) trait MaybeText {
-    ghost use Rattle.std.specs.Prelude.{◌≡◌, ℕ, List, Option, IfSome};
-    ghost use Rattle.std.specs.Option.{option_map};
-
-    ghost text: { Self → Option (List ℕ) };
-
-    ghost fine: { Option (List ℕ) → Type 0 };
-
-    /// The bytes, lent.
-    fn lend_text(&self) -> Option<&[u8]>
-        ensures text { option_map (λ t. t.now) result ≡ text self.now }
-        ensures fine { fine (text self.now) };
-}
-
-impl MaybeText for AnyValue {
-    ghost use Rattle.tb_value.specs.See.{datum};
-    ghost use Rattle.tb_chunk.specs.Texts.{text_of};
-
-    ghost text = { λ v. text_of (datum v) };
-
-    ghost fine = { λ _. Unit {0} };
-
-    fn lend_text(&self) -> Option<&[u8]> {
-        match self {
-            AnyValue::String(text) => Some(text.as_str().as_bytes()),
-            AnyValue::Binary(bytes) => Some(bytes.as_slice()),
-            _ => None,
-        }
-    }
-}
-
-impl MaybeText for Option<PlSmallStr> {
-    ghost use Rattle.tb_chunk.specs.Texts.{IsUtf8Row};
-
-    ghost text = { λ cell. cell };
-
-    ghost fine = { IsUtf8Row };
-
-    fn lend_text(&self) -> Option<&[u8]> {
-        match self {
-            Some(text) => Some(text.as_str().as_bytes()),
-            None => None,
-        }
-    }
-}
-
-impl MaybeText for Option<Bytes> {
-    ghost text = { λ cell. cell };
-
-    ghost fine = { λ _. Unit {0} };
-
-    fn lend_text(&self) -> Option<&[u8]> {
-        match self {
-            Some(bytes) => Some(bytes.as_slice()),
-            None => None,
-        }
-    }
-}
-
-// Full buffers, and the one that is being filled.
+/// Full buffers, and the one that is being filled.
 #[derive(Drop)]
-struct Filling {
-    full: Vec<Bytes>,
+pub(crate) struct Filling {
+    full: Vec<Vec<u8>>,
     last: Vec<u8>,
 }
 
+impl Model for Filling {
+    ghost use Rattle.std.specs.Prelude.{ℕ, List, length, map, ◌<◌, ◌^◌};
+
+    ghost Value = { List (List ℕ) × List ℕ };
+
+    ghost view = { λ f. (map (λ b. b.items) f.full.items, f.last.items) };
+
+    ghost invariant = { λ f. length f.full.items < 2 ^ 32 };
+}
+
 impl Filling {
-    // Begins a new buffer.
-    fn close(&mut self, alloc: Global) -> Result<(), OutOfMemory>
-        ensures full { OnOk result (self.new.full.items ≡ self.old.full.items ++ self.old.last.items ∷ []) }
-        ensures last { OnOk result (self.new.last.items ≡ []) }
+    /// No byte yet.
+    pub(crate) fn empty(alloc: Global) -> Filling
+        ensures { result ≡ ([], []) }
     {
-        let full = mem::replace(&mut self.last, Vec::new(alloc));
-        self.full.push(Bytes::from_vec(alloc, full)?)?;
+        Filling {
+            full: Vec::new(alloc),
+            last: Vec::new(alloc),
+        }
+    }
+
+    // Begins a new buffer with a text.
+    fn begin(&mut self, alloc: Global, text: &[u8]) -> Result<(), OutOfMemory>
+        ensures ok { OnOk result (self.new ≡ (self.old.0 ++ self.old.1 ∷ [], text.now)) }
+        ensures err { OnErr result (self.new ≡ self.old) }
+    {
+        if self.full.len() == MOST {
+            return Err(OutOfMemory);
+        }
+        self.full.reserve(1)?;
+        let next = Vec::from_slice(alloc, text)?;
+        self.full.push_reserved(mem::replace(&mut self.last, next));
         Ok(())
     }
 
@@ -95,26 +57,40 @@ impl Filling {
     fn put(&mut self, alloc: Global, text: &[u8]) -> Result<View, OutOfMemory>
         requires long { 12 < length text.now }
         requires fits { length text.now < 2 ^ 32 }
-        ensures { IfOk result (λ v. IsPut text.now (self.old.full.items, self.old.last.items) (self.new.full.items, self.new.last.items) v) }
+        ensures ok { IfOk result (λ v. IsPut text.now self.old self.new v) }
+        ensures err { OnErr result (self.new ≡ self.old) }
     {
         if self.last.len() + text.len() > MOST {
-            self.close(alloc)?;
+            self.begin(alloc, text)?;
+            return Ok(View::long(text, self.full.len() as u32, 0));
         }
-        let buffer = match u32::try_from(self.full.len()) {
-            Ok(buffer) => buffer,
-            Err(_) => return Err(OutOfMemory),
-        };
-        let view = View::long(text, buffer, self.last.len() as u32);
+        let view = View::long(text, self.full.len() as u32, self.last.len() as u32);
         self.last.extend_from_slice(text)?;
         Ok(view)
     }
 
-    // All buffers.
-    fn finish(self, alloc: Global) -> Result<Vec<Bytes>, OutOfMemory>
-        ensures { IfOk result (λ v. v.items ≡ begun (self.full.items, self.last.items)) }
+    /// The view of a text, which is put behind the others where it is long. A text of 2^32 bytes or more is refused. After a
+    /// refusal the buffers are as they were.
+    pub(crate) fn view_of(&mut self, alloc: Global, text: &[u8]) -> Result<View, OutOfMemory>
+        ensures ok { IfOk result (λ v. IsRow (Some text.now) self.old self.new (Some v)) }
+        ensures fits { OnOk result (length text.now < 2 ^ 32) }
+        ensures err { OnErr result (self.new ≡ self.old) }
+    {
+        if text.len() <= 12 {
+            return Ok(View::short(text));
+        }
+        if text.len() > MOST {
+            return Err(OutOfMemory);
+        }
+        self.put(alloc, text)
+    }
+
+    /// All buffers, which are not copied.
+    pub(crate) fn finish(self, alloc: Global) -> Result<Vec<Bytes>, OutOfMemory>
+        ensures { IfOk result (λ v. v.items ≡ begun self) }
     {
         let Filling { full, last } = self;
-        let mut buffers = full;
+        let mut buffers = shared(alloc, full)?;
         if !last.is_empty() {
             buffers.push(Bytes::from_vec(alloc, last)?)?;
         }
@@ -122,53 +98,12 @@ impl Filling {
     }
 }
 
-// The view of a text, which is put into the buffers where it is long.
-fn view_of(alloc: Global, filling: &mut Filling, text: &[u8]) -> Result<View, OutOfMemory>
-    ensures { IfOk result (λ v. IsRow (Some text.now) (filling.old.full.items, filling.old.last.items) (filling.new.full.items, filling.new.last.items) (Some v)) }
+fn shared(alloc: Global, buffers: Vec<Vec<u8>>) -> Result<Vec<Bytes>, OutOfMemory>
+    ensures { IfOk result (λ v. v.items ≡ map (λ b. b.items) buffers.items) }
 {
-    if text.len() <= 12 {
-        return Ok(View::short(text));
+    let mut all = Vec::new(alloc);
+    for buffer in buffers {
+        all.push(Bytes::from_vec(alloc, buffer)?)?;
     }
-    if text.len() > MOST {
-        return Err(OutOfMemory);
-    }
-    filling.put(alloc, text)
-}
-
-// The view of a row, none for Null.
-fn view_of_row(
-    alloc: Global,
-    filling: &mut Filling,
-    text: Option<&[u8]>,
-) -> Result<Option<View>, OutOfMemory>
-    ensures { IfOk result (λ o. IsRow (option_map (λ t. t.now) text.entry) (filling.old.full.items, filling.old.last.items) (filling.new.full.items, filling.new.last.items) o) }
-{
-    match text {
-        None => Ok(None),
-        Some(text) => Ok(Some(view_of(alloc, filling, text)?)),
-    }
-}
-
-impl ViewChunk {
-    /// The chunk of these texts. Those longer than 12 bytes stand in its buffers in order, and a new
-    /// buffer begins where one would pass 2^32 - 1 bytes.
-    pub(crate) fn from_texts<T: MaybeText>(
-        alloc: Global,
-        rows: &[T],
-    ) -> Result<ViewChunk, OutOfMemory>
-        ensures texts { IfOk result (λ c. texts c.buffers.items c.views.items ≡ map T.text rows.now) }
-        ensures buffers { IfOk result (λ c. c.buffers.items ≡ laid_out (map T.text rows.now)) }
-        ensures fine { IfOk result (λ c. All T.fine (map T.text rows.now)) }
-    {
-        let mut filling = Filling {
-            full: Vec::new(alloc),
-            last: Vec::new(alloc),
-        };
-        let mut views = Vec::with_capacity(alloc, rows.len())?;
-        for row in rows {
-            views.push(view_of_row(alloc, &mut filling, row.lend_text())?)?;
-        }
-        let buffers = filling.finish(alloc)?;
-        Ok(ViewChunk { views, buffers })
-    }
+    Ok(all)
 }

@@ -3,6 +3,7 @@
 #![tactic(auto)]
 
 mod arrange;
+mod builders;
 mod cell;
 mod chunk;
 mod chunks;
@@ -20,8 +21,10 @@ mod row_number;
 mod slicing;
 mod stored;
 mod view;
+mod view_builder;
 mod view_chunk;
 
+pub use builders::{BinaryBuilder, StringBuilder};
 pub use cell::{Cell, FieldValues};
 pub use chunk::{Cells, Chunk, StringChunk};
 pub use chunks::{Chunks, copy_chunks, nulls_in, rows_in, value_in};

@@ -10,7 +10,7 @@ use crate::cell::FieldValues;
 use crate::chunk::{Cells, Chunk};
 use crate::view_chunk::ViewChunk;
 use std::alloc::Global;
-use tb_value::{AnyValue, Bytes, OutOfMemory, ValueRef, Values};
+use tb_value::{AnyValue, OutOfMemory, ValueRef, Values};
 
 /// Optional bytes, each as a view over shared buffers.
 #[derive(Drop)]
@@ -25,15 +25,6 @@ impl BinaryChunk {
         ensures { option_map (λ t. t.now) result ≡ get_or (texts self.now.inner.buffers.items self.now.inner.views.items) row None }
     {
         self.inner.get(row)
-    }
-
-    /// The chunk of these bytes.
-    pub fn from_cells(alloc: Global, cells: &Cells<Bytes>) -> Result<BinaryChunk, OutOfMemory>
-        ensures { IfOk result (λ c. map (or_null binary) (texts c.inner.buffers.items c.inner.views.items) ≡ map (or_null binary) cells.now.cells.items) }
-    {
-        Ok(BinaryChunk {
-            inner: ViewChunk::from_texts(alloc, &cells.cells)?,
-        })
     }
 }
 
@@ -61,7 +52,7 @@ impl Chunk for BinaryChunk {
 
     fn from_values(alloc: Global, values: &[AnyValue]) -> Result<BinaryChunk, OutOfMemory> {
         Ok(BinaryChunk {
-            inner: ViewChunk::from_texts(alloc, values)?,
+            inner: ViewChunk::from_values(alloc, values)?,
         })
     }
 

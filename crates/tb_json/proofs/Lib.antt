@@ -15,3 +15,4 @@ pub mod ReadBack
 pub mod TextPlain
 pub mod ValuesBack
 pub mod OneToOne
+mod StoredTexts

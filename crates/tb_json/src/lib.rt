@@ -7,6 +7,7 @@ mod read_arrays;
 mod read_cell;
 mod read_kinds;
 mod read_plain_cells;
+mod read_texts;
 mod scalar;
 mod write_cells;
 mod write_kinds;

@@ -28,8 +28,7 @@ pub fn value_of(
         Value::Null => Ok(Some(AnyValue::Null)),
         Value::Bool(b) => Ok(boolean_of(*b, dtype)),
         Value::Unsigned(_) | Value::Negative(_) | Value::Float(_) => Ok(number_of(value, dtype)),
-        Value::Short(text) => text_of(alloc, text.as_str(), dtype),
-        Value::Long(text) => text_of(alloc, text.as_str(), dtype),
+        Value::Short(_) | Value::Long(_) => text_of(alloc, value, dtype),
         Value::Array(items) => match dtype {
             DataType::List(inner) => match each_value(alloc, items, inner)? {
                 Some(values) => Ok(Some(AnyValue::List(Values::from_vec(values)))),

@@ -3,7 +3,7 @@ ghost use Rattle.std.specs.Prelude.{◌≡◌, map, replicate, option_map, IfOk,
 ghost use Rattle.std.specs.List.{All, list_all};
 ghost use Rattle.serde_json.specs.Find.{as_null};
 ghost use Rattle.tb_tree.specs.View.{view};
-ghost use Rattle.tb_value.specs.Datum.{null, string, binary, list, struct, items_of};
+ghost use Rattle.tb_value.specs.Datum.{null};
 ghost use Rattle.tb_value.specs.Kind.{Kind};
 ghost use Rattle.tb_value.specs.Kind as kind;
 ghost use Rattle.tb_value.specs.SeeKind.{kind_of};
@@ -12,18 +12,18 @@ ghost use Rattle.tb_chunk.specs.Chunk.{or_null};
 ghost use Rattle.tb_chunk.specs.Col.{physical};
 ghost use Rattle.tb_chunk.specs.Made.{IsTyped};
 ghost use Rattle.tb_chunk.specs.Seen.{chunk_lists, storage};
-ghost use Rattle.tb_chunk.specs.View.{texts};
 ghost use Rattle.tb_json.specs.Lists.{each};
 ghost use Rattle.tb_json.specs.Cells.{cell_in};
 
 use crate::read_cell::ReadCell;
+use crate::read_texts::{bytes_chunk, text_chunk};
 use std::alloc::Global;
 use tb_store::{
-    BinaryChunk, Cells, Chunk, Chunks, FieldValues, ListChunk, Physical, Stored, StringChunk,
-    StructChunk, physical_of,
+    BinaryChunk, Cells, Chunk, Chunks, ListChunk, Physical, Stored, StringChunk, StructChunk,
+    physical_of,
 };
 use tb_tree::Value;
-use tb_value::{Bytes, DataType, OutOfMemory, PlSmallStr, Values};
+use tb_value::{DataType, OutOfMemory};
 
 // A value that may be null.
 fn cell_of<N: ReadCell>(
@@ -82,57 +82,6 @@ fn nulls_of(items: &Vec<Value>) -> Option<usize>
     }
 }
 
-/// A chunk that is made of cells of values that own memory.
-trait Wrapped: Chunk {
-    type Item: ReadCell;
-
-    /// The chunk of these cells.
-    fn from_cells(alloc: Global, cells: Cells<Self::Item>) -> Result<Self, OutOfMemory>
-        ensures { IfOk result (λ c. Self.shown c ≡ map (or_null Self.Item.shows) cells.cells.items) };
-}
-
-impl Wrapped for StringChunk {
-    type Item = PlSmallStr;
-
-    fn from_cells(alloc: Global, cells: Cells<PlSmallStr>) -> Result<StringChunk, OutOfMemory>
-        ensures { IfOk result (λ c. map (or_null string) (texts c.inner.buffers.items c.inner.views.items) ≡ map (or_null string) cells.cells.items) }
-    {
-        StringChunk::from_cells(alloc, &cells)
-    }
-}
-
-impl Wrapped for BinaryChunk {
-    type Item = Bytes;
-
-    fn from_cells(alloc: Global, cells: Cells<Bytes>) -> Result<BinaryChunk, OutOfMemory>
-        ensures { IfOk result (λ c. map (or_null binary) (texts c.inner.buffers.items c.inner.views.items) ≡ map (or_null binary) cells.cells.items) }
-    {
-        BinaryChunk::from_cells(alloc, &cells)
-    }
-}
-
-impl Wrapped for ListChunk {
-    type Item = Values;
-
-    fn from_cells(_alloc: Global, cells: Cells<Values>) -> Result<ListChunk, OutOfMemory>
-        ensures { IfOk result (λ c. map (or_null (λ vs. list (items_of vs))) c.inner.cells.items
-            ≡ map (or_null (λ vs. list (items_of vs))) cells.cells.items) }
-    {
-        Ok(ListChunk { inner: cells })
-    }
-}
-
-impl Wrapped for StructChunk {
-    type Item = FieldValues;
-
-    fn from_cells(_alloc: Global, cells: Cells<FieldValues>) -> Result<StructChunk, OutOfMemory>
-        ensures { IfOk result (λ c. map (or_null (λ s. struct (items_of s.values))) c.inner.cells.items
-            ≡ map (or_null (λ s. struct (items_of s.values))) cells.cells.items) }
-    {
-        Ok(StructChunk { inner: cells })
-    }
-}
-
 /// A chunk of a column, read from JSON. `stored` is the type that its values are stored as.
 trait ReadChunk: Chunk {
     ghost stored: { Kind };
@@ -161,12 +110,55 @@ impl<N: ReadCell> ReadChunk for Cells<N> {
     }
 }
 
-impl<W: Wrapped> ReadChunk for W {
-    ghost stored = { W.Item.stored };
+impl ReadChunk for StringChunk {
+    ghost stored = { kind.string };
 
-    fn read(alloc: Global, dtype: &DataType, items: &Vec<Value>) -> Result<Option<W>, OutOfMemory> {
+    fn read(
+        alloc: Global,
+        dtype: &DataType,
+        items: &Vec<Value>,
+    ) -> Result<Option<StringChunk>, OutOfMemory> {
+        text_chunk(alloc, items)
+    }
+}
+
+impl ReadChunk for BinaryChunk {
+    ghost stored = { kind.binary };
+
+    fn read(
+        alloc: Global,
+        dtype: &DataType,
+        items: &Vec<Value>,
+    ) -> Result<Option<BinaryChunk>, OutOfMemory> {
+        bytes_chunk(alloc, items)
+    }
+}
+
+impl ReadChunk for ListChunk {
+    ghost stored = { kind.list kind.null };
+
+    fn read(
+        alloc: Global,
+        dtype: &DataType,
+        items: &Vec<Value>,
+    ) -> Result<Option<ListChunk>, OutOfMemory> {
         match cells_of(alloc, dtype, items)? {
-            Some(cells) => Ok(Some(W::from_cells(alloc, cells)?)),
+            Some(inner) => Ok(Some(ListChunk { inner })),
+            None => Ok(None),
+        }
+    }
+}
+
+impl ReadChunk for StructChunk {
+    ghost stored = { kind.struct kind.end };
+
+    fn read(
+        alloc: Global,
+        dtype: &DataType,
+        items: &Vec<Value>,
+    ) -> Result<Option<StructChunk>, OutOfMemory> {
+        match cells_of(alloc, dtype, items)? {
+            Some(inner) => Ok(Some(StructChunk { inner })),
             None => Ok(None),
         }
     }

@@ -12,13 +12,12 @@ ghost use Rattle.tb_chunk.specs.Col.{physical};
 ghost use Rattle.tb_json.specs.Cells.{cell_in};
 
 use crate::read_any_cells::{each_value, row_of};
-use crate::read_plain_cells::{short_bytes, short_text};
 use crate::scalar::scalar_type;
 use std::alloc::Global;
 use tb_label::whole_in;
 use tb_store::{Cell, FieldValues};
 use tb_tree::Value;
-use tb_value::{AnyValue, Bytes, DataType, Fields, OutOfMemory, PlSmallStr, Values};
+use tb_value::{AnyValue, DataType, Fields, OutOfMemory, Values};
 
 /// A value as a typed column stores it, read from JSON. `stored` is the type that it is stored as.
 pub(crate) trait ReadCell: Cell {
@@ -109,32 +108,6 @@ impl ReadCell for i128 {
 
     fn read(alloc: Global, dtype: &DataType, value: &Value) -> Result<Option<i128>, OutOfMemory> {
         Ok(value.as_str().and_then(|text| whole_in(text)))
-    }
-}
-
-impl ReadCell for PlSmallStr {
-    ghost stored = { kind.string };
-
-    fn read(
-        alloc: Global,
-        dtype: &DataType,
-        value: &Value,
-    ) -> Result<Option<PlSmallStr>, OutOfMemory> {
-        match value.as_str() {
-            Some(text) => short_text(alloc, text),
-            None => Ok(None),
-        }
-    }
-}
-
-impl ReadCell for Bytes {
-    ghost stored = { kind.binary };
-
-    fn read(alloc: Global, dtype: &DataType, value: &Value) -> Result<Option<Bytes>, OutOfMemory> {
-        match value.as_str() {
-            Some(text) => short_bytes(alloc, text),
-            None => Ok(None),
-        }
     }
 }
 

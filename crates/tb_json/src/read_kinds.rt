@@ -53,14 +53,21 @@ fn unit_named(word: &str) -> Option<TimeUnit>
     }
 }
 
+fn named_type(name: &Value) -> Option<DataType>
+    ensures { option_map kind_of result ≡ option_and_then word_kind (as_str (view name.now)) }
+{
+    word_type(name.as_str()?)
+}
+
 fn zone_of(alloc: Global, value: &Value) -> Result<Option<Option<PlSmallStr>>, OutOfMemory>
     ensures { IfOk result (λ o. o ≡ zone_in (view value.now)) }
 {
-    match value {
-        Value::Null => Ok(Some(None)),
-        Value::Short(name) => Ok(Some(Some(PlSmallStr::from_str(alloc, name.as_str())?))),
-        Value::Long(name) => Ok(Some(Some(PlSmallStr::from_str(alloc, name.as_str())?))),
-        _ => Ok(None),
+    if value.is_null() {
+        return Ok(Some(None));
+    }
+    match value.as_str() {
+        Some(name) => Ok(Some(Some(PlSmallStr::from_str(alloc, name)?))),
+        None => Ok(None),
     }
 }
 
@@ -134,8 +141,7 @@ pub fn type_of(alloc: Global, value: &Value) -> Result<Option<DataType>, OutOfMe
     ensures { IfOk result (λ o. option_map kind_of o ≡ kind_in (view value.now)) }
 {
     match value {
-        Value::Short(word) => Ok(word_type(word.as_str())),
-        Value::Long(word) => Ok(word_type(word.as_str())),
+        Value::Short(_) | Value::Long(_) => Ok(named_type(value)),
         Value::Object(members) => members_type(alloc, members),
         _ => Ok(None),
     }

@@ -1,25 +1,41 @@
 //! Whole numbers, texts and bytes, read from JSON.
-ghost use Rattle.std.specs.Prelude.{◌≡◌, option_map, option_and_then, IfOk, IfSome};
+ghost use Rattle.std.specs.Prelude.{◌≡◌, ◌/◌, if◌then◌else◌, length, option_map, option_and_then, IfOk, IfSome, None, Some};
+ghost use Rattle.std.specs.Result.{result_ok};
+ghost use Rattle.hex.specs.Hex.{decode_of};
 ghost use Rattle.std.specs.List.{list_all};
-ghost use Rattle.serde_json.specs.Find.{as_number};
+ghost use Rattle.serde_json.specs.Find.{as_number, as_str};
 ghost use Rattle.tb_tree.specs.View.{view};
 ghost use Rattle.tb_value.specs.Datum.{int, string, binary};
 ghost use Rattle.tb_value.specs.Kind as kind;
 ghost use Rattle.tb_value.specs.See.{datum};
 ghost use Rattle.tb_value.specs.SeeKind.{kind_of};
 ghost use Rattle.tb_value.specs.Typed.{HasType};
-ghost use Rattle.tb_json.specs.Cells.{ranged, boolean_in, number_in, short, is_lower_digit, bytes_in, text_in};
+ghost use Rattle.tb_chunk.specs.Chunk.{or_null};
+ghost use Rattle.tb_json.specs.Cells.{ranged, boolean_in, cell_in, number_in, short, is_lower_digit, bytes_in, text_in};
 ghost use Rattle.tb_label.specs.Numerals.{whole_in};
 
 use crate::write_cells::is_wide;
-use hex::FromHexError;
 use std::alloc::Global;
 use tb_label::whole_in;
 use tb_tree::Value;
 use tb_value::{AnyValue, Bytes, DataType, OutOfMemory, PlSmallStr, TOO_LONG};
 
-/// An own copy of a text, or None where the text is too long to be a value.
-pub(crate) fn short_text(alloc: Global, text: &str) -> Result<Option<PlSmallStr>, OutOfMemory>
+/// The text that a value is, lent: no text inside where it is Null, and None where it is no text or one too long to be a
+/// value.
+pub(crate) fn lent_text(value: &Value) -> Option<Option<&str>>
+    ensures { option_map (λ o. or_null string (option_map (λ t. t.now) o)) result ≡ cell_in kind.string (view value.now) }
+{
+    if value.is_null() {
+        return Some(None);
+    }
+    match value.as_str() {
+        Some(text) if text.len() < TOO_LONG => Some(Some(text)),
+        _ => None,
+    }
+}
+
+// An own copy of a text, or None where the text is too long to be a value.
+fn short_text(alloc: Global, text: &str) -> Result<Option<PlSmallStr>, OutOfMemory>
     ensures value { IfOk result (λ o. o ≡ short text.now) }
     ensures typed { IfOk result (λ o. IfSome o (λ s. HasType kind.string (string s))) }
 {
@@ -42,21 +58,31 @@ fn are_lower_digits(digits: &[u8]) -> bool
     digits.iter().all(|c| is_lower_digit(*c))
 }
 
-fn decoded(alloc: Global, digits: &str) -> Result<Option<Vec<u8>>, OutOfMemory>
-    ensures { IfOk result (λ o. option_map (λ v. v.items) o ≡ bytes_in digits.now) }
+// Writes the bytes that digits stand for, and says whether there are such bytes.
+fn decode_to(out: &mut [u8], digits: &str) -> bool
+    requires { length out.old ≡ length digits.now / 2 }
+    ensures { (if result then Some out.new else None) ≡ result_ok (decode_of digits.now) }
+{
+    hex::decode_to_slice(digits, out).is_ok()
+}
+
+// The same of lower-case digits, into a buffer.
+fn decode_into(buffer: &mut Vec<u8>, digits: &str) -> Result<bool, OutOfMemory>
+    ensures { IfOk result (λ b. (if b then Some buffer.new.items else None) ≡ bytes_in digits.now) }
 {
     if !are_lower_digits(digits.as_bytes()) {
-        return Ok(None);
+        return Ok(false);
     }
-    match hex::decode(alloc, digits) {
-        Ok(bytes) => Ok(Some(bytes)),
-        Err(error) => match error {
-            FromHexError::OutOfMemory => Err(OutOfMemory),
-            FromHexError::OddLength => Ok(None),
-            FromHexError::InvalidHexCharacter { c: _, index: _ } => Ok(None),
-            FromHexError::InvalidStringLength => Ok(None),
-        },
-    }
+    buffer.resize(digits.len() / 2, 0)?;
+    Ok(decode_to(buffer.as_mut_slice(), digits))
+}
+
+/// Puts the bytes that lower-case hexadecimal digits stand for into the buffer. Says whether the text is of such digits and
+/// there are not too many bytes for a value.
+pub(crate) fn decode_short(buffer: &mut Vec<u8>, digits: &str) -> Result<bool, OutOfMemory>
+    ensures { IfOk result (λ b. (if b then Some buffer.new.items else None) ≡ option_and_then short (bytes_in digits.now)) }
+{
+    Ok(decode_into(buffer, digits)? && buffer.len() < TOO_LONG)
 }
 
 // The bytes, or None where there are too many for a value.
@@ -71,15 +97,15 @@ fn short(alloc: Global, bytes: Vec<u8>) -> Result<Option<Bytes>, OutOfMemory>
     }
 }
 
-/// The bytes that lower-case hexadecimal digits stand for, or None where the text is none of those
-/// or there are too many bytes for a value.
-pub(crate) fn short_bytes(alloc: Global, digits: &str) -> Result<Option<Bytes>, OutOfMemory>
+fn short_bytes(alloc: Global, digits: &str) -> Result<Option<Bytes>, OutOfMemory>
     ensures value { IfOk result (λ o. o ≡ option_and_then short (bytes_in digits.now)) }
     ensures typed { IfOk result (λ o. IfSome o (λ s. HasType kind.binary (binary s))) }
 {
-    match decoded(alloc, digits)? {
-        Some(bytes) => short(alloc, bytes),
-        None => Ok(None),
+    let mut bytes = Vec::new(alloc);
+    if decode_into(&mut bytes, digits)? {
+        short(alloc, bytes)
+    } else {
+        Ok(None)
     }
 }
 
@@ -155,12 +181,15 @@ fn binary_of(alloc: Global, text: &str) -> Result<Option<AnyValue>, OutOfMemory>
 /// The value that a text is, or None where it is none of the type.
 pub(crate) fn text_of(
     alloc: Global,
-    text: &str,
+    text: &Value,
     dtype: &DataType,
 ) -> Result<Option<AnyValue>, OutOfMemory>
-    ensures value { IfOk result (λ o. option_map datum o ≡ text_in (kind_of dtype.now) text.now) }
+    ensures value { IfOk result (λ o. option_map datum o ≡ option_and_then (text_in (kind_of dtype.now)) (as_str (view text.now))) }
     ensures typed { IfOk result (λ o. IfSome o (λ v. HasType (kind_of dtype.now) (datum v))) }
 {
+    let Some(text) = text.as_str() else {
+        return Ok(None);
+    };
     match dtype {
         DataType::Int128 => Ok(wide_of(text)),
         DataType::String => string_of(alloc, text),

@@ -22,8 +22,8 @@ pub use data_type::{
 pub use lent::{are_in_one_chunk, lend, rechunked};
 pub use series::Series;
 pub use tb_chunk::{
-    BinaryChunk, Cell, Cells, Chunk, Chunks, FieldValues, Growing, ListChunk, Physical, Stored,
-    StringChunk, StructChunk, physical_of, slice_offsets,
+    BinaryBuilder, BinaryChunk, Cell, Cells, Chunk, Chunks, FieldValues, Growing, ListChunk,
+    Physical, Stored, StringBuilder, StringChunk, StructChunk, physical_of, slice_offsets,
 };
 pub use tb_value::{
     AnyValue, Bytes, ChunkId, ComputeCause, DataType, Field, Fields, IdxSize, InvalidCause,

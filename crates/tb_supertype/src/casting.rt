@@ -1,7 +1,8 @@
 //! Columns whose values are cast to a type.
-ghost use Rattle.std.specs.Prelude.{◌≡◌, ◌<◌, ◌≤◌, IfOk, length, map, replicate, pos};
+ghost use Rattle.std.specs.Prelude.{◌≡◌, ◌<◌, ◌≤◌, ◌++◌, ◌∷◌, [], IfOk, OnOk, Some, length, map, replicate, pos};
 ghost use Rattle.std.specs.List.{All};
-ghost use Rattle.tb_value.specs.Datum.{null, string};
+ghost use Rattle.std.specs.Str.{IsUtf8};
+ghost use Rattle.tb_value.specs.Datum.{binary, null, string};
 ghost use Rattle.tb_value.specs.Kind as kind;
 ghost use Rattle.tb_value.specs.See.{datum, lent, IsText};
 ghost use Rattle.tb_value.specs.SeeKind.{kind_of};
@@ -12,16 +13,18 @@ ghost use Rattle.tb_chunk.specs.Fits.{Fits};
 ghost use Rattle.tb_chunk.specs.Lent.{lent_columns};
 ghost use Rattle.tb_chunk.specs.Made.{at_least_one};
 ghost use Rattle.tb_chunk.specs.Seen.{chunk_lists, storage};
+ghost use Rattle.tb_chunk.specs.View.{texts};
 ghost use Rattle.tb_supertype.specs.Cast.{cast, cast_to, truth_number};
 ghost use Rattle.tb_supertype.specs.Columns.{cast_values, CastsTo, stacked};
 
 use crate::class::{Class, class_of};
+use itoa::Buffer;
 use std::alloc::Global;
 use tb_chunk::join_one;
-use tb_label::value_text;
+use tb_label::{truth_text, value_text};
 use tb_store::{
-    BinaryChunk, Cell, Cells, Chunk, Chunks, IsSorted, ListChunk, MAX_ROWS, Physical, Series,
-    Stored, StringChunk, StructChunk, physical_of,
+    BinaryBuilder, BinaryChunk, Cell, Cells, Chunk, Chunks, IsSorted, ListChunk, MAX_ROWS,
+    Physical, Series, Stored, StringBuilder, StringChunk, StructChunk, physical_of,
 };
 use tb_value::{AnyValue, DataType, OutOfMemory, PlSmallStr, ValueRef};
 
@@ -80,28 +83,80 @@ fn cells_of<N: Cell>(
     Ok(Cells { cells })
 }
 
-// The text that a value becomes, without a value in between.
-fn text_of(alloc: Global, value: ValueRef<'_>) -> Result<Option<PlSmallStr>, OutOfMemory>
-    requires text { IsText value }
-    requires fits { Fits kind.string (cast kind.string (lent value)) }
-    ensures { IfOk result (λ c. or_null string c ≡ cast kind.string (lent value.entry)) }
+// Appends a text.
+fn push_text(alloc: Global, builder: &mut StringBuilder, text: &[u8]) -> Result<(), OutOfMemory>
+    requires { IsUtf8 text.now }
+    ensures { OnOk result (builder.new.rows ≡ builder.old.rows ++ Some text.now ∷ []) }
 {
-    match value {
-        ValueRef::Null => Ok(None),
-        _ => Ok(Some(value_text(alloc, value)?)),
+    match str::from_utf8(text) {
+        Ok(text) => builder.push(alloc, text),
+        Err(_) => unreachable!(),
     }
 }
 
-fn texts_of(alloc: Global, column: &Series) -> Result<Cells<PlSmallStr>, OutOfMemory>
+// Appends the text that a value becomes.
+fn push_cast(
+    alloc: Global,
+    builder: &mut StringBuilder,
+    value: ValueRef<'_>,
+) -> Result<(), OutOfMemory>
+    requires text { IsText value }
+    requires fits { Fits kind.string (cast kind.string (lent value)) }
+    ensures { OnOk result (map (or_null string) builder.new.rows ≡ map (or_null string) builder.old.rows ++ cast kind.string (lent value.entry) ∷ []) }
+{
+    match value {
+        ValueRef::Null => builder.push_null(),
+        ValueRef::Boolean(b) => builder.push(alloc, truth_text(b)),
+        ValueRef::Int(number) => builder.push(alloc, Buffer::new().format(number)),
+        ValueRef::String(text) => push_text(alloc, builder, text),
+        ValueRef::Binary(_) | ValueRef::List(_) | ValueRef::Struct(_) => unreachable!(),
+    }
+}
+
+// The texts that the values of a column become.
+fn cast_texts(alloc: Global, column: &Series) -> Result<StringChunk, OutOfMemory>
     requires { All (Fits kind.string) (cast_values kind.string column.now) }
-    ensures { IfOk result (λ c. map (or_null string) c.cells.items ≡ cast_values kind.string column.now) }
+    ensures { IfOk result (λ c. map (or_null string) (texts c.inner.buffers.items c.inner.views.items) ≡ cast_values kind.string column.now) }
 {
     let rows = column.len();
-    let mut cells = Vec::with_capacity(alloc, rows)?;
+    let mut builder = StringBuilder::with_capacity(alloc, rows)?;
     for row in 0..rows {
-        cells.push(text_of(alloc, column.get(row))?)?;
+        push_cast(alloc, &mut builder, column.get(row))?;
     }
-    Ok(Cells { cells })
+    builder.finish(alloc)
+}
+
+// Appends the bytes that a value is.
+fn push_bytes(
+    alloc: Global,
+    builder: &mut BinaryBuilder,
+    value: ValueRef<'_>,
+) -> Result<(), OutOfMemory>
+    requires { Fits kind.binary (lent value) }
+    ensures { OnOk result (map (or_null binary) builder.new.rows ≡ map (or_null binary) builder.old.rows ++ lent value.entry ∷ []) }
+{
+    match value {
+        ValueRef::Null => builder.push_null(),
+        ValueRef::Binary(bytes) => builder.push(alloc, bytes),
+        ValueRef::Boolean(_)
+        | ValueRef::Int(_)
+        | ValueRef::String(_)
+        | ValueRef::List(_)
+        | ValueRef::Struct(_) => unreachable!(),
+    }
+}
+
+// The bytes of a column, which stay as they are.
+fn cast_bytes(alloc: Global, column: &Series) -> Result<BinaryChunk, OutOfMemory>
+    requires { All (Fits kind.binary) (cast_values kind.binary column.now) }
+    ensures { IfOk result (λ c. map (or_null binary) (texts c.inner.buffers.items c.inner.views.items) ≡ cast_values kind.binary column.now) }
+{
+    let rows = column.len();
+    let mut builder = BinaryBuilder::with_capacity(alloc, rows)?;
+    for row in 0..rows {
+        push_bytes(alloc, &mut builder, column.get(row))?;
+    }
+    builder.finish(alloc)
 }
 
 /// A chunk of a column's values that are cast.
@@ -126,7 +181,7 @@ impl CastChunk for StringChunk {
         dtype: &DataType,
         column: &Series,
     ) -> Result<StringChunk, OutOfMemory> {
-        StringChunk::from_cells(alloc, &texts_of(alloc, column)?)
+        cast_texts(alloc, column)
     }
 }
 
@@ -136,7 +191,7 @@ impl CastChunk for BinaryChunk {
         dtype: &DataType,
         column: &Series,
     ) -> Result<BinaryChunk, OutOfMemory> {
-        BinaryChunk::from_cells(alloc, &cells_of(alloc, dtype, column)?)
+        cast_bytes(alloc, column)
     }
 }
 

@@ -47,7 +47,7 @@ members_field-returns t c =
 
 pub type_of-returns-in-Object : goal.type_of-returns-in-Object
 type_of-returns-in-Object t c =
-    let seen = ap (λ v. kind_in (view v)) c.in-Object.is ∙ ap kind_in (view-Object c.in-Object.members) ∙ ap (λ m. members_kind (members_view m.entries)) (sym c.deref-in-Object.ensures) in
+    let seen = ap (λ v. kind_in (view v)) c.in-Object.is ∙ ap kind_in (view-Object c.in-Object.members) ∙ ap (λ m. members_kind (members_view m.entries)) (sym c.deref.ensures) in
     rw seen c.members_type.ensures
 
 pub field_of-returns-in-Object : goal.field_of-returns-in-Object

@@ -5,7 +5,7 @@ use Rattle.tb_chunk.proofs.Rows.{all_strings, all_utf8}
 use Rattle.tb_chunk.proofs.chunk.StringChunkChunk.from_values.Goals as goal
 
 pub invariant_of-result : goal.invariant_of-result
-invariant_of-result c = record { utf8 = rw c.in_ok-from_texts.ensures.texts (all_utf8 c.args.values.now c.requires) }
+invariant_of-result c = record { utf8 = rw c.in_ok-from_values.ensures.texts (all_utf8 c.args.values.now c.requires) }
 
 pub returns : goal.returns
-returns c = ap (map (or_null string)) c.in_ok-from_texts.ensures.texts ∙ all_strings c.args.values.now c.requires
+returns c = ap (map (or_null string)) c.in_ok-from_values.ensures.texts ∙ all_strings c.args.values.now c.requires

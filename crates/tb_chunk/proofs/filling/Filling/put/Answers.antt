@@ -1,16 +1,32 @@
-use Rattle.std.proofs.Common.{arith, ◌≡◌, ◌++◌, ◌∙◌, ap}
-use Rattle.tb_chunk.proofs.Filled.{IsBehind, put_fits_at, put_passes_at}
-use Rattle.tb_chunk.proofs.filling.Filling.put.Goals.{then-len-text-gt-MOST+in_ok-close, else-len-text-gt-MOST}
+use Rattle.std.proofs.Common.{arith, ◌≡◌, ◌∙◌, ℕ, List, [], length, map, ap}
+use Rattle.std.proofs.lemmas.List.{length-map}
+use Rattle.tb_chunk.specs.Layout.{all_of}
+use Rattle.tb_chunk.proofs.Filled.{IsBehind, put_fits, put_passes}
 use Rattle.tb_chunk.proofs.filling.Filling.put.Goals as goal
 
-pub returns : goal.returns
-returns c =
-    let old = c.args.self.now in
-    let mid = c.if-len-text-gt-MOST.self in
+pub returns-then-len-text-gt-MOST-clause-ok : goal.returns-then-len-text-gt-MOST-clause-ok
+returns-then-len-text-gt-MOST-clause-ok c =
+    let s = c.args.self.now in
     let t = c.args.text.now in
-    let e : c.extend_from_slice.new.self.items ≡ mid.last.items ++ t = c.in_ok-extend_from_slice.ensures.items in
-    let p : IsBehind mid.full.items mid.last.items t c.long-view.result = record { len = c.long-view.ensures.length; front = c.long-view.ensures.front; buffer = omega (arith, c.long-view.ensures.buffer); offset = omega (arith, c.long-view.ensures.offset) } in
-    elim c.if-len-text-gt-MOST.branch [
-      | then-len-text-gt-MOST+in_ok-close w ↦ put_passes_at old.full.items old.last.items t mid.full.items mid.last.items c.extend_from_slice.new.self.items c.long-view.result c.requires.long (ap (λ s. s.full.items) w.self-is ∙ w.in_ok-close.ensures.full) (ap (λ s. s.last.items) w.self-is ∙ w.in_ok-close.ensures.last) e (omega (arith, w.if-len-text-gt-MOST.true)) p
-      | else-len-text-gt-MOST w ↦ put_fits_at old.full.items old.last.items t mid.full.items mid.last.items c.extend_from_slice.new.self.items c.long-view.result c.requires.long (ap (λ s. s.full.items) w.self-is) (ap (λ s. s.last.items) w.self-is) e (omega (arith, w.if-len-text-gt-MOST.false)) p
-    ]
+    let full = c.self-then-len-text-gt-MOST.inside.full in
+    let k : length full.items ≡ length (all_of s) = omega (arith, length-map full.items (λ b. b.items), ap (λ p. length p.0) (c.self-then-len-text-gt-MOST.view_is ∙ c.in_ok-begin.ensures.ok)) in
+    let p : IsBehind (all_of s) [] t c.long.result = record {
+      len = c.long.ensures.length;
+      front = c.long.ensures.front;
+      buffer = omega (arith, k, c.long.ensures.buffer, c.len-then-len-text-gt-MOST.ensures);
+      offset = c.long.ensures.offset;
+    } in
+    rw c.in_ok-begin.ensures.ok (put_passes s t c.long.result c.requires.long (omega (arith, c.if-len-text-gt-MOST.true, ap (λ q. length q.1) c.self.view_is)) p)
+
+pub returns-clause-ok : goal.returns-clause-ok
+returns-clause-ok c =
+    let full : List (List ℕ) = map (λ b. b.items) c.self.inside.full.items in
+    let last = c.self.inside.last.items in
+    let t = c.args.text.now in
+    let p : IsBehind full last t c.long-view.result = record {
+      len = c.long-view.ensures.length;
+      front = c.long-view.ensures.front;
+      buffer = omega (arith, length-map c.self.inside.full.items (λ b. b.items), c.long-view.ensures.buffer);
+      offset = omega (arith, c.long-view.ensures.offset);
+    } in
+    rw (c.in_ok-extend_from_slice.ensures.items, ← c.self.view_is) (put_fits (full, last) t c.long-view.result c.requires.long (omega (arith, c.if-len-text-gt-MOST.false)) p)

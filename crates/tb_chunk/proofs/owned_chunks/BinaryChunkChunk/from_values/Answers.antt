@@ -5,4 +5,4 @@ use Rattle.tb_chunk.proofs.Rows.{all_binaries}
 use Rattle.tb_chunk.proofs.owned_chunks.BinaryChunkChunk.from_values.Goals as goal
 
 pub returns : goal.returns
-returns c = ap (map (or_null binary)) c.in_ok-from_texts.ensures.texts ∙ all_binaries c.args.values.now c.requires
+returns c = ap (map (or_null binary)) c.in_ok-from_values.ensures.texts ∙ all_binaries c.args.values.now c.requires

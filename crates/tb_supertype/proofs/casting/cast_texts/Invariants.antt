@@ -4,7 +4,7 @@ use Rattle.tb_value.specs.Kind as kind
 use Rattle.tb_chunk.specs.Chunk.{or_null}
 use Rattle.tb_chunk.specs.Col.{values}
 use Rattle.tb_supertype.specs.Cast.{cast}
-use Rattle.tb_supertype.proofs.casting.texts_of.Given as goal
+use Rattle.tb_supertype.proofs.casting.cast_texts.Given as goal
 
 abbrev pub invariant-loop-row : goal.invariant-loop-row
-invariant-loop-row l = map (or_null string) l.cells.items ≡ map (cast kind.string) (take l.row (values l.column))
+invariant-loop-row l = map (or_null string) l.builder.rows ≡ map (cast kind.string) (take l.row (values l.column))

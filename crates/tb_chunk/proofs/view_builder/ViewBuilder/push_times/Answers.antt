@@ -1,0 +1,21 @@
+use Rattle.std.proofs.Common.{arith, ◌≡◌, ◌∙◌, ◌+◌, ◌-◌, ◌++◌, ℕ, List, Option, Some, length, take, replicate, ap}
+use Rattle.std.specs.Prelude.{vec_len}
+use Rattle.std.proofs.lemmas.List.{take_all}
+use Rattle.tb_chunk.specs.declared.view.View.{View}
+use Rattle.tb_chunk.proofs.Filled.{rows_pushed}
+use Rattle.tb_chunk.proofs.view_builder.ViewBuilder.push_times.Goals as goal
+
+resized : (vs : List (Option View)) (w : Option View) (len rows times : ℕ) → len ≡ length vs → rows ≡ len + times → take rows vs ++ replicate (rows - len) w ≡ vs ++ replicate times w
+resized vs w len rows times e f =
+    let all : take rows vs ≡ vs = take_all rows vs (omega arith) in
+    let more : rows - len ≡ times = omega arith in
+    λ i. all i ++ replicate (more i) w
+
+pub returns-clause-ok : goal.returns-clause-ok
+returns-clause-ok c =
+    let vs = c.self.inside.views.items in
+    let now = c.reserve.new.self in
+    let w : Option View = Some c.in_ok-view.view in
+    let rows : c.resize.new.self.items ≡ vs ++ replicate c.args.times w =
+    c.in_ok-resize.ensures.items ∙ resized now.items w (vec_len now) (c.len.result + c.args.times) c.args.times (omega (arith, now.ok.0)) (omega arith) ∙ ap (λ l. l ++ replicate c.args.times w) c.in_ok-reserve.ensures.items in
+    rw (rows, ← c.self.view_is) (rows_pushed c.self.inside.filling c.view_of.new.self vs c.args.text.now w c.args.times c.in_ok-view.ensures.ok c.self.invariant).1

@@ -1,0 +1,82 @@
+//! String and Binary chunks, read from JSON.
+ghost use Rattle.std.specs.Prelude.{◌≡◌, ◌++◌, ◌∷◌, [], false, map, option_map, true, IfOk, IfSome};
+ghost use Rattle.std.specs.List.{All};
+ghost use Rattle.std.specs.Option.{MatchOption};
+ghost use Rattle.tb_tree.specs.View.{view};
+ghost use Rattle.tb_value.specs.Datum.{binary, string};
+ghost use Rattle.tb_value.specs.Kind as kind;
+ghost use Rattle.tb_value.specs.Typed.{HasType};
+ghost use Rattle.tb_chunk.specs.Chunk.{or_null};
+ghost use Rattle.tb_chunk.specs.View.{texts};
+ghost use Rattle.tb_json.specs.Lists.{each};
+ghost use Rattle.tb_json.specs.Cells.{cell_in};
+
+use crate::read_plain_cells::{decode_short, lent_text};
+use std::alloc::Global;
+use tb_store::{BinaryBuilder, BinaryChunk, StringBuilder, StringChunk};
+use tb_tree::Value;
+use tb_value::OutOfMemory;
+
+/// The String chunk of these values, or None where one of them is no text.
+pub(crate) fn text_chunk(
+    alloc: Global,
+    items: &Vec<Value>,
+) -> Result<Option<StringChunk>, OutOfMemory>
+    ensures values { IfOk result (λ o. option_map (λ c. map (or_null string) (texts c.inner.buffers.items c.inner.views.items)) o
+        ≡ each (cell_in kind.string) (map view items.now.items)) }
+    ensures typed { IfOk result (λ o. IfSome o
+        (λ c. All (HasType kind.string) (map (or_null string) (texts c.inner.buffers.items c.inner.views.items)))) }
+{
+    let mut builder = StringBuilder::with_capacity(alloc, items.len())?;
+    for item in items {
+        let Some(text) = lent_text(item) else {
+            return Ok(None);
+        };
+        builder.push_option(alloc, text)?;
+    }
+    Ok(Some(builder.finish(alloc)?))
+}
+
+// Appends the bytes that a value is, by way of the buffer, and says whether it is such a value.
+fn push_bytes(
+    alloc: Global,
+    builder: &mut BinaryBuilder,
+    buffer: &mut Vec<u8>,
+    value: &Value,
+) -> Result<bool, OutOfMemory>
+    ensures { IfOk result (λ pushed. MatchOption (cell_in kind.binary (view value.now)) (pushed ≡ false)
+        (λ cell. (pushed ≡ true) × (map (or_null binary) builder.new.rows ≡ map (or_null binary) builder.old.rows ++ cell ∷ []))) }
+{
+    if value.is_null() {
+        builder.push_null()?;
+        return Ok(true);
+    }
+    let Some(digits) = value.as_str() else {
+        return Ok(false);
+    };
+    let pushed = decode_short(buffer, digits)?;
+    if pushed {
+        builder.push(alloc, buffer)?;
+    }
+    Ok(pushed)
+}
+
+/// The Binary chunk of these values, or None where one of them is no bytes.
+pub(crate) fn bytes_chunk(
+    alloc: Global,
+    items: &Vec<Value>,
+) -> Result<Option<BinaryChunk>, OutOfMemory>
+    ensures values { IfOk result (λ o. option_map (λ c. map (or_null binary) (texts c.inner.buffers.items c.inner.views.items)) o
+        ≡ each (cell_in kind.binary) (map view items.now.items)) }
+    ensures typed { IfOk result (λ o. IfSome o
+        (λ c. All (HasType kind.binary) (map (or_null binary) (texts c.inner.buffers.items c.inner.views.items)))) }
+{
+    let mut builder = BinaryBuilder::with_capacity(alloc, items.len())?;
+    let mut buffer = Vec::new(alloc);
+    for item in items {
+        if !push_bytes(alloc, &mut builder, &mut buffer, item)? {
+            return Ok(None);
+        }
+    }
+    Ok(Some(builder.finish(alloc)?))
+}

@@ -1,0 +1,31 @@
+use Rattle.std.proofs.Common.{◌≡◌, ◌∙◌, ◌++◌, ◌∷◌, [], None, ap, arith, map, sym}
+use Rattle.std.specs.List.{All}
+use Rattle.std.proofs.lemmas.List.{take_more, take_all}
+use Rattle.std.proofs.lemmas.Result.{IfOk-weaker}
+use Rattle.tb_value.specs.Datum.{binary}
+use Rattle.tb_value.specs.Kind as kind
+use Rattle.tb_value.specs.Typed.{HasType}
+use Rattle.tb_chunk.specs.Chunk.{or_null}
+use Rattle.tb_chunk.specs.View.{texts}
+use Rattle.tb_chunk.specs.declared.owned_chunks.BinaryChunk.{BinaryChunk}
+use Rattle.tb_rowkey.proofs.keys.chunk_of.Goals as goal
+
+pub loop-row-preserved : goal.loop-row-preserved
+loop-row-preserved c =
+    let keys = c.args.keys.now in
+    let row = c.loop-row.row in
+    ap (λ b. b.rows) c.in_ok-push_option.ensures.ok
+    ∙ (λ i. c.loop-row.invariant i ++ c.get.ensures.value i ∷ [])
+    ∙ sym (take_more keys row None (omega (arith, c.loop-row-test.true, c.len-rows.ensures.exact)))
+
+pub returns-clause-value : goal.returns-clause-value
+returns-clause-value c =
+    let keys = c.args.keys.now in
+    let all : c.loop-row.builder.rows ≡ keys = c.loop-row.invariant ∙ take_all c.loop-row.row keys (omega (arith, c.loop-row-test.false, c.len-rows.ensures.exact)) in
+    IfOk-weaker c.finish.result (λ (b : BinaryChunk). texts b.inner.buffers.items b.inner.views.items ≡ c.loop-row.builder.rows) (λ (b : BinaryChunk). texts b.inner.buffers.items b.inner.views.items ≡ keys) (λ b h. h ∙ all) c.finish.ensures.bytes
+
+pub returns-clause-typed : goal.returns-clause-typed
+returns-clause-typed c =
+    let keys = c.args.keys.now in
+    let all : c.loop-row.builder.rows ≡ keys = c.loop-row.invariant ∙ take_all c.loop-row.row keys (omega (arith, c.loop-row-test.false, c.len-rows.ensures.exact)) in
+    IfOk-weaker c.finish.result (λ (b : BinaryChunk). texts b.inner.buffers.items b.inner.views.items ≡ c.loop-row.builder.rows) (λ (b : BinaryChunk). All (HasType kind.binary) (map (or_null binary) keys)) (λ b h. rw (sym all) c.finish.ensures.typed) c.finish.ensures.bytes
