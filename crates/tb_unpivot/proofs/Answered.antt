@@ -1,5 +1,5 @@
 -- What is asked of the columns that are found, and what their table is refused for.
-use Rattle.std.proofs.Common.{arith, ◌≡◌, ◌∙◌, ◌≤◌, ◌<◌, ◌*◌, ◌^◌, ℕ, zero, suc, List, [], ◌∷◌, length, map, replicate, None, Ok, ap, sym, refl, subst, length-append}
+use Rattle.std.proofs.Common.{arith, ◌≡◌, ◌∙◌, ◌≤◌, ◌<◌, ◌*◌, ℕ, zero, suc, List, [], ◌∷◌, length, map, replicate, None, Ok, ap, sym, refl, subst, length-append}
 use Rattle.std.specs.Borrow.{Bor}
 use Rattle.std.specs.List.{All, flat_map}
 use Rattle.std.proofs.Math.Nat.{mul-suc}
@@ -23,7 +23,7 @@ use Rattle.tb_frame.proofs.Selected.{selected-table}
 use Rattle.tb_supertype.specs.Cast.{cast}
 use Rattle.tb_supertype.specs.Columns.{CastsTo}
 use Rattle.tb_unpivot.specs.Asked.{IsAsked}
-use Rattle.tb_unpivot.specs.Unpivot.{HasShortNames, Request, asked_causes, columns_named, common_kind, kind_or_null, long_table, no_supertype, on_columns, on_names, repeated, table_causes, too_many_values, unpivot_refusal, unpivot_table, value_column, value_kind, variable_column}
+use Rattle.tb_unpivot.specs.Unpivot.{Request, asked_causes, columns_named, common_kind, kind_or_null, long_table, no_supertype, on_columns, on_names, repeated, table_causes, too_many_values, unpivot_refusal, unpivot_table, value_column, value_kind, variable_column}
 use Rattle.tb_unpivot.specs.declared.lookup.RequestColumns.{RequestColumns}
 use Rattle.tb_unpivot.proofs.Causes.{goes_on}
 use Rattle.tb_unpivot.proofs.CommonKinds.{casts_all}
@@ -48,11 +48,6 @@ module _ (cs : List Col) (on : List Name) (rs : List (Bor Col)) (table : IsTable
   pub on_few : height (table_of cs) * length (selected on cs) ≤ MAX_ROWS → length (flat (map (λ (r : Bor Col). values r.now) rs)) ≤ MAX_ROWS
   on_few few =
       rw (lent_values rs, found) (omega (arith, level_values (height (table_of cs)) (selected on cs) (selected_level cs on table)))
-
-  pub on_short : HasShortNames (table_of cs) → All (λ (r : Bor Col). length r.now.name < 2 ^ 32) rs
-  on_short short =
-      let P : Col → Type 0 = λ c. length c.name < 2 ^ 32 in
-      un_lent P rs (subst (λ (ds : List Col). All P ds) (sym found) (selected_each (λ (c : TableColumn). length c.name < 2 ^ 32) cs on (un_mapped (λ (n : Name). length n < 2 ^ 32) (λ (c : TableColumn). c.name) (table_of cs) short)))
 
   pub on_typed : (t : Kind) → common_kind kind.null (table_of (selected on cs)) ≡ Ok t → All (λ (r : Bor Col). CastsTo t r.now) rs
   on_typed t e =

@@ -1,12 +1,11 @@
 -- Lists of lent columns, and the columns that are made of them.
-use Rattle.std.proofs.Common.{add-one, append_assoc, drop, drop-cons, get_or, take, Option, Some, arith, ◌≡◌, ◌∙◌, ◌≤◌, ◌<◌, ◌*◌, ◌+◌, ◌^◌, ℕ, zero, suc, List, [], ◌∷◌, ◌++◌, length, map, replicate, ap, sym, refl, subst, length-append}
+use Rattle.std.proofs.Common.{add-one, append_assoc, drop, drop-cons, get_or, take, Option, Some, arith, ◌≡◌, ◌∙◌, ◌≤◌, ◌<◌, ◌*◌, ◌+◌, ℕ, zero, suc, List, [], ◌∷◌, ◌++◌, length, map, replicate, ap, sym, refl, subst, length-append}
 use Rattle.std.specs.Borrow.{Bor}
 use Rattle.std.specs.Prelude.{filter, not}
 use Rattle.std.specs.List.{All, flat_map}
-use Rattle.std.specs.Str.{IsUtf8}
 use Rattle.std.proofs.Math.Nat.{mul-suc}
-use Rattle.std.proofs.lemmas.List.{append-nil, map-append, map_push, length-map, length-replicate, replicate_more, take_more, nil_from_length}
-use Rattle.std.proofs.lemmas.List.Elements.{All-nil, All-cons, All-head, All-tail, All-append, All-replicate}
+use Rattle.std.proofs.lemmas.List.{append-nil, map-append, map_push, length-map, length-replicate, take_more, nil_from_length}
+use Rattle.std.proofs.lemmas.List.Elements.{All-nil, All-cons, All-head, All-tail, All-replicate}
 use Rattle.tb_value.specs.Datum.{Datum, string}
 use Rattle.tb_value.specs.Kind.{Kind}
 use Rattle.tb_value.specs.Kind as kind
@@ -152,24 +151,12 @@ names_more cells more rs i r n k low is named long e so_far =
     flat_push [] d = append-nil (names_at d)
     flat_push (c ∷ cs) d = ap (λ (l : List Datum). names_at c ++ l) (flat_push cs d) ∙ sym (append_assoc (names_at c) (flat_map names_at cs) (names_at d))
 
-pub names_typed : (cells more : List (Option Name)) (n : Name) (k : ℕ) → length n < 2 ^ 32 → IsUtf8 n → more ≡ cells ++ replicate k (Some n)
-    → All (HasType kind.string) (map (or_null string) cells) → All (HasType kind.string) (map (or_null string) more)
-names_typed cells more n k short text e so_far =
-    rw (e, map-append (or_null string) cells (replicate k (Some n)), replicated (or_null string) k (Some n))
-    (All-append (HasType kind.string) (map (or_null string) cells) (replicate k (string n)) so_far (All-replicate (HasType kind.string) k (string n) (refl, short, text)))
-
 -- the next of columns that are left
 pub next_left : (rs : List (Bor Col)) (i : ℕ) (r : Bor Col) → i < length rs → r ≡ get_or rs i r
     → table_of (lent_columns (drop i rs)) ≡ plain r.now ∷ table_of (lent_columns (drop (i + 1) rs))
 next_left rs i r low is =
     let here : drop i rs ≡ r ∷ drop (i + 1) rs = rw (add-one, drop-cons rs i r) (ap (λ (b : Bor Col). b ∷ drop (suc i) rs) (sym is)) in
     ap (λ (l : List (Bor Col)). table_of (lent_columns l)) here
-
--- a name appended once more
-pub pushed_again : (start cells more : List (Option Name)) (n s : Name) (i : ℕ) → more ≡ cells ++ Some s ∷ [] → s ≡ n → cells ≡ start ++ replicate i (Some n)
-    → more ≡ start ++ replicate (i + 1) (Some n)
-pushed_again start cells more n s i e same so_far =
-    e ∙ (λ t. so_far t ++ Some (same t) ∷ []) ∙ append_assoc start (replicate i (Some n)) (Some n ∷ []) ∙ ap (λ (l : List (Option Name)). start ++ l) (replicate_more i (Some n))
 
 -- the columns of the index, the names and the values
 pub long_made : (t : Kind) (times : ℕ) (on index : List TableColumn) (v w : Name) (cs more all : List Col) (c d : Col) → times ≡ length on → table_of cs ≡ map (repeated times) index

@@ -1,7 +1,6 @@
 //! The columns of a table that is made long.
-ghost use Rattle.std.specs.Prelude.{◌≡◌, ◌≤◌, ◌<◌, ◌*◌, ◌^◌, ◌++◌, IfOk, OnOk, Some, length, map, replicate};
+ghost use Rattle.std.specs.Prelude.{◌≡◌, ◌≤◌, ◌*◌, IfOk, length, map, replicate};
 ghost use Rattle.std.specs.List.{All, flat_map};
-ghost use Rattle.std.specs.Str.{IsUtf8};
 ghost use Rattle.tb_value.specs.Datum.{Datum, string};
 ghost use Rattle.tb_value.specs.Kind as kind;
 ghost use Rattle.tb_value.specs.SeeKind.{kind_of};
@@ -9,12 +8,13 @@ ghost use Rattle.tb_value.specs.Typed.{HasType};
 ghost use Rattle.tb_chunk.specs.Chunk.{or_null};
 ghost use Rattle.tb_chunk.specs.Col.{Col, flat, values};
 ghost use Rattle.tb_chunk.specs.Lent.{lent_columns};
+ghost use Rattle.tb_chunk.specs.View.{texts};
 ghost use Rattle.tb_frame.specs.Table.{plain, table_of};
 ghost use Rattle.tb_supertype.specs.Columns.{CastsTo};
 ghost use Rattle.tb_unpivot.specs.Unpivot.{long_table, repeated, value_column, variable_column};
 
 use std::alloc::Global;
-use tb_store::{Cells, Chunks, Column, IsSorted, MAX_ROWS, Series, StringChunk};
+use tb_store::{Chunks, Column, IsSorted, MAX_ROWS, Series, StringBuilder, StringChunk};
 use tb_supertype::stack;
 use tb_value::{DataType, OutOfMemory, PlSmallStr};
 
@@ -61,34 +61,24 @@ fn index_columns(
     Ok(repeats)
 }
 
-// Appends a name so many times.
-fn push_name(
-    alloc: Global,
-    cells: &mut Vec<Option<PlSmallStr>>,
-    name: &PlSmallStr,
-    times: usize,
-) -> Result<(), OutOfMemory>
-    ensures cells { OnOk result (cells.new.items ≡ cells.old.items ++ replicate times (Some name.now)) }
-    ensures text { IsUtf8 name.now }
-{
-    let text = name.as_str();
-    for i in 0..times {
-        cells.push(Some(PlSmallStr::from_str(alloc, text)?))?;
-    }
-    Ok(())
+// The number of values of the columns together.
+fn row_count(columns: &[&Series]) -> usize {
+    columns
+        .iter()
+        .fold(0, |rows: usize, column| rows.saturating_add(column.len()))
 }
 
-// For each value of each column the column's name.
-fn name_cells(alloc: Global, columns: &[&Series]) -> Result<Vec<Option<PlSmallStr>>, OutOfMemory>
-    requires { All (λ c. length c.now.name < 2 ^ 32) columns.now }
-    ensures cells { IfOk result (λ v. map (or_null string) v.items ≡ flat_map (λ (c : Col). map (λ (d : Datum). string c.name) (values c)) (lent_columns columns.now)) }
-    ensures typed { IfOk result (λ v. All (HasType kind.string) (map (or_null string) v.items)) }
+// For each value of each column the column's name. Each name is put once.
+fn name_chunk(alloc: Global, columns: &[&Series]) -> Result<StringChunk, OutOfMemory>
+    ensures names { IfOk result (λ c. map (or_null string) (texts c.inner.buffers.items c.inner.views.items)
+        ≡ flat_map (λ (c : Col). map (λ (d : Datum). string c.name) (values c)) (lent_columns columns.now)) }
+    ensures typed { IfOk result (λ c. All (HasType kind.string) (map (or_null string) (texts c.inner.buffers.items c.inner.views.items))) }
 {
-    let mut cells = Vec::new(alloc);
+    let mut names = StringBuilder::with_capacity(alloc, row_count(columns))?;
     for column in columns {
-        push_name(alloc, &mut cells, column.name(), column.len())?;
+        names.push_times(alloc, column.name().as_str(), column.len())?;
     }
-    Ok(cells)
+    names.finish(alloc)
 }
 
 fn text_type() -> DataType
@@ -98,17 +88,13 @@ fn text_type() -> DataType
 }
 
 // The column of this name and these texts.
-fn text_column(
-    alloc: Global,
-    name: PlSmallStr,
-    cells: Vec<Option<PlSmallStr>>,
-) -> Result<Column, OutOfMemory>
-    requires few { length cells.items ≤ MAX_ROWS }
-    requires typed { All (HasType kind.string) (map (or_null string) cells.items) }
-    ensures { IfOk result (λ c. plain c ≡ record { name = name; kind = kind.string; values = map (or_null string) cells.items }) }
+fn text_column(alloc: Global, name: PlSmallStr, chunk: StringChunk) -> Result<Column, OutOfMemory>
+    requires few { length (texts chunk.inner.buffers.items chunk.inner.views.items) ≤ MAX_ROWS }
+    requires typed { All (HasType kind.string) (map (or_null string) (texts chunk.inner.buffers.items chunk.inner.views.items)) }
+    ensures { IfOk result (λ c. plain c ≡ record { name = name; kind = kind.string; values = map (or_null string) (texts chunk.inner.buffers.items chunk.inner.views.items) }) }
 {
     let mut chunks = Vec::with_capacity(alloc, 1)?;
-    chunks.push(StringChunk::from_cells(alloc, &Cells { cells })?)?;
+    chunks.push(chunk)?;
     let series = Series::from_parts(name, text_type(), Chunks::StringType(chunks), IsSorted::Not);
     Ok(series.into_column())
 }
@@ -118,12 +104,11 @@ fn variable_column(
     name: PlSmallStr,
     columns: &[&Series],
 ) -> Result<Column, OutOfMemory>
-    requires few { length (flat (map (λ c. values c.now) columns.now)) ≤ MAX_ROWS }
-    requires short { All (λ c. length c.now.name < 2 ^ 32) columns.now }
+    requires { length (flat (map (λ c. values c.now) columns.now)) ≤ MAX_ROWS }
     ensures { IfOk result (λ c. plain c ≡ variable_column name (table_of (lent_columns columns.now))) }
 {
-    let cells = name_cells(alloc, columns)?;
-    text_column(alloc, name, cells)
+    let chunk = name_chunk(alloc, columns)?;
+    text_column(alloc, name, chunk)
 }
 
 fn value_column(
@@ -151,7 +136,6 @@ pub(crate) fn long_columns(
 ) -> Result<Vec<Column>, OutOfMemory>
     requires few { length (flat (map (λ c. values c.now) on.now)) ≤ MAX_ROWS }
     requires level { All (λ c. length (values c.now) * length on.now ≤ MAX_ROWS) index.now }
-    requires short { All (λ c. length c.now.name < 2 ^ 32) on.now }
     requires typed { All (λ c. CastsTo (kind_of dtype) c.now) on.now }
     ensures { IfOk result (λ v. table_of v.items ≡ long_table (kind_of dtype) (table_of (lent_columns on.now)) (table_of (lent_columns index.now)) variable.now value.now) }
 {

@@ -6,7 +6,7 @@ use Rattle.tb_chunk.specs.Lent.{lent_columns}
 use Rattle.tb_frame.specs.Frame.{selected}
 use Rattle.tb_frame.specs.Table.{table_of}
 use Rattle.tb_unpivot.specs.Unpivot.{on_names, unpivot_table}
-use Rattle.tb_unpivot.proofs.Answered.{asked_for, asked_of, index_few, long_is, long_refused, on_few, on_short, on_typed}
+use Rattle.tb_unpivot.proofs.Answered.{asked_for, asked_of, index_few, long_is, long_refused, on_few, on_typed}
 use Rattle.tb_unpivot.proofs.Causes.{onward, settled, stops}
 use Rattle.tb_unpivot.proofs.frame_unpivot.unpivoted.Goals as goal
 
@@ -41,16 +41,6 @@ long_columns-requires-clause-level c =
     let asked = c.in_ok-asked.ensures.asked in
     let found : lent_columns c.deref-2.result.now ≡ selected names cs = ap lent_columns c.deref-2.ensures.value ∙ asked.on in
     index_few cs names c.deref-2.result.now c.get_columns.ensures.table found index c.deref-3.result.now (ap lent_columns c.deref-3.ensures.value ∙ asked.index) asked.few
-
-pub long_columns-requires-clause-short : goal.long_columns-requires-clause-short
-long_columns-requires-clause-short c =
-    let cs = c.args.table.now in
-    let on = c.args.on.now in
-    let index = c.args.index.now in
-    let names = c.deref.result.now in
-    let asked = c.in_ok-asked.ensures.asked in
-    let found : lent_columns c.deref-2.result.now ≡ selected names cs = ap lent_columns c.deref-2.ensures.value ∙ asked.on in
-    on_short cs names c.deref-2.result.now c.get_columns.ensures.table found c.requires
 
 pub long_columns-requires-clause-typed : goal.long_columns-requires-clause-typed
 long_columns-requires-clause-typed c =
