@@ -74,9 +74,6 @@ module _ (index on : List TableColumn) (n : ℕ) (c : Cells) (cells : AreCells n
   pub rows_fit : AreGroupsOf n c.rows
   rows_fit = groups_fit index n c.rows cells.rows few
 
-  pub headers_fit : AreGroupsOf n c.headers
-  headers_fit = groups_fit on n c.headers cells.headers few
-
   -- the row of an index and that of a header are rows of the table, and so is the first one of a group
   pub groups_low : All (λ i. i < n) c.groups.firsts.items
   groups_low = firsts_low (alike (index ++ on)) (alike_equiv (index ++ on)) n c.groups cells.groups

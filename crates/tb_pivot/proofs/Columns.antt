@@ -1,5 +1,5 @@
 -- The columns of an answer, and when it is refused.
-use Rattle.std.proofs.Common.{◌≡◌, ◌∙◌, ◌<◌, ◌≤◌, ◌+◌, ℕ, ltb, Bool, true, false, cond, ◌&&◌, List, [], ◌∷◌, ◌++◌, drop, get_or, length, map, take, Option, Some, None, inl, inr, refl, sym, ap, subst, arith}
+use Rattle.std.proofs.Common.{◌≡◌, ◌∙◌, ◌<◌, ◌≤◌, ◌+◌, ℕ, Bool, true, false, cond, List, [], ◌∷◌, ◌++◌, drop, get_or, length, map, take, Option, Some, None, inl, inr, refl, sym, ap, subst, arith}
 use Rattle.std.specs.Prelude.{◌⊎◌}
 use Rattle.std.specs.Borrow.{Bor}
 use Rattle.std.specs.Option.{option_map}
@@ -14,7 +14,7 @@ use Rattle.tb_value.specs.Datum.{Datum}
 use Rattle.tb_value.specs.Names.{Name}
 use Rattle.tb_value.specs.Pairs.{row_numbers}
 use Rattle.tb_value.specs.Refusals.{first_cause, when}
-use Rattle.tb_value.specs.declared.error.ComputeCause.TheVariants.{ManyInGroup, SumRange}
+use Rattle.tb_value.specs.declared.error.ComputeCause.TheVariants.{SumRange}
 use Rattle.tb_value.specs.declared.error.PolarsError.{PolarsError}
 use Rattle.tb_value.specs.declared.error.PolarsError.TheVariants.{ComputeError, OutOfMemory}
 use Rattle.tb_value.specs.declared.limits.TheConstants.{MAX_ROWS}
@@ -32,8 +32,8 @@ use Rattle.tb_pivot.specs.Cells.{cells_under}
 use Rattle.tb_pivot.specs.Headers.{block_name, header_text}
 use Rattle.tb_pivot.specs.Layout.{header_column, header_columns, index_and_blocks, laid_block, laid_out, IsLayout}
 use Rattle.tb_pivot.specs.Made.{made_cause, takes, IsMade}
-use Rattle.tb_pivot.specs.Pivot.{answer_rows, block, block_column, by_name, cell, distinct_rows, header_at, header_rows, index_column, key_columns, way_kind, wide, with_blocks}
-use Rattle.tb_pivot.specs.Refusal.{answer_cause, is_one_row, is_out_of_range, many_cause, range_cause, value_causes, way_cause}
+use Rattle.tb_pivot.specs.Pivot.{answer_rows, block, block_column, by_name, cell, header_at, header_rows, index_column, way_kind, wide, with_blocks}
+use Rattle.tb_pivot.specs.Refusal.{answer_cause, is_out_of_range, many_cause, range_cause, value_causes, way_cause}
 use Rattle.tb_pivot.specs.Request.{Chosen, Way, one_row, aggregated, asked}
 use Rattle.tb_pivot.specs.declared.blocks.Layout.{Layout}
 use Rattle.tb_pivot.proofs.Cell.{cells_are, kind_is, rows_fit}
@@ -204,12 +204,6 @@ module _ (l : Layout) (h : IsLayout l) where
         ∙ ap (λ (o : Option PolarsError). first_cause (o ∷ map (made_cause way l.cells.groups) (lent_columns (drop (i + 1) lent_values)))) (ap (λ (d : Bor Col). made_cause way l.cells.groups d.now) (sym item) ∙ none)
 
     -- THE REFUSAL
-
-    pub many_is : many_cause q ≡ when (is_one_row way && (ltb 0 (length lent_values) && ltb (length l.cells.groups.firsts.items) l.height)) (ComputeError ManyInGroup)
-    many_is =
-        let width : length q.values ≡ length lent_values = length-map (lent_columns lent_values) plain ∙ length-map lent_values (λ (c : Bor Col). c.now) in
-        let firsts : length (distinct_rows q (key_columns q)) ≡ length l.cells.groups.firsts.items = sym (ap length h.cells.groups.firsts) in
-        λ t. when (is_one_row way && (ltb 0 (width t) && ltb (firsts t) l.height)) (ComputeError ManyInGroup)
 
     -- the causes of the way
     both_causes : (w : Way) (vs rest : List _) → first_cause (option_map (λ (c : TableColumn). ComputeError (SumRange c.name)) (find (is_out_of_range q w) vs) ∷ first_cause (map (way_cause q w) vs) ∷ rest)

@@ -1,9 +1,8 @@
 -- One group more in its cell.
-use Rattle.std.proofs.Common.{◌≡◌, ◌∙◌, ◌<◌, ◌≤◌, ◌+◌, ◌*◌, ℕ, zero, suc, Bool, true, false, cond, eqb, List, ◌∷◌, get_or, set, length, map, replicate, refl, sym, ap, arith, Option, Some}
+use Rattle.std.proofs.Common.{◌≡◌, ◌∙◌, ◌<◌, ◌+◌, ℕ, zero, suc, Bool, true, false, cond, eqb, List, ◌∷◌, get_or, set, length, map, replicate, refl, sym, ap, arith, Option, Some}
 use Rattle.std.specs.List.{range_with_len}
 use Rattle.std.proofs.lemmas.Bool.{eq-eqb, ne_eqb}
 use Rattle.std.proofs.lemmas.List.Elements.{All-get_or}
-use Rattle.std.proofs.lemmas.Nat.{mul-le}
 use Rattle.tb_value.specs.Pairs.{row_numbers}
 use Rattle.tb_rows.specs.declared.groups.Groups.{Groups}
 use Rattle.tb_agg.specs.Grouped.{AreGroupsOf}
@@ -30,13 +29,6 @@ group_more f cells n p kept so_far is low =
     ap (λ (os : List (Option ℕ)). set os p (Some n)) so_far
     ∙ ap (set (map old (row_numbers cells)) p) (sym here)
     ∙ set_range old new 0 cells p low (λ k other. sym (last_more (λ i. eqb (f i) k) n false (ne_eqb (f n) k (λ same. other (omega (arith, same, is))))))
-
--- a cell is below the number of cells
-pub cell_below : (height width x y : ℕ) → x < height → y < width → y * height + x < width * height
-cell_below height width x y low under =
-    let rows : (y + 1) * height ≤ width * height = mul-le (y + 1) height width height (omega (arith, under)) (omega arith) in
-    let more : (y + 1) * height ≡ y * height + height = omega arith in
-    omega (arith, rows, more, low)
 
 pub number_low : (n r : ℕ) (g : Groups) → AreGroupsOf n g → r < n → get_or g.numbers.items r 0 < length g.firsts.items
 number_low n r g groups low = All-get_or (λ k. k < length g.firsts.items) g.numbers.items r 0 (omega (arith, groups.each, low)) groups.within

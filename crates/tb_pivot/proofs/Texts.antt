@@ -1,8 +1,7 @@
 -- Texts in a row, and headers of one value and of several.
-use Rattle.std.proofs.Common.{◌≡◌, ◌≢◌, ◌∙◌, ℕ, List, [], ◌∷◌, ◌++◌, get_or, length, map, refl, sym, ap, arith, append_assoc}
+use Rattle.std.proofs.Common.{◌≡◌, ◌≢◌, ◌∙◌, ℕ, List, [], ◌∷◌, ◌++◌, length, map, refl, sym, ap, append_assoc}
 use Rattle.std.specs.List.{join_with_byte}
-use Rattle.tb_value.specs.Datum.{Datum, null}
-use Rattle.tb_label.specs.Label.{value_text}
+use Rattle.tb_value.specs.Datum.{Datum}
 use Rattle.tb_pivot.specs.Headers.{field_text, header_text, in_braces}
 
 -- one text more
@@ -11,11 +10,6 @@ joined_more x [] y = refl
 joined_more x (z ∷ zs) y =
     ap (λ (t : List ℕ). x ++ (44 ∷ t)) (joined_more z zs y)
     ∙ sym (append_assoc x (44 ∷ join_with_byte 44 (z ∷ zs)) (44 ∷ y))
-
-pub header_of_one : (vs : List Datum) → length vs ≡ 1 → header_text vs ≡ value_text (get_or vs 0 null)
-header_of_one [] one = absurd (omega (arith, one))
-header_of_one (v ∷ []) one = refl
-header_of_one (v ∷ w ∷ vs) one = absurd (omega (arith, one))
 
 pub header_of_many : (vs : List Datum) → length vs ≢ 1 → header_text vs ≡ in_braces (map field_text vs)
 header_of_many [] many = refl
