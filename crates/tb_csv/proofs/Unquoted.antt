@@ -1,14 +1,16 @@
 -- A text without a quote.
-use Rattle.std.proofs.Common.{◌≡◌, ◌<◌, ◌==◌, ◌∷◌, [], ℕ, zero, suc, List, Bool, true, false, cond, drop, take, length, get_or, ◌-◌, ◌≤◌, arith, refl}
-use Rattle.std.proofs.lemmas.List.{take_all}
-use Rattle.std.specs.Prelude.{◌||◌, if◌then◌else◌}
+use Rattle.std.proofs.Common.{◌≡◌, ◌<◌, ◌==◌, ◌∷◌, [], ℕ, zero, suc, List, Bool, true, false, cond, drop, take, length, get_or, ◌-◌, ◌≤◌, arith, refl, sym, subst, Option, Some, None}
+use Rattle.std.proofs.lemmas.List.{get_or_default, take_all}
+use Rattle.std.proofs.lemmas.List.Folds.{list_any_at, list_any_none}
+use Rattle.memchr.specs.Find.{IsFirstByte, is_byte}
+use Rattle.std.specs.Prelude.{is_some, ◌||◌, if◌then◌else◌}
 use Rattle.std.specs.List.{list_any}
 use Rattle.csv.specs.Machine.{ends_at_end, in_field, step}
 use Rattle.csv.specs.Reading.{is_bom, strip_bom}
 use Rattle.csv.specs.declared.parser.Action.{Action}
 use Rattle.csv.specs.declared.parser.State.{State}
 use Rattle.csv.specs.declared.parser.State.TheVariants as st
-use Rattle.tb_csv.specs.Places.{MarkAlike, has_mark}
+use Rattle.tb_csv.specs.Places.{MarkAlike, has_mark, has_quote}
 use Rattle.tb_csv.specs.Records.{Line, ends_field, form, is_quoted, marked, marks_from, marks_of}
 
 -- states outside quotes
@@ -94,11 +96,21 @@ none_stripped (x ∷ y ∷ []) h = h
 none_stripped (x ∷ y ∷ z ∷ rest) h = none_behind (is_bom x y z) x y z rest h
 
 -- a text without a quote has no field in quotes
-pub no_marks : (separator : ℕ) (xs : List ℕ) → list_any (λ y. y == 34) xs ≡ false → MarkAlike [] (marks_of separator xs)
+pub no_marks : (separator : ℕ) (xs : List ℕ) → has_quote xs ≡ false → MarkAlike [] (marks_of separator xs)
 unfolding marks_of
 no_marks separator xs none n l =
     let bare = bare_drop n (marks_of separator xs) (bare_marks separator st.StartRecord (strip_bom xs) refl (none_stripped xs none)) in
     rw (no_bytes n) (bare_marked (drop n (marks_of separator xs)) l bare)
+
+not_quote : (b : Bool) → (b ≡ true → ⊥) → b ≡ false
+not_quote true h = absurd (h refl)
+not_quote false h = refl
+
+-- the search for a quote
+pub quote_found : (xs : List ℕ) (r : Option ℕ) → IsFirstByte (is_byte 34) xs r → is_some r ≡ has_quote xs
+quote_found xs None h =
+    sym (list_any_none (λ y. y == 34) xs (λ k d low. not_quote (get_or xs k d == 34) (λ e. h k (omega arith) low (subst (λ (n : ℕ). (n == 34) ≡ true) (get_or_default xs k d 0 low) e))))
+quote_found xs (Some k) h = sym (list_any_at (λ y. y == 34) xs k 0 h.0.high h.1)
 
 -- a byte-order mark at the front
 pub stripped : (xs : List ℕ) → has_mark xs ≡ true → take (length xs - 3) (drop 3 xs) ≡ strip_bom xs

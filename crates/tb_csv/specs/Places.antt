@@ -1,8 +1,9 @@
 -- The places of a reader in a text.
-use Rattle.std.specs.Prelude.{◌≡◌, ℕ, Bool, false, List, ◌∷◌, drop}
+use Rattle.std.specs.Prelude.{◌≡◌, ◌==◌, ℕ, Bool, false, List, ◌∷◌, drop}
 use Rattle.csv.specs.declared.parser.Action.{Action}
 use Rattle.csv.specs.declared.parser.State.{State}
 use Rattle.csv.specs.declared.parser.State.TheVariants as st
+use Rattle.std.specs.List.{list_any}
 use Rattle.csv.specs.Reading.{is_bom}
 use Rattle.tb_csv.specs.Records.{Line, ends_field, marked}
 use Rattle.tb_csv.specs.declared.marks.Place.{Place}
@@ -20,6 +21,9 @@ state_at place.AfterReturn = st.AfterCr
 -- a place and whether a field ends before it are those of a step
 abbrev pub IsStep : Place × Bool → State × Action → Type 0
 IsStep p s = (state_at p.0 ≡ s.0) × (p.1 ≡ ends_field s.1)
+
+abbrev pub has_quote : List ℕ → Bool
+has_quote xs = list_any (λ b. b == 34) xs
 
 -- a byte-order mark stands at the front
 abbrev pub has_mark : List ℕ → Bool

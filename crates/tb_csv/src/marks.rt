@@ -3,9 +3,10 @@ ghost use Rattle.std.specs.Prelude.{◌≡◌, IfOk};
 ghost use Rattle.csv.specs.Machine as machine;
 ghost use Rattle.csv.specs.Reading.{strip_bom};
 ghost use Rattle.csv.specs.declared.parser.State.TheVariants as st;
-ghost use Rattle.tb_csv.specs.Places.{IsStep, MarkAlike, has_mark, state_at};
+ghost use Rattle.tb_csv.specs.Places.{IsStep, MarkAlike, has_mark, has_quote, state_at};
 ghost use Rattle.tb_csv.specs.Records.{form, is_quoted, marks_from, marks_of};
 
+use memchr::memchr;
 use std::alloc::Global;
 use tb_value::OutOfMemory;
 
@@ -124,11 +125,17 @@ fn marks_from_start(alloc: Global, text: &[u8], separator: u8) -> Result<Vec<boo
     Ok(marks)
 }
 
+fn has_quote(text: &[u8]) -> bool
+    ensures { result ≡ has_quote text.now }
+{
+    memchr(b'"', text).is_some()
+}
+
 /// Whether each field of a text stands in quotes. A text without a quote needs no marks, and gets none.
 pub(crate) fn marks_of(alloc: Global, text: &[u8], separator: u8) -> Result<Vec<bool>, OutOfMemory>
     ensures { IfOk result (λ v. MarkAlike v.items (marks_of separator text.now)) }
 {
-    if !text.contains(&b'"') {
+    if !has_quote(text) {
         return Ok(Vec::new(alloc));
     }
     marks_from_start(alloc, behind_mark(text), separator)
