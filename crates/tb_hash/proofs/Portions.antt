@@ -1,17 +1,13 @@
 -- Portions of the probed rows, and their pairs one after another.
-use Rattle.std.proofs.Common.{◌≡◌, ◌⊎◌, ℕ, suc, ◌+◌, ◌-◌, ◌*◌, ◌/◌, ◌==◌, ◌<◌, ◌≤◌, Bool, true, false, cond, List, [], ◌∷◌, ◌++◌, length, get_or, map, refl, sym, subst, ap, ◌∙◌, arith, Some, length-append, append-nil, append_assoc}
-use Rattle.std.specs.Prelude.{All}
-use Rattle.std.specs.List.{flat_map, range_with_len}
-use Rattle.std.proofs.lemmas.List.Concat.{flat_map-append}
+use Rattle.std.proofs.Common.{◌≡◌, ◌⊎◌, ℕ, suc, ◌+◌, ◌-◌, ◌<◌, List, [], ◌∷◌, ◌++◌, length, get_or, map, sym, ap, ◌∙◌, arith, Some, length-append, append-nil, append_assoc}
+use Rattle.std.specs.List.{flat_map}
 use Rattle.std.proofs.lemmas.List.Folds.{flat_map-map}
-use Rattle.std.proofs.lemmas.List.FromFn.{length-map-range_with_len, get_or-map-range_with_len}
-use Rattle.std.proofs.Math.Nat.{mul-le-mul_right, mul-div-le}
 use Rattle.tb_value.specs.declared.error.PolarsError.{PolarsError}
 use Rattle.tb_value.specs.declared.error.PolarsError.TheVariants.{OutOfMemory}
 use Rattle.tb_value.specs.declared.index.JoinPair.{JoinPair}
 use Rattle.tb_value.specs.Pairs.{row_numbers}
-use Rattle.tb_pool.specs.Portions.{portion_of, places_of}
-use Rattle.tb_pool.proofs.Cover.{cover}
+use Rattle.tb_value.proofs.Loops.{flat_map-flat_map}
+use Rattle.tb_pool.specs.Portions.{places_of}
 use Rattle.tb_build.specs.Phases.{AreGiven}
 use Rattle.tb_hash.specs.declared.portion.Portion.{Portion}
 use Rattle.tb_hash.specs.Portions.{ArePortions, IsPortion}
@@ -20,15 +16,11 @@ use Rattle.tb_hash.proofs.PairLists.{still_too_many}
 
 -- THE PAIRS OF ALL PORTIONS
 
-flat_flat : {X Y Z : Type 0} (f : Y → List Z) (g : X → List Y) (xs : List X) → flat_map (λ x. flat_map f (g x)) xs ≡ flat_map f (flat_map g xs)
-flat_flat f g [] = refl
-flat_flat f g (x ∷ xs) = ap (λ l. flat_map f (g x) ++ l) (flat_flat f g xs) ∙ sym (flat_map-append f (g x) (flat_map g xs))
-
 -- the lists of portions that cover the rows are one after another that of all rows
 pub covered : (f : ℕ → List JoinPair) (cuts : List (ℕ × ℕ)) (len : ℕ) → flat_map places_of cuts ≡ row_numbers len
     → flat_map (λ list. list) (map (λ cut. flat_map f (places_of cut)) cuts) ≡ flat_map f (row_numbers len)
 covered f cuts len e =
-    flat_map-map (λ (list : List JoinPair). list) (λ cut. flat_map f (places_of cut)) cuts ∙ flat_flat f places_of cuts ∙ ap (flat_map f) e
+    flat_map-map (λ (list : List JoinPair). list) (λ cut. flat_map f (places_of cut)) cuts ∙ flat_map-flat_map f places_of cuts ∙ ap (flat_map f) e
 
 -- results that are each of their part are portions of these lists
 from_each : {Y : Type 0} (f : Y → List JoinPair) (d : Y) (cuts : List Y) (xs : List Portion) → length xs ≡ length cuts

@@ -5,6 +5,7 @@ use Rattle.std.specs.List.{list_any}
 use Rattle.std.specs.Option.{option_eq}
 use Rattle.std.specs.HashSet.{HashSet, contains}
 use Rattle.std.proofs.lemmas.List.Folds.{list_any-append}
+use Rattle.std.proofs.Math.Bool.{and-false}
 use Rattle.tb_value.specs.Datum.{Datum}
 use Rattle.tb_value.specs.Pairs.{row_numbers}
 use Rattle.tb_value.specs.Refusals.{first_cause, when}
@@ -24,13 +25,9 @@ use Rattle.tb_hash.specs.Twins.{key_twins, value_causes, value_twins}
 
 -- WHERE NO VALIDATION IS ASKED FOR
 
-unasked : (a c : Bool) → (a && false && c) ≡ false
-unasked true c = refl
-unasked false c = refl
-
 pub unvalidated : (how : JoinType) (nulls : Bool) (us vs : List Datum) → first_cause (value_causes ManyToMany nulls how us vs) ≡ too_many (length (value_listing nulls how us vs))
 unvalidated how nulls us vs =
-    (λ t. first_cause (when (unasked (is_validated how) (value_twins nulls us) t) (ComputeError (Validation side.Left)) ∷ when (unasked (is_validated how) (value_twins nulls vs) t) (ComputeError (Validation side.Right)) ∷ too_many (length (value_listing nulls how us vs)) ∷ []))
+    (λ t. first_cause (when (and-false (is_validated how) t && value_twins nulls us) (ComputeError (Validation side.Left)) ∷ when (and-false (is_validated how) t && value_twins nulls vs) (ComputeError (Validation side.Right)) ∷ too_many (length (value_listing nulls how us vs)) ∷ []))
     ∙ first_cause-one (too_many (length (value_listing nulls how us vs)))
 
 -- ONE KEY

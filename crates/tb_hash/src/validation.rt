@@ -2,7 +2,7 @@
 ghost use Rattle.std.specs.Prelude.{◌≡◌, ◌&&◌, ◌||◌, ◌∷◌, [], not, IfOk, OnOk, Option};
 ghost use Rattle.tb_value.specs.Refusals.{Settles, first_cause};
 ghost use Rattle.tb_value.specs.declared.error.Side.TheVariants as side;
-ghost use Rattle.tb_frame.specs.Refusal.{asks_left, asks_right, is_validated};
+ghost use Rattle.tb_frame.specs.Refusal.{asks_left, asks_right};
 ghost use Rattle.tb_build.specs.Keys.{keys_match};
 ghost use Rattle.tb_hash.specs.SeenKeys.{has_match};
 ghost use Rattle.tb_hash.specs.Twins.{broken, key_twins};
@@ -46,16 +46,6 @@ fn have_twins<K: JoinKey>(
     Ok(false)
 }
 
-// Whether a side that is asked to have no twins is looked at in a join of this kind.
-fn is_checked(how: JoinType, is_asked: bool) -> bool
-    ensures { result ≡ (is_validated how && is_asked) }
-{
-    match how {
-        JoinType::Inner | JoinType::Left | JoinType::Right | JoinType::Full => is_asked,
-        JoinType::Semi | JoinType::Anti => false,
-    }
-}
-
 // Refuses a side that has twins, where it is asked to have none.
 fn check_side<K: JoinKey>(
     alloc: Global,
@@ -67,7 +57,7 @@ fn check_side<K: JoinKey>(
 ) -> PolarsResult<()>
     ensures { Settles result (broken side how is_asked (key_twins K.eq join_nulls keys.now)) }
 {
-    if !is_checked(how, is_asked) {
+    if !(how.is_validated() && is_asked) {
         return Ok(());
     }
     if have_twins(alloc, keys, join_nulls)? {
