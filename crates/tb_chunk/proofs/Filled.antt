@@ -1,5 +1,5 @@
 -- Facts on texts that are put into buffers.
-use Rattle.std.proofs.Common.{arith, ◌≡◌, ◌≤◌, ◌<◌, ◌+◌, ◌++◌, ◌∷◌, [], ℕ, List, Option, Some, None, length, take, replicate, map, zero, suc, refl, sym, ◌∙◌, ap}
+use Rattle.std.proofs.Common.{arith, ◌≡◌, ◌≤◌, ◌<◌, ◌+◌, ◌++◌, ◌∷◌, [], ℕ, List, Option, Some, length, take, replicate, map, zero, suc, refl, sym, ◌∙◌, ap}
 use Rattle.std.specs.List.{All}
 use Rattle.std.proofs.lemmas.List.{map-append}
 use Rattle.std.proofs.lemmas.List.Elements.{All-append, All-cons, All-nil, All-replicate}
@@ -71,10 +71,6 @@ rows_pushed s s' vs t w n r a =
     let m = rows_more s s' vs (replicate n w) (Some t) w r a (All-replicate (IsViewOrNone (all_of s')) n w r.view) in
     let e : texts (all_of s') (vs ++ replicate n w) ≡ texts (all_of s) vs ++ replicate n (Some t) = m.1 ∙ ap (λ ts. texts (all_of s) vs ++ ts) (map-replicate (row_text (all_of s')) n w ∙ ap (replicate n) r.text) in
     (m.0, λ i. record { rows = e i; laid = r.placed i })
-
--- a row without a text
-pub null_row : (s : Filling) → IsRow None s s None
-null_row s = record { placed = refl; kept = λ vs a. (a, refl); view = tt; text = refl }
 
 pub built-push : (ts : List (Option (List ℕ))) (o : Option (List ℕ)) → with_row (built ts) o ≡ built (ts ++ o ∷ [])
 built-push ts o = let e = fold_push placed ([], []) ts o in λ i. record { rows = ts ++ o ∷ []; laid = sym e i }
