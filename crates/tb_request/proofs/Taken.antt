@@ -1,5 +1,5 @@
 -- Members that are taken out of an object.
-use Rattle.std.proofs.Common.{◌≡◌, ℕ, List, Option, Some, None, option_map, String, Global, BTreeMap, string_bytes, nat_cmp, is_eq, Bool, refl, sym, ap, ◌∙◌}
+use Rattle.std.proofs.Common.{◌≡◌, ℕ, List, Some, option_map, String, Global, BTreeMap, string_bytes, nat_cmp, is_eq, Bool, ◌∙◌}
 use Rattle.std.specs.Cmp.Lexicographic.{slice_cmp}
 use Rattle.std.specs.Map.{lookup}
 use Rattle.serde_json.specs.Data.{Data, null, boolean, number, string, array, object, Members}
@@ -25,12 +25,3 @@ member_of name (object ns) ms e = found name ms ns e
 -- the entry of a name is the member of this name
 pub member_is : (name : List ℕ) (d : Data) (m : BTreeMap (String Global) Value) → Some (members_view m.entries) ≡ as_object d → option_map view (lookup (named name) m.entries) ≡ get name d
 member_is name d m e = view-lookup name m.entries ∙ member_of name d (members_view m.entries) e
-
--- what is no object has no members
-pub no_member : (name : List ℕ) (d : Data) → None ≡ as_object d → None ≡ get name d
-no_member name null e = refl
-no_member name (boolean b) e = refl
-no_member name (number n) e = refl
-no_member name (string s) e = refl
-no_member name (array ds) e = refl
-no_member name (object ms) e = cc

@@ -9,7 +9,8 @@ use tb_frame::{JoinArgs, JoinCoalesce, JoinType, JoinValidation, MaintainOrderJo
 use tb_tree::Value;
 use tb_value::OutOfMemory;
 
-fn how_named(text: &str) -> Option<JoinType>
+/// The kind of join that a word names.
+pub fn how_named(text: &str) -> Option<JoinType>
     ensures { result ≡ how_named text.now }
 {
     match text {
@@ -23,7 +24,8 @@ fn how_named(text: &str) -> Option<JoinType>
     }
 }
 
-fn validation_named(text: &str) -> Option<JoinValidation>
+/// The validation that a word names.
+pub fn validation_named(text: &str) -> Option<JoinValidation>
     ensures { result ≡ validation_named text.now }
 {
     match text {
@@ -35,7 +37,8 @@ fn validation_named(text: &str) -> Option<JoinValidation>
     }
 }
 
-fn coalesce_named(text: &str) -> Option<JoinCoalesce>
+/// What a word says of the two key columns of a pair.
+pub fn coalesce_named(text: &str) -> Option<JoinCoalesce>
     ensures { result ≡ coalesce_named text.now }
 {
     match text {
@@ -46,7 +49,8 @@ fn coalesce_named(text: &str) -> Option<JoinCoalesce>
     }
 }
 
-fn order_named(text: &str) -> Option<MaintainOrderJoin>
+/// The order of the rows of an answer that a word names.
+pub fn order_named(text: &str) -> Option<MaintainOrderJoin>
     ensures { result ≡ order_named text.now }
 {
     match text {
@@ -92,8 +96,8 @@ fn order_of(args: &Value) -> Option<MaintainOrderJoin>
     }
 }
 
-// The offset and the length, or None where the value is no list of these two.
-fn slice_in(value: &Value) -> Option<Option<(i64, usize)>>
+/// The offset and the length of a slice, or None where the value is no list of these two.
+pub fn slice_in(value: &Value) -> Option<Option<(i64, usize)>>
     ensures { result ≡ slice_in (view value.now) }
 {
     let items = value.as_array()?;

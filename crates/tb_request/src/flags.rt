@@ -17,7 +17,8 @@ pub(crate) struct FlaggedColumns {
     pub hold: bool,
 }
 
-fn flag_holds(column: &Column, flag: IsSorted) -> bool
+/// Whether the values of a column are in the order.
+pub fn flag_holds(column: &Column, flag: IsSorted) -> bool
     ensures { result ≡ flag_holds flag column.now.kind (values column.now) }
 {
     match flag {

@@ -98,7 +98,8 @@ pub(crate) struct WrittenPivot {
     pub separator: Option<PlSmallStr>,
 }
 
-fn agg_named(text: &str) -> Option<Aggregate>
+/// The aggregate that a word names.
+pub fn agg_named(text: &str) -> Option<Aggregate>
     ensures { result ≡ agg_named text.now }
 {
     match text {

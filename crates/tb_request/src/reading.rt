@@ -31,8 +31,13 @@ fn exec_of(numbers: ExecNumbers) -> Option<Exec>
     }
 }
 
+/// The request to join that a JSON value is.
+///
+/// # Errors
+///
+/// Those of `join_request_of`, of the value.
 #[tactic(auto, unfolding(crate::specs::Reading::join_in, crate::specs::Columns::tables_of))]
-fn join_in(alloc: Global, value: Value) -> Result<JoinRequest, RequestFault>
+pub fn join_in(alloc: Global, value: Value) -> Result<JoinRequest, RequestFault>
     ensures { MatchResult result (λ q. join_in (view value) ≡ Ok (request_view q))
         (λ e. FaultIs e (join_in (view value))) }
 {
@@ -60,9 +65,13 @@ fn join_in(alloc: Global, value: Value) -> Result<JoinRequest, RequestFault>
     })
 }
 
-// The value that the bytes are.
+/// The JSON value that the bytes are.
+///
+/// # Errors
+///
+/// `OutOfMemory` may come at any time. Else `Json`, where they are no JSON text.
 #[tactic(auto, unfolding(crate::specs::Reading::value_of))]
-fn value_of(alloc: Global, bytes: &[u8]) -> Result<Value, RequestFault>
+pub fn value_of(alloc: Global, bytes: &[u8]) -> Result<Value, RequestFault>
     ensures { MatchResult result (λ v. value_of bytes.now ≡ Ok (view v)) (λ e. FaultIs e (value_of bytes.now)) }
 {
     match Value::from_slice(alloc, bytes) {
@@ -81,8 +90,13 @@ fn value_in(alloc: Global, bytes: Vec<u8>) -> Result<Value, RequestFault>
     value_of(alloc, &bytes)
 }
 
+/// The request to make a table long that a JSON value is.
+///
+/// # Errors
+///
+/// Those of `unpivot_request_of`, of the value.
 #[tactic(auto, unfolding(crate::specs::Reading::unpivot_in))]
-fn unpivot_in(alloc: Global, value: Value) -> Result<UnpivotRequest, RequestFault>
+pub fn unpivot_in(alloc: Global, value: Value) -> Result<UnpivotRequest, RequestFault>
     ensures { MatchResult result (λ q. unpivot_in (view value) ≡ Ok (unpivot_view q))
         (λ e. FaultIs e (unpivot_in (view value))) }
 {
@@ -98,8 +112,13 @@ fn unpivot_in(alloc: Global, value: Value) -> Result<UnpivotRequest, RequestFaul
     })
 }
 
+/// The request for dummies that a JSON value is.
+///
+/// # Errors
+///
+/// Those of `dummies_request_of`, of the value.
 #[tactic(auto, unfolding(crate::specs::Reading::dummies_in))]
-fn dummies_in(alloc: Global, value: Value) -> Result<DummiesRequest, RequestFault>
+pub fn dummies_in(alloc: Global, value: Value) -> Result<DummiesRequest, RequestFault>
     ensures { MatchResult result (λ q. dummies_in (view value) ≡ Ok (dummies_view q))
         (λ e. FaultIs e (dummies_in (view value))) }
 {
@@ -114,8 +133,13 @@ fn dummies_in(alloc: Global, value: Value) -> Result<DummiesRequest, RequestFaul
     })
 }
 
+/// The request to make a table wide that a JSON value is.
+///
+/// # Errors
+///
+/// Those of `pivot_request_of`, of the value.
 #[tactic(auto, unfolding(crate::specs::Reading::pivot_in))]
-fn pivot_in(alloc: Global, value: Value) -> Result<PivotRequest, RequestFault>
+pub fn pivot_in(alloc: Global, value: Value) -> Result<PivotRequest, RequestFault>
     ensures { MatchResult result (λ q. pivot_in (view value) ≡ Ok (pivot_view q))
         (λ e. FaultIs e (pivot_in (view value))) }
 {

@@ -47,7 +47,8 @@ pub(crate) struct WrittenJoin {
     pub trace: bool,
 }
 
-fn flag_named(text: &str) -> Option<IsSorted>
+/// The order of the values of a column that a word names.
+pub fn flag_named(text: &str) -> Option<IsSorted>
     ensures { result ≡ flag_named text.now }
 {
     match text {
@@ -57,7 +58,8 @@ fn flag_named(text: &str) -> Option<IsSorted>
     }
 }
 
-fn flag_of(column: &Value) -> Option<IsSorted>
+/// The order that a column claims, or None where its member `sorted` is no word of an order.
+pub fn flag_of(column: &Value) -> Option<IsSorted>
     ensures { result ≡ flag_of (view column.now) }
 {
     match column.get("sorted") {
@@ -188,8 +190,8 @@ pub(crate) fn table_at(
     table_in(alloc, into_member(object, name))
 }
 
-// A whole number below 2^32.
-fn count_of(value: &Value) -> Option<u32>
+/// A whole number below 2^32, or None where the value is none.
+pub fn count_of(value: &Value) -> Option<u32>
     ensures { result ≡ count_of (view value.now) }
 {
     let count = value.as_u64()?;
