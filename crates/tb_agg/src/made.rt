@@ -44,7 +44,9 @@ pub(crate) fn sum_values(
     dtype: &DataType,
     sums: &[Running],
 ) -> Result<Option<Vec<AnyValue>>, OutOfMemory>
-    ensures { IfOk result (λ o. MatchOption o (list_all (lies_within (ends (kind_of dtype.now))) (map sum_so_far sums.now) ≡ false) (λ v. (data_of v.items ≡ map int (map sum_so_far sums.now)) × All (HasType (kind_of dtype.now)) (data_of v.items) × (list_all (lies_within (ends (kind_of dtype.now))) (map sum_so_far sums.now) ≡ true))) }
+    ensures { IfOk result (λ o. MatchOption o (list_all (lies_within (ends (kind_of dtype.now))) (map sum_so_far sums.now) ≡ false)
+        (λ v. (data_of v.items ≡ map int (map sum_so_far sums.now)) × All (HasType (kind_of dtype.now)) (data_of v.items)
+        × (list_all (lies_within (ends (kind_of dtype.now))) (map sum_so_far sums.now) ≡ true))) }
 {
     let mut values = Vec::with_capacity(alloc, sums.len())?;
     for sum in sums {

@@ -99,7 +99,9 @@ pub(crate) fn picked_rows(
     pick: Pick,
 ) -> Result<Vec<NullableIdxSize>, OutOfMemory>
     requires { AreGroupsOf (length (values column.now)) groups.now }
-    ensures picked { IfOk result (λ v. v.items ≡ map (λ k. picked_row pick (values column.now) (rows_of groups.now.numbers.items (length (values column.now)) k)) (row_numbers (length groups.now.firsts.items))) }
+    ensures picked { IfOk result (λ v. v.items
+        ≡ map (λ k. picked_row pick (values column.now) (rows_of groups.now.numbers.items (length (values column.now)) k))
+        (row_numbers (length groups.now.firsts.items))) }
     ensures within { IfOk result (λ v. All (IsRowOf (length (values column.now))) v.items) }
 {
     let rows = column.len();

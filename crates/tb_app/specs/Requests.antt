@@ -49,7 +49,15 @@ asked_dummies r = record { table = table_of r.table; columns = r.columns; separa
 
 -- what is asked of the table that is made wide
 abbrev pub asked_wide : PivotRequest → wide.Request
-asked_wide r = record { table = table_of r.table; on = r.on; index = r.index; values = r.values; sorts = r.sort_columns; way = way_of r.agg; separator = wide.separator_or r.separator }
+asked_wide r = record {
+  table = table_of r.table;
+  on = r.on;
+  index = r.index;
+  values = r.values;
+  sorts = r.sort_columns;
+  way = way_of r.agg;
+  separator = wide.separator_or r.separator;
+}
 
 -- why the operation refuses the request
 unfoldable pub refusal_of : Request → Option PolarsError

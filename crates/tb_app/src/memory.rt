@@ -102,7 +102,8 @@ impl Source for MemorySource {
         ensures count { Counts self.old.plan.faults self.new.plan.faults result }
         ensures planned { IsErr result ↔ Contains self.old.plan.failing (next_count self.old.plan.calls) }
         ensures after { OnOk result (self.new.plan ≡ record self.old.plan { calls = next_count self.old.plan.calls }) }
-        ensures after_err { OnErr result (self.new.plan ≡ record { failing = self.old.plan.failing; calls = next_count self.old.plan.calls; faults = next_count self.old.plan.faults }) }
+        ensures after_err { OnErr result (self.new.plan
+            ≡ record { failing = self.old.plan.failing; calls = next_count self.old.plan.calls; faults = next_count self.old.plan.faults }) }
         ensures whole { IfOk result (λ n. n ≡ min (length room.old) (length self.old.bytes)) }
     {
         if self.schedule.next_fails() {
@@ -165,7 +166,8 @@ impl Sink for MemorySink {
         ensures planned { IsErr result ↔ (Contains self.old.plan.failing (next_count self.old.plan.calls)
             ⊎ ((0 < length piece.now) × (length self.old.bytes ≡ self.old.room))) }
         ensures after { OnOk result (self.new.plan ≡ record self.old.plan { calls = next_count self.old.plan.calls }) }
-        ensures after_err { OnErr result (self.new.plan ≡ record { failing = self.old.plan.failing; calls = next_count self.old.plan.calls; faults = next_count self.old.plan.faults }) }
+        ensures after_err { OnErr result (self.new.plan
+            ≡ record { failing = self.old.plan.failing; calls = next_count self.old.plan.calls; faults = next_count self.old.plan.faults }) }
         ensures whole { IfOk result (λ n. n ≡ min (length piece.now) (self.old.room - length self.old.bytes)) }
         ensures same_room { self.new.room ≡ self.old.room }
     {

@@ -99,7 +99,8 @@ impl ViewChunk {
         requires row { row < length other.now.views.items }
         requires held { Holds self.old.buffers.items base other.now.buffers.items }
         requires few { length self.old.buffers.items < 2 ^ 32 }
-        ensures ok { OnOk result (texts self.new.buffers.items self.new.views.items ≡ texts self.old.buffers.items self.old.views.items ++ slice_index_or (texts other.now.buffers.items other.now.views.items) row None ∷ []) }
+        ensures ok { OnOk result (texts self.new.buffers.items self.new.views.items ≡ texts self.old.buffers.items self.old.views.items
+            ++ slice_index_or (texts other.now.buffers.items other.now.views.items) row None ∷ []) }
         ensures err { OnErr result (self.new.views.items ≡ self.old.views.items) }
         ensures buffers { self.new.buffers.items ≡ self.old.buffers.items }
     {

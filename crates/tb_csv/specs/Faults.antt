@@ -46,7 +46,9 @@ column_fault name t i (f ∷ fs) = if is_of t f then column_fault name t (i + 1)
 -- names, rows and their number. The record of names is number 0
 abbrev pub records_fault : List Line → Option CsvFault
 records_fault [] = Some Empty
-records_fault (names ∷ rows) = first_fault (when (not (is_text names)) (NotUtf8 0) ∷ repeated_name names ∷ rows_fault (length names) 1 rows ∷ when (nat_lt MAX_ROWS (length rows)) TooManyRows ∷ [])
+records_fault (names ∷ rows) = first_fault
+    (when (not (is_text names)) (NotUtf8 0) ∷ repeated_name names ∷ rows_fault (length names) 1 rows
+    ∷ when (nat_lt MAX_ROWS (length rows)) TooManyRows ∷ [])
 
 -- column j of the table
 abbrev pub typed_fault : List TypeOf → List Name → List Record → ℕ → Option CsvFault

@@ -37,7 +37,8 @@ IsPlain n k _ = ⊤
 
 -- a value of a type with a text form that reads back is what its field is at the type
 abbrev pub CellsBack : Type 0
-CellsBack = (n : ℕ) (k : Kind) → is_none (field_type k) ≡ false → (v : Datum) → HasType k v → IsPlain n k v → cell_value (or_string (field_type k)) (field_among n k v) ≡ Some v
+CellsBack = (n : ℕ) (k : Kind) → is_none (field_type k) ≡ false → (v : Datum) → HasType k v → IsPlain n k v
+    → cell_value (or_string (field_type k)) (field_among n k v) ≡ Some v
 
 -- the types of the columns by their names
 abbrev pub types_of : Table → List TypeOf

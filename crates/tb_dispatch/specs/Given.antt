@@ -75,4 +75,5 @@ misfit left right left_keys right_keys = when (not (all_fit (height (table_of le
 -- the causes before the keys' types: unknown names, misfit keys, and then what the lists of names are refused for
 abbrev pub early_refusal : List Col → List Col → List Col → List Col → List Name → List Name → Option PolarsError
 early_refusal left right left_keys right_keys left_on right_on =
-    first_cause (first_cause (name_causes (table_of left) (table_of right) left_on right_on) ∷ misfit left right left_keys right_keys ∷ first_cause (list_causes left_on right_on) ∷ [])
+    first_cause (first_cause (name_causes (table_of left) (table_of right) left_on right_on) ∷ misfit left right left_keys right_keys
+    ∷ first_cause (list_causes left_on right_on) ∷ [])

@@ -10,7 +10,8 @@ use Rattle.tb_frame.specs.Join.{Request, listing}
 
 -- left columns over the left rows of pairs, and right ones over the right rows
 abbrev pub AreOver : List JoinPair → List Col → List Col → List Col × List Col → Type 0
-AreOver ps left right halves = (halves.0 ≡ map (opt_taken (map (λ (p : JoinPair). p.left) ps)) left) × (halves.1 ≡ map (opt_taken (map (λ (p : JoinPair). p.right) ps)) right)
+AreOver ps left right halves = (halves.0 ≡ map (opt_taken (map (λ (p : JoinPair). p.left) ps)) left)
+    × (halves.1 ≡ map (opt_taken (map (λ (p : JoinPair). p.right) ps)) right)
 
 -- the same over the listing of a request, ordered and then cut
 pub record AreHalves (q : Request) (left right : List Col) (halves : List Col × List Col) : Type 0 where

@@ -145,7 +145,9 @@ pub trait JoinDispatch: IntoDf {
     ) -> PolarsResult<DataFrame>
         requires keys { StandBeside (Self.frame self.now) other.now s_left.now s_right.now }
         requires merge { CanCoalesce (by_series JoinType.Full (Self.frame self.now) other.now s_left.now s_right.now args) }
-        ensures settles { Settles result (first_cause (repeated_name (by_series JoinType.Full (Self.frame self.now) other.now s_left.now s_right.now args) ∷ row_causes (by_series JoinType.Full (Self.frame self.now) other.now s_left.now s_right.now args))) }
+        ensures settles { Settles result (first_cause
+            (repeated_name (by_series JoinType.Full (Self.frame self.now) other.now s_left.now s_right.now args)
+            ∷ row_causes (by_series JoinType.Full (Self.frame self.now) other.now s_left.now s_right.now args))) }
         ensures answer { IfOk result (λ t. IsAnswer (by_series JoinType.Full (Self.frame self.now) other.now s_left.now s_right.now args) (table_of t)) }
     {
         full_join_by(rt, alloc, self.to_df(), other, s_left, s_right, &args, exec)
@@ -184,7 +186,9 @@ fn full_join_by(
 ) -> PolarsResult<DataFrame>
     requires keys { StandBeside left.now right.now s_left.now s_right.now }
     requires merge { CanCoalesce (by_series JoinType.Full left.now right.now s_left.now s_right.now args.now) }
-    ensures settles { Settles result (first_cause (repeated_name (by_series JoinType.Full left.now right.now s_left.now s_right.now args.now) ∷ row_causes (by_series JoinType.Full left.now right.now s_left.now s_right.now args.now))) }
+    ensures settles { Settles result (first_cause
+        (repeated_name (by_series JoinType.Full left.now right.now s_left.now s_right.now args.now)
+        ∷ row_causes (by_series JoinType.Full left.now right.now s_left.now s_right.now args.now))) }
     ensures answer { IfOk result (λ t. IsAnswer (by_series JoinType.Full left.now right.now s_left.now s_right.now args.now) (table_of t)) }
 {
     let request = LentRequest {

@@ -73,7 +73,8 @@ pub fn materialize_left_join_from_series(
 ) -> PolarsResult<(DataFrame, DataFrame)>
     requires { StandBeside left right_.now s_left.now s_right.now }
     ensures settles { Settles result (first_cause (row_causes (by_series JoinType.Left left right_.now s_left.now s_right.now args.now))) }
-    ensures halves { IfOk result (AreHalves (by_series JoinType.Left left right_.now s_left.now s_right.now args.now) left (without_names (dropped s_right.now.name drop_names) right_.now)) }
+    ensures halves { IfOk result (AreHalves (by_series JoinType.Left left right_.now s_left.now s_right.now args.now) left
+        (without_names (dropped s_right.now.name drop_names) right_.now)) }
 {
     let request = LentRequest {
         left: &left,

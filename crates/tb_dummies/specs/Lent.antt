@@ -12,7 +12,12 @@ use Rattle.tb_dummies.specs.Dummies.{Request, separator_or}
 
 -- the request of columns and a separator that are lent
 abbrev pub lent_request : List Col → Option (List Name) → Option (Bor Name) → Bool → Request
-lent_request cs columns separator drop_first = record { table = table_of cs; columns = columns; separator = separator_or (option_copied separator); drop_first = drop_first }
+lent_request cs columns separator drop_first = record {
+  table = table_of cs;
+  columns = columns;
+  separator = separator_or (option_copied separator);
+  drop_first = drop_first;
+}
 
 -- whether a name is in the set, where there is one
 abbrev pub is_in : Option NameSet → Name → Bool

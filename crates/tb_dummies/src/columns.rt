@@ -111,7 +111,8 @@ fn dummies_by_row(
     separator: &str,
     drop_first: bool,
 ) -> Result<Vec<Column>, OutOfMemory>
-    ensures { IfOk result (λ v. table_of v.items ≡ map (λ i. dummy separator.now (plain column.now) (value_at (values column.now) i)) (value_rows drop_first (values column.now))) }
+    ensures { IfOk result (λ v. table_of v.items
+        ≡ map (λ i. dummy separator.now (plain column.now) (value_at (values column.now) i)) (value_rows drop_first (values column.now))) }
 {
     let groups = groups_of(alloc, column)?;
     let firsts = groups.firsts();

@@ -149,7 +149,8 @@ shown_right q = columns_where (shows_right q.args q.right_on) q.right
 
 -- the column of the right table that is merged into a left one of this name: where keys are merged, that of the right key beside the left key
 abbrev pub partner : Request → Name → Option TableColumn
-partner q n = (if merges_keys q.args.how (coalesces q.args) then option_and_then (λ p. named q.right (slice_index_or q.right_on p [])) (position (same_name n) q.left_on) else None)
+partner q n = (if merges_keys q.args.how (coalesces q.args)
+    then option_and_then (λ p. named q.right (slice_index_or q.right_on p [])) (position (same_name n) q.left_on) else None)
 
 -- a left column's field, and the partner's where it is Null
 abbrev pub left_field : Option TableColumn → TableColumn → JoinPair → Datum

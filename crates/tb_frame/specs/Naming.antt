@@ -83,4 +83,5 @@ Field = Name × Kind
 abbrev pub answer_fields : JoinArgs → List Name → List Name → List Field → List Field → List Field
 answer_fields a left_on right_on left right =
     let taken : List Name = left_names a left_on (map (λ (f : Field). f.0) left) in
-    filter (λ (f : Field). keeps_left a left_on f.0) left ++ map (λ (f : Field). (right_name taken a.suffix f.0, f.1)) (filter (λ (f : Field). shows_right a right_on f.0) right)
+    filter (λ (f : Field). keeps_left a left_on f.0) left
+    ++ map (λ (f : Field). (right_name taken a.suffix f.0, f.1)) (filter (λ (f : Field). shows_right a right_on f.0) right)

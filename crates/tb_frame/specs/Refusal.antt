@@ -113,7 +113,8 @@ abbrev pub broken_left : Request → Option PolarsError
 broken_left q = when (is_validated q.args.how && asks_left q.args.validation && has_twins (nulls q) q.left_keys (height q.left)) (ComputeError (Validation side.Left))
 
 abbrev pub broken_right : Request → Option PolarsError
-broken_right q = when (is_validated q.args.how && asks_right q.args.validation && has_twins (nulls q) q.right_keys (height q.right)) (ComputeError (Validation side.Right))
+broken_right q = when (is_validated q.args.how && asks_right q.args.validation && has_twins (nulls q) q.right_keys (height q.right))
+    (ComputeError (Validation side.Right))
 
 abbrev pub too_many_rows : Request → Option PolarsError
 too_many_rows q = when (nat_lt MAX_ROWS (length (listing q))) (ComputeError TooManyRows)

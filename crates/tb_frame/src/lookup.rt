@@ -35,7 +35,8 @@ impl<'a> NamedColumns<'a> {
 
     /// Puts the column under the name, where no other is under it.
     pub fn insert(&mut self, name: &'a PlSmallStr, column: &'a Series) -> Result<(), OutOfMemory>
-        ensures { OnOk result ((n : Name) → column_by self.new n ≡ (if same_name name.now n then Some (unwrap_or (column_by self.old name.now) column.now) else column_by self.old n)) }
+        ensures { OnOk result ((n : Name) → column_by self.new n
+            ≡ (if same_name name.now n then Some (unwrap_or (column_by self.old name.now) column.now) else column_by self.old n)) }
     {
         let name = name.as_str();
         if self.columns.contains_key(name) {

@@ -89,7 +89,15 @@ dummies_fault a text = first_fault (no_table a.options First text ∷ dummies_fa
 
 -- what is asked of the table that is made wide
 abbrev pub wide_of : PivotArguments → Table → wide.Request
-wide_of a t = record { table = t; on = a.on.items; index = names_in a.index; values = names_in a.values; sorts = a.sort_columns; way = way_of a.agg; separator = wide.separator_or a.separator }
+wide_of a t = record {
+  table = t;
+  on = a.on.items;
+  index = names_in a.index;
+  values = names_in a.values;
+  sorts = a.sort_columns;
+  way = way_of a.agg;
+  separator = wide.separator_or a.separator;
+}
 
 abbrev pub asked_wide : PivotArguments → List ℕ → wide.Request
 asked_wide a text = wide_of a (table_in a.options text)

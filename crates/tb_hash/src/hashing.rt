@@ -96,7 +96,9 @@ fn built_pairs<K: JoinKey, G: Gate>(
 ) -> PolarsResult<(Probed, Built)>
     requires left { length left.now ≤ MAX_ROWS }
     requires right { length right.now ≤ MAX_ROWS }
-    ensures { IsHashed join.now.how (length left.now) (length right.now) (key_plan K.code join.now.exec.now join.now.how left.now right.now) (key_listing K.eq join.now.join_nulls join.now.how left.now right.now) (too_many (length (key_listing K.eq join.now.join_nulls join.now.how left.now right.now))) result }
+    ensures { IsHashed join.now.how (length left.now) (length right.now) (key_plan K.code join.now.exec.now join.now.how left.now right.now)
+        (key_listing K.eq join.now.join_nulls join.now.how left.now right.now)
+        (too_many (length (key_listing K.eq join.now.join_nulls join.now.how left.now right.now))) result }
 {
     if builds_left(join.how, left.len(), right.len()) {
         build_and_probe(rt, gate, join, true, left, right)
@@ -168,7 +170,8 @@ fn pairs_of_cells<N: KeyCell, G: Gate>(
 ) -> PolarsResult<(Probed, Built)>
     requires left { length (cell_values N.shows left.now) ≤ MAX_ROWS }
     requires right { length (cell_values N.shows right.now) ≤ MAX_ROWS }
-    ensures { AreValuesHashed join.now.exec.now join.now.validate join.now.join_nulls join.now.how N.kind (cell_values N.shows left.now) (cell_values N.shows right.now) result }
+    ensures { AreValuesHashed join.now.exec.now join.now.validate join.now.join_nulls join.now.how N.kind (cell_values N.shows left.now)
+        (cell_values N.shows right.now) result }
 {
     let left = keys_of_cells(join.alloc, left)?;
     let right = keys_of_cells(join.alloc, right)?;
@@ -219,7 +222,8 @@ fn pairs_of_chunks<G: Gate>(
     requires key { is_key (storage left.now) ≡ true }
     requires left { length (flat (chunk_lists left.now)) ≤ MAX_ROWS }
     requires right { length (flat (chunk_lists right.now)) ≤ MAX_ROWS }
-    ensures { AreValuesHashed join.now.exec.now join.now.validate join.now.join_nulls join.now.how (storage left.now) (flat (chunk_lists left.now)) (flat (chunk_lists right.now)) result }
+    ensures { AreValuesHashed join.now.exec.now join.now.validate join.now.join_nulls join.now.how (storage left.now) (flat (chunk_lists left.now))
+        (flat (chunk_lists right.now)) result }
 {
     match (left, right) {
         (Chunks::BooleanType(l), Chunks::BooleanType(r)) => pairs_of_cells(rt, gate, join, l, r),
@@ -260,7 +264,8 @@ pub fn hash_pairs<G: Gate>(
     requires key { is_key left.now.kind ≡ true }
     requires same { left.now.kind ≡ right.now.kind }
     ensures settles { Settles result (first_cause (value_causes validate join_nulls how (values left.now) (values right.now))) }
-    ensures listed { let side = builds_left how (length (values left.now)) (length (values right.now)) in IfOk result (λ r. IsProbed how side (value_listing join_nulls how (values left.now) (values right.now)) r.0) }
+    ensures listed { let side = builds_left how (length (values left.now)) (length (values right.now)) in
+        IfOk result (λ r. IsProbed how side (value_listing join_nulls how (values left.now) (values right.now)) r.0) }
     ensures built { IfOk result (λ r. r.1 ≡ value_plan exec.now how left.now.kind (values left.now) (values right.now)) }
 {
     let _lengths = (left.len(), right.len());

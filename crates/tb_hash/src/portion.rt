@@ -52,7 +52,8 @@ fn list_rows<K: KeyCode>(
 ) -> PolarsResult<Vec<JoinPair>>
     requires small { length probed.now ≤ MAX_ROWS }
     requires within { offset + len ≤ length probed.now }
-    ensures settles { Settles result (too_many (length (listed_rows (probed_rows K.eq K.code tables.now probed.now) how tables.now.left_built (range_with_len offset len)))) }
+    ensures settles { Settles result (too_many
+        (length (listed_rows (probed_rows K.eq K.code tables.now probed.now) how tables.now.left_built (range_with_len offset len)))) }
     ensures pairs { IfOk result (λ v. v.items ≡ listed_rows (probed_rows K.eq K.code tables.now probed.now) how tables.now.left_built (range_with_len offset len)) }
 {
     let left_built = tables.left_built();
@@ -97,7 +98,8 @@ impl<K: JoinKey> Parts for ProbedPortions<'_, K> {
 
     ghost may_run = { λ w part. part < length w.cuts.now };
 
-    ghost gives = { λ w part out. IsPortion (listed_rows (probed_rows K.eq K.code w.tables.now w.probed.now) w.how w.tables.now.left_built (places_of (slice_index_or w.cuts.now part (0, 0)))) out };
+    ghost gives = { λ w part out. IsPortion (listed_rows (probed_rows K.eq K.code w.tables.now w.probed.now) w.how w.tables.now.left_built
+        (places_of (slice_index_or w.cuts.now part (0, 0)))) out };
 
     fn run(&self, part: u32) -> Result<Portion, OutOfMemory> {
         let (offset, len) = self.cuts[part as usize];

@@ -39,7 +39,8 @@ fn list_probed<K: JoinKey, G: Gate>(
     gate: &G,
 ) -> PolarsResult<Vec<JoinPair>>
     requires { length probed.now ≤ MAX_ROWS }
-    ensures settles { Settles result (too_many (length (listed_rows (probed_rows K.eq K.code tables.now probed.now) how tables.now.left_built (row_numbers (length probed.now))))) }
+    ensures settles { Settles result (too_many
+        (length (listed_rows (probed_rows K.eq K.code tables.now probed.now) how tables.now.left_built (row_numbers (length probed.now))))) }
     ensures pairs { IfOk result (λ v. v.items ≡ listed_rows (probed_rows K.eq K.code tables.now probed.now) how tables.now.left_built (row_numbers (length probed.now))) }
 {
     let n = part_count(exec, tables.built_len());
@@ -66,8 +67,10 @@ fn list_joined<K: JoinKey, G: Gate>(
     gate: &G,
 ) -> PolarsResult<Vec<JoinPair>>
     requires { length probed.now ≤ MAX_ROWS }
-    ensures settles { Settles result (too_many (length (joined_pairs (probed_rows K.eq K.code tables.now probed.now) how tables.now.left_built (length probed.now) tables.now.built_len))) }
-    ensures pairs { IfOk result (λ v. v.items ≡ joined_pairs (probed_rows K.eq K.code tables.now probed.now) how tables.now.left_built (length probed.now) tables.now.built_len) }
+    ensures settles { Settles result (too_many
+        (length (joined_pairs (probed_rows K.eq K.code tables.now probed.now) how tables.now.left_built (length probed.now) tables.now.built_len))) }
+    ensures pairs { IfOk result (λ v. v.items
+        ≡ joined_pairs (probed_rows K.eq K.code tables.now probed.now) how tables.now.left_built (length probed.now) tables.now.built_len) }
 {
     let left_built = tables.left_built();
     let len = tables.built_len();
@@ -130,8 +133,10 @@ pub fn probe<K: JoinKey, G: Gate>(
 ) -> PolarsResult<Probed>
     requires side { AllowsSide how tables.now.left_built }
     requires small { length probed.now ≤ MAX_ROWS }
-    ensures settles { (built : List (Option K)) → IsTableOf K.eq K.code built tables.now → Settles result (too_many (length (probe_listing K.eq tables.now.join_nulls how tables.now.left_built built probed.now))) }
-    ensures listed { (built : List (Option K)) → IsTableOf K.eq K.code built tables.now → IfOk result (IsProbed how tables.now.left_built (probe_listing K.eq tables.now.join_nulls how tables.now.left_built built probed.now)) }
+    ensures settles { (built : List (Option K)) → IsTableOf K.eq K.code built tables.now
+        → Settles result (too_many (length (probe_listing K.eq tables.now.join_nulls how tables.now.left_built built probed.now))) }
+    ensures listed { (built : List (Option K)) → IsTableOf K.eq K.code built tables.now
+        → IfOk result (IsProbed how tables.now.left_built (probe_listing K.eq tables.now.join_nulls how tables.now.left_built built probed.now)) }
 {
     let pairs = list_joined(rt, alloc, how, tables, probed, exec, gate)?;
     Ok(Probed { pairs })

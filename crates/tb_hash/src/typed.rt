@@ -246,7 +246,9 @@ fn push_keys<'a, B: ByteChunk>(
     keys: &mut Vec<Option<KeyBytes<'a>>>,
     chunk: &'a B,
 ) -> Result<(), OutOfMemory>
-    ensures { (shows : List ℕ → Datum) → OnOk result (map (or_null (λ k. shows k.bytes.now)) keys.new.items ≡ map (or_null (λ k. shows k.bytes.now)) keys.old.items ++ map (or_null shows) (B.bytes chunk.now)) }
+    ensures { (shows : List ℕ → Datum) → OnOk result
+        (map (or_null (λ k. shows k.bytes.now)) keys.new.items ≡ map (or_null (λ k. shows k.bytes.now)) keys.old.items
+        ++ map (or_null shows) (B.bytes chunk.now)) }
 {
     let rows = chunk.rows();
     keys.reserve(rows)?;

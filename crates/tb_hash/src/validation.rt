@@ -76,7 +76,8 @@ pub(crate) fn check_keys<K: JoinKey>(
     validate: JoinValidation,
     join_nulls: bool,
 ) -> PolarsResult<()>
-    ensures { Settles result (first_cause (broken side.Left how (asks_left validate) (key_twins K.eq join_nulls left.now) ∷ broken side.Right how (asks_right validate) (key_twins K.eq join_nulls right.now) ∷ [])) }
+    ensures { Settles result (first_cause (broken side.Left how (asks_left validate) (key_twins K.eq join_nulls left.now)
+        ∷ broken side.Right how (asks_right validate) (key_twins K.eq join_nulls right.now) ∷ [])) }
 {
     let is_asked = validate.asks_left();
     check_side(alloc, how, Side::Left, is_asked, left, join_nulls)?;

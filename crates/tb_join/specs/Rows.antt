@@ -36,7 +36,8 @@ on_k left right args = by_names (keys left) (keys right) (k_name ∷ []) (k_name
 
 -- Inner, [1, Null, 2] and [Null, 1, 1]
 abbrev pub null_keys : Bool → Request
-null_keys nulls = on_k (number 1 ∷ null ∷ number 2 ∷ []) (null ∷ number 1 ∷ number 1 ∷ []) (record (plainly Inner) { join_nulls = nulls; maintain_order = order.LeftRight })
+null_keys nulls = on_k (number 1 ∷ null ∷ number 2 ∷ []) (null ∷ number 1 ∷ number 1 ∷ [])
+    (record (plainly Inner) { join_nulls = nulls; maintain_order = order.LeftRight })
 
 -- Full in the order of the right table, [1, 3] and [2, 1]
 abbrev pub full_right_left : JoinCoalesce → Request
@@ -90,7 +91,8 @@ by_keys left_on right_on = by_names (keys (number 1 ∷ [])) (keys (number 1 ∷
 
 -- Inner of two columns `k` of these types
 abbrev pub of_kinds : Kind → Kind → Request
-of_kinds t u = by_names (record { name = k_name; kind = t; values = [] } ∷ []) (record { name = k_name; kind = u; values = [] } ∷ []) (k_name ∷ []) (k_name ∷ []) (plainly Inner)
+of_kinds t u = by_names (record { name = k_name; kind = t; values = [] } ∷ []) (record { name = k_name; kind = u; values = [] } ∷ []) (k_name ∷ [])
+    (k_name ∷ []) (plainly Inner)
 
 -- Inner where the right `x` would be called as a left column is
 abbrev pub taken_name : Request

@@ -169,7 +169,8 @@ fn checked_pairs<G: Gate>(
     requires some { 0 < length request.now.left_keys.now }
     requires as_many { length request.now.left_keys.now ≡ length request.now.right_keys.now }
     ensures settles { Settles result (later_refusal (asked request.now)) }
-    ensures listed { IfOk result (λ l. IsListed request.now.how request.now.args.now.maintain_order request.now.args.now.slice (listing (asked request.now)) l.pairs.items) }
+    ensures listed { IfOk result (λ l. IsListed request.now.how request.now.args.now.maintain_order request.now.args.now.slice
+        (listing (asked request.now)) l.pairs.items) }
     ensures traced { IfOk result (λ l. IsTraced exec.now (requested_trace request.now exec.now) l.trace) }
 {
     check_columns(alloc, request)?;
@@ -224,7 +225,8 @@ fn join_tables<G: Gate>(
 ) -> PolarsResult<(DataFrame, JoinTrace)>
     ensures settles { Settles result (join_refusal (asked_by_names request.now)) }
     ensures answer { IfOk result (λ r. IsAnswer (asked_by_names request.now) (table_of r.0)) }
-    ensures traced { IfOk result (λ r. IsTraced exec.now (named_trace request.now.left.now request.now.right.now request.now.left_on.now request.now.right_on.now request.now.args.now exec.now) r.1) }
+    ensures traced { IfOk result (λ r. IsTraced exec.now
+        (named_trace request.now.left.now request.now.right.now request.now.left_on.now request.now.right_on.now request.now.args.now exec.now) r.1) }
 {
     let _columns = request.left.get_columns();
     let keys = request.key_columns(alloc)?;

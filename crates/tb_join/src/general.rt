@@ -85,7 +85,8 @@ fn plain_columns(
     requires pairs { All (IsPairOf (height (table_of request.now.left.now)) (height (table_of request.now.right.now))) pairs.now }
     requires runs { RunAsAsked (asked request.now).args pairs.now }
     requires few { length pairs.now ≤ MAX_ROWS }
-    ensures { IfOk result (λ v. v.items ≡ answer_columns (asked request.now).args request.now.left_on.now request.now.right_on.now pairs.now request.now.left.now request.now.right.now) }
+    ensures { IfOk result (λ v. v.items ≡ answer_columns
+        (asked request.now).args request.now.left_on.now request.now.right_on.now pairs.now request.now.left.now request.now.right.now) }
 {
     let rows = left_rows(alloc, pairs)?;
     let gone = gone_left(request.how, request.args, request.left_on);

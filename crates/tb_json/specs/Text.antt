@@ -106,7 +106,8 @@ abbrev mutual
 -- ---- tables
 
 abbrev pub column_data : TableColumn → Data
-column_data c = object (member (codes "name") (string c.name) (member (codes "type") (kind_data c.kind) (member (codes "values") (array (items_of (map (value_data c.kind) c.values))) no_members)))
+column_data c = object (member (codes "name") (string c.name)
+    (member (codes "type") (kind_data c.kind) (member (codes "values") (array (items_of (map (value_data c.kind) c.values))) no_members)))
 
 abbrev pub table_data : Table → Data
 table_data t = object (member (codes "columns") (array (items_of (map column_data t))) (member (codes "height") (number (unsigned (height t))) no_members))
@@ -117,7 +118,8 @@ text_of t = compact_text (table_data t) ++ 10 ∷ []
 
 -- the same of a table and, behind its height, of how it was made
 abbrev pub traced_data : Table → Data → Data
-traced_data t trace = object (member (codes "columns") (array (items_of (map column_data t))) (member (codes "height") (number (unsigned (height t))) (member (codes "trace") trace no_members)))
+traced_data t trace = object (member (codes "columns") (array (items_of (map column_data t)))
+    (member (codes "height") (number (unsigned (height t))) (member (codes "trace") trace no_members)))
 
 unfoldable pub traced_text_of : Table → Data → List ℕ
 traced_text_of t trace = compact_text (traced_data t trace) ++ 10 ∷ []
@@ -139,7 +141,9 @@ abbrev pub caused_with : List ℕ → List ℕ → List ℕ → Data → Data
 caused_with cause error key d = object (member (codes "cause") (string cause) (member (codes "error") (string error) (member key d no_members)))
 
 abbrev pub caused_by_two : List ℕ → List ℕ → List ℕ → ℕ → List ℕ → ℕ → Data
-caused_by_two cause error key m other n = object (member (codes "cause") (string cause) (member (codes "error") (string error) (member key (number (unsigned m)) (member other (number (unsigned n)) no_members))))
+caused_by_two cause error key m other n = object
+    (member (codes "cause") (string cause) (member (codes "error") (string error)
+    (member key (number (unsigned m)) (member other (number (unsigned n)) no_members))))
 
 abbrev pub side_word : Side → List ℕ
 side_word side.Left = codes "left"

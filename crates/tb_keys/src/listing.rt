@@ -24,7 +24,8 @@ fn push_matches(
 ) -> Result<(), OutOfMemory>
     requires row { i < height (table_of request.now.left.now) }
     requires small { i < 4294967295 }
-    ensures { OnOk result (pairs.new.items ≡ pairs.old.items ++ map (both i) (filter (matches (asked request.now) i) (row_numbers (height (table_of request.now.right.now))))) }
+    ensures { OnOk result (pairs.new.items ≡ pairs.old.items
+        ++ map (both i) (filter (matches (asked request.now) i) (row_numbers (height (table_of request.now.right.now))))) }
 {
     for j in 0..request.right.height() {
         if rows_match(request, i, j) {
@@ -36,7 +37,8 @@ fn push_matches(
 
 // Puts the matched pairs behind the others, the left row outside and the right row inside.
 fn push_matched(pairs: &mut Vec<JoinPair>, request: &LentRequest<'_>) -> Result<(), OutOfMemory>
-    ensures { OnOk result (pairs.new.items ≡ pairs.old.items ++ matched (height (table_of request.now.left.now)) (height (table_of request.now.right.now)) (matches (asked request.now))) }
+    ensures { OnOk result (pairs.new.items ≡ pairs.old.items
+        ++ matched (height (table_of request.now.left.now)) (height (table_of request.now.right.now)) (matches (asked request.now))) }
 {
     for i in 0..request.left.height() {
         push_matches(pairs, request, i)?;
@@ -76,7 +78,8 @@ fn push_left(
     request: &LentRequest<'_>,
     met: bool,
 ) -> Result<(), OutOfMemory>
-    ensures { OnOk result (pairs.new.items ≡ pairs.old.items ++ left_alone met (height (table_of request.now.left.now)) (height (table_of request.now.right.now)) (matches (asked request.now))) }
+    ensures { OnOk result (pairs.new.items ≡ pairs.old.items
+        ++ left_alone met (height (table_of request.now.left.now)) (height (table_of request.now.right.now)) (matches (asked request.now))) }
 {
     for i in 0..request.left.height() {
         if is_left_met(request, i) == met {
@@ -88,7 +91,8 @@ fn push_left(
 
 // Puts the right rows that have no match behind the others.
 fn push_right_unmet(pairs: &mut Vec<JoinPair>, request: &LentRequest<'_>) -> Result<(), OutOfMemory>
-    ensures { OnOk result (pairs.new.items ≡ pairs.old.items ++ right_unmet (height (table_of request.now.left.now)) (height (table_of request.now.right.now)) (matches (asked request.now))) }
+    ensures { OnOk result (pairs.new.items ≡ pairs.old.items
+        ++ right_unmet (height (table_of request.now.left.now)) (height (table_of request.now.right.now)) (matches (asked request.now))) }
 {
     for j in 0..request.right.height() {
         if !is_right_met(request, j) {

@@ -14,12 +14,29 @@ use Rattle.tb_frame.specs.Table.{Table, names_of}
 
 -- the request of a Left join by all columns, with nothing else asked than whether Nulls match
 abbrev pub by_all_columns : Table → Table → Bool → Request
-by_all_columns a b nulls = record { left = a; right = b; left_on = names_of a; right_on = names_of b; left_keys = a; right_keys = b; args = record { how = Left; validation = ManyToMany; suffix = None; slice = None; join_nulls = nulls; coalesce = JoinSpecific; maintain_order = order.None } }
+by_all_columns a b nulls = record {
+  left = a;
+  right = b;
+  left_on = names_of a;
+  right_on = names_of b;
+  left_keys = a;
+  right_keys = b;
+  args = record {
+    how = Left;
+    validation = ManyToMany;
+    suffix = None;
+    slice = None;
+    join_nulls = nulls;
+    coalesce = JoinSpecific;
+    maintain_order = order.None;
+  };
+}
 
 module _ {A B Y Z : Type 0} where
   -- row numbers: those of the left rows and those of the right rows of these pairs
   abbrev pub AreNumbersOf : List JoinPair → Either (Vec ℕ A) Y × Either (Vec (Option ℕ) B) Z → Type 0
-  AreNumbersOf pairs ids = IsLeftAnd ids.0 (λ rows. map (λ (n : ℕ). Some n) rows.items ≡ map (λ (p : JoinPair). p.left) pairs) × IsLeftAnd ids.1 (λ rows. rows.items ≡ map (λ (p : JoinPair). p.right) pairs)
+  AreNumbersOf pairs ids = IsLeftAnd ids.0 (λ rows. map (λ (n : ℕ). Some n) rows.items ≡ map (λ (p : JoinPair). p.left) pairs)
+      × IsLeftAnd ids.1 (λ rows. rows.items ≡ map (λ (p : JoinPair). p.right) pairs)
 
   -- the row numbers of the pairs of the list, by left row and then right row
   pub record AreLeftJoined (list : List JoinPair) (ids : Either (Vec ℕ A) Y × Either (Vec (Option ℕ) B) Z) : Type 0 where

@@ -115,7 +115,8 @@ pub fn traced_pairs<G: Gate>(
 ) -> PolarsResult<ListedPairs>
     requires alike { AreAlike (lent_columns request.now.left_keys.now) (lent_columns request.now.right_keys.now) }
     ensures settles { Settles result (first_cause (row_causes (asked request.now))) }
-    ensures listed { IfOk result (λ l. IsListed request.now.how request.now.args.now.maintain_order request.now.args.now.slice (listing (asked request.now)) l.pairs.items) }
+    ensures listed { IfOk result (λ l. IsListed request.now.how request.now.args.now.maintain_order request.now.args.now.slice
+        (listing (asked request.now)) l.pairs.items) }
     ensures traced { IfOk result (λ l. IsTraced exec.now (requested_trace request.now exec.now) l.trace) }
 {
     let found = found_pairs(rt, alloc, request, exec, gate)?;

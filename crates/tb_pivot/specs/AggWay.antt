@@ -19,7 +19,8 @@ aggregate_of code.Last = Some agg.Last
 aggregate_of (code.Expr b) = None
 
 -- of an object it is what its calls answer
-abbrev pub agg_way : {D : Type 0} {H : D → Type 0} → ((d : D) → H d → Result Name ℕ) → ((d : D) → H d → Table → List ℕ → List ℕ → Result TableColumn ℕ) → PivotAgg D H → Way
+abbrev pub agg_way : {D : Type 0} {H : D → Type 0} → ((d : D) → H d → Result Name ℕ)
+    → ((d : D) → H d → Table → List ℕ → List ℕ → Result TableColumn ℕ) → PivotAgg D H → Way
 agg_way named answers code.First = aggregated agg.First
 agg_way named answers code.Sum = aggregated agg.Sum
 agg_way named answers code.Min = aggregated agg.Min

@@ -97,7 +97,11 @@ way_kind q v (asked name answers) = answer_kind (answered q v name answers)
 
 -- the columns of a value column, one for each header
 abbrev pub block_column : Chosen → TableColumn → ℕ → TableColumn
-block_column q v y = record { name = block_name (length q.values) q.separator v.name (header_at q y); kind = way_kind q v q.way; values = map (λ x. cell q v x y) (answer_rows q) }
+block_column q v y = record {
+  name = block_name (length q.values) q.separator v.name (header_at q y);
+  kind = way_kind q v q.way;
+  values = map (λ x. cell q v x y) (answer_rows q);
+}
 
 abbrev pub by_name : TableColumn → TableColumn → Ordering
 by_name c d = slice_cmp nat_cmp c.name d.name

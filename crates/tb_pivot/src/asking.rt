@@ -130,7 +130,9 @@ impl<K: Told, F: Fn(Global, &Series, &Groups) -> PolarsResult<Series>> CellMaker
 
     ghost way = { λ _. asked K.told_name K.told_answers };
 
-    ghost IsReady = { λ maker. F.IsAlwaysCallable maker.ask × ((alloc : _) (c : Bor Col) (g : Bor Groups) (r : Result Col PolarsError) → F.post maker.ask alloc c g r → Gives r (answer_of g.now.firsts.items g.now.numbers.items (plain c.now) K.told_name K.told_answers)) };
+    ghost IsReady = { λ maker. F.IsAlwaysCallable maker.ask
+        × ((alloc : _) (c : Bor Col) (g : Bor Groups) (r : Result Col PolarsError) → F.post maker.ask alloc c g r
+        → Gives r (answer_of g.now.firsts.items g.now.numbers.items (plain c.now) K.told_name K.told_answers)) };
 
     fn takes(&self, _dtype: &DataType) -> bool {
         true

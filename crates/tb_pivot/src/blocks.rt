@@ -107,7 +107,8 @@ impl<'a, 'b> Layout<'a, 'b> {
 
     // Whether a cell is to have one row, and there are more rows than cells with rows.
     fn has_many<M: CellMaker>(&self, maker: &M) -> bool
-        ensures { result ≡ (is_one_row (M.way maker.now) && (nat_lt 0 (length self.now.columns.now.values.items) && nat_lt (length self.now.cells.groups.firsts.items) self.now.height)) }
+        ensures { result ≡ (is_one_row (M.way maker.now)
+            && (nat_lt 0 (length self.now.columns.now.values.items) && nat_lt (length self.now.cells.groups.firsts.items) self.now.height)) }
     {
         maker.wants_one_row()
             && !self.columns.values.is_empty()

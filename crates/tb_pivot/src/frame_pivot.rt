@@ -72,8 +72,11 @@ pub fn pivot_by<M: CellMaker>(
     separator: Option<&str>,
 ) -> PolarsResult<DataFrame>
     requires { M.IsReady maker.now }
-    ensures settles { Settles result (pivot_refusal (lent_request table.now on.now (option_copied index.entry) (option_copied values.entry) sort_columns (M.way maker.now) separator.entry)) }
-    ensures table { IfOk result (λ t. table_of t ≡ pivot_table (lent_request table.now on.now (option_copied index.entry) (option_copied values.entry) sort_columns (M.way maker.now) separator.entry)) }
+    ensures settles { Settles result (pivot_refusal
+        (lent_request table.now on.now (option_copied index.entry) (option_copied values.entry) sort_columns (M.way maker.now) separator.entry)) }
+    ensures table { IfOk result (λ t. table_of t
+        ≡ pivot_table (lent_request table.now on.now (option_copied index.entry) (option_copied values.entry) sort_columns
+        (M.way maker.now) separator.entry)) }
 {
     let names = request_names(alloc, table, on, index, values)?;
     let columns = found(alloc, table, on, &names.index, &names.values, maker)?;
@@ -101,8 +104,12 @@ fn pivot_asked<K: Told>(
 ) -> PolarsResult<DataFrame>
     requires name { K.told_name ≡ named expr.now }
     requires answers { K.told_answers ≡ answers expr.now }
-    ensures settles { Settles result (pivot_refusal (lent_request table.now on.now (option_copied index.entry) (option_copied values.entry) sort_columns (asked K.told_name K.told_answers) separator.entry)) }
-    ensures table { IfOk result (λ t. table_of t ≡ pivot_table (lent_request table.now on.now (option_copied index.entry) (option_copied values.entry) sort_columns (asked K.told_name K.told_answers) separator.entry)) }
+    ensures settles { Settles result (pivot_refusal
+        (lent_request table.now on.now (option_copied index.entry) (option_copied values.entry) sort_columns
+        (asked K.told_name K.told_answers) separator.entry)) }
+    ensures table { IfOk result (λ t. table_of t
+        ≡ pivot_table (lent_request table.now on.now (option_copied index.entry) (option_copied values.entry) sort_columns
+        (asked K.told_name K.told_answers) separator.entry)) }
 {
     let ask = |alloc: Global, column: &Series, groups: &Groups| -> PolarsResult<Series>
         ensures { Gives result (answer_of groups.now.firsts.items groups.now.numbers.items (plain column.now) (named expr.entry.now) (answers expr.entry.now)) }
@@ -141,8 +148,13 @@ pub fn pivot_stable(
     agg_fn: Option<&PivotAgg>,
     separator: Option<&str>,
 ) -> PolarsResult<DataFrame>
-    ensures settles { let of = ⟦<dyn PhysicalAggExpr as PhysicalAggExpr>⟧ in Settles result (pivot_refusal (lent_request pivot_df.now on.now (option_copied index.entry) (option_copied values.entry) sort_columns (way_or_row (option_map (λ a. agg_way (λ d. (of d).named) (λ d. (of d).answers) a.now) agg_fn.entry)) separator.entry)) }
-    ensures table { let of = ⟦<dyn PhysicalAggExpr as PhysicalAggExpr>⟧ in IfOk result (λ t. table_of t ≡ pivot_table (lent_request pivot_df.now on.now (option_copied index.entry) (option_copied values.entry) sort_columns (way_or_row (option_map (λ a. agg_way (λ d. (of d).named) (λ d. (of d).answers) a.now) agg_fn.entry)) separator.entry)) }
+    ensures settles { let of = ⟦<dyn PhysicalAggExpr as PhysicalAggExpr>⟧ in
+        Settles result (pivot_refusal (lent_request pivot_df.now on.now (option_copied index.entry) (option_copied values.entry) sort_columns
+        (way_or_row (option_map (λ a. agg_way (λ d. (of d).named) (λ d. (of d).answers) a.now) agg_fn.entry)) separator.entry)) }
+    ensures table { let of = ⟦<dyn PhysicalAggExpr as PhysicalAggExpr>⟧ in
+        IfOk result (λ t. table_of t ≡ pivot_table
+        (lent_request pivot_df.now on.now (option_copied index.entry) (option_copied values.entry) sort_columns
+        (way_or_row (option_map (λ a. agg_way (λ d. (of d).named) (λ d. (of d).answers) a.now) agg_fn.entry)) separator.entry)) }
 {
     match agg_fn {
         Some(PivotAgg::Expr(expr)) => pivot_asked::<Brand>(
@@ -199,8 +211,13 @@ pub fn pivot(
     agg_fn: Option<&PivotAgg>,
     separator: Option<&str>,
 ) -> PolarsResult<DataFrame>
-    ensures settles { let of = ⟦<dyn PhysicalAggExpr as PhysicalAggExpr>⟧ in Settles result (pivot_refusal (lent_request pivot_df.now on.now (option_copied index.entry) (option_copied values.entry) sort_columns (way_or_row (option_map (λ a. agg_way (λ d. (of d).named) (λ d. (of d).answers) a.now) agg_fn.entry)) separator.entry)) }
-    ensures table { let of = ⟦<dyn PhysicalAggExpr as PhysicalAggExpr>⟧ in IfOk result (λ t. table_of t ≡ pivot_table (lent_request pivot_df.now on.now (option_copied index.entry) (option_copied values.entry) sort_columns (way_or_row (option_map (λ a. agg_way (λ d. (of d).named) (λ d. (of d).answers) a.now) agg_fn.entry)) separator.entry)) }
+    ensures settles { let of = ⟦<dyn PhysicalAggExpr as PhysicalAggExpr>⟧ in
+        Settles result (pivot_refusal (lent_request pivot_df.now on.now (option_copied index.entry) (option_copied values.entry) sort_columns
+        (way_or_row (option_map (λ a. agg_way (λ d. (of d).named) (λ d. (of d).answers) a.now) agg_fn.entry)) separator.entry)) }
+    ensures table { let of = ⟦<dyn PhysicalAggExpr as PhysicalAggExpr>⟧ in
+        IfOk result (λ t. table_of t ≡ pivot_table
+        (lent_request pivot_df.now on.now (option_copied index.entry) (option_copied values.entry) sort_columns
+        (way_or_row (option_map (λ a. agg_way (λ d. (of d).named) (λ d. (of d).answers) a.now) agg_fn.entry)) separator.entry)) }
 {
     pivot_stable(
         alloc,

@@ -95,7 +95,15 @@ join_in d = do
   tables ← ok_or (tables_of written) why.Value
   standing ← only_if (may_stand written.exec) why.Exec
   valid ← are_tables (tables.0 ∷ tables.1 ∷ [])
-  Ok (record { left = tables.0; right = tables.1; left_on = written.left_on; right_on = written.right_on; args = written.args; exec = written.exec; trace = written.trace })
+  Ok (record {
+    left = tables.0;
+    right = tables.1;
+    left_on = written.left_on;
+    right_on = written.right_on;
+    args = written.args;
+    exec = written.exec;
+    trace = written.trace;
+  })
 
 -- the one table of a request
 unfoldable pub table_from : List Written → Result (List Col) Reason
@@ -120,7 +128,15 @@ unfoldable pub pivot_in : Data → Result PivotRequest Reason
 pivot_in d = do
   written ← ok_or (pivot_of d) why.Shape
   table ← table_from written.table
-  Ok (record { table = table; on = written.on; index = written.index; values = written.values; sort_columns = written.sort_columns; agg = written.agg; separator = written.separator })
+  Ok (record {
+    table = table;
+    on = written.on;
+    index = written.index;
+    values = written.values;
+    sort_columns = written.sort_columns;
+    agg = written.agg;
+    separator = written.separator;
+  })
 
 -- the value of a text, where the bytes are UTF-8
 unfoldable pub value_of : List ℕ → Result Data Reason
@@ -153,7 +169,15 @@ abbrev pub dummies_view : rust_dummies.DummiesRequest → DummiesRequest
 dummies_view r = record { table = r.table; columns = option_map (λ v. v.items) r.columns; separator = r.separator; drop_first = r.drop_first }
 
 abbrev pub pivot_view : rust_pivot.PivotRequest → PivotRequest
-pivot_view r = record { table = r.table; on = r.on.items; index = option_map (λ v. v.items) r.index; values = option_map (λ v. v.items) r.values; sort_columns = r.sort_columns; agg = r.agg; separator = r.separator }
+pivot_view r = record {
+  table = r.table;
+  on = r.on.items;
+  index = option_map (λ v. v.items) r.index;
+  values = option_map (λ v. v.items) r.values;
+  sort_columns = r.sort_columns;
+  agg = r.agg;
+  separator = r.separator;
+}
 
 -- want of memory says nothing, and a reason is the definition's
 abbrev pub FaultIs : {A : Type 0} → RequestFault → Result A Reason → Type 0

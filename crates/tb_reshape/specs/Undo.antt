@@ -19,7 +19,15 @@ made_long t index on variable value =
 -- a table with the names in one column as headers and the values in another, each the one value of its cell, as they come
 abbrev pub made_wide : Table → List TableColumn → Name → Name → Name → Table
 made_wide t index variable value separator =
-    let q : wide.Request = record { table = t; on = variable ∷ []; index = Some (names_of index); values = Some (value ∷ []); sorts = false; way = one_row; separator = separator } in
+    let q : wide.Request = record {
+      table = t;
+      on = variable ∷ [];
+      index = Some (names_of index);
+      values = Some (value ∷ []);
+      sorts = false;
+      way = one_row;
+      separator = separator;
+    } in
     pivot_table q
 
 -- columns are the table's under their names, which are distinct
@@ -42,4 +50,5 @@ pub record AreUndone (t : Table) (index on : List TableColumn) (k : Kind) (varia
 
 -- what was made long is made wide again as it was
 abbrev pub Undone : Type 0
-Undone = (t : Table) (index on : List TableColumn) (k : Kind) (variable value separator : Name) → AreUndone t index on k variable value → made_wide (made_long t index on variable value) index variable value separator ≡ index ++ on
+Undone = (t : Table) (index on : List TableColumn) (k : Kind) (variable value separator : Name) → AreUndone t index on k variable value
+    → made_wide (made_long t index on variable value) index variable value separator ≡ index ++ on

@@ -43,7 +43,12 @@ fn binary_type() -> DataType
 fn column_of(alloc: Global, chunk: BinaryChunk) -> Result<Series, OutOfMemory>
     requires few { length (texts chunk.inner.buffers.items chunk.inner.views.items) ≤ MAX_ROWS }
     requires typed { All (HasType kind.binary) (map (or_null binary) (texts chunk.inner.buffers.items chunk.inner.views.items)) }
-    ensures { IfOk result (λ s. s ≡ record { name = []; kind = kind.binary; chunks = map (or_null binary) (texts chunk.inner.buffers.items chunk.inner.views.items) ∷ []; flag = Not }) }
+    ensures { IfOk result (λ s. s ≡ record {
+      name = [];
+      kind = kind.binary;
+      chunks = map (or_null binary) (texts chunk.inner.buffers.items chunk.inner.views.items) ∷ [];
+      flag = Not;
+    }) }
 {
     let name = PlSmallStr::from_str(alloc, "")?;
     let mut chunks = Vec::with_capacity(alloc, 1)?;

@@ -43,7 +43,8 @@ impl<T: PolarsDataType> Model for ChunkedArray<T> {
 
     ghost view = { λ s. record { name = s.name; kind = kind_of s.dtype; chunks = map T.Array.shown s.chunks.items; flag = s.flag } };
 
-    ghost invariant = { λ s. (physical (kind_of s.dtype) ≡ T.Array.kind) × IsColumn record { name = s.name; kind = kind_of s.dtype; chunks = map T.Array.shown s.chunks.items; flag = s.flag } };
+    ghost invariant = { λ s. (physical (kind_of s.dtype) ≡ T.Array.kind)
+        × IsColumn record { name = s.name; kind = kind_of s.dtype; chunks = map T.Array.shown s.chunks.items; flag = s.flag } };
 }
 
 impl<T: PolarsDataType> ChunkedArray<T> {

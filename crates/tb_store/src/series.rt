@@ -45,7 +45,8 @@ impl Model for Series {
 
     ghost view = { λ s. record { name = s.name; kind = kind_of s.dtype; chunks = chunk_lists s.chunks; flag = s.flag } };
 
-    ghost invariant = { λ s. (storage s.chunks ≡ physical (kind_of s.dtype)) × IsColumn record { name = s.name; kind = kind_of s.dtype; chunks = chunk_lists s.chunks; flag = s.flag } };
+    ghost invariant = { λ s. (storage s.chunks ≡ physical (kind_of s.dtype))
+        × IsColumn record { name = s.name; kind = kind_of s.dtype; chunks = chunk_lists s.chunks; flag = s.flag } };
 }
 
 impl Series {

@@ -109,7 +109,8 @@ table_causes [] columns on index = []
 table_causes (c ∷ cs) columns on index = asked_causes (c ∷ cs) columns on index
 
 abbrev pub unpivot_refusal : Request → Option PolarsError
-unpivot_refusal q = first_cause (first_cause (table_causes q.table (on_columns q) (on_names q.table q.on q.index) q.index) ∷ repeated_among (names_of (unpivot_table q)) ∷ [])
+unpivot_refusal q = first_cause (first_cause (table_causes q.table (on_columns q) (on_names q.table q.on q.index) q.index)
+    ∷ repeated_among (names_of (unpivot_table q)) ∷ [])
 
 -- each name is short enough to be a value
 abbrev pub HasShortNames : Table → Type 0

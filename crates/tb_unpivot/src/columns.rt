@@ -91,7 +91,11 @@ fn text_type() -> DataType
 fn text_column(alloc: Global, name: PlSmallStr, chunk: StringChunk) -> Result<Column, OutOfMemory>
     requires few { length (texts chunk.inner.buffers.items chunk.inner.views.items) ≤ MAX_ROWS }
     requires typed { All (HasType kind.string) (map (or_null string) (texts chunk.inner.buffers.items chunk.inner.views.items)) }
-    ensures { IfOk result (λ c. plain c ≡ record { name = name; kind = kind.string; values = map (or_null string) (texts chunk.inner.buffers.items chunk.inner.views.items) }) }
+    ensures { IfOk result (λ c. plain c ≡ record {
+      name = name;
+      kind = kind.string;
+      values = map (or_null string) (texts chunk.inner.buffers.items chunk.inner.views.items);
+    }) }
 {
     let mut chunks = Vec::with_capacity(alloc, 1)?;
     chunks.push(chunk)?;
@@ -137,7 +141,8 @@ pub(crate) fn long_columns(
     requires few { length (flat (map (λ c. values c.now) on.now)) ≤ MAX_ROWS }
     requires level { All (λ c. length (values c.now) * length on.now ≤ MAX_ROWS) index.now }
     requires typed { All (λ c. CastsTo (kind_of dtype) c.now) on.now }
-    ensures { IfOk result (λ v. table_of v.items ≡ long_table (kind_of dtype) (table_of (lent_columns on.now)) (table_of (lent_columns index.now)) variable.now value.now) }
+    ensures { IfOk result (λ v. table_of v.items
+        ≡ long_table (kind_of dtype) (table_of (lent_columns on.now)) (table_of (lent_columns index.now)) variable.now value.now) }
 {
     let mut columns = index_columns(alloc, index, on.len())?;
     columns.push(variable_column(alloc, PlSmallStr::from_str(alloc, variable)?, on)?)?;

@@ -44,8 +44,21 @@ pub trait UnpivotDF: IntoDf {
         index: &[PlSmallStr],
     ) -> PolarsResult<DataFrame>
         requires { HasShortNames (table_of (Self.frame self.now)) }
-        ensures settles { Settles result (unpivot_refusal record { table = table_of (Self.frame self.now); on = on.now; index = index.now; variable = variable_or None; value = value_or None }) }
-        ensures table { IfOk result (λ t. table_of t ≡ unpivot_table record { table = table_of (Self.frame self.now); on = on.now; index = index.now; variable = variable_or None; value = value_or None }) }
+        ensures settles { Settles result (unpivot_refusal record {
+          table = table_of (Self.frame self.now);
+          on = on.now;
+          index = index.now;
+          variable = variable_or None;
+          value = value_or None;
+        }) }
+        ensures table { IfOk result (λ t. table_of t
+            ≡ unpivot_table record {
+              table = table_of (Self.frame self.now);
+              on = on.now;
+              index = index.now;
+              variable = variable_or None;
+              value = value_or None;
+            }) }
     {
         unpivoted(alloc, self.to_df(), on, index, "variable", "value")
     }
@@ -57,8 +70,21 @@ pub trait UnpivotDF: IntoDf {
     /// Those of `unpivot`.
     final fn unpivot2(&self, alloc: Global, args: UnpivotArgsIR) -> PolarsResult<DataFrame>
         requires { HasShortNames (table_of (Self.frame self.now)) }
-        ensures settles { Settles result (unpivot_refusal record { table = table_of (Self.frame self.now); on = args.on.items; index = args.index.items; variable = variable_or args.variable_name; value = value_or args.value_name }) }
-        ensures table { IfOk result (λ t. table_of t ≡ unpivot_table record { table = table_of (Self.frame self.now); on = args.on.items; index = args.index.items; variable = variable_or args.variable_name; value = value_or args.value_name }) }
+        ensures settles { Settles result (unpivot_refusal record {
+          table = table_of (Self.frame self.now);
+          on = args.on.items;
+          index = args.index.items;
+          variable = variable_or args.variable_name;
+          value = value_or args.value_name;
+        }) }
+        ensures table { IfOk result (λ t. table_of t
+            ≡ unpivot_table record {
+              table = table_of (Self.frame self.now);
+              on = args.on.items;
+              index = args.index.items;
+              variable = variable_or args.variable_name;
+              value = value_or args.value_name;
+            }) }
     {
         let variable = name_or(&args.variable_name, "variable");
         let value = name_or(&args.value_name, "value");
@@ -88,7 +114,8 @@ fn unpivoted(
     value: &str,
 ) -> PolarsResult<DataFrame>
     ensures settles { Settles result (unpivot_refusal record { table = table_of table.now; on = on.now; index = index.now; variable = variable.now; value = value.now }) }
-    ensures table { IfOk result (λ t. table_of t ≡ unpivot_table record { table = table_of table.now; on = on.now; index = index.now; variable = variable.now; value = value.now }) }
+    ensures table { IfOk result (λ t. table_of t
+        ≡ unpivot_table record { table = table_of table.now; on = on.now; index = index.now; variable = variable.now; value = value.now }) }
 {
     let on = on_names(alloc, table.get_columns(), on, index)?;
     let asked = asked(alloc, table, &on, index)?;

@@ -114,7 +114,8 @@ height (c ∷ cs) = count_at c
 
 -- the first column that has the name of one before it
 abbrev pub name_spot : List Data → Option Spot
-name_spot columns = option_and_then (λ i. under (Index i) (under (Member (codes "name")) (here expected.OtherName))) (find (repeats (map name_at columns)) (row_numbers (length columns)))
+name_spot columns = option_and_then (λ i. under (Index i) (under (Member (codes "name")) (here expected.OtherName)))
+    (find (repeats (map name_at columns)) (row_numbers (length columns)))
 
 -- the first column that is at fault for this reason
 abbrev pub columns_spot : Reason → List Data → Option Spot

@@ -80,7 +80,8 @@ same_part-Decides p q =
     let names = bytes_eq-Decides p.0 q.0 in
     let types = same_kind-Decides p.1 q.1 in (
       λ h i. (names.0 (first_so (same_name p.0 q.0) (same_kind p.1 q.1) h) i, types.0 (second_so (same_name p.0 q.0) (same_kind p.1 q.1) h) i),
-      λ e. let a : same_name p.0 q.0 ≡ true = names.1 (ap (λ (r : Part). r.0) e) in let b : same_kind p.1 q.1 ≡ true = types.1 (ap (λ (r : Part). r.1) e) in rw (a, b) refl,
+      λ e. let a : same_name p.0 q.0 ≡ true = names.1 (ap (λ (r : Part). r.0) e) in
+          let b : same_kind p.1 q.1 ≡ true = types.1 (ap (λ (r : Part). r.1) e) in rw (a, b) refl,
     )
 
 pub same_part_equiv : IsEquivalence same_part
