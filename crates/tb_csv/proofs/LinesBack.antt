@@ -95,10 +95,6 @@ behind : (fs : Record) (tail : List ℕ) → separated fs ++ 10 ∷ tail ≡ hea
 behind [] tail = refl
 behind (g ∷ fs) tail = refl
 
-behind_plain : (fs : Record) → (head_of fs == 34) ≡ false
-behind_plain [] = refl
-behind_plain (g ∷ fs) = refl
-
 split_line : (f : Field) (fs : Record) (tail : List ℕ) → line_text 44 (f ∷ fs) ++ 10 ∷ tail ≡ field_text 44 f ++ (head_of fs ∷ tail_of fs tail)
 split_line f fs tail = append_assoc (field_text 44 f) (separated fs) (10 ∷ tail) ∙ ap (λ (t : List ℕ). field_text 44 f ++ t) (behind fs tail)
 

@@ -52,10 +52,6 @@ get_in [] i d e low = absurd (omega (arith, low))
 get_in (x ∷ xs) zero d e low = refl
 get_in (x ∷ xs) (suc i) d e low = get_in xs i d e (omega (arith, low))
 
-maps : {A B C D : Type 0} (f : C → D) (g : B → C) (h : A → B) (xs : List A) → map f (map g (map h xs)) ≡ map (λ x. f (g (h x))) xs
-maps f g h [] = refl
-maps f g h (x ∷ xs) = ap (λ ys. f (g (h x)) ∷ ys) (maps f g h xs)
-
 -- A COLUMN
 
 two_maps : {A B C : Type 0} (f : B → C) (g : A → B) (xs : List A) → map (λ x. f (g x)) xs ≡ map f (map g xs)

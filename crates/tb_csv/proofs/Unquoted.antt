@@ -134,9 +134,3 @@ mark_of [] long = absurd (omega (arith, long))
 mark_of (x ∷ []) long = absurd (omega (arith, long))
 mark_of (x ∷ y ∷ []) long = absurd (omega (arith, long))
 mark_of (x ∷ y ∷ z ∷ rest) long = refl
-
-pub no_mark : (xs : List ℕ) → length xs < 3 → has_mark xs ≡ false
-no_mark [] short = refl
-no_mark (x ∷ []) short = refl
-no_mark (x ∷ y ∷ []) short = refl
-no_mark (x ∷ y ∷ z ∷ rest) short = absurd (omega (arith, short))
