@@ -1,10 +1,11 @@
 -- Facts on the fields of a column.
-use Rattle.std.proofs.Common.{◌≡◌, ◌<◌, ◌+◌, ◌∷◌, ◌++◌, ◌∙◌, [], ℕ, List, true, false, Option, Some, None, option_map, Bor, length, map, take, drop, get_or, refl, sym, ap}
-use Rattle.std.specs.Prelude.{is_some}
+use Rattle.std.proofs.Common.{◌≡◌, ◌<◌, ◌+◌, ◌∷◌, ◌++◌, ◌∙◌, [], ℕ, List, true, false, Option, Some, None, option_map, Bor, length, map, take, drop, get_or, refl, sym, ap, inl, inr}
+use Rattle.std.specs.Prelude.{is_some, nat_lt}
+use Rattle.std.proofs.lemmas.Bool.{cases_Bool}
 use Rattle.std.specs.List.{list_all}
 use Rattle.std.proofs.lemmas.List.{at_drop_more, map_more, map-append}
 use Rattle.std.proofs.lemmas.List.Folds.{list_all-map, list_all_at, list_all_more}
-use Rattle.tb_value.specs.Datum.{Datum}
+use Rattle.tb_value.specs.Datum.{Datum, string}
 use Rattle.tb_value.specs.Names.{Name}
 use Rattle.tb_chunk.specs.Chunk.{or_null}
 use Rattle.tb_csv.specs.Faults.{column_fault}
@@ -13,6 +14,7 @@ use Rattle.tb_csv.specs.Records.{Field}
 use Rattle.tb_csv.specs.Types.{cell_of, cell_value, is_of, value_or_null}
 use Rattle.tb_csv.specs.declared.fault.CsvFault.TheVariants.{NotOfType}
 use Rattle.tb_csv.specs.declared.field_type.FieldType.{FieldType}
+use Rattle.tb_csv.specs.declared.field_type.FieldType.TheVariants as field
 
 -- a field that is read, and one that isn't
 pub read_some : {N : Type 0} (f : N → Datum) (t : FieldType) (s : Field) (o : Option N) (c : N) → option_map f o ≡ cell_value t s → o ≡ Some c → (is_of t s ≡ true) × (cell_of t s ≡ f c)
@@ -52,3 +54,14 @@ pub cells_more : {N : Type 0} (f : N → Datum) (t : FieldType) (fs : List (Opti
     → map (or_null f) (cells ++ c ∷ []) ≡ map (cell_of t) (lent_fields (take (i + 1) fs))
 cells_more f t fs i d cells c h e so_far =
     map-append (or_null f) cells (c ∷ []) ∙ rw (so_far, sym e) (sym (ap (map (cell_of t)) (map_more lent_field fs i d h) ∙ map-append (cell_of t) (lent_fields (take i fs)) _))
+
+-- TEXTS
+
+-- a text that a chunk can hold is its own cell
+pub text_held : (s : Field) → is_of field.String s ≡ true → cell_of field.String s ≡ or_null string s
+text_held None h = refl
+text_held (Some []) h = refl
+text_held (Some (c ∷ cs)) h = elim (cases_Bool (nat_lt (length (c ∷ cs)) 4294967296)) [
+  | inl short ↦ rw short refl
+  | inr long ↦ cc (rw long at h)
+]

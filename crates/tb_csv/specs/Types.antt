@@ -29,6 +29,11 @@ kind_at field.UInt64 = kind.uint64
 kind_at field.String = kind.string
 kind_at field.Date = kind.date
 
+-- the type of texts
+abbrev pub is_string : Kind → Bool
+is_string kind.string = true
+is_string _ = false
+
 abbrev pub is_within : Option (ℤ × ℤ) → ℤ → Bool
 is_within None z = false
 is_within (Some e) z = int_le e.0 z && int_le z e.1

@@ -1,11 +1,13 @@
 //! The fields of a column, read into typed chunks.
-ghost use Rattle.std.specs.Prelude.{◌≡◌, ◌∷◌, [], map, option_map, is_some, IfOk, IfSome};
+ghost use Rattle.std.specs.Prelude.{◌≡◌, ◌∷◌, [], map, option_map, IfOk, IfSome};
 ghost use Rattle.std.specs.List.{All, list_all};
+ghost use Rattle.tb_value.specs.Datum.{string};
 ghost use Rattle.tb_value.specs.Kind.{Kind};
 ghost use Rattle.tb_value.specs.Kind as kind;
 ghost use Rattle.tb_value.specs.Typed.{HasType};
 ghost use Rattle.tb_chunk.specs.Chunk.{or_null};
 ghost use Rattle.tb_chunk.specs.Seen.{chunk_lists, storage};
+ghost use Rattle.tb_chunk.specs.View.{texts};
 ghost use Rattle.tb_csv.specs.Faults.{Settles, column_fault};
 ghost use Rattle.tb_chunk.specs.Col.{physical};
 ghost use Rattle.tb_csv.specs.Read.{lent_field, lent_fields};
@@ -15,46 +17,32 @@ use crate::fault::CsvFault;
 use crate::field_type::FieldType;
 use crate::fields::ReadField;
 use std::alloc::Global;
-use tb_store::{Cells, Chunk, Chunks, Stored, StringChunk};
-use tb_value::{OutOfMemory, PlSmallStr};
+use tb_store::{Cells, Chunk, Chunks, Stored, StringBuilder, StringChunk};
+use tb_value::{PlSmallStr, TOO_LONG};
 
 // The cell of a field, or None where it is none of the type.
-fn cell_in<N: ReadField>(
-    alloc: Global,
-    field_type: FieldType,
-    field: Option<&str>,
-) -> Result<Option<Option<N>>, OutOfMemory>
+fn cell_in<N: ReadField>(field_type: FieldType, field: Option<&str>) -> Option<Option<N>>
     requires { physical (kind_at field_type) ≡ N.stored }
-    ensures value { IfOk result (λ o. option_map (or_null N.shows) o ≡ cell_value field_type (lent_field field.entry)) }
-    ensures typed { IfOk result (λ o. IfSome o (λ c. HasType (kind_at field_type) (or_null N.shows c))) }
+    ensures value { option_map (or_null N.shows) result ≡ cell_value field_type (lent_field field.entry) }
+    ensures typed { IfSome result (λ c. HasType (kind_at field_type) (or_null N.shows c)) }
 {
-    let Some(text) = field else {
-        return Ok(Some(None));
-    };
-    if text.is_empty() && !matches!(field_type, FieldType::String) {
-        return Ok(Some(None));
-    }
-    match N::read(alloc, field_type, text)? {
-        Some(cell) => Ok(Some(Some(cell))),
-        None => Ok(None),
+    match field {
+        Some(text) if !text.is_empty() => N::read(field_type, text).map(Some),
+        _ => Some(None),
     }
 }
 
 /// Whether all fields are values of the type, or have no byte.
-pub(crate) fn are_of<N: ReadField>(
-    alloc: Global,
-    field_type: FieldType,
-    fields: &[Option<&str>],
-) -> Result<bool, OutOfMemory>
+pub(crate) fn are_of<N: ReadField>(field_type: FieldType, fields: &[Option<&str>]) -> bool
     requires { physical (kind_at field_type) ≡ N.stored }
-    ensures { IfOk result (λ b. b ≡ list_all (is_of field_type) (lent_fields fields.now)) }
+    ensures { result ≡ list_all (is_of field_type) (lent_fields fields.now) }
 {
     for field in fields {
-        if cell_in::<N>(alloc, field_type, *field)?.is_none() {
-            return Ok(false);
+        if cell_in::<N>(field_type, *field).is_none() {
+            return false;
         }
     }
-    Ok(true)
+    true
 }
 
 // The cells of the fields of a column, or the first field that is none of the type.
@@ -71,7 +59,7 @@ fn cells_of<N: ReadField>(
 {
     let mut cells = Vec::with_capacity(alloc, fields.len())?;
     for i in 0..fields.len() {
-        let Some(cell) = cell_in(alloc, field_type, fields[i])? else {
+        let Some(cell) = cell_in(field_type, fields[i]) else {
             return Err(CsvFault::NotOfType {
                 record: i as u64 + 1,
                 column: name.copy(alloc)?,
@@ -81,6 +69,42 @@ fn cells_of<N: ReadField>(
         cells.push(cell)?;
     }
     Ok(Cells { cells })
+}
+
+// Whether a field is a text that a chunk can hold, or absent.
+fn is_held(field: Option<&str>) -> bool
+    ensures { result ≡ is_of FieldType.String (lent_field field.entry) }
+{
+    match field {
+        Some(text) => text.len() < TOO_LONG,
+        None => true,
+    }
+}
+
+// The texts of the fields of a column, or the first field that is too long for one.
+fn texts_of(
+    alloc: Global,
+    name: &PlSmallStr,
+    fields: &[Option<&str>],
+) -> Result<StringChunk, CsvFault>
+    ensures settles { Settles result (column_fault name.now FieldType.String 1 (lent_fields fields.now)) }
+    ensures texts { IfOk result (λ c. map (or_null string) (texts c.inner.buffers.items c.inner.views.items)
+        ≡ map (cell_of FieldType.String) (lent_fields fields.now)) }
+    ensures typed { IfOk result (λ c. All (HasType kind.string) (map (or_null string) (texts c.inner.buffers.items c.inner.views.items))) }
+{
+    let mut builder = StringBuilder::with_capacity(alloc, fields.len())?;
+    for i in 0..fields.len() {
+        let field = fields[i];
+        if !is_held(field) {
+            return Err(CsvFault::NotOfType {
+                record: i as u64 + 1,
+                column: name.copy(alloc)?,
+                expected: FieldType::String,
+            });
+        }
+        builder.push_option(alloc, field)?;
+    }
+    Ok(builder.finish(alloc)?)
 }
 
 /// A chunk of a column, read from fields. `stored` is the type that its values are stored as.
@@ -122,8 +146,7 @@ impl ReadChunk for StringChunk {
         field_type: FieldType,
         fields: &[Option<&str>],
     ) -> Result<StringChunk, CsvFault> {
-        let cells = cells_of(alloc, name, field_type, fields)?;
-        Ok(StringChunk::from_cells(alloc, &cells)?)
+        texts_of(alloc, name, fields)
     }
 }
 

@@ -16,7 +16,7 @@ use crate::options::TypeOf;
 use crate::records::Records;
 use std::alloc::Global;
 use tb_store::{Column, IsSorted, Series};
-use tb_value::{OutOfMemory, PlSmallStr};
+use tb_value::PlSmallStr;
 
 fn given_type(types: &[TypeOf], name: &PlSmallStr) -> Option<FieldType>
     ensures { result ≡ given_type types.now name.now }
@@ -27,33 +27,27 @@ fn given_type(types: &[TypeOf], name: &PlSmallStr) -> Option<FieldType>
         .map(|given| given.field_type)
 }
 
-fn told_type(alloc: Global, fields: &[Option<&str>]) -> Result<FieldType, OutOfMemory>
-    ensures { IfOk result (λ t. t ≡ told_type (lent_fields fields.now)) }
+fn told_type(fields: &[Option<&str>]) -> FieldType
+    ensures { result ≡ told_type (lent_fields fields.now) }
 {
-    if are_of::<i64>(alloc, FieldType::Int64, fields)? {
-        return Ok(FieldType::Int64);
+    if are_of::<i64>(FieldType::Int64, fields) {
+        FieldType::Int64
+    } else if are_of::<bool>(FieldType::Boolean, fields) {
+        FieldType::Boolean
+    } else if are_of::<i32>(FieldType::Date, fields) {
+        FieldType::Date
+    } else {
+        FieldType::String
     }
-    if are_of::<bool>(alloc, FieldType::Boolean, fields)? {
-        return Ok(FieldType::Boolean);
-    }
-    if are_of::<i32>(alloc, FieldType::Date, fields)? {
-        return Ok(FieldType::Date);
-    }
-    Ok(FieldType::String)
 }
 
 // The type that is given for the name, or the one that the fields tell.
-fn column_type(
-    alloc: Global,
-    types: &[TypeOf],
-    name: &PlSmallStr,
-    fields: &[Option<&str>],
-) -> Result<FieldType, OutOfMemory>
-    ensures { IfOk result (λ t. t ≡ column_type types.now name.now (lent_fields fields.now)) }
+fn column_type(types: &[TypeOf], name: &PlSmallStr, fields: &[Option<&str>]) -> FieldType
+    ensures { result ≡ column_type types.now name.now (lent_fields fields.now) }
 {
     match given_type(types, name) {
-        Some(given) => Ok(given),
-        None => told_type(alloc, fields),
+        Some(given) => given,
+        None => told_type(fields),
     }
 }
 
@@ -91,7 +85,7 @@ fn csv_column(
 {
     let fields = records.column(alloc, column)?;
     let name = &records.names[column];
-    let field_type = column_type(alloc, types, name, &fields)?;
+    let field_type = column_type(types, name, &fields);
     read_column(alloc, name, field_type, &fields)
 }
 

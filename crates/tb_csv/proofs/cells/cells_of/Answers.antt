@@ -11,7 +11,7 @@ use Rattle.tb_csv.proofs.cells.cells_of.Goals as goal
 
 pub returns-in_default-clause-settles : goal.returns-in_default-clause-settles
 returns-in_default-clause-settles g c =
-    let none = read_none (or_null g.N.Cell.shows) c.args.field_type _ c.in_ok-cell.field-0 c.in_ok-cell.ensures.value c.in_default.is in
+    let none = read_none (or_null g.N.Cell.shows) c.args.field_type _ c.cell_in.result c.cell_in.ensures.value c.in_default.is in
     inr (
     c.loop-i.invariant.fault
     ∙ fault_here c.args.name.now c.args.field_type (c.loop-i.i + 1) c.args.fields.now c.loop-i.i _ c.loop-i-test.true none
@@ -20,9 +20,9 @@ returns-in_default-clause-settles g c =
 
 pub loop-i-preserved : goal.loop-i-preserved
 loop-i-preserved g c =
-    let some = read_some (or_null g.N.Cell.shows) c.args.field_type _ c.in_ok-cell.field-0 c.in-Some.cell c.in_ok-cell.ensures.value c.in-Some.is in
+    let some = read_some (or_null g.N.Cell.shows) c.args.field_type _ c.cell_in.result c.in-Some.cell c.cell_in.ensures.value c.in-Some.is in
     record {
       fault = c.loop-i.invariant.fault ∙ fault_more c.args.name.now c.args.field_type (c.loop-i.i + 1) c.args.fields.now c.loop-i.i _ c.loop-i-test.true some.0;
       cells = rw c.in_ok-push.ensures.items (cells_more g.N.Cell.shows c.args.field_type c.args.fields.now c.loop-i.i _ c.loop-i.cells.items c.in-Some.cell c.loop-i-test.true some.1 c.loop-i.invariant.cells);
-      typed = rw (c.in_ok-push.ensures.items, map_push) (All-push (HasType (kind_at c.args.field_type)) _ _ c.loop-i.invariant.typed (rw c.in-Some.is at c.in_ok-cell.ensures.typed));
+      typed = rw (c.in_ok-push.ensures.items, map_push) (All-push (HasType (kind_at c.args.field_type)) _ _ c.loop-i.invariant.typed (rw c.in-Some.is at c.cell_in.ensures.typed));
     }
