@@ -1,5 +1,5 @@
 -- A text without a quote.
-use Rattle.std.proofs.Common.{◌≡◌, ◌<◌, ◌==◌, ◌∷◌, [], ℕ, zero, suc, List, Bool, true, false, cond, drop, take, length, get_or, ◌-◌, ◌≤◌, arith, refl, sym, subst, Option, Some, None}
+use Rattle.std.proofs.Common.{◌≡◌, ◌==◌, ◌∷◌, [], ℕ, zero, suc, List, Bool, true, false, cond, drop, take, length, get_or, ◌-◌, ◌≤◌, arith, refl, sym, subst, Option, Some, None}
 use Rattle.std.proofs.lemmas.List.{get_or_default, take_all}
 use Rattle.std.proofs.lemmas.List.Folds.{list_any_at, list_any_none}
 use Rattle.memchr.specs.Find.{IsFirstByte, is_byte}
