@@ -6,7 +6,6 @@ use Rattle.tb_value.specs.declared.limits.TheConstants.{MAX_ROWS}
 use Rattle.tb_csv.specs.Places.{MarkAlike}
 use Rattle.tb_csv.specs.Read.{AreLines, IsRead, lent_field}
 use Rattle.tb_csv.specs.Records.{Line, field, line_of, lines_of, marked, marked_records, marks_of, records_of}
-use Rattle.tb_csv.specs.declared.lines.Lines.{Lines}
 use Rattle.tb_csv.specs.declared.records.Records.{Records}
 use Rattle.tb_csv.proofs.MarkedFields.{line_back, lines_back, marked_all, marked_at, marked_height, marked_level}
 use Rattle.tb_csv.proofs.RecordWalks.{found, place}
@@ -15,26 +14,24 @@ pub lines_read : (separator : ℕ) (text : List ℕ) → map line_of (records_of
 unfolding records_of
 lines_read separator text = lines_back (marks_of separator text) (lines_of separator text)
 
-by_marks : (r : Records) (l : Lines) (qs : List Bool) (ls : List Line) → r.names ≡ l.names → r.fields ≡ l.fields → r.height ≡ l.height → MarkAlike r.marks.items qs → AreLines l ls → IsRead r (marked_records qs ls)
-by_marks r l qs [] names fields height alike h = absurd h
-by_marks r l qs (first ∷ ls) names fields height alike h =
-    let named : r.names.items ≡ first = ap (λ v. v.items) names ∙ h.0 in
-    let count : length r.names.items ≡ length first = ap length named in
+by_marks : (r : Records) (qs : List Bool) (ls : List Line) → MarkAlike r.marks.items qs → AreLines r.lines ls → IsRead r (marked_records qs ls)
+by_marks r qs [] alike h = absurd h
+by_marks r qs (first ∷ ls) alike h =
+    let count : length r.lines.names.items ≡ length first = ap length h.0 in
     let rest = drop (length first) qs in (
-      named ∙ sym (line_back qs first),
+      h.0 ∙ sym (line_back qs first),
       record {
-        fields = alike (length r.names.items) (fields_of r.fields) ∙ ap (λ (n : ℕ). marked (drop n qs) (fields_of r.fields)) count
-            ∙ ap (marked rest) (ap fields_of fields ∙ h.1) ∙ marked_all rest ls;
-        height = height ∙ h.2 ∙ sym (marked_height rest ls);
+        fields = alike (length r.lines.names.items) (fields_of r.lines.fields) ∙ ap (λ (n : ℕ). marked (drop n qs) (fields_of r.lines.fields)) count
+            ∙ ap (marked rest) h.1 ∙ marked_all rest ls;
+        height = h.2 ∙ sym (marked_height rest ls);
         few = subst (λ (n : ℕ). n ≤ MAX_ROWS) (sym (marked_height rest ls)) h.3;
-        level = marked_level (length r.names.items) rest ls (subst (λ (n : ℕ). All (λ (k : Line). length k ≡ n) ls) (sym count) h.4);
+        level = marked_level (length r.lines.names.items) rest ls (subst (λ (n : ℕ). All (λ (k : Line). length k ≡ n) ls) (sym count) h.4);
       },
     )
 
-pub records_read : (separator : ℕ) (text : List ℕ) (r : Records) (l : Lines) → r.names ≡ l.names → r.fields ≡ l.fields → r.height ≡ l.height → MarkAlike r.marks.items (marks_of separator text)
-    → AreLines l (lines_of separator text) → IsRead r (records_of separator text)
+pub records_read : (separator : ℕ) (text : List ℕ) (r : Records) → MarkAlike r.marks.items (marks_of separator text) → AreLines r.lines (lines_of separator text) → IsRead r (records_of separator text)
 unfolding records_of
-records_read separator text r l names fields height alike h = by_marks r l (marks_of separator text) (lines_of separator text) names fields height alike h
+records_read separator text r alike h = by_marks r (marks_of separator text) (lines_of separator text) alike h
 
 -- a field that is lent, by its mark
 pub field_there : (qs : List Bool) (l : Line) (i : ℕ) (q : Bool) (s : List ℕ) (f : Option (Bor (List ℕ))) (ms : List Bool) → Some s ≡ field_at l i → ms ≡ qs → q ≡ get_or ms i false

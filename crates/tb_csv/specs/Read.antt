@@ -20,19 +20,19 @@ AreLines r (names ∷ lines) = (r.names.items ≡ names) × (fields_of r.fields 
 
 -- the fields that were read, by the marks behind those of the names
 abbrev pub fields_read : Records → List Field
-fields_read r = marked (drop (length r.names.items) r.marks.items) (fields_of r.fields)
+fields_read r = marked (drop (length r.lines.names.items) r.marks.items) (fields_of r.lines.fields)
 
 -- the rows, each with as many fields as there are names
 pub record AreRows (r : Records) (rows : List Record) : Type 0 where
   pub fields : fields_read r ≡ all_fields rows
-  pub height : r.height ≡ length rows
+  pub height : r.lines.height ≡ length rows
   pub few : length rows ≤ MAX_ROWS
-  pub level : All (λ (row : Record). length row ≡ length r.names.items) rows
+  pub level : All (λ (row : Record). length row ≡ length r.lines.names.items) rows
 
 -- the names and the rows
 abbrev pub IsRead : Records → List Record → Type 0
 IsRead r [] = ⊥
-IsRead r (names ∷ rows) = (r.names.items ≡ line_of names) × AreRows r rows
+IsRead r (names ∷ rows) = (r.lines.names.items ≡ line_of names) × AreRows r rows
 
 -- fields that are lent
 abbrev pub lent_field : Option (Bor (List ℕ)) → Field

@@ -75,16 +75,16 @@ fn csv_column(
     types: &[TypeOf],
     column: usize,
 ) -> Result<Column, CsvFault>
-    requires column { column < length records.now.names.items }
-    requires full { length (fields_of records.now.fields) ≡ records.now.height * length records.now.names.items }
-    requires few { records.now.height ≤ MAX_ROWS }
+    requires column { column < length records.now.lines.names.items }
+    requires full { length (fields_of records.now.lines.fields) ≡ records.now.lines.height * length records.now.lines.names.items }
+    requires few { records.now.lines.height ≤ MAX_ROWS }
     ensures settles { (rows : List Record) → AreRows records.now rows
-        → Settles result (typed_fault types.now records.now.names.items rows column) }
+        → Settles result (typed_fault types.now records.now.lines.names.items rows column) }
     ensures column { (rows : List Record) → AreRows records.now rows
-        → IfOk result (λ c. plain c ≡ csv_column types.now records.now.names.items rows column) }
+        → IfOk result (λ c. plain c ≡ csv_column types.now records.now.lines.names.items rows column) }
 {
     let fields = records.column(alloc, column)?;
-    let name = &records.names[column];
+    let name = &records.lines.names[column];
     let field_type = column_type(types, name, &fields);
     read_column(alloc, name, field_type, &fields)
 }
@@ -95,15 +95,15 @@ pub(crate) fn csv_columns(
     records: &Records,
     types: &[TypeOf],
 ) -> Result<Vec<Column>, CsvFault>
-    requires full { length (fields_of records.now.fields) ≡ records.now.height * length records.now.names.items }
-    requires few { records.now.height ≤ MAX_ROWS }
+    requires full { length (fields_of records.now.lines.fields) ≡ records.now.lines.height * length records.now.lines.names.items }
+    requires few { records.now.lines.height ≤ MAX_ROWS }
     ensures settles { (rows : List Record) → AreRows records.now rows
-        → Settles result (columns_fault types.now records.now.names.items rows) }
+        → Settles result (columns_fault types.now records.now.lines.names.items rows) }
     ensures columns { (rows : List Record) → AreRows records.now rows
-        → IfOk result (λ v. table_of v.items ≡ csv_columns types.now records.now.names.items rows) }
+        → IfOk result (λ v. table_of v.items ≡ csv_columns types.now records.now.lines.names.items rows) }
 {
-    let mut columns = Vec::with_capacity(alloc, records.names.len())?;
-    for column in 0..records.names.len() {
+    let mut columns = Vec::with_capacity(alloc, records.lines.names.len())?;
+    for column in 0..records.lines.names.len() {
         columns.push(csv_column(alloc, records, types, column)?)?;
     }
     Ok(columns)

@@ -9,39 +9,27 @@ ghost use Rattle.tb_value.specs.declared.limits.TheConstants.{MAX_ROWS};
 use crate::fault::CsvFault;
 use crate::lines::{Lines, read_lines};
 use crate::marks::marks_of;
-use csv::StringRecord;
 use std::alloc::Global;
-use tb_value::{OutOfMemory, PlSmallStr};
+use tb_value::OutOfMemory;
 
-/// The names of a text, and the fields of its rows one behind another.
+/// The bytes of the records of a text, and which of their fields stand in quotes.
 #[derive(Drop)]
 pub(crate) struct Records {
-    pub(crate) names: Vec<PlSmallStr>,
-    pub(crate) fields: StringRecord,
+    pub(crate) lines: Lines,
     // Whether each field stands in quotes, those of the names first. A field without a mark doesn't.
-    pub(crate) marks: Vec<bool>,
-    pub(crate) height: usize,
+    marks: Vec<bool>,
 }
 
 /// The records of a text, or why they are no names and rows.
 pub(crate) fn read_records(alloc: Global, text: &[u8], separator: u8) -> Result<Records, CsvFault>
     ensures settles { Settles result (records_fault (map line_of (records_of separator text.now))) }
     ensures read { IfOk result (λ r. IsRead r (records_of separator text.now)) }
-    ensures full { IfOk result (λ r. length (fields_of r.fields) ≡ r.height * length r.names.items) }
-    ensures few { IfOk result (λ r. r.height ≤ MAX_ROWS) }
+    ensures full { IfOk result (λ r. length (fields_of r.lines.fields) ≡ r.lines.height * length r.lines.names.items) }
+    ensures few { IfOk result (λ r. r.lines.height ≤ MAX_ROWS) }
 {
-    let Lines {
-        names,
-        fields,
-        height,
-    } = read_lines(alloc, text, separator)?;
+    let lines = read_lines(alloc, text, separator)?;
     let marks = marks_of(alloc, text, separator)?;
-    Ok(Records {
-        names,
-        fields,
-        marks,
-        height,
-    })
+    Ok(Records { lines, marks })
 }
 
 // A field without a byte is absent, unless it stands in quotes.
@@ -64,12 +52,13 @@ fn mark_at(marks: &[bool], place: usize) -> bool
 impl Records {
     // The marks of the fields of the rows.
     fn row_marks(&self) -> &[bool]
-        ensures { result.now ≡ drop (length self.now.names.items) self.now.marks.items }
+        ensures { result.now ≡ drop (length self.now.lines.names.items) self.now.marks.items }
     {
-        if self.marks.len() < self.names.len() {
+        let names = self.lines.names.len();
+        if self.marks.len() < names {
             &[]
         } else {
-            &self.marks[self.names.len()..]
+            &self.marks[names..]
         }
     }
 
@@ -79,19 +68,19 @@ impl Records {
         alloc: Global,
         column: usize,
     ) -> Result<Vec<Option<&str>>, OutOfMemory>
-        requires column { column < length self.now.names.items }
-        requires full { length (fields_of self.now.fields) ≡ self.now.height * length self.now.names.items }
-        ensures height { IfOk result (λ v. length v.items ≡ self.now.height) }
+        requires column { column < length self.now.lines.names.items }
+        requires full { length (fields_of self.now.lines.fields) ≡ self.now.lines.height * length self.now.lines.names.items }
+        ensures height { IfOk result (λ v. length v.items ≡ self.now.lines.height) }
         ensures fields { (rows : List Record) → AreRows self.now rows
             → IfOk result (λ v. lent_fields v.items ≡ column_fields rows column) }
     {
-        let width = self.names.len();
+        let width = self.lines.names.len();
         let marks = self.row_marks();
-        let _count = self.fields.len();
-        let mut fields = Vec::with_capacity(alloc, self.height)?;
-        for row in 0..self.height {
+        let _count = self.lines.fields.len();
+        let mut fields = Vec::with_capacity(alloc, self.lines.height)?;
+        for row in 0..self.lines.height {
             let place = row * width + column;
-            let Some(text) = self.fields.get(place) else {
+            let Some(text) = self.lines.fields.get(place) else {
                 unreachable!()
             };
             fields.push(field(mark_at(marks, place), text))?;

@@ -10,5 +10,5 @@ use Rattle.tb_csv.proofs.columns.csv_columns.Given as goal
 abbrev pub invariant-loop-column : goal.invariant-loop-column
 invariant-loop-column l =
     (rows : List Record) → AreRows l.records rows
-    → (table_of l.columns.items ≡ map (csv_column l.types l.records.names.items rows) (row_numbers l.column))
-    × (first_fault (map (typed_fault l.types l.records.names.items rows) (row_numbers l.column)) ≡ None)
+    → (table_of l.columns.items ≡ map (csv_column l.types l.records.lines.names.items rows) (row_numbers l.column))
+    × (first_fault (map (typed_fault l.types l.records.lines.names.items rows) (row_numbers l.column)) ≡ None)
