@@ -1,6 +1,7 @@
 -- Walks over the columns of a table that is written.
-use Rattle.std.proofs.Common.{◌≡◌, ◌<◌, ◌≤◌, ◌+◌, ◌∷◌, ◌++◌, ◌∙◌, [], ℕ, zero, suc, List, Option, Some, None, length, map, take, get_or, refl, sym, ap, arith, subst, append_assoc, true, false, ◌==◌}
+use Rattle.std.proofs.Common.{◌≡◌, ◌<◌, ◌≤◌, ◌+◌, ◌∷◌, ◌++◌, ◌∙◌, [], ℕ, List, Option, Some, None, length, map, take, get_or, refl, sym, ap, arith, subst, append_assoc, true, false, ◌==◌}
 use Rattle.std.specs.Prelude.{Bool, is_none, option_map, cond}
+use Rattle.std.proofs.lemmas.Bool.Decides.{nat_tests}
 use Rattle.std.proofs.Math.ListN.{get_or-map}
 use Rattle.std.proofs.lemmas.List.FromFn.{map-range_with_len_more}
 use Rattle.std.specs.List.{All, find, flat_map}
@@ -12,7 +13,7 @@ use Rattle.tb_value.specs.Pairs.{row_numbers}
 use Rattle.tb_chunk.specs.Col.{Col, values}
 use Rattle.tb_frame.specs.Table.{Table, TableColumn, height, names_of, plain, table_of}
 use Rattle.tb_csv.specs.Records.{Field, Record}
-use Rattle.tb_csv.specs.Texts.{csv_text, field_among, field_text, field_type, line_text, no_column, no_text, record_text, records_text, row_fields}
+use Rattle.tb_csv.specs.Texts.{csv_text, field_among, field_text, field_type, gap, line_text, no_column, no_text, record_text, records_text, row_fields}
 use Rattle.tb_csv.specs.declared.fault.CsvFault.TheVariants.{NoText}
 
 -- the field of a row of a column, among so many
@@ -36,25 +37,13 @@ names_in (c ∷ cs) = ap (λ (fs : Record). Some c.name ∷ fs) (names_in cs)
 
 -- A LINE THAT GROWS
 
--- what stands before the field at this place
-abbrev pub gap : ℕ → ℕ → List ℕ
-gap separator zero = []
-gap separator (suc place) = separator ∷ []
-
-pub gap_first : (separator place : ℕ) (so_far apart : List ℕ) → place ≤ 0 → apart ≡ so_far → apart ≡ so_far ++ gap separator place
-gap_first separator zero so_far apart low is = is ∙ sym (append-nil so_far)
-gap_first separator (suc place) so_far apart low is = absurd (omega (arith, low))
-
-pub gap_later : (separator place : ℕ) (so_far apart : List ℕ) → 0 < place → apart ≡ so_far ++ separator ∷ [] → apart ≡ so_far ++ gap separator place
-gap_later separator zero so_far apart low is = absurd (omega (arith, low))
-gap_later separator (suc place) so_far apart low is = is
-
 line_push : (separator : ℕ) (fs : Record) (f : Field) → line_text separator (fs ++ f ∷ []) ≡ line_text separator fs ++ (gap separator (length fs) ++ field_text separator f)
 line_push separator [] f = append-nil (field_text separator f)
 line_push separator (g ∷ fs) f =
     let item = λ (h : Field). separator ∷ field_text separator h in
     let more : flat_map item (fs ++ f ∷ []) ≡ flat_map item fs ++ (separator ∷ field_text separator f) = flat_map-append item fs (f ∷ []) ∙ ap (λ (s : List ℕ). flat_map item fs ++ s) (append-nil (item f)) in
-    ap (λ (s : List ℕ). field_text separator g ++ s) more ∙ sym (append_assoc (field_text separator g) (flat_map item fs) (separator ∷ field_text separator f))
+    let later : (length (g ∷ fs) == 0) ≡ false = grind (arith, nat_tests) in
+    rw later (ap (λ (s : List ℕ). field_text separator g ++ s) more ∙ sym (append_assoc (field_text separator g) (flat_map item fs) (separator ∷ field_text separator f)))
 
 -- one more field of a line, behind its separator
 pub line_more : (separator : ℕ) (f : Col → Field) (cs : List Col) (place : ℕ) (c : Col) (old so_far apart new : List ℕ) (x : Field) → place < length cs → c ≡ get_or cs place c → x ≡ f c

@@ -68,6 +68,10 @@ field_text separator None = []
 field_text separator (Some []) = quoted (style separator) []
 field_text separator (Some (c ∷ cs)) = kit.field_text (style separator) (c ∷ cs)
 
+-- what stands before the field at this place of a record
+abbrev pub gap : ℕ → ℕ → List ℕ
+gap separator place = if place == 0 then [] else separator ∷ []
+
 -- the fields of a record with the separator between them
 abbrev pub line_text : ℕ → Record → List ℕ
 line_text separator [] = []

@@ -10,7 +10,7 @@ ghost use Rattle.tb_chunk.specs.Col.{Col, values};
 ghost use Rattle.tb_frame.specs.Table.{height, names_of, table_of};
 ghost use Rattle.tb_csv.specs.Faults.{Settles};
 ghost use Rattle.tb_date.specs.Dates.{number_text};
-ghost use Rattle.tb_csv.specs.Texts.{csv_text, field_among, field_text, field_type, record_text, records_text, row_fields, style, text_refusal};
+ghost use Rattle.tb_csv.specs.Texts.{csv_text, field_among, field_text, field_type, gap, record_text, records_text, row_fields, style, text_refusal};
 
 use crate::fault::CsvFault;
 use crate::field_type::FieldType;
@@ -121,6 +121,17 @@ fn push_value(
     }
 }
 
+// Appends what stands before the field at this place of a record.
+fn push_gap(text: &mut Vec<u8>, separator: u8, place: usize) -> Result<(), OutOfMemory>
+    ensures { OnOk result (text.new.items ≡ text.old.items ++ gap separator place) }
+{
+    if place == 0 {
+        Ok(())
+    } else {
+        Ok(text.push(separator)?)
+    }
+}
+
 // Appends the record of a row of the columns.
 fn push_row(
     text: &mut Vec<u8>,
@@ -132,9 +143,7 @@ fn push_row(
     ensures { OnOk result (text.new.items ≡ text.old.items ++ record_text separator (row_fields (table_of columns.now) index)) }
 {
     for place in 0..columns.len() {
-        if place > 0 {
-            text.push(separator)?;
-        }
+        push_gap(text, separator, place)?;
         let column = &columns[place];
         push_value(
             text,
@@ -152,9 +161,7 @@ fn push_names(text: &mut Vec<u8>, separator: u8, columns: &[Column]) -> Result<(
     ensures { OnOk result (text.new.items ≡ text.old.items ++ record_text separator (map (λ n. Some n) (names_of (table_of columns.now)))) }
 {
     for place in 0..columns.len() {
-        if place > 0 {
-            text.push(separator)?;
-        }
+        push_gap(text, separator, place)?;
         push_field(text, separator, columns[place].name().as_str().as_bytes())?;
     }
     Ok(text.push(b'\n')?)
