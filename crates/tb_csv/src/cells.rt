@@ -71,8 +71,8 @@ fn cells_of<N: ReadField>(
     Ok(Cells { cells })
 }
 
-// Whether a field is a text that a chunk can hold, or absent.
-fn is_held(field: Option<&str>) -> bool
+// Whether a field is absent, or a text that is not too long to be a value.
+fn is_short(field: Option<&str>) -> bool
     ensures { result ≡ is_of FieldType.String (lent_field field.entry) }
 {
     match field {
@@ -95,7 +95,7 @@ fn texts_of(
     let mut builder = StringBuilder::with_capacity(alloc, fields.len())?;
     for i in 0..fields.len() {
         let field = fields[i];
-        if !is_held(field) {
+        if !is_short(field) {
             return Err(CsvFault::NotOfType {
                 record: i as u64 + 1,
                 column: name.copy(alloc)?,

@@ -6,17 +6,17 @@ use Rattle.tb_csv.specs.declared.field_type.FieldType.TheVariants as field
 use Rattle.tb_csv.proofs.FieldWalks.{cells_more, fault_here, fault_more, text_held}
 use Rattle.tb_csv.proofs.cells.texts_of.Goals as goal
 
-pub returns-then-not-is_held-clause-settles : goal.returns-then-not-is_held-clause-settles
-returns-then-not-is_held-clause-settles c =
+pub returns-then-not-is_short-clause-settles : goal.returns-then-not-is_short-clause-settles
+returns-then-not-is_short-clause-settles c =
     inr (
     c.loop-i.invariant.fault
-    ∙ fault_here c.args.name.now field.String (c.loop-i.i + 1) c.args.fields.now c.loop-i.i _ c.loop-i-test.true (sym c.if-not-is_held.ensures)
+    ∙ fault_here c.args.name.now field.String (c.loop-i.i + 1) c.args.fields.now c.loop-i.i _ c.loop-i-test.true (sym c.if-not-is_short.ensures)
     ∙ ap (λ (n : Name). Some (NotOfType (c.loop-i.i + 1) n field.String)) (sym c.in_ok-copy.ensures)
     )
 
 pub loop-i-preserved : goal.loop-i-preserved
 loop-i-preserved c =
-    let held = sym c.if-not-is_held.ensures in
+    let held = sym c.if-not-is_short.ensures in
     record {
       fault = c.loop-i.invariant.fault ∙ fault_more c.args.name.now field.String (c.loop-i.i + 1) c.args.fields.now c.loop-i.i _ c.loop-i-test.true held;
       texts =
