@@ -65,9 +65,6 @@ module _ (h : ℕ) (some : 0 < h) where
   multiple : (a : ℕ) → (a * h) / h ≡ a
   multiple a = let z : a * h ≡ a * h + 0 = omega arith in ap (λ (k : ℕ). k / h) z ∙ div-mul-add a h 0 some
 
-  multiple-mod : (a : ℕ) → (a * h) % h ≡ 0
-  multiple-mod a = let z : a * h ≡ a * h + 0 = omega arith in ap (λ (k : ℕ). k % h) z ∙ mod-mul-add a h 0 some
-
   module _ (m : ℕ) (test : ℕ → ℕ → Bool) where
     -- rows that are told apart by where they stand in their column
     module _ (by_row : (i j : ℕ) → i < m * h → j < m * h → test i j ≡ eqb (i % h) (j % h)) (fits : h ≤ m * h) where

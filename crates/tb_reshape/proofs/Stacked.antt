@@ -78,9 +78,6 @@ module _ (h : ℕ) (some : 0 < h) (m : ℕ) where
       let rest : alike (map (repeated m) cs) i j ≡ alike cs (i % h) (j % h) = repeated_alike cs (All-tail (IsHigh h) c cs high) i j low under in
       λ t. same (first t) (second t) && rest t
 
-  pub repeated_row : (c : TableColumn) → IsHigh h c → 0 < m → (i : ℕ) → i < h → h ≤ m * h → i % h ≡ i → value_at (repeated m c).values i ≡ value_at c.values i
-  repeated_row c high copies i low fits small = repeated_at c high i (omega (arith, low, fits)) ∙ ap (value_at c.values) small
-
 -- distinct rows are the same where they are one
 pub one_row_alike : (cs : List TableColumn) (h : ℕ) → ((i j : ℕ) → i < h → j < h → alike cs i j ≡ true → i ≡ j) → (i j : ℕ) → i < h → j < h → alike cs i j ≡ eqb i j
 one_row_alike cs h distinct i j low under = by (eqb i j) refl
