@@ -4,7 +4,6 @@ ghost use Rattle.tb_frame.specs.Join.{IsAnswer};
 ghost use Rattle.tb_frame.specs.Table.{table_of};
 ghost use Rattle.tb_sample.specs.Sample.{IsSummary, request};
 
-use crate::outcome::unrefused;
 use crate::summary::{Summary, summary_of};
 use crate::tables::{left_table, right_table};
 use std::alloc::Global;
@@ -12,7 +11,7 @@ use std::thread::Threads;
 use tb_frame::DataFrame;
 use tb_join::DataFrameJoinOps;
 use tb_pool::Exec;
-use tb_value::{OutOfMemory, PlSmallStr};
+use tb_value::{OutOfMemory, PlSmallStr, only_memory};
 
 // An answer to the join.
 fn joined(rt: &(impl Threads + Sync), alloc: Global, rows: u32) -> Result<DataFrame, OutOfMemory>
@@ -23,7 +22,7 @@ fn joined(rt: &(impl Threads + Sync), alloc: Global, rows: u32) -> Result<DataFr
     let left = left_table(alloc, rows)?;
     let right = right_table(alloc, rows)?;
     let on = [PlSmallStr::from_str(alloc, "key")?];
-    unrefused(left.inner_join(rt, alloc, &right, &on, &on, &Exec::standard()))
+    only_memory(left.inner_join(rt, alloc, &right, &on, &on, &Exec::standard()))
 }
 
 /// Joins two tables of this many rows, 1 to 2,000,000, and tells of the answer. Left row i has the key i and v = 3 i;

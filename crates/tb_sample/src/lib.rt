@@ -3,7 +3,6 @@
 
 mod joining;
 pub mod laws;
-mod outcome;
 mod summary;
 mod tables;
 

@@ -11,11 +11,10 @@ ghost use Rattle.tb_frame.specs.Frame.{frame_refusal};
 ghost use Rattle.tb_frame.specs.Table.{plain, table_of};
 ghost use Rattle.tb_sample.specs.Sample.{left_table, right_table};
 
-use crate::outcome::unrefused;
 use std::alloc::Global;
 use tb_frame::DataFrame;
 use tb_store::{Cells, Chunks, Column, IsSorted, Series};
-use tb_value::{DataType, MAX_ROWS, OutOfMemory, PlSmallStr};
+use tb_value::{DataType, MAX_ROWS, OutOfMemory, PlSmallStr, only_memory};
 
 // The numbers of the rows.
 fn row_numbers(alloc: Global, rows: u32) -> Result<Vec<Option<i64>>, OutOfMemory>
@@ -85,7 +84,7 @@ fn table_of_two(alloc: Global, first: Column, second: Column) -> Result<DataFram
     let mut columns = Vec::with_capacity(alloc, 2)?;
     columns.push(first)?;
     columns.push(second)?;
-    unrefused(DataFrame::new(alloc, columns))
+    only_memory(DataFrame::new(alloc, columns))
 }
 
 /// The left table of this many rows: row i has the key i and v = 3 i.
