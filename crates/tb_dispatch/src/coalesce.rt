@@ -6,12 +6,11 @@ ghost use Rattle.tb_frame.specs.NameSets.{has_name};
 ghost use Rattle.tb_frame.specs.Naming.{is_among};
 ghost use Rattle.tb_dispatch.specs.Standing.{AreMergeable, coalesced_by, standing, stands_as, suffix_or};
 
-use crate::memory::only_memory;
 use crate::names::{_join_suffix_name, suffix_text};
 use std::alloc::Global;
 use tb_frame::{DataFrame, NameSet, column_name_set};
 use tb_join::merged_left;
-use tb_value::{OutOfMemory, PlSmallStr, PolarsResult};
+use tb_value::{OutOfMemory, PlSmallStr, PolarsResult, only_memory};
 
 // The name of a right key beside the left key at its place, where left columns have the names that are taken.
 fn standing_name(

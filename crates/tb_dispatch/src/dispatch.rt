@@ -17,7 +17,6 @@ ghost use Rattle.tb_pairs.specs.KeyColumns.{AreAlike};
 ghost use Rattle.tb_dispatch.specs.Given.{AreKeys, CanCoalesce, StandBeside, by_match, by_series, semi_or_anti};
 ghost use Rattle.tb_dispatch.specs.Rows.{Rise, runs};
 
-use crate::memory::only_memory;
 use std::alloc::Global;
 use std::slice;
 use std::thread::Threads;
@@ -29,7 +28,9 @@ use tb_keys::{LentRequest, check_answer_names};
 use tb_pairs::listed_pairs;
 use tb_pool::Exec;
 use tb_store::Series;
-use tb_value::{IdxSize, IsSorted, MAX_ROWS, OutOfMemory, PolarsResult, StandardChunkId};
+use tb_value::{
+    IdxSize, IsSorted, MAX_ROWS, OutOfMemory, PolarsResult, StandardChunkId, only_memory,
+};
 
 // The ids of a Left join ascend.
 fn runs(left_join: bool) -> IsSorted

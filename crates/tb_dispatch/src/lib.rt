@@ -5,7 +5,6 @@ mod coalesce;
 mod dispatch;
 mod given;
 mod left;
-mod memory;
 mod names;
 
 pub use coalesce::_coalesce_full_join;

@@ -9,4 +9,4 @@ use Rattle.tb_dispatch.proofs.dispatch.rows_alone.Goals as goal
 
 pub returns : goal.returns
 returns g c =
-    IfOk-weaker c.only_memory.result _ _ (λ v e. subst (λ r. IfOk r (λ v. map left_only v.items ≡ value_listing c.args.join_nulls (semi_or_anti c.args.anti) (values c.args.s_left.now) (values c.args.s_right.now))) e c.hash_join_semi_anti-answer.ensures.rows) c.only_memory.ensures
+    IfOk-weaker c.only_memory.result _ _ (λ v e. subst (λ r. IfOk r (λ v. map left_only v.items ≡ value_listing c.args.join_nulls (semi_or_anti c.args.anti) (values c.args.s_left.now) (values c.args.s_right.now))) e c.hash_join_semi_anti-answer.ensures.rows) c.only_memory.ensures.value
