@@ -1,3 +1,4 @@
 pub mod Walks
 pub mod Tests
 pub mod Repeats
+pub mod NoValue

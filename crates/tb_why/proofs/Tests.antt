@@ -20,17 +20,5 @@ each_all f (v ∷ vs) = one_more (f (view v)) (each f (map view vs)) _ (each_all
 pub list_of_all : {B : Type 0} (f : Data → Option B) (d : Data) (vs : List Value) → Some (map view vs) ≡ as_list d → list_all (λ v. is_some (f (view v))) vs ≡ is_some (list_of f d)
 list_of_all f d vs e = sym (each_all f vs) ∙ ap (λ o. is_some (option_and_then (each f) o)) e
 
-pub is_some-map : {A B : Type 0} (f : A → B) (o : Option A) → is_some (option_map f o) ≡ is_some o
-is_some-map f None = refl
-is_some-map f (Some a) = refl
-
-alone_from : {B : Type 0} (o : Option B) → is_some (option_and_then (λ ys. Some (ys ∷ [])) (option_and_then (λ y. Some (y ∷ [])) o)) ≡ is_some o
-alone_from None = refl
-alone_from (Some y) = refl
-
--- the test of one value by a chunk with it alone
-pub alone : {B : Type 0} (f : Data → Option B) (d : Data) → is_some (each (each f) ((d ∷ []) ∷ [])) ≡ is_some (f d)
-alone f d = alone_from (f d)
-
 pub cons_is : {A : Type 0} {x y : A} {xs ys : List A} → x ≡ y → xs ≡ ys → x ∷ xs ≡ y ∷ ys
 cons_is p q = cc

@@ -1,7 +1,7 @@
 -- Walks over values, up to the first that is at fault.
-use Rattle.std.proofs.Common.{◌≡◌, ℕ, ◌+◌, ◌<◌, ◌≤◌, List, [], ◌∷◌, map, length, get_or, drop, Option, Some, None, String, Global, string_bytes, refl, sym, ap, ◌∙◌, arith, add-one, cond}
+use Rattle.std.proofs.Common.{◌≡◌, ℕ, ◌+◌, ◌<◌, List, [], ◌∷◌, map, length, get_or, drop, Option, Some, None, String, Global, string_bytes, refl, sym, ap, ◌∙◌, add-one, cond}
 use Rattle.std.proofs.Math.Seq.{drop-cons}
-use Rattle.std.proofs.lemmas.List.{get_or-map, length-map, length-drop}
+use Rattle.std.proofs.lemmas.List.{get_or-map, length-map}
 use Rattle.std.specs.Map.{keys_of}
 use Rattle.serde_json.specs.Data.{Data, null, boolean, number, string, array, object, Members}
 use Rattle.serde_json.specs.Find.{as_object}
@@ -33,13 +33,6 @@ Walk-next f vs i v low is none so_far = at_value f vs i v low is so_far ∙ rw n
 pub Walk-found : (f : Data → Option Spot) (vs : List Value) (i : ℕ) (v : Value) (s : Spot) → i < length vs → v ≡ get_or vs i v → f (view v) ≡ Some s → Walk f vs i → under (Index i) (Some s) ≡ first_at f 0 (map view vs)
 Walk-found f vs i v s low is found so_far = sym (at_value f vs i v low is so_far ∙ rw found)
 
-nothing_left : (f : Data → Option Spot) (i : ℕ) (ds : List Data) → length ds ≡ 0 → None ≡ first_at f i ds
-nothing_left f i [] e = refl
-nothing_left f i (d ∷ ds) e = absurd (omega (arith, e))
-
-pub Walk-all : (f : Data → Option Spot) (vs : List Value) (i : ℕ) → length vs ≤ i → Walk f vs i → None ≡ first_at f 0 (map view vs)
-Walk-all f vs i past so_far = nothing_left f i (drop i (map view vs)) (let long = length-map vs view in let left = length-drop i (map view vs) in omega (arith, long, left)) ∙ sym so_far
-
 -- ---- members of other names
 
 abbrev pub unknown_from : List Name → List (String Global) → Option Name
@@ -63,14 +56,6 @@ unknown_in_members names (object ns) ms e = some_parts (unknown_among names) ns 
 
 pub unknown_in-object : (names : List Name) (d : Data) (es : List Entry) → Some (members_view es) ≡ as_object d → unknown_in names d ≡ unknown_from names (keys_of es)
 unknown_in-object names d es e = unknown_in_members names d (members_view es) e ∙ unknown_among-members_view names es
-
-pub unknown_in-other : (names : List Name) (d : Data) → None ≡ as_object d → None ≡ unknown_in names d
-unknown_in-other names null e = refl
-unknown_in-other names (boolean b) e = refl
-unknown_in-other names (number n) e = refl
-unknown_in-other names (string s) e = refl
-unknown_in-other names (array es) e = refl
-unknown_in-other names (object ns) e = cc
 
 -- ---- chunks
 

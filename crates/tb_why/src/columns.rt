@@ -2,9 +2,6 @@
 ghost use Rattle.std.specs.Prelude.{◌≡◌, map, IfOk};
 ghost use Rattle.tb_tree.specs.View.{view};
 ghost use Rattle.tb_value.specs.SeeKind.{kind_of};
-ghost use Rattle.tb_chunk.specs.Col.{values};
-ghost use Rattle.tb_request.specs.Flags.{flag_holds};
-ghost use Rattle.tb_request.specs.Written.{flag_named, flag_of};
 ghost use Rattle.tb_why.specs.Columns.{column_spot, columns_spot, flag_is_true, flag_spot, height, is_ordered, table_spot};
 ghost use Rattle.tb_why.specs.Members.{column_members, members_spot};
 ghost use Rattle.tb_why.specs.Spots.{first_at, Finds};
@@ -13,10 +10,10 @@ use crate::cells::{count_at, values_spot};
 use crate::members::{members_spot, needed, optional, unless};
 use crate::names::name_spot;
 use crate::spot::{Expected, Form, Spot, Word, under_index, under_member};
-use crate::tree::{Tree, column_values, dtype, items_at, member, text};
+use crate::tree::{Tree, column_values, dtype, items_at, member};
 use std::alloc::Global;
-use tb_request::Reason;
-use tb_store::{Column, Series};
+use tb_request::{Reason, flag_holds, flag_of};
+use tb_store::Series;
 use tb_value::{DataType, IsSorted, OutOfMemory, PolarsError};
 
 fn shape_spot(alloc: Global, column: &Tree) -> Result<Option<Spot>, OutOfMemory>
@@ -32,35 +29,6 @@ fn shape_spot(alloc: Global, column: &Tree) -> Result<Option<Spot>, OutOfMemory>
         ],
         column,
     )
-}
-
-fn flag_named(text: &str) -> Option<IsSorted>
-    ensures { result ≡ flag_named text.now }
-{
-    match text {
-        "ascending" => Some(IsSorted::Ascending),
-        "descending" => Some(IsSorted::Descending),
-        _ => None,
-    }
-}
-
-fn flag_of(column: &Tree) -> Option<IsSorted>
-    ensures { result ≡ flag_of (view column.now) }
-{
-    match member(column, "sorted") {
-        Some(flag) => flag_named(text(flag)?),
-        None => Some(IsSorted::Not),
-    }
-}
-
-fn flag_holds(column: &Column, flag: IsSorted) -> bool
-    ensures { result ≡ flag_holds flag column.now.kind (values column.now) }
-{
-    match flag {
-        IsSorted::Ascending => column.is_ascending(),
-        IsSorted::Descending => column.is_descending(),
-        IsSorted::Not => true,
-    }
 }
 
 // Whether the column, of this type and with no name, is in the order; true where it has no such values.

@@ -4,63 +4,27 @@ ghost use Rattle.std.specs.List.{list_all};
 ghost use Rattle.serde_json.specs.Find.{as_str};
 ghost use Rattle.tb_tree.specs.View.{view};
 ghost use Rattle.tb_json.specs.Lists.{as_list};
-ghost use Rattle.tb_request.specs.Written.{how_named, validation_named, coalesce_named, order_named, flag_named, agg_named};
 ghost use Rattle.tb_why.specs.Members.{has_form, is_word};
 
 use crate::spot::{Form, Word};
-use crate::tree::{Tree, count, dtype, is_object, is_slice, is_truth, list, text};
+use crate::tree::{Tree, dtype, is_object, is_truth, list, text};
 use std::alloc::Global;
+use tb_request::{
+    agg_named, coalesce_named, count_of, flag_named, how_named, order_named, slice_in,
+    validation_named,
+};
 use tb_value::OutOfMemory;
-
-fn is_how(text: &str) -> bool
-    ensures { result ≡ is_some (how_named text.now) }
-{
-    matches!(text, "inner" | "left" | "right" | "full" | "semi" | "anti")
-}
-
-fn is_validation(text: &str) -> bool
-    ensures { result ≡ is_some (validation_named text.now) }
-{
-    matches!(text, "m:m" | "m:1" | "1:m" | "1:1")
-}
-
-fn is_coalesce(text: &str) -> bool
-    ensures { result ≡ is_some (coalesce_named text.now) }
-{
-    matches!(text, "specific" | "coalesce" | "keep")
-}
-
-fn is_order(text: &str) -> bool
-    ensures { result ≡ is_some (order_named text.now) }
-{
-    matches!(
-        text,
-        "none" | "left" | "right" | "left_right" | "right_left"
-    )
-}
-
-fn is_sorted(text: &str) -> bool
-    ensures { result ≡ is_some (flag_named text.now) }
-{
-    matches!(text, "ascending" | "descending")
-}
-
-fn is_aggregate(text: &str) -> bool
-    ensures { result ≡ is_some (agg_named text.now) }
-{
-    matches!(text, "first" | "sum" | "min" | "max" | "count" | "last")
-}
 
 fn is_word(word: Word, text: &str) -> bool
     ensures { result ≡ is_word word text.now }
 {
     match word {
-        Word::How => is_how(text),
-        Word::Validation => is_validation(text),
-        Word::Coalesce => is_coalesce(text),
-        Word::Order => is_order(text),
-        Word::Sorted => is_sorted(text),
-        Word::Aggregate => is_aggregate(text),
+        Word::How => how_named(text).is_some(),
+        Word::Validation => validation_named(text).is_some(),
+        Word::Coalesce => coalesce_named(text).is_some(),
+        Word::Order => order_named(text).is_some(),
+        Word::Sorted => flag_named(text).is_some(),
+        Word::Aggregate => agg_named(text).is_some(),
     }
 }
 
@@ -106,7 +70,7 @@ fn are_lists(value: &Tree) -> bool
 fn is_worker_count(value: &Tree) -> bool
     ensures { result ≡ has_form Form.Workers (view value.now) }
 {
-    match count(value) {
+    match count_of(value) {
         Some(count) => 1 <= count && count <= 1024,
         None => false,
     }
@@ -115,7 +79,7 @@ fn is_worker_count(value: &Tree) -> bool
 fn is_divisor(value: &Tree) -> bool
     ensures { result ≡ has_form Form.Divisor (view value.now) }
 {
-    match count(value) {
+    match count_of(value) {
         Some(count) => 1 <= count,
         None => false,
     }
@@ -133,8 +97,8 @@ pub(crate) fn has_form(alloc: Global, form: Form, value: &Tree) -> Result<bool, 
         Form::Texts => Ok(are_texts(value)),
         Form::Truth => Ok(is_truth(value)),
         Form::Type => Ok(dtype(alloc, value)?.is_some()),
-        Form::Slice => Ok(is_slice(value)),
-        Form::Count => Ok(count(value).is_some()),
+        Form::Slice => Ok(slice_in(value).is_some()),
+        Form::Count => Ok(count_of(value).is_some()),
         Form::Workers => Ok(is_worker_count(value)),
         Form::Divisor => Ok(is_divisor(value)),
         Form::Word(word) => Ok(is_text_among(word, value)),

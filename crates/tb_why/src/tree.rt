@@ -12,14 +12,14 @@ ghost use Rattle.tb_json.specs.Kinds.{kind_in};
 ghost use Rattle.tb_json.specs.Lists.{as_list, each};
 ghost use Rattle.tb_request.specs.declared.request.Reason.TheVariants.{Json};
 ghost use Rattle.tb_request.specs.Reading.{value_of};
-ghost use Rattle.tb_request.specs.Written.{count_of, slice_in};
 ghost use Rattle.tb_why.specs.Columns.{items_of, items_at, chunks_at};
 ghost use Rattle.tb_why.specs.Members.{known_views, names_of, unknown_in};
 
 use crate::members::{Known, is_among};
 use std::alloc::Global;
 use tb_json::{type_of, value_of};
-use tb_tree::{Fault, Value};
+use tb_request::RequestFault;
+use tb_tree::Value;
 use tb_value::{AnyValue, DataType, OutOfMemory};
 
 /// The value of a JSON text.
@@ -50,11 +50,11 @@ fn place_of(alloc: Global, bytes: &[u8]) -> Result<TextPlace, OutOfMemory>
 pub(crate) fn tree_of(alloc: Global, bytes: &[u8]) -> Result<Result<Tree, TextPlace>, OutOfMemory>
     ensures { IfOk result (λ r. MatchResult r (λ v. value_of bytes.now ≡ Ok (view v)) (λ p. value_of bytes.now ≡ Err Json)) }
 {
-    match Value::from_slice(alloc, bytes) {
+    match tb_request::value_of(alloc, bytes) {
         Ok(value) => Ok(Ok(value)),
         Err(fault) => match fault {
-            Fault::OutOfMemory => Err(OutOfMemory),
-            Fault::NoJson => Ok(Err(place_of(alloc, bytes)?)),
+            RequestFault::OutOfMemory => Err(OutOfMemory),
+            RequestFault::NoRequest(_) => Ok(Err(place_of(alloc, bytes)?)),
         },
     }
 }
@@ -125,26 +125,6 @@ pub(crate) fn is_truth(value: &Tree) -> bool
     ensures { result ≡ is_some (as_bool (view value.now)) }
 {
     value.as_bool().is_some()
-}
-
-/// The whole number below 2^32 that the value is.
-pub(crate) fn count(value: &Tree) -> Option<u64>
-    ensures { result ≡ count_of (view value.now) }
-{
-    let count = value.as_u64()?;
-    if count < 1 << 32 { Some(count) } else { None }
-}
-
-/// Whether the value is a list of an offset and a length.
-pub(crate) fn is_slice(value: &Tree) -> bool
-    ensures { result ≡ is_some (slice_in (view value.now)) }
-{
-    match list(value) {
-        Some(items) => items.len() == 2
-            && items[0].as_i64().is_some()
-            && items[1].as_u64().is_some(),
-        None => false,
-    }
 }
 
 /// The type that the value is.
