@@ -11,9 +11,9 @@ use Rattle.tb_app.specs.declared.words.Form.TheVariants.{Reads, Sample, Unknown}
 use Rattle.tb_app.specs.declared.status.Status.{Status}
 use Rattle.tb_app.specs.declared.status.Status.TheVariants as status
 use Rattle.tb_value.specs.declared.error.PolarsError.{PolarsError}
+use Rattle.tb_value.specs.declared.limits.TheConstants.{MAX_INPUT}
 use Rattle.tb_request.specs.declared.request.Reason.{Reason}
 use Rattle.tb_app.specs.Ends.{Rose, AppendsPart}
-use Rattle.tb_app.specs.Reading.{limit}
 use Rattle.tb_app.specs.Requests.{Request, request_of, refusal_of, IsAnswerText, text_of_refusal}
 use Rattle.tb_app.specs.Due.{DoneFor, DueOfReading, DueOfForm, IsSampleText, Tells, read_for, IsDue, HasText, IsCommand, IsValid, usage_text, too_long_text}
 use Rattle.tb_app.specs.Run.{IsReply}
@@ -26,14 +26,14 @@ told_whole (Some xs) None bytes taken end = absurd taken
 told_whole (Some xs) (Some ys) bytes taken end = taken ∙ ap (λ l. bytes ++ l) end ∙ append-nil bytes
 
 pub whole_is_due : (command : Command) (before after : Option (List ℕ)) (bytes given : List ℕ) (s : Status) (text : List ℕ)
-    → Consumes before after bytes → IsAtEnd after → length bytes ≤ limit → given ≡ bytes → DueOfReading (request_of command given) s text
+    → Consumes before after bytes → IsAtEnd after → length bytes ≤ MAX_INPUT → given ≡ bytes → DueOfReading (request_of command given) s text
     → IsDue (Reads command) before after s text
 whole_is_due command before after bytes given s text taken end short same is_due = record {
   bytes = bytes;
   told = told_whole before after bytes taken end;
-  due = subst (λ b. MatchBool b ((s ≡ status.TooLong) × (text ≡ too_long_text)) (DueOfReading (request_of command bytes) s text)) (sym (le-ltb limit (length bytes) short))
+  due = subst (λ b. MatchBool b ((s ≡ status.TooLong) × (text ≡ too_long_text)) (DueOfReading (request_of command bytes) s text)) (sym (le-ltb MAX_INPUT (length bytes) short))
       (subst (λ l. DueOfReading (request_of command l) s text) same is_due);
-  read = subst (Consumes before after) (sym (take_all (limit + 1) bytes (omega arith))) taken;
+  read = subst (Consumes before after) (sym (take_all (MAX_INPUT + 1) bytes (omega arith))) taken;
 }
 
 -- the source's bytes, or those that were taken of it where it doesn't tell
@@ -44,16 +44,16 @@ all_of (Some xs) None taken consumed = absurd consumed
 all_of (Some xs) (Some ys) taken consumed = (ys, consumed)
 
 pub too_long_is_due : (command : Command) (before after : Option (List ℕ)) (taken : List ℕ)
-    → Consumes before after taken → length taken ≡ limit + 1 → IsDue (Reads command) before after status.TooLong too_long_text
+    → Consumes before after taken → length taken ≡ MAX_INPUT + 1 → IsDue (Reads command) before after status.TooLong too_long_text
 too_long_is_due command before after taken consumed long =
     let (rest, told) = all_of before after taken consumed in
     let bytes = taken ++ rest in
-    let above : limit < length bytes = omega (arith, long, length-append taken rest) in
-    let front : take (limit + 1) bytes ≡ taken = take-append-le (limit + 1) taken rest (omega (arith, long)) ∙ take_all (limit + 1) taken (omega (arith, long)) in
+    let above : MAX_INPUT < length bytes = omega (arith, long, length-append taken rest) in
+    let front : take (MAX_INPUT + 1) bytes ≡ taken = take-append-le (MAX_INPUT + 1) taken rest (omega (arith, long)) ∙ take_all (MAX_INPUT + 1) taken (omega (arith, long)) in
     record {
       bytes = bytes;
       told = told;
-      due = subst (λ b. MatchBool b ((status.TooLong ≡ status.TooLong) × (too_long_text ≡ too_long_text)) (DueOfReading (request_of command bytes) status.TooLong too_long_text)) (sym (lt-ltb limit (length bytes) above)) (refl, refl);
+      due = subst (λ b. MatchBool b ((status.TooLong ≡ status.TooLong) × (too_long_text ≡ too_long_text)) (DueOfReading (request_of command bytes) status.TooLong too_long_text)) (sym (lt-ltb MAX_INPUT (length bytes) above)) (refl, refl);
       read = subst (Consumes before after) (sym front) consumed;
     }
 
@@ -93,7 +93,7 @@ answers_command command true bytes s text d = has_text s status.TooLong d.0 tt
 answers_command command false bytes s text d = answers_reading (request_of command bytes) s text d
 
 pub due_has_text : (asked : Form) (bytes : List ℕ) (s : Status) (text : List ℕ) → DueOfForm asked bytes s text → HasText s
-due_has_text (Reads command) bytes s text d = answers_command command (nat_lt limit (length bytes)) bytes s text d
+due_has_text (Reads command) bytes s text d = answers_command command (nat_lt MAX_INPUT (length bytes)) bytes s text d
 due_has_text (Sample rows) bytes s text d = has_text s status.Done d.0 tt
 due_has_text Unknown bytes s text d = has_text s status.Usage d.0 tt
 
@@ -167,10 +167,10 @@ pub valid_is_done : (asked : Form) (left left' : Option (List ℕ)) (s : Status)
 valid_is_done (Reads command) None left' s text valid is_due = absurd valid
 valid_is_done (Reads command) (Some known) left' s text valid is_due =
     let bytes = is_due.bytes in
-    let short : length bytes ≤ limit = subst (λ l. length l ≤ limit) is_due.told valid.0 in
+    let short : length bytes ≤ MAX_INPUT = subst (λ l. length l ≤ MAX_INPUT) is_due.told valid.0 in
     let read : request_of command bytes ≡ Ok valid.1.0 = subst (λ l. request_of command l ≡ Ok valid.1.0) is_due.told valid.1.1 in
     let P : Bool → Type 0 = λ b. MatchBool b ((s ≡ status.TooLong) × (text ≡ too_long_text)) (DueOfReading (request_of command bytes) s text) in
-    done_reading (request_of command bytes) valid.1.0 s text read valid.1.2 (subst P (le-ltb limit (length bytes) short) is_due.due)
+    done_reading (request_of command bytes) valid.1.0 s text read valid.1.2 (subst P (le-ltb MAX_INPUT (length bytes) short) is_due.due)
 valid_is_done (Sample rows) left left' s text valid is_due = is_due.due.0
 valid_is_done Unknown left left' s text valid is_due = absurd valid
 
@@ -182,12 +182,12 @@ replied_done asked left left' written written' faults faults' s text result is_d
 -- THE HEADLINE
 
 -- a command whose bytes are within the limit reads them all
-read_all : (command : Command) (before after : Option (List ℕ)) (bytes : List ℕ) → length bytes ≤ limit
+read_all : (command : Command) (before after : Option (List ℕ)) (bytes : List ℕ) → length bytes ≤ MAX_INPUT
     → Consumes before after (read_for (Reads command) bytes) → Consumes before after bytes
-read_all command before after bytes short read = subst (Consumes before after) (take_all (limit + 1) bytes (omega arith)) read
+read_all command before after bytes short read = subst (Consumes before after) (take_all (MAX_INPUT + 1) bytes (omega arith)) read
 
 done_request_for : (command : Command) (left left' written written' : Option (List ℕ)) (bytes text : List ℕ) (q : Request) (refusal : Option PolarsError)
-    → Tells left bytes → length bytes ≤ limit → Consumes left left' bytes → request_of command bytes ≡ Ok q → refusal_of q ≡ refusal
+    → Tells left bytes → length bytes ≤ MAX_INPUT → Consumes left left' bytes → request_of command bytes ≡ Ok q → refusal_of q ≡ refusal
     → MatchOption refusal ((status.Done ≡ status.Done) × IsAnswerText q text) (λ e. (status.Done ≡ status.Refused) × (text ≡ text_of_refusal e))
     → Appends written written' text → DoneFor command left left' written written'
 done_request_for command left left' written written' bytes text q None told short taken read valid d wrote =
@@ -195,19 +195,19 @@ done_request_for command left left' written written' bytes text q None told shor
 done_request_for command left left' written written' bytes text q (Some e) told short taken read valid d wrote = (let wrong = d.0 in absurd (cc wrong))
 
 done_reading_for : (command : Command) (left left' written written' : Option (List ℕ)) (bytes text : List ℕ) (read : Result Request Reason)
-    → Tells left bytes → length bytes ≤ limit → Consumes left left' bytes → request_of command bytes ≡ read → DueOfReading read status.Done text
+    → Tells left bytes → length bytes ≤ MAX_INPUT → Consumes left left' bytes → request_of command bytes ≡ read → DueOfReading read status.Done text
     → Appends written written' text → DoneFor command left left' written written'
 done_reading_for command left left' written written' bytes text (Ok q) told short taken read d wrote =
     done_request_for command left left' written written' bytes text q (refusal_of q) told short taken read refl d wrote
 done_reading_for command left left' written written' bytes text (Err reason) told short taken read d wrote = (let wrong = d.0 in absurd (cc wrong))
 
 done_command_for : (command : Command) (left left' written written' : Option (List ℕ)) (bytes text : List ℕ) (long : Bool)
-    → Tells left bytes → Consumes left left' (read_for (Reads command) bytes) → nat_lt limit (length bytes) ≡ long
+    → Tells left bytes → Consumes left left' (read_for (Reads command) bytes) → nat_lt MAX_INPUT (length bytes) ≡ long
     → MatchBool long ((status.Done ≡ status.TooLong) × (text ≡ too_long_text)) (DueOfReading (request_of command bytes) status.Done text)
     → Appends written written' text → DoneFor command left left' written written'
 done_command_for command left left' written written' bytes text true told taken is_long d wrote = (let wrong = d.0 in absurd (cc wrong))
 done_command_for command left left' written written' bytes text false told taken is_long d wrote =
-    let short : length bytes ≤ limit = ltb-false limit (length bytes) is_long in
+    let short : length bytes ≤ MAX_INPUT = ltb-false MAX_INPUT (length bytes) is_long in
     done_reading_for command left left' written written' bytes text (request_of command bytes) told short (read_all command left left' bytes short taken) refl d wrote
 
 pub replied_for : (asked : Form) (left left' written written' : Option (List ℕ)) (faults faults' : ℕ) (s : Status) (text : List ℕ) (result : Status)
@@ -218,6 +218,6 @@ replied_for asked left left' written written' faults faults' s text result is_du
     let d : DueOfForm asked bytes status.Done text = subst (λ r. DueOfForm asked bytes r text) (sym done.0 ∙ is_done) is_due.due in
     let d' : DueOfForm (Reads command) bytes status.Done text = subst (λ f. DueOfForm f bytes status.Done text) is_asked d in
     let taken : Consumes left left' (read_for (Reads command) bytes) = subst (λ f. Consumes left left' (read_for f bytes)) is_asked is_due.read in
-    done_command_for command left left' written written' bytes text (nat_lt limit (length bytes)) is_due.told taken refl d' done.1
+    done_command_for command left left' written written' bytes text (nat_lt MAX_INPUT (length bytes)) is_due.told taken refl d' done.1
 replied_for asked left left' written written' faults faults' s text result is_due (inr failed) is_done command is_asked =
     (let e : status.Done ≡ status.WriteFault = sym is_done ∙ failed.0 in absurd (cc e))

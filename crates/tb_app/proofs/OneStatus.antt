@@ -1,12 +1,12 @@
 -- One status alone is due.
 use Rattle.std.proofs.Common.{◌≡◌, ℕ, List, length, Option, None, Some, Result, Ok, Err, Bool, true, false, MatchBool, MatchOption, nat_lt, sym, ◌∙◌}
 use Rattle.tb_value.specs.declared.error.PolarsError.{PolarsError}
+use Rattle.tb_value.specs.declared.limits.TheConstants.{MAX_INPUT}
 use Rattle.tb_app.specs.declared.words.Command.{Command}
 use Rattle.tb_app.specs.declared.words.Form.{Form}
 use Rattle.tb_app.specs.declared.words.Form.TheVariants.{Reads, Sample, Unknown}
 use Rattle.tb_app.specs.declared.status.Status.{Status}
 use Rattle.tb_app.specs.declared.status.Status.TheVariants as status
-use Rattle.tb_app.specs.Reading.{limit}
 use Rattle.tb_app.specs.Words.{form}
 use Rattle.tb_app.specs.Requests.{Request, request_of, refusal_of, IsAnswerText, text_of_refusal}
 use Rattle.tb_app.specs.Due.{due, DueOfReading, DueOfForm, too_long_text}
@@ -28,7 +28,7 @@ one_command command true bytes s s' text text' d d' = d.0 ∙ sym d'.0
 one_command command false bytes s s' text text' d d' = one_reading (request_of command bytes) s s' text text' d d'
 
 one_form : (asked : Form) (bytes : List ℕ) (s s' : Status) (text text' : List ℕ) → DueOfForm asked bytes s text → DueOfForm asked bytes s' text' → s ≡ s'
-one_form (Reads command) bytes s s' text text' d d' = one_command command (nat_lt limit (length bytes)) bytes s s' text text' d d'
+one_form (Reads command) bytes s s' text text' d d' = one_command command (nat_lt MAX_INPUT (length bytes)) bytes s s' text text' d d'
 one_form (Sample rows) bytes s s' text text' d d' = d.0 ∙ sym d'.0
 one_form Unknown bytes s s' text text' d d' = d.0 ∙ sym d'.0
 

@@ -3,6 +3,7 @@ use Rattle.std.specs.Prelude.{◌≡◌, ◌≢◌, ℕ, ◌+◌, ◌++◌, Bool
 use Rattle.std.specs.Io.KnownBytes.{Consumes, Appends}
 use Rattle.tb_value.specs.declared.error.PolarsError.{PolarsError}
 use Rattle.tb_value.specs.declared.error.PolarsError.TheVariants.{OutOfMemory}
+use Rattle.tb_value.specs.declared.limits.TheConstants.{MAX_INPUT}
 use Rattle.tb_chunk.specs.Col.{Col}
 use Rattle.tb_frame.specs.Table.{table_of}
 use Rattle.tb_json.specs.Text.{text_of}
@@ -18,7 +19,6 @@ use Rattle.tb_app.specs.declared.words.Form.{Form}
 use Rattle.tb_app.specs.declared.words.Form.TheVariants.{Reads, Sample, Unknown}
 use Rattle.tb_app.specs.declared.status.Status.{Status}
 use Rattle.tb_app.specs.declared.status.Status.TheVariants as status
-use Rattle.tb_app.specs.Reading.{limit}
 use Rattle.tb_app.specs.Words.{form}
 use Rattle.tb_app.specs.Requests.{Request, request_of, refusal_of, IsAnswerText, text_of_refusal}
 
@@ -67,7 +67,7 @@ IsSampleText rows text = (told : Summary) × IsSummary rows told × (text ≡ te
 abbrev pub DueOfForm : Form → List ℕ → Status → List ℕ → Type 0
 DueOfForm Unknown bytes s text = (s ≡ status.Usage) × (text ≡ usage_text)
 DueOfForm (Sample rows) bytes s text = (s ≡ status.Done) × IsSampleText rows text
-DueOfForm (Reads command) bytes s text = MatchBool (nat_lt limit (length bytes))
+DueOfForm (Reads command) bytes s text = MatchBool (nat_lt MAX_INPUT (length bytes))
     ((s ≡ status.TooLong) × (text ≡ too_long_text))
     (DueOfReading (request_of command bytes) s text)
 
@@ -84,7 +84,7 @@ Tells (Some known) bytes = known ≡ bytes
 
 -- what is read of the bytes: for a command all of them, up to the first one past the limit
 abbrev pub read_for : Form → List ℕ → List ℕ
-read_for (Reads command) bytes = take (limit + 1) bytes
+read_for (Reads command) bytes = take (MAX_INPUT + 1) bytes
 read_for (Sample rows) bytes = []
 read_for Unknown bytes = []
 
@@ -120,7 +120,7 @@ IsKnown Unknown = ⊥
 
 -- the words have a form, and under a command the source tells a request that nothing refuses
 abbrev pub IsValid : Form → Option (List ℕ) → Type 0
-IsValid (Reads command) told = IsSomeAnd told (λ bytes. (length bytes ≤ limit) × ((q : Request) × (request_of command bytes ≡ Ok q) × (refusal_of q ≡ None)))
+IsValid (Reads command) told = IsSomeAnd told (λ bytes. (length bytes ≤ MAX_INPUT) × ((q : Request) × (request_of command bytes ≡ Ok q) × (refusal_of q ≡ None)))
 IsValid (Sample rows) told = ⊤
 IsValid Unknown told = ⊥
 
@@ -128,7 +128,7 @@ IsValid Unknown told = ⊥
 pub record DoneFor (command : Command) (left left' written written' : Option (List ℕ)) : Type 0 where
   pub bytes : List ℕ
   pub told : Tells left bytes
-  pub short : length bytes ≤ limit
+  pub short : length bytes ≤ MAX_INPUT
   pub read : Consumes left left' bytes
   pub request : Request
   pub is_request : request_of command bytes ≡ Ok request

@@ -1,6 +1,7 @@
 -- The headline of the program, written out for each command.
 use Rattle.std.specs.Prelude.{◌≡◌, ℕ, ◌≤◌, List, length, Option, Ok, None}
 use Rattle.std.specs.Io.KnownBytes.{Consumes, Appends}
+use Rattle.tb_value.specs.declared.limits.TheConstants.{MAX_INPUT}
 use Rattle.tb_frame.specs.Join.{IsAnswer}
 use Rattle.tb_frame.specs.Refusal.{join_valid}
 use Rattle.tb_frame.specs.Table.{Table}
@@ -11,7 +12,6 @@ use Rattle.tb_pivot.specs.Refusal.{pivot_refusal}
 use Rattle.tb_request.specs.Reading.{JoinRequest, UnpivotRequest, DummiesRequest, PivotRequest, asked, join_request_of, unpivot_request_of, dummies_request_of, pivot_request_of}
 use Rattle.tb_json.specs.Text.{text_of}
 use Rattle.tb_app.specs.Due.{Tells}
-use Rattle.tb_app.specs.Reading.{limit}
 use Rattle.tb_app.specs.Requests.{asked_dummies, asked_long, asked_wide}
 use Rattle.tb_app.specs.Traces.{due_trace, joined_text}
 
@@ -20,7 +20,7 @@ use Rattle.tb_app.specs.Traces.{due_trace, joined_text}
 pub record JoinDone (left left' written written' : Option (List ℕ)) : Type 0 where
   pub bytes : List ℕ
   pub told : Tells left bytes
-  pub short : length bytes ≤ limit
+  pub short : length bytes ≤ MAX_INPUT
   pub read : Consumes left left' bytes
   pub request : JoinRequest
   pub is_request : join_request_of bytes ≡ Ok request
@@ -33,7 +33,7 @@ pub record JoinDone (left left' written written' : Option (List ℕ)) : Type 0 w
 pub record UnpivotDone (left left' written written' : Option (List ℕ)) : Type 0 where
   pub bytes : List ℕ
   pub told : Tells left bytes
-  pub short : length bytes ≤ limit
+  pub short : length bytes ≤ MAX_INPUT
   pub read : Consumes left left' bytes
   pub request : UnpivotRequest
   pub is_request : unpivot_request_of bytes ≡ Ok request
@@ -44,7 +44,7 @@ pub record UnpivotDone (left left' written written' : Option (List ℕ)) : Type 
 pub record DummiesDone (left left' written written' : Option (List ℕ)) : Type 0 where
   pub bytes : List ℕ
   pub told : Tells left bytes
-  pub short : length bytes ≤ limit
+  pub short : length bytes ≤ MAX_INPUT
   pub read : Consumes left left' bytes
   pub request : DummiesRequest
   pub is_request : dummies_request_of bytes ≡ Ok request
@@ -55,7 +55,7 @@ pub record DummiesDone (left left' written written' : Option (List ℕ)) : Type 
 pub record PivotDone (left left' written written' : Option (List ℕ)) : Type 0 where
   pub bytes : List ℕ
   pub told : Tells left bytes
-  pub short : length bytes ≤ limit
+  pub short : length bytes ≤ MAX_INPUT
   pub read : Consumes left left' bytes
   pub request : PivotRequest
   pub is_request : pivot_request_of bytes ≡ Ok request

@@ -5,9 +5,7 @@ ghost use Rattle.tb_app.specs.Reading.{WasRead, CountsReads};
 
 use crate::ends::{self, Source};
 use std::alloc::{AllocError, Global};
-
-/// The most bytes that a request may have.
-pub const REQUEST_LIMIT: usize = 67_108_864;
+use tb_value::MAX_INPUT;
 
 const ROOM: usize = 8192;
 
@@ -57,8 +55,8 @@ pub(crate) fn read_request<S: Source>(alloc: Global, source: &mut S) -> Result<I
 {
     let mut bytes = Vec::new(alloc);
     let mut room = [0u8; ROOM];
-    while bytes.len() <= REQUEST_LIMIT {
-        let most = ROOM.min(REQUEST_LIMIT + 1 - bytes.len());
+    while bytes.len() <= MAX_INPUT {
+        let most = ROOM.min(MAX_INPUT + 1 - bytes.len());
         let taken = source.read(&mut room[..most])?;
         if taken == 0 {
             return Ok(Input::Whole(bytes));
