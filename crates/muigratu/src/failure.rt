@@ -4,7 +4,7 @@ use crate::sentences::{CsvSentence, RefusalSentence};
 use std::alloc::{AllocError, AllocFailed};
 use std::{fmt, io};
 use tb_csv::CsvFault;
-use tb_value::{OutOfMemory, PolarsError};
+use tb_value::{MAX_INPUT, OutOfMemory, PolarsError};
 
 /// Why there is no answer.
 #[derive(Drop)]
@@ -120,7 +120,7 @@ impl fmt::Display for Failure<'_> {
             Failure::Reading(file, error) => write!(f, "{}: {error}", title(file)),
             Failure::Writing(file, error) => write!(f, "{}: {error}", output_title(file)),
             Failure::OutOfMemory => f.write_str("memory is wanting"),
-            Failure::TooLong(file) => write!(f, "{}: more than 67108864 bytes", title(file)),
+            Failure::TooLong(file) => write!(f, "{}: more than {MAX_INPUT} bytes", title(file)),
         }
     }
 }

@@ -5,9 +5,7 @@ use std::alloc::Global;
 use std::fs::{self, File, OpenFile, OpenOptions, Permissions};
 use std::io::{self, ErrorKind, Input, Read, Write};
 use std::rt::Files;
-
-// The most bytes that a text may have.
-const LIMIT: usize = 67_108_864;
+use tb_value::MAX_INPUT;
 
 // How many names a new file may be given, of which others may be taken.
 const NAMES: u32 = 1_000;
@@ -26,9 +24,9 @@ fn read_whole<'a, R: Read + Drop>(
     reader: R,
 ) -> Result<Vec<u8>, Failure<'a>> {
     let mut bytes = Vec::new(alloc);
-    let mut front = reader.take(LIMIT as u64 + 1);
+    let mut front = reader.take(MAX_INPUT as u64 + 1);
     match front.read_to_end(&mut bytes) {
-        Ok(_) if bytes.len() > LIMIT => Err(Failure::TooLong(file)),
+        Ok(_) if bytes.len() > MAX_INPUT => Err(Failure::TooLong(file)),
         Ok(_) => Ok(bytes),
         Err(error) => Err(read_failure(file, error)),
     }
