@@ -1,4 +1,3 @@
 pub mod Walks
 pub mod Tests
 pub mod Repeats
-pub mod NoValue

@@ -1,4 +1,4 @@
-use Rattle.tb_why.proofs.NoValue.{no_value}
+use Rattle.tb_request.proofs.FromBytes.{no_value}
 use Rattle.tb_why.proofs.tree.tree_of.Goals as goal
 
 pub place_of-requires : goal.place_of-requires
