@@ -10,3 +10,5 @@ pub mod GroupRows
 pub mod HashPieces
 pub mod Numbers
 pub mod FlatTables
+pub mod ChainSteps
+pub mod LentKeys

@@ -1,10 +1,11 @@
 -- The tables of scattered keys are those of the parts.
 use Rattle.std.proofs.Common.{◌≡◌, ℕ, ◌+◌, ◌-◌, ◌/◌, ◌^◌, ◌<◌, ◌≤◌, Bool, true, false, List, length, take, drop, get_or, refl, ap, sym, subst, ◌∙◌, arith, Option, Some, None}
-use Rattle.std.specs.Prelude.{map, filter, nat_eq}
+use Rattle.std.specs.Prelude.{map, filter, nat_eq, All}
 use Rattle.std.specs.List.{flat_map, take-map, drop-map}
 use Rattle.std.proofs.lemmas.Bool.{eq-eqb}
 use Rattle.std.proofs.lemmas.List.{length-map, get_or-map, length-append}
-use Rattle.std.proofs.lemmas.List.FromFn.{length-range_with_len, length-map-range_with_len, get_or-map-range_with_len}
+use Rattle.std.proofs.lemmas.List.FromFn.{length-range_with_len, length-map-range_with_len, get_or-map-range_with_len, fill_by_all}
+use Rattle.std.proofs.lemmas.List.Elements.{All-same}
 use Rattle.std.proofs.Math.Nat.{zero-mul}
 use Rattle.std.proofs.lemmas.List.Sums.{length-filter, count_by-le-length}
 use Rattle.tb_value.specs.Pairs.{row_numbers}
@@ -13,12 +14,14 @@ use Rattle.tb_build.specs.Keys.{keys_match, rows_with}
 use Rattle.tb_build.specs.Plan.{codes_of, part_rows, part_start, part_sizes, scattered_rows, entry_unless_empty}
 use Rattle.tb_build.specs.Flat.{FlatView, IsFlatOf}
 use Rattle.tb_build.specs.Grouping.{between}
+use Rattle.tb_build.specs.KeyLists.{named_keys}
 use Rattle.tb_build.specs.Phases.{AreGiven}
 use Rattle.tb_build.specs.TableView.{no_rows, ArePartTables}
 use Rattle.tb_build.specs.declared.scattered.Scatter.{Scatter}
-use Rattle.tb_build.specs.Scattering.{keys_at, keys_of_part, rows_of_part, HasPart, IsTableOfPart}
+use Rattle.tb_build.specs.Scattering.{keys_at, keys_of_part, rows_of_part, HasPart, HasRows, IsTableOfPart, IsTableOfRows}
 use Rattle.tb_build.proofs.Lists.{map-agree_below, filter-agree_below, filter-implied, flat_map-more, flat_map-before, flat_map-piece, kept-by_place}
 use Rattle.tb_build.proofs.Parts.{code-at, codes-length}
+use Rattle.tb_build.proofs.PartPieces.{scattered-below}
 
 -- a table of what lies between two starts
 pub table-between : {K : Type 0} (eq : K → K → Bool) (s : Scatter K) (p a b : ℕ) (rows : List ℕ) (keys : List (Option K)) (t : FlatView K)
@@ -130,3 +133,44 @@ module _ {K : Type 0} (eq : K → K → Bool) (code : K → ℕ) (keys : List (O
         plain : (k : K) (o : Option K) → keys_match eq true (Some k) o ≡ keys_match eq false (Some k) o
         plain k None = refl
         plain k (Some y) = refl
+
+-- THE TABLES OF LENT KEYS
+
+module _ {K : Type 0} (eq : K → K → Bool) (code : K → ℕ) (keys : List (Option K)) (n : ℕ) (starts idxs : List ℕ) (are : starts ≡ map (part_start (codes_of code keys) n) (row_numbers (n + 1))) (scattered : idxs ≡ scattered_rows (codes_of code keys) n) where
+  pub has-rows : length keys ≤ 4294967294 → (p : ℕ) → p < n → HasRows (length keys) starts idxs p
+  has-rows small p l =
+      let all = codes_of code keys in
+      let here = start-at all n starts are p (omega arith) in
+      let next = start-at all n starts are (p + 1) (omega arith) in
+      let size = start-more all n p in
+      record {
+        start = omega (arith, starts-length all n starts are);
+        order = omega (arith, here, next, size);
+        within = omega (arith, next, flat_map-before (part_rows all n) n (p + 1) (omega arith), ap length scattered);
+        few = omega (arith, here, next, size, length-filter (λ j. nat_eq p (part_of (get_or all j 0) n)) (row_numbers (length all)), count_by-le-length (λ j. nat_eq p (part_of (get_or all j 0) n)) (row_numbers (length all)), length-range_with_len 0 (length all), codes-length code keys, small);
+        below = All-same (λ row. row < length keys) _ _ scattered (subst (λ (m : ℕ). All (λ row. row < m) (scattered_rows all n)) (codes-length code keys) (scattered-below all n));
+      }
+
+  -- the keys by the names of rows are those at the rows
+  named-at : (rows : List ℕ) → named_keys keys (λ j. get_or rows j 0) (length rows) ≡ keys_at keys rows
+  named-at rows = sym (fill_by_all (λ j. get_or keys (get_or rows j 0) None) (keys_at keys rows) (length rows) None (length-map rows (λ row. get_or keys row None)) (λ k l. get_or-map (λ row. get_or keys row None) rows k 0 None l))
+
+  -- a table of part p has the part's rows with each key
+  of-part : (p : ℕ) → p < n → (key : Option K) → map (λ j. get_or (between starts idxs p) j 0) (rows_with eq true (named_keys keys (λ j. get_or (between starts idxs p) j 0) (length (between starts idxs p))) key (length (named_keys keys (λ j. get_or (between starts idxs p) j 0) (length (between starts idxs p)))))
+      ≡ filter (λ j. keys_match eq true key (get_or keys j None)) (part_rows (codes_of code keys) n p)
+  of-part p l key =
+      let rows = part_rows (codes_of code keys) n p in
+      ap (λ rows. map (λ j. get_or rows j 0) (rows_with eq true (named_keys keys (λ j. get_or rows j 0) (length rows)) key (length (named_keys keys (λ j. get_or rows j 0) (length rows))))) (between-rows (codes_of code keys) n starts are idxs p scattered l)
+      ∙ ap (λ ks. map (λ j. get_or rows j 0) (rows_with eq true ks key (length ks))) (named-at rows)
+      ∙ named-rows eq code keys n rows key
+
+  pub lent-tables : 1 ≤ n → (parts : List (FlatView K)) → AreGiven (λ part t. IsTableOfRows eq keys (between starts idxs part) t) n parts → ArePartTables eq code keys n parts
+  lent-tables some parts given = record {
+    count = given.count;
+    entries = λ p k l. (given.each p no_rows l).entries k ∙ ap entry_unless_empty (of-part p l (Some k) ∙ ap (λ (q : ℕ → Bool). filter q (part_rows (codes_of code keys) n p)) (λ t j. plain k (get_or keys j None) t));
+    bare = (given.each 0 no_rows some).bare ∙ of-part 0 some None ∙ bare-all eq code keys n;
+  }
+    where
+      plain : (k : K) (o : Option K) → keys_match eq true (Some k) o ≡ keys_match eq false (Some k) o
+      plain k None = refl
+      plain k (Some y) = refl

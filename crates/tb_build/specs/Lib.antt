@@ -1,6 +1,8 @@
 pub mod Codes
 pub mod CodeLaws
 pub mod Keys
+pub mod KeyLists
+pub mod Chains
 pub mod Plan
 pub mod TableView
 pub mod Grouping

@@ -2,6 +2,7 @@
 ghost use Rattle.std.specs.Prelude.{◌≡◌};
 
 use crate::keys::{KeyCode, code_of};
+use crate::lent::KeyList;
 use std::hash::{BuildHasher, FoldHasher, Hasher};
 
 // How many keys the state is drawn from.
@@ -63,6 +64,22 @@ impl KeyHashers {
         first.write_u64(keys.len() as u64);
         for key in keys.iter().step_by(keys.len() / SAMPLED + 1) {
             first.write_u64(code_of(*key));
+        }
+        KeyHashers { first }
+    }
+    /// Hashers for the keys of this list, as `of_keys` makes them.
+    pub fn of_list<K: KeyCode, L: KeyList<K>>(list: &L) -> KeyHashers {
+        let mut first = KeyHasher {
+            inner: FoldHasher::default(),
+        };
+        let len = list.len();
+        let step = len / SAMPLED + 1;
+        first.write_u64(len as u64);
+        for sample in 0..SAMPLED {
+            let row = sample * step;
+            if row < len {
+                first.write_u64(code_of(list.key(row)));
+            }
         }
         KeyHashers { first }
     }

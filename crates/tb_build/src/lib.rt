@@ -3,19 +3,23 @@
 #![tactic(auto)]
 
 mod building;
+mod chains;
 mod flat;
 mod groups;
 mod hashing;
 mod keys;
 pub mod laws;
+mod lent;
 mod phases;
 mod scattered;
 mod scattering;
 mod tables;
 
+pub use flat::{JoinNumbers, KeyNumbers, LentNumbers};
 pub use hashing::{KeyHasher, KeyHashers};
 pub use keys::{JoinKey, KeyBytes, KeyCode, code_of, partition_of};
+pub use lent::{JoinList, KeyList, SliceKeys};
 pub use phases::{part_count, run_phase};
 pub use scattered::Scatter;
 pub use scattering::scatter;
-pub use tables::{Built, Tables, build_tables};
+pub use tables::{Built, Tables, build_list_tables, build_tables};

@@ -1,28 +1,32 @@
 //! The tables of the built keys: for each key its rows.
-ghost use Rattle.std.specs.Prelude.{◌≡◌, ◌<◌, ◌≤◌, length, All, IfOk, Option};
+ghost use Rattle.std.specs.Prelude.{◌≡◌, ◌<◌, ◌≤◌, None, length, slice_index_or, All, IfOk, Option};
 ghost use Rattle.tb_build.specs.Codes.{part_of};
 ghost use Rattle.tb_build.specs.Plan.{codes_of, plan_of};
 ghost use Rattle.tb_build.specs.TableView.{rows_at, IsParted, IsTableOf};
 
-use crate::building::planned_tables;
-use crate::flat::FlatTable;
+use crate::building::{planned_lent_tables, planned_tables};
+use crate::flat::{FlatTable, KeyNumbers, LentNumbers};
+use crate::hashing::KeyHashers;
 use crate::keys::{JoinKey, KeyCode, partition_of};
+use crate::lent::{JoinList, KeyList};
 use std::alloc::Global;
+use std::collections::HashMap;
 use std::marker::Model;
 use std::thread::Threads;
 use tb_pool::{Exec, Gate};
 use tb_value::{IdxSize, MAX_ROWS, OutOfMemory};
 
-/// The rows of each of the built keys, one table for each part of them. `build_tables` alone makes one.
+/// The rows of each of the built keys, one table for each part of them. `build_tables` and
+/// `build_list_tables` alone make one.
 #[derive(Drop)]
-pub struct Tables<K: KeyCode> {
-    parts: Vec<FlatTable<K>>,
+pub struct Tables<K: KeyCode, N: KeyNumbers<K> = HashMap<K, u32, KeyHashers>> {
+    parts: Vec<FlatTable<K, N>>,
     built_len: usize,
     join_nulls: bool,
     left_built: bool,
 }
 
-impl<K: KeyCode> Model for Tables<K> {
+impl<K: KeyCode, N: KeyNumbers<K>> Model for Tables<K, N> {
     ghost use Rattle.tb_build.specs.TableView.{TableView, IsSmall, tables_view};
 
     ghost Value = { TableView K };
@@ -32,7 +36,7 @@ impl<K: KeyCode> Model for Tables<K> {
     ghost invariant = { λ t. IsSmall K.eq K.code (tables_view t.parts.items t.built_len t.join_nulls t.left_built) };
 }
 
-impl<K: KeyCode> Tables<K> {
+impl<K: KeyCode, N: KeyNumbers<K>> Tables<K, N> {
     /// The rows of the equal keys, ascending. Of no key, the rows without one where absent keys match, else none.
     pub fn rows(&self, key: Option<K>) -> &[IdxSize]
         ensures value { result.now ≡ rows_at K.eq K.code self.now key }
@@ -46,6 +50,15 @@ impl<K: KeyCode> Tables<K> {
             None if self.join_nulls => self.parts[0].bare_rows(),
             None => &[],
         }
+    }
+
+    /// The rows of the keys that are equal to that of a row in a list, as `rows` gives them.
+    pub fn rows_of<L: KeyList<K>>(&self, list: &L, row: usize) -> &[IdxSize]
+        requires { row < length (L.list list.now) }
+        ensures value { result.now ≡ rows_at K.eq K.code self.now (slice_index_or (L.list list.now) row None) }
+        ensures below { All (λ row. row < self.now.built_len) result.now }
+    {
+        self.rows(list.key(row))
     }
 
     /// The number of the built keys, absent ones too.
@@ -77,7 +90,7 @@ fn part_in<K: KeyCode>(key: K, parts: u32) -> u32
     partition_of(key.code(), parts)
 }
 
-/// How tables were built. `build_tables` alone makes one.
+/// How tables were built. `build_tables` and `build_list_tables` alone make one.
 #[derive(Drop)]
 pub struct Built {
     parts: u32,
@@ -143,6 +156,39 @@ pub fn build_tables<K: JoinKey, G: Gate>(
     let tables = Tables {
         parts,
         built_len: keys.len(),
+        join_nulls,
+        left_built,
+    };
+    Ok((tables, built))
+}
+
+/// The tables of the keys of a list, which lends them as long as the tables last, and how they were built, as
+/// `build_tables` says.
+pub fn build_list_tables<'a, K: JoinKey, L: JoinList<K>, G: Gate>(
+    rt: &(impl Threads + Sync),
+    alloc: Global,
+    list: &'a L,
+    join_nulls: bool,
+    left_built: bool,
+    exec: &Exec,
+    gate: &G,
+) -> Result<(Tables<K, LentNumbers<'a, K, L>>, Built), OutOfMemory>
+    requires { length (L.list list.now) ≤ MAX_ROWS }
+    ensures table { IfOk result (λ r. IsTableOf K.eq K.code (L.list list.now) r.0) }
+    ensures parted { IfOk result (λ r. IsParted K.eq K.code (L.list list.now) r.1.parts r.0) }
+    ensures nulls { IfOk result (λ r. r.0.join_nulls ≡ join_nulls) }
+    ensures side { IfOk result (λ r. r.0.left_built ≡ left_built) }
+    ensures built { IfOk result (λ r. r.1 ≡ plan_of exec.now left_built (codes_of K.code (L.list list.now))) }
+{
+    let (parts, sizes) = planned_lent_tables(rt, alloc, list, exec, gate)?;
+    let built = Built {
+        parts: parts.len() as u32,
+        sizes,
+        left_built,
+    };
+    let tables = Tables {
+        parts,
+        built_len: list.len(),
         join_nulls,
         left_built,
     };
