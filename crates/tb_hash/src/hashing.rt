@@ -13,12 +13,12 @@ ghost use Rattle.tb_hash.specs.Listings.{key_listing, probe_listing};
 ghost use Rattle.tb_hash.specs.Probing.{AllowsSide, IsProbed, probed_order, too_many};
 ghost use Rattle.tb_hash.specs.Twins.{value_causes};
 
-use crate::probing::{Probed, probe};
+use crate::probing::{Probed, probe, probe_list};
 use crate::typed::{KeyCell, joined_bytes, joined_texts, keys_of_cells};
 use crate::validation::check_keys;
 use std::alloc::Global;
 use std::thread::Threads;
-use tb_build::{Built, JoinKey, build_tables};
+use tb_build::{Built, JoinKey, JoinList, SliceKeys, build_list_tables, build_tables};
 use tb_frame::{Direction, JoinType, JoinValidation};
 use tb_pool::{Exec, Gate};
 use tb_store::{BinaryChunk, Cells, Chunks, Series, StringChunk};
@@ -122,33 +122,83 @@ fn pairs_of_keys<K: JoinKey, G: Gate>(
     check_keys(
         join.alloc,
         join.how,
-        left,
-        right,
+        &SliceKeys { keys: left },
+        &SliceKeys { keys: right },
         join.validate,
         join.join_nulls,
     )?;
     built_pairs(rt, gate, join, left, right)
 }
 
-/// The pairs of a join by two lists of keys, in the order of the probed rows, and what was built, as `hash_pairs` says.
+// Builds one side of lent keys, and probes it with the other.
+fn build_and_probe_lists<K: JoinKey, L: JoinList<K>, G: Gate>(
+    rt: &(impl Threads + Sync),
+    gate: &G,
+    join: &KeyJoin<'_>,
+    left_built: bool,
+    built: &L,
+    probed: &L,
+) -> PolarsResult<(Probed, Built)>
+    requires side { AllowsSide join.now.how left_built }
+    requires built { length (L.list built.now) ≤ MAX_ROWS }
+    requires probed { length (L.list probed.now) ≤ MAX_ROWS }
+    ensures settles { Settles result (too_many (length (probe_listing K.eq join.now.join_nulls join.now.how left_built (L.list built.now) (L.list probed.now)))) }
+    ensures listed { IfOk result (λ r. IsProbed join.now.how left_built (probe_listing K.eq join.now.join_nulls join.now.how left_built (L.list built.now) (L.list probed.now)) r.0) }
+    ensures built { IfOk result (λ r. r.1 ≡ plan_of join.now.exec.now left_built (codes_of K.code (L.list built.now))) }
+{
+    let KeyJoin {
+        alloc,
+        how,
+        join_nulls,
+        exec,
+        ..
+    } = *join;
+    let (tables, plan) = build_list_tables(rt, alloc, built, join_nulls, left_built, exec, gate)?;
+    let pairs = probe_list(rt, alloc, how, &tables, probed, exec, gate)?;
+    Ok((pairs, plan))
+}
+
+// The pairs of two lists of lent keys, whatever is asked of their sides.
+fn built_list_pairs<K: JoinKey, L: JoinList<K>, G: Gate>(
+    rt: &(impl Threads + Sync),
+    gate: &G,
+    join: &KeyJoin<'_>,
+    left: &L,
+    right: &L,
+) -> PolarsResult<(Probed, Built)>
+    requires left { length (L.list left.now) ≤ MAX_ROWS }
+    requires right { length (L.list right.now) ≤ MAX_ROWS }
+    ensures { IsHashed join.now.how (length (L.list left.now)) (length (L.list right.now)) (key_plan K.code join.now.exec.now join.now.how (L.list left.now) (L.list right.now))
+        (key_listing K.eq join.now.join_nulls join.now.how (L.list left.now) (L.list right.now))
+        (too_many (length (key_listing K.eq join.now.join_nulls join.now.how (L.list left.now) (L.list right.now)))) result }
+{
+    if builds_left(join.how, left.len(), right.len()) {
+        build_and_probe_lists(rt, gate, join, true, left, right)
+    } else {
+        build_and_probe_lists(rt, gate, join, false, right, left)
+    }
+}
+
+/// The pairs of a join by two lists of keys, which lend them, in the order of the probed rows, and what was built, as
+/// `hash_pairs` says.
 ///
 /// # Errors
 ///
 /// As of `hash_pairs`.
-pub fn hash_keys<K: JoinKey, G: Gate>(
+pub fn hash_keys<K: JoinKey, L: JoinList<K>, G: Gate>(
     rt: &(impl Threads + Sync),
     alloc: Global,
     how: JoinType,
-    left: &[Option<K>],
-    right: &[Option<K>],
+    left: &L,
+    right: &L,
     validate: JoinValidation,
     join_nulls: bool,
     exec: &Exec,
     gate: &G,
 ) -> PolarsResult<(Probed, Built)>
-    requires left { length left.now ≤ MAX_ROWS }
-    requires right { length right.now ≤ MAX_ROWS }
-    ensures { AreKeysHashed K.eq K.code exec.now validate join_nulls how left.now right.now result }
+    requires left { length (L.list left.now) ≤ MAX_ROWS }
+    requires right { length (L.list right.now) ≤ MAX_ROWS }
+    ensures { AreKeysHashed K.eq K.code exec.now validate join_nulls how (L.list left.now) (L.list right.now) result }
 {
     let join = KeyJoin {
         alloc,
@@ -157,7 +207,8 @@ pub fn hash_keys<K: JoinKey, G: Gate>(
         join_nulls,
         exec,
     };
-    pairs_of_keys(rt, gate, &join, left, right)
+    check_keys(alloc, how, left, right, validate, join_nulls)?;
+    built_list_pairs(rt, gate, &join, left, right)
 }
 
 // The pairs of the cells of two sides, which store values of a type with these codes.

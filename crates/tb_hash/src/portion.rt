@@ -1,5 +1,5 @@
 //! Portions of the probed rows, each a part of the run.
-ghost use Rattle.std.specs.Prelude.{◌≡◌, ◌+◌, ◌<◌, ◌≤◌, ◌++◌, [], length, All, IfOk, List};
+ghost use Rattle.std.specs.Prelude.{◌≡◌, ◌+◌, ◌<◌, ◌≤◌, ◌++◌, [], None, length, slice_index_or, All, IfOk, List};
 ghost use Rattle.std.specs.List.{flat_map, range_with_len};
 ghost use Rattle.tb_value.specs.Refusals.{Settles};
 ghost use Rattle.tb_value.specs.declared.index.JoinPair.{JoinPair};
@@ -10,7 +10,7 @@ ghost use Rattle.tb_hash.specs.Probing.{listed_rows, probed_rows, too_many};
 
 use crate::pushing::push_listed;
 use std::alloc::Global;
-use tb_build::{JoinKey, KeyCode, Tables};
+use tb_build::{JoinKey, JoinList, JoinNumbers, KeyCode, KeyList, KeyNumbers, Tables};
 use tb_frame::JoinType;
 use tb_pool::Parts;
 use tb_value::{ComputeCause, IdxSize, JoinPair, MAX_ROWS, OutOfMemory, PolarsError, PolarsResult};
@@ -22,13 +22,18 @@ pub(crate) enum Portion {
     TooMany,
 }
 
-// The rows of a key, each of which has a number.
-fn rows_of<K: KeyCode>(tables: &Tables<K>, key: Option<K>) -> &[IdxSize]
-    ensures value { result.now ≡ rows_at K.eq K.code tables.now key }
+// The rows of the key of a probed row, each of which has a number.
+fn rows_of<'a, K: KeyCode, N: KeyNumbers<K>, L: KeyList<K>>(
+    tables: &'a Tables<K, N>,
+    probed: &L,
+    row: usize,
+) -> &'a [IdxSize]
+    requires { row < length (L.list probed.now) }
+    ensures value { result.now ≡ rows_at K.eq K.code tables.now (slice_index_or (L.list probed.now) row None) }
     ensures small { All (λ row. row < u32.MAX) result.now }
 {
     let _small = tables.built_len();
-    tables.rows(key)
+    tables.rows_of(probed, row)
 }
 
 // An empty list, with room for a pair of each row where each has one.
@@ -42,24 +47,24 @@ fn list_for(alloc: Global, how: JoinType, rows: usize) -> Result<Vec<JoinPair>, 
 }
 
 // The pairs of so many probed rows from an offset on, in their order.
-fn list_rows<K: KeyCode>(
+fn list_rows<K: KeyCode, N: KeyNumbers<K>, L: KeyList<K>>(
     alloc: Global,
     how: JoinType,
-    tables: &Tables<K>,
-    probed: &[Option<K>],
+    tables: &Tables<K, N>,
+    probed: &L,
     offset: usize,
     len: usize,
 ) -> PolarsResult<Vec<JoinPair>>
-    requires small { length probed.now ≤ MAX_ROWS }
-    requires within { offset + len ≤ length probed.now }
+    requires small { length (L.list probed.now) ≤ MAX_ROWS }
+    requires within { offset + len ≤ length (L.list probed.now) }
     ensures settles { Settles result (too_many
-        (length (listed_rows (probed_rows K.eq K.code tables.now probed.now) how tables.now.left_built (range_with_len offset len)))) }
-    ensures pairs { IfOk result (λ v. v.items ≡ listed_rows (probed_rows K.eq K.code tables.now probed.now) how tables.now.left_built (range_with_len offset len)) }
+        (length (listed_rows (probed_rows K.eq K.code tables.now (L.list probed.now)) how tables.now.left_built (range_with_len offset len)))) }
+    ensures pairs { IfOk result (λ v. v.items ≡ listed_rows (probed_rows K.eq K.code tables.now (L.list probed.now)) how tables.now.left_built (range_with_len offset len)) }
 {
     let left_built = tables.left_built();
     let mut pairs = list_for(alloc, how, len)?;
     for row in offset..offset + len {
-        let rows = rows_of(tables, probed[row]);
+        let rows = rows_of(tables, probed, row);
         push_listed(&mut pairs, how, left_built, row as IdxSize, rows)?;
     }
     Ok(pairs)
@@ -78,17 +83,17 @@ fn portion_of(listed: PolarsResult<Vec<JoinPair>>) -> Result<Portion, OutOfMemor
 
 /// The probed rows in portions, each an offset and a length, and what they are probed with.
 #[derive(Drop)]
-pub(crate) struct ProbedPortions<'a, K: KeyCode> {
+pub(crate) struct ProbedPortions<'a, K: KeyCode, N: KeyNumbers<K>, L: KeyList<K>> {
     pub alloc: Global,
     pub how: JoinType,
-    pub tables: &'a Tables<K>,
-    pub probed: &'a [Option<K>],
+    pub tables: &'a Tables<K, N>,
+    pub probed: &'a L,
     pub cuts: &'a [(usize, usize)],
-    ghost small: { length probed.now ≤ MAX_ROWS },
-    ghost within: { All (λ p. p.0 + p.1 ≤ length probed.now) cuts.now },
+    ghost small: { length (L.list probed.now) ≤ MAX_ROWS },
+    ghost within: { All (λ p. p.0 + p.1 ≤ length (L.list probed.now)) cuts.now },
 }
 
-impl<K: JoinKey> Parts for ProbedPortions<'_, K> {
+impl<K: JoinKey, N: JoinNumbers<K>, L: JoinList<K>> Parts for ProbedPortions<'_, K, N, L> {
     ghost use Rattle.std.specs.Prelude.{◌<◌, length, slice_index_or};
     ghost use Rattle.tb_pool.specs.Portions.{places_of};
     ghost use Rattle.tb_hash.specs.Portions.{IsPortion};
@@ -98,7 +103,7 @@ impl<K: JoinKey> Parts for ProbedPortions<'_, K> {
 
     ghost may_run = { λ w part. part < length w.cuts.now };
 
-    ghost gives = { λ w part out. IsPortion (listed_rows (probed_rows K.eq K.code w.tables.now w.probed.now) w.how w.tables.now.left_built
+    ghost gives = { λ w part out. IsPortion (listed_rows (probed_rows K.eq K.code w.tables.now (L.list w.probed.now)) w.how w.tables.now.left_built
         (places_of (slice_index_or w.cuts.now part (0, 0)))) out };
 
     fn run(&self, part: u32) -> Result<Portion, OutOfMemory> {

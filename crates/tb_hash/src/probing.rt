@@ -13,7 +13,7 @@ use crate::unmet::with_lone_rows;
 use std::alloc::Global;
 use std::marker::Model;
 use std::thread::Threads;
-use tb_build::{JoinKey, Tables, part_count, run_phase};
+use tb_build::{JoinKey, JoinList, JoinNumbers, SliceKeys, Tables, part_count, run_phase};
 use tb_frame::JoinType;
 use tb_pool::{Exec, Gate, portions};
 use tb_value::{JoinPair, MAX_ROWS, OutOfMemory, PolarsResult};
@@ -29,19 +29,19 @@ fn cut_rows(alloc: Global, rows: usize, n: u32) -> Result<Vec<(usize, usize)>, O
 }
 
 // The pairs of all probed rows, in their order, portion by portion.
-fn list_probed<K: JoinKey, G: Gate>(
+fn list_probed<K: JoinKey, N: JoinNumbers<K>, L: JoinList<K>, G: Gate>(
     rt: &(impl Threads + Sync),
     alloc: Global,
     how: JoinType,
-    tables: &Tables<K>,
-    probed: &[Option<K>],
+    tables: &Tables<K, N>,
+    probed: &L,
     exec: &Exec,
     gate: &G,
 ) -> PolarsResult<Vec<JoinPair>>
-    requires { length probed.now ≤ MAX_ROWS }
+    requires { length (L.list probed.now) ≤ MAX_ROWS }
     ensures settles { Settles result (too_many
-        (length (listed_rows (probed_rows K.eq K.code tables.now probed.now) how tables.now.left_built (row_numbers (length probed.now))))) }
-    ensures pairs { IfOk result (λ v. v.items ≡ listed_rows (probed_rows K.eq K.code tables.now probed.now) how tables.now.left_built (row_numbers (length probed.now))) }
+        (length (listed_rows (probed_rows K.eq K.code tables.now (L.list probed.now)) how tables.now.left_built (row_numbers (length (L.list probed.now)))))) }
+    ensures pairs { IfOk result (λ v. v.items ≡ listed_rows (probed_rows K.eq K.code tables.now (L.list probed.now)) how tables.now.left_built (row_numbers (length (L.list probed.now)))) }
 {
     let n = part_count(exec, tables.built_len());
     let cuts = cut_rows(alloc, probed.len(), n)?;
@@ -57,20 +57,20 @@ fn list_probed<K: JoinKey, G: Gate>(
 }
 
 // The pairs that a join of this kind lists.
-fn list_joined<K: JoinKey, G: Gate>(
+fn list_joined<K: JoinKey, N: JoinNumbers<K>, L: JoinList<K>, G: Gate>(
     rt: &(impl Threads + Sync),
     alloc: Global,
     how: JoinType,
-    tables: &Tables<K>,
-    probed: &[Option<K>],
+    tables: &Tables<K, N>,
+    probed: &L,
     exec: &Exec,
     gate: &G,
 ) -> PolarsResult<Vec<JoinPair>>
-    requires { length probed.now ≤ MAX_ROWS }
+    requires { length (L.list probed.now) ≤ MAX_ROWS }
     ensures settles { Settles result (too_many
-        (length (joined_pairs (probed_rows K.eq K.code tables.now probed.now) how tables.now.left_built (length probed.now) tables.now.built_len))) }
+        (length (joined_pairs (probed_rows K.eq K.code tables.now (L.list probed.now)) how tables.now.left_built (length (L.list probed.now)) tables.now.built_len))) }
     ensures pairs { IfOk result (λ v. v.items
-        ≡ joined_pairs (probed_rows K.eq K.code tables.now probed.now) how tables.now.left_built (length probed.now) tables.now.built_len) }
+        ≡ joined_pairs (probed_rows K.eq K.code tables.now (L.list probed.now)) how tables.now.left_built (length (L.list probed.now)) tables.now.built_len) }
 {
     let left_built = tables.left_built();
     let len = tables.built_len();
@@ -120,6 +120,27 @@ impl Probed {
     }
 }
 
+/// The listing of the keys that the tables were built from and of the probed ones, which a list lends, as `probe` says.
+pub(crate) fn probe_list<K: JoinKey, N: JoinNumbers<K>, L: JoinList<K>, G: Gate>(
+    rt: &(impl Threads + Sync),
+    alloc: Global,
+    how: JoinType,
+    tables: &Tables<K, N>,
+    probed: &L,
+    exec: &Exec,
+    gate: &G,
+) -> PolarsResult<Probed>
+    requires side { AllowsSide how tables.now.left_built }
+    requires small { length (L.list probed.now) ≤ MAX_ROWS }
+    ensures settles { (built : List (Option K)) → IsTableOf K.eq K.code built tables.now
+        → Settles result (too_many (length (probe_listing K.eq tables.now.join_nulls how tables.now.left_built built (L.list probed.now)))) }
+    ensures listed { (built : List (Option K)) → IsTableOf K.eq K.code built tables.now
+        → IfOk result (IsProbed how tables.now.left_built (probe_listing K.eq tables.now.join_nulls how tables.now.left_built built (L.list probed.now))) }
+{
+    let pairs = list_joined(rt, alloc, how, tables, probed, exec, gate)?;
+    Ok(Probed { pairs })
+}
+
 /// The listing of the keys that the tables were built from and of the probed keys, by probed row and then built row;
 /// of a Full join in any order. Refuses more than `MAX_ROWS` pairs (TooManyRows).
 pub fn probe<K: JoinKey, G: Gate>(
@@ -138,6 +159,6 @@ pub fn probe<K: JoinKey, G: Gate>(
     ensures listed { (built : List (Option K)) → IsTableOf K.eq K.code built tables.now
         → IfOk result (IsProbed how tables.now.left_built (probe_listing K.eq tables.now.join_nulls how tables.now.left_built built probed.now)) }
 {
-    let pairs = list_joined(rt, alloc, how, tables, probed, exec, gate)?;
-    Ok(Probed { pairs })
+    let probed = SliceKeys { keys: probed };
+    probe_list(rt, alloc, how, tables, &probed, exec, gate)
 }
