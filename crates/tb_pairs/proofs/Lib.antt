@@ -9,3 +9,4 @@ pub mod InOrder
 pub mod LeftJoins
 pub mod Merged
 pub mod Traces
+pub mod LentKeys

@@ -21,13 +21,13 @@ use crate::trace::{FoundPairs, JoinTrace};
 use std::alloc::Global;
 use std::thread::Threads;
 use tb_frame::{JoinType, JoinValidation};
-use tb_hash::{Built, KeyBytes, Probed, hash_keys, hash_pairs, probed_order};
+use tb_hash::{Built, KeyBytes, KeyList, Probed, hash_keys, hash_pairs, probed_order};
 use tb_keys::LentRequest;
 use tb_pool::{Exec, Gate};
 use tb_rowkey::{RowKeys, know_columns};
 use tb_sorted::SortedPairs;
 use tb_store::Series;
-use tb_value::{MAX_ROWS, OutOfMemory, PolarsResult};
+use tb_value::PolarsResult;
 
 // The pairs that a hash table gave, with the order in which they stand and what was built.
 fn found_by_hash(how: JoinType, probed: Probed, built: Built) -> FoundPairs
@@ -76,17 +76,24 @@ fn as_key(key: Option<&[u8]>) -> Option<KeyBytes<'_>>
     }
 }
 
-// The keys of the rows, lent.
-fn lent_keys(alloc: Global, keys: &RowKeys) -> Result<Vec<Option<KeyBytes<'_>>>, OutOfMemory>
-    ensures keys { IfOk result (λ v. map (or_null (λ k. binary k.bytes.now)) v.items ≡ map (or_null binary) keys.now) }
-    ensures few { IfOk result (λ v. length v.items ≤ MAX_ROWS) }
-{
-    let rows = keys.len();
-    let mut lent = Vec::with_capacity(alloc, rows)?;
-    for row in 0..rows {
-        lent.push(as_key(keys.get(row)))?;
+// The keys of rows, each lent when it is asked for.
+#[derive(Clone, Copy)]
+struct LentRowKeys<'a> {
+    keys: &'a RowKeys,
+}
+
+impl<'a> KeyList<KeyBytes<'a>> for LentRowKeys<'a> {
+    ghost use Rattle.tb_pairs.specs.LentKeys.{lent_list};
+
+    ghost list = { λ l. lent_list l.keys.now };
+
+    fn len(&self) -> usize {
+        self.keys.len()
     }
-    Ok(lent)
+
+    fn key(&self, row: usize) -> Option<KeyBytes<'a>> {
+        as_key(self.keys.get(row))
+    }
 }
 
 // What the keys of two sides give, of which absent ones never match.
@@ -102,8 +109,9 @@ fn joined_row_keys<G: Gate>(
 ) -> PolarsResult<(Probed, Built)>
     ensures { AreValuesHashed exec.now validate false how kind.binary (map (or_null binary) left.now) (map (or_null binary) right.now) result }
 {
-    let left = lent_keys(alloc, left)?;
-    let right = lent_keys(alloc, right)?;
+    let _rows = (left.len(), right.len());
+    let left = LentRowKeys { keys: left };
+    let right = LentRowKeys { keys: right };
     hash_keys(rt, alloc, how, &left, &right, validate, false, exec, gate)
 }
 

@@ -1,14 +1,21 @@
-use Rattle.std.proofs.Common.{◌∙◌, map, ap, refl, false}
+use Rattle.std.proofs.Common.{length, map, refl, false, arith}
+use Rattle.std.proofs.lemmas.List.{length-map}
 use Rattle.tb_value.specs.Datum.{binary}
 use Rattle.tb_value.specs.Kind as kind
 use Rattle.tb_build.specs.Codes.{fnv1a}
 use Rattle.tb_hash.specs.KeyCells.{same_bytes}
-use Rattle.tb_chunk.specs.Chunk.{or_null}
 use Rattle.tb_hash.proofs.Hashed.{hashed-values}
+use Rattle.tb_pairs.specs.LentKeys.{lent_key, lent_list}
+use Rattle.tb_pairs.proofs.LentKeys.{lent_values}
 use Rattle.tb_pairs.proofs.hashed.joined_row_keys.Goals as goal
+
+pub hash_keys-requires-clause-left : goal.hash_keys-requires-clause-left
+hash_keys-requires-clause-left g c κs within = omega (arith, length-map c.args.left.now lent_key, c.len.ensures.exact, c.len.ensures.few)
+
+pub hash_keys-requires-clause-right : goal.hash_keys-requires-clause-right
+hash_keys-requires-clause-right g c κs within = omega (arith, length-map c.args.right.now lent_key, c.len-2.ensures.exact, c.len-2.ensures.few)
 
 pub returns : goal.returns
 returns g c =
-    let f = or_null (λ k. binary k.bytes.now) in
-    hashed-values (λ k. binary k.bytes.now) _ (λ x. refl) (λ x y. same_bytes x.bytes.now y.bytes.now) false c.deref.result.now c.deref-2.result.now _ _ (ap (map f) c.deref.ensures.value ∙ c.in_ok-left.ensures.keys) (ap (map f) c.deref-2.ensures.value ∙ c.in_ok-right.ensures.keys)
+    hashed-values (λ k. binary k.bytes.now) _ (λ x. refl) (λ x y. same_bytes x.bytes.now y.bytes.now) false (lent_list c.args.left.now) (lent_list c.args.right.now) _ _ (lent_values c.args.left.now) (lent_values c.args.right.now)
     (λ k. fnv1a k.bytes.now) kind.binary (λ x. refl) c.args.exec.now c.args.validate c.args.how c.hash_keys.result c.hash_keys.ensures
