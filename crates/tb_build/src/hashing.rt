@@ -2,7 +2,7 @@
 ghost use Rattle.std.specs.Prelude.{◌≡◌};
 
 use crate::keys::{KeyCode, code_of};
-use crate::lent::KeyList;
+use crate::lent::{KeyList, SliceKeys};
 use std::hash::{BuildHasher, FoldHasher, Hasher};
 
 // How many keys the state is drawn from.
@@ -56,18 +56,12 @@ impl BuildHasher for KeyHashers {
 }
 
 impl KeyHashers {
-    /// Hashers for these keys: their state is drawn from the number of keys and the codes of some of them.
+    /// Hashers for these keys, as `of_list` makes them.
     pub fn of_keys<K: KeyCode>(keys: &[Option<K>]) -> KeyHashers {
-        let mut first = KeyHasher {
-            inner: FoldHasher::default(),
-        };
-        first.write_u64(keys.len() as u64);
-        for key in keys.iter().step_by(keys.len() / SAMPLED + 1) {
-            first.write_u64(code_of(*key));
-        }
-        KeyHashers { first }
+        KeyHashers::of_list(&SliceKeys { keys })
     }
-    /// Hashers for the keys of this list, as `of_keys` makes them.
+
+    /// Hashers for the keys of this list: their state is drawn from the number of keys and the codes of some of them.
     pub fn of_list<K: KeyCode, L: KeyList<K>>(list: &L) -> KeyHashers {
         let mut first = KeyHasher {
             inner: FoldHasher::default(),
