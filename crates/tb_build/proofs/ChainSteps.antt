@@ -7,9 +7,9 @@ use Rattle.std.proofs.Math.Seq.{get_or-append_seam}
 use Rattle.tb_build.specs.Codes.{code_or_none, part_of}
 use Rattle.tb_build.specs.Keys.{keys_match}
 use Rattle.tb_build.specs.Flat.{AreNumbers}
-use Rattle.tb_build.specs.Chains.{with_number, numbered_key, entries_to, chain_entries, AreLinked, AreChains, number_due, many_after, AreMore}
+use Rattle.tb_build.specs.Chains.{with_number, numbered_key, entries_to, chain_entries, AreLinked, AreChains, number_due, many_after, many_due, firsts_after, firsts_due, AreMore}
 use Rattle.tb_build.proofs.Places.{tells}
-use Rattle.tb_build.proofs.Numbers.{numbers-bare, numbers-old, numbers-new}
+use Rattle.tb_build.proofs.NumberSteps.{numbers-bare, numbers-old, numbers-new}
 
 -- ENTRIES
 
@@ -331,6 +331,24 @@ module _ {K : Type 0} (eq : K → K → Bool) (laws : IsEquivalence eq) where
       by None h = numbers-new eq laws keys i f numbers many n z here g d more step h (v ∙ ap (λ o. unwrap_or o many) h) (a.0 ∙ ap (λ o. many_after eq o many) h)
       by (Some x) h = numbers-old eq laws keys i f numbers many n z here g d more step (h ∙ ap Some (sym (v ∙ ap (λ o. unwrap_or o many) h))) (a.0 ∙ ap (λ o. many_after eq o many) h)
 
+  -- a number that is the next one is new
+  pub many-then : (keys : List (Option K)) (i : ℕ) (f : K → Option ℕ) (numbers : List ℕ) (many : ℕ) → AreNumbers eq keys i f numbers many → (o : Option K) (d : ℕ) → d ≡ number_due eq o f many → d ≡ many → many_due eq o f many ≡ many + 1
+  many-then keys i f numbers many n None d v e = absurd (omega (arith, v, e, n.some))
+  many-then keys i f numbers many n (Some z) d v e = by (f z) refl
+    where
+      by : (o : Option ℕ) → f z ≡ o → many_due eq (Some z) f many ≡ many + 1
+      by None h = ap (λ o. many_after eq o many) h
+      by (Some x) h = let w = (n.known z x h).1 in let u : d ≡ x = v ∙ ap (λ o. unwrap_or o many) h in absurd (omega (arith, w, u, e))
+
+  -- and another is not
+  pub many-else : (f : K → Option ℕ) (many : ℕ) (o : Option K) (d : ℕ) → d ≡ number_due eq o f many → d ≢ many → many_due eq o f many ≡ many
+  many-else f many None d v e = refl
+  many-else f many (Some z) d v e = by (f z) refl
+    where
+      by : (o : Option ℕ) → f z ≡ o → many_due eq (Some z) f many ≡ many
+      by None h = absurd (e (v ∙ ap (λ o. unwrap_or o many) h))
+      by (Some x) h = ap (λ o. many_after eq o many) h
+
   module _ (es : List (K × ℕ)) where
     abbrev number : K → Option ℕ
     number k = lookup (eq k) es
@@ -344,6 +362,18 @@ module _ {K : Type 0} (eq : K → K → Bool) (laws : IsEquivalence eq) where
     due-alike None (Some y) many h = absurd (true≢false (sym h))
     due-alike (Some x) None many h = absurd (true≢false (sym h))
     due-alike (Some x) (Some y) many h = ap (λ o. unwrap_or o many) (same-number x y h)
+
+    pub many-alike : (lent listed : Option K) (many : ℕ) → keys_match eq true lent listed ≡ true → many_due eq lent number many ≡ many_due eq listed number many
+    many-alike None None many h = refl
+    many-alike None (Some y) many h = absurd (true≢false (sym h))
+    many-alike (Some x) None many h = absurd (true≢false (sym h))
+    many-alike (Some x) (Some y) many h = ap (λ o. many_after eq o many) (same-number x y h)
+
+    pub firsts-alike : (lent listed : Option K) (firsts : List ℕ) (row : ℕ) → keys_match eq true lent listed ≡ true → firsts_due lent number firsts row ≡ firsts_due listed number firsts row
+    firsts-alike None None firsts row h = refl
+    firsts-alike None (Some y) firsts row h = absurd (true≢false (sym h))
+    firsts-alike (Some x) None firsts row h = absurd (true≢false (sym h))
+    firsts-alike (Some x) (Some y) firsts row h = ap (λ o. firsts_after o firsts row) (same-number x y h)
 
     pub more-alike : (lent listed : Option K) (many : ℕ) (g : K → Option ℕ) (more : ℕ) → keys_match eq true lent listed ≡ true → AreMore eq lent number many g more → AreMore eq listed number many g more
     more-alike None None many g more h a = a

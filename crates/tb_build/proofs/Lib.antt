@@ -8,7 +8,8 @@ pub mod Places
 pub mod GroupSteps
 pub mod GroupRows
 pub mod HashPieces
-pub mod Numbers
+pub mod NumberSteps
 pub mod FlatTables
 pub mod ChainSteps
-pub mod LentKeys
+pub mod Lending
+pub mod FirstRows

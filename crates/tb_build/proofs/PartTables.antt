@@ -1,4 +1,4 @@
--- The tables of scattered keys are those of the parts.
+-- The tables of scattered rows are those of the parts.
 use Rattle.std.proofs.Common.{◌≡◌, ℕ, ◌+◌, ◌-◌, ◌/◌, ◌^◌, ◌<◌, ◌≤◌, Bool, true, false, List, length, take, drop, get_or, refl, ap, sym, subst, ◌∙◌, arith, Option, Some, None}
 use Rattle.std.specs.Prelude.{map, filter, nat_eq, All}
 use Rattle.std.specs.List.{flat_map, take-map, drop-map}
@@ -17,21 +17,10 @@ use Rattle.tb_build.specs.Grouping.{between}
 use Rattle.tb_build.specs.KeyLists.{named_keys}
 use Rattle.tb_build.specs.Phases.{AreGiven}
 use Rattle.tb_build.specs.TableView.{no_rows, ArePartTables}
-use Rattle.tb_build.specs.declared.scattered.Scatter.{Scatter}
-use Rattle.tb_build.specs.Scattering.{keys_at, keys_of_part, rows_of_part, HasPart, HasRows, IsTableOfPart, IsTableOfRows}
+use Rattle.tb_build.specs.Scattering.{keys_at, HasRows, IsTableOfRows}
 use Rattle.tb_build.proofs.Lists.{map-agree_below, filter-agree_below, filter-implied, flat_map-more, flat_map-before, flat_map-piece, kept-by_place}
 use Rattle.tb_build.proofs.Parts.{code-at, codes-length}
 use Rattle.tb_build.proofs.PartPieces.{scattered-below}
-
--- a table of what lies between two starts
-pub table-between : {K : Type 0} (eq : K → K → Bool) (s : Scatter K) (p a b : ℕ) (rows : List ℕ) (keys : List (Option K)) (t : FlatView K)
-    → a ≡ get_or s.starts.items p 0 → b ≡ get_or s.starts.items (p + 1) 0 → rows ≡ s.idxs.items → keys ≡ s.keys.items
-    → IsFlatOf eq (λ j. get_or (take (b - a) (drop a rows)) j 0) (take (b - a) (drop a keys)) t → IsTableOfPart eq s p t
-table-between eq s p a b rows keys t ea eb er ek h =
-    subst (λ keys. IsFlatOf eq (λ j. get_or (rows_of_part s p) j 0) (between s.starts.items keys p) t) ek
-    (subst (λ rows. IsFlatOf eq (λ j. get_or (between s.starts.items rows p) j 0) (between s.starts.items keys p) t) er
-    (subst (λ b. IsFlatOf eq (λ j. get_or (take (b - get_or s.starts.items p 0) (drop (get_or s.starts.items p 0) rows)) j 0) (take (b - get_or s.starts.items p 0) (drop (get_or s.starts.items p 0) keys)) t) eb
-    (subst (λ a. IsFlatOf eq (λ j. get_or (take (b - a) (drop a rows)) j 0) (take (b - a) (drop a keys)) t) ea h)))
 
 module _ (codes : List ℕ) (n : ℕ) where
   -- each start is that of the part before it, and its size
@@ -89,53 +78,6 @@ module _ {K : Type 0} (eq : K → K → Bool) (code : K → ℕ) (keys : List (O
       (λ j l. ap (keys_match eq true key) (get_or-map (λ row. get_or keys row None) rows j 0 None l)))
       ∙ kept-by_place (λ j. keys_match eq true key (get_or keys j None)) rows
 
-  module _ (s : Scatter K) (starts : s.starts.items ≡ map (part_start codes n) (row_numbers (n + 1))) (idxs : s.idxs.items ≡ scattered_rows codes n) (scattered : s.keys.items ≡ keys_at keys (scattered_rows codes n)) where
-    rows-of : (p : ℕ) → p < n → rows_of_part s p ≡ part_rows codes n p
-    rows-of p l = between-rows codes n s.starts.items starts s.idxs.items p idxs l
-
-    keys-of : (p : ℕ) → p < n → keys_of_part s p ≡ keys_at keys (part_rows codes n p)
-    keys-of p l =
-        let read : ℕ → Option K = λ row. get_or keys row None in
-        let a = get_or s.starts.items p 0 in
-        let m = get_or s.starts.items (p + 1) 0 - a in
-        ap (λ ks. take m (drop a ks)) scattered ∙ ap (take m) (drop-map read a (scattered_rows codes n)) ∙ take-map read m (drop a (scattered_rows codes n))
-        ∙ ap (map read) (between-rows codes n s.starts.items starts (scattered_rows codes n) p refl l)
-
-    long : length s.keys.items ≡ length (scattered_rows codes n)
-    long = ap length scattered ∙ length-map (scattered_rows codes n) (λ row. get_or keys row None)
-
-    pub has-part : length keys ≤ 4294967294 → (p : ℕ) → p < n → HasPart s p
-    has-part small p l =
-        let here = start-at codes n s.starts.items starts p (omega arith) in
-        let next = start-at codes n s.starts.items starts (p + 1) (omega arith) in
-        let size = start-more codes n p in
-        record {
-          start = omega (arith, starts-length codes n s.starts.items starts);
-          order = omega (arith, here, next, size);
-          within = omega (arith, next, flat_map-before (part_rows codes n) n (p + 1) (omega arith), long);
-          rows = ap length idxs ∙ sym long;
-          few = omega (arith, here, next, size, length-filter (λ j. nat_eq p (part_of (get_or codes j 0) n)) (row_numbers (length codes)), count_by-le-length (λ j. nat_eq p (part_of (get_or codes j 0) n)) (row_numbers (length codes)), length-range_with_len 0 (length codes), codes-length code keys, small);
-        }
-
-    pub scattered-tables : 1 ≤ n → (parts : List (FlatView K)) → AreGiven (λ part t. IsTableOfPart eq s part t) n parts → ArePartTables eq code keys n parts
-    scattered-tables some parts given = record {
-      count = given.count;
-      entries = λ p k l. (given.each p no_rows l).entries k ∙ ap entry_unless_empty (ap (λ name. map name (rows_with eq true (keys_of_part s p) (Some k) (length (keys_of_part s p)))) (λ t j. get_or (rows-of p l t) j 0)
-          ∙ ap (λ ks. map (λ j. get_or (part_rows codes n p) j 0) (rows_with eq true ks (Some k) (length ks))) (keys-of p l)
-          ∙ named-rows (part_rows codes n p) (Some k)
-          ∙ ap (λ (q : ℕ → Bool). filter q (part_rows codes n p)) (λ t j. plain k (get_or keys j None) t));
-      bare = (given.each 0 no_rows some).bare ∙ ap (λ name. map name (rows_with eq true (keys_of_part s 0) None (length (keys_of_part s 0)))) (λ t j. get_or (rows-of 0 some t) j 0)
-          ∙ ap (λ ks. map (λ j. get_or (part_rows codes n 0) j 0) (rows_with eq true ks None (length ks))) (keys-of 0 some)
-          ∙ named-rows (part_rows codes n 0) None
-          ∙ bare-all;
-    }
-      where
-        plain : (k : K) (o : Option K) → keys_match eq true (Some k) o ≡ keys_match eq false (Some k) o
-        plain k None = refl
-        plain k (Some y) = refl
-
--- THE TABLES OF LENT KEYS
-
 module _ {K : Type 0} (eq : K → K → Bool) (code : K → ℕ) (keys : List (Option K)) (n : ℕ) (starts idxs : List ℕ) (are : starts ≡ map (part_start (codes_of code keys) n) (row_numbers (n + 1))) (scattered : idxs ≡ scattered_rows (codes_of code keys) n) where
   pub has-rows : length keys ≤ 4294967294 → (p : ℕ) → p < n → HasRows (length keys) starts idxs p
   has-rows small p l =
@@ -164,8 +106,8 @@ module _ {K : Type 0} (eq : K → K → Bool) (code : K → ℕ) (keys : List (O
       ∙ ap (λ ks. map (λ j. get_or rows j 0) (rows_with eq true ks key (length ks))) (named-at rows)
       ∙ named-rows eq code keys n rows key
 
-  pub lent-tables : 1 ≤ n → (parts : List (FlatView K)) → AreGiven (λ part t. IsTableOfRows eq keys (between starts idxs part) t) n parts → ArePartTables eq code keys n parts
-  lent-tables some parts given = record {
+  pub tables-of_parts : 1 ≤ n → (parts : List (FlatView K)) → AreGiven (λ part t. IsTableOfRows eq keys (between starts idxs part) t) n parts → ArePartTables eq code keys n parts
+  tables-of_parts some parts given = record {
     count = given.count;
     entries = λ p k l. (given.each p no_rows l).entries k ∙ ap entry_unless_empty (of-part p l (Some k) ∙ ap (λ (q : ℕ → Bool). filter q (part_rows (codes_of code keys) n p)) (λ t j. plain k (get_or keys j None) t));
     bare = (given.each 0 no_rows some).bare ∙ of-part 0 some None ∙ bare-all eq code keys n;

@@ -1,5 +1,5 @@
 -- Numbers of keys in chains: each bucket has the numbers of its keys, the latest first. Number 0 is none.
-use Rattle.std.specs.Prelude.{◌≡◌, ℕ, zero, suc, ◌+◌, ◌-◌, ◌<◌, ◌≤◌, ◌^◌, cond, Bool, true, List, [], ◌∷◌, length, slice_index_or, Option, Some, None, unwrap_or}
+use Rattle.std.specs.Prelude.{◌≡◌, ℕ, zero, suc, ◌+◌, ◌-◌, ◌<◌, ◌≤◌, ◌^◌, cond, Bool, true, List, [], ◌∷◌, ◌++◌, length, map, slice_index_or, Option, Some, None, unwrap_or}
 use Rattle.std.specs.List.{fold}
 use Rattle.std.specs.Map.{lookup}
 use Rattle.std.specs.Hash.FoldHasher.{finish}
@@ -12,6 +12,10 @@ use Rattle.tb_build.specs.declared.hashing.KeyHashers.{KeyHashers}
 -- what these hashers make of the writes of a key
 abbrev pub hash_by : KeyHashers → List (List ℕ) → ℕ
 hash_by hashers input = finish (fold (λ (h : KeyHasher) bytes. record { inner = after_bytes h.inner bytes }) hashers.first input).inner
+
+-- the first row of each number, by the rows of each
+abbrev pub first_rows : List (List ℕ) → List ℕ
+first_rows groups = map (λ rows. slice_index_or rows 0 0) groups
 
 module _ {K : Type 0} where
   -- one more entry, if there is a key
@@ -64,7 +68,22 @@ module _ {K : Type 0} (eq : K → K → Bool) where
   many_after None many = many + 1
   many_after (Some d) many = many
 
+  -- and once a row with this key, or without one, has a number
+  abbrev pub many_due : Option K → (K → Option ℕ) → ℕ → ℕ
+  many_due None number many = many
+  many_due (Some k) number many = many_after (number k) many
+
   -- the numbers once a key has one
   abbrev pub AreMore : Option K → (K → Option ℕ) → ℕ → (K → Option ℕ) → ℕ → Type 0
   AreMore None old many new more = (more ≡ many) × ((k : K) → new k ≡ old k)
   AreMore (Some z) old many new more = (more ≡ many_after (old z) many) × ((k : K) → new k ≡ cond (eq z k) (Some (unwrap_or (old z) many)) (old k))
+
+-- the first rows once a row has a number, which is new where there was none
+abbrev pub firsts_after : Option ℕ → List ℕ → ℕ → List ℕ
+firsts_after None firsts row = firsts ++ row ∷ []
+firsts_after (Some d) firsts row = firsts
+
+-- and without a key they stay
+abbrev pub firsts_due : {K : Type 0} → Option K → (K → Option ℕ) → List ℕ → ℕ → List ℕ
+firsts_due None number firsts row = firsts
+firsts_due (Some k) number firsts row = firsts_after (number k) firsts row

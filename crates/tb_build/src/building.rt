@@ -3,78 +3,94 @@ ghost use Rattle.std.specs.Prelude.{◌≡◌, ℕ, ◌+◌, ◌-◌, ◌<◌, �
 ghost use Rattle.tb_value.specs.Pairs.{row_numbers};
 ghost use Rattle.tb_build.specs.Plan.{codes_of, part_count, part_sizes};
 ghost use Rattle.tb_build.specs.Grouping.{between};
-ghost use Rattle.tb_build.specs.Scattering.{HasPart, HasRows, IsTableOfPart, IsTableOfRows};
+ghost use Rattle.tb_build.specs.Scattering.{HasRows, IsTableOfRows};
 ghost use Rattle.tb_build.specs.TableView.{ArePartTables};
 
-use crate::flat::{FlatTable, LentNumbers, flat_table, lent_table};
+use crate::flat::{FlatTable, flat_table};
 use crate::groups::RowNames;
 use crate::hashing::KeyHashers;
 use crate::keys::{JoinKey, KeyCode};
-use crate::lent::{JoinList, KeyList};
+use crate::numbers::NumberedList;
 use crate::phases::run_phase;
-use crate::scattered::Scatter;
-use crate::scattering::{scatter, scatter_rows};
+use crate::scattering::scatter_rows;
 use std::alloc::Global;
-use std::hash::Hash;
 use std::marker::PhantomData;
 use std::thread::Threads;
 use tb_pool::{Exec, Gate, Parts};
 use tb_value::{IdxSize, MAX_ROWS, OutOfMemory};
 
 // The one table of few keys, and its size.
-fn one_table<K: KeyCode>(
+fn one_table<K: KeyCode, L: NumberedList<K>>(
     alloc: Global,
-    keys: &[Option<K>],
-) -> Result<(Vec<FlatTable<K>>, Vec<usize>), OutOfMemory>
-    requires { length keys.now ≤ MAX_ROWS }
-    ensures tables { IfOk result (λ r. ArePartTables K.eq K.code keys.now 1 r.0.items) }
-    ensures sizes { IfOk result (λ r. r.1.items ≡ part_sizes (codes_of K.code keys.now) 1) }
+    list: &L,
+) -> Result<(Vec<FlatTable<K, L::Numbers>>, Vec<usize>), OutOfMemory>
+    requires { length (L.list list.now) ≤ MAX_ROWS }
+    ensures tables { IfOk result (λ r. ArePartTables K.eq K.code (L.list list.now) 1 r.0.items) }
+    ensures sizes { IfOk result (λ r. r.1.items ≡ part_sizes (codes_of K.code (L.list list.now)) 1) }
 {
-    let table = flat_table(alloc, keys, RowNames::From(0), KeyHashers::of_keys(keys))?;
+    let len = list.len();
+    let hashers = KeyHashers::of_list(list);
+    let table = flat_table(alloc, list, RowNames::From(0), len, hashers)?;
     let mut tables = Vec::new(alloc);
     tables.push(table)?;
     let mut sizes = Vec::new(alloc);
-    sizes.push(keys.len())?;
+    sizes.push(len)?;
     Ok((tables, sizes))
 }
 
-// The table of the keys of one part.
-fn part_table<K: Copy + Eq + Hash>(
+// The table of the keys of one part, by the rows of all parts.
+fn part_table<K: KeyCode, L: NumberedList<K>>(
     alloc: Global,
-    scatter: &Scatter<K>,
+    list: &L,
+    idxs: &[IdxSize],
+    starts: &[usize],
     part: u32,
     hashers: KeyHashers,
-) -> Result<FlatTable<K>, OutOfMemory>
-    requires { HasPart scatter.now part }
-    ensures { IfOk result (λ t. IsTableOfPart K.eq scatter.now part t) }
+) -> Result<FlatTable<K, L::Numbers>, OutOfMemory>
+    requires { HasRows (length (L.list list.now)) starts.now idxs.now part }
+    ensures { IfOk result (λ t. IsTableOfRows K.eq (L.list list.now) (between starts.now idxs.now part) t) }
 {
-    let start = scatter.starts[part as usize];
-    let end = scatter.starts[part as usize + 1];
-    let rows = &scatter.idxs[start..end];
-    let keys = &scatter.keys[start..end];
-    let table = flat_table(alloc, keys, RowNames::Listed(rows), hashers)?;
+    let start = starts[part as usize];
+    let end = starts[part as usize + 1];
+    let rows = &idxs[start..end];
+    let table = flat_table(alloc, list, RowNames::Listed(rows), rows.len(), hashers)?;
     Ok(table)
 }
 
-// Scattered keys, each part of which becomes a table.
+// Scattered rows, each part of which becomes a table.
 #[derive(Drop)]
-struct Building<'a, K: JoinKey> {
+struct Building<'a, K: JoinKey, L: NumberedList<K>> {
     alloc: Global,
-    scatter: &'a Scatter<K>,
+    list: &'a L,
+    idxs: &'a [IdxSize],
+    starts: &'a [usize],
     hashers: KeyHashers,
+    of: PhantomData<K>,
 }
 
-impl<K: JoinKey> Parts for Building<'_, K> {
-    ghost use Rattle.tb_build.specs.Scattering.{HasPart, IsTableOfPart};
+impl<K: JoinKey, L: NumberedList<K> + Send + Sync> Parts for Building<'_, K, L>
+where
+    L::Numbers: Send,
+{
+    ghost use Rattle.std.specs.Prelude.{length};
+    ghost use Rattle.tb_build.specs.Grouping.{between};
+    ghost use Rattle.tb_build.specs.Scattering.{HasRows, IsTableOfRows};
 
-    type Out = FlatTable<K>;
+    type Out = FlatTable<K, L::Numbers>;
 
-    ghost may_run = { λ w part. HasPart w.scatter.now part };
+    ghost may_run = { λ w part. HasRows (length (L.list w.list.now)) w.starts.now w.idxs.now part };
 
-    ghost gives = { λ w part out. IsTableOfPart K.eq w.scatter.now part out };
+    ghost gives = { λ w part out. IsTableOfRows K.eq (L.list w.list.now) (between w.starts.now w.idxs.now part) out };
 
-    fn run(&self, part: u32) -> Result<FlatTable<K>, OutOfMemory> {
-        part_table(self.alloc, self.scatter, part, self.hashers)
+    fn run(&self, part: u32) -> Result<FlatTable<K, L::Numbers>, OutOfMemory> {
+        part_table(
+            self.alloc,
+            self.list,
+            self.idxs,
+            self.starts,
+            part,
+            self.hashers,
+        )
     }
 }
 
@@ -92,141 +108,22 @@ fn sizes(alloc: Global, starts: &[usize]) -> Result<Vec<usize>, OutOfMemory>
     Ok(sizes)
 }
 
-/// The tables of all partitions, each built as a part of one phase, and their sizes.
-pub fn part_tables<K: JoinKey, G: Gate>(
-    rt: &(impl Threads + Sync),
-    alloc: Global,
-    keys: &[Option<K>],
-    exec: &Exec,
-    gate: &G,
-) -> Result<(Vec<FlatTable<K>>, Vec<usize>), OutOfMemory>
-    requires { length keys.now ≤ MAX_ROWS }
-    ensures tables { IfOk result (λ r. ArePartTables K.eq K.code keys.now exec.now.partitions r.0.items) }
-    ensures sizes { IfOk result (λ r. r.1.items ≡ part_sizes (codes_of K.code keys.now) exec.now.partitions) }
-{
-    let scattered = scatter(rt, alloc, keys, exec, gate)?;
-    let work = Building {
-        alloc,
-        scatter: &scattered,
-        hashers: KeyHashers::of_keys(keys),
-    };
-    let tables = run_phase(rt, alloc, exec, exec.partitions(), &work, gate)?;
-    let sizes = sizes(alloc, scattered.starts.as_slice())?;
-    Ok((tables, sizes))
-}
-
-/// The tables of as many parts as are planned, and their sizes. One part is built on the caller, of the keys as they
-/// stand.
-pub fn planned_tables<K: JoinKey, G: Gate>(
-    rt: &(impl Threads + Sync),
-    alloc: Global,
-    keys: &[Option<K>],
-    exec: &Exec,
-    gate: &G,
-) -> Result<(Vec<FlatTable<K>>, Vec<usize>), OutOfMemory>
-    requires { length keys.now ≤ MAX_ROWS }
-    ensures count { IfOk result (λ r. (1 ≤ length r.0.items) × (length r.0.items ≤ 1024)) }
-    ensures tables { IfOk result (λ r. ArePartTables K.eq K.code keys.now (part_count exec.now (length keys.now)) r.0.items) }
-    ensures sizes { IfOk result (λ r. r.1.items ≡ part_sizes (codes_of K.code keys.now) (part_count exec.now (length keys.now))) }
-{
-    if keys.len() < exec.small() as usize || exec.partitions() == 1 {
-        gate.enter(0);
-        return one_table(alloc, keys);
-    }
-    part_tables(rt, alloc, keys, exec, gate)
-}
-
-// The one table of few keys that a list lends, and its size.
-fn one_lent_table<'a, K: KeyCode, L: KeyList<K>>(
-    alloc: Global,
-    list: &'a L,
-) -> Result<(Vec<FlatTable<K, LentNumbers<'a, K, L>>>, Vec<usize>), OutOfMemory>
-    requires { length (L.list list.now) ≤ MAX_ROWS }
-    ensures tables { IfOk result (λ r. ArePartTables K.eq K.code (L.list list.now) 1 r.0.items) }
-    ensures sizes { IfOk result (λ r. r.1.items ≡ part_sizes (codes_of K.code (L.list list.now)) 1) }
-{
-    let len = list.len();
-    let table = lent_table(
-        alloc,
-        list,
-        RowNames::From(0),
-        len,
-        KeyHashers::of_list(list),
-    )?;
-    let mut tables = Vec::new(alloc);
-    tables.push(table)?;
-    let mut sizes = Vec::new(alloc);
-    sizes.push(len)?;
-    Ok((tables, sizes))
-}
-
-// The table of the keys of one part, by the rows of all parts.
-fn lent_part<'a, K: KeyCode, L: KeyList<K>>(
-    alloc: Global,
-    list: &'a L,
-    idxs: &[IdxSize],
-    starts: &[usize],
-    part: u32,
-    hashers: KeyHashers,
-) -> Result<FlatTable<K, LentNumbers<'a, K, L>>, OutOfMemory>
-    requires { HasRows (length (L.list list.now)) starts.now idxs.now part }
-    ensures { IfOk result (λ t. IsTableOfRows K.eq (L.list list.now) (between starts.now idxs.now part) t) }
-{
-    let start = starts[part as usize];
-    let end = starts[part as usize + 1];
-    let rows = &idxs[start..end];
-    let table = lent_table(alloc, list, RowNames::Listed(rows), rows.len(), hashers)?;
-    Ok(table)
-}
-
-// Scattered rows, each part of which becomes a table.
-#[derive(Drop)]
-struct LentBuilding<'a, 'b, K: JoinKey, L: JoinList<K>> {
-    alloc: Global,
-    list: &'a L,
-    idxs: &'b [IdxSize],
-    starts: &'b [usize],
-    hashers: KeyHashers,
-    of: PhantomData<K>,
-}
-
-impl<'a, K: JoinKey, L: JoinList<K>> Parts for LentBuilding<'a, '_, K, L> {
-    ghost use Rattle.std.specs.Prelude.{length};
-    ghost use Rattle.tb_build.specs.Grouping.{between};
-    ghost use Rattle.tb_build.specs.Scattering.{HasRows, IsTableOfRows};
-
-    type Out = FlatTable<K, LentNumbers<'a, K, L>>;
-
-    ghost may_run = { λ w part. HasRows (length (L.list w.list.now)) w.starts.now w.idxs.now part };
-
-    ghost gives = { λ w part out. IsTableOfRows K.eq (L.list w.list.now) (between w.starts.now w.idxs.now part) out };
-
-    fn run(&self, part: u32) -> Result<FlatTable<K, LentNumbers<'a, K, L>>, OutOfMemory> {
-        lent_part(
-            self.alloc,
-            self.list,
-            self.idxs,
-            self.starts,
-            part,
-            self.hashers,
-        )
-    }
-}
-
 // The tables of all partitions, each built as a part of one phase, and their sizes.
-fn lent_part_tables<'a, K: JoinKey, L: JoinList<K>, G: Gate>(
+fn part_tables<K: JoinKey, L: NumberedList<K> + Send + Sync, G: Gate>(
     rt: &(impl Threads + Sync),
     alloc: Global,
-    list: &'a L,
+    list: &L,
     exec: &Exec,
     gate: &G,
-) -> Result<(Vec<FlatTable<K, LentNumbers<'a, K, L>>>, Vec<usize>), OutOfMemory>
+) -> Result<(Vec<FlatTable<K, L::Numbers>>, Vec<usize>), OutOfMemory>
+where
+    L::Numbers: Send,
     requires { length (L.list list.now) ≤ MAX_ROWS }
     ensures tables { IfOk result (λ r. ArePartTables K.eq K.code (L.list list.now) exec.now.partitions r.0.items) }
     ensures sizes { IfOk result (λ r. r.1.items ≡ part_sizes (codes_of K.code (L.list list.now)) exec.now.partitions) }
 {
     let (idxs, starts) = scatter_rows(rt, alloc, list, exec, gate)?;
-    let work = LentBuilding {
+    let work = Building {
         alloc,
         list,
         idxs: idxs.as_slice(),
@@ -239,14 +136,17 @@ fn lent_part_tables<'a, K: JoinKey, L: JoinList<K>, G: Gate>(
     Ok((tables, sizes))
 }
 
-/// The tables of the keys that a list lends, as `planned_tables` makes those of keys in a slice.
-pub fn planned_lent_tables<'a, K: JoinKey, L: JoinList<K>, G: Gate>(
+/// The tables of as many parts as are planned, and their sizes. One part is built on the caller, of the keys as they
+/// stand.
+pub fn planned_tables<K: JoinKey, L: NumberedList<K> + Send + Sync, G: Gate>(
     rt: &(impl Threads + Sync),
     alloc: Global,
-    list: &'a L,
+    list: &L,
     exec: &Exec,
     gate: &G,
-) -> Result<(Vec<FlatTable<K, LentNumbers<'a, K, L>>>, Vec<usize>), OutOfMemory>
+) -> Result<(Vec<FlatTable<K, L::Numbers>>, Vec<usize>), OutOfMemory>
+where
+    L::Numbers: Send,
     requires { length (L.list list.now) ≤ MAX_ROWS }
     ensures count { IfOk result (λ r. (1 ≤ length r.0.items) × (length r.0.items ≤ 1024)) }
     ensures tables { IfOk result (λ r. ArePartTables K.eq K.code (L.list list.now) (part_count exec.now (length (L.list list.now))) r.0.items) }
@@ -254,7 +154,7 @@ pub fn planned_lent_tables<'a, K: JoinKey, L: JoinList<K>, G: Gate>(
 {
     if list.len() < exec.small() as usize || exec.partitions() == 1 {
         gate.enter(0);
-        return one_lent_table(alloc, list);
+        return one_table(alloc, list);
     }
-    lent_part_tables(rt, alloc, list, exec, gate)
+    part_tables(rt, alloc, list, exec, gate)
 }

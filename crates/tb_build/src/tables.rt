@@ -4,11 +4,12 @@ ghost use Rattle.tb_build.specs.Codes.{part_of};
 ghost use Rattle.tb_build.specs.Plan.{codes_of, plan_of};
 ghost use Rattle.tb_build.specs.TableView.{rows_at, IsParted, IsTableOf};
 
-use crate::building::{planned_lent_tables, planned_tables};
-use crate::flat::{FlatTable, KeyNumbers, LentNumbers};
+use crate::building::planned_tables;
+use crate::flat::FlatTable;
 use crate::hashing::KeyHashers;
 use crate::keys::{JoinKey, KeyCode, partition_of};
-use crate::lent::{JoinList, KeyList};
+use crate::lent::{JoinList, KeyList, SliceKeys};
+use crate::numbers::{KeyNumbers, LentKeys, LentNumbers, NumberedList};
 use std::alloc::Global;
 use std::collections::HashMap;
 use std::marker::Model;
@@ -16,8 +17,8 @@ use std::thread::Threads;
 use tb_pool::{Exec, Gate};
 use tb_value::{IdxSize, MAX_ROWS, OutOfMemory};
 
-/// The rows of each of the built keys, one table for each part of them. `build_tables` and
-/// `build_list_tables` alone make one.
+/// The rows of each of the built keys, one table for each part of them. `numbered_tables`
+/// alone makes one.
 #[derive(Drop)]
 pub struct Tables<K: KeyCode, N: KeyNumbers<K> = HashMap<K, u32, KeyHashers>> {
     parts: Vec<FlatTable<K, N>>,
@@ -90,7 +91,7 @@ fn part_in<K: KeyCode>(key: K, parts: u32) -> u32
     partition_of(key.code(), parts)
 }
 
-/// How tables were built. `build_tables` and `build_list_tables` alone make one.
+/// How tables were built. `numbered_tables` alone makes one.
 #[derive(Drop)]
 pub struct Built {
     parts: u32,
@@ -129,6 +130,42 @@ impl Built {
     }
 }
 
+/// The tables of the keys of a list, which are of the left side or of the right one, and how they were built: in one
+/// part where they are fewer than `exec.small()`, else in as many as there are partitions, side by side. The list
+/// numbers its keys.
+pub fn numbered_tables<K: JoinKey, L: NumberedList<K> + Send + Sync, G: Gate>(
+    rt: &(impl Threads + Sync),
+    alloc: Global,
+    list: &L,
+    join_nulls: bool,
+    left_built: bool,
+    exec: &Exec,
+    gate: &G,
+) -> Result<(Tables<K, L::Numbers>, Built), OutOfMemory>
+where
+    L::Numbers: Send,
+    requires { length (L.list list.now) ≤ MAX_ROWS }
+    ensures table { IfOk result (λ r. IsTableOf K.eq K.code (L.list list.now) r.0) }
+    ensures parted { IfOk result (λ r. IsParted K.eq K.code (L.list list.now) r.1.parts r.0) }
+    ensures nulls { IfOk result (λ r. r.0.join_nulls ≡ join_nulls) }
+    ensures side { IfOk result (λ r. r.0.left_built ≡ left_built) }
+    ensures built { IfOk result (λ r. r.1 ≡ plan_of exec.now left_built (codes_of K.code (L.list list.now))) }
+{
+    let (parts, sizes) = planned_tables(rt, alloc, list, exec, gate)?;
+    let built = Built {
+        parts: parts.len() as u32,
+        sizes,
+        left_built,
+    };
+    let tables = Tables {
+        parts,
+        built_len: list.len(),
+        join_nulls,
+        left_built,
+    };
+    Ok((tables, built))
+}
+
 /// The tables of these keys, which are of the left side or of the right one, and how they were built: in one part
 /// where they are fewer than `exec.small()`, else in as many as there are partitions, side by side.
 pub fn build_tables<K: JoinKey, G: Gate>(
@@ -147,19 +184,8 @@ pub fn build_tables<K: JoinKey, G: Gate>(
     ensures side { IfOk result (λ r. r.0.left_built ≡ left_built) }
     ensures built { IfOk result (λ r. r.1 ≡ plan_of exec.now left_built (codes_of K.code keys.now)) }
 {
-    let (parts, sizes) = planned_tables(rt, alloc, keys, exec, gate)?;
-    let built = Built {
-        parts: parts.len() as u32,
-        sizes,
-        left_built,
-    };
-    let tables = Tables {
-        parts,
-        built_len: keys.len(),
-        join_nulls,
-        left_built,
-    };
-    Ok((tables, built))
+    let list = SliceKeys { keys };
+    numbered_tables(rt, alloc, &list, join_nulls, left_built, exec, gate)
 }
 
 /// The tables of the keys of a list, which lends them as long as the tables last, and how they were built, as
@@ -180,17 +206,6 @@ pub fn build_list_tables<'a, K: JoinKey, L: JoinList<K>, G: Gate>(
     ensures side { IfOk result (λ r. r.0.left_built ≡ left_built) }
     ensures built { IfOk result (λ r. r.1 ≡ plan_of exec.now left_built (codes_of K.code (L.list list.now))) }
 {
-    let (parts, sizes) = planned_lent_tables(rt, alloc, list, exec, gate)?;
-    let built = Built {
-        parts: parts.len() as u32,
-        sizes,
-        left_built,
-    };
-    let tables = Tables {
-        parts,
-        built_len: list.len(),
-        join_nulls,
-        left_built,
-    };
-    Ok((tables, built))
+    let lent = LentKeys { list };
+    numbered_tables(rt, alloc, &lent, join_nulls, left_built, exec, gate)
 }

@@ -1,5 +1,7 @@
-use Rattle.std.proofs.Common.{◌≡◌, ◌∙◌, ap, sym, subst, arith, length, ℕ, [], ◌∷◌, ◌++◌, ◌+◌}
+use Rattle.std.proofs.Common.{◌≡◌, ◌∙◌, ap, sym, subst, arith, length, ℕ, List, Option, [], ◌∷◌, ◌++◌, ◌+◌}
+use Rattle.tb_build.specs.Flat.{IsFlatOf}
 use Rattle.tb_build.specs.TableView.{ArePartTables}
+use Rattle.tb_build.proofs.Lending.{all-named}
 use Rattle.tb_build.proofs.Parts.{one-tables, only_part-size}
 use Rattle.tb_build.proofs.building.one_table.Goals as goal
 
@@ -7,11 +9,13 @@ pub returns-clause-tables : goal.returns-clause-tables
 returns-clause-tables g c =
     let eq = g.K.PartialEq.eq in
     let code = g.K.KeyCode.code in
+    let keys = g.L.KeyList.list c.args.list.now in
     let own : (j : ℕ) → 0 + j ≡ j = λ j. omega arith in
-    subst (λ ts. ArePartTables eq code c.args.keys.now 1 ts)
+    subst (λ ts. ArePartTables eq code keys 1 ts)
     (sym (c.in_ok-push.ensures.items ∙ ap (λ ts. ts ++ c.in_ok-table.table ∷ []) c.new-tables.ensures.items))
-    (one-tables code c.args.keys.now eq g.met.K.KeyCode.codes_agree g.met.K.KeyCode.code_fits c.in_ok-table.table (λ j. 0 + j) own c.in_ok-table.ensures)
+    (one-tables code keys eq g.met.K.KeyCode.codes_agree g.met.K.KeyCode.code_fits c.in_ok-table.table (λ j. 0 + j) own
+    (subst (λ (ks : List (Option g.row.K.Denot)). IsFlatOf eq (λ j. 0 + j) ks c.in_ok-table.table) (all-named keys c.len-len.result c.len-len.ensures) c.in_ok-table.ensures))
 
 pub returns-clause-sizes : goal.returns-clause-sizes
 returns-clause-sizes g c =
-    c.in_ok-push-2.ensures.items ∙ ap (λ ns. ns ++ length c.args.keys.now ∷ []) c.new-sizes.ensures.items ∙ sym (only_part-size g.K.KeyCode.code c.args.keys.now g.met.K.KeyCode.code_fits)
+    c.in_ok-push-2.ensures.items ∙ ap (λ ns. ns ++ c.len-len.result ∷ []) c.new-sizes.ensures.items ∙ ap (λ n. n ∷ []) c.len-len.ensures ∙ sym (only_part-size g.K.KeyCode.code (g.L.KeyList.list c.args.list.now) g.met.K.KeyCode.code_fits)

@@ -1,5 +1,5 @@
 use Rattle.std.proofs.Common.{◌∙◌, get_or, None}
-use Rattle.tb_build.proofs.LentKeys.{rows-alike}
+use Rattle.tb_build.proofs.Lending.{rows-alike}
 use Rattle.tb_build.proofs.tables.Tables.rows_of.Goals as goal
 
 pub returns-clause-value : goal.returns-clause-value

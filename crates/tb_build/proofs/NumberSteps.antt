@@ -139,18 +139,3 @@ module _ {K : Type 0} (eq : K → K → Bool) (laws : IsEquivalence eq) (keys : 
           numbers-both (omega (arith, e, n.some)) (omega (arith, e, m)) (omega (arith, m)) (omega (arith, m, n.few))
           (λ j l. n.keyed z j l ∙ ap (λ o. is_number o (get_or numbers j 0)) none ∙ sym (differ (get_or numbers j 0) d (λ h. let s = n.small j l in omega (arith, h, s, e))))
           (λ k h. let w = (n.known k d h).1 in absurd (omega (arith, w, e)))
-
-      -- by what the look-up found
-      pub numbers-then : d ≡ unwrap_or (f z) many → d ≡ many → more ≡ many + 1 → AreNumbers eq keys (i + 1) g (numbers ++ d ∷ []) more
-      numbers-then v e m = by (f z) refl
-        where
-          by : (o : Option ℕ) → f z ≡ o → AreNumbers eq keys (i + 1) g (numbers ++ d ∷ []) more
-          by None h = numbers-new h e m
-          by (Some x) h = let w = (n.known z x h).1 in let u : d ≡ x = v ∙ ap (λ o. unwrap_or o many) h in absurd (omega (arith, w, u, e))
-
-      pub numbers-else : d ≡ unwrap_or (f z) many → d ≢ many → more ≡ many → AreNumbers eq keys (i + 1) g (numbers ++ d ∷ []) more
-      numbers-else v e m = by (f z) refl
-        where
-          by : (o : Option ℕ) → f z ≡ o → AreNumbers eq keys (i + 1) g (numbers ++ d ∷ []) more
-          by None h = absurd (e (v ∙ ap (λ o. unwrap_or o many) h))
-          by (Some x) h = let u : d ≡ x = v ∙ ap (λ o. unwrap_or o many) h in numbers-old (h ∙ ap Some (sym u)) m

@@ -2,7 +2,7 @@ use Rattle.std.proofs.Common.{ℕ, length, arith, sym, subst}
 use Rattle.tb_build.specs.Plan.{part_count}
 use Rattle.tb_build.specs.TableView.{IsSmall, IsTableOf, tables_view}
 use Rattle.tb_build.proofs.Parts.{whole-table, whole-small}
-use Rattle.tb_build.proofs.tables.build_list_tables.Goals as goal
+use Rattle.tb_build.proofs.tables.numbered_tables.Goals as goal
 
 pub overflow_cast-built : goal.overflow_cast-built
 overflow_cast-built g c = omega (arith, c.len.ensures, c.in_ok-parts.parts.ok.0, c.in_ok-parts.ensures.count.1)
