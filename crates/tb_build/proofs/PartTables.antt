@@ -1,7 +1,7 @@
 -- The tables of scattered rows are those of the parts.
 use Rattle.std.proofs.Common.{◌≡◌, ℕ, ◌+◌, ◌-◌, ◌/◌, ◌^◌, ◌<◌, ◌≤◌, Bool, true, false, List, length, take, drop, get_or, refl, ap, sym, subst, ◌∙◌, arith, Option, Some, None}
 use Rattle.std.specs.Prelude.{map, filter, nat_eq, All}
-use Rattle.std.specs.List.{flat_map, take-map, drop-map}
+use Rattle.std.specs.List.{flat_map}
 use Rattle.std.proofs.lemmas.Bool.{eq-eqb}
 use Rattle.std.proofs.lemmas.List.{length-map, get_or-map, length-append}
 use Rattle.std.proofs.lemmas.List.FromFn.{length-range_with_len, length-map-range_with_len, get_or-map-range_with_len, fill_by_all}
@@ -12,7 +12,7 @@ use Rattle.tb_value.specs.Pairs.{row_numbers}
 use Rattle.tb_build.specs.Codes.{code_or_none, part_of}
 use Rattle.tb_build.specs.Keys.{keys_match, rows_with}
 use Rattle.tb_build.specs.Plan.{codes_of, part_rows, part_start, part_sizes, scattered_rows, entry_unless_empty}
-use Rattle.tb_build.specs.Flat.{FlatView, IsFlatOf}
+use Rattle.tb_build.specs.Flat.{FlatView}
 use Rattle.tb_build.specs.Grouping.{between}
 use Rattle.tb_build.specs.KeyLists.{named_keys}
 use Rattle.tb_build.specs.Phases.{AreGiven}

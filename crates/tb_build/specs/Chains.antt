@@ -1,7 +1,6 @@
 -- Numbers of keys in chains: each bucket has the numbers of its keys, the latest first. Number 0 is none.
 use Rattle.std.specs.Prelude.{◌≡◌, ℕ, zero, suc, ◌+◌, ◌-◌, ◌<◌, ◌≤◌, ◌^◌, cond, Bool, true, List, [], ◌∷◌, ◌++◌, length, map, slice_index_or, Option, Some, None, unwrap_or}
 use Rattle.std.specs.List.{fold}
-use Rattle.std.specs.Map.{lookup}
 use Rattle.std.specs.Hash.FoldHasher.{finish}
 use Rattle.tb_build.specs.Codes.{code_or_none, part_of}
 use Rattle.tb_build.specs.Keys.{keys_match}

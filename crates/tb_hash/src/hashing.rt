@@ -13,12 +13,12 @@ ghost use Rattle.tb_hash.specs.Listings.{key_listing, probe_listing};
 ghost use Rattle.tb_hash.specs.Probing.{AllowsSide, IsProbed, probed_order, too_many};
 ghost use Rattle.tb_hash.specs.Twins.{value_causes};
 
-use crate::probing::{Probed, probe, probe_list};
+use crate::probing::{Probed, probe_list};
 use crate::typed::{KeyCell, joined_bytes, joined_texts, keys_of_cells};
 use crate::validation::check_keys;
 use std::alloc::Global;
 use std::thread::Threads;
-use tb_build::{Built, JoinKey, JoinList, SliceKeys, build_list_tables, build_tables};
+use tb_build::{Built, JoinKey, JoinList, LentKeys, NumberedList, SliceKeys, numbered_tables};
 use tb_frame::{Direction, JoinType, JoinValidation};
 use tb_pool::{Exec, Gate};
 use tb_store::{BinaryChunk, Cells, Chunks, Series, StringChunk};
@@ -35,20 +35,22 @@ struct KeyJoin<'a> {
 }
 
 // Builds one side, and probes it with the other.
-fn build_and_probe<K: JoinKey, G: Gate>(
+fn build_and_probe<K: JoinKey, L: NumberedList<K> + Send + Sync, G: Gate>(
     rt: &(impl Threads + Sync),
     gate: &G,
     join: &KeyJoin<'_>,
     left_built: bool,
-    built: &[Option<K>],
-    probed: &[Option<K>],
+    built: &L,
+    probed: &L,
 ) -> PolarsResult<(Probed, Built)>
+where
+    L::Numbers: Send + Sync,
     requires side { AllowsSide join.now.how left_built }
-    requires built { length built.now ≤ MAX_ROWS }
-    requires probed { length probed.now ≤ MAX_ROWS }
-    ensures settles { Settles result (too_many (length (probe_listing K.eq join.now.join_nulls join.now.how left_built built.now probed.now))) }
-    ensures listed { IfOk result (λ r. IsProbed join.now.how left_built (probe_listing K.eq join.now.join_nulls join.now.how left_built built.now probed.now) r.0) }
-    ensures built { IfOk result (λ r. r.1 ≡ plan_of join.now.exec.now left_built (codes_of K.code built.now)) }
+    requires built { length (L.list built.now) ≤ MAX_ROWS }
+    requires probed { length (L.list probed.now) ≤ MAX_ROWS }
+    ensures settles { Settles result (too_many (length (probe_listing K.eq join.now.join_nulls join.now.how left_built (L.list built.now) (L.list probed.now)))) }
+    ensures listed { IfOk result (λ r. IsProbed join.now.how left_built (probe_listing K.eq join.now.join_nulls join.now.how left_built (L.list built.now) (L.list probed.now)) r.0) }
+    ensures built { IfOk result (λ r. r.1 ≡ plan_of join.now.exec.now left_built (codes_of K.code (L.list built.now))) }
 {
     let KeyJoin {
         alloc,
@@ -57,8 +59,8 @@ fn build_and_probe<K: JoinKey, G: Gate>(
         exec,
         ..
     } = *join;
-    let (tables, plan) = build_tables(rt, alloc, built, join_nulls, left_built, exec, gate)?;
-    let pairs = probe(rt, alloc, how, &tables, probed, exec, gate)?;
+    let (tables, plan) = numbered_tables(rt, alloc, built, join_nulls, left_built, exec, gate)?;
+    let pairs = probe_list(rt, alloc, how, &tables, probed, exec, gate)?;
     Ok((pairs, plan))
 }
 
@@ -87,18 +89,20 @@ pub fn probed_order(how: JoinType, left_built: bool) -> Direction
 }
 
 // The pairs of two lists of keys, whatever is asked of their sides.
-fn built_pairs<K: JoinKey, G: Gate>(
+fn built_pairs<K: JoinKey, L: NumberedList<K> + Send + Sync, G: Gate>(
     rt: &(impl Threads + Sync),
     gate: &G,
     join: &KeyJoin<'_>,
-    left: &[Option<K>],
-    right: &[Option<K>],
+    left: &L,
+    right: &L,
 ) -> PolarsResult<(Probed, Built)>
-    requires left { length left.now ≤ MAX_ROWS }
-    requires right { length right.now ≤ MAX_ROWS }
-    ensures { IsHashed join.now.how (length left.now) (length right.now) (key_plan K.code join.now.exec.now join.now.how left.now right.now)
-        (key_listing K.eq join.now.join_nulls join.now.how left.now right.now)
-        (too_many (length (key_listing K.eq join.now.join_nulls join.now.how left.now right.now))) result }
+where
+    L::Numbers: Send + Sync,
+    requires left { length (L.list left.now) ≤ MAX_ROWS }
+    requires right { length (L.list right.now) ≤ MAX_ROWS }
+    ensures { IsHashed join.now.how (length (L.list left.now)) (length (L.list right.now)) (key_plan K.code join.now.exec.now join.now.how (L.list left.now) (L.list right.now))
+        (key_listing K.eq join.now.join_nulls join.now.how (L.list left.now) (L.list right.now))
+        (too_many (length (key_listing K.eq join.now.join_nulls join.now.how (L.list left.now) (L.list right.now)))) result }
 {
     if builds_left(join.how, left.len(), right.len()) {
         build_and_probe(rt, gate, join, true, left, right)
@@ -108,6 +112,31 @@ fn built_pairs<K: JoinKey, G: Gate>(
 }
 
 // The pairs of two lists of keys, whose sides are looked at first.
+fn checked_pairs<K: JoinKey, L: NumberedList<K> + Send + Sync, G: Gate>(
+    rt: &(impl Threads + Sync),
+    gate: &G,
+    join: &KeyJoin<'_>,
+    left: &L,
+    right: &L,
+) -> PolarsResult<(Probed, Built)>
+where
+    L::Numbers: Send + Sync,
+    requires left { length (L.list left.now) ≤ MAX_ROWS }
+    requires right { length (L.list right.now) ≤ MAX_ROWS }
+    ensures { AreKeysHashed K.eq K.code join.now.exec.now join.now.validate join.now.join_nulls join.now.how (L.list left.now) (L.list right.now) result }
+{
+    let KeyJoin {
+        alloc,
+        how,
+        validate,
+        join_nulls,
+        ..
+    } = *join;
+    check_keys(alloc, how, left, right, validate, join_nulls)?;
+    built_pairs(rt, gate, join, left, right)
+}
+
+// The pairs of keys in two slices.
 fn pairs_of_keys<K: JoinKey, G: Gate>(
     rt: &(impl Threads + Sync),
     gate: &G,
@@ -119,64 +148,9 @@ fn pairs_of_keys<K: JoinKey, G: Gate>(
     requires right { length right.now ≤ MAX_ROWS }
     ensures { AreKeysHashed K.eq K.code join.now.exec.now join.now.validate join.now.join_nulls join.now.how left.now right.now result }
 {
-    check_keys(
-        join.alloc,
-        join.how,
-        &SliceKeys { keys: left },
-        &SliceKeys { keys: right },
-        join.validate,
-        join.join_nulls,
-    )?;
-    built_pairs(rt, gate, join, left, right)
-}
-
-// Builds one side of lent keys, and probes it with the other.
-fn build_and_probe_lists<K: JoinKey, L: JoinList<K>, G: Gate>(
-    rt: &(impl Threads + Sync),
-    gate: &G,
-    join: &KeyJoin<'_>,
-    left_built: bool,
-    built: &L,
-    probed: &L,
-) -> PolarsResult<(Probed, Built)>
-    requires side { AllowsSide join.now.how left_built }
-    requires built { length (L.list built.now) ≤ MAX_ROWS }
-    requires probed { length (L.list probed.now) ≤ MAX_ROWS }
-    ensures settles { Settles result (too_many (length (probe_listing K.eq join.now.join_nulls join.now.how left_built (L.list built.now) (L.list probed.now)))) }
-    ensures listed { IfOk result (λ r. IsProbed join.now.how left_built (probe_listing K.eq join.now.join_nulls join.now.how left_built (L.list built.now) (L.list probed.now)) r.0) }
-    ensures built { IfOk result (λ r. r.1 ≡ plan_of join.now.exec.now left_built (codes_of K.code (L.list built.now))) }
-{
-    let KeyJoin {
-        alloc,
-        how,
-        join_nulls,
-        exec,
-        ..
-    } = *join;
-    let (tables, plan) = build_list_tables(rt, alloc, built, join_nulls, left_built, exec, gate)?;
-    let pairs = probe_list(rt, alloc, how, &tables, probed, exec, gate)?;
-    Ok((pairs, plan))
-}
-
-// The pairs of two lists of lent keys, whatever is asked of their sides.
-fn built_list_pairs<K: JoinKey, L: JoinList<K>, G: Gate>(
-    rt: &(impl Threads + Sync),
-    gate: &G,
-    join: &KeyJoin<'_>,
-    left: &L,
-    right: &L,
-) -> PolarsResult<(Probed, Built)>
-    requires left { length (L.list left.now) ≤ MAX_ROWS }
-    requires right { length (L.list right.now) ≤ MAX_ROWS }
-    ensures { IsHashed join.now.how (length (L.list left.now)) (length (L.list right.now)) (key_plan K.code join.now.exec.now join.now.how (L.list left.now) (L.list right.now))
-        (key_listing K.eq join.now.join_nulls join.now.how (L.list left.now) (L.list right.now))
-        (too_many (length (key_listing K.eq join.now.join_nulls join.now.how (L.list left.now) (L.list right.now)))) result }
-{
-    if builds_left(join.how, left.len(), right.len()) {
-        build_and_probe_lists(rt, gate, join, true, left, right)
-    } else {
-        build_and_probe_lists(rt, gate, join, false, right, left)
-    }
+    let left = SliceKeys { keys: left };
+    let right = SliceKeys { keys: right };
+    checked_pairs(rt, gate, join, &left, &right)
 }
 
 /// The pairs of a join by two lists of keys, which lend them, in the order of the probed rows, and what was built, as
@@ -207,8 +181,9 @@ pub fn hash_keys<K: JoinKey, L: JoinList<K>, G: Gate>(
         join_nulls,
         exec,
     };
-    check_keys(alloc, how, left, right, validate, join_nulls)?;
-    built_list_pairs(rt, gate, &join, left, right)
+    let left = LentKeys { list: left };
+    let right = LentKeys { list: right };
+    checked_pairs(rt, gate, &join, &left, &right)
 }
 
 // The pairs of the cells of two sides, which store values of a type with these codes.

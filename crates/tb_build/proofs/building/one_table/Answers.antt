@@ -1,4 +1,4 @@
-use Rattle.std.proofs.Common.{◌≡◌, ◌∙◌, ap, sym, subst, arith, length, ℕ, List, Option, [], ◌∷◌, ◌++◌, ◌+◌}
+use Rattle.std.proofs.Common.{◌≡◌, ◌∙◌, ap, sym, subst, arith, ℕ, List, Option, [], ◌∷◌, ◌++◌, ◌+◌}
 use Rattle.tb_build.specs.Flat.{IsFlatOf}
 use Rattle.tb_build.specs.TableView.{ArePartTables}
 use Rattle.tb_build.proofs.Lending.{all-named}

@@ -1,4 +1,4 @@
-use Rattle.std.proofs.Common.{◌≡◌, ◌∙◌, subst, sym, arith, length, List, ℕ}
+use Rattle.std.proofs.Common.{◌≡◌, ◌∙◌, subst, arith}
 use Rattle.tb_build.specs.Plan.{codes_of}
 use Rattle.tb_build.specs.Grouping.{between}
 use Rattle.tb_build.specs.Phases.{AreGiven}

@@ -1,4 +1,4 @@
-use Rattle.std.proofs.Common.{◌≡◌, ◌<◌, ◌∙◌, ap, sym, subst, arith, length, get_or, ℕ, Some, None, true, false}
+use Rattle.std.proofs.Common.{◌∙◌, ap, sym, subst, arith, get_or, ℕ, Some, None, true}
 use Rattle.tb_build.specs.Keys.{keys_match}
 use Rattle.tb_build.proofs.Places.{own}
 use Rattle.tb_build.proofs.ChainSteps.{Walking, walk-begins, walk-goes, walk-finds, walk-ends}

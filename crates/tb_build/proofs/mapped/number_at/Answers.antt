@@ -1,7 +1,7 @@
 use Rattle.std.proofs.Common.{◌≡◌, ◌∙◌, ℕ, get_or, Some, None, refl, subst}
 use Rattle.std.specs.HashMap.{get}
 use Rattle.std.proofs.lemmas.Result.{IfOk-weaker, on_ok_weaker}
-use Rattle.tb_build.specs.Chains.{AreMore, number_due, many_due}
+use Rattle.tb_build.specs.Chains.{AreMore, number_due}
 use Rattle.tb_build.proofs.ChainSteps.{due-alike, many-alike, more-alike}
 use Rattle.tb_build.proofs.mapped.number_at.Goals as goal
 
