@@ -65,7 +65,8 @@ module _ {K : Type 0} (eq : K → K → Bool) (keys : List (Option K)) (firsts :
       by true e = absurd (has-entry n d p l e none)
 
 -- the entries of numbers with the same first rows
-pub entries-agree : {K : Type 0} (keys : List (Option K)) (xs ys : List ℕ) (n : ℕ) → ((d : ℕ) → 0 < d → d ≤ n → get_or xs d 0 ≡ get_or ys d 0) → entries_to keys xs n ≡ entries_to keys ys n
+pub entries-agree : {K : Type 0} (keys : List (Option K)) (xs ys : List ℕ) (n : ℕ) → ((d : ℕ) → 0 < d → d ≤ n → get_or xs d 0 ≡ get_or ys d 0)
+    → entries_to keys xs n ≡ entries_to keys ys n
 entries-agree keys xs ys zero h = refl
 entries-agree keys xs ys (suc n) h =
     let rest = entries-agree keys xs ys n (λ d p l. h d p (omega arith)) in
@@ -74,7 +75,8 @@ entries-agree keys xs ys (suc n) h =
 
 -- A WALK
 
-module _ {K : Type 0} (eq : K → K → Bool) (hash : K → ℕ) (keys : List (Option K)) (firsts heads next : List ℕ) (c : AreChains eq hash keys firsts heads next) (k : K) (b : ℕ) (is : b ≡ part_of (hash k) (length heads)) where
+module _ {K : Type 0} (eq : K → K → Bool) (hash : K → ℕ) (keys : List (Option K)) (firsts heads next : List ℕ) (c : AreChains eq hash keys firsts heads next) (k : K)
+    (b : ℕ) (is : b ≡ part_of (hash k) (length heads)) where
   abbrev bucket : ℕ → ℕ
   bucket d = part_of (code_or_none hash (numbered_key keys firsts d)) (length heads)
 
@@ -112,7 +114,8 @@ module _ {K : Type 0} (eq : K → K → Bool) (hash : K → ℕ) (keys : List (O
   last-number = omega (arith, c.long)
 
   pub walk-finds : (at : ℕ) → 0 < at → has eq keys firsts k at ≡ true → Walking at → lookup (eq k) (chain_entries keys firsts) ≡ Some at
-  walk-finds at p hit w = one_entry eq keys firsts k at (length firsts - 1) p (omega (arith, w.low, last-number)) hit (λ e q l h. c.apart k e at q (omega (arith, l, last-number)) p w.low h hit)
+  walk-finds at p hit w = one_entry eq keys firsts k at (length firsts - 1) p (omega (arith, w.low, last-number)) hit
+      (λ e q l h. c.apart k e at q (omega (arith, l, last-number)) p w.low h hit)
 
   pub walk-ends : (at : ℕ) → at ≡ 0 → Walking at → lookup (eq k) (chain_entries keys firsts) ≡ None
   walk-ends at z w = no_entry eq keys firsts k (length firsts - 1) none
@@ -126,7 +129,8 @@ module _ {K : Type 0} (eq : K → K → Bool) (hash : K → ℕ) (keys : List (O
 
 -- ONE MORE NUMBER
 
-module _ (bucket now : ℕ → ℕ) (heads next : List ℕ) (b : ℕ) (l : AreLinked bucket heads next) (b-low : b < length heads) (same : (d : ℕ) → 0 < d → d < length next → now d ≡ bucket d) (here : now (length next) ≡ b) where
+module _ (bucket now : ℕ → ℕ) (heads next : List ℕ) (b : ℕ) (l : AreLinked bucket heads next) (b-low : b < length heads)
+    (same : (d : ℕ) → 0 < d → d < length next → now d ≡ bucket d) (here : now (length next) ≡ b) where
   abbrev m : ℕ
   m = length next
 
@@ -206,7 +210,9 @@ module _ (bucket now : ℕ → ℕ) (heads next : List ℕ) (b : ℕ) (l : AreLi
     next_top = λ d h p less low s. next_top-more d h p less low s (tells h m);
   }
 
-module _ {K : Type 0} (eq : K → K → Bool) (laws : IsEquivalence eq) (hash : K → ℕ) (keys : List (Option K)) (firsts heads next : List ℕ) (c : AreChains eq hash keys firsts heads next) (k : K) (b row : ℕ) (is : b ≡ part_of (hash k) (length heads)) (b-low : b < length heads) (low : row < length keys) (key : keys_match eq true (Some k) (get_or keys row None) ≡ true) (none : lookup (eq k) (chain_entries keys firsts) ≡ None) where
+module _ {K : Type 0} (eq : K → K → Bool) (laws : IsEquivalence eq) (hash : K → ℕ) (keys : List (Option K)) (firsts heads next : List ℕ)
+    (c : AreChains eq hash keys firsts heads next) (k : K) (b row : ℕ) (is : b ≡ part_of (hash k) (length heads)) (b-low : b < length heads)
+    (low : row < length keys) (key : keys_match eq true (Some k) (get_or keys row None) ≡ true) (none : lookup (eq k) (chain_entries keys firsts) ≡ None) where
   abbrev end : ℕ
   end = length next
 
@@ -239,19 +245,22 @@ module _ {K : Type 0} (eq : K → K → Bool) (laws : IsEquivalence eq) (hash : 
   hash-of (Some y) h = sym (c.agree k y h)
 
   links : AreLinked (λ d. part_of (code_or_none hash (numbered_key keys more-firsts d)) (length more-heads)) more-heads (next ++ get_or heads b 0 ∷ [])
-  links = linked-more (λ d. part_of (code_or_none hash (numbered_key keys firsts d)) (length heads)) (λ d. part_of (code_or_none hash (numbered_key keys more-firsts d)) (length more-heads)) heads next b c.linked b-low
+  links = linked-more (λ d. part_of (code_or_none hash (numbered_key keys firsts d)) (length heads))
+      (λ d. part_of (code_or_none hash (numbered_key keys more-firsts d)) (length more-heads)) heads next b c.linked b-low
       (λ d p l t. part_of (code_or_none hash (key-old d l t)) (long-heads t))
       ((λ t. part_of (code_or_none hash (key-last end refl t)) (long-heads t)) ∙ ap (λ x. part_of x (length heads)) (hash-of (get_or keys row None) key) ∙ sym is)
 
   absent : (d : ℕ) → 0 < d → d < end → keys_match eq true (Some k) (numbered_key keys firsts d) ≡ false
   absent d p l = has_none eq keys firsts k (length firsts - 1) none d p (omega (arith, l, c.long))
 
-  shared : (x : K) (o p : Option K) → keys_match eq true (Some x) o ≡ true → keys_match eq true (Some k) o ≡ true → keys_match eq true (Some x) p ≡ true → keys_match eq true (Some k) p ≡ true
+  shared : (x : K) (o p : Option K) → keys_match eq true (Some x) o ≡ true → keys_match eq true (Some k) o ≡ true → keys_match eq true (Some x) p ≡ true
+      → keys_match eq true (Some k) p ≡ true
   shared x None p h i j = absurd (true≢false (sym h))
   shared x (Some y) None h i j = absurd (true≢false (sym j))
   shared x (Some y) (Some z) h i j = laws.congr k y z i ∙ sym (laws.congr x y z h) ∙ j
 
-  clash : (x : K) (d e : ℕ) → d ≡ end → 0 < e → e < end → keys_match eq true (Some x) (numbered_key keys more-firsts d) ≡ true → keys_match eq true (Some x) (numbered_key keys more-firsts e) ≡ true → ⊥
+  clash : (x : K) (d e : ℕ) → d ≡ end → 0 < e → e < end → keys_match eq true (Some x) (numbered_key keys more-firsts d) ≡ true
+      → keys_match eq true (Some x) (numbered_key keys more-firsts e) ≡ true → ⊥
   clash x d e last p l h i =
       let new = sym (ap (keys_match eq true (Some x)) (key-last d last)) ∙ h in
       let old = sym (ap (keys_match eq true (Some x)) (key-old e l)) ∙ i in
@@ -260,7 +269,8 @@ module _ {K : Type 0} (eq : K → K → Bool) (laws : IsEquivalence eq) (hash : 
   length-more : length (next ++ get_or heads b 0 ∷ []) ≡ end + 1
   length-more = length-append next (get_or heads b 0 ∷ [])
 
-  apart-more : (x : K) (d e : ℕ) → 0 < d → d < end + 1 → 0 < e → e < end + 1 → keys_match eq true (Some x) (numbered_key keys more-firsts d) ≡ true → keys_match eq true (Some x) (numbered_key keys more-firsts e) ≡ true → (d ≡ end) ⊎ (d ≢ end) → (e ≡ end) ⊎ (e ≢ end) → d ≡ e
+  apart-more : (x : K) (d e : ℕ) → 0 < d → d < end + 1 → 0 < e → e < end + 1 → keys_match eq true (Some x) (numbered_key keys more-firsts d) ≡ true
+      → keys_match eq true (Some x) (numbered_key keys more-firsts e) ≡ true → (d ≡ end) ⊎ (d ≢ end) → (e ≡ end) ⊎ (e ≢ end) → d ≡ e
   apart-more x d e p l q r h i (inl a) (inl s) = a ∙ sym s
   apart-more x d e p l q r h i (inl a) (inr s) = absurd (clash x d e a q (omega (arith, r, s)) h i)
   apart-more x d e p l q r h i (inr a) (inl s) = absurd (clash x e d s p (omega (arith, l, a)) i h)
@@ -291,7 +301,9 @@ module _ {K : Type 0} (eq : K → K → Bool) (laws : IsEquivalence eq) (hash : 
       let number : suc (length firsts - 1) ≡ end = omega (arith, c.long, c.linked.some) in
       let before = entries-agree keys more-firsts firsts (length firsts - 1) (λ d p l. first-old d (omega (arith, l, c.long, c.linked.some))) in
       ap (λ n. lookup (eq x) (entries_to keys more-firsts n)) size
-      ∙ next-entry eq keys more-firsts x (length firsts - 1) (eq k x) (ap (λ d. keys_match eq true (Some x) (numbered_key keys more-firsts d)) number ∙ ap (keys_match eq true (Some x)) (key-last end refl) ∙ alike (get_or keys row None) key)
+      ∙ next-entry eq keys more-firsts x (length firsts - 1) (eq k x)
+      (ap (λ d. keys_match eq true (Some x) (numbered_key keys more-firsts d)) number ∙ ap (keys_match eq true (Some x)) (key-last end refl)
+      ∙ alike (get_or keys row None) key)
       ∙ (λ t. cond (eq k x) (Some (number t)) (lookup (eq x) (before t)))
     where
       alike : (o : Option K) → keys_match eq true (Some k) o ≡ true → keys_match eq true (Some x) o ≡ eq k x
@@ -309,14 +321,16 @@ module _ {K : Type 0} (eq : K → K → Bool) (laws : IsEquivalence eq) (hash : 
     pub more-then : AreMore eq (Some k) (λ k. lookup (eq k) (chain_entries keys firsts)) end (λ k. lookup (eq k) (chain_entries keys fs)) (length ns)
     more-then = (
       ap length ne ∙ length-more ∙ sym (ap (λ o. many_after eq o end) none),
-      λ x. ap (λ fs. lookup (eq x) (chain_entries keys fs)) fe ∙ entries-more x ∙ ap (λ (o : Option ℕ). cond (eq k x) (Some (unwrap_or o end)) (lookup (eq x) (chain_entries keys firsts))) (sym none),
+      λ x. ap (λ fs. lookup (eq x) (chain_entries keys fs)) fe ∙ entries-more x
+          ∙ ap (λ (o : Option ℕ). cond (eq k x) (Some (unwrap_or o end)) (lookup (eq x) (chain_entries keys firsts))) (sym none),
     )
 
 -- NUMBERS
 
 module _ {K : Type 0} (eq : K → K → Bool) (laws : IsEquivalence eq) where
   -- one more row is numbered
-  pub numbers-next : (keys : List (Option K)) (i : ℕ) (f : K → Option ℕ) (numbers : List ℕ) (many : ℕ) → AreNumbers eq keys i f numbers many → (o : Option K) → get_or keys i None ≡ o
+  pub numbers-next : (keys : List (Option K)) (i : ℕ) (f : K → Option ℕ) (numbers : List ℕ) (many : ℕ) → AreNumbers eq keys i f numbers many → (o : Option K)
+      → get_or keys i None ≡ o
       → (g : K → Option ℕ) (d more : ℕ) → d ≡ number_due eq o f many → AreMore eq o f many g more → AreNumbers eq keys (i + 1) g (numbers ++ d ∷ []) more
   numbers-next keys i f numbers many n None here g d more v a =
       subst (λ (h : K → Option ℕ). AreNumbers eq keys (i + 1) h (numbers ++ d ∷ []) more) (λ t k. sym (a.1 k) t)
@@ -329,10 +343,12 @@ module _ {K : Type 0} (eq : K → K → Bool) (laws : IsEquivalence eq) where
 
       by : (o : Option ℕ) → f z ≡ o → AreNumbers eq keys (i + 1) g (numbers ++ d ∷ []) more
       by None h = numbers-new eq laws keys i f numbers many n z here g d more step h (v ∙ ap (λ o. unwrap_or o many) h) (a.0 ∙ ap (λ o. many_after eq o many) h)
-      by (Some x) h = numbers-old eq laws keys i f numbers many n z here g d more step (h ∙ ap Some (sym (v ∙ ap (λ o. unwrap_or o many) h))) (a.0 ∙ ap (λ o. many_after eq o many) h)
+      by (Some x) h = numbers-old eq laws keys i f numbers many n z here g d more step (h ∙ ap Some (sym (v ∙ ap (λ o. unwrap_or o many) h)))
+          (a.0 ∙ ap (λ o. many_after eq o many) h)
 
   -- a number that is the next one is new
-  pub many-then : (keys : List (Option K)) (i : ℕ) (f : K → Option ℕ) (numbers : List ℕ) (many : ℕ) → AreNumbers eq keys i f numbers many → (o : Option K) (d : ℕ) → d ≡ number_due eq o f many → d ≡ many → many_due eq o f many ≡ many + 1
+  pub many-then : (keys : List (Option K)) (i : ℕ) (f : K → Option ℕ) (numbers : List ℕ) (many : ℕ) → AreNumbers eq keys i f numbers many → (o : Option K) (d : ℕ)
+      → d ≡ number_due eq o f many → d ≡ many → many_due eq o f many ≡ many + 1
   many-then keys i f numbers many n None d v e = absurd (omega (arith, v, e, n.some))
   many-then keys i f numbers many n (Some z) d v e = by (f z) refl
     where
@@ -369,15 +385,20 @@ module _ {K : Type 0} (eq : K → K → Bool) (laws : IsEquivalence eq) where
     many-alike (Some x) None many h = absurd (true≢false (sym h))
     many-alike (Some x) (Some y) many h = ap (λ o. many_after eq o many) (same-number x y h)
 
-    pub firsts-alike : (lent listed : Option K) (firsts : List ℕ) (row : ℕ) → keys_match eq true lent listed ≡ true → firsts_due lent number firsts row ≡ firsts_due listed number firsts row
+    pub firsts-alike : (lent listed : Option K) (firsts : List ℕ) (row : ℕ) → keys_match eq true lent listed ≡ true
+        → firsts_due lent number firsts row ≡ firsts_due listed number firsts row
     firsts-alike None None firsts row h = refl
     firsts-alike None (Some y) firsts row h = absurd (true≢false (sym h))
     firsts-alike (Some x) None firsts row h = absurd (true≢false (sym h))
     firsts-alike (Some x) (Some y) firsts row h = ap (λ o. firsts_after o firsts row) (same-number x y h)
 
-    pub more-alike : (lent listed : Option K) (many : ℕ) (g : K → Option ℕ) (more : ℕ) → keys_match eq true lent listed ≡ true → AreMore eq lent number many g more → AreMore eq listed number many g more
+    pub more-alike : (lent listed : Option K) (many : ℕ) (g : K → Option ℕ) (more : ℕ) → keys_match eq true lent listed ≡ true → AreMore eq lent number many g more
+        → AreMore eq listed number many g more
     more-alike None None many g more h a = a
     more-alike None (Some y) many g more h a = absurd (true≢false (sym h))
     more-alike (Some x) None many g more h a = absurd (true≢false (sym h))
-    more-alike (Some x) (Some y) many g more h a =
-        (a.0 ∙ ap (λ o. many_after eq o many) (same-number x y h), λ k. a.1 k ∙ (λ t. cond (laws.congr x y k h t) (Some (unwrap_or (same-number x y h t) many)) (number k)))
+    more-alike (Some x) (Some y) many g more h a = (
+      a.0 ∙ ap (λ o. many_after eq o many) (same-number x y h),
+      λ k. a.1 k
+          ∙ (λ t. cond (laws.congr x y k h t) (Some (unwrap_or (same-number x y h t) many)) (number k)),
+    )

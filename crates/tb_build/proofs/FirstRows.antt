@@ -33,8 +33,10 @@ more-rows numbers d e =
 smaller : (a b : ℕ) → a < b → (a == b) ≡ false
 smaller a b l = grind arith
 
-module _ {K : Type 0} (eq : K → K → Bool) (keys : List (Option K)) (i : ℕ) (f : K → Option ℕ) (name : ℕ → ℕ) (numbers firsts : List ℕ) (many : ℕ) (n : AreNumbers eq keys i f numbers many) (long : length firsts ≡ many) (a : AreFirsts name numbers firsts many) where
-  old-first : (d e : ℕ) → 0 < e → e < many → (0 < length (numbered_rows (numbers ++ d ∷ []) e)) × (get_or (map name (numbered_rows (numbers ++ d ∷ []) e)) 0 0 ≡ get_or firsts e 0)
+module _ {K : Type 0} (eq : K → K → Bool) (keys : List (Option K)) (i : ℕ) (f : K → Option ℕ) (name : ℕ → ℕ) (numbers firsts : List ℕ) (many : ℕ)
+    (n : AreNumbers eq keys i f numbers many) (long : length firsts ≡ many) (a : AreFirsts name numbers firsts many) where
+  old-first : (d e : ℕ) → 0 < e → e < many
+      → (0 < length (numbered_rows (numbers ++ d ∷ []) e)) × (get_or (map name (numbered_rows (numbers ++ d ∷ []) e)) 0 0 ≡ get_or firsts e 0)
   old-first d e p l =
       let rows = numbered_rows numbers e in
       let tail = cond (d == e) (length numbers ∷ []) [] in
@@ -46,7 +48,8 @@ module _ {K : Type 0} (eq : K → K → Bool) (keys : List (Option K)) (i : ℕ)
       )
 
   none-yet : numbered_rows numbers many ≡ []
-  none-yet = filter-agree_below _ (λ _. false) (length numbers) (λ j l. smaller (get_or numbers j 0) many (n.small j (omega (arith, l, n.count)))) ∙ filter-never (row_numbers (length numbers))
+  none-yet = filter-agree_below _ (λ _. false) (length numbers) (λ j l. smaller (get_or numbers j 0) many (n.small j (omega (arith, l, n.count))))
+      ∙ filter-never (row_numbers (length numbers))
 
   alone : numbered_rows (numbers ++ many ∷ []) many ≡ i ∷ []
   alone =
@@ -75,7 +78,8 @@ module _ {K : Type 0} (eq : K → K → Bool) (keys : List (Option K)) (i : ℕ)
         record { each = λ e p l. let h = new-first e p (omega (arith, l, m)) (tells e many) in (h.0, h.1 ∙ sym (ap (λ fs. get_or fs e 0) s)) }
 
     -- the first rows once one more row has a number
-    pub firsts-next : (o : Option K) (g : K → Option ℕ) → d ≡ number_due eq o f many → AreMore eq o f many g more → fs ≡ firsts_due o f firsts (name i) → AreFirsts name (numbers ++ d ∷ []) fs more
+    pub firsts-next : (o : Option K) (g : K → Option ℕ) → d ≡ number_due eq o f many → AreMore eq o f many g more → fs ≡ firsts_due o f firsts (name i)
+        → AreFirsts name (numbers ++ d ∷ []) fs more
     firsts-next None g v m s = then-old m.0 s
     firsts-next (Some z) g v m s = by (f z) refl
       where
@@ -97,7 +101,8 @@ linked-alike old now heads next same l = record {
   next_top = λ d h p less low s. l.next_top d h p less low (sym (same d p (omega (arith, less, low))) ∙ s ∙ same h (omega (arith, p, less)) low);
 }
 
-module _ {K : Type 0} (eq : K → K → Bool) (hash : K → ℕ) (all keys : List (Option K)) (name : ℕ → ℕ) (numbers firsts heads next : List ℕ) (c : AreChains eq hash all firsts heads next) (a : AreFirsts name numbers firsts (length next)) where
+module _ {K : Type 0} (eq : K → K → Bool) (hash : K → ℕ) (all keys : List (Option K)) (name : ℕ → ℕ) (numbers firsts heads next : List ℕ)
+    (c : AreChains eq hash all firsts heads next) (a : AreFirsts name numbers firsts (length next)) where
   abbrev groups : List (List ℕ)
   groups = grouped_rows name numbers (length next)
 
@@ -120,12 +125,14 @@ module _ {K : Type 0} (eq : K → K → Bool) (hash : K → ℕ) (all keys : Lis
     buckets = c.buckets;
     long = count;
     low = λ d p l. omega (arith, first-at d p l, c.low d p l);
-    apart = λ k d e p l q r h i. c.apart k d e p l q r (sym (ap (keys_match eq true (Some k)) (key-at d p l)) ∙ h) (sym (ap (keys_match eq true (Some k)) (key-at e q r)) ∙ i);
+    apart = λ k d e p l q r h i. c.apart k d e p l q r (sym (ap (keys_match eq true (Some k)) (key-at d p l)) ∙ h)
+        (sym (ap (keys_match eq true (Some k)) (key-at e q r)) ∙ i);
     agree = c.agree;
   }
 
   entries-same : chain_entries all (first_rows groups) ≡ chain_entries all firsts
-  entries-same = ap (λ n. entries_to all (first_rows groups) (n - 1)) (count ∙ sym c.long) ∙ entries-agree all (first_rows groups) firsts (length firsts - 1) (λ d p l. first-at d p (omega (arith, l, p, c.long)))
+  entries-same = ap (λ n. entries_to all (first_rows groups) (n - 1)) (count ∙ sym c.long)
+      ∙ entries-agree all (first_rows groups) firsts (length firsts - 1) (λ d p l. first-at d p (omega (arith, l, p, c.long)))
 
   -- and so are the numbers
   pub numbers-grouped : (i : ℕ) → AreNumbers eq keys i (λ k. lookup (eq k) (chain_entries all firsts)) numbers (length next)

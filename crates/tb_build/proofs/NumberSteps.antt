@@ -49,7 +49,8 @@ module _ {K : Type 0} (eq : K → K → Bool) (laws : IsEquivalence eq) (keys : 
         off k (Some d) e = sym (differ 0 d (λ h. omega (arith, h, (n.known k d e).0)))
 
         keyed : (k : K) (j : ℕ) → j < i + 1 → (i ≡ j) ⊎ (i ≢ j) → keys_match eq true (Some k) (get_or keys j None) ≡ is_number (f k) (get_or (numbers ++ 0 ∷ []) j 0)
-        keyed k j l (inl e) = ap (λ j. keys_match eq true (Some k) (get_or keys j None)) (sym e) ∙ ap (keys_match eq true (Some k)) here ∙ off k (f k) refl ∙ sym (ap (is_number (f k)) (last 0 j e))
+        keyed k j l (inl e) = ap (λ j. keys_match eq true (Some k) (get_or keys j None)) (sym e) ∙ ap (keys_match eq true (Some k)) here ∙ off k (f k) refl
+            ∙ sym (ap (is_number (f k)) (last 0 j e))
         keyed k j l (inr e) = n.keyed k j (omega arith) ∙ sym (ap (is_number (f k)) (old 0 j (omega arith)))
 
         bare : (j : ℕ) → j < i + 1 → (i ≡ j) ⊎ (i ≢ j) → keys_match eq true None (get_or keys j None) ≡ (get_or (numbers ++ 0 ∷ []) j 0 == 0)
@@ -69,7 +70,9 @@ module _ {K : Type 0} (eq : K → K → Bool) (laws : IsEquivalence eq) (keys : 
       like k e None = refl
       like k e (Some y) = laws.congr z k y e
 
-      numbers-both : (0 < d) → (d < more) → (many ≤ more) → (more ≤ i + 2) → ((j : ℕ) → j < i → keys_match eq true (Some z) (get_or keys j None) ≡ (get_or numbers j 0 == d)) → ((k : K) → f k ≡ Some d → eq z k ≡ true) → AreNumbers eq keys (i + 1) g (numbers ++ d ∷ []) more
+      numbers-both : (0 < d) → (d < more) → (many ≤ more) → (more ≤ i + 2)
+          → ((j : ℕ) → j < i → keys_match eq true (Some z) (get_or keys j None) ≡ (get_or numbers j 0 == d)) → ((k : K) → f k ≡ Some d → eq z k ≡ true)
+          → AreNumbers eq keys (i + 1) g (numbers ++ d ∷ []) more
       numbers-both p q r s same_rows same_key = record {
         count = length-append numbers (d ∷ []) ∙ ap (λ k. k + 1) n.count;
         keyed = λ k j l. keyed k j l (tells i j) (eq z k) refl;
@@ -86,7 +89,8 @@ module _ {K : Type 0} (eq : K → K → Bool) (laws : IsEquivalence eq) (keys : 
           off k e false h = refl
           off k e true h = absurd (true≢false (sym (same_key k (some_of (f k) d h)) ∙ e))
 
-          keyed : (k : K) (j : ℕ) → j < i + 1 → (i ≡ j) ⊎ (i ≢ j) → (b : Bool) → eq z k ≡ b → keys_match eq true (Some k) (get_or keys j None) ≡ is_number (g k) (get_or (numbers ++ d ∷ []) j 0)
+          keyed : (k : K) (j : ℕ) → j < i + 1 → (i ≡ j) ⊎ (i ≢ j) → (b : Bool) → eq z k ≡ b
+              → keys_match eq true (Some k) (get_or keys j None) ≡ is_number (g k) (get_or (numbers ++ d ∷ []) j 0)
           keyed k j l (inl e) true t =
               ap (λ j. keys_match eq true (Some k) (get_or keys j None)) (sym e) ∙ ap (keys_match eq true (Some k)) here ∙ laws.symm k z ∙ t
               ∙ sym (ap (λ o. is_number o (get_or (numbers ++ d ∷ []) j 0)) (at k true t) ∙ eq-eqb _ d (last d j e))
@@ -131,11 +135,13 @@ module _ {K : Type 0} (eq : K → K → Bool) (laws : IsEquivalence eq) (keys : 
           let k = n.known z d found in
           let low = k.0 in
           let high = k.1 in
-          numbers-both low (omega (arith, high, m)) (omega (arith, m)) (omega (arith, m, n.few)) (λ j l. n.keyed z j l ∙ ap (λ o. is_number o (get_or numbers j 0)) found) (λ k e. n.one_key z k d found e)
+          numbers-both low (omega (arith, high, m)) (omega (arith, m)) (omega (arith, m, n.few))
+          (λ j l. n.keyed z j l ∙ ap (λ o. is_number o (get_or numbers j 0)) found) (λ k e. n.one_key z k d found e)
 
       -- a new one
       pub numbers-new : f z ≡ None → d ≡ many → more ≡ many + 1 → AreNumbers eq keys (i + 1) g (numbers ++ d ∷ []) more
       numbers-new none e m =
           numbers-both (omega (arith, e, n.some)) (omega (arith, e, m)) (omega (arith, m)) (omega (arith, m, n.few))
-          (λ j l. n.keyed z j l ∙ ap (λ o. is_number o (get_or numbers j 0)) none ∙ sym (differ (get_or numbers j 0) d (λ h. let s = n.small j l in omega (arith, h, s, e))))
+          (λ j l. n.keyed z j l ∙ ap (λ o. is_number o (get_or numbers j 0)) none
+          ∙ sym (differ (get_or numbers j 0) d (λ h. let s = n.small j l in omega (arith, h, s, e))))
           (λ k h. let w = (n.known k d h).1 in absurd (omega (arith, w, e)))

@@ -164,14 +164,18 @@ fn number_of<K: KeyCode, L: KeyList<K>>(
     key: &K,
     row: IdxSize,
 ) -> Result<u32, OutOfMemory>
-    requires chains { AreChains K.eq (λ k. hash_by hashers (K.hash_input k)) (L.list list.now) links.old.firsts.items links.old.chains.heads.items links.old.chains.next.items }
+    requires chains { AreChains K.eq (λ k. hash_by hashers (K.hash_input k)) (L.list list.now)
+        links.old.firsts.items links.old.chains.heads.items links.old.chains.next.items }
     requires row { row < length (L.list list.now) }
     requires key { keys_match K.eq true (Some key.now) (slice_index_or (L.list list.now) row None) ≡ true }
     requires few { length links.old.chains.next.items < 2 ^ 32 }
-    ensures value { IfOk result (λ d. d ≡ number_due K.eq (Some key.now) (λ k. lookup (K.eq k) (chain_entries (L.list list.now) links.old.firsts.items)) (length links.old.chains.next.items)) }
-    ensures more { OnOk result (AreMore K.eq (Some key.now) (λ k. lookup (K.eq k) (chain_entries (L.list list.now) links.old.firsts.items)) (length links.old.chains.next.items)
+    ensures value { IfOk result (λ d. d ≡ number_due K.eq (Some key.now)
+        (λ k. lookup (K.eq k) (chain_entries (L.list list.now) links.old.firsts.items)) (length links.old.chains.next.items)) }
+    ensures more { OnOk result (AreMore K.eq (Some key.now)
+        (λ k. lookup (K.eq k) (chain_entries (L.list list.now) links.old.firsts.items)) (length links.old.chains.next.items)
         (λ k. lookup (K.eq k) (chain_entries (L.list list.now) links.new.firsts.items)) (length links.new.chains.next.items)) }
-    ensures chains { OnOk result (AreChains K.eq (λ k. hash_by hashers (K.hash_input k)) (L.list list.now) links.new.firsts.items links.new.chains.heads.items links.new.chains.next.items) }
+    ensures chains { OnOk result (AreChains K.eq (λ k. hash_by hashers (K.hash_input k)) (L.list list.now)
+        links.new.firsts.items links.new.chains.heads.items links.new.chains.next.items) }
     ensures firsts { OnOk result (links.new.firsts.items
         ≡ firsts_due (Some key.now) (λ k. lookup (K.eq k) (chain_entries (L.list list.now) links.old.firsts.items)) links.old.firsts.items row) }
 {
@@ -189,7 +193,8 @@ fn number_at<K: KeyCode, L: KeyList<K>>(
     hashers: KeyHashers,
     row: IdxSize,
 ) -> Result<u32, OutOfMemory>
-    requires chains { AreChains K.eq (λ k. hash_by hashers (K.hash_input k)) (L.list list.now) links.old.firsts.items links.old.chains.heads.items links.old.chains.next.items }
+    requires chains { AreChains K.eq (λ k. hash_by hashers (K.hash_input k)) (L.list list.now)
+        links.old.firsts.items links.old.chains.heads.items links.old.chains.next.items }
     requires row { row < length (L.list list.now) }
     requires few { length links.old.chains.next.items < 2 ^ 32 }
     ensures value { IfOk result (λ d. d ≡ number_due K.eq (slice_index_or (L.list list.now) row None)
@@ -197,7 +202,8 @@ fn number_at<K: KeyCode, L: KeyList<K>>(
     ensures more { OnOk result (AreMore K.eq (slice_index_or (L.list list.now) row None)
         (λ k. lookup (K.eq k) (chain_entries (L.list list.now) links.old.firsts.items)) (length links.old.chains.next.items)
         (λ k. lookup (K.eq k) (chain_entries (L.list list.now) links.new.firsts.items)) (length links.new.chains.next.items)) }
-    ensures chains { OnOk result (AreChains K.eq (λ k. hash_by hashers (K.hash_input k)) (L.list list.now) links.new.firsts.items links.new.chains.heads.items links.new.chains.next.items) }
+    ensures chains { OnOk result (AreChains K.eq (λ k. hash_by hashers (K.hash_input k)) (L.list list.now)
+        links.new.firsts.items links.new.chains.heads.items links.new.chains.next.items) }
     ensures firsts { OnOk result (links.new.firsts.items
         ≡ firsts_due (slice_index_or (L.list list.now) row None) (λ k. lookup (K.eq k) (chain_entries (L.list list.now) links.old.firsts.items)) links.old.firsts.items row) }
 {

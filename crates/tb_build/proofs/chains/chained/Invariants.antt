@@ -9,7 +9,9 @@ use Rattle.tb_build.proofs.chains.chained.Given as goal
 
 abbrev pub invariant-loop-row : goal.invariant-loop-row
 invariant-loop-row g l = record {
-  chains : AreChains g.K.PartialEq.eq (λ k. hash_by l.hashers (g.K.Hash.hash_input k)) (g.L.KeyList.list l.list) l.links.firsts.items l.links.chains.heads.items l.links.chains.next.items;
-  numbers : AreNumbers g.K.PartialEq.eq (named_keys (g.L.KeyList.list l.list) (name_of l.names) l.len) l.row (λ k. lookup (g.K.PartialEq.eq k) (chain_entries (g.L.KeyList.list l.list) l.links.firsts.items)) l.numbers.items (length l.links.chains.next.items);
+  chains : AreChains g.K.PartialEq.eq (λ k. hash_by l.hashers (g.K.Hash.hash_input k))
+      (g.L.KeyList.list l.list) l.links.firsts.items l.links.chains.heads.items l.links.chains.next.items;
+  numbers : AreNumbers g.K.PartialEq.eq (named_keys (g.L.KeyList.list l.list) (name_of l.names) l.len) l.row
+      (λ k. lookup (g.K.PartialEq.eq k) (chain_entries (g.L.KeyList.list l.list) l.links.firsts.items)) l.numbers.items (length l.links.chains.next.items);
   firsts : AreFirsts (name_of l.names) l.numbers.items l.links.firsts.items (length l.links.chains.next.items);
 }

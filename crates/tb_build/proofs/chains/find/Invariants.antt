@@ -8,7 +8,8 @@ use Rattle.tb_build.proofs.chains.find.Given as goal
 abbrev pub invariant-loop-at : goal.invariant-loop-at
 invariant-loop-at g l =
     (hash : g.row.K.Denot → ℕ) (c : AreChains g.K.PartialEq.eq hash (g.L.KeyList.list l.list) (g.F.FirstRows.firsts l.firsts) l.chains.heads.items l.chains.next.items)
-    (is : l.bucket ≡ part_of (hash l.key) (length l.chains.heads.items)) → Walking g.K.PartialEq.eq hash (g.L.KeyList.list l.list) (g.F.FirstRows.firsts l.firsts) l.chains.heads.items l.chains.next.items c l.key l.bucket is l.at
+    (is : l.bucket ≡ part_of (hash l.key) (length l.chains.heads.items))
+    → Walking g.K.PartialEq.eq hash (g.L.KeyList.list l.list) (g.F.FirstRows.firsts l.firsts) l.chains.heads.items l.chains.next.items c l.key l.bucket is l.at
 
 abbrev pub decreases-loop-at : goal.decreases-loop-at
 decreases-loop-at g l = l.at

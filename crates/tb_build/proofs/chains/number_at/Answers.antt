@@ -19,7 +19,9 @@ returns-in-Some-clause-more g c =
     let eq = g.K.PartialEq.eq in
     let keys = g.L.KeyList.list c.args.list.now in
     let es = chain_entries keys c.args.links.now.firsts.items in
-    on_ok_weaker c.number_of.result (more-alike eq g.met.K.Eq.laws es (Some c.in-Some.key) (get_or keys c.args.row None) (length c.args.links.now.chains.next.items) _ _ c.in-Some.ensures) c.number_of.ensures.more
+    on_ok_weaker c.number_of.result
+    (more-alike eq g.met.K.Eq.laws es (Some c.in-Some.key) (get_or keys c.args.row None)
+    (length c.args.links.now.chains.next.items) _ _ c.in-Some.ensures) c.number_of.ensures.more
 
 pub returns-in-Some-clause-firsts : goal.returns-in-Some-clause-firsts
 returns-in-Some-clause-firsts g c =
@@ -27,4 +29,6 @@ returns-in-Some-clause-firsts g c =
     let keys = g.L.KeyList.list c.args.list.now in
     let firsts = c.args.links.now.firsts.items in
     let es = chain_entries keys firsts in
-    on_ok_weaker c.number_of.result (λ e. e ∙ firsts-alike eq g.met.K.Eq.laws es (Some c.in-Some.key) (get_or keys c.args.row None) firsts c.args.row c.in-Some.ensures) c.number_of.ensures.firsts
+    on_ok_weaker c.number_of.result
+    (λ e. e ∙ firsts-alike eq g.met.K.Eq.laws es (Some c.in-Some.key)
+    (get_or keys c.args.row None) firsts c.args.row c.in-Some.ensures) c.number_of.ensures.firsts

@@ -17,8 +17,13 @@ invariant_of-result g c =
     let groups = c.in_ok-groups.groups in
     let is : groups ≡ grouped_rows name n.numbers.items n.many = c.in_ok-groups.ensures ∙ ap (λ numbers. grouped_rows name numbers n.many) c.as_slice.ensures.value in
     let len = sym (length-map-range_with_len (λ j. get_or all (name j) None) 0 c.args.len) in
-    let numbered = subst (λ (m : ℕ). AreNumbers eq keys m (λ k. lookup (eq k) (g.L.Numbers.KeyNumbers.entries n.keys (grouped_rows name n.numbers.items n.many))) n.numbers.items n.many) len c.in_ok-keys.ensures.numbers in
-    let here = subst (λ (gs : List (List ℕ)). AreNumbers eq keys (length keys) (λ k. lookup (eq k) (g.L.Numbers.KeyNumbers.entries n.keys gs)) n.numbers.items n.many) (sym is) numbered in (
+    let numbered = subst
+    (λ (m : ℕ). AreNumbers eq keys m
+    (λ k. lookup (eq k)
+    (g.L.Numbers.KeyNumbers.entries n.keys (grouped_rows name n.numbers.items n.many))) n.numbers.items n.many) len c.in_ok-keys.ensures.numbers in
+    let here = subst
+    (λ (gs : List (List ℕ)). AreNumbers eq keys (length keys) (λ k. lookup (eq k) (g.L.Numbers.KeyNumbers.entries n.keys gs)) n.numbers.items n.many)
+    (sym is) numbered in (
       flat-numbers eq keys (g.L.Numbers.KeyNumbers.entries n.keys groups) n.numbers.items n.many here name groups is,
       subst (λ (gs : List (List ℕ)). g.L.Numbers.KeyNumbers.fits n.keys gs) (sym is) c.in_ok-keys.ensures.fits,
     )
@@ -33,6 +38,11 @@ returns g c =
     let groups = c.in_ok-groups.groups in
     let is : groups ≡ grouped_rows name n.numbers.items n.many = c.in_ok-groups.ensures ∙ ap (λ numbers. grouped_rows name numbers n.many) c.as_slice.ensures.value in
     let len = sym (length-map-range_with_len (λ j. get_or all (name j) None) 0 c.args.len) in
-    let numbered = subst (λ (m : ℕ). AreNumbers eq keys m (λ k. lookup (eq k) (g.L.Numbers.KeyNumbers.entries n.keys (grouped_rows name n.numbers.items n.many))) n.numbers.items n.many) len c.in_ok-keys.ensures.numbers in
-    let here = subst (λ (gs : List (List ℕ)). AreNumbers eq keys (length keys) (λ k. lookup (eq k) (g.L.Numbers.KeyNumbers.entries n.keys gs)) n.numbers.items n.many) (sym is) numbered in
+    let numbered = subst
+    (λ (m : ℕ). AreNumbers eq keys m
+    (λ k. lookup (eq k)
+    (g.L.Numbers.KeyNumbers.entries n.keys (grouped_rows name n.numbers.items n.many))) n.numbers.items n.many) len c.in_ok-keys.ensures.numbers in
+    let here = subst
+    (λ (gs : List (List ℕ)). AreNumbers eq keys (length keys) (λ k. lookup (eq k) (g.L.Numbers.KeyNumbers.entries n.keys gs)) n.numbers.items n.many)
+    (sym is) numbered in
     flat-rows eq keys (g.L.Numbers.KeyNumbers.entries n.keys groups) n.numbers.items n.many here name groups is

@@ -25,7 +25,8 @@ loop-row-preserved g c =
     let listed = get_or all c.name.result None in
     let d = c.in_ok-number.number in
     let value = c.in_ok-number.ensures.value in
-    let here = get_or-map-range_with_len (λ j. get_or all (name j) None) 0 c.args.len i i None c.loop-row-test.true (omega arith) ∙ ap (λ r. get_or all r None) (sym c.name.ensures) in
+    let here = get_or-map-range_with_len (λ j. get_or all (name j) None) 0 c.args.len i i None c.loop-row-test.true (omega arith)
+    ∙ ap (λ r. get_or all r None) (sym c.name.ensures) in
     let due : many_due eq listed f many ≡ more = elim c.if-number-many.branch [
       | then-number-many u ↦ many-then eq laws keys i f numbers many c.loop-row.invariant listed d value u.if-number-many.true ∙ sym u.many-is
       | else-number-many u ↦ many-else eq laws f many listed d value u.if-number-many.false ∙ sym u.many-is

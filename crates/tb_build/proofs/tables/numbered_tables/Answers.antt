@@ -14,7 +14,8 @@ invariant_of-tables g c =
     let n = part_count c.args.exec.now (length (g.L.KeyList.list c.args.list.now)) in
     let count = p.ensures.tables.count in
     subst (λ (len : ℕ). IsSmall g.K.PartialEq.eq g.K.KeyCode.code (tables_view p.parts.items len c.args.join_nulls c.args.left_built)) (sym c.len-2.ensures)
-    (whole-small g.K.KeyCode.code (g.L.KeyList.list c.args.list.now) g.K.PartialEq.eq laws.codes_agree n p.parts.items p.ensures.tables c.args.join_nulls c.args.left_built laws.code_fits
+    (whole-small g.K.KeyCode.code
+    (g.L.KeyList.list c.args.list.now) g.K.PartialEq.eq laws.codes_agree n p.parts.items p.ensures.tables c.args.join_nulls c.args.left_built laws.code_fits
     (omega (arith, count, p.ensures.count.0)) (omega (arith, count, p.ensures.count.1)) c.requires)
 
 pub returns-clause-table : goal.returns-clause-table
@@ -23,6 +24,8 @@ returns-clause-table g c =
     let laws = g.met.K.KeyCode g.world.𝓛 g.world.𝓜 g.world.𝓡 ((λ s x. x), (λ x. x), (λ x. x), λ x. x) in
     let n = part_count c.args.exec.now (length (g.L.KeyList.list c.args.list.now)) in
     let count = p.ensures.tables.count in
-    subst (λ (len : ℕ). IsTableOf g.K.PartialEq.eq g.K.KeyCode.code (g.L.KeyList.list c.args.list.now) (tables_view p.parts.items len c.args.join_nulls c.args.left_built)) (sym c.len-2.ensures)
-    (whole-table g.K.KeyCode.code (g.L.KeyList.list c.args.list.now) g.K.PartialEq.eq laws.codes_agree n p.parts.items p.ensures.tables c.args.join_nulls c.args.left_built laws.code_fits
+    subst (λ (len : ℕ). IsTableOf g.K.PartialEq.eq g.K.KeyCode.code (g.L.KeyList.list c.args.list.now)
+    (tables_view p.parts.items len c.args.join_nulls c.args.left_built)) (sym c.len-2.ensures)
+    (whole-table g.K.KeyCode.code
+    (g.L.KeyList.list c.args.list.now) g.K.PartialEq.eq laws.codes_agree n p.parts.items p.ensures.tables c.args.join_nulls c.args.left_built laws.code_fits
     (omega (arith, count, p.ensures.count.0)))
