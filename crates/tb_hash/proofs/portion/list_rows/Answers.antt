@@ -1,7 +1,5 @@
-use Rattle.std.proofs.Common.{◌≡◌, ◌<◌, ◌≤◌, length, ap, sym, ◌∙◌, arith, None, get_or}
-use Rattle.std.proofs.lemmas.List.{get_or_default}
+use Rattle.std.proofs.Common.{◌≡◌, ◌≤◌, arith}
 use Rattle.std.proofs.lemmas.Result.{err_from_is_err_and}
-use Rattle.tb_build.specs.TableView.{rows_at}
 use Rattle.tb_hash.specs.Probing.{listed_row, probed_rows}
 use Rattle.tb_hash.proofs.PairLists.{rows-step, too_many-step, room-step}
 use Rattle.tb_hash.proofs.portion.list_rows.Goals as goal
