@@ -205,7 +205,8 @@ fn number_at<K: KeyCode, L: KeyList<K>>(
     ensures chains { OnOk result (AreChains K.eq (λ k. hash_by hashers (K.hash_input k)) (L.list list.now)
         links.new.firsts.items links.new.chains.heads.items links.new.chains.next.items) }
     ensures firsts { OnOk result (links.new.firsts.items
-        ≡ firsts_due (slice_index_or (L.list list.now) row None) (λ k. lookup (K.eq k) (chain_entries (L.list list.now) links.old.firsts.items)) links.old.firsts.items row) }
+        ≡ firsts_due (slice_index_or (L.list list.now) row None)
+        (λ k. lookup (K.eq k) (chain_entries (L.list list.now) links.old.firsts.items)) links.old.firsts.items row) }
 {
     match list.key(row as usize) {
         Some(key) => number_of(links, list, hashers, &key, row),
