@@ -50,7 +50,8 @@ returns-clause-chains g c =
     subst (λ (next : List ℕ). AreChains eq hash all (first_rows (grouped_rows name c.loop-row.numbers.items (length next))) l.chains.heads.items next)
     (sym c.shrink_to_fit.ensures.items)
     (chains-grouped eq hash all
-    (named_keys all name c.args.len) name c.loop-row.numbers.items l.firsts.items l.chains.heads.items l.chains.next.items c.loop-row.invariant.chains c.loop-row.invariant.firsts)
+    (named_keys all name c.args.len) name c.loop-row.numbers.items l.firsts.items l.chains.heads.items l.chains.next.items c.loop-row.invariant.chains
+    c.loop-row.invariant.firsts)
 
 pub returns-clause-numbers : goal.returns-clause-numbers
 returns-clause-numbers g c =
@@ -66,4 +67,5 @@ returns-clause-numbers g c =
     (length next)) (sym c.shrink_to_fit.ensures.items)
     (subst (λ (i : ℕ). AreNumbers eq keys i (λ k. lookup (eq k) (chain_entries all (first_rows (grouped_rows name numbers (length l.chains.next.items))))) numbers
     (length l.chains.next.items)) end
-    (numbers-grouped eq hash all keys name numbers l.firsts.items l.chains.heads.items l.chains.next.items c.loop-row.invariant.chains c.loop-row.invariant.firsts c.loop-row.row c.loop-row.invariant.numbers))
+    (numbers-grouped eq hash all keys name numbers l.firsts.items l.chains.heads.items l.chains.next.items c.loop-row.invariant.chains
+    c.loop-row.invariant.firsts c.loop-row.row c.loop-row.invariant.numbers))

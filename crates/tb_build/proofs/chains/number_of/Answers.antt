@@ -12,7 +12,10 @@ returns-in-None-clause-more g c =
     let is = c.bucket_of-bucket.ensures.value ∙ ap (part_of (hash c.args.key.now)) (c.len.ensures ∙ l.chains.heads.ok.0) in
     on_ok_weaker c.link.result
     (λ p. more-then g.K.PartialEq.eq g.met.K.Eq.laws hash
-    (g.L.KeyList.list c.args.list.now) l.firsts.items l.chains.heads.items l.chains.next.items c.requires.chains c.args.key.now c.bucket_of-bucket.result c.args.row is (omega (arith, c.bucket_of-bucket.ensures.below, c.len.ensures)) c.requires.row c.requires.key (sym c.in-None.ensures) c.link.new.links.firsts.items c.link.new.links.chains.heads.items c.link.new.links.chains.next.items p.0 p.1 p.2) c.link.ensures.links
+    (g.L.KeyList.list c.args.list.now) l.firsts.items l.chains.heads.items l.chains.next.items c.requires.chains c.args.key.now c.bucket_of-bucket.result
+    c.args.row is (omega (arith, c.bucket_of-bucket.ensures.below, c.len.ensures)) c.requires.row c.requires.key
+    (sym c.in-None.ensures) c.link.new.links.firsts.items c.link.new.links.chains.heads.items c.link.new.links.chains.next.items p.0 p.1 p.2)
+    c.link.ensures.links
 
 pub returns-in-None-clause-chains : goal.returns-in-None-clause-chains
 returns-in-None-clause-chains g c =
@@ -21,4 +24,7 @@ returns-in-None-clause-chains g c =
     let is = c.bucket_of-bucket.ensures.value ∙ ap (part_of (hash c.args.key.now)) (c.len.ensures ∙ l.chains.heads.ok.0) in
     on_ok_weaker c.link.result
     (λ p. chains-then g.K.PartialEq.eq g.met.K.Eq.laws hash
-    (g.L.KeyList.list c.args.list.now) l.firsts.items l.chains.heads.items l.chains.next.items c.requires.chains c.args.key.now c.bucket_of-bucket.result c.args.row is (omega (arith, c.bucket_of-bucket.ensures.below, c.len.ensures)) c.requires.row c.requires.key (sym c.in-None.ensures) c.link.new.links.firsts.items c.link.new.links.chains.heads.items c.link.new.links.chains.next.items p.0 p.1 p.2) c.link.ensures.links
+    (g.L.KeyList.list c.args.list.now) l.firsts.items l.chains.heads.items l.chains.next.items c.requires.chains c.args.key.now c.bucket_of-bucket.result
+    c.args.row is (omega (arith, c.bucket_of-bucket.ensures.below, c.len.ensures)) c.requires.row c.requires.key
+    (sym c.in-None.ensures) c.link.new.links.firsts.items c.link.new.links.chains.heads.items c.link.new.links.chains.next.items p.0 p.1 p.2)
+    c.link.ensures.links
