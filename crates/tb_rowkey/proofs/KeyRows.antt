@@ -1,9 +1,9 @@
 -- The key of a row, read from the columns one after another.
-use Rattle.std.proofs.Common.{◌≡◌, ◌+◌, ◌<◌, ◌≤◌, ℕ, Bool, true, false, not, ◌&&◌, ◌||◌, List, [], ◌∷◌, ◌++◌, ◌^◌, length, get_or, take, drop, Bor, ◌⊎◌, inl, inr, arith, refl, ap, sym, ◌∙◌}
+use Rattle.std.proofs.Common.{◌≡◌, ◌+◌, ◌<◌, ◌≤◌, ℕ, Bool, true, false, ◌&&◌, ◌||◌, List, [], ◌∷◌, ◌++◌, ◌^◌, length, get_or, take, drop, Bor, arith, refl, ap, sym, ◌∙◌}
 use Rattle.std.specs.Prelude.{if◌then◌else◌}
 use Rattle.std.proofs.lemmas.Bool.{false≢true}
 use Rattle.std.proofs.lemmas.List.{append-nil, take_at, length-append, length-map, append_assoc, at_drop_more, at_drop_all}
-use Rattle.tb_value.specs.Datum.{Datum, null, boolean, int, string, binary, list, struct, is_null, is_present}
+use Rattle.tb_value.specs.Datum.{Datum, null, boolean, int, string, binary, list, struct, is_present}
 use Rattle.tb_value.specs.Kind.{Kind}
 use Rattle.tb_chunk.specs.Chunk.{or_null}
 use Rattle.std.specs.List.{All}

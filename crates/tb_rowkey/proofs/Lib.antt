@@ -8,3 +8,4 @@ pub mod KeyColumns
 pub mod ColumnRows
 pub mod WholeColumns
 pub mod Written
+pub mod Evens

@@ -13,10 +13,12 @@
 //! another: this is the law `laws::one_to_one`.
 #![tactic(auto)]
 
+mod even_places;
 mod fields;
 mod keys;
 pub mod laws;
 mod lent;
+mod place_list;
 mod places;
 mod room;
 mod row_keys;

@@ -1,37 +1,25 @@
 //! Places in a buffer.
-ghost use Rattle.std.specs.Prelude.{◌≡◌, ◌<◌, ◌++◌, ◌∷◌, [], IfOk, OnOk, length, slice_index_or};
+ghost use Rattle.std.specs.Prelude.{◌≡◌, ◌<◌, ◌≤◌, ◌++◌, ◌∷◌, [], OnOk, length, slice_index_or};
 ghost use Rattle.tb_rowkey.specs.Places.{places_in};
 
+use crate::even_places::EvenPlaces;
+use crate::place_list::PlaceList;
 use std::alloc::Global;
-use tb_store::OutOfMemory;
+use tb_store::{MAX_ROWS, OutOfMemory};
 
-// The first place that has no room in 32 bits.
-const WIDE: usize = 1 << 32;
-
-/// Places in a buffer, in 32 bits each as long as they fit.
+/// Places in a buffer, listed only where not all are of one width.
 #[derive(Drop)]
 pub(crate) enum Places {
-    Narrow(Vec<u32>),
-    Wide(Vec<usize>),
-}
-
-// The same places in 64 bits.
-fn widened(alloc: Global, narrow: &[u32]) -> Result<Vec<usize>, OutOfMemory>
-    ensures { IfOk result (λ v. v.items ≡ narrow.now) }
-{
-    let mut wide = Vec::with_capacity(alloc, narrow.len())?;
-    for place in narrow {
-        wide.push(*place as usize)?;
-    }
-    Ok(wide)
+    Even(EvenPlaces),
+    Listed(PlaceList),
 }
 
 impl Places {
-    /// No places, with room for this many.
-    pub(crate) fn with_capacity(alloc: Global, places: usize) -> Result<Places, OutOfMemory>
-        ensures { IfOk result (λ p. places_in p ≡ []) }
+    /// The place 0 alone. A list, should one be needed, has room for this many.
+    pub(crate) fn from_zero(room: usize) -> Places
+        ensures { places_in result ≡ 0 ∷ [] }
     {
-        Ok(Places::Narrow(Vec::with_capacity(alloc, places)?))
+        Places::Even(EvenPlaces::from_zero(room))
     }
 
     /// The number of places.
@@ -39,8 +27,8 @@ impl Places {
         ensures { result ≡ length (places_in self.now) }
     {
         match self {
-            Places::Narrow(places) => places.len(),
-            Places::Wide(places) => places.len(),
+            Places::Even(even) => even.len(),
+            Places::Listed(list) => list.len(),
         }
     }
 
@@ -50,23 +38,25 @@ impl Places {
         ensures { result ≡ slice_index_or (places_in self.now) index 0 }
     {
         match self {
-            Places::Narrow(places) => places[index] as usize,
-            Places::Wide(places) => places[index],
+            Places::Even(even) => even.at(index),
+            Places::Listed(list) => list.at(index),
         }
     }
 
-    /// Appends a place.
+    /// Appends a place. The first that is not even with the others has all of them listed.
     pub(crate) fn push(&mut self, alloc: Global, place: usize) -> Result<(), OutOfMemory>
+        requires { length (places_in self.old) ≤ MAX_ROWS }
         ensures { OnOk result (places_in self.new ≡ places_in self.old ++ place ∷ []) }
     {
         match self {
-            Places::Narrow(places) if place < WIDE => places.push(place as u32)?,
-            Places::Narrow(places) => {
-                let mut wide = widened(alloc, places)?;
-                wide.push(place)?;
-                *self = Places::Wide(wide);
+            Places::Even(even) => {
+                if !even.push(place) {
+                    let mut list = PlaceList::of_even(alloc, even)?;
+                    list.push(alloc, place)?;
+                    *self = Places::Listed(list);
+                }
             }
-            Places::Wide(places) => places.push(place)?,
+            Places::Listed(list) => list.push(alloc, place)?,
         }
         Ok(())
     }

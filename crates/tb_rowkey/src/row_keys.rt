@@ -76,6 +76,13 @@ impl RowKeys {
         self.places.len() - 1
     }
 
+    /// Does nothing: its contract is what holds of the rows of any keys.
+    pub fn know_rows(&self)
+        ensures few { length self.now ≤ MAX_ROWS }
+    {
+        let _rows = self.len();
+    }
+
     /// The key of a row, lent.
     pub fn get(&self, row: usize) -> Option<&[u8]>
         requires { row < length self.now }
@@ -178,8 +185,7 @@ fn keys_of(
     know_columns(columns);
     let rows = columns[0].len();
     let mut bytes = Vec::with_capacity(alloc, room_for(columns))?;
-    let mut places = Places::with_capacity(alloc, rows + 1)?;
-    places.push(alloc, 0)?;
+    let mut places = Places::from_zero(rows + 1);
     for row in 0..rows {
         if push_key(&mut bytes, columns, join_nulls, row)? >= TOO_LONG {
             return Ok(None);

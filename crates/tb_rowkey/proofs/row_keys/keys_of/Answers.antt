@@ -1,4 +1,4 @@
-use Rattle.std.proofs.Common.{◌≡◌, ◌<◌, ℕ, Bool, List, [], ◌∷◌, ◌++◌, length, map, ap, sym, ◌∙◌, refl, arith}
+use Rattle.std.proofs.Common.{◌≡◌, ℕ, Bool, List, [], ◌∷◌, ◌++◌, length, map, ap, ◌∙◌, refl, arith}
 use Rattle.std.proofs.lemmas.Bool.{false≢true}
 use Rattle.std.proofs.lemmas.List.{length-map}
 use Rattle.tb_value.specs.Datum.{binary}
@@ -21,7 +21,9 @@ overflow_add-rows c = omega (arith, c.len-rows.ensures.len, c.len-rows.ensures.c
 
 pub loop-row-init : goal.loop-row-init
 loop-row-init c = record {
-  written = first_written (key (lent_columns c.args.columns.now) c.args.join_nulls) c.in_ok-bytes.bytes.items (places_in c.push.new.self) c.in_ok-bytes.ensures.items (c.in_ok-push.ensures ∙ ap (λ l. l ++ 0 ∷ []) c.in_ok-places.ensures);
+  written =
+      first_written (key (lent_columns c.args.columns.now) c.args.join_nulls) c.in_ok-bytes.bytes.items (places_in c.from_zero-places.result)
+      c.in_ok-bytes.ensures.items c.from_zero-places.ensures;
   short = λ i low. absurd (omega (arith, low));
 }
 
@@ -42,8 +44,8 @@ loop-row-preserved c =
     let cs = lent_columns c.args.columns.now in
     record {
       written =
-          written_more (key cs c.args.join_nulls) c.loop-row.row c.loop-row.bytes.items (places_in c.loop-row.places) c.push_key.new.bytes.items (places_in c.push-in-loop-row.new.self) c.loop-row.invariant.written
-          c.in_ok-push_key.ensures.bytes (c.in_ok-push-2.ensures ∙ ap (λ n. places_in c.loop-row.places ++ n ∷ []) (c.len.ensures ∙ c.push_key.new.bytes.ok.0));
+          written_more (key cs c.args.join_nulls) c.loop-row.row c.loop-row.bytes.items (places_in c.loop-row.places) c.push_key.new.bytes.items (places_in c.push.new.self) c.loop-row.invariant.written
+          c.in_ok-push_key.ensures.bytes (c.in_ok-push.ensures ∙ ap (λ n. places_in c.loop-row.places ++ n ∷ []) (c.len.ensures ∙ c.push_key.new.bytes.ok.0));
       short = below_more (IsShortRow cs) c.loop-row.row c.loop-row.invariant.short (omega (arith, c.in_ok-push_key.ensures.len, c.if-branch-ge-TOO_LONG.false));
     }
 

@@ -1,4 +1,4 @@
-use Rattle.std.proofs.Common.{◌++◌, ◌∙◌, length, ap, sym, arith}
+use Rattle.std.proofs.Common.{◌++◌, ◌∙◌, ap, sym, arith}
 use Rattle.std.proofs.lemmas.List.{append-nil}
 use Rattle.tb_rowkey.specs.Columns.{lent_columns, row_bytes}
 use Rattle.tb_rowkey.proofs.KeyRows.{grown, taken_back, no_key_written, key_written}

@@ -1,0 +1,6 @@
+use Rattle.std.proofs.Common.{◌≡◌, take}
+use Rattle.tb_rowkey.specs.Places.{listed}
+use Rattle.tb_rowkey.proofs.place_list.PlaceList.of_even.Given as goal
+
+abbrev pub invariant-loop-index : goal.invariant-loop-index
+invariant-loop-index l = listed l.list ≡ take l.index l.even

@@ -1,0 +1,85 @@
+//! Places in a buffer, in a list.
+ghost use Rattle.std.specs.Prelude.{◌≡◌, ◌<◌, ◌++◌, ◌∷◌, [], IfOk, OnOk, length, slice_index_or};
+ghost use Rattle.tb_rowkey.specs.Places.{listed};
+
+use crate::even_places::EvenPlaces;
+use std::alloc::Global;
+use tb_store::OutOfMemory;
+
+// The first place that has no room in 32 bits.
+const WIDE: usize = 1 << 32;
+
+/// A list of places, in 32 bits each as long as they fit.
+#[derive(Drop)]
+pub(crate) enum PlaceList {
+    Narrow(Vec<u32>),
+    Wide(Vec<usize>),
+}
+
+// The same places in 64 bits.
+fn widened(alloc: Global, narrow: &[u32]) -> Result<Vec<usize>, OutOfMemory>
+    ensures { IfOk result (λ v. v.items ≡ narrow.now) }
+{
+    let mut wide = Vec::with_capacity(alloc, narrow.len())?;
+    for place in narrow {
+        wide.push(*place as usize)?;
+    }
+    Ok(wide)
+}
+
+impl PlaceList {
+    // No places, with room for this many.
+    fn with_capacity(alloc: Global, places: usize) -> Result<PlaceList, OutOfMemory>
+        ensures { IfOk result (λ p. listed p ≡ []) }
+    {
+        Ok(PlaceList::Narrow(Vec::with_capacity(alloc, places)?))
+    }
+
+    /// These places, with room for as many as they are to be.
+    pub(crate) fn of_even(alloc: Global, even: &EvenPlaces) -> Result<PlaceList, OutOfMemory>
+        ensures { IfOk result (λ l. listed l ≡ even.now) }
+    {
+        let mut list = PlaceList::with_capacity(alloc, even.room())?;
+        for index in 0..even.len() {
+            list.push(alloc, even.at(index))?;
+        }
+        Ok(list)
+    }
+
+    /// The number of places.
+    pub(crate) fn len(&self) -> usize
+        ensures { result ≡ length (listed self.now) }
+    {
+        match self {
+            PlaceList::Narrow(places) => places.len(),
+            PlaceList::Wide(places) => places.len(),
+        }
+    }
+
+    /// A place.
+    pub(crate) fn at(&self, index: usize) -> usize
+        requires { index < length (listed self.now) }
+        ensures { result ≡ slice_index_or (listed self.now) index 0 }
+    {
+        match self {
+            PlaceList::Narrow(places) => places[index] as usize,
+            PlaceList::Wide(places) => places[index],
+        }
+    }
+
+    /// Appends a place.
+    pub(crate) fn push(&mut self, alloc: Global, place: usize) -> Result<(), OutOfMemory>
+        ensures { OnOk result (listed self.new ≡ listed self.old ++ place ∷ []) }
+    {
+        match self {
+            PlaceList::Narrow(places) if place < WIDE => places.push(place as u32)?,
+            PlaceList::Narrow(places) => {
+                let mut wide = widened(alloc, places)?;
+                wide.push(place)?;
+                *self = PlaceList::Wide(wide);
+            }
+            PlaceList::Wide(places) => places.push(place)?,
+        }
+        Ok(())
+    }
+}
