@@ -109,7 +109,8 @@ fn joined_row_keys<G: Gate>(
 ) -> PolarsResult<(Probed, Built)>
     ensures { AreValuesHashed exec.now validate false how kind.binary (map (or_null binary) left.now) (map (or_null binary) right.now) result }
 {
-    let _rows = (left.len(), right.len());
+    left.know_rows();
+    right.know_rows();
     let left = LentRowKeys { keys: left };
     let right = LentRowKeys { keys: right };
     hash_keys(rt, alloc, how, &left, &right, validate, false, exec, gate)

@@ -10,10 +10,10 @@ use Rattle.tb_pairs.proofs.LentKeys.{lent_values}
 use Rattle.tb_pairs.proofs.hashed.joined_row_keys.Goals as goal
 
 pub hash_keys-requires-clause-left : goal.hash_keys-requires-clause-left
-hash_keys-requires-clause-left g c κs within = omega (arith, length-map c.args.left.now lent_key, c.len.ensures.exact, c.len.ensures.few)
+hash_keys-requires-clause-left g c κs within = omega (arith, length-map c.args.left.now lent_key, c.know_rows.ensures.few)
 
 pub hash_keys-requires-clause-right : goal.hash_keys-requires-clause-right
-hash_keys-requires-clause-right g c κs within = omega (arith, length-map c.args.right.now lent_key, c.len-2.ensures.exact, c.len-2.ensures.few)
+hash_keys-requires-clause-right g c κs within = omega (arith, length-map c.args.right.now lent_key, c.know_rows-2.ensures.few)
 
 pub returns : goal.returns
 returns g c =
