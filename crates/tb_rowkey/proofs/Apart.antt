@@ -77,7 +77,8 @@ no_struct _ P k h = h
 
 text_apart : (s t xs ys : List ℕ) → length s < 2 ^ 32 → length t < 2 ^ 32 → text_code s ++ xs ≡ text_code t ++ ys → (s ≡ t) × (xs ≡ ys)
 text_apart s t xs ys l r e =
-    let h = bytes_apart 4 (length s) (length t) (s ++ xs) (t ++ ys) (sym (append_assoc (bytes_high_first 4 (length s)) s xs) ∙ e ∙ append_assoc (bytes_high_first 4 (length t)) t ys) in
+    let h = bytes_apart 4 (length s) (length t) (s ++ xs) (t ++ ys)
+    (sym (append_assoc (bytes_high_first 4 (length s)) s xs) ∙ e ∙ append_assoc (bytes_high_first 4 (length t)) t ys) in
     let g : length s % 4294967296 ≡ length t % 4294967296 = h.0 in
     front_apart s t xs ys (omega (arith, g, l, r)) h.1
 

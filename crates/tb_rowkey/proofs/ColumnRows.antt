@@ -20,12 +20,14 @@ first_of_all P x xs h = h 0 x (omega arith)
 rest_of_all : {X : Type 0} (P : X → Type 0) (x : X) (xs : List X) → All P (x ∷ xs) → All P xs
 rest_of_all P x xs h = λ k d low. h (suc k) d (omega arith)
 
-typed_fields : (n i : ℕ) (cs : List Col) → i < n → All IsColumn cs → All (λ (c : Col). IsTrue (is_key c.kind)) cs → All (λ (c : Col). length (values c) ≡ n) cs → IsKeyRow (kinds cs) (fields_at cs i)
+typed_fields : (n i : ℕ) (cs : List Col) → i < n → All IsColumn cs → All (λ (c : Col). IsTrue (is_key c.kind)) cs → All (λ (c : Col). length (values c) ≡ n) cs
+    → IsKeyRow (kinds cs) (fields_at cs i)
 typed_fields n i [] low h k r = tt
 typed_fields n i (c ∷ cs) low h k r =
     let rows = first_of_all (λ (d : Col). length (values d) ≡ n) c cs r in (
       (first_of_all (λ (d : Col). IsTrue (is_key d.kind)) c cs k, (first_of_all IsColumn c cs h).typed i null (omega (arith, rows, low))),
-      typed_fields n i cs low (rest_of_all IsColumn c cs h) (rest_of_all (λ (d : Col). IsTrue (is_key d.kind)) c cs k) (rest_of_all (λ (d : Col). length (values d) ≡ n) c cs r),
+      typed_fields n i cs low (rest_of_all IsColumn c cs h) (rest_of_all (λ (d : Col). IsTrue (is_key d.kind)) c cs k)
+          (rest_of_all (λ (d : Col). length (values d) ≡ n) c cs r),
     )
 
 pub row_of : (cs : List Col) (i : ℕ) → AreKeyColumns cs → i < row_count cs → IsKeyRow (kinds cs) (fields_at cs i)
@@ -36,9 +38,11 @@ field_is [] p i = refl
 field_is (c ∷ cs) zero i = refl
 field_is (c ∷ cs) (suc p) i = field_is cs p i
 
-pub columns_match : (nulls : ℕ → Bool) (ls rs : List Col) (i j : ℕ) → AreKeyColumns ls → AreKeyColumns rs → kinds ls ≡ kinds rs → i < row_count ls → j < row_count rs → agrees false (key_at ls nulls i) (key_at rs nulls j) ≡ columns_meet nulls ls rs i j
+pub columns_match : (nulls : ℕ → Bool) (ls rs : List Col) (i j : ℕ) → AreKeyColumns ls → AreKeyColumns rs → kinds ls ≡ kinds rs → i < row_count ls → j < row_count rs
+    → agrees false (key_at ls nulls i) (key_at rs nulls j) ≡ columns_meet nulls ls rs i j
 columns_match nulls ls rs i j l r same below under =
     ap (λ (ts : List Kind). agrees false (key_at ls nulls i) (key_row ts nulls (fields_at rs j))) (sym same)
-    ∙ keys_meet (kinds ls) nulls (fields_at ls i) (fields_at rs j) (row_of ls i l below) (subst (λ (ts : List Kind). IsKeyRow ts (fields_at rs j)) (sym same) (row_of rs j r under))
+    ∙ keys_meet (kinds ls) nulls (fields_at ls i) (fields_at rs j) (row_of ls i l below)
+    (subst (λ (ts : List Kind). IsKeyRow ts (fields_at rs j)) (sym same) (row_of rs j r under))
     ∙ ap (λ n. rows_meet nulls n (fields_at ls i) (fields_at rs j)) (length-map ls (λ (c : Col). c.kind))
     ∙ λ t. list_all (λ p. agrees (nulls p) (field_is ls p i t) (field_is rs p j t)) (row_numbers (length ls))

@@ -8,9 +8,9 @@ use Rattle.tb_value.specs.Kind.{Kind}
 use Rattle.tb_chunk.specs.Chunk.{or_null}
 use Rattle.std.specs.List.{All}
 use Rattle.tb_chunk.specs.Col.{Col, values}
-use Rattle.tb_chunk.proofs.Lent.{low_lent, lent_is}
+use Rattle.tb_chunk.proofs.Lent.{low_lent, lent_is, lent_has}
 use Rattle.tb_rowkey.specs.RowKey.{field_code, has_key}
-use Rattle.tb_rowkey.specs.Columns.{lent_columns, fields_at, key_at, row_bytes, IsShortRow}
+use Rattle.tb_rowkey.specs.Columns.{lent_columns, fields_at, key_at, row_bytes, row_count, IsShortRow}
 use Rattle.tb_rowkey.specs.RowKeys.{bytes_of, key_of}
 
 -- whether the key of row i is present
@@ -31,6 +31,11 @@ module _ (cs : List Col) (join_nulls : Bool) (i : ℕ) where
         ∙ ap (λ (d : Col). (is_present (get_or (values d) i null) || join_nulls) && has_key_at join_nulls (drop (n + 1) cs) i) is
         ∙ sym (at_drop_more (λ ds. has_key_at join_nulls ds i) cs n c low)
 
+-- the number of rows is the first column's
+pub count_read : (rs : List (Bor Col)) (r : Bor Col) (n : ℕ) → n ≡ length (values r.now) → 0 < length rs → r ≡ get_or rs 0 r
+    → All (λ (c : Col). length (values c) ≡ row_count (lent_columns rs)) (lent_columns rs) → n ≡ row_count (lent_columns rs)
+count_read rs r n long some is rows = long ∙ lent_has rs 0 r some is (λ (d : Col). length (values d) ≡ row_count (lent_columns rs)) rows
+
 -- A ROW THAT IS WRITTEN
 
 and_true : (a : Bool) → (a && true) ≡ a
@@ -44,7 +49,8 @@ and_assoc false b c = refl
 module _ (rs : List (Bor Col)) (join_nulls : Bool) (i n : ℕ) where
   -- one field more
   module _ (r : Bor Col) (low : n < length rs) (is : r ≡ get_or rs n r) where
-    pub bytes_read : (bytes more all : List ℕ) → more ≡ bytes ++ field_code r.now.kind (get_or (values r.now) i null) → bytes ++ row_bytes (drop n (lent_columns rs)) i ≡ all → more ++ row_bytes (drop (n + 1) (lent_columns rs)) i ≡ all
+    pub bytes_read : (bytes more all : List ℕ) → more ≡ bytes ++ field_code r.now.kind (get_or (values r.now) i null)
+        → bytes ++ row_bytes (drop n (lent_columns rs)) i ≡ all → more ++ row_bytes (drop (n + 1) (lent_columns rs)) i ≡ all
     bytes_read bytes more all e so_far =
         let v : Datum = get_or (values r.now) i null in
         ap (λ l. l ++ row_bytes (drop (n + 1) (lent_columns rs)) i) e
@@ -52,7 +58,8 @@ module _ (rs : List (Bor Col)) (join_nulls : Bool) (i n : ℕ) where
         ∙ ap (λ l. bytes ++ l) (more_bytes (lent_columns rs) join_nulls i n r.now v (low_lent rs n r low is) (lent_is rs n r low is) refl)
         ∙ so_far
 
-    pub key_read : (b c all : Bool) → c ≡ (b && (is_present (get_or (values r.now) i null) || join_nulls)) → (b && has_key_at join_nulls (drop n (lent_columns rs)) i) ≡ all → (c && has_key_at join_nulls (drop (n + 1) (lent_columns rs)) i) ≡ all
+    pub key_read : (b c all : Bool) → c ≡ (b && (is_present (get_or (values r.now) i null) || join_nulls))
+        → (b && has_key_at join_nulls (drop n (lent_columns rs)) i) ≡ all → (c && has_key_at join_nulls (drop (n + 1) (lent_columns rs)) i) ≡ all
     key_read b c all e so_far =
         let v : Datum = get_or (values r.now) i null in
         let next : Bool = has_key_at join_nulls (drop (n + 1) (lent_columns rs)) i in
@@ -91,7 +98,8 @@ code_shown t (binary s) rest = refl
 code_shown t (list vs) rest = refl
 code_shown t (struct vs) rest = refl
 
-shown_if : (has_key : Bool) (s : List ℕ) → or_null binary (key_of s) ≡ binary s → or_null binary (key_of (bytes_of (if has_key then binary s else null))) ≡ (if has_key then binary s else null)
+shown_if : (has_key : Bool) (s : List ℕ) → or_null binary (key_of s) ≡ binary s
+    → or_null binary (key_of (bytes_of (if has_key then binary s else null))) ≡ (if has_key then binary s else null)
 shown_if true s e = e
 shown_if false s e = refl
 

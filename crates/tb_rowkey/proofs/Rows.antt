@@ -17,7 +17,8 @@ use Rattle.tb_rowkey.proofs.Apart.{field_apart}
 pub row_apart : (ts : List Kind) (fs gs : List Datum) (xs ys : List ℕ) → IsKeyRow ts fs → IsKeyRow ts gs → rowkey ts fs ++ xs ≡ rowkey ts gs ++ ys → (fs ≡ gs) × (xs ≡ ys)
 row_apart [] [] [] xs ys l r e = (refl, e)
 row_apart (t ∷ ts) (f ∷ fs) (g ∷ gs) xs ys l r e =
-    let h = field_apart t f g (rowkey ts fs ++ xs) (rowkey ts gs ++ ys) l.0 r.0 (sym (append_assoc (field_code t f) (rowkey ts fs) xs) ∙ e ∙ append_assoc (field_code t g) (rowkey ts gs) ys) in
+    let h = field_apart t f g (rowkey ts fs ++ xs) (rowkey ts gs ++ ys) l.0 r.0
+    (sym (append_assoc (field_code t f) (rowkey ts fs) xs) ∙ e ∙ append_assoc (field_code t g) (rowkey ts gs) ys) in
     let k = row_apart ts fs gs xs ys l.1 r.1 h.1 in
     (λ i. h.0 i ∷ k.0 i, k.1)
 row_apart [] (f ∷ fs) gs xs ys l r e = absurd l
@@ -52,7 +53,8 @@ abbrev all_meet : (ℕ → Bool) → List Datum → List Datum → Bool
 all_meet nulls (f ∷ fs) (g ∷ gs) = agrees (nulls 0) f g && all_meet (λ p. nulls (suc p)) fs gs
 all_meet nulls _ _ = true
 
-all_same : (ts : List Kind) (nulls : ℕ → Bool) (fs gs : List Datum) → IsKeyRow ts fs → IsKeyRow ts gs → all_meet nulls fs gs ≡ true → (fs ≡ gs) × (has_key nulls fs ≡ true)
+all_same : (ts : List Kind) (nulls : ℕ → Bool) (fs gs : List Datum) → IsKeyRow ts fs → IsKeyRow ts gs → all_meet nulls fs gs ≡ true
+    → (fs ≡ gs) × (has_key nulls fs ≡ true)
 all_same [] nulls [] [] l r h = (refl, refl)
 all_same (t ∷ ts) nulls (f ∷ fs) (g ∷ gs) l r h =
     let both = and_parts (agrees (nulls 0) f g) (all_meet (λ p. nulls (suc p)) fs gs) h in
@@ -128,5 +130,6 @@ all_places [] nulls [] (g ∷ gs) l r = absurd r
 all_places (t ∷ ts) nulls [] gs l r = absurd l
 all_places (t ∷ ts) nulls (f ∷ fs) [] l r = absurd r
 
-pub keys_meet : (ts : List Kind) (nulls : ℕ → Bool) (fs gs : List Datum) → IsKeyRow ts fs → IsKeyRow ts gs → agrees false (key_row ts nulls fs) (key_row ts nulls gs) ≡ rows_meet nulls (length ts) fs gs
+pub keys_meet : (ts : List Kind) (nulls : ℕ → Bool) (fs gs : List Datum) → IsKeyRow ts fs → IsKeyRow ts gs
+    → agrees false (key_row ts nulls fs) (key_row ts nulls gs) ≡ rows_meet nulls (length ts) fs gs
 keys_meet ts nulls fs gs l r = keys_all ts nulls fs gs l r ∙ all_places ts nulls fs gs l r

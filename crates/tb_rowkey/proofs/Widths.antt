@@ -31,13 +31,15 @@ signed_4 (negsuc a) (negsuc b) l r e = ap negsuc (omega (arith, ints))
 signed_4 (pos a) (negsuc b) l r e = absurd (omega (arith, ints))
 signed_4 (negsuc a) (pos b) l r e = absurd (omega (arith, ints))
 
-signed_8 : (i j : ℤ) → IsSigned 9223372036854775807 i → IsSigned 9223372036854775807 j → twos_complement i % 18446744073709551616 ≡ twos_complement j % 18446744073709551616 → i ≡ j
+signed_8 : (i j : ℤ) → IsSigned 9223372036854775807 i → IsSigned 9223372036854775807 j
+    → twos_complement i % 18446744073709551616 ≡ twos_complement j % 18446744073709551616 → i ≡ j
 signed_8 (pos a) (pos b) l r e = ap pos (omega (arith, ints))
 signed_8 (negsuc a) (negsuc b) l r e = ap negsuc (omega (arith, ints))
 signed_8 (pos a) (negsuc b) l r e = absurd (omega (arith, ints))
 signed_8 (negsuc a) (pos b) l r e = absurd (omega (arith, ints))
 
-signed_16 : (i j : ℤ) → IsSigned 170141183460469231731687303715884105727 i → IsSigned 170141183460469231731687303715884105727 j → twos_complement i % 340282366920938463463374607431768211456 ≡ twos_complement j % 340282366920938463463374607431768211456 → i ≡ j
+signed_16 : (i j : ℤ) → IsSigned 170141183460469231731687303715884105727 i → IsSigned 170141183460469231731687303715884105727 j
+    → twos_complement i % 340282366920938463463374607431768211456 ≡ twos_complement j % 340282366920938463463374607431768211456 → i ≡ j
 signed_16 (pos a) (pos b) l r e = ap pos (omega (arith, ints))
 signed_16 (negsuc a) (negsuc b) l r e = ap negsuc (omega (arith, ints))
 signed_16 (pos a) (negsuc b) l r e = absurd (omega (arith, ints))
@@ -58,7 +60,8 @@ unsigned_4 (pos a) (pos b) l r e = ap pos (omega (arith, ints))
 unsigned_4 (negsuc a) j l r e = absurd (omega (arith, ints))
 unsigned_4 i (negsuc b) l r e = absurd (omega (arith, ints))
 
-unsigned_8 : (i j : ℤ) → IsUnsigned 18446744073709551615 i → IsUnsigned 18446744073709551615 j → twos_complement i % 18446744073709551616 ≡ twos_complement j % 18446744073709551616 → i ≡ j
+unsigned_8 : (i j : ℤ) → IsUnsigned 18446744073709551615 i → IsUnsigned 18446744073709551615 j
+    → twos_complement i % 18446744073709551616 ≡ twos_complement j % 18446744073709551616 → i ≡ j
 unsigned_8 (pos a) (pos b) l r e = ap pos (omega (arith, ints))
 unsigned_8 (negsuc a) j l r e = absurd (omega (arith, ints))
 unsigned_8 i (negsuc b) l r e = absurd (omega (arith, ints))

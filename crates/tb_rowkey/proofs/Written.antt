@@ -39,7 +39,8 @@ module _ (key : ℕ → List ℕ) where
     keys = λ i low. absurd (omega arith);
   }
 
-  module _ (n : ℕ) (bytes places more after : List ℕ) (w : AreWritten n bytes places) (is_more : more ≡ bytes ++ key n) (is_after : after ≡ places ++ length more ∷ []) where
+  module _ (n : ℕ) (bytes places more after : List ℕ) (w : AreWritten n bytes places) (is_more : more ≡ bytes ++ key n)
+      (is_after : after ≡ places ++ length more ∷ []) where
     at_old : (i : ℕ) → i < n + 1 → get_or after i 0 ≡ get_or places i 0
     at_old i low = let many = w.count in ap (λ l. get_or l i 0) is_after ∙ get_or_append_left places (length more ∷ []) 0 i (omega (arith, low, many))
 
@@ -82,7 +83,8 @@ module _ (key : ℕ → List ℕ) where
         let a = at_old n (omega arith) ∙ w.last in
         let b = at_new ∙ longer in
         subst (λ k. bytes_at more after k ≡ key k) (sym e)
-        (ap (λ l. take (get_or after (n + 1) 0 - get_or after n 0) (drop (get_or after n 0) l)) is_more ∙ cut_new bytes (key n) (get_or after n 0) (get_or after (n + 1) 0) a b)
+        (ap (λ l. take (get_or after (n + 1) 0 - get_or after n 0) (drop (get_or after n 0) l)) is_more
+        ∙ cut_new bytes (key n) (get_or after n 0) (get_or after (n + 1) 0) a b)
 
     pub written_more : AreWritten (n + 1) more after
     written_more =
@@ -128,14 +130,16 @@ mapped_same f g a zero h = refl
 mapped_same f g a (suc n) h = λ t. h a (omega arith) (omega arith) t ∷ mapped_same f g (a + 1) n (λ i low high. h i (omega (arith, low)) (omega (arith, high))) t
 
 -- the keys that are written, where each is shown as one of the values
-pub written_keys : (shows : List ℕ → Datum) (key : ℕ → List ℕ) (value : ℕ → Datum) (n : ℕ) (bytes places : List ℕ) → AreWritten key n bytes places → ((i : ℕ) → i < n → or_null shows (key_of (key i)) ≡ value i)
+pub written_keys : (shows : List ℕ → Datum) (key : ℕ → List ℕ) (value : ℕ → Datum) (n : ℕ) (bytes places : List ℕ)
+    → AreWritten key n bytes places → ((i : ℕ) → i < n → or_null shows (key_of (key i)) ≡ value i)
     → map (or_null shows) (keys_in bytes places) ≡ map value (row_numbers n)
 written_keys shows key value n bytes places w shown =
     let many = w.count in
     let count : length places - 1 ≡ n = omega (arith, many) in
     map-map (or_null shows) (λ i. key_of (bytes_at bytes places i)) (row_numbers (length places - 1))
     ∙ ap (λ k. map (λ i. or_null shows (key_of (bytes_at bytes places i))) (row_numbers k)) count
-    ∙ mapped_same (λ i. or_null shows (key_of (bytes_at bytes places i))) value 0 n (λ i low high. let under : i < n = omega (arith, high) in ap (λ l. or_null shows (key_of l)) (w.keys i under) ∙ shown i under)
+    ∙ mapped_same (λ i. or_null shows (key_of (bytes_at bytes places i))) value 0 n
+    (λ i low high. let under : i < n = omega (arith, high) in ap (λ l. or_null shows (key_of l)) (w.keys i under) ∙ shown i under)
 
 pub row_low : (bytes places : List ℕ) (keys : List (Option (List ℕ))) (i : ℕ) → keys_in bytes places ≡ keys → i < length keys → i < length places - 1
 row_low bytes places keys i is low = let count = keys_count bytes places in let same = ap length is in omega (arith, count, same, low)

@@ -22,10 +22,12 @@ pub returns-clause-value : goal.returns-clause-value
 returns-clause-value c =
     let keys = c.args.keys.now in
     let all : c.loop-row.builder.rows ≡ keys = c.loop-row.invariant ∙ take_all c.loop-row.row keys (omega (arith, c.loop-row-test.false, c.len-rows.ensures.exact)) in
-    IfOk-weaker c.finish.result (λ (b : BinaryChunk). texts b.inner.buffers.items b.inner.views.items ≡ c.loop-row.builder.rows) (λ (b : BinaryChunk). texts b.inner.buffers.items b.inner.views.items ≡ keys) (λ b h. h ∙ all) c.finish.ensures.bytes
+    IfOk-weaker c.finish.result (λ (b : BinaryChunk). texts b.inner.buffers.items b.inner.views.items ≡ c.loop-row.builder.rows)
+    (λ (b : BinaryChunk). texts b.inner.buffers.items b.inner.views.items ≡ keys) (λ b h. h ∙ all) c.finish.ensures.bytes
 
 pub returns-clause-typed : goal.returns-clause-typed
 returns-clause-typed c =
     let keys = c.args.keys.now in
     let all : c.loop-row.builder.rows ≡ keys = c.loop-row.invariant ∙ take_all c.loop-row.row keys (omega (arith, c.loop-row-test.false, c.len-rows.ensures.exact)) in
-    IfOk-weaker c.finish.result (λ (b : BinaryChunk). texts b.inner.buffers.items b.inner.views.items ≡ c.loop-row.builder.rows) (λ (b : BinaryChunk). All (HasType kind.binary) (map (or_null binary) keys)) (λ b h. rw (sym all) c.finish.ensures.typed) c.finish.ensures.bytes
+    IfOk-weaker c.finish.result (λ (b : BinaryChunk). texts b.inner.buffers.items b.inner.views.items ≡ c.loop-row.builder.rows)
+    (λ (b : BinaryChunk). All (HasType kind.binary) (map (or_null binary) keys)) (λ b h. rw (sym all) c.finish.ensures.typed) c.finish.ensures.bytes

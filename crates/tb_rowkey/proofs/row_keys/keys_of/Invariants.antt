@@ -7,4 +7,7 @@ use Rattle.tb_rowkey.proofs.row_keys.keys_of.Given as goal
 
 -- the keys of the rows so far, and that these are short
 abbrev pub invariant-loop-row : goal.invariant-loop-row
-invariant-loop-row l = record { written : AreWritten (λ i. bytes_of (key_at (lent_columns l.columns) (λ _. l.join_nulls) i)) l.row l.bytes.items (places_in l.places); short : (i : ℕ) → i < l.row → IsShortRow (lent_columns l.columns) i }
+invariant-loop-row l = record {
+  written : AreWritten (λ i. bytes_of (key_at (lent_columns l.columns) (λ _. l.join_nulls) i)) l.row l.bytes.items (places_in l.places);
+  short : (i : ℕ) → i < l.row → IsShortRow (lent_columns l.columns) i;
+}

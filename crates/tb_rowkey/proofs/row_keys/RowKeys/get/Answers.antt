@@ -48,4 +48,5 @@ pub returns-clause-short : goal.returns-clause-short
 returns-clause-short c =
     let low = row_low c.self.inside.bytes.items (places_in c.self.inside.places) c.args.self.now c.args.row c.self.view_is c.requires in
     let short = c.self.invariant.short c.args.row (omega (arith, low)) in
-    some_weaker c.key_between.result (λ key. length key.now ≡ c.at-2.result - c.at.result) (λ key. length key.now < 2 ^ 32) (λ key len. omega (arith, c.at.ensures, c.at-2.ensures, short, len)) c.key_between.ensures.len
+    some_weaker c.key_between.result (λ key. length key.now ≡ c.at-2.result - c.at.result) (λ key. length key.now < 2 ^ 32)
+    (λ key len. omega (arith, c.at.ensures, c.at-2.ensures, short, len)) c.key_between.ensures.len

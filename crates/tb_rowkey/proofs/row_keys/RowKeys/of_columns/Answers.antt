@@ -13,12 +13,14 @@ use Rattle.tb_rowkey.proofs.Written.{some_weaker}
 use Rattle.tb_rowkey.proofs.row_keys.RowKeys.of_columns.Goals as goal
 
 -- the columns that are lent again are the given ones, in one chunk each
-lent_again : (rs ls more : List (Bor Col)) (ws made : List Col) → ls ≡ more → lent_columns more ≡ ws → ws ≡ made → made ≡ whole (lent_columns rs) → lent_columns ls ≡ whole (lent_columns rs)
+lent_again : (rs ls more : List (Bor Col)) (ws made : List Col) → ls ≡ more → lent_columns more ≡ ws → ws ≡ made → made ≡ whole (lent_columns rs)
+    → lent_columns ls ≡ whole (lent_columns rs)
 lent_again rs ls more ws made e f g h = ap lent_columns e ∙ f ∙ g ∙ h
 
 pub keys_of-requires-2-clause-some : goal.keys_of-requires-2-clause-some
 keys_of-requires-2-clause-some c =
-    let e = lent_again c.args.columns.now c.deref-2.result.now c.in_ok-lent.lent.items c.deref.result.now c.in_ok-whole.whole.items c.deref-2.ensures.value c.in_ok-lent.ensures c.deref.ensures.value c.in_ok-whole.ensures in
+    let e = lent_again c.args.columns.now c.deref-2.result.now c.in_ok-lent.lent.items c.deref.result.now c.in_ok-whole.whole.items
+    c.deref-2.ensures.value c.in_ok-lent.ensures c.deref.ensures.value c.in_ok-whole.ensures in
     let again = length-map c.deref-2.result.now (λ (r : Bor Col). r.now) in
     let same = ap length e in
     let kept = length-map (lent_columns c.args.columns.now) in_one_chunk in
@@ -27,21 +29,27 @@ keys_of-requires-2-clause-some c =
 
 pub keys_of-requires-2-clause-rows : goal.keys_of-requires-2-clause-rows
 keys_of-requires-2-clause-rows c =
-    let e = lent_again c.args.columns.now c.deref-2.result.now c.in_ok-lent.lent.items c.deref.result.now c.in_ok-whole.whole.items c.deref-2.ensures.value c.in_ok-lent.ensures c.deref.ensures.value c.in_ok-whole.ensures in
+    let e = lent_again c.args.columns.now c.deref-2.result.now c.in_ok-lent.lent.items c.deref.result.now c.in_ok-whole.whole.items
+    c.deref-2.ensures.value c.in_ok-lent.ensures c.deref.ensures.value c.in_ok-whole.ensures in
     subst (λ (ds : List Col). All (λ (d : Col). length (values d) ≡ row_count ds) ds) (sym e) (whole_rows (lent_columns c.args.columns.now) c.requires.rows)
 
 pub returns-clause-short : goal.returns-clause-short
 returns-clause-short c =
     let cs = lent_columns c.args.columns.now in
-    let e = lent_again c.args.columns.now c.deref-2.result.now c.in_ok-lent.lent.items c.deref.result.now c.in_ok-whole.whole.items c.deref-2.ensures.value c.in_ok-lent.ensures c.deref.ensures.value c.in_ok-whole.ensures in
+    let e = lent_again c.args.columns.now c.deref-2.result.now c.in_ok-lent.lent.items c.deref.result.now c.in_ok-whole.whole.items
+    c.deref-2.ensures.value c.in_ok-lent.ensures c.deref.ensures.value c.in_ok-whole.ensures in
     IfOk-weaker c.keys_of-2.result (λ keys. IsSome keys ↔ AreShortRows (lent_columns c.deref-2.result.now)) (λ keys. IsSome keys ↔ AreShortRows cs)
-    (λ keys h. (λ some. whole_short_back cs (subst AreShortRows e (h.0 some)), λ short. h.1 (subst AreShortRows (sym e) (whole_short cs short)))) c.keys_of-2.ensures.short
+    (λ keys h. (λ some. whole_short_back cs (subst AreShortRows e (h.0 some)), λ short. h.1 (subst AreShortRows (sym e) (whole_short cs short))))
+    c.keys_of-2.ensures.short
 
 pub returns-clause-keys : goal.returns-clause-keys
 returns-clause-keys c =
     let cs = lent_columns c.args.columns.now in
     let ls = lent_columns c.deref-2.result.now in
     let nulls : ℕ → Bool = λ _. c.args.join_nulls in
-    let e = lent_again c.args.columns.now c.deref-2.result.now c.in_ok-lent.lent.items c.deref.result.now c.in_ok-whole.whole.items c.deref-2.ensures.value c.in_ok-lent.ensures c.deref.ensures.value c.in_ok-whole.ensures in
-    IfOk-weaker c.keys_of-2.result (λ keys. IfSome keys (λ k. map (or_null binary) k ≡ keys_at ls nulls)) (λ keys. IfSome keys (λ k. map (or_null binary) k ≡ keys_at cs nulls))
-    (λ keys h. some_weaker keys (λ k. map (or_null binary) k ≡ keys_at ls nulls) (λ k. map (or_null binary) k ≡ keys_at cs nulls) (λ k is. is ∙ ap (λ (ds : List Col). keys_at ds nulls) e ∙ whole_keys cs nulls) h) c.keys_of-2.ensures.keys
+    let e = lent_again c.args.columns.now c.deref-2.result.now c.in_ok-lent.lent.items c.deref.result.now c.in_ok-whole.whole.items
+    c.deref-2.ensures.value c.in_ok-lent.ensures c.deref.ensures.value c.in_ok-whole.ensures in
+    IfOk-weaker c.keys_of-2.result (λ keys. IfSome keys (λ k. map (or_null binary) k ≡ keys_at ls nulls))
+    (λ keys. IfSome keys (λ k. map (or_null binary) k ≡ keys_at cs nulls))
+    (λ keys h. some_weaker keys (λ k. map (or_null binary) k ≡ keys_at ls nulls) (λ k. map (or_null binary) k ≡ keys_at cs nulls)
+    (λ k is. is ∙ ap (λ (ds : List Col). keys_at ds nulls) e ∙ whole_keys cs nulls) h) c.keys_of-2.ensures.keys
