@@ -1,5 +1,6 @@
 //! Places that need no list.
-ghost use Rattle.std.specs.Prelude.{◌≡◌, ◌<◌, ◌≤◌, ◌++◌, ◌∷◌, [], if◌then◌else◌, length, slice_index_or};
+ghost use Rattle.std.specs.Prelude.{◌≡◌, ◌↔◌, ◌<◌, ◌≤◌, ◌++◌, ◌∷◌, [], IsTrue, if◌then◌else◌, length, slice_index_or};
+ghost use Rattle.tb_rowkey.specs.EvenPlaces.{AreEven};
 
 use std::marker::Model;
 use tb_store::MAX_ROWS;
@@ -56,10 +57,11 @@ impl EvenPlaces {
         index * self.width
     }
 
-    /// Appends a place, where it is as far behind the last one as the others are. Else it says no, and nothing changes.
+    /// Appends a place where all are even with it, and else says no.
     pub(crate) fn push(&mut self, place: usize) -> bool
         requires { length self.old ≤ MAX_ROWS }
-        ensures { self.new ≡ (if result then self.old ++ place ∷ [] else self.old) }
+        ensures exact { IsTrue result ↔ AreEven (self.old ++ place ∷ []) }
+        ensures places { self.new ≡ (if result then self.old ++ place ∷ [] else self.old) }
     {
         if self.gaps == 0 {
             self.width = place;
