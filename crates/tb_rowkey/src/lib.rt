@@ -22,6 +22,7 @@ mod place_list;
 mod places;
 mod room;
 mod row_keys;
+mod uneven_places;
 
 pub use keys::prepare_keys_multiple;
 pub use lent::know_columns;

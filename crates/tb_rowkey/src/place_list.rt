@@ -1,6 +1,6 @@
 //! Places in a buffer, in a list.
-ghost use Rattle.std.specs.Prelude.{◌≡◌, ◌<◌, ◌++◌, ◌∷◌, [], IfOk, OnOk, length, slice_index_or};
-ghost use Rattle.tb_rowkey.specs.Places.{listed};
+ghost use Rattle.std.specs.Prelude.{◌≡◌, ◌<◌, ◌++◌, ◌∷◌, [], IfOk, OnErr, OnOk, length, slice_index_or};
+ghost use Rattle.tb_rowkey.specs.PlaceList.{listed};
 
 use crate::even_places::EvenPlaces;
 use std::alloc::Global;
@@ -67,9 +67,10 @@ impl PlaceList {
         }
     }
 
-    /// Appends a place.
+    /// Appends a place. Where memory is wanting, nothing changes.
     pub(crate) fn push(&mut self, alloc: Global, place: usize) -> Result<(), OutOfMemory>
-        ensures { OnOk result (listed self.new ≡ listed self.old ++ place ∷ []) }
+        ensures ok { OnOk result (listed self.new ≡ listed self.old ++ place ∷ []) }
+        ensures err { OnErr result (listed self.new ≡ listed self.old) }
     {
         match self {
             PlaceList::Narrow(places) if place < WIDE => places.push(place as u32)?,

@@ -3,7 +3,7 @@ ghost use Rattle.std.specs.Prelude.{◌≡◌, ◌<◌, ◌≤◌, ◌++◌, ◌
 ghost use Rattle.tb_rowkey.specs.Places.{places_in};
 
 use crate::even_places::EvenPlaces;
-use crate::place_list::PlaceList;
+use crate::uneven_places::UnevenPlaces;
 use std::alloc::Global;
 use tb_store::{MAX_ROWS, OutOfMemory};
 
@@ -11,7 +11,7 @@ use tb_store::{MAX_ROWS, OutOfMemory};
 #[derive(Drop)]
 pub(crate) enum Places {
     Even(EvenPlaces),
-    Listed(PlaceList),
+    Uneven(UnevenPlaces),
 }
 
 impl Places {
@@ -28,7 +28,7 @@ impl Places {
     {
         match self {
             Places::Even(even) => even.len(),
-            Places::Listed(list) => list.len(),
+            Places::Uneven(uneven) => uneven.len(),
         }
     }
 
@@ -39,11 +39,11 @@ impl Places {
     {
         match self {
             Places::Even(even) => even.at(index),
-            Places::Listed(list) => list.at(index),
+            Places::Uneven(uneven) => uneven.at(index),
         }
     }
 
-    /// Appends a place. The first that is not even with the others has all of them listed.
+    /// Appends a place. The first that is not even with the others has all listed.
     pub(crate) fn push(&mut self, alloc: Global, place: usize) -> Result<(), OutOfMemory>
         requires { length (places_in self.old) ≤ MAX_ROWS }
         ensures { OnOk result (places_in self.new ≡ places_in self.old ++ place ∷ []) }
@@ -51,12 +51,10 @@ impl Places {
         match self {
             Places::Even(even) => {
                 if !even.push(place) {
-                    let mut list = PlaceList::of_even(alloc, even)?;
-                    list.push(alloc, place)?;
-                    *self = Places::Listed(list);
+                    *self = Places::Uneven(UnevenPlaces::of(alloc, even, place)?);
                 }
             }
-            Places::Listed(list) => list.push(alloc, place)?,
+            Places::Uneven(uneven) => uneven.push(alloc, place)?,
         }
         Ok(())
     }

@@ -1,5 +1,5 @@
 use Rattle.std.proofs.Common.{◌≡◌, take}
-use Rattle.tb_rowkey.specs.Places.{listed}
+use Rattle.tb_rowkey.specs.PlaceList.{listed}
 use Rattle.tb_rowkey.proofs.place_list.PlaceList.of_even.Given as goal
 
 abbrev pub invariant-loop-index : goal.invariant-loop-index
