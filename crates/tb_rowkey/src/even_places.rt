@@ -38,6 +38,7 @@ impl EvenPlaces {
         }
     }
 
+    /// For how many places a list is to have room. No contract rests on it.
     pub(crate) fn room(&self) -> usize {
         self.room
     }
