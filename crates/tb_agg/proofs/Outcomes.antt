@@ -1,5 +1,5 @@
 -- Columns of aggregates, and when they are refused, in other words.
-use Rattle.std.proofs.Common.{◌≡◌, ◌∙◌, ◌≤◌, ℕ, zero, suc, pos, List, [], ◌∷◌, length, map, not, Option, Some, IsSomeAnd, Result, IfOk, refl, sym, ap, subst, arith}
+use Rattle.std.proofs.Common.{◌≡◌, ◌∙◌, ◌≤◌, ℕ, zero, suc, pos, List, [], ◌∷◌, length, map, not, Option, Some, IsSomeAnd, Result, Ok, Err, IfOk, refl, sym, ap, subst, arith}
 use Rattle.std.specs.List.{All}
 use Rattle.std.proofs.lemmas.Int.{ints}
 use Rattle.std.proofs.lemmas.List.{append-nil, length-map}
@@ -15,11 +15,14 @@ use Rattle.tb_value.specs.declared.limits.TheConstants.{MAX_ROWS}
 use Rattle.tb_value.specs.declared.sorted.IsSorted.TheVariants.{Not}
 use Rattle.tb_chunk.specs.Col.{Col, values}
 use Rattle.tb_chunk.specs.Lent.{in_one_chunk}
+use Rattle.tb_chunk.specs.Fresh.{fresh_runs}
+use Rattle.tb_chunk.specs.Made.{at_least_one, IsMade, IsOf}
+use Rattle.tb_chunk.proofs.Made.{is_of}
 use Rattle.tb_rows.specs.Rows.{value_at}
 use Rattle.tb_rows.specs.declared.groups.Groups.{Groups}
 use Rattle.tb_agg.specs.Aggregates.{result_kind, sum_kind, total}
 use Rattle.tb_agg.specs.Grouped.{aggregates, rows_of, values_of}
-use Rattle.tb_agg.specs.Outcome.{agg_column, are_in_range, range_cause, totals, IsAggregated}
+use Rattle.tb_agg.specs.Outcome.{are_in_range, range_cause, totals, IsAggColumn, IsAggregated}
 use Rattle.tb_agg.specs.declared.table.Aggregate.{Aggregate}
 use Rattle.tb_agg.specs.declared.table.Aggregate.TheVariants.{First, Last, Sum, Min, Max, Count}
 use Rattle.tb_agg.proofs.Steps.{rows_few}
@@ -35,14 +38,23 @@ whole_cause Sum g c = ap (λ vs. when (not (are_in_range (sum_kind c.kind) (tota
 
 pub whole_made : (agg : Aggregate) (g : Groups) (c : Col) (r : Result Col PolarsError) → IfOk r (IsAggregated agg g (in_one_chunk c)) → IfOk r (IsAggregated agg g c)
 whole_made agg g c r h =
-    subst (λ vs. IfOk r (λ made. IsSomeAnd (result_kind agg c.kind) (λ t. made ≡ record { name = c.name; kind = t; chunks = aggregates agg g vs ∷ []; flag = Not }))) (append-nil (values c)) h
+    subst (λ vs. IfOk r (λ made. IsSomeAnd (result_kind agg c.kind) (λ t. IsOf c.name t (aggregates agg g vs ∷ []) Not made))) (append-nil (values c)) h
 
 -- a column of the type that the aggregate has
-pub made_of : (agg : Aggregate) (g : Groups) (c : Col) (r : Result Col PolarsError) (n : List ℕ) (t : Kind) (vs : List Datum) → n ≡ c.name → result_kind agg c.kind ≡ Some t → vs ≡ aggregates agg g (values c) → IfOk r (λ s. s ≡ record { name = n; kind = t; chunks = vs ∷ []; flag = Not }) → IfOk r (IsAggregated agg g c)
+pub made_of : (agg : Aggregate) (g : Groups) (c : Col) (r : Result Col PolarsError) (n : List ℕ) (t : Kind) (vs : List Datum) → n ≡ c.name → result_kind agg c.kind ≡ Some t → vs ≡ aggregates agg g (values c) → IfOk r (IsOf n t (vs ∷ []) Not) → IfOk r (IsAggregated agg g c)
 made_of agg g c r n t vs name is same h =
-    subst (λ (o : Option Kind). IfOk r (λ made. IsSomeAnd o (λ u. made ≡ agg_column agg g c u))) (sym is)
-    (subst (λ (l : List Datum). IfOk r (λ (s : Col). s ≡ record { name = c.name; kind = t; chunks = l ∷ []; flag = Not })) same
-    (subst (λ (m : List ℕ). IfOk r (λ (s : Col). s ≡ record { name = m; kind = t; chunks = vs ∷ []; flag = Not })) name h))
+    subst (λ (o : Option Kind). IfOk r (λ made. IsSomeAnd o (λ u. IsAggColumn agg g c u made))) (sym is)
+    (subst (λ (l : List Datum). IfOk r (IsOf c.name t (l ∷ []) Not)) same
+    (subst (λ (m : List ℕ). IfOk r (IsOf m t (vs ∷ []) Not)) name h))
+
+-- a column that is made of one list
+pub of_one_list : (r : Result Col PolarsError) (m n : List ℕ) (t : Kind) (vs : List Datum) (cs : List (List Datum)) → n ≡ m → cs ≡ vs ∷ [] → IsMade n t cs r
+    → IfOk r (IsOf m t (vs ∷ []) Not)
+of_one_list (Ok s) m n t vs cs name one made =
+    let runs = fresh_runs (at_least_one cs) in
+    is_of m t (vs ∷ []) Not runs s
+    (made.2 ∙ (λ i. record { name = name i; kind = t; chunks = at_least_one (one i); flag = Not; runs = runs }))
+of_one_list (Err e) m n t vs cs name one made = tt
 
 map_twice : {A B C : Type 0} (f : B → C) (g : A → B) (xs : List A) → map f (map g xs) ≡ map (λ x. f (g x)) xs
 map_twice f g [] = refl

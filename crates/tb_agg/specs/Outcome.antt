@@ -1,5 +1,5 @@
 -- The column of an aggregate, and why there is none.
-use Rattle.std.specs.Prelude.{◌≡◌, ◌&&◌, ℤ, Bool, true, false, not, List, [], ◌∷◌, length, map, Option, Some, None, is_none, IsSomeAnd, int_le}
+use Rattle.std.specs.Prelude.{◌&&◌, ℤ, Bool, true, false, not, List, [], ◌∷◌, length, map, Option, Some, None, is_none, IsSomeAnd, int_le}
 use Rattle.std.specs.List.{list_all}
 use Rattle.tb_value.specs.Datum.{Datum}
 use Rattle.tb_value.specs.Kind.{Kind}
@@ -12,6 +12,7 @@ use Rattle.tb_value.specs.declared.error.PolarsError.{PolarsError}
 use Rattle.tb_value.specs.declared.error.PolarsError.TheVariants.{ComputeError, InvalidOperation}
 use Rattle.tb_value.specs.declared.sorted.IsSorted.TheVariants.{Not}
 use Rattle.tb_chunk.specs.Col.{Col, values}
+use Rattle.tb_chunk.specs.Made.{IsOf}
 use Rattle.tb_rows.specs.declared.groups.Groups.{Groups}
 use Rattle.tb_agg.specs.Aggregates.{result_kind, sum_kind, total}
 use Rattle.tb_agg.specs.Grouped.{aggregates, values_of}
@@ -43,9 +44,9 @@ range_cause _ g c = None
 abbrev pub agg_refusal : Aggregate → Groups → Col → Option PolarsError
 agg_refusal agg g c = first_cause (type_cause agg c ∷ range_cause agg g c ∷ [])
 
--- the column of one value for each group, under the same name
-abbrev pub agg_column : Aggregate → Groups → Col → Kind → Col
-agg_column agg g c t = record { name = c.name; kind = t; chunks = aggregates agg g (values c) ∷ []; flag = Not }
+-- a column of one value for each group, under the same name
+abbrev pub IsAggColumn : Aggregate → Groups → Col → Kind → Col → Type 0
+IsAggColumn agg g c t made = IsOf c.name t (aggregates agg g (values c) ∷ []) Not made
 
 abbrev pub IsAggregated : Aggregate → Groups → Col → Col → Type 0
-IsAggregated agg g c made = IsSomeAnd (result_kind agg c.kind) (λ t. made ≡ agg_column agg g c t)
+IsAggregated agg g c made = IsSomeAnd (result_kind agg c.kind) (λ t. IsAggColumn agg g c t made)

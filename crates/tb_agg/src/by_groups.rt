@@ -1,7 +1,8 @@
 //! Columns of one value for each group.
-ghost use Rattle.std.specs.Prelude.{◌≡◌, ◌∷◌, [], IfOk, IsSome, None, length};
+ghost use Rattle.std.specs.Prelude.{◌∷◌, [], IfOk, IsSome, None, length};
 ghost use Rattle.tb_value.specs.Refusals.{Settles};
 ghost use Rattle.tb_chunk.specs.Col.{values};
+ghost use Rattle.tb_chunk.specs.Made.{IsOf};
 ghost use Rattle.tb_agg.specs.Aggregates.{result_kind, sum_kind};
 ghost use Rattle.tb_agg.specs.Grouped.{AreGroupsOf, aggregates};
 ghost use Rattle.tb_agg.specs.Outcome.{agg_refusal, range_cause, IsAggregated};
@@ -27,7 +28,7 @@ fn picked(
     pick: Pick,
 ) -> Result<Series, OutOfMemory>
     requires { AreGroupsOf (length (values column.now)) groups.now }
-    ensures { IfOk result (λ s. s ≡ record column.now { chunks = aggregates (aggregate_of pick) groups.now (values column.now) ∷ []; flag = Not }) }
+    ensures { IfOk result (IsOf column.now.name column.now.kind (aggregates (aggregate_of pick) groups.now (values column.now) ∷ []) Not) }
 {
     let rows = picked_rows(alloc, column, groups, pick)?;
     column.take_opt(alloc, &rows)

@@ -7,7 +7,7 @@ ghost use Rattle.tb_value.specs.SeeKind.{kind_of};
 ghost use Rattle.tb_value.specs.Typed.{HasType, ends};
 ghost use Rattle.tb_value.specs.Refusals.{Settles};
 ghost use Rattle.tb_value.specs.declared.sorted.IsSorted.TheVariants.{Not};
-ghost use Rattle.tb_chunk.specs.Made.{lists_of};
+ghost use Rattle.tb_chunk.specs.Made.{lists_of, IsOf};
 ghost use Rattle.tb_agg.specs.Outcome.{lies_within};
 ghost use Rattle.tb_agg.specs.Running.{sum_so_far};
 
@@ -74,7 +74,7 @@ pub(crate) fn column_of(
 ) -> PolarsResult<Series>
     requires typed { All (HasType (kind_of dtype)) (data_of values.items) }
     requires few { length values.items ≤ MAX_ROWS }
-    ensures column { IfOk result (λ s. s ≡ record { name = name.now; kind = kind_of dtype; chunks = data_of values.items ∷ []; flag = Not }) }
+    ensures column { IfOk result (IsOf name.now (kind_of dtype) (data_of values.items ∷ []) Not) }
     ensures settles { Settles result None }
 {
     let chunks = one_list(alloc, values)?;

@@ -24,4 +24,4 @@ pub use numbers::{JoinNumbers, KeyNumbers, LentKeys, LentNumbers, NumberedList, 
 pub use phases::{part_count, run_phase};
 pub use scattered::Scatter;
 pub use scattering::scatter;
-pub use tables::{Built, Tables, build_list_tables, build_tables, numbered_tables};
+pub use tables::{Built, Tables, build_tables, numbered_tables};

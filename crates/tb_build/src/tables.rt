@@ -8,8 +8,8 @@ use crate::building::planned_tables;
 use crate::flat::FlatTable;
 use crate::hashing::KeyHashers;
 use crate::keys::{JoinKey, KeyCode, partition_of};
-use crate::lent::{JoinList, KeyList, SliceKeys};
-use crate::numbers::{KeyNumbers, LentKeys, LentNumbers, NumberedList};
+use crate::lent::{KeyList, SliceKeys};
+use crate::numbers::{KeyNumbers, NumberedList};
 use std::alloc::Global;
 use std::collections::HashMap;
 use std::marker::Model;
@@ -186,26 +186,4 @@ pub fn build_tables<K: JoinKey, G: Gate>(
 {
     let list = SliceKeys { keys };
     numbered_tables(rt, alloc, &list, join_nulls, left_built, exec, gate)
-}
-
-/// The tables of the keys of a list, which lends them as long as the tables last, and how they were built, as
-/// `build_tables` says.
-pub fn build_list_tables<'a, K: JoinKey, L: JoinList<K>, G: Gate>(
-    rt: &(impl Threads + Sync),
-    alloc: Global,
-    list: &'a L,
-    join_nulls: bool,
-    left_built: bool,
-    exec: &Exec,
-    gate: &G,
-) -> Result<(Tables<K, LentNumbers<'a, K, L>>, Built), OutOfMemory>
-    requires { length (L.list list.now) ≤ MAX_ROWS }
-    ensures table { IfOk result (λ r. IsTableOf K.eq K.code (L.list list.now) r.0) }
-    ensures parted { IfOk result (λ r. IsParted K.eq K.code (L.list list.now) r.1.parts r.0) }
-    ensures nulls { IfOk result (λ r. r.0.join_nulls ≡ join_nulls) }
-    ensures side { IfOk result (λ r. r.0.left_built ≡ left_built) }
-    ensures built { IfOk result (λ r. r.1 ≡ plan_of exec.now left_built (codes_of K.code (L.list list.now))) }
-{
-    let lent = LentKeys { list };
-    numbered_tables(rt, alloc, &lent, join_nulls, left_built, exec, gate)
 }

@@ -1,11 +1,12 @@
 -- Facts on texts that are put into buffers.
-use Rattle.std.proofs.Common.{arith, ◌≡◌, ◌≤◌, ◌<◌, ◌+◌, ◌++◌, ◌∷◌, [], ℕ, List, Option, Some, length, take, replicate, map, zero, suc, refl, sym, ◌∙◌, ap}
-use Rattle.std.specs.List.{All}
+use Rattle.std.proofs.Common.{arith, ◌≡◌, ◌≤◌, ◌<◌, ◌+◌, ◌++◌, ◌∷◌, [], ℕ, List, Option, Some, length, take, replicate, map, zero, suc, refl, sym, ◌∙◌, ap, length-append}
+use Rattle.std.specs.List.{All, fold}
+use Rattle.std.specs.Option.{option_map}
 use Rattle.std.proofs.lemmas.List.{map-append}
 use Rattle.std.proofs.lemmas.List.Elements.{All-append, All-cons, All-nil, All-replicate}
 use Rattle.std.proofs.lemmas.List.Sums.{fold_push}
-use Rattle.tb_chunk.specs.Layout.{Filling, Building, IsPut, IsRow, placed, begun, all_of, built, with_row, with_rows}
-use Rattle.tb_chunk.specs.View.{IsInline, buffer_of, offset_of, row_text, texts, IsViewOrNone}
+use Rattle.tb_chunk.specs.Layout.{Filling, Building, IsPut, IsRow, placed, begun, all_of, built, with_row, with_rows, long_view, view_placed, views_placed}
+use Rattle.tb_chunk.specs.View.{buffer_of, offset_of, row_text, texts, IsViewOrNone}
 use Rattle.tb_chunk.specs.declared.view.View.{View}
 use Rattle.tb_chunk.proofs.Views.{IsView-last, Extend-further, Extend-last, rows-extend, rows-drop_last}
 
@@ -15,12 +16,19 @@ pub record IsBehind (bs : List (List ℕ)) (b t : List ℕ) (v : View) : Type 0 
   pub front : take 4 v.rest ≡ take 4 t
   pub buffer : buffer_of v ≡ length bs
   pub offset : offset_of v ≡ length b
+  pub is : v ≡ long_view t (length bs) (length b)
 
-placed_fits : (s : Filling) (t : List ℕ) → 12 < length t → length s.1 + length t ≤ 4294967295 → placed s (Some t) ≡ (s.0, s.1 ++ t)
+pub placed_fits : (s : Filling) (t : List ℕ) → 12 < length t → length s.1 + length t ≤ 4294967295 → placed s (Some t) ≡ (s.0, s.1 ++ t)
 placed_fits s t l h = grind arith
 
-placed_passes : (s : Filling) (t : List ℕ) → 12 < length t → 4294967295 < length s.1 + length t → placed s (Some t) ≡ (s.0 ++ s.1 ∷ [], t)
+pub placed_passes : (s : Filling) (t : List ℕ) → 12 < length t → 4294967295 < length s.1 + length t → placed s (Some t) ≡ (s.0 ++ s.1 ∷ [], t)
 placed_passes s t l h = grind arith
+
+long_fits : (s : Filling) (t : List ℕ) → 12 < length t → length s.1 + length t ≤ 4294967295 → view_placed s t ≡ long_view t (length s.0) (length s.1)
+long_fits s t l h = grind arith
+
+long_passes : (s : Filling) (t : List ℕ) → 12 < length t → 4294967295 < length s.1 + length t → view_placed s t ≡ long_view t (length s.0 + 1) 0
+long_passes s t l h = grind arith
 
 pub put_fits : (s : Filling) (t : List ℕ) (v : View) → 12 < length t → length s.1 + length t ≤ 4294967295 → IsBehind s.0 s.1 t v → IsPut t s (s.0, s.1 ++ t) v
 put_fits s t v l h p =
@@ -30,6 +38,7 @@ put_fits s t v l h p =
       kept = λ vs a. rows-extend (all_of s) (s.0 ++ (s.1 ++ t) ∷ []) vs (Extend-last s.0 s.1 t) a;
       view = n.0;
       text = n.1;
+      is = p.is ∙ sym (long_fits s t l h);
     }
 
 pub put_passes : (s : Filling) (t : List ℕ) (v : View) → 12 < length t → 4294967295 < length s.1 + length t → IsBehind (all_of s) [] t v → IsPut t s (all_of s, t) v
@@ -40,6 +49,7 @@ put_passes s t v l h p =
       kept = λ vs a. rows-extend (all_of s) (all_of s ++ t ∷ []) vs (Extend-further (all_of s) (t ∷ [])) a;
       view = n.0;
       text = n.1;
+      is = p.is ∙ ap (λ k. long_view t k 0) (length-append s.0 (s.1 ∷ [])) ∙ sym (long_passes s t l h);
     }
 
 -- more rows whose views stand over the new buffers
@@ -52,14 +62,14 @@ rows_more s s' vs ws o w r a b =
 
 -- what a builder of these views over these buffers holds
 abbrev pub seen : Filling → List (Option View) → Building
-seen s vs = record { rows = texts (all_of s) vs; laid = s }
+seen s vs = record { rows = texts (all_of s) vs; views = vs; laid = s }
 
 -- one more row
 pub row_pushed : (s s' : Filling) (vs : List (Option View)) (o : Option (List ℕ)) (w : Option View) → IsRow o s s' w → All (IsViewOrNone (all_of s)) vs → All (IsViewOrNone (all_of s')) (vs ++ w ∷ []) × (seen s' (vs ++ w ∷ []) ≡ with_row (seen s vs) o)
 row_pushed s s' vs o w r a =
     let m = rows_more s s' vs (w ∷ []) o w r a (All-cons (IsViewOrNone (all_of s')) w [] r.view (All-nil (IsViewOrNone (all_of s')))) in
     let e : texts (all_of s') (vs ++ w ∷ []) ≡ texts (all_of s) vs ++ o ∷ [] = m.1 ∙ ap (λ t. texts (all_of s) vs ++ t ∷ []) r.text in
-    (m.0, λ i. record { rows = e i; laid = r.placed i })
+    (m.0, λ i. record { rows = e i; views = vs ++ r.is i ∷ []; laid = r.placed i })
 
 pub map-replicate : {A B : Type 0} (f : A → B) (n : ℕ) (x : A) → map f (replicate n x) ≡ replicate n (f x)
 map-replicate f zero x = refl
@@ -70,10 +80,18 @@ pub rows_pushed : (s s' : Filling) (vs : List (Option View)) (t : List ℕ) (w :
 rows_pushed s s' vs t w n r a =
     let m = rows_more s s' vs (replicate n w) (Some t) w r a (All-replicate (IsViewOrNone (all_of s')) n w r.view) in
     let e : texts (all_of s') (vs ++ replicate n w) ≡ texts (all_of s) vs ++ replicate n (Some t) = m.1 ∙ ap (λ ts. texts (all_of s) vs ++ ts) (map-replicate (row_text (all_of s')) n w ∙ ap (replicate n) r.text) in
-    (m.0, λ i. record { rows = e i; laid = r.placed i })
+    (m.0, λ i. record { rows = e i; views = vs ++ replicate n (r.is i); laid = r.placed i })
+
+-- one more view
+views_placed-push : (s : Filling) (ts : List (Option (List ℕ))) (o : Option (List ℕ)) → views_placed s ts ++ option_map (view_placed (fold placed s ts)) o ∷ [] ≡ views_placed s (ts ++ o ∷ [])
+views_placed-push s [] o = refl
+views_placed-push s (t ∷ ts) o = ap (λ vs. option_map (view_placed s) t ∷ vs) (views_placed-push (placed s t) ts o)
 
 pub built-push : (ts : List (Option (List ℕ))) (o : Option (List ℕ)) → with_row (built ts) o ≡ built (ts ++ o ∷ [])
-built-push ts o = let e = fold_push placed ([], []) ts o in λ i. record { rows = ts ++ o ∷ []; laid = sym e i }
+built-push ts o =
+    let e = fold_push placed ([], []) ts o in
+    let v = views_placed-push ([], []) ts o in
+    λ i. record { rows = ts ++ o ∷ []; views = v i; laid = sym e i }
 
 -- the buffers at the end hold the same texts
 pub rows-begun : (s : Filling) (vs : List (Option View)) → All (IsViewOrNone (all_of s)) vs → All (IsViewOrNone (begun s)) vs × (texts (begun s) vs ≡ texts (all_of s) vs)

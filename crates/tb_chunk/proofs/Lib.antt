@@ -1,17 +1,24 @@
 pub mod Alls
 pub mod Crossing
+pub mod Few
 pub mod Filled
 pub mod Fitting
 pub mod Flags
 pub mod Follow
+pub mod Fresh
 pub mod Held
 pub mod Lent
 pub mod Lists
+pub mod Made
 pub mod Merging
+pub mod Moved
 pub mod Nulls
 pub mod OneChunk
 pub mod Parts
 pub mod Rows
+pub mod Runs
+pub mod Used
 pub mod Views
+pub mod Whole
 pub mod Windows
-mod TypedRows
+pub mod TypedRows

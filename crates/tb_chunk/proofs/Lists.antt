@@ -1,6 +1,6 @@
 -- Facts on lists.
-use Rattle.std.proofs.Common.{◌≡◌, ℕ, ◌<◌, ◌+◌, suc, refl, List, [], ◌∷◌, ◌++◌, length, map, get_or, drop, replicate, Option, Some, None, subst, sym, ◌∙◌, ap, add-one, drop-cons}
-use Rattle.std.specs.List.{All, flat_map}
+use Rattle.std.proofs.Common.{arith, ◌≡◌, ℕ, ◌<◌, ◌≤◌, ◌+◌, suc, zero, refl, List, [], ◌∷◌, ◌++◌, length, map, get_or, take, drop, replicate, Option, Some, None, subst, sym, ◌∙◌, ap, add-one, drop-cons}
+use Rattle.std.specs.List.{All}
 use Rattle.tb_value.specs.Datum.{Datum, null}
 use Rattle.tb_chunk.specs.Col.{flat}
 use Rattle.tb_chunk.specs.Rows.{IsRowOf, value_or_null}
@@ -11,10 +11,6 @@ use Rattle.std.proofs.lemmas.List.Elements.{All-get_or, All-head, All-tail, All-
 -- what holds of each image holds of the image of an element
 pub All-map-at : {X Y : Type 0} (P : Y → Type 0) (f : X → Y) (xs : List X) (i : ℕ) (x : X) → i < length xs → x ≡ get_or xs i x → All P (map f xs) → P (f x)
 All-map-at P f xs i x h e all = subst P (get_or-map f xs i x ∙ ap f (sym e)) (All-get_or P (map f xs) i (f x) (rw (length-map xs f) h) all)
-
-pub flat_map_of_map : {X Y : Type 0} (f : X → List Y) (xs : List X) → flat_map (λ vs. vs) (map f xs) ≡ flat_map f xs
-flat_map_of_map f [] = refl
-flat_map_of_map f (x ∷ xs) = ap (λ ys. f x ++ ys) (flat_map_of_map f xs)
 
 -- what is left is the next piece and then what is left after it
 pub flat_drop : {X : Type 0} (f : X → List Datum) (xs : List X) (i : ℕ) (x : X) → i < length xs → x ≡ get_or xs i x → flat (map f (drop i xs)) ≡ f x ++ flat (map f (drop (i + 1) xs))
@@ -35,3 +31,15 @@ value_of_row P xs (Some i) none all within = all i null within
 
 pub All-picked : {R : Type 0} (P : Datum → Type 0) (xs : List Datum) (number : R → Option ℕ) (rows : List R) → P null → All P xs → All (λ r. IsRowOf (length xs) (number r)) rows → All P (map (λ r. value_or_null xs (number r)) rows)
 All-picked P xs number rows none all within = All-map P (λ r. value_or_null xs (number r)) rows (λ k d h. value_of_row P xs (number (get_or rows k d)) none all (within k d h))
+
+-- one element from place n on, which is there, and none past the end
+pub one_taken : {X : Type 0} (xs : List X) (n : ℕ) (d : X) → n < length xs → take 1 (drop n xs) ≡ get_or xs n d ∷ []
+one_taken [] n d low = absurd (omega arith)
+one_taken (x ∷ xs) zero d low = refl
+one_taken (x ∷ xs) (suc n) d low = one_taken xs n d (omega arith)
+
+pub none_taken : {X : Type 0} (xs : List X) (n : ℕ) → length xs ≤ n → take 1 (drop n xs) ≡ []
+none_taken [] zero past = refl
+none_taken [] (suc n) past = refl
+none_taken (x ∷ xs) zero past = absurd (omega arith)
+none_taken (x ∷ xs) (suc n) past = none_taken xs n (omega arith)

@@ -1,6 +1,7 @@
 -- Values merged place by place.
-use Rattle.std.proofs.Common.{arith, ◌≡◌, ◌≢◌, ℕ, zero, suc, ◌<◌, ◌+◌, Bool, true, false, cond, List, [], ◌∷◌, ◌++◌, length, get_or, take, refl, ap, sym, ◌∙◌, subst, append-nil}
-use Rattle.std.specs.List.{All}
+use Rattle.std.proofs.Common.{arith, ◌≡◌, ◌≢◌, ℕ, zero, suc, ◌<◌, ◌+◌, Bool, true, false, cond, List, [], ◌∷◌, ◌++◌, Option, None, length, map, get_or, take, refl, ap, sym, ◌∙◌, subst, append-nil}
+use Rattle.std.specs.Prelude.{if◌then◌else◌}
+use Rattle.std.specs.List.{All, zip}
 use Rattle.std.proofs.lemmas.List.Elements.{All-nil, All-cons, All-head, All-tail}
 use Rattle.tb_value.specs.Datum.{Datum, null, is_null}
 use Rattle.tb_value.specs.See.{lent}
@@ -9,7 +10,10 @@ use Rattle.tb_value.specs.declared.any_value.ValueRef.{ValueRef}
 use Rattle.tb_value.specs.declared.any_value.ValueRef.TheVariants as ref
 use Rattle.tb_value.specs.declared.sorted.IsSorted.TheVariants.{Not}
 use Rattle.tb_chunk.specs.Col.{Col, IsColumn, flat, values}
-use Rattle.tb_chunk.specs.Merged.{or_else, merged}
+use Rattle.tb_chunk.specs.Merged.{or_else, merged, merged_run}
+use Rattle.tb_chunk.specs.Moved.{moved}
+use Rattle.tb_chunk.specs.Whole.{ViewRun}
+use Rattle.tb_chunk.specs.declared.view.View.{View}
 
 pub length-merged : (xs ys : List Datum) → length xs ≡ length ys → length (merged xs ys) ≡ length xs
 length-merged [] ys h = refl
@@ -23,6 +27,32 @@ merged-more (x ∷ xs) (y ∷ ys) zero h low = refl
 merged-more (x ∷ xs) (y ∷ ys) (suc i) h low =
     let next : suc i + 1 ≡ suc (i + 1) = omega arith in
     ap (λ n. take n (merged (x ∷ xs) (y ∷ ys))) next ∙ ap (λ zs. or_else x y ∷ zs) (merged-more xs ys i (omega arith) (omega arith))
+
+-- the view of a place, that of the second where the first value is Null
+abbrev view_merged : ℕ → Datum × (Option View × Option View) → Option View
+view_merged base p = (if is_null p.0 then moved base p.1.1 else p.1.0)
+
+length-views_merged : (base : ℕ) (vs : List Datum) (us ws : List (Option View)) → length us ≡ length vs → length ws ≡ length vs → length (map (view_merged base) (zip vs (zip us ws))) ≡ length vs
+length-views_merged base [] us ws h g = refl
+length-views_merged base (v ∷ vs) [] ws h g = absurd (omega arith)
+length-views_merged base (v ∷ vs) (u ∷ us) [] h g = absurd (omega arith)
+length-views_merged base (v ∷ vs) (u ∷ us) (w ∷ ws) h g = ap suc (length-views_merged base vs us ws (omega arith) (omega arith))
+
+views_merged-more : (base : ℕ) (vs : List Datum) (us ws : List (Option View)) (i : ℕ) → length us ≡ length vs → length ws ≡ length vs → i < length vs → take (i + 1) (map (view_merged base) (zip vs (zip us ws))) ≡ take i (map (view_merged base) (zip vs (zip us ws))) ++ cond (is_null (get_or vs i null)) (moved base (get_or ws i None)) (get_or us i None) ∷ []
+views_merged-more base [] us ws i h g low = absurd (omega arith)
+views_merged-more base (v ∷ vs) [] ws i h g low = absurd (omega arith)
+views_merged-more base (v ∷ vs) (u ∷ us) [] i h g low = absurd (omega arith)
+views_merged-more base (v ∷ vs) (u ∷ us) (w ∷ ws) zero h g low = refl
+views_merged-more base (v ∷ vs) (u ∷ us) (w ∷ ws) (suc i) h g low =
+    let next : suc i + 1 ≡ suc (i + 1) = omega arith in
+    ap (λ n. take n (map (view_merged base) (zip (v ∷ vs) (zip (u ∷ us) (w ∷ ws))))) next
+    ∙ ap (λ zs. view_merged base (v, (u, w)) ∷ zs) (views_merged-more base vs us ws i (omega arith) (omega arith) (omega arith))
+
+pub length-merged_run : (vs : List Datum) (a b : ViewRun) → length a.views ≡ length vs → length b.views ≡ length vs → length (merged_run vs a b).views ≡ length vs
+length-merged_run vs a b h g = length-views_merged (length a.buffers) vs a.views b.views h g
+
+pub merged_run-more : (vs : List Datum) (a b : ViewRun) (i : ℕ) → length a.views ≡ length vs → length b.views ≡ length vs → i < length vs → take (i + 1) (merged_run vs a b).views ≡ take i (merged_run vs a b).views ++ cond (is_null (get_or vs i null)) (moved (length a.buffers) (get_or b.views i None)) (get_or a.views i None) ∷ []
+merged_run-more vs a b i h g low = views_merged-more (length a.buffers) vs a.views b.views i h g low
 
 pub or_else-null : (x y v : Datum) → v ≡ null → v ≡ x → or_else x y ≡ y
 or_else-null x y v e h = ap (λ z. or_else z y) (sym h ∙ e)

@@ -14,7 +14,7 @@ use Rattle.tb_chunk.specs.Layout.{Building}
 use Rattle.tb_chunk.specs.Texts.{IsUtf8Row}
 use Rattle.tb_chunk.proofs.Filled.{map-replicate}
 
-abbrev AreTyped : Kind → (List ℕ → Datum) → List (Option (List ℕ)) → Type 0
+abbrev pub AreTyped : Kind → (List ℕ → Datum) → List (Option (List ℕ)) → Type 0
 AreTyped t shows rows = All (HasType t) (map (or_null shows) rows)
 
 pub typed-push : (t : Kind) (shows : List ℕ → Datum) (rows : List (Option (List ℕ))) (o : Option (List ℕ)) → AreTyped t shows rows → HasType t (or_null shows o) → AreTyped t shows (rows ++ o ∷ [])

@@ -8,13 +8,15 @@ use Rattle.tb_value.specs.Typed.{HasType}
 use Rattle.tb_value.specs.declared.limits.TheConstants.{MAX_ROWS}
 use Rattle.tb_value.specs.declared.sorted.IsSorted.{IsSorted}
 use Rattle.tb_chunk.specs.Flag.{FlagHolds}
+use Rattle.tb_chunk.specs.Whole.{ViewRun}
 
--- a name, a type, the values of each chunk, and the flag
+-- a name, a type, the values of each chunk, the flag, and the views and buffers of the texts of each chunk
 pub record Col : Type 0 where
   pub name : List ℕ
   pub kind : Kind
   pub chunks : List (List Datum)
   pub flag : IsSorted
+  pub runs : List ViewRun
 
 -- lists, one after another
 abbrev pub flat : List (List Datum) → List Datum

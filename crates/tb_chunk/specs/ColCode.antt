@@ -1,6 +1,6 @@
 -- How the logic stores a column.
-use Rattle.std.specs.Prelude.{ℕ, List, refl}
-use Rattle.std.specs.Coded.{Coded, code_by, coded×, coded_ℕ, coded_list}
+use Rattle.std.specs.Prelude.{ℕ, List, Option, refl}
+use Rattle.std.specs.Coded.{Coded, code_by, coded×, coded_ℕ, coded_list, coded_option}
 use Rattle.tb_value.specs.Datum.{Datum}
 use Rattle.tb_value.specs.Proved.DatumCode.{coded_data}
 use Rattle.tb_value.specs.Kind.{Kind}
@@ -8,9 +8,20 @@ use Rattle.tb_value.specs.Proved.KindCode.{coded_kind}
 use Rattle.tb_value.specs.declared.sorted.IsSorted.{IsSorted}
 use Rattle.tb_value.specs.contracts.sorted.IsSorted as sorted
 use Rattle.tb_chunk.specs.Col.{Col}
+use Rattle.tb_chunk.specs.Whole.{ViewRun}
+use Rattle.tb_chunk.specs.declared.view.View.{View}
+
+abbrev pub coded_view : Coded View
+coded_view = code_by (ℕ × List ℕ) (coded× coded_ℕ (coded_list coded_ℕ)) (λ v. (v.length, v.rest)) (λ p. record { length = p.0; rest = p.1 }) (λ _. refl)
+
+abbrev pub coded_run : Coded ViewRun
+coded_run =
+    code_by (List (Option View) × List (List ℕ)) (coded× (coded_list (coded_option coded_view)) (coded_list (coded_list coded_ℕ)))
+    (λ r. (r.views, r.buffers)) (λ p. record { views = p.0; buffers = p.1 }) (λ _. refl)
 
 abbrev pub coded_col : Coded Col
 coded_col =
-    code_by (List ℕ × (Kind × (List (List Datum) × IsSorted)))
-    (coded× (coded_list coded_ℕ) (coded× coded_kind (coded× (coded_list coded_data) sorted.the_row.coded)))
-    (λ c. (c.name, (c.kind, (c.chunks, c.flag)))) (λ p. record { name = p.0; kind = p.1.0; chunks = p.1.1.0; flag = p.1.1.1 }) (λ _. refl)
+    code_by (List ℕ × (Kind × (List (List Datum) × (IsSorted × List ViewRun))))
+    (coded× (coded_list coded_ℕ) (coded× coded_kind (coded× (coded_list coded_data) (coded× sorted.the_row.coded (coded_list coded_run)))))
+    (λ c. (c.name, (c.kind, (c.chunks, (c.flag, c.runs)))))
+    (λ p. record { name = p.0; kind = p.1.0; chunks = p.1.1.0; flag = p.1.1.1.0; runs = p.1.1.1.1 }) (λ _. refl)

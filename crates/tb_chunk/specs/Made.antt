@@ -10,9 +10,12 @@ use Rattle.tb_value.specs.declared.any_value.AnyValue.{AnyValue}
 use Rattle.std.specs.declared.vec.Vec.{Vec}
 use Rattle.std.specs.declared.alloc.Global.{Global}
 use Rattle.tb_chunk.specs.Col.{Col, flat, physical}
+use Rattle.tb_chunk.specs.Fresh.{fresh_runs, or_one_run}
+use Rattle.tb_chunk.specs.Whole.{ViewRun}
 use Rattle.tb_value.specs.declared.error.ComputeCause.TheVariants.{TooManyRows}
 use Rattle.tb_value.specs.declared.error.PolarsError.{PolarsError}
 use Rattle.tb_value.specs.declared.error.PolarsError.TheVariants.{ComputeError, SchemaMismatch, OutOfMemory}
+use Rattle.tb_value.specs.declared.sorted.IsSorted.{IsSorted}
 use Rattle.tb_value.specs.declared.sorted.IsSorted.TheVariants.{Not}
 
 -- the values of each list
@@ -23,6 +26,14 @@ lists_of vs = map (λ v. data_of v.items) vs
 abbrev pub at_least_one : List (List Datum) → List (List Datum)
 at_least_one [] = [] ∷ []
 at_least_one (c ∷ cs) = c ∷ cs
+
+-- the column of this name, type, chunks and flag, made of values
+abbrev pub fresh : List ℕ → Kind → List (List Datum) → IsSorted → Col
+fresh n t cs f = record { name = n; kind = t; chunks = cs; flag = f; runs = fresh_runs cs }
+
+-- a column of this name, type, chunks and flag, wherever its texts stand
+abbrev pub IsOf : List ℕ → Kind → List (List Datum) → IsSorted → Col → Type 0
+IsOf n t cs f c = c ≡ record { name = n; kind = t; chunks = cs; flag = f; runs = c.runs }
 
 abbrev pub IsTyped : Kind → List (List Datum) → Type 0
 IsTyped t cs = All (HasType t) (flat cs)
@@ -39,10 +50,11 @@ IsRefused typed short _ = ⊥
 
 -- the column of this name and type and these chunks, or why there is none
 abbrev pub IsMade : List ℕ → Kind → List (List Datum) → Result Col PolarsError → Type 0
-IsMade n t cs (Ok c) = IsTyped t cs × IsShort cs × (c ≡ record { name = n; kind = t; chunks = at_least_one cs; flag = Not })
+IsMade n t cs (Ok c) = IsTyped t cs × IsShort cs × (c ≡ fresh n t (at_least_one cs) Not)
 IsMade n t cs (Err e) = IsRefused (IsTyped t cs) (IsShort cs) e
 
--- the same of typed chunks, which are stored by the type s
-abbrev pub IsArranged : List ℕ → Kind → Kind → List (List Datum) → Result Col PolarsError → Type 0
-IsArranged n t s cs (Ok c) = (s ≡ physical t) × IsTyped t cs × IsShort cs × (c ≡ record { name = n; kind = t; chunks = at_least_one cs; flag = Not })
-IsArranged n t s cs (Err e) = IsRefused ((s ≡ physical t) × IsTyped t cs) (IsShort cs) e
+-- the same of typed chunks, which are stored by the type s, with their runs
+abbrev pub IsArranged : List ℕ → Kind → Kind → List (List Datum) → List ViewRun → Result Col PolarsError → Type 0
+IsArranged n t s cs rs (Ok c) = (s ≡ physical t) × IsTyped t cs × IsShort cs
+    × (c ≡ record { name = n; kind = t; chunks = at_least_one cs; flag = Not; runs = or_one_run rs })
+IsArranged n t s cs rs (Err e) = IsRefused ((s ≡ physical t) × IsTyped t cs) (IsShort cs) e

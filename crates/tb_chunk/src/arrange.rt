@@ -1,13 +1,16 @@
 //! Typed chunks, looked at before a column is made of them.
-ghost use Rattle.std.specs.Prelude.{◌≡◌, ◌≤◌, ◌↔◌, ◌∷◌, [], IfOk, IsTrue, length, map};
+ghost use Rattle.std.specs.Prelude.{◌≡◌, ◌↔◌, IfOk, IsTrue, map};
 ghost use Rattle.std.specs.List.{All};
 ghost use Rattle.tb_value.specs.SeeKind.{kind_of};
 ghost use Rattle.tb_value.specs.Typed.{HasType};
-ghost use Rattle.tb_chunk.specs.Col.{flat, physical};
+ghost use Rattle.tb_chunk.specs.Col.{physical};
 ghost use Rattle.tb_chunk.specs.Made.{at_least_one, IsTyped, IsShort};
 ghost use Rattle.tb_chunk.specs.Physical.{kind_for};
+ghost use Rattle.tb_chunk.specs.Fresh.{or_one_run};
+ghost use Rattle.tb_chunk.specs.Runs.{chunk_runs};
 ghost use Rattle.tb_chunk.specs.Seen.{chunk_lists, storage};
 ghost use Rattle.tb_chunk.specs.Stored.{AreMade};
+ghost use Rattle.tb_chunk.specs.Whole.{runs_of, HaveFewBuffers};
 
 use crate::chunk::Chunk;
 use crate::chunks::Chunks;
@@ -55,9 +58,26 @@ fn are_few<C: Chunk>(chunks: &[C]) -> bool
     true
 }
 
+// Whether all buffers are few enough for their numbers.
+#[tactic(auto, using(crate::proofs::Few::buffers_drop))]
+fn have_few_buffers<C: Chunk>(chunks: &[C]) -> bool
+    ensures { IsTrue result ↔ HaveFewBuffers (runs_of C.views C.buffers chunks.now) }
+{
+    let mut room = u32::MAX as usize;
+    for chunk in chunks {
+        let buffers = chunk.buffer_count();
+        if buffers > room {
+            return false;
+        }
+        room -= buffers;
+    }
+    true
+}
+
 // No chunk at all makes one empty chunk.
 fn or_empty<C: Chunk>(alloc: Global, chunks: Vec<C>) -> Result<Vec<C>, OutOfMemory>
-    ensures { IfOk result (λ v. map C.shown v.items ≡ at_least_one (map C.shown chunks.items)) }
+    ensures shown { IfOk result (λ v. map C.shown v.items ≡ at_least_one (map C.shown chunks.items)) }
+    ensures runs { IfOk result (λ v. runs_of C.views C.buffers v.items ≡ or_one_run (runs_of C.views C.buffers chunks.items)) }
 {
     if !chunks.is_empty() {
         return Ok(chunks);
@@ -69,13 +89,17 @@ fn or_empty<C: Chunk>(alloc: Global, chunks: Vec<C>) -> Result<Vec<C>, OutOfMemo
 
 // One or more chunks of values of the type, few enough.
 fn checked<C: Stored>(alloc: Global, dtype: &DataType, chunks: Vec<C>) -> PolarsResult<Chunks>
-    ensures { AreMade (kind_of dtype.now) C.kind (map C.shown chunks.items) result }
+    ensures made { AreMade (kind_of dtype.now) C.kind (map C.shown chunks.items) (runs_of C.views C.buffers chunks.items) result }
+    ensures few { IfOk result (λ c. HaveFewBuffers (chunk_runs c)) }
 {
     if !are_chunks_of(dtype, &chunks) {
         return Err(PolarsError::SchemaMismatch);
     }
     if !are_few(&chunks) {
         return Err(PolarsError::ComputeError(ComputeCause::TooManyRows));
+    }
+    if !have_few_buffers(&chunks) {
+        return Err(PolarsError::OutOfMemory);
     }
     Ok(C::wrap(or_empty(alloc, chunks)?))
 }
@@ -104,14 +128,22 @@ impl Chunks {
         }
     }
 
+    /// Whether the buffers of all chunks are few enough for their numbers, fewer than 2^32.
+    pub fn has_few_buffers(&self) -> bool
+        ensures { IsTrue result ↔ HaveFewBuffers (chunk_runs self.now) }
+    {
+        for_chunks!(self, chunks => have_few_buffers(chunks))
+    }
+
     /// The same chunks, for a column of the type. No chunk at all becomes one empty chunk.
     ///
     /// # Errors
     ///
     /// 1 SchemaMismatch where a value is not of the type, 2 TooManyRows where the values number more
-    /// than `MAX_ROWS`, and OutOfMemory.
+    /// than `MAX_ROWS`, and OutOfMemory, which stands for 2^32 buffers or more too.
     pub fn checked(self, alloc: Global, dtype: &DataType) -> PolarsResult<Chunks>
-        ensures { AreMade (kind_of dtype.now) (storage self) (chunk_lists self) result }
+        ensures few { IfOk result (λ c. HaveFewBuffers (chunk_runs c)) }
+        ensures made { AreMade (kind_of dtype.now) (storage self) (chunk_lists self) (chunk_runs self) result }
     {
         for_chunks!(self, arrays => checked(alloc, dtype, arrays))
     }

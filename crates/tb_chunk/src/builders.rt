@@ -9,12 +9,12 @@ ghost use Rattle.tb_chunk.specs.Chunk.{or_null};
 ghost use Rattle.tb_chunk.specs.Layout.{begun, built, with_row, with_rows};
 ghost use Rattle.tb_chunk.specs.View.{texts};
 
-use crate::chunk::{Cells, StringChunk};
+use crate::chunk::StringChunk;
 use crate::owned_chunks::BinaryChunk;
 use crate::view_builder::ViewBuilder;
 use std::alloc::Global;
 use std::marker::Model;
-use tb_value::{OutOfMemory, PlSmallStr};
+use tb_value::OutOfMemory;
 
 /// A String chunk to which texts are pushed. A text takes no memory of its own: one of up to 12 bytes stands in its view, and a
 /// longer one in a buffer that it shares. After a refusal a builder is as it was.
@@ -89,6 +89,7 @@ impl StringBuilder {
     /// The chunk of the rows, each of which is of type String.
     pub fn finish(self, alloc: Global) -> Result<StringChunk, OutOfMemory>
         ensures texts { IfOk result (λ c. texts c.inner.buffers.items c.inner.views.items ≡ self.rows) }
+        ensures views { IfOk result (λ c. c.inner.views.items ≡ self.views) }
         ensures buffers { IfOk result (λ c. c.inner.buffers.items ≡ begun self.laid) }
         ensures typed { All (HasType kind.string) (map (or_null string) self.rows) }
     {
@@ -162,6 +163,7 @@ impl BinaryBuilder {
     /// The chunk of the rows, each of which is of type Binary.
     pub fn finish(self, alloc: Global) -> Result<BinaryChunk, OutOfMemory>
         ensures bytes { IfOk result (λ c. texts c.inner.buffers.items c.inner.views.items ≡ self.rows) }
+        ensures views { IfOk result (λ c. c.inner.views.items ≡ self.views) }
         ensures buffers { IfOk result (λ c. c.inner.buffers.items ≡ begun self.laid) }
         ensures typed { All (HasType kind.binary) (map (or_null binary) self.rows) }
     {
@@ -169,31 +171,5 @@ impl BinaryBuilder {
         Ok(BinaryChunk {
             inner: inner.finish(alloc)?,
         })
-    }
-}
-
-fn push_cell(
-    alloc: Global,
-    builder: &mut StringBuilder,
-    cell: &Option<PlSmallStr>,
-) -> Result<(), OutOfMemory>
-    ensures { OnOk result (builder.new ≡ with_row builder.old cell.now) }
-{
-    match cell {
-        Some(text) => builder.push(alloc, text.as_str()),
-        None => builder.push_null(),
-    }
-}
-
-impl StringChunk {
-    /// The chunk of these texts.
-    pub fn from_cells(alloc: Global, cells: &Cells<PlSmallStr>) -> Result<StringChunk, OutOfMemory>
-        ensures { IfOk result (λ c. map (or_null string) (texts c.inner.buffers.items c.inner.views.items) ≡ map (or_null string) cells.now.cells.items) }
-    {
-        let mut builder = StringBuilder::with_capacity(alloc, cells.cells.len())?;
-        for cell in &cells.cells {
-            push_cell(alloc, &mut builder, cell)?;
-        }
-        builder.finish(alloc)
     }
 }

@@ -1,22 +1,25 @@
 //! A value as a typed column stores it.
-ghost use Rattle.std.specs.Prelude.{◌≡◌, ◌≢◌, IfOk, false, pos, refl};
-ghost use Rattle.tb_value.specs.Datum.{Datum, null, boolean, int, string, list, struct, items_of, is_null};
+ghost use Rattle.std.specs.Prelude.{◌≡◌, ◌≢◌, IfOk, None, false, pos, refl};
+ghost use Rattle.tb_value.specs.Datum.{Datum, null, boolean, int, list, struct, items_of, is_null};
 ghost use Rattle.tb_value.specs.Kind.{Kind};
 ghost use Rattle.tb_value.specs.Kind as kinds;
 ghost use Rattle.tb_value.specs.See.{datum, lent, IsText};
 ghost use Rattle.tb_chunk.specs.Fits.{Fits};
+ghost use Rattle.tb_chunk.specs.Texts.{text_of};
 
 use std::alloc::Global;
-use tb_value::{AnyValue, OutOfMemory, PlSmallStr, ValueRef, Values};
+use tb_value::{AnyValue, OutOfMemory, ValueRef, Values};
 
-/// A value other than Null, as a typed column stores it. `shows` is what contracts see of it, and `kind` is the type by
-/// which it is stored.
+/// A value other than Null, a text and bytes, as a typed column stores it. `shows` is what contracts see of it, and `kind` is the
+/// type by which it is stored.
 pub trait Cell: Drop {
     ghost shows: { Self → Datum };
 
     ghost kind: { Kind };
 
     ghost some: { (cell : Self) → is_null (shows cell) ≡ false };
+
+    ghost no_text: { (cell : Self) → text_of (shows cell) ≡ None };
 
     /// The value, lent.
     fn lend(&self) -> ValueRef<'_>
@@ -47,6 +50,8 @@ impl Cell for bool {
 
     ghost some = { λ _. refl };
 
+    ghost no_text = { λ _. refl };
+
     fn lend(&self) -> ValueRef<'_> {
         ValueRef::Boolean(*self)
     }
@@ -69,6 +74,8 @@ impl Cell for i8 {
     ghost kind = { kinds.int8 };
 
     ghost some = { λ _. refl };
+
+    ghost no_text = { λ _. refl };
 
     fn lend(&self) -> ValueRef<'_> {
         ValueRef::Int(*self as i128)
@@ -93,6 +100,8 @@ impl Cell for i16 {
 
     ghost some = { λ _. refl };
 
+    ghost no_text = { λ _. refl };
+
     fn lend(&self) -> ValueRef<'_> {
         ValueRef::Int(*self as i128)
     }
@@ -115,6 +124,8 @@ impl Cell for i32 {
     ghost kind = { kinds.int32 };
 
     ghost some = { λ _. refl };
+
+    ghost no_text = { λ _. refl };
 
     fn lend(&self) -> ValueRef<'_> {
         ValueRef::Int(*self as i128)
@@ -139,6 +150,8 @@ impl Cell for i64 {
 
     ghost some = { λ _. refl };
 
+    ghost no_text = { λ _. refl };
+
     fn lend(&self) -> ValueRef<'_> {
         ValueRef::Int(*self as i128)
     }
@@ -161,6 +174,8 @@ impl Cell for i128 {
     ghost kind = { kinds.int128 };
 
     ghost some = { λ _. refl };
+
+    ghost no_text = { λ _. refl };
 
     fn lend(&self) -> ValueRef<'_> {
         ValueRef::Int(*self)
@@ -185,6 +200,8 @@ impl Cell for u8 {
 
     ghost some = { λ _. refl };
 
+    ghost no_text = { λ _. refl };
+
     fn lend(&self) -> ValueRef<'_> {
         ValueRef::Int(*self as i128)
     }
@@ -207,6 +224,8 @@ impl Cell for u16 {
     ghost kind = { kinds.uint16 };
 
     ghost some = { λ _. refl };
+
+    ghost no_text = { λ _. refl };
 
     fn lend(&self) -> ValueRef<'_> {
         ValueRef::Int(*self as i128)
@@ -231,6 +250,8 @@ impl Cell for u32 {
 
     ghost some = { λ _. refl };
 
+    ghost no_text = { λ _. refl };
+
     fn lend(&self) -> ValueRef<'_> {
         ValueRef::Int(*self as i128)
     }
@@ -254,6 +275,8 @@ impl Cell for u64 {
 
     ghost some = { λ _. refl };
 
+    ghost no_text = { λ _. refl };
+
     fn lend(&self) -> ValueRef<'_> {
         ValueRef::Int(*self as i128)
     }
@@ -270,35 +293,14 @@ impl Cell for u64 {
     }
 }
 
-impl Cell for PlSmallStr {
-    ghost shows = { string };
-
-    ghost kind = { kinds.string };
-
-    ghost some = { λ _. refl };
-
-    fn lend(&self) -> ValueRef<'_> {
-        ValueRef::String(self.as_str().as_bytes())
-    }
-
-    fn from_value(alloc: Global, value: &AnyValue) -> Result<PlSmallStr, OutOfMemory> {
-        match value {
-            AnyValue::String(s) => s.copy(alloc),
-            _ => unreachable!(),
-        }
-    }
-
-    fn copy(&self, alloc: Global) -> Result<PlSmallStr, OutOfMemory> {
-        self.copy(alloc)
-    }
-}
-
 impl Cell for Values {
     ghost shows = { λ vs. list (items_of vs) };
 
     ghost kind = { kinds.list kinds.null };
 
     ghost some = { λ _. refl };
+
+    ghost no_text = { λ _. refl };
 
     fn lend(&self) -> ValueRef<'_> {
         ValueRef::List(self)
@@ -322,6 +324,8 @@ impl Cell for FieldValues {
     ghost kind = { kinds.struct kinds.end };
 
     ghost some = { λ _. refl };
+
+    ghost no_text = { λ _. refl };
 
     fn lend(&self) -> ValueRef<'_> {
         ValueRef::Struct(&self.values)

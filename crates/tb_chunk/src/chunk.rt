@@ -1,5 +1,5 @@
 //! A run of values of a column.
-ghost use Rattle.std.specs.Prelude.{◌≡◌, ◌<◌, ◌^◌, ◌++◌, ◌∷◌, [], IfOk, OnOk, OnErr, None, is_none, length, get_or, map, replicate};
+ghost use Rattle.std.specs.Prelude.{◌≡◌, ◌<◌, ◌^◌, ◌++◌, ◌∷◌, [], IfOk, IfSome, OnOk, OnErr, None, is_none, length, get_or, map, replicate, take, drop};
 ghost use Rattle.std.specs.List.{All, count_by};
 ghost use Rattle.std.specs.Option.{option_map};
 ghost use Rattle.tb_value.specs.Datum.{Datum, null, string};
@@ -9,9 +9,14 @@ ghost use Rattle.tb_chunk.specs.Chunk.{or_null};
 ghost use Rattle.tb_chunk.specs.Fits.{Fits};
 ghost use Rattle.tb_chunk.specs.Flag.{nulls};
 ghost use Rattle.tb_chunk.specs.Held.{Holds};
+ghost use Rattle.tb_chunk.specs.Moved.{moved};
+ghost use Rattle.tb_chunk.specs.Fresh.{fresh_run};
 ghost use Rattle.tb_chunk.specs.Texts.{IsUtf8Row};
+ghost use Rattle.tb_chunk.specs.Used.{placed_at, used_buffer, StandsAt};
 ghost use Rattle.tb_chunk.specs.View.{texts};
+ghost use Rattle.std.proofs.Common.{arith, rules};
 ghost use Rattle.std.proofs.Props.{props};
+ghost use Rattle.std.proofs.lemmas.List.{length-map, length-replicate};
 
 use crate::cell::Cell;
 use crate::view_chunk::ViewChunk;
@@ -20,13 +25,18 @@ use tb_value::{AnyValue, OutOfMemory, ValueRef};
 
 /// Values of a column that stand together, and to which values can be appended. `shown` is what contracts see of them,
 /// `kind` is the type by which they are stored, and `buffers` are the bytes of long texts that they share with others.
+/// `views` has an entry for each value: the view of a text over the buffers, and none for Null and for a value that is no text,
+/// which has no view.
 pub trait Chunk: Drop {
-    ghost use Rattle.std.specs.Prelude.{ℕ, List};
+    ghost use Rattle.std.specs.Prelude.{ℕ, List, Option};
     ghost use Rattle.tb_value.specs.Kind.{Kind};
+    ghost use Rattle.tb_chunk.specs.declared.view.View.{View};
 
     ghost shown: { Self → List Datum };
 
     ghost buffers: { Self → List (List ℕ) };
+
+    ghost views: { Self → List (Option View) };
 
     ghost kind: { Kind };
 
@@ -38,6 +48,10 @@ pub trait Chunk: Drop {
     fn null_count(&self) -> usize
         ensures { result ≡ length (nulls (shown self.now)) };
 
+    /// The number of buffers.
+    fn buffer_count(&self) -> usize
+        ensures { result ≡ length (buffers self.now) };
+
     /// The value of a row, lent.
     fn value(&self, row: usize) -> ValueRef<'_>
         requires { row < length (shown self.now) }
@@ -47,19 +61,26 @@ pub trait Chunk: Drop {
     /// The chunk of these values. Each is Null or of a type that is stored so.
     fn from_values(alloc: Global, values: &[AnyValue]) -> Result<Self, OutOfMemory>
         requires { All (Fits kind) (data_of values.now) }
-        ensures { IfOk result (λ c. shown c ≡ data_of values.now) };
+        ensures shown { IfOk result (λ c. shown c ≡ data_of values.now) }
+        ensures views { IfOk result (λ c. views c ≡ (fresh_run (data_of values.now)).views) }
+        ensures buffers { IfOk result (λ c. buffers c ≡ (fresh_run (data_of values.now)).buffers) };
 
-    /// A chunk of the same values.
+    /// A chunk of the same values. Their bytes are shared.
     fn copy(&self, alloc: Global) -> Result<Self, OutOfMemory>
-        ensures { IfOk result (λ c. shown c ≡ shown self.now) };
+        ensures shown { IfOk result (λ c. shown c ≡ shown self.now) }
+        ensures views { IfOk result (λ c. views c ≡ views self.now) }
+        ensures buffers { IfOk result (λ c. buffers c ≡ buffers self.now) };
 
     /// The chunk of no value. It takes no memory yet.
     fn empty(alloc: Global) -> Self
-        ensures { shown result ≡ [] };
+        ensures shown { shown result ≡ [] }
+        ensures views { views result ≡ [] }
+        ensures buffers { buffers result ≡ [] };
 
     /// The chunk of no value and no buffer, with room for as many values as are given.
     fn with_capacity(alloc: Global, rows: usize) -> Result<Self, OutOfMemory>
         ensures shown { IfOk result (λ c. shown c ≡ []) }
+        ensures views { IfOk result (λ c. views c ≡ []) }
         ensures buffers { IfOk result (λ c. buffers c ≡ []) };
 
     /// Takes up the buffers of another chunk behind its own, before there is a value, and gives the
@@ -68,8 +89,24 @@ pub trait Chunk: Drop {
         requires none { shown self.old ≡ [] }
         ensures number { IfOk result (λ n. n ≡ length (buffers self.old)) }
         ensures shown { IfOk result (λ n. shown self.new ≡ []) }
+        ensures views { views self.new ≡ views self.old }
         ensures buffers { IfOk result (λ n. buffers self.new ≡ buffers self.old ++ buffers other.now) }
         ensures few { IfOk result (λ n. length (buffers self.new) < 2 ^ 32) };
+
+    /// The number of the buffer that the long text of a row lies in, none where the value has none.
+    fn long_buffer(&self, row: usize) -> Option<u32>
+        requires { row < length (shown self.now) }
+        ensures buffer { result ≡ used_buffer (get_or (views self.now) row None) }
+        ensures within { IfSome result (λ b. b < length (buffers self.now)) };
+
+    /// Takes up the buffer of this number of another chunk behind its own, before there is a value, and none where the other has
+    /// no such buffer. No byte is copied. After a refusal the chunk is as it was.
+    fn add_buffer(&mut self, alloc: Global, other: &Self, number: u32) -> Result<(), OutOfMemory>
+        requires none { shown self.old ≡ [] }
+        ensures shown { shown self.new ≡ [] }
+        ensures views { views self.new ≡ views self.old }
+        ensures buffers { OnOk result (buffers self.new ≡ buffers self.old ++ take 1 (drop number (buffers other.now))) }
+        ensures err { OnErr result (buffers self.new ≡ buffers self.old) };
 
     /// Appends a row of another chunk, whose buffers stand in this one from number `base` on. After a
     /// refusal the chunk is as it was.
@@ -85,15 +122,41 @@ pub trait Chunk: Drop {
         requires held { Holds (buffers self.old) base (buffers other.now) }
         requires few { length (buffers self.old) < 2 ^ 32 }
         ensures ok { OnOk result (shown self.new ≡ shown self.old ++ get_or (shown other.now) row null ∷ []) }
+        ensures views { OnOk result (views self.new ≡ views self.old ++ moved base (get_or (views other.now) row None) ∷ []) }
         ensures err { OnErr result (shown self.new ≡ shown self.old) }
+        ensures err_views { OnErr result (views self.new ≡ views self.old) }
+        ensures buffers { buffers self.new ≡ buffers self.old };
+
+    /// Appends a row of another chunk, where the buffer of its long text stands in this one under
+    /// `number`. After a refusal the chunk is as it was.
+    fn push_at(
+        &mut self,
+        alloc: Global,
+        other: &Self,
+        number: u32,
+        row: usize,
+    ) -> Result<(), OutOfMemory>
+        requires room { length (shown self.old) < 2 ^ 63 }
+        requires row { row < length (shown other.now) }
+        requires held { StandsAt (buffers self.old) number (buffers other.now) (get_or (views other.now) row None) }
+        ensures ok { OnOk result (shown self.new ≡ shown self.old ++ get_or (shown other.now) row null ∷ []) }
+        ensures views { OnOk result (views self.new ≡ views self.old ++ placed_at number (get_or (views other.now) row None) ∷ []) }
+        ensures err { OnErr result (shown self.new ≡ shown self.old) }
+        ensures err_views { OnErr result (views self.new ≡ views self.old) }
         ensures buffers { buffers self.new ≡ buffers self.old };
 
     /// Appends a Null. After a refusal the chunk is as it was.
     fn push_null(&mut self) -> Result<(), OutOfMemory>
         requires { length (shown self.old) < 2 ^ 63 }
         ensures ok { OnOk result (shown self.new ≡ shown self.old ++ null ∷ []) }
+        ensures views { OnOk result (views self.new ≡ views self.old ++ None ∷ []) }
         ensures err { OnErr result (shown self.new ≡ shown self.old) }
+        ensures err_views { OnErr result (views self.new ≡ views self.old) }
         ensures buffers { buffers self.new ≡ buffers self.old };
+
+    ghost viewed: { (c : Self) → length (views c) ≡ length (shown c) };
+
+    ghost few: { (c : Self) → length (buffers c) < 2 ^ 32 };
 }
 
 /// Optional values, each stored as it is; `None` is Null.
@@ -107,7 +170,13 @@ impl<N: Cell> Chunk for Cells<N> {
 
     ghost buffers = { λ _. [] };
 
+    ghost views = { λ c. map (λ _. None) c.cells.items };
+
     ghost kind = { N.kind };
+
+    ghost viewed = { λ c. Prim.search (rules, length-map, length-replicate) };
+
+    ghost few = { λ _. omega arith };
 
     fn len(&self) -> usize {
         self.cells.len()
@@ -115,6 +184,10 @@ impl<N: Cell> Chunk for Cells<N> {
 
     fn null_count(&self) -> usize {
         absent_in(&self.cells)
+    }
+
+    fn buffer_count(&self) -> usize {
+        0
     }
 
     fn value(&self, row: usize) -> ValueRef<'_> {
@@ -156,11 +229,36 @@ impl<N: Cell> Chunk for Cells<N> {
         Ok(0)
     }
 
+    fn long_buffer(&self, _row: usize) -> Option<u32> {
+        None
+    }
+
+    fn add_buffer(
+        &mut self,
+        _alloc: Global,
+        _other: &Cells<N>,
+        _number: u32,
+    ) -> Result<(), OutOfMemory> {
+        Ok(())
+    }
+
     fn push_from(
         &mut self,
         alloc: Global,
         other: &Cells<N>,
         _base: u32,
+        row: usize,
+    ) -> Result<(), OutOfMemory> {
+        let cell = copy_cell(alloc, &other.cells[row])?;
+        self.cells.push(cell)?;
+        Ok(())
+    }
+
+    fn push_at(
+        &mut self,
+        alloc: Global,
+        other: &Cells<N>,
+        _number: u32,
         row: usize,
     ) -> Result<(), OutOfMemory> {
         let cell = copy_cell(alloc, &other.cells[row])?;
@@ -205,7 +303,13 @@ impl Chunk for usize {
 
     ghost buffers = { λ _. [] };
 
+    ghost views = { λ n. replicate n None };
+
     ghost kind = { kinds.null };
+
+    ghost viewed = { λ c. Prim.search (rules, length-map, length-replicate) };
+
+    ghost few = { λ _. omega arith };
 
     fn len(&self) -> usize {
         *self
@@ -213,6 +317,10 @@ impl Chunk for usize {
 
     fn null_count(&self) -> usize {
         *self
+    }
+
+    fn buffer_count(&self) -> usize {
+        0
     }
 
     fn value(&self, row: usize) -> ValueRef<'_> {
@@ -239,12 +347,36 @@ impl Chunk for usize {
         Ok(0)
     }
 
+    fn long_buffer(&self, _row: usize) -> Option<u32> {
+        None
+    }
+
+    fn add_buffer(
+        &mut self,
+        _alloc: Global,
+        _other: &usize,
+        _number: u32,
+    ) -> Result<(), OutOfMemory> {
+        Ok(())
+    }
+
     fn push_from(
         &mut self,
         alloc: Global,
         other: &usize,
         _base: u32,
         row: usize,
+    ) -> Result<(), OutOfMemory> {
+        *self += 1;
+        Ok(())
+    }
+
+    fn push_at(
+        &mut self,
+        _alloc: Global,
+        _other: &usize,
+        _number: u32,
+        _row: usize,
     ) -> Result<(), OutOfMemory> {
         *self += 1;
         Ok(())
@@ -274,6 +406,8 @@ impl StringChunk {
 }
 
 impl Chunk for StringChunk {
+    ghost use Rattle.std.proofs.Common.{rules};
+    ghost use Rattle.std.proofs.lemmas.List.{length-map, length-replicate};
     ghost use Rattle.std.specs.Prelude.{map};
     ghost use Rattle.tb_value.specs.Datum.{string};
     ghost use Rattle.tb_value.specs.Kind as kinds;
@@ -284,7 +418,13 @@ impl Chunk for StringChunk {
 
     ghost buffers = { λ c. c.inner.buffers.items };
 
+    ghost views = { λ c. c.inner.views.items };
+
     ghost kind = { kinds.string };
+
+    ghost viewed = { λ c. Prim.search (rules, length-map, length-replicate) };
+
+    ghost few = { λ c. c.inner.few };
 
     fn len(&self) -> usize {
         self.inner.len()
@@ -292,6 +432,10 @@ impl Chunk for StringChunk {
 
     fn null_count(&self) -> usize {
         self.inner.null_count()
+    }
+
+    fn buffer_count(&self) -> usize {
+        self.inner.buffers().len()
     }
 
     fn value(&self, row: usize) -> ValueRef<'_> {
@@ -329,6 +473,19 @@ impl Chunk for StringChunk {
         self.inner.add_buffers(alloc, &other.inner)
     }
 
+    fn long_buffer(&self, row: usize) -> Option<u32> {
+        self.inner.long_buffer(row)
+    }
+
+    fn add_buffer(
+        &mut self,
+        alloc: Global,
+        other: &StringChunk,
+        number: u32,
+    ) -> Result<(), OutOfMemory> {
+        self.inner.add_buffer(alloc, &other.inner, number)
+    }
+
     fn push_from(
         &mut self,
         _alloc: Global,
@@ -337,6 +494,16 @@ impl Chunk for StringChunk {
         row: usize,
     ) -> Result<(), OutOfMemory> {
         self.inner.push_from(&other.inner, base, row)
+    }
+
+    fn push_at(
+        &mut self,
+        _alloc: Global,
+        other: &StringChunk,
+        number: u32,
+        row: usize,
+    ) -> Result<(), OutOfMemory> {
+        self.inner.push_at(&other.inner, number, row)
     }
 
     fn push_null(&mut self) -> Result<(), OutOfMemory> {

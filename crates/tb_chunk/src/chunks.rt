@@ -1,10 +1,12 @@
 //! The chunks of a column, by the type that they are stored as.
-ghost use Rattle.std.specs.Prelude.{◌≡◌, ◌<◌, ◌≤◌, ◌^◌, ◌∷◌, [], IfOk, length, get_or, map};
+ghost use Rattle.std.specs.Prelude.{◌≡◌, ◌<◌, ◌^◌, [], IfOk, length, get_or, map};
 ghost use Rattle.tb_value.specs.Datum.{null};
 ghost use Rattle.tb_value.specs.See.{lent, IsText};
 ghost use Rattle.tb_chunk.specs.Col.{flat};
 ghost use Rattle.tb_chunk.specs.Flag.{nulls};
+ghost use Rattle.tb_chunk.specs.Runs.{chunk_runs};
 ghost use Rattle.tb_chunk.specs.Seen.{chunk_lists, storage};
+ghost use Rattle.tb_chunk.specs.Whole.{AreViewed, runs_of};
 
 use crate::chunk::{Cells, Chunk, StringChunk};
 use crate::each::for_chunks;
@@ -80,7 +82,8 @@ pub fn value_in<C: Chunk>(chunks: &[C], row: usize) -> ValueRef<'_>
 
 /// Equal chunks.
 pub fn copy_chunks<C: Chunk>(alloc: Global, chunks: &[C]) -> Result<Vec<C>, OutOfMemory>
-    ensures { IfOk result (λ v. map C.shown v.items ≡ map C.shown chunks.now) }
+    ensures shown { IfOk result (λ v. map C.shown v.items ≡ map C.shown chunks.now) }
+    ensures runs { IfOk result (λ v. runs_of C.views C.buffers v.items ≡ runs_of C.views C.buffers chunks.now) }
 {
     let mut copies = Vec::with_capacity(alloc, chunks.len())?;
     for chunk in chunks {
@@ -93,14 +96,17 @@ pub fn copy_chunks<C: Chunk>(alloc: Global, chunks: &[C]) -> Result<Vec<C>, OutO
 fn copied<C: Stored>(alloc: Global, chunks: &[C]) -> Result<Chunks, OutOfMemory>
     ensures lists { IfOk result (λ c. chunk_lists c ≡ map C.shown chunks.now) }
     ensures storage { IfOk result (λ c. storage c ≡ C.kind) }
+    ensures runs { IfOk result (λ c. chunk_runs c ≡ runs_of C.views C.buffers chunks.now) }
 {
     Ok(C::wrap(copy_chunks(alloc, chunks)?))
 }
 
 impl Chunks {
-    /// The number of chunks.
+    /// The number of chunks. Each has a view or none for each of its values.
+    #[tactic(auto, using(crate::proofs::Runs::chunks_viewed))]
     pub fn count(&self) -> usize
-        ensures { result ≡ length (chunk_lists self.now) }
+        ensures count { result ≡ length (chunk_lists self.now) }
+        ensures viewed { AreViewed (chunk_lists self.now) (chunk_runs self.now) }
     {
         for_chunks!(self, chunks => chunks.len())
     }
@@ -142,6 +148,7 @@ impl Chunks {
     pub fn copy(&self, alloc: Global) -> Result<Chunks, OutOfMemory>
         ensures lists { IfOk result (λ c. chunk_lists c ≡ chunk_lists self.now) }
         ensures storage { IfOk result (λ c. storage c ≡ storage self.now) }
+        ensures runs { IfOk result (λ c. chunk_runs c ≡ chunk_runs self.now) }
     {
         for_chunks!(self, chunks => copied(alloc, chunks))
     }

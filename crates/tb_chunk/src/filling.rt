@@ -1,5 +1,5 @@
 //! Buffers that texts are put into.
-ghost use Rattle.std.specs.Prelude.{◌≡◌, ◌<◌, ◌≤◌, ◌+◌, ◌^◌, ◌∷◌, ◌++◌, [], IfOk, OnOk, OnErr, Some, length, map};
+ghost use Rattle.std.specs.Prelude.{◌≡◌, ◌<◌, ◌+◌, ◌^◌, ◌∷◌, ◌++◌, [], IfOk, OnOk, OnErr, Some, length, map};
 ghost use Rattle.tb_chunk.specs.Layout.{IsPut, IsRow, begun};
 
 use crate::view::View;
@@ -8,7 +8,7 @@ use std::marker::Model;
 use std::mem;
 use tb_value::{Bytes, OutOfMemory};
 
-// A buffer has at most as many bytes, and a chunk as many full buffers.
+// A buffer has at most as many bytes, and a chunk as many buffers.
 const MOST: usize = 4294967295;
 
 /// Full buffers, and the one that is being filled.
@@ -19,13 +19,13 @@ pub(crate) struct Filling {
 }
 
 impl Model for Filling {
-    ghost use Rattle.std.specs.Prelude.{ℕ, List, length, map, ◌<◌, ◌^◌};
+    ghost use Rattle.std.specs.Prelude.{ℕ, List, length, map, ◌<◌, ◌+◌, ◌^◌};
 
     ghost Value = { List (List ℕ) × List ℕ };
 
     ghost view = { λ f. (map (λ b. b.items) f.full.items, f.last.items) };
 
-    ghost invariant = { λ f. length f.full.items < 2 ^ 32 };
+    ghost invariant = { λ f. length f.full.items + 1 < 2 ^ 32 };
 }
 
 impl Filling {
@@ -44,7 +44,7 @@ impl Filling {
         ensures ok { OnOk result (self.new ≡ (self.old.0 ++ self.old.1 ∷ [], text.now)) }
         ensures err { OnErr result (self.new ≡ self.old) }
     {
-        if self.full.len() == MOST {
+        if self.full.len() + 1 == MOST {
             return Err(OutOfMemory);
         }
         self.full.reserve(1)?;
@@ -87,7 +87,8 @@ impl Filling {
 
     /// All buffers, which are not copied.
     pub(crate) fn finish(self, alloc: Global) -> Result<Vec<Bytes>, OutOfMemory>
-        ensures { IfOk result (λ v. v.items ≡ begun self) }
+        ensures buffers { IfOk result (λ v. v.items ≡ begun self) }
+        ensures few { IfOk result (λ v. length v.items < 2 ^ 32) }
     {
         let Filling { full, last } = self;
         let mut buffers = shared(alloc, full)?;

@@ -2,7 +2,10 @@
 ghost use Rattle.std.specs.Prelude.{◌≡◌, ◌<◌, ◌≤◌, ◌^◌, ◌+◌, ◌++◌, ◌∷◌, [], IfOk, OnOk, get_or, length, map, take, drop};
 ghost use Rattle.tb_chunk.specs.Col.{flat};
 ghost use Rattle.tb_chunk.specs.Held.{AreHeld};
+ghost use Rattle.tb_chunk.specs.Moved.{moved};
+ghost use Rattle.tb_chunk.specs.Runs.{chunk_runs};
 ghost use Rattle.tb_chunk.specs.Seen.{chunk_lists, storage};
+ghost use Rattle.tb_chunk.specs.Whole.{runs_of, whole, window_of};
 
 use crate::chunk::Chunk;
 use crate::chunks::Chunks;
@@ -27,6 +30,10 @@ fn push_rows<C: Chunk>(
     requires within { from + count ≤ length (get_or (map C.shown chunks.now) chunk []) }
     ensures shown { OnOk result (C.shown out.new.chunk ≡ C.shown out.old.chunk ++ take count (drop from (get_or (map C.shown chunks.now) chunk []))) }
     ensures held { AreHeld (C.buffers out.new.chunk) out.new.bases.items (map C.buffers chunks.now) }
+    ensures views { OnOk result (C.views out.new.chunk ≡ C.views out.old.chunk
+        ++ map (moved (get_or out.old.bases.items chunk 0)) (take count (drop from (get_or (map C.views chunks.now) chunk [])))) }
+    ensures buffers { C.buffers out.new.chunk ≡ C.buffers out.old.chunk }
+    ensures bases { out.new.bases.items ≡ out.old.bases.items }
 {
     let _rows = chunks[chunk].len();
     for i in 0..count {
@@ -44,7 +51,9 @@ pub fn join_rows<C: Chunk>(
 ) -> Result<C, OutOfMemory>
     requires within { start + len ≤ length (flat (map C.shown chunks.now)) }
     requires short { length (flat (map C.shown chunks.now)) < 2 ^ 32 }
-    ensures { IfOk result (λ c. C.shown c ≡ take len (drop start (flat (map C.shown chunks.now)))) }
+    ensures shown { IfOk result (λ c. C.shown c ≡ take len (drop start (flat (map C.shown chunks.now)))) }
+    ensures views { IfOk result (λ c. C.views c ≡ (window_of start len (whole (runs_of C.views C.buffers chunks.now))).views) }
+    ensures buffers { IfOk result (λ c. C.buffers c ≡ (whole (runs_of C.views C.buffers chunks.now)).buffers) }
 {
     let mut out = Growing::over(alloc, chunks, len)?;
     let mut skip = start;
@@ -69,7 +78,8 @@ pub fn join_one<C: Chunk>(
 ) -> Result<Vec<C>, OutOfMemory>
     requires within { start + len ≤ length (flat (map C.shown chunks.now)) }
     requires short { length (flat (map C.shown chunks.now)) < 2 ^ 32 }
-    ensures { IfOk result (λ v. map C.shown v.items ≡ take len (drop start (flat (map C.shown chunks.now))) ∷ []) }
+    ensures shown { IfOk result (λ v. map C.shown v.items ≡ take len (drop start (flat (map C.shown chunks.now))) ∷ []) }
+    ensures runs { IfOk result (λ v. runs_of C.views C.buffers v.items ≡ window_of start len (whole (runs_of C.views C.buffers chunks.now)) ∷ []) }
 {
     let chunk = join_rows(alloc, chunks, start, len)?;
     let mut one = Vec::new(alloc);
@@ -88,6 +98,7 @@ fn join_stored<C: Stored>(
     requires short { length (flat (map C.shown chunks.now)) < 2 ^ 32 }
     ensures lists { IfOk result (λ c. chunk_lists c ≡ take len (drop start (flat (map C.shown chunks.now))) ∷ []) }
     ensures storage { IfOk result (λ c. storage c ≡ C.kind) }
+    ensures runs { IfOk result (λ c. chunk_runs c ≡ window_of start len (whole (runs_of C.views C.buffers chunks.now)) ∷ []) }
 {
     Ok(C::wrap(join_one(alloc, chunks, start, len)?))
 }
@@ -99,6 +110,7 @@ impl Chunks {
         requires short { length (flat (chunk_lists self.now)) < 2 ^ 32 }
         ensures lists { IfOk result (λ c. chunk_lists c ≡ take len (drop start (flat (chunk_lists self.now))) ∷ []) }
         ensures storage { IfOk result (λ c. storage c ≡ storage self.now) }
+        ensures runs { IfOk result (λ c. chunk_runs c ≡ window_of start len (whole (chunk_runs self.now)) ∷ []) }
     {
         for_chunks!(self, chunks => join_stored(alloc, chunks, start, len))
     }

@@ -1,7 +1,9 @@
 //! Chunks that take up rows of others.
-ghost use Rattle.std.specs.Prelude.{◌≡◌, ◌<◌, ◌^◌, ◌++◌, ◌∷◌, [], IfOk, OnOk, length, map, get_or};
+ghost use Rattle.std.specs.Prelude.{◌≡◌, ◌<◌, ◌^◌, ◌++◌, ◌∷◌, [], IfOk, OnOk, None, length, map, get_or};
 ghost use Rattle.tb_value.specs.Datum.{null};
 ghost use Rattle.tb_chunk.specs.Held.{AreHeld};
+ghost use Rattle.tb_chunk.specs.Moved.{moved};
+ghost use Rattle.tb_chunk.specs.Whole.{AreBases, all_buffers, runs_of};
 
 use crate::chunk::Chunk;
 use std::alloc::Global;
@@ -19,6 +21,9 @@ impl<C: Chunk> Growing<C> {
     pub fn over(alloc: Global, chunks: &[C], rows: usize) -> Result<Growing<C>, OutOfMemory>
         ensures none { IfOk result (λ g. C.shown g.chunk ≡ []) }
         ensures held { IfOk result (λ g. AreHeld (C.buffers g.chunk) g.bases.items (map C.buffers chunks.now)) }
+        ensures views { IfOk result (λ g. C.views g.chunk ≡ []) }
+        ensures buffers { IfOk result (λ g. C.buffers g.chunk ≡ all_buffers (runs_of C.views C.buffers chunks.now)) }
+        ensures bases { IfOk result (λ g. AreBases g.bases.items (runs_of C.views C.buffers chunks.now)) }
     {
         let mut chunk = C::with_capacity(alloc, rows)?;
         let mut bases = Vec::with_capacity(alloc, chunks.len())?;
@@ -42,6 +47,10 @@ impl<C: Chunk> Growing<C> {
         requires row { row < length (get_or (map C.shown chunks.now) chunk []) }
         ensures shown { OnOk result (C.shown self.new.chunk ≡ C.shown self.old.chunk ++ get_or (get_or (map C.shown chunks.now) chunk []) row null ∷ []) }
         ensures held { AreHeld (C.buffers self.new.chunk) self.new.bases.items (map C.buffers chunks.now) }
+        ensures views { OnOk result (C.views self.new.chunk ≡ C.views self.old.chunk
+            ++ moved (get_or self.old.bases.items chunk 0) (get_or (get_or (map C.views chunks.now) chunk []) row None) ∷ []) }
+        ensures buffers { C.buffers self.new.chunk ≡ C.buffers self.old.chunk }
+        ensures bases { self.new.bases.items ≡ self.old.bases.items }
     {
         self.chunk
             .push_from(alloc, &chunks[chunk], self.bases[chunk], row)
@@ -51,6 +60,7 @@ impl<C: Chunk> Growing<C> {
     pub fn push_null(&mut self) -> Result<(), OutOfMemory>
         requires { length (C.shown self.old.chunk) < 2 ^ 63 }
         ensures shown { OnOk result (C.shown self.new.chunk ≡ C.shown self.old.chunk ++ null ∷ []) }
+        ensures views { OnOk result (C.views self.new.chunk ≡ C.views self.old.chunk ++ None ∷ []) }
         ensures buffers { C.buffers self.new.chunk ≡ C.buffers self.old.chunk }
         ensures bases { self.new.bases.items ≡ self.old.bases.items }
     {

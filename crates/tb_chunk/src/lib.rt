@@ -20,6 +20,7 @@ mod pick;
 mod row_number;
 mod slicing;
 mod stored;
+mod text_views;
 mod view;
 mod view_builder;
 mod view_chunk;

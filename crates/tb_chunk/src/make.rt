@@ -1,5 +1,5 @@
 //! Chunks made of values.
-ghost use Rattle.std.specs.Prelude.{◌≡◌, ◌<◌, ◌≤◌, ◌^◌, ◌↔◌, ◌+◌, ◌++◌, ◌∷◌, [], IfOk, OnOk, IsTrue, length, map};
+ghost use Rattle.std.specs.Prelude.{◌≡◌, ◌≤◌, ◌↔◌, IfOk, IsTrue, length, map};
 ghost use Rattle.std.specs.List.{All};
 ghost use Rattle.tb_value.specs.See.{data_of};
 ghost use Rattle.tb_value.specs.SeeKind.{kind_of};
@@ -7,8 +7,11 @@ ghost use Rattle.tb_value.specs.Typed.{HasType};
 ghost use Rattle.tb_chunk.specs.Col.{flat, physical};
 ghost use Rattle.tb_chunk.specs.Fits.{Fits};
 ghost use Rattle.tb_chunk.specs.Made.{lists_of, at_least_one};
+ghost use Rattle.tb_chunk.specs.Fresh.{fresh_runs};
+ghost use Rattle.tb_chunk.specs.Runs.{chunk_runs};
 ghost use Rattle.tb_chunk.specs.Seen.{chunk_lists, storage};
 ghost use Rattle.tb_chunk.specs.Stored.{AreMade};
+ghost use Rattle.tb_chunk.specs.Whole.{runs_of, HaveFewBuffers};
 
 use crate::chunk::{Cells, Chunk, StringChunk};
 use crate::chunks::Chunks;
@@ -61,7 +64,8 @@ fn is_short(chunks: &[Vec<AnyValue>]) -> bool
 #[tactic(auto, using(crate::proofs::Alls::all_next_list))]
 fn build<C: Chunk>(alloc: Global, lists: &[Vec<AnyValue>]) -> Result<Vec<C>, OutOfMemory>
     requires { All (Fits C.kind) (flat (lists_of lists.now)) }
-    ensures { IfOk result (λ v. map C.shown v.items ≡ lists_of lists.now) }
+    ensures shown { IfOk result (λ v. map C.shown v.items ≡ lists_of lists.now) }
+    ensures runs { IfOk result (λ v. runs_of C.views C.buffers v.items ≡ fresh_runs (lists_of lists.now)) }
 {
     let mut chunks = Vec::with_capacity(alloc, lists.len())?;
     for list in lists {
@@ -75,6 +79,7 @@ fn build_stored<C: Stored>(alloc: Global, lists: &[Vec<AnyValue>]) -> Result<Chu
     requires { All (Fits C.kind) (flat (lists_of lists.now)) }
     ensures lists { IfOk result (λ c. chunk_lists c ≡ lists_of lists.now) }
     ensures storage { IfOk result (λ c. storage c ≡ C.kind) }
+    ensures runs { IfOk result (λ c. chunk_runs c ≡ fresh_runs (lists_of lists.now)) }
 {
     Ok(C::wrap(build(alloc, lists)?))
 }
@@ -87,6 +92,7 @@ fn build_chunks(
     requires { All (Fits (physical (kind_of dtype.now))) (flat (lists_of lists.now)) }
     ensures lists { IfOk result (λ c. chunk_lists c ≡ lists_of lists.now) }
     ensures storage { IfOk result (λ c. storage c ≡ physical (kind_of dtype.now)) }
+    ensures runs { IfOk result (λ c. chunk_runs c ≡ fresh_runs (lists_of lists.now)) }
 {
     match dtype {
         DataType::Null => build_stored::<usize>(alloc, lists),
@@ -137,7 +143,8 @@ impl Chunks {
         dtype: &DataType,
         lists: Vec<Vec<AnyValue>>,
     ) -> PolarsResult<Chunks>
-        ensures { AreMade (kind_of dtype.now) (physical (kind_of dtype.now)) (lists_of lists.items) result }
+        ensures few { IfOk result (λ c. HaveFewBuffers (chunk_runs c)) }
+        ensures made { AreMade (kind_of dtype.now) (physical (kind_of dtype.now)) (lists_of lists.items) (fresh_runs (lists_of lists.items)) result }
     {
         if !all_are_of(dtype, &lists) {
             return Err(PolarsError::SchemaMismatch);

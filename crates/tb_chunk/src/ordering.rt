@@ -1,5 +1,5 @@
 //! Whether values ascend, or descend.
-ghost use Rattle.std.specs.Prelude.{◌≡◌, ◌<◌, ◌≤◌, ◌^◌, ◌+◌, ◌↔◌, if◌then◌else◌, IsTrue, is_some, option_map, length, get_or, map, take, drop};
+ghost use Rattle.std.specs.Prelude.{◌≡◌, ◌<◌, ◌≤◌, ◌^◌, ◌+◌, if◌then◌else◌, is_some, option_map, length, get_or, map, take, drop};
 ghost use Rattle.tb_value.specs.Datum.{null, is_null};
 ghost use Rattle.tb_value.specs.See.{lent};
 ghost use Rattle.tb_chunk.specs.Order.{order_of, may_follow, followed, keeps_order};

@@ -1,6 +1,8 @@
 //! Runs of bytes, of lists and of structs.
-ghost use Rattle.std.specs.Prelude.{◌≡◌, ◌<◌, [], IfOk, None, get_or, length, map};
+ghost use Rattle.std.specs.Prelude.{◌≡◌, ◌<◌, [], None, get_or, length, map};
 ghost use Rattle.std.specs.Option.{option_map};
+ghost use Rattle.std.proofs.Common.{arith, rules};
+ghost use Rattle.std.proofs.lemmas.List.{length-map, length-replicate};
 ghost use Rattle.tb_value.specs.Datum.{binary, list, struct, items_of};
 ghost use Rattle.tb_value.specs.Kind as kinds;
 ghost use Rattle.tb_chunk.specs.Chunk.{or_null};
@@ -33,7 +35,13 @@ impl Chunk for BinaryChunk {
 
     ghost buffers = { λ c. c.inner.buffers.items };
 
+    ghost views = { λ c. c.inner.views.items };
+
     ghost kind = { kinds.binary };
+
+    ghost viewed = { λ c. Prim.search (rules, length-map, length-replicate) };
+
+    ghost few = { λ c. c.inner.few };
 
     fn len(&self) -> usize {
         self.inner.len()
@@ -41,6 +49,10 @@ impl Chunk for BinaryChunk {
 
     fn null_count(&self) -> usize {
         self.inner.null_count()
+    }
+
+    fn buffer_count(&self) -> usize {
+        self.inner.buffers().len()
     }
 
     fn value(&self, row: usize) -> ValueRef<'_> {
@@ -78,6 +90,19 @@ impl Chunk for BinaryChunk {
         self.inner.add_buffers(alloc, &other.inner)
     }
 
+    fn long_buffer(&self, row: usize) -> Option<u32> {
+        self.inner.long_buffer(row)
+    }
+
+    fn add_buffer(
+        &mut self,
+        alloc: Global,
+        other: &BinaryChunk,
+        number: u32,
+    ) -> Result<(), OutOfMemory> {
+        self.inner.add_buffer(alloc, &other.inner, number)
+    }
+
     fn push_from(
         &mut self,
         _alloc: Global,
@@ -86,6 +111,16 @@ impl Chunk for BinaryChunk {
         row: usize,
     ) -> Result<(), OutOfMemory> {
         self.inner.push_from(&other.inner, base, row)
+    }
+
+    fn push_at(
+        &mut self,
+        _alloc: Global,
+        other: &BinaryChunk,
+        number: u32,
+        row: usize,
+    ) -> Result<(), OutOfMemory> {
+        self.inner.push_at(&other.inner, number, row)
     }
 
     fn push_null(&mut self) -> Result<(), OutOfMemory> {
@@ -104,7 +139,13 @@ impl Chunk for ListChunk {
 
     ghost buffers = { λ _. [] };
 
+    ghost views = { λ c. map (λ _. None) c.inner.cells.items };
+
     ghost kind = { kinds.list kinds.null };
+
+    ghost viewed = { λ c. Prim.search (rules, length-map, length-replicate) };
+
+    ghost few = { λ _. omega arith };
 
     fn len(&self) -> usize {
         self.inner.len()
@@ -112,6 +153,10 @@ impl Chunk for ListChunk {
 
     fn null_count(&self) -> usize {
         self.inner.null_count()
+    }
+
+    fn buffer_count(&self) -> usize {
+        0
     }
 
     fn value(&self, row: usize) -> ValueRef<'_> {
@@ -146,6 +191,19 @@ impl Chunk for ListChunk {
         Ok(0)
     }
 
+    fn long_buffer(&self, row: usize) -> Option<u32> {
+        self.inner.long_buffer(row)
+    }
+
+    fn add_buffer(
+        &mut self,
+        _alloc: Global,
+        _other: &ListChunk,
+        _number: u32,
+    ) -> Result<(), OutOfMemory> {
+        Ok(())
+    }
+
     fn push_from(
         &mut self,
         alloc: Global,
@@ -154,6 +212,16 @@ impl Chunk for ListChunk {
         row: usize,
     ) -> Result<(), OutOfMemory> {
         self.inner.push_from(alloc, &other.inner, base, row)
+    }
+
+    fn push_at(
+        &mut self,
+        alloc: Global,
+        other: &ListChunk,
+        number: u32,
+        row: usize,
+    ) -> Result<(), OutOfMemory> {
+        self.inner.push_at(alloc, &other.inner, number, row)
     }
 
     fn push_null(&mut self) -> Result<(), OutOfMemory> {
@@ -172,7 +240,13 @@ impl Chunk for StructChunk {
 
     ghost buffers = { λ _. [] };
 
+    ghost views = { λ c. map (λ _. None) c.inner.cells.items };
+
     ghost kind = { kinds.struct kinds.end };
+
+    ghost viewed = { λ c. Prim.search (rules, length-map, length-replicate) };
+
+    ghost few = { λ _. omega arith };
 
     fn len(&self) -> usize {
         self.inner.len()
@@ -180,6 +254,10 @@ impl Chunk for StructChunk {
 
     fn null_count(&self) -> usize {
         self.inner.null_count()
+    }
+
+    fn buffer_count(&self) -> usize {
+        0
     }
 
     fn value(&self, row: usize) -> ValueRef<'_> {
@@ -214,6 +292,19 @@ impl Chunk for StructChunk {
         Ok(0)
     }
 
+    fn long_buffer(&self, row: usize) -> Option<u32> {
+        self.inner.long_buffer(row)
+    }
+
+    fn add_buffer(
+        &mut self,
+        _alloc: Global,
+        _other: &StructChunk,
+        _number: u32,
+    ) -> Result<(), OutOfMemory> {
+        Ok(())
+    }
+
     fn push_from(
         &mut self,
         alloc: Global,
@@ -222,6 +313,16 @@ impl Chunk for StructChunk {
         row: usize,
     ) -> Result<(), OutOfMemory> {
         self.inner.push_from(alloc, &other.inner, base, row)
+    }
+
+    fn push_at(
+        &mut self,
+        alloc: Global,
+        other: &StructChunk,
+        number: u32,
+        row: usize,
+    ) -> Result<(), OutOfMemory> {
+        self.inner.push_at(alloc, &other.inner, number, row)
     }
 
     fn push_null(&mut self) -> Result<(), OutOfMemory> {

@@ -1,11 +1,11 @@
 //! Columns made of rows of others.
-ghost use Rattle.std.specs.Prelude.{◌≡◌, ◌<◌, ◌≤◌, ◌^◌, ◌∷◌, [], IfOk, length, map, slice_index_or};
+ghost use Rattle.std.specs.Prelude.{◌≡◌, ◌<◌, ◌^◌, ◌∷◌, [], IfOk, length, map};
 ghost use Rattle.std.specs.List.{All};
-ghost use Rattle.tb_value.specs.Datum.{null};
-ghost use Rattle.tb_value.specs.declared.sorted.IsSorted.TheVariants.{Not};
-ghost use Rattle.tb_chunk.specs.Col.{flat, values};
+ghost use Rattle.tb_chunk.specs.Col.{flat};
 ghost use Rattle.tb_chunk.specs.Rows.{IsRowOf, value_or_null};
+ghost use Rattle.tb_chunk.specs.Runs.{chunk_runs};
 ghost use Rattle.tb_chunk.specs.Seen.{chunk_lists, storage};
+ghost use Rattle.tb_chunk.specs.Whole.{picked_of, runs_of, whole};
 
 use crate::chunk::Chunk;
 use crate::chunks::{Chunks, rows_in};
@@ -15,7 +15,7 @@ use crate::growing::Growing;
 use crate::row_number::RowNumber;
 use crate::stored::Stored;
 use std::alloc::Global;
-use tb_value::{IdxSize, IsSorted, OutOfMemory};
+use tb_value::OutOfMemory;
 
 // The values of these rows of the only chunk.
 fn pick_rows<C: Chunk, R: RowNumber>(
@@ -26,7 +26,9 @@ fn pick_rows<C: Chunk, R: RowNumber>(
     requires one { length chunks.now ≡ 1 }
     requires rows { All (λ r. IsRowOf (length (flat (map C.shown chunks.now))) (R.number r)) rows.now }
     requires few { length rows.now < 2 ^ 32 }
-    ensures { IfOk result (λ c. C.shown c ≡ map (λ r. value_or_null (flat (map C.shown chunks.now)) (R.number r)) rows.now) }
+    ensures shown { IfOk result (λ c. C.shown c ≡ map (λ r. value_or_null (flat (map C.shown chunks.now)) (R.number r)) rows.now) }
+    ensures views { IfOk result (λ c. C.views c ≡ (picked_of R.number rows.now (whole (runs_of C.views C.buffers chunks.now))).views) }
+    ensures buffers { IfOk result (λ c. C.buffers c ≡ (whole (runs_of C.views C.buffers chunks.now)).buffers) }
 {
     let mut out = Growing::over(alloc, chunks, rows.len())?;
     for row in rows {
@@ -43,7 +45,9 @@ fn pick<C: Chunk, R: RowNumber>(alloc: Global, chunks: &[C], rows: &[R]) -> Resu
     requires rows { All (λ r. IsRowOf (length (flat (map C.shown chunks.now))) (R.number r)) rows.now }
     requires few { length rows.now < 2 ^ 32 }
     requires short { length (flat (map C.shown chunks.now)) < 2 ^ 32 }
-    ensures { IfOk result (λ c. C.shown c ≡ map (λ r. value_or_null (flat (map C.shown chunks.now)) (R.number r)) rows.now) }
+    ensures shown { IfOk result (λ c. C.shown c ≡ map (λ r. value_or_null (flat (map C.shown chunks.now)) (R.number r)) rows.now) }
+    ensures views { IfOk result (λ c. C.views c ≡ (picked_of R.number rows.now (whole (runs_of C.views C.buffers chunks.now))).views) }
+    ensures buffers { IfOk result (λ c. C.buffers c ≡ (whole (runs_of C.views C.buffers chunks.now)).buffers) }
 {
     if chunks.len() == 1 {
         return pick_rows(alloc, chunks, rows);
@@ -63,6 +67,7 @@ fn pick_stored<C: Stored, R: RowNumber>(
     requires short { length (flat (map C.shown chunks.now)) < 2 ^ 32 }
     ensures lists { IfOk result (λ c. chunk_lists c ≡ map (λ r. value_or_null (flat (map C.shown chunks.now)) (R.number r)) rows.now ∷ []) }
     ensures storage { IfOk result (λ c. storage c ≡ C.kind) }
+    ensures runs { IfOk result (λ c. chunk_runs c ≡ picked_of R.number rows.now (whole (runs_of C.views C.buffers chunks.now)) ∷ []) }
 {
     let mut one = Vec::new(alloc);
     one.push(pick(alloc, chunks, rows)?)?;
@@ -78,6 +83,7 @@ impl Chunks {
         requires short { length (flat (chunk_lists self.now)) < 2 ^ 32 }
         ensures lists { IfOk result (λ c. chunk_lists c ≡ map (λ r. value_or_null (flat (chunk_lists self.now)) (R.number r)) rows.now ∷ []) }
         ensures storage { IfOk result (λ c. storage c ≡ storage self.now) }
+        ensures runs { IfOk result (λ c. chunk_runs c ≡ picked_of R.number rows.now (whole (chunk_runs self.now)) ∷ []) }
     {
         for_chunks!(self, chunks => pick_stored(alloc, chunks, rows))
     }

@@ -1,7 +1,6 @@
 //! Parts of columns.
-ghost use Rattle.std.specs.Prelude.{◌≡◌, ◌≤◌, ◌+◌, ◌-◌, ◌∷◌, [], IfOk, length};
-ghost use Rattle.tb_chunk.specs.Col.{values};
-ghost use Rattle.tb_chunk.specs.Window.{clamped, part_from, part_to, window};
+ghost use Rattle.std.specs.Prelude.{◌≡◌, ◌≤◌, ◌+◌, ◌-◌};
+ghost use Rattle.tb_chunk.specs.Window.{clamped, part_from, part_to};
 
 use std::alloc::Global;
 use tb_value::OutOfMemory;

@@ -1,6 +1,8 @@
 //! Texts of 16 bytes, or the place of a longer one.
-ghost use Rattle.std.specs.Prelude.{◌≡◌, ◌<◌, ◌≤◌, ◌+◌, ◌-◌, ◌^◌, [], length, take, drop, replicate, slice_index_or};
-ghost use Rattle.tb_chunk.specs.View.{buffer_of, offset_of, view_text, text_in, IsInline, IsView};
+ghost use Rattle.std.specs.Prelude.{◌≡◌, ◌<◌, ◌≤◌, ◌+◌, ◌^◌, length, take};
+ghost use Rattle.tb_chunk.specs.Layout.{long_view, short_view};
+ghost use Rattle.tb_chunk.specs.Moved.{renumbered};
+ghost use Rattle.tb_chunk.specs.View.{buffer_of, offset_of, view_text, IsInline, IsView};
 
 use tb_value::Bytes;
 
@@ -34,6 +36,7 @@ impl View {
         ensures length { result.length ≡ length text.now }
         ensures text { take (length text.now) result.rest ≡ text.now }
         ensures inline { IsInline result }
+        ensures is { result ≡ short_view text.now }
     {
         let mut rest = [0; 12];
         rest[..text.len()].copy_from_slice(text);
@@ -51,6 +54,7 @@ impl View {
         ensures front { take 4 result.rest ≡ take 4 text.now }
         ensures buffer { buffer_of result ≡ buffer }
         ensures offset { offset_of result ≡ offset }
+        ensures is { result ≡ long_view text.now buffer offset }
     {
         let [b0, b1, b2, b3] = buffer.to_le_bytes();
         let [o0, o1, o2, o3] = offset.to_le_bytes();
@@ -64,6 +68,7 @@ impl View {
 
     /// The same text, where its buffer has this number.
     pub fn renumbered(&self, buffer: u32) -> View
+        ensures whole { result ≡ renumbered self.now buffer }
         ensures length { result.length ≡ self.now.length }
         ensures front { take 4 result.rest ≡ take 4 self.now.rest }
         ensures buffer { buffer_of result ≡ buffer }

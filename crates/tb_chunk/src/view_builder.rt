@@ -1,7 +1,7 @@
 //! Views made of texts, one after another.
 ghost use Rattle.std.specs.Prelude.{◌≡◌, ◌<◌, ◌^◌, [], IfOk, OnOk, OnErr, None, Some, length, map};
 ghost use Rattle.tb_value.specs.See.{datum};
-ghost use Rattle.tb_chunk.specs.Layout.{begun, built, laid_out, with_row, with_rows};
+ghost use Rattle.tb_chunk.specs.Layout.{begun, built, laid, with_row, with_rows};
 ghost use Rattle.tb_chunk.specs.Texts.{text_of};
 ghost use Rattle.tb_chunk.specs.View.{texts};
 
@@ -27,7 +27,7 @@ impl Model for ViewBuilder {
 
     ghost Value = { Building };
 
-    ghost view = { λ b. record { rows = texts (all_of b.filling) b.views.items; laid = b.filling } };
+    ghost view = { λ b. record { rows = texts (all_of b.filling) b.views.items; views = b.views.items; laid = b.filling } };
 
     ghost invariant = { λ b. All (IsViewOrNone (all_of b.filling)) b.views.items };
 }
@@ -85,6 +85,7 @@ impl ViewBuilder {
     /// The chunk of the rows.
     pub(crate) fn finish(self, alloc: Global) -> Result<ViewChunk, OutOfMemory>
         ensures texts { IfOk result (λ c. texts c.buffers.items c.views.items ≡ self.rows) }
+        ensures views { IfOk result (λ c. c.views.items ≡ self.views) }
         ensures buffers { IfOk result (λ c. c.buffers.items ≡ begun self.laid) }
     {
         let ViewBuilder { views, filling } = self;
@@ -108,7 +109,8 @@ impl ViewChunk {
     /// The chunk of the texts and bytes among these values.
     pub(crate) fn from_values(alloc: Global, values: &[AnyValue]) -> Result<ViewChunk, OutOfMemory>
         ensures texts { IfOk result (λ c. texts c.buffers.items c.views.items ≡ map (λ v. text_of (datum v)) values.now) }
-        ensures buffers { IfOk result (λ c. c.buffers.items ≡ laid_out (map (λ v. text_of (datum v)) values.now)) }
+        ensures views { IfOk result (λ c. c.views.items ≡ (laid (map (λ v. text_of (datum v)) values.now)).views) }
+        ensures buffers { IfOk result (λ c. c.buffers.items ≡ (laid (map (λ v. text_of (datum v)) values.now)).buffers) }
     {
         let mut builder = ViewBuilder::with_capacity(alloc, values.len())?;
         for value in values {

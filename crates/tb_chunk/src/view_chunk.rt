@@ -1,9 +1,11 @@
 //! Runs of optional texts.
-ghost use Rattle.std.specs.Prelude.{◌≡◌, ◌<◌, ◌≤◌, ◌+◌, ◌^◌, ◌∷◌, ◌++◌, [], All, IfOk, OnOk, OnErr, None, is_none, length, map, take, drop, slice_index_or};
+ghost use Rattle.std.specs.Prelude.{◌≡◌, ◌<◌, ◌≤◌, ◌+◌, ◌^◌, ◌∷◌, ◌++◌, [], All, IfOk, IfSome, OnOk, OnErr, None, is_none, length, slice_index_or, take, drop};
 ghost use Rattle.std.proofs.Props.{props};
 ghost use Rattle.std.specs.List.{count_by};
 ghost use Rattle.std.specs.Option.{option_map};
 ghost use Rattle.tb_chunk.specs.Held.{Holds};
+ghost use Rattle.tb_chunk.specs.Moved.{moved};
+ghost use Rattle.tb_chunk.specs.Used.{placed_at, used_buffer, StandsAt};
 ghost use Rattle.tb_chunk.specs.View.{texts, row_text, IsViewOrNone};
 
 use crate::view::View;
@@ -16,6 +18,7 @@ pub struct ViewChunk {
     pub(crate) views: Vec<Option<View>>,
     pub(crate) buffers: Vec<Bytes>,
     ghost formed: { All (IsViewOrNone buffers.items) views.items } by { Prim.hlevel props },
+    ghost few: { length buffers.items < 2 ^ 32 },
 }
 
 impl ViewChunk {
@@ -66,6 +69,18 @@ impl ViewChunk {
         }
     }
 
+    /// The number of the buffer that the text of a row lies in, none where the text is short or there is none.
+    pub fn long_buffer(&self, row: usize) -> Option<u32>
+        requires { row < length self.now.views.items }
+        ensures buffer { result ≡ used_buffer (slice_index_or self.now.views.items row None) }
+        ensures within { IfSome result (λ b. b < length self.now.buffers.items) }
+    {
+        match &self.views[row] {
+            Some(view) if view.length > 12 => Some(view.buffer()),
+            _ => None,
+        }
+    }
+
     /// The same rows. Their bytes are shared.
     pub fn copy(&self, alloc: Global) -> Result<ViewChunk, OutOfMemory>
         ensures views { IfOk result (λ c. c.views.items ≡ self.now.views.items) }
@@ -86,11 +101,35 @@ impl ViewChunk {
         ensures few { IfOk result (λ n. length self.new.buffers.items < 2 ^ 32) }
     {
         let first = self.buffers.len();
-        push_buffers(alloc, &mut self.buffers, &other.buffers)?;
-        match u32::try_from(self.buffers.len()) {
-            Ok(_) => Ok(first as u32),
-            Err(_) => Err(OutOfMemory),
+        if other.buffers.len() > u32::MAX as usize - first {
+            return Err(OutOfMemory);
         }
+        push_buffers(alloc, &mut self.buffers, &other.buffers)?;
+        Ok(first as u32)
+    }
+
+    /// Takes up the buffer of this number of another chunk behind its own, before there is a row, and none where the other has no
+    /// such buffer. After a refusal the chunk is as it was.
+    pub fn add_buffer(
+        &mut self,
+        alloc: Global,
+        other: &ViewChunk,
+        number: u32,
+    ) -> Result<(), OutOfMemory>
+        requires none { self.old.views.items ≡ [] }
+        ensures views { self.new.views.items ≡ [] }
+        ensures buffers { OnOk result (self.new.buffers.items ≡ self.old.buffers.items ++ take 1 (drop number other.now.buffers.items)) }
+        ensures err { OnErr result (self.new.buffers.items ≡ self.old.buffers.items) }
+    {
+        if number as usize >= other.buffers.len() {
+            return Ok(());
+        }
+        if self.buffers.len() >= u32::MAX as usize {
+            return Err(OutOfMemory);
+        }
+        let buffer = other.buffers[number as usize].copy(alloc)?;
+        self.buffers.push(buffer)?;
+        Ok(())
     }
 
     /// Appends a row of another chunk, whose buffers stand in this one from number `base` on. After a
@@ -101,6 +140,7 @@ impl ViewChunk {
         requires few { length self.old.buffers.items < 2 ^ 32 }
         ensures ok { OnOk result (texts self.new.buffers.items self.new.views.items ≡ texts self.old.buffers.items self.old.views.items
             ++ slice_index_or (texts other.now.buffers.items other.now.views.items) row None ∷ []) }
+        ensures views { OnOk result (self.new.views.items ≡ self.old.views.items ++ moved base (slice_index_or other.now.views.items row None) ∷ []) }
         ensures err { OnErr result (self.new.views.items ≡ self.old.views.items) }
         ensures buffers { self.new.buffers.items ≡ self.old.buffers.items }
     {
@@ -109,9 +149,26 @@ impl ViewChunk {
         Ok(())
     }
 
+    /// Appends a row of another chunk, where the buffer of its long text stands in this one under
+    /// `number`. After a refusal the chunk is as it was.
+    pub fn push_at(&mut self, other: &ViewChunk, number: u32, row: usize) -> Result<(), OutOfMemory>
+        requires row { row < length other.now.views.items }
+        requires held { StandsAt self.old.buffers.items number other.now.buffers.items (slice_index_or other.now.views.items row None) }
+        ensures ok { OnOk result (texts self.new.buffers.items self.new.views.items ≡ texts self.old.buffers.items self.old.views.items
+            ++ slice_index_or (texts other.now.buffers.items other.now.views.items) row None ∷ []) }
+        ensures views { OnOk result (self.new.views.items ≡ self.old.views.items ++ placed_at number (slice_index_or other.now.views.items row None) ∷ []) }
+        ensures err { OnErr result (self.new.views.items ≡ self.old.views.items) }
+        ensures buffers { self.new.buffers.items ≡ self.old.buffers.items }
+    {
+        let view = view_at(&other.views[row], number, &other.buffers, &self.buffers);
+        self.views.push(view)?;
+        Ok(())
+    }
+
     /// Appends a row without a text. After a refusal the chunk is as it was.
     pub fn push_null(&mut self) -> Result<(), OutOfMemory>
         ensures ok { OnOk result (texts self.new.buffers.items self.new.views.items ≡ texts self.old.buffers.items self.old.views.items ++ None ∷ []) }
+        ensures views { OnOk result (self.new.views.items ≡ self.old.views.items ++ None ∷ []) }
         ensures err { OnErr result (self.new.views.items ≡ self.old.views.items) }
         ensures buffers { self.new.buffers.items ≡ self.old.buffers.items }
     {
@@ -131,7 +188,8 @@ fn copy_buffers(alloc: Global, buffers: &[Bytes]) -> Result<Vec<Bytes>, OutOfMem
 }
 
 fn push_buffers(alloc: Global, buffers: &mut Vec<Bytes>, more: &[Bytes]) -> Result<(), OutOfMemory>
-    ensures { OnOk result (buffers.new.items ≡ buffers.old.items ++ more.now) }
+    ensures ok { OnOk result (buffers.new.items ≡ buffers.old.items ++ more.now) }
+    ensures few { length buffers.new.items ≤ length buffers.old.items + length more.now }
 {
     buffers.reserve(more.len())?;
     for buffer in more {
@@ -147,9 +205,26 @@ fn view_over(view: &Option<View>, base: u32, buffers: &[Bytes], all: &[Bytes]) -
     requires few { length all.now < 2 ^ 32 }
     ensures view { IsViewOrNone all.now result }
     ensures text { row_text all.now result ≡ row_text buffers.now view.now }
+    ensures moved { result ≡ moved base view.now }
 {
     match view {
-        Some(view) if view.length > 12 => Some(view.renumbered(base + view.buffer())),
+        Some(view) if base > 0 && view.length > 12 => {
+            Some(view.renumbered(base + view.buffer()))
+        }
+        _ => *view,
+    }
+}
+
+// The view of the same text where its buffer stands among all under this number.
+fn view_at(view: &Option<View>, number: u32, buffers: &[Bytes], all: &[Bytes]) -> Option<View>
+    requires view { IsViewOrNone buffers.now view.now }
+    requires held { StandsAt all.now number buffers.now view.now }
+    ensures view { IsViewOrNone all.now result }
+    ensures text { row_text all.now result ≡ row_text buffers.now view.now }
+    ensures placed { result ≡ placed_at number view.now }
+{
+    match view {
+        Some(view) if view.length > 12 => Some(view.renumbered(number)),
         _ => *view,
     }
 }

@@ -11,6 +11,7 @@ use Rattle.tb_value.proofs.Ascending.{kept_ascend, left_met-sorted, left_unmet-s
 use Rattle.tb_value.proofs.Loops.{map-map}
 use Rattle.tb_chunk.specs.Col.{Col, values}
 use Rattle.tb_chunk.specs.Rows.{value_or_null}
+use Rattle.tb_chunk.specs.Whole.{view_or_none, whole}
 use Rattle.tb_frame.specs.Answer.{IsListed, fill}
 use Rattle.tb_frame.specs.Frame.{opt_taken, taken, without_names}
 use Rattle.tb_frame.specs.Join.{IsAnswer, IsOrdered, Request, cut, listing, out}
@@ -45,7 +46,14 @@ same_numbers : (rows is : List ℕ) → map left_only rows ≡ map left_only is 
 same_numbers rows is e = sym (numbers rows) ∙ ap (map (λ (p : JoinPair). unwrap_or p.left 0)) e ∙ numbers is
 
 taken-is : (rows : List ℕ) (c : Col) → taken rows c ≡ opt_taken (map (λ (i : ℕ). Some i) rows) c
-taken-is rows c = λ t. record c { chunks = sym (map-map (value_or_null (values c)) (λ (i : ℕ). Some i) rows) t ∷ []; flag = (taken rows c).flag }
+taken-is rows c =
+    let w = whole c.runs in
+    let views = sym (map-map (view_or_none w.views) (λ (i : ℕ). Some i) rows) in
+    λ t. record c {
+      chunks = sym (map-map (value_or_null (values c)) (λ (i : ℕ). Some i) rows) t ∷ [];
+      flag = (taken rows c).flag;
+      runs = record { views = views t; buffers = w.buffers } ∷ [];
+    }
 
 module _ (nulls anti : Bool) (l r : Col) (rows : List ℕ) (is : map left_only rows ≡ value_listing nulls (semi_or_anti anti) (values l) (values r)) where
   -- those of the left key column that pass a test

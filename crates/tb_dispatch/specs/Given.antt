@@ -6,6 +6,7 @@ use Rattle.tb_value.specs.Refusals.{first_cause, when}
 use Rattle.tb_value.specs.SameKind.{is_key}
 use Rattle.tb_value.specs.declared.error.PolarsError.{PolarsError}
 use Rattle.tb_value.specs.declared.error.PolarsError.TheVariants.{ShapeMismatch}
+use Rattle.tb_chunk.specs.Changed.{part_of}
 use Rattle.tb_chunk.specs.Col.{Col, values}
 use Rattle.tb_frame.specs.declared.args.JoinArgs.{JoinArgs}
 use Rattle.tb_frame.specs.declared.args.JoinType.{JoinType}
@@ -59,7 +60,7 @@ pub record CanCoalesce (q : Request) : Type 0 where
 
 -- keys beside a table of that height, without their values where it has no rows
 abbrev pub emptied : Col → Col
-emptied c = record c { chunks = [] ∷ [] }
+emptied c = part_of 0 0 c
 
 abbrev pub cleared : ℕ → List Col → List Col
 cleared n keys = (if n == 0 then map emptied keys else keys)

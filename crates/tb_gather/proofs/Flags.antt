@@ -17,6 +17,7 @@ use Rattle.tb_chunk.specs.Rows.{IsRowOf, value_or_null}
 use Rattle.tb_frame.specs.Frame.{lengths}
 use Rattle.tb_gather.specs.Ids.{Id, AreRun, NamesRow, RunsBy, IsRowUpTo, RowsRunBy, RowsAreRun, row_or_none}
 use Rattle.tb_gather.specs.Gathered.{value_at, gathered_flag, gathered, named_rows, opt_gathered, NameRows}
+use Rattle.tb_gather.specs.declared.keep.Keep.TheVariants.{Used}
 use Rattle.tb_gather.proofs.Comparing.{IsOf, Orders, ascending-orders, descending-orders}
 use Rattle.tb_gather.proofs.Cuts.{gathered-pick}
 use Rattle.tb_gather.proofs.Naming.{named-row}
@@ -169,4 +170,4 @@ are-run Not ids some runs = tt
 
 -- with no direction of the ids, what is gathered has the flag Not
 pub gathered-not : (ids : List Id) (cs : List Col) → map (gathered ids Not) cs ≡ map (opt_gathered ids) cs
-gathered-not ids cs = ap (λ (f : Col → Col). map f cs) (λ i c. named_rows ids (flag-not c.flag i) c)
+gathered-not ids cs = ap (λ (f : Col → Col). map f cs) (λ i c. named_rows Used ids (flag-not c.flag i) c)

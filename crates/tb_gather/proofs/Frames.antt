@@ -10,17 +10,23 @@ use Rattle.tb_frame.specs.Table.{Table, plain, table_of, IsTable, IsTyped}
 use Rattle.tb_frame.specs.Frame.{lengths, opt_taken}
 use Rattle.tb_frame.proofs.Taking.{IsTable-made, IsTable-opt_taken, at_row}
 use Rattle.tb_gather.specs.Ids.{Id, row_or_none}
-use Rattle.tb_gather.specs.Gathered.{gathered, gathered_flag, named_rows, rows_gathered, value_at}
+use Rattle.tb_gather.specs.Gathered.{gathered_flag, named_rows, rows_gathered, value_at}
+use Rattle.tb_gather.specs.declared.keep.Keep.{Keep}
 use Rattle.tb_gather.proofs.Columns.{length-named, values-named}
 
-lengths-gathered : (ids : List Id) (sorted : IsSorted) (cs : List Col) → All (λ (c : Col). length (values (gathered ids sorted c)) ≡ length ids) cs
-lengths-gathered ids sorted cs = λ k d low. length-named ids (gathered_flag (get_or cs k d).flag sorted) (get_or cs k d)
+module _ (keep : Keep) (ids : List Id) (sorted : IsSorted) where
+  -- the rows that ids name which run so, over the buffers that are kept
+  abbrev made : Col → Col
+  made c = named_rows keep ids (gathered_flag c.flag sorted) c
 
-typed-named : (ids : List Id) (flag : IsSorted) (c : Col) → IsTyped (plain c) → IsTyped (plain (named_rows ids flag c))
-typed-named ids flag c h = subst (λ (vs : List Datum). All (HasType c.kind) vs) (sym (values-named ids flag c)) (All-map (HasType c.kind) (value_at c.chunks) ids (λ k d low. at_row (HasType c.kind) (values c) (row_or_none (lengths c.chunks) (get_or ids k d)) tt h))
+  lengths-gathered : (cs : List Col) → All (λ (c : Col). length (values (made c)) ≡ length ids) cs
+  lengths-gathered cs = λ k d low. length-named keep ids (gathered_flag (get_or cs k d).flag sorted) (get_or cs k d)
 
-pub IsTable-gathered : (ids : List Id) (sorted : IsSorted) (cs : List Col) → IsTable (table_of cs) → IsTable (table_of (map (gathered ids sorted) cs))
-IsTable-gathered ids sorted cs t = IsTable-made (gathered ids sorted) (λ c. refl) (length ids) cs (lengths-gathered ids sorted cs) (λ c h. typed-named ids (gathered_flag c.flag sorted) c h) t
+  typed-named : (flag : IsSorted) (c : Col) → IsTyped (plain c) → IsTyped (plain (named_rows keep ids flag c))
+  typed-named flag c h = subst (λ (vs : List Datum). All (HasType c.kind) vs) (sym (values-named keep ids flag c)) (All-map (HasType c.kind) (value_at c.chunks) ids (λ k d low. at_row (HasType c.kind) (values c) (row_or_none (lengths c.chunks) (get_or ids k d)) tt h))
+
+  pub IsTable-gathered : (cs : List Col) → IsTable (table_of cs) → IsTable (table_of (map (λ c. named_rows keep ids (gathered_flag c.flag sorted) c) cs))
+  IsTable-gathered cs t = IsTable-made made (λ c. refl) (length ids) cs (lengths-gathered cs) (λ c h. typed-named (gathered_flag c.flag sorted) c h) t
 
 -- what a table shows of rows doesn't depend on how they run
 pub table-rows : (rows : List (Option ℕ)) (sorted : IsSorted) (cs : List Col) → table_of (map (rows_gathered rows sorted) cs) ≡ table_of (map (opt_taken rows) cs)

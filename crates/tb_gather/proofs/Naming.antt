@@ -1,10 +1,14 @@
 -- The rows that ids name.
-use Rattle.std.proofs.Common.{arith, ◌≡◌, ◌∙◌, ℕ, ◌<◌, ◌+◌, suc, zero, List, [], ◌∷◌, ◌++◌, length, get_or, take, ap, Some, None, length-append}
+use Rattle.std.proofs.Common.{arith, ◌≡◌, ◌∙◌, ℕ, ◌<◌, ◌+◌, suc, zero, List, [], ◌∷◌, ◌++◌, length, map, get_or, take, ap, sym, Option, Some, None, length-append}
 use Rattle.std.specs.List.{sum, fold}
 use Rattle.std.proofs.lemmas.List.{get_or_append_left, get_or-append-add}
 use Rattle.tb_value.specs.Datum.{Datum, null}
 use Rattle.tb_chunk.specs.Col.{flat}
+use Rattle.tb_chunk.specs.Moved.{moved}
 use Rattle.tb_chunk.specs.Rows.{IsRowOf}
+use Rattle.tb_chunk.specs.Whole.{AreBases, run_at, runs_of, whole}
+use Rattle.tb_chunk.specs.declared.view.View.{View}
+use Rattle.tb_chunk.proofs.Whole.{length-runs_of, lengths_at, runs_viewed, view_of_row, views_at}
 use Rattle.tb_gather.specs.Ids.{Id, row_of, row_or_none, NamesRow}
 use Rattle.tb_frame.specs.Frame.{lengths}
 
@@ -25,6 +29,20 @@ value-at (vs ∷ rest) (suc c) r h =
     let s : ℕ = sum (take c (lengths rest)) in
     let n : sum (length vs ∷ take c (lengths rest)) + r ≡ length vs + (s + r) = omega (arith, sum-cons (length vs) (take c (lengths rest))) in
     ap (λ k. get_or (vs ++ flat rest) k null) n ∙ get_or-append-add vs (flat rest) (s + r) null ∙ value-at rest c r h
+
+-- a view of a chunk, found among the views of all chunks
+pub view-at : {C : Type 0} (shown : C → List Datum) (views : C → List (Option View)) (buffers : C → List (List ℕ)) → ((c : C) → length (views c) ≡ length (shown c))
+    → (cs : List C) (bases : List ℕ) (k i : ℕ) → AreBases bases (runs_of views buffers cs) → k < length cs → i < length (get_or (map shown cs) k [])
+    → get_or (whole (runs_of views buffers cs)).views (row_of (lengths (map shown cs)) (k, i)) None
+    ≡ moved (get_or bases k 0) (get_or (get_or (map views cs) k []) i None)
+view-at shown views buffers viewed cs bases k i are low within =
+    let rs = runs_of views buffers cs in
+    let run = views_at views buffers cs k in
+    let inside : i < length (run_at rs k).views = omega (arith, within, lengths_at views shown viewed cs k, ap (λ (vs : List (Option View)). length vs) run) in
+    ap (λ (ns : List ℕ). get_or (whole rs).views (sum (take k ns) + i) None) (sym (runs_viewed shown views buffers viewed cs))
+    ∙ view_of_row rs k i inside
+    ∙ ap (λ b. moved b (get_or (run_at rs k).views i None)) (sym (are k (omega (arith, low, length-runs_of views buffers cs))))
+    ∙ ap (λ (vs : List (Option View)). moved (get_or bases k 0) (get_or vs i None)) (sym run)
 
 row-low : (chunks : List (List Datum)) (c r : ℕ) → r < get_or (lengths chunks) c 0 → row_of (lengths chunks) (c, r) < length (flat chunks)
 row-low [] c r h = absurd (omega arith)

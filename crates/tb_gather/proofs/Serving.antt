@@ -8,11 +8,13 @@ use Rattle.std.proofs.lemmas.List.Elements.{All-head, All-tail}
 use Rattle.tb_value.specs.declared.sorted.IsSorted.{IsSorted}
 use Rattle.tb_chunk.specs.Col.{Col, values}
 use Rattle.tb_chunk.specs.Rows.{value_or_null}
+use Rattle.tb_chunk.specs.Whole.{view_or_none, whole}
 use Rattle.tb_frame.specs.Frame.{lens, AreCutAlike}
 use Rattle.tb_frame.proofs.Cuts.{alike-by_first}
 use Rattle.tb_gather.specs.Ids.{Id, NamesRow, row_or_none}
-use Rattle.tb_gather.specs.Gathered.{NameRows, gathered, pick, rows_gathered, value_at}
-use Rattle.tb_gather.proofs.Cuts.{gathered-pick}
+use Rattle.tb_gather.specs.Gathered.{NameRows, gathered_flag, named_rows, pick, rows_gathered, value_at}
+use Rattle.tb_gather.specs.declared.keep.Keep.TheVariants as keep
+use Rattle.tb_gather.proofs.Cuts.{gathered-pick, picked-numbers}
 use Rattle.tb_gather.proofs.Flags.{flags-turned}
 
 same_if_not_apart : (a b : List ℕ) (t : Bool) → bytes_eq a b ≡ t → ((a ≡ b → ⊥) → ⊥) → a ≡ b
@@ -42,10 +44,19 @@ module _ (cs : List Col) (first : Col) (is : Some first ≡ slice_get cs 0) (ali
   length-ids = sym (length-map ids (row_or_none (lens first))) ∙ ap (λ (ns : List (Option ℕ)). length ns) numbers
 
   module _ (sorted : IsSorted) where
-    taken-of : (c : Col) → lens c ≡ lens first → gathered ids sorted c ≡ rows_gathered rows sorted c
-    taken-of c e =
-        let picked : map (value_at c.chunks) ids ≡ map (value_or_null (values c)) rows = gathered-pick c.chunks ids ∙ ap (pick (values c)) (ap (λ (ns : List ℕ). map (row_or_none ns) ids) e ∙ numbers) in
-        λ i. let k : Col = record c { chunks = picked i ∷ []; flag = flags-turned c.flag sorted i } in k
+    -- the rows that ids name, over the buffers of all chunks
+    abbrev over_all : Col → Col
+    over_all c = named_rows keep.All ids (gathered_flag c.flag sorted) c
 
-    pub gathered-rows : map (gathered ids sorted) cs ≡ map (rows_gathered rows sorted) cs
-    gathered-rows = map-agreed (gathered ids sorted) (rows_gathered rows sorted) cs (λ k d low. taken-of (get_or cs k d) (same k d low))
+    taken-of : (c : Col) → lens c ≡ lens first → over_all c ≡ rows_gathered rows sorted c
+    taken-of c e =
+        let own : map (row_or_none (lens c)) ids ≡ rows = ap (λ (ns : List ℕ). map (row_or_none ns) ids) e ∙ numbers in
+        let picked : map (value_at c.chunks) ids ≡ map (value_or_null (values c)) rows = gathered-pick c.chunks ids ∙ ap (pick (values c)) own in
+        let vs = (whole c.runs).views in
+        let views : map (λ id. view_or_none vs (row_or_none (lens c) id)) ids ≡ map (view_or_none vs) rows =
+        picked-numbers (row_or_none (lens c)) ids vs ∙ ap (map (view_or_none vs)) own
+        in
+        λ i. let k : Col = record c { chunks = picked i ∷ []; flag = flags-turned c.flag sorted i; runs = record (whole c.runs) { views = views i } ∷ [] } in k
+
+    pub gathered-rows : map (λ c. named_rows keep.All ids (gathered_flag c.flag sorted) c) cs ≡ map (rows_gathered rows sorted) cs
+    gathered-rows = map-agreed over_all (rows_gathered rows sorted) cs (λ k d low. taken-of (get_or cs k d) (same k d low))

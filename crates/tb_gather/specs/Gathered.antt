@@ -7,6 +7,9 @@ use Rattle.tb_chunk.specs.Col.{Col, flat}
 use Rattle.tb_chunk.specs.Rows.{value_or_null}
 use Rattle.tb_frame.specs.Frame.{lens, lengths, opt_taken}
 use Rattle.tb_gather.specs.Ids.{Id, row_or_none, NamesRow}
+use Rattle.tb_gather.specs.Kept.{kept_run}
+use Rattle.tb_gather.specs.declared.keep.Keep.{Keep}
+use Rattle.tb_gather.specs.declared.keep.Keep.TheVariants.{Used}
 
 -- the values at these numbers, Null for none
 abbrev pub pick : List Datum → List (Option ℕ) → List Datum
@@ -24,17 +27,17 @@ gathered_flag Descending Ascending = Descending
 gathered_flag Descending Descending = Ascending
 gathered_flag _ _ = Not
 
--- the rows of a column that ids name, in one chunk, with this flag
-abbrev pub named_rows : List Id → IsSorted → Col → Col
-named_rows ids flag c = record c { chunks = map (value_at c.chunks) ids ∷ []; flag = flag }
+-- the rows of a column that ids name, in one chunk over the buffers that are kept, with this flag
+abbrev pub named_rows : Keep → List Id → IsSorted → Col → Col
+named_rows keep ids flag c = record c { chunks = map (value_at c.chunks) ids ∷ []; flag = flag; runs = kept_run keep (lens c) ids c.runs ∷ [] }
 
--- the rows that ids name which run so
+-- the rows that ids name which run so, over the buffers of the only chunk, or those in use, or those of all
 abbrev pub gathered : List Id → IsSorted → Col → Col
-gathered ids sorted c = named_rows ids (gathered_flag c.flag sorted) c
+gathered ids sorted c = named_rows Used ids (gathered_flag c.flag sorted) c
 
--- the rows that ids name, whatever their order
+-- the same rows, whatever their order
 abbrev pub opt_gathered : List Id → Col → Col
-opt_gathered ids c = named_rows ids Not c
+opt_gathered ids c = named_rows Used ids Not c
 
 -- the rows of these numbers, which run so: where they ascend the column's flag stays, where they descend it is turned round, and where nothing is said of them it is Not
 abbrev pub rows_gathered : List (Option ℕ) → IsSorted → Col → Col

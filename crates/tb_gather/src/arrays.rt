@@ -3,9 +3,11 @@ ghost use Rattle.std.specs.Prelude.{◌≡◌, ◌≤◌, IfOk, length, map};
 ghost use Rattle.tb_chunk.specs.Col.{physical};
 ghost use Rattle.tb_chunk.specs.Flag.{FlagHolds};
 ghost use Rattle.tb_gather.specs.Gathered.{NameRows, named_rows, value_at};
+ghost use Rattle.tb_gather.specs.declared.keep.Keep.TheVariants.{Used};
 
 use crate::directions::gathered_flag;
 use crate::gathering::gather_one;
+use crate::keep::Keep;
 use crate::take_chunked::TakeChunked;
 use std::alloc::Global;
 use tb_store::{ChunkedArray, PolarsDataType, Series};
@@ -21,12 +23,12 @@ fn gather_array<T: PolarsDataType, const B: u64>(
     requires named { NameRows by.now array.now }
     requires few { length by.now ≤ MAX_ROWS }
     requires flag { FlagHolds flag array.now.kind (map (value_at array.now.chunks) by.now) }
-    ensures { IfOk result (λ a. a ≡ named_rows by.now flag array.now) }
+    ensures { IfOk result (λ a. a ≡ named_rows Used by.now flag array.now) }
 {
     let _len = array.len();
     let name = array.name().copy(alloc)?;
     let dtype = array.dtype().copy(alloc)?;
-    let chunks = gather_one(alloc, array.chunks(), by)?;
+    let chunks = gather_one(alloc, array.chunks(), by, Keep::Used)?;
     Ok(as_array(Series::from_parts(name, dtype, T::wrap(chunks), flag)))
 }
 

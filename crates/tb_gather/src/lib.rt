@@ -5,12 +5,14 @@ mod arrays;
 mod directions;
 mod gathering;
 mod ids;
+mod keep;
 pub mod laws;
 mod rows;
 mod series;
 mod side_by_side;
 mod tables;
 mod take_chunked;
+mod used;
 
 pub use ids::ids_of;
 pub use rows::gather_rows;

@@ -8,6 +8,7 @@ ghost use Rattle.tb_gather.specs.Gathered.{rows_gathered};
 ghost use Rattle.tb_gather.specs.Ids.{AreCutForIds, RowsAreRun};
 
 use crate::ids::ids_of;
+use crate::keep::Keep;
 use crate::side_by_side::{gather_side_by_side, take_side_by_side};
 use crate::tables::made_table;
 use std::alloc::Global;
@@ -100,7 +101,14 @@ fn gather_by_ids(
         None => table.copy(alloc),
         Some(column) => {
             let ids: Vec<StandardChunkId> = ids_of(alloc, column.as_materialized_series(), rows)?;
-            let columns = gather_side_by_side(rt, alloc, table.get_columns(), &ids, sorted)?;
+            let columns = gather_side_by_side(
+                rt,
+                alloc,
+                table.get_columns(),
+                &ids,
+                sorted,
+                Keep::All,
+            )?;
             made_table(alloc, columns)
         }
     }

@@ -4,10 +4,11 @@ ghost use Rattle.tb_chunk.specs.Col.{values};
 ghost use Rattle.tb_chunk.specs.Flag.{FlagHolds};
 ghost use Rattle.tb_chunk.specs.Rows.{IsRowOf};
 ghost use Rattle.tb_gather.specs.Ids.{AreRun, RowsAreRun};
-ghost use Rattle.tb_gather.specs.Gathered.{NameRows, gathered, named_rows, rows_gathered, value_at};
+ghost use Rattle.tb_gather.specs.Gathered.{NameRows, gathered_flag, named_rows, rows_gathered, value_at};
 
 use crate::directions::gathered_flag;
 use crate::gathering::gather_chunks;
+use crate::keep::Keep;
 use crate::take_chunked::TakeChunked;
 use std::alloc::Global;
 use tb_store::{Column, Series};
@@ -19,34 +20,37 @@ fn gather_series<const B: u64>(
     series: &Series,
     by: &[ChunkId<B>],
     flag: IsSorted,
+    keep: Keep,
 ) -> Result<Series, OutOfMemory>
     requires named { NameRows by.now series.now }
     requires few { length by.now ≤ MAX_ROWS }
     requires flag { FlagHolds flag series.now.kind (map (value_at series.now.chunks) by.now) }
-    ensures { IfOk result (λ s. s ≡ named_rows by.now flag series.now) }
+    ensures { IfOk result (λ s. s ≡ named_rows keep by.now flag series.now) }
 {
     let _len = series.len();
     let name = series.name().copy(alloc)?;
     let dtype = series.dtype().copy(alloc)?;
-    let chunks = gather_chunks(alloc, series.chunks(), by)?;
+    let chunks = gather_chunks(alloc, series.chunks(), by, keep)?;
     Ok(Series::from_parts(name, dtype, chunks, flag))
 }
 
-/// The rows of a column that the ids name, in one chunk, with the flag that the column's and `sorted` make.
+/// The rows of a column that the ids name, in one chunk over the buffers that are kept, with the flag that the column's and
+/// `sorted` make.
 pub(crate) fn gather_column<const B: u64>(
     alloc: Global,
     column: &Column,
     by: &[ChunkId<B>],
     sorted: IsSorted,
+    keep: Keep,
 ) -> Result<Column, OutOfMemory>
     requires named { NameRows by.now column.now }
     requires runs { AreRun sorted by.now }
     requires few { length by.now ≤ MAX_ROWS }
-    ensures { IfOk result (λ c. c ≡ gathered by.now sorted column.now) }
+    ensures { IfOk result (λ c. c ≡ named_rows keep by.now (gathered_flag column.now.flag sorted) column.now) }
 {
     let _len = column.len();
     let flag = gathered_flag(column.is_sorted_flag(), sorted);
-    Ok(gather_series(alloc, column.as_materialized_series(), by, flag)?.into_column())
+    Ok(gather_series(alloc, column.as_materialized_series(), by, flag, keep)?.into_column())
 }
 
 /// The rows of a column that the numbers name, in one chunk, with the flag that the column's and `sorted` make.
@@ -81,7 +85,7 @@ impl<const B: u64> TakeChunked<B> for Series {
     ) -> Result<Series, OutOfMemory> {
         let _len = self.len();
         let flag = gathered_flag(self.is_sorted_flag(), sorted);
-        gather_series(alloc, self, by, flag)
+        gather_series(alloc, self, by, flag, Keep::Used)
     }
 
     fn take_opt_chunked_unchecked(
@@ -89,7 +93,7 @@ impl<const B: u64> TakeChunked<B> for Series {
         alloc: Global,
         by: &[ChunkId<B>],
     ) -> Result<Series, OutOfMemory> {
-        gather_series(alloc, self, by, IsSorted::Not)
+        gather_series(alloc, self, by, IsSorted::Not, Keep::Used)
     }
 }
 

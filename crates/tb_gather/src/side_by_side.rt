@@ -3,8 +3,9 @@ ghost use Rattle.std.specs.Prelude.{◌≡◌, ◌≤◌, All, IfOk, IsSome, len
 ghost use Rattle.tb_chunk.specs.Col.{Col, values};
 ghost use Rattle.tb_chunk.specs.Rows.{IsRowOf};
 ghost use Rattle.tb_gather.specs.Ids.{AreRun, Id, RowsAreRun, RunsBy};
-ghost use Rattle.tb_gather.specs.Gathered.{NameRows, gathered, opt_gathered, rows_gathered};
+ghost use Rattle.tb_gather.specs.Gathered.{NameRows, gathered, gathered_flag, named_rows, opt_gathered, rows_gathered};
 
+use crate::keep::Keep;
 use crate::series::{gather_column, take_column};
 use crate::tables::made_table;
 use rayon::prelude::*;
@@ -33,7 +34,14 @@ pub trait TakeChunkedHorPar<const B: u64>: IntoDf {
         requires few { length idx.now ≤ MAX_ROWS }
         ensures { IfOk result (λ t. t ≡ map (gathered idx.now sorted) (Self.frame self.now)) }
     {
-        let columns = gather_side_by_side(rt, alloc, self.to_df().get_columns(), idx, sorted)?;
+        let columns = gather_side_by_side(
+            rt,
+            alloc,
+            self.to_df().get_columns(),
+            idx,
+            sorted,
+            Keep::Used,
+        )?;
         made_table(alloc, columns)
     }
 
@@ -49,7 +57,14 @@ pub trait TakeChunkedHorPar<const B: u64>: IntoDf {
         ensures { IfOk result (λ t. t ≡ map (opt_gathered idx.now) (Self.frame self.now)) }
     {
         let not = IsSorted::Not;
-        let columns = gather_side_by_side(rt, alloc, self.to_df().get_columns(), idx, not)?;
+        let columns = gather_side_by_side(
+            rt,
+            alloc,
+            self.to_df().get_columns(),
+            idx,
+            not,
+            Keep::Used,
+        )?;
         made_table(alloc, columns)
     }
 }
@@ -61,18 +76,19 @@ fn columns_a_thread(columns: usize, rows: usize) -> usize {
     if rows < WORTH_A_THREAD { columns } else { 1 }
 }
 
-/// The rows of each column that the ids name, with the flag that the column's and `sorted` make.
+/// The rows of each column that the ids name, over the buffers that are kept, with the flag that the column's and `sorted` make.
 pub(crate) fn gather_side_by_side<const B: u64>(
     rt: &(impl Threads + Sync),
     alloc: Global,
     columns: &[Column],
     by: &[ChunkId<B>],
     sorted: IsSorted,
+    keep: Keep,
 ) -> Result<Vec<Column>, OutOfMemory>
     requires named { All (NameRows by.now) columns.now }
     requires runs { AreRun sorted by.now }
     requires few { length by.now ≤ MAX_ROWS }
-    ensures { IfOk result (λ v. v.items ≡ map (gathered by.now sorted) columns.now) }
+    ensures { IfOk result (λ v. v.items ≡ map (λ c. named_rows keep by.now (gathered_flag c.flag sorted) c) columns.now) }
 {
     columns
         .par_iter()
@@ -82,8 +98,8 @@ pub(crate) fn gather_side_by_side<const B: u64>(
                 requires named { NameRows by.now column.now }
                 requires runs { AreRun sorted by.now }
                 requires few { length by.now ≤ MAX_ROWS }
-                ensures { IfOk result (λ c. c ≡ gathered by.entry.now sorted column.now) }
-            { gather_column(alloc, column, by, sorted) },
+                ensures { IfOk result (λ c. c ≡ named_rows keep by.entry.now (gathered_flag column.now.flag sorted) column.now) }
+            { gather_column(alloc, column, by, sorted, keep) },
         )
         .collect(rt, alloc)?
 }

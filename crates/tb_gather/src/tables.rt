@@ -4,6 +4,7 @@ ghost use Rattle.tb_frame.specs.Table.{table_of, IsTable};
 ghost use Rattle.tb_gather.specs.Ids.{AreRun};
 ghost use Rattle.tb_gather.specs.Gathered.{NameRows, gathered};
 
+use crate::keep::Keep;
 use crate::series::gather_column;
 use crate::take_chunked::TakeChunked;
 use std::alloc::Global;
@@ -25,7 +26,7 @@ fn gather_columns<const B: u64>(
 {
     let mut gathered = Vec::with_capacity(alloc, columns.len())?;
     for column in columns {
-        gathered.push(gather_column(alloc, column, by, sorted)?)?;
+        gathered.push(gather_column(alloc, column, by, sorted, Keep::Used)?)?;
     }
     Ok(gathered)
 }

@@ -17,6 +17,10 @@ pub trait TakeChunked<const B: u64>: Sized {
 
     /// The rows that the ids name, in the order and as often as they are named, in one chunk. `sorted` says how the
     /// ids run, by chunk and then by row, and with the flag of a column makes the flag of what is gathered from it.
+    ///
+    /// No long text is copied. The answer has the buffers of the column's only chunk; where a column has more chunks than there
+    /// are ids, the buffers that the rows' texts lie in, in the order of first use; else those of all chunks, one chunk after
+    /// the other.
     fn take_chunked_unchecked(
         &self,
         alloc: Global,

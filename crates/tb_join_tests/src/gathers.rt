@@ -13,7 +13,7 @@ use tb_gather::{TakeChunked, TakeChunkedHorPar, ids_of};
 use tb_store::{ChunkedArray, Column, Int64Type, Series};
 use tb_value::{IsSorted, MAX_ROWS, NullableIdxSize, OutOfMemory, StandardChunkId};
 
-fn are_present(ids: &[StandardChunkId]) -> bool
+pub(crate) fn are_present(ids: &[StandardChunkId]) -> bool
     ensures { IsTrue result ↔ All (λ (id : Id). IsSome id) ids.now }
 {
     ids.iter().all(|id| !id.is_null())

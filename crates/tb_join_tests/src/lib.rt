@@ -10,4 +10,6 @@ mod pairs;
 #[cfg(test)]
 mod program;
 #[cfg(test)]
+mod text_gathers;
+#[cfg(test)]
 mod workers;

@@ -15,4 +15,5 @@ pub mod ReadBack
 pub mod TextPlain
 pub mod ValuesBack
 pub mod OneToOne
+pub mod Fresh
 mod StoredTexts

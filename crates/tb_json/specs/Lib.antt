@@ -3,4 +3,5 @@ pub mod Text
 pub mod Kinds
 pub mod Written
 pub mod Cells
+pub mod Fresh
 pub mod Writable

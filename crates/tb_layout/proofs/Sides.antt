@@ -40,7 +40,7 @@ pub cell_same : (k l : Kind) (v w : Datum) → k ≡ l → v ≡ w → cell_of k
 cell_same k l v w kinds values = ap (λ t. cell_of t v) kinds ∙ ap (cell_of l) values
 
 no_column : Col
-no_column = record { name = []; kind = kind.null; chunks = []; flag = Not }
+no_column = record { name = []; kind = kind.null; chunks = []; flag = Not; runs = [] }
 
 -- one more column's dashes are appended
 pub dashes_more : (line : ℕ) (cs : List Col) (ws : List ℕ) (k w : ℕ) (old mid new : List ℕ) → ws ≡ map (column_width line) (table_of cs) → k < length cs → w ≡ get_or ws k w → mid ≡ old ++ replicate w 45 → new ≡ mid ++ blanks 2

@@ -25,7 +25,7 @@ use Rattle.tb_rows.specs.declared.groups.Groups.{Groups}
 use Rattle.tb_rows.proofs.FirstRows.{covered}
 use Rattle.tb_agg.specs.Aggregates.{aggregate, result_kind, total}
 use Rattle.tb_agg.specs.Grouped.{aggregates, rows_of, values_of, AreGroupsOf}
-use Rattle.tb_agg.specs.Outcome.{agg_column, totals}
+use Rattle.tb_agg.specs.Outcome.{totals, IsAggColumn}
 use Rattle.tb_agg.specs.declared.table.Aggregate.{Aggregate}
 use Rattle.tb_agg.specs.declared.table.Aggregate.TheVariants.{First}
 use Rattle.tb_pivot.specs.Cells.{AreCells, cells_under}
@@ -210,17 +210,17 @@ asked_high : (name : Result Name ℕ) (answers : Table → List ℕ → List ℕ
 asked_high (Err code) answers firsts numbers v made is = absurd (cc)
 asked_high (Ok n) answers firsts numbers v made is = answer_high (length firsts) (answers (record v { name = n } ∷ []) firsts numbers) made is
 
-of_groups : (agg : Aggregate) (g : Groups) (v made : Col) (t : Kind) → made ≡ agg_column agg g v t → values made ≡ aggregates agg g (values v)
+of_groups : (agg : Aggregate) (g : Groups) (v made : Col) (t : Kind) → IsAggColumn agg g v t made → values made ≡ aggregates agg g (values v)
 of_groups agg g v made t is = ap values is ∙ append-nil (aggregates agg g (values v))
 
-aggregates_high : (agg : Aggregate) (g : Groups) (v made : Col) (t : Kind) → made ≡ agg_column agg g v t → length (values made) ≡ length g.firsts.items
+aggregates_high : (agg : Aggregate) (g : Groups) (v made : Col) (t : Kind) → IsAggColumn agg g v t made → length (values made) ≡ length g.firsts.items
 aggregates_high agg g v made t is = ap length (of_groups agg g v made t is) ∙ length-map-range_with_len (λ k. aggregate agg (values_of g.numbers.items (values v) k)) 0 (length g.firsts.items)
 
 pub made_high : (w : Way) (g : Groups) (v made : Col) → IsMade w g v made → length (values made) ≡ length g.firsts.items
 made_high one_row g v made is = aggregates_high First g v made v.kind is
 made_high (aggregated agg) g v made is = by (result_kind agg v.kind) is
   where
-    by : (o : Option Kind) → IsSomeAnd o (λ t. made ≡ agg_column agg g v t) → length (values made) ≡ length g.firsts.items
+    by : (o : Option Kind) → IsSomeAnd o (λ t. IsAggColumn agg g v t made) → length (values made) ≡ length g.firsts.items
     by None h = absurd h
     by (Some t) h = aggregates_high agg g v made t h
 made_high (asked name answers) g v made is = asked_high name answers g.firsts.items g.numbers.items (plain v) made is
@@ -235,7 +235,7 @@ module _ (q : Chosen) (c : Cells) (v : Col) (cells : AreCells q.height q.index q
   kind_is one_row made is = ap (λ (d : Col). d.kind) is
   kind_is (aggregated agg) made is = by (result_kind agg v.kind) is
     where
-      by : (o : Option Kind) → IsSomeAnd o (λ t. made ≡ agg_column agg c.groups v t) → made.kind ≡ unwrap_or o kind.null
+      by : (o : Option Kind) → IsSomeAnd o (λ t. IsAggColumn agg c.groups v t made) → made.kind ≡ unwrap_or o kind.null
       by None h = absurd h
       by (Some t) h = ap (λ (d : Col). d.kind) h
   kind_is (asked name answers) made is = sym (ap answer_kind (answers_are name answers ∙ is))
@@ -252,7 +252,7 @@ module _ (q : Chosen) (c : Cells) (v : Col) (cells : AreCells q.height q.index q
         ∙ by_members (alike (key_columns q)) (alike_equiv (key_columns q)) q.height c.groups cells.groups sum
         ∙ ap (map (λ x. sum (filter (alike (key_columns q) x) (row_numbers q.height)))) cells.groups.firsts
 
-    group_value : (agg : Aggregate) (made : Col) (t : Kind) (k i : ℕ) (rest : List ℕ) → made ≡ agg_column agg c.groups v t → k < length c.groups.firsts.items → group_rows k ≡ i ∷ rest → get_or (values made) k null ≡ aggregate agg (map (value_at (values v)) (i ∷ rest))
+    group_value : (agg : Aggregate) (made : Col) (t : Kind) (k i : ℕ) (rest : List ℕ) → IsAggColumn agg c.groups v t made → k < length c.groups.firsts.items → group_rows k ≡ i ∷ rest → get_or (values made) k null ≡ aggregate agg (map (value_at (values v)) (i ∷ rest))
     group_value agg made t k i rest is low rows =
         let of : List ℕ → Datum = λ js. aggregate agg (map (value_at (values v)) js) in
         ap (λ (ds : List Datum). get_or ds k null) (of_groups agg c.groups v made t is)
@@ -265,7 +265,7 @@ module _ (q : Chosen) (c : Cells) (v : Col) (cells : AreCells q.height q.index q
     way_value one_row made is k i rest low rows member = group_value First made v.kind k i rest is low rows
     way_value (aggregated agg) made is k i rest low rows member = by (result_kind agg v.kind) is
       where
-        by : (o : Option Kind) → IsSomeAnd o (λ t. made ≡ agg_column agg c.groups v t) → get_or (values made) k null ≡ aggregate agg (map (value_at (values v)) (i ∷ rest))
+        by : (o : Option Kind) → IsSomeAnd o (λ t. IsAggColumn agg c.groups v t made) → get_or (values made) k null ≡ aggregate agg (map (value_at (values v)) (i ∷ rest))
         by None h = absurd h
         by (Some t) h = group_value agg made t k i rest h low rows
     way_value (asked name answers) made is k i rest low rows member =

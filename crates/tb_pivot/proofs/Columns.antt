@@ -19,7 +19,7 @@ use Rattle.tb_value.specs.declared.error.PolarsError.{PolarsError}
 use Rattle.tb_value.specs.declared.error.PolarsError.TheVariants.{ComputeError, OutOfMemory}
 use Rattle.tb_value.specs.declared.limits.TheConstants.{MAX_ROWS}
 use Rattle.tb_chunk.specs.Col.{Col, values}
-use Rattle.tb_chunk.specs.Lent.{lent_columns}
+use Rattle.tb_chunk.specs.Lent.{in_one_chunk, lent_columns}
 use Rattle.tb_chunk.specs.Rows.{value_or_null}
 use Rattle.tb_frame.specs.Frame.{frame_refusal, taken}
 use Rattle.tb_frame.specs.Refusal.{repeated_among}
@@ -114,7 +114,7 @@ some_blocks q (v ∷ vs) low = refl
 -- THE COLUMNS OF A LAYOUT
 
 -- values in one chunk make the same block
-pub whole_block : (l : Layout) (v made whole : Col) → whole ≡ record made { chunks = values made ∷ [] } → laid_block l v whole ≡ laid_block l v made
+pub whole_block : (l : Layout) (v made whole : Col) → whole ≡ in_one_chunk made → laid_block l v whole ≡ laid_block l v made
 whole_block l v made whole is =
     let of : List Datum → List TableColumn = λ vs. map (λ y. record { name = block_name (length l.columns.now.values.items) l.separator.now v.name (get_or l.texts.items y []); kind = made.kind; values = map (value_or_null vs) (cells_under l.cells y) }) (row_numbers (length l.texts.items)) in
     ap (laid_block l v) is ∙ ap (λ vs. cond l.sorts (in_order by_name (of vs)) (of vs)) (append-nil (values made))

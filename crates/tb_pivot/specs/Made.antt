@@ -6,7 +6,7 @@ use Rattle.tb_chunk.specs.Col.{Col}
 use Rattle.tb_frame.specs.Table.{plain}
 use Rattle.tb_rows.specs.declared.groups.Groups.{Groups}
 use Rattle.tb_agg.specs.Aggregates.{result_kind}
-use Rattle.tb_agg.specs.Outcome.{agg_column, agg_refusal, IsAggregated}
+use Rattle.tb_agg.specs.Outcome.{agg_refusal, IsAggColumn, IsAggregated}
 use Rattle.tb_agg.specs.declared.table.Aggregate.TheVariants.{First}
 use Rattle.tb_pivot.specs.Pivot.{answer_of}
 use Rattle.tb_pivot.specs.Refusal.{refused_by}
@@ -25,6 +25,6 @@ made_cause (asked name answers) g c = refused_by (answer_of g.firsts.items g.num
 
 -- the column of one value for each group: of its first row where it has one alone
 abbrev pub IsMade : Way → Groups → Col → Col → Type 0
-IsMade one_row g c made = made ≡ agg_column First g c c.kind
+IsMade one_row g c made = IsAggColumn First g c c.kind made
 IsMade (aggregated agg) g c made = IsAggregated agg g c made
 IsMade (asked name answers) g c made = answer_of g.firsts.items g.numbers.items (plain c) name answers ≡ Ok (plain made)

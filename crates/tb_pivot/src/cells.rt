@@ -1,9 +1,8 @@
 //! The cells of the answer.
-ghost use Rattle.std.specs.Prelude.{◌≡◌, ◌≤◌, ◌<◌, ◌*◌, ◌∷◌, [], ◌++◌, IfOk, OnOk, length, map};
-ghost use Rattle.tb_value.specs.declared.sorted.IsSorted.TheVariants.{Not};
+ghost use Rattle.std.specs.Prelude.{◌≡◌, ◌≤◌, ◌<◌, ◌*◌, ◌++◌, IfOk, OnOk, length};
+ghost use Rattle.tb_chunk.specs.Changed.{opt_taken};
 ghost use Rattle.tb_chunk.specs.Col.{values};
 ghost use Rattle.tb_chunk.specs.Lent.{lent_columns};
-ghost use Rattle.tb_chunk.specs.Rows.{value_or_null};
 ghost use Rattle.tb_frame.specs.Table.{table_of};
 ghost use Rattle.tb_pivot.specs.Cells.{AreCells, cells_under};
 ghost use Rattle.tb_pivot.specs.Grid.{grid};
@@ -113,7 +112,7 @@ impl Cells {
         requires rows { length self.now.rows.firsts.items ≤ MAX_ROWS }
         requires header { header < length self.now.headers.firsts.items }
         requires made { length (values made.now) ≡ length self.now.groups.firsts.items }
-        ensures { IfOk result (λ s. s ≡ record made.now { chunks = map (value_or_null (values made.now)) (cells_under self.now header) ∷ []; flag = Not }) }
+        ensures { IfOk result (λ s. s ≡ opt_taken (cells_under self.now header) made.now) }
     {
         made.take_opt(alloc, self.cells_under(header))
     }

@@ -2,3 +2,4 @@ pub mod Refused
 pub mod FlagTests
 pub mod FromBytes
 pub mod Taken
+pub mod Runs

@@ -1,7 +1,7 @@
 -- The values of a written column.
 use Rattle.std.specs.Prelude.{length, List, nat_le, Option, Some}
 use Rattle.tb_chunk.specs.Col.{Col, flat}
-use Rattle.tb_chunk.specs.Made.{at_least_one}
+use Rattle.tb_chunk.specs.Made.{at_least_one, fresh}
 use Rattle.tb_value.specs.declared.limits.TheConstants.{MAX_ROWS}
 use Rattle.tb_json.specs.Cells.{cell_in}
 use Rattle.tb_json.specs.Lists.{◌>>=◌, check, each}
@@ -12,7 +12,7 @@ unfoldable pub values_of : Written → Option Col
 values_of w = do
   chunks ← each (each (cell_in w.kind)) w.chunks
   short ← check (nat_le (length (flat chunks)) MAX_ROWS)
-  Some (record { name = w.name; kind = w.kind; chunks = at_least_one chunks; flag = w.flag })
+  Some (fresh w.name w.kind (at_least_one chunks) w.flag)
 
 abbrev pub columns_from : List Written → Option (List Col)
 columns_from ws = each values_of ws

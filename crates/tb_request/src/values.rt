@@ -16,7 +16,7 @@ pub(crate) struct ClaimedColumn {
     pub flag: IsSorted,
 }
 
-#[tactic(auto, unfolding(crate::specs::Columns::values_of))]
+#[tactic(auto, using(crate::proofs::Runs::fresh_one), unfolding(crate::specs::Columns::values_of))]
 fn column_of(alloc: Global, written: WrittenColumn) -> Result<Option<ClaimedColumn>, OutOfMemory>
     ensures { IfOk result (λ o. option_map claimed_view o ≡ values_of (written_view written)) }
 {

@@ -9,6 +9,7 @@ ghost use Rattle.tb_value.specs.SeeKind.{kind_of};
 ghost use Rattle.tb_value.specs.declared.sorted.IsSorted.TheVariants.{Not};
 ghost use Rattle.tb_chunk.specs.Chunk.{or_null};
 ghost use Rattle.tb_chunk.specs.Col.{values};
+ghost use Rattle.tb_chunk.specs.Layout.{laid};
 ghost use Rattle.tb_chunk.specs.View.{texts};
 ghost use Rattle.tb_rowkey.specs.Columns.{row_count, key_column, AreShortRows};
 
@@ -22,6 +23,8 @@ use tb_store::{
 // The keys of all rows, copied.
 fn chunk_of(alloc: Global, keys: &RowKeys) -> Result<BinaryChunk, OutOfMemory>
     ensures value { IfOk result (λ c. texts c.inner.buffers.items c.inner.views.items ≡ keys.now) }
+    ensures views { IfOk result (λ c. c.inner.views.items ≡ (laid keys.now).views) }
+    ensures buffers { IfOk result (λ c. c.inner.buffers.items ≡ (laid keys.now).buffers) }
     ensures few { length keys.now ≤ MAX_ROWS }
     ensures typed { IfOk result (λ _. All (HasType kind.binary) (map (or_null binary) keys.now)) }
 {
@@ -48,6 +51,7 @@ fn column_of(alloc: Global, chunk: BinaryChunk) -> Result<Series, OutOfMemory>
       kind = kind.binary;
       chunks = map (or_null binary) (texts chunk.inner.buffers.items chunk.inner.views.items) ∷ [];
       flag = Not;
+      runs = record { views = chunk.inner.views.items; buffers = chunk.inner.buffers.items } ∷ [];
     }) }
 {
     let name = PlSmallStr::from_str(alloc, "")?;

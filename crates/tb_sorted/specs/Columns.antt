@@ -8,6 +8,7 @@ use Rattle.tb_value.specs.declared.limits.TheConstants.{MAX_ROWS}
 use Rattle.tb_chunk.specs.Chunk.{or_null}
 use Rattle.tb_chunk.specs.Col.{Col, values}
 use Rattle.tb_chunk.specs.Flag.{datum_cmp, nulls}
+use Rattle.tb_chunk.specs.Lent.{in_one_chunk}
 use Rattle.tb_chunk.specs.declared.chunk.Cells.{Cells}
 use Rattle.tb_frame.specs.declared.args.JoinType.{JoinType}
 use Rattle.tb_frame.specs.declared.args.JoinType.TheVariants as kind
@@ -55,4 +56,4 @@ first_values (c ∷ cs) = values c
 -- a column that has one chunk, or one made of it that has
 abbrev pub IsInOneChunk : Col → Option Col → Type 0
 IsInOneChunk c None = length c.chunks ≡ 1
-IsInOneChunk c (Some d) = d ≡ record c { chunks = values c ∷ [] }
+IsInOneChunk c (Some d) = d ≡ in_one_chunk c

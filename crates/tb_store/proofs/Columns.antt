@@ -1,15 +1,24 @@
 -- What columns made of others are.
-use Rattle.std.proofs.Common.{arith, ◌≡◌, ℕ, ◌≤◌, List, [], ◌∷◌, length, map, Option, ap, ◌∙◌, take, drop, length-take, length-drop}
+use Rattle.std.proofs.Common.{arith, inl, inr, ◌≡◌, ℕ, ◌<◌, ◌≤◌, List, [], ◌∷◌, length, map, Option, ap, sym, ◌∙◌, take, drop, length-take, length-drop}
 use Rattle.std.specs.List.{All}
-use Rattle.std.proofs.lemmas.List.{length-map, append-nil}
+use Rattle.std.proofs.lemmas.Bool.{cases_lt}
+use Rattle.std.proofs.lemmas.List.{length-map, append-nil, take_all}
 use Rattle.tb_value.specs.Typed.{HasType}
 use Rattle.tb_value.specs.declared.sorted.IsSorted.TheVariants.{Not}
 use Rattle.tb_value.specs.declared.limits.TheConstants.{MAX_ROWS}
 use Rattle.tb_chunk.specs.Col.{Col, IsColumn, flat, values}
+use Rattle.tb_chunk.specs.Changed.{part_of}
+use Rattle.tb_chunk.specs.Lent.{in_one_chunk}
 use Rattle.tb_chunk.specs.Rows.{IsRowOf, value_or_null}
+use Rattle.tb_chunk.specs.Runs.{chunk_runs}
+use Rattle.tb_chunk.specs.Seen.{chunk_lists}
+use Rattle.tb_chunk.specs.Whole.{AreViewed, HaveFewBuffers, whole}
+use Rattle.tb_chunk.specs.declared.chunks.Chunks.{Chunks}
 use Rattle.tb_chunk.proofs.Flags.{flag_part}
 use Rattle.tb_chunk.proofs.Lists.{All-picked}
 use Rattle.tb_chunk.proofs.OneChunk.{one_chunk_is_column}
+use Rattle.tb_chunk.proofs.Runs.{one_chunk_few}
+use Rattle.tb_chunk.proofs.Whole.{length-whole, window-all}
 use Rattle.std.proofs.lemmas.List.Elements.{All-take, All-drop}
 
 pub picked_column : {R : Type 0} (c d : Col) (number : R → Option ℕ) (rows : List R) → IsColumn c → All (λ r. IsRowOf (length (values c)) (number r)) rows → length rows ≤ MAX_ROWS → d.kind ≡ c.kind → d.chunks ≡ map (λ r. value_or_null (values c) (number r)) rows ∷ [] → d.flag ≡ Not → IsColumn d
@@ -27,3 +36,21 @@ part_column c d start len column same_kind cut same_flag =
       typed = rw (same_kind, all) (All-take (HasType c.kind) len (drop start (values c)) (All-drop (HasType c.kind) start (values c) column.typed));
       flag_holds = rw (same_kind, same_flag, all) (flag_part c.flag c.kind (values c) start len column.flag_holds);
     }
+
+-- all rows are the column in one chunk
+pub part-all : (c : Col) (n : ℕ) → AreViewed c.chunks c.runs → n ≡ length (values c) → part_of 0 n c ≡ in_one_chunk c
+part-all c n viewed all =
+    let vs = take_all n (values c) (omega (arith, all)) in
+    let run = window-all (whole c.runs) n (length-whole c.chunks c.runs 0 viewed ∙ sym all) in
+    λ i. record c { chunks = vs i ∷ []; runs = run i ∷ [] }
+
+-- the buffers of one chunk are always few
+pub chunks_few : (c : Chunks) → (1 < length (chunk_lists c) → HaveFewBuffers (chunk_runs c)) → HaveFewBuffers (chunk_runs c)
+chunks_few c many = elim (cases_lt 1 (length (chunk_lists c))) [
+  | inl h ↦ many h
+  | inr h ↦ one_chunk_few c h
+]
+
+-- one chunk is not more than one
+pub one_alone : {X P : Type 0} (x : X) (xs : List X) → xs ≡ x ∷ [] → 1 < length xs → P
+one_alone x xs one many = absurd (omega (arith, ap length one, many))

@@ -1,15 +1,18 @@
 //! Columns whose stored type is known by a marker.
-ghost use Rattle.std.specs.Prelude.{◌≡◌, ◌≢◌, ◌<◌, ◌≤◌, ◌+◌, ◌-◌, ◌↔◌, ◌∷◌, [], IfOk, IsTrue, MatchResult, length, get_or, map, take, drop};
+ghost use Rattle.std.specs.Prelude.{◌≡◌, ◌≢◌, ◌<◌, ◌≤◌, ◌+◌, ◌↔◌, [], IfOk, IsTrue, MatchResult, length, get_or, map};
 ghost use Rattle.tb_value.specs.Datum.{null};
 ghost use Rattle.tb_value.specs.See.{lent, IsText};
 ghost use Rattle.tb_value.specs.SeeKind.{kind_of};
 ghost use Rattle.tb_value.specs.declared.error.PolarsError.TheVariants.{SchemaMismatch};
 ghost use Rattle.tb_value.specs.declared.sorted.IsSorted.TheVariants.{Ascending, Descending};
 ghost use Rattle.tb_chunk.specs.Col.{values, physical, IsColumn};
+ghost use Rattle.tb_chunk.specs.Changed.{part_of, sliced};
 ghost use Rattle.tb_chunk.specs.Flag.{nulls, FlagHolds, IsOrdered};
+ghost use Rattle.tb_chunk.specs.Fresh.{fresh_runs};
+ghost use Rattle.tb_chunk.specs.Lent.{in_one_chunk};
 ghost use Rattle.tb_chunk.specs.Made.{lists_of, IsArranged};
 ghost use Rattle.tb_chunk.specs.Order.{order_of};
-ghost use Rattle.tb_chunk.specs.Window.{window};
+ghost use Rattle.tb_chunk.specs.Whole.{runs_of, AreViewed, HaveFewBuffers};
 
 use crate::data_type::PolarsDataType;
 use crate::series::Series;
@@ -36,15 +39,17 @@ impl<T: PolarsDataType> Model for ChunkedArray<T> {
     ghost use Rattle.tb_value.specs.SeeKind.{kind_of};
     ghost use Rattle.tb_chunk.specs.Col.{Col, IsColumn, physical};
     ghost use Rattle.tb_chunk.specs.ColCode.{coded_col};
+    ghost use Rattle.tb_chunk.specs.Whole.{runs_of, HaveFewBuffers};
 
     ghost Value = { Col };
 
     ghost coded = { coded_col };
 
-    ghost view = { λ s. record { name = s.name; kind = kind_of s.dtype; chunks = map T.Array.shown s.chunks.items; flag = s.flag } };
+    ghost view = { λ s. record { name = s.name; kind = kind_of s.dtype; chunks = map T.Array.shown s.chunks.items; flag = s.flag; runs = runs_of T.Array.views T.Array.buffers s.chunks.items } };
 
     ghost invariant = { λ s. (physical (kind_of s.dtype) ≡ T.Array.kind)
-        × IsColumn record { name = s.name; kind = kind_of s.dtype; chunks = map T.Array.shown s.chunks.items; flag = s.flag } };
+        × IsColumn record { name = s.name; kind = kind_of s.dtype; chunks = map T.Array.shown s.chunks.items; flag = s.flag; runs = runs_of T.Array.views T.Array.buffers s.chunks.items }
+        × HaveFewBuffers (runs_of T.Array.views T.Array.buffers s.chunks.items) };
 }
 
 impl<T: PolarsDataType> ChunkedArray<T> {
@@ -80,7 +85,7 @@ impl<T: PolarsDataType> ChunkedArray<T> {
         dtype: DataType,
         chunks: Vec<Vec<AnyValue>>,
     ) -> PolarsResult<ChunkedArray<T>>
-        ensures { IsArranged name.now (kind_of dtype) T.Array.kind (lists_of chunks.items) result }
+        ensures { IsArranged name.now (kind_of dtype) T.Array.kind (lists_of chunks.items) (fresh_runs (lists_of chunks.items)) result }
     {
         if !T::accepts(&dtype) {
             return Err(PolarsError::SchemaMismatch);
@@ -124,7 +129,8 @@ impl<T: PolarsDataType> ChunkedArray<T> {
 
     /// The chunks.
     pub fn chunks(&self) -> &[T::Array]
-        ensures { map T.Array.shown result.now ≡ self.now.chunks }
+        ensures shown { map T.Array.shown result.now ≡ self.now.chunks }
+        ensures runs { runs_of T.Array.views T.Array.buffers result.now ≡ self.now.runs }
     {
         &self.chunks
     }
@@ -179,11 +185,13 @@ impl<T: PolarsDataType> ChunkedArray<T> {
         nulls_in(&self.chunks)
     }
 
-    /// The number of values, which is at most `MAX_ROWS`.
+    /// The number of values, which is at most `MAX_ROWS`. Each has a view or none, over fewer than 2^32 buffers of all chunks.
     pub fn len(&self) -> usize
         ensures len { result ≡ length (values self.now) }
         ensures column { IsColumn self.now }
         ensures kind { physical self.now.kind ≡ T.Array.kind }
+        ensures viewed { AreViewed self.now.chunks self.now.runs }
+        ensures few_buffers { HaveFewBuffers self.now.runs }
     {
         rows_in(&self.chunks)
     }
@@ -222,7 +230,7 @@ impl<T: PolarsDataType> ChunkedArray<T> {
 
     /// The same values in one chunk, with the same flag.
     pub fn rechunk(&self, alloc: Global) -> Result<ChunkedArray<T>, OutOfMemory>
-        ensures { IfOk result (λ a. a ≡ record self.now { chunks = values self.now ∷ [] }) }
+        ensures { IfOk result (λ a. a ≡ in_one_chunk self.now) }
     {
         self.part(alloc, 0, self.len())
     }
@@ -234,7 +242,7 @@ impl<T: PolarsDataType> ChunkedArray<T> {
         offset: i64,
         len: usize,
     ) -> Result<ChunkedArray<T>, OutOfMemory>
-        ensures { IfOk result (λ a. a ≡ record self.now { chunks = window (length (values self.now)) offset len (values self.now) ∷ [] }) }
+        ensures { IfOk result (λ a. a ≡ sliced offset len self.now) }
     {
         let (start, count) = slice_offsets(offset, len, self.len());
         self.part(alloc, start, count)
@@ -243,7 +251,7 @@ impl<T: PolarsDataType> ChunkedArray<T> {
     // As `Series::part`.
     fn part(&self, alloc: Global, start: usize, len: usize) -> Result<ChunkedArray<T>, OutOfMemory>
         requires { start + len ≤ length (values self.now) }
-        ensures { IfOk result (λ a. a ≡ record self.now { chunks = take len (drop start (values self.now)) ∷ [] }) }
+        ensures { IfOk result (λ a. a ≡ part_of start len self.now) }
     {
         let name = self.name.copy(alloc)?;
         let dtype = self.dtype.copy(alloc)?;

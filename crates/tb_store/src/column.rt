@@ -1,11 +1,13 @@
 //! Columns of a table.
-ghost use Rattle.std.specs.Prelude.{◌≡◌, ◌<◌, ◌∷◌, [], IfOk, length, get_or};
+ghost use Rattle.std.specs.Prelude.{◌≡◌, ◌<◌, [], IfOk, length, get_or};
 ghost use Rattle.tb_value.specs.Datum.{null};
 ghost use Rattle.tb_value.specs.See.{lent, IsText};
 ghost use Rattle.tb_value.specs.SeeKind.{kind_of};
 ghost use Rattle.tb_chunk.specs.Col.{values, IsColumn};
 ghost use Rattle.tb_chunk.specs.Flag.{nulls, FlagHolds};
+ghost use Rattle.tb_chunk.specs.Lent.{in_one_chunk};
 ghost use Rattle.tb_chunk.specs.Made.{lists_of, IsMade};
+ghost use Rattle.tb_chunk.specs.Whole.{AreViewed, HaveFewBuffers};
 
 use crate::series::Series;
 use std::alloc::Global;
@@ -123,10 +125,12 @@ impl Column {
         self.series.null_count()
     }
 
-    /// The number of values, which is at most `MAX_ROWS`.
+    /// The number of values, which is at most `MAX_ROWS`. Each has a view or none, over fewer than 2^32 buffers of all chunks.
     pub fn len(&self) -> usize
         ensures len { result ≡ length (values self.now) }
         ensures column { IsColumn self.now }
+        ensures viewed { AreViewed self.now.chunks self.now.runs }
+        ensures few_buffers { HaveFewBuffers self.now.runs }
     {
         self.series.len()
     }
@@ -157,7 +161,7 @@ impl Column {
     }
     /// The same values in one chunk, with the same flag.
     pub fn rechunk(&self, alloc: Global) -> Result<Column, OutOfMemory>
-        ensures { IfOk result (λ c. c ≡ record self.now { chunks = values self.now ∷ [] }) }
+        ensures { IfOk result (λ c. c ≡ in_one_chunk self.now) }
     {
         Ok(Column {
             series: self.series.rechunk(alloc)?,

@@ -12,6 +12,7 @@ mod ordering;
 mod series;
 mod slicing;
 mod taking;
+mod text_views;
 
 pub use chunked_array::ChunkedArray;
 pub use column::Column;
@@ -23,7 +24,7 @@ pub use lent::{are_in_one_chunk, lend, rechunked};
 pub use series::Series;
 pub use tb_chunk::{
     BinaryBuilder, BinaryChunk, Cell, Cells, Chunk, Chunks, FieldValues, Growing, ListChunk,
-    Physical, Stored, StringBuilder, StringChunk, StructChunk, physical_of, slice_offsets,
+    Physical, Stored, StringBuilder, StringChunk, StructChunk, View, physical_of, slice_offsets,
 };
 pub use tb_value::{
     AnyValue, Bytes, ChunkId, ComputeCause, DataType, Field, Fields, IdxSize, InvalidCause,

@@ -1,6 +1,7 @@
 //! Columns made of values, and of typed chunks.
 ghost use Rattle.tb_value.specs.SeeKind.{kind_of};
 ghost use Rattle.tb_chunk.specs.Made.{lists_of, IsMade, IsArranged};
+ghost use Rattle.tb_chunk.specs.Runs.{chunk_runs};
 ghost use Rattle.tb_chunk.specs.Seen.{chunk_lists, storage};
 
 use crate::series::Series;
@@ -42,7 +43,7 @@ impl Series {
         dtype: DataType,
         arrays: Chunks,
     ) -> PolarsResult<Series>
-        ensures { IsArranged name (kind_of dtype) (storage arrays) (chunk_lists arrays) result }
+        ensures { IsArranged name (kind_of dtype) (storage arrays) (chunk_lists arrays) (chunk_runs arrays) result }
     {
         if arrays.physical() != physical_of(&dtype) {
             return Err(PolarsError::SchemaMismatch);

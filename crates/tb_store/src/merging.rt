@@ -1,8 +1,7 @@
 //! Columns made of two others, of which the second stands in where the first has no value.
-ghost use Rattle.std.specs.Prelude.{◌≡◌, ◌∷◌, [], IfOk, length};
-ghost use Rattle.tb_value.specs.declared.sorted.IsSorted.TheVariants.{Not};
+ghost use Rattle.std.specs.Prelude.{◌≡◌, IfOk, length};
+ghost use Rattle.tb_chunk.specs.Changed.{coalesced};
 ghost use Rattle.tb_chunk.specs.Col.{values};
-ghost use Rattle.tb_chunk.specs.Merged.{merged};
 
 use crate::column::Column;
 use crate::series::Series;
@@ -14,7 +13,7 @@ impl Series {
     pub fn merged(&self, alloc: Global, other: &Series) -> Result<Series, OutOfMemory>
         requires kind { self.now.kind ≡ other.now.kind }
         requires len { length (values self.now) ≡ length (values other.now) }
-        ensures { IfOk result (λ s. s ≡ record self.now { chunks = merged (values self.now) (values other.now) ∷ []; flag = Not }) }
+        ensures { IfOk result (λ s. s ≡ coalesced self.now other.now) }
     {
         let _len = self.len();
         let _other_len = other.len();
@@ -30,7 +29,7 @@ impl Column {
     pub fn merged(&self, alloc: Global, other: &Column) -> Result<Column, OutOfMemory>
         requires kind { self.now.kind ≡ other.now.kind }
         requires len { length (values self.now) ≡ length (values other.now) }
-        ensures { IfOk result (λ s. s ≡ record self.now { chunks = merged (values self.now) (values other.now) ∷ []; flag = Not }) }
+        ensures { IfOk result (λ s. s ≡ coalesced self.now other.now) }
     {
         let series = self
             .as_materialized_series()

@@ -1,11 +1,15 @@
 //! Columns.
-ghost use Rattle.std.specs.Prelude.{◌≡◌, ◌<◌, ◌≤◌, ◌∷◌, [], IfOk, length, get_or, map, take, drop, ◌+◌};
+ghost use Rattle.std.specs.Prelude.{◌≡◌, ◌<◌, ◌≤◌, [], IfOk, length, get_or, drop, ◌+◌};
 ghost use Rattle.tb_value.specs.Datum.{null};
 ghost use Rattle.tb_value.specs.See.{lent, IsText};
 ghost use Rattle.tb_value.specs.SeeKind.{kind_of};
 ghost use Rattle.tb_chunk.specs.Col.{Col, values, IsColumn, physical};
+ghost use Rattle.tb_chunk.specs.Changed.{part_of};
 ghost use Rattle.tb_chunk.specs.Flag.{nulls, FlagHolds};
+ghost use Rattle.tb_chunk.specs.Lent.{in_one_chunk};
+ghost use Rattle.tb_chunk.specs.Runs.{chunk_runs};
 ghost use Rattle.tb_chunk.specs.Seen.{chunk_lists, storage};
+ghost use Rattle.tb_chunk.specs.Whole.{AreViewed, HaveFewBuffers};
 
 use std::alloc::Global;
 use std::marker::Model;
@@ -37,16 +41,19 @@ impl Model for Series {
     ghost use Rattle.tb_value.specs.SeeKind.{kind_of};
     ghost use Rattle.tb_chunk.specs.Col.{Col, IsColumn, physical};
     ghost use Rattle.tb_chunk.specs.ColCode.{coded_col};
+    ghost use Rattle.tb_chunk.specs.Runs.{chunk_runs};
     ghost use Rattle.tb_chunk.specs.Seen.{chunk_lists, storage};
+    ghost use Rattle.tb_chunk.specs.Whole.{HaveFewBuffers};
 
     ghost Value = { Col };
 
     ghost coded = { coded_col };
 
-    ghost view = { λ s. record { name = s.name; kind = kind_of s.dtype; chunks = chunk_lists s.chunks; flag = s.flag } };
+    ghost view = { λ s. record { name = s.name; kind = kind_of s.dtype; chunks = chunk_lists s.chunks; flag = s.flag; runs = chunk_runs s.chunks } };
 
     ghost invariant = { λ s. (storage s.chunks ≡ physical (kind_of s.dtype))
-        × IsColumn record { name = s.name; kind = kind_of s.dtype; chunks = chunk_lists s.chunks; flag = s.flag } };
+        × IsColumn record { name = s.name; kind = kind_of s.dtype; chunks = chunk_lists s.chunks; flag = s.flag; runs = chunk_runs s.chunks }
+        × HaveFewBuffers (chunk_runs s.chunks) };
 }
 
 impl Series {
@@ -74,6 +81,7 @@ impl Series {
     /// The chunks, by the type that the values are stored as.
     pub fn chunks(&self) -> &Chunks
         ensures lists { chunk_lists result.now ≡ self.now.chunks }
+        ensures runs { chunk_runs result.now ≡ self.now.runs }
         ensures storage { storage result.now ≡ physical self.now.kind }
     {
         &self.chunks
@@ -108,10 +116,12 @@ impl Series {
         self.chunks.nulls()
     }
 
-    /// The number of values, which is at most `MAX_ROWS`.
+    /// The number of values, which is at most `MAX_ROWS`. Each has a view or none, over fewer than 2^32 buffers of all chunks.
     pub fn len(&self) -> usize
         ensures len { result ≡ length (values self.now) }
         ensures column { IsColumn self.now }
+        ensures viewed { AreViewed self.now.chunks self.now.runs }
+        ensures few_buffers { HaveFewBuffers self.now.runs }
     {
         self.chunks.rows()
     }
@@ -150,7 +160,7 @@ impl Series {
 
     /// The same values in one chunk, with the same flag.
     pub fn rechunk(&self, alloc: Global) -> Result<Series, OutOfMemory>
-        ensures { IfOk result (λ s. s ≡ record self.now { chunks = values self.now ∷ [] }) }
+        ensures { IfOk result (λ s. s ≡ in_one_chunk self.now) }
     {
         self.part(alloc, 0, self.len())
     }
@@ -158,7 +168,7 @@ impl Series {
     /// The `len` values from `start` on, in one chunk, with the same flag.
     pub fn part(&self, alloc: Global, start: usize, len: usize) -> Result<Series, OutOfMemory>
         requires { start + len ≤ length (values self.now) }
-        ensures { IfOk result (λ s. s ≡ record self.now { chunks = take len (drop start (values self.now)) ∷ [] }) }
+        ensures { IfOk result (λ s. s ≡ part_of start len self.now) }
     {
         let name = self.name.copy(alloc)?;
         let dtype = self.dtype.copy(alloc)?;
@@ -172,9 +182,10 @@ impl Series {
     }
 
     pub(crate) fn into_parts(self) -> (PlSmallStr, DataType, Chunks, IsSorted)
-        ensures view { self ≡ record { name = result.0; kind = kind_of result.1; chunks = chunk_lists result.2; flag = result.3 } }
+        ensures view { self ≡ record { name = result.0; kind = kind_of result.1; chunks = chunk_lists result.2; flag = result.3; runs = chunk_runs result.2 } }
         ensures storage { storage result.2 ≡ physical (kind_of result.1) }
         ensures column { IsColumn self }
+        ensures few_buffers { HaveFewBuffers self.runs }
     {
         let Series {
             name,
@@ -185,11 +196,13 @@ impl Series {
         (name, dtype, chunks, flag)
     }
 
-    /// The column of this name, type, chunks and flag. It looks at no value, and takes no memory.
+    /// The column of this name, type, chunks and flag. It looks at no value, and takes no memory. Where there are more chunks
+    /// than one, their buffers together number fewer than 2^32, which `Chunks::has_few_buffers` tells.
     pub fn from_parts(name: PlSmallStr, dtype: DataType, chunks: Chunks, flag: IsSorted) -> Series
         requires storage { storage chunks ≡ physical (kind_of dtype) }
-        requires column { IsColumn record { name = name; kind = kind_of dtype; chunks = chunk_lists chunks; flag = flag } }
-        ensures { result ≡ record { name = name; kind = kind_of dtype; chunks = chunk_lists chunks; flag = flag } }
+        requires column { IsColumn record { name = name; kind = kind_of dtype; chunks = chunk_lists chunks; flag = flag; runs = chunk_runs chunks } }
+        requires few_buffers { 1 < length (chunk_lists chunks) → HaveFewBuffers (chunk_runs chunks) }
+        ensures { result ≡ record { name = name; kind = kind_of dtype; chunks = chunk_lists chunks; flag = flag; runs = chunk_runs chunks } }
     {
         Series {
             name,

@@ -1,7 +1,6 @@
 //! Parts of columns.
-ghost use Rattle.std.specs.Prelude.{◌≡◌, ◌∷◌, [], IfOk, length};
-ghost use Rattle.tb_chunk.specs.Col.{values};
-ghost use Rattle.tb_chunk.specs.Window.{window};
+ghost use Rattle.std.specs.Prelude.{◌≡◌, IfOk};
+ghost use Rattle.tb_chunk.specs.Changed.{sliced};
 
 use crate::column::Column;
 use crate::series::Series;
@@ -13,7 +12,7 @@ impl Series {
     /// The values at the `len` places from `offset` on, as far as there are such places, in one chunk,
     /// with the same flag. A negative offset counts from the end.
     pub fn slice(&self, alloc: Global, offset: i64, len: usize) -> Result<Series, OutOfMemory>
-        ensures { IfOk result (λ s. s ≡ record self.now { chunks = window (length (values self.now)) offset len (values self.now) ∷ [] }) }
+        ensures { IfOk result (λ s. s ≡ sliced offset len self.now) }
     {
         let (start, count) = slice_offsets(offset, len, self.len());
         self.part(alloc, start, count)
@@ -23,7 +22,7 @@ impl Series {
 impl Column {
     /// As `Series::slice`.
     pub fn slice(&self, alloc: Global, offset: i64, len: usize) -> Result<Column, OutOfMemory>
-        ensures { IfOk result (λ c. c ≡ record self.now { chunks = window (length (values self.now)) offset len (values self.now) ∷ [] }) }
+        ensures { IfOk result (λ c. c ≡ sliced offset len self.now) }
     {
         let series = self.as_materialized_series().slice(alloc, offset, len)?;
         Ok(series.into_column())

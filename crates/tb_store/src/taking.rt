@@ -1,10 +1,11 @@
 //! Columns made of rows of others, where a row may be absent.
-ghost use Rattle.std.specs.Prelude.{◌≡◌, ◌<◌, ◌≤◌, ◌∷◌, [], IfOk, length, map, slice_index_or};
+ghost use Rattle.std.specs.Prelude.{◌≡◌, ◌<◌, ◌≤◌, ◌∷◌, [], IfOk, length, map};
 ghost use Rattle.std.specs.List.{All};
-ghost use Rattle.tb_value.specs.Datum.{null};
 ghost use Rattle.tb_value.specs.declared.sorted.IsSorted.TheVariants.{Not};
+ghost use Rattle.tb_chunk.specs.Changed.{opt_taken, taken};
 ghost use Rattle.tb_chunk.specs.Col.{values};
 ghost use Rattle.tb_chunk.specs.Rows.{IsRowOf, value_or_null};
+ghost use Rattle.tb_chunk.specs.Whole.{picked_of, whole};
 
 use crate::column::Column;
 use crate::series::Series;
@@ -18,7 +19,7 @@ impl Series {
     pub fn take(&self, alloc: Global, rows: &[IdxSize]) -> Result<Series, OutOfMemory>
         requires rows { All (λ r. r < length (values self.now)) rows.now }
         requires few { length rows.now ≤ MAX_ROWS }
-        ensures { IfOk result (λ s. s ≡ record self.now { chunks = map (λ r. slice_index_or (values self.now) r null) rows.now ∷ []; flag = Not }) }
+        ensures { IfOk result (λ s. s ≡ taken rows.now self.now) }
     {
         self.picked(alloc, rows)
     }
@@ -27,7 +28,7 @@ impl Series {
     pub fn take_opt(&self, alloc: Global, rows: &[NullableIdxSize]) -> Result<Series, OutOfMemory>
         requires rows { All (IsRowOf (length (values self.now))) rows.now }
         requires few { length rows.now ≤ MAX_ROWS }
-        ensures { IfOk result (λ s. s ≡ record self.now { chunks = map (value_or_null (values self.now)) rows.now ∷ []; flag = Not }) }
+        ensures { IfOk result (λ s. s ≡ opt_taken rows.now self.now) }
     {
         self.picked(alloc, rows)
     }
@@ -35,7 +36,11 @@ impl Series {
     fn picked<R: RowNumber>(&self, alloc: Global, rows: &[R]) -> Result<Series, OutOfMemory>
         requires rows { All (λ r. IsRowOf (length (values self.now)) (R.number r)) rows.now }
         requires few { length rows.now ≤ MAX_ROWS }
-        ensures { IfOk result (λ s. s ≡ record self.now { chunks = map (λ r. value_or_null (values self.now) (R.number r)) rows.now ∷ []; flag = Not }) }
+        ensures { IfOk result (λ s. s ≡ record self.now {
+          chunks = map (λ r. value_or_null (values self.now) (R.number r)) rows.now ∷ [];
+          flag = Not;
+          runs = picked_of R.number rows.now (whole self.now.runs) ∷ [];
+        }) }
     {
         let _len = self.len();
         let name = self.name().copy(alloc)?;
@@ -50,7 +55,7 @@ impl Column {
     pub fn take(&self, alloc: Global, rows: &[IdxSize]) -> Result<Column, OutOfMemory>
         requires rows { All (λ r. r < length (values self.now)) rows.now }
         requires few { length rows.now ≤ MAX_ROWS }
-        ensures { IfOk result (λ c. c ≡ record self.now { chunks = map (λ r. slice_index_or (values self.now) r null) rows.now ∷ []; flag = Not }) }
+        ensures { IfOk result (λ c. c ≡ taken rows.now self.now) }
     {
         let series = self.as_materialized_series().take(alloc, rows)?;
         Ok(series.into_column())
@@ -60,7 +65,7 @@ impl Column {
     pub fn take_opt(&self, alloc: Global, rows: &[NullableIdxSize]) -> Result<Column, OutOfMemory>
         requires rows { All (IsRowOf (length (values self.now))) rows.now }
         requires few { length rows.now ≤ MAX_ROWS }
-        ensures { IfOk result (λ c. c ≡ record self.now { chunks = map (value_or_null (values self.now)) rows.now ∷ []; flag = Not }) }
+        ensures { IfOk result (λ c. c ≡ opt_taken rows.now self.now) }
     {
         let series = self.as_materialized_series().take_opt(alloc, rows)?;
         Ok(series.into_column())

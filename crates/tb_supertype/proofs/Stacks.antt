@@ -12,11 +12,13 @@ use Rattle.tb_value.specs.declared.limits.TheConstants.{MAX_ROWS}
 use Rattle.tb_chunk.specs.Col.{Col, IsColumn, flat, physical, values}
 use Rattle.tb_chunk.specs.Fits.{Fits}
 use Rattle.tb_chunk.specs.Made.{at_least_one}
+use Rattle.tb_chunk.specs.Whole.{ViewRun}
+use Rattle.tb_value.specs.declared.sorted.IsSorted.TheVariants.{Not}
 use Rattle.tb_chunk.proofs.Fitting.{fits_stored, null-only}
 use Rattle.tb_chunk.proofs.Lists.{All-map-at, replicate-nulls}
 use Rattle.tb_supertype.specs.Cast.{cast}
 use Rattle.tb_supertype.proofs.Casts.{cast-is}
-use Rattle.tb_supertype.specs.Columns.{cast_values, CastsTo, stacked}
+use Rattle.tb_supertype.specs.Columns.{cast_values, CastsTo}
 
 -- a column that is cast to a type stored as nulls has nothing else
 pub only_nulls : (t : Kind) (c : Col) (n : ℕ) → physical t ≡ kind.null → n ≡ length (values c) → CastsTo t c → replicate n null ≡ cast_values t c
@@ -46,8 +48,8 @@ length-at_least_one : (cs : List (List Datum)) → 0 < length (at_least_one cs)
 length-at_least_one [] = omega arith
 length-at_least_one (c ∷ cs) = omega arith
 
-pub stacked_column : (n : List ℕ) (t : Kind) (cs : List (Bor Col)) → length (flat (map (λ (c : Bor Col). values c.now) cs)) ≤ MAX_ROWS → All (λ (c : Bor Col). CastsTo t c.now) cs → IsColumn (stacked n t (map (λ (c : Bor Col). c.now) cs))
-stacked_column n t cs few typed =
+pub stacked_column : (n : List ℕ) (t : Kind) (cs : List (Bor Col)) (runs : List ViewRun) → length (flat (map (λ (c : Bor Col). values c.now) cs)) ≤ MAX_ROWS → All (λ (c : Bor Col). CastsTo t c.now) cs → IsColumn record { name = n; kind = t; chunks = at_least_one (map (cast_values t) (map (λ (c : Bor Col). c.now) cs)); flag = Not; runs = runs }
+stacked_column n t cs runs few typed =
     let e = stacked-again t cs in
     record {
       chunked = length-at_least_one (map (cast_values t) (map (λ (c : Bor Col). c.now) cs));

@@ -6,7 +6,7 @@ use Rattle.tb_value.specs.Kind.{Kind}
 use Rattle.tb_value.specs.Typed.{HasType}
 use Rattle.tb_value.specs.declared.sorted.IsSorted.TheVariants.{Not}
 use Rattle.tb_chunk.specs.Col.{Col, values}
-use Rattle.tb_chunk.specs.Made.{at_least_one}
+use Rattle.tb_chunk.specs.Made.{at_least_one, IsOf}
 use Rattle.tb_supertype.specs.Cast.{cast}
 
 abbrev pub cast_values : Kind → Col → List Datum
@@ -17,5 +17,5 @@ abbrev pub CastsTo : Kind → Col → Type 0
 CastsTo t c = All (HasType t) (cast_values t c)
 
 -- the values of the columns, one column after another, cast to the type, in a chunk for each column
-abbrev pub stacked : List ℕ → Kind → List Col → Col
-stacked n t cs = record { name = n; kind = t; chunks = at_least_one (map (cast_values t) cs); flag = Not }
+abbrev pub IsStacked : List ℕ → Kind → List Col → Col → Type 0
+IsStacked n t cs d = IsOf n t (at_least_one (map (cast_values t) cs)) Not d

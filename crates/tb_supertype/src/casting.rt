@@ -15,7 +15,7 @@ ghost use Rattle.tb_chunk.specs.Made.{at_least_one};
 ghost use Rattle.tb_chunk.specs.Seen.{chunk_lists, storage};
 ghost use Rattle.tb_chunk.specs.View.{texts};
 ghost use Rattle.tb_supertype.specs.Cast.{cast, cast_to, truth_number};
-ghost use Rattle.tb_supertype.specs.Columns.{cast_values, CastsTo, stacked};
+ghost use Rattle.tb_supertype.specs.Columns.{cast_values, CastsTo, IsStacked};
 
 use crate::class::{Class, class_of};
 use itoa::Buffer;
@@ -328,8 +328,11 @@ pub fn stack(
 ) -> Result<Series, OutOfMemory>
     requires few { length (flat (map (λ c. values c.now) columns.now)) ≤ MAX_ROWS }
     requires typed { All (λ c. CastsTo (kind_of dtype) c.now) columns.now }
-    ensures { IfOk result (λ s. s ≡ stacked name (kind_of dtype) (lent_columns columns.now)) }
+    ensures { IfOk result (IsStacked name (kind_of dtype) (lent_columns columns.now)) }
 {
     let chunks = cast_chunks(alloc, &dtype, columns)?;
+    if !chunks.has_few_buffers() {
+        return Err(OutOfMemory);
+    }
     Ok(Series::from_parts(name, dtype, chunks, IsSorted::Not))
 }

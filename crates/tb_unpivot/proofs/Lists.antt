@@ -16,12 +16,14 @@ use Rattle.tb_value.specs.declared.sorted.IsSorted.TheVariants.{Not}
 use Rattle.tb_chunk.specs.Chunk.{or_null}
 use Rattle.tb_chunk.specs.Col.{Col, IsColumn, flat, values}
 use Rattle.tb_chunk.specs.Lent.{lent_columns}
+use Rattle.tb_chunk.specs.Made.{at_least_one}
+use Rattle.tb_chunk.specs.Whole.{ViewRun}
 use Rattle.tb_frame.specs.Frame.{selected, without_names}
 use Rattle.tb_frame.specs.Naming.{is_among}
 use Rattle.tb_frame.specs.Table.{TableColumn, Table, names_of, plain, table_of}
 use Rattle.tb_frame.proofs.Frames.{filter-map}
 use Rattle.tb_supertype.specs.Cast.{cast}
-use Rattle.tb_supertype.specs.Columns.{CastsTo, cast_values, stacked}
+use Rattle.tb_supertype.specs.Columns.{CastsTo, IsStacked, cast_values}
 use Rattle.tb_supertype.proofs.Stacks.{flat-at_least_one}
 use Rattle.tb_unpivot.specs.Unpivot.{long_table, on_names, repeated, value_column, variable_column}
 use Rattle.tb_unpivot.proofs.CommonKinds.{cast_same}
@@ -71,18 +73,18 @@ repeated_typed rs n c t e same column =
     subst (λ (k : Kind). All (λ (r : Bor Col). CastsTo k r.now) rs) (sym same)
     (un_lent (CastsTo c.kind) rs (subst (λ (ds : List Col). All (CastsTo c.kind) ds) (sym e) (All-replicate (CastsTo c.kind) n c own)))
 
-pub stacked_plain : (n : Name) (t : Kind) (cs : List Col) → plain (stacked n t cs) ≡ record { name = n; kind = t; values = flat (map (cast_values t) cs) }
-stacked_plain n t cs = ap (λ (vs : List Datum). record { name = n; kind = t; values = vs }) (flat-at_least_one (map (cast_values t) cs))
+pub stacked_plain : (n : Name) (t : Kind) (cs : List Col) (d : Col) → IsStacked n t cs d → plain d ≡ record { name = n; kind = t; values = flat (map (cast_values t) cs) }
+stacked_plain n t cs d e = ap plain e ∙ ap (λ (vs : List Datum). record { name = n; kind = t; values = vs }) (flat-at_least_one (map (cast_values t) cs))
 
-pub repeated_is : (n : ℕ) (c : Col) → IsColumn c → plain (stacked c.name c.kind (replicate n c)) ≡ repeated n (plain c)
-repeated_is n c column =
-    stacked_plain c.name c.kind (replicate n c)
+pub repeated_is : (n : ℕ) (c d : Col) → IsColumn c → IsStacked c.name c.kind (replicate n c) d → plain d ≡ repeated n (plain c)
+repeated_is n c d column e =
+    stacked_plain c.name c.kind (replicate n c) d e
     ∙ ap (λ (l : List (List Datum)). record { name = c.name; kind = c.kind; values = flat l }) (replicated (cast_values c.kind) n c ∙ ap (replicate n) (cast_same c.kind (values c) column.typed))
 
-pub repeated_made : (d c : Col) (n : Name) (t : Kind) (rs : List (Bor Col)) (times : ℕ) → d ≡ stacked n t (lent_columns rs) → n ≡ c.name → t ≡ c.kind
+pub repeated_made : (d c : Col) (n : Name) (t : Kind) (rs : List (Bor Col)) (times : ℕ) → IsStacked n t (lent_columns rs) d → n ≡ c.name → t ≡ c.kind
     → lent_columns rs ≡ replicate times c → IsColumn c → plain d ≡ repeated times (plain c)
 repeated_made d c n t rs times e named kinded lent column =
-    ap plain (e ∙ (λ i. stacked (named i) (kinded i) (lent i))) ∙ repeated_is times c column
+    repeated_is times c d column (e ∙ (λ i. record { name = named i; kind = kinded i; chunks = at_least_one (map (cast_values (kinded i)) (lent i)); flag = Not; runs = d.runs }))
 
 pub repeats_more : (times : ℕ) (done more : List Col) (rs : List (Bor Col)) (i : ℕ) (r : Bor Col) (d : Col) → i < length rs → r ≡ get_or rs i r → more ≡ done ++ d ∷ []
     → plain d ≡ repeated times (plain r.now) → table_of done ≡ map (repeated times) (table_of (lent_columns (take i rs)))
@@ -99,8 +101,8 @@ cast_each : (t : Kind) (cs : List Col) → flat (map (cast_values t) cs) ≡ fla
 cast_each t [] = refl
 cast_each t (c ∷ cs) = ap (λ (l : List Datum). cast_values t c ++ l) (cast_each t cs)
 
-pub value_is : (n : Name) (t : Kind) (cs : List Col) → plain (stacked n t cs) ≡ value_column n t (table_of cs)
-value_is n t cs = stacked_plain n t cs ∙ ap (λ (vs : List Datum). record { name = n; kind = t; values = vs }) (cast_each t cs)
+pub value_is : (n : Name) (t : Kind) (cs : List Col) (d : Col) → IsStacked n t cs d → plain d ≡ value_column n t (table_of cs)
+value_is n t cs d e = stacked_plain n t cs d e ∙ ap (λ (vs : List Datum). record { name = n; kind = t; values = vs }) (cast_each t cs)
 
 abbrev pub names_at : Col → List Datum
 names_at c = map (λ (d : Datum). string c.name) (values c)
@@ -129,7 +131,7 @@ text_column_is d vs few typed same_kind one not =
       flag_holds = rw not tt;
     }
 
-pub text_plain : (d : Col) (n : Name) (k : Kind) (chunks : List (List Datum)) (vs : List Datum) → d ≡ record { name = n; kind = k; chunks = chunks; flag = Not } → k ≡ kind.string
+pub text_plain : {rs : List ViewRun} (d : Col) (n : Name) (k : Kind) (chunks : List (List Datum)) (vs : List Datum) → d ≡ record { name = n; kind = k; chunks = chunks; flag = Not; runs = rs } → k ≡ kind.string
     → chunks ≡ vs ∷ [] → plain d ≡ record { name = n; kind = kind.string; values = vs }
 text_plain d n k chunks vs e same one =
     ap plain e ∙ (λ t. record { name = n; kind = same t; values = flat (one t) }) ∙ ap (λ (l : List Datum). record { name = n; kind = kind.string; values = l }) (append-nil vs)

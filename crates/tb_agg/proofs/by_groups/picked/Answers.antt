@@ -1,9 +1,13 @@
 use Rattle.std.proofs.Common.{◌≡◌, ◌∙◌, ◌∷◌, [], IfOk, length, List, map, arith, ap, subst}
+use Rattle.std.proofs.lemmas.Result.{IfOk-weaker}
 use Rattle.std.proofs.lemmas.List.FromFn.{length-map-range_with_len}
 use Rattle.tb_value.specs.Datum.{Datum}
 use Rattle.tb_value.specs.Pairs.{row_numbers}
 use Rattle.tb_chunk.specs.Col.{Col, values}
+use Rattle.tb_chunk.specs.Changed.{opt_taken}
+use Rattle.tb_chunk.specs.Made.{IsOf}
 use Rattle.tb_chunk.specs.Rows.{value_or_null}
+use Rattle.tb_chunk.proofs.Made.{is_of}
 use Rattle.tb_agg.specs.Grouped.{rows_of}
 use Rattle.tb_agg.specs.Picking.{picked_row}
 use Rattle.tb_value.specs.declared.sorted.IsSorted.TheVariants.{Not}
@@ -20,7 +24,8 @@ pub returns : goal.returns
 returns c =
     let vs = values c.args.column.now in
     let column = c.args.column.now in
-    subst (λ (l : List Datum). IfOk c.take_opt.result (λ (s : Col). s ≡ record { name = column.name; kind = column.kind; chunks = l ∷ []; flag = Not }))
+    subst (λ (l : List Datum). IfOk c.take_opt.result (IsOf column.name column.kind (l ∷ []) Not))
     (ap (map (value_or_null vs)) (c.deref.ensures.value ∙ c.in_ok-rows.ensures.picked)
     ∙ all_picked vs c.args.pick (rows_of c.args.groups.now.numbers.items (length vs)) (row_numbers (length c.args.groups.now.firsts.items)))
-    c.take_opt.ensures
+    (IfOk-weaker c.take_opt.result (λ (s : Col). s ≡ opt_taken c.deref.result.now column) (IsOf column.name column.kind (map (value_or_null vs) c.deref.result.now ∷ []) Not)
+    (λ s h. is_of column.name column.kind (map (value_or_null vs) c.deref.result.now ∷ []) Not (opt_taken c.deref.result.now column).runs s h) c.take_opt.ensures)

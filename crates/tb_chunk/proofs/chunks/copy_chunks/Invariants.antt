@@ -1,5 +1,9 @@
 use Rattle.std.proofs.Common.{◌≡◌, map, take}
+use Rattle.tb_chunk.specs.Whole.{runs_of}
 use Rattle.tb_chunk.proofs.chunks.copy_chunks.Given as goal
 
 abbrev pub invariant-loop-chunk : goal.invariant-loop-chunk
-invariant-loop-chunk g l = map g.C.Chunk.shown l.copies.items ≡ map g.C.Chunk.shown (take l.chunk-index l.chunks)
+invariant-loop-chunk g l = record {
+  shown : map g.C.Chunk.shown l.copies.items ≡ map g.C.Chunk.shown (take l.chunk-index l.chunks);
+  runs : runs_of g.C.Chunk.views g.C.Chunk.buffers l.copies.items ≡ runs_of g.C.Chunk.views g.C.Chunk.buffers (take l.chunk-index l.chunks);
+}

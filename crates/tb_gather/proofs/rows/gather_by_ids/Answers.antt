@@ -5,7 +5,8 @@ use Rattle.tb_chunk.specs.Col.{Col}
 use Rattle.tb_frame.specs.Frame.{lens}
 use Rattle.tb_frame.specs.Table.{table_of, IsTable}
 use Rattle.tb_gather.specs.Ids.{Id, AreRun, row_or_none}
-use Rattle.tb_gather.specs.Gathered.{NameRows, gathered}
+use Rattle.tb_gather.specs.Gathered.{NameRows, gathered_flag, named_rows}
+use Rattle.tb_gather.specs.declared.keep.Keep.TheVariants as keep
 use Rattle.tb_gather.proofs.Frames.{IsTable-gathered}
 use Rattle.tb_gather.proofs.Running.{ids-are-run}
 use Rattle.tb_gather.proofs.Serving.{named-each, length-ids, gathered-rows}
@@ -28,7 +29,7 @@ gather_side_by_side-requires-after_bounds g c κs within =
 
 pub made_table-requires : goal.made_table-requires
 made_table-requires g c =
-    subst (λ (cs : List Col). IsTable (table_of cs)) (sym (c.in_ok-columns-in-Some.ensures ∙ ap (map (gathered c.deref.result.now c.args.sorted)) c.get_columns-in-Some.ensures.columns)) (IsTable-gathered c.deref.result.now c.args.sorted c.args.table.now c.get_columns-in-Some.ensures.table)
+    subst (λ (cs : List Col). IsTable (table_of cs)) (sym (c.in_ok-columns-in-Some.ensures ∙ ap (map (λ k. named_rows keep.All c.deref.result.now (gathered_flag k.flag c.args.sorted) k)) c.get_columns-in-Some.ensures.columns)) (IsTable-gathered keep.All c.deref.result.now c.args.sorted c.args.table.now c.get_columns-in-Some.ensures.table)
 
 pub returns-in_ok-columns-in-Some : goal.returns-in_ok-columns-in-Some
 returns-in_ok-columns-in-Some g c =
@@ -37,4 +38,4 @@ returns-in_ok-columns-in-Some g c =
     let ids = c.in_ok-ids-in-Some.ids.items in
     let made = in_column ids c.args.rows.now c.as_materialized_series.result.now c.in-Some.column.now c.as_materialized_series.ensures c.in_ok-ids-in-Some.ensures.named c.in_ok-ids-in-Some.ensures.rows in
     let gathered_so = gathered-rows cs c.in-Some.column.now is c.requires.cut.alike ids c.args.rows.now made.0 made.1 c.args.sorted in
-    IfOk-then c.made_table.result _ _ c.made_table.ensures (λ t got. got ∙ (c.in_ok-columns-in-Some.ensures ∙ ((λ i. map (gathered (c.deref.ensures.value i) c.args.sorted) (c.get_columns-in-Some.ensures.columns i)) ∙ gathered_so)))
+    IfOk-then c.made_table.result _ _ c.made_table.ensures (λ t got. got ∙ (c.in_ok-columns-in-Some.ensures ∙ ((λ i. map (λ k. named_rows keep.All (c.deref.ensures.value i) (gathered_flag k.flag c.args.sorted) k) (c.get_columns-in-Some.ensures.columns i)) ∙ gathered_so)))

@@ -3,7 +3,7 @@ use Rattle.std.specs.List.{All}
 use Rattle.rayon.proofs.ListFacts.{IfOk-then}
 use Rattle.tb_chunk.specs.Col.{Col, values}
 use Rattle.tb_chunk.specs.Rows.{IsRowOf}
-use Rattle.tb_frame.specs.Table.{height, table_of, IsTable}
+use Rattle.tb_frame.specs.Table.{table_of, IsTable}
 use Rattle.tb_frame.proofs.Taking.{rows_or_none}
 use Rattle.tb_gather.specs.Gathered.{rows_gathered}
 use Rattle.tb_gather.proofs.Frames.{IsTable-rows}

@@ -1,8 +1,5 @@
-use Rattle.std.proofs.Common.{List, map, append-nil, sym, subst, ap, ◌≡◌, ◌∙◌}
-use Rattle.tb_value.specs.Datum.{Datum}
-use Rattle.tb_value.specs.declared.sorted.IsSorted.{IsSorted}
-use Rattle.tb_chunk.specs.Col.{Col, values}
-use Rattle.tb_chunk.specs.Flag.{FlagHolds}
+use Rattle.std.proofs.Common.{map, append-nil, ap, ◌≡◌, ◌∙◌}
+use Rattle.tb_chunk.specs.Col.{values}
 use Rattle.tb_chunk.specs.Rows.{value_or_null}
 use Rattle.tb_gather.specs.Gathered.{gathered_flag}
 use Rattle.tb_gather.proofs.Flags.{flag-of-rows}

@@ -4,7 +4,7 @@ use Rattle.std.proofs.Crossing.{crosses}
 use Rattle.std.specs.Result.{IfOk}
 use Rattle.tb_chunk.specs.Col.{Col}
 use Rattle.tb_store.proofs.Crossing.{Column-send, Column-sync}
-use Rattle.tb_gather.specs.Gathered.{NameRows, gathered}
+use Rattle.tb_gather.specs.Gathered.{NameRows, gathered_flag, named_rows}
 use Rattle.tb_gather.proofs.Chained.{chained}
 use Rattle.tb_gather.proofs.side_by_side.gather_side_by_side.Goals as goal
 
@@ -41,7 +41,8 @@ pub returns : goal.returns
 returns g c =
     let by : c.map.result.f.1.now ≡ c.args.by.now = ap (λ f. f.1.now) c.map.ensures.f in
     let sorted : c.map.result.f.2.now ≡ c.args.sorted = ap (λ f. f.2.now) c.map.ensures.f in
+    let keep : c.map.result.f.3.now ≡ c.args.keep = ap (λ f. f.3.now) c.map.ensures.f in
     let whole : c.map.result.base.base.slice.now ≡ c.args.columns.now = ap (λ it. it.base.slice.now) c.map.ensures.base ∙ (ap (λ it. it.slice.now) c.with_min_len.ensures.base ∙ c.par_iter.ensures) in
     let h = c.in_ok-collect.ensures in
-    subst (λ m. IfOk c.in_ok-collect.field-0 (λ v. v.items ≡ m)) (λ i. map (gathered (by i) (sorted i)) (whole i))
-    (chained (gathered c.map.result.f.1.now c.map.result.f.2.now) (λ v. v.items) c.map.result.base.base.slice.now h.1.0 h.0 c.in_ok-collect.field-0 h.1.1 h.1.2 h.2)
+    subst (λ m. IfOk c.in_ok-collect.field-0 (λ v. v.items ≡ m)) (λ i. map (λ k. named_rows (keep i) (by i) (gathered_flag k.flag (sorted i)) k) (whole i))
+    (chained (λ k. named_rows c.map.result.f.3.now c.map.result.f.1.now (gathered_flag k.flag c.map.result.f.2.now) k) (λ v. v.items) c.map.result.base.base.slice.now h.1.0 h.0 c.in_ok-collect.field-0 h.1.1 h.1.2 h.2)

@@ -6,4 +6,4 @@ use Rattle.tb_unpivot.proofs.Lists.{value_is}
 use Rattle.tb_unpivot.proofs.columns.value_column.Goals as goal
 
 pub returns : goal.returns
-returns c = ap plain (c.into_column.ensures ∙ c.in_ok-stack.ensures) ∙ value_is c.args.name (kind_of c.args.dtype) (lent_columns c.args.columns.now)
+returns c = ap plain c.into_column.ensures ∙ value_is c.args.name (kind_of c.args.dtype) (lent_columns c.args.columns.now) c.in_ok-stack.field-0 c.in_ok-stack.ensures

@@ -3,7 +3,7 @@ use Rattle.std.proofs.lemmas.List.{map_more, take_all}
 use Rattle.std.proofs.lemmas.Result.{IfOk-weaker}
 use Rattle.tb_value.specs.See.{datum}
 use Rattle.tb_value.specs.declared.any_value.AnyValue.{AnyValue}
-use Rattle.tb_chunk.specs.Layout.{Building, begun, built, laid_out, with_row}
+use Rattle.tb_chunk.specs.Layout.{Building, begun, built, laid, with_row}
 use Rattle.tb_chunk.specs.Texts.{text_of}
 use Rattle.tb_chunk.specs.View.{texts}
 use Rattle.tb_chunk.specs.declared.view_chunk.ViewChunk.{ViewChunk}
@@ -30,9 +30,16 @@ returns-clause-texts c =
     let w = whole vs c.loop-value.value-index b (take_all c.loop-value.value-index vs (omega arith)) c.loop-value.invariant in
     IfOk-weaker c.finish.result (λ (k : ViewChunk). texts k.buffers.items k.views.items ≡ b.rows) (λ (k : ViewChunk). texts k.buffers.items k.views.items ≡ map (λ v. text_of (datum v)) vs) (λ k h. h ∙ ap (λ x. x.rows) w) c.finish.ensures.texts
 
+pub returns-clause-views : goal.returns-clause-views
+returns-clause-views c =
+    let vs = c.args.values.now in
+    let b = c.loop-value.builder in
+    let w = whole vs c.loop-value.value-index b (take_all c.loop-value.value-index vs (omega arith)) c.loop-value.invariant in
+    IfOk-weaker c.finish.result (λ (k : ViewChunk). k.views.items ≡ b.views) (λ (k : ViewChunk). k.views.items ≡ (laid (map (λ v. text_of (datum v)) vs)).views) (λ k h. h ∙ ap (λ x. x.views) w) c.finish.ensures.views
+
 pub returns-clause-buffers : goal.returns-clause-buffers
 returns-clause-buffers c =
     let vs = c.args.values.now in
     let b = c.loop-value.builder in
     let w = whole vs c.loop-value.value-index b (take_all c.loop-value.value-index vs (omega arith)) c.loop-value.invariant in
-    IfOk-weaker c.finish.result (λ (k : ViewChunk). k.buffers.items ≡ begun b.laid) (λ (k : ViewChunk). k.buffers.items ≡ laid_out (map (λ v. text_of (datum v)) vs)) (λ k h. h ∙ ap (λ x. begun x.laid) w) c.finish.ensures.buffers
+    IfOk-weaker c.finish.result (λ (k : ViewChunk). k.buffers.items ≡ begun b.laid) (λ (k : ViewChunk). k.buffers.items ≡ (laid (map (λ v. text_of (datum v)) vs)).buffers) (λ k h. h ∙ ap (λ x. begun x.laid) w) c.finish.ensures.buffers

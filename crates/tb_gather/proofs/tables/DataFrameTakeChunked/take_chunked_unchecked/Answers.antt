@@ -2,6 +2,7 @@ use Rattle.std.proofs.Common.{arith, List, map, ap, sym, subst, ◌∙◌}
 use Rattle.std.specs.List.{All}
 use Rattle.tb_chunk.specs.Col.{Col}
 use Rattle.tb_frame.specs.Table.{table_of, IsTable}
+use Rattle.tb_gather.specs.declared.keep.Keep.TheVariants.{Used}
 use Rattle.tb_gather.specs.Gathered.{NameRows, gathered}
 use Rattle.tb_gather.proofs.Flags.{are-run}
 use Rattle.tb_gather.proofs.Frames.{IsTable-gathered}
@@ -16,4 +17,4 @@ gather_columns-requires g c =
 pub made_table-requires : goal.made_table-requires
 made_table-requires g c =
     let by = c.args.by.now in
-    subst (λ (cs : List Col). IsTable (table_of cs)) (sym (c.in_ok-columns.ensures ∙ ap (map (gathered by c.args.sorted)) c.get_columns.ensures.columns)) (IsTable-gathered by c.args.sorted c.args.self.now c.get_columns.ensures.table)
+    subst (λ (cs : List Col). IsTable (table_of cs)) (sym (c.in_ok-columns.ensures ∙ ap (map (gathered by c.args.sorted)) c.get_columns.ensures.columns)) (IsTable-gathered Used by c.args.sorted c.args.self.now c.get_columns.ensures.table)

@@ -9,6 +9,6 @@ pub returns-then-is_key : goal.returns-then-is_key
 returns-then-is_key g c =
     let column = c.args.self.now in
     let key = sym (c.is_key.ensures ∙ ap is_key c.dtype.ensures) ∙ c.if-is_key.true in
-    let is = c.keeps_order.ensures ∙ ap (λ cs. keeps_order c.args.descending (flat cs)) c.chunks.ensures in
+    let is = c.keeps_order.ensures ∙ ap (λ cs. keeps_order c.args.descending (flat cs)) c.chunks.ensures.shown in
     let decides = keeps_order_decides c.args.descending column.kind (values column) key in
     (λ h. decides.0 (sym is ∙ h), λ h. is ∙ decides.1 h)

@@ -11,5 +11,5 @@ pub returns : goal.returns
 returns c =
     let same : c.physical.result ≡ c.physical_of.result = differs_false the_type (search rules) _ _ (sym c.ne.ensures ∙ c.if-ne.false) in
     let stored : storage c.args.arrays ≡ physical (kind_of c.args.dtype) = sym c.physical.ensures ∙ (ap kind_for same ∙ c.physical_of.ensures) in
-    let made = c.in_ok-chunks.ensures in
+    let made = c.in_ok-chunks.ensures.made in
     (stored, made.0, made.1, cc)

@@ -2,6 +2,7 @@ use Rattle.std.proofs.Common.{◌∙◌, refl, ◌∷◌, []}
 use Rattle.tb_chunk.specs.Col.{flat}
 use Rattle.tb_chunk.specs.Merged.{merged}
 use Rattle.tb_chunk.proofs.Merging.{merged_column}
+use Rattle.tb_store.proofs.Columns.{one_alone}
 use Rattle.tb_store.proofs.series.Series.merged.Goals as goal
 
 pub from_parts-requires-clause-column : goal.from_parts-requires-clause-column
@@ -9,3 +10,6 @@ from_parts-requires-clause-column c =
     merged_column c.args.self.now c.args.other.now _ c.len-len.ensures.column c.len-other_len.ensures.column c.requires.kind c.requires.len (c.in_ok-dtype.ensures ∙ c.dtype.ensures)
     (c.in_ok-chunks.ensures.lists ∙ (λ i. merged (flat (c.chunks.ensures.lists i)) (flat (c.chunks-2.ensures.lists i)) ∷ []))
     refl
+
+pub from_parts-requires-clause-few_buffers : goal.from_parts-requires-clause-few_buffers
+from_parts-requires-clause-few_buffers c = one_alone _ _ c.in_ok-chunks.ensures.lists

@@ -1,0 +1,14 @@
+-- Columns of which is said all but where their texts stand.
+use Rattle.std.proofs.Common.{◌≡◌, ◌∙◌, ℕ, List, ap, sym}
+use Rattle.tb_value.specs.Datum.{Datum}
+use Rattle.tb_value.specs.Kind.{Kind}
+use Rattle.tb_value.specs.declared.sorted.IsSorted.{IsSorted}
+use Rattle.tb_chunk.specs.Col.{Col}
+use Rattle.tb_chunk.specs.Made.{IsOf}
+use Rattle.tb_chunk.specs.Whole.{ViewRun}
+
+-- wherever they stand
+pub is_of : (n : List ℕ) (t : Kind) (cs : List (List Datum)) (f : IsSorted) (rs : List ViewRun) (c : Col) → c ≡ record { name = n; kind = t; chunks = cs; flag = f; runs = rs } → IsOf n t cs f c
+is_of n t cs f rs c e =
+    let runs = sym (ap (λ (d : Col). d.runs) e) in
+    e ∙ (λ i. record { name = n; kind = t; chunks = cs; flag = f; runs = runs i })

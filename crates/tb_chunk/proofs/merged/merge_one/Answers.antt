@@ -1,0 +1,38 @@
+use Rattle.std.proofs.Common.{arith, ◌≡◌, ◌∙◌, ℕ, List, [], ◌∷◌, ◌++◌, Option, ap, sym, length, map, take, get_or}
+use Rattle.std.proofs.lemmas.List.{take_all}
+use Rattle.tb_chunk.specs.Col.{flat}
+use Rattle.tb_chunk.specs.Merged.{merged_run}
+use Rattle.tb_chunk.specs.Whole.{ViewRun, run_at, runs_of, whole}
+use Rattle.tb_chunk.specs.declared.view.View.{View}
+use Rattle.tb_chunk.proofs.Whole.{length-whole, runs_viewed}
+use Rattle.tb_chunk.proofs.merged.merge_one.Goals as goal
+
+-- all of a run
+run_of_all : (r : ViewRun) (n : ℕ) (vs : List (Option View)) (bs : List (List ℕ)) → length r.views ≡ n → vs ≡ take n r.views → bs ≡ r.buffers → record { views = vs; buffers = bs } ≡ r
+run_of_all r n vs bs same is over =
+    let all = is ∙ take_all n r.views (omega arith) in
+    λ i. record { views = all i; buffers = over i }
+
+pub returns-clause-runs : goal.returns-clause-runs
+returns-clause-runs g c =
+    let shown = g.C.Chunk.shown in
+    let views = g.C.Chunk.views in
+    let buffers = g.C.Chunk.buffers in
+    let first = c.args.first.now in
+    let second = c.args.second.now in
+    let f = c.in_ok-join_rows.field-0 in
+    let s = c.in_ok-join_rows-2.field-0 in
+    let d = c.in_ok-chunk.chunk in
+    let pair : c.deref.result.now ≡ f ∷ s ∷ [] =
+    c.deref.ensures.value ∙ c.in_ok-push-2.ensures.items ∙ ap (λ cs. cs ++ s ∷ []) (c.in_ok-push.ensures.items ∙ ap (λ cs. cs ++ f ∷ []) c.in_ok-pair.ensures.items) in
+    let viewed = λ (cs : List g.row.C.Denot). length-whole (map shown cs) (runs_of views buffers cs) 0 (runs_viewed shown views buffers g.met.C.Chunk.viewed cs) in
+    let values : shown f ≡ flat (map shown first) = c.in_ok-join_rows.ensures.shown ∙ take_all c.rows_in.result (flat (map shown first)) (omega (arith, c.rows_in.ensures)) in
+    let run1 = run_of_all (whole (runs_of views buffers first)) c.rows_in.result (views f) (buffers f) (viewed first ∙ sym c.rows_in.ensures) c.in_ok-join_rows.ensures.views c.in_ok-join_rows.ensures.buffers in
+    let run2 = run_of_all (whole (runs_of views buffers second)) c.rows_in-2.result (views s) (buffers s) (viewed second ∙ sym c.rows_in-2.ensures) c.in_ok-join_rows-2.ensures.views c.in_ok-join_rows-2.ensures.buffers in
+    let run : record { views = views d; buffers = buffers d } ≡ merged_run (flat (map shown first)) (whole (runs_of views buffers first)) (whole (runs_of views buffers second)) =
+    (λ i. record { views = c.in_ok-chunk.ensures.views i; buffers = c.in_ok-chunk.ensures.buffers i })
+    ∙ ap (λ cs. merged_run (get_or (map shown cs) 0 []) (run_at (runs_of views buffers cs) 0) (run_at (runs_of views buffers cs) 1)) pair
+    ∙ (λ i. merged_run (values i) (run1 i) (run2 i)) in
+    c.wrap.ensures.runs
+    ∙ ap (runs_of views buffers) (c.in_ok-push-3.ensures.items ∙ ap (λ cs. cs ++ d ∷ []) c.new-one.ensures.items)
+    ∙ ap (λ r. r ∷ []) run

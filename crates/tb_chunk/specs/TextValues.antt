@@ -1,0 +1,11 @@
+-- The values of a column of texts or of bytes.
+use Rattle.std.specs.Prelude.{ℕ, List, Option, map}
+use Rattle.tb_value.specs.Datum.{Datum, binary, string}
+use Rattle.tb_value.specs.Kind.{Kind}
+use Rattle.tb_value.specs.Kind as kind
+use Rattle.tb_chunk.specs.Chunk.{or_null}
+
+-- texts as values of type String, and as Binary of any other
+abbrev pub text_values : Kind → List (Option (List ℕ)) → List Datum
+text_values kind.string ts = map (or_null string) ts
+text_values _ ts = map (or_null binary) ts

@@ -1,0 +1,130 @@
+//! The views and the buffers of texts, as they are given and lent.
+ghost use Rattle.std.specs.Prelude.{◌≡◌, ◌⊎◌, ◌<◌, ◌^◌, [], All, length, slice_index_or};
+ghost use Rattle.tb_value.specs.Kind as kind;
+ghost use Rattle.tb_chunk.specs.Runs.{chunk_runs};
+ghost use Rattle.tb_chunk.specs.Seen.{chunk_lists, storage};
+ghost use Rattle.tb_chunk.specs.Texts.{IsUtf8Row};
+ghost use Rattle.tb_chunk.specs.TextValues.{text_values};
+ghost use Rattle.tb_chunk.specs.View.{texts, IsViewOrNone};
+ghost use Rattle.tb_chunk.specs.Whole.{run_at};
+
+use crate::chunk::StringChunk;
+use crate::chunks::Chunks;
+use crate::owned_chunks::BinaryChunk;
+use crate::view::View;
+use crate::view_chunk::ViewChunk;
+use tb_value::Bytes;
+
+impl StringChunk {
+    /// The chunk of the texts that these views stand for over these buffers; no view is Null. Nothing is copied.
+    pub fn from_views(views: Vec<Option<View>>, buffers: Vec<Bytes>) -> StringChunk
+        requires formed { All (IsViewOrNone buffers.items) views.items }
+        requires few { length buffers.items < 2 ^ 32 }
+        requires utf8 { All IsUtf8Row (texts buffers.items views.items) }
+        ensures views { result.inner.views.items ≡ views.items }
+        ensures buffers { result.inner.buffers.items ≡ buffers.items }
+    {
+        StringChunk {
+            inner: ViewChunk { views, buffers },
+        }
+    }
+
+    /// The view of each row, none where it is Null.
+    pub fn views(&self) -> &[Option<View>]
+        ensures views { result.now ≡ self.now.inner.views.items }
+        ensures formed { All (IsViewOrNone self.now.inner.buffers.items) result.now }
+    {
+        self.inner.views()
+    }
+
+    /// The buffers that the views stand over.
+    pub fn buffers(&self) -> &[Bytes]
+        ensures { result.now ≡ self.now.inner.buffers.items }
+    {
+        self.inner.buffers()
+    }
+}
+
+impl BinaryChunk {
+    /// The chunk of the bytes that these views stand for over these buffers; no view is Null. Nothing is copied.
+    pub fn from_views(views: Vec<Option<View>>, buffers: Vec<Bytes>) -> BinaryChunk
+        requires formed { All (IsViewOrNone buffers.items) views.items }
+        requires few { length buffers.items < 2 ^ 32 }
+        ensures views { result.inner.views.items ≡ views.items }
+        ensures buffers { result.inner.buffers.items ≡ buffers.items }
+    {
+        BinaryChunk {
+            inner: ViewChunk { views, buffers },
+        }
+    }
+
+    /// The view of each row, none where it is Null.
+    pub fn views(&self) -> &[Option<View>]
+        ensures views { result.now ≡ self.now.inner.views.items }
+        ensures formed { All (IsViewOrNone self.now.inner.buffers.items) result.now }
+    {
+        self.inner.views()
+    }
+
+    /// The buffers that the views stand over.
+    pub fn buffers(&self) -> &[Bytes]
+        ensures { result.now ≡ self.now.inner.buffers.items }
+    {
+        self.inner.buffers()
+    }
+}
+
+impl ViewChunk {
+    /// The view of each row, none where it is Null.
+    pub fn views(&self) -> &[Option<View>]
+        ensures views { result.now ≡ self.now.views.items }
+        ensures formed { All (IsViewOrNone self.now.buffers.items) result.now }
+    {
+        &self.views
+    }
+
+    /// The buffers that the views stand over.
+    pub fn buffers(&self) -> &[Bytes]
+        ensures { result.now ≡ self.now.buffers.items }
+    {
+        &self.buffers
+    }
+}
+
+// The texts of a chunk, or its bytes.
+fn texts_in(chunks: &Chunks, chunk: usize) -> &ViewChunk
+    requires text { storage chunks.now ≡ kind.string ⊎ storage chunks.now ≡ kind.binary }
+    requires chunk { chunk < length (chunk_lists chunks.now) }
+    ensures views { result.now.views.items ≡ (run_at (chunk_runs chunks.now) chunk).views }
+    ensures buffers { result.now.buffers.items ≡ (run_at (chunk_runs chunks.now) chunk).buffers }
+    ensures texts { slice_index_or (chunk_lists chunks.now) chunk [] ≡ text_values (storage chunks.now) (texts result.now.buffers.items result.now.views.items) }
+{
+    match chunks {
+        Chunks::StringType(chunks) => &chunks[chunk].inner,
+        Chunks::BinaryType(chunks) => &chunks[chunk].inner,
+        _ => unreachable!(),
+    }
+}
+
+impl Chunks {
+    /// The view of each row of a chunk of texts or bytes, none where it is Null. The values of the chunk are the texts that the
+    /// views stand for over its buffers.
+    pub fn views(&self, chunk: usize) -> &[Option<View>]
+        requires text { storage self.now ≡ kind.string ⊎ storage self.now ≡ kind.binary }
+        requires chunk { chunk < length (chunk_lists self.now) }
+        ensures views { result.now ≡ (run_at (chunk_runs self.now) chunk).views }
+        ensures formed { All (IsViewOrNone (run_at (chunk_runs self.now) chunk).buffers) result.now }
+        ensures texts { slice_index_or (chunk_lists self.now) chunk [] ≡ text_values (storage self.now) (texts (run_at (chunk_runs self.now) chunk).buffers result.now) }
+    {
+        texts_in(self, chunk).views()
+    }
+
+    /// The buffers that those views stand over.
+    pub fn data_buffers(&self, chunk: usize) -> &[Bytes]
+        requires text { storage self.now ≡ kind.string ⊎ storage self.now ≡ kind.binary }
+        requires chunk { chunk < length (chunk_lists self.now) }
+        ensures { result.now ≡ (run_at (chunk_runs self.now) chunk).buffers }
+    {
+        texts_in(self, chunk).buffers()
+    }
+}
