@@ -1,23 +1,21 @@
 -- What is due for a request, by what its operation answers.
-use Rattle.std.proofs.Common.{◌≡◌, ◌<◌, ◌^◌, ◌∙◌, ℕ, List, length, Option, Result, Ok, Err, IfOk, MatchOption, refl, sym, ap, subst}
+use Rattle.std.proofs.Common.{◌≡◌, ◌∙◌, ℕ, List, Option, Result, Ok, Err, IfOk, MatchOption, sym, ap, subst}
 use mathlib.Core.Logic.{inl, inr}
 use Rattle.std.specs.Borrow.{Bor}
-use Rattle.std.specs.List.{All}
 use Rattle.std.specs.Option.{option_copied}
-use Rattle.std.proofs.lemmas.List.Elements.{All-map}
 use Rattle.tb_value.specs.Names.{Name}
 use Rattle.tb_value.specs.Refusals.{Settles}
 use Rattle.tb_value.specs.declared.error.PolarsError.{PolarsError}
 use Rattle.tb_chunk.specs.Col.{Col}
 use Rattle.tb_frame.specs.Join.{IsAnswer, lent_request}
 use Rattle.tb_frame.specs.Refusal.{join_refusal}
-use Rattle.tb_frame.specs.Table.{TableColumn, plain, table_of}
+use Rattle.tb_frame.specs.Table.{table_of}
 use Rattle.tb_json.specs.Text.{text_of}
 use Rattle.tb_request.specs.declared.request.Reason.{Reason}
 use Rattle.tb_request.specs.declared.request.RequestFault.{RequestFault}
 use Rattle.tb_request.specs.declared.request.RequestFault.TheVariants.{NoRequest}
 use Rattle.tb_request.specs.Reading.{JoinRequest, UnpivotRequest, DummiesRequest, PivotRequest, FaultIs}
-use Rattle.tb_unpivot.specs.Unpivot.{HasShortNames, unpivot_refusal, unpivot_table}
+use Rattle.tb_unpivot.specs.Unpivot.{unpivot_refusal, unpivot_table}
 use Rattle.tb_dummies.specs.Dummies.{dummies_refusal, dummies_table, separator_or}
 use Rattle.tb_dummies.specs.Dummies as marked
 use Rattle.tb_dummies.specs.Lent as lent
@@ -115,10 +113,6 @@ module _ (r : JoinRequest) (left_on right_on : List Name) (left : left_on ≡ r.
       is
 
 -- ---- a table that is made long
-
-pub names_short : (cs : List Col) → All (λ (c : Col). length c.name < 2 ^ 32) cs → HasShortNames (table_of cs)
-names_short cs short =
-    All-map (λ (n : Name). length n < 2 ^ 32) (λ (c : TableColumn). c.name) (table_of cs) (All-map (λ (c : TableColumn). length c.name < 2 ^ 32) plain cs short)
 
 long_text : (r : UnpivotRequest) (outcome : Result (List Col) PolarsError) → IfOk outcome (λ t. table_of t ≡ unpivot_table (asked_long r))
     → IfOk outcome (λ t. IsAnswerText (unpivot r) (text_of (table_of t)))

@@ -1,8 +1,6 @@
 //! A request that is read is answered: the one door to the commands.
-ghost use Rattle.std.specs.Prelude.{◌≡◌, ◌↔◌, ◌<◌, Err, IfOk, IsTrue, length, string_bytes};
-ghost use Rattle.std.specs.List.{All};
+ghost use Rattle.std.specs.Prelude.{◌≡◌, Err, IfOk, string_bytes};
 ghost use Rattle.std.specs.Option.{option_copied, option_map};
-ghost use Rattle.tb_chunk.specs.Col.{Col};
 ghost use Rattle.tb_request.specs.Reading.{request_view, unpivot_view, dummies_view, pivot_view, join_request_of, unpivot_request_of, dummies_request_of, pivot_request_of};
 ghost use Rattle.tb_request.specs.Reasons.{reason_word};
 ghost use Rattle.tb_app.specs.Due.{DueOfReading, DueOfRequest, IsJoinOutcome, IsOutcome, IsRefusal, bad_request_text};
@@ -23,9 +21,8 @@ use tb_request::{
     DummiesRequest, JoinRequest, PivotRequest, Reason, RequestFault, UnpivotRequest,
     dummies_request_of, join_request_of, pivot_request_of, unpivot_request_of,
 };
-use tb_store::Column;
 use tb_unpivot::{UnpivotArgsIR, UnpivotDF};
-use tb_value::{OutOfMemory, PlSmallStr, PolarsError, PolarsResult, TOO_LONG};
+use tb_value::{OutOfMemory, PlSmallStr, PolarsError, PolarsResult};
 
 /// What is written, and the status that goes with it.
 #[derive(Drop)]
@@ -125,18 +122,14 @@ fn made_long(alloc: Global, request: UnpivotRequest) -> Result<Answer, OutOfMemo
         variable_name,
         value_name,
     } = request;
-    if have_short_names(table.get_columns()) {
-        let args = UnpivotArgsIR {
-            on,
-            index,
-            variable_name,
-            value_name,
-        };
-        let outcome = table.unpivot2(alloc, args);
-        answered(alloc, outcome)
-    } else {
-        Err(OutOfMemory)
-    }
+    let args = UnpivotArgsIR {
+        on,
+        index,
+        variable_name,
+        value_name,
+    };
+    let outcome = table.unpivot2(alloc, args);
+    answered(alloc, outcome)
 }
 
 fn with_dummies(alloc: Global, request: DummiesRequest) -> Result<Answer, OutOfMemory>
@@ -185,15 +178,6 @@ fn text_given(text: &Option<PlSmallStr>) -> Option<&str>
         Some(text) => Some(text.as_str()),
         None => None,
     }
-}
-
-// Whether each name is short enough to be a value. A longer one is in no request that fits the limit.
-fn have_short_names(columns: &[Column]) -> bool
-    ensures { IsTrue result ↔ All (λ (c : Col). length c.name < TOO_LONG) columns.now }
-{
-    columns
-        .iter()
-        .all(|column| column.name().as_str().len() < TOO_LONG)
 }
 
 // The text of the table that a join gave, with its trace where that is asked, or of why it gave none.

@@ -1,5 +1,6 @@
 pub mod Order
 pub mod Chunk
+pub mod ChunkTexts
 pub mod Col
 pub mod ColCode
 pub mod Fits
@@ -20,6 +21,5 @@ pub mod Window
 pub mod Held
 pub mod Layout
 pub mod Texts
-pub mod Used
 pub mod View
 pub mod TextValues

@@ -4,7 +4,7 @@ use Rattle.tb_value.specs.Datum.{Datum, null, boolean, int, string, binary, list
 use Rattle.tb_value.specs.Kind.{Kind}
 use Rattle.tb_value.specs.Kind as kind
 use Rattle.tb_chunk.specs.Chunk.{or_null}
-use Rattle.tb_chunk.specs.View.{texts}
+use Rattle.tb_chunk.specs.ChunkTexts.{texts_of, bytes_of}
 use Rattle.tb_chunk.specs.declared.chunks.Chunks.{Chunks}
 use Rattle.tb_chunk.specs.declared.chunks.Chunks.TheVariants.{BooleanType, Int8Type, Int16Type, Int32Type, Int64Type, Int128Type, UInt8Type, UInt16Type, UInt32Type, UInt64Type, StringType, BinaryType, ListType, StructType, Null}
 
@@ -20,8 +20,8 @@ chunk_lists (UInt8Type v) = map (λ c. map (or_null (λ n. int (pos n))) c.cells
 chunk_lists (UInt16Type v) = map (λ c. map (or_null (λ n. int (pos n))) c.cells.items) v.items
 chunk_lists (UInt32Type v) = map (λ c. map (or_null (λ n. int (pos n))) c.cells.items) v.items
 chunk_lists (UInt64Type v) = map (λ c. map (or_null (λ n. int (pos n))) c.cells.items) v.items
-chunk_lists (StringType v) = map (λ c. map (or_null string) (texts c.inner.buffers.items c.inner.views.items)) v.items
-chunk_lists (BinaryType v) = map (λ c. map (or_null binary) (texts c.inner.buffers.items c.inner.views.items)) v.items
+chunk_lists (StringType v) = map (λ c. map (or_null string) (texts_of c)) v.items
+chunk_lists (BinaryType v) = map (λ c. map (or_null binary) (bytes_of c)) v.items
 chunk_lists (ListType v) = map (λ c. map (or_null (λ vs. list (items_of vs))) c.inner.cells.items) v.items
 chunk_lists (StructType v) = map (λ c. map (or_null (λ s. struct (items_of s.values))) c.inner.cells.items) v.items
 chunk_lists (Null v) = map (λ n. replicate n null) v.items

@@ -6,10 +6,10 @@ ghost use Rattle.tb_value.specs.Datum.{binary, string};
 ghost use Rattle.tb_value.specs.Kind as kind;
 ghost use Rattle.tb_value.specs.Typed.{HasType};
 ghost use Rattle.tb_chunk.specs.Chunk.{or_null};
+ghost use Rattle.tb_chunk.specs.ChunkTexts.{bytes_of, texts_of};
 ghost use Rattle.tb_chunk.specs.Layout.{begun, built, with_row, with_rows};
-ghost use Rattle.tb_chunk.specs.View.{texts};
 
-use crate::chunk::StringChunk;
+use crate::chunk::{Chunk, StringChunk};
 use crate::owned_chunks::BinaryChunk;
 use crate::view_builder::ViewBuilder;
 use std::alloc::Global;
@@ -88,9 +88,9 @@ impl StringBuilder {
 
     /// The chunk of the rows, each of which is of type String.
     pub fn finish(self, alloc: Global) -> Result<StringChunk, OutOfMemory>
-        ensures texts { IfOk result (λ c. texts c.inner.buffers.items c.inner.views.items ≡ self.rows) }
-        ensures views { IfOk result (λ c. c.inner.views.items ≡ self.views) }
-        ensures buffers { IfOk result (λ c. c.inner.buffers.items ≡ begun self.laid) }
+        ensures texts { IfOk result (λ c. texts_of c ≡ self.rows) }
+        ensures views { IfOk result (λ c. ⟦<StringChunk as Chunk>⟧.views c ≡ self.views) }
+        ensures buffers { IfOk result (λ c. ⟦<StringChunk as Chunk>⟧.buffers c ≡ begun self.laid) }
         ensures typed { All (HasType kind.string) (map (or_null string) self.rows) }
     {
         let StringBuilder { inner } = self;
@@ -162,9 +162,9 @@ impl BinaryBuilder {
 
     /// The chunk of the rows, each of which is of type Binary.
     pub fn finish(self, alloc: Global) -> Result<BinaryChunk, OutOfMemory>
-        ensures bytes { IfOk result (λ c. texts c.inner.buffers.items c.inner.views.items ≡ self.rows) }
-        ensures views { IfOk result (λ c. c.inner.views.items ≡ self.views) }
-        ensures buffers { IfOk result (λ c. c.inner.buffers.items ≡ begun self.laid) }
+        ensures bytes { IfOk result (λ c. bytes_of c ≡ self.rows) }
+        ensures views { IfOk result (λ c. ⟦<BinaryChunk as Chunk>⟧.views c ≡ self.views) }
+        ensures buffers { IfOk result (λ c. ⟦<BinaryChunk as Chunk>⟧.buffers c ≡ begun self.laid) }
         ensures typed { All (HasType kind.binary) (map (or_null binary) self.rows) }
     {
         let BinaryBuilder { inner } = self;

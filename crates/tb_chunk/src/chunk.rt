@@ -1,18 +1,16 @@
 //! A run of values of a column.
 ghost use Rattle.std.specs.Prelude.{◌≡◌, ◌<◌, ◌^◌, ◌++◌, ◌∷◌, [], IfOk, IfSome, OnOk, OnErr, None, is_none, length, get_or, map, replicate, take, drop};
 ghost use Rattle.std.specs.List.{All, count_by};
-ghost use Rattle.std.specs.Option.{option_map};
 ghost use Rattle.tb_value.specs.Datum.{Datum, null, string};
 ghost use Rattle.tb_value.specs.Kind as kinds;
 ghost use Rattle.tb_value.specs.See.{data_of, datum, lent, IsText};
 ghost use Rattle.tb_chunk.specs.Chunk.{or_null};
 ghost use Rattle.tb_chunk.specs.Fits.{Fits};
 ghost use Rattle.tb_chunk.specs.Flag.{nulls};
-ghost use Rattle.tb_chunk.specs.Held.{Holds};
-ghost use Rattle.tb_chunk.specs.Moved.{moved};
+ghost use Rattle.tb_chunk.specs.Held.{StandsAt};
+ghost use Rattle.tb_chunk.specs.Moved.{placed_at, used_buffer};
 ghost use Rattle.tb_chunk.specs.Fresh.{fresh_run};
 ghost use Rattle.tb_chunk.specs.Texts.{IsUtf8Row};
-ghost use Rattle.tb_chunk.specs.Used.{placed_at, used_buffer, StandsAt};
 ghost use Rattle.tb_chunk.specs.View.{texts};
 ghost use Rattle.std.proofs.Common.{arith, rules};
 ghost use Rattle.std.proofs.Props.{props};
@@ -83,16 +81,6 @@ pub trait Chunk: Drop {
         ensures views { IfOk result (λ c. views c ≡ []) }
         ensures buffers { IfOk result (λ c. buffers c ≡ []) };
 
-    /// Takes up the buffers of another chunk behind its own, before there is a value, and gives the
-    /// number of the first. No byte is copied.
-    fn add_buffers(&mut self, alloc: Global, other: &Self) -> Result<u32, OutOfMemory>
-        requires none { shown self.old ≡ [] }
-        ensures number { IfOk result (λ n. n ≡ length (buffers self.old)) }
-        ensures shown { IfOk result (λ n. shown self.new ≡ []) }
-        ensures views { views self.new ≡ views self.old }
-        ensures buffers { IfOk result (λ n. buffers self.new ≡ buffers self.old ++ buffers other.now) }
-        ensures few { IfOk result (λ n. length (buffers self.new) < 2 ^ 32) };
-
     /// The number of the buffer that the long text of a row lies in, none where the value has none.
     fn long_buffer(&self, row: usize) -> Option<u32>
         requires { row < length (shown self.now) }
@@ -108,32 +96,13 @@ pub trait Chunk: Drop {
         ensures buffers { OnOk result (buffers self.new ≡ buffers self.old ++ take 1 (drop number (buffers other.now))) }
         ensures err { OnErr result (buffers self.new ≡ buffers self.old) };
 
-    /// Appends a row of another chunk, whose buffers stand in this one from number `base` on. After a
-    /// refusal the chunk is as it was.
+    /// Appends a row of another chunk. The buffer of its long text stands in this one under `number`, and under its own
+    /// number where there is none. After a refusal the chunk is as it was.
     fn push_from(
         &mut self,
         alloc: Global,
         other: &Self,
-        base: u32,
-        row: usize,
-    ) -> Result<(), OutOfMemory>
-        requires room { length (shown self.old) < 2 ^ 63 }
-        requires row { row < length (shown other.now) }
-        requires held { Holds (buffers self.old) base (buffers other.now) }
-        requires few { length (buffers self.old) < 2 ^ 32 }
-        ensures ok { OnOk result (shown self.new ≡ shown self.old ++ get_or (shown other.now) row null ∷ []) }
-        ensures views { OnOk result (views self.new ≡ views self.old ++ moved base (get_or (views other.now) row None) ∷ []) }
-        ensures err { OnErr result (shown self.new ≡ shown self.old) }
-        ensures err_views { OnErr result (views self.new ≡ views self.old) }
-        ensures buffers { buffers self.new ≡ buffers self.old };
-
-    /// Appends a row of another chunk, where the buffer of its long text stands in this one under
-    /// `number`. After a refusal the chunk is as it was.
-    fn push_at(
-        &mut self,
-        alloc: Global,
-        other: &Self,
-        number: u32,
+        number: Option<u32>,
         row: usize,
     ) -> Result<(), OutOfMemory>
         requires room { length (shown self.old) < 2 ^ 63 }
@@ -225,10 +194,6 @@ impl<N: Cell> Chunk for Cells<N> {
         })
     }
 
-    fn add_buffers(&mut self, _alloc: Global, _other: &Cells<N>) -> Result<u32, OutOfMemory> {
-        Ok(0)
-    }
-
     fn long_buffer(&self, _row: usize) -> Option<u32> {
         None
     }
@@ -246,19 +211,7 @@ impl<N: Cell> Chunk for Cells<N> {
         &mut self,
         alloc: Global,
         other: &Cells<N>,
-        _base: u32,
-        row: usize,
-    ) -> Result<(), OutOfMemory> {
-        let cell = copy_cell(alloc, &other.cells[row])?;
-        self.cells.push(cell)?;
-        Ok(())
-    }
-
-    fn push_at(
-        &mut self,
-        alloc: Global,
-        other: &Cells<N>,
-        _number: u32,
+        _number: Option<u32>,
         row: usize,
     ) -> Result<(), OutOfMemory> {
         let cell = copy_cell(alloc, &other.cells[row])?;
@@ -343,10 +296,6 @@ impl Chunk for usize {
         Ok(0)
     }
 
-    fn add_buffers(&mut self, _alloc: Global, _other: &usize) -> Result<u32, OutOfMemory> {
-        Ok(0)
-    }
-
     fn long_buffer(&self, _row: usize) -> Option<u32> {
         None
     }
@@ -364,19 +313,8 @@ impl Chunk for usize {
         &mut self,
         alloc: Global,
         other: &usize,
-        _base: u32,
+        _number: Option<u32>,
         row: usize,
-    ) -> Result<(), OutOfMemory> {
-        *self += 1;
-        Ok(())
-    }
-
-    fn push_at(
-        &mut self,
-        _alloc: Global,
-        _other: &usize,
-        _number: u32,
-        _row: usize,
     ) -> Result<(), OutOfMemory> {
         *self += 1;
         Ok(())
@@ -393,16 +331,6 @@ impl Chunk for usize {
 pub struct StringChunk {
     pub(crate) inner: ViewChunk,
     ghost utf8: { All IsUtf8Row (texts inner.buffers.items inner.views.items) } by { Prim.hlevel props },
-}
-
-impl StringChunk {
-    /// The text of a row, lent; `None` is Null.
-    pub fn get(&self, row: usize) -> Option<&[u8]>
-        requires { row < length (texts self.now.inner.buffers.items self.now.inner.views.items) }
-        ensures { option_map (λ t. t.now) result ≡ get_or (texts self.now.inner.buffers.items self.now.inner.views.items) row None }
-    {
-        self.inner.get(row)
-    }
 }
 
 impl Chunk for StringChunk {
@@ -469,10 +397,6 @@ impl Chunk for StringChunk {
         })
     }
 
-    fn add_buffers(&mut self, alloc: Global, other: &StringChunk) -> Result<u32, OutOfMemory> {
-        self.inner.add_buffers(alloc, &other.inner)
-    }
-
     fn long_buffer(&self, row: usize) -> Option<u32> {
         self.inner.long_buffer(row)
     }
@@ -490,20 +414,10 @@ impl Chunk for StringChunk {
         &mut self,
         _alloc: Global,
         other: &StringChunk,
-        base: u32,
+        number: Option<u32>,
         row: usize,
     ) -> Result<(), OutOfMemory> {
-        self.inner.push_from(&other.inner, base, row)
-    }
-
-    fn push_at(
-        &mut self,
-        _alloc: Global,
-        other: &StringChunk,
-        number: u32,
-        row: usize,
-    ) -> Result<(), OutOfMemory> {
-        self.inner.push_at(&other.inner, number, row)
+        self.inner.push_from(&other.inner, number, row)
     }
 
     fn push_null(&mut self) -> Result<(), OutOfMemory> {

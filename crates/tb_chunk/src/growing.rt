@@ -1,8 +1,8 @@
 //! Chunks that take up rows of others.
-ghost use Rattle.std.specs.Prelude.{◌≡◌, ◌<◌, ◌^◌, ◌++◌, ◌∷◌, [], IfOk, OnOk, None, length, map, get_or};
+ghost use Rattle.std.specs.Prelude.{◌≡◌, ◌<◌, ◌+◌, ◌^◌, ◌++◌, ◌∷◌, [], IfOk, OnOk, None, length, map, get_or};
 ghost use Rattle.tb_value.specs.Datum.{null};
 ghost use Rattle.tb_chunk.specs.Held.{AreHeld};
-ghost use Rattle.tb_chunk.specs.Moved.{moved};
+ghost use Rattle.tb_chunk.specs.Moved.{moved, number_from};
 ghost use Rattle.tb_chunk.specs.Whole.{AreBases, all_buffers, runs_of};
 
 use crate::chunk::Chunk;
@@ -28,7 +28,8 @@ impl<C: Chunk> Growing<C> {
         let mut chunk = C::with_capacity(alloc, rows)?;
         let mut bases = Vec::with_capacity(alloc, chunks.len())?;
         for other in chunks {
-            bases.push(chunk.add_buffers(alloc, other)?)?;
+            bases.push(chunk.buffer_count() as u32)?;
+            add_buffers(alloc, &mut chunk, other)?;
         }
         Ok(Growing { chunk, bases })
     }
@@ -52,8 +53,9 @@ impl<C: Chunk> Growing<C> {
         ensures buffers { C.buffers self.new.chunk ≡ C.buffers self.old.chunk }
         ensures bases { self.new.bases.items ≡ self.old.bases.items }
     {
-        self.chunk
-            .push_from(alloc, &chunks[chunk], self.bases[chunk], row)
+        let other = &chunks[chunk];
+        let number = number_from(other, self.bases[chunk], row);
+        self.chunk.push_from(alloc, other, number, row)
     }
 
     /// Appends a Null.
@@ -74,4 +76,30 @@ impl<C: Chunk> Growing<C> {
         let Growing { chunk, bases } = self;
         chunk
     }
+}
+
+// Takes up the buffers of another chunk behind those of a chunk of no value. No byte is copied.
+fn add_buffers<C: Chunk>(alloc: Global, chunk: &mut C, other: &C) -> Result<(), OutOfMemory>
+    requires none { C.shown chunk.old ≡ [] }
+    ensures shown { C.shown chunk.new ≡ [] }
+    ensures views { C.views chunk.new ≡ C.views chunk.old }
+    ensures buffers { OnOk result (C.buffers chunk.new ≡ C.buffers chunk.old ++ C.buffers other.now) }
+{
+    for number in 0..other.buffer_count() {
+        chunk.add_buffer(alloc, other, number as u32)?;
+    }
+    Ok(())
+}
+
+// The number that the buffer of a row's text gets where those of its chunk stand from number `base` on, none where it
+// keeps its own.
+fn number_from<C: Chunk>(chunk: &C, base: u32, row: usize) -> Option<u32>
+    requires row { row < length (C.shown chunk.now) }
+    requires fits { base + length (C.buffers chunk.now) < 2 ^ 32 }
+    ensures { result ≡ number_from base (get_or (C.views chunk.now) row None) }
+{
+    if base == 0 {
+        return None;
+    }
+    Some(base + chunk.long_buffer(row)?)
 }

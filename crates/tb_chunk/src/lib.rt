@@ -38,4 +38,3 @@ pub use row_number::RowNumber;
 pub use slicing::slice_offsets;
 pub use stored::Stored;
 pub use view::View;
-pub use view_chunk::ViewChunk;

@@ -1,6 +1,5 @@
 //! Runs of bytes, of lists and of structs.
-ghost use Rattle.std.specs.Prelude.{◌≡◌, ◌<◌, [], None, get_or, length, map};
-ghost use Rattle.std.specs.Option.{option_map};
+ghost use Rattle.std.specs.Prelude.{◌<◌, [], None, map};
 ghost use Rattle.std.proofs.Common.{arith, rules};
 ghost use Rattle.std.proofs.lemmas.List.{length-map, length-replicate};
 ghost use Rattle.tb_value.specs.Datum.{binary, list, struct, items_of};
@@ -18,16 +17,6 @@ use tb_value::{AnyValue, OutOfMemory, ValueRef, Values};
 #[derive(Drop)]
 pub struct BinaryChunk {
     pub(crate) inner: ViewChunk,
-}
-
-impl BinaryChunk {
-    /// The bytes of a row, lent; `None` is Null.
-    pub fn get(&self, row: usize) -> Option<&[u8]>
-        requires { row < length (texts self.now.inner.buffers.items self.now.inner.views.items) }
-        ensures { option_map (λ t. t.now) result ≡ get_or (texts self.now.inner.buffers.items self.now.inner.views.items) row None }
-    {
-        self.inner.get(row)
-    }
 }
 
 impl Chunk for BinaryChunk {
@@ -86,10 +75,6 @@ impl Chunk for BinaryChunk {
         })
     }
 
-    fn add_buffers(&mut self, alloc: Global, other: &BinaryChunk) -> Result<u32, OutOfMemory> {
-        self.inner.add_buffers(alloc, &other.inner)
-    }
-
     fn long_buffer(&self, row: usize) -> Option<u32> {
         self.inner.long_buffer(row)
     }
@@ -107,20 +92,10 @@ impl Chunk for BinaryChunk {
         &mut self,
         _alloc: Global,
         other: &BinaryChunk,
-        base: u32,
+        number: Option<u32>,
         row: usize,
     ) -> Result<(), OutOfMemory> {
-        self.inner.push_from(&other.inner, base, row)
-    }
-
-    fn push_at(
-        &mut self,
-        _alloc: Global,
-        other: &BinaryChunk,
-        number: u32,
-        row: usize,
-    ) -> Result<(), OutOfMemory> {
-        self.inner.push_at(&other.inner, number, row)
+        self.inner.push_from(&other.inner, number, row)
     }
 
     fn push_null(&mut self) -> Result<(), OutOfMemory> {
@@ -187,10 +162,6 @@ impl Chunk for ListChunk {
         })
     }
 
-    fn add_buffers(&mut self, _alloc: Global, _other: &ListChunk) -> Result<u32, OutOfMemory> {
-        Ok(0)
-    }
-
     fn long_buffer(&self, row: usize) -> Option<u32> {
         self.inner.long_buffer(row)
     }
@@ -208,20 +179,10 @@ impl Chunk for ListChunk {
         &mut self,
         alloc: Global,
         other: &ListChunk,
-        base: u32,
+        number: Option<u32>,
         row: usize,
     ) -> Result<(), OutOfMemory> {
-        self.inner.push_from(alloc, &other.inner, base, row)
-    }
-
-    fn push_at(
-        &mut self,
-        alloc: Global,
-        other: &ListChunk,
-        number: u32,
-        row: usize,
-    ) -> Result<(), OutOfMemory> {
-        self.inner.push_at(alloc, &other.inner, number, row)
+        self.inner.push_from(alloc, &other.inner, number, row)
     }
 
     fn push_null(&mut self) -> Result<(), OutOfMemory> {
@@ -288,10 +249,6 @@ impl Chunk for StructChunk {
         })
     }
 
-    fn add_buffers(&mut self, _alloc: Global, _other: &StructChunk) -> Result<u32, OutOfMemory> {
-        Ok(0)
-    }
-
     fn long_buffer(&self, row: usize) -> Option<u32> {
         self.inner.long_buffer(row)
     }
@@ -309,20 +266,10 @@ impl Chunk for StructChunk {
         &mut self,
         alloc: Global,
         other: &StructChunk,
-        base: u32,
+        number: Option<u32>,
         row: usize,
     ) -> Result<(), OutOfMemory> {
-        self.inner.push_from(alloc, &other.inner, base, row)
-    }
-
-    fn push_at(
-        &mut self,
-        alloc: Global,
-        other: &StructChunk,
-        number: u32,
-        row: usize,
-    ) -> Result<(), OutOfMemory> {
-        self.inner.push_at(alloc, &other.inner, number, row)
+        self.inner.push_from(alloc, &other.inner, number, row)
     }
 
     fn push_null(&mut self) -> Result<(), OutOfMemory> {

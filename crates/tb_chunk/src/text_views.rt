@@ -1,6 +1,8 @@
-//! The views and the buffers of texts, as they are given and lent.
-ghost use Rattle.std.specs.Prelude.{◌≡◌, ◌⊎◌, ◌<◌, ◌^◌, [], All, length, slice_index_or};
+//! Texts, their views and their buffers, as they are given and lent.
+ghost use Rattle.std.specs.Prelude.{◌≡◌, ◌⊎◌, ◌<◌, ◌^◌, [], All, None, get_or, length, slice_index_or};
+ghost use Rattle.std.specs.Option.{option_map};
 ghost use Rattle.tb_value.specs.Kind as kind;
+ghost use Rattle.tb_chunk.specs.ChunkTexts.{bytes_of, texts_of};
 ghost use Rattle.tb_chunk.specs.Runs.{chunk_runs};
 ghost use Rattle.tb_chunk.specs.Seen.{chunk_lists, storage};
 ghost use Rattle.tb_chunk.specs.Texts.{IsUtf8Row};
@@ -8,7 +10,7 @@ ghost use Rattle.tb_chunk.specs.TextValues.{text_values};
 ghost use Rattle.tb_chunk.specs.View.{texts, IsViewOrNone};
 ghost use Rattle.tb_chunk.specs.Whole.{run_at};
 
-use crate::chunk::StringChunk;
+use crate::chunk::{Chunk, StringChunk};
 use crate::chunks::Chunks;
 use crate::owned_chunks::BinaryChunk;
 use crate::view::View;
@@ -21,25 +23,33 @@ impl StringChunk {
         requires formed { All (IsViewOrNone buffers.items) views.items }
         requires few { length buffers.items < 2 ^ 32 }
         requires utf8 { All IsUtf8Row (texts buffers.items views.items) }
-        ensures views { result.inner.views.items ≡ views.items }
-        ensures buffers { result.inner.buffers.items ≡ buffers.items }
+        ensures views { ⟦<StringChunk as Chunk>⟧.views result ≡ views.items }
+        ensures buffers { ⟦<StringChunk as Chunk>⟧.buffers result ≡ buffers.items }
     {
         StringChunk {
             inner: ViewChunk { views, buffers },
         }
     }
 
+    /// The text of a row, lent; `None` is Null.
+    pub fn get(&self, row: usize) -> Option<&[u8]>
+        requires { row < length (texts_of self.now) }
+        ensures { option_map (λ t. t.now) result ≡ get_or (texts_of self.now) row None }
+    {
+        self.inner.get(row)
+    }
+
     /// The view of each row, none where it is Null.
     pub fn views(&self) -> &[Option<View>]
-        ensures views { result.now ≡ self.now.inner.views.items }
-        ensures formed { All (IsViewOrNone self.now.inner.buffers.items) result.now }
+        ensures views { result.now ≡ ⟦<StringChunk as Chunk>⟧.views self.now }
+        ensures formed { All (IsViewOrNone (⟦<StringChunk as Chunk>⟧.buffers self.now)) result.now }
     {
         self.inner.views()
     }
 
     /// The buffers that the views stand over.
     pub fn buffers(&self) -> &[Bytes]
-        ensures { result.now ≡ self.now.inner.buffers.items }
+        ensures { result.now ≡ ⟦<StringChunk as Chunk>⟧.buffers self.now }
     {
         self.inner.buffers()
     }
@@ -50,25 +60,33 @@ impl BinaryChunk {
     pub fn from_views(views: Vec<Option<View>>, buffers: Vec<Bytes>) -> BinaryChunk
         requires formed { All (IsViewOrNone buffers.items) views.items }
         requires few { length buffers.items < 2 ^ 32 }
-        ensures views { result.inner.views.items ≡ views.items }
-        ensures buffers { result.inner.buffers.items ≡ buffers.items }
+        ensures views { ⟦<BinaryChunk as Chunk>⟧.views result ≡ views.items }
+        ensures buffers { ⟦<BinaryChunk as Chunk>⟧.buffers result ≡ buffers.items }
     {
         BinaryChunk {
             inner: ViewChunk { views, buffers },
         }
     }
 
+    /// The bytes of a row, lent; `None` is Null.
+    pub fn get(&self, row: usize) -> Option<&[u8]>
+        requires { row < length (bytes_of self.now) }
+        ensures { option_map (λ t. t.now) result ≡ get_or (bytes_of self.now) row None }
+    {
+        self.inner.get(row)
+    }
+
     /// The view of each row, none where it is Null.
     pub fn views(&self) -> &[Option<View>]
-        ensures views { result.now ≡ self.now.inner.views.items }
-        ensures formed { All (IsViewOrNone self.now.inner.buffers.items) result.now }
+        ensures views { result.now ≡ ⟦<BinaryChunk as Chunk>⟧.views self.now }
+        ensures formed { All (IsViewOrNone (⟦<BinaryChunk as Chunk>⟧.buffers self.now)) result.now }
     {
         self.inner.views()
     }
 
     /// The buffers that the views stand over.
     pub fn buffers(&self) -> &[Bytes]
-        ensures { result.now ≡ self.now.inner.buffers.items }
+        ensures { result.now ≡ ⟦<BinaryChunk as Chunk>⟧.buffers self.now }
     {
         self.inner.buffers()
     }

@@ -1,11 +1,10 @@
 //! Runs of optional texts.
-ghost use Rattle.std.specs.Prelude.{◌≡◌, ◌<◌, ◌≤◌, ◌+◌, ◌^◌, ◌∷◌, ◌++◌, [], All, IfOk, IfSome, OnOk, OnErr, None, is_none, length, slice_index_or, take, drop};
+ghost use Rattle.std.specs.Prelude.{◌≡◌, ◌<◌, ◌^◌, ◌∷◌, ◌++◌, [], All, IfOk, IfSome, OnOk, OnErr, None, is_none, length, slice_index_or, take, drop};
 ghost use Rattle.std.proofs.Props.{props};
 ghost use Rattle.std.specs.List.{count_by};
 ghost use Rattle.std.specs.Option.{option_map};
-ghost use Rattle.tb_chunk.specs.Held.{Holds};
-ghost use Rattle.tb_chunk.specs.Moved.{moved};
-ghost use Rattle.tb_chunk.specs.Used.{placed_at, used_buffer, StandsAt};
+ghost use Rattle.tb_chunk.specs.Held.{StandsAt};
+ghost use Rattle.tb_chunk.specs.Moved.{placed_at, used_buffer};
 ghost use Rattle.tb_chunk.specs.View.{texts, row_text, IsViewOrNone};
 
 use crate::view::View;
@@ -91,23 +90,6 @@ impl ViewChunk {
         Ok(ViewChunk { views, buffers })
     }
 
-    /// Takes up the buffers of another chunk behind its own, before there is a row, and gives the
-    /// number of the first.
-    pub fn add_buffers(&mut self, alloc: Global, other: &ViewChunk) -> Result<u32, OutOfMemory>
-        requires none { self.old.views.items ≡ [] }
-        ensures number { IfOk result (λ n. n ≡ length self.old.buffers.items) }
-        ensures views { self.new.views.items ≡ [] }
-        ensures buffers { IfOk result (λ n. self.new.buffers.items ≡ self.old.buffers.items ++ other.now.buffers.items) }
-        ensures few { IfOk result (λ n. length self.new.buffers.items < 2 ^ 32) }
-    {
-        let first = self.buffers.len();
-        if other.buffers.len() > u32::MAX as usize - first {
-            return Err(OutOfMemory);
-        }
-        push_buffers(alloc, &mut self.buffers, &other.buffers)?;
-        Ok(first as u32)
-    }
-
     /// Takes up the buffer of this number of another chunk behind its own, before there is a row, and none where the other has no
     /// such buffer. After a refusal the chunk is as it was.
     pub fn add_buffer(
@@ -132,26 +114,14 @@ impl ViewChunk {
         Ok(())
     }
 
-    /// Appends a row of another chunk, whose buffers stand in this one from number `base` on. After a
-    /// refusal the chunk is as it was.
-    pub fn push_from(&mut self, other: &ViewChunk, base: u32, row: usize) -> Result<(), OutOfMemory>
-        requires row { row < length other.now.views.items }
-        requires held { Holds self.old.buffers.items base other.now.buffers.items }
-        requires few { length self.old.buffers.items < 2 ^ 32 }
-        ensures ok { OnOk result (texts self.new.buffers.items self.new.views.items ≡ texts self.old.buffers.items self.old.views.items
-            ++ slice_index_or (texts other.now.buffers.items other.now.views.items) row None ∷ []) }
-        ensures views { OnOk result (self.new.views.items ≡ self.old.views.items ++ moved base (slice_index_or other.now.views.items row None) ∷ []) }
-        ensures err { OnErr result (self.new.views.items ≡ self.old.views.items) }
-        ensures buffers { self.new.buffers.items ≡ self.old.buffers.items }
-    {
-        let view = view_over(&other.views[row], base, &other.buffers, &self.buffers);
-        self.views.push(view)?;
-        Ok(())
-    }
-
-    /// Appends a row of another chunk, where the buffer of its long text stands in this one under
-    /// `number`. After a refusal the chunk is as it was.
-    pub fn push_at(&mut self, other: &ViewChunk, number: u32, row: usize) -> Result<(), OutOfMemory>
+    /// Appends a row of another chunk. The buffer of its long text stands in this one under `number`, and under its own
+    /// number where there is none. After a refusal the chunk is as it was.
+    pub fn push_from(
+        &mut self,
+        other: &ViewChunk,
+        number: Option<u32>,
+        row: usize,
+    ) -> Result<(), OutOfMemory>
         requires row { row < length other.now.views.items }
         requires held { StandsAt self.old.buffers.items number other.now.buffers.items (slice_index_or other.now.views.items row None) }
         ensures ok { OnOk result (texts self.new.buffers.items self.new.views.items ≡ texts self.old.buffers.items self.old.views.items
@@ -187,44 +157,21 @@ fn copy_buffers(alloc: Global, buffers: &[Bytes]) -> Result<Vec<Bytes>, OutOfMem
     Ok(copies)
 }
 
-fn push_buffers(alloc: Global, buffers: &mut Vec<Bytes>, more: &[Bytes]) -> Result<(), OutOfMemory>
-    ensures ok { OnOk result (buffers.new.items ≡ buffers.old.items ++ more.now) }
-    ensures few { length buffers.new.items ≤ length buffers.old.items + length more.now }
-{
-    buffers.reserve(more.len())?;
-    for buffer in more {
-        buffers.push(buffer.copy(alloc)?)?;
-    }
-    Ok(())
-}
-
-// The view of the same text where its buffers stand among all from number `base` on.
-fn view_over(view: &Option<View>, base: u32, buffers: &[Bytes], all: &[Bytes]) -> Option<View>
-    requires view { IsViewOrNone buffers.now view.now }
-    requires held { Holds all.now base buffers.now }
-    requires few { length all.now < 2 ^ 32 }
-    ensures view { IsViewOrNone all.now result }
-    ensures text { row_text all.now result ≡ row_text buffers.now view.now }
-    ensures moved { result ≡ moved base view.now }
-{
-    match view {
-        Some(view) if base > 0 && view.length > 12 => {
-            Some(view.renumbered(base + view.buffer()))
-        }
-        _ => *view,
-    }
-}
-
-// The view of the same text where its buffer stands among all under this number.
-fn view_at(view: &Option<View>, number: u32, buffers: &[Bytes], all: &[Bytes]) -> Option<View>
+// The view of the same text where its buffer stands among all under this number, and under its own where there is none.
+fn view_at(
+    view: &Option<View>,
+    number: Option<u32>,
+    buffers: &[Bytes],
+    all: &[Bytes],
+) -> Option<View>
     requires view { IsViewOrNone buffers.now view.now }
     requires held { StandsAt all.now number buffers.now view.now }
     ensures view { IsViewOrNone all.now result }
     ensures text { row_text all.now result ≡ row_text buffers.now view.now }
     ensures placed { result ≡ placed_at number view.now }
 {
-    match view {
-        Some(view) if view.length > 12 => Some(view.renumbered(number)),
+    match (view, number) {
+        (Some(view), Some(number)) if view.length > 12 => Some(view.renumbered(number)),
         _ => *view,
     }
 }

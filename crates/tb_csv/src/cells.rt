@@ -7,7 +7,6 @@ ghost use Rattle.tb_value.specs.Kind as kind;
 ghost use Rattle.tb_value.specs.Typed.{HasType};
 ghost use Rattle.tb_chunk.specs.Chunk.{or_null};
 ghost use Rattle.tb_chunk.specs.Seen.{chunk_lists, storage};
-ghost use Rattle.tb_chunk.specs.View.{texts};
 ghost use Rattle.tb_csv.specs.Faults.{Settles, column_fault};
 ghost use Rattle.tb_chunk.specs.Col.{physical};
 ghost use Rattle.tb_csv.specs.Read.{lent_field, lent_fields};
@@ -88,9 +87,9 @@ fn texts_of(
     fields: &[Option<&str>],
 ) -> Result<StringChunk, CsvFault>
     ensures settles { Settles result (column_fault name.now FieldType.String 1 (lent_fields fields.now)) }
-    ensures texts { IfOk result (λ c. map (or_null string) (texts c.inner.buffers.items c.inner.views.items)
+    ensures texts { IfOk result (λ c. ⟦<StringChunk as Chunk>⟧.shown c
         ≡ map (cell_of FieldType.String) (lent_fields fields.now)) }
-    ensures typed { IfOk result (λ c. All (HasType kind.string) (map (or_null string) (texts c.inner.buffers.items c.inner.views.items))) }
+    ensures typed { IfOk result (λ c. All (HasType kind.string) (⟦<StringChunk as Chunk>⟧.shown c)) }
 {
     let mut builder = StringBuilder::with_capacity(alloc, fields.len())?;
     for i in 0..fields.len() {

@@ -1,18 +1,15 @@
 -- Operations on the table of a text.
-use Rattle.std.proofs.Common.{◌≡◌, ◌<◌, ◌^◌, ℕ, List, ◌∷◌, length, Option, None, Result, IfOk, subst}
+use Rattle.std.proofs.Common.{◌≡◌, ℕ, List, ◌∷◌, Option, None, Result, IfOk, subst}
 use Rattle.std.specs.Borrow.{Bor}
-use Rattle.std.specs.List.{All}
 use Rattle.std.specs.Option.{option_copied}
 use Rattle.std.specs.declared.vec.Vec.{Vec}
 use Rattle.std.specs.declared.alloc.Global.{Global}
-use Rattle.std.proofs.lemmas.List.Elements.{All-map}
 use Rattle.tb_value.specs.Names.{Name}
 use Rattle.tb_value.specs.Refusals as causes
 use Rattle.tb_value.specs.declared.error.PolarsError.{PolarsError}
 use Rattle.tb_chunk.specs.Col.{Col}
-use Rattle.tb_frame.specs.Table.{Table, TableColumn, plain, table_of}
+use Rattle.tb_frame.specs.Table.{Table, table_of}
 use Rattle.tb_csv.specs.declared.options.CsvOptions.{CsvOptions}
-use Rattle.tb_unpivot.specs.Unpivot.{HasShortNames}
 use Rattle.tb_dummies.specs.Dummies.{dummies_refusal, dummies_table, separator_or}
 use Rattle.tb_dummies.specs.Dummies as marked
 use Rattle.tb_dummies.specs.Lent as lent
@@ -46,12 +43,6 @@ pub read_answer : {E : Type 0} (form : TextForm) (options : CsvOptions) (text : 
     → IfOk result (λ v. v.items ≡ text_in form options.separator (answer table)) → IfOk result (λ v. v.items ≡ text_in form options.separator (answer (table_in options text)))
 read_answer form options text table answer result is given =
     subst (λ (t : Table). IfOk result (λ v. v.items ≡ text_in form options.separator (answer t))) is given
-
--- ---- names that are short
-
-pub names_short : (cs : List Col) → All (λ (c : Col). length c.name < 2 ^ 32) cs → HasShortNames (table_of cs)
-names_short cs short =
-    All-map (λ (n : Name). length n < 2 ^ 32) (λ (c : TableColumn). c.name) (table_of cs) (All-map (λ (c : TableColumn). length c.name < 2 ^ 32) plain cs short)
 
 -- ---- dummies
 

@@ -1,8 +1,6 @@
 //! The operations over texts.
-ghost use Rattle.std.specs.Prelude.{◌≡◌, ◌↔◌, ◌<◌, IfOk, IsTrue, length, option_map};
-ghost use Rattle.std.specs.List.{All};
+ghost use Rattle.std.specs.Prelude.{◌≡◌, IfOk, option_map};
 ghost use Rattle.std.specs.Option.{option_copied};
-ghost use Rattle.tb_chunk.specs.Col.{Col};
 ghost use Rattle.tb_dummies.specs.Dummies.{dummies_table};
 ghost use Rattle.tb_frame.specs.Table.{table_of};
 ghost use Rattle.tb_front.specs.Asked.{IsAnswerText, answer_faults, asked_dummies, asked_join, asked_long, asked_of, asked_wide, dummies_fault, dummies_faults, join_fault, long_of, marked_of, pivot_fault, pivot_faults, unpivot_fault, unpivot_faults, wide_of};
@@ -21,9 +19,8 @@ use tb_frame::DataFrame;
 use tb_join::DataFrameJoinOps;
 use tb_pivot::pivot_by;
 use tb_pool::Exec;
-use tb_store::Column;
 use tb_unpivot::{UnpivotArgsIR, UnpivotDF};
-use tb_value::{PlSmallStr, TOO_LONG};
+use tb_value::PlSmallStr;
 
 fn join_tables(
     rt: &(impl Threads + Sync),
@@ -72,15 +69,6 @@ pub fn join_texts(
     join_tables(rt, alloc, left, right, arguments)
 }
 
-// Whether each name is short enough to be a value. A longer one is in no text that fits in memory beside its copy.
-fn have_short_names(columns: &[Column]) -> bool
-    ensures { IsTrue result ↔ All (λ (c : Col). length c.name < TOO_LONG) columns.now }
-{
-    columns
-        .iter()
-        .all(|column| column.name().as_str().len() < TOO_LONG)
-}
-
 fn made_long(
     alloc: Global,
     table: DataFrame,
@@ -97,19 +85,15 @@ fn made_long(
         value_name,
         form,
     } = arguments;
-    if have_short_names(table.get_columns()) {
-        let args = UnpivotArgsIR {
-            on,
-            index,
-            variable_name,
-            value_name,
-        };
-        let outcome = table.unpivot2(alloc, args);
-        drop(table);
-        written(alloc, form, options.separator, outcome)
-    } else {
-        Err(FrontFault::OutOfMemory)
-    }
+    let args = UnpivotArgsIR {
+        on,
+        index,
+        variable_name,
+        value_name,
+    };
+    let outcome = table.unpivot2(alloc, args);
+    drop(table);
+    written(alloc, form, options.separator, outcome)
 }
 
 /// Makes the table long that a text of comma-separated values is.

@@ -1,13 +1,14 @@
 -- The rows that ids name, over the buffers that their texts lie in.
-use Rattle.std.proofs.Common.{arith, ◌≡◌, ◌∙◌, ◌<◌, ℕ, zero, suc, List, [], ◌∷◌, ◌++◌, length, map, get_or, take, drop, ap, sym, refl, Option, Some, None, Contains, append-nil, subst, ◌+◌, ◌&&◌, Bool, true, false, lt-ltb, ltb-true}
+use Rattle.std.proofs.Common.{arith, ◌≡◌, ◌∙◌, ◌<◌, ℕ, zero, suc, List, [], ◌∷◌, ◌++◌, length, map, get_or, take, ap, sym, refl, Option, Some, None, Contains, append-nil, subst, ◌+◌, ◌&&◌, Bool, true, false, lt-ltb, ltb-true}
 use Rattle.std.specs.Prelude.{if◌then◌else◌, IfSome, filter_map, nat_lt}
-use Rattle.std.specs.List.{cons_option}
+use Rattle.std.specs.List.{cons_option, position_or_len}
 use Rattle.std.proofs.lemmas.Option.{IfSome_then}
 use Rattle.std.proofs.lemmas.List.Elements.{filter_map-append}
 use Rattle.indexmap.specs.IndexSet.{insert_key}
 use Rattle.std.proofs.lemmas.List.{get_or-map, length-map, take_more}
 use Rattle.tb_value.specs.Datum.{Datum, null}
-use Rattle.tb_chunk.specs.Used.{StandsAt, used_buffer}
+use Rattle.tb_chunk.specs.Held.{StandsAt}
+use Rattle.tb_chunk.specs.Moved.{used_buffer}
 use Rattle.tb_chunk.specs.Whole.{ViewRun, picked_of, run_at, runs_of, whole}
 use Rattle.tb_chunk.specs.declared.view.View.{View}
 use Rattle.tb_frame.specs.Frame.{lengths}
@@ -16,7 +17,7 @@ use Rattle.tb_gather.specs.Ids.{Id, NamesRow, row_or_none}
 use Rattle.tb_gather.specs.Kept.{Place, buffer_at, each_once, kept_buffers, kept_run, number_in, place_of, same_place, used_places, used_run, view_named}
 use Rattle.tb_gather.specs.declared.keep.Keep.TheVariants.{Used}
 use Rattle.tb_gather.proofs.Naming.{value-at}
-use Rattle.tb_gather.proofs.Places.{Contains-gathered, Contains-once, at-number, number-low, once-more}
+use Rattle.tb_gather.proofs.Places.{Contains-gathered, Contains-once, at-number, number-low, number-there, once-more}
 
 -- A ROW OF A CHUNK
 
@@ -46,17 +47,20 @@ view-there views buffers cs p c low is = ap (λ (r : ViewRun). get_or r.views p.
 -- WHERE ITS TEXT LIES
 
 -- among the buffers of places, that of a place has the place's number
-stands-at : (rs : List ViewRun) (ps : List Place) (p : Place) → Contains ps p → (n : ℕ) → n ≡ number_in ps (Some p) → (n < length (map (buffer_at rs) ps)) × (get_or (map (buffer_at rs) ps) n [] ≡ buffer_at rs p)
+stands-at : (rs : List ViewRun) (ps : List Place) (p : Place) → Contains ps p → (n : ℕ) → n ≡ position_or_len (same_place p) ps → (n < length (map (buffer_at rs) ps)) × (get_or (map (buffer_at rs) ps) n [] ≡ buffer_at rs p)
 stands-at rs ps p there n is =
     let low : n < length ps = omega (arith, is, number-low ps p there) in
     (omega (arith, low, length-map ps (buffer_at rs)), get_or-map (buffer_at rs) ps n p [] low ∙ ap (buffer_at rs) (ap (λ k. get_or ps k p) is ∙ at-number ps p p there))
 
-pub stands-there : (rs : List ViewRun) (ps : List Place) (all : List (List ℕ)) (p : ℕ × ℕ) (n : ℕ) → all ≡ map (buffer_at rs) ps → IfSome (place_of rs (Some p)) (Contains ps) → n ≡ number_in ps (place_of rs (Some p)) → StandsAt all n (run_at rs p.0).buffers (view_named rs (Some p))
+pub stands-there : (rs : List ViewRun) (ps : List Place) (all : List (List ℕ)) (p : ℕ × ℕ) (n : Option ℕ) → all ≡ map (buffer_at rs) ps → IfSome (place_of rs (Some p)) (Contains ps) → n ≡ number_in ps (place_of rs (Some p)) → StandsAt all n (run_at rs p.0).buffers (view_named rs (Some p))
 stands-there rs ps all p n held used is = by (used_buffer (view_named rs (Some p))) refl
   where
     by : (u : Option ℕ) → used_buffer (view_named rs (Some p)) ≡ u → StandsAt all n (run_at rs p.0).buffers (view_named rs (Some p))
     by None e = rw e tt
-    by (Some b) e = rw (e, held) (stands-at rs ps (p.0, b) (rw e at used) n (rw e at is))
+    by (Some b) e =
+        let there : Contains ps (p.0, b) = rw e at used in
+        let number : n ≡ Some (position_or_len (same_place (p.0, b)) ps) = (rw e at is) ∙ number-there ps (p.0, b) there in
+        rw (e, held, number) (λ low. stands-at rs ps (p.0, b) there (position_or_len (same_place (p.0, b)) ps) refl)
 
 -- ONE MORE ID
 

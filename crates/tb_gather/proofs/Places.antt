@@ -3,7 +3,6 @@ use Rattle.std.proofs.Common.{arith, ◌≡◌, ◌∙◌, ◌≤◌, ◌<◌, �
 use Rattle.std.specs.Prelude.{if◌then◌else◌, filter, filter_map, IfSome, nat_eq}
 use Rattle.std.specs.Bool.{Decides}
 use Rattle.std.specs.List.{All, list_any, position, position_or_len}
-use Rattle.std.specs.Option.{unwrap_or}
 use Rattle.std.proofs.lemmas.List.Elements.{All-push, All-same, Contains-append_right, Contains-get_or, filter-append}
 use Rattle.std.proofs.lemmas.Option.{IfSome_then}
 use Rattle.std.proofs.lemmas.List.Sums.{fails_before_first, passes_at_first}
@@ -13,7 +12,7 @@ use Rattle.std.proofs.lemmas.Bool.Decides.{Decides-eqb}
 use Rattle.indexmap.specs.IndexSet.{insert_key}
 use Rattle.indexmap.proofs.CallerLemmas.{Contains-list_any}
 use Rattle.tb_value.specs.Proved.ValueTests.{from_decides}
-use Rattle.tb_gather.specs.Kept.{Place, each_once, number_in, same_place}
+use Rattle.tb_gather.specs.Kept.{Place, each_once, same_place}
 
 both_true : (a b : Bool) → (a && b) ≡ true → (a ≡ true) × (b ≡ true)
 both_true true b h = (refl, h)
@@ -120,6 +119,9 @@ number-low ps p is = by (cases_lt (position_or_len (same_place p) ps) (length ps
         let fails : same_place p p ≡ false = ap (same_place p) (sym is.2) ∙ fails_before_first (same_place p) ps is.0 p (omega (arith, is.1, high)) in
         absurd (true≢false (sym ((same_place-Decides p p).1 refl) ∙ fails))
 
+pub number-there : (ps : List Place) (p : Place) → Contains ps p → position (same_place p) ps ≡ Some (position_or_len (same_place p) ps)
+number-there ps p is = ap (λ b. cond b (Some (position_or_len (same_place p) ps)) None) (lt-ltb (position_or_len (same_place p) ps) (length ps) (number-low ps p is))
+
 pub at-number : (ps : List Place) (p d : Place) → Contains ps p → get_or ps (position_or_len (same_place p) ps) d ≡ p
 at-number ps p d is = sym ((same_place-Decides p _).0 (passes_at_first (same_place p) ps d (number-low ps p is)))
 
@@ -143,13 +145,3 @@ Contains-gathered f (x ∷ xs) (suc i) d low = by (f x) refl (Contains-gathered 
     by : (o : Option Place) → f x ≡ o → IfSome (f (get_or xs i d)) (Contains (filter_map f xs)) → IfSome (f (get_or xs i d)) (Contains (filter_map f (x ∷ xs)))
     by None e h = rw e h
     by (Some p) e h = IfSome_then (f (get_or xs i d)) h (λ q is. rw e (Contains-append_right (p ∷ []) (filter_map f xs) q is))
-
--- the number that is found for a place, where there is one
-pub number-none : (ps : List Place) (o r : Option Place) (n : ℕ) → r ≡ o → r ≡ None → n ≡ 0 → n ≡ number_in ps o
-number-none ps o r n same none zeroth = zeroth ∙ ap (number_in ps) (sym none ∙ same)
-
-pub number-some : (ps : List Place) (o r : Option Place) (p : Place) (found : Option ℕ) (m n : ℕ) → r ≡ o → r ≡ Some p → IfSome o (Contains ps) → found ≡ position (same_place p) ps → m ≡ unwrap_or found 0 → n ≡ m → n ≡ number_in ps o
-number-some ps o r p found m n same some used at default is =
-    let place : o ≡ Some p = sym same ∙ some in
-    let low : position_or_len (same_place p) ps < length ps = number-low ps p (rw place at used) in
-    is ∙ default ∙ ap (λ k. unwrap_or k 0) at ∙ ap (λ b. unwrap_or (cond b (Some (position_or_len (same_place p) ps)) None) 0) (lt-ltb (position_or_len (same_place p) ps) (length ps) low) ∙ ap (number_in ps) (sym place)

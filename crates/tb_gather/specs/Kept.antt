@@ -1,8 +1,8 @@
 -- Which buffers the rows that ids name keep, and their views over them.
 use Rattle.std.specs.Prelude.{◌<◌, ◌&&◌, if◌then◌else◌, ℕ, Bool, false, not, List, [], ◌∷◌, Option, Some, None, nat_eq, nat_lt, length, map, filter, filter_map, slice_index_or}
-use Rattle.std.specs.List.{position_or_len}
+use Rattle.std.specs.List.{position}
 use Rattle.std.specs.Option.{option_map}
-use Rattle.tb_chunk.specs.Used.{placed_at, used_buffer}
+use Rattle.tb_chunk.specs.Moved.{placed_at, used_buffer}
 use Rattle.tb_chunk.specs.Whole.{ViewRun, all_buffers, picked_of, run_at, whole}
 use Rattle.tb_chunk.specs.declared.view.View.{View}
 use Rattle.tb_gather.specs.Ids.{Id, row_or_none}
@@ -43,9 +43,9 @@ abbrev pub buffer_at : List ViewRun → Place → List ℕ
 buffer_at rs p = slice_index_or (run_at rs p.0).buffers p.1 []
 
 -- the number of a place among these
-abbrev pub number_in : List Place → Option Place → ℕ
-number_in ps None = 0
-number_in ps (Some p) = position_or_len (same_place p) ps
+abbrev pub number_in : List Place → Option Place → Option ℕ
+number_in ps None = None
+number_in ps (Some p) = position (same_place p) ps
 
 -- the view of the row that an id names, over the buffers of these places
 abbrev pub view_among : List ViewRun → List Place → Id → Option View

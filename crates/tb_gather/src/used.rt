@@ -1,10 +1,10 @@
 //! Chunks made of the rows that ids name, over the buffers that their texts lie in.
 ghost use Rattle.std.specs.Prelude.{◌≡◌, ◌<◌, ◌^◌, ◌∷◌, ◌++◌, [], All, Contains, IfOk, IfSome, OnOk, length, map};
-ghost use Rattle.tb_chunk.specs.Whole.{run_at, runs_of};
+ghost use Rattle.tb_chunk.specs.Whole.{runs_of};
 ghost use Rattle.tb_frame.specs.Frame.{lengths};
 ghost use Rattle.tb_gather.specs.Gathered.{value_at};
 ghost use Rattle.tb_gather.specs.Ids.{NamesRow};
-ghost use Rattle.tb_gather.specs.Kept.{IsPlace, buffer_at, place_of, used_places, used_run, view_among};
+ghost use Rattle.tb_gather.specs.Kept.{IsPlace, buffer_at, number_in, place_of, used_places, used_run, view_among};
 
 use indexmap::IndexSet;
 use std::alloc::Global;
@@ -67,6 +67,21 @@ fn over_places<C: Chunk>(
     Ok(out)
 }
 
+// The number among these places of the buffer that a row's text lies in, none where it lies in none.
+fn number_of<C: Chunk, const B: u64>(
+    chunks: &[C],
+    places: &IndexSet<Place>,
+    id: &ChunkId<B>,
+) -> Option<u32>
+    requires named { NamesRow (lengths (map C.shown chunks.now)) id.now }
+    requires few { length places.now.keys < 2 ^ 32 }
+    ensures { result ≡ number_in places.now.keys (place_of (runs_of C.views C.buffers chunks.now) id.now) }
+{
+    let place = place_of(chunks, id)?;
+    let number = places.get_index_of(&place)?;
+    Some(number as u32)
+}
+
 // Appends the row that an id names, Null for none.
 fn push_used<C: Chunk, const B: u64>(
     alloc: Global,
@@ -87,11 +102,8 @@ fn push_used<C: Chunk, const B: u64>(
         return out.push_null();
     }
     let (chunk, row) = id.extract();
-    let number = match place_of(chunks, id) {
-        None => 0,
-        Some(place) => places.get_index_of(&place).unwrap_or(0),
-    };
-    out.push_at(alloc, &chunks[chunk as usize], number as u32, row as usize)
+    let number = number_of(chunks, places, id);
+    out.push_from(alloc, &chunks[chunk as usize], number, row as usize)
 }
 
 /// The rows that the ids name, Null for none, over the buffers that their texts lie in. It takes steps in the number of ids.

@@ -7,14 +7,13 @@ ghost use Rattle.tb_value.specs.Datum.{binary, string};
 ghost use Rattle.tb_value.specs.Kind as kind;
 ghost use Rattle.tb_value.specs.Typed.{HasType};
 ghost use Rattle.tb_chunk.specs.Chunk.{or_null};
-ghost use Rattle.tb_chunk.specs.View.{texts};
 ghost use Rattle.tb_json.specs.Lists.{each};
 ghost use Rattle.tb_json.specs.Cells.{cell_in};
 ghost use Rattle.tb_json.specs.Fresh.{IsBuilt, IsFresh};
 
 use crate::read_plain_cells::{decode_short, lent_text};
 use std::alloc::Global;
-use tb_store::{BinaryBuilder, BinaryChunk, StringBuilder, StringChunk};
+use tb_store::{BinaryBuilder, BinaryChunk, Chunk, StringBuilder, StringChunk};
 use tb_tree::Value;
 use tb_value::OutOfMemory;
 
@@ -23,12 +22,12 @@ pub(crate) fn text_chunk(
     alloc: Global,
     items: &Vec<Value>,
 ) -> Result<Option<StringChunk>, OutOfMemory>
-    ensures values { IfOk result (λ o. option_map (λ c. map (or_null string) (texts c.inner.buffers.items c.inner.views.items)) o
+    ensures values { IfOk result (λ o. option_map ⟦<StringChunk as Chunk>⟧.shown o
         ≡ each (cell_in kind.string) (map view items.now.items)) }
     ensures typed { IfOk result (λ o. IfSome o
-        (λ c. All (HasType kind.string) (map (or_null string) (texts c.inner.buffers.items c.inner.views.items)))) }
+        (λ c. All (HasType kind.string) (⟦<StringChunk as Chunk>⟧.shown c))) }
     ensures fresh { IfOk result (λ o. IfSome o
-        (λ c. IsFresh (map (or_null string) (texts c.inner.buffers.items c.inner.views.items)) c.inner.views.items c.inner.buffers.items)) }
+        (λ c. IsFresh (⟦<StringChunk as Chunk>⟧.shown c) (⟦<StringChunk as Chunk>⟧.views c) (⟦<StringChunk as Chunk>⟧.buffers c))) }
 {
     let mut builder = StringBuilder::with_capacity(alloc, items.len())?;
     for item in items {
@@ -71,12 +70,12 @@ pub(crate) fn bytes_chunk(
     alloc: Global,
     items: &Vec<Value>,
 ) -> Result<Option<BinaryChunk>, OutOfMemory>
-    ensures values { IfOk result (λ o. option_map (λ c. map (or_null binary) (texts c.inner.buffers.items c.inner.views.items)) o
+    ensures values { IfOk result (λ o. option_map ⟦<BinaryChunk as Chunk>⟧.shown o
         ≡ each (cell_in kind.binary) (map view items.now.items)) }
     ensures typed { IfOk result (λ o. IfSome o
-        (λ c. All (HasType kind.binary) (map (or_null binary) (texts c.inner.buffers.items c.inner.views.items)))) }
+        (λ c. All (HasType kind.binary) (⟦<BinaryChunk as Chunk>⟧.shown c))) }
     ensures fresh { IfOk result (λ o. IfSome o
-        (λ c. IsFresh (map (or_null binary) (texts c.inner.buffers.items c.inner.views.items)) c.inner.views.items c.inner.buffers.items)) }
+        (λ c. IsFresh (⟦<BinaryChunk as Chunk>⟧.shown c) (⟦<BinaryChunk as Chunk>⟧.views c) (⟦<BinaryChunk as Chunk>⟧.buffers c))) }
 {
     let mut builder = BinaryBuilder::with_capacity(alloc, items.len())?;
     let mut buffer = Vec::new(alloc);

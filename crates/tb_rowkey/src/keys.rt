@@ -8,23 +8,23 @@ ghost use Rattle.tb_value.specs.Typed.{HasType};
 ghost use Rattle.tb_value.specs.SeeKind.{kind_of};
 ghost use Rattle.tb_value.specs.declared.sorted.IsSorted.TheVariants.{Not};
 ghost use Rattle.tb_chunk.specs.Chunk.{or_null};
+ghost use Rattle.tb_chunk.specs.ChunkTexts.{bytes_of};
 ghost use Rattle.tb_chunk.specs.Col.{values};
 ghost use Rattle.tb_chunk.specs.Layout.{laid};
-ghost use Rattle.tb_chunk.specs.View.{texts};
 ghost use Rattle.tb_rowkey.specs.Columns.{row_count, key_column, AreShortRows};
 
 use crate::row_keys::RowKeys;
 use std::alloc::Global;
 use tb_store::{
-    BinaryBuilder, BinaryChunk, Chunks, DataType, IsSorted, MAX_ROWS, OutOfMemory, PlSmallStr,
-    Series, lend,
+    BinaryBuilder, BinaryChunk, Chunk, Chunks, DataType, IsSorted, MAX_ROWS, OutOfMemory,
+    PlSmallStr, Series, lend,
 };
 
 // The keys of all rows, copied.
 fn chunk_of(alloc: Global, keys: &RowKeys) -> Result<BinaryChunk, OutOfMemory>
-    ensures value { IfOk result (λ c. texts c.inner.buffers.items c.inner.views.items ≡ keys.now) }
-    ensures views { IfOk result (λ c. c.inner.views.items ≡ (laid keys.now).views) }
-    ensures buffers { IfOk result (λ c. c.inner.buffers.items ≡ (laid keys.now).buffers) }
+    ensures value { IfOk result (λ c. bytes_of c ≡ keys.now) }
+    ensures views { IfOk result (λ c. ⟦<BinaryChunk as Chunk>⟧.views c ≡ (laid keys.now).views) }
+    ensures buffers { IfOk result (λ c. ⟦<BinaryChunk as Chunk>⟧.buffers c ≡ (laid keys.now).buffers) }
     ensures few { length keys.now ≤ MAX_ROWS }
     ensures typed { IfOk result (λ _. All (HasType kind.binary) (map (or_null binary) keys.now)) }
 {
@@ -44,14 +44,14 @@ fn binary_type() -> DataType
 
 // The column without a name of these bytes.
 fn column_of(alloc: Global, chunk: BinaryChunk) -> Result<Series, OutOfMemory>
-    requires few { length (texts chunk.inner.buffers.items chunk.inner.views.items) ≤ MAX_ROWS }
-    requires typed { All (HasType kind.binary) (map (or_null binary) (texts chunk.inner.buffers.items chunk.inner.views.items)) }
+    requires few { length (bytes_of chunk) ≤ MAX_ROWS }
+    requires typed { All (HasType kind.binary) (⟦<BinaryChunk as Chunk>⟧.shown chunk) }
     ensures { IfOk result (λ s. s ≡ record {
       name = [];
       kind = kind.binary;
-      chunks = map (or_null binary) (texts chunk.inner.buffers.items chunk.inner.views.items) ∷ [];
+      chunks = ⟦<BinaryChunk as Chunk>⟧.shown chunk ∷ [];
       flag = Not;
-      runs = record { views = chunk.inner.views.items; buffers = chunk.inner.buffers.items } ∷ [];
+      runs = record { views = ⟦<BinaryChunk as Chunk>⟧.views chunk; buffers = ⟦<BinaryChunk as Chunk>⟧.buffers chunk } ∷ [];
     }) }
 {
     let name = PlSmallStr::from_str(alloc, "")?;

@@ -13,7 +13,6 @@ ghost use Rattle.tb_chunk.specs.Fits.{Fits};
 ghost use Rattle.tb_chunk.specs.Lent.{lent_columns};
 ghost use Rattle.tb_chunk.specs.Made.{at_least_one};
 ghost use Rattle.tb_chunk.specs.Seen.{chunk_lists, storage};
-ghost use Rattle.tb_chunk.specs.View.{texts};
 ghost use Rattle.tb_supertype.specs.Cast.{cast, cast_to, truth_number};
 ghost use Rattle.tb_supertype.specs.Columns.{cast_values, CastsTo, IsStacked};
 
@@ -116,7 +115,7 @@ fn push_cast(
 // The texts that the values of a column become.
 fn cast_texts(alloc: Global, column: &Series) -> Result<StringChunk, OutOfMemory>
     requires { All (Fits kind.string) (cast_values kind.string column.now) }
-    ensures { IfOk result (λ c. map (or_null string) (texts c.inner.buffers.items c.inner.views.items) ≡ cast_values kind.string column.now) }
+    ensures { IfOk result (λ c. ⟦<StringChunk as Chunk>⟧.shown c ≡ cast_values kind.string column.now) }
 {
     let rows = column.len();
     let mut builder = StringBuilder::with_capacity(alloc, rows)?;
@@ -149,7 +148,7 @@ fn push_bytes(
 // The bytes of a column, which stay as they are.
 fn cast_bytes(alloc: Global, column: &Series) -> Result<BinaryChunk, OutOfMemory>
     requires { All (Fits kind.binary) (cast_values kind.binary column.now) }
-    ensures { IfOk result (λ c. map (or_null binary) (texts c.inner.buffers.items c.inner.views.items) ≡ cast_values kind.binary column.now) }
+    ensures { IfOk result (λ c. ⟦<BinaryChunk as Chunk>⟧.shown c ≡ cast_values kind.binary column.now) }
 {
     let rows = column.len();
     let mut builder = BinaryBuilder::with_capacity(alloc, rows)?;

@@ -1,7 +1,7 @@
 -- A table made long: for each of some columns all rows once more, with the column's name and its value.
-use Rattle.std.specs.Prelude.{ℕ, ◌*◌, ◌<◌, ◌^◌, nat_lt, not, List, [], ◌∷◌, ◌++◌, length, map, replicate, filter, Option, Some, None, Result, Ok, Err, unwrap_or, codes}
+use Rattle.std.specs.Prelude.{ℕ, ◌*◌, nat_lt, not, List, [], ◌∷◌, ◌++◌, length, map, replicate, filter, Option, Some, None, Result, Ok, Err, unwrap_or, codes}
 use Rattle.std.specs.Option.{option_map}
-use Rattle.std.specs.List.{All, filter_map, flat_map}
+use Rattle.std.specs.List.{filter_map, flat_map}
 use Rattle.tb_value.specs.Datum.{Datum, string}
 use Rattle.tb_value.specs.Kind.{Kind}
 use Rattle.tb_value.specs.Kind as kind
@@ -111,7 +111,3 @@ table_causes (c ∷ cs) columns on index = asked_causes (c ∷ cs) columns on in
 abbrev pub unpivot_refusal : Request → Option PolarsError
 unpivot_refusal q = first_cause (first_cause (table_causes q.table (on_columns q) (on_names q.table q.on q.index) q.index)
     ∷ repeated_among (names_of (unpivot_table q)) ∷ [])
-
--- each name is short enough to be a value
-abbrev pub HasShortNames : Table → Type 0
-HasShortNames t = All (λ n. length n < 2 ^ 32) (names_of t)

@@ -5,16 +5,15 @@ ghost use Rattle.tb_value.specs.Datum.{Datum, string};
 ghost use Rattle.tb_value.specs.Kind as kind;
 ghost use Rattle.tb_value.specs.SeeKind.{kind_of};
 ghost use Rattle.tb_value.specs.Typed.{HasType};
-ghost use Rattle.tb_chunk.specs.Chunk.{or_null};
+ghost use Rattle.tb_chunk.specs.ChunkTexts.{texts_of};
 ghost use Rattle.tb_chunk.specs.Col.{Col, flat, values};
 ghost use Rattle.tb_chunk.specs.Lent.{lent_columns};
-ghost use Rattle.tb_chunk.specs.View.{texts};
 ghost use Rattle.tb_frame.specs.Table.{plain, table_of};
 ghost use Rattle.tb_supertype.specs.Columns.{CastsTo};
 ghost use Rattle.tb_unpivot.specs.Unpivot.{long_table, repeated, value_column, variable_column};
 
 use std::alloc::Global;
-use tb_store::{Chunks, Column, IsSorted, MAX_ROWS, Series, StringBuilder, StringChunk};
+use tb_store::{Chunk, Chunks, Column, IsSorted, MAX_ROWS, Series, StringBuilder, StringChunk};
 use tb_supertype::stack;
 use tb_value::{DataType, OutOfMemory, PlSmallStr};
 
@@ -70,9 +69,9 @@ fn row_count(columns: &[&Series]) -> usize {
 
 // For each value of each column the column's name. Each name is put once.
 fn name_chunk(alloc: Global, columns: &[&Series]) -> Result<StringChunk, OutOfMemory>
-    ensures names { IfOk result (λ c. map (or_null string) (texts c.inner.buffers.items c.inner.views.items)
+    ensures names { IfOk result (λ c. ⟦<StringChunk as Chunk>⟧.shown c
         ≡ flat_map (λ (c : Col). map (λ (d : Datum). string c.name) (values c)) (lent_columns columns.now)) }
-    ensures typed { IfOk result (λ c. All (HasType kind.string) (map (or_null string) (texts c.inner.buffers.items c.inner.views.items))) }
+    ensures typed { IfOk result (λ c. All (HasType kind.string) (⟦<StringChunk as Chunk>⟧.shown c)) }
 {
     let mut names = StringBuilder::with_capacity(alloc, row_count(columns))?;
     for column in columns {
@@ -89,12 +88,12 @@ fn text_type() -> DataType
 
 // The column of this name and these texts.
 fn text_column(alloc: Global, name: PlSmallStr, chunk: StringChunk) -> Result<Column, OutOfMemory>
-    requires few { length (texts chunk.inner.buffers.items chunk.inner.views.items) ≤ MAX_ROWS }
-    requires typed { All (HasType kind.string) (map (or_null string) (texts chunk.inner.buffers.items chunk.inner.views.items)) }
+    requires few { length (texts_of chunk) ≤ MAX_ROWS }
+    requires typed { All (HasType kind.string) (⟦<StringChunk as Chunk>⟧.shown chunk) }
     ensures { IfOk result (λ c. plain c ≡ record {
       name = name;
       kind = kind.string;
-      values = map (or_null string) (texts chunk.inner.buffers.items chunk.inner.views.items);
+      values = ⟦<StringChunk as Chunk>⟧.shown chunk;
     }) }
 {
     let mut chunks = Vec::with_capacity(alloc, 1)?;

@@ -2,7 +2,7 @@
 ghost use Rattle.std.specs.Prelude.{◌≡◌, IfOk, None, unwrap_or};
 ghost use Rattle.tb_value.specs.Refusals.{Settles};
 ghost use Rattle.tb_frame.specs.Table.{table_of};
-ghost use Rattle.tb_unpivot.specs.Unpivot.{HasShortNames, unpivot_refusal, unpivot_table, value_or, variable_or};
+ghost use Rattle.tb_unpivot.specs.Unpivot.{unpivot_refusal, unpivot_table, value_or, variable_or};
 
 use crate::columns::long_columns;
 use crate::lookup::{asked, on_names};
@@ -27,11 +27,11 @@ pub struct UnpivotArgsIR {
 pub trait UnpivotDF: IntoDf {
     /// For each name of `on` in turn all rows once more: the columns of `index`, the column `variable` with the name,
     /// and the column `value` with that column's value, cast to the common type of the columns of `on`. An empty `on`
-    /// means all columns outside `index`. Each column of the table must have a name of fewer than 2^32 bytes.
+    /// means all columns outside `index`.
     ///
     /// # Errors
     ///
-    /// The first of these that holds, or `OutOfMemory`; of a table without columns the last alone is looked at:
+    /// The first of these that holds, or `OutOfMemory`, which stands for a name of 2^32 bytes or more too; of a table without columns the last alone is looked at:
     /// 1. `ColumnNotFound`: a name of `on` is of no column, and then a name of `index`;
     /// 2. `Duplicate`: `index` repeats a name;
     /// 3. `NoSupertype`: a column of `on` has no type in common with those before it;
@@ -43,7 +43,6 @@ pub trait UnpivotDF: IntoDf {
         on: &[PlSmallStr],
         index: &[PlSmallStr],
     ) -> PolarsResult<DataFrame>
-        requires { HasShortNames (table_of (Self.frame self.now)) }
         ensures settles { Settles result (unpivot_refusal record {
           table = table_of (Self.frame self.now);
           on = on.now;
@@ -69,7 +68,6 @@ pub trait UnpivotDF: IntoDf {
     ///
     /// Those of `unpivot`.
     final fn unpivot2(&self, alloc: Global, args: UnpivotArgsIR) -> PolarsResult<DataFrame>
-        requires { HasShortNames (table_of (Self.frame self.now)) }
         ensures settles { Settles result (unpivot_refusal record {
           table = table_of (Self.frame self.now);
           on = args.on.items;
