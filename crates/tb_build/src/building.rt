@@ -5,12 +5,12 @@ ghost use Rattle.tb_build.specs.Plan.{codes_of, part_count, part_sizes};
 ghost use Rattle.tb_build.specs.Grouping.{between};
 ghost use Rattle.tb_build.specs.Scattering.{HasRows, IsTableOfRows};
 ghost use Rattle.tb_build.specs.TableView.{ArePartTables};
+ghost use Rattle.tb_build.specs.Packed.{flat_of};
 
-use crate::flat::{FlatTable, flat_table};
 use crate::groups::RowNames;
-use crate::hashing::KeyHashers;
 use crate::keys::{JoinKey, KeyCode};
-use crate::numbers::NumberedList;
+use crate::lent::{JoinList, KeyList};
+use crate::packed::{PackedTable, packed_table};
 use crate::phases::run_phase;
 use crate::scattering::scatter_rows;
 use std::alloc::Global;
@@ -20,17 +20,16 @@ use tb_pool::{Exec, Gate, Parts};
 use tb_value::{IdxSize, MAX_ROWS, OutOfMemory};
 
 // The one table of few keys, and its size.
-fn one_table<K: KeyCode, L: NumberedList<K>>(
+fn one_table<K: KeyCode, L: KeyList<K>>(
     alloc: Global,
     list: &L,
-) -> Result<(Vec<FlatTable<K, L::Numbers>>, Vec<usize>), OutOfMemory>
+) -> Result<(Vec<PackedTable<K>>, Vec<usize>), OutOfMemory>
     requires { length (L.list list.now) ≤ MAX_ROWS }
-    ensures tables { IfOk result (λ r. ArePartTables K.eq K.code (L.list list.now) 1 r.0.items) }
+    ensures tables { IfOk result (λ r. ArePartTables K.eq K.code (L.list list.now) 1 (map (flat_of K.eq) r.0.items)) }
     ensures sizes { IfOk result (λ r. r.1.items ≡ part_sizes (codes_of K.code (L.list list.now)) 1) }
 {
     let len = list.len();
-    let hashers = KeyHashers::of_list(list);
-    let table = flat_table(alloc, list, RowNames::From(0), len, hashers)?;
+    let table = packed_table(alloc, list, RowNames::From(0), len)?;
     let mut tables = Vec::new(alloc);
     tables.push(table)?;
     let mut sizes = Vec::new(alloc);
@@ -39,58 +38,47 @@ fn one_table<K: KeyCode, L: NumberedList<K>>(
 }
 
 // The table of the keys of one part, by the rows of all parts.
-fn part_table<K: KeyCode, L: NumberedList<K>>(
+fn part_table<K: KeyCode, L: KeyList<K>>(
     alloc: Global,
     list: &L,
     idxs: &[IdxSize],
     starts: &[usize],
     part: u32,
-    hashers: KeyHashers,
-) -> Result<FlatTable<K, L::Numbers>, OutOfMemory>
+) -> Result<PackedTable<K>, OutOfMemory>
     requires { HasRows (length (L.list list.now)) starts.now idxs.now part }
-    ensures { IfOk result (λ t. IsTableOfRows K.eq (L.list list.now) (between starts.now idxs.now part) t) }
+    ensures { IfOk result (λ t. IsTableOfRows K.eq (L.list list.now) (between starts.now idxs.now part) (flat_of K.eq t)) }
 {
     let start = starts[part as usize];
     let end = starts[part as usize + 1];
     let rows = &idxs[start..end];
-    let table = flat_table(alloc, list, RowNames::Listed(rows), rows.len(), hashers)?;
+    let table = packed_table(alloc, list, RowNames::Listed(rows), rows.len())?;
     Ok(table)
 }
 
 // Scattered rows, each part of which becomes a table.
 #[derive(Drop)]
-struct Building<'a, K: JoinKey, L: NumberedList<K>> {
+struct Building<'a, K: JoinKey, L: KeyList<K>> {
     alloc: Global,
     list: &'a L,
     idxs: &'a [IdxSize],
     starts: &'a [usize],
-    hashers: KeyHashers,
     of: PhantomData<K>,
 }
 
-impl<K: JoinKey, L: NumberedList<K> + Send + Sync> Parts for Building<'_, K, L>
-where
-    L::Numbers: Send,
-{
+impl<K: JoinKey, L: JoinList<K>> Parts for Building<'_, K, L> {
     ghost use Rattle.std.specs.Prelude.{length};
     ghost use Rattle.tb_build.specs.Grouping.{between};
     ghost use Rattle.tb_build.specs.Scattering.{HasRows, IsTableOfRows};
+    ghost use Rattle.tb_build.specs.Packed.{flat_of};
 
-    type Out = FlatTable<K, L::Numbers>;
+    type Out = PackedTable<K>;
 
     ghost may_run = { λ w part. HasRows (length (L.list w.list.now)) w.starts.now w.idxs.now part };
 
-    ghost gives = { λ w part out. IsTableOfRows K.eq (L.list w.list.now) (between w.starts.now w.idxs.now part) out };
+    ghost gives = { λ w part out. IsTableOfRows K.eq (L.list w.list.now) (between w.starts.now w.idxs.now part) (flat_of K.eq out) };
 
-    fn run(&self, part: u32) -> Result<FlatTable<K, L::Numbers>, OutOfMemory> {
-        part_table(
-            self.alloc,
-            self.list,
-            self.idxs,
-            self.starts,
-            part,
-            self.hashers,
-        )
+    fn run(&self, part: u32) -> Result<PackedTable<K>, OutOfMemory> {
+        part_table(self.alloc, self.list, self.idxs, self.starts, part)
     }
 }
 
@@ -109,17 +97,15 @@ fn sizes(alloc: Global, starts: &[usize]) -> Result<Vec<usize>, OutOfMemory>
 }
 
 // The tables of all partitions, each built as a part of one phase, and their sizes.
-fn part_tables<K: JoinKey, L: NumberedList<K> + Send + Sync, G: Gate>(
+fn part_tables<K: JoinKey, L: JoinList<K>, G: Gate>(
     rt: &(impl Threads + Sync),
     alloc: Global,
     list: &L,
     exec: &Exec,
     gate: &G,
-) -> Result<(Vec<FlatTable<K, L::Numbers>>, Vec<usize>), OutOfMemory>
-where
-    L::Numbers: Send,
+) -> Result<(Vec<PackedTable<K>>, Vec<usize>), OutOfMemory>
     requires { length (L.list list.now) ≤ MAX_ROWS }
-    ensures tables { IfOk result (λ r. ArePartTables K.eq K.code (L.list list.now) exec.now.partitions r.0.items) }
+    ensures tables { IfOk result (λ r. ArePartTables K.eq K.code (L.list list.now) exec.now.partitions (map (flat_of K.eq) r.0.items)) }
     ensures sizes { IfOk result (λ r. r.1.items ≡ part_sizes (codes_of K.code (L.list list.now)) exec.now.partitions) }
 {
     let (idxs, starts) = scatter_rows(rt, alloc, list, exec, gate)?;
@@ -128,7 +114,6 @@ where
         list,
         idxs: idxs.as_slice(),
         starts: starts.as_slice(),
-        hashers: KeyHashers::of_list(list),
         of: PhantomData,
     };
     let tables = run_phase(rt, alloc, exec, exec.partitions(), &work, gate)?;
@@ -138,18 +123,16 @@ where
 
 /// The tables of as many parts as are planned, and their sizes. One part is built on the caller, of the keys as they
 /// stand.
-pub fn planned_tables<K: JoinKey, L: NumberedList<K> + Send + Sync, G: Gate>(
+pub fn planned_tables<K: JoinKey, L: JoinList<K>, G: Gate>(
     rt: &(impl Threads + Sync),
     alloc: Global,
     list: &L,
     exec: &Exec,
     gate: &G,
-) -> Result<(Vec<FlatTable<K, L::Numbers>>, Vec<usize>), OutOfMemory>
-where
-    L::Numbers: Send,
+) -> Result<(Vec<PackedTable<K>>, Vec<usize>), OutOfMemory>
     requires { length (L.list list.now) ≤ MAX_ROWS }
     ensures count { IfOk result (λ r. (1 ≤ length r.0.items) × (length r.0.items ≤ 1024)) }
-    ensures tables { IfOk result (λ r. ArePartTables K.eq K.code (L.list list.now) (part_count exec.now (length (L.list list.now))) r.0.items) }
+    ensures tables { IfOk result (λ r. ArePartTables K.eq K.code (L.list list.now) (part_count exec.now (length (L.list list.now))) (map (flat_of K.eq) r.0.items)) }
     ensures sizes { IfOk result (λ r. r.1.items ≡ part_sizes (codes_of K.code (L.list list.now)) (part_count exec.now (length (L.list list.now)))) }
 {
     if list.len() < exec.small() as usize || exec.partitions() == 1 {

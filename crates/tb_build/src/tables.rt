@@ -1,17 +1,16 @@
 //! The tables of the built keys: for each key its rows.
-ghost use Rattle.std.specs.Prelude.{◌≡◌, ◌<◌, ◌≤◌, None, length, slice_index_or, All, IfOk, Option};
+ghost use Rattle.std.specs.Prelude.{◌≡◌, ℕ, Bool, ◌+◌, ◌^◌, ◌<◌, ◌≤◌, None, length, map, slice_index_or, All, IfOk, Option};
 ghost use Rattle.tb_build.specs.Codes.{part_of};
 ghost use Rattle.tb_build.specs.Plan.{codes_of, plan_of};
-ghost use Rattle.tb_build.specs.TableView.{rows_at, IsParted, IsTableOf};
+ghost use Rattle.tb_build.specs.TableView.{rows_at, tables_view, IsParted, IsTableOf};
+ghost use Rattle.tb_build.specs.Packed.{cut_of, flat_of, starts_at, AreAsked, IsAsked};
+ghost use Rattle.std.specs.List.{range_with_len};
 
 use crate::building::planned_tables;
-use crate::flat::FlatTable;
-use crate::hashing::KeyHashers;
-use crate::keys::{JoinKey, KeyCode, partition_of};
-use crate::lent::{KeyList, SliceKeys};
-use crate::numbers::{KeyNumbers, NumberedList};
+use crate::keys::{JoinKey, KeyCode, code_of, partition_of};
+use crate::lent::{JoinList, KeyList, SliceKeys};
+use crate::packed::PackedTable;
 use std::alloc::Global;
-use std::collections::HashMap;
 use std::marker::Model;
 use std::thread::Threads;
 use tb_pool::{Exec, Gate};
@@ -20,24 +19,26 @@ use tb_value::{IdxSize, MAX_ROWS, OutOfMemory};
 /// The rows of each of the built keys, one table for each part of them. `numbered_tables`
 /// alone makes one.
 #[derive(Drop)]
-pub struct Tables<K: KeyCode, N: KeyNumbers<K> = HashMap<K, u32, KeyHashers>> {
-    parts: Vec<FlatTable<K, N>>,
+pub struct Tables<K: KeyCode> {
+    parts: Vec<PackedTable<K>>,
     built_len: usize,
     join_nulls: bool,
     left_built: bool,
 }
 
-impl<K: KeyCode, N: KeyNumbers<K>> Model for Tables<K, N> {
+impl<K: KeyCode> Model for Tables<K> {
+    ghost use Rattle.std.specs.Prelude.{map};
+    ghost use Rattle.tb_build.specs.Packed.{flat_of};
     ghost use Rattle.tb_build.specs.TableView.{TableView, IsSmall, tables_view};
 
     ghost Value = { TableView K };
 
-    ghost view = { λ t. tables_view t.parts.items t.built_len t.join_nulls t.left_built };
+    ghost view = { λ t. tables_view (map (flat_of K.eq) t.parts.items) t.built_len t.join_nulls t.left_built };
 
-    ghost invariant = { λ t. IsSmall K.eq K.code (tables_view t.parts.items t.built_len t.join_nulls t.left_built) };
+    ghost invariant = { λ t. IsSmall K.eq K.code (tables_view (map (flat_of K.eq) t.parts.items) t.built_len t.join_nulls t.left_built) };
 }
 
-impl<K: KeyCode, N: KeyNumbers<K>> Tables<K, N> {
+impl<K: KeyCode> Tables<K> {
     /// The rows of the equal keys, ascending. Of no key, the rows without one where absent keys match, else none.
     pub fn rows(&self, key: Option<K>) -> &[IdxSize]
         ensures value { result.now ≡ rows_at K.eq K.code self.now key }
@@ -60,6 +61,31 @@ impl<K: KeyCode, N: KeyNumbers<K>> Tables<K, N> {
         ensures below { All (λ row. row < self.now.built_len) result.now }
     {
         self.rows(list.key(row))
+    }
+
+    /// The rows of the keys that are equal to those of so many rows of a list from the first on, as `rows` gives them. They
+    /// are looked up together: all buckets, all their bounds, and then the keys in them, so that the processor waits for
+    /// many reads at once.
+    pub fn rows_of_many<'a, L: KeyList<K>>(
+        &'a self,
+        alloc: Global,
+        list: &L,
+        first: usize,
+        len: usize,
+    ) -> Result<Vec<&'a [IdxSize]>, OutOfMemory>
+        requires within { first + len ≤ length (L.list list.now) }
+        requires small { length (L.list list.now) ≤ MAX_ROWS }
+        ensures { IfOk result (λ v. map (λ r. r.now) v.items
+            ≡ map (λ row. rows_at K.eq K.code self.now (slice_index_or (L.list list.now) row None)) (range_with_len first len)) }
+    {
+        let parts = self.parts.as_slice();
+        let asked = asked(alloc, parts, list, first, len)?;
+        let bounds = bounds(alloc, parts, asked.as_slice())?;
+        let mut found = Vec::with_capacity(alloc, len)?;
+        for place in 0..len {
+            found.push(rows_asked(parts, self.join_nulls, asked[place], bounds[place]))?;
+        }
+        Ok(found)
     }
 
     /// The number of the built keys, absent ones too.
@@ -89,6 +115,68 @@ fn part_in<K: KeyCode>(key: K, parts: u32) -> u32
         return 0;
     }
     partition_of(key.code(), parts)
+}
+
+// The key of each of so many rows from the first on, its part and its bucket there.
+fn asked<K: KeyCode, L: KeyList<K>>(
+    alloc: Global,
+    parts: &[PackedTable<K>],
+    list: &L,
+    first: usize,
+    len: usize,
+) -> Result<Vec<(Option<K>, u32, u32)>, OutOfMemory>
+    requires some { 1 ≤ length parts.now }
+    requires few { length parts.now < 2 ^ 32 }
+    requires within { first + len ≤ length (L.list list.now) }
+    requires small { length (L.list list.now) ≤ MAX_ROWS }
+    ensures { IfOk result (λ v. AreAsked K.eq K.code parts.now (L.list list.now) first len v.items) }
+{
+    let many = parts.len() as u32;
+    let mut asked = Vec::with_capacity(alloc, len)?;
+    for place in 0..len {
+        let key = list.key(first + place);
+        let code = code_of(key);
+        let part = partition_of(code, many);
+        let bucket = parts[part as usize].bucket(code);
+        asked.push((key, part, bucket))?;
+    }
+    Ok(asked)
+}
+
+// Where the bucket of each asked key begins and ends.
+fn bounds<K: KeyCode>(
+    alloc: Global,
+    parts: &[PackedTable<K>],
+    asked: &[(Option<K>, u32, u32)],
+) -> Result<Vec<(u32, u32)>, OutOfMemory>
+    requires low { All (λ (a : Option K × ℕ × ℕ). a.1 < length parts.now) asked.now }
+    requires within { All (λ (a : Option K × ℕ × ℕ). a.2 + 1 < length (starts_at parts.now a.1)) asked.now }
+    ensures { IfOk result (λ v. v.items ≡ map (λ (a : Option K × ℕ × ℕ). cut_of (starts_at parts.now a.1) a.2) asked.now) }
+{
+    let mut bounds = Vec::with_capacity(alloc, asked.len())?;
+    for ask in asked {
+        bounds.push(parts[ask.1 as usize].bounds(ask.2))?;
+    }
+    Ok(bounds)
+}
+
+// The rows of an asked key, whose bucket has these bounds.
+fn rows_asked<'a, K: KeyCode>(
+    parts: &'a [PackedTable<K>],
+    join_nulls: bool,
+    asked: (Option<K>, u32, u32),
+    bounds: (u32, u32),
+) -> &'a [IdxSize]
+    requires some { 1 ≤ length parts.now }
+    requires asked { (listed : Option K) × IsAsked K.eq K.code parts.now listed asked }
+    requires bounds { bounds ≡ cut_of (starts_at parts.now asked.1) asked.2 }
+    ensures { (len : ℕ) (side : Bool) → result.now ≡ rows_at K.eq K.code (tables_view (map (flat_of K.eq) parts.now) len join_nulls side) asked.0 }
+{
+    match asked.0 {
+        Some(key) => parts[asked.1 as usize].rows_between(bounds, &key),
+        None if join_nulls => parts[0].bare_rows(),
+        None => &[],
+    }
 }
 
 /// How tables were built. `numbered_tables` alone makes one.
@@ -133,7 +221,7 @@ impl Built {
 /// The tables of the keys of a list, which are of the left side or of the right one, and how they were built: in one
 /// part where they are fewer than `exec.small()`, else in as many as there are partitions, side by side. The list
 /// numbers its keys.
-pub fn numbered_tables<K: JoinKey, L: NumberedList<K> + Send + Sync, G: Gate>(
+pub fn numbered_tables<K: JoinKey, L: JoinList<K>, G: Gate>(
     rt: &(impl Threads + Sync),
     alloc: Global,
     list: &L,
@@ -141,9 +229,7 @@ pub fn numbered_tables<K: JoinKey, L: NumberedList<K> + Send + Sync, G: Gate>(
     left_built: bool,
     exec: &Exec,
     gate: &G,
-) -> Result<(Tables<K, L::Numbers>, Built), OutOfMemory>
-where
-    L::Numbers: Send,
+) -> Result<(Tables<K>, Built), OutOfMemory>
     requires { length (L.list list.now) ≤ MAX_ROWS }
     ensures table { IfOk result (λ r. IsTableOf K.eq K.code (L.list list.now) r.0) }
     ensures parted { IfOk result (λ r. IsParted K.eq K.code (L.list list.now) r.1.parts r.0) }
