@@ -1,11 +1,11 @@
-//! The flat tables of all parts of the keys.
+//! The tables of all parts of the keys.
 ghost use Rattle.std.specs.Prelude.{◌≡◌, ℕ, ◌+◌, ◌-◌, ◌<◌, ◌≤◌, length, map, slice_index_or, IfOk};
 ghost use Rattle.tb_value.specs.Pairs.{row_numbers};
 ghost use Rattle.tb_build.specs.Plan.{codes_of, part_count, part_sizes};
 ghost use Rattle.tb_build.specs.Grouping.{between};
 ghost use Rattle.tb_build.specs.Scattering.{HasRows, IsTableOfRows};
 ghost use Rattle.tb_build.specs.TableView.{ArePartTables};
-ghost use Rattle.tb_build.specs.Packed.{flat_of};
+ghost use Rattle.tb_build.specs.Packed.{key_rows};
 
 use crate::groups::RowNames;
 use crate::keys::{JoinKey, KeyCode};
@@ -25,7 +25,7 @@ fn one_table<K: KeyCode, L: KeyList<K>>(
     list: &L,
 ) -> Result<(Vec<PackedTable<K>>, Vec<usize>), OutOfMemory>
     requires { length (L.list list.now) ≤ MAX_ROWS }
-    ensures tables { IfOk result (λ r. ArePartTables K.eq K.code (L.list list.now) 1 (map (flat_of K.eq) r.0.items)) }
+    ensures tables { IfOk result (λ r. ArePartTables K.eq K.code (L.list list.now) 1 (map (key_rows K.eq) r.0.items)) }
     ensures sizes { IfOk result (λ r. r.1.items ≡ part_sizes (codes_of K.code (L.list list.now)) 1) }
 {
     let len = list.len();
@@ -46,7 +46,7 @@ fn part_table<K: KeyCode, L: KeyList<K>>(
     part: u32,
 ) -> Result<PackedTable<K>, OutOfMemory>
     requires { HasRows (length (L.list list.now)) starts.now idxs.now part }
-    ensures { IfOk result (λ t. IsTableOfRows K.eq (L.list list.now) (between starts.now idxs.now part) (flat_of K.eq t)) }
+    ensures { IfOk result (λ t. IsTableOfRows K.eq (L.list list.now) (between starts.now idxs.now part) (key_rows K.eq t)) }
 {
     let start = starts[part as usize];
     let end = starts[part as usize + 1];
@@ -69,13 +69,13 @@ impl<K: JoinKey, L: JoinList<K>> Parts for Building<'_, K, L> {
     ghost use Rattle.std.specs.Prelude.{length};
     ghost use Rattle.tb_build.specs.Grouping.{between};
     ghost use Rattle.tb_build.specs.Scattering.{HasRows, IsTableOfRows};
-    ghost use Rattle.tb_build.specs.Packed.{flat_of};
+    ghost use Rattle.tb_build.specs.Packed.{key_rows};
 
     type Out = PackedTable<K>;
 
     ghost may_run = { λ w part. HasRows (length (L.list w.list.now)) w.starts.now w.idxs.now part };
 
-    ghost gives = { λ w part out. IsTableOfRows K.eq (L.list w.list.now) (between w.starts.now w.idxs.now part) (flat_of K.eq out) };
+    ghost gives = { λ w part out. IsTableOfRows K.eq (L.list w.list.now) (between w.starts.now w.idxs.now part) (key_rows K.eq out) };
 
     fn run(&self, part: u32) -> Result<PackedTable<K>, OutOfMemory> {
         part_table(self.alloc, self.list, self.idxs, self.starts, part)
@@ -105,7 +105,7 @@ fn part_tables<K: JoinKey, L: JoinList<K>, G: Gate>(
     gate: &G,
 ) -> Result<(Vec<PackedTable<K>>, Vec<usize>), OutOfMemory>
     requires { length (L.list list.now) ≤ MAX_ROWS }
-    ensures tables { IfOk result (λ r. ArePartTables K.eq K.code (L.list list.now) exec.now.partitions (map (flat_of K.eq) r.0.items)) }
+    ensures tables { IfOk result (λ r. ArePartTables K.eq K.code (L.list list.now) exec.now.partitions (map (key_rows K.eq) r.0.items)) }
     ensures sizes { IfOk result (λ r. r.1.items ≡ part_sizes (codes_of K.code (L.list list.now)) exec.now.partitions) }
 {
     let (idxs, starts) = scatter_rows(rt, alloc, list, exec, gate)?;
@@ -132,7 +132,7 @@ pub fn planned_tables<K: JoinKey, L: JoinList<K>, G: Gate>(
 ) -> Result<(Vec<PackedTable<K>>, Vec<usize>), OutOfMemory>
     requires { length (L.list list.now) ≤ MAX_ROWS }
     ensures count { IfOk result (λ r. (1 ≤ length r.0.items) × (length r.0.items ≤ 1024)) }
-    ensures tables { IfOk result (λ r. ArePartTables K.eq K.code (L.list list.now) (part_count exec.now (length (L.list list.now))) (map (flat_of K.eq) r.0.items)) }
+    ensures tables { IfOk result (λ r. ArePartTables K.eq K.code (L.list list.now) (part_count exec.now (length (L.list list.now))) (map (key_rows K.eq) r.0.items)) }
     ensures sizes { IfOk result (λ r. r.1.items ≡ part_sizes (codes_of K.code (L.list list.now)) (part_count exec.now (length (L.list list.now)))) }
 {
     if list.len() < exec.small() as usize || exec.partitions() == 1 {

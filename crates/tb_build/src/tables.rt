@@ -3,7 +3,7 @@ ghost use Rattle.std.specs.Prelude.{◌≡◌, ℕ, Bool, ◌+◌, ◌^◌, ◌<
 ghost use Rattle.tb_build.specs.Codes.{part_of};
 ghost use Rattle.tb_build.specs.Plan.{codes_of, plan_of};
 ghost use Rattle.tb_build.specs.TableView.{rows_at, tables_view, IsParted, IsTableOf};
-ghost use Rattle.tb_build.specs.Packed.{cut_of, flat_of, starts_at, AreAsked, IsAsked};
+ghost use Rattle.tb_build.specs.Packed.{cut_of, key_rows, starts_at, AreAsked, IsAsked};
 ghost use Rattle.std.specs.List.{range_with_len};
 
 use crate::building::planned_tables;
@@ -16,7 +16,7 @@ use std::thread::Threads;
 use tb_pool::{Exec, Gate};
 use tb_value::{IdxSize, MAX_ROWS, OutOfMemory};
 
-/// The rows of each of the built keys, one table for each part of them. `numbered_tables`
+/// The rows of each of the built keys, one table for each part of them. `listed_tables`
 /// alone makes one.
 #[derive(Drop)]
 pub struct Tables<K: KeyCode> {
@@ -28,14 +28,14 @@ pub struct Tables<K: KeyCode> {
 
 impl<K: KeyCode> Model for Tables<K> {
     ghost use Rattle.std.specs.Prelude.{map};
-    ghost use Rattle.tb_build.specs.Packed.{flat_of};
+    ghost use Rattle.tb_build.specs.Packed.{key_rows};
     ghost use Rattle.tb_build.specs.TableView.{TableView, IsSmall, tables_view};
 
     ghost Value = { TableView K };
 
-    ghost view = { λ t. tables_view (map (flat_of K.eq) t.parts.items) t.built_len t.join_nulls t.left_built };
+    ghost view = { λ t. tables_view (map (key_rows K.eq) t.parts.items) t.built_len t.join_nulls t.left_built };
 
-    ghost invariant = { λ t. IsSmall K.eq K.code (tables_view (map (flat_of K.eq) t.parts.items) t.built_len t.join_nulls t.left_built) };
+    ghost invariant = { λ t. IsSmall K.eq K.code (tables_view (map (key_rows K.eq) t.parts.items) t.built_len t.join_nulls t.left_built) };
 }
 
 impl<K: KeyCode> Tables<K> {
@@ -170,7 +170,7 @@ fn rows_asked<'a, K: KeyCode>(
     requires some { 1 ≤ length parts.now }
     requires asked { (listed : Option K) × IsAsked K.eq K.code parts.now listed asked }
     requires bounds { bounds ≡ cut_of (starts_at parts.now asked.1) asked.2 }
-    ensures { (len : ℕ) (side : Bool) → result.now ≡ rows_at K.eq K.code (tables_view (map (flat_of K.eq) parts.now) len join_nulls side) asked.0 }
+    ensures { (len : ℕ) (side : Bool) → result.now ≡ rows_at K.eq K.code (tables_view (map (key_rows K.eq) parts.now) len join_nulls side) asked.0 }
 {
     match asked.0 {
         Some(key) => parts[asked.1 as usize].rows_between(bounds, &key),
@@ -179,7 +179,7 @@ fn rows_asked<'a, K: KeyCode>(
     }
 }
 
-/// How tables were built. `numbered_tables` alone makes one.
+/// How tables were built. `listed_tables` alone makes one.
 #[derive(Drop)]
 pub struct Built {
     parts: u32,
@@ -219,9 +219,8 @@ impl Built {
 }
 
 /// The tables of the keys of a list, which are of the left side or of the right one, and how they were built: in one
-/// part where they are fewer than `exec.small()`, else in as many as there are partitions, side by side. The list
-/// numbers its keys.
-pub fn numbered_tables<K: JoinKey, L: JoinList<K>, G: Gate>(
+/// part where they are fewer than `exec.small()`, else in as many as there are partitions, side by side.
+pub fn listed_tables<K: JoinKey, L: JoinList<K>, G: Gate>(
     rt: &(impl Threads + Sync),
     alloc: Global,
     list: &L,
@@ -271,5 +270,5 @@ pub fn build_tables<K: JoinKey, G: Gate>(
     ensures built { IfOk result (λ r. r.1 ≡ plan_of exec.now left_built (codes_of K.code keys.now)) }
 {
     let list = SliceKeys { keys };
-    numbered_tables(rt, alloc, &list, join_nulls, left_built, exec, gate)
+    listed_tables(rt, alloc, &list, join_nulls, left_built, exec, gate)
 }

@@ -14,7 +14,8 @@ use Rattle.tb_frame.specs.Refusal.{asks_left, asks_right, has_twins, row_causes}
 use Rattle.tb_frame.specs.Table.{height, table_of}
 use Rattle.tb_hash.specs.Hashing.{value_listing}
 use Rattle.tb_hash.specs.Probing.{too_many}
-use Rattle.tb_hash.specs.Twins.{broken, twins_among, value_causes, value_twins}
+use Rattle.tb_build.specs.Keys.{twins_among}
+use Rattle.tb_hash.specs.Twins.{broken, value_causes, value_twins}
 use Rattle.tb_rowkey.specs.Columns.{AreKeyColumns, columns_meet, key_column, keys_at, row_count}
 use Rattle.tb_rowkey.proofs.ColumnRows.{columns_match}
 use Rattle.tb_keys.specs.Asked.{asked}

@@ -12,7 +12,7 @@ use Rattle.tb_chunk.specs.Col.{Col}
 use Rattle.tb_frame.specs.Join.{field}
 use Rattle.tb_frame.specs.Refusal.{has_twins, is_counted, same_keys}
 use Rattle.tb_frame.specs.Table.{TableColumn, plain, table_of}
-use Rattle.tb_hash.specs.Twins.{twins_among}
+use Rattle.tb_build.specs.Keys.{twins_among}
 use Rattle.tb_rowkey.specs.Columns.{columns_meet, row_count}
 use Rattle.tb_pairs.proofs.Requested.{field_is}
 

@@ -1,11 +1,10 @@
-use Rattle.std.proofs.Common.{◌≡◌, ◌<◌, ◌∙◌, ap, sym, length, arith, Some, None, map}
+use Rattle.std.proofs.Common.{◌<◌, ◌∙◌, ap, sym, arith, Some, None, map}
 use Rattle.std.proofs.lemmas.List.Elements.{All-same}
-use Rattle.std.proofs.lemmas.List.{length-map, get_or-map}
-use Rattle.tb_build.specs.Flat.{FlatView}
+use Rattle.std.proofs.lemmas.List.{length-map}
+use Rattle.tb_build.specs.KeyRows.{KeyRows}
 use Rattle.tb_build.specs.Codes.{part_of}
-use Rattle.tb_build.specs.Packed.{flat_of}
+use Rattle.tb_build.specs.Packed.{key_rows}
 use Rattle.tb_build.specs.TableView.{rows_at, tables_view}
-use Rattle.tb_build.proofs.Parts.{found-in_part, found-bare}
 use Rattle.tb_build.proofs.PackedParts.{rows-in_part, rows-bare}
 use Rattle.tb_build.proofs.tables.Tables.rows.Goals as goal
 
@@ -18,7 +17,7 @@ returns-in-Some-clause-value g c =
     (omega (arith, c.part_in-part.ensures.below, c.len.ensures, t.parts.ok.0)) c.index.ensures c.rows.ensures in
     rw (← c.self.view_is)
     (found
-    ∙ ap (rows_at g.K.PartialEq.eq g.K.KeyCode.code (tables_view (map (flat_of g.K.PartialEq.eq) t.parts.items) t.built_len t.join_nulls t.left_built))
+    ∙ ap (rows_at g.K.PartialEq.eq g.K.KeyCode.code (tables_view (map (key_rows g.K.PartialEq.eq) t.parts.items) t.built_len t.join_nulls t.left_built))
     (sym c.in-Some.is))
 
 pub returns-in-Some-clause-below : goal.returns-in-Some-clause-below
@@ -37,8 +36,8 @@ returns-in-None-clause-below g c =
     c.bare_rows.result.now c.if-self.true (omega (
       arith,
       c.self.invariant.parts,
-      length-map t.parts.items (flat_of g.K.PartialEq.eq),
-      length-map (map (flat_of g.K.PartialEq.eq) t.parts.items) (λ (t : FlatView _). t.entries),
+      length-map t.parts.items (key_rows g.K.PartialEq.eq),
+      length-map (map (key_rows g.K.PartialEq.eq) t.parts.items) (λ (t : KeyRows _). t.entries),
     ))
     c.index-in-None.ensures c.bare_rows.ensures in
     rw (← c.self.view_is) (All-same (λ row. row < t.built_len) _ _ found (c.self.invariant.below None))
