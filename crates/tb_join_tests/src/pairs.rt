@@ -144,6 +144,17 @@ fn rows_of_each_join(rt: HostRuntime) -> Result<(), Fail> {
     check_rows(&rt, alloc, &left, &right)
 }
 
+// Two keys that fall into one bucket of a table of 24 keys, in turn, so that a sort of the bucket takes memory.
+#[test]
+fn keys_of_a_long_bucket(rt: HostRuntime) -> Result<(), Fail> {
+    let alloc = rt.alloc();
+    let left = left_keys(alloc)?;
+    let half = [[Some(87), Some(1)]; 6];
+    let right = column(alloc, "k", half.as_flattened(), half.as_flattened())?;
+    assert!(rt; unmet_rows(&rt, alloc, &left, &right)? == 2);
+    Ok(())
+}
+
 // The table of one column.
 pub(crate) fn table_of(alloc: Global, column: Column) -> Result<DataFrame, Fail>
     ensures { IfOk result (λ t. t ≡ column ∷ []) }
