@@ -20,6 +20,8 @@ enum Takes {
     Names(&'static str),
     // The same, and there must be one.
     SomeNames(&'static str),
+    // No name, or one behind `=`, as often as it is used.
+    NameBehindSign(&'static str),
     // One of these words.
     Choice(&'static [&'static str]),
     Nothing,
@@ -123,8 +125,8 @@ const JOIN: Form = Form {
         ),
         Word(
             "join-nulls",
-            Takes::Nothing,
-            "Absent keys match absent keys",
+            Takes::NameBehindSign("KEY"),
+            "Absent keys match, or one left key's, once each",
         ),
         Word(
             "slice",
@@ -270,6 +272,11 @@ fn named_arg<'a>(alloc: Global, name: &'a str, takes: Takes) -> Arg<'a> {
         Takes::Hyphened(value) => arg.value_name(value).allow_hyphen_values(true),
         Takes::Names(value) => many(arg, value),
         Takes::SomeNames(value) => many(arg, value).required(true),
+        Takes::NameBehindSign(value) => arg
+            .value_name(value)
+            .num_args(0..=1)
+            .require_equals(true)
+            .action(ArgAction::Append),
         Takes::Choice(words) => arg
             .value_name("WORD")
             .value_parser(words)

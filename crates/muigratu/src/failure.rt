@@ -17,6 +17,8 @@ pub(crate) enum Failure<'a> {
     NoType(&'a str),
     /// The word is no slice.
     NoSlice(&'a str),
+    /// The word is no left key.
+    NoKey(&'a str),
     /// The word is no separator.
     NoSeparator(&'a str),
     /// The word is no width.
@@ -45,6 +47,7 @@ impl Failure<'_> {
             Failure::Refused(_) | Failure::NoText(_) => 1,
             Failure::NoType(_)
             | Failure::NoSlice(_)
+            | Failure::NoKey(_)
             | Failure::NoSeparator(_)
             | Failure::NoWidth(_)
             | Failure::OneInput
@@ -99,6 +102,12 @@ impl fmt::Display for Failure<'_> {
                 write!(
                     f,
                     "--slice takes OFFSET,LENGTH, two whole numbers, and not \"{word}\""
+                )
+            }
+            Failure::NoKey(word) => {
+                write!(
+                    f,
+                    "--join-nulls takes a left key of --on, and not \"{word}\""
                 )
             }
             Failure::NoSeparator(word) => {

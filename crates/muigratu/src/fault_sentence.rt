@@ -36,6 +36,7 @@ fn form_words(form: Form) -> &'static str {
         Form::Text => "a text",
         Form::Texts => "a list of texts",
         Form::Truth => "true or false",
+        Form::Nulls => "true, false or a list of these",
         Form::Type => "a type, such as \"i64\"",
         Form::Slice => "[offset, length], two whole numbers, the second not negative",
         Form::Count => "a whole number from 0 to 4294967295",

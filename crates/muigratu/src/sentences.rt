@@ -73,6 +73,9 @@ fn invalid_sentence<W: fmt::Write>(cause: &InvalidCause, f: &mut fmt::Formatter<
         InvalidCause::KeyCounts { left, right } => {
             write!(f, "there are {left} left keys and {right} right keys")
         }
+        InvalidCause::NullFlags { flags, keys } => {
+            write!(f, "there are {flags} flags of absent keys and {keys} keys")
+        }
         InvalidCause::KeyKind { place } => {
             write!(f, "rows can't be joined by the type of key {place}")
         }

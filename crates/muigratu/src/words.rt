@@ -5,8 +5,12 @@ use clap::ArgMatches;
 use std::alloc::Global;
 use tb_agg::Aggregate;
 use tb_csv::{CsvOptions, FieldType, TypeOf};
-use tb_frame::{JoinArgs, JoinCoalesce, JoinType, JoinValidation, MaintainOrderJoin};
-use tb_front::{DummiesArguments, JoinArguments, PivotArguments, TextForm, UnpivotArguments};
+use tb_frame::{
+    JoinArgs, JoinCoalesce, JoinNulls, JoinType, JoinValidation, MaintainOrderJoin, name_set,
+};
+use tb_front::{
+    DummiesArguments, JoinArguments, PivotArguments, TextForm, UnpivotArguments, named_flags,
+};
 use tb_value::{OutOfMemory, PlSmallStr};
 
 // The part of a word that is a name. A word without `=` is a name as a whole.
@@ -187,13 +191,54 @@ fn slice_given<'a>(word: Option<&'a str>) -> Result<Option<(i64, usize)>, Failur
     }
 }
 
-fn join_args<'a>(alloc: Global, matches: &ArgMatches<'a>) -> Result<JoinArgs, Failure<'a>> {
+// Whether the word was used without a name.
+fn stands_alone(matches: &ArgMatches<'_>, word: &str) -> bool {
+    match matches.get_raw_occurrences(word) {
+        Some(mut uses) => uses.any(|names| names.is_empty()),
+        None => false,
+    }
+}
+
+// The place of the first name that is no key.
+fn no_key(
+    alloc: Global,
+    keys: &[PlSmallStr],
+    names: &[PlSmallStr],
+) -> Result<Option<usize>, OutOfMemory> {
+    let known = name_set(alloc, keys)?;
+    Ok(names.iter().position(|name| !known.contains(name)))
+}
+
+// In which keys absent fields match: in all where no key is named at some use, else in those that are named.
+fn nulls_given<'a>(
+    alloc: Global,
+    keys: &[PlSmallStr],
+    matches: &ArgMatches<'a>,
+) -> Result<JoinNulls, Failure<'a>> {
+    if stands_alone(matches, "join-nulls") {
+        return Ok(JoinNulls::All(true));
+    }
+    let Some(words) = matches.get_strs("join-nulls") else {
+        return Ok(JoinNulls::All(false));
+    };
+    let names = names_of(alloc, Part::Whole, Some(words))?;
+    match no_key(alloc, keys, &names)? {
+        Some(place) => Err(Failure::NoKey(words.get(place).copied().unwrap_or(""))),
+        None => Ok(JoinNulls::Each(named_flags(alloc, keys, &names)?)),
+    }
+}
+
+fn join_args<'a>(
+    alloc: Global,
+    keys: &[PlSmallStr],
+    matches: &ArgMatches<'a>,
+) -> Result<JoinArgs, Failure<'a>> {
     Ok(JoinArgs {
         how: kind(matches.get_str("how").unwrap_or("inner")),
         validation: validation(matches.get_str("validate").unwrap_or("m:m")),
         suffix: text_given(alloc, matches.get_str("suffix"))?,
         slice: slice_given(matches.get_str("slice"))?,
-        join_nulls: matches.get_flag("join-nulls"),
+        join_nulls: nulls_given(alloc, keys, matches)?,
         coalesce: coalesce(matches.get_str("coalesce").unwrap_or("specific")),
         maintain_order: order(matches.get_str("order").unwrap_or("none")),
     })
@@ -204,11 +249,13 @@ pub(crate) fn join_arguments<'a>(
     matches: &ArgMatches<'a>,
 ) -> Result<JoinArguments, Failure<'a>> {
     let keys = matches.get_strs("on");
+    let left_on = names_of(alloc, Part::BeforeSign, keys)?;
+    let args = join_args(alloc, &left_on, matches)?;
     Ok(JoinArguments {
         options: options(alloc, matches)?,
-        left_on: names_of(alloc, Part::BeforeSign, keys)?,
+        left_on,
         right_on: names_of(alloc, Part::BehindSign, keys)?,
-        args: join_args(alloc, matches)?,
+        args,
         form: form(matches)?,
     })
 }

@@ -80,7 +80,7 @@ module _ (nulls anti : Bool) (l r : Col) (rows : List ℕ) (is : map left_only r
     items = cut s (map left_only rows)
 
     listing_is : map left_only rows ≡ listing q
-    listing_is = is ∙ one_listed nulls (semi_or_anti anti) (l ∷ []) (r ∷ []) l r refl refl ∙ columns_listed nulls (semi_or_anti anti) (l ∷ []) (r ∷ []) (height (table_of left)) (length (values r)) refl high refl
+    listing_is = is ∙ one_listed (λ p. nulls) (semi_or_anti anti) (l ∷ []) (r ∷ []) l r refl refl ∙ columns_listed (λ p. nulls) (semi_or_anti anti) (l ∷ []) (r ∷ []) (height (table_of left)) (length (values r)) refl high refl
 
     ordered : IsOrdered (semi_or_anti anti) order.None (map left_only rows) (listing q)
     ordered = subst (λ (ps : List JoinPair). IsOrdered (semi_or_anti anti) order.None (map left_only rows) ps) listing_is (at anti is)

@@ -25,7 +25,7 @@ use Rattle.tb_chunk.specs.Col.{Col, values}
 use Rattle.tb_frame.specs.declared.args.JoinArgs.{JoinArgs}
 use Rattle.tb_frame.specs.declared.args.JoinType.{JoinType}
 use Rattle.tb_frame.specs.declared.args.JoinType.TheVariants.{Inner, Left, Right, Full, Semi, Anti}
-use Rattle.tb_frame.specs.Join.{IsAnswer, IsOrdered, MergesAlike, Request, field, listing, listing_of}
+use Rattle.tb_frame.specs.Join.{IsAnswer, IsOrdered, MergesAlike, Request, field, flag_at, listing, listing_of}
 use Rattle.tb_frame.specs.Sides.{asking}
 use Rattle.tb_frame.specs.Refusal.{asks_left, asks_right, broken_left, broken_right, column_causes, fits, given_refusal, has_twins, is_validated, key_kind, key_shapes, key_types, list_causes, name_causes, repeated_name, row_causes, too_many_rows}
 use Rattle.tb_frame.specs.Table.{Table, TableColumn, height, plain, table_of}
@@ -136,8 +136,8 @@ no_right Anti l m k = refl
 
 -- THE REQUEST
 
-abbrev meet : Bool → List Col → List Col → ℕ → ℕ → Bool
-meet nulls ls rs i j = list_all (λ p. agrees nulls (field (table_of ls) p i) (field (table_of rs) p j)) (row_numbers (min (length (table_of ls)) (length (table_of rs))))
+abbrev meet : (ℕ → Bool) → List Col → List Col → ℕ → ℕ → Bool
+meet nulls ls rs i j = list_all (λ p. agrees (nulls p) (field (table_of ls) p i) (field (table_of rs) p j)) (row_numbers (min (length (table_of ls)) (length (table_of rs))))
 
 module _ (left right lk rk : List Col) (args : JoinArgs) where
   abbrev q : Request
@@ -162,9 +162,9 @@ module _ (left right lk rk : List Col) (args : JoinArgs) where
       to_right : (m k : ℕ → ℕ → Bool) → r ≡ 0 → listing_of args.how l r m ≡ listing_of args.how l r k
       to_right m k e = ap (λ (n : ℕ). listing_of args.how l n m) e ∙ no_right args.how l m k ∙ sym (ap (λ (n : ℕ). listing_of args.how l n k) e)
 
-      at : (a b : Bool) → (l == 0) ≡ a → (r == 0) ≡ b → listing_of args.how l r (meet args.join_nulls (cond a (map emptied lk) lk) (cond b (map emptied rk) rk)) ≡ listing_of args.how l r (meet args.join_nulls lk rk)
-      at true b e f = to_left (meet args.join_nulls (map emptied lk) (cond b (map emptied rk) rk)) (meet args.join_nulls lk rk) (eqb-true l 0 e)
-      at false true e f = to_right (meet args.join_nulls lk (map emptied rk)) (meet args.join_nulls lk rk) (eqb-true r 0 f)
+      at : (a b : Bool) → (l == 0) ≡ a → (r == 0) ≡ b → listing_of args.how l r (meet (flag_at args.join_nulls) (cond a (map emptied lk) lk) (cond b (map emptied rk) rk)) ≡ listing_of args.how l r (meet (flag_at args.join_nulls) lk rk)
+      at true b e f = to_left (meet (flag_at args.join_nulls) (map emptied lk) (cond b (map emptied rk) rk)) (meet (flag_at args.join_nulls) lk rk) (eqb-true l 0 e)
+      at false true e f = to_right (meet (flag_at args.join_nulls) lk (map emptied rk)) (meet (flag_at args.join_nulls) lk rk) (eqb-true r 0 f)
       at false false e f = refl
 
   abbrev left_kinds : map (λ (c : TableColumn). c.kind) (table_of (cleared l lk)) ≡ map (λ (c : TableColumn). c.kind) (table_of lk)
@@ -180,10 +180,10 @@ module _ (left right lk rk : List Col) (args : JoinArgs) where
   kinds = λ t. option_map (λ p. InvalidOperation (KeyKind p)) (find (λ p. not (is_key (get_or (left_kinds t) p kind.null))) (row_numbers (min (many-cleared l lk t) (many-cleared r rk t))))
 
   left_broken : broken_left fitted ≡ broken_left q
-  left_broken = λ t. when (is_validated args.how && asks_left args.validation && twins-cleared (λ p. args.join_nulls) l lk t) (ComputeError (Validation side.Left))
+  left_broken = λ t. when (is_validated args.how && asks_left args.validation && twins-cleared (flag_at args.join_nulls) l lk t) (ComputeError (Validation side.Left))
 
   right_broken : broken_right fitted ≡ broken_right q
-  right_broken = λ t. when (is_validated args.how && asks_right args.validation && twins-cleared (λ p. args.join_nulls) r rk t) (ComputeError (Validation side.Right))
+  right_broken = λ t. when (is_validated args.how && asks_right args.validation && twins-cleared (flag_at args.join_nulls) r rk t) (ComputeError (Validation side.Right))
 
   many : too_many_rows fitted ≡ too_many_rows q
   many = λ t. when (nat_lt MAX_ROWS (length (listed t))) (ComputeError TooManyRows)
@@ -202,25 +202,25 @@ module _ (left right lk rk : List Col) (args : JoinArgs) where
   shapes : key_shapes q ≡ misfit left right lk rk
   shapes = λ t. when (not (fit_is l lk t && fit_is r rk t)) ShapeMismatch
 
-  early : first_cause (name_causes q.left q.right q.left_on q.right_on ++ key_shapes q ∷ list_causes q.left_on q.right_on) ≡ early_refusal left right lk rk q.left_on q.right_on
-  early = three_parts (name_causes q.left q.right q.left_on q.right_on) (key_shapes q) (list_causes q.left_on q.right_on)
-      ∙ ap (λ (o : Option PolarsError). first_cause (first_cause (name_causes q.left q.right q.left_on q.right_on) ∷ o ∷ first_cause (list_causes q.left_on q.right_on) ∷ [])) shapes
+  early : first_cause (name_causes q.left q.right q.left_on q.right_on ++ key_shapes q ∷ list_causes args.join_nulls q.left_on q.right_on) ≡ early_refusal left right lk rk args.join_nulls q.left_on q.right_on
+  early = three_parts (name_causes q.left q.right q.left_on q.right_on) (key_shapes q) (list_causes args.join_nulls q.left_on q.right_on)
+      ∙ ap (λ (o : Option PolarsError). first_cause (first_cause (name_causes q.left q.right q.left_on q.right_on) ∷ o ∷ first_cause (list_causes args.join_nulls q.left_on q.right_on) ∷ [])) shapes
 
-  pub in_parts : given_refusal q ≡ first_cause (early_refusal left right lk rk q.left_on q.right_on ∷ later_refusal q ∷ [])
-  in_parts = two_parts (name_causes q.left q.right q.left_on q.right_on ++ key_shapes q ∷ list_causes q.left_on q.right_on) (column_causes q ++ row_causes q)
+  pub in_parts : given_refusal q ≡ first_cause (early_refusal left right lk rk args.join_nulls q.left_on q.right_on ∷ later_refusal q ∷ [])
+  in_parts = two_parts (name_causes q.left q.right q.left_on q.right_on ++ key_shapes q ∷ list_causes args.join_nulls q.left_on q.right_on) (column_causes q ++ row_causes q)
       ∙ ap (λ (o : Option PolarsError). first_cause (o ∷ later_refusal q ∷ [])) early
 
   -- what stands where no early cause holds
-  module _ (none : early_refusal left right lk rk q.left_on q.right_on ≡ None) where
-    causes : All (λ (o : Option PolarsError). o ≡ None) (first_cause (name_causes q.left q.right q.left_on q.right_on) ∷ misfit left right lk rk ∷ first_cause (list_causes q.left_on q.right_on) ∷ [])
-    causes = no_cause (first_cause (name_causes q.left q.right q.left_on q.right_on) ∷ misfit left right lk rk ∷ first_cause (list_causes q.left_on q.right_on) ∷ []) none
+  module _ (none : early_refusal left right lk rk args.join_nulls q.left_on q.right_on ≡ None) where
+    causes : All (λ (o : Option PolarsError). o ≡ None) (first_cause (name_causes q.left q.right q.left_on q.right_on) ∷ misfit left right lk rk ∷ first_cause (list_causes args.join_nulls q.left_on q.right_on) ∷ [])
+    causes = no_cause (first_cause (name_causes q.left q.right q.left_on q.right_on) ∷ misfit left right lk rk ∷ first_cause (list_causes args.join_nulls q.left_on q.right_on) ∷ []) none
 
     pub all_later : given_refusal q ≡ later_refusal q
     all_later = in_parts ∙ (λ t. first_cause (none t ∷ later_refusal q ∷ [])) ∙ first_cause-one (later_refusal q)
 
     pub stand : NamesStand fitted
     stand = names_stand fitted
-        (two_parts (name_causes q.left q.right q.left_on q.right_on) (list_causes q.left_on q.right_on)
+        (two_parts (name_causes q.left q.right q.left_on q.right_on) (list_causes args.join_nulls q.left_on q.right_on)
         ∙ (λ t. first_cause (causes 0 None (omega arith) t ∷ causes 2 None (omega arith) t ∷ [])))
 
     pub left_fit : HasRows l (cleared l lk)

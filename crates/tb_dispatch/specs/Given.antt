@@ -11,6 +11,8 @@ use Rattle.tb_chunk.specs.Col.{Col, values}
 use Rattle.tb_frame.specs.declared.args.JoinArgs.{JoinArgs}
 use Rattle.tb_frame.specs.declared.args.JoinType.{JoinType}
 use Rattle.tb_frame.specs.declared.args.JoinType.TheVariants.{Semi, Anti}
+use Rattle.tb_frame.specs.declared.null_flags.JoinNulls.{JoinNulls}
+use Rattle.tb_frame.specs.declared.null_flags.JoinNulls.TheVariants.{All}
 use Rattle.tb_frame.specs.Join.{MergesAlike, Request}
 use Rattle.tb_frame.specs.Naming.{coalesces, merges_keys}
 use Rattle.tb_frame.specs.Refusal.{first_unknown, fits, list_causes, name_causes}
@@ -39,7 +41,7 @@ abbrev pub semi_or_anti : Bool → JoinType
 semi_or_anti anti = (if anti then Anti else Semi)
 
 abbrev pub by_match : Bool → Bool → Option (ℤ × ℕ) → List Col → Col → Col → Request
-by_match anti nulls slice left l r = given left (r ∷ []) (l ∷ []) (r ∷ []) (record (plainly (semi_or_anti anti)) { slice = slice; join_nulls = nulls })
+by_match anti nulls slice left l r = given left (r ∷ []) (l ∷ []) (r ∷ []) (record (plainly (semi_or_anti anti)) { slice = slice; join_nulls = All nulls })
 
 -- both have one key type
 pub record AreKeys (l r : Col) : Type 0 where
@@ -73,8 +75,8 @@ all_fit n keys = list_all (λ (c : Col). fits n (plain c)) keys
 abbrev pub misfit : List Col → List Col → List Col → List Col → Option PolarsError
 misfit left right left_keys right_keys = when (not (all_fit (height (table_of left)) left_keys && all_fit (height (table_of right)) right_keys)) ShapeMismatch
 
--- the causes before the keys' types: unknown names, misfit keys, and then what the lists of names are refused for
-abbrev pub early_refusal : List Col → List Col → List Col → List Col → List Name → List Name → Option PolarsError
-early_refusal left right left_keys right_keys left_on right_on =
+-- the causes before the keys' types: unknown names, misfit keys, and then what the lists of names and flags are refused for
+abbrev pub early_refusal : List Col → List Col → List Col → List Col → JoinNulls → List Name → List Name → Option PolarsError
+early_refusal left right left_keys right_keys nulls left_on right_on =
     first_cause (first_cause (name_causes (table_of left) (table_of right) left_on right_on) ∷ misfit left right left_keys right_keys
-    ∷ first_cause (list_causes left_on right_on) ∷ [])
+    ∷ first_cause (list_causes nulls left_on right_on) ∷ [])

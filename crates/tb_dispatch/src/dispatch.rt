@@ -1,12 +1,12 @@
 //! Tables by rows that were found before, and by one key column of each side.
-ghost use Rattle.std.specs.Prelude.{◌≡◌, ◌<◌, ◌≤◌, ◌⊎◌, ◌∷◌, [], All, IfOk, IsSome, length, map};
+ghost use Rattle.std.specs.Prelude.{◌≡◌, ◌<◌, ◌≤◌, ◌⊎◌, ◌∷◌, [], All, IfOk, IsSome, None, length, map};
 ghost use Rattle.tb_value.specs.Pairs.{left_only};
 ghost use Rattle.tb_value.specs.Refusals.{Settles, first_cause};
 ghost use Rattle.tb_chunk.specs.Col.{values};
 ghost use Rattle.tb_chunk.specs.Lent.{lent_columns};
 ghost use Rattle.tb_frame.specs.Frame.{taken};
 ghost use Rattle.tb_frame.specs.Join.{IsAnswer, cut, listing, out};
-ghost use Rattle.tb_frame.specs.Refusal.{repeated_name, row_causes};
+ghost use Rattle.tb_frame.specs.Refusal.{null_flags, repeated_name, row_causes};
 ghost use Rattle.tb_frame.specs.Table.{height, table_of};
 ghost use Rattle.tb_gather.specs.Gathered.{NameRows, gathered};
 ghost use Rattle.tb_gather.specs.Ids.{Id, RunsBy};
@@ -126,7 +126,8 @@ pub trait JoinDispatch: IntoDf {
     /// columns, the table's columns of the keys' names are merged. The kind that the arguments name is not read.
     ///
     /// Each key column is as long as its table is high, and both have one key type. Where columns are coalesced, the
-    /// names of the keys are columns of their tables, and these have one type.
+    /// names of the keys are columns of their tables, and these have one type. There is one flag for all keys, or one for
+    /// the one key.
     ///
     /// # Errors
     ///
@@ -146,6 +147,7 @@ pub trait JoinDispatch: IntoDf {
     ) -> PolarsResult<DataFrame>
         requires keys { StandBeside (Self.frame self.now) other.now s_left.now s_right.now }
         requires merge { CanCoalesce (by_series JoinType.Full (Self.frame self.now) other.now s_left.now s_right.now args) }
+        requires flags { null_flags args.join_nulls 1 ≡ None }
         ensures settles { Settles result (first_cause
             (repeated_name (by_series JoinType.Full (Self.frame self.now) other.now s_left.now s_right.now args)
             ∷ row_causes (by_series JoinType.Full (Self.frame self.now) other.now s_left.now s_right.now args))) }

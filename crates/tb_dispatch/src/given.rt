@@ -10,7 +10,7 @@ ghost use Rattle.tb_dispatch.specs.Given.{all_fit, cleared, early_refusal, given
 
 use std::alloc::Global;
 use std::thread::Threads;
-use tb_frame::{DataFrame, IntoDf, JoinArgs, lend_columns};
+use tb_frame::{DataFrame, IntoDf, JoinArgs, JoinNulls, lend_columns};
 use tb_join::join_columns;
 use tb_keys::{LentRequest, check_lists};
 use tb_pool::Exec;
@@ -151,22 +151,23 @@ fn cleared(alloc: Global, height: usize, keys: Vec<Series>) -> Result<Vec<Series
     Ok(emptied)
 }
 
-// Refuses keys whose names or number no join has (ColumnNotFound, then NoKeys, KeyCounts and Duplicate), and between
-// these keys of another length (ShapeMismatch).
+// Refuses keys whose names or number no join has, or that have more or fewer flags (ColumnNotFound, then NoKeys,
+// KeyCounts, NullFlags and Duplicate), and between these keys of another length (ShapeMismatch).
 fn check_given(
     alloc: Global,
     left: &DataFrame,
     right: &DataFrame,
     left_keys: &[Series],
     right_keys: &[Series],
+    nulls: &JoinNulls,
     left_on: &[PlSmallStr],
     right_on: &[PlSmallStr],
 ) -> PolarsResult<()>
-    ensures { Settles result (early_refusal left.now right.now left_keys.now right_keys.now left_on.now right_on.now) }
+    ensures { Settles result (early_refusal left.now right.now left_keys.now right_keys.now nulls.now left_on.now right_on.now) }
 {
     check_names(alloc, left, right, left_on, right_on)?;
     check_shapes(left, right, left_keys, right_keys)?;
-    check_lists(alloc, left_on, right_on)
+    check_lists(alloc, nulls, left_on, right_on)
 }
 
 fn join_given(
@@ -191,6 +192,7 @@ fn join_given(
         right,
         &left_keys,
         &right_keys,
+        &args.join_nulls,
         &left_on,
         &right_on,
     )?;

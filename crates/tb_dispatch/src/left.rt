@@ -1,9 +1,9 @@
 //! The two sides of a Left join, each by itself.
-ghost use Rattle.std.specs.Prelude.{◌≡◌, ◌≤◌, All, IfOk, length};
+ghost use Rattle.std.specs.Prelude.{◌≡◌, ◌≤◌, All, IfOk, None, length};
 ghost use Rattle.tb_value.specs.Refusals.{Settles, first_cause};
 ghost use Rattle.tb_frame.specs.Answer.{IsPairOf};
 ghost use Rattle.tb_frame.specs.Frame.{without_names};
-ghost use Rattle.tb_frame.specs.Refusal.{row_causes};
+ghost use Rattle.tb_frame.specs.Refusal.{null_flags, row_causes};
 ghost use Rattle.tb_frame.specs.Table.{height, table_of};
 ghost use Rattle.tb_dispatch.specs.Given.{StandBeside, by_series};
 ghost use Rattle.tb_dispatch.specs.Halves.{AreHalves, AreOver, dropped};
@@ -54,7 +54,8 @@ fn dropped<'a>(key: &'a Series, names: &'a Option<Vec<PlSmallStr>>) -> &'a [PlSm
 /// the slice, before any is renamed. Of the right columns those of `drop_names` are left out, or where there is no list
 /// that of the right key's name; a name that is no column is ignored. The kind that the arguments name is not read.
 ///
-/// Each key column is as long as its table is high, and both have one key type.
+/// Each key column is as long as its table is high, and both have one key type. There is one flag for all keys, or one
+/// for the one key.
 ///
 /// # Errors
 ///
@@ -71,7 +72,8 @@ pub fn materialize_left_join_from_series(
     drop_names: Option<Vec<PlSmallStr>>,
     exec: &Exec,
 ) -> PolarsResult<(DataFrame, DataFrame)>
-    requires { StandBeside left right_.now s_left.now s_right.now }
+    requires keys { StandBeside left right_.now s_left.now s_right.now }
+    requires flags { null_flags args.now.join_nulls 1 ≡ None }
     ensures settles { Settles result (first_cause (row_causes (by_series JoinType.Left left right_.now s_left.now s_right.now args.now))) }
     ensures halves { IfOk result (AreHalves (by_series JoinType.Left left right_.now s_left.now s_right.now args.now) left
         (without_names (dropped s_right.now.name drop_names) right_.now)) }

@@ -1,6 +1,6 @@
 -- The columns of an answer: their names, their types, and that there is one.
 use Rattle.std.proofs.Common.{◌≡◌, ◌<◌, Bool, true, false, cond, not, ◌&&◌, List, [], ◌∷◌, ◌++◌, length, get_or, map, refl, ap, arith, sym, ◌∙◌, subst, ℕ, Option, Some, None}
-use Rattle.std.specs.Prelude.{All, AllPairs, ◌≢◌, filter, position}
+use Rattle.std.specs.Prelude.{All, AllPairs, ◌≢◌, filter, position, slice_get}
 use Rattle.std.specs.Option.{ForSome, option_and_then}
 use Rattle.std.proofs.lemmas.List.{map-append, length-map, length-append}
 use Rattle.std.proofs.lemmas.List.Elements.{All-append, All-filter, All-map}
@@ -14,7 +14,7 @@ use Rattle.tb_value.specs.declared.index.JoinPair.{JoinPair}
 use Rattle.tb_frame.specs.declared.args.JoinType.{JoinType}
 use Rattle.tb_frame.specs.declared.args.JoinType.TheVariants.{Inner, Left, Right, Full, Semi, Anti}
 use Rattle.tb_frame.specs.Table.{TableColumn, Table, IsTyped, names_of, schema_of}
-use Rattle.tb_frame.specs.Join.{Request, Out, kept_left, shown_right, named, partner, value_at, left_field, left_out, right_out, out, out_columns, MergesAlike}
+use Rattle.tb_frame.specs.Join.{Request, Out, kept_left, shown_right, named, partner, right_key, value_at, left_field, left_out, right_out, out, out_columns, MergesAlike}
 use Rattle.tb_frame.specs.Naming.{Field, coalesces, drops_left_keys, drops_right_keys, has_right, is_among, joined_names, keeps_left, keeps_right, left_names, merges_keys, right_name, shows_right}
 use Rattle.tb_frame.proofs.Causes.{found_holds}
 use Rattle.tb_frame.proofs.Frames.{filter-map}
@@ -118,11 +118,15 @@ left_typed c h (Some k) typed alike pair =
     one_of_two (HasType c.kind) (is_null (value_at c pair.left)) (value_at c pair.left) (value_at k pair.right) (value_typed c h pair.left)
     (subst (λ (t : Kind). HasType t (value_at k pair.right)) (sym (alike k refl)) (value_typed k (typed k refl) pair.right))
 
+key_typed : (t : Table) → All IsTyped t → (o : Option Name) → ForSome (option_and_then (named t) o) IsTyped
+key_typed t typed (Some n) = found_holds IsTyped (λ (c : TableColumn). same_name c.name n) t typed
+key_typed t typed None = λ k e. absurd (cc)
+
 partner_typed : (q : Request) → All IsTyped q.right → (n : Name) → ForSome (partner q n) IsTyped
 partner_typed q typed n = λ k e. at (merges_keys q.args.how (coalesces q.args)) (position (same_name n) q.left_on) k e
   where
-    at : (b : Bool) (o : Option ℕ) (k : TableColumn) → cond b (option_and_then (λ p. named q.right (get_or q.right_on p [])) o) None ≡ Some k → IsTyped k
-    at true (Some p) k e = found_holds IsTyped (λ (c : TableColumn). same_name c.name (get_or q.right_on p [])) q.right typed k e
+    at : (b : Bool) (o : Option ℕ) (k : TableColumn) → cond b (option_and_then (right_key q) o) None ≡ Some k → IsTyped k
+    at true (Some p) k e = key_typed q.right typed (slice_get q.right_on p) k e
     at true None k e = absurd (cc)
     at false o k e = absurd (cc)
 

@@ -30,7 +30,7 @@ module _ (q : Request) (valid : join_valid q) where
 
   -- the types of the keys agree
   pub same_types : key_types q ≡ None
-  same_types = none 6 None (omega arith)
+  same_types = none 7 None (omega arith)
 
   -- the keys are columns of their tables
   pub known_left : first_unknown q.left q.left_on ≡ None
@@ -50,14 +50,14 @@ module _ (q : Request) (valid : join_valid q) where
 
   -- no more pairs than a table has rows
   pub few_pairs : length (listing q) ≤ MAX_ROWS
-  few_pairs = when_not_above MAX_ROWS (length (listing q)) (ComputeError TooManyRows) (none 11 None (omega arith))
+  few_pairs = when_not_above MAX_ROWS (length (listing q)) (ComputeError TooManyRows) (none 12 None (omega arith))
 
   -- the names of the columns that are put side by side
   abbrev all_names : List Name
   all_names = joined_names q.args q.left_on q.right_on (names_of q.left) (names_of q.right)
 
   pub names_apart : AllPairs (λ (a b : Name). a ≢ b) (joined_names q.args q.left_on q.right_on (names_of q.left) (names_of q.right))
-  names_apart = distinct_names all_names (map_none (λ n. Duplicate n) (first_repeated all_names) (none 8 None (omega arith)))
+  names_apart = distinct_names all_names (map_none (λ n. Duplicate n) (first_repeated all_names) (none 9 None (omega arith)))
 
   ordered_pairs : List JoinPair
   ordered_pairs = in_order (direction q.args.how q.args.maintain_order) q.args.how (height q.left) (height q.right) (matches q)

@@ -1,6 +1,6 @@
 -- A join request and its answers.
-use Rattle.std.specs.Prelude.{◌≡◌, ℕ, min, ℤ, pos, ◌+ℤ◌, int_lt, int_le, Bool, ◌&&◌, if◌then◌else◌, Option, Some, None, ⊤}
-use Rattle.std.specs.Prelude.{List, [], ◌++◌, length, map, filter, position, slice_index_or, All, IsSorted, IsPermutation}
+use Rattle.std.specs.Prelude.{◌≡◌, ℕ, min, ℤ, pos, ◌+ℤ◌, int_lt, int_le, Bool, false, ◌&&◌, if◌then◌else◌, Option, Some, None, ⊤}
+use Rattle.std.specs.Prelude.{List, [], ◌++◌, length, map, filter, position, slice_get, slice_index_or, All, IsSorted, IsPermutation}
 use Rattle.std.specs.List.{list_all, filter_map, find, enumerate_from}
 use Rattle.std.specs.Option.{ForSome, option_and_then}
 use Rattle.tb_value.specs.Datum.{Datum, null}
@@ -16,6 +16,8 @@ use Rattle.tb_frame.specs.declared.args.JoinType.{JoinType}
 use Rattle.tb_frame.specs.declared.args.JoinType.TheVariants.{Inner, Left, Right, Full, Semi, Anti}
 use Rattle.tb_frame.specs.declared.args.MaintainOrderJoin.{MaintainOrderJoin}
 use Rattle.tb_frame.specs.declared.args.MaintainOrderJoin.TheVariants as order
+use Rattle.tb_frame.specs.declared.null_flags.JoinNulls.{JoinNulls}
+use Rattle.tb_frame.specs.declared.null_flags.JoinNulls.TheVariants as join_nulls
 use Rattle.tb_frame.specs.declared.args.Direction.{Direction}
 use Rattle.tb_frame.specs.declared.args.Direction.TheVariants.{Free, ByLeft, ByRight}
 use Rattle.tb_frame.specs.Naming.{answer_fields, coalesces, keeps_left, merges_keys, right_name, shows_right}
@@ -57,9 +59,14 @@ lent_request left right left_on right_on args = by_names (table_of left) (table_
 abbrev pub field : List TableColumn → ℕ → ℕ → Datum
 field keys p i = slice_index_or (slice_index_or (map (λ (c : TableColumn). c.values) keys) p []) i null
 
+-- the flag at place p; beyond the flags it is false
+abbrev pub flag_at : JoinNulls → ℕ → Bool
+flag_at (join_nulls.All b) p = b
+flag_at (join_nulls.Each flags) p = slice_index_or flags p false
+
 -- whether Nulls match at place p
 abbrev pub nulls : Request → ℕ → Bool
-nulls q p = q.args.join_nulls
+nulls q p = flag_at q.args.join_nulls p
 
 -- the places that both key lists have
 abbrev pub places : Request → List ℕ
@@ -147,10 +154,13 @@ kept_left q = columns_where (keeps_left q.args q.left_on) q.left
 abbrev pub shown_right : Request → Table
 shown_right q = columns_where (shows_right q.args q.right_on) q.right
 
+-- the column of the right table that the right key at place p names, if there is one
+abbrev pub right_key : Request → ℕ → Option TableColumn
+right_key q p = option_and_then (named q.right) (slice_get q.right_on p)
+
 -- the column of the right table that is merged into a left one of this name: where keys are merged, that of the right key beside the left key
 abbrev pub partner : Request → Name → Option TableColumn
-partner q n = (if merges_keys q.args.how (coalesces q.args)
-    then option_and_then (λ p. named q.right (slice_index_or q.right_on p [])) (position (same_name n) q.left_on) else None)
+partner q n = (if merges_keys q.args.how (coalesces q.args) then option_and_then (right_key q) (position (same_name n) q.left_on) else None)
 
 -- a left column's field, and the partner's where it is Null
 abbrev pub left_field : Option TableColumn → TableColumn → JoinPair → Datum

@@ -12,12 +12,14 @@ use Rattle.tb_value.specs.Same.{same}
 use Rattle.tb_value.specs.SameKind.{same_kind, is_key}
 use Rattle.tb_value.specs.declared.error.Side.TheVariants as side
 use Rattle.tb_value.specs.declared.limits.TheConstants.{MAX_ROWS}
-use Rattle.tb_value.specs.declared.error.InvalidCause.TheVariants.{NoKeys, KeyCounts, KeyKind}
+use Rattle.tb_value.specs.declared.error.InvalidCause.TheVariants.{NoKeys, KeyCounts, NullFlags, KeyKind}
 use Rattle.tb_value.specs.declared.error.ComputeCause.TheVariants.{KeyTypes, Validation, TooManyRows}
 use Rattle.tb_value.specs.declared.error.PolarsError.{PolarsError}
 use Rattle.tb_value.specs.declared.error.PolarsError.TheVariants.{ColumnNotFound, InvalidOperation, ComputeError, Duplicate, ShapeMismatch}
 use Rattle.tb_frame.specs.declared.args.JoinType.{JoinType}
 use Rattle.tb_frame.specs.declared.args.JoinType.TheVariants.{Semi, Anti}
+use Rattle.tb_frame.specs.declared.null_flags.JoinNulls.{JoinNulls}
+use Rattle.tb_frame.specs.declared.null_flags.JoinNulls.TheVariants.{All, Each}
 use Rattle.tb_frame.specs.declared.args.JoinValidation.{JoinValidation}
 use Rattle.tb_frame.specs.declared.args.JoinValidation.TheVariants.{ManyToMany, ManyToOne, OneToMany, OneToOne}
 use Rattle.tb_frame.specs.Table.{TableColumn, Table, height, names_of}
@@ -94,6 +96,11 @@ no_keys left_on right_on = when (length left_on == 0 || length right_on == 0) (I
 abbrev pub key_counts : List Name → List Name → Option PolarsError
 key_counts left_on right_on = when (not (length left_on == length right_on)) (InvalidOperation (KeyCounts (length left_on) (length right_on)))
 
+-- a flag for each of so many keys is asked for, and there are more or fewer
+abbrev pub null_flags : JoinNulls → ℕ → Option PolarsError
+null_flags (All b) keys = None
+null_flags (Each flags) keys = when (not (length flags == keys)) (InvalidOperation (NullFlags (length flags) keys))
+
 abbrev pub repeated_among : List Name → Option PolarsError
 repeated_among names = option_map (λ n. Duplicate n) (first_repeated names)
 
@@ -133,9 +140,16 @@ key_shapes q = when (not (list_all (fits (height q.left)) q.left_keys && list_al
 abbrev pub name_causes : Table → Table → List Name → List Name → List (Option PolarsError)
 name_causes left right left_on right_on = unknown_key left left_on ∷ unknown_key right right_on ∷ []
 
--- a side has no keys, the sides have different numbers of keys, or a key is repeated
-abbrev pub list_causes : List Name → List Name → List (Option PolarsError)
-list_causes left_on right_on = no_keys left_on right_on ∷ key_counts left_on right_on ∷ repeated_among left_on ∷ repeated_among right_on ∷ []
+-- a side has no keys, the sides have different numbers of keys, or the flags have another
+abbrev pub count_causes : JoinNulls → List Name → List Name → List (Option PolarsError)
+count_causes nulls left_on right_on = no_keys left_on right_on ∷ key_counts left_on right_on ∷ null_flags nulls (length left_on) ∷ []
+
+-- a key is repeated
+abbrev pub repeat_causes : List Name → List Name → List (Option PolarsError)
+repeat_causes left_on right_on = repeated_among left_on ∷ repeated_among right_on ∷ []
+
+abbrev pub list_causes : JoinNulls → List Name → List Name → List (Option PolarsError)
+list_causes nulls left_on right_on = count_causes nulls left_on right_on ++ repeat_causes left_on right_on
 
 -- the types of two keys differ, or have no keys, or a name of the answer is repeated
 abbrev pub column_causes : Request → List (Option PolarsError)
@@ -146,7 +160,7 @@ abbrev pub row_causes : Request → List (Option PolarsError)
 row_causes q = broken_left q ∷ broken_right q ∷ too_many_rows q ∷ []
 
 abbrev pub key_causes : Request → List (Option PolarsError)
-key_causes q = name_causes q.left q.right q.left_on q.right_on ++ list_causes q.left_on q.right_on
+key_causes q = name_causes q.left q.right q.left_on q.right_on ++ list_causes q.args.join_nulls q.left_on q.right_on
 
 abbrev pub join_causes : Request → List (Option PolarsError)
 join_causes q = key_causes q ++ column_causes q ++ row_causes q
@@ -157,7 +171,7 @@ join_refusal q = first_cause (join_causes q)
 
 -- those of a request whose keys are given, of which the first two speak of the keys' names
 abbrev pub given_causes : Request → List (Option PolarsError)
-given_causes q = name_causes q.left q.right q.left_on q.right_on ++ key_shapes q ∷ list_causes q.left_on q.right_on ++ column_causes q ++ row_causes q
+given_causes q = name_causes q.left q.right q.left_on q.right_on ++ key_shapes q ∷ list_causes q.args.join_nulls q.left_on q.right_on ++ column_causes q ++ row_causes q
 
 abbrev pub given_refusal : Request → Option PolarsError
 given_refusal q = first_cause (given_causes q)

@@ -1,10 +1,12 @@
 //! The arguments of a join.
-ghost use Rattle.std.specs.Prelude.{◌≡◌, None, false};
+ghost use Rattle.std.specs.Prelude.{◌≡◌, IfOk, None, false};
 ghost use Rattle.tb_frame.specs.Naming.{coalesce, coalesces};
 ghost use Rattle.tb_frame.specs.Refusal.{asks_left, asks_right, asks_a_side};
 ghost use Rattle.tb_frame.specs.Sides.{flip};
 
-use tb_value::PlSmallStr;
+use crate::null_flags::JoinNulls;
+use std::alloc::Global;
+use tb_value::{OutOfMemory, PlSmallStr};
 
 /// Which rows a join puts side by side, and which it keeps alone.
 #[derive(Clone, Copy, PartialEq, Eq, Debug)]
@@ -65,8 +67,8 @@ pub struct JoinArgs {
     pub suffix: Option<PlSmallStr>,
     /// The offset and the length of the rows that are kept, after all are in order. A negative offset counts from the end.
     pub slice: Option<(i64, usize)>,
-    /// Whether absent keys match absent keys.
-    pub join_nulls: bool,
+    /// Whether absent keys match absent keys, for all keys or for each by itself.
+    pub join_nulls: JoinNulls,
     pub coalesce: JoinCoalesce,
     pub maintain_order: MaintainOrderJoin,
 }
@@ -79,7 +81,7 @@ impl JoinArgs {
           validation = JoinValidation.ManyToMany;
           suffix = None;
           slice = None;
-          join_nulls = false;
+          join_nulls = JoinNulls.All false;
           coalesce = JoinCoalesce.JoinSpecific;
           maintain_order = MaintainOrderJoin.None;
         } }
@@ -89,7 +91,7 @@ impl JoinArgs {
             validation: JoinValidation::default(),
             suffix: None,
             slice: None,
-            join_nulls: false,
+            join_nulls: JoinNulls::All(false),
             coalesce: JoinCoalesce::default(),
             maintain_order: MaintainOrderJoin::default(),
         }
@@ -100,6 +102,33 @@ impl JoinArgs {
         ensures { result ≡ coalesces self.now }
     {
         self.coalesce.coalesce(&self.how)
+    }
+
+    /// Equal arguments.
+    pub fn copy(&self, alloc: Global) -> Result<JoinArgs, OutOfMemory>
+        ensures { IfOk result (λ a. a ≡ self.now) }
+    {
+        Ok(JoinArgs {
+            how: self.how,
+            validation: self.validation,
+            suffix: copy_suffix(&self.suffix, alloc)?,
+            slice: self.slice,
+            join_nulls: self.join_nulls.copy(alloc)?,
+            coalesce: self.coalesce,
+            maintain_order: self.maintain_order,
+        })
+    }
+}
+
+fn copy_suffix(
+    suffix: &Option<PlSmallStr>,
+    alloc: Global,
+) -> Result<Option<PlSmallStr>, OutOfMemory>
+    ensures { IfOk result (λ s. s ≡ suffix.now) }
+{
+    match suffix {
+        None => Ok(None),
+        Some(text) => Ok(Some(text.copy(alloc)?)),
     }
 }
 

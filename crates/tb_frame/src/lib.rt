@@ -11,6 +11,7 @@ mod joined_names;
 pub mod laws;
 mod lookup;
 mod names;
+mod null_flags;
 mod order;
 mod right_columns;
 mod validated;
@@ -24,6 +25,7 @@ pub use frame::{DataFrame, IntoDf, column_name_set};
 pub use joined_names::check_joined_names;
 pub use lookup::{NamedColumns, lend_columns};
 pub use names::{NameSet, check_distinct, check_repeated, name_set};
+pub use null_flags::{Flags, JoinNulls};
 pub use order::direction_of;
 pub use right_columns::{
     columns_beside, gone_left, gone_right, has_right, left_rows, right_name, right_rows,

@@ -15,7 +15,7 @@ use Rattle.tb_frame.specs.declared.args.JoinType.{JoinType}
 use Rattle.tb_frame.specs.declared.args.JoinType.TheVariants.{Inner, Left, Right, Full, Semi, Anti}
 use Rattle.tb_frame.specs.Answer.{fill}
 use Rattle.tb_frame.specs.Frame.{opt_taken, selected, without_names}
-use Rattle.tb_frame.specs.Join.{Request, named, out, partner}
+use Rattle.tb_frame.specs.Join.{Request, named, out, partner, right_key}
 use Rattle.tb_frame.specs.Naming.{coalesces, drops_left_keys, drops_right_keys, has_right, is_among, merges_keys}
 use Rattle.tb_frame.specs.Refusal.{first_unknown}
 use Rattle.tb_frame.specs.RightColumns.{gone_left, gone_right, right_column, right_columns, right_side}
@@ -56,7 +56,7 @@ flags-aside suffix lefts rights s t xs ys =
 
 -- where keys are not merged, no column has a partner
 alone : (q : Request) → merges_keys q.args.how (coalesces q.args) ≡ false → (n : Name) → partner q n ≡ None
-alone q apart n = ap (λ (b : Bool). cond b (option_and_then (λ (p : ℕ). named q.right (get_or q.right_on p [])) (position (same_name n) q.left_on)) None) apart
+alone q apart n = ap (λ (b : Bool). cond b (option_and_then (right_key q) (position (same_name n) q.left_on)) None) apart
 
 pub columns-are : (q : Request) (left right : List Col) (ps : List JoinPair) → merges_keys q.args.how (coalesces q.args) ≡ false → table_of left ≡ q.left → table_of right ≡ q.right
     → table_of (answer_columns q.args q.left_on q.right_on ps left right) ≡ map (fill ps) (out q)
@@ -125,7 +125,7 @@ module _ (q : Request) (left right : List Col) (is_left : table_of left ≡ q.le
   partner-is c =
       let many = keys_many right keys q.right_on (selected-table q.right_on right) known in
       let enough = can.many merges in
-      partner-key q keys (λ p d low. ap (λ (t : Table). named t (get_or q.right_on p [])) (sym is_right) ∙ keys_own right keys q.right_on (selected-table q.right_on right) known p d low) (omega (arith, many, enough)) c c.name
+      partner-key q keys (λ p d low. ap (λ (t : Table). option_and_then (named t) (slice_get q.right_on p)) (sym is_right) ∙ keys_own right keys q.right_on (selected-table q.right_on right) known p d low) (omega (arith, many, enough)) c c.name
 
   module _ (ps : List JoinPair) where
     abbrev ls : List (Option ℕ)

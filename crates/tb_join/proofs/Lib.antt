@@ -7,3 +7,4 @@ pub mod NamedKeys
 pub mod NamesStand
 pub mod Beside
 pub mod Running
+pub mod EqualFlags

@@ -25,10 +25,15 @@ as_lent : (rs : List (Bor Col)) (ks : List Col) (t : Table) → table_of (lent_c
 as_lent rs ks t is of =
     sym (length-map rs (λ (b : Bor Col). b.now)) ∙ sym (length-map (lent_columns rs) plain) ∙ ap (λ (cs : Table). length cs) (is ∙ sym of) ∙ length-map ks plain
 
-module _ (n : NamedRequest) (r : LentRequest) (lk rk : List Col) (is : asked r ≡ asked_by_names n) (none : names_refusal (table_of n.left.now) (table_of n.right.now) n.left_on.now n.right_on.now ≡ None)
+module _ (n : NamedRequest) (r : LentRequest) (lk rk : List Col) (is : asked r ≡ asked_by_names n) (none : names_refusal (table_of n.left.now) (table_of n.right.now) n.args.now.join_nulls n.left_on.now n.right_on.now ≡ None)
     (of_left : AreKeysOf n.left.now n.left_on.now lk) (of_right : AreKeysOf n.right.now n.right_on.now rk) where
-  each : All (λ (o : Option PolarsError). o ≡ None) (name_causes (table_of n.left.now) (table_of n.right.now) n.left_on.now n.right_on.now ++ list_causes n.left_on.now n.right_on.now)
-  each = no_cause (name_causes (table_of n.left.now) (table_of n.right.now) n.left_on.now n.right_on.now ++ list_causes n.left_on.now n.right_on.now) none
+  abbrev causes : List (Option PolarsError)
+  causes =
+      name_causes (table_of n.left.now) (table_of n.right.now) n.left_on.now n.right_on.now
+      ++ list_causes n.args.now.join_nulls n.left_on.now n.right_on.now
+
+  each : All (λ (o : Option PolarsError). o ≡ None) causes
+  each = no_cause causes none
 
   -- there is a key for each name
   left_many : length r.left_keys.now ≡ length n.left_on.now

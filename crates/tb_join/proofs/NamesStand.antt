@@ -1,8 +1,8 @@
 -- What a request has whose names are not refused.
 use Rattle.std.proofs.Common.{◌≡◌, ◌==◌, ◌<◌, ◌++◌, List, [], length, get_or, min, ap, sym, ◌∙◌, subst, arith, Option, Some, None}
-use Rattle.std.specs.Prelude.{All, not}
+use Rattle.std.specs.Prelude.{All, not, slice_get}
 use Rattle.std.specs.List.{filter_map, find}
-use Rattle.std.specs.Option.{ForSome, option_map}
+use Rattle.std.specs.Option.{ForSome, option_and_then, option_map}
 use Rattle.std.proofs.lemmas.Bool.{eqb-true}
 use Rattle.std.proofs.lemmas.List.Elements.{All-map}
 use Rattle.tb_value.specs.Pairs.{row_numbers}
@@ -36,9 +36,10 @@ pub record NamesStand (q : Request) : Type 0 where
   pub some_right : 0 < length q.right_on
   pub counts : length q.left_on ≡ length q.right_on
 
-pub names_stand : (q : Request) → names_refusal q.left q.right q.left_on q.right_on ≡ None → NamesStand q
+pub names_stand : (q : Request) → names_refusal q.left q.right q.args.join_nulls q.left_on q.right_on ≡ None → NamesStand q
 names_stand q none =
-    let each : All (λ (o : Option PolarsError). o ≡ None) (name_causes q.left q.right q.left_on q.right_on ++ list_causes q.left_on q.right_on) = no_cause (name_causes q.left q.right q.left_on q.right_on ++ list_causes q.left_on q.right_on) none in
+    let causes : List (Option PolarsError) = name_causes q.left q.right q.left_on q.right_on ++ list_causes q.args.join_nulls q.left_on q.right_on in
+    let each : All (λ (o : Option PolarsError). o ≡ None) causes = no_cause causes none in
     record {
       known_left = map_none (λ m. ColumnNotFound m) (first_unknown q.left q.left_on) (each 0 None (omega arith));
       known_right = map_none (λ m. ColumnNotFound m) (first_unknown q.right q.right_on) (each 1 None (omega arith));
@@ -68,7 +69,7 @@ module _ (q : Request) (left right : List Col) (is_left : table_of left ≡ q.le
   partner-is c =
       let many = keys_many right rk q.right_on (selected-table q.right_on right) known_right in
       let counts = stand.counts in
-      partner-key q rk (λ p d low. ap (λ (t : Table). named t (get_or q.right_on p [])) (sym is_right) ∙ keys_own right rk q.right_on (selected-table q.right_on right) known_right p d low) (omega (arith, many, counts)) c c.name
+      partner-key q rk (λ p d low. ap (λ (t : Table). option_and_then (named t) (slice_get q.right_on p)) (sym is_right) ∙ keys_own right rk q.right_on (selected-table q.right_on right) known_right p d low) (omega (arith, many, counts)) c c.name
 
   same_kinds : (c : Col) → ForSome (merged_key (merges_keys q.args.how (coalesces q.args)) q.left_on rk c.name) (λ k. c.kind ≡ k.kind) → ForSome (partner q c.name) (λ k. c.kind ≡ k.kind)
   same_kinds c h = subst (λ (o : Option TableColumn). ForSome o (λ k. c.kind ≡ k.kind)) (sym (partner-is c)) (at (merged_key (merges_keys q.args.how (coalesces q.args)) q.left_on rk c.name) h)

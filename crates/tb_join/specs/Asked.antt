@@ -5,6 +5,7 @@ use Rattle.tb_frame.specs.declared.args.JoinType.{JoinType}
 use Rattle.tb_frame.specs.declared.args.JoinValidation.TheVariants.{ManyToMany}
 use Rattle.tb_frame.specs.declared.args.JoinCoalesce.TheVariants.{JoinSpecific}
 use Rattle.tb_frame.specs.declared.args.MaintainOrderJoin.TheVariants as order
+use Rattle.tb_frame.specs.declared.null_flags.JoinNulls.TheVariants.{All}
 
 abbrev pub plainly : JoinType → JoinArgs
-plainly how = record { how = how; validation = ManyToMany; suffix = None; slice = None; join_nulls = false; coalesce = JoinSpecific; maintain_order = order.None }
+plainly how = record { how = how; validation = ManyToMany; suffix = None; slice = None; join_nulls = All false; coalesce = JoinSpecific; maintain_order = order.None }

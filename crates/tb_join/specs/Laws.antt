@@ -1,12 +1,12 @@
 -- The laws over the definitions of the join.
-use Rattle.std.specs.Prelude.{◌≡◌, ◌≢◌, ◌↔◌, AllPairs, Bool, ℕ, ◌+◌, ◌<◌, ◌≤◌, min, true, false, List, [], ◌∷◌, map, length, pos, negsuc, Some, None, IsPermutation, codes}
+use Rattle.std.specs.Prelude.{◌≡◌, ◌≢◌, ◌↔◌, AllPairs, Bool, ℕ, ◌+◌, ◌<◌, ◌≤◌, min, true, false, List, [], ◌∷◌, map, length, replicate, pos, negsuc, Some, None, IsPermutation, codes}
 use Rattle.std.specs.Bool.{Decides}
 use Rattle.tb_value.specs.declared.index.JoinPair.{JoinPair}
 use Rattle.tb_value.specs.Datum.{Datum, null}
 use Rattle.tb_value.specs.Kind.{int32, int64}
 use Rattle.tb_value.specs.Kind as kind
 use Rattle.tb_value.specs.declared.error.Side.TheVariants as side
-use Rattle.tb_value.specs.declared.error.InvalidCause.TheVariants.{NoKeys, KeyCounts, KeyKind}
+use Rattle.tb_value.specs.declared.error.InvalidCause.TheVariants.{NoKeys, KeyCounts, NullFlags, KeyKind}
 use Rattle.tb_value.specs.declared.error.ComputeCause.TheVariants.{KeyTypes, Validation}
 use Rattle.tb_value.specs.declared.error.PolarsError.TheVariants.{ColumnNotFound, InvalidOperation, ComputeError, Duplicate}
 use Rattle.tb_value.specs.Pairs.{both, left_only, times, turn}
@@ -18,12 +18,13 @@ use Rattle.tb_frame.specs.declared.args.JoinType.TheVariants.{Inner, Left, Right
 use Rattle.tb_frame.specs.declared.args.JoinValidation.TheVariants.{ManyToOne, OneToMany}
 use Rattle.tb_frame.specs.declared.args.MaintainOrderJoin.TheVariants as order
 use Rattle.tb_frame.specs.declared.args.MaintainOrderJoin.{MaintainOrderJoin}
+use Rattle.tb_frame.specs.declared.null_flags.JoinNulls.TheVariants.{All, Each}
 use Rattle.tb_frame.specs.Table.{Table, IsTable, height}
 use Rattle.tb_frame.specs.Join.{Request, IsAnswer, IsOrdered, MergesAlike, cut, direction, field, listing, listing_of, matches, nulls}
 use Rattle.tb_frame.specs.Refusal.{join_refusal, join_valid}
 use Rattle.tb_frame.specs.Sides.{asking, exchanged, flip}
 use Rattle.tb_frame.specs.Meaning.{Agree}
-use Rattle.tb_join.specs.Rows.{null_keys, full_right_left, cut_thrice, left_by_right, two_keys, two_keys_joined, split_texts, repeated_keys, validated, by_keys, of_kinds, taken_name, number, numbers, keys, k_name, k_right_name}
+use Rattle.tb_join.specs.Rows.{null_keys, full_right_left, cut_thrice, left_by_right, two_keys, two_keys_joined, split_texts, repeated_keys, validated, absent_by_turns, absent_twice, by_flagged_keys, by_keys, of_kinds, taken_name, number, numbers, keys, k_name, k_right_name}
 
 -- two answers to one request whose order is fixed are equal
 abbrev pub OneAnswer : Type 0
@@ -59,6 +60,32 @@ SameValue = (a b : Datum) → Decides (same a b) (a ≡ b)
 -- Null matches no row, or Null alone where that is asked
 abbrev pub NullKeys : Type 0
 NullKeys = (listing (null_keys false) ≡ both 0 1 ∷ both 0 2 ∷ []) × (listing (null_keys true) ≡ both 0 1 ∷ both 0 2 ∷ both 1 0 ∷ [])
+
+-- flags that are all the same, as many as keys, list what one flag for all keys lists
+abbrev pub EqualFlags : Type 0
+EqualFlags = (q : Request) (b : Bool)
+    → listing (record q { args = record q.args { join_nulls = Each (replicate (length q.left_keys) b) } })
+    ≡ listing (record q { args = record q.args { join_nulls = All b } })
+
+-- of two keys each has its own flag
+abbrev pub FlaggedKeys : Type 0
+FlaggedKeys =
+    (listing (absent_by_turns (true ∷ false ∷ [])) ≡ both 0 0 ∷ [])
+    × (listing (absent_by_turns (true ∷ true ∷ [])) ≡ both 0 0 ∷ both 1 1 ∷ [])
+    × (listing (absent_by_turns (false ∷ false ∷ [])) ≡ [])
+
+-- and a row counts where the flags of its absent keys are true
+abbrev pub FlaggedTwins : Type 0
+FlaggedTwins =
+    (join_refusal (absent_twice (true ∷ false ∷ [])) ≡ Some (ComputeError (Validation side.Left)))
+    × (join_refusal (absent_twice (false ∷ true ∷ [])) ≡ None)
+
+-- flags that are not as many as the keys are refused after keys that are not as many on both sides, and before repeated ones
+abbrev pub RefusedFlags : Type 0
+RefusedFlags =
+    (join_refusal (absent_by_turns (true ∷ [])) ≡ Some (InvalidOperation (NullFlags 1 2)))
+    × (join_refusal (by_flagged_keys [] (k_name ∷ k_name ∷ []) (k_name ∷ [])) ≡ Some (InvalidOperation (KeyCounts 2 1)))
+    × (join_refusal (by_flagged_keys (true ∷ []) (k_name ∷ k_name ∷ []) (k_name ∷ k_name ∷ [])) ≡ Some (InvalidOperation (NullFlags 1 2)))
 
 -- a Full join in the order of the right table, with two key columns and with one
 abbrev pub two_columns : Table

@@ -8,8 +8,10 @@ use Rattle.tb_frame.specs.declared.args.JoinArgs.{JoinArgs}
 use Rattle.tb_frame.specs.declared.args.JoinType.{JoinType}
 use Rattle.tb_frame.specs.declared.args.JoinType.TheVariants.{Inner, Left, Right, Full}
 use Rattle.tb_frame.specs.declared.args.JoinValidation.{JoinValidation}
+use Rattle.tb_frame.specs.declared.args.JoinValidation.TheVariants.{OneToMany}
 use Rattle.tb_frame.specs.declared.args.JoinCoalesce.{JoinCoalesce}
 use Rattle.tb_frame.specs.declared.args.MaintainOrderJoin.TheVariants as order
+use Rattle.tb_frame.specs.declared.null_flags.JoinNulls.TheVariants.{All, Each}
 use Rattle.tb_frame.specs.Table.{TableColumn, Table}
 use Rattle.tb_frame.specs.Join.{Request, by_names}
 use Rattle.tb_join.specs.Asked.{plainly}
@@ -37,7 +39,7 @@ on_k left right args = by_names (keys left) (keys right) (k_name ∷ []) (k_name
 -- Inner, [1, Null, 2] and [Null, 1, 1]
 abbrev pub null_keys : Bool → Request
 null_keys nulls = on_k (number 1 ∷ null ∷ number 2 ∷ []) (null ∷ number 1 ∷ number 1 ∷ [])
-    (record (plainly Inner) { join_nulls = nulls; maintain_order = order.LeftRight })
+    (record (plainly Inner) { join_nulls = All nulls; maintain_order = order.LeftRight })
 
 -- Full in the order of the right table, [1, 3] and [2, 1]
 abbrev pub full_right_left : JoinCoalesce → Request
@@ -83,7 +85,31 @@ repeated_keys how = on_k (number 3 ∷ number 1 ∷ number 3 ∷ null ∷ []) (n
 
 -- Right with keys that are to be single on some side
 abbrev pub validated : List Datum → JoinValidation → Bool → Request
-validated left v nulls = on_k left (number 1 ∷ []) (record (plainly Right) { validation = v; join_nulls = nulls })
+validated left v nulls = on_k left (number 1 ∷ []) (record (plainly Right) { validation = v; join_nulls = All nulls })
+
+-- two tables with two keys each, called `a` and `b`
+abbrev pub on_a_b : List Datum → List Datum → List Datum → List Datum → JoinArgs → Request
+on_a_b left_a left_b right_a right_b args =
+    let names : List Name = codes "a" ∷ codes "b" ∷ [] in
+    let table : List Datum → List Datum → Table = λ a b. numbers (codes "a") a ∷ numbers (codes "b") b ∷ [] in
+    by_names (table left_a left_b) (table right_a right_b) names names args
+
+-- Inner in the order of the left table, (Null, 1) and (1, Null) on both sides
+abbrev pub absent_by_turns : List Bool → Request
+absent_by_turns flags =
+    on_a_b (null ∷ number 1 ∷ []) (number 1 ∷ null ∷ []) (null ∷ number 1 ∷ []) (number 1 ∷ null ∷ [])
+    (record (plainly Inner) { join_nulls = Each flags; maintain_order = order.LeftRight })
+
+-- Left with left keys that are to be single, (Null, 1) twice
+abbrev pub absent_twice : List Bool → Request
+absent_twice flags =
+    on_a_b (null ∷ null ∷ []) (number 1 ∷ number 1 ∷ []) (number 1 ∷ []) (number 1 ∷ [])
+    (record (plainly Left) { validation = OneToMany; join_nulls = Each flags })
+
+-- Inner of one table with itself, by names of keys, with a flag for each of so many
+abbrev pub by_flagged_keys : List Bool → List Name → List Name → Request
+by_flagged_keys flags left_on right_on =
+    by_names (keys (number 1 ∷ [])) (keys (number 1 ∷ [])) left_on right_on (record (plainly Inner) { join_nulls = Each flags })
 
 -- Inner of one table with itself, by names of keys
 abbrev pub by_keys : List Name → List Name → Request

@@ -27,7 +27,8 @@ pub trait DataFrameJoinOps: IntoDf {
     /// arguments allow, and of them those that the slice keeps, under the columns of the naming rule: those of the left
     /// table, and then those of the right one. Coalesced keys of an Inner or Left join stand on the left alone, those of
     /// a Right join on the right alone; those of a Full join stand on the left, with the right key's value where the
-    /// left one is absent. A Semi or Anti join has the left columns alone. Rows match where they agree at every key.
+    /// left one is absent. A Semi or Anti join has the left columns alone. Rows match where they agree at every key:
+    /// where the fields of both are there and the same, or both are absent and the arguments let that key's match.
     ///
     /// # Errors
     ///
@@ -35,12 +36,13 @@ pub trait DataFrameJoinOps: IntoDf {
     /// 1. ColumnNotFound: a left key is no column of the left table, and then a right key none of the right;
     /// 2. NoKeys: a side has no keys;
     /// 3. KeyCounts: the sides have different numbers of keys;
-    /// 4. Duplicate: a left key is repeated, and then a right key;
-    /// 5. KeyTypes: the keys at a place are of different types;
-    /// 6. KeyKind: the keys at a place are of type List, Struct or Null;
-    /// 7. Duplicate: two columns of the answer would have this name, which is the first that stood before;
-    /// 8. Validation: two left rows have equal keys and may not, and then two right rows; not in a Semi or Anti join;
-    /// 9. TooManyRows: there are more than `MAX_ROWS` pairs of rows before they are cut.
+    /// 4. NullFlags: there is a flag for each key, and the flags are not as many as the keys;
+    /// 5. Duplicate: a left key is repeated, and then a right key;
+    /// 6. KeyTypes: the keys at a place are of different types;
+    /// 7. KeyKind: the keys at a place are of type List, Struct or Null;
+    /// 8. Duplicate: two columns of the answer would have this name, which is the first that stood before;
+    /// 9. Validation: two left rows have equal keys and may not, and then two right rows; not in a Semi or Anti join;
+    /// 10. TooManyRows: there are more than `MAX_ROWS` pairs of rows before they are cut.
     final fn join(
         &self,
         rt: &(impl Threads + Sync),
@@ -96,7 +98,7 @@ pub trait DataFrameJoinOps: IntoDf {
     ///
     /// # Errors
     ///
-    /// Those of `join`.
+    /// Those of `join`, but for NullFlags.
     final fn inner_join(
         &self,
         rt: &(impl Threads + Sync),
@@ -117,7 +119,7 @@ pub trait DataFrameJoinOps: IntoDf {
     ///
     /// # Errors
     ///
-    /// Those of `join`.
+    /// Those of `join`, but for NullFlags.
     final fn left_join(
         &self,
         rt: &(impl Threads + Sync),
@@ -138,7 +140,7 @@ pub trait DataFrameJoinOps: IntoDf {
     ///
     /// # Errors
     ///
-    /// Those of `join`.
+    /// Those of `join`, but for NullFlags.
     final fn full_join(
         &self,
         rt: &(impl Threads + Sync),

@@ -1,5 +1,5 @@
 //! The laws over the definitions of the join: functions that do nothing, whose contracts are theorems.
-ghost use Rattle.tb_join.specs.Laws.{OneAnswer, SomeAnswer, EachOnce, Parts, Kept, Turned, TurnedOrder, MatchesMean, SameValue, NullKeys, FullRightLeft, SlicedRows, LeftByRight, TwoKeys, SplitTexts, RepeatedKeys, Validations, RefusedKeys, RefusedColumns};
+ghost use Rattle.tb_join.specs.Laws.{OneAnswer, SomeAnswer, EachOnce, Parts, Kept, Turned, TurnedOrder, MatchesMean, SameValue, NullKeys, EqualFlags, FlaggedKeys, FlaggedTwins, RefusedFlags, FullRightLeft, SlicedRows, LeftByRight, TwoKeys, SplitTexts, RepeatedKeys, Validations, RefusedKeys, RefusedColumns};
 
 /// Two answers to one request whose order is fixed are equal tables.
 pub fn one_answer()
@@ -42,6 +42,19 @@ pub fn matches_mean()
 /// Null keys match none, or each other where that is asked.
 pub fn null_keys()
     ensures { NullKeys }
+{}
+
+/// A flag for each key lists the same pairs as one flag for all keys, where each is that flag.
+pub fn null_flags()
+    ensures { EqualFlags }
+{}
+
+/// Two keys, of which each has its own flag: which rows match, and which count where keys are to be single; and flags
+/// that are not as many as the keys.
+pub fn flagged_keys()
+    ensures pairs { FlaggedKeys }
+    ensures twins { FlaggedTwins }
+    ensures refused { RefusedFlags }
 {}
 
 /// A Full join in the order of the right table, by both ways to coalesce.

@@ -3,7 +3,7 @@ use Rattle.std.proofs.Common.{◌≡◌, ℕ, List, [], ◌∷◌, ◌++◌, fal
 use Rattle.serde_json.specs.Data.{Data}
 use Rattle.serde_json.specs.Written.{has_float, compact_text}
 use Rattle.tb_value.specs.declared.error.InvalidCause.{InvalidCause}
-use Rattle.tb_value.specs.declared.error.InvalidCause.TheVariants.{NoKeys, KeyCounts, KeyKind, BothNone, HeaderType, AggType, NoSupertype}
+use Rattle.tb_value.specs.declared.error.InvalidCause.TheVariants.{NoKeys, KeyCounts, NullFlags, KeyKind, BothNone, HeaderType, AggType, NoSupertype}
 use Rattle.tb_value.specs.declared.error.ComputeCause.{ComputeCause}
 use Rattle.tb_value.specs.declared.error.ComputeCause.TheVariants.{KeyTypes, Validation, TooManyRows, EmptyIndex, EmptyOn, BraceName, ManyInGroup, SumRange, EvaluateLength, Evaluate}
 use Rattle.tb_value.specs.declared.error.PolarsError.{PolarsError}
@@ -13,6 +13,7 @@ use Rattle.tb_json.specs.Text.{invalid_data, compute_data, error_data, text_of_r
 plain-invalid : (c : InvalidCause) → has_float (invalid_data c) ≡ false
 plain-invalid NoKeys = refl
 plain-invalid (KeyCounts l r) = refl
+plain-invalid (NullFlags f k) = refl
 plain-invalid (KeyKind p) = refl
 plain-invalid BothNone = refl
 plain-invalid (HeaderType n) = refl

@@ -16,7 +16,7 @@ use Rattle.tb_value.specs.Names.{Name}
 use Rattle.tb_value.specs.declared.error.Side.{Side}
 use Rattle.tb_value.specs.declared.error.Side.TheVariants as side
 use Rattle.tb_value.specs.declared.error.InvalidCause.{InvalidCause}
-use Rattle.tb_value.specs.declared.error.InvalidCause.TheVariants.{NoKeys, KeyCounts, KeyKind, BothNone, HeaderType, AggType, NoSupertype}
+use Rattle.tb_value.specs.declared.error.InvalidCause.TheVariants.{NoKeys, KeyCounts, NullFlags, KeyKind, BothNone, HeaderType, AggType, NoSupertype}
 use Rattle.tb_value.specs.declared.error.ComputeCause.{ComputeCause}
 use Rattle.tb_value.specs.declared.error.ComputeCause.TheVariants.{KeyTypes, Validation, TooManyRows, EmptyIndex, EmptyOn, BraceName, ManyInGroup, SumRange, EvaluateLength, Evaluate}
 use Rattle.tb_value.specs.declared.error.PolarsError.{PolarsError}
@@ -152,6 +152,7 @@ side_word side.Right = codes "right"
 abbrev pub invalid_data : InvalidCause → Data
 invalid_data NoKeys = caused (codes "NoKeys") (codes "InvalidOperation")
 invalid_data (KeyCounts l r) = caused_by_two (codes "KeyCounts") (codes "InvalidOperation") (codes "left") l (codes "right") r
+invalid_data (NullFlags f k) = caused_by_two (codes "NullFlags") (codes "InvalidOperation") (codes "flags") f (codes "keys") k
 invalid_data (KeyKind p) = caused_with (codes "KeyKind") (codes "InvalidOperation") (codes "place") (number (unsigned p))
 invalid_data BothNone = caused (codes "BothNone") (codes "InvalidOperation")
 invalid_data (HeaderType n) = caused_with (codes "HeaderType") (codes "InvalidOperation") (codes "name") (string n)

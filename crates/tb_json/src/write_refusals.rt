@@ -59,6 +59,7 @@ fn invalid_value(alloc: Global, cause: &InvalidCause) -> Result<Value, OutOfMemo
     match cause {
         InvalidCause::NoKeys => caused(alloc, "NoKeys", "InvalidOperation"),
         InvalidCause::KeyCounts { left, right } => key_counts(alloc, *left, *right),
+        InvalidCause::NullFlags { flags, keys } => null_flags(alloc, *flags, *keys),
         InvalidCause::KeyKind { place } => {
             caused_at(alloc, "KeyKind", "InvalidOperation", *place)
         }
@@ -83,6 +84,17 @@ fn key_counts(alloc: Global, left: usize, right: usize) -> Result<Value, OutOfMe
         "error": "InvalidOperation",
         "left": left,
         "right": right
+    })?)
+}
+
+fn null_flags(alloc: Global, flags: usize, keys: usize) -> Result<Value, OutOfMemory>
+    ensures { IfOk result (λ v. view v ≡ invalid_data (InvalidCause.NullFlags flags keys)) }
+{
+    Ok(json!(in alloc; {
+        "cause": "NullFlags",
+        "error": "InvalidOperation",
+        "flags": flags,
+        "keys": keys
     })?)
 }
 

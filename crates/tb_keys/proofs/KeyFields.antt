@@ -18,8 +18,8 @@ use Rattle.tb_chunk.specs.Lent.{lent_columns}
 abbrev pub agrees_at : Request → ℕ → ℕ → ℕ → Bool
 agrees_at q i j p = agrees (nulls q p) (field q.left_keys p i) (field q.right_keys p j)
 
-abbrev pub counts_at : Bool → List TableColumn → ℕ → ℕ → Bool
-counts_at null_matches keys i p = is_present (field keys p i) || null_matches
+abbrev pub counts_at : (ℕ → Bool) → List TableColumn → ℕ → ℕ → Bool
+counts_at nulls keys i p = is_present (field keys p i) || nulls p
 
 abbrev pub same_at : List TableColumn → ℕ → ℕ → ℕ → Bool
 same_at keys i j p = same (field keys p i) (field keys p j)
@@ -28,8 +28,8 @@ same_at keys i j p = same (field keys p i) (field keys p j)
 abbrev pub match_to : Request → ℕ → ℕ → ℕ → Bool
 match_to q i j n = list_all (agrees_at q i j) (row_numbers n)
 
-abbrev pub counted_to : Bool → List TableColumn → ℕ → ℕ → Bool
-counted_to null_matches keys i n = list_all (counts_at null_matches keys i) (row_numbers n)
+abbrev pub counted_to : (ℕ → Bool) → List TableColumn → ℕ → ℕ → Bool
+counted_to nulls keys i n = list_all (counts_at nulls keys i) (row_numbers n)
 
 abbrev pub same_to : List TableColumn → ℕ → ℕ → ℕ → Bool
 same_to keys i j n = list_all (same_at keys i j) (row_numbers n)

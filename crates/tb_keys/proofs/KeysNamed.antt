@@ -1,10 +1,12 @@
 -- Keys that are the columns of their names.
-use Rattle.std.proofs.Common.{◌≡◌, ℕ, ◌<◌, Bool, List, [], length, get_or, ap, sym, ◌∙◌, arith, Some, None}
-use Rattle.std.specs.Prelude.{not}
+use Rattle.std.proofs.Common.{◌≡◌, ℕ, ◌<◌, Bool, List, [], length, get_or, ap, sym, ◌∙◌, arith, Option, Some, None}
+use Rattle.std.specs.Prelude.{not, slice_get}
+use Rattle.std.specs.Option.{option_and_then}
 use Rattle.std.specs.List.{find, filter_map}
 use Rattle.std.proofs.lemmas.Bool.{not-false}
 use Rattle.std.proofs.lemmas.List.{get_or-map, length-map}
 use Rattle.std.proofs.lemmas.List.FromFn.{length-range_with_len, get_or-range_with_len}
+use Rattle.std.proofs.lemmas.Option.{slice_get-get_or}
 use Rattle.tb_value.specs.Names.{Name}
 use Rattle.tb_value.specs.Pairs.{row_numbers}
 use Rattle.tb_value.specs.SameKind.{same_kind}
@@ -26,10 +28,12 @@ keys_many cs ks names is known = sym (length-map ks plain) ∙ sym (length-map (
 
 -- and are the columns that the names name
 pub keys_own : (cs ks : List Col) (names : List Name) → table_of ks ≡ filter_map (named (table_of cs)) names → first_unknown (table_of cs) names ≡ None
-    → (p : ℕ) (d : Col) → p < length ks → named (table_of cs) (get_or names p []) ≡ Some (plain (get_or ks p d))
+    → (p : ℕ) (d : Col) → p < length ks → option_and_then (named (table_of cs)) (slice_get names p) ≡ Some (plain (get_or ks p d))
 keys_own cs ks names is known p d low =
     let many = keys_many cs ks names is known in
-    named-key (table_of cs) names (find_none (λ n. not (is_among (names_of (table_of cs)) n)) names known) p (plain d) (omega (arith, many, low))
+    let low_name : p < length names = omega (arith, many, low) in
+    ap (λ (o : Option Name). option_and_then (named (table_of cs)) o) (slice_get-get_or names p [] low_name)
+    ∙ named-key (table_of cs) names (find_none (λ n. not (is_among (names_of (table_of cs)) n)) names known) p (plain d) low_name
     ∙ ap (λ (t : Table). Some (get_or t p (plain d))) (sym is)
     ∙ ap (λ (c : TableColumn). Some c) (get_or-map plain ks p d (plain d) low)
 

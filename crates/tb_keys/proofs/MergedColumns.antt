@@ -13,7 +13,7 @@ use Rattle.tb_chunk.specs.Merged.{merged}
 use Rattle.tb_chunk.specs.Rows.{IsRowOf}
 use Rattle.tb_frame.specs.Answer.{fill}
 use Rattle.tb_frame.specs.Frame.{opt_taken, without_names}
-use Rattle.tb_frame.specs.Join.{Request, columns_where, left_field, left_out, named, or_else, out, partner, value_at}
+use Rattle.tb_frame.specs.Join.{Request, columns_where, left_field, left_out, or_else, out, partner, right_key, value_at}
 use Rattle.tb_frame.specs.Naming.{coalesces, default_suffix, keeps_left, merges_keys, shows_right}
 use Rattle.tb_frame.specs.RightColumns.{gone_left, gone_right, right_columns, right_side}
 use Rattle.tb_frame.specs.Table.{TableColumn, Table, plain, table_of, names_of}
@@ -36,14 +36,10 @@ merged-map : (f g : JoinPair → Datum) (ps : List JoinPair) → merged (map f p
 merged-map f g [] = refl
 merged-map f g (p ∷ ps) = λ t. or_else (f p) (g p) ∷ merged-map f g ps t
 
--- the column of the right table that a key names
-abbrev named_at : Request → ℕ → Option TableColumn
-named_at q p = named q.right (get_or q.right_on p [])
-
 -- the keys' own columns are those that left columns are merged with
-module _ (q : Request) (keys : List Col) (own : (p : ℕ) (d : Col) → p < length keys → named_at q p ≡ Some (plain (get_or keys p d)))
+module _ (q : Request) (keys : List Col) (own : (p : ℕ) (d : Col) → p < length keys → right_key q p ≡ Some (plain (get_or keys p d)))
     (many : length q.left_on ≤ length keys) where
-  at_place : (n : Name) (d : Col) (o : Option ℕ) → position (same_name n) q.left_on ≡ o → option_and_then (named_at q) o ≡ option_map plain (option_and_then (λ p. slice_get keys p) o)
+  at_place : (n : Name) (d : Col) (o : Option ℕ) → position (same_name n) q.left_on ≡ o → option_and_then (right_key q) o ≡ option_map plain (option_and_then (λ p. slice_get keys p) o)
   at_place n d None e = refl
   at_place n d (Some p) e =
       let first = position-Some (same_name n) q.left_on p [] e in
@@ -53,7 +49,7 @@ module _ (q : Request) (keys : List Col) (own : (p : ℕ) (d : Col) → p < leng
   pub partner-key : (d : Col) (n : Name) → partner q n ≡ option_map plain (merged_key (merges_keys q.args.how (coalesces q.args)) q.left_on keys n)
   partner-key d n = at (merges_keys q.args.how (coalesces q.args))
     where
-      at : (b : Bool) → cond b (option_and_then (named_at q) (position (same_name n) q.left_on)) None ≡ option_map plain (merged_key b q.left_on keys n)
+      at : (b : Bool) → cond b (option_and_then (right_key q) (position (same_name n) q.left_on)) None ≡ option_map plain (merged_key b q.left_on keys n)
       at true = at_place n d (position (same_name n) q.left_on) refl
       at false = refl
 

@@ -36,7 +36,7 @@ two_parts (Some e ∷ xs) ys = refl
 pub second_part : (xs ys : List (Option PolarsError)) → first_cause xs ≡ None → first_cause (xs ++ ys) ≡ first_cause ys
 second_part xs ys none = two_parts xs ys ∙ (λ t. first_cause (none t ∷ first_cause ys ∷ [])) ∙ first_cause-one (first_cause ys)
 
-pub two_causes : (q : Request) → join_refusal q ≡ first_cause (names_refusal q.left q.right q.left_on q.right_on ∷ later_refusal q ∷ [])
+pub two_causes : (q : Request) → join_refusal q ≡ first_cause (names_refusal q.left q.right q.args.join_nulls q.left_on q.right_on ∷ later_refusal q ∷ [])
 two_causes q = two_parts (key_causes q) (column_causes q ++ row_causes q)
 
 -- an error of the first part, one of the second, and none

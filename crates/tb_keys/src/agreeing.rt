@@ -37,7 +37,7 @@ pub(crate) fn rows_match(request: &LentRequest<'_>, i: usize, j: usize) -> bool
     for p in 0..request.places() {
         let left = request.left_keys[p].get(i);
         let right = request.right_keys[p].get(j);
-        if !agree(request.args.join_nulls, left, right) {
+        if !agree(request.args.join_nulls.flag_at(p), left, right) {
             return false;
         }
     }

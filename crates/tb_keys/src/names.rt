@@ -1,11 +1,12 @@
 //! The names of the keys.
 ghost use Rattle.tb_value.specs.Refusals.{Settles, SettlesOutright, first_cause};
-ghost use Rattle.tb_frame.specs.Refusal.{key_counts, list_causes, no_keys, repeated_name};
+ghost use Rattle.std.specs.Prelude.{length};
+ghost use Rattle.tb_frame.specs.Refusal.{key_counts, list_causes, no_keys, null_flags, repeated_name};
 ghost use Rattle.tb_keys.specs.Asked.{asked};
 
 use crate::request::LentRequest;
 use std::alloc::Global;
-use tb_frame::{check_joined_names, check_repeated};
+use tb_frame::{JoinNulls, check_joined_names, check_repeated};
 use tb_value::{InvalidCause, PlSmallStr, PolarsError, PolarsResult};
 
 // Refuses a side without keys (NoKeys).
@@ -30,17 +31,34 @@ fn check_counts(left_on: &[PlSmallStr], right_on: &[PlSmallStr]) -> PolarsResult
     Ok(())
 }
 
-/// Refuses, in this order, a side without keys (NoKeys), different numbers of keys (KeyCounts), and a repeated key
-/// (Duplicate), the left side first.
+// Refuses flags that are not as many as the keys (NullFlags).
+fn check_flags(nulls: &JoinNulls, left_on: &[PlSmallStr]) -> PolarsResult<()>
+    ensures { SettlesOutright result (null_flags nulls.now (length left_on.now)) }
+{
+    let JoinNulls::Each(each) = nulls else {
+        return Ok(());
+    };
+    let flags = each.as_slice().len();
+    let keys = left_on.len();
+    if flags != keys {
+        return Err(PolarsError::InvalidOperation(InvalidCause::NullFlags { flags, keys }));
+    }
+    Ok(())
+}
+
+/// Refuses, in this order, a side without keys (NoKeys), different numbers of keys (KeyCounts), a flag for each key
+/// where there are more or fewer flags (NullFlags), and a repeated key (Duplicate), the left side first.
 pub fn check_lists(
     alloc: Global,
+    nulls: &JoinNulls,
     left_on: &[PlSmallStr],
     right_on: &[PlSmallStr],
 ) -> PolarsResult<()>
-    ensures { Settles result (first_cause (list_causes left_on.now right_on.now)) }
+    ensures { Settles result (first_cause (list_causes nulls.now left_on.now right_on.now)) }
 {
     check_some(left_on, right_on)?;
     check_counts(left_on, right_on)?;
+    check_flags(nulls, left_on)?;
     check_repeated(alloc, left_on)?;
     check_repeated(alloc, right_on)
 }

@@ -74,16 +74,17 @@ impl<'a> NamedRequest<'a> {
     ghost use Rattle.tb_chunk.specs.Lent.{lent_columns};
 
     /// The columns that the names of the keys name. Refuses, in this order, a key that is no column of its table
-    /// (ColumnNotFound), a side without keys (NoKeys), different numbers of keys (KeyCounts), and a repeated key
-    /// (Duplicate). The left side comes first.
+    /// (ColumnNotFound), a side without keys (NoKeys), different numbers of keys (KeyCounts), a flag for each key where
+    /// there are more or fewer flags (NullFlags), and a repeated key (Duplicate). The left side comes first.
     pub fn key_columns(&self, alloc: Global) -> PolarsResult<KeyColumns<'a>>
-        ensures settles { Settles result (names_refusal (table_of self.now.left.now) (table_of self.now.right.now) self.now.left_on.now self.now.right_on.now) }
+        ensures settles { Settles result (names_refusal (table_of self.now.left.now) (table_of self.now.right.now) self.now.args.now.join_nulls
+            self.now.left_on.now self.now.right_on.now) }
         ensures left { IfOk result (λ k. AreKeysOf self.now.left.now self.now.left_on.now (lent_columns k.left.items)) }
         ensures right { IfOk result (λ k. AreKeysOf self.now.right.now self.now.right_on.now (lent_columns k.right.items)) }
     {
         let left = lend_columns(alloc, self.left.get_columns(), self.left_on)?;
         let right = lend_columns(alloc, self.right.get_columns(), self.right_on)?;
-        check_lists(alloc, self.left_on, self.right_on)?;
+        check_lists(alloc, &self.args.join_nulls, self.left_on, self.right_on)?;
         Ok(KeyColumns { left, right })
     }
 

@@ -7,6 +7,7 @@ ghost use Rattle.tb_value.specs.Refusals.{SettlesOutright, first_cause, when};
 ghost use Rattle.tb_value.specs.See.{lent};
 ghost use Rattle.tb_value.specs.declared.error.ComputeCause.TheVariants.{Validation};
 ghost use Rattle.tb_value.specs.declared.error.PolarsError.TheVariants.{ComputeError};
+ghost use Rattle.tb_frame.specs.Join.{flag_at};
 ghost use Rattle.tb_frame.specs.Refusal.{are_twins, broken_left, broken_right, has_twins, is_counted, is_validated, same_keys};
 ghost use Rattle.tb_frame.specs.Table.{table_of};
 ghost use Rattle.tb_keys.specs.Asked.{asked};
@@ -15,6 +16,7 @@ ghost use Rattle.tb_keys.specs.Rows.{HasRow, HasRows};
 
 use crate::agreeing::is_null;
 use crate::request::LentRequest;
+use tb_frame::JoinNulls;
 use tb_store::Series;
 use tb_value::{ComputeCause, PolarsError, PolarsResult, Side, ValueRef, same_value};
 
@@ -25,12 +27,12 @@ fn counts(null_matches: bool, value: ValueRef<'_>) -> bool
 }
 
 // Whether a row's keys count.
-fn is_counted(null_matches: bool, keys: &[&Series], i: usize) -> bool
+fn is_counted(nulls: &JoinNulls, keys: &[&Series], i: usize) -> bool
     requires { All (HasRow i) (lent_columns keys.now) }
-    ensures { result ≡ is_counted (λ p. null_matches) (table_of (lent_columns keys.now)) i }
+    ensures { result ≡ is_counted (flag_at nulls.now) (table_of (lent_columns keys.now)) i }
 {
     for p in 0..keys.len() {
-        if !counts(null_matches, keys[p].get(i)) {
+        if !counts(nulls.flag_at(p), keys[p].get(i)) {
             return false;
         }
     }
@@ -52,25 +54,22 @@ fn same_keys(keys: &[&Series], i: usize, j: usize) -> bool
 }
 
 // Whether these rows are two counted ones, in this order, that have the same keys.
-fn are_twins(null_matches: bool, keys: &[&Series], i: usize, j: usize) -> bool
+fn are_twins(nulls: &JoinNulls, keys: &[&Series], i: usize, j: usize) -> bool
     requires first { All (HasRow i) (lent_columns keys.now) }
     requires second { All (HasRow j) (lent_columns keys.now) }
-    ensures { result ≡ are_twins (λ p. null_matches) (table_of (lent_columns keys.now)) i j }
+    ensures { result ≡ are_twins (flag_at nulls.now) (table_of (lent_columns keys.now)) i j }
 {
-    i < j
-        && is_counted(null_matches, keys, i)
-        && is_counted(null_matches, keys, j)
-        && same_keys(keys, i, j)
+    i < j && is_counted(nulls, keys, i) && is_counted(nulls, keys, j) && same_keys(keys, i, j)
 }
 
 // Whether a row has a twin among n rows.
-fn has_twin(null_matches: bool, keys: &[&Series], i: usize, n: usize) -> bool
+fn has_twin(nulls: &JoinNulls, keys: &[&Series], i: usize, n: usize) -> bool
     requires first { All (HasRow i) (lent_columns keys.now) }
     requires rows { HasRows n (lent_columns keys.now) }
-    ensures { result ≡ list_any (are_twins (λ p. null_matches) (table_of (lent_columns keys.now)) i) (row_numbers n) }
+    ensures { result ≡ list_any (are_twins (flag_at nulls.now) (table_of (lent_columns keys.now)) i) (row_numbers n) }
 {
     for j in 0..n {
-        if are_twins(null_matches, keys, i, j) {
+        if are_twins(nulls, keys, i, j) {
             return true;
         }
     }
@@ -78,12 +77,12 @@ fn has_twin(null_matches: bool, keys: &[&Series], i: usize, n: usize) -> bool
 }
 
 // Whether two counted rows of n have the same keys.
-fn has_twins(null_matches: bool, keys: &[&Series], n: usize) -> bool
+fn has_twins(nulls: &JoinNulls, keys: &[&Series], n: usize) -> bool
     requires { HasRows n (lent_columns keys.now) }
-    ensures { result ≡ has_twins (λ p. null_matches) (table_of (lent_columns keys.now)) n }
+    ensures { result ≡ has_twins (flag_at nulls.now) (table_of (lent_columns keys.now)) n }
 {
     for i in 0..n {
-        if has_twin(null_matches, keys, i, n) {
+        if has_twin(nulls, keys, i, n) {
             return true;
         }
     }
@@ -93,9 +92,9 @@ fn has_twins(null_matches: bool, keys: &[&Series], n: usize) -> bool
 // Whether a side of n rows has twins, where it is asked to have none.
 fn is_broken(request: &LentRequest<'_>, is_asked: bool, keys: &[&Series], n: usize) -> bool
     requires { HasRows n (lent_columns keys.now) }
-    ensures { result ≡ (is_validated request.now.how && is_asked && has_twins (λ p. request.now.args.now.join_nulls) (table_of (lent_columns keys.now)) n) }
+    ensures { result ≡ (is_validated request.now.how && is_asked && has_twins (flag_at request.now.args.now.join_nulls) (table_of (lent_columns keys.now)) n) }
 {
-    request.how.is_validated() && is_asked && has_twins(request.args.join_nulls, keys, n)
+    request.how.is_validated() && is_asked && has_twins(&request.args.join_nulls, keys, n)
 }
 
 // Refuses a side that is broken (Validation).

@@ -44,18 +44,19 @@ fn checked_pairs(alloc: Global, request: &LentRequest<'_>) -> PolarsResult<Vec<J
 
 /// The join of two tables as its definition says: two nested loops list the pairs of rows, and the answer has their
 /// fields under the columns of the naming rule. It takes all arguments: any kind, order, slice, suffix, coalescing,
-/// validation and number of keys, and keys that are absent match where it is asked.
+/// validation and number of keys, and keys that are absent match where it is asked, each key by itself.
 ///
 /// The first of these that holds, or OutOfMemory:
 /// 1. ColumnNotFound: a left key is no column of the left table, and then a right key none of the right;
 /// 2. NoKeys: a side has no keys;
 /// 3. KeyCounts: the sides have different numbers of keys;
-/// 4. Duplicate: a left key is repeated, and then a right key;
-/// 5. KeyTypes: the keys at a place are of different types;
-/// 6. KeyKind: the keys at a place are of a type that has no keys;
-/// 7. Duplicate: two columns of the answer would have this name, which is the first that is repeated;
-/// 8. Validation: two left rows have equal keys and may not, and then two right rows;
-/// 9. TooManyRows: the pairs are more than `MAX_ROWS`, before they are cut.
+/// 4. NullFlags: there is a flag for each key, and the flags are not as many as the keys;
+/// 5. Duplicate: a left key is repeated, and then a right key;
+/// 6. KeyTypes: the keys at a place are of different types;
+/// 7. KeyKind: the keys at a place are of a type that has no keys;
+/// 8. Duplicate: two columns of the answer would have this name, which is the first that is repeated;
+/// 9. Validation: two left rows have equal keys and may not, and then two right rows;
+/// 10. TooManyRows: the pairs are more than `MAX_ROWS`, before they are cut.
 pub fn nested_join(
     alloc: Global,
     left: &DataFrame,

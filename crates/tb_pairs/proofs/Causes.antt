@@ -9,7 +9,7 @@ use Rattle.tb_value.specs.declared.error.PolarsError.{PolarsError}
 use Rattle.tb_value.specs.declared.error.Side.TheVariants as side
 use Rattle.tb_chunk.specs.Col.{Col, IsColumn, values}
 use Rattle.tb_chunk.specs.Lent.{lent_columns}
-use Rattle.tb_frame.specs.Join.{listing}
+use Rattle.tb_frame.specs.Join.{flag_at, listing}
 use Rattle.tb_frame.specs.Refusal.{asks_left, asks_right, has_twins, row_causes}
 use Rattle.tb_frame.specs.Table.{height, table_of}
 use Rattle.tb_hash.specs.Hashing.{value_listing}
@@ -32,15 +32,14 @@ and_true true = refl
 and_true false = refl
 
 -- twins among the values of one key
-one_twins : (nulls : Bool) (cs : List Col) (c : Col) → cs ≡ c ∷ [] → twins_among (row_count cs) (columns_meet (λ p. nulls) cs cs) ≡ value_twins nulls (values c)
+one_twins : (nulls : ℕ → Bool) (cs : List Col) (c : Col) → cs ≡ c ∷ [] → twins_among (row_count cs) (columns_meet nulls cs cs) ≡ value_twins (nulls 0) (values c)
 one_twins nulls cs c is =
-    ap (λ (ds : List Col). twins_among (row_count ds) (columns_meet (λ p. nulls) ds ds)) is
-    ∙ λ t. twins_among (length (values c)) (λ i j. and_true (agrees nulls (get_or (values c) i null) (get_or (values c) j null)) t)
+    ap (λ (ds : List Col). twins_among (row_count ds) (columns_meet nulls ds ds)) is
+    ∙ λ t. twins_among (length (values c)) (λ i j. and_true (agrees (nulls 0) (get_or (values c) i null) (get_or (values c) j null)) t)
 
 -- twins among row keys, where Nulls don't match
-row_twins : (nulls : Bool) (cs : List Col) → AreKeyColumns cs → twins_among (row_count cs) (columns_meet (λ p. nulls) cs cs) ≡ value_twins false (values (key_column cs (λ p. nulls)))
-row_twins nulls cs keys =
-    let n : ℕ → Bool = λ p. nulls in
+row_twins : (n : ℕ → Bool) (cs : List Col) → AreKeyColumns cs → twins_among (row_count cs) (columns_meet n cs cs) ≡ value_twins false (values (key_column cs n))
+row_twins n cs keys =
     let ks : List Datum = values (key_column cs n) in
     sym (ap (λ (k : ℕ). twins_among k (λ i j. agrees false (get_or ks i null) (get_or ks j null))) (key_count n cs)
     ∙ twins_same (row_count cs) (λ i j. agrees false (get_or ks i null) (get_or ks j null)) (columns_meet n cs cs)
@@ -50,8 +49,8 @@ row_twins nulls cs keys =
 
 module _ (r : LentRequest) where
   -- the causes of values with the same twins and the same listing
-  same_causes : (nulls : Bool) (us vs : List Datum) → value_twins nulls us ≡ has_twins (λ p. r.args.now.join_nulls) (table_of (lent_columns r.left_keys.now)) (height (table_of r.left.now))
-      → value_twins nulls vs ≡ has_twins (λ p. r.args.now.join_nulls) (table_of (lent_columns r.right_keys.now)) (height (table_of r.right.now))
+  same_causes : (nulls : Bool) (us vs : List Datum) → value_twins nulls us ≡ has_twins (flag_at r.args.now.join_nulls) (table_of (lent_columns r.left_keys.now)) (height (table_of r.left.now))
+      → value_twins nulls vs ≡ has_twins (flag_at r.args.now.join_nulls) (table_of (lent_columns r.right_keys.now)) (height (table_of r.right.now))
       → value_listing nulls r.how us vs ≡ listing (asked r) → first_cause (value_causes r.args.now.validation nulls r.how us vs) ≡ first_cause (row_causes (asked r))
   same_causes nulls us vs left right list =
       λ t. first_cause (broken side.Left r.how (asks_left r.args.now.validation) (left t) ∷ broken side.Right r.how (asks_right r.args.now.validation) (right t) ∷ too_many (length (list t)) ∷ [])
@@ -64,21 +63,22 @@ module _ (r : LentRequest) where
     right_rows = rows_counted (height (table_of r.right.now)) (lent_columns r.right_keys.now) (some_right (lent_columns r.left_keys.now) (lent_columns r.right_keys.now) alike) r.right_rows
 
     -- of one key on each side
-    pub one_key_causes : (d e : Bor Col) → length r.left_keys.now ≡ 1
-        → first_cause (value_causes r.args.now.validation r.args.now.join_nulls r.how (values (get_or r.left_keys.now 0 d).now) (values (get_or r.right_keys.now 0 e).now)) ≡ first_cause (row_causes (asked r))
-    one_key_causes d e one =
-        let nulls : Bool = r.args.now.join_nulls in
-        same_causes nulls _ _
+    pub one_key_causes : (d e : Bor Col) → length r.left_keys.now ≡ 1 → (null_matches : Bool) → null_matches ≡ flag_at r.args.now.join_nulls 0
+        → first_cause (value_causes r.args.now.validation null_matches r.how (values (get_or r.left_keys.now 0 d).now) (values (get_or r.right_keys.now 0 e).now)) ≡ first_cause (row_causes (asked r))
+    one_key_causes d e one null_matches is =
+        let nulls : ℕ → Bool = flag_at r.args.now.join_nulls in
+        ap (λ (b : Bool). first_cause (value_causes r.args.now.validation b r.how (values (get_or r.left_keys.now 0 d).now) (values (get_or r.right_keys.now 0 e).now))) is
+        ∙ same_causes (nulls 0) _ _
         (sym (columns_twins nulls (lent_columns r.left_keys.now) (height (table_of r.left.now)) left_rows ∙ one_twins nulls (lent_columns r.left_keys.now) (get_or r.left_keys.now 0 d).now (one_column r.left_keys.now d one)))
         (sym (columns_twins nulls (lent_columns r.right_keys.now) (height (table_of r.right.now)) right_rows ∙ one_twins nulls (lent_columns r.right_keys.now) (get_or r.right_keys.now 0 e).now (one_column r.right_keys.now e (one_right r alike one))))
-        (one_key_listing r alike d e one)
+        (one_key_listing r alike d e one (nulls 0) refl)
 
     -- of row keys
     pub row_key_causes : (left right : Col) → All IsColumn (lent_columns r.left_keys.now) → All IsColumn (lent_columns r.right_keys.now)
-        → left ≡ key_column (lent_columns r.left_keys.now) (λ p. r.args.now.join_nulls) → right ≡ key_column (lent_columns r.right_keys.now) (λ p. r.args.now.join_nulls)
+        → left ≡ key_column (lent_columns r.left_keys.now) (flag_at r.args.now.join_nulls) → right ≡ key_column (lent_columns r.right_keys.now) (flag_at r.args.now.join_nulls)
         → first_cause (value_causes r.args.now.validation false r.how (values left) (values right)) ≡ first_cause (row_causes (asked r))
     row_key_causes left right in_left in_right is_left is_right =
-        let nulls : Bool = r.args.now.join_nulls in
+        let nulls : ℕ → Bool = flag_at r.args.now.join_nulls in
         let ls : List Col = lent_columns r.left_keys.now in
         let rs : List Col = lent_columns r.right_keys.now in
         let left_keys : AreKeyColumns ls = key_columns (height (table_of r.left.now)) ls alike.some r.left_rows in_left alike.keys in
@@ -90,10 +90,10 @@ module _ (r : LentRequest) where
 
     -- of keys that are made of both sides
     pub row_keys_causes : (us vs : List Datum) → All IsColumn (lent_columns r.left_keys.now) → All IsColumn (lent_columns r.right_keys.now)
-        → us ≡ keys_at (lent_columns r.left_keys.now) (λ p. r.args.now.join_nulls) → vs ≡ keys_at (lent_columns r.right_keys.now) (λ p. r.args.now.join_nulls)
+        → us ≡ keys_at (lent_columns r.left_keys.now) (flag_at r.args.now.join_nulls) → vs ≡ keys_at (lent_columns r.right_keys.now) (flag_at r.args.now.join_nulls)
         → first_cause (value_causes r.args.now.validation false r.how us vs) ≡ first_cause (row_causes (asked r))
     row_keys_causes us vs in_left in_right is_left is_right =
-        let n : ℕ → Bool = λ p. r.args.now.join_nulls in
+        let n : ℕ → Bool = flag_at r.args.now.join_nulls in
         let ls : List Col = lent_columns r.left_keys.now in
         let rs : List Col = lent_columns r.right_keys.now in
         let left : us ≡ values (key_column ls n) = is_left ∙ sym (key_values n ls) in

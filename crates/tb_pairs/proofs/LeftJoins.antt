@@ -16,6 +16,7 @@ use Rattle.tb_frame.specs.declared.args.JoinArgs.{JoinArgs}
 use Rattle.tb_frame.specs.declared.args.JoinType.TheVariants.{Left}
 use Rattle.tb_frame.specs.declared.args.JoinValidation.TheVariants.{ManyToMany}
 use Rattle.tb_frame.specs.declared.args.MaintainOrderJoin.TheVariants as order
+use Rattle.tb_frame.specs.declared.null_flags.JoinNulls.TheVariants as nulls_of
 use Rattle.tb_frame.specs.Answer.{IsListed}
 use Rattle.tb_frame.specs.Join.{Request, listing, listing_of}
 use Rattle.tb_frame.specs.Refusal.{row_causes, too_many_rows}
@@ -26,13 +27,13 @@ use Rattle.tb_pairs.proofs.Unbroken.{row_causes-unvalidated}
 
 -- a request whose keys are all columns
 module _ (a b ls rs : List Col) (is_a : ls ≡ a) (is_b : rs ≡ b) (nulls : Bool) where
-  pub all_listing : keys_listing nulls Left (height (table_of a)) (height (table_of b)) (table_of ls) (table_of rs) ≡ listing (by_all_columns (table_of a) (table_of b) nulls)
-  all_listing = λ t. keys_listing nulls Left (height (table_of a)) (height (table_of b)) (table_of (is_a t)) (table_of (is_b t))
+  pub all_listing : keys_listing (λ p. nulls) Left (height (table_of a)) (height (table_of b)) (table_of ls) (table_of rs) ≡ listing (by_all_columns (table_of a) (table_of b) nulls)
+  all_listing = λ t. keys_listing (λ p. nulls) Left (height (table_of a)) (height (table_of b)) (table_of (is_a t)) (table_of (is_b t))
 
   pub all_causes : (left_on right_on : List Name) (args : JoinArgs) → args.validation ≡ ManyToMany
-      → first_cause (row_causes (record { left = table_of a; right = table_of b; left_on = left_on; right_on = right_on; left_keys = table_of ls; right_keys = table_of rs; args = record args { how = Left; join_nulls = nulls } })) ≡ too_many_rows (by_all_columns (table_of a) (table_of b) nulls)
+      → first_cause (row_causes (record { left = table_of a; right = table_of b; left_on = left_on; right_on = right_on; left_keys = table_of ls; right_keys = table_of rs; args = record args { how = Left; join_nulls = nulls_of.All nulls } })) ≡ too_many_rows (by_all_columns (table_of a) (table_of b) nulls)
   all_causes left_on right_on args many =
-      let q : Request = record { left = table_of a; right = table_of b; left_on = left_on; right_on = right_on; left_keys = table_of ls; right_keys = table_of rs; args = record args { how = Left; join_nulls = nulls } } in
+      let q : Request = record { left = table_of a; right = table_of b; left_on = left_on; right_on = right_on; left_keys = table_of ls; right_keys = table_of rs; args = record args { how = Left; join_nulls = nulls_of.All nulls } } in
       row_causes-unvalidated q many ∙ (λ t. when (nat_lt MAX_ROWS (length (all_listing t))) (ComputeError TooManyRows))
 
 -- each pair of a Left join has a left row

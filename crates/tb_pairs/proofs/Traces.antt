@@ -13,7 +13,7 @@ use Rattle.tb_chunk.specs.Col.{Col, values}
 use Rattle.tb_chunk.specs.Lent.{lent_columns}
 use Rattle.tb_frame.specs.declared.args.JoinArgs.{JoinArgs}
 use Rattle.tb_frame.specs.declared.args.JoinType.{JoinType}
-use Rattle.tb_frame.specs.Join.{listing}
+use Rattle.tb_frame.specs.Join.{flag_at, listing}
 use Rattle.tb_pool.specs.ExecView.{ExecView}
 use Rattle.tb_keys.specs.Asked.{asked}
 use Rattle.tb_keys.specs.declared.request.LentRequest.{LentRequest}
@@ -54,7 +54,7 @@ module _ (how : JoinType) (args : JoinArgs) (exec : ExecView) where
   one_key_trace l r e = ap (λ (b : Bool). cond b (merge (sizes_by how (values l) (values r))) (hash (value_plan exec how l.kind (values l) (values r)))) e
 
   abbrev row_plan : List Col → List Col → BuiltView
-  row_plan ls rs = value_plan exec how kind.binary (keys_at ls (λ p. args.join_nulls)) (keys_at rs (λ p. args.join_nulls))
+  row_plan ls rs = value_plan exec how kind.binary (keys_at ls (flag_at args.join_nulls)) (keys_at rs (flag_at args.join_nulls))
 
   pub row_key_trace : (ls rs : List Col) → 1 < length ls → length ls ≡ length rs → AreShortRows ls → AreShortRows rs → trace_of how args exec ls rs ≡ hash (row_plan ls rs)
   row_key_trace [] rs high many left right = absurd (omega arith)
@@ -65,7 +65,7 @@ module _ (how : JoinType) (args : JoinArgs) (exec : ExecView) where
       λ t. cond (lt-ltb 1 (length (l ∷ m ∷ ls)) high t && (short_none (l ∷ m ∷ ls) left t || short_none (r ∷ s ∷ rs) right t)) plain (hash (row_plan (l ∷ m ∷ ls) (r ∷ s ∷ rs)))
 
   pub plain_trace : (ls rs : List Col) → lacks_keys ls rs ≡ true → trace_of how args exec ls rs ≡ plain
-  plain_trace ls rs long = ap (λ (b : Bool). cond b plain (cond (takes_path_by how args.validation exec ls rs) (merge (sizes_by how (first_values ls) (first_values rs))) (hash (value_plan exec how (hashed_kind ls) (hashed_values args.join_nulls ls) (hashed_values args.join_nulls rs))))) long
+  plain_trace ls rs long = ap (λ (b : Bool). cond b plain (cond (takes_path_by how args.validation exec ls rs) (merge (sizes_by how (first_values ls) (first_values rs))) (hash (value_plan exec how (hashed_kind ls) (hashed_values (flag_at args.join_nulls) ls) (hashed_values (flag_at args.join_nulls) rs))))) long
 
 either_long : (a b : Bool) → (a ≡ false → b ≡ false → ⊥) → (a || b) ≡ true
 either_long true b apart = refl

@@ -89,11 +89,11 @@ all_three : (f g h : ℕ → Bool) (xs : List ℕ) → (list_all f xs && list_al
 all_three f g h [] = refl
 all_three f g h (x ∷ xs) = three (f x) (g x) (h x) (list_all f xs) (list_all g xs) (list_all h xs) ∙ ap (λ (b : Bool). (f x && g x && h x) && b) (all_three f g h xs)
 
-counted_keys : (nulls : Bool) (keys : List TableColumn) (i j : ℕ)
-    → (is_counted (λ p. nulls) keys i && is_counted (λ p. nulls) keys j && same_keys keys i j) ≡ list_all (λ p. agrees nulls (field keys p i) (field keys p j)) (row_numbers (length keys))
+counted_keys : (nulls : ℕ → Bool) (keys : List TableColumn) (i j : ℕ)
+    → (is_counted nulls keys i && is_counted nulls keys j && same_keys keys i j) ≡ list_all (λ p. agrees (nulls p) (field keys p i) (field keys p j)) (row_numbers (length keys))
 counted_keys nulls keys i j =
-    all_three (λ p. is_present (field keys p i) || nulls) (λ p. is_present (field keys p j) || nulls) (λ p. same (field keys p i) (field keys p j)) (row_numbers (length keys))
-    ∙ λ t. list_all (λ p. counted_agree nulls (field keys p i) (field keys p j) t) (row_numbers (length keys))
+    all_three (λ p. is_present (field keys p i) || nulls p) (λ p. is_present (field keys p j) || nulls p) (λ p. same (field keys p i) (field keys p j)) (row_numbers (length keys))
+    ∙ λ t. list_all (λ p. counted_agree (nulls p) (field keys p i) (field keys p j) t) (row_numbers (length keys))
 
 four : (a b c d : Bool) → (a && b && c && d) ≡ (a && (b && c && d))
 four true b c d = refl
@@ -101,15 +101,15 @@ four false b c d = refl
 
 -- KEY COLUMNS
 
-meets : (nulls : Bool) (cs : List Col) (i j : ℕ) → list_all (λ p. agrees nulls (field (table_of cs) p i) (field (table_of cs) p j)) (row_numbers (length (table_of cs))) ≡ columns_meet (λ p. nulls) cs cs i j
-meets nulls cs i j = λ t. list_all (λ p. agrees nulls (sym (field_is cs p i) t) (sym (field_is cs p j) t)) (row_numbers (length-map cs plain t))
+meets : (nulls : ℕ → Bool) (cs : List Col) (i j : ℕ) → list_all (λ p. agrees (nulls p) (field (table_of cs) p i) (field (table_of cs) p j)) (row_numbers (length (table_of cs))) ≡ columns_meet nulls cs cs i j
+meets nulls cs i j = λ t. list_all (λ p. agrees (nulls p) (sym (field_is cs p i) t) (sym (field_is cs p j) t)) (row_numbers (length-map cs plain t))
 
 -- twins among the rows of columns, of which there are n
-pub columns_twins : (nulls : Bool) (cs : List Col) (n : ℕ) → row_count cs ≡ n → has_twins (λ p. nulls) (table_of cs) n ≡ twins_among (row_count cs) (columns_meet (λ p. nulls) cs cs)
+pub columns_twins : (nulls : ℕ → Bool) (cs : List Col) (n : ℕ) → row_count cs ≡ n → has_twins nulls (table_of cs) n ≡ twins_among (row_count cs) (columns_meet nulls cs cs)
 columns_twins nulls cs n high =
     let keys : List TableColumn = table_of cs in
-    let counted : ℕ → ℕ → Bool = λ i j. is_counted (λ p. nulls) keys i && is_counted (λ p. nulls) keys j && same_keys keys i j in
-    (λ t. list_any (λ i. list_any (λ j. four (nat_lt i j) (is_counted (λ p. nulls) keys i) (is_counted (λ p. nulls) keys j) (same_keys keys i j) t) (row_numbers n)) (row_numbers n))
+    let counted : ℕ → ℕ → Bool = λ i j. is_counted nulls keys i && is_counted nulls keys j && same_keys keys i j in
+    (λ t. list_any (λ i. list_any (λ j. four (nat_lt i j) (is_counted nulls keys i) (is_counted nulls keys j) (same_keys keys i j) t) (row_numbers n)) (row_numbers n))
     ∙ twins_ordered n counted
-    ∙ twins_same n counted (columns_meet (λ p. nulls) cs cs) (λ i j low under. counted_keys nulls keys i j ∙ meets nulls cs i j)
-    ∙ ap (λ (k : ℕ). twins_among k (columns_meet (λ p. nulls) cs cs)) (sym high)
+    ∙ twins_same n counted (columns_meet nulls cs cs) (λ i j low under. counted_keys nulls keys i j ∙ meets nulls cs i j)
+    ∙ ap (λ (k : ℕ). twins_among k (columns_meet nulls cs cs)) (sym high)

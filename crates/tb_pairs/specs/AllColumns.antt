@@ -9,6 +9,7 @@ use Rattle.tb_frame.specs.declared.args.JoinType.TheVariants.{Left}
 use Rattle.tb_frame.specs.declared.args.JoinCoalesce.TheVariants.{JoinSpecific}
 use Rattle.tb_frame.specs.declared.args.JoinValidation.TheVariants.{ManyToMany}
 use Rattle.tb_frame.specs.declared.args.MaintainOrderJoin.TheVariants as order
+use Rattle.tb_frame.specs.declared.null_flags.JoinNulls.TheVariants.{All}
 use Rattle.tb_frame.specs.Join.{Request}
 use Rattle.tb_frame.specs.Table.{Table, names_of}
 
@@ -26,7 +27,7 @@ by_all_columns a b nulls = record {
     validation = ManyToMany;
     suffix = None;
     slice = None;
-    join_nulls = nulls;
+    join_nulls = All nulls;
     coalesce = JoinSpecific;
     maintain_order = order.None;
   };

@@ -9,7 +9,7 @@ use Rattle.tb_chunk.specs.Col.{Col, values}
 use Rattle.tb_chunk.specs.Lent.{lent_columns}
 use Rattle.tb_frame.specs.declared.args.JoinArgs.{JoinArgs}
 use Rattle.tb_frame.specs.declared.args.JoinType.{JoinType}
-use Rattle.tb_frame.specs.Join.{listing}
+use Rattle.tb_frame.specs.Join.{flag_at, listing}
 use Rattle.tb_pool.specs.ExecView.{ExecView}
 use Rattle.tb_keys.specs.Asked.{asked}
 use Rattle.tb_keys.specs.declared.request.LentRequest.{LentRequest}
@@ -43,16 +43,16 @@ abbrev pub hashed_kind : List Col → Kind
 hashed_kind (c ∷ []) = c.kind
 hashed_kind _ = kind.binary
 
-abbrev pub hashed_values : Bool → List Col → List Datum
-hashed_values null_matches (c ∷ []) = values c
-hashed_values null_matches cs = keys_at cs (λ _. null_matches)
+abbrev pub hashed_values : (ℕ → Bool) → List Col → List Datum
+hashed_values nulls (c ∷ []) = values c
+hashed_values nulls cs = keys_at cs nulls
 
 -- the trace of a join by these keys: their flags and `exec` decide the path, and `exec` into how many parts the built side is cut
 abbrev pub trace_of : JoinType → JoinArgs → ExecView → List Col → List Col → Trace
 trace_of how args exec ls rs =
     if lacks_keys ls rs then plain
     else if takes_path_by how args.validation exec ls rs then merge (sizes_by how (first_values ls) (first_values rs))
-    else hash (value_plan exec how (hashed_kind ls) (hashed_values args.join_nulls ls) (hashed_values args.join_nulls rs))
+    else hash (value_plan exec how (hashed_kind ls) (hashed_values (flag_at args.join_nulls) ls) (hashed_values (flag_at args.join_nulls) rs))
 
 -- what a trace tells
 abbrev pub told : JoinTrace → Trace

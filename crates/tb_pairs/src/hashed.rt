@@ -7,6 +7,7 @@ ghost use Rattle.tb_value.specs.Kind as kind;
 ghost use Rattle.tb_value.specs.declared.index.JoinPair.{JoinPair};
 ghost use Rattle.tb_chunk.specs.Chunk.{or_null};
 ghost use Rattle.tb_chunk.specs.Lent.{lent_columns};
+ghost use Rattle.tb_frame.specs.Join.{nulls};
 ghost use Rattle.tb_frame.specs.Refusal.{row_causes};
 ghost use Rattle.tb_hash.specs.Hashed.{AreValuesHashed};
 ghost use Rattle.tb_hash.specs.Probing.{IsProbed};
@@ -60,7 +61,7 @@ pub(crate) fn pairs_by_key<G: Gate>(
     let right = request.right_keys[0];
     let how = request.how;
     let validate = request.args.validation;
-    let join_nulls = request.args.join_nulls;
+    let join_nulls = request.args.join_nulls.flag_at(0);
     let (probed, built) = hash_pairs(
         rt, alloc, how, left, right, validate, join_nulls, exec, gate,
     )?;
@@ -116,8 +117,8 @@ fn joined_row_keys<G: Gate>(
     hash_keys(rt, alloc, how, &left, &right, validate, false, exec, gate)
 }
 
-/// The pairs of a request by the keys of its rows. Where absent fields match, each row has a key; where they don't, a
-/// row without one has no match. So among the keys absent ones never match.
+/// The pairs of a request by the keys of its rows. A row with an absent field that matches none has no key, and so no
+/// match. So among the keys absent ones never match.
 pub(crate) fn pairs_by_row_key<G: Gate>(
     rt: &(impl Threads + Sync),
     alloc: Global,
@@ -129,8 +130,8 @@ pub(crate) fn pairs_by_row_key<G: Gate>(
 ) -> PolarsResult<FoundPairs>
     requires several { 1 < length request.now.left_keys.now }
     requires alike { AreAlike (lent_columns request.now.left_keys.now) (lent_columns request.now.right_keys.now) }
-    requires left { map (or_null binary) left.now ≡ keys_at (lent_columns request.now.left_keys.now) (λ _. request.now.args.now.join_nulls) }
-    requires right { map (or_null binary) right.now ≡ keys_at (lent_columns request.now.right_keys.now) (λ _. request.now.args.now.join_nulls) }
+    requires left { map (or_null binary) left.now ≡ keys_at (lent_columns request.now.left_keys.now) (nulls (asked request.now)) }
+    requires right { map (or_null binary) right.now ≡ keys_at (lent_columns request.now.right_keys.now) (nulls (asked request.now)) }
     requires left_short { AreShortRows (lent_columns request.now.left_keys.now) }
     requires right_short { AreShortRows (lent_columns request.now.right_keys.now) }
     ensures settles { Settles result (first_cause (row_causes (asked request.now))) }

@@ -1,10 +1,15 @@
 //! The pairs of a request.
-ghost use Rattle.std.specs.Prelude.{◌≡◌, ◌<◌, IfOk, length, true};
+ghost use Rattle.std.specs.Prelude.{◌≡◌, ◌↔◌, ◌<◌, IfOk, IfSome, IsSome, length, map, true};
+ghost use Rattle.std.specs.List.{All};
+ghost use Rattle.tb_value.specs.Datum.{binary};
 ghost use Rattle.tb_value.specs.Refusals.{Settles, first_cause};
+ghost use Rattle.tb_chunk.specs.Chunk.{or_null};
+ghost use Rattle.tb_chunk.specs.Col.{values};
 ghost use Rattle.tb_chunk.specs.Lent.{lent_columns};
 ghost use Rattle.tb_frame.specs.Answer.{IsListed};
-ghost use Rattle.tb_frame.specs.Join.{listing};
+ghost use Rattle.tb_frame.specs.Join.{flag_at, listing};
 ghost use Rattle.tb_frame.specs.Refusal.{row_causes};
+ghost use Rattle.tb_rowkey.specs.Columns.{AreShortRows, keys_at, row_count};
 ghost use Rattle.tb_sorted.specs.Listed.{IsListedIn};
 ghost use Rattle.tb_keys.specs.Asked.{asked};
 ghost use Rattle.tb_pairs.specs.KeyColumns.{AreAlike};
@@ -15,12 +20,13 @@ use crate::hashed::{pairs_by_key, pairs_by_row_key};
 use crate::trace::{FoundPairs, JoinTrace, ListedPairs};
 use std::alloc::Global;
 use std::thread::Threads;
-use tb_frame::Direction;
+use tb_frame::{Direction, JoinNulls};
 use tb_keys::{LentRequest, check_sides, check_size, list_pairs};
 use tb_pool::{Exec, Gate, OpenGate};
 use tb_rowkey::RowKeys;
 use tb_sorted::{SortedPairs, merged_pairs};
-use tb_value::{JoinPair, PolarsResult};
+use tb_store::Series;
+use tb_value::{JoinPair, OutOfMemory, PolarsResult};
 
 // The pairs of a request, whose fields are compared one by one.
 fn pairs_by_field(alloc: Global, request: &LentRequest<'_>) -> PolarsResult<SortedPairs>
@@ -45,6 +51,21 @@ fn plain_pairs(alloc: Global, request: &LentRequest<'_>, exec: &Exec) -> PolarsR
     Ok(FoundPairs { listed, trace })
 }
 
+// The keys of the rows of one side, of which a row without a key matches nothing; or none where a row is too long for one.
+fn row_keys(
+    alloc: Global,
+    nulls: &JoinNulls,
+    columns: &[&Series],
+) -> Result<Option<RowKeys>, OutOfMemory>
+    requires some { 0 < length columns.now }
+    requires rows { All (λ c. length (values c) ≡ row_count (lent_columns columns.now)) (lent_columns columns.now) }
+    ensures short { IfOk result (λ keys. IsSome keys ↔ AreShortRows (lent_columns columns.now)) }
+    ensures keys { IfOk result (λ keys. IfSome keys (λ k. map (or_null binary) k ≡ keys_at (lent_columns columns.now) (flag_at nulls.now))) }
+{
+    let flags = nulls.flags(alloc, columns.len())?;
+    RowKeys::of_columns(alloc, columns, &flags)
+}
+
 // The pairs of a request by several keys: by the keys of its rows, or where a row is too long to have one by its fields.
 fn pairs_by_rows<G: Gate>(
     rt: &(impl Threads + Sync),
@@ -58,9 +79,9 @@ fn pairs_by_rows<G: Gate>(
     ensures settles { Settles result (first_cause (row_causes (asked request.now))) }
     ensures found { IfOk result (IsFound request.now exec.now) }
 {
-    let join_nulls = request.args.join_nulls;
-    let left = RowKeys::of_columns(alloc, request.left_keys, join_nulls)?;
-    let right = RowKeys::of_columns(alloc, request.right_keys, join_nulls)?;
+    let nulls = &request.args.join_nulls;
+    let left = row_keys(alloc, nulls, request.left_keys)?;
+    let right = row_keys(alloc, nulls, request.right_keys)?;
     match (&left, &right) {
         (Some(left), Some(right)) => {
             pairs_by_row_key(rt, alloc, request, left, right, exec, gate)

@@ -15,7 +15,7 @@ use crate::listed::listed_pairs;
 use either::Either;
 use std::alloc::Global;
 use std::thread::Threads;
-use tb_frame::{DataFrame, JoinArgs, JoinType, right_rows};
+use tb_frame::{DataFrame, JoinArgs, JoinNulls, JoinType, right_rows};
 use tb_hash::{LeftJoinIds, left_numbers};
 use tb_keys::LentRequest;
 use tb_pool::Exec;
@@ -51,7 +51,7 @@ fn pairs_by_all_columns(
     let left_keys = lent_series(alloc, a)?;
     let right_keys = lent_series(alloc, b)?;
     let mut args = JoinArgs::new(JoinType::Left);
-    args.join_nulls = join_nulls;
+    args.join_nulls = JoinNulls::All(join_nulls);
     let request = LentRequest {
         left: a,
         right: b,

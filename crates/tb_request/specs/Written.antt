@@ -11,6 +11,8 @@ use Rattle.tb_pool.specs.ExecView.{ExecView}
 use Rattle.tb_agg.specs.declared.table.Aggregate.{Aggregate}
 use Rattle.tb_agg.specs.declared.table.Aggregate.TheVariants.{First, Last, Sum, Min, Max, Count}
 use Rattle.tb_frame.specs.declared.args.JoinArgs.{JoinArgs}
+use Rattle.tb_frame.specs.declared.null_flags.JoinNulls.{JoinNulls}
+use Rattle.tb_frame.specs.declared.null_flags.JoinNulls.TheVariants.{All, Each}
 use Rattle.tb_frame.specs.declared.args.JoinType.{JoinType}
 use Rattle.tb_frame.specs.declared.args.JoinType.TheVariants.{Inner, Left, Right, Full, Semi, Anti}
 use Rattle.tb_frame.specs.declared.args.JoinValidation.{JoinValidation}
@@ -138,6 +140,17 @@ validation_of d = text_or ManyToMany validation_named (get (codes "validation") 
 abbrev pub slice_of : Data → Option (Option (ℤ × ℕ))
 slice_of d = optional None slice_in (get (codes "slice") d)
 
+-- a truth value for all keys, or a list of one for each
+abbrev pub nulls_from : Option Bool → Option (List Bool) → Option JoinNulls
+nulls_from (Some b) flags = Some (All b)
+nulls_from None flags = option_map Each flags
+
+abbrev pub nulls_in : Data → Option JoinNulls
+nulls_in d = nulls_from (as_bool d) (list_of as_bool d)
+
+abbrev pub nulls_of : Data → Option JoinNulls
+nulls_of d = optional (All false) nulls_in (get (codes "join_nulls") d)
+
 abbrev pub coalesce_of : Data → Option JoinCoalesce
 coalesce_of d = text_or JoinSpecific coalesce_named (get (codes "coalesce") d)
 
@@ -149,11 +162,11 @@ args_of d = do
   known ← check (has_only (codes "coalesce" ∷ codes "how" ∷ codes "join_nulls" ∷ codes "maintain_order" ∷ codes "slice" ∷ codes "suffix" ∷ codes "validation" ∷ []) d)
   how ← how_of d
   validation ← validation_of d
-  suffix ← text_at (codes "suffix") d
   slice ← slice_of d
-  nulls ← truth_at (codes "join_nulls") d
   coalesce ← coalesce_of d
   order ← order_of d
+  suffix ← text_at (codes "suffix") d
+  nulls ← nulls_of d
   Some (record { how = how; validation = validation; suffix = suffix; slice = slice; join_nulls = nulls; coalesce = coalesce; maintain_order = order })
 
 -- ---- how the work is run

@@ -1,11 +1,13 @@
 //! The arguments of a join.
 ghost use Rattle.std.specs.Prelude.{◌≡◌, IfOk};
 ghost use Rattle.tb_tree.specs.View.{view};
-ghost use Rattle.tb_request.specs.Written.{how_named, validation_named, coalesce_named, order_named, how_of, validation_of, slice_in, slice_of, coalesce_of, order_of, args_of};
+ghost use Rattle.tb_request.specs.Written.{how_named, validation_named, coalesce_named, order_named, how_of, validation_of, slice_in, slice_of, nulls_in, nulls_of, coalesce_of, order_of, args_of};
 
-use crate::members::{has_only, text_at, truth_at};
+use crate::members::{has_only, text_at, truths_of};
 use std::alloc::Global;
-use tb_frame::{JoinArgs, JoinCoalesce, JoinType, JoinValidation, MaintainOrderJoin};
+use tb_frame::{
+    Flags, JoinArgs, JoinCoalesce, JoinNulls, JoinType, JoinValidation, MaintainOrderJoin,
+};
 use tb_tree::Value;
 use tb_value::OutOfMemory;
 
@@ -119,6 +121,29 @@ fn slice_of(args: &Value) -> Option<Option<(i64, usize)>>
     }
 }
 
+// One truth value for all keys, or a list of one for each.
+fn nulls_in(alloc: Global, value: &Value) -> Result<Option<JoinNulls>, OutOfMemory>
+    ensures { IfOk result (λ o. o ≡ nulls_in (view value.now)) }
+{
+    if let Some(all) = value.as_bool() {
+        return Ok(Some(JoinNulls::All(all)));
+    }
+    match truths_of(alloc, value)? {
+        Some(flags) => Ok(Some(JoinNulls::Each(Flags::from_vec(flags)))),
+        None => Ok(None),
+    }
+}
+
+// No absent keys match where the member is absent.
+fn nulls_of(alloc: Global, args: &Value) -> Result<Option<JoinNulls>, OutOfMemory>
+    ensures { IfOk result (λ o. o ≡ nulls_of (view args.now)) }
+{
+    match args.get("join_nulls") {
+        Some(member) => nulls_in(alloc, member),
+        None => Ok(Some(JoinNulls::All(false))),
+    }
+}
+
 /// The arguments of a join, or None where the value has not the form of them.
 #[tactic(auto, unfolding(crate::specs::Written::args_of))]
 pub(crate) fn args_of(alloc: Global, value: &Value) -> Result<Option<JoinArgs>, OutOfMemory>
@@ -144,19 +169,19 @@ pub(crate) fn args_of(alloc: Global, value: &Value) -> Result<Option<JoinArgs>, 
     let Some(validation) = validation_of(value) else {
         return Ok(None);
     };
-    let Some(suffix) = text_at(alloc, value, "suffix")? else {
-        return Ok(None);
-    };
     let Some(slice) = slice_of(value) else {
-        return Ok(None);
-    };
-    let Some(join_nulls) = truth_at(value, "join_nulls") else {
         return Ok(None);
     };
     let Some(coalesce) = coalesce_of(value) else {
         return Ok(None);
     };
     let Some(maintain_order) = order_of(value) else {
+        return Ok(None);
+    };
+    let Some(suffix) = text_at(alloc, value, "suffix")? else {
+        return Ok(None);
+    };
+    let Some(join_nulls) = nulls_of(alloc, value)? else {
         return Ok(None);
     };
     Ok(Some(JoinArgs {

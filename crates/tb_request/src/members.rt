@@ -1,7 +1,7 @@
 //! The members of an object.
 ghost use Rattle.std.specs.Prelude.{◌≡◌, codes, map, option_map, IfOk};
 ghost use Rattle.tb_tree.specs.View.{view};
-ghost use Rattle.serde_json.specs.Find.{as_str, get};
+ghost use Rattle.serde_json.specs.Find.{as_bool, as_str, get};
 ghost use Rattle.tb_json.specs.Lists.{as_list, is_among, has_only, list_of};
 ghost use Rattle.tb_request.specs.Written.{text_at, texts_at, texts_if_at, truth_at};
 
@@ -77,6 +77,23 @@ fn texts_of(alloc: Global, value: &Value) -> Result<Option<Vec<PlSmallStr>>, Out
         texts.push(PlSmallStr::from_str(alloc, text)?)?;
     }
     Ok(Some(texts))
+}
+
+/// The truth values of a list of them, or None where the value is none.
+pub(crate) fn truths_of(alloc: Global, value: &Value) -> Result<Option<Vec<bool>>, OutOfMemory>
+    ensures { IfOk result (λ o. option_map (λ v. v.items) o ≡ list_of as_bool (view value.now)) }
+{
+    let Some(items) = value.as_array() else {
+        return Ok(None);
+    };
+    let mut truths = Vec::with_capacity(alloc, items.len())?;
+    for item in items {
+        let Some(truth) = item.as_bool() else {
+            return Ok(None);
+        };
+        truths.push(truth)?;
+    }
+    Ok(Some(truths))
 }
 
 /// The texts of a member that is a list of texts.

@@ -167,9 +167,10 @@ pub fn pivot_in(alloc: Global, value: Value) -> Result<PivotRequest, RequestFaul
 /// The arguments are an object with `how`, `"inner"`, `"left"`, `"right"`, `"full"`, `"semi"` or
 /// `"anti"`, and perhaps `validation`, `"m:m"`, `"m:1"`, `"1:m"` or `"1:1"`; `suffix`, a text;
 /// `slice`, a list of an offset of 64 bits and a length of 64 bits without sign; `join_nulls`, a truth
-/// value; `coalesce`, `"specific"`, `"coalesce"` or `"keep"`; and `maintain_order`, `"none"`,
-/// `"left"`, `"right"`, `"left_right"` or `"right_left"`. `exec` is an object with exactly `workers`,
-/// `partitions`, `small`, `num` and `den`, whole numbers below 2^32. No object has other members.
+/// value or a list of them; `coalesce`, `"specific"`, `"coalesce"` or `"keep"`; and `maintain_order`,
+/// `"none"`, `"left"`, `"right"`, `"left_right"` or `"right_left"`. `exec` is an object with exactly
+/// `workers`, `partitions`, `small`, `num` and `den`, whole numbers below 2^32. No object has other
+/// members.
 ///
 /// # Errors
 ///

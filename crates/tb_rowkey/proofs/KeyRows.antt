@@ -1,5 +1,5 @@
 -- The key of a row, read from the columns one after another.
-use Rattle.std.proofs.Common.{◌≡◌, ◌+◌, ◌<◌, ◌≤◌, ℕ, Bool, true, false, ◌&&◌, ◌||◌, List, [], ◌∷◌, ◌++◌, ◌^◌, length, get_or, take, drop, Bor, arith, refl, ap, sym, ◌∙◌}
+use Rattle.std.proofs.Common.{◌≡◌, ◌+◌, ◌<◌, ◌≤◌, ℕ, suc, Bool, true, false, ◌&&◌, ◌||◌, List, [], ◌∷◌, ◌++◌, ◌^◌, length, get_or, take, drop, Bor, arith, refl, ap, sym, ◌∙◌}
 use Rattle.std.specs.Prelude.{if◌then◌else◌}
 use Rattle.std.proofs.lemmas.Bool.{false≢true}
 use Rattle.std.proofs.lemmas.List.{append-nil, take_at, length-append, length-map, append_assoc, at_drop_more, at_drop_all}
@@ -13,11 +13,17 @@ use Rattle.tb_rowkey.specs.RowKey.{field_code, has_key}
 use Rattle.tb_rowkey.specs.Columns.{lent_columns, fields_at, key_at, row_bytes, row_count, IsShortRow}
 use Rattle.tb_rowkey.specs.RowKeys.{bytes_of, key_of}
 
--- whether the key of row i is present
-abbrev pub has_key_at : Bool → List Col → ℕ → Bool
-has_key_at join_nulls cs i = has_key (λ _. join_nulls) (fields_at cs i)
+-- whether the fields of row i in columns that begin at place n are present, or Nulls match there
+abbrev pub has_key_from : (ℕ → Bool) → ℕ → List Col → ℕ → Bool
+has_key_from nulls n cs i = has_key (λ p. nulls (p + n)) (fields_at cs i)
 
-module _ (cs : List Col) (join_nulls : Bool) (i : ℕ) where
+-- from the first place it is the whole row
+pub from_first : (nulls : ℕ → Bool) (cs : List Col) (i : ℕ) → has_key_from nulls 0 cs i ≡ has_key nulls (fields_at cs i)
+from_first nulls cs i =
+    let same : (p : ℕ) → p + 0 ≡ p = λ p. omega arith in
+    λ t. has_key (λ p. nulls (same p t)) (fields_at cs i)
+
+module _ (cs : List Col) (nulls : ℕ → Bool) (i : ℕ) where
   module _ (n : ℕ) (c : Col) (v : Datum) (low : n < length cs) (is : c ≡ get_or cs n c) (at : v ≡ get_or (values c) i null) where
     more_bytes : field_code c.kind v ++ row_bytes (drop (n + 1) cs) i ≡ row_bytes (drop n cs) i
     more_bytes =
@@ -25,11 +31,15 @@ module _ (cs : List Col) (join_nulls : Bool) (i : ℕ) where
         ∙ ap (λ (d : Col). field_code d.kind (get_or (values d) i null) ++ row_bytes (drop (n + 1) cs) i) is
         ∙ sym (at_drop_more (λ ds. row_bytes ds i) cs n c low)
 
-    more_key : ((is_present v || join_nulls) && has_key_at join_nulls (drop (n + 1) cs) i) ≡ has_key_at join_nulls (drop n cs) i
+    more_key : ((is_present v || nulls n) && has_key_from nulls (n + 1) (drop (n + 1) cs) i) ≡ has_key_from nulls n (drop n cs) i
     more_key =
-        ap (λ w. (is_present w || join_nulls) && has_key_at join_nulls (drop (n + 1) cs) i) at
-        ∙ ap (λ (d : Col). (is_present (get_or (values d) i null) || join_nulls) && has_key_at join_nulls (drop (n + 1) cs) i) is
-        ∙ sym (at_drop_more (λ ds. has_key_at join_nulls ds i) cs n c low)
+        let rest : List Datum = fields_at (drop (n + 1) cs) i in
+        let first : n ≡ 0 + n = omega arith in
+        let next : (p : ℕ) → p + (n + 1) ≡ suc p + n = λ p. omega arith in
+        ap (λ w. (is_present w || nulls n) && has_key_from nulls (n + 1) (drop (n + 1) cs) i) at
+        ∙ ap (λ (d : Col). (is_present (get_or (values d) i null) || nulls n) && has_key_from nulls (n + 1) (drop (n + 1) cs) i) is
+        ∙ (λ t. (is_present (get_or (values (get_or cs n c)) i null) || nulls (first t)) && has_key (λ p. nulls (next p t)) rest)
+        ∙ sym (at_drop_more (λ ds. has_key_from nulls n ds i) cs n c low)
 
 -- the number of rows is the first column's
 pub count_read : (rs : List (Bor Col)) (r : Bor Col) (n : ℕ) → n ≡ length (values r.now) → 0 < length rs → r ≡ get_or rs 0 r
@@ -46,7 +56,7 @@ and_assoc : (a b c : Bool) → ((a && b) && c) ≡ (a && (b && c))
 and_assoc true b c = refl
 and_assoc false b c = refl
 
-module _ (rs : List (Bor Col)) (join_nulls : Bool) (i n : ℕ) where
+module _ (rs : List (Bor Col)) (nulls : ℕ → Bool) (i n : ℕ) where
   -- one field more
   module _ (r : Bor Col) (low : n < length rs) (is : r ≡ get_or rs n r) where
     pub bytes_read : (bytes more all : List ℕ) → more ≡ bytes ++ field_code r.now.kind (get_or (values r.now) i null)
@@ -55,17 +65,17 @@ module _ (rs : List (Bor Col)) (join_nulls : Bool) (i n : ℕ) where
         let v : Datum = get_or (values r.now) i null in
         ap (λ l. l ++ row_bytes (drop (n + 1) (lent_columns rs)) i) e
         ∙ append_assoc bytes (field_code r.now.kind v) (row_bytes (drop (n + 1) (lent_columns rs)) i)
-        ∙ ap (λ l. bytes ++ l) (more_bytes (lent_columns rs) join_nulls i n r.now v (low_lent rs n r low is) (lent_is rs n r low is) refl)
+        ∙ ap (λ l. bytes ++ l) (more_bytes (lent_columns rs) nulls i n r.now v (low_lent rs n r low is) (lent_is rs n r low is) refl)
         ∙ so_far
 
-    pub key_read : (b c all : Bool) → c ≡ (b && (is_present (get_or (values r.now) i null) || join_nulls))
-        → (b && has_key_at join_nulls (drop n (lent_columns rs)) i) ≡ all → (c && has_key_at join_nulls (drop (n + 1) (lent_columns rs)) i) ≡ all
+    pub key_read : (b c all : Bool) → c ≡ (b && (is_present (get_or (values r.now) i null) || nulls n))
+        → (b && has_key_from nulls n (drop n (lent_columns rs)) i) ≡ all → (c && has_key_from nulls (n + 1) (drop (n + 1) (lent_columns rs)) i) ≡ all
     key_read b c all e so_far =
         let v : Datum = get_or (values r.now) i null in
-        let next : Bool = has_key_at join_nulls (drop (n + 1) (lent_columns rs)) i in
+        let next : Bool = has_key_from nulls (n + 1) (drop (n + 1) (lent_columns rs)) i in
         ap (λ x. x && next) e
-        ∙ and_assoc b (is_present v || join_nulls) next
-        ∙ ap (λ x. b && x) (more_key (lent_columns rs) join_nulls i n r.now v (low_lent rs n r low is) (lent_is rs n r low is) refl)
+        ∙ and_assoc b (is_present v || nulls n) next
+        ∙ ap (λ x. b && x) (more_key (lent_columns rs) nulls i n r.now v (low_lent rs n r low is) (lent_is rs n r low is) refl)
         ∙ so_far
 
   -- all fields
@@ -76,8 +86,8 @@ module _ (rs : List (Bor Col)) (join_nulls : Bool) (i n : ℕ) where
     pub bytes_all : (bytes all : List ℕ) → bytes ++ row_bytes (drop n (lent_columns rs)) i ≡ all → bytes ≡ all
     bytes_all bytes all e = sym (append-nil bytes) ∙ ap (λ l. bytes ++ l) (sym (at_drop_all (λ ds. row_bytes ds i) (lent_columns rs) n past_all)) ∙ e
 
-    pub key_all : (b all : Bool) → (b && has_key_at join_nulls (drop n (lent_columns rs)) i) ≡ all → b ≡ all
-    key_all b all e = sym (and_true b) ∙ ap (λ x. b && x) (sym (at_drop_all (λ ds. has_key_at join_nulls ds i) (lent_columns rs) n past_all)) ∙ e
+    pub key_all : (b all : Bool) → (b && has_key_from nulls n (drop n (lent_columns rs)) i) ≡ all → b ≡ all
+    key_all b all e = sym (and_true b) ∙ ap (λ x. b && x) (sym (at_drop_all (λ ds. has_key_from nulls n ds i) (lent_columns rs) n past_all)) ∙ e
 
 -- THE BYTES OF A KEY
 

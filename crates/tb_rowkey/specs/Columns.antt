@@ -1,5 +1,5 @@
 -- The column of row keys.
-use Rattle.std.specs.Prelude.{IsTrue, ◌≡◌, ◌<◌, ◌^◌, ℕ, Bool, List, [], ◌∷◌, length, map, slice_index_or}
+use Rattle.std.specs.Prelude.{IsTrue, ◌≡◌, ◌<◌, ◌^◌, ℕ, Bool, false, List, [], ◌∷◌, length, map, slice_index_or}
 use Rattle.std.specs.List.{All, list_all}
 use Rattle.tb_value.specs.Datum.{Datum, null}
 use Rattle.tb_value.specs.Kind.{Kind}
@@ -35,6 +35,10 @@ IsShortRow cs i = length (row_bytes cs i) < 2 ^ 32
 
 abbrev pub AreShortRows : List Col → Type 0
 AreShortRows cs = (i : ℕ) → i < row_count cs → IsShortRow cs i
+
+-- the flag of the column at place p; beyond the flags it is false
+abbrev pub flag_of : List Bool → ℕ → Bool
+flag_of flags p = slice_index_or flags p false
 
 -- the key of row i
 abbrev pub key_at : List Col → (ℕ → Bool) → ℕ → Datum

@@ -11,7 +11,7 @@ ghost use Rattle.tb_chunk.specs.Chunk.{or_null};
 ghost use Rattle.tb_chunk.specs.ChunkTexts.{bytes_of};
 ghost use Rattle.tb_chunk.specs.Col.{values};
 ghost use Rattle.tb_chunk.specs.Layout.{laid};
-ghost use Rattle.tb_rowkey.specs.Columns.{row_count, key_column, AreShortRows};
+ghost use Rattle.tb_rowkey.specs.Columns.{row_count, key_column, AreShortRows, flag_of};
 
 use crate::row_keys::RowKeys;
 use std::alloc::Global;
@@ -66,9 +66,10 @@ fn column_of(alloc: Global, chunk: BinaryChunk) -> Result<Series, OutOfMemory>
 }
 
 /// The row keys of the columns, as a Binary column without a name, in one chunk and with the flag Not.
-/// The key of a row has the bytes of its fields in the order of the columns; without `join_nulls` a row
-/// with a Null field is Null. There is a column at least, the columns are of key types and of one length,
-/// and the bytes of each row are fewer than 2^32, of a row with a Null field too, which `RowKeys::of_columns` tells.
+/// The key of a row has the bytes of its fields in the order of the columns; a row with a Null field whose
+/// column's flag is false is Null. There is a column at least, each has a flag, the columns are of key types and of
+/// one length, and the bytes of each row are fewer than 2^32, of a row with a Null field too, which
+/// `RowKeys::of_columns` tells.
 ///
 /// Each key is copied out of one buffer, which `RowKeys` lends from without copies.
 ///
@@ -78,13 +79,14 @@ fn column_of(alloc: Global, chunk: BinaryChunk) -> Result<Series, OutOfMemory>
 pub fn prepare_keys_multiple(
     alloc: Global,
     columns: &[Series],
-    join_nulls: bool,
+    join_nulls: &[bool],
 ) -> Result<Series, OutOfMemory>
     requires some { 0 < length columns.now }
     requires keys { All (λ c. IsTrue (is_key c.kind)) columns.now }
     requires rows { All (λ c. length (values c) ≡ row_count columns.now) columns.now }
     requires short { AreShortRows columns.now }
-    ensures { IfOk result (λ s. s ≡ key_column columns.now (λ _. join_nulls)) }
+    requires flags { length join_nulls.now ≡ length columns.now }
+    ensures { IfOk result (λ s. s ≡ key_column columns.now (flag_of join_nulls.now)) }
 {
     let lent = lend(alloc, columns)?;
     let keys = RowKeys::of_columns(alloc, &lent, join_nulls)?;

@@ -6,7 +6,7 @@ ghost use Rattle.tb_value.specs.Datum.{binary, is_null, is_present, null};
 ghost use Rattle.tb_value.specs.See.{lent};
 ghost use Rattle.tb_chunk.specs.Chunk.{or_null};
 ghost use Rattle.tb_chunk.specs.Col.{values, IsColumn};
-ghost use Rattle.tb_rowkey.specs.Columns.{lent_columns, fields_at, row_bytes, row_count, key_at, keys_at, AreShortRows};
+ghost use Rattle.tb_rowkey.specs.Columns.{lent_columns, fields_at, row_bytes, row_count, key_at, keys_at, AreShortRows, flag_of};
 ghost use Rattle.tb_rowkey.specs.RowKey.{field_code, has_key};
 ghost use Rattle.tb_rowkey.specs.RowKeys.{bytes_of, key_of};
 
@@ -42,8 +42,8 @@ impl Model for RowKeys {
 
 impl RowKeys {
     /// The keys of the rows of these columns, or none where the bytes of a row are 2^32 or more, of a row without a key
-    /// too. The key of a row has the bytes of its fields in the order of the columns; without `join_nulls` a row with a
-    /// Null field has none. There is a column at least, and the columns are of one length.
+    /// too. The key of a row has the bytes of its fields in the order of the columns; a row with a Null field whose
+    /// column's flag is false has none. There is a column at least, the columns are of one length, and each has a flag.
     ///
     /// Where a column is cut into chunks, all are put into one chunk each before they are read by rows.
     ///
@@ -53,12 +53,13 @@ impl RowKeys {
     pub fn of_columns(
         alloc: Global,
         columns: &[&Series],
-        join_nulls: bool,
+        join_nulls: &[bool],
     ) -> Result<Option<RowKeys>, OutOfMemory>
         requires some { 0 < length columns.now }
         requires rows { All (λ c. length (values c) ≡ row_count (lent_columns columns.now)) (lent_columns columns.now) }
+        requires flags { length join_nulls.now ≡ length columns.now }
         ensures short { IfOk result (λ keys. IsSome keys ↔ AreShortRows (lent_columns columns.now)) }
-        ensures keys { IfOk result (λ keys. IfSome keys (λ k. map (or_null binary) k ≡ keys_at (lent_columns columns.now) (λ _. join_nulls))) }
+        ensures keys { IfOk result (λ keys. IfSome keys (λ k. map (or_null binary) k ≡ keys_at (lent_columns columns.now) (flag_of join_nulls.now))) }
     {
         if are_in_one_chunk(columns) {
             return keys_of(alloc, columns, join_nulls);
@@ -112,10 +113,10 @@ fn is_null(value: ValueRef<'_>) -> bool
 }
 
 // Whether a row has a key that had one so far, and has this field.
-fn keeps_key(has_key: bool, is_present: bool, join_nulls: bool) -> bool
-    ensures { result ≡ (has_key && (is_present || join_nulls)) }
+fn keeps_key(has_key: bool, is_present: bool, null_matches: bool) -> bool
+    ensures { result ≡ (has_key && (is_present || null_matches)) }
 {
-    has_key && (is_present || join_nulls)
+    has_key && (is_present || null_matches)
 }
 
 // Writes a field behind the bytes, and says whether it is present.
@@ -134,18 +135,19 @@ fn push_value(bytes: &mut Vec<u8>, column: &Series, row: usize) -> Result<bool, 
 fn push_fields(
     bytes: &mut Vec<u8>,
     columns: &[&Series],
-    join_nulls: bool,
+    join_nulls: &[bool],
     row: usize,
 ) -> Result<bool, OutOfMemory>
     requires columns { All IsColumn (lent_columns columns.now) }
     requires rows { All (λ c. row < length (values c)) (lent_columns columns.now) }
+    requires flags { length join_nulls.now ≡ length columns.now }
     ensures bytes { OnOk result (bytes.new.items ≡ bytes.old.items ++ row_bytes (lent_columns columns.now) row) }
-    ensures key { IfOk result (λ b. b ≡ has_key (λ _. join_nulls) (fields_at (lent_columns columns.now) row)) }
+    ensures key { IfOk result (λ b. b ≡ has_key (flag_of join_nulls.now) (fields_at (lent_columns columns.now) row)) }
 {
     let mut has_key = true;
-    for column in columns {
-        let is_present = push_value(bytes, column, row)?;
-        has_key = keeps_key(has_key, is_present, join_nulls);
+    for place in 0..columns.len() {
+        let is_present = push_value(bytes, columns[place], row)?;
+        has_key = keeps_key(has_key, is_present, join_nulls[place]);
     }
     Ok(has_key)
 }
@@ -154,13 +156,14 @@ fn push_fields(
 fn push_key(
     bytes: &mut Vec<u8>,
     columns: &[&Series],
-    join_nulls: bool,
+    join_nulls: &[bool],
     row: usize,
 ) -> Result<usize, OutOfMemory>
     requires columns { All IsColumn (lent_columns columns.now) }
     requires rows { All (λ c. row < length (values c)) (lent_columns columns.now) }
+    requires flags { length join_nulls.now ≡ length columns.now }
     ensures len { IfOk result (λ n. n ≡ length (row_bytes (lent_columns columns.now) row)) }
-    ensures bytes { OnOk result (bytes.new.items ≡ bytes.old.items ++ bytes_of (key_at (lent_columns columns.now) (λ _. join_nulls) row)) }
+    ensures bytes { OnOk result (bytes.new.items ≡ bytes.old.items ++ bytes_of (key_at (lent_columns columns.now) (flag_of join_nulls.now) row)) }
 {
     let start = bytes.len();
     let has_key = push_fields(bytes, columns, join_nulls, row)?;
@@ -175,12 +178,13 @@ fn push_key(
 fn keys_of(
     alloc: Global,
     columns: &[&Series],
-    join_nulls: bool,
+    join_nulls: &[bool],
 ) -> Result<Option<RowKeys>, OutOfMemory>
     requires some { 0 < length columns.now }
     requires rows { All (λ c. length (values c) ≡ row_count (lent_columns columns.now)) (lent_columns columns.now) }
+    requires flags { length join_nulls.now ≡ length columns.now }
     ensures short { IfOk result (λ keys. IsSome keys ↔ AreShortRows (lent_columns columns.now)) }
-    ensures keys { IfOk result (λ keys. IfSome keys (λ k. map (or_null binary) k ≡ keys_at (lent_columns columns.now) (λ _. join_nulls))) }
+    ensures keys { IfOk result (λ keys. IfSome keys (λ k. map (or_null binary) k ≡ keys_at (lent_columns columns.now) (flag_of join_nulls.now))) }
 {
     know_columns(columns);
     let rows = columns[0].len();

@@ -16,7 +16,7 @@ use Rattle.tb_frame.specs.declared.args.JoinType.{JoinType}
 use Rattle.tb_frame.specs.declared.args.JoinType.TheVariants.{Inner, Left, Right, Full, Semi, Anti}
 use Rattle.tb_frame.specs.declared.args.JoinValidation.{JoinValidation}
 use Rattle.tb_frame.specs.declared.args.JoinValidation.TheVariants.{ManyToMany, ManyToOne, OneToMany, OneToOne}
-use Rattle.tb_frame.specs.Join.{field, listing, listing_of}
+use Rattle.tb_frame.specs.Join.{field, flag_at, listing, listing_of}
 use Rattle.tb_frame.specs.Refusal.{asks_left, asks_right, is_validated, row_causes}
 use Rattle.tb_frame.specs.Table.{height, table_of}
 use Rattle.tb_frame.proofs.Causes.{first_cause-one}
@@ -83,16 +83,16 @@ rows_are : (n : ℕ) (cs : List Col) (c : Col) → cs ≡ c ∷ [] → HasRows n
 rows_are n cs c is h = All-head (λ (d : Col). length (values d) ≡ n) c [] (subst (HasRows n) is h)
 
 -- whether rows match by the columns of keys
-abbrev one_key_matches : Bool → List Col → List Col → ℕ → ℕ → Bool
-one_key_matches null_matches ls rs i j = list_all (λ p. agrees null_matches (field (table_of ls) p i) (field (table_of rs) p j)) (row_numbers (min (length (table_of ls)) (length (table_of rs))))
+abbrev one_key_matches : (ℕ → Bool) → List Col → List Col → ℕ → ℕ → Bool
+one_key_matches nulls ls rs i j = list_all (λ p. agrees (nulls p) (field (table_of ls) p i) (field (table_of rs) p j)) (row_numbers (min (length (table_of ls)) (length (table_of rs))))
 
 module _ (r : LentRequest) (a b : Col) (is_left : lent_columns r.left_keys.now ≡ a ∷ []) (is_right : lent_columns r.right_keys.now ≡ b ∷ []) where
-  pub requested_listing : value_listing r.args.now.join_nulls r.how (values a) (values b) ≡ listing (asked r)
+  pub requested_listing : value_listing (flag_at r.args.now.join_nulls 0) r.how (values a) (values b) ≡ listing (asked r)
   requested_listing =
       let high_left : length (values a) ≡ height (table_of r.left.now) = rows_are (height (table_of r.left.now)) (lent_columns r.left_keys.now) a is_left r.left_rows in
       let high_right : length (values b) ≡ height (table_of r.right.now) = rows_are (height (table_of r.right.now)) (lent_columns r.right_keys.now) b is_right r.right_rows in
-      ◌∙◌ {A = List JoinPair} (λ t. listing_of r.how (high_left t) (high_right t) (λ i j. and_true (agrees r.args.now.join_nulls (get_or (values a) i null) (get_or (values b) j null)) t))
-      (λ t. listing_of r.how (height (table_of r.left.now)) (height (table_of r.right.now)) (one_key_matches r.args.now.join_nulls (sym is_left t) (sym is_right t)))
+      ◌∙◌ {A = List JoinPair} (λ t. listing_of r.how (high_left t) (high_right t) (λ i j. and_true (agrees (flag_at r.args.now.join_nulls 0) (get_or (values a) i null) (get_or (values b) j null)) t))
+      (λ t. listing_of r.how (height (table_of r.left.now)) (height (table_of r.right.now)) (one_key_matches (flag_at r.args.now.join_nulls) (sym is_left t) (sym is_right t)))
 
 -- THE CAUSES
 

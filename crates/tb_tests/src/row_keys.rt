@@ -70,9 +70,10 @@ fn keys_of(
     rt: &impl Abort,
     alloc: Global,
     columns: &[Series],
-    join_nulls: bool,
+    join_nulls: &[bool],
 ) -> Result<Series, Fail> {
     assert!(rt; !columns.is_empty());
+    assert!(rt; join_nulls.len() == columns.len());
     assert!(rt; are_keys(columns, columns[0].len()));
     let lent = lend(alloc, columns)?;
     assert!(rt; RowKeys::of_columns(alloc, &lent, join_nulls)?.is_some());
@@ -97,7 +98,7 @@ fn check_key(
     rt: &impl Abort,
     alloc: Global,
     columns: &[Series],
-    join_nulls: bool,
+    join_nulls: &[bool],
     row: usize,
     wanted: &[u8],
 ) -> Result<(), Fail> {
@@ -106,9 +107,9 @@ fn check_key(
     Ok(())
 }
 
-// The first row has no key where nulls don't match.
+// The first row has no key where Nulls don't match in the first column.
 fn check_no_key(rt: &impl Abort, alloc: Global, columns: &[Series]) -> Result<(), Fail> {
-    let keys = keys_of(rt, alloc, columns, false)?;
+    let keys = keys_of(rt, alloc, columns, &[false, true])?;
     assert!(rt; has_none(&keys, 0));
     Ok(())
 }
@@ -123,7 +124,7 @@ fn texts_in_two_chunks(rt: HostRuntime) -> Result<(), Fail> {
         &rt,
         alloc,
         &columns,
-        true,
+        &[true, true],
         0,
         b"\x01\x00\x00\x00\x02ab\x01\x00\x00\x00\x01c",
     )?;
@@ -131,7 +132,7 @@ fn texts_in_two_chunks(rt: HostRuntime) -> Result<(), Fail> {
         &rt,
         alloc,
         &columns,
-        true,
+        &[true, true],
         1,
         b"\x01\x00\x00\x00\x01a\x01\x00\x00\x00\x02bc",
     )
@@ -143,7 +144,8 @@ fn absent_field(rt: HostRuntime) -> Result<(), Fail> {
     let mut columns = Vec::new(alloc);
     columns.push(column(alloc, DataType::String, AnyValue::Null)?)?;
     columns.push(column(alloc, DataType::Int32, AnyValue::Int(5))?)?;
-    check_key(&rt, alloc, &columns, true, 0, b"\x00\x01\x00\x00\x00\x05")?;
+    let first = [true, false];
+    check_key(&rt, alloc, &columns, &first, 0, b"\x00\x01\x00\x00\x00\x05")?;
     check_no_key(&rt, alloc, &columns)
 }
 
@@ -153,5 +155,6 @@ fn number_and_truth(rt: HostRuntime) -> Result<(), Fail> {
     let mut columns = Vec::new(alloc);
     columns.push(column(alloc, DataType::Int16, AnyValue::Int(-1))?)?;
     columns.push(column(alloc, DataType::Boolean, AnyValue::Boolean(true))?)?;
-    check_key(&rt, alloc, &columns, false, 0, b"\x01\xff\xff\x01\x01")
+    let none = [false, false];
+    check_key(&rt, alloc, &columns, &none, 0, b"\x01\xff\xff\x01\x01")
 }

@@ -2,7 +2,7 @@
 
 use std::alloc::Global;
 use std::test::Fail;
-use tb_frame::{DataFrame, coalesce_columns};
+use tb_frame::{DataFrame, Flags, JoinArgs, JoinNulls, JoinType, coalesce_columns};
 use tb_store::{AnyValue, Column, DataType, NullableIdxSize, PlSmallStr};
 
 pub(crate) fn column(alloc: Global, name: &str, ints: &[i128]) -> Result<Column, Fail> {
@@ -87,5 +87,27 @@ fn coalesced_columns(rt: HostRuntime) -> Result<(), Fail> {
     for column in table.get_columns() {
         assert!(rt; coalesced_rows(alloc, column)? == 2);
     }
+    Ok(())
+}
+
+// The arguments of a Left join with a suffix, and a flag for each of two keys.
+fn flagged_args(alloc: Global) -> Result<JoinArgs, Fail> {
+    let mut flags = Vec::with_capacity(alloc, 2)?;
+    flags.push(true)?;
+    flags.push(false)?;
+    let mut args = JoinArgs::new(JoinType::Left);
+    args.suffix = Some(PlSmallStr::from_str(alloc, "_b")?);
+    args.join_nulls = JoinNulls::Each(Flags::from_vec(flags));
+    Ok(args)
+}
+
+#[test]
+fn copied_arguments(rt: HostRuntime) -> Result<(), Fail> {
+    let alloc = rt.alloc();
+    let args = flagged_args(alloc)?;
+    let copy = args.copy(alloc)?;
+    assert!(rt; copy.how == args.how);
+    assert!(rt; copy.join_nulls == args.join_nulls);
+    assert!(rt; copy.suffix.is_some());
     Ok(())
 }

@@ -34,6 +34,8 @@ pub enum InvalidCause {
     NoKeys,
     /// The key lists differ in length.
     KeyCounts { left: usize, right: usize },
+    /// The flags that say which absent keys match are not as many as the keys.
+    NullFlags { flags: usize, keys: usize },
     /// The type of the keys at this place, counted from 0, is none by which rows can be joined.
     KeyKind { place: usize },
     /// Neither index nor values are named.

@@ -1,5 +1,5 @@
 -- The members of a request, and the form of each.
-use Rattle.std.specs.Prelude.{ℕ, List, [], ◌∷◌, map, nat_le, Bool, true, false, if◌then◌else◌, Option, Some, None, is_some, option_and_then, option_map, unwrap_or, codes}
+use Rattle.std.specs.Prelude.{ℕ, List, [], ◌∷◌, map, nat_le, Bool, true, false, ◌||◌, if◌then◌else◌, Option, Some, None, is_some, option_and_then, option_map, unwrap_or, codes}
 use Rattle.serde_json.specs.Data.{Data, null, boolean, number, string, array, object, Members, no_members, member}
 use Rattle.serde_json.specs.Find.{get, as_bool, as_str, as_object}
 use Rattle.tb_value.specs.Names.{Name}
@@ -32,6 +32,7 @@ has_form form.Chunks d = is_some (list_of as_list d)
 has_form form.Text d = is_some (as_str d)
 has_form form.Texts d = is_some (list_of as_str d)
 has_form form.Truth d = is_some (as_bool d)
+has_form form.Nulls d = is_some (as_bool d) || is_some (as_list d)
 has_form form.Type d = is_some (kind_in d)
 has_form form.Slice d = is_some (slice_in d)
 has_form form.Count d = is_some (count_of d)
@@ -105,7 +106,7 @@ abbrev pub args_members : List Known
 args_members =
     optional (codes "coalesce") (form.Word word.Coalesce)
     ∷ needed (codes "how") (form.Word word.How)
-    ∷ optional (codes "join_nulls") form.Truth
+    ∷ optional (codes "join_nulls") form.Nulls
     ∷ optional (codes "maintain_order") (form.Word word.Order)
     ∷ optional (codes "slice") form.Slice
     ∷ optional (codes "suffix") form.Text

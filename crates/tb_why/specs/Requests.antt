@@ -11,9 +11,9 @@ use Rattle.tb_why.specs.declared.spot.Form.TheVariants as form
 use Rattle.tb_why.specs.declared.spot.Fault as rust
 use Rattle.tb_why.specs.declared.spot.Place.{Place}
 use Rattle.tb_why.specs.declared.spot.Place.TheVariants as place
-use Rattle.tb_why.specs.Spots.{Spot, or_else, inside}
-use Rattle.tb_why.specs.Members.{Known, members_spot, join_members, unpivot_members, dummies_members, pivot_members, args_members, exec_with}
-use Rattle.tb_why.specs.Columns.{table_spot}
+use Rattle.tb_why.specs.Spots.{Spot, unless, or_else, inside, first_at}
+use Rattle.tb_why.specs.Members.{Known, has_form, members_spot, join_members, unpivot_members, dummies_members, pivot_members, args_members, exec_with}
+use Rattle.tb_why.specs.Columns.{items_of, table_spot}
 
 abbrev pub refusal : {A : Type 0} → Result A Reason → Option Reason
 refusal (Ok a) = None
@@ -36,6 +36,17 @@ abbrev pub exec_known : Reason → List Known
 exec_known why.Exec = exec_with form.Workers form.Divisor
 exec_known _ = exec_with form.Count form.Count
 
+abbrev pub flag_spot : Data → Option Spot
+flag_spot d = unless (has_form form.Truth d) (expected.Form form.Truth)
+
+-- the first of a list that is neither true nor false
+abbrev pub flags_spot : Data → Option Spot
+flags_spot d = first_at flag_spot 0 (items_of d)
+
+-- the first argument of a join, or part of one, that is at fault
+abbrev pub args_spot : Data → Option Spot
+args_spot d = or_else (members_spot args_members d) (inside (codes "join_nulls") flags_spot d)
+
 -- the first of both tables
 abbrev pub sides_spot : Reason → Data → Option Spot
 sides_spot reason d = or_else (inside (codes "left") (table_spot reason) d) (inside (codes "right") (table_spot reason) d)
@@ -43,7 +54,7 @@ sides_spot reason d = or_else (inside (codes "left") (table_spot reason) d) (ins
 -- the first that is at fault for the reason inside the members of a request
 abbrev pub parts_spot : Command → Reason → Data → Option Spot
 parts_spot command.Join reason d =
-    or_else (inside (codes "args") (members_spot args_members) d)
+    or_else (inside (codes "args") args_spot d)
     (or_else (inside (codes "exec") (members_spot (exec_known reason)) d) (sides_spot reason d))
 parts_spot _ reason d = inside (codes "table") (table_spot reason) d
 

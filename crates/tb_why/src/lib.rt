@@ -1,6 +1,7 @@
 //! Where bytes are no request, and what is expected there.
 #![tactic(auto)]
 
+mod args;
 mod cells;
 mod columns;
 mod forms;

@@ -45,6 +45,8 @@ pub enum Form {
     /// A list of texts.
     Texts,
     Truth,
+    /// A truth value, or a list.
+    Nulls,
     /// A type of columns.
     Type,
     /// An offset of 64 bits and a length of 64 bits without sign.

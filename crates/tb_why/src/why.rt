@@ -3,10 +3,11 @@ ghost use Rattle.std.specs.Prelude.{◌≡◌, codes, option_map, IfOk, IfSome};
 ghost use Rattle.tb_tree.specs.View.{view};
 ghost use Rattle.tb_request.specs.Reading.{dummies_request_of, join_request_of, pivot_request_of, unpivot_request_of};
 ghost use Rattle.tb_why.specs.Columns.{table_spot};
-ghost use Rattle.tb_why.specs.Members.{args_members, dummies_members, exec_with, join_members, members_spot, pivot_members, unpivot_members};
-ghost use Rattle.tb_why.specs.Requests.{exec_known, members_of, parts_spot, reason_of, refusal, request_spot, sides_spot, spot_at, IsPlaced};
+ghost use Rattle.tb_why.specs.Members.{dummies_members, exec_with, join_members, members_spot, pivot_members, unpivot_members};
+ghost use Rattle.tb_why.specs.Requests.{args_spot, exec_known, members_of, parts_spot, reason_of, refusal, request_spot, sides_spot, spot_at, IsPlaced};
 ghost use Rattle.tb_why.specs.Spots.{inside, spot_view, Finds};
 
+use crate::args::args_spot;
 use crate::columns::table_spot;
 use crate::members::{members_spot, needed, optional};
 use crate::spot::{Command, Expected, Fault, Form, Place, Spot, Word, here, under_member};
@@ -16,24 +17,6 @@ use tb_request::{
     Reason, RequestFault, dummies_request_of, join_request_of, pivot_request_of, unpivot_request_of,
 };
 use tb_value::OutOfMemory;
-
-fn args_spot(alloc: Global, args: &Tree) -> Result<Option<Spot>, OutOfMemory>
-    ensures { Finds result (members_spot args_members (view args.now)) }
-{
-    members_spot(
-        alloc,
-        &[
-            optional("coalesce", Form::Word(Word::Coalesce)),
-            needed("how", Form::Word(Word::How)),
-            optional("join_nulls", Form::Truth),
-            optional("maintain_order", Form::Word(Word::Order)),
-            optional("slice", Form::Slice),
-            optional("suffix", Form::Text),
-            optional("validation", Form::Word(Word::Validation)),
-        ],
-        args,
-    )
-}
 
 fn exec_spot(
     alloc: Global,
@@ -158,7 +141,7 @@ fn table_at(
 }
 
 fn args_at(alloc: Global, request: &Tree) -> Result<Option<Spot>, OutOfMemory>
-    ensures { Finds result (inside (codes "args") (members_spot args_members) (view request.now)) }
+    ensures { Finds result (inside (codes "args") args_spot (view request.now)) }
 {
     match member(request, "args") {
         Some(args) => under_member(alloc, "args", args_spot(alloc, args)?),

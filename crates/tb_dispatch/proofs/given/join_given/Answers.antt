@@ -9,6 +9,7 @@ use Rattle.tb_chunk.specs.Col.{Col}
 use Rattle.tb_chunk.specs.Lent.{lent_columns}
 use Rattle.tb_frame.specs.Join.{IsAnswer, Request, out}
 use Rattle.tb_frame.specs.Refusal.{key_types}
+use Rattle.tb_frame.specs.declared.null_flags.JoinNulls.{JoinNulls}
 use Rattle.tb_frame.specs.Table.{height, names_of, table_of}
 use Rattle.tb_keys.specs.Causes.{later_refusal}
 use Rattle.tb_keys.specs.Rows.{HasRows}
@@ -20,9 +21,9 @@ use Rattle.tb_dispatch.proofs.Cleared.{all_later, answers, as_many, fitted, fitt
 use Rattle.tb_dispatch.proofs.given.join_given.Goals as goal
 
 -- the causes of the check are those of the request
-abbrev none_of : (left right lk rk : List Col) (lks rks : List Col) (lo ro : List Name) → lks ≡ lk → rks ≡ rk → lo ≡ names_of (table_of lk) → ro ≡ names_of (table_of rk)
-    → early_refusal left right lks rks lo ro ≡ early_refusal left right lk rk (names_of (table_of lk)) (names_of (table_of rk))
-none_of left right lk rk lks rks lo ro a b x y = λ t. early_refusal left right (a t) (b t) (x t) (y t)
+abbrev none_of : (left right lk rk : List Col) (lks rks : List Col) (nulls : JoinNulls) (lo ro : List Name) → lks ≡ lk → rks ≡ rk → lo ≡ names_of (table_of lk) → ro ≡ names_of (table_of rk)
+    → early_refusal left right lks rks nulls lo ro ≡ early_refusal left right lk rk nulls (names_of (table_of lk)) (names_of (table_of rk))
+none_of left right lk rk lks rks nulls lo ro a b x y = λ t. early_refusal left right (a t) (b t) nulls (x t) (y t)
 
 pub returns-in_err-check_given-clause-settles : goal.returns-in_err-check_given-clause-settles
 returns-in_err-check_given-clause-settles g c =
@@ -33,7 +34,7 @@ returns-in_err-check_given-clause-settles g c =
     let args = c.args.args.now in
     let p = err_from_is_err_and c.from_residual-in_err-check_given.result c.from_residual-in_err-check_given.ensures.1 in
     rw (p.1, p.2) (by_first _ _ _ _ _ (in_parts left right lk rk args)
-    (none_of left right lk rk c.deref-3.result.now c.deref-4.result.now c.deref-5.result.now c.deref-6.result.now c.deref-3.ensures.value c.deref-4.ensures.value (c.deref-5.ensures.value ∙ c.in_ok-left_on.ensures ∙ ap (λ (cs : List Col). names_of (table_of cs)) c.deref.ensures.value) (c.deref-6.ensures.value ∙ c.in_ok-right_on.ensures ∙ ap (λ (cs : List Col). names_of (table_of cs)) c.deref-2.ensures.value)) c.in_err-check_given.ensures)
+    (none_of left right lk rk c.deref-3.result.now c.deref-4.result.now args.join_nulls c.deref-5.result.now c.deref-6.result.now c.deref-3.ensures.value c.deref-4.ensures.value (c.deref-5.ensures.value ∙ c.in_ok-left_on.ensures ∙ ap (λ (cs : List Col). names_of (table_of cs)) c.deref.ensures.value) (c.deref-6.ensures.value ∙ c.in_ok-right_on.ensures ∙ ap (λ (cs : List Col). names_of (table_of cs)) c.deref-2.ensures.value)) c.in_err-check_given.ensures)
 
 pub lent_keys-requires : goal.lent_keys-requires
 lent_keys-requires g c =
@@ -42,7 +43,7 @@ lent_keys-requires g c =
     let lk = c.args.left_keys.items in
     let rk = c.args.right_keys.items in
     let args = c.args.args.now in
-    subst (λ (cs : List Col). HasRows (height (table_of left)) cs) (sym (c.deref-7.ensures.value ∙ c.in_ok-left_keys.ensures ∙ (λ t. cleared (c.height.ensures.height t) lk))) (left_fit left right lk rk args (sym (none_of left right lk rk c.deref-3.result.now c.deref-4.result.now c.deref-5.result.now c.deref-6.result.now c.deref-3.ensures.value c.deref-4.ensures.value (c.deref-5.ensures.value ∙ c.in_ok-left_on.ensures ∙ ap (λ (cs : List Col). names_of (table_of cs)) c.deref.ensures.value) (c.deref-6.ensures.value ∙ c.in_ok-right_on.ensures ∙ ap (λ (cs : List Col). names_of (table_of cs)) c.deref-2.ensures.value)) ∙ c.in_ok-check_given.ensures))
+    subst (λ (cs : List Col). HasRows (height (table_of left)) cs) (sym (c.deref-7.ensures.value ∙ c.in_ok-left_keys.ensures ∙ (λ t. cleared (c.height.ensures.height t) lk))) (left_fit left right lk rk args (sym (none_of left right lk rk c.deref-3.result.now c.deref-4.result.now args.join_nulls c.deref-5.result.now c.deref-6.result.now c.deref-3.ensures.value c.deref-4.ensures.value (c.deref-5.ensures.value ∙ c.in_ok-left_on.ensures ∙ ap (λ (cs : List Col). names_of (table_of cs)) c.deref.ensures.value) (c.deref-6.ensures.value ∙ c.in_ok-right_on.ensures ∙ ap (λ (cs : List Col). names_of (table_of cs)) c.deref-2.ensures.value)) ∙ c.in_ok-check_given.ensures))
 
 pub lent_keys-requires-2 : goal.lent_keys-requires-2
 lent_keys-requires-2 g c =
@@ -51,7 +52,7 @@ lent_keys-requires-2 g c =
     let lk = c.args.left_keys.items in
     let rk = c.args.right_keys.items in
     let args = c.args.args.now in
-    subst (λ (cs : List Col). HasRows (height (table_of right)) cs) (sym (c.deref-8.ensures.value ∙ c.in_ok-right_keys.ensures ∙ (λ t. cleared (c.height-2.ensures.height t) rk))) (right_fit left right lk rk args (sym (none_of left right lk rk c.deref-3.result.now c.deref-4.result.now c.deref-5.result.now c.deref-6.result.now c.deref-3.ensures.value c.deref-4.ensures.value (c.deref-5.ensures.value ∙ c.in_ok-left_on.ensures ∙ ap (λ (cs : List Col). names_of (table_of cs)) c.deref.ensures.value) (c.deref-6.ensures.value ∙ c.in_ok-right_on.ensures ∙ ap (λ (cs : List Col). names_of (table_of cs)) c.deref-2.ensures.value)) ∙ c.in_ok-check_given.ensures))
+    subst (λ (cs : List Col). HasRows (height (table_of right)) cs) (sym (c.deref-8.ensures.value ∙ c.in_ok-right_keys.ensures ∙ (λ t. cleared (c.height-2.ensures.height t) rk))) (right_fit left right lk rk args (sym (none_of left right lk rk c.deref-3.result.now c.deref-4.result.now args.join_nulls c.deref-5.result.now c.deref-6.result.now c.deref-3.ensures.value c.deref-4.ensures.value (c.deref-5.ensures.value ∙ c.in_ok-left_on.ensures ∙ ap (λ (cs : List Col). names_of (table_of cs)) c.deref.ensures.value) (c.deref-6.ensures.value ∙ c.in_ok-right_on.ensures ∙ ap (λ (cs : List Col). names_of (table_of cs)) c.deref-2.ensures.value)) ∙ c.in_ok-check_given.ensures))
 
 pub invariant_of-request-clause-left_rows : goal.invariant_of-request-clause-left_rows
 invariant_of-request-clause-left_rows g c = subst (λ (rs : List (Bor Col)). HasRows (height (table_of c.args.left.now)) (lent_columns rs)) (sym c.deref-11.ensures.value) c.in_ok-left_lent.ensures.rows
@@ -67,7 +68,7 @@ join_columns-requires-clause-some g c κs within =
     let rk = c.args.right_keys.items in
     let args = c.args.args.now in
     let is = (ap lent_columns c.deref-11.ensures.value ∙ c.in_ok-left_lent.ensures.lent ∙ (c.deref-7.ensures.value ∙ c.in_ok-left_keys.ensures ∙ (λ t. cleared (c.height.ensures.height t) lk))) in
-    let there = some left right lk rk args (sym (none_of left right lk rk c.deref-3.result.now c.deref-4.result.now c.deref-5.result.now c.deref-6.result.now c.deref-3.ensures.value c.deref-4.ensures.value (c.deref-5.ensures.value ∙ c.in_ok-left_on.ensures ∙ ap (λ (cs : List Col). names_of (table_of cs)) c.deref.ensures.value) (c.deref-6.ensures.value ∙ c.in_ok-right_on.ensures ∙ ap (λ (cs : List Col). names_of (table_of cs)) c.deref-2.ensures.value)) ∙ c.in_ok-check_given.ensures) in
+    let there = some left right lk rk args (sym (none_of left right lk rk c.deref-3.result.now c.deref-4.result.now args.join_nulls c.deref-5.result.now c.deref-6.result.now c.deref-3.ensures.value c.deref-4.ensures.value (c.deref-5.ensures.value ∙ c.in_ok-left_on.ensures ∙ ap (λ (cs : List Col). names_of (table_of cs)) c.deref.ensures.value) (c.deref-6.ensures.value ∙ c.in_ok-right_on.ensures ∙ ap (λ (cs : List Col). names_of (table_of cs)) c.deref-2.ensures.value)) ∙ c.in_ok-check_given.ensures) in
     let long = ap (λ (cs : List Col). length cs) is in
     let many = length-map c.deref-11.result.now (λ (b : Bor Col). b.now) in
     omega (arith, there, long, many)
@@ -79,7 +80,7 @@ join_columns-requires-clause-as_many g c κs within =
     let lk = c.args.left_keys.items in
     let rk = c.args.right_keys.items in
     let args = c.args.args.now in
-    let same = as_many left right lk rk args (sym (none_of left right lk rk c.deref-3.result.now c.deref-4.result.now c.deref-5.result.now c.deref-6.result.now c.deref-3.ensures.value c.deref-4.ensures.value (c.deref-5.ensures.value ∙ c.in_ok-left_on.ensures ∙ ap (λ (cs : List Col). names_of (table_of cs)) c.deref.ensures.value) (c.deref-6.ensures.value ∙ c.in_ok-right_on.ensures ∙ ap (λ (cs : List Col). names_of (table_of cs)) c.deref-2.ensures.value)) ∙ c.in_ok-check_given.ensures) in
+    let same = as_many left right lk rk args (sym (none_of left right lk rk c.deref-3.result.now c.deref-4.result.now args.join_nulls c.deref-5.result.now c.deref-6.result.now c.deref-3.ensures.value c.deref-4.ensures.value (c.deref-5.ensures.value ∙ c.in_ok-left_on.ensures ∙ ap (λ (cs : List Col). names_of (table_of cs)) c.deref.ensures.value) (c.deref-6.ensures.value ∙ c.in_ok-right_on.ensures ∙ ap (λ (cs : List Col). names_of (table_of cs)) c.deref-2.ensures.value)) ∙ c.in_ok-check_given.ensures) in
     let long = ap (λ (cs : List Col). length cs) (ap lent_columns c.deref-11.ensures.value ∙ c.in_ok-left_lent.ensures.lent ∙ (c.deref-7.ensures.value ∙ c.in_ok-left_keys.ensures ∙ (λ t. cleared (c.height.ensures.height t) lk))) in
     let wide = ap (λ (cs : List Col). length cs) (ap lent_columns c.deref-12.ensures.value ∙ c.in_ok-right_lent.ensures.lent ∙ (c.deref-8.ensures.value ∙ c.in_ok-right_keys.ensures ∙ (λ t. cleared (c.height-2.ensures.height t) rk))) in
     sym (length-map c.deref-11.result.now (λ (b : Bor Col). b.now)) ∙ long ∙ same ∙ sym wide ∙ length-map c.deref-12.result.now (λ (b : Bor Col). b.now)
@@ -91,7 +92,7 @@ join_columns-requires-clause-wide g c κs within =
     let lk = c.args.left_keys.items in
     let rk = c.args.right_keys.items in
     let args = c.args.args.now in
-    subst (λ (q : Request). 0 < length (out q)) (sym (fitted_is left right lk rk args c.deref-9.result.now c.deref-10.result.now (lent_columns c.deref-11.result.now) (lent_columns c.deref-12.result.now) (c.deref-9.ensures.value ∙ c.in_ok-left_on.ensures ∙ ap (λ (cs : List Col). names_of (table_of cs)) c.deref.ensures.value) (c.deref-10.ensures.value ∙ c.in_ok-right_on.ensures ∙ ap (λ (cs : List Col). names_of (table_of cs)) c.deref-2.ensures.value) (ap lent_columns c.deref-11.ensures.value ∙ c.in_ok-left_lent.ensures.lent ∙ (c.deref-7.ensures.value ∙ c.in_ok-left_keys.ensures ∙ (λ t. cleared (c.height.ensures.height t) lk))) (ap lent_columns c.deref-12.ensures.value ∙ c.in_ok-right_lent.ensures.lent ∙ (c.deref-8.ensures.value ∙ c.in_ok-right_keys.ensures ∙ (λ t. cleared (c.height-2.ensures.height t) rk))))) (wide_out (fitted left right lk rk args) (stand left right lk rk args (sym (none_of left right lk rk c.deref-3.result.now c.deref-4.result.now c.deref-5.result.now c.deref-6.result.now c.deref-3.ensures.value c.deref-4.ensures.value (c.deref-5.ensures.value ∙ c.in_ok-left_on.ensures ∙ ap (λ (cs : List Col). names_of (table_of cs)) c.deref.ensures.value) (c.deref-6.ensures.value ∙ c.in_ok-right_on.ensures ∙ ap (λ (cs : List Col). names_of (table_of cs)) c.deref-2.ensures.value)) ∙ c.in_ok-check_given.ensures)))
+    subst (λ (q : Request). 0 < length (out q)) (sym (fitted_is left right lk rk args c.deref-9.result.now c.deref-10.result.now (lent_columns c.deref-11.result.now) (lent_columns c.deref-12.result.now) (c.deref-9.ensures.value ∙ c.in_ok-left_on.ensures ∙ ap (λ (cs : List Col). names_of (table_of cs)) c.deref.ensures.value) (c.deref-10.ensures.value ∙ c.in_ok-right_on.ensures ∙ ap (λ (cs : List Col). names_of (table_of cs)) c.deref-2.ensures.value) (ap lent_columns c.deref-11.ensures.value ∙ c.in_ok-left_lent.ensures.lent ∙ (c.deref-7.ensures.value ∙ c.in_ok-left_keys.ensures ∙ (λ t. cleared (c.height.ensures.height t) lk))) (ap lent_columns c.deref-12.ensures.value ∙ c.in_ok-right_lent.ensures.lent ∙ (c.deref-8.ensures.value ∙ c.in_ok-right_keys.ensures ∙ (λ t. cleared (c.height-2.ensures.height t) rk))))) (wide_out (fitted left right lk rk args) (stand left right lk rk args (sym (none_of left right lk rk c.deref-3.result.now c.deref-4.result.now args.join_nulls c.deref-5.result.now c.deref-6.result.now c.deref-3.ensures.value c.deref-4.ensures.value (c.deref-5.ensures.value ∙ c.in_ok-left_on.ensures ∙ ap (λ (cs : List Col). names_of (table_of cs)) c.deref.ensures.value) (c.deref-6.ensures.value ∙ c.in_ok-right_on.ensures ∙ ap (λ (cs : List Col). names_of (table_of cs)) c.deref-2.ensures.value)) ∙ c.in_ok-check_given.ensures)))
 
 pub join_columns-requires-clause-merge : goal.join_columns-requires-clause-merge
 join_columns-requires-clause-merge g c κs within =
@@ -100,7 +101,7 @@ join_columns-requires-clause-merge g c κs within =
     let lk = c.args.left_keys.items in
     let rk = c.args.right_keys.items in
     let args = c.args.args.now in
-    subst (λ (q : Request). key_types q ≡ None → CanMerge q) (sym (fitted_is left right lk rk args c.deref-9.result.now c.deref-10.result.now (lent_columns c.deref-11.result.now) (lent_columns c.deref-12.result.now) (c.deref-9.ensures.value ∙ c.in_ok-left_on.ensures ∙ ap (λ (cs : List Col). names_of (table_of cs)) c.deref.ensures.value) (c.deref-10.ensures.value ∙ c.in_ok-right_on.ensures ∙ ap (λ (cs : List Col). names_of (table_of cs)) c.deref-2.ensures.value) (ap lent_columns c.deref-11.ensures.value ∙ c.in_ok-left_lent.ensures.lent ∙ (c.deref-7.ensures.value ∙ c.in_ok-left_keys.ensures ∙ (λ t. cleared (c.height.ensures.height t) lk))) (ap lent_columns c.deref-12.ensures.value ∙ c.in_ok-right_lent.ensures.lent ∙ (c.deref-8.ensures.value ∙ c.in_ok-right_keys.ensures ∙ (λ t. cleared (c.height-2.ensures.height t) rk))))) (λ types. mergeable left right lk rk args (sym (none_of left right lk rk c.deref-3.result.now c.deref-4.result.now c.deref-5.result.now c.deref-6.result.now c.deref-3.ensures.value c.deref-4.ensures.value (c.deref-5.ensures.value ∙ c.in_ok-left_on.ensures ∙ ap (λ (cs : List Col). names_of (table_of cs)) c.deref.ensures.value) (c.deref-6.ensures.value ∙ c.in_ok-right_on.ensures ∙ ap (λ (cs : List Col). names_of (table_of cs)) c.deref-2.ensures.value)) ∙ c.in_ok-check_given.ensures) c.requires.merge)
+    subst (λ (q : Request). key_types q ≡ None → CanMerge q) (sym (fitted_is left right lk rk args c.deref-9.result.now c.deref-10.result.now (lent_columns c.deref-11.result.now) (lent_columns c.deref-12.result.now) (c.deref-9.ensures.value ∙ c.in_ok-left_on.ensures ∙ ap (λ (cs : List Col). names_of (table_of cs)) c.deref.ensures.value) (c.deref-10.ensures.value ∙ c.in_ok-right_on.ensures ∙ ap (λ (cs : List Col). names_of (table_of cs)) c.deref-2.ensures.value) (ap lent_columns c.deref-11.ensures.value ∙ c.in_ok-left_lent.ensures.lent ∙ (c.deref-7.ensures.value ∙ c.in_ok-left_keys.ensures ∙ (λ t. cleared (c.height.ensures.height t) lk))) (ap lent_columns c.deref-12.ensures.value ∙ c.in_ok-right_lent.ensures.lent ∙ (c.deref-8.ensures.value ∙ c.in_ok-right_keys.ensures ∙ (λ t. cleared (c.height-2.ensures.height t) rk))))) (λ types. mergeable left right lk rk args (sym (none_of left right lk rk c.deref-3.result.now c.deref-4.result.now args.join_nulls c.deref-5.result.now c.deref-6.result.now c.deref-3.ensures.value c.deref-4.ensures.value (c.deref-5.ensures.value ∙ c.in_ok-left_on.ensures ∙ ap (λ (cs : List Col). names_of (table_of cs)) c.deref.ensures.value) (c.deref-6.ensures.value ∙ c.in_ok-right_on.ensures ∙ ap (λ (cs : List Col). names_of (table_of cs)) c.deref-2.ensures.value)) ∙ c.in_ok-check_given.ensures) c.requires.merge)
 
 pub returns-clause-settles : goal.returns-clause-settles
 returns-clause-settles g c =
@@ -109,7 +110,7 @@ returns-clause-settles g c =
     let lk = c.args.left_keys.items in
     let rk = c.args.right_keys.items in
     let args = c.args.args.now in
-    subst (λ (o : Option PolarsError). Settles c.join_columns.result o) (ap later_refusal (fitted_is left right lk rk args c.deref-9.result.now c.deref-10.result.now (lent_columns c.deref-11.result.now) (lent_columns c.deref-12.result.now) (c.deref-9.ensures.value ∙ c.in_ok-left_on.ensures ∙ ap (λ (cs : List Col). names_of (table_of cs)) c.deref.ensures.value) (c.deref-10.ensures.value ∙ c.in_ok-right_on.ensures ∙ ap (λ (cs : List Col). names_of (table_of cs)) c.deref-2.ensures.value) (ap lent_columns c.deref-11.ensures.value ∙ c.in_ok-left_lent.ensures.lent ∙ (c.deref-7.ensures.value ∙ c.in_ok-left_keys.ensures ∙ (λ t. cleared (c.height.ensures.height t) lk))) (ap lent_columns c.deref-12.ensures.value ∙ c.in_ok-right_lent.ensures.lent ∙ (c.deref-8.ensures.value ∙ c.in_ok-right_keys.ensures ∙ (λ t. cleared (c.height-2.ensures.height t) rk)))) ∙ later left right lk rk args ∙ sym (all_later left right lk rk args (sym (none_of left right lk rk c.deref-3.result.now c.deref-4.result.now c.deref-5.result.now c.deref-6.result.now c.deref-3.ensures.value c.deref-4.ensures.value (c.deref-5.ensures.value ∙ c.in_ok-left_on.ensures ∙ ap (λ (cs : List Col). names_of (table_of cs)) c.deref.ensures.value) (c.deref-6.ensures.value ∙ c.in_ok-right_on.ensures ∙ ap (λ (cs : List Col). names_of (table_of cs)) c.deref-2.ensures.value)) ∙ c.in_ok-check_given.ensures))) c.join_columns.ensures.settles
+    subst (λ (o : Option PolarsError). Settles c.join_columns.result o) (ap later_refusal (fitted_is left right lk rk args c.deref-9.result.now c.deref-10.result.now (lent_columns c.deref-11.result.now) (lent_columns c.deref-12.result.now) (c.deref-9.ensures.value ∙ c.in_ok-left_on.ensures ∙ ap (λ (cs : List Col). names_of (table_of cs)) c.deref.ensures.value) (c.deref-10.ensures.value ∙ c.in_ok-right_on.ensures ∙ ap (λ (cs : List Col). names_of (table_of cs)) c.deref-2.ensures.value) (ap lent_columns c.deref-11.ensures.value ∙ c.in_ok-left_lent.ensures.lent ∙ (c.deref-7.ensures.value ∙ c.in_ok-left_keys.ensures ∙ (λ t. cleared (c.height.ensures.height t) lk))) (ap lent_columns c.deref-12.ensures.value ∙ c.in_ok-right_lent.ensures.lent ∙ (c.deref-8.ensures.value ∙ c.in_ok-right_keys.ensures ∙ (λ t. cleared (c.height-2.ensures.height t) rk)))) ∙ later left right lk rk args ∙ sym (all_later left right lk rk args (sym (none_of left right lk rk c.deref-3.result.now c.deref-4.result.now args.join_nulls c.deref-5.result.now c.deref-6.result.now c.deref-3.ensures.value c.deref-4.ensures.value (c.deref-5.ensures.value ∙ c.in_ok-left_on.ensures ∙ ap (λ (cs : List Col). names_of (table_of cs)) c.deref.ensures.value) (c.deref-6.ensures.value ∙ c.in_ok-right_on.ensures ∙ ap (λ (cs : List Col). names_of (table_of cs)) c.deref-2.ensures.value)) ∙ c.in_ok-check_given.ensures))) c.join_columns.ensures.settles
 
 pub returns-clause-answer : goal.returns-clause-answer
 returns-clause-answer g c =

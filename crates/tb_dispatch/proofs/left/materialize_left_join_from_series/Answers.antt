@@ -17,7 +17,7 @@ use Rattle.tb_dispatch.proofs.KeyColumns.{alike_one}
 use Rattle.tb_dispatch.proofs.left.materialize_left_join_from_series.Goals as goal
 
 pub listed_pairs-requires-clause-alike : goal.listed_pairs-requires-clause-alike
-listed_pairs-requires-clause-alike g c κs within = alike_one c.args.s_left.now c.args.s_right.now c.requires.types
+listed_pairs-requires-clause-alike g c κs within = alike_one c.args.s_left.now c.args.s_right.now c.requires.keys.types
 
 pub halves-requires-clause-pairs : goal.halves-requires-clause-pairs
 halves-requires-clause-pairs g c κs within =

@@ -14,7 +14,7 @@ here c =
     let r = c.args.request.now in
     let left = c.get-left.ensures.value ∙ place_field r.left_keys.now c.loop-p.p c.index-request-p.result (omega arith) c.args.i in
     let right = c.get-right.ensures.value ∙ place_field r.right_keys.now c.loop-p.p c.index-request-p-in-loop-p.result (omega arith) c.args.j in
-    c.agree.ensures ∙ (λ t. agrees r.args.now.join_nulls (left t) (right t))
+    c.agree.ensures ∙ (λ t. agrees (c.flag_at.ensures t) (left t) (right t))
 
 pub returns-then-not-agree : goal.returns-then-not-agree
 returns-then-not-agree c =

@@ -27,5 +27,5 @@ returns-clause-listed g c =
     let rs = lent_columns c.deref-2.result.now in
     let same = all_listing c.args.a.now c.args.b.now ls rs (ap lent_columns c.deref.ensures.value ∙ c.in_ok-left_keys.ensures.lent) (ap lent_columns c.deref-2.ensures.value ∙ c.in_ok-right_keys.ensures.lent) c.args.join_nulls in
     subst (λ (ps : List JoinPair). IfOk c.listed_pairs.result (λ v. IsListed Left order.None None ps v.items)) same
-    (subst (λ (x : JoinArgs). IfOk c.listed_pairs.result (λ v. IsListed Left x.maintain_order x.slice (keys_listing c.args.join_nulls Left (height (table_of c.args.a.now)) (height (table_of c.args.b.now)) (table_of ls) (table_of rs)) v.items)) c.new-args.ensures
+    (subst (λ (x : JoinArgs). IfOk c.listed_pairs.result (λ v. IsListed Left x.maintain_order x.slice (keys_listing (λ p. c.args.join_nulls) Left (height (table_of c.args.a.now)) (height (table_of c.args.b.now)) (table_of ls) (table_of rs)) v.items)) c.new-args.ensures
     c.listed_pairs.ensures.listed)

@@ -10,7 +10,7 @@ use Rattle.tb_chunk.specs.Layout.{laid}
 use Rattle.tb_chunk.specs.View.{texts}
 use Rattle.tb_chunk.specs.Whole.{ViewRun}
 use Rattle.tb_chunk.proofs.Fresh.{fresh_binaries}
-use Rattle.tb_rowkey.specs.Columns.{lent_columns, keys_at, key_column}
+use Rattle.tb_rowkey.specs.Columns.{lent_columns, flag_of, keys_at, key_column}
 use Rattle.tb_rowkey.proofs.keys.prepare_keys_multiple.Goals as goal
 
 pub column_of-requires-clause-few : goal.column_of-requires-clause-few
@@ -25,7 +25,7 @@ bytes_column vs run = record { name = []; kind = kind.binary; chunks = vs ∷ []
 
 pub returns : goal.returns
 returns c =
-    let nulls : ℕ → Bool = λ _. c.args.join_nulls in
+    let nulls : ℕ → Bool = flag_of c.args.join_nulls.now in
     let lent : lent_columns c.deref.result.now ≡ c.args.columns.now = ap lent_columns c.deref.ensures.value ∙ c.in_ok-lent.ensures in
     let chunk = c.in_ok-chunk_of-in-Some.field-0 in
     let rows : List (Option (List ℕ)) = texts chunk.inner.buffers.items chunk.inner.views.items in

@@ -4,7 +4,7 @@ use Rattle.std.proofs.lemmas.List.{length-map}
 use Rattle.tb_value.specs.Datum.{binary}
 use Rattle.tb_value.specs.Pairs.{row_numbers}
 use Rattle.tb_chunk.specs.Col.{Col}
-use Rattle.tb_rowkey.specs.Columns.{lent_columns, row_count, key_at, IsShortRow}
+use Rattle.tb_rowkey.specs.Columns.{lent_columns, flag_of, row_count, key_at, IsShortRow}
 use Rattle.tb_rowkey.specs.Places.{places_in}
 use Rattle.tb_rowkey.specs.RowKeys.{bytes_of}
 use Rattle.tb_rowkey.proofs.KeyRows.{count_read, key_shown, rows_below, short_key}
@@ -12,8 +12,8 @@ use Rattle.tb_rowkey.proofs.Written.{below_more, first_written, written_keys, wr
 use Rattle.tb_rowkey.proofs.row_keys.keys_of.Goals as goal
 
 -- the bytes of the key of a row
-abbrev key : List Col → Bool → ℕ → List ℕ
-key cs join_nulls i = bytes_of (key_at cs (λ _. join_nulls) i)
+abbrev key : List Col → List Bool → ℕ → List ℕ
+key cs flags i = bytes_of (key_at cs (flag_of flags) i)
 
 pub overflow_add-rows : goal.overflow_add-rows
 overflow_add-rows c = omega (arith, c.len-rows.ensures.len, c.len-rows.ensures.column.short)
@@ -21,7 +21,7 @@ overflow_add-rows c = omega (arith, c.len-rows.ensures.len, c.len-rows.ensures.c
 pub loop-row-init : goal.loop-row-init
 loop-row-init c = record {
   written =
-      first_written (key (lent_columns c.args.columns.now) c.args.join_nulls) c.in_ok-bytes.bytes.items (places_in c.from_zero-places.result)
+      first_written (key (lent_columns c.args.columns.now) c.args.join_nulls.now) c.in_ok-bytes.bytes.items (places_in c.from_zero-places.result)
       c.in_ok-bytes.ensures.items c.from_zero-places.ensures;
   short = λ i low. absurd (omega (arith, low));
 }
@@ -46,7 +46,7 @@ loop-row-preserved c =
     let cs = lent_columns c.args.columns.now in
     record {
       written =
-          written_more (key cs c.args.join_nulls) c.loop-row.row c.loop-row.bytes.items (places_in c.loop-row.places)
+          written_more (key cs c.args.join_nulls.now) c.loop-row.row c.loop-row.bytes.items (places_in c.loop-row.places)
           c.push_key.new.bytes.items (places_in c.push.new.self) c.loop-row.invariant.written
           c.in_ok-push_key.ensures.bytes (c.in_ok-push.ensures ∙ ap (λ n. places_in c.loop-row.places ++ n ∷ []) (c.len.ensures ∙ c.push_key.new.bytes.ok.0));
       short = below_more (IsShortRow cs) c.loop-row.row c.loop-row.invariant.short (omega (arith, c.in_ok-push_key.ensures.len, c.if-branch-ge-TOO_LONG.false));
@@ -55,9 +55,9 @@ loop-row-preserved c =
 pub invariant_of-result : goal.invariant_of-result
 invariant_of-result c =
     let cs = lent_columns c.args.columns.now in
-    written_places (key cs c.args.join_nulls) c.loop-row.row c.loop-row.bytes.items (places_in c.loop-row.places) c.loop-row.invariant.written
+    written_places (key cs c.args.join_nulls.now) c.loop-row.row c.loop-row.bytes.items (places_in c.loop-row.places) c.loop-row.invariant.written
     (omega (arith, c.loop-row.auto.row-end, c.len-rows.ensures.len, c.len-rows.ensures.column.short))
-    (λ i low. short_key cs (λ _. c.args.join_nulls) i (c.loop-row.invariant.short i low))
+    (λ i low. short_key cs (flag_of c.args.join_nulls.now) i (c.loop-row.invariant.short i low))
 
 pub returns-clause-short : goal.returns-clause-short
 returns-clause-short c =
@@ -68,10 +68,10 @@ returns-clause-short c =
 pub returns-clause-keys : goal.returns-clause-keys
 returns-clause-keys c =
     let cs = lent_columns c.args.columns.now in
-    let nulls : ℕ → Bool = λ _. c.args.join_nulls in
+    let nulls : ℕ → Bool = flag_of c.args.join_nulls.now in
     let rows = count_read c.args.columns.now c.index-columns-0.result c.len-rows.result c.len-rows.ensures.len c.requires.some c.index-columns-0.is c.requires.rows in
     let all : c.loop-row.row ≡ row_count cs = omega (arith, rows, c.loop-row.auto.row-end) in
     let long = length-map c.args.columns.now (λ r. r.now) in
-    written_keys binary (key cs c.args.join_nulls) (key_at cs nulls) c.loop-row.row c.loop-row.bytes.items (places_in c.loop-row.places) c.loop-row.invariant.written
+    written_keys binary (key cs c.args.join_nulls.now) (key_at cs nulls) c.loop-row.row c.loop-row.bytes.items (places_in c.loop-row.places) c.loop-row.invariant.written
     (λ i low. key_shown cs nulls i (omega (arith, c.requires.some, long)))
     ∙ ap (λ n. map (key_at cs nulls) (row_numbers n)) all

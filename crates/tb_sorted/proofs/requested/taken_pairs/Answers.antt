@@ -3,6 +3,7 @@ use Rattle.std.specs.Prelude.{IfOk}
 use Rattle.tb_value.specs.Refusals.{Settles}
 use Rattle.tb_value.specs.declared.error.PolarsError.{PolarsError}
 use Rattle.tb_value.specs.declared.index.JoinPair.{JoinPair}
+use Rattle.tb_frame.specs.Join.{flag_at}
 use Rattle.tb_sorted.specs.Keys.{too_long}
 use Rattle.tb_sorted.specs.Listed.{IsListedIn}
 use Rattle.tb_chunk.specs.Col.{values}
@@ -40,7 +41,7 @@ returns-clause-settles c =
     let taken = taken_keys r.how r.args.now.validation c.args.exec.now r.left_keys.now r.right_keys.now d e c.requires.taken in
     let a = (get_or r.left_keys.now 0 d).now in
     let b = (get_or r.right_keys.now 0 e).now in
-    let listed = ◌∙◌ {A = List JoinPair} (nulls_apart r.args.now.join_nulls r.how (values a) (values b) (no_nulls a taken.left)) (requested_listing r a b (one_column r.left_keys.now d one.0) (one_column r.right_keys.now e one.1)) in
+    let listed = ◌∙◌ {A = List JoinPair} (nulls_apart (flag_at r.args.now.join_nulls 0) r.how (values a) (values b) (no_nulls a taken.left)) (requested_listing r a b (one_column r.left_keys.now d one.0) (one_column r.right_keys.now e one.1)) in
     subst (λ (o : Option PolarsError). Settles c.sorted_pairs.result o) (ap too_long listed ∙ sym (size_alone r c.args.exec.now a b taken.ordered taken.nothing)) c.sorted_pairs.ensures.settles
 
 pub returns-clause-found : goal.returns-clause-found
@@ -52,5 +53,5 @@ returns-clause-found c =
     let taken = taken_keys r.how r.args.now.validation c.args.exec.now r.left_keys.now r.right_keys.now d e c.requires.taken in
     let a = (get_or r.left_keys.now 0 d).now in
     let b = (get_or r.right_keys.now 0 e).now in
-    let listed = ◌∙◌ {A = List JoinPair} (nulls_apart r.args.now.join_nulls r.how (values a) (values b) (no_nulls a taken.left)) (requested_listing r a b (one_column r.left_keys.now d one.0) (one_column r.right_keys.now e one.1)) in
+    let listed = ◌∙◌ {A = List JoinPair} (nulls_apart (flag_at r.args.now.join_nulls 0) r.how (values a) (values b) (no_nulls a taken.left)) (requested_listing r a b (one_column r.left_keys.now d one.0) (one_column r.right_keys.now e one.1)) in
     subst (λ (ps : List JoinPair). IfOk c.sorted_pairs.result (λ m. IsListedIn ps m.listed)) listed c.sorted_pairs.ensures.found

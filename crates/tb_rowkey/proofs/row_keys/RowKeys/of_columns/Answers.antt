@@ -7,7 +7,7 @@ use Rattle.tb_value.specs.Datum.{binary}
 use Rattle.tb_chunk.specs.Chunk.{or_null}
 use Rattle.tb_chunk.specs.Col.{Col, values}
 use Rattle.tb_chunk.specs.Lent.{in_one_chunk}
-use Rattle.tb_rowkey.specs.Columns.{lent_columns, row_count, AreShortRows, keys_at}
+use Rattle.tb_rowkey.specs.Columns.{lent_columns, flag_of, row_count, AreShortRows, keys_at}
 use Rattle.tb_rowkey.proofs.WholeColumns.{whole, whole_rows, whole_short, whole_short_back, whole_keys}
 use Rattle.tb_rowkey.proofs.Written.{some_weaker}
 use Rattle.tb_rowkey.proofs.row_keys.RowKeys.of_columns.Goals as goal
@@ -46,7 +46,7 @@ pub returns-clause-keys : goal.returns-clause-keys
 returns-clause-keys c =
     let cs = lent_columns c.args.columns.now in
     let ls = lent_columns c.deref-2.result.now in
-    let nulls : ℕ → Bool = λ _. c.args.join_nulls in
+    let nulls : ℕ → Bool = flag_of c.args.join_nulls.now in
     let e = lent_again c.args.columns.now c.deref-2.result.now c.in_ok-lent.lent.items c.deref.result.now c.in_ok-whole.whole.items
     c.deref-2.ensures.value c.in_ok-lent.ensures c.deref.ensures.value c.in_ok-whole.ensures in
     IfOk-weaker c.keys_of-2.result (λ keys. IfSome keys (λ k. map (or_null binary) k ≡ keys_at ls nulls))

@@ -3,7 +3,7 @@ use Rattle.tb_tree.specs.View.{view}
 use Rattle.tb_why.specs.Members.{Known, known_view, members_spot, args_members}
 use Rattle.tb_why.specs.Spots.{Finds}
 use Rattle.tb_why.proofs.Tests.{cons_is}
-use Rattle.tb_why.proofs.why.args_spot.Goals as goal
+use Rattle.tb_why.proofs.args.args_members_spot.Goals as goal
 
 pub returns : goal.returns
 returns c =

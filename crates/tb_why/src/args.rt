@@ -1,0 +1,62 @@
+//! The arguments of a join that are at fault.
+ghost use Rattle.std.specs.Prelude.{◌≡◌, option_map};
+ghost use Rattle.tb_tree.specs.View.{view};
+ghost use Rattle.tb_why.specs.Members.{args_members, members_spot};
+ghost use Rattle.tb_why.specs.Requests.{args_spot, flag_spot, flags_spot};
+ghost use Rattle.tb_why.specs.Spots.{spot_view, Finds};
+
+use crate::members::{members_spot, needed, optional, unless};
+use crate::spot::{Expected, Form, Spot, Word, under_index, under_member};
+use crate::tree::{Tree, is_truth, items, member};
+use std::alloc::Global;
+use tb_value::OutOfMemory;
+
+fn args_members_spot(alloc: Global, args: &Tree) -> Result<Option<Spot>, OutOfMemory>
+    ensures { Finds result (members_spot args_members (view args.now)) }
+{
+    members_spot(
+        alloc,
+        &[
+            optional("coalesce", Form::Word(Word::Coalesce)),
+            needed("how", Form::Word(Word::How)),
+            optional("join_nulls", Form::Nulls),
+            optional("maintain_order", Form::Word(Word::Order)),
+            optional("slice", Form::Slice),
+            optional("suffix", Form::Text),
+            optional("validation", Form::Word(Word::Validation)),
+        ],
+        args,
+    )
+}
+
+fn flag_spot(alloc: Global, flag: &Tree) -> Option<Spot>
+    ensures { option_map spot_view result ≡ flag_spot (view flag.now) }
+{
+    unless(alloc, is_truth(flag), Expected::Form(Form::Truth))
+}
+
+// The first of a list of flags that is none.
+fn flags_spot(alloc: Global, flags: &Tree) -> Result<Option<Spot>, OutOfMemory>
+    ensures { Finds result (flags_spot (view flags.now)) }
+{
+    let flags = items(flags);
+    for (i, flag) in flags.iter().enumerate() {
+        if let Some(spot) = flag_spot(alloc, flag) {
+            return under_index(i, Some(spot));
+        }
+    }
+    Ok(None)
+}
+
+/// The first argument, or part of one, that is at fault.
+pub(crate) fn args_spot(alloc: Global, args: &Tree) -> Result<Option<Spot>, OutOfMemory>
+    ensures { Finds result (args_spot (view args.now)) }
+{
+    if let Some(spot) = args_members_spot(alloc, args)? {
+        return Ok(Some(spot));
+    }
+    match member(args, "join_nulls") {
+        Some(flags) => under_member(alloc, "join_nulls", flags_spot(alloc, flags)?),
+        None => Ok(None),
+    }
+}
