@@ -31,3 +31,6 @@ all_next_list P f xs i x h e = rw (flat_drop f xs i x h e) (λ a. all_split P (f
 
 pub all_none : {X : Type 0} (P : Datum → Type 0) (f : X → List Datum) (xs : List X) (i : ℕ) → length xs ≤ i → All P (flat (map f (drop i xs)))
 all_none P f xs i h = rw (drop_all i xs h) (λ k d h. absurd (omega arith))
+
+pub all_after : {X : Type 0} (P : Datum → Type 0) (f : X → Datum) (xs : List X) (i : ℕ) → length xs ≤ i → All P (map f (drop i xs))
+all_after P f xs i h = rw (drop_all i xs h) (λ k d h. absurd (omega arith))

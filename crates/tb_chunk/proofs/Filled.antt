@@ -1,11 +1,11 @@
 -- Facts on texts that are put into buffers.
-use Rattle.std.proofs.Common.{arith, ◌≡◌, ◌≤◌, ◌<◌, ◌+◌, ◌++◌, ◌∷◌, [], ℕ, List, Option, Some, length, take, replicate, map, zero, suc, refl, sym, ◌∙◌, ap, length-append}
+use Rattle.std.proofs.Common.{arith, ◌≡◌, ◌≤◌, ◌<◌, ◌+◌, ◌-◌, ◌++◌, ◌∷◌, [], ℕ, List, Option, Some, None, length, take, replicate, map, zero, suc, refl, sym, ◌∙◌, ap, length-append}
 use Rattle.std.specs.List.{All, fold}
 use Rattle.std.specs.Option.{option_map}
-use Rattle.std.proofs.lemmas.List.{map-append}
+use Rattle.std.proofs.lemmas.List.{map-append, take_all}
 use Rattle.std.proofs.lemmas.List.Elements.{All-append, All-cons, All-nil, All-replicate}
 use Rattle.std.proofs.lemmas.List.Sums.{fold_push}
-use Rattle.tb_chunk.specs.Layout.{Filling, Building, IsPut, IsRow, placed, begun, all_of, built, with_row, with_rows, long_view, view_placed, views_placed}
+use Rattle.tb_chunk.specs.Layout.{Filling, Building, IsPut, IsRow, placed, begun, all_of, built, with_nulls, with_row, with_rows, long_view, view_placed, views_placed}
 use Rattle.tb_chunk.specs.View.{buffer_of, offset_of, row_text, texts, IsViewOrNone}
 use Rattle.tb_chunk.specs.declared.view.View.{View}
 use Rattle.tb_chunk.proofs.Views.{IsView-last, Extend-further, Extend-last, rows-extend, rows-drop_last}
@@ -97,3 +97,17 @@ built-push ts o =
 pub rows-begun : (s : Filling) (vs : List (Option View)) → All (IsViewOrNone (all_of s)) vs → All (IsViewOrNone (begun s)) vs × (texts (begun s) vs ≡ texts (all_of s) vs)
 rows-begun (full, []) vs a = rows-drop_last full vs a
 rows-begun (full, b ∷ bs) vs a = (a, refl)
+
+-- n more rows without a text
+pub nulls_pushed : (s : Filling) (vs : List (Option View)) (n : ℕ) → All (IsViewOrNone (all_of s)) vs → All (IsViewOrNone (all_of s)) (vs ++ replicate n None) × (seen s (vs ++ replicate n None) ≡ with_nulls (seen s vs) n)
+nulls_pushed s vs n a =
+    let e : texts (all_of s) (vs ++ replicate n None) ≡ texts (all_of s) vs ++ replicate n None =
+    map-append (row_text (all_of s)) vs (replicate n None) ∙ ap (λ ts. texts (all_of s) vs ++ ts) (map-replicate (row_text (all_of s)) n None) in
+    (All-append (IsViewOrNone (all_of s)) vs (replicate n None) a (All-replicate (IsViewOrNone (all_of s)) n None tt), λ i. record { rows = e i; views = vs ++ replicate n None; laid = s })
+
+-- rows to which a vector of that length is resized
+pub resized : (vs : List (Option View)) (w : Option View) (len rows times : ℕ) → len ≡ length vs → rows ≡ len + times → take rows vs ++ replicate (rows - len) w ≡ vs ++ replicate times w
+resized vs w len rows times e f =
+    let all : take rows vs ≡ vs = take_all rows vs (omega arith) in
+    let more : rows - len ≡ times = omega arith in
+    λ i. all i ++ replicate (more i) w

@@ -22,3 +22,4 @@ pub mod Views
 pub mod Whole
 pub mod Windows
 pub mod TypedRows
+pub mod RunLayout

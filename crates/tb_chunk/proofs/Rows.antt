@@ -17,6 +17,7 @@ use Rattle.tb_chunk.specs.Flag.{nulls}
 use Rattle.tb_chunk.specs.Texts.{text_of, IsUtf8Row}
 use Rattle.tb_chunk.specs.View.{texts}
 use Rattle.tb_chunk.specs.declared.view.View.{View}
+use Rattle.tb_chunk.proofs.Fresh.{texts_among}
 use Rattle.tb_chunk.proofs.Nulls.{nulls_of_cells}
 
 -- the texts are all of the values
@@ -38,19 +39,25 @@ binary_again (value.string s) f = absurd (grind arith)
 binary_again (value.list vs) f = absurd f
 binary_again (value.struct vs) f = absurd f
 
-pub all_strings : (vs : List AnyValue) → All (Fits kind.string) (data_of vs) → map (or_null string) (map (λ v. text_of (datum v)) vs) ≡ data_of vs
-all_strings [] a = refl
-all_strings (v ∷ vs) a =
-    let h : or_null string (text_of (datum v)) ≡ datum v = string_again (datum v) (All-head (Fits kind.string) (datum v) (data_of vs) a) in
-    let t = all_strings vs (All-tail (Fits kind.string) (datum v) (data_of vs) a) in
+pub strings_again : (vs : List Datum) → All (Fits kind.string) vs → map (or_null string) (map text_of vs) ≡ vs
+strings_again [] a = refl
+strings_again (v ∷ vs) a =
+    let h = string_again v (All-head (Fits kind.string) v vs a) in
+    let t = strings_again vs (All-tail (Fits kind.string) v vs a) in
     λ i. h i ∷ t i
 
-pub all_binaries : (vs : List AnyValue) → All (Fits kind.binary) (data_of vs) → map (or_null binary) (map (λ v. text_of (datum v)) vs) ≡ data_of vs
-all_binaries [] a = refl
-all_binaries (v ∷ vs) a =
-    let h : or_null binary (text_of (datum v)) ≡ datum v = binary_again (datum v) (All-head (Fits kind.binary) (datum v) (data_of vs) a) in
-    let t = all_binaries vs (All-tail (Fits kind.binary) (datum v) (data_of vs) a) in
+pub binaries_again : (vs : List Datum) → All (Fits kind.binary) vs → map (or_null binary) (map text_of vs) ≡ vs
+binaries_again [] a = refl
+binaries_again (v ∷ vs) a =
+    let h = binary_again v (All-head (Fits kind.binary) v vs a) in
+    let t = binaries_again vs (All-tail (Fits kind.binary) v vs a) in
     λ i. h i ∷ t i
+
+pub all_strings : (vs : List AnyValue) → All (Fits kind.string) (data_of vs) → map (or_null string) (map (λ v. text_of (datum v)) vs) ≡ data_of vs
+all_strings vs a = ap (map (or_null string)) (texts_among vs) ∙ strings_again (data_of vs) a
+
+pub all_binaries : (vs : List AnyValue) → All (Fits kind.binary) (data_of vs) → map (or_null binary) (map (λ v. text_of (datum v)) vs) ≡ data_of vs
+all_binaries vs a = ap (map (or_null binary)) (texts_among vs) ∙ binaries_again (data_of vs) a
 
 utf8_of : (v : Datum) → Fits kind.string v → IsUtf8Row (text_of v)
 utf8_of value.null f = tt
@@ -61,9 +68,12 @@ utf8_of (value.binary s) f = absurd (grind arith)
 utf8_of (value.list vs) f = absurd f
 utf8_of (value.struct vs) f = absurd f
 
+pub utf8_all : (vs : List Datum) → All (Fits kind.string) vs → All IsUtf8Row (map text_of vs)
+utf8_all [] a = All-nil IsUtf8Row
+utf8_all (v ∷ vs) a = All-cons IsUtf8Row (text_of v) (map text_of vs) (utf8_of v (All-head (Fits kind.string) v vs a)) (utf8_all vs (All-tail (Fits kind.string) v vs a))
+
 pub all_utf8 : (vs : List AnyValue) → All (Fits kind.string) (data_of vs) → All IsUtf8Row (map (λ v. text_of (datum v)) vs)
-all_utf8 [] a = All-nil IsUtf8Row
-all_utf8 (v ∷ vs) a = All-cons IsUtf8Row (text_of (datum v)) (map (λ x. text_of (datum x)) vs) (utf8_of (datum v) (All-head (Fits kind.string) (datum v) (data_of vs) a)) (all_utf8 vs (All-tail (Fits kind.string) (datum v) (data_of vs) a))
+all_utf8 vs a = rw (texts_among vs) (utf8_all (data_of vs) a)
 
 pub utf8-at : (ts : List (Option (List ℕ))) (row : ℕ) → row < length ts → All IsUtf8Row ts → IsUtf8Row (get_or ts row None)
 utf8-at ts row low a = All-get_or IsUtf8Row ts row None low a

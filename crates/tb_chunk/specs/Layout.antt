@@ -91,3 +91,11 @@ with_rows b t n = record {
   views = b.views ++ replicate n (Some (view_placed b.laid t));
   laid = placed b.laid (Some t);
 }
+
+-- n more rows without a text
+abbrev pub with_nulls : Building → ℕ → Building
+with_nulls b n = record {
+  rows = b.rows ++ replicate n None;
+  views = b.views ++ replicate n None;
+  laid = b.laid;
+}

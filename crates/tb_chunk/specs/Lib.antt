@@ -23,3 +23,4 @@ pub mod Layout
 pub mod Texts
 pub mod View
 pub mod TextValues
+pub mod RunLayout

@@ -7,7 +7,7 @@ ghost use Rattle.tb_value.specs.Kind as kind;
 ghost use Rattle.tb_value.specs.Typed.{HasType};
 ghost use Rattle.tb_chunk.specs.Chunk.{or_null};
 ghost use Rattle.tb_chunk.specs.ChunkTexts.{bytes_of, texts_of};
-ghost use Rattle.tb_chunk.specs.Layout.{begun, built, with_row, with_rows};
+ghost use Rattle.tb_chunk.specs.Layout.{begun, built, with_nulls, with_row, with_rows};
 
 use crate::chunk::{Chunk, StringChunk};
 use crate::owned_chunks::BinaryChunk;
@@ -73,6 +73,14 @@ impl StringBuilder {
         ensures err { OnErr result (self.new ≡ self.old) }
     {
         self.inner.push_null()
+    }
+
+    /// Appends Nulls.
+    pub fn push_nulls(&mut self, times: usize) -> Result<(), OutOfMemory>
+        ensures ok { OnOk result (self.new ≡ with_nulls self.old times) }
+        ensures err { OnErr result (self.new ≡ self.old) }
+    {
+        self.inner.push_nulls(times)
     }
 
     /// Appends a text, or a Null where there is none.
@@ -141,12 +149,34 @@ impl BinaryBuilder {
         self.inner.push(alloc, bytes)
     }
 
+    /// Appends bytes so many times. They are put once.
+    pub fn push_times(
+        &mut self,
+        alloc: Global,
+        bytes: &[u8],
+        times: usize,
+    ) -> Result<(), OutOfMemory>
+        ensures ok { OnOk result (self.new ≡ with_rows self.old bytes.now times) }
+        ensures fits { OnOk result (length bytes.now < 2 ^ 32) }
+        ensures err { OnErr result (self.new ≡ self.old) }
+    {
+        self.inner.push_times(alloc, bytes, times)
+    }
+
     /// Appends a Null.
     pub fn push_null(&mut self) -> Result<(), OutOfMemory>
         ensures ok { OnOk result (self.new ≡ with_row self.old None) }
         ensures err { OnErr result (self.new ≡ self.old) }
     {
         self.inner.push_null()
+    }
+
+    /// Appends Nulls.
+    pub fn push_nulls(&mut self, times: usize) -> Result<(), OutOfMemory>
+        ensures ok { OnOk result (self.new ≡ with_nulls self.old times) }
+        ensures err { OnErr result (self.new ≡ self.old) }
+    {
+        self.inner.push_nulls(times)
     }
 
     /// Appends bytes, or a Null where there is none.

@@ -231,7 +231,7 @@ fn absent_in<N>(cells: &[Option<N>]) -> usize
     cells.iter().filter(|cell| cell.is_none()).count()
 }
 
-fn cell_of<N: Cell>(alloc: Global, value: &AnyValue) -> Result<Option<N>, OutOfMemory>
+pub(crate) fn cell_of<N: Cell>(alloc: Global, value: &AnyValue) -> Result<Option<N>, OutOfMemory>
     requires { Fits N.kind (datum value.now) }
     ensures { IfOk result (λ c. or_null N.shows c ≡ datum value.now) }
 {

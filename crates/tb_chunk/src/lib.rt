@@ -18,6 +18,7 @@ mod ordering;
 mod owned_chunks;
 mod pick;
 mod row_number;
+mod run_chunk;
 mod slicing;
 mod stored;
 mod text_views;

@@ -1,7 +1,8 @@
 //! Views made of texts, one after another.
 ghost use Rattle.std.specs.Prelude.{◌≡◌, ◌<◌, ◌^◌, [], IfOk, OnOk, OnErr, None, Some, length, map};
 ghost use Rattle.tb_value.specs.See.{datum};
-ghost use Rattle.tb_chunk.specs.Layout.{begun, built, laid, with_row, with_rows};
+ghost use Rattle.tb_chunk.specs.Layout.{begun, built, laid, with_nulls, with_row, with_rows};
+ghost use Rattle.tb_chunk.specs.RunLayout.{data_runs, run_building, text_runs, with_run};
 ghost use Rattle.tb_chunk.specs.Texts.{text_of};
 ghost use Rattle.tb_chunk.specs.View.{texts};
 
@@ -82,6 +83,17 @@ impl ViewBuilder {
         Ok(())
     }
 
+    /// Appends rows without a text.
+    pub(crate) fn push_nulls(&mut self, times: usize) -> Result<(), OutOfMemory>
+        ensures ok { OnOk result (self.new ≡ with_nulls self.old times) }
+        ensures err { OnErr result (self.new ≡ self.old) }
+    {
+        self.views.reserve(times)?;
+        let all = self.views.len() + times;
+        self.views.resize(all, None)?;
+        Ok(())
+    }
+
     /// The chunk of the rows.
     pub(crate) fn finish(self, alloc: Global) -> Result<ViewChunk, OutOfMemory>
         ensures texts { IfOk result (λ c. texts c.buffers.items c.views.items ≡ self.rows) }
@@ -105,7 +117,44 @@ fn push_value(alloc: Global, builder: &mut ViewBuilder, value: &AnyValue) -> Res
     }
 }
 
+// Appends a run: the text or the bytes of its value once, and as many views as its count says. One of no row puts nothing.
+#[tactic(auto, using(crate::proofs::RunLayout::run_of_text, crate::proofs::RunLayout::run_of_none))]
+fn push_run(
+    alloc: Global,
+    builder: &mut ViewBuilder,
+    value: &AnyValue,
+    times: usize,
+) -> Result<(), OutOfMemory>
+    ensures { OnOk result (builder.new ≡ with_run builder.old (text_of (datum value.now), times)) }
+{
+    if times == 0 {
+        return Ok(());
+    }
+    match value {
+        AnyValue::String(text) => builder.push_times(alloc, text.as_str().as_bytes(), times),
+        AnyValue::Binary(bytes) => builder.push_times(alloc, bytes.as_slice(), times),
+        _ => builder.push_nulls(times),
+    }
+}
+
 impl ViewChunk {
+    /// The chunk of the texts and bytes among the values of these runs, with room for so many rows.
+    pub(crate) fn from_runs(
+        alloc: Global,
+        runs: &[(AnyValue, u64)],
+        rows: usize,
+    ) -> Result<ViewChunk, OutOfMemory>
+        ensures texts { IfOk result (λ c. texts c.buffers.items c.views.items ≡ (run_building (text_runs (data_runs runs.now))).rows) }
+        ensures views { IfOk result (λ c. c.views.items ≡ (run_building (text_runs (data_runs runs.now))).views) }
+        ensures buffers { IfOk result (λ c. c.buffers.items ≡ begun (run_building (text_runs (data_runs runs.now))).laid) }
+    {
+        let mut builder = ViewBuilder::with_capacity(alloc, rows)?;
+        for (value, times) in runs {
+            push_run(alloc, &mut builder, value, *times as usize)?;
+        }
+        builder.finish(alloc)
+    }
+
     /// The chunk of the texts and bytes among these values.
     pub(crate) fn from_values(alloc: Global, values: &[AnyValue]) -> Result<ViewChunk, OutOfMemory>
         ensures texts { IfOk result (λ c. texts c.buffers.items c.views.items ≡ map (λ v. text_of (datum v)) values.now) }

@@ -1,6 +1,7 @@
 //! Columns made of values, and of typed chunks.
 ghost use Rattle.tb_value.specs.SeeKind.{kind_of};
 ghost use Rattle.tb_chunk.specs.Made.{lists_of, IsMade, IsArranged};
+ghost use Rattle.tb_chunk.specs.RunLayout.{IsMadeOfRuns, data_runs};
 ghost use Rattle.tb_chunk.specs.Runs.{chunk_runs};
 ghost use Rattle.tb_chunk.specs.Seen.{chunk_lists, storage};
 
@@ -26,6 +27,26 @@ impl Series {
         ensures { IsMade name.now (kind_of dtype) (lists_of chunks.items) result }
     {
         let chunks = Chunks::from_lists(alloc, &dtype, chunks)?;
+        let name = PlSmallStr::from_str(alloc, name)?;
+        Ok(Series::from_parts(name, dtype, chunks, IsSorted::Not))
+    }
+
+    /// The column of this name and type whose values stand in runs: each as often as its count says, in one chunk, with the flag
+    /// Not. A count of 0 gives no row, but its value has to be of the type. A long text of a run stands once in the buffers.
+    ///
+    /// # Errors
+    ///
+    /// 1 SchemaMismatch where a value is not of the type, 2 TooManyRows where the counts add up to more than `MAX_ROWS`, and
+    /// OutOfMemory.
+    pub fn from_runs(
+        alloc: Global,
+        name: &str,
+        dtype: DataType,
+        runs: Vec<(AnyValue, u64)>,
+    ) -> PolarsResult<Series>
+        ensures { IsMadeOfRuns name.now (kind_of dtype) (data_runs runs.items) result }
+    {
+        let chunks = Chunks::from_runs(alloc, &dtype, &runs)?;
         let name = PlSmallStr::from_str(alloc, name)?;
         Ok(Series::from_parts(name, dtype, chunks, IsSorted::Not))
     }

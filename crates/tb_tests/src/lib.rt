@@ -4,11 +4,15 @@
 #[cfg(test)]
 mod columns;
 #[cfg(test)]
+mod counted;
+#[cfg(test)]
 mod merging;
 #[cfg(test)]
 mod pivoting;
 #[cfg(test)]
 mod row_keys;
+#[cfg(test)]
+mod small_calls;
 #[cfg(test)]
 mod tables;
 #[cfg(test)]

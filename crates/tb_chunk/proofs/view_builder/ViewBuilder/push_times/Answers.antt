@@ -1,15 +1,8 @@
 use Rattle.std.proofs.Common.{arith, ◌≡◌, ◌∙◌, ◌+◌, ◌-◌, ◌++◌, ℕ, List, Option, Some, length, take, replicate, ap}
 use Rattle.std.specs.Prelude.{vec_len}
-use Rattle.std.proofs.lemmas.List.{take_all}
 use Rattle.tb_chunk.specs.declared.view.View.{View}
-use Rattle.tb_chunk.proofs.Filled.{rows_pushed}
+use Rattle.tb_chunk.proofs.Filled.{resized, rows_pushed}
 use Rattle.tb_chunk.proofs.view_builder.ViewBuilder.push_times.Goals as goal
-
-resized : (vs : List (Option View)) (w : Option View) (len rows times : ℕ) → len ≡ length vs → rows ≡ len + times → take rows vs ++ replicate (rows - len) w ≡ vs ++ replicate times w
-resized vs w len rows times e f =
-    let all : take rows vs ≡ vs = take_all rows vs (omega arith) in
-    let more : rows - len ≡ times = omega arith in
-    λ i. all i ++ replicate (more i) w
 
 pub returns-clause-ok : goal.returns-clause-ok
 returns-clause-ok c =
