@@ -1,4 +1,4 @@
--- Pairs of left rows, one row and one portion more at a time.
+-- Pairs of left rows, one row more at a time.
 use Rattle.std.proofs.Common.{◌≡◌, ℕ, zero, suc, ◌+◌, ◌-◌, ◌<◌, ◌≤◌, Bool, List, [], ◌∷◌, ◌++◌, length, map, take, refl, sym, ap, ◌∙◌, arith, append-nil}
 use Rattle.std.specs.List.{flat_map, range_with_len}
 use Rattle.std.proofs.lemmas.List.{append_assoc, map-id}
@@ -6,7 +6,7 @@ use Rattle.std.proofs.lemmas.List.Concat.{flat_map-append}
 use Rattle.std.proofs.lemmas.List.Folds.{length-flat_map-take}
 use Rattle.std.proofs.lemmas.List.FromFn.{map-range_with_len_more, length-range_with_len, length-map-range_with_len, get_or-range_with_len, take-map-range_with_len}
 use Rattle.tb_value.specs.declared.index.JoinPair.{JoinPair}
-use Rattle.tb_value.specs.Pairs.{both}
+use Rattle.tb_value.specs.Pairs.{both, row_numbers}
 use Rattle.tb_value.proofs.RowNumbers.{range_more}
 use Rattle.tb_merge.specs.RowPairs.{row_pairs}
 
@@ -44,32 +44,25 @@ module _ {X Y : Type 0} (f : X → List Y) where
   pub flat_more : (xs : List X) (x : X) → flat_map f (xs ++ x ∷ []) ≡ flat_map f xs ++ f x
   flat_more xs x = flat_map-append f xs (x ∷ []) ∙ ap (λ (l : List Y). flat_map f xs ++ l) (append-nil (f x))
 
-  -- pairs put behind others, one element more
-  pub listed_more : (xs : List X) (x : X) (old items new : List Y) → items ≡ old ++ flat_map f xs → new ≡ items ++ f x
-      → new ≡ old ++ flat_map f (xs ++ x ∷ [])
-  listed_more xs x old items new so_far step =
-      step ∙ ap (λ (l : List Y). l ++ f x) so_far ∙ append_assoc old (flat_map f xs) (f x)
-      ∙ sym (ap (λ (l : List Y). old ++ l) (flat_more xs x))
+  -- a list so far, one element more
+  pub listed_more : (xs : List X) (x : X) (items new : List Y) → items ≡ flat_map f xs → new ≡ items ++ f x
+      → new ≡ flat_map f (xs ++ x ∷ [])
+  listed_more xs x items new so_far step = step ∙ ap (λ (l : List Y). l ++ f x) so_far ∙ sym (flat_more xs x)
 
--- the rows of a portion so far, and one more
-pub rows_more : (offset row : ℕ) → offset ≤ row
-    → range_with_len offset (row + 1 - offset) ≡ range_with_len offset (row - offset) ++ row ∷ []
-rows_more offset row le =
-    let count : row + 1 - offset ≡ (row - offset) + 1 = omega arith in
-    let here : offset + (row - offset) ≡ row = omega arith in
-    ap (range_with_len offset) count ∙ range_more offset (row - offset)
-    ∙ ap (λ (k : ℕ). range_with_len offset (row - offset) ++ k ∷ []) here
+-- the rows so far, and one more
+pub rows_more : (row : ℕ) → row_numbers (row + 1) ≡ row_numbers row ++ row ∷ []
+rows_more row =
+    let here : 0 + row ≡ row = omega arith in
+    range_more 0 row ∙ ap (λ (k : ℕ). row_numbers row ++ k ∷ []) here
 
--- the rows so far and one more have no more pairs than the whole portion
-pub rows_within : (f : ℕ → List JoinPair) (offset row len : ℕ) → offset ≤ row → row < offset + len
-    → length (flat_map f (range_with_len offset (row - offset))) + length (f row)
-    ≤ length (flat_map f (range_with_len offset len))
-rows_within f offset row len le low =
-    let k = row - offset in
-    let rows = range_with_len offset len in
-    let count : k < length rows = omega (arith, length-range_with_len offset len) in
-    let fits = length-flat_map-take f rows k 0 count in
-    let front = ap (λ (l : List ℕ). length (flat_map f l)) (take_range offset len k (omega arith)) in
-    let at : offset + k ≡ row = omega arith in
-    let here = ap (λ (i : ℕ). length (f i)) (get_or-range_with_len offset len k 0 (omega arith) ∙ at) in
+-- the rows so far and one more have no more pairs than all rows
+pub rows_within : (f : ℕ → List JoinPair) (row len : ℕ) → row < len
+    → length (flat_map f (row_numbers row)) + length (f row) ≤ length (flat_map f (row_numbers len))
+rows_within f row len low =
+    let rows = row_numbers len in
+    let count : row < length rows = omega (arith, length-range_with_len 0 len) in
+    let fits = length-flat_map-take f rows row 0 count in
+    let front = ap (λ (l : List ℕ). length (flat_map f l)) (take_range 0 len row (omega arith)) in
+    let at : 0 + row ≡ row = omega arith in
+    let here = ap (λ (i : ℕ). length (f i)) (get_or-range_with_len 0 len row 0 (omega arith) ∙ at) in
     omega (arith, fits, front, here)

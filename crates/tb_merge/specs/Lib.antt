@@ -3,3 +3,4 @@ pub mod RowPairs
 pub mod Runs
 pub mod Faults
 pub mod MergedView
+pub mod Progress

@@ -1,10 +1,10 @@
 //! The left rows' pairs, one portion of the left rows after another.
-ghost use Rattle.std.specs.Prelude.{◌≡◌, ◌+◌, ◌*◌, ◌≤◌, ◌++◌, false, length, OnOk, IfOk, IsSorted, All};
-ghost use Rattle.std.specs.Ordering.{int_cmp};
-ghost use Rattle.std.specs.List.{range_with_len};
+ghost use Rattle.std.specs.Prelude.{◌≡◌, ◌+◌, ◌*◌, ◌<◌, ◌≤◌, [], length, IfOk};
 ghost use Rattle.tb_value.specs.Pairs.{row_numbers};
-ghost use Rattle.tb_merge.specs.Faults.{SettlesCount};
-ghost use Rattle.tb_merge.specs.RowPairs.{pairs_of, portion_pairs, portion_rows};
+ghost use Rattle.tb_merge.specs.Faults.{GivesUpFor};
+ghost use Rattle.tb_merge.specs.Keys.{AreMergeable};
+ghost use Rattle.tb_merge.specs.Progress.{IsMergedTo};
+ghost use Rattle.tb_merge.specs.RowPairs.{pairs_of, portion_rows};
 
 use crate::ascend::Ascend;
 use crate::fault::MergeFault;
@@ -14,13 +14,14 @@ use crate::steps::Steps;
 use std::alloc::Global;
 use std::sync::ledger::Ledger;
 use tb_pool::portions;
-use tb_value::{IdxSize, JoinPair, MAX_ROWS, OutOfMemory};
+use tb_value::{IdxSize, JoinPair, OutOfMemory};
 
-/// How many pairs were matched, by how many comparisons.
+/// How far a merge is: the left rows before `row` are merged, and so many pairs of them matched.
 #[derive(Clone, Copy)]
-pub struct Counts {
+pub struct Progress {
+    pub row: usize,
+    pub cursor: Cursor,
     pub matched: usize,
-    pub comparisons: u64,
 }
 
 /// The portions of the left rows, one for each worker.
@@ -31,98 +32,106 @@ pub fn left_portions(
 ) -> Result<Vec<(usize, usize)>, OutOfMemory>
     requires { 1 ≤ workers }
     ensures count { IfOk result (λ v. length v.items ≡ workers) }
-    ensures within { IfOk result (λ v. All (λ p. p.0 + p.1 ≤ left_len) v.items) }
     ensures rows { IfOk result (λ v. portion_rows v.items ≡ row_numbers left_len) }
 {
     portions(alloc, left_len, workers)
 }
 
-// Puts the pairs of one portion, `len` left rows from `offset` on, behind the others. It looks through the right rows
-// once, at two comparisons a left row.
-fn merge_portion<K: Ascend, L: Ledger>(
+// Merges the next left row: puts its pairs behind the others.
+fn merge_row<K: Ascend, L: Ledger>(
     keys: &K,
     keep_unmatched: bool,
-    offset: usize,
-    len: usize,
+    from: Progress,
     pairs: &mut Vec<JoinPair>,
     steps: &mut Steps<L>,
-) -> Result<Counts, MergeFault>
-    requires rows { offset + len ≤ length (K.left_keys keys.now) }
-    requires ledger { L.name ≡ K.ledger keys.now }
-    requires left_sorted { IsSorted int_cmp (K.left_keys keys.now) }
-    requires right_sorted { IsSorted int_cmp (K.right_keys keys.now) }
-    requires left_small { length (K.left_keys keys.now) ≤ MAX_ROWS }
-    requires right_small { length (K.right_keys keys.now) ≤ MAX_ROWS }
-    requires room { length pairs.old.items ≤ MAX_ROWS }
-    ensures settles { SettlesCount result (length pairs.old.items
-        + length (pairs_of (K.left_keys keys.now) (K.right_keys keys.now) keep_unmatched (range_with_len offset len))) }
-    ensures pairs { OnOk result (pairs.new.items ≡ pairs.old.items
-        ++ pairs_of (K.left_keys keys.now) (K.right_keys keys.now) keep_unmatched (range_with_len offset len)) }
-    ensures matched { IfOk result (λ c. c.matched
-        ≡ length (pairs_of (K.left_keys keys.now) (K.right_keys keys.now) false (range_with_len offset len))) }
-    ensures few { IfOk result (λ c. c.matched + length pairs.old.items ≤ length pairs.new.items) }
-    ensures counted { IfOk result (λ c. c.comparisons + steps.old ≡ steps.new) }
-    ensures cost { steps.new ≤ steps.old + 2 * len + length (K.right_keys keys.now) }
+) -> Result<Progress, MergeFault>
+    requires keys { AreMergeable (K.left_keys keys.now) (K.right_keys keys.now) (K.ledger keys.now) L.name }
+    requires row { from.row < length (K.left_keys keys.now) }
+    requires so_far { IsMergedTo (K.left_keys keys.now) (K.right_keys keys.now) keep_unmatched pairs.old.items from }
+    ensures gives_up { GivesUpFor result (length (pairs_of (K.left_keys keys.now) (K.right_keys keys.now) keep_unmatched
+        (row_numbers (length (K.left_keys keys.now))))) }
+    ensures row { IfOk result (λ at. at.row ≡ from.row + 1) }
+    ensures merged { IfOk result (λ at. IsMergedTo (K.left_keys keys.now) (K.right_keys keys.now)
+        keep_unmatched pairs.new.items at) }
+    ensures counted { IfOk result (λ at. at.cursor.comparisons + steps.old ≡ from.cursor.comparisons + steps.new) }
+    ensures cost { steps.new + from.cursor.comparisons
+        ≤ steps.old + 2 * length (K.left_keys keys.now) + length (K.right_keys keys.now) }
 {
-    let mut cursor = Cursor {
-        start: 0,
-        end: 0,
-        comparisons: 0,
-    };
-    let mut matched = 0;
-    for row in offset..offset + len {
-        cursor = next_run(keys, row, cursor, steps);
-        push_row(
-            pairs,
-            keep_unmatched,
-            row as IdxSize,
-            cursor.start,
-            cursor.end,
-        )?;
-        matched += cursor.end - cursor.start;
-    }
-    Ok(Counts {
-        matched,
-        comparisons: cursor.comparisons,
+    let row = from.row;
+    let cursor = next_run(keys, row, from.cursor, steps);
+    push_row(
+        pairs,
+        keep_unmatched,
+        row as IdxSize,
+        cursor.start,
+        cursor.end,
+    )?;
+    Ok(Progress {
+        row: row + 1,
+        cursor,
+        matched: from.matched + (cursor.end - cursor.start),
     })
 }
 
-/// Puts the pairs of these portions of the left rows, each an offset and a length, behind the others.
+// Merges the next `len` left rows, from where the merge is.
+fn merge_portion<K: Ascend, L: Ledger>(
+    keys: &K,
+    keep_unmatched: bool,
+    len: usize,
+    from: Progress,
+    pairs: &mut Vec<JoinPair>,
+    steps: &mut Steps<L>,
+) -> Result<Progress, MergeFault>
+    requires keys { AreMergeable (K.left_keys keys.now) (K.right_keys keys.now) (K.ledger keys.now) L.name }
+    requires rows { from.row + len ≤ length (K.left_keys keys.now) }
+    requires so_far { IsMergedTo (K.left_keys keys.now) (K.right_keys keys.now) keep_unmatched pairs.old.items from }
+    ensures gives_up { GivesUpFor result (length (pairs_of (K.left_keys keys.now) (K.right_keys keys.now) keep_unmatched
+        (row_numbers (length (K.left_keys keys.now))))) }
+    ensures row { IfOk result (λ at. at.row ≡ from.row + len) }
+    ensures merged { IfOk result (λ at. IsMergedTo (K.left_keys keys.now) (K.right_keys keys.now)
+        keep_unmatched pairs.new.items at) }
+    ensures counted { IfOk result (λ at. at.cursor.comparisons + steps.old ≡ from.cursor.comparisons + steps.new) }
+    ensures cost { steps.new + from.cursor.comparisons
+        ≤ steps.old + 2 * length (K.left_keys keys.now) + length (K.right_keys keys.now) }
+{
+    let mut at = from;
+    for row in 0..len {
+        at = merge_row(keys, keep_unmatched, at, pairs, steps)?;
+    }
+    Ok(at)
+}
+
+/// Merges these portions of the left rows, each an offset and a length, which are all of them in order. Each goes on
+/// where the one before it ended, so that no right row is passed twice.
 pub fn merge_portions<K: Ascend, L: Ledger>(
     keys: &K,
     keep_unmatched: bool,
     cuts: &[(usize, usize)],
     pairs: &mut Vec<JoinPair>,
     steps: &mut Steps<L>,
-) -> Result<Counts, MergeFault>
-    requires within { All (λ p. p.0 + p.1 ≤ length (K.left_keys keys.now)) cuts.now }
-    requires rows { length (portion_rows cuts.now) ≤ MAX_ROWS }
-    requires few_cuts { length cuts.now ≤ 1024 }
-    requires ledger { L.name ≡ K.ledger keys.now }
-    requires left_sorted { IsSorted int_cmp (K.left_keys keys.now) }
-    requires right_sorted { IsSorted int_cmp (K.right_keys keys.now) }
-    requires left_small { length (K.left_keys keys.now) ≤ MAX_ROWS }
-    requires right_small { length (K.right_keys keys.now) ≤ MAX_ROWS }
-    requires room { length pairs.old.items ≤ MAX_ROWS }
-    ensures settles { SettlesCount result (length pairs.old.items
-        + length (portion_pairs (K.left_keys keys.now) (K.right_keys keys.now) keep_unmatched cuts.now)) }
-    ensures pairs { OnOk result (pairs.new.items ≡ pairs.old.items
-        ++ portion_pairs (K.left_keys keys.now) (K.right_keys keys.now) keep_unmatched cuts.now) }
-    ensures matched { IfOk result (λ c. c.matched
-        ≡ length (portion_pairs (K.left_keys keys.now) (K.right_keys keys.now) false cuts.now)) }
-    ensures counted { IfOk result (λ c. c.comparisons + steps.old ≡ steps.new) }
-    ensures cost { steps.new ≤ steps.old + 2 * length (portion_rows cuts.now)
-        + length cuts.now * length (K.right_keys keys.now) }
+) -> Result<Progress, MergeFault>
+    requires keys { AreMergeable (K.left_keys keys.now) (K.right_keys keys.now) (K.ledger keys.now) L.name }
+    requires rows { portion_rows cuts.now ≡ row_numbers (length (K.left_keys keys.now)) }
+    requires none { pairs.old.items ≡ [] }
+    ensures gives_up { GivesUpFor result (length (pairs_of (K.left_keys keys.now) (K.right_keys keys.now) keep_unmatched
+        (row_numbers (length (K.left_keys keys.now))))) }
+    ensures row { IfOk result (λ at. at.row ≡ length (K.left_keys keys.now)) }
+    ensures merged { IfOk result (λ at. IsMergedTo (K.left_keys keys.now) (K.right_keys keys.now)
+        keep_unmatched pairs.new.items at) }
+    ensures counted { IfOk result (λ at. at.cursor.comparisons + steps.old ≡ steps.new) }
+    ensures cost { steps.new ≤ steps.old + 2 * length (K.left_keys keys.now) + length (K.right_keys keys.now) }
 {
-    let mut matched = 0;
-    let mut comparisons = 0;
+    let mut at = Progress {
+        row: 0,
+        cursor: Cursor {
+            start: 0,
+            end: 0,
+            comparisons: 0,
+        },
+        matched: 0,
+    };
     for cut in cuts {
-        let counts = merge_portion(keys, keep_unmatched, cut.0, cut.1, pairs, steps)?;
-        matched += counts.matched;
-        comparisons += counts.comparisons;
+        at = merge_portion(keys, keep_unmatched, cut.1, at, pairs, steps)?;
     }
-    Ok(Counts {
-        matched,
-        comparisons,
-    })
+    Ok(at)
 }

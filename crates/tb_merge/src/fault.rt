@@ -1,13 +1,11 @@
 //! Why a merge gives up.
 use tb_value::OutOfMemory;
-use thiserror::Error;
 
 /// Why a merge gave up.
-#[derive(Clone, Copy, PartialEq, Eq, Debug, Error)]
+#[derive(Drop, PartialEq, Eq, Debug)]
 pub enum MergeFault {
-    #[error("there are more pairs than row numbers")]
+    /// There are more pairs than row numbers.
     TooManyRows,
-    #[error("out of memory")]
     OutOfMemory,
 }
 

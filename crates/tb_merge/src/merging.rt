@@ -1,9 +1,8 @@
 //! The merge of two ascending lists of keys.
 ghost use Rattle.std.specs.Prelude.{◌≡◌, ◌+◌, ◌*◌, ◌≤◌, length, IfOk, IsSorted, IsPermutation};
-ghost use Rattle.std.specs.Ordering.{int_cmp};
 ghost use Rattle.tb_value.specs.Pairs.{row_numbers, left_first};
 ghost use Rattle.tb_merge.specs.Faults.{SettlesCount};
-ghost use Rattle.tb_merge.specs.Keys.{inner_listing, left_listing};
+ghost use Rattle.tb_merge.specs.Keys.{AreMergeable, inner_listing, left_listing};
 ghost use Rattle.tb_merge.specs.MergedView.{IsMergeOf};
 ghost use Rattle.tb_merge.specs.RowPairs.{pairs_of};
 
@@ -15,10 +14,10 @@ use std::alloc::Global;
 use std::marker::Model;
 use std::sync::ledger::Ledger;
 use tb_pool::Exec;
-use tb_value::{JoinPair, MAX_ROWS};
+use tb_value::JoinPair;
 
-/// What a merge was. `merge_left` and `merge_inner` alone hand it out.
-#[derive(Clone, Copy, Debug)]
+/// What a merge was. `merge_left` and `merge_inner` alone hand it out, once each time.
+#[derive(Drop)]
 pub struct Merged {
     left_len: usize,
     right_len: usize,
@@ -32,8 +31,6 @@ impl Model for Merged {
     ghost Value = { MergedView };
 
     ghost view = { λ m. record { left_len = m.left_len; right_len = m.right_len; pairs = m.pairs; comparisons = m.comparisons } };
-
-    ghost inverse = { λ v. record { left_len = v.left_len; right_len = v.right_len; pairs = v.pairs; comparisons = v.comparisons } };
 }
 
 impl Merged {
@@ -74,58 +71,49 @@ fn merge<K: Ascend, L: Ledger>(
     exec: &Exec,
     steps: &mut Steps<L>,
 ) -> Result<(Vec<JoinPair>, Merged), MergeFault>
-    requires ledger { L.name ≡ K.ledger keys.now }
-    requires left_sorted { IsSorted int_cmp (K.left_keys keys.now) }
-    requires right_sorted { IsSorted int_cmp (K.right_keys keys.now) }
-    requires left_small { length (K.left_keys keys.now) ≤ MAX_ROWS }
-    requires right_small { length (K.right_keys keys.now) ≤ MAX_ROWS }
+    requires keys { AreMergeable (K.left_keys keys.now) (K.right_keys keys.now) (K.ledger keys.now) L.name }
     ensures settles { SettlesCount result (length (pairs_of (K.left_keys keys.now) (K.right_keys keys.now) keep_unmatched
         (row_numbers (length (K.left_keys keys.now))))) }
     ensures pairs { IfOk result (λ r. r.0.items ≡ pairs_of (K.left_keys keys.now) (K.right_keys keys.now) keep_unmatched
         (row_numbers (length (K.left_keys keys.now)))) }
     ensures merged { IfOk result (λ r. IsMergeOf (K.left_keys keys.now) (K.right_keys keys.now) r.1) }
     ensures counted { IfOk result (λ r. r.1.comparisons + steps.old ≡ steps.new) }
-    ensures cost { steps.new ≤ steps.old + 2 * length (K.left_keys keys.now)
-        + exec.now.workers * length (K.right_keys keys.now) }
+    ensures cost { steps.new ≤ steps.old + 2 * length (K.left_keys keys.now) + length (K.right_keys keys.now) }
 {
     let left_len = keys.left_len();
     let right_len = keys.right_len();
     let cuts = left_portions(alloc, left_len, exec.workers())?;
     let mut pairs = Vec::new(alloc);
-    let counts = merge_portions(keys, keep_unmatched, cuts.as_slice(), &mut pairs, steps)?;
+    let end = merge_portions(keys, keep_unmatched, cuts.as_slice(), &mut pairs, steps)?;
     Ok((
         pairs,
         Merged {
             left_len,
             right_len,
-            pairs: counts.matched,
-            comparisons: counts.comparisons,
+            pairs: end.matched,
+            comparisons: end.cursor.comparisons,
         },
     ))
 }
 
 /// The pairs of a Left join of two ascending lists of keys, by left row and then right row: each left row beside each
 /// right row of its key, or alone where there is none. The left rows are cut in as many portions as there are workers,
-/// and all portions together make at most two comparisons for each left row, and one for each right row and worker,
-/// whatever the answer is. Refuses more than `MAX_ROWS` pairs (TooManyRows).
+/// of which each goes on where the one before it ended. All together make at most two comparisons for each left row, and
+/// one for each right row, whatever the answer is and however many workers there are. Refuses more than `MAX_ROWS` pairs
+/// (TooManyRows).
 pub fn merge_left<K: Ascend, L: Ledger>(
     alloc: Global,
     keys: &K,
     exec: &Exec,
     steps: &mut Steps<L>,
 ) -> Result<(Vec<JoinPair>, Merged), MergeFault>
-    requires ledger { L.name ≡ K.ledger keys.now }
-    requires left_sorted { IsSorted int_cmp (K.left_keys keys.now) }
-    requires right_sorted { IsSorted int_cmp (K.right_keys keys.now) }
-    requires left_small { length (K.left_keys keys.now) ≤ MAX_ROWS }
-    requires right_small { length (K.right_keys keys.now) ≤ MAX_ROWS }
+    requires keys { AreMergeable (K.left_keys keys.now) (K.right_keys keys.now) (K.ledger keys.now) L.name }
     ensures settles { SettlesCount result (length (left_listing (K.left_keys keys.now) (K.right_keys keys.now))) }
     ensures pairs { IfOk result (λ r. IsPermutation (left_listing (K.left_keys keys.now) (K.right_keys keys.now)) r.0.items) }
     ensures order { IfOk result (λ r. IsSorted left_first r.0.items) }
     ensures merged { IfOk result (λ r. IsMergeOf (K.left_keys keys.now) (K.right_keys keys.now) r.1) }
     ensures counted { IfOk result (λ r. r.1.comparisons + steps.old ≡ steps.new) }
-    ensures cost { steps.new ≤ steps.old + 2 * length (K.left_keys keys.now)
-        + exec.now.workers * length (K.right_keys keys.now) }
+    ensures cost { steps.new ≤ steps.old + 2 * length (K.left_keys keys.now) + length (K.right_keys keys.now) }
 {
     merge(alloc, keys, true, exec, steps)
 }
@@ -138,18 +126,13 @@ pub fn merge_inner<K: Ascend, L: Ledger>(
     exec: &Exec,
     steps: &mut Steps<L>,
 ) -> Result<(Vec<JoinPair>, Merged), MergeFault>
-    requires ledger { L.name ≡ K.ledger keys.now }
-    requires left_sorted { IsSorted int_cmp (K.left_keys keys.now) }
-    requires right_sorted { IsSorted int_cmp (K.right_keys keys.now) }
-    requires left_small { length (K.left_keys keys.now) ≤ MAX_ROWS }
-    requires right_small { length (K.right_keys keys.now) ≤ MAX_ROWS }
+    requires keys { AreMergeable (K.left_keys keys.now) (K.right_keys keys.now) (K.ledger keys.now) L.name }
     ensures settles { SettlesCount result (length (inner_listing (K.left_keys keys.now) (K.right_keys keys.now))) }
     ensures pairs { IfOk result (λ r. r.0.items ≡ inner_listing (K.left_keys keys.now) (K.right_keys keys.now)) }
     ensures order { IfOk result (λ r. IsSorted left_first r.0.items) }
     ensures merged { IfOk result (λ r. IsMergeOf (K.left_keys keys.now) (K.right_keys keys.now) r.1) }
     ensures counted { IfOk result (λ r. r.1.comparisons + steps.old ≡ steps.new) }
-    ensures cost { steps.new ≤ steps.old + 2 * length (K.left_keys keys.now)
-        + exec.now.workers * length (K.right_keys keys.now) }
+    ensures cost { steps.new ≤ steps.old + 2 * length (K.left_keys keys.now) + length (K.right_keys keys.now) }
 {
     merge(alloc, keys, false, exec, steps)
 }

@@ -1,14 +1,12 @@
 //! The right rows whose key is a left row's, found by one look ahead.
-ghost use Rattle.std.specs.Prelude.{◌≡◌, ◌+◌, ◌^◌, ◌<◌, ◌≤◌, length, IsSorted};
-ghost use Rattle.std.specs.Ordering.{int_cmp};
-ghost use Rattle.tb_merge.specs.Keys.{key_at};
+ghost use Rattle.std.specs.Prelude.{◌≡◌, ◌+◌, ◌^◌, ◌<◌, ◌≤◌, length};
+ghost use Rattle.tb_merge.specs.Keys.{AreMergeable, key_at};
 ghost use Rattle.tb_merge.specs.Runs.{IsScanned, IsRun, IsCursor};
 
 use crate::ascend::Ascend;
 use crate::steps::Steps;
 use std::cmp::Ordering;
 use std::sync::ledger::Ledger;
-use tb_value::MAX_ROWS;
 
 /// Where a merge stands: the right rows from `start` to before `end` are those with the last left row's key, and this
 /// many comparisons were made so far.
@@ -22,9 +20,7 @@ pub struct Cursor {
 // Looks from the cursor's end on for the right rows whose key is the left row's.
 fn scan<K: Ascend, L: Ledger>(keys: &K, row: usize, from: Cursor, steps: &mut Steps<L>) -> Cursor
     requires row { row < length (K.left_keys keys.now) }
-    requires ledger { L.name ≡ K.ledger keys.now }
-    requires sorted { IsSorted int_cmp (K.right_keys keys.now) }
-    requires small { length (K.right_keys keys.now) ≤ MAX_ROWS }
+    requires keys { AreMergeable (K.left_keys keys.now) (K.right_keys keys.now) (K.ledger keys.now) L.name }
     requires few { from.comparisons < 2 ^ 62 }
     requires scanned { IsScanned (K.right_keys keys.now) (key_at (K.left_keys keys.now) row) from.end from.end }
     ensures run { IsRun (K.right_keys keys.now) (key_at (K.left_keys keys.now) row) result.start result.end }
@@ -64,9 +60,7 @@ pub fn next_run<K: Ascend, L: Ledger>(
     steps: &mut Steps<L>,
 ) -> Cursor
     requires row { row < length (K.left_keys keys.now) }
-    requires ledger { L.name ≡ K.ledger keys.now }
-    requires sorted { IsSorted int_cmp (K.right_keys keys.now) }
-    requires small { length (K.right_keys keys.now) ≤ MAX_ROWS }
+    requires keys { AreMergeable (K.left_keys keys.now) (K.right_keys keys.now) (K.ledger keys.now) L.name }
     requires few { last.comparisons < 2 ^ 61 }
     requires cursor { IsCursor (K.right_keys keys.now) (key_at (K.left_keys keys.now) row) last.start last.end }
     ensures run { IsRun (K.right_keys keys.now) (key_at (K.left_keys keys.now) row) result.start result.end }

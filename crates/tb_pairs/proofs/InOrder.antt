@@ -10,7 +10,7 @@ use Rattle.tb_frame.specs.declared.args.MaintainOrderJoin.{MaintainOrderJoin}
 use Rattle.tb_frame.specs.Answer.{IsListed}
 use Rattle.tb_frame.specs.Join.{Ascends}
 use Rattle.tb_sorted.specs.Listed.{IsListedIn}
-use Rattle.tb_sorted.specs.declared.pairs.SortedPairs.{SortedPairs}
+use Rattle.tb_sorted.specs.declared.pairs.DirectedPairs.{DirectedPairs}
 
 -- the listing of a permutation is that of the list
 pub listed_through : (how : JoinType) (o : MaintainOrderJoin) (s : Option (ℤ × ℕ)) (list ps items : List JoinPair) → IsPermutation list ps → IsListed how o s ps items → IsListed how o s list items
@@ -21,7 +21,7 @@ listed_through how o s list ps items p h = record {
 }
 
 -- the list itself is found, in no order
-pub found_freely : (list : List JoinPair) (found : SortedPairs) → found.pairs.items ≡ list → found.order ≡ Free → IsListedIn list found
+pub found_freely : (list : List JoinPair) (found : DirectedPairs) → found.pairs.items ≡ list → found.order ≡ Free → IsListedIn list found
 found_freely list found is free = record {
   permutation = subst (λ (ps : List JoinPair). IsPermutation list ps) (sym is) (IsPermutation-refl list);
   ascends = subst (λ (d : Direction). Ascends d found.pairs.items) (sym free) tt;

@@ -86,10 +86,10 @@ one_key_traced r exec a b left right hashed =
 
 module _ (r : LentRequest) (exec : ExecView) where
   -- by a merge
-  pub merge_traced : (m : MergedView) → takes_merge_path r exec ≡ true → IsMergeWithin exec (requested_sizes r) m → IsTraced exec (requested_trace r exec) (Merge m)
+  pub merge_traced : (m : MergedView) → takes_merge_path r exec ≡ true → IsMergeWithin (requested_sizes r) m → IsTraced exec (requested_trace r exec) (Merge m)
   merge_traced m taken h = record {
     tells = ap merge h.sizes ∙ sym (merged_trace r.how r.args.now exec (lent_columns r.left_keys.now) (lent_columns r.right_keys.now) taken);
-    cheap = subst (λ (s : MergeSizes). m.comparisons ≤ 2 * s.left_len + exec.workers * s.right_len) (sym h.sizes) h.cost;
+    cheap = subst (λ (s : MergeSizes). m.comparisons ≤ 2 * s.left_len + s.right_len) (sym h.sizes) h.cost;
   }
 
   -- by a hash table

@@ -60,15 +60,15 @@ told (rust.Hash built) = hash built
 told (rust.Merge merged) = merge (sizes_of merged)
 told rust.Plain = plain
 
--- a merge of l left and r right keys made at most 2 * l + workers * r comparisons
-abbrev pub IsCheap : ExecView → JoinTrace → Type 0
-IsCheap exec (rust.Merge merged) = merged.comparisons ≤ 2 * merged.left_len + exec.workers * merged.right_len
-IsCheap exec _ = ⊤
+-- a merge of l left and r right keys made at most 2 * l + r comparisons
+abbrev pub IsCheap : JoinTrace → Type 0
+IsCheap (rust.Merge merged) = merged.comparisons ≤ 2 * merged.left_len + merged.right_len
+IsCheap _ = ⊤
 
 -- a trace tells this, and is of a cheap merge, if of one
 pub record IsTraced (exec : ExecView) (due : Trace) (trace : JoinTrace) : Type 0 where
   pub tells : told trace ≡ due
-  pub cheap : IsCheap exec trace
+  pub cheap : IsCheap trace
 
 -- the trace of a request
 abbrev pub requested_trace : LentRequest → ExecView → Trace

@@ -6,7 +6,7 @@ ghost use Rattle.tb_pairs.specs.Directions.{suffices};
 
 use std::alloc::Global;
 use tb_frame::{Direction, JoinArgs, JoinType, arrange, cut_pairs, direction_of};
-use tb_sorted::SortedPairs;
+use tb_sorted::DirectedPairs;
 use tb_value::{JoinPair, OutOfMemory};
 
 // Whether pairs that stand in the one order stand in the order that is asked.
@@ -20,7 +20,7 @@ fn is_in_order(found: Direction, asked: Direction) -> bool
 /// only where they stand in another order.
 pub(crate) fn arranged(
     alloc: Global,
-    found: SortedPairs,
+    found: DirectedPairs,
     how: JoinType,
     args: &JoinArgs,
 ) -> Result<Vec<JoinPair>, OutOfMemory>

@@ -26,7 +26,7 @@ use tb_hash::{Built, KeyBytes, KeyList, Probed, hash_keys, hash_pairs, probed_or
 use tb_keys::LentRequest;
 use tb_pool::{Exec, Gate};
 use tb_rowkey::{RowKeys, know_columns};
-use tb_sorted::SortedPairs;
+use tb_sorted::DirectedPairs;
 use tb_store::Series;
 use tb_value::PolarsResult;
 
@@ -38,7 +38,7 @@ fn found_by_hash(how: JoinType, probed: Probed, built: Built) -> FoundPairs
     let order = probed_order(how, built.left_built());
     let pairs = probed.into_pairs();
     FoundPairs {
-        listed: SortedPairs { pairs, order },
+        listed: DirectedPairs { pairs, order },
         trace: JoinTrace::Hash(built),
     }
 }

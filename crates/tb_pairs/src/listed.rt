@@ -24,12 +24,12 @@ use tb_frame::{Direction, JoinNulls};
 use tb_keys::{LentRequest, check_sides, check_size, list_pairs};
 use tb_pool::{Exec, Gate, OpenGate};
 use tb_rowkey::RowKeys;
-use tb_sorted::{SortedPairs, merged_pairs};
+use tb_sorted::{DirectedPairs, merged_pairs};
 use tb_store::Series;
 use tb_value::{JoinPair, OutOfMemory, PolarsResult};
 
 // The pairs of a request, whose fields are compared one by one.
-fn pairs_by_field(alloc: Global, request: &LentRequest<'_>) -> PolarsResult<SortedPairs>
+fn pairs_by_field(alloc: Global, request: &LentRequest<'_>) -> PolarsResult<DirectedPairs>
     ensures settles { Settles result (first_cause (row_causes (asked request.now))) }
     ensures found { IfOk result (IsListedIn (listing (asked request.now))) }
 {
@@ -37,7 +37,7 @@ fn pairs_by_field(alloc: Global, request: &LentRequest<'_>) -> PolarsResult<Sort
     let pairs = list_pairs(alloc, request)?;
     check_size(&pairs)?;
     let order = Direction::Free;
-    Ok(SortedPairs { pairs, order })
+    Ok(DirectedPairs { pairs, order })
 }
 
 // The same, where a row is too long for a key, with their trace.

@@ -2,7 +2,7 @@
 
 use tb_hash::Built;
 use tb_merge::Merged;
-use tb_sorted::SortedPairs;
+use tb_sorted::DirectedPairs;
 use tb_value::JoinPair;
 
 /// How a join went.
@@ -19,7 +19,7 @@ pub enum JoinTrace {
 /// The pairs of a request as they are found, and how they were found.
 #[derive(Drop)]
 pub struct FoundPairs {
-    pub listed: SortedPairs,
+    pub listed: DirectedPairs,
     pub trace: JoinTrace,
 }
 

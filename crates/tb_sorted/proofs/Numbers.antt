@@ -19,7 +19,6 @@ use Rattle.tb_frame.specs.Join.{listing_of}
 use Rattle.tb_frame.proofs.Listings.{listing-same}
 use Rattle.tb_merge.specs.Keys.{keys_match}
 use Rattle.tb_merge.specs.MergedView.{MergedView}
-use Rattle.tb_pool.specs.ExecView.{ExecView}
 use Rattle.tb_sorted.specs.Columns.{AreMergeKeys, value_listing, value_sizes}
 use Rattle.tb_sorted.specs.Keys.{MergeSizes, kind_of_merge, number_listing, number_or_zero, number_sizes, too_long}
 use Rattle.tb_sorted.specs.Listed.{AreKeysMerged, AreValuesMerged, IsMergeWithin}
@@ -85,18 +84,18 @@ module _ (us vs : List Datum) (ls rs : List ℤ) (is_left : us ≡ map int ls) (
       let right : length rs ≡ length vs = sym (ap (λ (xs : List Datum). length xs) is_right ∙ length-map rs int) in
       λ t. record { left_len = left t; right_len = right t; pairs = length (values_listed false t) }
 
-  pub merged_values : {A : Type 0} (order : Direction) (exec : ExecView) (keep : Bool) (answer : Result (Vec JoinPair A × MergedView) PolarsError)
-      → AreKeysMerged order exec keep ls rs answer → AreValuesMerged order exec keep us vs answer
-  merged_values order exec keep answer h = record {
+  pub merged_values : {A : Type 0} (order : Direction) (keep : Bool) (answer : Result (Vec JoinPair A × MergedView) PolarsError)
+      → AreKeysMerged order keep ls rs answer → AreValuesMerged order keep us vs answer
+  merged_values order keep answer h = record {
     settles = subst (λ (ps : List JoinPair). Settles answer (too_long ps)) (values_listed keep) h.settles;
     pairs = subst (λ (ps : List JoinPair). IfOk answer (λ x. IsPermutation ps x.0.items)) (values_listed keep) h.pairs;
     ascends = h.ascends;
-    merged = subst (λ (s : MergeSizes). IfOk answer (λ x. IsMergeWithin exec s x.1)) values_sized h.merged;
+    merged = subst (λ (s : MergeSizes). IfOk answer (λ x. IsMergeWithin s x.1)) values_sized h.merged;
   }
 
 -- what was merged of chunks was merged of those with equal values
-pub chunks_merged : {A : Type 0} (order : Direction) (exec : ExecView) (keep : Bool) (ls rs ls' rs' : List (List Datum)) (answer : Result (Vec JoinPair A × MergedView) PolarsError)
-    → ls ≡ ls' → rs ≡ rs' → AreValuesMerged order exec keep (flat ls) (flat rs) answer → AreValuesMerged order exec keep (flat ls') (flat rs') answer
-chunks_merged order exec keep ls rs ls' rs' answer left right h =
-    subst (λ (xs : List (List Datum)). AreValuesMerged order exec keep (flat xs) (flat rs') answer) left
-    (subst (λ (xs : List (List Datum)). AreValuesMerged order exec keep (flat ls) (flat xs) answer) right h)
+pub chunks_merged : {A : Type 0} (order : Direction) (keep : Bool) (ls rs ls' rs' : List (List Datum)) (answer : Result (Vec JoinPair A × MergedView) PolarsError)
+    → ls ≡ ls' → rs ≡ rs' → AreValuesMerged order keep (flat ls) (flat rs) answer → AreValuesMerged order keep (flat ls') (flat rs') answer
+chunks_merged order keep ls rs ls' rs' answer left right h =
+    subst (λ (xs : List (List Datum)). AreValuesMerged order keep (flat xs) (flat rs') answer) left
+    (subst (λ (xs : List (List Datum)). AreValuesMerged order keep (flat ls) (flat xs) answer) right h)

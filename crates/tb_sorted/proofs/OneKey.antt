@@ -42,6 +42,21 @@ one_each how validation exec (l ∷ []) [] e = absurd (cc)
 one_each how validation exec (l ∷ []) (r ∷ s ∷ rs) e = absurd (cc)
 one_each how validation exec (l ∷ []) (r ∷ []) e = (refl, refl)
 
+-- keys that are fewer or more aren't merged
+pub left_not_one : (how : JoinType) (validation : JoinValidation) (exec : ExecView) (ls rs : List (Bor Col)) → (length ls ≡ 1 → ⊥)
+    → false ≡ takes_path_by how validation exec (lent_columns ls) (lent_columns rs)
+left_not_one how validation exec [] rs h = refl
+left_not_one how validation exec (l ∷ []) rs h = absurd (h refl)
+left_not_one how validation exec (l ∷ m ∷ ls) rs h = refl
+
+pub right_not_one : (how : JoinType) (validation : JoinValidation) (exec : ExecView) (ls rs : List (Bor Col)) → (length rs ≡ 1 → ⊥)
+    → false ≡ takes_path_by how validation exec (lent_columns ls) (lent_columns rs)
+right_not_one how validation exec [] rs h = refl
+right_not_one how validation exec (l ∷ m ∷ ls) rs h = refl
+right_not_one how validation exec (l ∷ []) [] h = refl
+right_not_one how validation exec (l ∷ []) (r ∷ []) h = absurd (h refl)
+right_not_one how validation exec (l ∷ []) (r ∷ s ∷ rs) h = refl
+
 -- and their path is taken
 path_of_keys : (how : JoinType) (validation : JoinValidation) (exec : ExecView) (ls rs : List (Bor Col)) (d e : Bor Col) → takes_path_by how validation exec (lent_columns ls) (lent_columns rs) ≡ true
     → takes_key_path how validation exec (get_or ls 0 d).now (get_or rs 0 e).now ≡ true
@@ -54,20 +69,21 @@ path_of_keys how validation exec (l ∷ []) (r ∷ []) d e h = h
 -- what it means that the path of two keys is taken
 pub record IsTaken (how : JoinType) (validation : JoinValidation) (exec : ExecView) (l r : Col) : Type 0 where
   pub nothing : asks_nothing validation ≡ true
+  pub ordered : are_ordered how exec l r ≡ true
   pub left : is_merge_key l ≡ true
   pub right : is_merge_key r ≡ true
-  pub ordered : are_ordered how exec l r ≡ true
 
 taken_parts : (how : JoinType) (validation : JoinValidation) (exec : ExecView) (l r : Col) → takes_key_path how validation exec l r ≡ true → IsTaken how validation exec l r
 taken_parts how validation exec l r h =
     let n = asks_nothing validation in
-    let keys = first_of (n && is_merge_key l && is_merge_key r) (are_ordered how exec l r) h in
-    let one = first_of (n && is_merge_key l) (is_merge_key r) keys in
+    let o = are_ordered how exec l r in
+    let three = first_of (n && o && is_merge_key l) (is_merge_key r) h in
+    let two = first_of (n && o) (is_merge_key l) three in
     record {
-      nothing = first_of n (is_merge_key l) one;
-      left = second_of n (is_merge_key l) one;
-      right = second_of (n && is_merge_key l) (is_merge_key r) keys;
-      ordered = second_of (n && is_merge_key l && is_merge_key r) (are_ordered how exec l r) h;
+      nothing = first_of n o two;
+      ordered = second_of n o two;
+      left = second_of (n && o) (is_merge_key l) three;
+      right = second_of (n && o && is_merge_key l) (is_merge_key r) h;
     }
 
 pub taken_keys : (how : JoinType) (validation : JoinValidation) (exec : ExecView) (ls rs : List (Bor Col)) (d e : Bor Col) → takes_path_by how validation exec (lent_columns ls) (lent_columns rs) ≡ true

@@ -16,10 +16,10 @@ use Rattle.tb_merge.specs.MergedView.{MergedView}
 use Rattle.tb_sorted.specs.Columns.{first_values, sizes_by, value_listing, value_sizes}
 use Rattle.tb_sorted.specs.Keys.{MergeSizes, kind_of_merge, number_listing, number_sizes, too_long}
 use Rattle.tb_sorted.specs.Path.{takes_merge_path}
-use Rattle.tb_sorted.specs.declared.pairs.SortedPairs.{SortedPairs}
+use Rattle.tb_sorted.specs.declared.pairs.DirectedPairs.{DirectedPairs}
 
 -- these are the pairs of the list, and they stand in the order that is said
-pub record IsListedIn (list : List JoinPair) (found : SortedPairs) : Type 0 where
+pub record IsListedIn (list : List JoinPair) (found : DirectedPairs) : Type 0 where
   pub permutation : IsPermutation list found.pairs.items
   pub ascends : Ascends found.order found.pairs.items
 
@@ -27,24 +27,24 @@ pub record IsListedIn (list : List JoinPair) (found : SortedPairs) : Type 0 wher
 abbrev pub sizes_of : MergedView → MergeSizes
 sizes_of merged = record { left_len = merged.left_len; right_len = merged.right_len; pairs = merged.pairs }
 
--- a merge of these sizes, of l left and r right keys, that made at most 2 * l + workers * r comparisons
-pub record IsMergeWithin (exec : ExecView) (due : MergeSizes) (merged : MergedView) : Type 0 where
+-- a merge of these sizes, of l left and r right keys, that made at most 2 * l + r comparisons
+pub record IsMergeWithin (due : MergeSizes) (merged : MergedView) : Type 0 where
   pub sizes : sizes_of merged ≡ due
-  pub cost : merged.comparisons ≤ 2 * due.left_len + exec.workers * due.right_len
+  pub cost : merged.comparisons ≤ 2 * due.left_len + due.right_len
 
 -- the pairs that two sides list, in this order, and the merge of the sides' sizes that gave them, unless the pairs are too many
-pub record IsMerged {A X : Type 0} (list : List X → List X → List JoinPair) (sizes : List X → List X → MergeSizes) (order : Direction) (exec : ExecView) (left right : List X) (answer : Result (Vec JoinPair A × MergedView) PolarsError) : Type 0 where
+pub record IsMerged {A X : Type 0} (list : List X → List X → List JoinPair) (sizes : List X → List X → MergeSizes) (order : Direction) (left right : List X) (answer : Result (Vec JoinPair A × MergedView) PolarsError) : Type 0 where
   pub settles : Settles answer (too_long (list left right))
   pub pairs : IfOk answer (λ x. IsPermutation (list left right) x.0.items)
   pub ascends : IfOk answer (λ x. Ascends order x.0.items)
-  pub merged : IfOk answer (λ x. IsMergeWithin exec (sizes left right) x.1)
+  pub merged : IfOk answer (λ x. IsMergeWithin (sizes left right) x.1)
 
 -- two lists of keys are merged, and two columns by their values
-abbrev pub AreKeysMerged : {A : Type 0} → Direction → ExecView → Bool → List ℤ → List ℤ → Result (Vec JoinPair A × MergedView) PolarsError → Type 0
-AreKeysMerged order exec keep left right answer = IsMerged (number_listing keep) number_sizes order exec left right answer
+abbrev pub AreKeysMerged : {A : Type 0} → Direction → Bool → List ℤ → List ℤ → Result (Vec JoinPair A × MergedView) PolarsError → Type 0
+AreKeysMerged order keep left right answer = IsMerged (number_listing keep) number_sizes order left right answer
 
-abbrev pub AreValuesMerged : {A : Type 0} → Direction → ExecView → Bool → List Datum → List Datum → Result (Vec JoinPair A × MergedView) PolarsError → Type 0
-AreValuesMerged order exec keep us vs answer = IsMerged (value_listing false (kind_of_merge keep)) value_sizes order exec us vs answer
+abbrev pub AreValuesMerged : {A : Type 0} → Direction → Bool → List Datum → List Datum → Result (Vec JoinPair A × MergedView) PolarsError → Type 0
+AreValuesMerged order keep us vs answer = IsMerged (value_listing false (kind_of_merge keep)) value_sizes order us vs answer
 
 -- the sizes of the merge of a request's keys
 abbrev pub requested_sizes : LentRequest → MergeSizes

@@ -1,5 +1,5 @@
 -- When keys are merged and not hashed.
-use Rattle.std.specs.Prelude.{ℕ, ◌==◌, ◌*◌, nat_lt, Bool, true, false, ◌&&◌, ◌||◌, if◌then◌else◌, List, [], ◌∷◌, length}
+use Rattle.std.specs.Prelude.{ℕ, ◌==◌, ◌*◌, nat_lt, Bool, true, false, not, ◌&&◌, ◌||◌, if◌then◌else◌, List, [], ◌∷◌, length}
 use Rattle.tb_value.specs.Typed.{is_whole_physical}
 use Rattle.tb_value.specs.declared.sorted.IsSorted.{IsSorted}
 use Rattle.tb_value.specs.declared.sorted.IsSorted.TheVariants.{Ascending, Descending, Not}
@@ -9,7 +9,7 @@ use Rattle.tb_chunk.specs.Lent.{lent_columns}
 use Rattle.tb_frame.specs.declared.args.JoinType.{JoinType}
 use Rattle.tb_frame.specs.declared.args.JoinType.TheVariants.{Inner, Left, Right, Full, Semi, Anti}
 use Rattle.tb_frame.specs.declared.args.JoinValidation.{JoinValidation}
-use Rattle.tb_frame.specs.declared.args.JoinValidation.TheVariants.{ManyToMany, ManyToOne, OneToMany, OneToOne}
+use Rattle.tb_frame.specs.Refusal.{asks_a_side}
 use Rattle.tb_frame.specs.declared.args.Direction.{Direction}
 use Rattle.tb_frame.specs.declared.args.Direction.TheVariants.{Free, ByLeft}
 use Rattle.tb_pool.specs.ExecView.{ExecView}
@@ -19,10 +19,7 @@ use Rattle.tb_sorted.specs.declared.path.SortedFirst.TheVariants as the
 
 -- nothing is asked of either side
 abbrev pub asks_nothing : JoinValidation → Bool
-asks_nothing ManyToMany = true
-asks_nothing ManyToOne = false
-asks_nothing OneToMany = false
-asks_nothing OneToOne = false
+asks_nothing validation = not (asks_a_side validation)
 
 abbrev pub is_flagged : IsSorted → Bool
 is_flagged Ascending = true
@@ -60,10 +57,10 @@ are_ordered Left exec left right = have_order Left exec left right
 are_ordered Right exec left right = have_order Right exec right left
 are_ordered how exec left right = false
 
--- two keys are merged: nothing is asked of them, both can be, and they have the order for it
+-- two keys are merged: nothing is asked of them, they have the order for it, and both can be
 abbrev pub takes_key_path : JoinType → JoinValidation → ExecView → Col → Col → Bool
 takes_key_path how validation exec left right =
-    asks_nothing validation && is_merge_key left && is_merge_key right && are_ordered how exec left right
+    asks_nothing validation && are_ordered how exec left right && is_merge_key left && is_merge_key right
 
 -- one key on each side
 abbrev pub takes_path_by : JoinType → JoinValidation → ExecView → List Col → List Col → Bool

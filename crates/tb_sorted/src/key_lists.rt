@@ -8,7 +8,7 @@ use std::marker::Sync;
 use tb_value::IdxSize;
 
 /// A list of keys, each a whole number.
-pub(crate) trait KeyList: Sync {
+pub(crate) trait NumberList: Sync {
     ghost keys: { Self → List ℤ };
 
     fn len(&self) -> usize
@@ -25,7 +25,7 @@ pub(crate) struct LentCells<'a, N> {
     pub cells: &'a [Option<N>],
 }
 
-impl<N: WholeCell> KeyList for LentCells<'_, N> {
+impl<N: WholeCell> NumberList for LentCells<'_, N> {
     ghost use Rattle.std.specs.Prelude.{map};
     ghost use Rattle.tb_sorted.specs.Keys.{number_or_zero};
 
@@ -49,7 +49,7 @@ pub(crate) struct SortedRows<'a> {
     pub rows: &'a [(i128, IdxSize)],
 }
 
-impl KeyList for SortedRows<'_> {
+impl NumberList for SortedRows<'_> {
     ghost use Rattle.tb_sorted.specs.SortedRows.{keys_of};
 
     ghost keys = { λ s. keys_of s.rows.now };

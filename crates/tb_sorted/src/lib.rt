@@ -13,5 +13,5 @@ mod row_sorting;
 mod sides;
 mod typed;
 
-pub use pairs::{MergedPairs, SortedPairs};
+pub use pairs::{DirectedPairs, MergedPairs};
 pub use requested::merged_pairs;

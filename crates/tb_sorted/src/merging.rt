@@ -8,7 +8,7 @@ ghost use Rattle.tb_merge.specs.MergedView.{IsMergeOf};
 ghost use Rattle.tb_sorted.specs.Keys.{number_listing, refusal_of};
 ghost use Rattle.tb_sorted.specs.Listed.{AreKeysMerged};
 
-use crate::key_lists::KeyList;
+use crate::key_lists::NumberList;
 use crate::sides::Sides;
 use std::alloc::Global;
 use std::marker::{Brand, PhantomData, Sync};
@@ -27,7 +27,7 @@ fn refused(fault: MergeFault) -> PolarsError
 }
 
 // The pairs of a Left join, or of an Inner one, of two lists that ascend, in the order of the left rows.
-fn counted_pairs<A: KeyList, B: KeyList, L: Ledger + Sync>(
+fn counted_pairs<A: NumberList, B: NumberList, L: Ledger + Sync>(
     alloc: Global,
     keep_unmatched: bool,
     left: &A,
@@ -46,7 +46,7 @@ fn counted_pairs<A: KeyList, B: KeyList, L: Ledger + Sync>(
     ensures pairs { IfOk result (λ r. IsPermutation (number_listing keep_unmatched (A.keys left.now) (B.keys right.now)) r.0.items) }
     ensures order { IfOk result (λ r. IsSorted left_first r.0.items) }
     ensures merged { IfOk result (λ r. IsMergeOf (A.keys left.now) (B.keys right.now) r.1) }
-    ensures cost { IfOk result (λ r. r.1.comparisons ≤ 2 * length (A.keys left.now) + exec.now.workers * length (B.keys right.now)) }
+    ensures cost { IfOk result (λ r. r.1.comparisons ≤ 2 * length (A.keys left.now) + length (B.keys right.now)) }
 {
     let mut steps = Steps::<L>::open(blank);
     let keys = Sides::<A, B, L> {
@@ -62,7 +62,7 @@ fn counted_pairs<A: KeyList, B: KeyList, L: Ledger + Sync>(
 }
 
 /// The pairs of a Left join, or of an Inner one, of two lists that ascend, in the order of the left rows.
-pub(crate) fn merged_lists<A: KeyList, B: KeyList>(
+pub(crate) fn merged_lists<A: NumberList, B: NumberList>(
     alloc: Global,
     keep_unmatched: bool,
     left: &A,
@@ -73,7 +73,7 @@ pub(crate) fn merged_lists<A: KeyList, B: KeyList>(
     requires right_sorted { IsSorted int_cmp (B.keys right.now) }
     requires left_few { length (A.keys left.now) ≤ MAX_ROWS }
     requires right_few { length (B.keys right.now) ≤ MAX_ROWS }
-    ensures { AreKeysMerged ByLeft exec.now keep_unmatched (A.keys left.now) (B.keys right.now) result }
+    ensures { AreKeysMerged ByLeft keep_unmatched (A.keys left.now) (B.keys right.now) result }
 {
     let counted = counted_pairs::<A, B, Brand>(
         alloc,

@@ -4,7 +4,7 @@ ghost use Rattle.std.specs.Ordering.{int_cmp};
 ghost use Rattle.tb_frame.specs.declared.args.Direction.TheVariants.{ByLeft, Free};
 ghost use Rattle.tb_sorted.specs.Listed.{AreKeysMerged};
 
-use crate::key_lists::{KeyList, SortedRows};
+use crate::key_lists::{NumberList, SortedRows};
 use crate::merging::merged_lists;
 use crate::row_sorting::{sorted_rows, with_left_rows, with_right_rows};
 use std::alloc::Global;
@@ -14,7 +14,7 @@ use tb_value::{JoinPair, MAX_ROWS, PolarsResult};
 
 /// The pairs of a Left join, or of an Inner one, of a left list that ascends and a right one that is sorted first, in the
 /// order of the left rows.
-pub(crate) fn right_sorted_lists<A: KeyList, B: KeyList>(
+pub(crate) fn right_sorted_lists<A: NumberList, B: NumberList>(
     alloc: Global,
     keep_unmatched: bool,
     left: &A,
@@ -24,7 +24,7 @@ pub(crate) fn right_sorted_lists<A: KeyList, B: KeyList>(
     requires left_sorted { IsSorted int_cmp (A.keys left.now) }
     requires left_few { length (A.keys left.now) ≤ MAX_ROWS }
     requires right_few { length (B.keys right.now) ≤ MAX_ROWS }
-    ensures { AreKeysMerged ByLeft exec.now keep_unmatched (A.keys left.now) (B.keys right.now) result }
+    ensures { AreKeysMerged ByLeft keep_unmatched (A.keys left.now) (B.keys right.now) result }
 {
     let rows = sorted_rows(alloc, right)?;
     let sorted = SortedRows { rows: &rows };
@@ -33,7 +33,7 @@ pub(crate) fn right_sorted_lists<A: KeyList, B: KeyList>(
 }
 
 /// The pairs of an Inner join of a left list that is sorted first and a right one that ascends.
-pub(crate) fn left_sorted_lists<A: KeyList, B: KeyList>(
+pub(crate) fn left_sorted_lists<A: NumberList, B: NumberList>(
     alloc: Global,
     left: &A,
     right: &B,
@@ -42,7 +42,7 @@ pub(crate) fn left_sorted_lists<A: KeyList, B: KeyList>(
     requires right_sorted { IsSorted int_cmp (B.keys right.now) }
     requires left_few { length (A.keys left.now) ≤ MAX_ROWS }
     requires right_few { length (B.keys right.now) ≤ MAX_ROWS }
-    ensures { AreKeysMerged Free exec.now false (A.keys left.now) (B.keys right.now) result }
+    ensures { AreKeysMerged Free false (A.keys left.now) (B.keys right.now) result }
 {
     let rows = sorted_rows(alloc, left)?;
     let sorted = SortedRows { rows: &rows };

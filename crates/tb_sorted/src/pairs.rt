@@ -6,7 +6,7 @@ use tb_value::JoinPair;
 
 /// The pairs of a listing, and the order in which they stand.
 #[derive(Drop)]
-pub struct SortedPairs {
+pub struct DirectedPairs {
     pub pairs: Vec<JoinPair>,
     pub order: Direction,
 }
@@ -14,6 +14,6 @@ pub struct SortedPairs {
 /// Pairs that were merged, and what the merge was.
 #[derive(Drop)]
 pub struct MergedPairs {
-    pub listed: SortedPairs,
+    pub listed: DirectedPairs,
     pub merged: Merged,
 }

@@ -1,6 +1,6 @@
 //! Whether keys are merged.
 ghost use Rattle.std.specs.Prelude.{◌≡◌, ◌≤◌};
-ghost use Rattle.tb_sorted.specs.Path.{are_ordered, asks_nothing, have_order, is_flagged, is_inner, is_merge_key, is_worth, order_after, sorted_first, takes_key_path};
+ghost use Rattle.tb_sorted.specs.Path.{are_ordered, have_order, is_flagged, is_inner, is_merge_key, is_worth, order_after, sorted_first, takes_key_path};
 
 use tb_frame::{Direction, JoinType, JoinValidation};
 use tb_pool::Exec;
@@ -11,15 +11,6 @@ fn is_inner(how: JoinType) -> bool
     ensures { result ≡ is_inner how }
 {
     matches!(how, JoinType::Inner)
-}
-
-fn asks_nothing(validation: JoinValidation) -> bool
-    ensures { result ≡ asks_nothing validation }
-{
-    match validation {
-        JoinValidation::ManyToMany => true,
-        JoinValidation::ManyToOne | JoinValidation::OneToMany | JoinValidation::OneToOne => false,
-    }
 }
 
 fn is_flagged(flag: IsSorted) -> bool
@@ -70,7 +61,8 @@ fn are_ordered(how: JoinType, exec: &Exec, left: &Series, right: &Series) -> boo
     }
 }
 
-/// Whether two keys are merged.
+/// Whether two keys are merged. What takes no step a row is asked first, so that Nulls are counted only where nothing but
+/// a Null keeps the keys from being merged.
 pub(crate) fn takes_key_path(
     how: JoinType,
     validation: JoinValidation,
@@ -80,10 +72,10 @@ pub(crate) fn takes_key_path(
 ) -> bool
     ensures { result ≡ takes_key_path how validation exec.now left.now right.now }
 {
-    asks_nothing(validation)
+    !validation.needs_checks()
+        && are_ordered(how, exec, left, right)
         && is_merge_key(left)
         && is_merge_key(right)
-        && are_ordered(how, exec, left, right)
 }
 
 /// Which of two keys is sorted before they are merged.

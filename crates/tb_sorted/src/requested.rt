@@ -13,7 +13,7 @@ ghost use Rattle.tb_sorted.specs.Listed.{AreValuesMerged, IsListedIn, IsMergeWit
 ghost use Rattle.tb_sorted.specs.Path.{are_ordered, have_order, is_merge_key, order_after, sorted_first, takes_merge_path};
 
 use crate::one_chunk::{joined_key, lone_chunk};
-use crate::pairs::{MergedPairs, SortedPairs};
+use crate::pairs::{DirectedPairs, MergedPairs};
 use crate::path::{order_after, sorted_first, takes_key_path};
 use crate::typed::pairs_of_chunks;
 use std::alloc::Global;
@@ -36,7 +36,7 @@ fn ordered_pairs(
     requires left { is_merge_key left.now ≡ true }
     requires right { is_merge_key right.now ≡ true }
     requires ordered { have_order (kind_of_merge keep_unmatched) exec.now left.now right.now ≡ true }
-    ensures { AreValuesMerged (order_after (sorted_first left.now right.now)) exec.now keep_unmatched (values left.now) (values right.now) result }
+    ensures { AreValuesMerged (order_after (sorted_first left.now right.now)) keep_unmatched (values left.now) (values right.now) result }
 {
     let _lengths = (left.len(), right.len());
     let left_joined = joined_key(alloc, left)?;
@@ -78,11 +78,11 @@ fn left_way_pairs(
     requires ordered { have_order (kind_of_merge keep_unmatched) exec.now left.now right.now ≡ true }
     ensures settles { Settles result (too_long (value_listing false (kind_of_merge keep_unmatched) (values left.now) (values right.now))) }
     ensures found { IfOk result (λ m. IsListedIn (value_listing false (kind_of_merge keep_unmatched) (values left.now) (values right.now)) m.listed) }
-    ensures merged { IfOk result (λ m. IsMergeWithin exec.now (value_sizes (values left.now) (values right.now)) m.merged) }
+    ensures merged { IfOk result (λ m. IsMergeWithin (value_sizes (values left.now) (values right.now)) m.merged) }
 {
     let (pairs, merged) = ordered_pairs(alloc, keep_unmatched, left, right, exec)?;
     let order = order_after(sorted_first(left, right));
-    let listed = SortedPairs { pairs, order };
+    let listed = DirectedPairs { pairs, order };
     Ok(MergedPairs { listed, merged })
 }
 
@@ -99,12 +99,12 @@ fn right_way_pairs(
     requires ordered { have_order JoinType.Right exec.now right.now left.now ≡ true }
     ensures settles { Settles result (too_long (value_listing false JoinType.Right (values left.now) (values right.now))) }
     ensures found { IfOk result (λ m. IsListedIn (value_listing false JoinType.Right (values left.now) (values right.now)) m.listed) }
-    ensures merged { IfOk result (λ m. IsMergeWithin exec.now (sizes_by JoinType.Right (values left.now) (values right.now)) m.merged) }
+    ensures merged { IfOk result (λ m. IsMergeWithin (sizes_by JoinType.Right (values left.now) (values right.now)) m.merged) }
 {
     let (pairs, merged) = ordered_pairs(alloc, true, right, left, exec)?;
     let order = Direction::ByRight;
     let pairs = turned(pairs);
-    let listed = SortedPairs { pairs, order };
+    let listed = DirectedPairs { pairs, order };
     Ok(MergedPairs { listed, merged })
 }
 
@@ -122,7 +122,7 @@ fn sorted_pairs(
     requires ordered { are_ordered how exec.now left.now right.now ≡ true }
     ensures settles { Settles result (too_long (value_listing false how (values left.now) (values right.now))) }
     ensures found { IfOk result (λ m. IsListedIn (value_listing false how (values left.now) (values right.now)) m.listed) }
-    ensures merged { IfOk result (λ m. IsMergeWithin exec.now (sizes_by how (values left.now) (values right.now)) m.merged) }
+    ensures merged { IfOk result (λ m. IsMergeWithin (sizes_by how (values left.now) (values right.now)) m.merged) }
 {
     match how {
         JoinType::Inner => left_way_pairs(alloc, false, left, right, exec),
@@ -150,7 +150,7 @@ fn taken_pairs(alloc: Global, request: &LentRequest<'_>, exec: &Exec) -> PolarsR
     requires taken { takes_merge_path request.now exec.now ≡ true }
     ensures settles { Settles result (first_cause (row_causes (asked request.now))) }
     ensures found { IfOk result (λ m. IsListedIn (listing (asked request.now)) m.listed) }
-    ensures merged { IfOk result (λ m. IsMergeWithin exec.now (requested_sizes request.now) m.merged) }
+    ensures merged { IfOk result (λ m. IsMergeWithin (requested_sizes request.now) m.merged) }
 {
     let left = request.left_keys[0];
     let right = request.right_keys[0];
@@ -167,7 +167,7 @@ fn taken_pairs(alloc: Global, request: &LentRequest<'_>, exec: &Exec) -> PolarsR
 ///
 /// A Right join is judged and merged with its sides exchanged, also in what is told of the merge: how many keys of each
 /// side there were, how many pairs of rows matched, and how many comparisons were made, which are at most
-/// `2 * l + workers * r`. Its pairs stand by right rows. Those of the others stand
+/// `2 * l + r`. Its pairs stand by right rows. Those of the others stand
 /// by left rows, and in no order under 3.
 ///
 /// # Errors
@@ -182,7 +182,7 @@ pub fn merged_pairs(
     ensures taken { IfOk result (λ o. is_some o ≡ takes_merge_path request.now exec.now) }
     ensures settles { Settles result (merge_refusal request.now exec.now) }
     ensures found { IfOk result (λ o. IfSome o (λ m. IsListedIn (listing (asked request.now)) m.listed)) }
-    ensures merged { IfOk result (λ o. IfSome o (λ m. IsMergeWithin exec.now (requested_sizes request.now) m.merged)) }
+    ensures merged { IfOk result (λ o. IfSome o (λ m. IsMergeWithin (requested_sizes request.now) m.merged)) }
 {
     if !takes_merge_path(request, exec) {
         return Ok(None);

@@ -5,12 +5,12 @@ ghost use Rattle.tb_frame.specs.Answer.{AreLeftRows, AreRightRows};
 ghost use Rattle.tb_merge.specs.Keys.{key_at};
 ghost use Rattle.tb_sorted.specs.SortedRows.{AreSortedRows, left_placed, right_placed, row_or_none, with_rows};
 
-use crate::key_lists::KeyList;
+use crate::key_lists::NumberList;
 use std::alloc::Global;
 use tb_value::{IdxSize, JoinPair, MAX_ROWS, NullableIdxSize, OutOfMemory};
 
 // A key of the list, with its row.
-fn key_with_row<K: KeyList>(list: &K, row: usize) -> (i128, IdxSize)
+fn key_with_row<K: NumberList>(list: &K, row: usize) -> (i128, IdxSize)
     requires row { row < length (K.keys list.now) }
     requires few { length (K.keys list.now) ≤ MAX_ROWS }
     ensures { result ≡ (key_at (K.keys list.now) row, row) }
@@ -19,7 +19,10 @@ fn key_with_row<K: KeyList>(list: &K, row: usize) -> (i128, IdxSize)
 }
 
 // The keys of the list, each with its row.
-fn keys_with_rows<K: KeyList>(alloc: Global, list: &K) -> Result<Vec<(i128, IdxSize)>, OutOfMemory>
+fn keys_with_rows<K: NumberList>(
+    alloc: Global,
+    list: &K,
+) -> Result<Vec<(i128, IdxSize)>, OutOfMemory>
     requires { length (K.keys list.now) ≤ MAX_ROWS }
     ensures rows { IfOk result (λ v. v.items ≡ with_rows (K.keys list.now)) }
 {
@@ -32,7 +35,7 @@ fn keys_with_rows<K: KeyList>(alloc: Global, list: &K) -> Result<Vec<(i128, IdxS
 }
 
 /// The keys of the list with their rows, sorted by key; the rows of one key stay in their order.
-pub(crate) fn sorted_rows<K: KeyList>(
+pub(crate) fn sorted_rows<K: NumberList>(
     alloc: Global,
     list: &K,
 ) -> Result<Vec<(i128, IdxSize)>, OutOfMemory>

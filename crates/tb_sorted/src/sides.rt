@@ -1,6 +1,6 @@
 //! The keys of two sides, whose comparisons are counted.
 
-use crate::key_lists::KeyList;
+use crate::key_lists::NumberList;
 use std::cmp::Ordering;
 use std::marker::{PhantomData, Sync};
 use std::sync::ledger::Ledger;
@@ -14,7 +14,7 @@ pub(crate) struct Sides<'a, A, B, L: Ledger + Sync> {
     pub ledger: PhantomData<L>,
 }
 
-impl<A: KeyList, B: KeyList, L: Ledger + Sync> Ascend for Sides<'_, A, B, L> {
+impl<A: NumberList, B: NumberList, L: Ledger + Sync> Ascend for Sides<'_, A, B, L> {
     ghost left_keys = { λ s. A.keys s.left.now };
 
     ghost right_keys = { λ s. B.keys s.right.now };

@@ -31,7 +31,7 @@ fn merged_cells<N: WholeCell>(
     requires left { AreMergeKeys (map (or_null N.shows) left.now.cells.now) }
     requires right { AreMergeKeys (map (or_null N.shows) right.now.cells.now) }
     requires may { MayMerge first keep_unmatched (map (or_null N.shows) left.now.cells.now) (map (or_null N.shows) right.now.cells.now) }
-    ensures { AreValuesMerged (order_after first) exec.now keep_unmatched (map (or_null N.shows) left.now.cells.now) (map (or_null N.shows) right.now.cells.now) result }
+    ensures { AreValuesMerged (order_after first) keep_unmatched (map (or_null N.shows) left.now.cells.now) (map (or_null N.shows) right.now.cells.now) result }
 {
     match first {
         SortedFirst::Neither => merged_lists(alloc, keep_unmatched, left, right, exec),
@@ -54,7 +54,7 @@ fn pairs_of_cells<N: WholeCell>(
     requires left { AreMergeKeys (flat (cell_lists N.shows left.now)) }
     requires right { AreMergeKeys (flat (cell_lists N.shows right.now)) }
     requires may { MayMerge first keep_unmatched (flat (cell_lists N.shows left.now)) (flat (cell_lists N.shows right.now)) }
-    ensures { AreValuesMerged (order_after first) exec.now keep_unmatched (flat (cell_lists N.shows left.now)) (flat (cell_lists N.shows right.now)) result }
+    ensures { AreValuesMerged (order_after first) keep_unmatched (flat (cell_lists N.shows left.now)) (flat (cell_lists N.shows right.now)) result }
 {
     let left = LentCells {
         cells: &left[0].cells,
@@ -81,7 +81,7 @@ pub(crate) fn pairs_of_chunks(
     requires left { AreMergeKeys (flat (chunk_lists left.now)) }
     requires right { AreMergeKeys (flat (chunk_lists right.now)) }
     requires may { MayMerge first keep_unmatched (flat (chunk_lists left.now)) (flat (chunk_lists right.now)) }
-    ensures { AreValuesMerged (order_after first) exec.now keep_unmatched (flat (chunk_lists left.now)) (flat (chunk_lists right.now)) result }
+    ensures { AreValuesMerged (order_after first) keep_unmatched (flat (chunk_lists left.now)) (flat (chunk_lists right.now)) result }
 {
     match (left, right) {
         (Chunks::Int8Type(l), Chunks::Int8Type(r)) => {

@@ -57,7 +57,7 @@ fn counted<L: Ledger + Sync>(
     requires right_sorted { IsSorted int_cmp right.now }
     requires left_small { length left.now ≤ MAX_ROWS }
     requires right_small { length right.now ≤ MAX_ROWS }
-    ensures bound { IfOk result (λ r. r.1.comparisons ≤ 2 * length left.now + exec.now.workers * length right.now) }
+    ensures bound { IfOk result (λ r. r.1.comparisons ≤ 2 * length left.now + length right.now) }
 {
     let mut steps = Steps::<L>::open(blank);
     let keys = TwoLists::<L> {
@@ -72,13 +72,14 @@ fn counted<L: Ledger + Sync>(
     }
 }
 
-// The merge of two lists, each sorted first.
+// The merge of two lists, each sorted first, by so many workers.
 fn merged(
     rt: &impl Abort,
     alloc: Global,
     left: &[i64],
     right: &[i64],
     is_left: bool,
+    workers: u32,
 ) -> Result<(Vec<JoinPair>, Merged), Fail> {
     let mut left = left.to_vec(alloc)?;
     let mut right = right.to_vec(alloc)?;
@@ -91,7 +92,7 @@ fn merged(
         left.as_slice(),
         right.as_slice(),
         is_left,
-        &Exec::standard(),
+        &Exec::new(workers, 8, 256, 1, 1)?,
         Blank::new(1),
     )?)
 }
@@ -100,7 +101,7 @@ fn merged(
 fn each_left_row_stands_beside_its_right_rows_or_alone(rt: HostRuntime) -> Result<(), Fail> {
     let left = [-7i64, 1, 1, 4, 9];
     let right = [-7i64, 1, 1, 5, 9, 9];
-    let (pairs, _) = merged(&rt, rt.alloc(), left.as_slice(), right.as_slice(), true)?;
+    let (pairs, _) = merged(&rt, rt.alloc(), left.as_slice(), right.as_slice(), true, 4)?;
     let wanted = [
         JoinPair::both(0, 0),
         JoinPair::both(1, 1),
@@ -118,8 +119,18 @@ fn each_left_row_stands_beside_its_right_rows_or_alone(rt: HostRuntime) -> Resul
 #[test]
 fn lists_without_keys_take_no_comparison(rt: HostRuntime) -> Result<(), Fail> {
     let none: [i64; 0] = [];
-    let (pairs, merge) = merged(&rt, rt.alloc(), none.as_slice(), none.as_slice(), false)?;
+    let (pairs, merge) = merged(&rt, rt.alloc(), none.as_slice(), none.as_slice(), false, 4)?;
     assert_eq!(rt; pairs.len(), 0);
     assert_eq!(rt; merge.comparisons(), 0);
+    Ok(())
+}
+
+#[test]
+fn many_workers_pass_each_right_key_once(rt: HostRuntime) -> Result<(), Fail> {
+    let left = [7i64; 2_048];
+    let right = [5i64; 64];
+    let (pairs, merge) = merged(&rt, rt.alloc(), left.as_slice(), right.as_slice(), true, 1_024)?;
+    assert_eq!(rt; pairs.len(), 2_048);
+    assert_eq!(rt; merge.comparisons(), 64);
     Ok(())
 }

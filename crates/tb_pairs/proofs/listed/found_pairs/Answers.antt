@@ -24,7 +24,7 @@ returns-in-Some-clause-found g c =
     let h = c.in_ok-merged.ensures in
     record {
       listed = subst (λ (o : Option MergedPairs). IfSome o (λ m. IsListedIn (listing (asked r)) m.listed)) c.in-Some.is h.found;
-      traced = merge_traced r exec c.in-Some.merged.merged (sym h.taken ∙ ap is_some c.in-Some.is) (subst (λ (o : Option MergedPairs). IfSome o (λ m. IsMergeWithin exec (requested_sizes r) m.merged)) c.in-Some.is h.merged);
+      traced = merge_traced r exec c.in-Some.merged.merged (sym h.taken ∙ ap is_some c.in-Some.is) (subst (λ (o : Option MergedPairs). IfSome o (λ m. IsMergeWithin (requested_sizes r) m.merged)) c.in-Some.is h.merged);
     }
 
 pub pairs_by_key-requires-clause-hashed : goal.pairs_by_key-requires-clause-hashed

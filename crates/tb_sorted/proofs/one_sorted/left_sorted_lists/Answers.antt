@@ -12,23 +12,23 @@ use Rattle.tb_sorted.proofs.one_sorted.left_sorted_lists.Goals as goal
 
 pub merged_lists-requires-clause-left_few : goal.merged_lists-requires-clause-left_few
 merged_lists-requires-clause-left_few g c κs within =
-    let keys = g.A.KeyList.keys c.args.left.now in
+    let keys = g.A.NumberList.keys c.args.left.now in
     let rows = c.deref.result.now in
     let many = as_many_keys keys rows (subst (AreSortedRows keys) (sym c.deref.ensures.value) c.in_ok-rows.ensures) in
     omega (arith, many, c.requires.left_few)
 
 pub returns-in_err-pairs : goal.returns-in_err-pairs
 returns-in_err-pairs g c =
-    let keys = g.A.KeyList.keys c.args.left.now in
-    let right = g.B.KeyList.keys c.args.right.now in
+    let keys = g.A.NumberList.keys c.args.left.now in
+    let right = g.B.NumberList.keys c.args.right.now in
     let rows = c.deref.result.now in
     let many = left_many keys rows (subst (AreSortedRows keys) (sym c.deref.ensures.value) c.in_ok-rows.ensures) right in
     record { settles = subst (Settles c.from_residual-in_err-pairs.result) (as_long (number_listing false (keys_of rows) right) (number_listing false keys right) many) (search rules); pairs = search rules; ascends = search rules; merged = search rules }
 
 pub with_left_rows-requires-clause-places : goal.with_left_rows-requires-clause-places
 with_left_rows-requires-clause-places g c =
-    let keys = g.A.KeyList.keys c.args.left.now in
-    let right = g.B.KeyList.keys c.args.right.now in
+    let keys = g.A.NumberList.keys c.args.left.now in
+    let right = g.B.NumberList.keys c.args.right.now in
     let rows = c.deref.result.now in
     let same = c.deref.ensures.value ∙ sym c.deref-2.ensures.value in
     let sorted = subst (AreSortedRows keys) (sym c.deref.ensures.value) c.in_ok-rows.ensures in
@@ -36,13 +36,13 @@ with_left_rows-requires-clause-places g c =
 
 pub with_left_rows-requires-clause-rows : goal.with_left_rows-requires-clause-rows
 with_left_rows-requires-clause-rows g c =
-    let keys = g.A.KeyList.keys c.args.left.now in
+    let keys = g.A.NumberList.keys c.args.left.now in
     rows_few keys c.deref-2.result.now (subst (AreSortedRows keys) (sym c.deref-2.ensures.value) c.in_ok-rows.ensures) c.requires.left_few
 
 pub returns : goal.returns
 returns g c =
-    let keys = g.A.KeyList.keys c.args.left.now in
-    let right = g.B.KeyList.keys c.args.right.now in
+    let keys = g.A.NumberList.keys c.args.left.now in
+    let right = g.B.NumberList.keys c.args.right.now in
     let rows = c.deref.result.now in
     let ps = c.in_ok-pairs.pairs.items in
     let same : c.deref-2.result.now ≡ rows = c.deref-2.ensures.value ∙ sym c.deref.ensures.value in
@@ -54,5 +54,5 @@ returns g c =
       settles = sym (as_long (number_listing false (keys_of rows) right) list (left_many keys rows sorted right)) ∙ h.settles;
       pairs = subst (λ (l : List JoinPair). IsPermutation list l) (sym is) (left_way keys rows sorted right ps h.pairs);
       ascends = tt;
-      merged = subst (λ (s : MergeSizes). IsMergeWithin c.args.exec.now s c.in_ok-pairs.merged) (left_sizes keys rows sorted right) h.merged;
+      merged = subst (λ (s : MergeSizes). IsMergeWithin s c.in_ok-pairs.merged) (left_sizes keys rows sorted right) h.merged;
     }

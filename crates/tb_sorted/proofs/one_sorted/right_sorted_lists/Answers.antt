@@ -13,15 +13,15 @@ use Rattle.tb_sorted.proofs.one_sorted.right_sorted_lists.Goals as goal
 
 pub merged_lists-requires-clause-right_few : goal.merged_lists-requires-clause-right_few
 merged_lists-requires-clause-right_few g c κs within =
-    let keys = g.B.KeyList.keys c.args.right.now in
+    let keys = g.B.NumberList.keys c.args.right.now in
     let rows = c.deref.result.now in
     let many = as_many_keys keys rows (subst (AreSortedRows keys) (sym c.deref.ensures.value) c.in_ok-rows.ensures) in
     omega (arith, many, c.requires.right_few)
 
 pub returns-in_err-pairs : goal.returns-in_err-pairs
 returns-in_err-pairs g c =
-    let left = g.A.KeyList.keys c.args.left.now in
-    let keys = g.B.KeyList.keys c.args.right.now in
+    let left = g.A.NumberList.keys c.args.left.now in
+    let keys = g.B.NumberList.keys c.args.right.now in
     let rows = c.deref.result.now in
     let keep = c.args.keep_unmatched in
     let many = right_many keys rows (subst (AreSortedRows keys) (sym c.deref.ensures.value) c.in_ok-rows.ensures) keep left in
@@ -29,8 +29,8 @@ returns-in_err-pairs g c =
 
 pub with_right_rows-requires-clause-places : goal.with_right_rows-requires-clause-places
 with_right_rows-requires-clause-places g c =
-    let left = g.A.KeyList.keys c.args.left.now in
-    let keys = g.B.KeyList.keys c.args.right.now in
+    let left = g.A.NumberList.keys c.args.left.now in
+    let keys = g.B.NumberList.keys c.args.right.now in
     let rows = c.deref.result.now in
     let same = c.deref.ensures.value ∙ sym c.deref-2.ensures.value in
     let sorted = subst (AreSortedRows keys) (sym c.deref.ensures.value) c.in_ok-rows.ensures in
@@ -38,13 +38,13 @@ with_right_rows-requires-clause-places g c =
 
 pub with_right_rows-requires-clause-rows : goal.with_right_rows-requires-clause-rows
 with_right_rows-requires-clause-rows g c =
-    let keys = g.B.KeyList.keys c.args.right.now in
+    let keys = g.B.NumberList.keys c.args.right.now in
     rows_few keys c.deref-2.result.now (subst (AreSortedRows keys) (sym c.deref-2.ensures.value) c.in_ok-rows.ensures) c.requires.right_few
 
 pub returns : goal.returns
 returns g c =
-    let left = g.A.KeyList.keys c.args.left.now in
-    let keys = g.B.KeyList.keys c.args.right.now in
+    let left = g.A.NumberList.keys c.args.left.now in
+    let keys = g.B.NumberList.keys c.args.right.now in
     let rows = c.deref.result.now in
     let keep = c.args.keep_unmatched in
     let ps = c.in_ok-pairs.pairs.items in
@@ -57,5 +57,5 @@ returns g c =
       settles = sym (as_long (number_listing keep left (keys_of rows)) list (right_many keys rows sorted keep left)) ∙ h.settles;
       pairs = subst (λ (l : List JoinPair). IsPermutation list l) (sym is) (way_permutation keep left keys);
       ascends = subst (λ (l : List JoinPair). IsSorted left_first l) (sym is) (way_sorted keep left keys);
-      merged = subst (λ (s : MergeSizes). IsMergeWithin c.args.exec.now s c.in_ok-pairs.merged) (right_sizes keys rows sorted left) h.merged;
+      merged = subst (λ (s : MergeSizes). IsMergeWithin s c.in_ok-pairs.merged) (right_sizes keys rows sorted left) h.merged;
     }

@@ -36,7 +36,6 @@ returns c =
     let vs = flat (chunk_lists c.lone_chunk-2.result.now) in
     let there = c.pairs_of_chunks.result in
     let keep = c.args.keep_unmatched in
-    let exec = c.args.exec.now in
-    subst (λ (f : SortedFirst). AreValuesMerged (order_after f) exec keep (values l) (values r) there) c.sorted_first.ensures
-    (subst (λ (xs : List Datum). AreValuesMerged (order_after c.sorted_first.result) exec keep xs (values r) there) (lone_list l (chunk_lists c.lone_chunk.result.now) c.lone_chunk.ensures.lists)
-    (subst (λ (xs : List Datum). AreValuesMerged (order_after c.sorted_first.result) exec keep us xs there) (lone_list r (chunk_lists c.lone_chunk-2.result.now) c.lone_chunk-2.ensures.lists) c.pairs_of_chunks.ensures))
+    subst (λ (f : SortedFirst). AreValuesMerged (order_after f) keep (values l) (values r) there) c.sorted_first.ensures
+    (subst (λ (xs : List Datum). AreValuesMerged (order_after c.sorted_first.result) keep xs (values r) there) (lone_list l (chunk_lists c.lone_chunk.result.now) c.lone_chunk.ensures.lists)
+    (subst (λ (xs : List Datum). AreValuesMerged (order_after c.sorted_first.result) keep us xs there) (lone_list r (chunk_lists c.lone_chunk-2.result.now) c.lone_chunk-2.ensures.lists) c.pairs_of_chunks.ensures))

@@ -33,4 +33,4 @@ returns-clause-found c =
 
 pub returns-clause-merged : goal.returns-clause-merged
 returns-clause-merged c =
-    subst (λ (s : MergeSizes). IsMergeWithin c.args.exec.now s c.in_ok-pairs.merged) (sizes_turned (values c.args.left.now) (values c.args.right.now)) c.in_ok-pairs.ensures.merged
+    subst (λ (s : MergeSizes). IsMergeWithin s c.in_ok-pairs.merged) (sizes_turned (values c.args.left.now) (values c.args.right.now)) c.in_ok-pairs.ensures.merged

@@ -4,4 +4,4 @@ use Rattle.tb_merge.specs.Keys.{key_at}
 use Rattle.tb_sorted.proofs.row_sorting.keys_with_rows.Given as goal
 
 abbrev pub invariant-loop-row : goal.invariant-loop-row
-invariant-loop-row g l = l.rows.items ≡ map (λ i. (key_at (g.K.KeyList.keys l.list) i, i)) (row_numbers l.row)
+invariant-loop-row g l = l.rows.items ≡ map (λ i. (key_at (g.K.NumberList.keys l.list) i, i)) (row_numbers l.row)

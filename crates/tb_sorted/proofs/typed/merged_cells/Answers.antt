@@ -49,9 +49,9 @@ returns-in-Neither g c =
     let rs = c.args.right.now.cells.now in
     let us = map (or_null shows) ls in
     let vs = map (or_null shows) rs in
-    subst (λ (f : SortedFirst). AreValuesMerged (order_after f) c.args.exec.now c.args.keep_unmatched us vs c.merged_lists.result) (sym c.in-Neither.is)
+    subst (λ (f : SortedFirst). AreValuesMerged (order_after f) c.args.keep_unmatched us vs c.merged_lists.result) (sym c.in-Neither.is)
     (merged_values us vs (numbers shows number law ls) (numbers shows number law rs) (cell_numbers shows number law ls c.requires.left) (cell_numbers shows number law rs c.requires.right)
-    ByLeft c.args.exec.now c.args.keep_unmatched c.merged_lists.result c.merged_lists.ensures)
+    ByLeft c.args.keep_unmatched c.merged_lists.result c.merged_lists.ensures)
 
 pub returns-in-Right : goal.returns-in-Right
 returns-in-Right g c =
@@ -62,9 +62,9 @@ returns-in-Right g c =
     let rs = c.args.right.now.cells.now in
     let us = map (or_null shows) ls in
     let vs = map (or_null shows) rs in
-    subst (λ (f : SortedFirst). AreValuesMerged (order_after f) c.args.exec.now c.args.keep_unmatched us vs c.right_sorted_lists.result) (sym c.in-Right.is)
+    subst (λ (f : SortedFirst). AreValuesMerged (order_after f) c.args.keep_unmatched us vs c.right_sorted_lists.result) (sym c.in-Right.is)
     (merged_values us vs (numbers shows number law ls) (numbers shows number law rs) (cell_numbers shows number law ls c.requires.left) (cell_numbers shows number law rs c.requires.right)
-    ByLeft c.args.exec.now c.args.keep_unmatched c.right_sorted_lists.result c.right_sorted_lists.ensures)
+    ByLeft c.args.keep_unmatched c.right_sorted_lists.result c.right_sorted_lists.ensures)
 
 pub returns-in-Left : goal.returns-in-Left
 returns-in-Left g c =
@@ -76,7 +76,7 @@ returns-in-Left g c =
     let us = map (or_null shows) ls in
     let vs = map (or_null shows) rs in
     let may = subst (λ (f : SortedFirst). MayMerge f c.args.keep_unmatched us vs) c.in-Left.is c.requires.may in
-    subst (λ (f : SortedFirst). AreValuesMerged (order_after f) c.args.exec.now c.args.keep_unmatched us vs c.left_sorted_lists.result) (sym c.in-Left.is)
-    (subst (λ (keep : Bool). AreValuesMerged Free c.args.exec.now keep us vs c.left_sorted_lists.result) (sym may.0)
+    subst (λ (f : SortedFirst). AreValuesMerged (order_after f) c.args.keep_unmatched us vs c.left_sorted_lists.result) (sym c.in-Left.is)
+    (subst (λ (keep : Bool). AreValuesMerged Free keep us vs c.left_sorted_lists.result) (sym may.0)
     (merged_values us vs (numbers shows number law ls) (numbers shows number law rs) (cell_numbers shows number law ls c.requires.left) (cell_numbers shows number law rs c.requires.right)
-    Free c.args.exec.now false c.left_sorted_lists.result c.left_sorted_lists.ensures))
+    Free false c.left_sorted_lists.result c.left_sorted_lists.ensures))

@@ -33,5 +33,5 @@ returns g c =
     let f = or_null g.N.Cell.shows in
     let left = one_list (λ k. map f k.cells.items) c.args.left.now c.index-left-0.result c.requires.left_one ∙ sym (ap (map f) c.deref.ensures.value) in
     let right = one_list (λ k. map f k.cells.items) c.args.right.now c.index-right-0.result c.requires.right_one ∙ sym (ap (map f) c.deref-2.ensures.value) in
-    subst (λ (us : List Datum). AreValuesMerged (order_after c.args.first) c.args.exec.now c.args.keep_unmatched us (flat (cell_lists g.N.Cell.shows c.args.right.now)) c.merged_cells.result) (sym left)
-    (subst (λ (vs : List Datum). AreValuesMerged (order_after c.args.first) c.args.exec.now c.args.keep_unmatched (map f c.deref.result.now) vs c.merged_cells.result) (sym right) c.merged_cells.ensures)
+    subst (λ (us : List Datum). AreValuesMerged (order_after c.args.first) c.args.keep_unmatched us (flat (cell_lists g.N.Cell.shows c.args.right.now)) c.merged_cells.result) (sym left)
+    (subst (λ (vs : List Datum). AreValuesMerged (order_after c.args.first) c.args.keep_unmatched (map f c.deref.result.now) vs c.merged_cells.result) (sym right) c.merged_cells.ensures)
