@@ -8,7 +8,7 @@ use tb_store::Series;
 use tb_value::PlSmallStr;
 
 /// Why a caller's object gave no answer.
-#[derive(Debug, Drop)]
+#[derive(PartialEq, Eq, Debug, Drop)]
 pub enum ExprFault {
     /// It refuses, with this number.
     Refused(u32),

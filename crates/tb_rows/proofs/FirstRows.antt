@@ -2,12 +2,12 @@
 use Rattle.std.proofs.Common.{◌≡◌, ◌∙◌, ◌<◌, ◌≤◌, ◌+◌, ℕ, zero, suc, Bool, true, false, cond, not, ◌||◌, eqb, List, [], ◌∷◌, ◌++◌, filter, get_or, length, map, refl, sym, ap, subst, arith, inl, inr, ⊎_elim}
 use Rattle.std.specs.Prelude.{◌⊎◌}
 use Rattle.std.specs.Cmp.{IsEquivalence}
-use Rattle.std.specs.List.{All, AllPairs, Any, list_any, position_or_len}
-use Rattle.std.proofs.lemmas.Bool.{both_ways, cases_lt, cond-true, cond-false, eq-eqb, ne_eqb, false_from_ne_true, not-true, not-false, or_left, or_right, or_parts, true_from_ne_false}
+use Rattle.std.specs.List.{All, AllPairs, list_any, position_or_len}
+use Rattle.std.proofs.lemmas.Bool.{both_ways, cases_lt, cond-true, cond-false, eq-eqb, ne_eqb, false_from_ne_true, not-true, not-false, or_left, or_right, or_parts}
 use Rattle.std.proofs.lemmas.List.{map-append, append-nil}
-use Rattle.std.proofs.lemmas.List.Elements.{All-filter, All-from_get_or, All-head, All-tail, filter-append}
+use Rattle.std.proofs.lemmas.List.Elements.{All-filter, All-head, All-tail, filter-append}
 use Rattle.std.proofs.lemmas.List.Folds.{Any-from_list_any, list_any-append, list_any_at, list_any_none, position_or_len_push}
-use Rattle.std.proofs.lemmas.List.FromFn.{get_or-range_with_len, length-range_with_len}
+use Rattle.std.proofs.lemmas.List.FromFn.{get_or-map-range_with_len, get_or-range_with_len, length-map-range_with_len, length-range_with_len}
 use Rattle.std.proofs.lemmas.List.Quantifiers.{all_pairs_push}
 use Rattle.std.proofs.lemmas.List.Sums.{fails_before_first, passes_at_first, position_or_len_is}
 use Rattle.tb_value.proofs.RowNumbers.{row_numbers_more}
@@ -165,6 +165,24 @@ module _ (test : ℕ → ℕ → Bool) (same : IsEquivalence test) where
           ne_eqb (group_of test n j) p (λ is.
           let here : group_of test n j < length (first_rows test n) = omega (arith, is, h) in
           both_ways (test (get_or (first_rows test n) p 0) j) e (ap (λ k. test (get_or (first_rows test n) k 0) j) (sym is) ∙ passes_at_first (λ i. test i j) (first_rows test n) 0 here))
+
+kept_few : (p : ℕ → Bool) (xs : List ℕ) → length (filter p xs) ≤ length xs
+kept_few p [] = omega arith
+kept_few p (x ∷ xs) = by (p x) (kept_few p xs)
+  where
+    by : (b : Bool) → length (filter p xs) ≤ length xs → length (cond b (x ∷ filter p xs) (filter p xs)) ≤ length (x ∷ xs)
+    by true h = omega (arith, h)
+    by false h = omega (arith, h)
+
+pub few_firsts : (test : ℕ → ℕ → Bool) (n : ℕ) → length (first_rows test n) ≤ n
+few_firsts test n = omega (arith, kept_few (is_first test) (row_numbers n), length-range_with_len 0 n)
+
+-- each row has the number of a group
+pub numbers_below : (test : ℕ → ℕ → Bool) → IsEquivalence test → (n : ℕ) → All (λ k. k < length (first_rows test n)) (map (group_of test n) (row_numbers n))
+numbers_below test same n = λ k d h.
+    let low : k < n = omega (arith, h, length-map-range_with_len (group_of test n) 0 n) in
+    let at : get_or (map (group_of test n) (row_numbers n)) k d ≡ group_of test n k = get_or-map-range_with_len (group_of test n) 0 n k k d low (omega arith) in
+    omega (arith, at, within (λ i. test i k) (first_rows test n) (covered test same n k low))
 
 pub firsts_below : (test : ℕ → ℕ → Bool) (n : ℕ) → All (λ i. i < n) (first_rows test n)
 firsts_below test n = All-filter (is_first test) (λ i. i < n) (row_numbers n) (rows_below n)

@@ -1,3 +1,9 @@
 pub mod FirstRows
+pub mod FirstsIn
 pub mod InOrder
+pub mod Listed
+pub mod MemberRows
+pub mod MemberSteps
+pub mod OwnRows
+pub mod Places
 pub mod RowKeys

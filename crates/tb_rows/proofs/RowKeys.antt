@@ -1,10 +1,11 @@
 -- Rows as keys in a set, one more at a time.
-use Rattle.std.proofs.Common.{◌≡◌, ◌∙◌, ◌+◌, ◌≤◌, ℕ, suc, Bool, true, false, cond, not, ◌&&◌, ◌||◌, List, [], ◌∷◌, ◌++◌, length, map, refl, sym, ap, arith}
+use Rattle.std.proofs.Common.{◌≡◌, ◌∙◌, ◌+◌, ◌<◌, ◌≤◌, ℕ, suc, Bool, true, false, cond, not, ◌&&◌, ◌||◌, List, [], ◌∷◌, ◌++◌, length, map, Result, Ok, Err, IfOk, refl, sym, ap, subst, arith}
 use Rattle.std.specs.Prelude.{if◌then◌else◌}
 use Rattle.std.specs.Borrow.{Bor}
 use Rattle.std.specs.Cmp.{IsEquivalence}
 use Rattle.std.specs.Cmp.Lexicographic.{pointwise}
-use Rattle.std.specs.List.{list_any, position_or_len}
+use Rattle.std.specs.List.{All, list_any, position_or_len}
+use Rattle.std.proofs.lemmas.List.FromFn.{length-map-range_with_len}
 use Rattle.std.proofs.lemmas.List.{append-nil, map-append}
 use Rattle.indexmap.specs.IndexSet.{insert_key}
 use Rattle.tb_value.specs.Datum.{Datum}
@@ -13,9 +14,14 @@ use Rattle.tb_value.specs.Proved.ValueTests.{pulled}
 use Rattle.tb_value.specs.Same.{same}
 use Rattle.tb_chunk.specs.Col.{Col, values}
 use Rattle.tb_rows.specs.Grouped.{AreGroups}
+use Rattle.tb_rows.specs.InGroups.{named_rows}
+use Rattle.tb_rows.specs.Members.{AreNamed}
+use Rattle.tb_rows.specs.Proved.KeyTests.{fields_equiv}
+use Rattle.tb_rows.specs.declared.members.RowNames.{RowNames}
+use Rattle.tb_rows.specs.declared.members.RowNames.TheVariants.{From, Listed}
 use Rattle.tb_rows.specs.declared.groups.Groups.{Groups}
 use Rattle.tb_rows.specs.Rows.{first_rows, group_of, is_first, same_rows, value_at}
-use Rattle.tb_rows.proofs.FirstRows.{first_any, firsts_more, groups_more}
+use Rattle.tb_rows.proofs.FirstRows.{few_firsts, first_any, firsts_more, groups_more, numbers_below}
 
 any-map : {X Y : Type 0} (p : Y → Bool) (f : X → Y) (xs : List X) → list_any p (map f xs) ≡ list_any (λ x. p (f x)) xs
 any-map p f [] = refl
@@ -84,11 +90,44 @@ fields_same i j (c ∷ cs) = ap (λ b. same (value_at (values c.now) i) (value_a
 pub rows_test : (cs : List (Bor Col)) → same_at cs ≡ same_rows (map (λ (c : Bor Col). values c.now) cs)
 rows_test cs = λ t i j. fields_same i j cs t
 
-pub groups_are : (cs : List (Bor Col)) (g : Groups) (n h : ℕ) → n ≡ h → g.firsts.items ≡ first_rows (same_at cs) n → g.numbers.items ≡ map (group_of (same_at cs) n) (row_numbers n) → AreGroups (same_rows (map (λ (c : Bor Col). values c.now) cs)) h g
-groups_are cs g n h done firsts numbers = record {
-  firsts = firsts ∙ (λ t. first_rows (rows_test cs t) (done t));
-  numbers = numbers ∙ (λ t. map (group_of (rows_test cs t) (done t)) (row_numbers (done t)));
+-- rows that are called so are groups by the lists of the columns where they are by the fields
+pub groups_are : (cs : List (Bor Col)) (name : ℕ → ℕ) (g : Groups) (n h : ℕ) → n ≡ h → g.firsts.items ≡ first_rows (named_rows name (same_at cs)) n
+    → g.numbers.items ≡ map (group_of (named_rows name (same_at cs)) n) (row_numbers n)
+    → AreGroups (named_rows name (same_rows (map (λ (c : Bor Col). values c.now) cs))) h g
+groups_are cs name g n h done firsts numbers = record {
+  firsts = firsts ∙ (λ t. first_rows (named_rows name (rows_test cs t)) (done t));
+  numbers = numbers ∙ (λ t. map (group_of (named_rows name (rows_test cs t)) (done t)) (row_numbers (done t)));
 }
+
+-- and so are what a call made of such firsts and numbers
+pub groups_made : {E : Type 0} (cs : List (Bor Col)) (name : ℕ → ℕ) (made : Result Groups E) (firsts numbers : List ℕ) (n h : ℕ) → n ≡ h
+    → firsts ≡ first_rows (named_rows name (same_at cs)) n → numbers ≡ map (group_of (named_rows name (same_at cs)) n) (row_numbers n)
+    → IfOk made (λ g. g.firsts.items ≡ firsts) → IfOk made (λ g. g.numbers.items ≡ numbers)
+    → IfOk made (AreGroups (named_rows name (same_rows (map (λ (c : Bor Col). values c.now) cs))) h)
+groups_made cs name (Ok g) firsts numbers n h done firsts_are numbers_are f k = groups_are cs name g n h done (f ∙ firsts_are) (k ∙ numbers_are)
+groups_made cs name (Err e) firsts numbers n h done firsts_are numbers_are f k = tt
+
+pub same_named : (cs : List (Bor Col)) (name : ℕ → ℕ) → IsEquivalence (named_rows name (same_at cs))
+same_named cs name = pulled (λ i. fields_at cs (name i)) fields_equiv
+
+-- each row has the number of a group, and there are no more groups than rows
+module _ (cs : List (Bor Col)) (name : ℕ → ℕ) (n : ℕ) (firsts numbers : List ℕ)
+    (firsts_are : firsts ≡ first_rows (named_rows name (same_at cs)) n) (numbers_are : numbers ≡ map (group_of (named_rows name (same_at cs)) n) (row_numbers n)) where
+  pub numbers_fit : All (λ k. k < length firsts) numbers
+  numbers_fit =
+      let test : ℕ → ℕ → Bool = named_rows name (same_at cs) in
+      subst (λ (ns : List ℕ). All (λ k. k < length firsts) ns) (sym numbers_are)
+      (subst (λ (fs : List ℕ). All (λ k. k < length fs) (map (group_of test n) (row_numbers n))) (sym firsts_are) (numbers_below test (same_named cs name) n))
+
+  pub numbers_long : length numbers ≡ n
+  numbers_long = ap length numbers_are ∙ length-map-range_with_len (group_of (named_rows name (same_at cs)) n) 0 n
+
+  pub firsts_few : length firsts ≤ n
+  firsts_few = omega (arith, ap length firsts_are, few_firsts (named_rows name (same_at cs)) n)
+
+pub named_few : (names : RowNames) (n : ℕ) → AreNamed names n → n ≤ 4294967294
+named_few (From first) n h = omega (arith, h)
+named_few (Listed rows) n h = h.1
 
 pub few_more : (old new n : ℕ) (b : Bool) → new ≡ old + (if b then 1 else 0) → old ≤ n → new ≤ n + 1
 few_more old new n true e few = omega (arith, e, few)

@@ -1,5 +1,5 @@
 -- Rows as keys, and what their hash feeds a hasher.
-use Rattle.std.specs.Prelude.{ℕ, List, ◌++◌, map}
+use Rattle.std.specs.Prelude.{List, ◌++◌, map}
 use Rattle.std.specs.Borrow.{Bor}
 use Rattle.std.specs.Hash.{HashWrites}
 use Rattle.std.specs.Hash as fed

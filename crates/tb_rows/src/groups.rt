@@ -1,13 +1,10 @@
-//! Rows in groups.
-ghost use Rattle.std.specs.Prelude.{◌≡◌, ◌≤◌, ◌∷◌, [], ◌++◌, IfOk, OnOk, cond, length, map};
-ghost use Rattle.tb_chunk.specs.Col.{values};
-ghost use Rattle.tb_rows.specs.Grouped.{AreGroups};
-ghost use Rattle.tb_rows.specs.Rows.{same_rows};
+//! The groups of rows.
+ghost use Rattle.std.specs.Prelude.{◌≡◌, ◌≤◌, ◌<◌, All, IfOk, length, map};
+ghost use Rattle.tb_value.specs.Pairs.{row_numbers};
+ghost use Rattle.tb_rows.specs.Members.{numbered_rows};
 
-use crate::row_key::RowKey;
-use indexmap::IndexSet;
+use crate::members::{Members, rows_by_number};
 use std::alloc::Global;
-use tb_store::Series;
 use tb_value::{IdxSize, MAX_ROWS, OutOfMemory};
 
 /// Rows in groups, in the order of the groups' first rows.
@@ -15,9 +12,38 @@ use tb_value::{IdxSize, MAX_ROWS, OutOfMemory};
 pub struct Groups {
     firsts: Vec<IdxSize>,
     numbers: Vec<IdxSize>,
+    members: Members,
+    ghost whole: { members ≡ map (numbered_rows numbers.items) (row_numbers (length firsts.items)) },
 }
 
 impl Groups {
+    /// The groups with these first rows, where each row has the number of one.
+    pub(crate) fn of_numbers(
+        alloc: Global,
+        firsts: Vec<IdxSize>,
+        numbers: Vec<IdxSize>,
+    ) -> Result<Groups, OutOfMemory>
+        requires below { All (λ k. k < length firsts.items) numbers.items }
+        requires few { length numbers.items ≤ MAX_ROWS }
+        requires fewer { length firsts.items ≤ MAX_ROWS }
+        ensures firsts { IfOk result (λ g. g.firsts.items ≡ firsts.items) }
+        ensures numbers { IfOk result (λ g. g.numbers.items ≡ numbers.items) }
+    {
+        let members = rows_by_number(alloc, &numbers, firsts.len() as u32)?;
+        Ok(Groups {
+            firsts,
+            numbers,
+            members,
+        })
+    }
+
+    /// How many groups there are.
+    pub fn len(&self) -> usize
+        ensures { result ≡ length self.now.firsts.items }
+    {
+        self.firsts.len()
+    }
+
     /// The first row of each group.
     pub fn firsts(&self) -> &[IdxSize]
         ensures { result.now ≡ self.now.firsts.items }
@@ -31,36 +57,12 @@ impl Groups {
     {
         &self.numbers
     }
-}
 
-// Appends a row where it is the first of its group.
-fn push_first(firsts: &mut Vec<IdxSize>, row: IdxSize, is_first: bool) -> Result<(), OutOfMemory>
-    ensures { OnOk result (firsts.new.items ≡ firsts.old.items ++ cond is_first (row ∷ []) []) }
-{
-    if !is_first {
-        return Ok(());
+    /// The rows of a group, ascending.
+    pub fn rows(&self, group: usize) -> &[IdxSize]
+        requires { group < length self.now.firsts.items }
+        ensures { result.now ≡ numbered_rows self.now.numbers.items group }
+    {
+        self.members.rows(group)
     }
-    firsts.push(row)?;
-    Ok(())
-}
-
-/// Rows `0..height` in groups of the same values of the columns, Null the same as Null; past the end of a column its
-/// values are Null. A value is found in at most as many steps as its column has chunks.
-///
-/// # Errors
-///
-/// `OutOfMemory` where memory is wanting.
-pub fn group_rows(alloc: Global, columns: &[&Series], height: usize) -> Result<Groups, OutOfMemory>
-    requires { height ≤ MAX_ROWS }
-    ensures { IfOk result (AreGroups (same_rows (map (λ c. values c.now) columns.now)) height) }
-{
-    let mut keys = IndexSet::new(alloc);
-    let mut firsts = Vec::new(alloc);
-    let mut numbers = Vec::with_capacity(alloc, height)?;
-    for row in 0..height {
-        let (number, is_first) = keys.insert_full(RowKey { columns, row })?;
-        push_first(&mut firsts, row as IdxSize, is_first)?;
-        numbers.push(number as IdxSize)?;
-    }
-    Ok(Groups { firsts, numbers })
 }

@@ -1,8 +1,12 @@
 //! Rows that have the same values in some columns, in groups, and lists put in an order.
 #![tactic(auto)]
 
+mod grouping;
 mod groups;
 pub mod laws;
+mod members;
 mod row_key;
 
-pub use groups::{Groups, group_rows};
+pub use grouping::{group_listed, group_rows};
+pub use groups::Groups;
+pub use members::RowNames;

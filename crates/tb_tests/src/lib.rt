@@ -6,6 +6,8 @@ mod columns;
 #[cfg(test)]
 mod counted;
 #[cfg(test)]
+mod grouping;
+#[cfg(test)]
 mod merging;
 #[cfg(test)]
 mod pivoting;

@@ -150,6 +150,7 @@ fn an_object_refuses_to_name_a_column(rt: HostRuntime) -> Result<(), Fail> {
         name: None,
         code: 3,
     };
+    assert!(rt; nameless.root_name().err() == Some(ExprFault::Refused(3)));
     let agg = PivotAgg::Expr(Box::new(alloc, nameless)?);
     assert!(rt; is_refused_for(alloc, &agg, ComputeCause::Evaluate(3))?);
     Ok(())
