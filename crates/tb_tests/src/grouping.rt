@@ -10,10 +10,10 @@ use tb_rows::{Groups, group_listed};
 // Whether the rows are in two groups: the first two, and the third.
 fn are_two_groups(groups: &Groups) -> bool {
     groups.len() == 2
-        && groups.firsts() == [0, 2]
-        && groups.numbers() == [0, 0, 1]
-        && groups.rows(0) == [0, 1]
-        && groups.rows(1) == [2]
+        && groups.firsts() == [0, 2].as_slice()
+        && groups.numbers() == [0, 0, 1].as_slice()
+        && groups.rows(0) == [0, 1].as_slice()
+        && groups.rows(1) == [2].as_slice()
 }
 
 fn two_kinds(alloc: Global) -> Result<DataFrame, Fail> {

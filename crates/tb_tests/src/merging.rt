@@ -129,7 +129,14 @@ fn lists_without_keys_take_no_comparison(rt: HostRuntime) -> Result<(), Fail> {
 fn many_workers_pass_each_right_key_once(rt: HostRuntime) -> Result<(), Fail> {
     let left = [7i64; 2_048];
     let right = [5i64; 64];
-    let (pairs, merge) = merged(&rt, rt.alloc(), left.as_slice(), right.as_slice(), true, 1_024)?;
+    let (pairs, merge) = merged(
+        &rt,
+        rt.alloc(),
+        left.as_slice(),
+        right.as_slice(),
+        true,
+        1_024,
+    )?;
     assert_eq!(rt; pairs.len(), 2_048);
     assert_eq!(rt; merge.comparisons(), 64);
     Ok(())
