@@ -1,10 +1,11 @@
 -- How many nulls there are.
-use Rattle.std.proofs.Common.{zero, suc, ◌≡◌, ◌∙◌, ◌+◌, ℕ, ◌≤◌, ◌<◌, ◌++◌, false, List, [], ◌∷◌, length, map, replicate, Option, Some, None, refl, ap, get_or, drop, length-append}
+use Rattle.std.proofs.Common.{arith, zero, suc, ◌≡◌, ◌∙◌, ◌+◌, ℕ, ◌≤◌, ◌<◌, ◌++◌, false, List, [], ◌∷◌, length, map, replicate, Option, Some, None, refl, ap, get_or, drop, length-append}
 use Rattle.std.proofs.lemmas.List.Elements.{filter-append}
 use Rattle.std.proofs.lemmas.List.Sums.{length-filter, count_by-le-length}
 use Rattle.std.specs.List.{count_by}
 use Rattle.std.specs.Prelude.{filter, is_none}
 use Rattle.tb_value.specs.Datum.{Datum, null, is_null}
+use Rattle.tb_value.proofs.Unique.{count_by-cons}
 use Rattle.tb_chunk.specs.Chunk.{or_null}
 use Rattle.tb_chunk.specs.Col.{flat}
 use Rattle.tb_chunk.specs.Flag.{nulls}
@@ -33,3 +34,10 @@ module _ {N : Type 0} (shows : N → Datum) (some : (cell : N) → is_null (show
 
   pub nulls_of_cells : (cells : List (Option N)) → length (nulls (map (or_null shows) cells)) ≡ count_by is_none cells
   nulls_of_cells cells = absent_nulls cells ∙ length-filter is_none cells
+
+-- values that are there are no nulls
+pub nulls_behind : {N : Type 0} (xs : List N) (ys : List (Option N)) → count_by is_none (map Some xs ++ ys) ≡ count_by is_none ys
+nulls_behind [] ys = refl
+nulls_behind (x ∷ xs) ys =
+    let step : count_by is_none (Some x ∷ (map Some xs ++ ys)) ≡ 0 + count_by is_none (map Some xs ++ ys) = count_by-cons is_none (Some x) (map Some xs ++ ys) in
+    omega (arith, step, nulls_behind xs ys)

@@ -27,20 +27,20 @@ texts_viewed views buffers shows cs =
 
 -- the chunks of a column have as many views as values
 pub chunks_viewed : (c : Chunks) → AreViewed (chunk_lists c) (chunk_runs c)
-chunks_viewed (BooleanType v) = cells_viewed (λ c. c.cells.items) boolean v.items
-chunks_viewed (Int8Type v) = cells_viewed (λ c. c.cells.items) int v.items
-chunks_viewed (Int16Type v) = cells_viewed (λ c. c.cells.items) int v.items
-chunks_viewed (Int32Type v) = cells_viewed (λ c. c.cells.items) int v.items
-chunks_viewed (Int64Type v) = cells_viewed (λ c. c.cells.items) int v.items
-chunks_viewed (Int128Type v) = cells_viewed (λ c. c.cells.items) int v.items
-chunks_viewed (UInt8Type v) = cells_viewed (λ c. c.cells.items) (λ n. int (pos n)) v.items
-chunks_viewed (UInt16Type v) = cells_viewed (λ c. c.cells.items) (λ n. int (pos n)) v.items
-chunks_viewed (UInt32Type v) = cells_viewed (λ c. c.cells.items) (λ n. int (pos n)) v.items
-chunks_viewed (UInt64Type v) = cells_viewed (λ c. c.cells.items) (λ n. int (pos n)) v.items
+chunks_viewed (BooleanType v) = cells_viewed (λ c. c) boolean v.items
+chunks_viewed (Int8Type v) = cells_viewed (λ c. c) int v.items
+chunks_viewed (Int16Type v) = cells_viewed (λ c. c) int v.items
+chunks_viewed (Int32Type v) = cells_viewed (λ c. c) int v.items
+chunks_viewed (Int64Type v) = cells_viewed (λ c. c) int v.items
+chunks_viewed (Int128Type v) = cells_viewed (λ c. c) int v.items
+chunks_viewed (UInt8Type v) = cells_viewed (λ c. c) (λ n. int (pos n)) v.items
+chunks_viewed (UInt16Type v) = cells_viewed (λ c. c) (λ n. int (pos n)) v.items
+chunks_viewed (UInt32Type v) = cells_viewed (λ c. c) (λ n. int (pos n)) v.items
+chunks_viewed (UInt64Type v) = cells_viewed (λ c. c) (λ n. int (pos n)) v.items
 chunks_viewed (StringType v) = texts_viewed (λ c. c.inner.views.items) (λ c. c.inner.buffers.items) string v.items
 chunks_viewed (BinaryType v) = texts_viewed (λ c. c.inner.views.items) (λ c. c.inner.buffers.items) binary v.items
-chunks_viewed (ListType v) = cells_viewed (λ c. c.inner.cells.items) (λ vs. list (items_of vs)) v.items
-chunks_viewed (StructType v) = cells_viewed (λ c. c.inner.cells.items) (λ s. struct (items_of s.values)) v.items
+chunks_viewed (ListType v) = cells_viewed (λ c. c.inner) (λ vs. list (items_of vs)) v.items
+chunks_viewed (StructType v) = cells_viewed (λ c. c.inner) (λ s. struct (items_of s.values)) v.items
 chunks_viewed (Null v) =
     runs_viewed (λ n. replicate n null) (λ n. replicate n None) (λ _. [])
     (λ n. length-replicate n None ∙ sym (length-replicate n null)) v.items
@@ -51,18 +51,18 @@ cells_few cells shows cs one = one_few (λ c. map (λ _. None) (cells c)) (λ _.
 
 -- at most one chunk has few buffers
 pub one_chunk_few : (c : Chunks) → length (chunk_lists c) ≤ 1 → HaveFewBuffers (chunk_runs c)
-one_chunk_few (BooleanType v) one = cells_few (λ c. c.cells.items) boolean v.items one
-one_chunk_few (Int8Type v) one = cells_few (λ c. c.cells.items) int v.items one
-one_chunk_few (Int16Type v) one = cells_few (λ c. c.cells.items) int v.items one
-one_chunk_few (Int32Type v) one = cells_few (λ c. c.cells.items) int v.items one
-one_chunk_few (Int64Type v) one = cells_few (λ c. c.cells.items) int v.items one
-one_chunk_few (Int128Type v) one = cells_few (λ c. c.cells.items) int v.items one
-one_chunk_few (UInt8Type v) one = cells_few (λ c. c.cells.items) (λ n. int (pos n)) v.items one
-one_chunk_few (UInt16Type v) one = cells_few (λ c. c.cells.items) (λ n. int (pos n)) v.items one
-one_chunk_few (UInt32Type v) one = cells_few (λ c. c.cells.items) (λ n. int (pos n)) v.items one
-one_chunk_few (UInt64Type v) one = cells_few (λ c. c.cells.items) (λ n. int (pos n)) v.items one
+one_chunk_few (BooleanType v) one = cells_few (λ c. c) boolean v.items one
+one_chunk_few (Int8Type v) one = cells_few (λ c. c) int v.items one
+one_chunk_few (Int16Type v) one = cells_few (λ c. c) int v.items one
+one_chunk_few (Int32Type v) one = cells_few (λ c. c) int v.items one
+one_chunk_few (Int64Type v) one = cells_few (λ c. c) int v.items one
+one_chunk_few (Int128Type v) one = cells_few (λ c. c) int v.items one
+one_chunk_few (UInt8Type v) one = cells_few (λ c. c) (λ n. int (pos n)) v.items one
+one_chunk_few (UInt16Type v) one = cells_few (λ c. c) (λ n. int (pos n)) v.items one
+one_chunk_few (UInt32Type v) one = cells_few (λ c. c) (λ n. int (pos n)) v.items one
+one_chunk_few (UInt64Type v) one = cells_few (λ c. c) (λ n. int (pos n)) v.items one
 one_chunk_few (StringType v) one = one_few (λ c. c.inner.views.items) (λ c. c.inner.buffers.items) (λ c. map (or_null string) (texts c.inner.buffers.items c.inner.views.items)) (λ c. c.inner.few) v.items one
 one_chunk_few (BinaryType v) one = one_few (λ c. c.inner.views.items) (λ c. c.inner.buffers.items) (λ c. map (or_null binary) (texts c.inner.buffers.items c.inner.views.items)) (λ c. c.inner.few) v.items one
-one_chunk_few (ListType v) one = cells_few (λ c. c.inner.cells.items) (λ vs. list (items_of vs)) v.items one
-one_chunk_few (StructType v) one = cells_few (λ c. c.inner.cells.items) (λ s. struct (items_of s.values)) v.items one
+one_chunk_few (ListType v) one = cells_few (λ c. c.inner) (λ vs. list (items_of vs)) v.items one
+one_chunk_few (StructType v) one = cells_few (λ c. c.inner) (λ s. struct (items_of s.values)) v.items one
 one_chunk_few (Null v) one = one_few (λ n. replicate n None) (λ _. []) (λ n. replicate n null) (λ _. omega arith) v.items one

@@ -7,18 +7,18 @@ use Rattle.tb_chunk.specs.declared.chunks.Chunks.TheVariants.{BooleanType, Int8T
 
 -- the views of each chunk, and the buffers that they stand over
 abbrev pub chunk_runs : Chunks → List ViewRun
-chunk_runs (BooleanType v) = map (λ c. no_views c.cells.items) v.items
-chunk_runs (Int8Type v) = map (λ c. no_views c.cells.items) v.items
-chunk_runs (Int16Type v) = map (λ c. no_views c.cells.items) v.items
-chunk_runs (Int32Type v) = map (λ c. no_views c.cells.items) v.items
-chunk_runs (Int64Type v) = map (λ c. no_views c.cells.items) v.items
-chunk_runs (Int128Type v) = map (λ c. no_views c.cells.items) v.items
-chunk_runs (UInt8Type v) = map (λ c. no_views c.cells.items) v.items
-chunk_runs (UInt16Type v) = map (λ c. no_views c.cells.items) v.items
-chunk_runs (UInt32Type v) = map (λ c. no_views c.cells.items) v.items
-chunk_runs (UInt64Type v) = map (λ c. no_views c.cells.items) v.items
+chunk_runs (BooleanType v) = map (λ c. no_views c) v.items
+chunk_runs (Int8Type v) = map (λ c. no_views c) v.items
+chunk_runs (Int16Type v) = map (λ c. no_views c) v.items
+chunk_runs (Int32Type v) = map (λ c. no_views c) v.items
+chunk_runs (Int64Type v) = map (λ c. no_views c) v.items
+chunk_runs (Int128Type v) = map (λ c. no_views c) v.items
+chunk_runs (UInt8Type v) = map (λ c. no_views c) v.items
+chunk_runs (UInt16Type v) = map (λ c. no_views c) v.items
+chunk_runs (UInt32Type v) = map (λ c. no_views c) v.items
+chunk_runs (UInt64Type v) = map (λ c. no_views c) v.items
 chunk_runs (StringType v) = map (λ c. record { views = c.inner.views.items; buffers = c.inner.buffers.items }) v.items
 chunk_runs (BinaryType v) = map (λ c. record { views = c.inner.views.items; buffers = c.inner.buffers.items }) v.items
-chunk_runs (ListType v) = map (λ c. no_views c.inner.cells.items) v.items
-chunk_runs (StructType v) = map (λ c. no_views c.inner.cells.items) v.items
+chunk_runs (ListType v) = map (λ c. no_views c.inner) v.items
+chunk_runs (StructType v) = map (λ c. no_views c.inner) v.items
 chunk_runs (Null v) = map (λ n. record { views = replicate n None; buffers = [] }) v.items

@@ -10,20 +10,20 @@ use Rattle.tb_chunk.specs.declared.chunks.Chunks.TheVariants.{BooleanType, Int8T
 
 -- the values of each chunk
 abbrev pub chunk_lists : Chunks → List (List Datum)
-chunk_lists (BooleanType v) = map (λ c. map (or_null boolean) c.cells.items) v.items
-chunk_lists (Int8Type v) = map (λ c. map (or_null int) c.cells.items) v.items
-chunk_lists (Int16Type v) = map (λ c. map (or_null int) c.cells.items) v.items
-chunk_lists (Int32Type v) = map (λ c. map (or_null int) c.cells.items) v.items
-chunk_lists (Int64Type v) = map (λ c. map (or_null int) c.cells.items) v.items
-chunk_lists (Int128Type v) = map (λ c. map (or_null int) c.cells.items) v.items
-chunk_lists (UInt8Type v) = map (λ c. map (or_null (λ n. int (pos n))) c.cells.items) v.items
-chunk_lists (UInt16Type v) = map (λ c. map (or_null (λ n. int (pos n))) c.cells.items) v.items
-chunk_lists (UInt32Type v) = map (λ c. map (or_null (λ n. int (pos n))) c.cells.items) v.items
-chunk_lists (UInt64Type v) = map (λ c. map (or_null (λ n. int (pos n))) c.cells.items) v.items
+chunk_lists (BooleanType v) = map (λ c. map (or_null boolean) c) v.items
+chunk_lists (Int8Type v) = map (λ c. map (or_null int) c) v.items
+chunk_lists (Int16Type v) = map (λ c. map (or_null int) c) v.items
+chunk_lists (Int32Type v) = map (λ c. map (or_null int) c) v.items
+chunk_lists (Int64Type v) = map (λ c. map (or_null int) c) v.items
+chunk_lists (Int128Type v) = map (λ c. map (or_null int) c) v.items
+chunk_lists (UInt8Type v) = map (λ c. map (or_null (λ n. int (pos n))) c) v.items
+chunk_lists (UInt16Type v) = map (λ c. map (or_null (λ n. int (pos n))) c) v.items
+chunk_lists (UInt32Type v) = map (λ c. map (or_null (λ n. int (pos n))) c) v.items
+chunk_lists (UInt64Type v) = map (λ c. map (or_null (λ n. int (pos n))) c) v.items
 chunk_lists (StringType v) = map (λ c. map (or_null string) (texts_of c)) v.items
 chunk_lists (BinaryType v) = map (λ c. map (or_null binary) (bytes_of c)) v.items
-chunk_lists (ListType v) = map (λ c. map (or_null (λ vs. list (items_of vs))) c.inner.cells.items) v.items
-chunk_lists (StructType v) = map (λ c. map (or_null (λ s. struct (items_of s.values))) c.inner.cells.items) v.items
+chunk_lists (ListType v) = map (λ c. map (or_null (λ vs. list (items_of vs))) c.inner) v.items
+chunk_lists (StructType v) = map (λ c. map (or_null (λ s. struct (items_of s.values))) c.inner) v.items
 chunk_lists (Null v) = map (λ n. replicate n null) v.items
 
 -- the physical type that the variant is for

@@ -16,7 +16,6 @@ ghost use Rattle.std.proofs.Common.{arith, rules};
 ghost use Rattle.std.proofs.Props.{props};
 ghost use Rattle.std.proofs.lemmas.List.{length-map, length-replicate};
 
-use crate::cell::Cell;
 use crate::view_chunk::ViewChunk;
 use std::alloc::Global;
 use tb_value::{AnyValue, OutOfMemory, ValueRef};
@@ -126,128 +125,6 @@ pub trait Chunk: Drop {
     ghost viewed: { (c : Self) → length (views c) ≡ length (shown c) };
 
     ghost few: { (c : Self) → length (buffers c) < 2 ^ 32 };
-}
-
-/// Optional values, each stored as it is; `None` is Null.
-#[derive(Drop)]
-pub struct Cells<N> {
-    pub cells: Vec<Option<N>>,
-}
-
-impl<N: Cell> Chunk for Cells<N> {
-    ghost shown = { λ c. map (or_null N.shows) c.cells.items };
-
-    ghost buffers = { λ _. [] };
-
-    ghost views = { λ c. map (λ _. None) c.cells.items };
-
-    ghost kind = { N.kind };
-
-    ghost viewed = { λ c. Prim.search (rules, length-map, length-replicate) };
-
-    ghost few = { λ _. omega arith };
-
-    fn len(&self) -> usize {
-        self.cells.len()
-    }
-
-    fn null_count(&self) -> usize {
-        absent_in(&self.cells)
-    }
-
-    fn buffer_count(&self) -> usize {
-        0
-    }
-
-    fn value(&self, row: usize) -> ValueRef<'_> {
-        match &self.cells[row] {
-            None => ValueRef::Null,
-            Some(cell) => cell.lend(),
-        }
-    }
-
-    fn from_values(alloc: Global, values: &[AnyValue]) -> Result<Cells<N>, OutOfMemory> {
-        let mut cells = Vec::with_capacity(alloc, values.len())?;
-        for value in values {
-            cells.push(cell_of(alloc, value)?)?;
-        }
-        Ok(Cells { cells })
-    }
-
-    fn copy(&self, alloc: Global) -> Result<Cells<N>, OutOfMemory> {
-        let mut cells = Vec::with_capacity(alloc, self.cells.len())?;
-        for cell in &self.cells {
-            cells.push(copy_cell(alloc, cell)?)?;
-        }
-        Ok(Cells { cells })
-    }
-
-    fn empty(alloc: Global) -> Cells<N> {
-        Cells {
-            cells: Vec::new(alloc),
-        }
-    }
-
-    fn with_capacity(alloc: Global, rows: usize) -> Result<Cells<N>, OutOfMemory> {
-        Ok(Cells {
-            cells: Vec::with_capacity(alloc, rows)?,
-        })
-    }
-
-    fn long_buffer(&self, _row: usize) -> Option<u32> {
-        None
-    }
-
-    fn add_buffer(
-        &mut self,
-        _alloc: Global,
-        _other: &Cells<N>,
-        _number: u32,
-    ) -> Result<(), OutOfMemory> {
-        Ok(())
-    }
-
-    fn push_from(
-        &mut self,
-        alloc: Global,
-        other: &Cells<N>,
-        _number: Option<u32>,
-        row: usize,
-    ) -> Result<(), OutOfMemory> {
-        let cell = copy_cell(alloc, &other.cells[row])?;
-        self.cells.push(cell)?;
-        Ok(())
-    }
-
-    fn push_null(&mut self) -> Result<(), OutOfMemory> {
-        self.cells.push(None)?;
-        Ok(())
-    }
-}
-
-fn absent_in<N>(cells: &[Option<N>]) -> usize
-    ensures { result ≡ count_by is_none cells.now }
-{
-    cells.iter().filter(|cell| cell.is_none()).count()
-}
-
-pub(crate) fn cell_of<N: Cell>(alloc: Global, value: &AnyValue) -> Result<Option<N>, OutOfMemory>
-    requires { Fits N.kind (datum value.now) }
-    ensures { IfOk result (λ c. or_null N.shows c ≡ datum value.now) }
-{
-    match value {
-        AnyValue::Null => Ok(None),
-        _ => Ok(Some(N::from_value(alloc, value)?)),
-    }
-}
-
-pub(crate) fn copy_cell<N: Cell>(alloc: Global, cell: &Option<N>) -> Result<Option<N>, OutOfMemory>
-    ensures { IfOk result (λ c. or_null N.shows c ≡ or_null N.shows cell.now) }
-{
-    match cell {
-        None => Ok(None),
-        Some(cell) => Ok(Some(cell.copy(alloc)?)),
-    }
 }
 
 // Nulls alone, of which the number is kept.

@@ -8,7 +8,8 @@ ghost use Rattle.tb_chunk.specs.Runs.{chunk_runs};
 ghost use Rattle.tb_chunk.specs.Seen.{chunk_lists, storage};
 ghost use Rattle.tb_chunk.specs.Whole.{AreViewed, runs_of};
 
-use crate::chunk::{Cells, Chunk, StringChunk};
+use crate::cells::Cells;
+use crate::chunk::{Chunk, StringChunk};
 use crate::each::for_chunks;
 use crate::owned_chunks::{BinaryChunk, ListChunk, StructChunk};
 use crate::stored::Stored;

@@ -5,6 +5,7 @@
 mod arrange;
 mod builders;
 mod cell;
+mod cells;
 mod chunk;
 mod chunks;
 mod each;
@@ -28,7 +29,8 @@ mod view_chunk;
 
 pub use builders::{BinaryBuilder, StringBuilder};
 pub use cell::{Cell, FieldValues};
-pub use chunk::{Cells, Chunk, StringChunk};
+pub use cells::Cells;
+pub use chunk::{Chunk, StringChunk};
 pub use chunks::{Chunks, copy_chunks, nulls_in, rows_in, value_in};
 pub use grow::join_one;
 pub use growing::Growing;

@@ -13,7 +13,8 @@ ghost use Rattle.tb_chunk.specs.Seen.{chunk_lists, storage};
 ghost use Rattle.tb_chunk.specs.Stored.{AreMade};
 ghost use Rattle.tb_chunk.specs.Whole.{runs_of, HaveFewBuffers};
 
-use crate::chunk::{Cells, Chunk, StringChunk};
+use crate::cells::Cells;
+use crate::chunk::{Chunk, StringChunk};
 use crate::chunks::Chunks;
 use crate::owned_chunks::{BinaryChunk, ListChunk, StructChunk};
 use crate::stored::Stored;

@@ -8,7 +8,8 @@ ghost use Rattle.tb_chunk.specs.Chunk.{or_null};
 ghost use Rattle.tb_chunk.specs.View.{texts};
 
 use crate::cell::FieldValues;
-use crate::chunk::{Cells, Chunk};
+use crate::cells::Cells;
+use crate::chunk::Chunk;
 use crate::view_chunk::ViewChunk;
 use std::alloc::Global;
 use tb_value::{AnyValue, OutOfMemory, ValueRef, Values};
@@ -110,11 +111,11 @@ pub struct ListChunk {
 }
 
 impl Chunk for ListChunk {
-    ghost shown = { λ c. map (or_null (λ vs. list (items_of vs))) c.inner.cells.items };
+    ghost shown = { λ c. map (or_null (λ vs. list (items_of vs))) c.inner };
 
     ghost buffers = { λ _. [] };
 
-    ghost views = { λ c. map (λ _. None) c.inner.cells.items };
+    ghost views = { λ c. map (λ _. None) c.inner };
 
     ghost kind = { kinds.list kinds.null };
 
@@ -197,11 +198,11 @@ pub struct StructChunk {
 }
 
 impl Chunk for StructChunk {
-    ghost shown = { λ c. map (or_null (λ s. struct (items_of s.values))) c.inner.cells.items };
+    ghost shown = { λ c. map (or_null (λ s. struct (items_of s.values))) c.inner };
 
     ghost buffers = { λ _. [] };
 
-    ghost views = { λ c. map (λ _. None) c.inner.cells.items };
+    ghost views = { λ c. map (λ _. None) c.inner };
 
     ghost kind = { kinds.struct kinds.end };
 

@@ -14,7 +14,8 @@ ghost use Rattle.tb_chunk.specs.Runs.{chunk_runs};
 ghost use Rattle.tb_chunk.specs.Seen.{chunk_lists, storage};
 
 use crate::cell::Cell;
-use crate::chunk::{Cells, Chunk, StringChunk, cell_of, copy_cell};
+use crate::cells::{Cells, cell_of, copy_cell};
+use crate::chunk::{Chunk, StringChunk};
 use crate::chunks::Chunks;
 use crate::owned_chunks::{BinaryChunk, ListChunk, StructChunk};
 use crate::stored::Stored;
@@ -38,14 +39,14 @@ trait RunChunk: Chunk {
 // Appends a cell so many times.
 fn push_cells<N: Cell>(
     alloc: Global,
-    cells: &mut Vec<Option<N>>,
+    cells: &mut Cells<N>,
     cell: &Option<N>,
     times: u64,
 ) -> Result<(), OutOfMemory>
-    ensures { OnOk result (map (or_null N.shows) cells.new.items ≡ map (or_null N.shows) cells.old.items ++ replicate times (or_null N.shows cell.now)) }
+    ensures { OnOk result (map (or_null N.shows) cells.new ≡ map (or_null N.shows) cells.old ++ replicate times (or_null N.shows cell.now)) }
 {
     for _ in 0..times {
-        cells.push(copy_cell(alloc, cell)?)?;
+        cells.push(copy_cell(alloc, cell.as_ref())?)?;
     }
     Ok(())
 }
@@ -56,11 +57,11 @@ impl<N: Cell> RunChunk for Cells<N> {
         runs: &[(AnyValue, u64)],
         rows: usize,
     ) -> Result<Cells<N>, OutOfMemory> {
-        let mut cells = Vec::with_capacity(alloc, rows)?;
+        let mut cells = Cells::with_capacity(alloc, rows)?;
         for (value, times) in runs {
             push_cells(alloc, &mut cells, &cell_of(alloc, value)?, *times)?;
         }
-        Ok(Cells { cells })
+        Ok(cells)
     }
 }
 

@@ -5,4 +5,4 @@ use Rattle.tb_chunk.proofs.run_chunk.push_cells.Goals as goal
 pub returns : goal.returns
 returns g c =
     let all : c.loop.counter ≡ c.args.times = omega arith in
-    c.loop.invariant ∙ ap (λ n. map (or_null g.N.Cell.shows) c.args.cells.now.items ++ replicate n (or_null g.N.Cell.shows c.args.cell.now)) all
+    c.loop.invariant ∙ ap (λ n. map (or_null g.N.Cell.shows) c.args.cells.now ++ replicate n (or_null g.N.Cell.shows c.args.cell.now)) all

@@ -3,4 +3,4 @@ use Rattle.tb_chunk.specs.Chunk.{or_null}
 use Rattle.tb_chunk.proofs.run_chunk.push_cells.Given as goal
 
 abbrev pub invariant-loop : goal.invariant-loop
-invariant-loop g l = map (or_null g.N.Cell.shows) l.cells.items ≡ map (or_null g.N.Cell.shows) l.initial.cells.items ++ replicate l.counter (or_null g.N.Cell.shows l.cell)
+invariant-loop g l = map (or_null g.N.Cell.shows) l.cells ≡ map (or_null g.N.Cell.shows) l.initial.cells ++ replicate l.counter (or_null g.N.Cell.shows l.cell)

@@ -26,12 +26,12 @@ whole : {N : Type 0} (shows : N → Datum) (cells : List (Option N)) (rs : List 
 whole shows cells rs n all e = e ∙ ap (λ l. expansion (data_runs l)) (take_all n rs all)
 
 pub returns-clause-shown : goal.returns-clause-shown
-returns-clause-shown g c = whole g.N.Cell.shows c.loop-value.cells.items c.args.runs.now c.loop-value.value-index (omega arith) c.loop-value.invariant
+returns-clause-shown g c = whole g.N.Cell.shows c.loop-value.cells c.args.runs.now c.loop-value.value-index (omega arith) c.loop-value.invariant
 
 pub returns-clause-views : goal.returns-clause-views
 returns-clause-views g c =
-    ap (λ r. r.views) (laid_cells g.N.Cell.shows g.N.Cell.no_text c.loop-value.cells.items (data_runs c.args.runs.now) (whole g.N.Cell.shows c.loop-value.cells.items c.args.runs.now c.loop-value.value-index (omega arith) c.loop-value.invariant))
+    ap (λ r. r.views) (laid_cells g.N.Cell.shows g.N.Cell.no_text c.loop-value.cells (data_runs c.args.runs.now) (whole g.N.Cell.shows c.loop-value.cells c.args.runs.now c.loop-value.value-index (omega arith) c.loop-value.invariant))
 
 pub returns-clause-buffers : goal.returns-clause-buffers
 returns-clause-buffers g c =
-    ap (λ r. r.buffers) (laid_cells g.N.Cell.shows g.N.Cell.no_text c.loop-value.cells.items (data_runs c.args.runs.now) (whole g.N.Cell.shows c.loop-value.cells.items c.args.runs.now c.loop-value.value-index (omega arith) c.loop-value.invariant))
+    ap (λ r. r.buffers) (laid_cells g.N.Cell.shows g.N.Cell.no_text c.loop-value.cells (data_runs c.args.runs.now) (whole g.N.Cell.shows c.loop-value.cells c.args.runs.now c.loop-value.value-index (omega arith) c.loop-value.invariant))

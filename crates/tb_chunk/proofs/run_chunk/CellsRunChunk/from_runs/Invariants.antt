@@ -4,4 +4,4 @@ use Rattle.tb_chunk.specs.RunLayout.{data_runs, expansion}
 use Rattle.tb_chunk.proofs.run_chunk.CellsRunChunk.from_runs.Given as goal
 
 abbrev pub invariant-loop-value : goal.invariant-loop-value
-invariant-loop-value g l = map (or_null g.N.Cell.shows) l.cells.items ≡ expansion (data_runs (take l.value-index l.runs))
+invariant-loop-value g l = map (or_null g.N.Cell.shows) l.cells ≡ expansion (data_runs (take l.value-index l.runs))

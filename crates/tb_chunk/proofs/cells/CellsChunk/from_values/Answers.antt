@@ -9,7 +9,7 @@ use Rattle.tb_chunk.specs.Fresh.{fresh_run, no_views}
 use Rattle.tb_chunk.specs.Texts.{text_of}
 use Rattle.tb_chunk.proofs.Fresh.{fresh_cells}
 use Rattle.tb_chunk.proofs.Lists.{All-map-at}
-use Rattle.tb_chunk.proofs.chunk.CellsChunk.from_values.Goals as goal
+use Rattle.tb_chunk.proofs.cells.CellsChunk.from_values.Goals as goal
 
 pub cell_of-requires : goal.cell_of-requires
 cell_of-requires g c = All-map-at (Fits g.N.Cell.kind) datum c.args.values.now c.loop-value.value-index c.value-item.result (omega arith) c.value-item.is c.requires
@@ -18,7 +18,7 @@ fresh : {N : Type 0} (shows : N → Datum) → ((x : N) → text_of (shows x) �
 fresh shows no_text cells values n h e = sym (fresh_cells shows no_text cells) ∙ ap fresh_run (e ∙ ap (map datum) (take_all n values h))
 
 pub returns-clause-views : goal.returns-clause-views
-returns-clause-views g c = ap (λ r. r.views) (fresh g.N.Cell.shows g.N.Cell.no_text c.loop-value.cells.items c.args.values.now c.loop-value.value-index (omega arith) c.loop-value.invariant)
+returns-clause-views g c = ap (λ r. r.views) (fresh g.N.Cell.shows g.N.Cell.no_text c.loop-value.cells c.args.values.now c.loop-value.value-index (omega arith) c.loop-value.invariant)
 
 pub returns-clause-buffers : goal.returns-clause-buffers
-returns-clause-buffers g c = ap (λ r. r.buffers) (fresh g.N.Cell.shows g.N.Cell.no_text c.loop-value.cells.items c.args.values.now c.loop-value.value-index (omega arith) c.loop-value.invariant)
+returns-clause-buffers g c = ap (λ r. r.buffers) (fresh g.N.Cell.shows g.N.Cell.no_text c.loop-value.cells c.args.values.now c.loop-value.value-index (omega arith) c.loop-value.invariant)

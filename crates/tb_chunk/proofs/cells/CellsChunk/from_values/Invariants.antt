@@ -1,7 +1,7 @@
 use Rattle.std.proofs.Common.{◌≡◌, map, take}
 use Rattle.tb_value.specs.See.{datum}
 use Rattle.tb_chunk.specs.Chunk.{or_null}
-use Rattle.tb_chunk.proofs.chunk.CellsChunk.from_values.Given as goal
+use Rattle.tb_chunk.proofs.cells.CellsChunk.from_values.Given as goal
 
 abbrev pub invariant-loop-value : goal.invariant-loop-value
-invariant-loop-value g l = map (or_null g.N.Cell.shows) l.cells.items ≡ map datum (take l.value-index l.values)
+invariant-loop-value g l = map (or_null g.N.Cell.shows) l.cells ≡ map datum (take l.value-index l.values)

@@ -1,8 +1,0 @@
-use Rattle.std.proofs.Common.{◌∙◌, ap, sym}
-use Rattle.std.specs.Prelude.{is_none}
-use Rattle.std.specs.List.{count_by}
-use Rattle.tb_chunk.proofs.Nulls.{nulls_of_cells}
-use Rattle.tb_chunk.proofs.chunk.CellsChunk.null_count.Goals as goal
-
-pub returns : goal.returns
-returns g c = c.absent_in.ensures ∙ (ap (count_by is_none) c.deref.ensures.value ∙ sym (nulls_of_cells g.N.Cell.shows g.N.Cell.some c.args.self.now.cells.items))
