@@ -87,14 +87,16 @@ fn or_empty<C: Chunk>(alloc: Global, chunks: Vec<C>) -> Result<Vec<C>, OutOfMemo
     Ok(one)
 }
 
-// One or more chunks of values of the type, few enough.
-fn checked<C: Stored>(alloc: Global, dtype: &DataType, chunks: Vec<C>) -> PolarsResult<Chunks>
-    ensures made { AreMade (kind_of dtype.now) C.kind (map C.shown chunks.items) (runs_of C.views C.buffers chunks.items) result }
+// One or more chunks of values that are of the type, few enough.
+fn within_limits<C: Stored>(
+    alloc: Global,
+    _dtype: &DataType,
+    chunks: Vec<C>,
+) -> PolarsResult<Chunks>
+    requires typed { IsTyped (kind_of _dtype.now) (map C.shown chunks.items) }
+    ensures made { AreMade (kind_of _dtype.now) C.kind (map C.shown chunks.items) (runs_of C.views C.buffers chunks.items) result }
     ensures few { IfOk result (λ c. HaveFewBuffers (chunk_runs c)) }
 {
-    if !are_chunks_of(dtype, &chunks) {
-        return Err(PolarsError::SchemaMismatch);
-    }
     if !are_few(&chunks) {
         return Err(PolarsError::ComputeError(ComputeCause::TooManyRows));
     }
@@ -102,6 +104,17 @@ fn checked<C: Stored>(alloc: Global, dtype: &DataType, chunks: Vec<C>) -> Polars
         return Err(PolarsError::OutOfMemory);
     }
     Ok(C::wrap(or_empty(alloc, chunks)?))
+}
+
+// The same of values that may be of another type.
+fn checked<C: Stored>(alloc: Global, dtype: &DataType, chunks: Vec<C>) -> PolarsResult<Chunks>
+    ensures made { AreMade (kind_of dtype.now) C.kind (map C.shown chunks.items) (runs_of C.views C.buffers chunks.items) result }
+    ensures few { IfOk result (λ c. HaveFewBuffers (chunk_runs c)) }
+{
+    if !are_chunks_of(dtype, &chunks) {
+        return Err(PolarsError::SchemaMismatch);
+    }
+    within_limits(alloc, dtype, chunks)
 }
 
 impl Chunks {
@@ -146,5 +159,18 @@ impl Chunks {
         ensures made { AreMade (kind_of dtype.now) (storage self) (chunk_lists self) (chunk_runs self) result }
     {
         for_chunks!(self, arrays => checked(alloc, dtype, arrays))
+    }
+
+    /// The same of chunks whose values are known to be of the type: none of them is looked at.
+    ///
+    /// # Errors
+    ///
+    /// TooManyRows where the values number more than `MAX_ROWS`, and OutOfMemory, which stands for 2^32 buffers or more too.
+    pub fn within_limits(self, alloc: Global, dtype: &DataType) -> PolarsResult<Chunks>
+        requires typed { IsTyped (kind_of dtype.now) (chunk_lists self) }
+        ensures few { IfOk result (λ c. HaveFewBuffers (chunk_runs c)) }
+        ensures made { AreMade (kind_of dtype.now) (storage self) (chunk_lists self) (chunk_runs self) result }
+    {
+        for_chunks!(self, arrays => within_limits(alloc, dtype, arrays))
     }
 }

@@ -1,6 +1,8 @@
 //! Columns made of values, and of typed chunks.
 ghost use Rattle.tb_value.specs.SeeKind.{kind_of};
-ghost use Rattle.tb_chunk.specs.Made.{lists_of, IsMade, IsArranged};
+ghost use Rattle.std.specs.Prelude.{◌≡◌};
+ghost use Rattle.tb_chunk.specs.Col.{physical};
+ghost use Rattle.tb_chunk.specs.Made.{lists_of, IsMade, IsArranged, IsTyped};
 ghost use Rattle.tb_chunk.specs.RunLayout.{IsMadeOfRuns, data_runs};
 ghost use Rattle.tb_chunk.specs.Runs.{chunk_runs};
 ghost use Rattle.tb_chunk.specs.Seen.{chunk_lists, storage};
@@ -70,6 +72,24 @@ impl Series {
             return Err(PolarsError::SchemaMismatch);
         }
         let chunks = arrays.checked(alloc, &dtype)?;
+        Ok(Series::from_parts(name, dtype, chunks, IsSorted::Not))
+    }
+    /// As `from_arrays`, of chunks that are known to be those of the type, and their values too: no value is looked at.
+    ///
+    /// # Errors
+    ///
+    /// TooManyRows where the values number more than `MAX_ROWS`, and OutOfMemory.
+    pub fn from_typed(
+        alloc: Global,
+        name: PlSmallStr,
+        dtype: DataType,
+        arrays: Chunks,
+    ) -> PolarsResult<Series>
+        requires storage { storage arrays ≡ physical (kind_of dtype) }
+        requires typed { IsTyped (kind_of dtype) (chunk_lists arrays) }
+        ensures { IsArranged name (kind_of dtype) (storage arrays) (chunk_lists arrays) (chunk_runs arrays) result }
+    {
+        let chunks = arrays.within_limits(alloc, &dtype)?;
         Ok(Series::from_parts(name, dtype, chunks, IsSorted::Not))
     }
 }
