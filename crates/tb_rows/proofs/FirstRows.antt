@@ -17,7 +17,7 @@ use Rattle.tb_rows.specs.Rows.{first_rows, group_of, is_first}
 one_more : (n : ℕ) → n + 1 ≡ suc n
 one_more n = omega arith
 
-rows_below : (n : ℕ) → All (λ j. j < n) (row_numbers n)
+pub rows_below : (n : ℕ) → All (λ j. j < n) (row_numbers n)
 rows_below n = λ k d h.
     let low : k < n = omega (arith, h, length-range_with_len 0 n) in
     omega (arith, get_or-range_with_len 0 n k d low, low)
@@ -47,7 +47,7 @@ within p xs h = ⊎_elim (λ low. low) (λ high. absurd (both_ways (list_any p x
 none_at : (p : ℕ → Bool) (xs : List ℕ) → list_any p xs ≡ false → (k : ℕ) → k < length xs → p (get_or xs k 0) ≡ false
 none_at p xs h k low = false_from_ne_true (p (get_or xs k 0)) (λ e. both_ways (list_any p xs) h (list_any_at p xs k 0 low e))
 
-at_end : (p : ℕ → Bool) (xs : List ℕ) → list_any p xs ≡ false → position_or_len p xs ≡ length xs
+pub at_end : (p : ℕ → Bool) (xs : List ℕ) → list_any p xs ≡ false → position_or_len p xs ≡ length xs
 at_end p xs h = position_or_len_is p xs (length xs) 0 (omega arith) (none_at p xs h) (λ low. absurd (omega (arith, low)))
 
 module _ (test : ℕ → ℕ → Bool) (same : IsEquivalence test) where
@@ -57,7 +57,7 @@ module _ (test : ℕ → ℕ → Bool) (same : IsEquivalence test) where
       ∙ ap (λ c. first_rows test n ++ cond c (n ∷ []) []) e
 
   -- rows that are the same are the same as the same rows
-  alike : (k n : ℕ) → test k n ≡ true → (xs : List ℕ) → list_any (λ i. test i k) xs ≡ list_any (λ i. test i n) xs
+  pub alike : (k n : ℕ) → test k n ≡ true → (xs : List ℕ) → list_any (λ i. test i k) xs ≡ list_any (λ i. test i n) xs
   alike k n e xs =
       let each : (i : ℕ) → test i k ≡ test i n = λ i. same.symm i k ∙ same.congr k n i e ∙ same.symm n i in
       λ t. list_any (λ i. each i t) xs

@@ -1,8 +1,10 @@
+pub mod Coded
+pub mod Fields
 pub mod Grouped
 pub mod InGroups
 pub mod InOrder
-pub mod Keys
 pub mod Laws
 pub mod Members
+pub mod Order
 pub mod Proved
 pub mod Rows

@@ -1,15 +1,14 @@
 //! Rows in groups.
-ghost use Rattle.std.specs.Prelude.{◌≡◌, ◌≤◌, ◌∷◌, [], ◌++◌, IfOk, OnOk, cond, length, map};
+ghost use Rattle.std.specs.Prelude.{◌≡◌, ◌<◌, ◌≤◌, ◌∷◌, [], ◌++◌, false, if◌then◌else◌, IfOk, OnOk, cond, length, map, slice_index_or};
 ghost use Rattle.tb_chunk.specs.Col.{values};
 ghost use Rattle.tb_rows.specs.Grouped.{AreGroups};
 ghost use Rattle.tb_rows.specs.InGroups.{listed, named_rows};
 ghost use Rattle.tb_rows.specs.Members.{name_of, AreNamed};
 ghost use Rattle.tb_rows.specs.Rows.{same_rows};
 
+use crate::coded::leaders;
 use crate::groups::Groups;
 use crate::members::RowNames;
-use crate::row_key::RowKey;
-use indexmap::IndexSet;
 use std::alloc::Global;
 use tb_store::Series;
 use tb_value::{IdxSize, MAX_ROWS, OutOfMemory};
@@ -25,6 +24,18 @@ fn push_first(firsts: &mut Vec<IdxSize>, row: IdxSize, is_first: bool) -> Result
     Ok(())
 }
 
+// The number of the group that a row is in: a new one where it is the first, and else that of the group's first row.
+fn number_of(firsts: &[IdxSize], numbers: &[IdxSize], leader: usize, is_first: bool) -> IdxSize
+    requires few { length firsts.now ≤ MAX_ROWS }
+    requires there { is_first ≡ false → leader < length numbers.now }
+    ensures { result ≡ (if is_first then length firsts.now else slice_index_or numbers.now leader 0) }
+{
+    if is_first {
+        return firsts.len() as IdxSize;
+    }
+    numbers[leader]
+}
+
 // The places of rows that are called so in groups.
 fn group_named(
     alloc: Global,
@@ -35,14 +46,15 @@ fn group_named(
     requires { AreNamed names len }
     ensures { IfOk result (AreGroups (named_rows (name_of names.entry) (same_rows (map (λ c. values c.now) columns.now))) len) }
 {
-    let mut keys = IndexSet::new(alloc);
+    let leaders = leaders(alloc, columns, names, len)?;
     let mut firsts = Vec::new(alloc);
     let mut numbers = Vec::with_capacity(alloc, len)?;
     for place in 0..len {
-        let row = names.name(place) as usize;
-        let (number, is_first) = keys.insert_full(RowKey { columns, row })?;
+        let leader = leaders[place] as usize;
+        let is_first = leader == place;
+        let number = number_of(firsts.as_slice(), numbers.as_slice(), leader, is_first);
         push_first(&mut firsts, place as IdxSize, is_first)?;
-        numbers.push(number as IdxSize)?;
+        numbers.push(number)?;
     }
     Groups::of_numbers(alloc, firsts, numbers)
 }

@@ -1,11 +1,13 @@
 //! Rows that have the same values in some columns, in groups, and lists put in an order.
 #![tactic(auto)]
 
+mod coded;
+mod fields;
 mod grouping;
 mod groups;
 pub mod laws;
 mod members;
-mod row_key;
+mod order;
 
 pub use grouping::{group_listed, group_rows};
 pub use groups::Groups;

@@ -1,0 +1,52 @@
+-- Rows with codes, in an order in which rows of the same values stand together, and the first row of the same values.
+use Rattle.std.specs.Prelude.{◌≡◌, ℕ, ◌-◌, ◌<◌, ◌&&◌, ◌==◌, nat_lt, Bool, List, length, map, slice_index_or, IsPermutation, IsSorted}
+use Rattle.std.specs.Borrow.{Bor}
+use Rattle.std.specs.Cmp.Lexicographic.{slice_cmp}
+use Rattle.std.specs.List.{position_or_len}
+use Rattle.std.specs.List.Sorted.{IsStable}
+use Rattle.std.specs.Ordering.{nat_cmp, on, then_cmp}
+use Rattle.std.specs.declared.cmp.Ordering.{Ordering}
+use Rattle.tb_value.specs.Pairs.{row_numbers}
+use Rattle.tb_chunk.specs.Col.{Col}
+use Rattle.tb_rows.specs.Fields.{fields_at, row_code, same_at}
+use Rattle.tb_rows.specs.Order.{value_cmp}
+use Rattle.tb_rows.specs.declared.coded.CodedRow.{CodedRow}
+
+-- the row of a place, with its code
+abbrev pub coded_row : List (Bor Col) → (ℕ → ℕ) → ℕ → CodedRow
+coded_row cs name j = record { code = row_code (fields_at cs (name j)); row = name j; place = j }
+
+-- the rows of n places
+abbrev pub coded_rows : List (Bor Col) → (ℕ → ℕ) → ℕ → List CodedRow
+coded_rows cs name n = map (coded_row cs name) (row_numbers n)
+
+-- no row
+abbrev pub no_row : CodedRow
+no_row = record { code = 0; row = 0; place = 0 }
+
+-- by codes, and then by values
+abbrev pub coded_cmp : List (Bor Col) → CodedRow → CodedRow → Ordering
+coded_cmp cs = then_cmp (on (λ (r : CodedRow). r.code) nat_cmp) (on (λ (r : CodedRow). fields_at cs r.row) (slice_cmp value_cmp))
+
+-- the same code, and the same values
+abbrev pub same_coded : List (Bor Col) → CodedRow → CodedRow → Bool
+same_coded cs a b = (a.code == b.code) && same_at cs a.row b.row
+
+-- whether a row has the values of the one before it
+abbrev pub goes_on : List (Bor Col) → List CodedRow → ℕ → Bool
+goes_on cs rows t = nat_lt 0 t && same_coded cs (slice_index_or rows (t - 1) no_row) (slice_index_or rows t no_row)
+
+-- the same elements in order, where what ties stands as before
+pub record AreSorted {X : Type 0} (cmp : X → X → Ordering) (old new : List X) : Type 0 where
+  pub permutation : IsPermutation old new
+  pub sorted : IsSorted cmp new
+  pub stable : IsStable cmp old new
+
+-- the first of n rows that is the same as a row
+abbrev pub leader : (ℕ → ℕ → Bool) → ℕ → ℕ → ℕ
+leader test n j = position_or_len (λ i. test i j) (row_numbers n)
+
+-- the leader of each row
+pub record AreLeaders (test : ℕ → ℕ → Bool) (n : ℕ) (leaders : List ℕ) : Type 0 where
+  pub count : length leaders ≡ n
+  pub each : (j : ℕ) → j < n → slice_index_or leaders j 0 ≡ leader test n j

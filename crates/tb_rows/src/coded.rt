@@ -1,0 +1,102 @@
+//! Rows sorted by their codes and values, and the first row of the same values.
+ghost use Rattle.std.specs.Prelude.{◌≡◌, ◌<◌, if◌then◌else◌, length, slice_index_or, IfOk, OnOk};
+ghost use Rattle.tb_rows.specs.Coded.{coded_cmp, coded_rows, goes_on, no_row, same_coded, AreLeaders, AreSorted};
+ghost use Rattle.tb_rows.specs.Fields.{same_at};
+ghost use Rattle.tb_rows.specs.InGroups.{named_rows};
+ghost use Rattle.tb_rows.specs.Members.{name_of, AreNamed};
+
+use crate::fields::{code_at, compare_fields, same_fields};
+use crate::members::RowNames;
+use std::alloc::Global;
+use std::cmp::Ordering;
+use tb_store::Series;
+use tb_value::{IdxSize, OutOfMemory};
+
+/// The row of a place, with the code of its values.
+#[derive(Clone, Copy)]
+pub(crate) struct CodedRow {
+    pub code: u64,
+    pub row: IdxSize,
+    pub place: IdxSize,
+}
+
+// By codes, and by values where these tie: rows of other values may have the same code.
+fn compare_rows(columns: &[&Series], first: &CodedRow, second: &CodedRow) -> Ordering
+    ensures { result ≡ coded_cmp columns.now first.now second.now }
+{
+    let order = first.code.cmp(&second.code);
+    if order.is_ne() {
+        return order;
+    }
+    compare_fields(columns, first.row as usize, second.row as usize)
+}
+
+fn is_same(columns: &[&Series], first: &CodedRow, second: &CodedRow) -> bool
+    ensures { result ≡ same_coded columns.now first.now second.now }
+{
+    first.code == second.code && same_fields(columns, first.row as usize, second.row as usize)
+}
+
+// The rows of all places, with their codes.
+fn coded_rows(
+    alloc: Global,
+    columns: &[&Series],
+    names: RowNames<'_>,
+    len: usize,
+) -> Result<Vec<CodedRow>, OutOfMemory>
+    requires { AreNamed names len }
+    ensures { IfOk result (λ v. v.items ≡ coded_rows columns.now (name_of names.entry) len) }
+{
+    let mut rows = Vec::with_capacity(alloc, len)?;
+    for place in 0..len {
+        let row = names.name(place);
+        rows.push(CodedRow {
+            code: code_at(columns, row as usize),
+            row,
+            place: place as IdxSize,
+        })?;
+    }
+    Ok(rows)
+}
+
+// Puts rows of the same values together, where they stand in their order.
+fn sort_rows(columns: &[&Series], rows: &mut Vec<CodedRow>) -> Result<(), OutOfMemory>
+    ensures { OnOk result (AreSorted (coded_cmp columns.now) rows.old.items rows.new.items) }
+{
+    rows.sort_by(|a, b| compare_rows(columns, a, b))?;
+    Ok(())
+}
+
+// The leader of a sorted row: that of the row before it where both have the same values, and else its own place.
+fn leader_at(columns: &[&Series], rows: &[CodedRow], at: usize, before: IdxSize) -> IdxSize
+    requires { at < length rows.now }
+    ensures { result ≡ (if goes_on columns.now rows.now at then before else (slice_index_or rows.now at no_row).place) }
+{
+    if at > 0 && is_same(columns, &rows[at - 1], &rows[at]) {
+        return before;
+    }
+    rows[at].place
+}
+
+/// For each place the first one whose row has the same values. Whatever the rows, it takes no more comparisons of rows
+/// than a sort.
+pub(crate) fn leaders(
+    alloc: Global,
+    columns: &[&Series],
+    names: RowNames<'_>,
+    len: usize,
+) -> Result<Vec<IdxSize>, OutOfMemory>
+    requires { AreNamed names len }
+    ensures { IfOk result (λ v. AreLeaders (named_rows (name_of names.entry) (same_at columns.now)) len v.items) }
+{
+    let mut rows = coded_rows(alloc, columns, names, len)?;
+    sort_rows(columns, &mut rows)?;
+    let mut leaders = Vec::new(alloc);
+    leaders.resize(len, 0u32)?;
+    let mut leader = 0u32;
+    for at in 0..rows.len() {
+        leader = leader_at(columns, rows.as_slice(), at, leader);
+        leaders[rows[at].place as usize] = leader;
+    }
+    Ok(leaders)
+}
