@@ -1,12 +1,9 @@
 use Rattle.tb_value.specs.Same.{same, same_items}
-use Rattle.std.proofs.lemmas.List.{length-map}
-use Rattle.std.proofs.Common.{Bool, true, false, ◌&&◌, ◌≡◌, ◌∙◌, List, [], ◌∷◌, length, map, refl, ap, sym, suc}
-use Rattle.tb_value.specs.Datum.{Datum, items_of, data_in}
+use Rattle.std.proofs.Common.{ℕ, zero, ◌<◌, ◌≤◌, get_or, arith, Bool, true, false, ◌&&◌, ◌≡◌, ◌∙◌, List, [], ◌∷◌, length, map, refl, ap, sym, suc}
+use Rattle.tb_value.specs.Datum.{Datum, items_of, data_in, weight, weights}
 use Rattle.tb_value.specs.See.{datum}
 use Rattle.tb_value.specs.declared.any_value.AnyValue.{AnyValue}
-use Rattle.tb_value.specs.Kind.{Kind, Part, Parts, parts_of, end, part}
-use Rattle.tb_value.specs.SeeKind.{parts, kind_step, part_step, parts_step}
-use Rattle.tb_value.specs.declared.dtype.Fields.{Fields, out-Fields, fold_out-Fields}
+use Rattle.tb_value.specs.Kind.{Part, Parts, parts_of, end, part}
 use Rattle.tb_value.specs.Typed.{AreEachOf}
 
 -- a struct has as many values as fields
@@ -16,8 +13,11 @@ AreEachOf-length [] (v ∷ vs) h = absurd h
 AreEachOf-length (p ∷ ps) [] h = absurd h
 AreEachOf-length (p ∷ ps) (v ∷ vs) h = ap (λ n. suc n) (AreEachOf-length ps vs h.1)
 
-pub length-parts : (f : Fields) → length (parts f) ≡ length (out-Fields f).items.items
-length-parts f = ap length (fold_out-Fields Kind Part (List Part) kind_step part_step parts_step f) ∙ length-map _ _
+-- a value weighs no more than all values beside it
+pub item_lighter : (xs : List AnyValue) (i : ℕ) (d : AnyValue) → i < length xs → weight (datum (get_or xs i d)) ≤ weights (items_of (map datum xs))
+item_lighter [] i d low = absurd (omega (arith, low))
+item_lighter (x ∷ xs) zero d low = omega arith
+item_lighter (x ∷ xs) (suc i) d low = omega (arith, item_lighter xs i d (omega (arith, low)))
 
 -- one test that fails
 pub false_and : (b c : Bool) → false ≡ c → false ≡ (b && c)

@@ -1,6 +1,6 @@
 -- Row numbers, one more at a time.
 use Rattle.std.proofs.Common.{◌≡◌, ℕ, zero, suc, ◌+◌, ◌<◌, Bool, true, false, List, [], ◌∷◌, ◌++◌, length, get_or, map, refl, ap, arith, sym, ◌∙◌}
-use Rattle.std.specs.Prelude.{cond, filter}
+use Rattle.std.specs.Prelude.{All, cond, filter}
 use Rattle.std.specs.List.{range_with_len, list_all, list_any, flat_map}
 use Rattle.std.proofs.lemmas.List.{map-append, append-nil, append_assoc}
 use Rattle.std.proofs.lemmas.List.Elements.{filter-append}
@@ -10,6 +10,14 @@ use Rattle.tb_value.specs.Pairs.{row_numbers, both, matched}
 use Rattle.std.proofs.lemmas.List.Folds.{list_all-append, list_all_at, list_any-append, list_any_at}
 use Rattle.std.proofs.lemmas.List.FromFn.{length-range_with_len, get_or-range_with_len}
 use Rattle.std.proofs.lemmas.Bool.{and_from, or_from}
+
+-- the row numbers of n rows are below n
+pub rows_below : (n : ℕ) → All (λ i. i < n) (row_numbers n)
+rows_below n = λ k d low.
+    let long : length (row_numbers n) ≡ n = length-range_with_len 0 n in
+    let here : k < n = omega (arith, long) in
+    let at = get_or-range_with_len 0 n k d here in
+    omega (arith, at, here)
 
 -- numbers in a row, in two runs
 pub range_cut : (a m k : ℕ) → range_with_len a (m + k) ≡ range_with_len a m ++ range_with_len (a + m) k

@@ -1,9 +1,9 @@
 -- Which values are of a type.
 use Rattle.std.specs.Prelude.{◌≡◌, ◌<◌, ◌^◌, ◌≤ℤ◌, ℕ, ℤ, pos, negsuc, List, length, slice_index, Option, Some, None, IsSomeAnd, Bool, is_some}
 use Rattle.std.specs.Str.{IsUtf8}
-use Rattle.tb_value.specs.Datum.{Datum, Items}
+use Rattle.tb_value.specs.Datum.{Datum, Items, items_of}
 use Rattle.tb_value.specs.Datum as value
-use Rattle.tb_value.specs.Kind.{Kind, Parts, int8, int16, int32, int64, int128, uint8, uint16, uint32, uint64, date, time, datetime, duration}
+use Rattle.tb_value.specs.Kind.{Kind, Part, Parts, parts_of, int8, int16, int32, int64, int128, uint8, uint16, uint32, uint64, date, time, datetime, duration}
 use Rattle.tb_value.specs.Kind as kind
 
 -- the least and the greatest number of a type
@@ -61,3 +61,7 @@ abbrev mutual
   AreEachOf kind.end value.end = Unit {0}
   AreEachOf (kind.part n t ps) (value.more v vs) = HasType t v × AreEachOf ps vs
   AreEachOf _ _ = ⊥
+
+-- a row of values fits fields: as many values as fields, each of its field's type, of which Null always is
+abbrev pub FitsFields : List Part → List Datum → Type 0
+FitsFields fields row = AreEachOf (parts_of fields) (items_of row)

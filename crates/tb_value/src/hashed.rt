@@ -2,38 +2,40 @@
 ghost use Rattle.std.specs.Prelude.{◌≡◌, fold};
 ghost use Rattle.tb_value.specs.Datum.{items_of};
 ghost use Rattle.tb_value.specs.Fed.{fed_datum, fed_items};
-ghost use Rattle.tb_value.specs.See.{datum};
+ghost use Rattle.tb_value.specs.See.{lent};
 
-use crate::any_value::{AnyValue, Values};
+use crate::any_value::{AnyValue, ValueRef, Values};
 use std::hash::{Hash, Hasher};
 
+/// Feeds what an equal value that is owned feeds, so that one can be looked for by the other.
 #[cycle(hashed)]
-fn hash_value<H: Hasher>(value: &AnyValue, state: &mut H)
-    ensures { state.new ≡ fold H.write state.old (fed_datum (datum value.now)) }
+pub fn hash_ref<H: Hasher>(value: ValueRef<'_>, state: &mut H)
+    ensures { state.new ≡ fold H.write state.old (fed_datum (lent value.entry)) }
 {
     match value {
-        AnyValue::Null => state.write_u8(0),
-        AnyValue::Boolean(b) => {
+        ValueRef::Null => state.write_u8(0),
+        ValueRef::Boolean(b) => {
             state.write_u8(1);
             b.hash(state);
         }
-        AnyValue::Int(i) => {
+        ValueRef::Int(i) => {
             state.write_u8(2);
             i.hash(state);
         }
-        AnyValue::String(s) => {
+        ValueRef::String(s) => {
             state.write_u8(3);
-            s.hash(state);
+            state.write(s);
+            state.write_u8(255);
         }
-        AnyValue::Binary(s) => {
+        ValueRef::Binary(s) => {
             state.write_u8(4);
             s.hash(state);
         }
-        AnyValue::List(vs) => {
+        ValueRef::List(vs) => {
             state.write_u8(5);
             hash_values(vs, state);
         }
-        AnyValue::Struct(vs) => {
+        ValueRef::Struct(vs) => {
             state.write_u8(6);
             hash_values(vs, state);
         }
@@ -46,7 +48,7 @@ fn hash_values<H: Hasher>(values: &Values, state: &mut H)
 {
     state.write_usize(values.items.len());
     for value in &values.items {
-        hash_value(value, state);
+        hash_ref(value.as_ref(), state);
     }
 }
 
@@ -61,7 +63,7 @@ impl Hash for AnyValue {
     ghost respects_eq = { (on_Alike datum (same_Alike fed_datum same-Decides)).fed };
 
     fn hash<H: Hasher>(&self, state: &mut H) {
-        hash_value(self, state);
+        hash_ref(self.as_ref(), state);
     }
 }
 

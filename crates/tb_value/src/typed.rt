@@ -1,15 +1,15 @@
 //! Which values are of a type.
-ghost use Rattle.std.specs.Prelude.{◌≡◌, ◌↔◌, ◌<◌, ◌≤ℤ◌, ◌^◌, IsTrue, IsSomeAnd, length};
+ghost use Rattle.std.specs.Prelude.{◌≡◌, ◌↔◌, ◌<◌, ◌≤ℤ◌, ◌^◌, IsTrue, IsSomeAnd, length, map};
 ghost use Rattle.tb_value.specs.Datum.{items_of};
-ghost use Rattle.tb_value.specs.Kind.{parts_of, boolean, string, binary};
+ghost use Rattle.tb_value.specs.Kind.{boolean, string, binary};
 ghost use Rattle.std.specs.Str.{IsUtf8};
 ghost use Rattle.tb_value.specs.SameKind.{is_key};
-ghost use Rattle.tb_value.specs.See.{datum, lent};
-ghost use Rattle.tb_value.specs.SeeKind.{kind_of, parts};
-ghost use Rattle.tb_value.specs.Typed.{HasType, AreOf, AreEachOf, IsBytes, IsListOf, IsStructOf, ends, is_whole_physical};
+ghost use Rattle.tb_value.specs.See.{datum, data_of, lent};
+ghost use Rattle.tb_value.specs.SeeKind.{kind_of, part};
+ghost use Rattle.tb_value.specs.Typed.{HasType, AreOf, AreEachOf, FitsFields, IsBytes, IsListOf, IsStructOf, ends, is_whole_physical};
 
 use crate::any_value::{AnyValue, ValueRef, Values};
-use crate::dtype::{DataType, Fields, plain_type};
+use crate::dtype::{DataType, Field, plain_type};
 use crate::limits::TOO_LONG;
 
 impl DataType {
@@ -170,7 +170,7 @@ fn is_struct_of(dtype: &DataType, values: &Values) -> bool
     ensures { IsTrue result ↔ IsStructOf (kind_of dtype.now) (λ ps. AreEachOf ps (items_of values.now)) }
 {
     match dtype {
-        DataType::Struct(fields) => are_each_of(fields, values),
+        DataType::Struct(fields) => fits_fields(fields.as_slice(), values.as_slice()),
         plain_type!() | DataType::Datetime(_, _) | DataType::Duration(_) | DataType::List(_) =>
             false,
     }
@@ -188,15 +188,16 @@ fn are_of(dtype: &DataType, values: &Values) -> bool
     true
 }
 
+/// Whether a row of values fits fields: there are as many values as fields, and each is of the type of its field. Null
+/// is of every type.
 #[cycle(is_of)]
-fn are_each_of(fields: &Fields, values: &Values) -> bool
-    ensures { IsTrue result ↔ AreEachOf (parts_of (parts fields.now)) (items_of values.now) }
+pub fn fits_fields(fields: &[Field], values: &[AnyValue]) -> bool
+    ensures { IsTrue result ↔ FitsFields (map part fields.now) (data_of values.now) }
 {
-    let values = values.as_slice();
-    if fields.items.len() != values.len() {
+    if fields.len() != values.len() {
         return false;
     }
-    for (i, field) in fields.items.iter().enumerate() {
+    for (i, field) in fields.iter().enumerate() {
         if !is_of(&field.dtype, &values[i]) {
             return false;
         }

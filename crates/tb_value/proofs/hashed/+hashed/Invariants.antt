@@ -1,8 +1,14 @@
-use Rattle.std.proofs.Common.{◌≡◌, fold, map, drop}
-use Rattle.tb_value.specs.Datum.{items_of}
+use Rattle.std.proofs.Common.{◌≡◌, ◌+◌, ◌*◌, fold, map, drop}
+use Rattle.tb_value.specs.Datum.{items_of, weight, weights}
 use Rattle.tb_value.specs.Fed.{fed_each, fed_items}
-use Rattle.tb_value.specs.See.{datum}
+use Rattle.tb_value.specs.See.{datum, lent}
 use Rattle.tb_value.proofs.hashed.+hashed.Given as goal
+
+abbrev pub decreases-hash_ref : goal.decreases-hash_ref
+decreases-hash_ref g l = 2 * weight (lent l.value)
+
+abbrev pub decreases-hash_values : goal.decreases-hash_values
+decreases-hash_values g l = 2 * weights (items_of l.values.now) + 1
 
 -- what is left is fed to the state so far
 abbrev pub invariant-hash_values-loop-value : goal.invariant-hash_values-loop-value

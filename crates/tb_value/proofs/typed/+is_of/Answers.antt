@@ -1,17 +1,28 @@
-use Rattle.std.proofs.Common.{◌≡◌, length, ap, sym, arith, ◌∙◌}
-use Rattle.tb_value.specs.SeeKind.{parts}
-use Rattle.tb_value.specs.declared.dtype.Fields.{out-Fields}
-use Rattle.tb_value.specs.See.{datum}
+use Rattle.std.proofs.Common.{List, map, arith, ap}
 use Rattle.std.proofs.lemmas.List.{length-map}
-use Rattle.tb_value.proofs.Lengths.{AreEachOf-length, length-parts}
+use Rattle.tb_value.specs.Datum.{Datum, items_of, weight, weights}
+use Rattle.tb_value.specs.See.{datum}
+use Rattle.tb_value.specs.SeeKind.{part}
+use Rattle.tb_value.proofs.Lengths.{AreEachOf-length, item_lighter}
 use Rattle.tb_value.proofs.typed.+is_of.Goals as goal
 
-pub are_each_of-returns-then-len-values : goal.are_each_of-returns-then-len-values
-are_each_of-returns-then-len-values t c = (
+pub fits_fields-returns-then-fields-values : goal.fits_fields-returns-then-fields-values
+fits_fields-returns-then-fields-values t c = (
   λ h. absurd (cc),
   λ h.
-      let e : length (parts c.args.fields.now) ≡ length c.args.values.now = AreEachOf-length (parts c.args.fields.now) c.args.values.now h in
-      let f = length-parts c.args.fields.now in
-      let g : length c.as_slice-values.result.now ≡ length c.args.values.now = sym (length-map _ datum) ∙ ap length c.as_slice-values.ensures in
-      absurd (c.if-len-values.true (omega (arith, c.len.ensures, (out-Fields c.args.fields.now).items.ok.0, e, f, g))),
+      let e = AreEachOf-length (map part c.args.fields.now) (map datum c.args.values.now) h in
+      absurd (c.if-fields-values.true (omega (arith, e, length-map c.args.fields.now part, length-map c.args.values.now datum))),
 )
+
+pub are_of-is_of-requires : goal.are_of-is_of-requires
+are_of-is_of-requires t c =
+    let items = c.as_slice-value-items.result.now in
+    let i = c.loop-value.value-index in
+    let v = c.value-item.result in
+    (omega (arith, c.decreases, ap (λ (vs : List Datum). weights (items_of vs)) c.as_slice-value-items.ensures, ap (λ x. weight (datum x)) c.value-item.is, item_lighter items i v c.loop-value-test.true), tt)
+
+pub fits_fields-is_of-requires : goal.fits_fields-is_of-requires
+fits_fields-is_of-requires t c =
+    let i = c.loop-i.i in
+    let v = c.index-values-i.result in
+    (omega (arith, c.decreases, ap (λ x. weight (datum x)) c.index-values-i.is, item_lighter c.args.values.now i v (omega (arith, c.loop-i-test.true, c.if-fields-values.false))), tt)
