@@ -15,5 +15,4 @@ pub mod ReadBack
 pub mod TextPlain
 pub mod ValuesBack
 pub mod OneToOne
-pub mod Fresh
 mod StoredTexts

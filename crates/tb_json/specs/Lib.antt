@@ -3,5 +3,4 @@ pub mod Text
 pub mod Kinds
 pub mod Written
 pub mod Cells
-pub mod Fresh
 pub mod Writable

@@ -17,5 +17,5 @@ mod write_tables;
 pub use read_any_cells::value_of;
 pub use read_arrays::arrays_in;
 pub use read_kinds::type_of;
-pub use write_refusals::text_of_refusal;
+pub use write_refusals::{error_value, text_of_refusal};
 pub use write_tables::{text_of, traced_text_of};

@@ -10,14 +10,10 @@ ghost use Rattle.tb_value.specs.SeeKind.{kind_of};
 ghost use Rattle.tb_value.specs.Typed.{HasType};
 ghost use Rattle.tb_chunk.specs.Chunk.{or_null};
 ghost use Rattle.tb_chunk.specs.Col.{physical};
-ghost use Rattle.tb_chunk.specs.Fresh.{fresh_runs};
 ghost use Rattle.tb_chunk.specs.Made.{IsTyped};
-ghost use Rattle.tb_chunk.specs.Runs.{chunk_runs};
 ghost use Rattle.tb_chunk.specs.Seen.{chunk_lists, storage};
-ghost use Rattle.tb_chunk.specs.Whole.{runs_of};
 ghost use Rattle.tb_json.specs.Lists.{each};
 ghost use Rattle.tb_json.specs.Cells.{cell_in};
-ghost use Rattle.tb_json.specs.Fresh.{IsFresh};
 
 use crate::read_cell::ReadCell;
 use crate::read_texts::{bytes_chunk, text_chunk};
@@ -99,8 +95,7 @@ trait ReadChunk: Chunk {
         requires { physical (kind_of dtype.now) ≡ stored }
         ensures values { IfOk result (λ o. option_map Self.shown o
             ≡ each (cell_in (kind_of dtype.now)) (map view items.now.items)) }
-        ensures typed { IfOk result (λ o. IfSome o (λ c. All (HasType (kind_of dtype.now)) (Self.shown c))) }
-        ensures fresh { IfOk result (λ o. IfSome o (λ c. IsFresh (Self.shown c) (Self.views c) (Self.buffers c))) };
+        ensures typed { IfOk result (λ o. IfSome o (λ c. All (HasType (kind_of dtype.now)) (Self.shown c))) };
 }
 
 impl<N: ReadCell> ReadChunk for Cells<N> {
@@ -190,7 +185,6 @@ fn chunks_of<C: ReadChunk>(
     ensures chunks { IfOk result (λ o. option_map (λ v. map C.shown v.items) o
         ≡ each (each (cell_in (kind_of dtype.now))) (map (λ v. map view v.items) written.now.items)) }
     ensures typed { IfOk result (λ o. IfSome o (λ v. IsTyped (kind_of dtype.now) (map C.shown v.items))) }
-    ensures fresh { IfOk result (λ o. IfSome o (λ v. runs_of C.views C.buffers v.items ≡ fresh_runs (map C.shown v.items))) }
 {
     let mut chunks = Vec::with_capacity(alloc, written.len())?;
     for items in written {
@@ -212,7 +206,6 @@ fn read_stored<C: ReadChunk + Stored>(
     ensures chunks { IfOk result (λ o. option_map chunk_lists o
         ≡ each (each (cell_in (kind_of dtype.now))) (map (λ v. map view v.items) written.now.items)) }
     ensures typed { IfOk result (λ o. IfSome o (λ c. IsTyped (kind_of dtype.now) (chunk_lists c))) }
-    ensures fresh { IfOk result (λ o. IfSome o (λ c. chunk_runs c ≡ fresh_runs (chunk_lists c))) }
     ensures stored { IfOk result (λ o. IfSome o (λ c. storage c ≡ C.kind)) }
 {
     match chunks_of::<C>(alloc, dtype, written)? {
@@ -230,7 +223,6 @@ pub fn arrays_in(
     ensures chunks { IfOk result (λ o. option_map chunk_lists o
         ≡ each (each (cell_in (kind_of dtype.now))) (map (λ v. map view v.items) written.now.items)) }
     ensures typed { IfOk result (λ o. IfSome o (λ c. IsTyped (kind_of dtype.now) (chunk_lists c))) }
-    ensures fresh { IfOk result (λ o. IfSome o (λ c. chunk_runs c ≡ fresh_runs (chunk_lists c))) }
     ensures stored { IfOk result (λ o. IfSome o (λ c. storage c ≡ physical (kind_of dtype.now))) }
 {
     match physical_of(dtype) {

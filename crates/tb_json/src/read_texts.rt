@@ -9,7 +9,6 @@ ghost use Rattle.tb_value.specs.Typed.{HasType};
 ghost use Rattle.tb_chunk.specs.Chunk.{or_null};
 ghost use Rattle.tb_json.specs.Lists.{each};
 ghost use Rattle.tb_json.specs.Cells.{cell_in};
-ghost use Rattle.tb_json.specs.Fresh.{IsBuilt, IsFresh};
 
 use crate::read_plain_cells::{decode_short, lent_text};
 use std::alloc::Global;
@@ -26,8 +25,6 @@ pub(crate) fn text_chunk(
         ≡ each (cell_in kind.string) (map view items.now.items)) }
     ensures typed { IfOk result (λ o. IfSome o
         (λ c. All (HasType kind.string) (⟦<StringChunk as Chunk>⟧.shown c))) }
-    ensures fresh { IfOk result (λ o. IfSome o
-        (λ c. IsFresh (⟦<StringChunk as Chunk>⟧.shown c) (⟦<StringChunk as Chunk>⟧.views c) (⟦<StringChunk as Chunk>⟧.buffers c))) }
 {
     let mut builder = StringBuilder::with_capacity(alloc, items.len())?;
     for item in items {
@@ -40,16 +37,14 @@ pub(crate) fn text_chunk(
 }
 
 // Appends the bytes that a value is, by way of the buffer, and says whether it is such a value.
-#[tactic(auto, using(crate::proofs::Fresh::row_built))]
 fn push_bytes(
     alloc: Global,
     builder: &mut BinaryBuilder,
     buffer: &mut Vec<u8>,
     value: &Value,
 ) -> Result<bool, OutOfMemory>
-    ensures cell { IfOk result (λ pushed. MatchOption (cell_in kind.binary (view value.now)) (pushed ≡ false)
+    ensures { IfOk result (λ pushed. MatchOption (cell_in kind.binary (view value.now)) (pushed ≡ false)
         (λ cell. (pushed ≡ true) × (map (or_null binary) builder.new.rows ≡ map (or_null binary) builder.old.rows ++ cell ∷ []))) }
-    ensures built { IfOk result (λ pushed. IsBuilt builder.old → IsBuilt builder.new) }
 {
     if value.is_null() {
         builder.push_null()?;
@@ -74,8 +69,6 @@ pub(crate) fn bytes_chunk(
         ≡ each (cell_in kind.binary) (map view items.now.items)) }
     ensures typed { IfOk result (λ o. IfSome o
         (λ c. All (HasType kind.binary) (⟦<BinaryChunk as Chunk>⟧.shown c))) }
-    ensures fresh { IfOk result (λ o. IfSome o
-        (λ c. IsFresh (⟦<BinaryChunk as Chunk>⟧.shown c) (⟦<BinaryChunk as Chunk>⟧.views c) (⟦<BinaryChunk as Chunk>⟧.buffers c))) }
 {
     let mut builder = BinaryBuilder::with_capacity(alloc, items.len())?;
     let mut buffer = Vec::new(alloc);

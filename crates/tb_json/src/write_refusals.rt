@@ -150,7 +150,8 @@ fn compute_value(alloc: Global, cause: &ComputeCause) -> Result<Value, OutOfMemo
     }
 }
 
-fn error_value(alloc: Global, error: &PolarsError) -> Result<Value, OutOfMemory>
+/// The JSON value of a refusal, whose text `text_of_refusal` writes.
+pub fn error_value(alloc: Global, error: &PolarsError) -> Result<Value, OutOfMemory>
     ensures { IfOk result (λ v. view v ≡ error_data error.now) }
 {
     match error {

@@ -8,7 +8,6 @@ use Rattle.tb_json.proofs.Flat.{flat-push}
 use Rattle.tb_value.specs.SeeKind.{kind_of}
 use Rattle.tb_json.specs.Cells.{cell_in}
 use Rattle.tb_json.proofs.LentValues.{Walk-more, Walk-fails}
-use Rattle.tb_json.proofs.Fresh.{fresh-push}
 use Rattle.tb_json.proofs.read_arrays.chunks_of.Goals as goal
 
 pub returns-in_default-clause-chunks : goal.returns-in_default-clause-chunks
@@ -22,5 +21,4 @@ loop-items-preserved g c = record {
       rw (c.in_ok-push.ensures.items, map_push)
       (Walk-more (λ v. map view v.items) (each (cell_in (kind_of c.args.dtype.now))) _ _ _ _ _ c.loop-items-test.true c.items-item.is (sym c.in_ok-chunk.ensures.values ∙ ap (option_map g.C.Chunk.shown) c.in-Some.is) c.loop-items.invariant.walked);
   typed = rw (c.in_ok-push.ensures.items, map_push, flat-push) (All-append (HasType (kind_of c.args.dtype.now)) _ _ c.loop-items.invariant.typed (rw c.in-Some.is at c.in_ok-chunk.ensures.typed));
-  fresh = rw c.in_ok-push.ensures.items (fresh-push g.C.Chunk.shown g.C.Chunk.views g.C.Chunk.buffers _ _ (rw c.in-Some.is at c.in_ok-chunk.ensures.fresh) c.loop-items.invariant.fresh);
 }

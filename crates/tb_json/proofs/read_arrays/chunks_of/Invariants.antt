@@ -1,8 +1,6 @@
-use Rattle.std.proofs.Common.{◌≡◌, map}
+use Rattle.std.proofs.Common.{map}
 use Rattle.tb_tree.specs.View.{view}
-use Rattle.tb_chunk.specs.Fresh.{fresh_runs}
 use Rattle.tb_chunk.specs.Made.{IsTyped}
-use Rattle.tb_chunk.specs.Whole.{runs_of}
 use Rattle.tb_json.specs.Lists.{each}
 use Rattle.tb_value.specs.SeeKind.{kind_of}
 use Rattle.tb_json.specs.Cells.{cell_in}
@@ -13,5 +11,4 @@ abbrev pub invariant-loop-items : goal.invariant-loop-items
 invariant-loop-items g l = record {
   walked : Walk (λ v. map view v.items) (each (cell_in (kind_of l.dtype))) l.items-items (map g.C.Chunk.shown l.chunks.items) l.items-index;
   typed : IsTyped (kind_of l.dtype) (map g.C.Chunk.shown l.chunks.items);
-  fresh : runs_of g.C.Chunk.views g.C.Chunk.buffers l.chunks.items ≡ fresh_runs (map g.C.Chunk.shown l.chunks.items);
 }

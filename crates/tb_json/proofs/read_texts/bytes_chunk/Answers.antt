@@ -6,8 +6,6 @@ use Rattle.tb_value.specs.Kind as kind
 use Rattle.tb_json.specs.Lists.{each}
 use Rattle.tb_json.specs.Cells.{cell_in}
 use Rattle.tb_json.proofs.LentValues.{Walk-more, Walk-fails}
-use Rattle.tb_json.proofs.Fresh.{finished}
-use Rattle.tb_chunk.proofs.Fresh.{fresh_binaries}
 use Rattle.tb_json.proofs.read_texts.bytes_chunk.Goals as goal
 
 not_pushed : (P : Datum → Type 0) (o : Option Datum) (b : Bool) → MatchOption o (b ≡ false) (λ d. (b ≡ true) × P d) → b ≡ false → o ≡ None
@@ -20,17 +18,10 @@ is_pushed P (Some d) b h e = (d, refl, h.1)
 
 pub returns-then-not-branch-clause-values : goal.returns-then-not-branch-clause-values
 returns-then-not-branch-clause-values c =
-    Walk-fails view (cell_in kind.binary) _ _ _ _ c.loop-item-test.true c.item-item.is (not_pushed _ (cell_in kind.binary (view c.item-item.result)) c.in_ok-push_bytes.field-0 c.in_ok-push_bytes.ensures.cell c.if-not-branch.true) c.loop-item.invariant.walked
+    Walk-fails view (cell_in kind.binary) _ _ _ _ c.loop-item-test.true c.item-item.is (not_pushed _ (cell_in kind.binary (view c.item-item.result)) c.in_ok-push_bytes.field-0 c.in_ok-push_bytes.ensures c.if-not-branch.true) c.loop-item.invariant
     ∙ ap (λ vs. each (cell_in kind.binary) (map view vs)) c.deref-item-items.ensures.value
 
 pub loop-item-preserved : goal.loop-item-preserved
 loop-item-preserved c =
-    let p = is_pushed _ (cell_in kind.binary (view c.item-item.result)) c.in_ok-push_bytes.field-0 c.in_ok-push_bytes.ensures.cell c.if-not-branch.false in
-    record {
-      walked = rw p.2 (Walk-more view (cell_in kind.binary) _ _ _ _ p.0 c.loop-item-test.true c.item-item.is p.1 c.loop-item.invariant.walked);
-      built = c.in_ok-push_bytes.ensures.built c.loop-item.invariant.built;
-    }
-
-pub returns-clause-fresh : goal.returns-clause-fresh
-returns-clause-fresh c =
-    finished binary fresh_binaries c.loop-item.builder _ _ c.in_ok-finish.ensures.bytes c.in_ok-finish.ensures.views c.in_ok-finish.ensures.buffers c.loop-item.invariant.built
+    let p = is_pushed _ (cell_in kind.binary (view c.item-item.result)) c.in_ok-push_bytes.field-0 c.in_ok-push_bytes.ensures c.if-not-branch.false in
+    rw p.2 (Walk-more view (cell_in kind.binary) _ _ _ _ p.0 c.loop-item-test.true c.item-item.is p.1 c.loop-item.invariant)

@@ -7,32 +7,23 @@ use Rattle.tb_chunk.specs.Chunk.{or_null}
 use Rattle.tb_json.specs.Lists.{each}
 use Rattle.tb_json.specs.Cells.{cell_in}
 use Rattle.tb_json.proofs.LentValues.{Walk-more, Walk-fails, Walk-all}
-use Rattle.tb_json.proofs.Fresh.{finished, row_built}
-use Rattle.tb_chunk.proofs.Fresh.{fresh_texts}
 use Rattle.tb_json.proofs.read_texts.text_chunk.Goals as goal
 
 pub returns-in_default-clause-values : goal.returns-in_default-clause-values
 returns-in_default-clause-values c =
-    Walk-fails view (cell_in kind.string) _ _ _ _ c.loop-item-test.true c.item-item.is (sym c.lent_text.ensures ∙ ap (option_map (λ o. or_null string (option_map (λ t. t.now) o))) c.in_default.is) c.loop-item.invariant.walked
+    Walk-fails view (cell_in kind.string) _ _ _ _ c.loop-item-test.true c.item-item.is (sym c.lent_text.ensures ∙ ap (option_map (λ o. or_null string (option_map (λ t. t.now) o))) c.in_default.is) c.loop-item.invariant
     ∙ ap (λ vs. each (cell_in kind.string) (map view vs)) c.deref-item-items.ensures.value
 
 pub loop-item-preserved : goal.loop-item-preserved
-loop-item-preserved c = record {
-  walked =
-      rw (ap (λ b. b.rows) c.in_ok-push_option.ensures.ok, map_push)
-      (Walk-more view (cell_in kind.string) _ _ _ _ _ c.loop-item-test.true c.item-item.is (sym c.lent_text.ensures ∙ ap (option_map (λ o. or_null string (option_map (λ t. t.now) o))) c.in-Some.is) c.loop-item.invariant.walked);
-  built = row_built _ _ _ c.in_ok-push_option.ensures.ok c.loop-item.invariant.built;
-}
+loop-item-preserved c =
+    rw (ap (λ b. b.rows) c.in_ok-push_option.ensures.ok, map_push)
+    (Walk-more view (cell_in kind.string) _ _ _ _ _ c.loop-item-test.true c.item-item.is (sym c.lent_text.ensures ∙ ap (option_map (λ o. or_null string (option_map (λ t. t.now) o))) c.in-Some.is) c.loop-item.invariant)
 
 pub returns-clause-values : goal.returns-clause-values
 returns-clause-values c =
     ap (λ rows. Some (map (or_null string) rows)) c.in_ok-finish.ensures.texts
-    ∙ Walk-all view (cell_in kind.string) _ _ _ (omega arith) c.loop-item.invariant.walked
+    ∙ Walk-all view (cell_in kind.string) _ _ _ (omega arith) c.loop-item.invariant
     ∙ ap (λ vs. each (cell_in kind.string) (map view vs)) c.deref-item-items.ensures.value
 
 pub returns-clause-typed : goal.returns-clause-typed
 returns-clause-typed c = rw c.in_ok-finish.ensures.texts c.in_ok-finish.ensures.typed
-
-pub returns-clause-fresh : goal.returns-clause-fresh
-returns-clause-fresh c =
-    finished string fresh_texts c.loop-item.builder _ _ c.in_ok-finish.ensures.texts c.in_ok-finish.ensures.views c.in_ok-finish.ensures.buffers c.loop-item.invariant.built

@@ -4,12 +4,8 @@ use Rattle.tb_value.specs.Datum.{string}
 use Rattle.tb_value.specs.Kind as kind
 use Rattle.tb_chunk.specs.Chunk.{or_null}
 use Rattle.tb_json.specs.Cells.{cell_in}
-use Rattle.tb_json.specs.Fresh.{IsBuilt}
 use Rattle.tb_json.proofs.LentValues.{Walk}
 use Rattle.tb_json.proofs.read_texts.text_chunk.Given as goal
 
 abbrev pub invariant-loop-item : goal.invariant-loop-item
-invariant-loop-item l = record {
-  walked : Walk view (cell_in kind.string) l.item-items (map (or_null string) l.builder.rows) l.item-index;
-  built : IsBuilt l.builder;
-}
+invariant-loop-item l = Walk view (cell_in kind.string) l.item-items (map (or_null string) l.builder.rows) l.item-index
