@@ -1,20 +1,16 @@
 //! The tables of all parts of the keys.
-ghost use Rattle.std.specs.Prelude.{◌≡◌, ℕ, ◌+◌, ◌-◌, ◌<◌, ◌≤◌, length, map, slice_index_or, IfOk};
-ghost use Rattle.tb_value.specs.Pairs.{row_numbers};
+ghost use Rattle.std.specs.Prelude.{◌≡◌, ℕ, ◌+◌, ◌<◌, ◌≤◌, length, map, All, IfOk};
 ghost use Rattle.tb_build.specs.Plan.{codes_of, part_count, part_sizes};
-ghost use Rattle.tb_build.specs.Grouping.{between};
-ghost use Rattle.tb_build.specs.Scattering.{HasRows, IsTableOfRows};
 ghost use Rattle.tb_build.specs.TableView.{ArePartTables};
-ghost use Rattle.tb_build.specs.Packed.{key_rows};
+ghost use Rattle.tb_build.specs.Packed.{key_rows, PackedView};
+ghost use Rattle.tb_build.specs.Pieces.{bare_of_part, items_of_part, IsTableOfItems, PiecesView};
 
-use crate::groups::RowNames;
 use crate::keys::{JoinKey, KeyCode};
 use crate::lent::{JoinList, KeyList};
-use crate::packed::{PackedTable, packed_table};
+use crate::packed::{PackedTable, packed, packed_table};
 use crate::phases::run_phase;
-use crate::scattering::scatter_rows;
+use crate::pieces::{Pieces, scattered_pieces};
 use std::alloc::Global;
-use std::marker::PhantomData;
 use std::thread::Threads;
 use tb_pool::{Exec, Gate, Parts};
 use tb_value::{IdxSize, MAX_ROWS, OutOfMemory};
@@ -29,7 +25,7 @@ fn one_table<K: KeyCode, L: KeyList<K>>(
     ensures sizes { IfOk result (λ r. r.1.items ≡ part_sizes (codes_of K.code (L.list list.now)) 1) }
 {
     let len = list.len();
-    let table = packed_table(alloc, list, RowNames::From(0), len)?;
+    let table = packed_table(alloc, list, len)?;
     let mut tables = Vec::new(alloc);
     tables.push(table)?;
     let mut sizes = Vec::new(alloc);
@@ -37,61 +33,89 @@ fn one_table<K: KeyCode, L: KeyList<K>>(
     Ok((tables, sizes))
 }
 
-// The table of the keys of one part, by the rows of all parts.
-fn part_table<K: KeyCode, L: KeyList<K>>(
+// The keys of a part, those of one portion after another, with room for so many.
+fn part_items<K: KeyCode>(
     alloc: Global,
-    list: &L,
-    idxs: &[IdxSize],
-    starts: &[usize],
+    portions: &[Pieces<K>],
     part: u32,
-) -> Result<PackedTable<K>, OutOfMemory>
-    requires { HasRows (length (L.list list.now)) starts.now idxs.now part }
-    ensures { IfOk result (λ t. IsTableOfRows K.eq (L.list list.now) (between starts.now idxs.now part) (key_rows K.eq t)) }
+    room: usize,
+) -> Result<Vec<(K, IdxSize)>, OutOfMemory>
+    requires { All (λ (v : PiecesView K). part < length v.pieces) portions.now }
+    ensures { IfOk result (λ v. v.items ≡ items_of_part portions.now part) }
 {
-    let start = starts[part as usize];
-    let end = starts[part as usize + 1];
-    let rows = &idxs[start..end];
-    let table = packed_table(alloc, list, RowNames::Listed(rows), rows.len())?;
-    Ok(table)
+    let mut items = Vec::with_capacity(alloc, room)?;
+    for portion in portions {
+        items.extend_from_slice(portion.of_part(part))?;
+    }
+    Ok(items)
 }
 
-// Scattered rows, each part of which becomes a table.
-#[derive(Drop)]
-struct Building<'a, K: JoinKey, L: KeyList<K>> {
+// The rows of a part without a key, which are all in part 0.
+fn part_bare_rows<K: KeyCode>(
     alloc: Global,
-    list: &'a L,
-    idxs: &'a [IdxSize],
-    starts: &'a [usize],
-    of: PhantomData<K>,
+    portions: &[Pieces<K>],
+    part: u32,
+) -> Result<Vec<IdxSize>, OutOfMemory>
+    ensures { IfOk result (λ v. v.items ≡ bare_of_part portions.now part) }
+{
+    let mut rows = Vec::new(alloc);
+    if part != 0 {
+        return Ok(rows);
+    }
+    for portion in portions {
+        rows.extend_from_slice(portion.bare_rows())?;
+    }
+    Ok(rows)
 }
 
-impl<K: JoinKey, L: JoinList<K>> Parts for Building<'_, K, L> {
-    ghost use Rattle.std.specs.Prelude.{length};
-    ghost use Rattle.tb_build.specs.Grouping.{between};
-    ghost use Rattle.tb_build.specs.Scattering.{HasRows, IsTableOfRows};
-    ghost use Rattle.tb_build.specs.Packed.{key_rows};
+// The table of the keys of one part, and of its rows without one.
+fn part_table<K: KeyCode>(
+    alloc: Global,
+    portions: &[Pieces<K>],
+    part: u32,
+    room: usize,
+) -> Result<PackedTable<K>, OutOfMemory>
+    requires within { All (λ (v : PiecesView K). part < length v.pieces) portions.now }
+    requires few { length (items_of_part portions.now part) ≤ MAX_ROWS }
+    ensures { IfOk result (λ t. IsTableOfItems K.eq (items_of_part portions.now part) (bare_of_part portions.now part) t) }
+{
+    let items = part_items(alloc, portions, part, room)?;
+    let bare = part_bare_rows(alloc, portions, part)?;
+    packed(alloc, items.as_slice(), bare)
+}
+
+// Portions in pieces, of which those of each part become a table.
+#[derive(Drop)]
+struct Building<'a, K: JoinKey> {
+    alloc: Global,
+    portions: &'a [Pieces<K>],
+    room: usize,
+}
+
+impl<K: JoinKey> Parts for Building<'_, K> {
+    ghost use Rattle.std.specs.Prelude.{◌<◌, ◌≤◌, length, All};
+    ghost use Rattle.tb_value.specs.declared.limits.TheConstants.{MAX_ROWS};
+    ghost use Rattle.tb_build.specs.Pieces.{bare_of_part, items_of_part, IsTableOfItems, PiecesView};
 
     type Out = PackedTable<K>;
 
-    ghost may_run = { λ w part. HasRows (length (L.list w.list.now)) w.starts.now w.idxs.now part };
+    ghost may_run = { λ w part. All (λ (v : PiecesView K). part < length v.pieces) w.portions.now × (length (items_of_part w.portions.now part) ≤ MAX_ROWS) };
 
-    ghost gives = { λ w part out. IsTableOfRows K.eq (L.list w.list.now) (between w.starts.now w.idxs.now part) (key_rows K.eq out) };
+    ghost gives = { λ w part out. IsTableOfItems K.eq (items_of_part w.portions.now part) (bare_of_part w.portions.now part) out };
 
     fn run(&self, part: u32) -> Result<PackedTable<K>, OutOfMemory> {
-        part_table(self.alloc, self.list, self.idxs, self.starts, part)
+        part_table(self.alloc, self.portions, part, self.room)
     }
 }
 
-// How many keys lie between each start and the next one.
-fn sizes(alloc: Global, starts: &[usize]) -> Result<Vec<usize>, OutOfMemory>
-    requires some { 1 ≤ length starts.now }
-    requires order { (d : ℕ) → d + 1 < length starts.now → slice_index_or starts.now d 0 ≤ slice_index_or starts.now (d + 1) 0 }
-    ensures { IfOk result (λ v. v.items ≡ map (λ p. slice_index_or starts.now (p + 1) 0 - slice_index_or starts.now p 0) (row_numbers (length starts.now - 1))) }
+// How many rows each table has.
+fn sizes<K: KeyCode>(alloc: Global, tables: &[PackedTable<K>]) -> Result<Vec<usize>, OutOfMemory>
+    requires { All (λ (t : PackedView K). length t.keys + length t.bare ≤ MAX_ROWS) tables.now }
+    ensures { IfOk result (λ v. v.items ≡ map (λ (t : PackedView K). length t.keys + length t.bare) tables.now) }
 {
-    let parts = starts.len() - 1;
-    let mut sizes = Vec::with_capacity(alloc, parts)?;
-    for part in 0..parts {
-        sizes.push(starts[part + 1] - starts[part])?;
+    let mut sizes = Vec::with_capacity(alloc, tables.len())?;
+    for table in tables {
+        sizes.push(table.len())?;
     }
     Ok(sizes)
 }
@@ -107,22 +131,22 @@ fn part_tables<K: JoinKey, L: JoinList<K>, G: Gate>(
     requires { length (L.list list.now) ≤ MAX_ROWS }
     ensures tables { IfOk result (λ r. ArePartTables K.eq K.code (L.list list.now) exec.now.partitions (map (key_rows K.eq) r.0.items)) }
     ensures sizes { IfOk result (λ r. r.1.items ≡ part_sizes (codes_of K.code (L.list list.now)) exec.now.partitions) }
+    ensures let_in { IfOk result (λ _. (part : ℕ) → part < exec.now.partitions → G.lets_in gate.now part) }
 {
-    let (idxs, starts) = scatter_rows(rt, alloc, list, exec, gate)?;
+    let parts = exec.partitions();
+    let portions = scattered_pieces(rt, alloc, list, exec, gate)?;
     let work = Building {
         alloc,
-        list,
-        idxs: idxs.as_slice(),
-        starts: starts.as_slice(),
-        of: PhantomData,
+        portions: portions.as_slice(),
+        room: list.len() / parts as usize,
     };
-    let tables = run_phase(rt, alloc, exec, exec.partitions(), &work, gate)?;
-    let sizes = sizes(alloc, starts.as_slice())?;
+    let tables = run_phase(rt, alloc, exec, parts, &work, gate)?;
+    let sizes = sizes(alloc, tables.as_slice())?;
     Ok((tables, sizes))
 }
 
 /// The tables of as many parts as are planned, and their sizes. One part is built on the caller, of the keys as they
-/// stand.
+/// stand. The gate has let each part in.
 pub fn planned_tables<K: JoinKey, L: JoinList<K>, G: Gate>(
     rt: &(impl Threads + Sync),
     alloc: Global,
@@ -134,6 +158,7 @@ pub fn planned_tables<K: JoinKey, L: JoinList<K>, G: Gate>(
     ensures count { IfOk result (λ r. (1 ≤ length r.0.items) × (length r.0.items ≤ 1024)) }
     ensures tables { IfOk result (λ r. ArePartTables K.eq K.code (L.list list.now) (part_count exec.now (length (L.list list.now))) (map (key_rows K.eq) r.0.items)) }
     ensures sizes { IfOk result (λ r. r.1.items ≡ part_sizes (codes_of K.code (L.list list.now)) (part_count exec.now (length (L.list list.now)))) }
+    ensures let_in { IfOk result (λ _. (part : ℕ) → part < part_count exec.now (length (L.list list.now)) → G.lets_in gate.now part) }
 {
     if list.len() < exec.small() as usize || exec.partitions() == 1 {
         gate.enter(0);

@@ -235,6 +235,7 @@ pub fn listed_tables<K: JoinKey, L: JoinList<K>, G: Gate>(
     ensures nulls { IfOk result (λ r. r.0.join_nulls ≡ join_nulls) }
     ensures side { IfOk result (λ r. r.0.left_built ≡ left_built) }
     ensures built { IfOk result (λ r. r.1 ≡ plan_of exec.now left_built (codes_of K.code (L.list list.now))) }
+    ensures let_in { IfOk result (λ r. (part : ℕ) → part < r.1.parts → G.lets_in gate.now part) }
 {
     let (parts, sizes) = planned_tables(rt, alloc, list, exec, gate)?;
     let built = Built {
@@ -268,6 +269,7 @@ pub fn build_tables<K: JoinKey, G: Gate>(
     ensures nulls { IfOk result (λ r. r.0.join_nulls ≡ join_nulls) }
     ensures side { IfOk result (λ r. r.0.left_built ≡ left_built) }
     ensures built { IfOk result (λ r. r.1 ≡ plan_of exec.now left_built (codes_of K.code keys.now)) }
+    ensures let_in { IfOk result (λ r. (part : ℕ) → part < r.1.parts → G.lets_in gate.now part) }
 {
     let list = SliceKeys { keys };
     listed_tables(rt, alloc, &list, join_nulls, left_built, exec, gate)

@@ -2,7 +2,6 @@
 ghost use Rattle.std.specs.Prelude.{◌≡◌, ◌≤◌, length, IfOk};
 ghost use Rattle.tb_build.specs.Keys.{key_twins};
 
-use crate::groups::RowNames;
 use crate::keys::KeyCode;
 use crate::lent::KeyList;
 use crate::packed::packed_table;
@@ -20,7 +19,7 @@ pub fn have_twins<K: KeyCode, L: KeyList<K>>(
     ensures { IfOk result (λ b. b ≡ key_twins K.eq join_nulls (L.list list.now)) }
 {
     let len = list.len();
-    let table = packed_table(alloc, list, RowNames::From(0), len)?;
+    let table = packed_table(alloc, list, len)?;
     if table.has_twins() {
         return Ok(true);
     }
