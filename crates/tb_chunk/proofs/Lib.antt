@@ -14,6 +14,7 @@ pub mod Merging
 pub mod Moved
 pub mod Nulls
 pub mod OneChunk
+pub mod PlainRows
 pub mod Parts
 pub mod Rows
 pub mod Runs

@@ -118,7 +118,7 @@ laid_runs-none rs a =
     λ i. record { views = v i; buffers = begun (b i) }
 
 -- rows without a view, by how many they are
-views_of_none : {A : Type 0} (xs : List A) → map {B = Option View} (λ _. None) xs ≡ replicate (length xs) None
+pub views_of_none : {A : Type 0} (xs : List A) → map {B = Option View} (λ _. None) xs ≡ replicate (length xs) None
 views_of_none [] = refl
 views_of_none (x ∷ xs) = ap (λ (vs : List (Option View)). None ∷ vs) (views_of_none xs)
 

@@ -1,5 +1,5 @@
 -- Facts on the views and buffers of several chunks.
-use Rattle.std.proofs.Common.{arith, zero, suc, inl, inr, ◌≡◌, ◌<◌, ◌+◌, ℕ, List, [], ◌∷◌, ◌++◌, Option, Some, None, length, map, take, drop, get_or, refl, ap, sym, ◌∙◌, append_assoc, append-nil, length-append}
+use Rattle.std.proofs.Common.{arith, zero, suc, inl, inr, ◌≡◌, ◌<◌, ◌≤◌, ◌+◌, ℕ, List, [], ◌∷◌, ◌++◌, Option, Some, None, length, map, take, drop, get_or, refl, ap, sym, ◌∙◌, append_assoc, append-nil, length-append}
 use Rattle.std.proofs.lemmas.Bool.{cases_lt}
 use Rattle.std.specs.List.{flat_map, sum}
 use Rattle.std.proofs.lemmas.List.{length-map, map-append, take_all, take-map, drop-map, take_more, get_or-drop, get_or-append-add, get_or-map, get_or_append_left, get_or_at}
@@ -153,3 +153,30 @@ pub view_of_row : (rs : List ViewRun) (k i : ℕ) → i < length (run_at rs k).v
 view_of_row rs k i low =
     let first : 0 + base_of rs k ≡ base_of rs k = omega arith in
     view_of_row-from rs 0 k i low ∙ ap (λ b. moved b (get_or (run_at rs k).views i None)) first
+
+-- all rows of the only chunk
+module _ {C D : Type 0} (shown : C → List D) (views : C → List (Option View)) (buffers : C → List (List ℕ)) (viewed : (c : C) → length (views c) ≡ length (shown c)) where
+  from_start : (cs : List C) (c : C) (start len : ℕ) → length cs ≡ 1 → c ≡ get_or cs 0 c → len ≡ length (shown c) → start + len ≤ length (flat_map (λ vs. vs) (map shown cs)) → (start ≡ 0) × (cs ≡ c ∷ [])
+  from_start [] c start len one e all within = absurd (omega arith)
+  from_start (x ∷ []) c start len one e all within =
+      let same : length (shown c) ≡ length (shown x) = ap (λ y. length (shown y)) e in
+      let begin : start ≡ 0 = omega (arith, within, all, same, ap length (append-nil (shown x))) in
+      (begin, (λ i. sym e i ∷ []))
+  from_start (x ∷ y ∷ cs) c start len one e all within = absurd (omega arith)
+
+  pub only_shown : (cs : List C) (c : C) (start len : ℕ) → length cs ≡ 1 → c ≡ get_or cs 0 c → len ≡ length (shown c) → start + len ≤ length (flat_map (λ vs. vs) (map shown cs)) → shown c ≡ take len (drop start (flat_map (λ vs. vs) (map shown cs)))
+  only_shown cs c start len one e all within =
+      let b = from_start cs c start len one e all within in
+      sym (
+      (λ i. take len (drop (b.0 i) (flat_map (λ vs. vs) (map shown (b.1 i)))))
+      ∙ ap (take len) (append-nil (shown c))
+      ∙ take_all len (shown c) (omega (arith, all)))
+
+  pub only_run : (cs : List C) (c : C) (start len : ℕ) → length cs ≡ 1 → c ≡ get_or cs 0 c → len ≡ length (shown c) → start + len ≤ length (flat_map (λ vs. vs) (map shown cs)) → record { views = views c; buffers = buffers c } ≡ window_of start len (whole (runs_of views buffers cs))
+  only_run cs c start len one e all within =
+      let b = from_start cs c start len one e all within in
+      let r : ViewRun = record { views = views c; buffers = buffers c } in
+      sym (
+      (λ i. window_of (b.0 i) len (whole (runs_of views buffers (b.1 i))))
+      ∙ ap (window_of 0 len) (whole-one r)
+      ∙ window-all r len (viewed c ∙ sym all))

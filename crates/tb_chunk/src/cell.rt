@@ -1,5 +1,5 @@
 //! A value as a typed column stores it.
-ghost use Rattle.std.specs.Prelude.{◌≡◌, ◌≢◌, IfOk, None, false, pos, refl};
+ghost use Rattle.std.specs.Prelude.{◌≡◌, ◌≢◌, ◌+◌, ◌++◌, ◌≤◌, IfOk, OnOk, None, false, length, map, pos, refl};
 ghost use Rattle.tb_value.specs.Datum.{Datum, null, boolean, int, list, struct, items_of, is_null};
 ghost use Rattle.tb_value.specs.Kind.{Kind};
 ghost use Rattle.tb_value.specs.Kind as kinds;
@@ -35,6 +35,11 @@ pub trait Cell: Drop {
     /// A cell of the same value.
     fn copy(&self, alloc: Global) -> Result<Self, OutOfMemory>
         ensures { IfOk result (λ c. shows c ≡ shows self.now) };
+
+    /// Appends cells of the same values. After a refusal some of them may stand there.
+    fn append_copies(alloc: Global, to: &mut Vec<Self>, from: &[Self]) -> Result<(), OutOfMemory>
+        ensures ok { OnOk result (map shows to.new.items ≡ map shows to.old.items ++ map shows from.now) }
+        ensures few { length to.new.items ≤ length to.old.items + length from.now };
 }
 
 /// The values of a struct's fields.
@@ -66,6 +71,11 @@ impl Cell for bool {
     fn copy(&self, alloc: Global) -> Result<bool, OutOfMemory> {
         Ok(*self)
     }
+
+    fn append_copies(alloc: Global, to: &mut Vec<bool>, from: &[bool]) -> Result<(), OutOfMemory> {
+        to.extend_from_slice(from)?;
+        Ok(())
+    }
 }
 
 impl Cell for i8 {
@@ -90,6 +100,11 @@ impl Cell for i8 {
 
     fn copy(&self, alloc: Global) -> Result<i8, OutOfMemory> {
         Ok(*self)
+    }
+
+    fn append_copies(alloc: Global, to: &mut Vec<i8>, from: &[i8]) -> Result<(), OutOfMemory> {
+        to.extend_from_slice(from)?;
+        Ok(())
     }
 }
 
@@ -116,6 +131,11 @@ impl Cell for i16 {
     fn copy(&self, alloc: Global) -> Result<i16, OutOfMemory> {
         Ok(*self)
     }
+
+    fn append_copies(alloc: Global, to: &mut Vec<i16>, from: &[i16]) -> Result<(), OutOfMemory> {
+        to.extend_from_slice(from)?;
+        Ok(())
+    }
 }
 
 impl Cell for i32 {
@@ -140,6 +160,11 @@ impl Cell for i32 {
 
     fn copy(&self, alloc: Global) -> Result<i32, OutOfMemory> {
         Ok(*self)
+    }
+
+    fn append_copies(alloc: Global, to: &mut Vec<i32>, from: &[i32]) -> Result<(), OutOfMemory> {
+        to.extend_from_slice(from)?;
+        Ok(())
     }
 }
 
@@ -166,6 +191,11 @@ impl Cell for i64 {
     fn copy(&self, alloc: Global) -> Result<i64, OutOfMemory> {
         Ok(*self)
     }
+
+    fn append_copies(alloc: Global, to: &mut Vec<i64>, from: &[i64]) -> Result<(), OutOfMemory> {
+        to.extend_from_slice(from)?;
+        Ok(())
+    }
 }
 
 impl Cell for i128 {
@@ -190,6 +220,11 @@ impl Cell for i128 {
 
     fn copy(&self, alloc: Global) -> Result<i128, OutOfMemory> {
         Ok(*self)
+    }
+
+    fn append_copies(alloc: Global, to: &mut Vec<i128>, from: &[i128]) -> Result<(), OutOfMemory> {
+        to.extend_from_slice(from)?;
+        Ok(())
     }
 }
 
@@ -216,6 +251,11 @@ impl Cell for u8 {
     fn copy(&self, alloc: Global) -> Result<u8, OutOfMemory> {
         Ok(*self)
     }
+
+    fn append_copies(alloc: Global, to: &mut Vec<u8>, from: &[u8]) -> Result<(), OutOfMemory> {
+        to.extend_from_slice(from)?;
+        Ok(())
+    }
 }
 
 impl Cell for u16 {
@@ -240,6 +280,11 @@ impl Cell for u16 {
 
     fn copy(&self, alloc: Global) -> Result<u16, OutOfMemory> {
         Ok(*self)
+    }
+
+    fn append_copies(alloc: Global, to: &mut Vec<u16>, from: &[u16]) -> Result<(), OutOfMemory> {
+        to.extend_from_slice(from)?;
+        Ok(())
     }
 }
 
@@ -266,6 +311,11 @@ impl Cell for u32 {
     fn copy(&self, alloc: Global) -> Result<u32, OutOfMemory> {
         Ok(*self)
     }
+
+    fn append_copies(alloc: Global, to: &mut Vec<u32>, from: &[u32]) -> Result<(), OutOfMemory> {
+        to.extend_from_slice(from)?;
+        Ok(())
+    }
 }
 
 impl Cell for u64 {
@@ -291,6 +341,11 @@ impl Cell for u64 {
     fn copy(&self, alloc: Global) -> Result<u64, OutOfMemory> {
         Ok(*self)
     }
+
+    fn append_copies(alloc: Global, to: &mut Vec<u64>, from: &[u64]) -> Result<(), OutOfMemory> {
+        to.extend_from_slice(from)?;
+        Ok(())
+    }
 }
 
 impl Cell for Values {
@@ -315,6 +370,17 @@ impl Cell for Values {
 
     fn copy(&self, alloc: Global) -> Result<Values, OutOfMemory> {
         self.copy(alloc)
+    }
+
+    fn append_copies(
+        alloc: Global,
+        to: &mut Vec<Values>,
+        from: &[Values],
+    ) -> Result<(), OutOfMemory> {
+        for values in from {
+            to.push(values.copy(alloc)?)?;
+        }
+        Ok(())
     }
 }
 
@@ -344,5 +410,18 @@ impl Cell for FieldValues {
         Ok(FieldValues {
             values: self.values.copy(alloc)?,
         })
+    }
+
+    fn append_copies(
+        alloc: Global,
+        to: &mut Vec<FieldValues>,
+        from: &[FieldValues],
+    ) -> Result<(), OutOfMemory> {
+        for fields in from {
+            to.push(FieldValues {
+                values: fields.values.copy(alloc)?,
+            })?;
+        }
+        Ok(())
     }
 }

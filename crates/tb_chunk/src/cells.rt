@@ -1,5 +1,5 @@
 //! Optional values of one type.
-ghost use Rattle.std.specs.Prelude.{◌≡◌, ◌<◌, ◌++◌, ◌∷◌, [], IfOk, OnOk, OnErr, Some, None, MatchOption, is_none, length, get_or, map};
+ghost use Rattle.std.specs.Prelude.{◌≡◌, ◌<◌, ◌≤◌, ◌+◌, ◌^◌, ◌++◌, ◌∷◌, [], IfOk, OnOk, OnErr, Some, None, MatchOption, is_none, length, get_or, map, take, drop};
 ghost use Rattle.std.specs.List.{Contains, count_by};
 ghost use Rattle.std.specs.Option.{option_map};
 ghost use Rattle.tb_value.specs.See.{datum};
@@ -105,9 +105,40 @@ impl<N: Drop> Cells<N> {
         }
         match cell {
             Some(value) if self.rest.is_empty() => self.values.push(value)?,
-            cell => self.rest.push(cell)?,
+            cell => {
+                let room = self.values.capacity().saturating_sub(self.values.len());
+                make_room(&mut self.rest, room)?;
+                self.rest.push(cell)?;
+            }
         }
         Ok(())
+    }
+}
+
+impl<N: Cell> Cells<N> {
+    // Appends the values of another's rows from `from` on, up to so many and up to its first Null, where there is no Null here yet,
+    // and tells how many these are.
+    fn append_values(
+        &mut self,
+        alloc: Global,
+        other: &Cells<N>,
+        from: usize,
+        count: usize,
+    ) -> Result<usize, OutOfMemory>
+        requires room { length self.old + count < 2 ^ 64 }
+        requires within { from + count ≤ length other.now }
+        ensures count { IfOk result (λ n. n ≤ count) }
+        ensures shown { IfOk result (λ n. map (or_null N.shows) self.new
+            ≡ map (or_null N.shows) self.old ++ take n (drop from (map (or_null N.shows) other.now))) }
+    {
+        let rest = self.rest.as_slice();
+        let values = other.values.as_slice();
+        if rest.len() > 0 || from >= values.len() {
+            return Ok(0);
+        }
+        let end = values.len().min(from + count);
+        N::append_copies(alloc, &mut self.values, &values[from..end])?;
+        Ok(end - from)
     }
 }
 
@@ -153,7 +184,8 @@ impl<N: Cell> Chunk for Cells<N> {
 
     fn copy(&self, alloc: Global) -> Result<Cells<N>, OutOfMemory> {
         let mut cells = Cells::with_capacity(alloc, self.len())?;
-        for row in 0..self.len() {
+        let block = cells.append_values(alloc, self, 0, self.len())?;
+        for row in block..self.len() {
             cells.push(copy_cell(alloc, self.get(row))?)?;
         }
         Ok(cells)
@@ -180,6 +212,17 @@ impl<N: Cell> Chunk for Cells<N> {
         Ok(())
     }
 
+    fn append_block(
+        &mut self,
+        alloc: Global,
+        other: &Cells<N>,
+        from: usize,
+        count: usize,
+    ) -> Result<usize, OutOfMemory> {
+        let block = self.append_values(alloc, other, from, count)?;
+        Ok(block)
+    }
+
     fn push_from(
         &mut self,
         alloc: Global,
@@ -194,6 +237,16 @@ impl<N: Cell> Chunk for Cells<N> {
     fn push_null(&mut self) -> Result<(), OutOfMemory> {
         self.push(None)
     }
+}
+
+// The room that the values before the first Null leave is made behind it.
+fn make_room<N>(rest: &mut Vec<Option<N>>, room: usize) -> Result<(), OutOfMemory>
+    ensures { rest.new.items ≡ rest.old.items }
+{
+    if rest.is_empty() {
+        rest.reserve_exact(room)?;
+    }
+    Ok(())
 }
 
 fn absent_in<N>(cells: &[Option<N>]) -> usize

@@ -1,5 +1,5 @@
 //! A run of values of a column.
-ghost use Rattle.std.specs.Prelude.{◌≡◌, ◌<◌, ◌^◌, ◌++◌, ◌∷◌, [], IfOk, IfSome, OnOk, OnErr, None, is_none, length, get_or, map, replicate, take, drop};
+ghost use Rattle.std.specs.Prelude.{◌≡◌, ◌<◌, ◌≤◌, ◌+◌, ◌^◌, ◌++◌, ◌∷◌, [], IfOk, IfSome, OnOk, OnErr, None, is_none, length, get_or, map, replicate, take, drop};
 ghost use Rattle.std.specs.List.{All, count_by};
 ghost use Rattle.tb_value.specs.Datum.{Datum, null, string};
 ghost use Rattle.tb_value.specs.Kind as kinds;
@@ -95,6 +95,23 @@ pub trait Chunk: Drop {
         ensures buffers { OnOk result (buffers self.new ≡ buffers self.old ++ take 1 (drop number (buffers other.now))) }
         ensures err { OnErr result (buffers self.new ≡ buffers self.old) };
 
+    /// Appends rows of another chunk from `from` on, as many of so many as can be taken as one block, and tells how many these
+    /// are. None of them has a view.
+    fn append_block(
+        &mut self,
+        alloc: Global,
+        other: &Self,
+        from: usize,
+        count: usize,
+    ) -> Result<usize, OutOfMemory>
+        requires room { length (shown self.old) + count < 2 ^ 63 }
+        requires within { from + count ≤ length (shown other.now) }
+        ensures count { IfOk result (λ n. n ≤ count) }
+        ensures shown { IfOk result (λ n. shown self.new ≡ shown self.old ++ take n (drop from (shown other.now))) }
+        ensures views { IfOk result (λ n. views self.new ≡ views self.old ++ take n (drop from (views other.now))) }
+        ensures none { IfOk result (λ n. All (λ v. v ≡ None) (take n (drop from (views other.now)))) }
+        ensures buffers { buffers self.new ≡ buffers self.old };
+
     /// Appends a row of another chunk. The buffer of its long text stands in this one under `number`, and under its own
     /// number where there is none. After a refusal the chunk is as it was.
     fn push_from(
@@ -184,6 +201,17 @@ impl Chunk for usize {
         _number: u32,
     ) -> Result<(), OutOfMemory> {
         Ok(())
+    }
+
+    fn append_block(
+        &mut self,
+        _alloc: Global,
+        _other: &usize,
+        _from: usize,
+        count: usize,
+    ) -> Result<usize, OutOfMemory> {
+        *self += count;
+        Ok(count)
     }
 
     fn push_from(
@@ -285,6 +313,16 @@ impl Chunk for StringChunk {
         number: u32,
     ) -> Result<(), OutOfMemory> {
         self.inner.add_buffer(alloc, &other.inner, number)
+    }
+
+    fn append_block(
+        &mut self,
+        _alloc: Global,
+        _other: &StringChunk,
+        _from: usize,
+        _count: usize,
+    ) -> Result<usize, OutOfMemory> {
+        Ok(0)
     }
 
     fn push_from(

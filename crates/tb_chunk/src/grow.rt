@@ -15,8 +15,8 @@ use crate::stored::Stored;
 use std::alloc::Global;
 use tb_value::OutOfMemory;
 
-// Appends these rows of one of the chunks.
-fn push_rows<C: Chunk>(
+// Appends these rows of one of the chunks, one by one.
+fn push_each<C: Chunk>(
     alloc: Global,
     out: &mut Growing<C>,
     chunks: &[C],
@@ -42,8 +42,34 @@ fn push_rows<C: Chunk>(
     Ok(())
 }
 
-/// The rows from `start` on, in one chunk, with the buffers of all.
-pub fn join_rows<C: Chunk>(
+// Appends these rows of one of the chunks.
+fn push_rows<C: Chunk>(
+    alloc: Global,
+    out: &mut Growing<C>,
+    chunks: &[C],
+    chunk: usize,
+    from: usize,
+    count: usize,
+) -> Result<(), OutOfMemory>
+    requires held { AreHeld (C.buffers out.old.chunk) out.old.bases.items (map C.buffers chunks.now) }
+    requires room { length (C.shown out.old.chunk) + count < 2 ^ 63 }
+    requires chunk { chunk < length chunks.now }
+    requires within { from + count ≤ length (get_or (map C.shown chunks.now) chunk []) }
+    ensures shown { OnOk result (C.shown out.new.chunk ≡ C.shown out.old.chunk ++ take count (drop from (get_or (map C.shown chunks.now) chunk []))) }
+    ensures held { AreHeld (C.buffers out.new.chunk) out.new.bases.items (map C.buffers chunks.now) }
+    ensures views { OnOk result (C.views out.new.chunk ≡ C.views out.old.chunk
+        ++ map (moved (get_or out.old.bases.items chunk 0)) (take count (drop from (get_or (map C.views chunks.now) chunk [])))) }
+    ensures buffers { C.buffers out.new.chunk ≡ C.buffers out.old.chunk }
+    ensures bases { out.new.bases.items ≡ out.old.bases.items }
+{
+    let _rows = chunks[chunk].len();
+    let block = out.append_block(alloc, chunks, chunk, from, count)?;
+    push_each(alloc, out, chunks, chunk, from + block, count - block)?;
+    Ok(())
+}
+
+// The rows from `start` on, pushed into a new chunk.
+fn join_parts<C: Chunk>(
     alloc: Global,
     chunks: &[C],
     start: usize,
@@ -67,6 +93,30 @@ pub fn join_rows<C: Chunk>(
         left -= count;
     }
     Ok(out.finish())
+}
+
+/// The rows from `start` on, in one chunk, with the buffers of all. Where they are those of the only chunk, no row is looked at.
+pub fn join_rows<C: Chunk>(
+    alloc: Global,
+    chunks: &[C],
+    start: usize,
+    len: usize,
+) -> Result<C, OutOfMemory>
+    requires within { start + len ≤ length (flat (map C.shown chunks.now)) }
+    requires short { length (flat (map C.shown chunks.now)) < 2 ^ 32 }
+    ensures shown { IfOk result (λ c. C.shown c ≡ take len (drop start (flat (map C.shown chunks.now)))) }
+    ensures views { IfOk result (λ c. C.views c ≡ (window_of start len (whole (runs_of C.views C.buffers chunks.now))).views) }
+    ensures buffers { IfOk result (λ c. C.buffers c ≡ (whole (runs_of C.views C.buffers chunks.now)).buffers) }
+{
+    if chunks.len() == 1 {
+        let only = &chunks[0];
+        let rows = only.len();
+        if rows == len {
+            let copy = only.copy(alloc)?;
+            return Ok(copy);
+        }
+    }
+    join_parts(alloc, chunks, start, len)
 }
 
 /// The rows from `start` on, as the only chunk.

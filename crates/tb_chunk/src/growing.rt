@@ -1,5 +1,5 @@
 //! Chunks that take up rows of others.
-ghost use Rattle.std.specs.Prelude.{◌≡◌, ◌<◌, ◌+◌, ◌^◌, ◌++◌, ◌∷◌, [], IfOk, OnOk, None, length, map, get_or};
+ghost use Rattle.std.specs.Prelude.{◌≡◌, ◌<◌, ◌≤◌, ◌+◌, ◌^◌, ◌++◌, ◌∷◌, [], IfOk, OnOk, None, length, map, get_or, take, drop};
 ghost use Rattle.tb_value.specs.Datum.{null};
 ghost use Rattle.tb_chunk.specs.Held.{AreHeld};
 ghost use Rattle.tb_chunk.specs.Moved.{moved, number_from};
@@ -32,6 +32,32 @@ impl<C: Chunk> Growing<C> {
             add_buffers(alloc, &mut chunk, other)?;
         }
         Ok(Growing { chunk, bases })
+    }
+
+    /// Appends rows of one of the chunks from `from` on, as many of so many as can be taken as one block, and tells how many
+    /// these are.
+    pub fn append_block(
+        &mut self,
+        alloc: Global,
+        chunks: &[C],
+        chunk: usize,
+        from: usize,
+        count: usize,
+    ) -> Result<usize, OutOfMemory>
+        requires held { AreHeld (C.buffers self.old.chunk) self.old.bases.items (map C.buffers chunks.now) }
+        requires room { length (C.shown self.old.chunk) + count < 2 ^ 63 }
+        requires chunk { chunk < length chunks.now }
+        requires within { from + count ≤ length (get_or (map C.shown chunks.now) chunk []) }
+        ensures count { IfOk result (λ n. n ≤ count) }
+        ensures shown { IfOk result (λ n. C.shown self.new.chunk ≡ C.shown self.old.chunk ++ take n (drop from (get_or (map C.shown chunks.now) chunk []))) }
+        ensures held { AreHeld (C.buffers self.new.chunk) self.new.bases.items (map C.buffers chunks.now) }
+        ensures views { IfOk result (λ n. C.views self.new.chunk ≡ C.views self.old.chunk
+            ++ map (moved (get_or self.old.bases.items chunk 0)) (take n (drop from (get_or (map C.views chunks.now) chunk [])))) }
+        ensures buffers { C.buffers self.new.chunk ≡ C.buffers self.old.chunk }
+        ensures bases { self.new.bases.items ≡ self.old.bases.items }
+    {
+        let block = self.chunk.append_block(alloc, &chunks[chunk], from, count)?;
+        Ok(block)
     }
 
     /// Appends a row of one of the chunks.

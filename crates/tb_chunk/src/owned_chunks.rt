@@ -89,6 +89,16 @@ impl Chunk for BinaryChunk {
         self.inner.add_buffer(alloc, &other.inner, number)
     }
 
+    fn append_block(
+        &mut self,
+        _alloc: Global,
+        _other: &BinaryChunk,
+        _from: usize,
+        _count: usize,
+    ) -> Result<usize, OutOfMemory> {
+        Ok(0)
+    }
+
     fn push_from(
         &mut self,
         _alloc: Global,
@@ -176,6 +186,16 @@ impl Chunk for ListChunk {
         Ok(())
     }
 
+    fn append_block(
+        &mut self,
+        alloc: Global,
+        other: &ListChunk,
+        from: usize,
+        count: usize,
+    ) -> Result<usize, OutOfMemory> {
+        self.inner.append_block(alloc, &other.inner, from, count)
+    }
+
     fn push_from(
         &mut self,
         alloc: Global,
@@ -261,6 +281,16 @@ impl Chunk for StructChunk {
         _number: u32,
     ) -> Result<(), OutOfMemory> {
         Ok(())
+    }
+
+    fn append_block(
+        &mut self,
+        alloc: Global,
+        other: &StructChunk,
+        from: usize,
+        count: usize,
+    ) -> Result<usize, OutOfMemory> {
+        self.inner.append_block(alloc, &other.inner, from, count)
     }
 
     fn push_from(

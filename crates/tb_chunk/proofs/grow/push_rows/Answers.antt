@@ -1,39 +1,47 @@
-use Rattle.std.proofs.Common.{arith, ◌≡◌, ◌∙◌, ◌+◌, ◌<◌, ◌++◌, ◌∷◌, [], ℕ, List, None, ap, sym, append_assoc, get_or, length, map, take, drop, length-drop}
-use Rattle.std.proofs.lemmas.List.{take_more, get_or-drop}
-use Rattle.tb_value.specs.Datum.{null}
+use Rattle.std.proofs.Common.{arith, ◌≡◌, ◌∙◌, ◌+◌, ◌-◌, ◌++◌, ℕ, List, [], ap, append_assoc, drop, get_or, length, length-append, length-drop, length-take-le, map, sym, take}
+use Rattle.std.proofs.lemmas.List.{map-append}
 use Rattle.tb_chunk.specs.Moved.{moved}
-use Rattle.tb_chunk.proofs.Whole.{lengths_at, moved_more}
+use Rattle.tb_chunk.proofs.PlainRows.{two_parts}
 use Rattle.tb_chunk.proofs.grow.push_rows.Goals as goal
 
-pub loop-i-preserved : goal.loop-i-preserved
-loop-i-preserved g c =
-    let l = c.loop-i in
+pub push_each-requires-clause-room : goal.push_each-requires-clause-room
+push_each-requires-clause-room g c =
+    let xs = get_or (map g.C.Chunk.shown c.args.chunks.now) c.args.chunk [] in
+    let part = take c.in_ok-block.block (drop c.args.from xs) in
+    omega (
+      arith,
+      c.requires.room,
+      c.requires.within,
+      ap length c.in_ok-block.ensures.shown,
+      c.in_ok-block.ensures.count,
+      length-append (g.C.Chunk.shown c.args.out.now.chunk) part,
+      length-take-le c.in_ok-block.block (drop c.args.from xs) (omega (arith, c.requires.within, c.in_ok-block.ensures.count, length-drop c.args.from xs)),
+    )
+
+pub returns-clause-shown : goal.returns-clause-shown
+returns-clause-shown g c =
     let shown = g.C.Chunk.shown in
+    let xs = get_or (map shown c.args.chunks.now) c.args.chunk [] in
+    let n = c.in_ok-block.block in
+    let old = shown c.args.out.now.chunk in
+    let behind = take (c.args.count - n) (drop (c.args.from + n) xs) in
+    c.in_ok-push_each.ensures.shown
+    ∙ ap (λ ys. ys ++ behind) c.in_ok-block.ensures.shown
+    ∙ append_assoc old (take n (drop c.args.from xs)) behind
+    ∙ ap (λ ys. old ++ ys) (two_parts xs c.args.from n c.args.count c.in_ok-block.ensures.count)
+
+pub returns-clause-views : goal.returns-clause-views
+returns-clause-views g c =
     let views = g.C.Chunk.views in
-    let from = c.args.from in
-    let chunks = c.args.chunks.now in
-    let xs = get_or (map shown chunks) c.args.chunk [] in
-    let vs = get_or (map views chunks) c.args.chunk [] in
+    let vs = get_or (map views c.args.chunks.now) c.args.chunk [] in
+    let n = c.in_ok-block.block in
+    let old = views c.args.out.now.chunk in
     let base = get_or c.args.out.now.bases.items c.args.chunk 0 in
-    let before = shown c.args.out.now.chunk in
-    let viewed = views c.args.out.now.chunk in
-    let low : l.i < length (drop from xs) = omega (arith, length-drop from xs, c.requires.within, c.loop-i-test.true) in
-    let long = lengths_at views shown g.met.C.Chunk.viewed chunks c.args.chunk in
-    let low_view : l.i < length (drop from vs) = omega (arith, length-drop from vs, long, c.requires.within, c.loop-i-test.true) in
-    let next : take (l.i + 1) (drop from xs) ≡ take l.i (drop from xs) ++ get_or xs (from + l.i) null ∷ [] = take_more (drop from xs) l.i null low ∙ ap (λ v. take l.i (drop from xs) ++ v ∷ []) (get_or-drop from xs l.i null) in
-    record {
-      same =
-          c.in_ok-push.ensures.shown
-          ∙ ap (λ vs. vs ++ get_or xs (from + l.i) null ∷ []) l.invariant.same
-          ∙ append_assoc before (take l.i (drop from xs)) (get_or xs (from + l.i) null ∷ [])
-          ∙ ap (λ vs. before ++ vs) (sym next);
-      held = c.push.ensures.held;
-      views =
-          c.in_ok-push.ensures.views
-          ∙ ap (λ (bs : List ℕ). views l.out.chunk ++ moved (get_or bs c.args.chunk 0) (get_or vs (from + l.i) None) ∷ []) l.invariant.bases
-          ∙ ap (λ ws. ws ++ moved base (get_or vs (from + l.i) None) ∷ []) l.invariant.views
-          ∙ append_assoc viewed (map (moved base) (take l.i (drop from vs))) (moved base (get_or vs (from + l.i) None) ∷ [])
-          ∙ ap (λ ws. viewed ++ ws) (sym (moved_more base vs from l.i low_view));
-      buffers = c.push.ensures.buffers ∙ l.invariant.buffers;
-      bases = c.push.ensures.bases ∙ l.invariant.bases;
-    }
+    let front = take n (drop c.args.from vs) in
+    let behind = take (c.args.count - n) (drop (c.args.from + n) vs) in
+    c.in_ok-push_each.ensures.views
+    ∙ ap (λ (bs : List ℕ). views c.append_block.new.self.chunk ++ map (moved (get_or bs c.args.chunk 0)) behind) c.append_block.ensures.bases
+    ∙ ap (λ ws. ws ++ map (moved base) behind) c.in_ok-block.ensures.views
+    ∙ append_assoc old (map (moved base) front) (map (moved base) behind)
+    ∙ ap (λ ws. old ++ ws) (sym (map-append (moved base) front behind))
+    ∙ ap (λ ws. old ++ map (moved base) ws) (two_parts vs c.args.from n c.args.count c.in_ok-block.ensures.count)

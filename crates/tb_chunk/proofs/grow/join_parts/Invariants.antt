@@ -2,7 +2,7 @@ use Rattle.std.proofs.Common.{◌≡◌, ◌+◌, ◌≤◌, ◌++◌, length, t
 use Rattle.tb_chunk.specs.Col.{flat}
 use Rattle.tb_chunk.specs.Held.{AreHeld}
 use Rattle.tb_chunk.specs.Whole.{AreBases, all_buffers, base_of, moved_views, runs_of}
-use Rattle.tb_chunk.proofs.grow.join_rows.Given as goal
+use Rattle.tb_chunk.proofs.grow.join_parts.Given as goal
 
 abbrev pub invariant-loop-chunk : goal.invariant-loop-chunk
 invariant-loop-chunk g l =
