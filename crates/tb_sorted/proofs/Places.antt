@@ -3,11 +3,11 @@ use Rattle.std.proofs.Common.{◌≡◌, ℕ, zero, suc, ◌+◌, ◌<◌, ◌�
 use Rattle.std.specs.Prelude.{All, filter, IsPermutation, IsSorted}
 use Rattle.std.specs.Ordering.{int_cmp, int_eq, is_lt}
 use Rattle.std.specs.declared.cmp.Ordering.{Ordering}
-use Rattle.std.proofs.lemmas.Bool.Decides.{nat_tests}
+use Rattle.std.proofs.lemmas.Bool.Decides.{Decides-int_eq, nat_tests}
 use Rattle.std.proofs.lemmas.Cmp.{int_eq_equiv}
 use Rattle.std.proofs.lemmas.Int.{ints}
 use Rattle.std.proofs.lemmas.List.{ext_get_or, get_or-map, length-map, map-id}
-use Rattle.std.proofs.lemmas.List.Elements.{All-map, All-weaker}
+use Rattle.std.proofs.lemmas.List.Elements.{All-head, All-map, All-weaker, filter_passes}
 use Rattle.std.proofs.lemmas.List.FromFn.{get_or-map-range_with_len, length-map-range_with_len}
 use Rattle.std.proofs.lemmas.List.Sorted.{All-permutation, IsPermutation-map, IsPermutation-refl, IsPermutation-sym, IsPermutation-trans, length_permutation}
 use Rattle.std.specs.Fn.{Called, ComputesKey}
@@ -30,7 +30,18 @@ use Rattle.tb_merge.specs.Keys.{key_at, keys_match}
 use Rattle.tb_merge.specs.RowPairs.{pairs_of, row_pairs, rows_of}
 use Rattle.tb_merge.proofs.Matches.{inner_is, left_is}
 use Rattle.tb_sorted.specs.Keys.{kind_of_merge, number_listing, number_sizes}
-use Rattle.tb_sorted.specs.SortedRows.{AreSortedRows, has_key, keys_of, left_placed, right_placed, row_at, with_rows}
+use Rattle.tb_sorted.specs.SortedRows.{AreSortedRows, has_key, keys_of, left_placed, numbered, right_placed, row_at, with_rows}
+
+-- STORED KEYS AS NUMBERS
+
+module _ {N : Type 0} (number : N → ℤ) (rows : List (N × ℕ)) (i : ℕ) (d : N × ℕ) (low : i < length rows) where
+  pub numbered_at : (e : ℤ × ℕ) → get_or (numbered number rows) i e ≡ (number (get_or rows i d).0, (get_or rows i d).1)
+  numbered_at e = get_or-map (λ (p : N × ℕ). (number p.0, p.1)) rows i d e low
+
+  pub numbered_key : (e : ℤ) → get_or (keys_of (numbered number rows)) i e ≡ number (get_or rows i d).0
+  numbered_key e =
+      let long : length (numbered number rows) ≡ length rows = length-map rows (λ (p : N × ℕ). (number p.0, p.1)) in
+      get_or-map (λ (p : ℤ × ℕ). p.0) (numbered number rows) i (pos 0, 0) e (omega (arith, long, low)) ∙ ap (λ (p : ℤ × ℕ). p.0) (numbered_at (pos 0, 0))
 
 -- THE ORDER OF A SORT
 
@@ -47,25 +58,65 @@ sorted_images f order (x ∷ xs) s = λ k e from high.
 tie_is : (x y : ℤ) → (not (is_lt (int_cmp x y)) && not (is_lt (int_cmp y x))) ≡ int_eq x y
 tie_is x y = grind (arith, ints, nat_tests)
 
--- what a stable sort by key keeps
-pub kept_by_key : (xs ys : List (ℤ × ℕ)) → ((x : ℤ × ℕ) → filter (λ (p : ℤ × ℕ). not (is_lt (int_cmp x.0 p.0)) && not (is_lt (int_cmp p.0 x.0))) ys ≡ filter (λ (p : ℤ × ℕ). not (is_lt (int_cmp x.0 p.0)) && not (is_lt (int_cmp p.0 x.0))) xs)
-    → (v : ℤ) → filter (has_key v) ys ≡ filter (has_key v) xs
-kept_by_key xs ys stable v =
-    let same : (λ (p : ℤ × ℕ). not (is_lt (int_cmp v p.0)) && not (is_lt (int_cmp p.0 v))) ≡ has_key v = λ t p. tie_is v p.0 t in
-    sym (ap (λ (f : ℤ × ℕ → Bool). filter f ys) same) ∙ stable (v, 0) ∙ ap (λ (f : ℤ × ℕ → Bool). filter f xs) same
+kept_images : {X Y Z : Type 0} (at : X → Y) (p : Y → Bool) (f : Y → Z) (xs : List X) → map (λ x. f (at x)) (filter (λ x. p (at x)) xs) ≡ map f (filter p (map at xs))
+kept_images at p f [] = refl
+kept_images at p f (x ∷ xs) = one (p (at x)) (kept_images at p f xs)
+  where
+    one : (b : Bool) → map (λ x. f (at x)) (filter (λ x. p (at x)) xs) ≡ map f (filter p (map at xs))
+        → map (λ x. f (at x)) (cond b (x ∷ filter (λ x. p (at x)) xs) (filter (λ x. p (at x)) xs)) ≡ map f (cond b (at x ∷ filter p (map at xs)) (filter p (map at xs)))
+    one true e = λ t. f (at x) ∷ e t
+    one false e = e
 
--- what a stable sort by key gives, where each call of the closure gives the key
-pub sorted_by_key : {F : Type 0} (g : Mut F (Bor (ℤ × ℕ) × Unit {0}) ℤ) (f : F) (keys : List ℤ) (xs ys : List (ℤ × ℕ)) → xs ≡ with_rows keys → IsPermutation xs ys
-    → IsSortedByKeyClosure g int_cmp f ys → IsStableByKeyClosure g int_cmp f xs ys
-    → ((a : Bor (ℤ × ℕ) × Unit {0}) (r : ℤ) (f' : F) → Called g f a r f' → (r ≡ a.0.now.0) × (f' ≡ f)) → AreSortedRows keys ys
-sorted_by_key g f keys xs ys is moved sorted stable says =
-    let key : ℤ × ℕ → ℤ = λ p. p.0 in
-    let computes : ComputesKey g key f = always_returns_same g (λ a r. r ≡ a.0.now.0) f says in
-    record {
-      ascends = sorted_images key int_cmp ys (sorted key computes);
-      permutation = subst (λ (l : List (ℤ × ℕ)). IsPermutation l ys) is moved;
-      stable = λ v. kept_by_key xs ys (stable key computes) v ∙ ap (filter (has_key v)) is;
-    }
+-- a sort by stored keys, which compare as the numbers that they are
+module _ {N : Type 0} (cmp : N → N → Ordering) (number : N → ℤ) (ordered : (x y : N) → cmp x y ≡ int_cmp (number x) (number y)) where
+  abbrev ties : N × ℕ → N × ℕ → Bool
+  ties x p = not (is_lt (cmp x.0 p.0)) && not (is_lt (cmp p.0 x.0))
+
+  abbrev has_number : ℤ → N × ℕ → Bool
+  has_number v p = int_eq v (number p.0)
+
+  ties_are : (x : N × ℕ) (v : ℤ) → v ≡ number x.0 → ties x ≡ has_number v
+  ties_are x v e = λ t p.
+      ◌∙◌ {A = Bool} (λ s. not (is_lt (ordered x.0 p.0 s)) && not (is_lt (ordered p.0 x.0 s)))
+      (tie_is (number x.0) (number p.0) ∙ ap (λ (u : ℤ). int_eq u (number p.0)) (sym e)) t
+
+  -- what a stable sort by key keeps
+  kept_by_number : (xs ys : List (N × ℕ)) → ((x : N × ℕ) → filter (ties x) ys ≡ filter (ties x) xs) → (v : ℤ) → filter (has_number v) ys ≡ filter (has_number v) xs
+  kept_by_number xs ys stable v = by (filter (has_number v) xs) refl (filter (has_number v) ys) refl
+    where
+      at : (x : N × ℕ) → has_number v x ≡ true → filter (has_number v) ys ≡ filter (has_number v) xs
+      at x h =
+          let same : ties x ≡ has_number v = ties_are x v ((Decides-int_eq v (number x.0)).0 h) in
+          sym (ap (λ (f : N × ℕ → Bool). filter f ys) same) ∙ stable x ∙ ap (λ (f : N × ℕ → Bool). filter f xs) same
+
+      passes : (zs : List (N × ℕ)) (z : N × ℕ) (rest : List (N × ℕ)) → z ∷ rest ≡ filter (has_number v) zs → has_number v z ≡ true
+      passes zs z rest e = All-head (λ (p : N × ℕ). has_number v p ≡ true) z rest (subst (λ (l : List (N × ℕ)). All (λ p. has_number v p ≡ true) l) (sym e) (filter_passes (has_number v) zs))
+
+      by : (us : List (N × ℕ)) → us ≡ filter (has_number v) xs → (vs : List (N × ℕ)) → vs ≡ filter (has_number v) ys → filter (has_number v) ys ≡ filter (has_number v) xs
+      by (x ∷ us) e vs f = at x (passes xs x us e)
+      by [] e (y ∷ vs) f = at y (passes ys y vs f)
+      by [] e [] f = sym f ∙ e
+
+  numbered_kept : (v : ℤ) (xs : List (N × ℕ)) → map (λ (p : N × ℕ). (number p.0, p.1)) (filter (has_number v) xs) ≡ filter (has_key v) (numbered number xs)
+  numbered_kept v xs = kept_images (λ (p : N × ℕ). (number p.0, p.1)) (has_key v) (λ q. q) xs ∙ map-id (filter (has_key v) (numbered number xs))
+
+  -- what a stable sort by key gives, where each call of the closure gives the key
+  pub sorted_by_key : {F : Type 0} (g : Mut F (Bor (N × ℕ) × Unit {0}) N) (f : F) (keys : List ℤ) (xs ys : List (N × ℕ)) → numbered number xs ≡ with_rows keys → IsPermutation xs ys
+      → IsSortedByKeyClosure g cmp f ys → IsStableByKeyClosure g cmp f xs ys
+      → ((a : Bor (N × ℕ) × Unit {0}) (r : N) (f' : F) → Called g f a r f' → (r ≡ a.0.now.0) × (f' ≡ f)) → AreSortedRows keys (numbered number ys)
+  sorted_by_key g f keys xs ys is moved sorted stable says =
+      let key : N × ℕ → N = λ p. p.0 in
+      let image : N × ℕ → ℤ × ℕ = λ p. (number p.0, p.1) in
+      let computes : ComputesKey g key f = always_returns_same g (λ a r. r ≡ a.0.now.0) f says in
+      let by_numbers : (λ (x y : N × ℕ). cmp x.0 y.0) ≡ (λ (x y : N × ℕ). int_cmp (number x.0) (number y.0)) = λ t x y. ordered x.0 y.0 t in
+      record {
+        ascends =
+            subst (IsSorted int_cmp) (sym (map-map (λ (p : ℤ × ℕ). p.0) image ys))
+            (sorted_images (λ (p : N × ℕ). number p.0) int_cmp ys (subst (λ (order : N × ℕ → N × ℕ → Ordering). IsSorted order ys) by_numbers (sorted key computes)));
+        permutation = subst (λ (l : List (ℤ × ℕ)). IsPermutation l (numbered number ys)) is (IsPermutation-map image xs ys moved);
+        stable = λ v.
+            sym (numbered_kept v ys) ∙ ap (map image) (kept_by_number xs ys (stable key computes) v) ∙ numbered_kept v xs ∙ ap (filter (has_key v)) is;
+      }
 
 -- THE PAIRS IN THE ORDER OF THE LEFT ROWS
 
@@ -90,15 +141,6 @@ mapped_at : {X Y : Type 0} (f : X → Y) (xs : List X) (i : ℕ) (d : X) → get
 mapped_at f [] i d = refl
 mapped_at f (x ∷ xs) zero d = refl
 mapped_at f (x ∷ xs) (suc i) d = mapped_at f xs i d
-
-kept_images : {X Y Z : Type 0} (at : X → Y) (p : Y → Bool) (f : Y → Z) (xs : List X) → map (λ x. f (at x)) (filter (λ x. p (at x)) xs) ≡ map f (filter p (map at xs))
-kept_images at p f [] = refl
-kept_images at p f (x ∷ xs) = one (p (at x)) (kept_images at p f xs)
-  where
-    one : (b : Bool) → map (λ x. f (at x)) (filter (λ x. p (at x)) xs) ≡ map f (filter p (map at xs))
-        → map (λ x. f (at x)) (cond b (x ∷ filter (λ x. p (at x)) xs) (filter (λ x. p (at x)) xs)) ≡ map f (cond b (at x ∷ filter p (map at xs)) (filter p (map at xs)))
-    one true e = λ t. f (at x) ∷ e t
-    one false e = e
 
 listed_rows : {X : Type 0} (xs : List X) (d : X) → map (λ i. get_or xs i d) (row_numbers (length xs)) ≡ xs
 listed_rows xs d =

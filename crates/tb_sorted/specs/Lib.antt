@@ -1,3 +1,4 @@
+pub mod Orders
 pub mod Keys
 pub mod SortedRows
 pub mod Columns

@@ -1,21 +1,22 @@
 //! Whole numbers as columns store them.
-ghost use Rattle.std.specs.Prelude.{◌≡◌};
-
 use std::marker::Sync;
 use tb_store::Cell;
 
-/// A whole number, as a typed column stores it.
-pub(crate) trait WholeCell: Cell + Sync {
-    ghost use Rattle.std.specs.Prelude.{ℤ};
+/// A whole number, as a typed column stores it. Such numbers are compared as they are stored.
+pub(crate) trait WholeCell: Cell + Copy + Ord + Sync {
+    ghost use Rattle.std.specs.Ordering.{int_cmp};
+    ghost use Rattle.std.specs.Prelude.{◌≡◌, ℤ, pos};
     ghost use Rattle.tb_value.specs.Datum.{int};
 
     ghost number: { Self → ℤ };
 
-    /// The number itself.
-    fn whole(&self) -> i128
-        ensures { result ≡ number self.now };
+    /// The number 0.
+    fn nought() -> Self
+        ensures { number result ≡ pos 0 };
 
     ghost shown: { (x : Self) → Self.shows x ≡ int (number x) };
+
+    ghost ordered: { (x y : Self) → Self.cmp x y ≡ int_cmp (number x) (number y) };
 }
 
 impl WholeCell for i8 {
@@ -25,8 +26,10 @@ impl WholeCell for i8 {
 
     ghost shown = { λ _. refl };
 
-    fn whole(&self) -> i128 {
-        i128::from(*self)
+    ghost ordered = { λ _ _. refl };
+
+    fn nought() -> i8 {
+        0
     }
 }
 
@@ -37,8 +40,10 @@ impl WholeCell for i16 {
 
     ghost shown = { λ _. refl };
 
-    fn whole(&self) -> i128 {
-        i128::from(*self)
+    ghost ordered = { λ _ _. refl };
+
+    fn nought() -> i16 {
+        0
     }
 }
 
@@ -49,8 +54,10 @@ impl WholeCell for i32 {
 
     ghost shown = { λ _. refl };
 
-    fn whole(&self) -> i128 {
-        i128::from(*self)
+    ghost ordered = { λ _ _. refl };
+
+    fn nought() -> i32 {
+        0
     }
 }
 
@@ -61,8 +68,10 @@ impl WholeCell for i64 {
 
     ghost shown = { λ _. refl };
 
-    fn whole(&self) -> i128 {
-        i128::from(*self)
+    ghost ordered = { λ _ _. refl };
+
+    fn nought() -> i64 {
+        0
     }
 }
 
@@ -73,55 +82,69 @@ impl WholeCell for i128 {
 
     ghost shown = { λ _. refl };
 
-    fn whole(&self) -> i128 {
-        *self
+    ghost ordered = { λ _ _. refl };
+
+    fn nought() -> i128 {
+        0
     }
 }
 
 impl WholeCell for u8 {
     ghost use Rattle.std.specs.Prelude.{refl, pos};
+    ghost use Rattle.tb_sorted.specs.Orders.{same_order};
 
     ghost number = { pos };
 
     ghost shown = { λ _. refl };
 
-    fn whole(&self) -> i128 {
-        i128::from(*self)
+    ghost ordered = { same_order };
+
+    fn nought() -> u8 {
+        0
     }
 }
 
 impl WholeCell for u16 {
     ghost use Rattle.std.specs.Prelude.{refl, pos};
+    ghost use Rattle.tb_sorted.specs.Orders.{same_order};
 
     ghost number = { pos };
 
     ghost shown = { λ _. refl };
 
-    fn whole(&self) -> i128 {
-        i128::from(*self)
+    ghost ordered = { same_order };
+
+    fn nought() -> u16 {
+        0
     }
 }
 
 impl WholeCell for u32 {
     ghost use Rattle.std.specs.Prelude.{refl, pos};
+    ghost use Rattle.tb_sorted.specs.Orders.{same_order};
 
     ghost number = { pos };
 
     ghost shown = { λ _. refl };
 
-    fn whole(&self) -> i128 {
-        i128::from(*self)
+    ghost ordered = { same_order };
+
+    fn nought() -> u32 {
+        0
     }
 }
 
 impl WholeCell for u64 {
     ghost use Rattle.std.specs.Prelude.{refl, pos};
+    ghost use Rattle.tb_sorted.specs.Orders.{same_order};
 
     ghost number = { pos };
 
     ghost shown = { λ _. refl };
 
-    fn whole(&self) -> i128 {
-        i128::from(*self)
+    ghost ordered = { same_order };
+
+    fn nought() -> u64 {
+        0
     }
 }

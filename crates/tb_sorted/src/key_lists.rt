@@ -1,22 +1,21 @@
 //! Lists of keys, as they lie in memory.
-ghost use Rattle.std.specs.Prelude.{◌≡◌, ◌<◌, ℤ, List, length, map};
+ghost use Rattle.std.specs.Prelude.{◌≡◌, ◌<◌, ℤ, List, length};
 ghost use Rattle.tb_merge.specs.Keys.{key_at};
-ghost use Rattle.tb_sorted.specs.Keys.{number_or_zero};
 
 use crate::cells::WholeCell;
 use std::marker::Sync;
 use tb_value::IdxSize;
 
-/// A list of keys, each a whole number.
-pub(crate) trait NumberList: Sync {
+/// A list of keys, each a whole number that is stored as an N.
+pub(crate) trait NumberList<N: WholeCell>: Sync {
     ghost keys: { Self → List ℤ };
 
     fn len(&self) -> usize
         ensures { result ≡ length (keys self.now) };
 
-    fn key(&self, row: usize) -> i128
+    fn key(&self, row: usize) -> N
         requires { row < length (keys self.now) }
-        ensures { result ≡ key_at (keys self.now) row };
+        ensures { N.number result ≡ key_at (keys self.now) row };
 }
 
 /// The cells of a column, lent. None of them is absent where it has to be a key.
@@ -25,7 +24,7 @@ pub(crate) struct LentCells<'a, N> {
     pub cells: &'a [Option<N>],
 }
 
-impl<N: WholeCell> NumberList for LentCells<'_, N> {
+impl<N: WholeCell> NumberList<N> for LentCells<'_, N> {
     ghost use Rattle.std.specs.Prelude.{map};
     ghost use Rattle.tb_sorted.specs.Keys.{number_or_zero};
 
@@ -35,30 +34,30 @@ impl<N: WholeCell> NumberList for LentCells<'_, N> {
         self.cells.len()
     }
 
-    fn key(&self, row: usize) -> i128 {
-        match &self.cells[row] {
-            None => 0,
-            Some(cell) => cell.whole(),
+    fn key(&self, row: usize) -> N {
+        match self.cells[row] {
+            None => N::nought(),
+            Some(cell) => cell,
         }
     }
 }
 
 /// Keys with their rows, sorted by key.
 #[derive(Clone, Copy)]
-pub(crate) struct SortedRows<'a> {
-    pub rows: &'a [(i128, IdxSize)],
+pub(crate) struct SortedRows<'a, N> {
+    pub rows: &'a [(N, IdxSize)],
 }
 
-impl NumberList for SortedRows<'_> {
-    ghost use Rattle.tb_sorted.specs.SortedRows.{keys_of};
+impl<N: WholeCell> NumberList<N> for SortedRows<'_, N> {
+    ghost use Rattle.tb_sorted.specs.SortedRows.{keys_of, numbered};
 
-    ghost keys = { λ s. keys_of s.rows.now };
+    ghost keys = { λ s. keys_of (numbered N.number s.rows.now) };
 
     fn len(&self) -> usize {
         self.rows.len()
     }
 
-    fn key(&self, row: usize) -> i128 {
+    fn key(&self, row: usize) -> N {
         self.rows[row].0
     }
 }

@@ -8,6 +8,7 @@ ghost use Rattle.tb_merge.specs.MergedView.{IsMergeOf};
 ghost use Rattle.tb_sorted.specs.Keys.{number_listing, refusal_of};
 ghost use Rattle.tb_sorted.specs.Listed.{AreKeysMerged};
 
+use crate::cells::WholeCell;
 use crate::key_lists::NumberList;
 use crate::sides::Sides;
 use std::alloc::Global;
@@ -27,7 +28,7 @@ fn refused(fault: MergeFault) -> PolarsError
 }
 
 // The pairs of a Left join, or of an Inner one, of two lists that ascend, in the order of the left rows.
-fn counted_pairs<A: NumberList, B: NumberList, L: Ledger + Sync>(
+fn counted_pairs<N: WholeCell, A: NumberList<N>, B: NumberList<N>, L: Ledger + Sync>(
     alloc: Global,
     keep_unmatched: bool,
     left: &A,
@@ -49,9 +50,10 @@ fn counted_pairs<A: NumberList, B: NumberList, L: Ledger + Sync>(
     ensures cost { IfOk result (λ r. r.1.comparisons ≤ 2 * length (A.keys left.now) + length (B.keys right.now)) }
 {
     let mut steps = Steps::<L>::open(blank);
-    let keys = Sides::<A, B, L> {
+    let keys = Sides::<N, A, B, L> {
         left,
         right,
+        stored: PhantomData,
         ledger: PhantomData,
     };
     if keep_unmatched {
@@ -62,7 +64,7 @@ fn counted_pairs<A: NumberList, B: NumberList, L: Ledger + Sync>(
 }
 
 /// The pairs of a Left join, or of an Inner one, of two lists that ascend, in the order of the left rows.
-pub(crate) fn merged_lists<A: NumberList, B: NumberList>(
+pub(crate) fn merged_lists<N: WholeCell, A: NumberList<N>, B: NumberList<N>>(
     alloc: Global,
     keep_unmatched: bool,
     left: &A,
@@ -75,7 +77,7 @@ pub(crate) fn merged_lists<A: NumberList, B: NumberList>(
     requires right_few { length (B.keys right.now) ≤ MAX_ROWS }
     ensures { AreKeysMerged ByLeft keep_unmatched (A.keys left.now) (B.keys right.now) result }
 {
-    let counted = counted_pairs::<A, B, Brand>(
+    let counted = counted_pairs::<N, A, B, Brand>(
         alloc,
         keep_unmatched,
         left,

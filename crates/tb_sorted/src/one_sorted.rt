@@ -4,6 +4,7 @@ ghost use Rattle.std.specs.Ordering.{int_cmp};
 ghost use Rattle.tb_frame.specs.declared.args.Direction.TheVariants.{ByLeft, Free};
 ghost use Rattle.tb_sorted.specs.Listed.{AreKeysMerged};
 
+use crate::cells::WholeCell;
 use crate::key_lists::{NumberList, SortedRows};
 use crate::merging::merged_lists;
 use crate::row_sorting::{sorted_rows, with_left_rows, with_right_rows};
@@ -14,7 +15,7 @@ use tb_value::{JoinPair, MAX_ROWS, PolarsResult};
 
 /// The pairs of a Left join, or of an Inner one, of a left list that ascends and a right one that is sorted first, in the
 /// order of the left rows.
-pub(crate) fn right_sorted_lists<A: NumberList, B: NumberList>(
+pub(crate) fn right_sorted_lists<N: WholeCell, A: NumberList<N>, B: NumberList<N>>(
     alloc: Global,
     keep_unmatched: bool,
     left: &A,
@@ -33,7 +34,7 @@ pub(crate) fn right_sorted_lists<A: NumberList, B: NumberList>(
 }
 
 /// The pairs of an Inner join of a left list that is sorted first and a right one that ascends.
-pub(crate) fn left_sorted_lists<A: NumberList, B: NumberList>(
+pub(crate) fn left_sorted_lists<N: WholeCell, A: NumberList<N>, B: NumberList<N>>(
     alloc: Global,
     left: &A,
     right: &B,

@@ -3,28 +3,30 @@ ghost use Rattle.std.specs.Prelude.{◌≡◌, ◌<◌, ◌≤◌, ℕ, ℤ, All
 ghost use Rattle.tb_chunk.specs.Rows.{IsRowOf};
 ghost use Rattle.tb_frame.specs.Answer.{AreLeftRows, AreRightRows};
 ghost use Rattle.tb_merge.specs.Keys.{key_at};
-ghost use Rattle.tb_sorted.specs.SortedRows.{AreSortedRows, left_placed, right_placed, row_or_none, with_rows};
+ghost use Rattle.tb_sorted.specs.SortedRows.{AreSortedRows, left_placed, numbered, right_placed, row_or_none, with_rows};
 
+use crate::cells::WholeCell;
 use crate::key_lists::NumberList;
 use std::alloc::Global;
 use tb_value::{IdxSize, JoinPair, MAX_ROWS, NullableIdxSize, OutOfMemory};
 
 // A key of the list, with its row.
-fn key_with_row<K: NumberList>(list: &K, row: usize) -> (i128, IdxSize)
+fn key_with_row<N: WholeCell, K: NumberList<N>>(list: &K, row: usize) -> (N, IdxSize)
     requires row { row < length (K.keys list.now) }
     requires few { length (K.keys list.now) ≤ MAX_ROWS }
-    ensures { result ≡ (key_at (K.keys list.now) row, row) }
+    ensures number { N.number result.0 ≡ key_at (K.keys list.now) row }
+    ensures row { result.1 ≡ row }
 {
     (list.key(row), row as IdxSize)
 }
 
 // The keys of the list, each with its row.
-fn keys_with_rows<K: NumberList>(
+fn keys_with_rows<N: WholeCell, K: NumberList<N>>(
     alloc: Global,
     list: &K,
-) -> Result<Vec<(i128, IdxSize)>, OutOfMemory>
+) -> Result<Vec<(N, IdxSize)>, OutOfMemory>
     requires { length (K.keys list.now) ≤ MAX_ROWS }
-    ensures rows { IfOk result (λ v. v.items ≡ with_rows (K.keys list.now)) }
+    ensures rows { IfOk result (λ v. numbered N.number v.items ≡ with_rows (K.keys list.now)) }
 {
     let len = list.len();
     let mut rows = Vec::with_capacity(alloc, len)?;
@@ -35,12 +37,12 @@ fn keys_with_rows<K: NumberList>(
 }
 
 /// The keys of the list with their rows, sorted by key; the rows of one key stay in their order.
-pub(crate) fn sorted_rows<K: NumberList>(
+pub(crate) fn sorted_rows<N: WholeCell, K: NumberList<N>>(
     alloc: Global,
     list: &K,
-) -> Result<Vec<(i128, IdxSize)>, OutOfMemory>
+) -> Result<Vec<(N, IdxSize)>, OutOfMemory>
     requires { length (K.keys list.now) ≤ MAX_ROWS }
-    ensures { IfOk result (λ v. AreSortedRows (K.keys list.now) v.items) }
+    ensures { IfOk result (λ v. AreSortedRows (K.keys list.now) (numbered N.number v.items)) }
 {
     let mut rows = keys_with_rows(alloc, list)?;
     rows.sort_by_key(|row| row.0)?;
@@ -48,10 +50,10 @@ pub(crate) fn sorted_rows<K: NumberList>(
 }
 
 // The row that stands at the place.
-fn row_at(rows: &[(i128, IdxSize)], place: NullableIdxSize) -> NullableIdxSize
+fn row_at<N: WholeCell>(rows: &[(N, IdxSize)], place: NullableIdxSize) -> NullableIdxSize
     requires place { IsRowOf (length rows.now) place }
-    requires rows { All (λ (p : ℤ × ℕ). p.1 < MAX_ROWS) rows.now }
-    ensures { result ≡ row_or_none rows.now place }
+    requires rows { All (λ (p : ℤ × ℕ). p.1 < MAX_ROWS) (numbered N.number rows.now) }
+    ensures { result ≡ row_or_none (numbered N.number rows.now) place }
 {
     match place.row() {
         None => NullableIdxSize::null(),
@@ -60,10 +62,13 @@ fn row_at(rows: &[(i128, IdxSize)], place: NullableIdxSize) -> NullableIdxSize
 }
 
 /// The pairs whose right places stand for the rows there.
-pub(crate) fn with_right_rows(mut pairs: Vec<JoinPair>, rows: &[(i128, IdxSize)]) -> Vec<JoinPair>
+pub(crate) fn with_right_rows<N: WholeCell>(
+    mut pairs: Vec<JoinPair>,
+    rows: &[(N, IdxSize)],
+) -> Vec<JoinPair>
     requires places { AreRightRows (length rows.now) pairs.items }
-    requires rows { All (λ (p : ℤ × ℕ). p.1 < MAX_ROWS) rows.now }
-    ensures { result.items ≡ map (right_placed rows.now) pairs.items }
+    requires rows { All (λ (p : ℤ × ℕ). p.1 < MAX_ROWS) (numbered N.number rows.now) }
+    ensures { result.items ≡ map (right_placed (numbered N.number rows.now)) pairs.items }
 {
     for pair in pairs.iter_mut() {
         pair.right = row_at(rows, pair.right);
@@ -72,10 +77,13 @@ pub(crate) fn with_right_rows(mut pairs: Vec<JoinPair>, rows: &[(i128, IdxSize)]
 }
 
 /// The pairs whose left places stand for the rows there.
-pub(crate) fn with_left_rows(mut pairs: Vec<JoinPair>, rows: &[(i128, IdxSize)]) -> Vec<JoinPair>
+pub(crate) fn with_left_rows<N: WholeCell>(
+    mut pairs: Vec<JoinPair>,
+    rows: &[(N, IdxSize)],
+) -> Vec<JoinPair>
     requires places { AreLeftRows (length rows.now) pairs.items }
-    requires rows { All (λ (p : ℤ × ℕ). p.1 < MAX_ROWS) rows.now }
-    ensures { result.items ≡ map (left_placed rows.now) pairs.items }
+    requires rows { All (λ (p : ℤ × ℕ). p.1 < MAX_ROWS) (numbered N.number rows.now) }
+    ensures { result.items ≡ map (left_placed (numbered N.number rows.now)) pairs.items }
 {
     for pair in pairs.iter_mut() {
         pair.left = row_at(rows, pair.left);

@@ -1,20 +1,23 @@
 //! The keys of two sides, whose comparisons are counted.
 
+use crate::cells::WholeCell;
 use crate::key_lists::NumberList;
 use std::cmp::Ordering;
 use std::marker::{PhantomData, Sync};
 use std::sync::ledger::Ledger;
 use tb_merge::{Ascend, Steps};
 
-/// Two lists of keys, whose comparisons are counted in the ledger L.
+/// Two lists of keys that are stored as Ns, whose comparisons are counted in the ledger L.
 #[derive(Clone, Copy)]
-pub(crate) struct Sides<'a, A, B, L: Ledger + Sync> {
+pub(crate) struct Sides<'a, N: WholeCell, A, B, L: Ledger + Sync> {
     pub left: &'a A,
     pub right: &'a B,
+    pub stored: PhantomData<N>,
     pub ledger: PhantomData<L>,
 }
 
-impl<A: NumberList, B: NumberList, L: Ledger + Sync> Ascend for Sides<'_, A, B, L> {
+impl<N: WholeCell, A: NumberList<N>, B: NumberList<N>, L: Ledger + Sync> Ascend
+    for Sides<'_, N, A, B, L> {
     ghost left_keys = { λ s. A.keys s.left.now };
 
     ghost right_keys = { λ s. B.keys s.right.now };
