@@ -35,7 +35,7 @@ pub use chunks::{Chunks, copy_chunks, nulls_in, rows_in, value_in};
 pub use grow::join_one;
 pub use growing::Growing;
 pub use marker::{Physical, physical_of};
-pub use ordering::keeps_order;
+pub use ordering::{compare_values, keeps_order};
 pub use owned_chunks::{BinaryChunk, ListChunk, StructChunk};
 pub use row_number::RowNumber;
 pub use slicing::slice_offsets;

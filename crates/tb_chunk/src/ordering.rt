@@ -13,8 +13,9 @@ use crate::each::for_chunks;
 use std::cmp::Ordering;
 use tb_value::ValueRef;
 
-// How two values of a key type compare.
-fn compare(first: ValueRef<'_>, second: ValueRef<'_>) -> Ordering
+/// How two values of one key type compare: numbers as numbers, false before true, texts and bytes by their bytes. Null has
+/// no place among them: it is Equal to every value, as are lists, structs and values of different kinds.
+pub fn compare_values(first: ValueRef<'_>, second: ValueRef<'_>) -> Ordering
     ensures { result ≡ datum_cmp (lent first.entry) (lent second.entry) }
 {
     match (first, second) {
@@ -31,9 +32,9 @@ fn compare_in(first: ValueRef<'_>, second: ValueRef<'_>, descending: bool) -> Or
     ensures { result ≡ order_of descending (lent first.entry) (lent second.entry) }
 {
     if descending {
-        compare(second, first)
+        compare_values(second, first)
     } else {
-        compare(first, second)
+        compare_values(first, second)
     }
 }
 
