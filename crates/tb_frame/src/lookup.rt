@@ -13,14 +13,14 @@ ghost use Rattle.tb_frame.specs.Refusal.{unknown_key};
 ghost use Rattle.tb_frame.specs.Table.{table_of};
 
 use std::alloc::Global;
-use std::collections::HashMap;
+use std::collections::BTreeMap;
 use tb_store::{Column, Series};
 use tb_value::{OutOfMemory, PlSmallStr, PolarsError, PolarsResult};
 
 /// Columns that are lent, each under a name, for finding many of them.
 #[derive(Drop)]
 pub struct NamedColumns<'a> {
-    columns: HashMap<&'a str, &'a Series>,
+    columns: BTreeMap<&'a str, &'a Series>,
 }
 
 impl<'a> NamedColumns<'a> {
@@ -29,7 +29,7 @@ impl<'a> NamedColumns<'a> {
         ensures { (n : Name) → column_by result n ≡ None }
     {
         NamedColumns {
-            columns: HashMap::new(alloc),
+            columns: BTreeMap::new(alloc),
         }
     }
 

@@ -7,13 +7,13 @@ ghost use Rattle.tb_frame.specs.NameSets.{has_name};
 ghost use Rattle.tb_frame.specs.Refusal.{repeated_among};
 
 use std::alloc::Global;
-use std::collections::HashSet;
+use std::collections::BTreeSet;
 use tb_value::{OutOfMemory, PlSmallStr, PolarsError, PolarsResult};
 
 /// A set of names, for asking whether a name is among many.
 #[derive(Drop)]
 pub struct NameSet<'a> {
-    names: HashSet<&'a str>,
+    names: BTreeSet<&'a str>,
 }
 
 impl<'a> NameSet<'a> {
@@ -22,7 +22,7 @@ impl<'a> NameSet<'a> {
         ensures { (n : Name) → has_name result n ≡ false }
     {
         NameSet {
-            names: HashSet::new(alloc),
+            names: BTreeSet::new(alloc),
         }
     }
 
