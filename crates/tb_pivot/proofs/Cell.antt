@@ -28,8 +28,8 @@ use Rattle.tb_agg.specs.Grouped.{aggregates, rows_of, values_of, AreGroupsOf}
 use Rattle.tb_agg.specs.Outcome.{totals, IsAggColumn}
 use Rattle.tb_agg.specs.declared.table.Aggregate.{Aggregate}
 use Rattle.tb_agg.specs.declared.table.Aggregate.TheVariants.{First}
-use Rattle.tb_pivot.specs.Cells.{AreCells, cells_under}
-use Rattle.tb_pivot.specs.Grid.{cell_at, grid, group_cell, last_below}
+use Rattle.tb_pivot.specs.Cells.{AreCells, cell_grid, cells_under}
+use Rattle.tb_pivot.specs.Grid.{cell_at, group_cell, last_below}
 use Rattle.tb_pivot.specs.Made.{IsMade}
 use Rattle.tb_pivot.specs.Pivot.{alike, answer_at, answer_kind, answer_of, answer_rows, answered, cell, cell_of, distinct_rows, given, key_columns, value_for, way_kind}
 use Rattle.tb_pivot.specs.Request.{Chosen, Way, one_row, aggregated, asked}
@@ -149,46 +149,44 @@ module _ (index on : List TableColumn) (n : ℕ) (c : Cells) (cells : AreCells n
 
 -- THE CELLS OF A HEADER
 
-pub grid_long : (c : Cells) → c.grid.items ≡ grid c.groups c.rows c.headers → length c.grid.items ≡ length c.headers.firsts.items * length c.rows.firsts.items
-grid_long c is =
-    ap length is ∙ length-map-range_with_len (λ j. last_below (λ k. eqb (group_cell c.groups c.rows c.headers k) j) (length c.groups.firsts.items)) 0 (length c.headers.firsts.items * length c.rows.firsts.items)
+pub grid_long : (c : Cells) → length (cell_grid c) ≡ length c.headers.firsts.items * length c.rows.firsts.items
+grid_long c = length-map-range_with_len (λ j. last_below (λ k. eqb (group_cell c.groups c.rows c.headers k) j) (length c.groups.firsts.items)) 0 (length c.headers.firsts.items * length c.rows.firsts.items)
 
-grid_within : (c : Cells) (m : ℕ) → c.grid.items ≡ grid c.groups c.rows c.headers → m ≡ length c.groups.firsts.items → All (IsRowOf m) c.grid.items
-grid_within c m is long =
+grid_within : (c : Cells) → All (IsRowOf (length c.groups.firsts.items)) (cell_grid c)
+grid_within c =
     let many : ℕ = length c.groups.firsts.items in
     let there : ℕ → Option ℕ = λ j. last_below (λ k. eqb (group_cell c.groups c.rows c.headers k) j) many in
     let numbers : List ℕ = row_numbers (length c.headers.firsts.items * length c.rows.firsts.items) in
-    subst (λ (k : ℕ). All (IsRowOf k) c.grid.items) (sym long)
-    (All-same (IsRowOf many) c.grid.items (grid c.groups c.rows c.headers) is
-    (All-map (IsRowOf many) there numbers (λ k d low. last_row (λ i. eqb (group_cell c.groups c.rows c.headers i) (get_or numbers k d)) many)))
+    All-map (IsRowOf many) there numbers (λ k d low. last_row (λ i. eqb (group_cell c.groups c.rows c.headers i) (get_or numbers k d)) many)
 
 -- they are groups, of which each has a value
-pub under_within : (c : Cells) (y m : ℕ) (under : List (Option ℕ)) → c.grid.items ≡ grid c.groups c.rows c.headers → m ≡ length c.groups.firsts.items → under ≡ cells_under c y → All (IsRowOf m) under
-under_within c y m under is long are =
+pub under_within : (c : Cells) (y m : ℕ) (under : List (Option ℕ)) → m ≡ length c.groups.firsts.items → under ≡ cells_under c y → All (IsRowOf m) under
+under_within c y m under long are =
     let height : ℕ = length c.rows.firsts.items in
     let start : ℕ = y * height in
-    All-same (IsRowOf m) under (cells_under c y) are
-    (All-take (IsRowOf m) (start + height - start) (drop start c.grid.items) (All-drop (IsRowOf m) start c.grid.items (grid_within c m is long)))
+    let many : ℕ = length c.groups.firsts.items in
+    subst (λ (k : ℕ). All (IsRowOf k) under) (sym long)
+    (All-same (IsRowOf many) under (cells_under c y) are
+    (All-take (IsRowOf many) (start + height - start) (drop start (cell_grid c)) (All-drop (IsRowOf many) start (cell_grid c) (grid_within c))))
 
 -- as many as the answer has rows
-under_long : (c : Cells) (y : ℕ) → c.grid.items ≡ grid c.groups c.rows c.headers → y < length c.headers.firsts.items → length (cells_under c y) ≡ length c.rows.firsts.items
-under_long c y is header =
+pub under_long : (c : Cells) (y : ℕ) → y < length c.headers.firsts.items → length (cells_under c y) ≡ length c.rows.firsts.items
+under_long c y header =
     let height : ℕ = length c.rows.firsts.items in
     let start : ℕ = y * height in
     let span : start + height - start ≡ height = omega arith in
     let fits : start + height ≤ length c.headers.firsts.items * height = row_fits y height (length c.headers.firsts.items) height header (omega arith) in
-    length-take-le (start + height - start) (drop start c.grid.items) (omega (arith, span, fits, length-drop start c.grid.items, grid_long c is)) ∙ span
+    length-take-le (start + height - start) (drop start (cell_grid c)) (omega (arith, span, fits, length-drop start (cell_grid c), grid_long c)) ∙ span
 
-under_is : (c : Cells) (x y : ℕ) → c.grid.items ≡ grid c.groups c.rows c.headers → x < length c.rows.firsts.items → y < length c.headers.firsts.items
+under_is : (c : Cells) (x y : ℕ) → x < length c.rows.firsts.items → y < length c.headers.firsts.items
     → get_or (cells_under c y) x None ≡ last_below (λ k. eqb (group_cell c.groups c.rows c.headers k) (cell_at (length c.rows.firsts.items) x y)) (length c.groups.firsts.items)
-under_is c x y is row header =
+under_is c x y row header =
     let height : ℕ = length c.rows.firsts.items in
     let start : ℕ = y * height in
     let fits : start + height ≤ length c.headers.firsts.items * height = row_fits y height (length c.headers.firsts.items) height header (omega arith) in
     let there : ℕ → Option ℕ = λ j. last_below (λ k. eqb (group_cell c.groups c.rows c.headers k) j) (length c.groups.firsts.items) in
-    get_or-take (start + height - start) (drop start c.grid.items) x None (omega (arith, row))
-    ∙ get_or-drop start c.grid.items x None
-    ∙ ap (λ (os : List (Option ℕ)). get_or os (start + x) None) is
+    get_or-take (start + height - start) (drop start (cell_grid c)) x None (omega (arith, row))
+    ∙ get_or-drop start (cell_grid c) x None
     ∙ get_or-map-range_with_len there 0 (length c.headers.firsts.items * height) (start + x) (start + x) None (omega (arith, fits, row)) (omega arith)
 
 -- THE VALUES OF EACH WAY
@@ -288,11 +286,11 @@ module _ (q : Chosen) (c : Cells) (v : Col) (cells : AreCells q.height q.index q
     cells_are made y few is header =
         let found : Option ℕ → Datum = value_or_null (values made) in
         let value : ℕ → Datum = λ x. cell q (plain v) x (get_or c.headers.firsts.items y 0) in
-        let long : length (cells_under c y) ≡ length c.rows.firsts.items = under_long c y cells.grid header in
+        let long : length (cells_under c y) ≡ length c.rows.firsts.items = under_long c y header in
         same_lists (map found (cells_under c y)) (map value (answer_rows q)) (length-map (cells_under c y) found ∙ long ∙ ap length cells.rows.firsts ∙ sym (length-map (answer_rows q) value)) (λ k d below.
         let row : k < length c.rows.firsts.items = omega (arith, below, length-map (cells_under c y) found, long) in
         get_or-map found (cells_under c y) k None d (omega (arith, row, long))
-        ∙ ap found (under_is c k y cells.grid row header)
+        ∙ ap found (under_is c k y row header)
         ∙ in_place q.index q.on q.height c cells few (values made) (cell_of q (plain v)) refl (made_value made is) k y row header
         ∙ ap (λ (xs : List ℕ). value (get_or xs k 0)) cells.rows.firsts
         ∙ sym (get_or-map value (answer_rows q) k 0 d (omega (arith, row, ap length cells.rows.firsts))))

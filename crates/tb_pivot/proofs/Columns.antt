@@ -4,8 +4,9 @@ use Rattle.std.specs.Prelude.{◌⊎◌}
 use Rattle.std.specs.Borrow.{Bor}
 use Rattle.std.specs.Option.{option_map}
 use Rattle.std.specs.List.{All, find, flat_map}
-use Rattle.std.specs.Cmp.Lexicographic.{on_texts}
-use Rattle.std.proofs.lemmas.List.{append-nil, at_drop_more, flat_map_more, get_or-map, length-map, map_push, take_more}
+use Rattle.std.specs.Cmp.Lexicographic.{on_texts, slice_cmp}
+use Rattle.std.specs.Ordering.{nat_cmp}
+use Rattle.std.proofs.lemmas.List.{append-nil, at_drop_more, get_or-map, length-map, map-append, map_push}
 use Rattle.std.proofs.lemmas.List.Elements.{All-append, All-cons, All-head, All-nil, All-tail, All-weaker}
 use Rattle.std.proofs.lemmas.List.FromFn.{fill_by_all}
 use Rattle.tb_value.proofs.Loops.{map-map}
@@ -27,16 +28,17 @@ use Rattle.tb_frame.specs.Table.{TableColumn, Table, names_of, plain, table_of}
 use Rattle.tb_frame.proofs.Frames.{level_refusal}
 use Rattle.tb_rows.specs.InOrder.{in_order}
 use Rattle.tb_rows.specs.Rows.{value_at}
-use Rattle.tb_rows.proofs.InOrder.{in_order-all}
+use Rattle.tb_rows.proofs.InOrder.{in_order-all, in_order-map}
 use Rattle.tb_pivot.specs.Cells.{cells_under}
 use Rattle.tb_pivot.specs.Headers.{block_name, header_text}
-use Rattle.tb_pivot.specs.Layout.{header_column, header_columns, index_and_blocks, laid_block, laid_out, IsLayout}
+use Rattle.tb_pivot.specs.Layout.{answer_names, block_names, header_column, header_columns, index_and_blocks, laid_block, laid_out, IsLayout}
 use Rattle.tb_pivot.specs.Made.{made_cause, takes, IsMade}
 use Rattle.tb_pivot.specs.Pivot.{answer_rows, block, block_column, by_name, cell, header_at, header_rows, index_column, way_kind, wide, with_blocks}
 use Rattle.tb_pivot.specs.Refusal.{answer_cause, is_out_of_range, many_cause, range_cause, value_causes, way_cause}
 use Rattle.tb_pivot.specs.Request.{Chosen, Way, one_row, aggregated, asked}
+use Rattle.tb_pivot.specs.declared.blocks.GroupValues.{GroupValues}
 use Rattle.tb_pivot.specs.declared.blocks.Layout.{Layout}
-use Rattle.tb_pivot.proofs.Cell.{cells_are, kind_is, rows_fit}
+use Rattle.tb_pivot.proofs.Cell.{cells_are, kind_is, made_high, rows_fit}
 use Rattle.tb_pivot.proofs.Refused.{cause_is}
 
 -- ONE MORE
@@ -181,20 +183,74 @@ module _ (l : Layout) (h : IsLayout l) where
       pub block_is : laid_block l v made ≡ block q (plain v)
       block_is = ap (λ (cs : List TableColumn). cond l.sorts (in_order by_name cs) cs) columns_are
 
-      -- one block more
-      pub blocks_more : (before after : Table) (i : ℕ) (b : Bor Col) → i < length lent_values → b ≡ get_or lent_values i b → b.now ≡ v → after ≡ before ++ laid_block l v made
-          → before ≡ map (index_column q) q.index ++ flat_map (block q) (table_of (lent_columns (take i lent_values)))
-          → after ≡ map (index_column q) q.index ++ flat_map (block q) (table_of (lent_columns (take (i + 1) lent_values)))
-      blocks_more before after i b low item same put so_far =
-          let taken_more : table_of (lent_columns (take (i + 1) lent_values)) ≡ table_of (lent_columns (take i lent_values)) ++ plain v ∷ [] =
-          ap (λ (bs : List (Bor Col)). table_of (lent_columns bs)) (take_more lent_values i b low)
-          ∙ ap table_of (map_push (λ (c : Bor Col). c.now) (take i lent_values) (get_or lent_values i b))
-          ∙ map_push plain (lent_columns (take i lent_values)) (get_or lent_values i b).now
-          ∙ ap (λ (d : Bor Col). table_of (lent_columns (take i lent_values)) ++ plain d.now ∷ []) (sym item)
-          ∙ ap (λ (d : Col). table_of (lent_columns (take i lent_values)) ++ plain d ∷ []) same in
-          put ∙ (λ t. so_far t ++ block_is t)
-          ∙ flat_map_more (block q) (map (index_column q) q.index) (table_of (lent_columns (take i lent_values))) (plain v)
-          ∙ ap (λ (cs : Table). map (index_column q) q.index ++ flat_map (block q) cs) (sym taken_more)
+    -- the blocks of the value columns
+    pub blocks_are : (bs : List GroupValues) → All (λ (c : Bor Col). length (values c.now) ≡ l.height) (map (λ (b : GroupValues). b.value) bs) → All (λ (b : GroupValues). IsMade way l.cells.groups b.value.now b.made) bs
+        → flat_map (λ (b : GroupValues). laid_block l b.value.now b.made) bs ≡ flat_map (block q) (table_of (lent_columns (map (λ (b : GroupValues). b.value) bs)))
+    blocks_are [] high made = refl
+    blocks_are (b ∷ bs) high made =
+        let H : Bor Col → Type 0 = λ c. length (values c.now) ≡ l.height in
+        let M : GroupValues → Type 0 = λ d. IsMade way l.cells.groups d.value.now d.made in
+        let rest : List (Bor Col) = map (λ (d : GroupValues). d.value) bs in
+        let here = block_is b.value.now b.made (All-head H b.value rest high) (All-head M b bs made) in
+        let later = blocks_are bs (All-tail H b.value rest high) (All-tail M b bs made) in
+        λ t. here t ++ later t
+
+    -- there are as many values as groups in each
+    pub values_high : (bs : List GroupValues) → All (λ (b : GroupValues). IsMade way l.cells.groups b.value.now b.made) bs → All (λ (b : GroupValues). length (values b.made) ≡ length l.cells.groups.firsts.items) bs
+    values_high bs made = All-weaker (λ (b : GroupValues). IsMade way l.cells.groups b.value.now b.made) (λ (b : GroupValues). length (values b.made) ≡ length l.cells.groups.firsts.items) (λ b is. made_high way l.cells.groups b.value.now b.made is) bs made
+
+    -- so what stands behind the index is the answer
+    pub answer_is : (bs : List GroupValues) → map (λ (b : GroupValues). b.value) bs ≡ lent_values → All (λ (b : GroupValues). IsMade way l.cells.groups b.value.now b.made) bs
+        → (t : Table) → t ≡ table_of (map (taken l.cells.rows.firsts.items) (lent_columns l.columns.now.index.items)) ++ flat_map (λ (b : GroupValues). laid_block l b.value.now b.made) bs → t ≡ index_and_blocks q
+    answer_is bs same made t is =
+        let high : All (λ (c : Bor Col). length (values c.now) ≡ l.height) (map (λ (b : GroupValues). b.value) bs) =
+        subst (λ (cs : List (Bor Col)). All (λ (c : Bor Col). length (values c.now) ≡ l.height) cs) (sym same) h.high.values in
+        let first = index_is (map (taken l.cells.rows.firsts.items) (lent_columns l.columns.now.index.items)) refl in
+        let last = blocks_are bs high made in
+        is ∙ (λ i. first i ++ last i) ∙ ap (λ (vs : List (Bor Col)). map (index_column q) q.index ++ flat_map (block q) (table_of (lent_columns vs))) same
+
+    -- THE NAMES
+
+    -- the texts are those of the headers
+    texts_are : l.texts.items ≡ map (header_at q) (header_rows q)
+    texts_are =
+        let on : List (Bor Col) = l.columns.now.on.items in
+        let same : (x : ℕ) → text_of x ≡ header_at q x = λ x.
+        ap header_text (sym (map-map (λ (c : TableColumn). value_at c.values x) plain (lent_columns on) ∙ map-map (λ (c : Col). value_at (values c) x) (λ (c : Bor Col). c.now) on)) in
+        h.texts ∙ (λ t. map (λ x. same x t) (h.cells.headers.firsts t))
+
+    names_of_block : (v : TableColumn) → names_of (block q v) ≡ block_names l v.name
+    names_of_block v = by l.sorts
+      where
+        width : length q.values ≡ length lent_values
+        width = length-map (lent_columns lent_values) plain ∙ length-map lent_values (λ (c : Bor Col). c.now)
+
+        plain_names : names_of (map (block_column q v) (header_rows q)) ≡ map (block_name (length lent_values) l.separator.now v.name) l.texts.items
+        plain_names =
+            map-map (λ (c : TableColumn). c.name) (block_column q v) (header_rows q)
+            ∙ (λ t. map (λ y. block_name (width t) l.separator.now v.name (header_at q y)) (header_rows q))
+            ∙ sym (map-map (block_name (length lent_values) l.separator.now v.name) (header_at q) (header_rows q))
+            ∙ ap (map (block_name (length lent_values) l.separator.now v.name)) (sym texts_are)
+
+        by : (b : Bool) → names_of (cond b (in_order by_name (map (block_column q v) (header_rows q))) (map (block_column q v) (header_rows q))) ≡ cond b (in_order (slice_cmp nat_cmp) (map (block_name (length lent_values) l.separator.now v.name) l.texts.items)) (map (block_name (length lent_values) l.separator.now v.name) l.texts.items)
+        by true = in_order-map (λ (c : TableColumn). c.name) (slice_cmp nat_cmp) (map (block_column q v) (header_rows q)) ∙ ap (in_order (slice_cmp nat_cmp)) plain_names
+        by false = plain_names
+
+    names_of_blocks : (bs : List (Bor Col)) → names_of (flat_map (block q) (table_of (lent_columns bs))) ≡ flat_map (λ (c : Bor Col). block_names l c.now.name) bs
+    names_of_blocks [] = refl
+    names_of_blocks (b ∷ bs) =
+        let here = names_of_block (plain b.now) in
+        let later = names_of_blocks bs in
+        map-append (λ (c : TableColumn). c.name) (block q (plain b.now)) (flat_map (block q) (table_of (lent_columns bs))) ∙ (λ t. here t ++ later t)
+
+    pub names_are : names_of (index_and_blocks q) ≡ answer_names l
+    names_are =
+        let index : List (Bor Col) = l.columns.now.index.items in
+        let name : TableColumn → Name = λ c. c.name in
+        let first : names_of (map (index_column q) q.index) ≡ map (λ (c : Bor Col). c.now.name) index =
+        map-map name (index_column q) q.index ∙ map-map name plain (lent_columns index) ∙ map-map (λ (c : Col). c.name) (λ (c : Bor Col). c.now) index in
+        let last = names_of_blocks lent_values in
+        map-append name (map (index_column q) q.index) (flat_map (block q) q.values) ∙ (λ t. first t ++ last t)
 
     -- a value column that is not refused is passed by
     pub passed_by : (i : ℕ) (b : Bor Col) → i < length lent_values → b ≡ get_or lent_values i b → made_cause way l.cells.groups b.now ≡ None
@@ -236,6 +292,14 @@ module _ (l : Layout) (h : IsLayout l) where
       pub made_stops : (e : PolarsError) → (e ≡ OutOfMemory) ⊎ (made_causes ≡ Some e) → (e ≡ OutOfMemory) ⊎ (first_cause (value_causes q) ≡ Some e)
       made_stops e (inl want) = inl want
       made_stops e (inr cause) = inr (values_decide ∙ ap (λ (o : Option PolarsError). first_cause (o ∷ repeated_among (names_of (wide q)) ∷ [])) cause)
+
+      pub names_stop : 0 < length lent_values → made_causes ≡ None → (e : PolarsError) → (e ≡ OutOfMemory) ⊎ (repeated_among (answer_names l) ≡ Some e) → (e ≡ OutOfMemory) ⊎ (first_cause (value_causes q) ≡ Some e)
+      names_stop some none e (inl want) = inl want
+      names_stop some none e (inr cause) =
+          inr (values_decide
+          ∙ ap (λ (o : Option PolarsError). first_cause (o ∷ repeated_among (names_of (wide q)) ∷ [])) none
+          ∙ ap (λ (ns : List Name). first_cause (repeated_among ns ∷ [])) (ap names_of (wide_is some) ∙ names_are)
+          ∙ ap (λ (o : Option PolarsError). first_cause (o ∷ [])) cause)
 
       -- the columns of the answer are as high as it is, and so they are refused by their names alone
       abbrev IsHigh : TableColumn → Type 0

@@ -1,20 +1,23 @@
 -- Where each cell of the answer finds its value.
-use Rattle.std.specs.Prelude.{◌≡◌, ℕ, ◌+◌, ◌*◌, List, ◌++◌, length, Option, slice_range}
+use Rattle.std.specs.Prelude.{ℕ, ◌+◌, ◌*◌, List, ◌++◌, length, Option, slice_range}
 use Rattle.tb_frame.specs.Table.{TableColumn}
 use Rattle.tb_rows.specs.Grouped.{AreGroups}
 use Rattle.tb_pivot.specs.Grid.{grid}
 use Rattle.tb_pivot.specs.Pivot.{alike}
 use Rattle.tb_pivot.specs.declared.cells.Cells.{Cells}
 
--- the groups of rows by their index and header, by their index, and by their header, and for each cell its group
+-- the groups of rows by their index and header, by their index, and by their header
 pub record AreCells (height : ℕ) (index on : List TableColumn) (c : Cells) : Type 0 where
   pub groups : AreGroups (alike (index ++ on)) height c.groups
   pub rows : AreGroups (alike index) height c.rows
   pub headers : AreGroups (alike on) height c.headers
-  pub grid : c.grid.items ≡ grid c.groups c.rows c.headers
+
+-- for each cell its group, header after header
+abbrev pub cell_grid : Cells → List (Option ℕ)
+cell_grid c = grid c.groups c.rows c.headers
 
 -- for each cell of a header its group, in the order of the answer's rows
 abbrev pub cells_under : Cells → ℕ → List (Option ℕ)
 cells_under c y =
     let height : ℕ = length c.rows.firsts.items in
-    slice_range c.grid.items (y * height) (y * height + height)
+    slice_range (cell_grid c) (y * height) (y * height + height)

@@ -2,6 +2,8 @@
 use Rattle.std.specs.Prelude.{◌≡◌, ◌≤◌, ℕ, List, [], ◌++◌, length, map, if◌then◌else◌, slice_index_or}
 use Rattle.std.specs.Borrow.{Bor}
 use Rattle.std.specs.List.{flat_map}
+use Rattle.std.specs.Cmp.Lexicographic.{slice_cmp}
+use Rattle.std.specs.Ordering.{nat_cmp}
 use Rattle.tb_value.specs.Names.{Name}
 use Rattle.tb_value.specs.Pairs.{row_numbers}
 use Rattle.tb_value.specs.declared.limits.TheConstants.{MAX_ROWS}
@@ -47,6 +49,16 @@ header_columns l v made = map (header_column l v made) (row_numbers (length l.te
 
 abbrev pub laid_block : Layout → Col → Col → List TableColumn
 laid_block l v made = (if l.sorts then in_order by_name (header_columns l v made) else header_columns l v made)
+
+-- the names of the columns of a block
+abbrev pub block_names : Layout → Name → List Name
+block_names l v =
+    let names : List Name = map (block_name (length l.columns.now.values.items) l.separator.now v) l.texts.items in
+    if l.sorts then in_order (slice_cmp nat_cmp) names else names
+
+-- the names of all columns: those of the index, and then those of each block
+abbrev pub answer_names : Layout → List Name
+answer_names l = map (λ (c : Bor Col). c.now.name) l.columns.now.index.items ++ flat_map (λ (c : Bor Col). block_names l c.now.name) l.columns.now.values.items
 
 -- the columns of the index, and the blocks behind them
 abbrev pub index_and_blocks : Chosen → Table

@@ -1,15 +1,19 @@
 //! The columns of an answer.
-ghost use Rattle.std.specs.Prelude.{◌≡◌, ◌≤◌, ◌<◌, ◌++◌, ◌&&◌, IfOk, OnOk, length, map, nat_lt};
-ghost use Rattle.std.specs.List.{All};
+ghost use Rattle.std.specs.Prelude.{◌≡◌, ◌≤◌, ◌<◌, ◌∷◌, [], ◌++◌, ◌&&◌, IfOk, OnOk, length, map, nat_lt};
+ghost use Rattle.std.specs.List.{All, flat_map};
+ghost use Rattle.std.specs.Cmp.Lexicographic.{slice_cmp};
+ghost use Rattle.std.specs.Ordering.{nat_cmp};
 ghost use Rattle.tb_value.specs.Refusals.{Settles, first_cause};
 ghost use Rattle.tb_chunk.specs.Col.{Col, values};
 ghost use Rattle.tb_chunk.specs.Lent.{lent_columns};
 ghost use Rattle.tb_frame.specs.Frame.{taken};
+ghost use Rattle.tb_frame.specs.Refusal.{repeated_among};
 ghost use Rattle.tb_frame.specs.Table.{plain, table_of};
 ghost use Rattle.tb_rows.specs.InOrder.{in_order};
-ghost use Rattle.tb_pivot.specs.Layout.{header_column, header_columns, index_and_blocks, laid_block, laid_out, texts_at, IsLayout};
+ghost use Rattle.tb_pivot.specs.Cells.{cell_grid};
+ghost use Rattle.tb_pivot.specs.Layout.{answer_names, block_names, header_column, header_columns, laid_block, laid_out, texts_at, IsLayout};
 ghost use Rattle.tb_pivot.specs.Lookup.{AreAsHigh, chosen_of};
-ghost use Rattle.tb_pivot.specs.Made.{made_cause};
+ghost use Rattle.tb_pivot.specs.Made.{made_cause, IsMade};
 ghost use Rattle.tb_pivot.specs.Pivot.{by_name};
 ghost use Rattle.tb_pivot.specs.Refusal.{is_one_row, many_cause};
 ghost use Rattle.tb_pivot.specs.Request.{Way};
@@ -19,9 +23,11 @@ use crate::headers::{block_name, header_text};
 use crate::lookup::RequestColumns;
 use crate::maker::CellMaker;
 use std::alloc::Global;
+use tb_frame::check_repeated;
 use tb_store::{Column, Series};
 use tb_value::{
-    ComputeCause, IdxSize, MAX_ROWS, OutOfMemory, PlSmallStr, PolarsError, PolarsResult,
+    ComputeCause, IdxSize, MAX_ROWS, NullableIdxSize, OutOfMemory, PlSmallStr, PolarsError,
+    PolarsResult,
 };
 
 /// What all columns of an answer are laid out by: the columns that were found of a table of so many rows, whether the
@@ -34,6 +40,25 @@ pub(crate) struct Layout<'a, 'b> {
     separator: &'a str,
     cells: Cells,
     texts: Vec<PlSmallStr>,
+}
+
+/// A value column, and the column of one value of it for each group of rows.
+#[derive(Drop)]
+pub(crate) struct GroupValues<'b> {
+    value: &'b Series,
+    made: Series,
+}
+
+// Puts a value column and the values of its groups behind others.
+fn push_values<'b>(
+    blocks: &mut Vec<GroupValues<'b>>,
+    value: &'b Series,
+    made: Series,
+) -> Result<(), OutOfMemory>
+    ensures { OnOk result (blocks.new.items ≡ blocks.old.items ++ record { value = value.entry; made = made } ∷ []) }
+{
+    blocks.push(GroupValues { value, made })?;
+    Ok(())
 }
 
 // The texts of the headers of these rows.
@@ -70,12 +95,21 @@ fn columns_at(
 }
 
 // The columns by the bytes of their names.
-fn by_name(columns: Vec<Column>) -> Result<Vec<Column>, OutOfMemory>
+fn columns_by_name(columns: Vec<Column>) -> Result<Vec<Column>, OutOfMemory>
     ensures { IfOk result (λ v. table_of v.items ≡ in_order by_name (table_of columns.items)) }
 {
     let mut columns = columns;
     columns.sort_by(|a, b| a.name().cmp(b.name()))?;
     Ok(columns)
+}
+
+// The names by their bytes.
+fn names_by_bytes(names: Vec<PlSmallStr>) -> Result<Vec<PlSmallStr>, OutOfMemory>
+    ensures { IfOk result (λ v. v.items ≡ in_order (slice_cmp nat_cmp) names.items) }
+{
+    let mut names = names;
+    names.sort_by(|a, b| a.cmp(b))?;
+    Ok(names)
 }
 
 impl<'a, 'b> Layout<'a, 'b> {
@@ -130,16 +164,18 @@ impl<'a, 'b> Layout<'a, 'b> {
     fn header_column(
         &self,
         alloc: Global,
+        places: &[NullableIdxSize],
         value: &Series,
         made: &Series,
         header: usize,
     ) -> Result<Column, OutOfMemory>
         requires layout { IsLayout self.now }
+        requires places { places.now ≡ cell_grid self.now.cells }
         requires made { length (values made.now) ≡ length self.now.cells.groups.firsts.items }
         requires header { header < length self.now.texts.items }
         ensures { IfOk result (λ c. plain c ≡ header_column self.now value.now made.now header) }
     {
-        let mut column = self.cells.column(alloc, made, header)?;
+        let mut column = self.cells.column(alloc, places, made, header)?;
         column.rename(block_name(
             alloc,
             self.columns.values.len(),
@@ -154,16 +190,18 @@ impl<'a, 'b> Layout<'a, 'b> {
     fn header_columns(
         &self,
         alloc: Global,
+        places: &[NullableIdxSize],
         value: &Series,
         made: &Series,
     ) -> Result<Vec<Column>, OutOfMemory>
         requires layout { IsLayout self.now }
+        requires places { places.now ≡ cell_grid self.now.cells }
         requires made { length (values made.now) ≡ length self.now.cells.groups.firsts.items }
         ensures { IfOk result (λ v. table_of v.items ≡ header_columns self.now value.now made.now) }
     {
         let mut columns = Vec::with_capacity(alloc, self.texts.len())?;
         for header in 0..self.texts.len() {
-            columns.push(self.header_column(alloc, value, made, header)?)?;
+            columns.push(self.header_column(alloc, places, value, made, header)?)?;
         }
         Ok(columns)
     }
@@ -172,16 +210,18 @@ impl<'a, 'b> Layout<'a, 'b> {
     fn block(
         &self,
         alloc: Global,
+        places: &[NullableIdxSize],
         value: &Series,
         made: &Series,
     ) -> Result<Vec<Column>, OutOfMemory>
         requires layout { IsLayout self.now }
+        requires places { places.now ≡ cell_grid self.now.cells }
         requires made { length (values made.now) ≡ length self.now.cells.groups.firsts.items }
         ensures { IfOk result (λ v. table_of v.items ≡ laid_block self.now value.now made.now) }
     {
-        let columns = self.header_columns(alloc, value, made)?;
+        let columns = self.header_columns(alloc, places, value, made)?;
         if self.sorts {
-            by_name(columns)
+            columns_by_name(columns)
         } else {
             Ok(columns)
         }
@@ -191,18 +231,20 @@ impl<'a, 'b> Layout<'a, 'b> {
     fn block_of_chunks(
         &self,
         alloc: Global,
+        places: &[NullableIdxSize],
         value: &Series,
         made: &Series,
     ) -> Result<Vec<Column>, OutOfMemory>
         requires layout { IsLayout self.now }
+        requires places { places.now ≡ cell_grid self.now.cells }
         requires made { length (values made.now) ≡ length self.now.cells.groups.firsts.items }
         ensures { IfOk result (λ v. table_of v.items ≡ laid_block self.now value.now made.now) }
     {
         if made.n_chunks() == 1 {
-            return self.block(alloc, value, made);
+            return self.block(alloc, places, value, made);
         }
         let whole = made.rechunk(alloc)?;
-        self.block(alloc, value, &whole)
+        self.block(alloc, places, value, &whole)
     }
 
     // Puts the block of a value column behind others.
@@ -210,14 +252,15 @@ impl<'a, 'b> Layout<'a, 'b> {
         &self,
         alloc: Global,
         columns: &mut Vec<Column>,
-        value: &Series,
-        made: &Series,
+        places: &[NullableIdxSize],
+        block: &GroupValues<'_>,
     ) -> Result<(), OutOfMemory>
         requires layout { IsLayout self.now }
-        requires made { length (values made.now) ≡ length self.now.cells.groups.firsts.items }
-        ensures { OnOk result (table_of columns.new.items ≡ table_of columns.old.items ++ laid_block self.now value.now made.now) }
+        requires places { places.now ≡ cell_grid self.now.cells }
+        requires made { length (values block.now.made) ≡ length self.now.cells.groups.firsts.items }
+        ensures { OnOk result (table_of columns.new.items ≡ table_of columns.old.items ++ laid_block self.now block.now.value.now block.now.made) }
     {
-        let mut block = self.block_of_chunks(alloc, value, made)?;
+        let mut block = self.block_of_chunks(alloc, places, block.value, &block.made)?;
         columns.append(&mut block)?;
         Ok(())
     }
@@ -230,21 +273,91 @@ impl<'a, 'b> Layout<'a, 'b> {
         columns_at(alloc, &self.columns.index, self.cells.answer_rows())
     }
 
-    /// The columns of the index, and the blocks of all value columns. Refuses what the maker refuses first.
-    pub(crate) fn columns<M: CellMaker>(
+    /// One value for each group of each value column, or what the maker refuses first.
+    pub(crate) fn group_values<M: CellMaker>(
         &self,
         alloc: Global,
         maker: &M,
-    ) -> PolarsResult<Vec<Column>>
+    ) -> PolarsResult<Vec<GroupValues<'b>>>
         requires layout { IsLayout self.now }
         requires ready { M.IsReady maker.now }
         ensures settles { Settles result (first_cause (map (made_cause (M.way maker.now) self.now.cells.groups) (lent_columns self.now.columns.now.values.items))) }
-        ensures table { IfOk result (λ v. table_of v.items ≡ index_and_blocks (laid_out self.now (M.way maker.now))) }
+        ensures values { IfOk result (λ v. map (λ b. b.value) v.items ≡ self.now.columns.now.values.items) }
+        ensures made { IfOk result (λ v. All (λ b. IsMade (M.way maker.now) self.now.cells.groups b.value.now b.made) v.items) }
     {
-        let mut columns = self.index_columns(alloc)?;
+        let mut blocks = Vec::new(alloc);
         for value in &self.columns.values {
             let made = maker.made(alloc, value, self.cells.groups())?;
-            self.push_block(alloc, &mut columns, value, &made)?;
+            push_values(&mut blocks, value, made)?;
+        }
+        Ok(blocks)
+    }
+
+    // The names of the columns of a block.
+    fn block_names(&self, alloc: Global, value: &PlSmallStr) -> Result<Vec<PlSmallStr>, OutOfMemory>
+        ensures { IfOk result (λ v. v.items ≡ block_names self.now value.now) }
+    {
+        let mut names = Vec::with_capacity(alloc, self.texts.len())?;
+        for text in &self.texts {
+            names.push(block_name(
+                alloc,
+                self.columns.values.len(),
+                self.separator,
+                value,
+                text,
+            )?)?;
+        }
+        if self.sorts {
+            names_by_bytes(names)
+        } else {
+            Ok(names)
+        }
+    }
+
+    // The names of the columns of the index.
+    fn index_names(&self, alloc: Global) -> Result<Vec<PlSmallStr>, OutOfMemory>
+        ensures { IfOk result (λ v. v.items ≡ map (λ c. c.now.name) self.now.columns.now.index.items) }
+    {
+        let mut names = Vec::with_capacity(alloc, self.columns.index.len())?;
+        for column in &self.columns.index {
+            names.push(column.name().copy(alloc)?)?;
+        }
+        Ok(names)
+    }
+
+    // The names of all columns of the answer.
+    fn answer_names(&self, alloc: Global) -> Result<Vec<PlSmallStr>, OutOfMemory>
+        ensures { IfOk result (λ v. v.items ≡ answer_names self.now) }
+    {
+        let mut names = self.index_names(alloc)?;
+        for value in &self.columns.values {
+            names.append(&mut self.block_names(alloc, value.name())?)?;
+        }
+        Ok(names)
+    }
+
+    /// Refuses the first repeated name of the answer (Duplicate).
+    pub(crate) fn check_names(&self, alloc: Global) -> PolarsResult<()>
+        ensures { Settles result (repeated_among (answer_names self.now)) }
+    {
+        check_repeated(alloc, &self.answer_names(alloc)?)
+    }
+
+    /// The columns of the index, and the blocks of these value columns. The grid of cells is made here, when nothing can be refused
+    /// any more.
+    pub(crate) fn columns(
+        &self,
+        alloc: Global,
+        blocks: &[GroupValues<'_>],
+    ) -> Result<Vec<Column>, OutOfMemory>
+        requires layout { IsLayout self.now }
+        requires made { All (λ b. length (values b.made) ≡ length self.now.cells.groups.firsts.items) blocks.now }
+        ensures { IfOk result (λ v. table_of v.items ≡ table_of (map (taken self.now.cells.rows.firsts.items) (lent_columns self.now.columns.now.index.items)) ++ flat_map (λ b. laid_block self.now b.value.now b.made) blocks.now) }
+    {
+        let places = self.cells.grid(alloc, self.height, self.columns)?;
+        let mut columns = self.index_columns(alloc)?;
+        for block in blocks {
+            self.push_block(alloc, &mut columns, &places, block)?;
         }
         Ok(columns)
     }

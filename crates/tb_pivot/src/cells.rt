@@ -4,8 +4,7 @@ ghost use Rattle.tb_chunk.specs.Changed.{opt_taken};
 ghost use Rattle.tb_chunk.specs.Col.{values};
 ghost use Rattle.tb_chunk.specs.Lent.{lent_columns};
 ghost use Rattle.tb_frame.specs.Table.{table_of};
-ghost use Rattle.tb_pivot.specs.Cells.{AreCells, cells_under};
-ghost use Rattle.tb_pivot.specs.Grid.{grid};
+ghost use Rattle.tb_pivot.specs.Cells.{AreCells, cell_grid, cells_under};
 
 use crate::grid::grid_of;
 use crate::lookup::RequestColumns;
@@ -14,13 +13,12 @@ use tb_rows::{Groups, group_rows};
 use tb_store::Series;
 use tb_value::{IdxSize, MAX_ROWS, NullableIdxSize, OutOfMemory};
 
-/// The groups of a table's rows, by index and header, by index, and by header, and for each cell its group.
+/// The groups of a table's rows, by index and header, by index, and by header.
 #[derive(Drop)]
 pub(crate) struct Cells {
     groups: Groups,
     rows: Groups,
     headers: Groups,
-    grid: Vec<NullableIdxSize>,
 }
 
 // Puts the columns behind the others.
@@ -60,13 +58,25 @@ impl Cells {
         let groups = group_rows(alloc, &keys, height)?;
         let rows = group_rows(alloc, &columns.index, height)?;
         let headers = group_rows(alloc, &columns.on, height)?;
-        let grid = grid_of(alloc, &groups, &rows, &headers)?;
         Ok(Cells {
             groups,
             rows,
             headers,
-            grid,
         })
+    }
+
+    /// For each cell its group, header after header. It has as many entries as the answer has cells.
+    pub(crate) fn grid(
+        &self,
+        alloc: Global,
+        height: usize,
+        columns: &RequestColumns<'_>,
+    ) -> Result<Vec<NullableIdxSize>, OutOfMemory>
+        requires few { height ≤ MAX_ROWS }
+        requires cells { AreCells height (table_of (lent_columns columns.now.index.items)) (table_of (lent_columns columns.now.on.items)) self.now }
+        ensures { IfOk result (λ v. v.items ≡ cell_grid self.now) }
+    {
+        grid_of(alloc, &self.groups, &self.rows, &self.headers)
     }
 
     /// The table's rows in groups by index and header.
@@ -91,29 +101,31 @@ impl Cells {
     }
 
     // The groups in the cells of a header.
-    fn cells_under(&self, header: usize) -> &[NullableIdxSize]
-        requires grid { length self.now.grid.items ≡ length self.now.headers.firsts.items * length self.now.rows.firsts.items }
+    fn cells_under<'a>(&self, places: &'a [NullableIdxSize], header: usize) -> &'a [NullableIdxSize]
+        requires places { places.now ≡ cell_grid self.now }
+        requires long { length places.now ≡ length self.now.headers.firsts.items * length self.now.rows.firsts.items }
         requires header { header < length self.now.headers.firsts.items }
         ensures { result.now ≡ cells_under self.now header }
     {
         let height = self.rows.firsts().len();
         let start = header * height;
-        &self.grid[start..start + height]
+        &places[start..start + height]
     }
 
-    /// The column of the cells of a header, of the column of one value for each group.
+    /// The column of the cells of a header, of the column of one value for each group. `places` is the grid.
     pub(crate) fn column(
         &self,
         alloc: Global,
+        places: &[NullableIdxSize],
         made: &Series,
         header: usize,
     ) -> Result<Series, OutOfMemory>
-        requires grid { self.now.grid.items ≡ grid self.now.groups self.now.rows self.now.headers }
+        requires places { places.now ≡ cell_grid self.now }
         requires rows { length self.now.rows.firsts.items ≤ MAX_ROWS }
         requires header { header < length self.now.headers.firsts.items }
         requires made { length (values made.now) ≡ length self.now.groups.firsts.items }
         ensures { IfOk result (λ s. s ≡ opt_taken (cells_under self.now header) made.now) }
     {
-        made.take_opt(alloc, self.cells_under(header))
+        made.take_opt(alloc, self.cells_under(places, header))
     }
 }

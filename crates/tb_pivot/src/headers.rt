@@ -1,5 +1,6 @@
 //! The texts of headers.
-ghost use Rattle.std.specs.Prelude.{◌≡◌, ◌<◌, ◌∷◌, ◌++◌, IfOk, length, map};
+ghost use Rattle.std.specs.Prelude.{◌≡◌, ◌<◌, ◌∷◌, ◌++◌, IfOk, OnOk, length, map};
+ghost use Rattle.std.specs.String.{string_bytes};
 ghost use Rattle.std.specs.List.{All, join_with_byte};
 ghost use Rattle.tb_value.specs.See.{lent, IsText};
 ghost use Rattle.tb_chunk.specs.Col.{values};
@@ -32,20 +33,23 @@ fn field_text(alloc: Global, value: ValueRef<'_>) -> Result<PlSmallStr, OutOfMem
     }
 }
 
-// A text with a comma and another behind it.
-fn with_next(alloc: Global, joined: &PlSmallStr, text: &str) -> Result<PlSmallStr, OutOfMemory>
-    ensures { IfOk result (λ s. s ≡ joined.now ++ (44 ∷ text.now)) }
+// Puts a comma and a text behind others.
+fn push_next(joined: &mut String, text: &PlSmallStr) -> Result<(), OutOfMemory>
+    ensures { OnOk result (string_bytes joined.new ≡ string_bytes joined.old ++ (44 ∷ text.now)) }
 {
-    joined.followed_by(alloc, ",")?.followed_by(alloc, text)
+    joined.push_str(",")?;
+    joined.push_str(text.as_str())?;
+    Ok(())
 }
 
 // Texts with a comma between each two.
-fn joined(alloc: Global, first: &PlSmallStr, rest: &[PlSmallStr]) -> Result<PlSmallStr, OutOfMemory>
-    ensures { IfOk result (λ s. s ≡ join_with_byte 44 (first.now ∷ rest.now)) }
+fn joined(alloc: Global, first: &PlSmallStr, rest: &[PlSmallStr]) -> Result<String, OutOfMemory>
+    ensures { IfOk result (λ s. string_bytes s ≡ join_with_byte 44 (first.now ∷ rest.now)) }
 {
-    let mut joined = first.copy(alloc)?;
+    let mut joined = String::new(alloc);
+    joined.push_str(first.as_str())?;
     for text in rest {
-        joined = with_next(alloc, &joined, text.as_str())?;
+        push_next(&mut joined, text)?;
     }
     Ok(joined)
 }

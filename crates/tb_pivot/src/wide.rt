@@ -30,7 +30,9 @@ fn laid_table<M: CellMaker>(
     ensures table { IfOk result (λ t. table_of t ≡ wide (laid_out layout.now (M.way maker.now))) }
 {
     layout.check_rows(maker)?;
-    DataFrame::new(alloc, layout.columns(alloc, maker)?)
+    let blocks = layout.group_values(alloc, maker)?;
+    layout.check_names(alloc)?;
+    DataFrame::new(alloc, layout.columns(alloc, &blocks)?)
 }
 
 /// The table made wide: a row for each distinct row of the index, and for each value column a column for each distinct

@@ -4,7 +4,7 @@ use Rattle.tb_chunk.specs.Col.{Col}
 use Rattle.tb_frame.specs.Table.{plain, table_of}
 use Rattle.tb_rows.proofs.InOrder.{in_order-map, sorted_in_order}
 use Rattle.tb_pivot.specs.Pivot.{by_name}
-use Rattle.tb_pivot.proofs.blocks.by_name.Goals as goal
+use Rattle.tb_pivot.proofs.blocks.columns_by_name.Goals as goal
 
 pub returns : goal.returns
 returns c =
