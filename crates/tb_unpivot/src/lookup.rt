@@ -1,5 +1,5 @@
 //! The columns that a request names, and its refusals but for the last.
-ghost use Rattle.std.specs.Prelude.{◌≡◌, ◌≤◌, ◌*◌, ◌∷◌, [], ◌++◌, IfOk, Ok, OnOk, length, map};
+ghost use Rattle.std.specs.Prelude.{◌≡◌, ◌≤◌, ◌*◌, ◌∷◌, [], IfOk, Ok, length, map};
 ghost use Rattle.tb_value.specs.Kind as kind;
 ghost use Rattle.tb_value.specs.Refusals.{Settles, first_cause};
 ghost use Rattle.tb_value.specs.SeeKind.{kind_of};
@@ -8,14 +8,13 @@ ghost use Rattle.tb_value.specs.declared.error.PolarsError.TheVariants.{InvalidO
 ghost use Rattle.tb_chunk.specs.Col.{Col};
 ghost use Rattle.tb_chunk.specs.Lent.{lent_columns};
 ghost use Rattle.tb_frame.specs.Frame.{selected, without_names};
-ghost use Rattle.tb_frame.specs.Refusal.{repeated_among, unknown_key};
 ghost use Rattle.tb_frame.specs.Table.{table_of};
 ghost use Rattle.std.specs.Option.{option_map};
 ghost use Rattle.tb_unpivot.specs.Unpivot.{asked_causes, common_kind, failed_at, no_supertype, on_names, table_causes, too_many_values};
 ghost use Rattle.tb_unpivot.specs.Asked.{IsAsked};
 
 use std::alloc::Global;
-use tb_frame::{DataFrame, check_distinct, name_set};
+use tb_frame::{DataFrame, check_repeated, lend_columns, name_set};
 use tb_store::{Column, Series};
 use tb_supertype::supertype;
 use tb_value::{
@@ -64,47 +63,6 @@ pub(crate) fn on_names(
         return other_names(alloc, columns, index);
     }
     copies(alloc, on)
-}
-
-fn push_lent<'a>(lent: &mut Vec<&'a Series>, column: &'a Series) -> Result<(), OutOfMemory>
-    ensures { OnOk result (lent_columns lent.new.items ≡ lent_columns lent.old.items ++ column.now ∷ []) }
-{
-    lent.push(column)?;
-    Ok(())
-}
-
-// The columns of these names, lent. Refuses the first name that no column has (ColumnNotFound).
-fn named_columns<'a>(
-    alloc: Global,
-    table: &'a DataFrame,
-    names: &[PlSmallStr],
-) -> PolarsResult<Vec<&'a Series>>
-    ensures settles { Settles result (unknown_key (table_of table.now) names.now) }
-    ensures columns { IfOk result (λ v. lent_columns v.items ≡ selected names.now table.now) }
-{
-    let mut columns = Vec::new(alloc);
-    for name in names {
-        let column = table.column(alloc, name.as_str())?;
-        push_lent(&mut columns, column.as_materialized_series())?;
-    }
-    Ok(columns)
-}
-
-fn lent_names(alloc: Global, names: &[PlSmallStr]) -> Result<Vec<&PlSmallStr>, OutOfMemory>
-    ensures { IfOk result (λ v. map (λ n. n.now) v.items ≡ names.now) }
-{
-    let mut lent = Vec::with_capacity(alloc, names.len())?;
-    for name in names {
-        lent.push(name)?;
-    }
-    Ok(lent)
-}
-
-// Refuses the first repeated name (Duplicate).
-fn check_names(alloc: Global, names: &[PlSmallStr]) -> PolarsResult<()>
-    ensures { Settles result (repeated_among names.now) }
-{
-    check_distinct(alloc, &lent_names(alloc, names)?)
 }
 
 // The common type of a type and the column's, or the refusal that there is none.
@@ -174,9 +132,9 @@ fn found<'a>(
     ensures settles { Settles result (first_cause (asked_causes (table_of table.now) (table_of (selected on.now table.now)) on.now index.now)) }
     ensures asked { IfOk result (IsAsked table.now on.now index.now) }
 {
-    let on_columns = named_columns(alloc, table, on)?;
-    let index_columns = named_columns(alloc, table, index)?;
-    check_names(alloc, index)?;
+    let on_columns = lend_columns(alloc, table.get_columns(), on)?;
+    let index_columns = lend_columns(alloc, table.get_columns(), index)?;
+    check_repeated(alloc, index)?;
     let dtype = check_columns(alloc, table.height(), &on_columns)?;
     Ok(RequestColumns {
         on: on_columns,
