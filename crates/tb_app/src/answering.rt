@@ -106,7 +106,7 @@ fn joined(
     } = request;
     let gate = &OpenGate;
     let outcome = left.join_traced(rt, alloc, &right, &left_on, &right_on, args, &exec, gate);
-    // The text of the answer is long, and needs none of what was joined.
+    // The text of the answer is long, and needs none of what was joined; so it is of the other commands.
     drop(left);
     drop(right);
     join_answered(alloc, trace, outcome)
@@ -129,6 +129,7 @@ fn made_long(alloc: Global, request: UnpivotRequest) -> Result<Answer, OutOfMemo
         value_name,
     };
     let outcome = table.unpivot2(alloc, args);
+    drop(table);
     answered(alloc, outcome)
 }
 
@@ -140,6 +141,7 @@ fn with_dummies(alloc: Global, request: DummiesRequest) -> Result<Answer, OutOfM
     let outcome = request
         .table
         ._to_dummies(alloc, columns, separator, request.drop_first);
+    drop(request);
     answered(alloc, outcome)
 }
 
@@ -159,6 +161,7 @@ fn made_wide(alloc: Global, request: PivotRequest) -> Result<Answer, OutOfMemory
         &request.agg,
         separator,
     );
+    drop(request);
     answered(alloc, outcome)
 }
 
