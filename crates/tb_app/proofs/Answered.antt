@@ -1,21 +1,29 @@
 -- What is due for a request, by what its operation answers.
-use Rattle.std.proofs.Common.{◌≡◌, ◌∙◌, ℕ, List, Option, Result, Ok, Err, IfOk, MatchOption, sym, ap, subst}
+use Rattle.std.proofs.Common.{◌≡◌, ◌∙◌, ℕ, List, Option, Result, Ok, Err, IfOk, MatchOption, map, sym, ap, subst}
 use mathlib.Core.Logic.{inl, inr}
 use Rattle.std.specs.Borrow.{Bor}
-use Rattle.std.specs.Option.{option_copied}
+use Rattle.std.specs.Option.{option_copied, option_map}
 use Rattle.tb_value.specs.Names.{Name}
 use Rattle.tb_value.specs.Refusals.{Settles}
 use Rattle.tb_value.specs.declared.error.PolarsError.{PolarsError}
 use Rattle.tb_chunk.specs.Col.{Col}
-use Rattle.tb_frame.specs.Join.{IsAnswer, lent_request}
+use Rattle.tb_frame.specs.Join.{IsAnswer, by_names, lent_request}
+use Rattle.tb_frame.specs.Join as asking
 use Rattle.tb_frame.specs.Refusal.{join_refusal}
 use Rattle.tb_frame.specs.Table.{table_of}
 use Rattle.tb_json.specs.Text.{text_of}
 use Rattle.tb_request.specs.declared.request.Reason.{Reason}
 use Rattle.tb_request.specs.declared.request.RequestFault.{RequestFault}
 use Rattle.tb_request.specs.declared.request.RequestFault.TheVariants.{NoRequest}
-use Rattle.tb_request.specs.Reading.{JoinRequest, UnpivotRequest, DummiesRequest, PivotRequest, FaultIs}
-use Rattle.tb_unpivot.specs.Unpivot.{unpivot_refusal, unpivot_table}
+use Rattle.tb_request.specs.Reading.{UnpivotRequest, DummiesRequest, PivotRequest, FaultIs, asked, request_view, unpivot_view, dummies_view, pivot_view}
+use Rattle.tb_request.specs.Columns.{unlaid}
+use Rattle.tb_request.specs.declared.request.JoinRequest as rust
+use Rattle.tb_request.specs.declared.request.UnpivotRequest as rust_long
+use Rattle.tb_request.specs.declared.request.DummiesRequest as rust_marked
+use Rattle.tb_request.specs.declared.request.PivotRequest as rust_wide
+use Rattle.tb_request.proofs.Unlaid.{table_unlaid}
+use Rattle.tb_unpivot.specs.Unpivot.{unpivot_refusal, unpivot_table, variable_or, value_or}
+use Rattle.tb_unpivot.specs.Unpivot as long
 use Rattle.tb_dummies.specs.Dummies.{dummies_refusal, dummies_table, separator_or}
 use Rattle.tb_dummies.specs.Dummies as marked
 use Rattle.tb_dummies.specs.Lent as lent
@@ -31,6 +39,7 @@ use Rattle.tb_app.specs.declared.status.Status.{Status}
 use Rattle.tb_app.specs.declared.status.Status.TheVariants as status
 use Rattle.tb_app.specs.Due.{DueOfReading, DueOfRequest, IsJoinOutcome, IsOutcome}
 use Rattle.tb_app.specs.Traces.{due_trace, joined_text}
+use Rattle.tb_app.proofs.Unlaid.{trace_unlaid}
 use Rattle.tb_app.specs.Requests.{Request, as_request, asked_dummies, asked_long, asked_wide, join, unpivot, dummies, pivot, refusal_of, IsAnswerText, text_of_refusal}
 
 -- ---- no request
@@ -71,45 +80,48 @@ outcomes_are_due q outcome s text (Err e) settles answers is = is
 
 -- ---- a join
 
-module _ (r : JoinRequest) (left_on right_on : List Name) (left : left_on ≡ r.left_on) (right : right_on ≡ r.right_on) where
-  -- what holds of the lent lists of names holds of the request's
-  of_request : (P : List Name → List Name → Type 0) → P left_on right_on → P r.left_on r.right_on
-  of_request P p = subst (λ ns. P r.left_on ns) right (subst (λ ns. P ns right_on) left p)
+module _ (q : rust.JoinRequest) (left_on right_on : List Name) (left : left_on ≡ q.left_on.items) (right : right_on ≡ q.right_on.items) where
+  -- the tables show no views, and the lists of names are those that are lent
+  asked_lent : lent_request q.left q.right left_on right_on q.args ≡ asked (request_view q)
+  asked_lent = λ t. by_names (sym (table_unlaid q.left) t) (sym (table_unlaid q.right) t) (left t) (right t) q.args
+
+  trace_lent : named_trace q.left q.right left_on right_on q.args q.exec ≡ due_trace (request_view q)
+  trace_lent = sym (trace_unlaid q.left q.right left_on right_on q.args q.exec) ∙ (λ t. named_trace (map unlaid q.left) (map unlaid q.right) (left t) (right t) q.args q.exec)
 
   -- the table that the join gave answers the request, and its trace is the one that is due
   joined_is_due : (outcome : Result (List Col × JoinTrace) PolarsError) (s : Status) (text : List ℕ)
-      → Settles outcome (join_refusal (lent_request r.left r.right r.left_on r.right_on r.args))
-      → IfOk outcome (λ x. IsAnswer (lent_request r.left r.right r.left_on r.right_on r.args) (table_of x.0))
-      → IfOk outcome (λ x. told x.1 ≡ due_trace r)
-      → IsJoinOutcome r.trace outcome s text → DueOfRequest (join r) s text
+      → Settles outcome (join_refusal (asked (request_view q)))
+      → IfOk outcome (λ x. IsAnswer (asked (request_view q)) (table_of x.0))
+      → IfOk outcome (λ x. told x.1 ≡ due_trace (request_view q))
+      → IsJoinOutcome q.trace outcome s text → DueOfRequest (join (request_view q)) s text
   unfolding DueOf IsAnswerText refusal_of
   joined_is_due (Ok (t, how)) s text settles answer traced is =
-      subst (DueOf (join r) s text) (sym settles) (is.0, (table_of t, answer, is.1 ∙ ap (joined_text r.trace (table_of t)) traced))
+      subst (DueOf (join (request_view q)) s text) (sym settles) (is.0, (table_of t, answer, is.1 ∙ ap (joined_text q.trace (table_of t)) traced))
   joined_is_due (Err e) s text (inl want) answer traced is = absurd (is.0 want)
-  joined_is_due (Err e) s text (inr cause) answer traced is = subst (DueOf (join r) s text) (sym cause) (is.1, is.2)
+  joined_is_due (Err e) s text (inr cause) answer traced is = subst (DueOf (join (request_view q)) s text) (sym cause) (is.1, is.2)
 
   joins_are_due : {A E : Type 0} (outcome : Result (List Col × JoinTrace) PolarsError) (s : A → Status) (text : A → List ℕ) (result : Result A E)
-      → Settles outcome (join_refusal (lent_request r.left r.right r.left_on r.right_on r.args))
-      → IfOk outcome (λ x. IsAnswer (lent_request r.left r.right r.left_on r.right_on r.args) (table_of x.0))
-      → IfOk outcome (λ x. told x.1 ≡ due_trace r)
-      → IfOk result (λ a. IsJoinOutcome r.trace outcome (s a) (text a)) → IfOk result (λ a. DueOfRequest (join r) (s a) (text a))
+      → Settles outcome (join_refusal (asked (request_view q)))
+      → IfOk outcome (λ x. IsAnswer (asked (request_view q)) (table_of x.0))
+      → IfOk outcome (λ x. told x.1 ≡ due_trace (request_view q))
+      → IfOk result (λ a. IsJoinOutcome q.trace outcome (s a) (text a)) → IfOk result (λ a. DueOfRequest (join (request_view q)) (s a) (text a))
   joins_are_due outcome s text (Ok a) settles answer traced is = joined_is_due outcome (s a) (text a) settles answer traced is
   joins_are_due outcome s text (Err e) settles answer traced is = is
 
-  told_as_due : (outcome : Result (List Col × JoinTrace) PolarsError) (due : Trace) → IfOk outcome (λ x. IsTraced r.exec due x.1) → IfOk outcome (λ x. told x.1 ≡ due)
+  told_as_due : (outcome : Result (List Col × JoinTrace) PolarsError) (due : Trace) → IfOk outcome (λ x. IsTraced q.exec due x.1) → IfOk outcome (λ x. told x.1 ≡ due)
   told_as_due (Ok x) due traced = traced.tells
   told_as_due (Err e) due traced = tt
 
   pub join_is_due : {A E : Type 0} (outcome : Result (List Col × JoinTrace) PolarsError) (s : A → Status) (text : A → List ℕ) (result : Result A E)
-      → Settles outcome (join_refusal (lent_request r.left r.right left_on right_on r.args))
-      → IfOk outcome (λ x. IsAnswer (lent_request r.left r.right left_on right_on r.args) (table_of x.0))
-      → IfOk outcome (λ x. IsTraced r.exec (named_trace r.left r.right left_on right_on r.args r.exec) x.1)
-      → IfOk result (λ a. IsJoinOutcome r.trace outcome (s a) (text a)) → IfOk result (λ a. DueOfRequest (join r) (s a) (text a))
+      → Settles outcome (join_refusal (lent_request q.left q.right left_on right_on q.args))
+      → IfOk outcome (λ x. IsAnswer (lent_request q.left q.right left_on right_on q.args) (table_of x.0))
+      → IfOk outcome (λ x. IsTraced q.exec (named_trace q.left q.right left_on right_on q.args q.exec) x.1)
+      → IfOk result (λ a. IsJoinOutcome q.trace outcome (s a) (text a)) → IfOk result (λ a. DueOfRequest (join (request_view q)) (s a) (text a))
   join_is_due outcome s text result settles answer traced is =
       joins_are_due outcome s text result
-      (of_request (λ a b. Settles outcome (join_refusal (lent_request r.left r.right a b r.args))) settles)
-      (of_request (λ a b. IfOk outcome (λ x. IsAnswer (lent_request r.left r.right a b r.args) (table_of x.0))) answer)
-      (told_as_due outcome (due_trace r) (of_request (λ a b. IfOk outcome (λ x. IsTraced r.exec (named_trace r.left r.right a b r.args r.exec) x.1)) traced))
+      (subst (λ (a : asking.Request). Settles outcome (join_refusal a)) asked_lent settles)
+      (subst (λ (a : asking.Request). IfOk outcome (λ x. IsAnswer a (table_of x.0))) asked_lent answer)
+      (subst (λ (d : Trace). IfOk outcome (λ x. told x.1 ≡ d)) trace_lent (told_as_due outcome _ traced))
       is
 
 -- ---- a table that is made long
@@ -120,11 +132,22 @@ unfolding IsAnswerText
 long_text r (Ok t) table = ap text_of table
 long_text r (Err e) table = tt
 
-pub long_is_due : {A E : Type 0} (r : UnpivotRequest) (outcome : Result (List Col) PolarsError) (s : A → Status) (text : A → List ℕ) (result : Result A E)
-    → Settles outcome (unpivot_refusal (asked_long r)) → IfOk outcome (λ t. table_of t ≡ unpivot_table (asked_long r))
-    → IfOk result (λ a. IsOutcome outcome (s a) (text a)) → IfOk result (λ a. DueOfRequest (unpivot r) (s a) (text a))
-unfolding refusal_of
-long_is_due r outcome s text result settles table is = outcomes_are_due (unpivot r) outcome s text result settles (long_text r outcome table) is
+module _ (q : rust_long.UnpivotRequest) where
+  abbrev lent_long : long.Request
+  lent_long = record { table = table_of q.table; on = q.on.items; index = q.index.items; variable = variable_or q.variable_name; value = value_or q.value_name }
+
+  lent_long_is : lent_long ≡ asked_long (unpivot_view q)
+  lent_long_is = λ t. record { table = sym (table_unlaid q.table) t; on = q.on.items; index = q.index.items; variable = variable_or q.variable_name; value = value_or q.value_name }
+
+  pub long_is_due : {A E : Type 0} (outcome : Result (List Col) PolarsError) (s : A → Status) (text : A → List ℕ) (result : Result A E)
+      → Settles outcome (unpivot_refusal lent_long) → IfOk outcome (λ t. table_of t ≡ unpivot_table lent_long)
+      → IfOk result (λ a. IsOutcome outcome (s a) (text a)) → IfOk result (λ a. DueOfRequest (unpivot (unpivot_view q)) (s a) (text a))
+  unfolding refusal_of
+  long_is_due outcome s text result settles table is =
+      outcomes_are_due (unpivot (unpivot_view q)) outcome s text result
+      (subst (λ (r : long.Request). Settles outcome (unpivot_refusal r)) lent_long_is settles)
+      (long_text (unpivot_view q) outcome (subst (λ (r : long.Request). IfOk outcome (λ t. table_of t ≡ unpivot_table r)) lent_long_is table))
+      is
 
 -- ---- a table whose columns are replaced
 
@@ -134,23 +157,24 @@ unfolding IsAnswerText
 dummies_text r (Ok t) table = ap text_of table
 dummies_text r (Err e) table = tt
 
-module _ (r : DummiesRequest) (columns : Option (List Name)) (separator : Option (Bor Name)) (names : columns ≡ r.columns) (given : option_copied separator ≡ r.separator) where
+module _ (q : rust_marked.DummiesRequest) (columns : Option (List Name)) (separator : Option (Bor Name))
+    (names : columns ≡ option_map (λ v. v.items) q.columns) (given : option_copied separator ≡ q.separator) where
   abbrev lent_dummies : marked.Request
-  lent_dummies = lent.lent_request r.table columns separator r.drop_first
+  lent_dummies = lent.lent_request q.table columns separator q.drop_first
 
   -- what is asked with what is lent of the request
-  lent_is : lent_dummies ≡ asked_dummies r
-  lent_is = λ t. record { table = table_of r.table; columns = names t; separator = separator_or (given t); drop_first = r.drop_first }
+  lent_is : lent_dummies ≡ asked_dummies (dummies_view q)
+  lent_is = λ t. record { table = sym (table_unlaid q.table) t; columns = names t; separator = separator_or (given t); drop_first = q.drop_first }
 
   pub dummies_are_due : {A E : Type 0} (outcome : Result (List Col) PolarsError) (s : A → Status) (text : A → List ℕ) (result : Result A E)
-      → Settles outcome (dummies_refusal (lent.lent_request r.table columns separator r.drop_first))
-      → IfOk outcome (λ t. table_of t ≡ dummies_table (lent.lent_request r.table columns separator r.drop_first))
-      → IfOk result (λ a. IsOutcome outcome (s a) (text a)) → IfOk result (λ a. DueOfRequest (dummies r) (s a) (text a))
+      → Settles outcome (dummies_refusal (lent.lent_request q.table columns separator q.drop_first))
+      → IfOk outcome (λ t. table_of t ≡ dummies_table (lent.lent_request q.table columns separator q.drop_first))
+      → IfOk result (λ a. IsOutcome outcome (s a) (text a)) → IfOk result (λ a. DueOfRequest (dummies (dummies_view q)) (s a) (text a))
   unfolding refusal_of
   dummies_are_due outcome s text result settles table is =
-      outcomes_are_due (dummies r) outcome s text result
-      (subst (λ (q : marked.Request). Settles outcome (dummies_refusal q)) lent_is settles)
-      (dummies_text r outcome (subst (λ (q : marked.Request). IfOk outcome (λ t. table_of t ≡ dummies_table q)) lent_is table))
+      outcomes_are_due (dummies (dummies_view q)) outcome s text result
+      (subst (λ (r : marked.Request). Settles outcome (dummies_refusal r)) lent_is settles)
+      (dummies_text (dummies_view q) outcome (subst (λ (r : marked.Request). IfOk outcome (λ t. table_of t ≡ dummies_table r)) lent_is table))
       is
 
 -- ---- a table that is made wide
@@ -161,22 +185,22 @@ unfolding IsAnswerText
 wide_text r (Ok t) table = ap text_of table
 wide_text r (Err e) table = tt
 
-module _ (r : PivotRequest) (on : List Name) (index values : Option (List Name)) (separator : Option (Bor Name))
-    (keys : on ≡ r.on) (rows : index ≡ r.index) (others : values ≡ r.values) (given : option_copied separator ≡ r.separator) where
+module _ (q : rust_wide.PivotRequest) (on : List Name) (index values : Option (List Name)) (separator : Option (Bor Name))
+    (keys : on ≡ q.on.items) (rows : index ≡ option_map (λ v. v.items) q.index) (others : values ≡ option_map (λ v. v.items) q.values) (given : option_copied separator ≡ q.separator) where
   abbrev lent_pivot : wide.Request
-  lent_pivot = borrowed.lent_request r.table on index values r.sort_columns (way_of r.agg) separator
+  lent_pivot = borrowed.lent_request q.table on index values q.sort_columns (way_of q.agg) separator
 
   -- what is asked with what is lent of the request
-  lent_pivot_is : lent_pivot ≡ asked_wide r
-  lent_pivot_is = λ t. record { table = table_of r.table; on = keys t; index = rows t; values = others t; sorts = r.sort_columns; way = way_of r.agg; separator = wide.separator_or (given t) }
+  lent_pivot_is : lent_pivot ≡ asked_wide (pivot_view q)
+  lent_pivot_is = λ t. record { table = sym (table_unlaid q.table) t; on = keys t; index = rows t; values = others t; sorts = q.sort_columns; way = way_of q.agg; separator = wide.separator_or (given t) }
 
   pub pivot_is_due : {A E : Type 0} (outcome : Result (List Col) PolarsError) (s : A → Status) (text : A → List ℕ) (result : Result A E)
-      → Settles outcome (pivot_refusal (borrowed.lent_request r.table on index values r.sort_columns (way_of r.agg) separator))
-      → IfOk outcome (λ t. table_of t ≡ pivot_table (borrowed.lent_request r.table on index values r.sort_columns (way_of r.agg) separator))
-      → IfOk result (λ a. IsOutcome outcome (s a) (text a)) → IfOk result (λ a. DueOfRequest (pivot r) (s a) (text a))
+      → Settles outcome (pivot_refusal (borrowed.lent_request q.table on index values q.sort_columns (way_of q.agg) separator))
+      → IfOk outcome (λ t. table_of t ≡ pivot_table (borrowed.lent_request q.table on index values q.sort_columns (way_of q.agg) separator))
+      → IfOk result (λ a. IsOutcome outcome (s a) (text a)) → IfOk result (λ a. DueOfRequest (pivot (pivot_view q)) (s a) (text a))
   unfolding refusal_of
   pivot_is_due outcome s text result settles table is =
-      outcomes_are_due (pivot r) outcome s text result
-      (subst (λ (q : wide.Request). Settles outcome (pivot_refusal q)) lent_pivot_is settles)
-      (wide_text r outcome (subst (λ (q : wide.Request). IfOk outcome (λ t. table_of t ≡ pivot_table q)) lent_pivot_is table))
+      outcomes_are_due (pivot (pivot_view q)) outcome s text result
+      (subst (λ (r : wide.Request). Settles outcome (pivot_refusal r)) lent_pivot_is settles)
+      (wide_text (pivot_view q) outcome (subst (λ (r : wide.Request). IfOk outcome (λ t. table_of t ≡ pivot_table r)) lent_pivot_is table))
       is

@@ -5,5 +5,6 @@ mod Frame
 mod OneStatus
 mod Commands
 mod TraceTexts
+mod Unlaid
 mod Answered
 mod SampleRows

@@ -2,4 +2,5 @@ pub mod Refused
 pub mod FlagTests
 pub mod FromBytes
 pub mod Taken
-pub mod Runs
+pub mod Unlaid
+pub mod Judged

@@ -1,5 +1,7 @@
 -- What the program's values stand for.
-use Rattle.std.specs.Prelude.{map, option_map}
+use Rattle.std.specs.Prelude.{List, map, option_map}
+use Rattle.std.specs.declared.alloc.Global.{Global}
+use Rattle.std.specs.declared.vec.Vec.{Vec}
 use Rattle.tb_tree.specs.View.{view}
 use Rattle.tb_value.specs.SeeKind.{kind_of}
 use Rattle.tb_pool.specs.ExecView.{ExecView}
@@ -11,6 +13,7 @@ use Rattle.tb_request.specs.declared.one_table.WrittenUnpivot.{WrittenUnpivot}
 use Rattle.tb_request.specs.declared.one_table.WrittenDummies.{WrittenDummies}
 use Rattle.tb_request.specs.declared.one_table.WrittenPivot.{WrittenPivot}
 use Rattle.tb_request.specs.declared.values.ClaimedColumn.{ClaimedColumn}
+use Rattle.tb_request.specs.Columns.{unlaid}
 use Rattle.tb_request.specs.Written as written
 
 abbrev pub written_view : WrittenColumn → written.Written
@@ -58,6 +61,9 @@ written_pivot w = record {
   separator = w.separator;
 }
 
--- the column, as if it had the flag that is claimed
+-- the column, as if it had the flag that is claimed, wherever its texts stand
 abbrev pub claimed_view : ClaimedColumn → Col
-claimed_view c = record c.column { flag = c.flag }
+claimed_view c = unlaid (record c.column { flag = c.flag })
+
+abbrev pub claimed_views : Vec ClaimedColumn Global → List Col
+claimed_views v = map claimed_view v.items

@@ -1,5 +1,5 @@
 -- The requests that bytes are, or the first reason why they are none.
-use Rattle.std.specs.Prelude.{◌≡◌, ℕ, List, [], ◌∷◌, map, nat_le, Bool, ◌&&◌, if◌then◌else◌, Option, None, is_none, option_map, Result, Ok, Err, ok_or, ⊤}
+use Rattle.std.specs.Prelude.{◌≡◌, ℕ, List, [], ◌∷◌, map, nat_le, Bool, ◌&&◌, if◌then◌else◌, Option, Some, None, is_none, option_map, Result, Ok, Err, ok_or, ⊤}
 use Rattle.std.specs.List.{list_all}
 use Rattle.std.specs.Str.{is_utf8}
 use Rattle.serde_json.specs.Data.{Data}
@@ -24,7 +24,7 @@ use Rattle.tb_request.specs.declared.request.Reason.TheVariants as why
 use Rattle.tb_request.specs.declared.request.RequestFault.{RequestFault}
 use Rattle.tb_request.specs.declared.request.RequestFault.TheVariants.{OutOfMemory, NoRequest}
 use Rattle.tb_request.specs.Written.{Written, join_of, unpivot_of, dummies_of, pivot_of}
-use Rattle.tb_request.specs.Columns.{tables_of, columns_from}
+use Rattle.tb_request.specs.Columns.{tables_of, columns_from, unlaid}
 use Rattle.tb_request.specs.Flags.{flags_hold}
 
 pub record JoinRequest : Type 0 where
@@ -87,6 +87,21 @@ unfoldable pub are_tables : List (List Col) → Result ⊤ Reason
 are_tables tables = do
   frames ← are_frames (map table_of tables)
   only_if (list_all flags_hold tables) why.Flag
+
+-- the tables are none for this reason, or they are tables
+abbrev pub IsJudged : List (List Col) → Option Reason → Type 0
+IsJudged tables None = are_tables tables ≡ Ok tt
+IsJudged tables (Some reason) = are_tables tables ≡ Err reason
+
+-- the one of two reasons why tables are none that is judged first
+abbrev pub earlier : Reason → Reason → Reason
+earlier why.Heights other = why.Heights
+earlier why.Name why.Flag = why.Name
+earlier one other = other
+
+abbrev pub earliest : Option Reason → Reason → Reason
+earliest None reason = reason
+earliest (Some first) reason = earlier first reason
 
 -- Each line speaks of the whole value, so the first that fails is the reason.
 unfoldable pub join_in : Data → Result JoinRequest Reason
@@ -159,18 +174,19 @@ pivot_request_of bytes = value_of bytes >>= pivot_in
 abbrev pub asked : JoinRequest → Request
 asked r = by_names (table_of r.left) (table_of r.right) r.left_on r.right_on r.args
 
+-- what the program's requests stand for, wherever the texts of their columns stand
 abbrev pub request_view : rust_join.JoinRequest → JoinRequest
-request_view r = record { left = r.left; right = r.right; left_on = r.left_on.items; right_on = r.right_on.items; args = r.args; exec = r.exec; trace = r.trace }
+request_view r = record { left = map unlaid r.left; right = map unlaid r.right; left_on = r.left_on.items; right_on = r.right_on.items; args = r.args; exec = r.exec; trace = r.trace }
 
 abbrev pub unpivot_view : rust_unpivot.UnpivotRequest → UnpivotRequest
-unpivot_view r = record { table = r.table; on = r.on.items; index = r.index.items; variable_name = r.variable_name; value_name = r.value_name }
+unpivot_view r = record { table = map unlaid r.table; on = r.on.items; index = r.index.items; variable_name = r.variable_name; value_name = r.value_name }
 
 abbrev pub dummies_view : rust_dummies.DummiesRequest → DummiesRequest
-dummies_view r = record { table = r.table; columns = option_map (λ v. v.items) r.columns; separator = r.separator; drop_first = r.drop_first }
+dummies_view r = record { table = map unlaid r.table; columns = option_map (λ v. v.items) r.columns; separator = r.separator; drop_first = r.drop_first }
 
 abbrev pub pivot_view : rust_pivot.PivotRequest → PivotRequest
 pivot_view r = record {
-  table = r.table;
+  table = map unlaid r.table;
   on = r.on.items;
   index = option_map (λ v. v.items) r.index;
   values = option_map (λ v. v.items) r.values;

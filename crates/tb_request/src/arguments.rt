@@ -146,7 +146,7 @@ fn nulls_of(alloc: Global, args: &Value) -> Result<Option<JoinNulls>, OutOfMemor
 
 /// The arguments of a join, or None where the value has not the form of them.
 #[tactic(auto, unfolding(crate::specs::Written::args_of))]
-pub(crate) fn args_of(alloc: Global, value: &Value) -> Result<Option<JoinArgs>, OutOfMemory>
+pub fn args_of(alloc: Global, value: &Value) -> Result<Option<JoinArgs>, OutOfMemory>
     ensures { IfOk result (λ o. o ≡ args_of (view value.now)) }
 {
     if !has_only(

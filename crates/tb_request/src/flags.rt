@@ -2,6 +2,7 @@
 ghost use Rattle.std.specs.Prelude.{◌≡◌, map, IfOk, IsTrue};
 ghost use Rattle.tb_chunk.specs.Col.{values};
 ghost use Rattle.tb_frame.specs.Table.{plain, table_of};
+ghost use Rattle.tb_request.specs.Columns.{unlaid};
 ghost use Rattle.tb_request.specs.Flags.{flag_holds, flags_hold};
 ghost use Rattle.tb_request.specs.Lent.{claimed_view};
 
@@ -10,9 +11,9 @@ use std::alloc::Global;
 use tb_store::Column;
 use tb_value::{IsSorted, OutOfMemory};
 
-// Columns, and whether each has the flag that was claimed of it.
+/// Columns, and whether each has the flag that was claimed of it.
 #[derive(Drop)]
-pub(crate) struct FlaggedColumns {
+pub struct FlaggedColumns {
     pub columns: Vec<Column>,
     pub hold: bool,
 }
@@ -31,7 +32,7 @@ pub fn flag_holds(column: &Column, flag: IsSorted) -> bool
 // The column with the flag that is claimed of it, where this is true, and whether it is.
 fn settled(claimed: ClaimedColumn) -> (Column, bool)
     ensures holds { result.1 ≡ flag_holds claimed.flag claimed.column.kind (values claimed.column) }
-    ensures flagged { IsTrue result.1 → result.0 ≡ claimed_view claimed }
+    ensures flagged { IsTrue result.1 → unlaid result.0 ≡ claimed_view claimed }
     ensures plain { plain result.0 ≡ plain (claimed_view claimed) }
 {
     let ClaimedColumn { mut column, flag } = claimed;
@@ -43,13 +44,10 @@ fn settled(claimed: ClaimedColumn) -> (Column, bool)
 }
 
 /// The columns with the flags that are claimed of them, as far as these are true.
-pub(crate) fn flagged(
-    alloc: Global,
-    claimed: Vec<ClaimedColumn>,
-) -> Result<FlaggedColumns, OutOfMemory>
+pub fn flagged(alloc: Global, claimed: Vec<ClaimedColumn>) -> Result<FlaggedColumns, OutOfMemory>
     ensures hold { IfOk result (λ f. f.hold ≡ flags_hold (map claimed_view claimed.items)) }
     ensures flagged { IfOk result (λ f. IsTrue f.hold
-        → f.columns.items ≡ map claimed_view claimed.items) }
+        → map unlaid f.columns.items ≡ map claimed_view claimed.items) }
     ensures table { IfOk result (λ f. table_of f.columns.items
         ≡ table_of (map claimed_view claimed.items)) }
 {

@@ -12,14 +12,21 @@ mod shape;
 mod tables;
 mod values;
 
-pub use arguments::{coalesce_named, how_named, order_named, slice_in, validation_named};
-pub use flags::flag_holds;
+pub use arguments::{args_of, coalesce_named, how_named, order_named, slice_in, validation_named};
+pub use flags::{FlaggedColumns, flag_holds, flagged};
+pub use members::{
+    has_only, into_array, into_member, text_at, texts_at, texts_if_at, truth_at, truths_of,
+};
 pub use one_table::agg_named;
 pub use reading::{
-    dummies_in, dummies_request_of, join_in, join_request_of, pivot_in, pivot_request_of,
-    unpivot_in, unpivot_request_of, value_of,
+    dummies_in, dummies_request_of, exec_from, join_in, join_request_of, pivot_in,
+    pivot_request_of, unpivot_in, unpivot_request_of, value_of,
 };
 pub use request::{
     DummiesRequest, JoinRequest, PivotRequest, Reason, RequestFault, UnpivotRequest,
 };
-pub use shape::{count_of, flag_named, flag_of};
+pub use shape::{
+    ExecNumbers, WrittenColumn, count_of, exec_of, flag_named, flag_of, table_at, table_in,
+};
+pub use tables::tables_from;
+pub use values::{ClaimedColumn, columns_of};

@@ -21,7 +21,7 @@ fn is_among(name: &str, names: &[&str]) -> bool
 }
 
 /// Whether the value is an object without a member of another name than these.
-pub(crate) fn has_only(value: &Value, names: &[&str]) -> bool
+pub fn has_only(value: &Value, names: &[&str]) -> bool
     ensures { result ≡ has_only (map (λ n. n.now) names.now) (view value.now) }
 {
     let Some(members) = value.as_object() else {
@@ -36,7 +36,7 @@ pub(crate) fn has_only(value: &Value, names: &[&str]) -> bool
 }
 
 /// A truth value, false where the member is absent.
-pub(crate) fn truth_at(object: &Value, name: &str) -> Option<bool>
+pub fn truth_at(object: &Value, name: &str) -> Option<bool>
     ensures { result ≡ truth_at name.now (view object.now) }
 {
     match object.get(name) {
@@ -46,7 +46,7 @@ pub(crate) fn truth_at(object: &Value, name: &str) -> Option<bool>
 }
 
 /// The text of a member, or no text where it is absent; None where it is none.
-pub(crate) fn text_at(
+pub fn text_at(
     alloc: Global,
     object: &Value,
     name: &str,
@@ -80,7 +80,7 @@ fn texts_of(alloc: Global, value: &Value) -> Result<Option<Vec<PlSmallStr>>, Out
 }
 
 /// The truth values of a list of them, or None where the value is none.
-pub(crate) fn truths_of(alloc: Global, value: &Value) -> Result<Option<Vec<bool>>, OutOfMemory>
+pub fn truths_of(alloc: Global, value: &Value) -> Result<Option<Vec<bool>>, OutOfMemory>
     ensures { IfOk result (λ o. option_map (λ v. v.items) o ≡ list_of as_bool (view value.now)) }
 {
     let Some(items) = value.as_array() else {
@@ -97,7 +97,7 @@ pub(crate) fn truths_of(alloc: Global, value: &Value) -> Result<Option<Vec<bool>
 }
 
 /// The texts of a member that is a list of texts.
-pub(crate) fn texts_at(
+pub fn texts_at(
     alloc: Global,
     object: &Value,
     name: &str,
@@ -111,7 +111,7 @@ pub(crate) fn texts_at(
 }
 
 /// The same, or no texts where the member is absent.
-pub(crate) fn texts_if_at(
+pub fn texts_if_at(
     alloc: Global,
     object: &Value,
     name: &str,
@@ -128,14 +128,14 @@ pub(crate) fn texts_if_at(
 }
 
 /// The values of an array.
-pub(crate) fn into_array(value: Value) -> Option<Vec<Value>>
+pub fn into_array(value: Value) -> Option<Vec<Value>>
     ensures { option_map (λ v. map view v.items) result ≡ as_list (view value) }
 {
     value.into_array()
 }
 
 /// The member of an object.
-pub(crate) fn into_member(object: Value, name: &str) -> Option<Value>
+pub fn into_member(object: Value, name: &str) -> Option<Value>
     ensures { option_map view result ≡ get name.now (view object) }
 {
     let mut members = object.into_object()?;

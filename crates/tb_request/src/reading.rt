@@ -15,7 +15,8 @@ use std::alloc::Global;
 use tb_pool::Exec;
 use tb_tree::{Fault, Value};
 
-fn exec_of(numbers: ExecNumbers) -> Option<Exec>
+/// The `Exec` of these numbers, or None where `Exec::new` refuses them.
+pub fn exec_from(numbers: ExecNumbers) -> Option<Exec>
     ensures { result ≡ (if may_stand (exec_view numbers) then Some (exec_view numbers) else None) }
 {
     let made = Exec::new(
@@ -50,7 +51,7 @@ pub fn join_in(alloc: Global, value: Value) -> Result<JoinRequest, RequestFault>
     let Some(right) = columns_of(alloc, written.right)? else {
         return Err(RequestFault::NoRequest(Reason::Value));
     };
-    let Some(exec) = exec_of(written.exec) else {
+    let Some(exec) = exec_from(written.exec) else {
         return Err(RequestFault::NoRequest(Reason::Exec));
     };
     let (left, right) = tables_of(alloc, left, right)?;

@@ -1,6 +1,6 @@
 //! The requests, and why bytes are none.
 
-use std::alloc::AllocError;
+use std::alloc::{AllocError, AllocFailed};
 use tb_agg::Aggregate;
 use tb_frame::{DataFrame, JoinArgs};
 use tb_pool::Exec;
@@ -110,6 +110,17 @@ impl From<OutOfMemory> for RequestFault {
     ghost from_gives = { λ _ f. f ≡ RequestFault.OutOfMemory };
 
     fn from(_want: OutOfMemory) -> RequestFault {
+        RequestFault::OutOfMemory
+    }
+}
+
+impl<T: Drop> From<AllocFailed<T>> for RequestFault {
+    ghost use Rattle.std.specs.Prelude.{◌≡◌};
+    ghost use Rattle.tb_request.specs.declared.request.RequestFault.{RequestFault};
+
+    ghost from_gives = { λ _ f. f ≡ RequestFault.OutOfMemory };
+
+    fn from(_want: AllocFailed<T>) -> RequestFault {
         RequestFault::OutOfMemory
     }
 }

@@ -16,18 +16,18 @@ use tb_json::type_of;
 use tb_tree::Value;
 use tb_value::{DataType, IsSorted, OutOfMemory, PlSmallStr};
 
-// A column whose values are not read yet, and the flag that is claimed of them.
+/// A column whose values are not read yet, and the flag that is claimed of them.
 #[derive(Drop)]
-pub(crate) struct WrittenColumn {
+pub struct WrittenColumn {
     pub name: PlSmallStr,
     pub dtype: DataType,
     pub chunks: Vec<Vec<Value>>,
     pub flag: IsSorted,
 }
 
-// The numbers of an `Exec`, which may be such that they make none.
+/// The numbers of an `Exec`, which may be such that they make none.
 #[derive(Clone, Copy)]
-pub(crate) struct ExecNumbers {
+pub struct ExecNumbers {
     pub workers: u32,
     pub partitions: u32,
     pub small: u32,
@@ -167,8 +167,11 @@ fn table_of(alloc: Global, value: Value) -> Result<Option<Vec<WrittenColumn>>, O
     }
 }
 
-// The columns of a table, if there is one.
-fn table_in(alloc: Global, member: Option<Value>) -> Result<Option<Vec<WrittenColumn>>, OutOfMemory>
+/// The columns of a table, if there is one; None where there is none or it has not the form of a table.
+pub fn table_in(
+    alloc: Global,
+    member: Option<Value>,
+) -> Result<Option<Vec<WrittenColumn>>, OutOfMemory>
     ensures { IfOk result (λ o. option_map (λ v. map written_view v.items) o
         ≡ option_and_then table_of (option_map view member)) }
 {
@@ -179,7 +182,7 @@ fn table_in(alloc: Global, member: Option<Value>) -> Result<Option<Vec<WrittenCo
 }
 
 /// The columns of a member that is a table.
-pub(crate) fn table_at(
+pub fn table_at(
     alloc: Global,
     object: Value,
     name: &str,
@@ -223,8 +226,9 @@ fn numbers_of(value: &Value) -> Option<ExecNumbers>
     })
 }
 
-// The numbers of `Exec::standard` where the member is absent.
-fn exec_of(request: &Value) -> Option<ExecNumbers>
+/// The numbers of the member `exec`, those of `Exec::standard` where it is absent, or None where it has not their
+/// form.
+pub fn exec_of(request: &Value) -> Option<ExecNumbers>
     ensures { option_map exec_view result ≡ exec_of (view request.now) }
 {
     match request.get("exec") {

@@ -1,8 +1,9 @@
 //! The tables of a request.
 ghost use Rattle.std.specs.Prelude.{◌≡◌, [], ◌∷◌, map, IfOk, MatchResult, Ok, Err};
 ghost use Rattle.tb_frame.specs.Table.{Table, table_of};
-ghost use Rattle.tb_request.specs.Reading.{are_frames, are_tables, fault_of, table_from, FaultIs};
-ghost use Rattle.tb_request.specs.Lent.{claimed_view, written_view};
+ghost use Rattle.tb_request.specs.Columns.{unlaid};
+ghost use Rattle.tb_request.specs.Reading.{are_frames, are_tables, fault_of, table_from, earlier, earliest, FaultIs};
+ghost use Rattle.tb_request.specs.Lent.{claimed_view, claimed_views, written_view};
 
 use crate::flags::flagged;
 use crate::request::{Reason, RequestFault};
@@ -84,7 +85,7 @@ fn frames_of(
 // The table of these columns with the flags that are claimed.
 #[tactic(auto, unfolding(crate::specs::Reading::are_tables))]
 fn table_of(alloc: Global, claimed: Vec<ClaimedColumn>) -> Result<DataFrame, RequestFault>
-    ensures columns { IfOk result (λ t. t ≡ map claimed_view claimed.items) }
+    ensures columns { IfOk result (λ t. map unlaid t ≡ map claimed_view claimed.items) }
     ensures tables { MatchResult result
         (λ t. are_tables (map claimed_view claimed.items ∷ []) ≡ Ok tt)
         (λ e. FaultIs e (are_tables (map claimed_view claimed.items ∷ []))) }
@@ -104,7 +105,7 @@ pub(crate) fn table_from(
     alloc: Global,
     written: Vec<WrittenColumn>,
 ) -> Result<DataFrame, RequestFault>
-    ensures { MatchResult result (λ t. table_from (map written_view written.items) ≡ Ok t)
+    ensures { MatchResult result (λ t. table_from (map written_view written.items) ≡ Ok (map unlaid t))
         (λ e. FaultIs e (table_from (map written_view written.items))) }
 {
     match columns_of(alloc, written)? {
@@ -120,8 +121,8 @@ pub(crate) fn tables_of(
     left: Vec<ClaimedColumn>,
     right: Vec<ClaimedColumn>,
 ) -> Result<(DataFrame, DataFrame), RequestFault>
-    ensures columns { IfOk result (λ p. (p.0 ≡ map claimed_view left.items)
-        × (p.1 ≡ map claimed_view right.items)) }
+    ensures columns { IfOk result (λ p. (map unlaid p.0 ≡ map claimed_view left.items)
+        × (map unlaid p.1 ≡ map claimed_view right.items)) }
     ensures tables { MatchResult result
         (λ p. are_tables (map claimed_view left.items ∷ map claimed_view right.items ∷ []) ≡ Ok tt)
         (λ e. FaultIs e (are_tables (map claimed_view left.items ∷ map claimed_view right.items ∷ []))) }
@@ -133,5 +134,56 @@ pub(crate) fn tables_of(
         Ok(frames)
     } else {
         Err(RequestFault::NoRequest(Reason::Flag))
+    }
+}
+
+// The one of two reasons that is judged first.
+fn earlier(one: Reason, other: Reason) -> Reason
+    ensures { result ≡ earlier one other }
+{
+    match (one, other) {
+        (Reason::Heights, _) => Reason::Heights,
+        (Reason::Name, Reason::Flag) => Reason::Name,
+        _ => other,
+    }
+}
+
+fn earliest(fault: Option<Reason>, reason: Reason) -> Reason
+    ensures { result ≡ earliest fault reason }
+{
+    match fault {
+        Some(first) => earlier(first, reason),
+        None => reason,
+    }
+}
+
+/// The tables of these columns with the flags that are claimed.
+///
+/// # Errors
+///
+/// `OutOfMemory` may come at any time. Else the first of these reasons that holds of some table: `Heights`, where two
+/// columns of it differ in length, `Name`, where two have one name, and `Flag`, where a column is not in the order that
+/// is claimed of it.
+#[tactic(auto, using(crate::proofs::Judged::no_table, crate::proofs::Judged::one_more, crate::proofs::Judged::one_more_none))]
+pub fn tables_from(
+    alloc: Global,
+    claimed: Vec<Vec<ClaimedColumn>>,
+) -> Result<Vec<DataFrame>, RequestFault>
+    ensures columns { IfOk result (λ ts. map (map unlaid) ts.items ≡ map claimed_views claimed.items) }
+    ensures tables { MatchResult result (λ ts. are_tables (map claimed_views claimed.items) ≡ Ok tt)
+        (λ e. FaultIs e (are_tables (map claimed_views claimed.items))) }
+{
+    let mut tables = Vec::with_capacity(alloc, claimed.len())?;
+    let mut fault = None;
+    for columns in claimed {
+        match table_of(alloc, columns) {
+            Ok(table) => tables.push(table)?,
+            Err(RequestFault::OutOfMemory) => return Err(RequestFault::OutOfMemory),
+            Err(RequestFault::NoRequest(reason)) => fault = Some(earliest(fault, reason)),
+        }
+    }
+    match fault {
+        Some(reason) => Err(RequestFault::NoRequest(reason)),
+        None => Ok(tables),
     }
 }

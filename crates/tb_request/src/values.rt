@@ -9,14 +9,14 @@ use tb_json::arrays_in;
 use tb_store::{Column, Series};
 use tb_value::{IsSorted, OutOfMemory, PolarsError};
 
-// A column, and the flag that is claimed of its values.
+/// A column, and the flag that is claimed of its values.
 #[derive(Drop)]
-pub(crate) struct ClaimedColumn {
+pub struct ClaimedColumn {
     pub column: Column,
     pub flag: IsSorted,
 }
 
-#[tactic(auto, using(crate::proofs::Runs::fresh_one), unfolding(crate::specs::Columns::values_of))]
+#[tactic(auto, unfolding(crate::specs::Columns::values_of))]
 fn column_of(alloc: Global, written: WrittenColumn) -> Result<Option<ClaimedColumn>, OutOfMemory>
     ensures { IfOk result (λ o. option_map claimed_view o ≡ values_of (written_view written)) }
 {
@@ -40,7 +40,7 @@ fn column_of(alloc: Global, written: WrittenColumn) -> Result<Option<ClaimedColu
 }
 
 /// The columns of a table, or None where a value is not of its column's type or a column is too long.
-pub(crate) fn columns_of(
+pub fn columns_of(
     alloc: Global,
     written: Vec<WrittenColumn>,
 ) -> Result<Option<Vec<ClaimedColumn>>, OutOfMemory>

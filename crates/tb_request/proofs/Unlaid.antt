@@ -1,0 +1,9 @@
+-- A table doesn't show where texts stand.
+use Rattle.std.proofs.Common.{◌≡◌, List, [], ◌∷◌, map, refl, ap}
+use Rattle.tb_chunk.specs.Col.{Col}
+use Rattle.tb_frame.specs.Table.{plain, table_of}
+use Rattle.tb_request.specs.Columns.{unlaid}
+
+pub table_unlaid : (cs : List Col) → table_of (map unlaid cs) ≡ table_of cs
+table_unlaid [] = refl
+table_unlaid (c ∷ cs) = ap (λ t. plain c ∷ t) (table_unlaid cs)
