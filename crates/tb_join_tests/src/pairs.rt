@@ -24,6 +24,15 @@ fn keys_have_the_published_codes(rt: HostRuntime) -> Result<(), Fail> {
     Ok(())
 }
 
+// These numbers, as a chunk has them.
+fn cells(alloc: Global, keys: &[Option<i64>]) -> Result<Cells<i64>, Fail> {
+    let mut cells = Cells::with_capacity(alloc, keys.len())?;
+    for key in keys {
+        cells.push(*key)?;
+    }
+    Ok(cells)
+}
+
 // A column of these numbers, in two chunks.
 pub(crate) fn column(
     alloc: Global,
@@ -36,8 +45,7 @@ pub(crate) fn column(
 {
     let mut lists = Vec::new(alloc);
     for keys in [front, back] {
-        let cells = keys.to_vec(alloc)?;
-        lists.push(Cells { cells })?;
+        lists.push(cells(alloc, keys)?)?;
     }
     let name = PlSmallStr::from_str(alloc, name)?;
     let lists = Chunks::Int64Type(lists);

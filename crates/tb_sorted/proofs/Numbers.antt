@@ -1,6 +1,8 @@
 -- Stored keys, their values and the whole numbers that they are.
-use Rattle.std.proofs.Common.{◌≡◌, ℕ, ◌+◌, Bool, true, false, cond, ◌||◌, List, [], ◌∷◌, length, get_or, map, refl, sym, ap, ap₂, ◌∙◌, subst, arith, append-nil, ℤ, pos, Option, Some, None, Result}
+use Rattle.std.proofs.Common.{◌≡◌, ℕ, zero, suc, ◌+◌, ◌<◌, Bool, true, false, cond, ◌||◌, List, [], ◌∷◌, length, get_or, map, refl, sym, ap, ap₂, ◌∙◌, subst, arith, append-nil, ℤ, pos, Option, Some, None, Result}
 use Rattle.std.specs.Prelude.{IfOk, IsPermutation, IsSorted}
+use Rattle.std.specs.List.{Contains}
+use Rattle.std.proofs.lemmas.Option.{none-some}
 use Rattle.std.specs.Ordering.{is_lt, int_cmp, int_eq}
 use Rattle.std.specs.declared.cmp.Ordering.{Ordering}
 use Rattle.std.specs.declared.vec.Vec.{Vec}
@@ -20,7 +22,7 @@ use Rattle.tb_frame.proofs.Listings.{listing-same}
 use Rattle.tb_merge.specs.Keys.{keys_match}
 use Rattle.tb_merge.specs.MergedView.{MergedView}
 use Rattle.tb_sorted.specs.Columns.{AreMergeKeys, value_listing, value_sizes}
-use Rattle.tb_sorted.specs.Keys.{MergeSizes, kind_of_merge, number_listing, number_or_zero, number_sizes, too_long}
+use Rattle.tb_sorted.specs.Keys.{MergeSizes, kind_of_merge, number_listing, number_sizes, too_long}
 use Rattle.tb_sorted.specs.Listed.{AreKeysMerged, AreValuesMerged, IsMergeWithin}
 
 -- what is in order by its images is in order
@@ -52,26 +54,33 @@ one_list f [] d one = absurd (omega arith)
 one_list f (x ∷ []) d one = append-nil (f x)
 one_list f (x ∷ y ∷ xs) d one = absurd (omega arith)
 
-module _ {N : Type 0} (shows : N → Datum) (number : N → ℤ) (law : (x : N) → shows x ≡ int (number x)) where
-  abbrev pub numbers : List (Option N) → List ℤ
-  numbers cells = map (number_or_zero number) cells
+module _ {N : Type 0} (shows : N → Datum) where
+  -- values that are all there
+  pub all_shown : (vs : List N) → map (or_null shows) (map Some vs) ≡ map shows vs
+  all_shown [] = refl
+  all_shown (x ∷ vs) = ap (λ (l : List Datum). shows x ∷ l) (all_shown vs)
 
-  -- cells of which none is absent show their numbers
-  pub shown_numbers : (cells : List (Option N)) → length (nulls (map (or_null shows) cells)) ≡ 0 → map (or_null shows) cells ≡ map int (numbers cells)
-  shown_numbers [] none = refl
-  shown_numbers (None ∷ cells) none = absurd (omega arith)
-  shown_numbers (Some x ∷ cells) none =
-      let rest : List Datum = nulls (map (or_null shows) cells) in
-      let later : length rest ≡ 0 = ap (λ (v : Datum). length (cond (is_null v) (shows x ∷ rest) rest)) (sym (law x)) ∙ none in
-      λ t. law x t ∷ shown_numbers cells later t
+  module _ (number : N → ℤ) (law : (x : N) → shows x ≡ int (number x)) where
+    -- values show their numbers
+    pub shown_numbers : (vs : List N) → map shows vs ≡ map int (map number vs)
+    shown_numbers [] = refl
+    shown_numbers (x ∷ vs) = λ t. law x t ∷ shown_numbers vs t
 
-  -- cells that are keys
-  module _ (cells : List (Option N)) (keys : AreMergeKeys (map (or_null shows) cells)) where
-    pub cell_numbers : map (or_null shows) cells ≡ map int (numbers cells)
-    cell_numbers = shown_numbers cells keys.present
+    pub numbers_ascend : (vs : List N) → IsSorted datum_cmp (map shows vs) → IsSorted int_cmp (map number vs)
+    numbers_ascend vs s = sorted_back int int_cmp datum_cmp (λ x y. refl) (map number vs) (subst (IsSorted datum_cmp) (shown_numbers vs) s)
 
-    pub numbers_ascend : IsSorted datum_cmp (map (or_null shows) cells) → IsSorted int_cmp (numbers cells)
-    numbers_ascend s = sorted_back int int_cmp datum_cmp (λ x y. refl) (numbers cells) (subst (IsSorted datum_cmp) cell_numbers s)
+    -- an absent value is shown as Null
+    absent_shown : (cells : List (Option N)) (k : ℕ) → k < length cells → get_or cells k None ≡ None → length (nulls (map (or_null shows) cells)) ≡ 0 → ⊥
+    absent_shown [] k low e none = omega (arith, low)
+    absent_shown (None ∷ cells) k low e none = omega (arith, none)
+    absent_shown (Some x ∷ cells) zero low e none = none-some x (sym e)
+    absent_shown (Some x ∷ cells) (suc k) low e none =
+        let rest : List Datum = nulls (map (or_null shows) cells) in
+        let later : length rest ≡ 0 = ap (λ (v : Datum). length (cond (is_null v) (shows x ∷ rest) rest)) (sym (law x)) ∙ none in
+        absent_shown cells k (omega (arith, low)) e later
+
+    pub none_absent : (cells : List (Option N)) → AreMergeKeys (map (or_null shows) cells) → Contains cells None → ⊥
+    none_absent cells keys h = absent_shown cells h.0 h.1 h.2 keys.present
 
 -- what was merged of numbers was merged of the values
 module _ (us vs : List Datum) (ls rs : List ℤ) (is_left : us ≡ map int ls) (is_right : vs ≡ map int rs) where

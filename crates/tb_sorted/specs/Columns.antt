@@ -9,7 +9,6 @@ use Rattle.tb_chunk.specs.Chunk.{or_null}
 use Rattle.tb_chunk.specs.Col.{Col, values}
 use Rattle.tb_chunk.specs.Flag.{datum_cmp, nulls}
 use Rattle.tb_chunk.specs.Lent.{in_one_chunk}
-use Rattle.tb_chunk.specs.declared.chunk.Cells.{Cells}
 use Rattle.tb_frame.specs.declared.args.JoinType.{JoinType}
 use Rattle.tb_frame.specs.declared.args.JoinType.TheVariants as kind
 use Rattle.tb_frame.specs.Join.{listing_of}
@@ -18,8 +17,8 @@ use Rattle.tb_sorted.specs.declared.path.SortedFirst.{SortedFirst}
 use Rattle.tb_sorted.specs.declared.path.SortedFirst.TheVariants as the
 
 -- the values of each chunk, of cells that show themselves so
-abbrev pub cell_lists : {N : Type 0} → (N → Datum) → List (Cells N) → List (List Datum)
-cell_lists shows chunks = map (λ c. map (or_null shows) c.cells.items) chunks
+abbrev pub cell_lists : {N : Type 0} → (N → Datum) → List (List (Option N)) → List (List Datum)
+cell_lists shows chunks = map (λ c. map (or_null shows) c) chunks
 
 -- keys, none of which is Null
 pub record AreMergeKeys (vs : List Datum) : Type 0 where

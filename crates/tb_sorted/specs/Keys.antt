@@ -1,5 +1,5 @@
 -- Keys as the whole numbers that they are.
-use Rattle.std.specs.Prelude.{ℕ, ℤ, pos, Bool, false, if◌then◌else◌, List, length, nat_lt, Option, Some, None}
+use Rattle.std.specs.Prelude.{ℕ, ℤ, Bool, false, if◌then◌else◌, List, length, nat_lt, Option}
 use Rattle.tb_value.specs.declared.error.ComputeCause.TheVariants.{TooManyRows}
 use Rattle.tb_value.specs.declared.error.PolarsError.{PolarsError}
 use Rattle.tb_value.specs.declared.error.PolarsError.TheVariants as error
@@ -12,11 +12,6 @@ use Rattle.tb_frame.specs.Join.{listing_of}
 use Rattle.tb_merge.specs.Keys.{keys_match}
 use Rattle.tb_merge.specs.declared.fault.MergeFault.{MergeFault}
 use Rattle.tb_merge.specs.declared.fault.MergeFault.TheVariants as fault
-
--- the number of a cell, and of an absent one, of which there is none where keys are merged, 0
-abbrev pub number_or_zero : {N : Type 0} → (N → ℤ) → Option N → ℤ
-number_or_zero number None = pos 0
-number_or_zero number (Some x) = number x
 
 -- the kind of a join that keeps the left rows without a match, or that doesn't
 abbrev pub kind_of_merge : Bool → JoinType

@@ -5,14 +5,10 @@ use tb_store::Cell;
 /// A whole number, as a typed column stores it. Such numbers are compared as they are stored.
 pub(crate) trait WholeCell: Cell + Copy + Ord + Sync {
     ghost use Rattle.std.specs.Ordering.{int_cmp};
-    ghost use Rattle.std.specs.Prelude.{◌≡◌, ℤ, pos};
+    ghost use Rattle.std.specs.Prelude.{◌≡◌, ℤ};
     ghost use Rattle.tb_value.specs.Datum.{int};
 
     ghost number: { Self → ℤ };
-
-    /// The number 0.
-    fn nought() -> Self
-        ensures { number result ≡ pos 0 };
 
     ghost shown: { (x : Self) → Self.shows x ≡ int (number x) };
 
@@ -27,10 +23,6 @@ impl WholeCell for i8 {
     ghost shown = { λ _. refl };
 
     ghost ordered = { λ _ _. refl };
-
-    fn nought() -> i8 {
-        0
-    }
 }
 
 impl WholeCell for i16 {
@@ -41,10 +33,6 @@ impl WholeCell for i16 {
     ghost shown = { λ _. refl };
 
     ghost ordered = { λ _ _. refl };
-
-    fn nought() -> i16 {
-        0
-    }
 }
 
 impl WholeCell for i32 {
@@ -55,10 +43,6 @@ impl WholeCell for i32 {
     ghost shown = { λ _. refl };
 
     ghost ordered = { λ _ _. refl };
-
-    fn nought() -> i32 {
-        0
-    }
 }
 
 impl WholeCell for i64 {
@@ -69,10 +53,6 @@ impl WholeCell for i64 {
     ghost shown = { λ _. refl };
 
     ghost ordered = { λ _ _. refl };
-
-    fn nought() -> i64 {
-        0
-    }
 }
 
 impl WholeCell for i128 {
@@ -83,10 +63,6 @@ impl WholeCell for i128 {
     ghost shown = { λ _. refl };
 
     ghost ordered = { λ _ _. refl };
-
-    fn nought() -> i128 {
-        0
-    }
 }
 
 impl WholeCell for u8 {
@@ -98,10 +74,6 @@ impl WholeCell for u8 {
     ghost shown = { λ _. refl };
 
     ghost ordered = { same_order };
-
-    fn nought() -> u8 {
-        0
-    }
 }
 
 impl WholeCell for u16 {
@@ -113,10 +85,6 @@ impl WholeCell for u16 {
     ghost shown = { λ _. refl };
 
     ghost ordered = { same_order };
-
-    fn nought() -> u16 {
-        0
-    }
 }
 
 impl WholeCell for u32 {
@@ -128,10 +96,6 @@ impl WholeCell for u32 {
     ghost shown = { λ _. refl };
 
     ghost ordered = { same_order };
-
-    fn nought() -> u32 {
-        0
-    }
 }
 
 impl WholeCell for u64 {
@@ -143,8 +107,4 @@ impl WholeCell for u64 {
     ghost shown = { λ _. refl };
 
     ghost ordered = { same_order };
-
-    fn nought() -> u64 {
-        0
-    }
 }

@@ -18,27 +18,23 @@ pub(crate) trait NumberList<N: WholeCell>: Sync {
         ensures { N.number result ≡ key_at (keys self.now) row };
 }
 
-/// The cells of a column, lent. None of them is absent where it has to be a key.
+/// The values of a column, lent.
 #[derive(Clone, Copy)]
-pub(crate) struct LentCells<'a, N> {
-    pub cells: &'a [Option<N>],
+pub(crate) struct LentValues<'a, N> {
+    pub values: &'a [N],
 }
 
-impl<N: WholeCell> NumberList<N> for LentCells<'_, N> {
+impl<N: WholeCell> NumberList<N> for LentValues<'_, N> {
     ghost use Rattle.std.specs.Prelude.{map};
-    ghost use Rattle.tb_sorted.specs.Keys.{number_or_zero};
 
-    ghost keys = { λ s. map (number_or_zero N.number) s.cells.now };
+    ghost keys = { λ s. map N.number s.values.now };
 
     fn len(&self) -> usize {
-        self.cells.len()
+        self.values.len()
     }
 
     fn key(&self, row: usize) -> N {
-        match self.cells[row] {
-            None => N::nought(),
-            Some(cell) => cell,
-        }
+        self.values[row]
     }
 }
 

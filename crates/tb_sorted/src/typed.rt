@@ -1,7 +1,6 @@
 //! Keys by the type that they are stored as.
 ghost use Rattle.std.specs.Prelude.{◌≡◌, true, false, length, map};
 ghost use Rattle.tb_value.specs.Typed.{is_whole_physical};
-ghost use Rattle.tb_chunk.specs.Chunk.{or_null};
 ghost use Rattle.tb_chunk.specs.Col.{flat};
 ghost use Rattle.tb_chunk.specs.Seen.{chunk_lists, storage};
 ghost use Rattle.tb_sorted.specs.Columns.{AreMergeKeys, MayMerge, cell_lists};
@@ -9,7 +8,7 @@ ghost use Rattle.tb_sorted.specs.Listed.{AreValuesMerged};
 ghost use Rattle.tb_sorted.specs.Path.{order_after};
 
 use crate::cells::WholeCell;
-use crate::key_lists::LentCells;
+use crate::key_lists::LentValues;
 use crate::merging::merged_lists;
 use crate::one_sorted::{left_sorted_lists, right_sorted_lists};
 use crate::path::SortedFirst;
@@ -19,24 +18,36 @@ use tb_pool::Exec;
 use tb_store::{Cells, Chunks};
 use tb_value::{JoinPair, PolarsResult};
 
-// The pairs of two lists of cells.
-fn merged_cells<N: WholeCell>(
+// The pairs of two lists of values.
+fn merged_values<N: WholeCell>(
     alloc: Global,
     first: SortedFirst,
     keep_unmatched: bool,
-    left: &LentCells<'_, N>,
-    right: &LentCells<'_, N>,
+    left: &LentValues<'_, N>,
+    right: &LentValues<'_, N>,
     exec: &Exec,
 ) -> PolarsResult<(Vec<JoinPair>, Merged)>
-    requires left { AreMergeKeys (map (or_null N.shows) left.now.cells.now) }
-    requires right { AreMergeKeys (map (or_null N.shows) right.now.cells.now) }
-    requires may { MayMerge first keep_unmatched (map (or_null N.shows) left.now.cells.now) (map (or_null N.shows) right.now.cells.now) }
-    ensures { AreValuesMerged (order_after first) keep_unmatched (map (or_null N.shows) left.now.cells.now) (map (or_null N.shows) right.now.cells.now) result }
+    requires left { AreMergeKeys (map N.shows left.now.values.now) }
+    requires right { AreMergeKeys (map N.shows right.now.values.now) }
+    requires may { MayMerge first keep_unmatched (map N.shows left.now.values.now) (map N.shows right.now.values.now) }
+    ensures { AreValuesMerged (order_after first) keep_unmatched (map N.shows left.now.values.now) (map N.shows right.now.values.now) result }
 {
     match first {
         SortedFirst::Neither => merged_lists(alloc, keep_unmatched, left, right, exec),
         SortedFirst::Right => right_sorted_lists(alloc, keep_unmatched, left, right, exec),
         SortedFirst::Left => left_sorted_lists(alloc, left, right, exec),
+    }
+}
+
+// The values of the one chunk, none of which is Null.
+fn lone_values<N: WholeCell>(chunks: &[Cells<N>]) -> LentValues<'_, N>
+    requires one { length (cell_lists N.shows chunks.now) ≡ 1 }
+    requires keys { AreMergeKeys (flat (cell_lists N.shows chunks.now)) }
+    ensures { map N.shows result.values.now ≡ flat (cell_lists N.shows chunks.now) }
+{
+    match chunks[0].as_values() {
+        Some(values) => LentValues { values },
+        None => unreachable!(),
     }
 }
 
@@ -56,13 +67,9 @@ fn pairs_of_cells<N: WholeCell>(
     requires may { MayMerge first keep_unmatched (flat (cell_lists N.shows left.now)) (flat (cell_lists N.shows right.now)) }
     ensures { AreValuesMerged (order_after first) keep_unmatched (flat (cell_lists N.shows left.now)) (flat (cell_lists N.shows right.now)) result }
 {
-    let left = LentCells {
-        cells: &left[0].cells,
-    };
-    let right = LentCells {
-        cells: &right[0].cells,
-    };
-    merged_cells(alloc, first, keep_unmatched, &left, &right, exec)
+    let left = lone_values(left);
+    let right = lone_values(right);
+    merged_values(alloc, first, keep_unmatched, &left, &right, exec)
 }
 
 /// The pairs of a Left join, or of an Inner one, of two chunks of whole numbers, of which one may be sorted first.
