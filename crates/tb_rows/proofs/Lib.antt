@@ -9,3 +9,4 @@ pub mod Numbered
 pub mod Orders
 pub mod OwnRows
 pub mod Places
+pub mod Sorts

@@ -1,5 +1,5 @@
 -- Rows with codes, in an order in which rows of the same values stand together, and the first row of the same values.
-use Rattle.std.specs.Prelude.{◌≡◌, ℕ, ◌-◌, ◌<◌, ◌&&◌, ◌==◌, nat_lt, Bool, List, length, map, slice_index_or, IsPermutation, IsSorted}
+use Rattle.std.specs.Prelude.{◌≡◌, ℕ, ◌-◌, ◌<◌, ◌≤◌, true, ◌&&◌, ◌==◌, nat_lt, Bool, List, length, map, slice_index_or, IsPermutation, IsSorted}
 use Rattle.std.specs.Borrow.{Bor}
 use Rattle.std.specs.Cmp.Lexicographic.{slice_cmp}
 use Rattle.std.specs.List.{position_or_len}
@@ -24,6 +24,10 @@ coded_rows cs name n = map (coded_row cs name) (row_numbers n)
 abbrev pub no_row : CodedRow
 no_row = record { code = 0; row = 0; place = 0 }
 
+-- by codes
+abbrev pub code_cmp : CodedRow → CodedRow → Ordering
+code_cmp = on (λ (r : CodedRow). r.code) nat_cmp
+
 -- by codes, and then by values
 abbrev pub coded_cmp : List (Bor Col) → CodedRow → CodedRow → Ordering
 coded_cmp cs = then_cmp (on (λ (r : CodedRow). r.code) nat_cmp) (on (λ (r : CodedRow). fields_at cs r.row) (slice_cmp value_cmp))
@@ -31,6 +35,11 @@ coded_cmp cs = then_cmp (on (λ (r : CodedRow). r.code) nat_cmp) (on (λ (r : Co
 -- the same code, and the same values
 abbrev pub same_coded : List (Bor Col) → CodedRow → CodedRow → Bool
 same_coded cs a b = (a.code == b.code) && same_at cs a.row b.row
+
+-- of the first n rows, those that stand side by side with one code have the same values
+abbrev pub AreToldByCodes : List (Bor Col) → List CodedRow → ℕ → Type 0
+AreToldByCodes cs rows n = (t : ℕ) → 1 ≤ t → t < n → ((slice_index_or rows (t - 1) no_row).code == (slice_index_or rows t no_row).code) ≡ true
+    → same_at cs (slice_index_or rows (t - 1) no_row).row (slice_index_or rows t no_row).row ≡ true
 
 -- whether a row has the values of the one before it
 abbrev pub goes_on : List (Bor Col) → List CodedRow → ℕ → Bool

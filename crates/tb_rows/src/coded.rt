@@ -1,6 +1,6 @@
 //! Rows sorted by their codes and values, and the first row of the same values.
-ghost use Rattle.std.specs.Prelude.{◌≡◌, ◌<◌, if◌then◌else◌, length, slice_index_or, IfOk, OnOk};
-ghost use Rattle.tb_rows.specs.Coded.{coded_cmp, coded_rows, goes_on, no_row, same_coded, AreLeaders, AreSorted};
+ghost use Rattle.std.specs.Prelude.{◌≡◌, ◌==◌, ◌<◌, true, if◌then◌else◌, length, slice_index_or, IfOk, OnOk};
+ghost use Rattle.tb_rows.specs.Coded.{code_cmp, coded_cmp, coded_rows, goes_on, no_row, same_coded, AreLeaders, AreSorted, AreToldByCodes};
 ghost use Rattle.tb_rows.specs.Fields.{same_at};
 ghost use Rattle.tb_rows.specs.InGroups.{named_rows};
 ghost use Rattle.tb_rows.specs.Members.{name_of, AreNamed};
@@ -31,10 +31,20 @@ fn compare_rows(columns: &[&Series], first: &CodedRow, second: &CodedRow) -> Ord
     compare_fields(columns, first.row as usize, second.row as usize)
 }
 
-fn is_same(columns: &[&Series], first: &CodedRow, second: &CodedRow) -> bool
+// Whether two rows are the same. Where codes are known to tell rows apart, values are not read.
+fn is_same(columns: &[&Series], first: &CodedRow, second: &CodedRow, told: bool) -> bool
+    requires { told ≡ true → (first.now.code == second.now.code) ≡ true → same_at columns.now first.now.row second.now.row ≡ true }
     ensures { result ≡ same_coded columns.now first.now second.now }
 {
-    first.code == second.code && same_fields(columns, first.row as usize, second.row as usize)
+    first.code == second.code
+        && (told || same_fields(columns, first.row as usize, second.row as usize))
+}
+
+// Whether two rows have the same values where they have the same code.
+fn is_told(columns: &[&Series], first: &CodedRow, second: &CodedRow) -> bool
+    ensures { result ≡ true → (first.now.code == second.now.code) ≡ true → same_at columns.now first.now.row second.now.row ≡ true }
+{
+    first.code != second.code || same_fields(columns, first.row as usize, second.row as usize)
 }
 
 // The rows of all places, with their codes.
@@ -59,20 +69,61 @@ fn coded_rows(
     Ok(rows)
 }
 
-// Puts rows of the same values together, where they stand in their order.
-fn sort_rows(columns: &[&Series], rows: &mut Vec<CodedRow>) -> Result<(), OutOfMemory>
+// Puts rows in the order of their codes.
+fn sort_by_codes(rows: &mut Vec<CodedRow>) -> Result<(), OutOfMemory>
+    ensures { OnOk result (AreSorted code_cmp rows.old.items rows.new.items) }
+{
+    rows.sort_by(|a, b| a.code.cmp(&b.code))?;
+    Ok(())
+}
+
+// Puts rows in the order of their codes, and of their values where codes tie.
+fn sort_by_values(columns: &[&Series], rows: &mut Vec<CodedRow>) -> Result<(), OutOfMemory>
     ensures { OnOk result (AreSorted (coded_cmp columns.now) rows.old.items rows.new.items) }
 {
     rows.sort_by(|a, b| compare_rows(columns, a, b))?;
     Ok(())
 }
 
+// Whether rows that stand side by side with one code have the same values.
+fn are_told_by_codes(columns: &[&Series], rows: &[CodedRow]) -> bool
+    ensures { result ≡ true → AreToldByCodes columns.now rows.now (length rows.now) }
+{
+    for at in 1..rows.len() {
+        if !is_told(columns, &rows[at - 1], &rows[at]) {
+            return false;
+        }
+    }
+    true
+}
+
+// Puts rows of the same values together, where they stand in their order. Values are compared in the sort only where rows
+// of other values have one code: keys are made for that, or it is a rare chance. Says whether codes tell the rows apart.
+fn sort_rows(columns: &[&Series], rows: &mut Vec<CodedRow>) -> Result<bool, OutOfMemory>
+    ensures sorted { OnOk result (AreSorted (coded_cmp columns.now) rows.old.items rows.new.items) }
+    ensures told { IfOk result (λ b. b ≡ true → AreToldByCodes columns.now rows.new.items (length rows.new.items)) }
+{
+    sort_by_codes(rows)?;
+    if are_told_by_codes(columns, rows.as_slice()) {
+        return Ok(true);
+    }
+    sort_by_values(columns, rows)?;
+    Ok(false)
+}
+
 // The leader of a sorted row: that of the row before it where both have the same values, and else its own place.
-fn leader_at(columns: &[&Series], rows: &[CodedRow], at: usize, before: IdxSize) -> IdxSize
-    requires { at < length rows.now }
+fn leader_at(
+    columns: &[&Series],
+    rows: &[CodedRow],
+    at: usize,
+    before: IdxSize,
+    told: bool,
+) -> IdxSize
+    requires within { at < length rows.now }
+    requires told { told ≡ true → AreToldByCodes columns.now rows.now (length rows.now) }
     ensures { result ≡ (if goes_on columns.now rows.now at then before else (slice_index_or rows.now at no_row).place) }
 {
-    if at > 0 && is_same(columns, &rows[at - 1], &rows[at]) {
+    if at > 0 && is_same(columns, &rows[at - 1], &rows[at], told) {
         return before;
     }
     rows[at].place
@@ -90,12 +141,12 @@ pub(crate) fn leaders(
     ensures { IfOk result (λ v. AreLeaders (named_rows (name_of names.entry) (same_at columns.now)) len v.items) }
 {
     let mut rows = coded_rows(alloc, columns, names, len)?;
-    sort_rows(columns, &mut rows)?;
+    let told = sort_rows(columns, &mut rows)?;
     let mut leaders = Vec::new(alloc);
     leaders.resize(len, 0u32)?;
     let mut leader = 0u32;
     for at in 0..rows.len() {
-        leader = leader_at(columns, rows.as_slice(), at, leader);
+        leader = leader_at(columns, rows.as_slice(), at, leader, told);
         leaders[rows[at].place as usize] = leader;
     }
     Ok(leaders)

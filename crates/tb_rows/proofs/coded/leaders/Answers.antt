@@ -14,7 +14,7 @@ index_mut-requires c =
     let rows = c.sort_rows.new.rows.items in
     let t = c.loop-at.at in
     let low : t < length rows = omega arith in
-    let sorted = subst (λ (old : List CodedRow). AreSorted (coded_cmp c.args.columns.now) old rows) c.in_ok-rows.ensures c.in_ok-sort_rows.ensures in
+    let sorted = subst (λ (old : List CodedRow). AreSorted (coded_cmp c.args.columns.now) old rows) c.in_ok-rows.ensures c.in_ok-told.ensures.sorted in
     let is : c.index.result.now ≡ get_or rows t no_row = c.index.ensures ∙ get_or_default rows t c.index.result.now no_row low in
     let here = are_items c.args.columns.now (name_of c.args.names) c.args.len rows sorted t no_row low in
     omega (arith, here.0, ap (λ (r : CodedRow). r.place) is, c.loop-at.invariant.count)
@@ -27,7 +27,7 @@ loop-at-preserved c =
     let t = c.loop-at.at in
     let now = c.leader_at-leader.result in
     let low : t < length rows = omega arith in
-    let sorted = subst (λ (old : List CodedRow). AreSorted (coded_cmp cs) old rows) c.in_ok-rows.ensures c.in_ok-sort_rows.ensures in
+    let sorted = subst (λ (old : List CodedRow). AreSorted (coded_cmp cs) old rows) c.in_ok-rows.ensures c.in_ok-told.ensures.sorted in
     let is : c.index.result.now ≡ get_or rows t no_row = c.index.ensures ∙ get_or_default rows t c.index.result.now no_row low in
     let lent : c.as_slice.result.now ≡ rows = c.as_slice.ensures.value in
     let leads = c.leader_at-leader.ensures ∙ (λ u. if goes_on cs (lent u) t then c.loop-at.leader else (get_or (lent u) t no_row).place) in
@@ -39,7 +39,7 @@ returns c =
     let cs = c.args.columns.now in
     let name = name_of c.args.names in
     let rows = c.sort_rows.new.rows.items in
-    let sorted = subst (λ (old : List CodedRow). AreSorted (coded_cmp cs) old rows) c.in_ok-rows.ensures c.in_ok-sort_rows.ensures in
+    let sorted = subst (λ (old : List CodedRow). AreSorted (coded_cmp cs) old rows) c.in_ok-rows.ensures c.in_ok-told.ensures.sorted in
     let done : c.loop-at.at ≡ length rows = omega arith in
     led_all cs name c.args.len rows sorted c.loop-at.leader c.loop-at.leaders.items
     (subst (λ t. AreLed (named_rows name (same_at cs)) c.args.len rows t c.loop-at.leader c.loop-at.leaders.items) done c.loop-at.invariant)
