@@ -18,7 +18,7 @@ use Rattle.tb_frame.specs.Join.{IsAnswer, IsOrdered, Request, cut, listing, out}
 use Rattle.tb_frame.specs.Table.{IsTable, Table, height, plain, table_of}
 use Rattle.tb_frame.specs.declared.args.MaintainOrderJoin.TheVariants as order
 use Rattle.tb_frame.proofs.Assembled.{makes_answer}
-use Rattle.tb_frame.proofs.Ranges.{rows_below}
+use Rattle.tb_value.proofs.RowNumbers.{rows_below}
 use Rattle.tb_frame.proofs.Taking.{IsTable-taken}
 use Rattle.tb_gather.specs.Gathered.{rows_gathered}
 use Rattle.tb_hash.specs.Hashing.{value_listing}

@@ -10,6 +10,7 @@ use Rattle.tb_value.specs.Refusals.{first_cause, when}
 use Rattle.tb_value.specs.declared.error.PolarsError.{PolarsError}
 use Rattle.tb_value.specs.declared.error.PolarsError.TheVariants.{ShapeMismatch, Duplicate}
 use Rattle.tb_value.proofs.Ascending.{AllPairs-thinned}
+use Rattle.tb_value.proofs.Kept.{filter-map}
 use Rattle.tb_chunk.specs.Col.{Col}
 use Rattle.tb_frame.specs.Table.{TableColumn, Table, plain, table_of, height, names_of, IsTable, IsTyped}
 use Rattle.tb_frame.specs.Join.{columns_where}
@@ -40,15 +41,6 @@ makes_frame t typed h =
       one_height = All-weaker (λ (c : TableColumn). (length c.values == height t) ≡ true) (λ (c : TableColumn). length c.values ≡ height t) (λ c e. eqb-true (length c.values) (height t) e) t (all_true (λ (c : TableColumn). length c.values == height t) t (when_not (are_level t) ShapeMismatch (none 0 None (omega arith))));
       typed = typed;
     }
-
--- what passes a test of names passes it before or after it is seen otherwise
-pub filter-map : {X Y : Type 0} (f : X → Y) (p : Y → Bool) (xs : List X) → filter p (map f xs) ≡ map f (filter (λ x. p (f x)) xs)
-filter-map f p [] = refl
-filter-map {X} {Y} f p (x ∷ xs) = at (p (f x)) (filter-map f p xs)
-  where
-    at : (b : Bool) → filter p (map f xs) ≡ map f (filter (λ y. p (f y)) xs) → cond b (f x ∷ filter p (map f xs)) (filter p (map f xs)) ≡ map f (cond b (x ∷ filter (λ y. p (f y)) xs) (filter (λ y. p (f y)) xs))
-    at true e = ap (λ (l : List Y). f x ∷ l) e
-    at false e = e
 
 -- columns left out before or after chunks and flags are
 pub without-table : (names : List Name) (cs : List Col) → table_of (without_names names cs) ≡ columns_where (λ n. not (is_among names n)) (table_of cs)

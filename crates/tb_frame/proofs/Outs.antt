@@ -17,7 +17,7 @@ use Rattle.tb_frame.specs.Table.{TableColumn, Table, IsTyped, names_of, schema_o
 use Rattle.tb_frame.specs.Join.{Request, Out, kept_left, shown_right, named, partner, right_key, value_at, left_field, left_out, right_out, out, out_columns, MergesAlike}
 use Rattle.tb_frame.specs.Naming.{Field, coalesces, drops_left_keys, drops_right_keys, has_right, is_among, joined_names, keeps_left, keeps_right, left_names, merges_keys, right_name, shows_right}
 use Rattle.tb_frame.proofs.Causes.{found_holds}
-use Rattle.tb_frame.proofs.Frames.{filter-map}
+use Rattle.tb_value.proofs.Kept.{filter-map}
 use Rattle.tb_frame.proofs.Taking.{at_place}
 
 -- TESTS

@@ -3,9 +3,9 @@ use Rattle.std.proofs.Common.{◌≡◌, ℕ, ◌+◌, ◌<◌, Bool, List, [], 
 use Rattle.std.specs.Prelude.{All, filter, not, ℤ}
 use Rattle.std.specs.List.{flat_map, list_any, enumerate_from}
 use Rattle.std.proofs.lemmas.List.Elements.{All-nil, All-cons, All-head, All-tail, All-append, All-weaker, All-filter, All-map}
-use Rattle.std.proofs.lemmas.List.FromFn.{length-range_with_len, get_or-range_with_len}
 use Rattle.std.proofs.lemmas.List.Sorted.{All-permutation}
 use Rattle.tb_value.specs.declared.index.JoinPair.{JoinPair}
+use Rattle.tb_value.proofs.RowNumbers.{rows_below}
 use Rattle.tb_chunk.specs.Rows.{IsRowOf}
 use Rattle.tb_frame.specs.declared.args.JoinType.{JoinType}
 use Rattle.tb_frame.specs.declared.args.JoinType.TheVariants.{Inner, Left, Right, Full, Semi, Anti}
@@ -14,13 +14,6 @@ use Rattle.tb_frame.specs.Table.{TableColumn, Table, height, IsTable}
 use Rattle.tb_value.specs.Pairs.{row_numbers, both, left_only, right_only, matched, left_met, left_unmet, right_unmet}
 use Rattle.tb_frame.specs.Join.{listing_of, in_slice, cut}
 use Rattle.tb_frame.specs.Answer.{IsPairOf, IsListed, AreLeftRows, AreRightRows}
-
-pub rows_below : (n : ℕ) → All (λ i. i < n) (row_numbers n)
-rows_below n = λ k d low.
-    let long : length (row_numbers n) ≡ n = length-range_with_len 0 n in
-    let here : k < n = omega (arith, long) in
-    let at = get_or-range_with_len 0 n k d here in
-    omega (arith, at, here)
 
 All-flat_map : {X A : Type 0} (P : A → Type 0) (f : X → List A) (xs : List X) → All (λ x. All P (f x)) xs → All P (flat_map f xs)
 All-flat_map P f [] h = All-nil P

@@ -75,6 +75,10 @@ left_names a left_on left = filter (keeps_left a left_on) left
 abbrev pub joined_names : JoinArgs → List Name → List Name → List Name → List Name → List Name
 joined_names a left_on right_on left right = left_names a left_on left ++ map (right_name (left_names a left_on left) a.suffix) (filter (keeps_right a right_on) right)
 
+-- the names of the answer's columns, by those of the tables
+abbrev pub answer_names : JoinArgs → List Name → List Name → List Name → List Name → List Name
+answer_names a left_on right_on left right = left_names a left_on left ++ map (right_name (left_names a left_on left) a.suffix) (filter (shows_right a right_on) right)
+
 -- a name and a type
 abbrev pub Field : Type 0
 Field = Name × Kind

@@ -58,8 +58,8 @@ fn are_cut_alike(first: &Series, second: &Series) -> bool
     true
 }
 
-/// The values of each column in one chunk. Names, types, values and flags stay.
-pub fn rechunk_columns(alloc: Global, columns: &[Column]) -> Result<Vec<Column>, OutOfMemory>
+// The values of each column in one chunk. Names, types, values and flags stay.
+fn rechunk_columns(alloc: Global, columns: &[Column]) -> Result<Vec<Column>, OutOfMemory>
     ensures { IfOk result (λ v. v.items ≡ map in_one_chunk columns.now) }
 {
     let mut whole = Vec::with_capacity(alloc, columns.len())?;

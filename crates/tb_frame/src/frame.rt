@@ -116,7 +116,10 @@ pub fn column_name_set(alloc: Global, columns: &[Column]) -> Result<NameSet<'_>,
 }
 
 // The names of the columns, in their order.
-fn column_names(alloc: Global, columns: &[Column]) -> Result<Vec<&PlSmallStr>, OutOfMemory>
+pub(crate) fn column_names(
+    alloc: Global,
+    columns: &[Column],
+) -> Result<Vec<&PlSmallStr>, OutOfMemory>
     ensures { IfOk result (λ v. map (λ n. n.now) v.items ≡ names_of (table_of columns.now)) }
 {
     let mut names = Vec::with_capacity(alloc, columns.len())?;

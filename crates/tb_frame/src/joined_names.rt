@@ -1,39 +1,48 @@
-//! The names of the columns that a join puts side by side.
-ghost use Rattle.std.specs.Prelude.{◌≡◌, IfOk, List, map, unwrap_or};
+//! The names of the columns that a join puts side by side, and of those of its answer.
+ghost use Rattle.std.specs.Prelude.{◌≡◌, ◌++◌, IfOk, List, OnOk, Some, map};
 ghost use Rattle.tb_value.specs.Names.{Name};
 ghost use Rattle.tb_value.specs.Refusals.{Settles};
-ghost use Rattle.tb_chunk.specs.Col.{Col};
-ghost use Rattle.tb_frame.specs.Frame.{without_names};
 ghost use Rattle.tb_frame.specs.Join.{lent_request};
 ghost use Rattle.tb_frame.specs.NameSets.{has_name};
-ghost use Rattle.tb_frame.specs.Naming.{default_suffix, is_among};
+ghost use Rattle.tb_frame.specs.Naming.{answer_names, is_among, right_name};
 ghost use Rattle.tb_frame.specs.Refusal.{repeated_name};
-ghost use Rattle.tb_frame.specs.RightColumns.{gone_beside, right_names, right_side};
+ghost use Rattle.tb_frame.specs.RightColumns.{beside, gone_beside, names_without};
 ghost use Rattle.tb_frame.specs.Sides.{asking, of_kind};
 
 use crate::args::{JoinArgs, JoinType};
-use crate::names::{NameSet, check_distinct, name_set, push_names};
+use crate::frame::column_names;
+use crate::names::{NameSet, check_repeated, lend_names, name_set};
 use crate::right_columns::{gone_left, gone_right, right_name, right_side, suffix_of};
 use std::alloc::Global;
 use tb_store::Column;
 use tb_value::{OutOfMemory, PlSmallStr, PolarsResult};
 
-// The names of the columns, but for those that go.
+// The names, but for those that go.
 fn kept_names<'a>(
     alloc: Global,
-    columns: &'a [Column],
+    names: &[&'a PlSmallStr],
     gone: &[PlSmallStr],
 ) -> Result<Vec<&'a PlSmallStr>, OutOfMemory>
-    ensures { IfOk result (λ v. map (λ n. n.now) v.items ≡ map (λ (c : Col). c.name) (without_names gone.now columns.now)) }
+    ensures { IfOk result (λ v. map (λ n. n.now) v.items ≡ names_without gone.now (map (λ n. n.now) names.now)) }
 {
     let gone = name_set(alloc, gone)?;
-    let mut names = Vec::with_capacity(alloc, columns.len())?;
-    for column in columns {
-        if !gone.contains(column.name()) {
-            names.push(column.name())?;
+    let mut kept = Vec::with_capacity(alloc, names.len())?;
+    for name in names {
+        if !gone.contains(name) {
+            kept.push(*name)?;
         }
     }
-    Ok(names)
+    Ok(kept)
+}
+
+fn copied_names(alloc: Global, names: &[&PlSmallStr]) -> Result<Vec<PlSmallStr>, OutOfMemory>
+    ensures { IfOk result (λ v. v.items ≡ map (λ n. n.now) names.now) }
+{
+    let mut copies = Vec::with_capacity(alloc, names.len())?;
+    for name in names {
+        copies.push(name.copy(alloc)?)?;
+    }
+    Ok(copies)
 }
 
 // The set of these names.
@@ -47,23 +56,39 @@ fn lent_name_set<'a>(alloc: Global, names: &[&'a PlSmallStr]) -> Result<NameSet<
     Ok(set)
 }
 
-// The names of right columns beside left columns of the names that are taken, but for those that go.
-fn called_names(
+// Puts behind the names those of right columns, as they are called beside left columns of the names that are taken.
+fn push_called(
     alloc: Global,
+    names: &mut Vec<PlSmallStr>,
     taken: &NameSet<'_>,
-    right: &[Column],
-    gone: &[PlSmallStr],
+    right: &[&PlSmallStr],
+    suffix: &str,
+) -> Result<(), OutOfMemory>
+    ensures { OnOk result ((ns : List Name) → ((n : Name) → has_name taken.now n ≡ is_among ns n)
+        → names.new.items ≡ names.old.items ++ map (right_name ns (Some suffix.now)) (map (λ n. n.now) right.now)) }
+{
+    for name in right {
+        names.push(right_name(alloc, taken, suffix, name)?)?;
+    }
+    Ok(())
+}
+
+// The names of left columns, and behind them those of right ones beside them, where some of each go.
+fn side_by_side(
+    alloc: Global,
+    left: &[&PlSmallStr],
+    gone_left: &[PlSmallStr],
+    right: &[&PlSmallStr],
+    gone_right: &[PlSmallStr],
     suffix: &str,
 ) -> Result<Vec<PlSmallStr>, OutOfMemory>
-    ensures { IfOk result (λ v. (ns : List Name) → ((n : Name) → has_name taken.now n ≡ is_among ns n) → v.items ≡ right_names ns suffix.now gone.now right.now) }
+    ensures { IfOk result (λ v. v.items ≡ beside (map (λ n. n.now) left.now) gone_left.now (map (λ n. n.now) right.now) gone_right.now suffix.now) }
 {
-    let gone = name_set(alloc, gone)?;
-    let mut names = Vec::with_capacity(alloc, right.len())?;
-    for column in right {
-        if !gone.contains(column.name()) {
-            names.push(right_name(alloc, taken, suffix, column.name())?)?;
-        }
-    }
+    let kept = kept_names(alloc, left, gone_left)?;
+    let taken = lent_name_set(alloc, &kept)?;
+    let shown = kept_names(alloc, right, gone_right)?;
+    let mut names = copied_names(alloc, &kept)?;
+    push_called(alloc, &mut names, &taken, &shown, suffix)?;
     Ok(names)
 }
 
@@ -77,26 +102,29 @@ fn gone_beside<'a>(how: JoinType, args: &JoinArgs, right_on: &'a [PlSmallStr]) -
     }
 }
 
-// The names of the right columns that are put beside left ones of these names.
-fn names_beside(
+/// The names of the answer's columns, by the names of the keys and of the columns of both tables. They are told for
+/// requests too that are refused.
+pub fn answer_names(
     alloc: Global,
-    left: &[&PlSmallStr],
-    right: &[Column],
-    right_on: &[PlSmallStr],
-    how: JoinType,
     args: &JoinArgs,
+    left_on: &[PlSmallStr],
+    right_on: &[PlSmallStr],
+    left: &[PlSmallStr],
+    right: &[PlSmallStr],
 ) -> Result<Vec<PlSmallStr>, OutOfMemory>
-    ensures { IfOk result (λ v. v.items ≡ right_names (map (λ n. n.now) left.now) (unwrap_or args.now.suffix default_suffix)
-        (gone_beside (of_kind how args.now) right_on.now) (right_side how right.now)) }
+    ensures { IfOk result (λ v. v.items ≡ answer_names args.now left_on.now right_on.now left.now right.now) }
 {
-    let taken = lent_name_set(alloc, left)?;
-    called_names(
+    let left = lend_names(alloc, left)?;
+    let right = lend_names(alloc, right_side(args.how, right))?;
+    let names = side_by_side(
         alloc,
-        &taken,
-        right_side(how, right),
-        gone_beside(how, args, right_on),
+        &left,
+        gone_left(args.how, args, left_on),
+        &right,
+        gone_right(args.how, args, right_on),
         suffix_of(args),
-    )
+    )?;
+    Ok(names)
 }
 
 /// Refuses the first repeated name (Duplicate) among the columns that a join puts side by side: the left ones that it
@@ -113,9 +141,15 @@ pub fn check_joined_names(
 ) -> PolarsResult<()>
     ensures { Settles result (repeated_name (asking how (lent_request left.now right.now left_on.now right_on.now args.now))) }
 {
-    let kept = kept_names(alloc, left, gone_left(how, args, left_on))?;
-    let beside = names_beside(alloc, &kept, right, right_on, how, args)?;
-    let mut names = kept;
-    push_names(&mut names, &beside)?;
-    check_distinct(alloc, &names)
+    let left = column_names(alloc, left)?;
+    let right = column_names(alloc, right_side(how, right))?;
+    let names = side_by_side(
+        alloc,
+        &left,
+        gone_left(how, args, left_on),
+        &right,
+        gone_beside(how, args, right_on),
+        suffix_of(args),
+    )?;
+    check_repeated(alloc, &names)
 }

@@ -18,17 +18,15 @@ mod validated;
 
 pub use args::{Direction, JoinArgs, JoinCoalesce, JoinType, JoinValidation, MaintainOrderJoin};
 pub use arranging::{arrange, cut_pairs, kept_part};
-pub use chunking::rechunk_columns;
 pub use coalescing::coalesce_columns;
 pub use equality::same_type;
 pub use frame::{DataFrame, IntoDf, column_name_set};
-pub use joined_names::check_joined_names;
+pub use joined_names::{answer_names, check_joined_names};
 pub use lookup::{NamedColumns, lend_columns};
 pub use names::{NameSet, check_distinct, check_repeated, name_set};
 pub use null_flags::{Flags, JoinNulls};
 pub use order::direction_of;
 pub use right_columns::{
-    columns_beside, gone_left, gone_right, has_right, left_rows, right_name, right_rows,
-    right_side, suffix_of,
+    gone_left, gone_right, has_right, left_rows, right_name, right_rows, right_side, suffix_of,
 };
 pub use tb_store::slice_offsets;

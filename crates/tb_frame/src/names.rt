@@ -80,7 +80,10 @@ pub(crate) fn push_names<'a>(
     Ok(())
 }
 
-fn lend_names(alloc: Global, names: &[PlSmallStr]) -> Result<Vec<&PlSmallStr>, OutOfMemory>
+pub(crate) fn lend_names(
+    alloc: Global,
+    names: &[PlSmallStr],
+) -> Result<Vec<&PlSmallStr>, OutOfMemory>
     ensures { IfOk result (λ v. map (λ n. n.now) v.items ≡ names.now) }
 {
     let mut lent = Vec::with_capacity(alloc, names.len())?;

@@ -1,21 +1,16 @@
 //! The columns that an answer takes of the two tables, and their rows.
-ghost use Rattle.std.specs.Prelude.{◌≡◌, ◌≤◌, All, IfOk, List, Some, length, map, unwrap_or};
+ghost use Rattle.std.specs.Prelude.{◌≡◌, IfOk, List, Some, map, unwrap_or};
 ghost use Rattle.tb_value.specs.Names.{Name};
 ghost use Rattle.tb_value.specs.declared.index.JoinPair.{JoinPair};
-ghost use Rattle.tb_chunk.specs.Col.{Col, values};
-ghost use Rattle.tb_chunk.specs.Rows.{IsRowOf};
 ghost use Rattle.tb_frame.specs.Naming.{default_suffix, has_right, is_among, right_name};
 ghost use Rattle.tb_frame.specs.NameSets.{has_name};
-ghost use Rattle.tb_frame.specs.RightColumns.{columns_beside, gone_left, gone_right, right_column, right_side};
+ghost use Rattle.tb_frame.specs.RightColumns.{gone_left, gone_right, right_side};
 ghost use Rattle.tb_frame.specs.Sides.{of_kind};
-ghost use Rattle.tb_frame.specs.Table.{names_of, table_of};
 
 use crate::args::{JoinArgs, JoinType};
-use crate::frame::column_name_set;
-use crate::names::{NameSet, name_set};
+use crate::names::NameSet;
 use std::alloc::Global;
-use tb_store::Column;
-use tb_value::{JoinPair, MAX_ROWS, NullableIdxSize, OutOfMemory, PlSmallStr};
+use tb_value::{JoinPair, NullableIdxSize, OutOfMemory, PlSmallStr};
 
 /// What follows the name of a right column that a left column has too.
 pub fn suffix_of(args: &JoinArgs) -> &str
@@ -37,8 +32,8 @@ pub fn has_right(how: JoinType) -> bool
     }
 }
 
-/// The right columns, of which a Semi or Anti join has none.
-pub fn right_side<'a>(how: JoinType, right: &'a [Column]) -> &'a [Column]
+/// The right columns, or their names, of which a Semi or Anti join shows none.
+pub fn right_side<'a, T>(how: JoinType, right: &'a [T]) -> &'a [T]
     ensures { result.now ≡ right_side how right.now }
 {
     if has_right(how) { right } else { &[] }
@@ -90,52 +85,6 @@ pub fn right_name(
     } else {
         name.copy(alloc)
     }
-}
-
-// The right column under its name in the answer.
-fn named_column(
-    alloc: Global,
-    taken: &NameSet<'_>,
-    suffix: &str,
-    column: &Column,
-    rows: &[NullableIdxSize],
-) -> Result<Column, OutOfMemory>
-    requires rows { All (IsRowOf (length (values column.now))) rows.now }
-    requires few { length rows.now ≤ MAX_ROWS }
-    ensures { IfOk result (λ c. (ns : List Name) → ((n : Name) → has_name taken.now n ≡ is_among ns n) → c ≡ right_column ns suffix.now rows.now column.now) }
-{
-    let name = right_name(alloc, taken, suffix, column.name())?;
-    let mut column = column.take_opt(alloc, rows)?;
-    column.rename(name);
-    Ok(column)
-}
-
-/// The right columns of an answer beside these left ones: with these rows, under their names in the answer, and
-/// without the keys that are coalesced. A Semi or Anti join has none. The kind that the arguments name is not read.
-pub fn columns_beside(
-    alloc: Global,
-    how: JoinType,
-    args: &JoinArgs,
-    left: &[Column],
-    right: &[Column],
-    right_on: &[PlSmallStr],
-    rows: &[NullableIdxSize],
-) -> Result<Vec<Column>, OutOfMemory>
-    requires rows { All (λ (c : Col). All (IsRowOf (length (values c))) rows.now) right.now }
-    requires few { length rows.now ≤ MAX_ROWS }
-    ensures { IfOk result (λ v. v.items ≡ columns_beside (of_kind how args.now) right_on.now rows.now (names_of (table_of left.now)) right.now) }
-{
-    let taken = column_name_set(alloc, left)?;
-    let gone = name_set(alloc, gone_right(how, args, right_on))?;
-    let suffix = suffix_of(args);
-    let side = right_side(how, right);
-    let mut columns = Vec::with_capacity(alloc, side.len())?;
-    for column in side {
-        if !gone.contains(column.name()) {
-            columns.push(named_column(alloc, &taken, suffix, column, rows)?)?;
-        }
-    }
-    Ok(columns)
 }
 
 /// The left rows of the pairs, in order.

@@ -20,7 +20,7 @@ use Rattle.tb_frame.specs.Naming.{coalesces, drops_left_keys, drops_right_keys, 
 use Rattle.tb_frame.specs.Refusal.{first_unknown}
 use Rattle.tb_frame.specs.RightColumns.{gone_left, gone_right, right_column, right_columns, right_side}
 use Rattle.tb_frame.specs.Table.{Table, plain, table_of, names_of}
-use Rattle.tb_frame.proofs.Frames.{filter-map}
+use Rattle.tb_value.proofs.Kept.{filter-map}
 use Rattle.tb_frame.proofs.Selected.{found, selected-table}
 use Rattle.tb_frame.proofs.Taking.{all_plain as plain_all, length-opt_taken, names-made, names-opt_taken}
 use Rattle.tb_keys.specs.Merging.{key_beside, left_column, merged_key}

@@ -15,8 +15,9 @@ ghost use Rattle.tb_keys.specs.Asked.{IsByNames, asked};
 ghost use Rattle.tb_chunk.specs.Lent.{lent_columns};
 ghost use Rattle.tb_keys.specs.Merging.{key_merged, left_column};
 
+use crate::beside::columns_beside;
 use std::alloc::Global;
-use tb_frame::{DataFrame, coalesce_columns, columns_beside, gone_left, left_rows, right_rows};
+use tb_frame::{DataFrame, coalesce_columns, gone_left, left_rows, right_rows};
 use tb_keys::LentRequest;
 use tb_store::{Column, Series};
 use tb_value::{JoinPair, MAX_ROWS, NullableIdxSize, OutOfMemory, PlSmallStr, PolarsResult};

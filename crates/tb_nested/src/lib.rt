@@ -2,6 +2,7 @@
 //! be compared.
 #![tactic(auto)]
 
+mod beside;
 mod columns;
 mod nested;
 

@@ -25,7 +25,8 @@ use Rattle.tb_value.proofs.Probes.{each_left-permutation, each_left-sorted}
 use Rattle.tb_value.proofs.Unique.{sorted_once}
 use Rattle.tb_frame.specs.Answer.{AreLeftRows, AreRightRows, IsPairOf}
 use Rattle.tb_chunk.specs.Rows.{IsRowOf}
-use Rattle.tb_frame.proofs.Ranges.{listing_rows, rows_below}
+use Rattle.tb_value.proofs.RowNumbers.{rows_below}
+use Rattle.tb_frame.proofs.Ranges.{listing_rows}
 use Rattle.tb_merge.specs.Keys.{key_at, keys_match}
 use Rattle.tb_merge.specs.RowPairs.{pairs_of, row_pairs, rows_of}
 use Rattle.tb_merge.proofs.Matches.{inner_is, left_is}

@@ -24,7 +24,8 @@ pub use lent::{are_in_one_chunk, lend, rechunked};
 pub use series::Series;
 pub use tb_chunk::{
     BinaryBuilder, BinaryChunk, Cell, Cells, Chunk, Chunks, FieldValues, Growing, ListChunk,
-    Physical, Stored, StringBuilder, StringChunk, StructChunk, View, physical_of, slice_offsets,
+    Physical, Stored, StringBuilder, StringChunk, StructChunk, View, compare_values, physical_of,
+    slice_offsets,
 };
 pub use tb_value::{
     AnyValue, Bytes, ChunkId, ComputeCause, DataType, Field, Fields, IdxSize, InvalidCause,

@@ -21,7 +21,7 @@ use Rattle.tb_chunk.specs.Whole.{ViewRun}
 use Rattle.tb_frame.specs.Frame.{selected, without_names}
 use Rattle.tb_frame.specs.Naming.{is_among}
 use Rattle.tb_frame.specs.Table.{TableColumn, Table, names_of, plain, table_of}
-use Rattle.tb_frame.proofs.Frames.{filter-map}
+use Rattle.tb_value.proofs.Kept.{filter-map}
 use Rattle.tb_supertype.specs.Cast.{cast}
 use Rattle.tb_supertype.specs.Columns.{CastsTo, IsStacked, cast_values}
 use Rattle.tb_supertype.proofs.Stacks.{flat-at_least_one}

@@ -1,27 +1,33 @@
-use Rattle.std.proofs.Common.{◌≡◌, ◌∷◌, Bool, [], not, map, ap, sym, ◌∙◌, Bor}
-use Rattle.std.proofs.lemmas.List.{map-append}
+use Rattle.std.proofs.Common.{◌≡◌, ◌∷◌, Bool, [], not, map, ap, sym, ◌∙◌, Bor, arith, refl}
+use Rattle.std.proofs.lemmas.List.{map-append, take_all}
 use Rattle.tb_value.specs.Names.{Name}
-use Rattle.tb_value.proofs.Kept.{made, skipped}
-use Rattle.tb_chunk.specs.Col.{Col}
+use Rattle.tb_value.proofs.Kept.{filter-map, made, skipped}
 use Rattle.tb_frame.specs.Naming.{is_among}
+use Rattle.tb_frame.specs.RightColumns.{names_without}
 use Rattle.tb_frame.proofs.joined_names.kept_names.Goals as goal
 use Rattle.tb_frame.proofs.joined_names.kept_names.Goals.{then-not-contains+in_ok-push, else-not-contains}
 
-pub loop-column-preserved : goal.loop-column-preserved
-loop-column-preserved c =
+pub loop-name-preserved : goal.loop-name-preserved
+loop-name-preserved c =
     let now : Bor Name → Name = λ n. n.now in
     let gone = c.args.gone.now in
-    let f : Col → Name = λ k. k.name in
-    let test : Col → Bool = λ k. not (is_among gone k.name) in
-    let x = c.column-item.result in
-    let names = c.loop-column.names.items in
-    let named : is_among gone x.name ≡ c.contains.result = sym (c.contains.ensures ∙ c.in_ok-gone.ensures c.name.result.now ∙ ap (is_among gone) c.name.ensures) in
+    let test : Bor Name → Bool = λ n. not (is_among gone n.now) in
+    let x = c.name-item.result in
+    let kept = c.loop-name.kept.items in
+    let named : is_among gone x.now ≡ c.contains.result = sym (c.contains.ensures ∙ c.in_ok-gone.ensures x.now) in
     elim c.if-not-contains.branch [
       | then-not-contains+in_ok-push w ↦
-          rw w.names-is
-          (ap (map now) w.in_ok-push.ensures.items ∙ map-append now names (w.name-then-not-contains.result ∷ [])
-          ∙ made f test c.args.columns.now c.loop-column.column-index x c.loop-column-test.true c.column-item.is [] (map now names) w.name-then-not-contains.result.now c.loop-column.invariant (ap not (named ∙ w.if-not-contains.true)) w.name-then-not-contains.ensures)
+          rw w.kept-is
+          (ap (map now) w.in_ok-push.ensures.items ∙ map-append now kept (x ∷ [])
+          ∙ made now test c.args.names.now c.loop-name.name-index x c.loop-name-test.true c.name-item.is [] (map now kept) x.now c.loop-name.invariant (ap not (named ∙ w.if-not-contains.true)) refl)
       | else-not-contains w ↦
-          rw w.names-is
-          (skipped f test c.args.columns.now c.loop-column.column-index x c.loop-column-test.true c.column-item.is [] (map now names) c.loop-column.invariant (ap not (named ∙ w.if-not-contains.false)))
+          rw w.kept-is
+          (skipped now test c.args.names.now c.loop-name.name-index x c.loop-name-test.true c.name-item.is [] (map now kept) c.loop-name.invariant (ap not (named ∙ w.if-not-contains.false)))
     ]
+
+pub returns : goal.returns
+returns c =
+    let now : Bor Name → Name = λ n. n.now in
+    c.loop-name.invariant
+    ∙ sym (filter-map now (λ n. not (is_among c.args.gone.now n)) _)
+    ∙ ap (λ ns. names_without c.args.gone.now (map now ns)) (take_all c.loop-name.name-index c.args.names.now (omega arith))

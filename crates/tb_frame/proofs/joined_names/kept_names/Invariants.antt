@@ -1,7 +1,8 @@
-use Rattle.std.proofs.Common.{◌≡◌, take, map}
-use Rattle.tb_chunk.specs.Col.{Col}
-use Rattle.tb_frame.specs.Frame.{without_names}
+use Rattle.std.proofs.Common.{◌≡◌, not, take, map, Bor}
+use Rattle.std.specs.Prelude.{filter}
+use Rattle.tb_value.specs.Names.{Name}
+use Rattle.tb_frame.specs.Naming.{is_among}
 use Rattle.tb_frame.proofs.joined_names.kept_names.Given as goal
 
-abbrev pub invariant-loop-column : goal.invariant-loop-column
-invariant-loop-column l = map (λ n. n.now) l.names.items ≡ map (λ (c : Col). c.name) (without_names l.fn.gone (take l.column-index l.columns))
+abbrev pub invariant-loop-name : goal.invariant-loop-name
+invariant-loop-name l = map (λ (n : Bor Name). n.now) l.kept.items ≡ map (λ (n : Bor Name). n.now) (filter (λ (n : Bor Name). not (is_among l.fn.gone n.now)) (take l.name-index l.names))

@@ -15,7 +15,8 @@ use Rattle.tb_chunk.specs.Rows.{IsRowOf}
 use Rattle.tb_frame.specs.Join.{Request, places}
 use Rattle.tb_frame.specs.Naming.{coalesces, is_among, merges_keys}
 use Rattle.tb_frame.specs.Refusal.{join_valid, key_types, kind_at}
-use Rattle.tb_frame.specs.RightColumns.{columns_beside, gone_left}
+use Rattle.tb_frame.specs.RightColumns.{gone_left}
+use Rattle.tb_nested.specs.Beside.{columns_beside}
 use Rattle.tb_frame.specs.Table.{table_of, height, names_of}
 use Rattle.tb_frame.proofs.Causes.{map_none}
 use Rattle.tb_frame.proofs.Validity.{known_left, known_right, same_counts, same_types}

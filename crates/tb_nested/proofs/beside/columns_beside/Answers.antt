@@ -9,8 +9,8 @@ use Rattle.tb_frame.specs.Table.{table_of, names_of}
 use Rattle.tb_frame.specs.Naming.{has_right, is_among}
 use Rattle.tb_frame.specs.RightColumns.{gone_right, right_column, right_columns}
 use Rattle.tb_frame.specs.Sides.{of_kind}
-use Rattle.tb_frame.proofs.right_columns.columns_beside.Goals as goal
-use Rattle.tb_frame.proofs.right_columns.columns_beside.Goals.{then-not-contains+in_ok-named_column+in_ok-push, else-not-contains}
+use Rattle.tb_nested.proofs.beside.columns_beside.Goals as goal
+use Rattle.tb_nested.proofs.beside.columns_beside.Goals.{then-not-contains+in_ok-named_column+in_ok-push, else-not-contains}
 
 -- what holds of each right column holds of each that the answer has
 side_has : (P : Col → Type 0) (b : Bool) (cs : List Col) → All P cs → All P (cond b cs [])
