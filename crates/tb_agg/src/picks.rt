@@ -4,16 +4,14 @@ ghost use Rattle.std.specs.List.{All};
 ghost use Rattle.tb_value.specs.Pairs.{row_numbers};
 ghost use Rattle.tb_value.specs.See.{lent};
 ghost use Rattle.tb_chunk.specs.Col.{values};
-ghost use Rattle.tb_chunk.specs.Order.{order_of};
 ghost use Rattle.tb_chunk.specs.Rows.{value_or_null, IsRowOf};
 ghost use Rattle.tb_agg.specs.Aggregates.{beats};
 ghost use Rattle.tb_agg.specs.Grouped.{rows_of, AreGroupsOf};
 ghost use Rattle.tb_agg.specs.Picking.{next_pick, picked_row, replaces};
 
 use std::alloc::Global;
-use std::cmp::Ordering;
 use tb_rows::Groups;
-use tb_store::Series;
+use tb_store::{Series, compare_values};
 use tb_value::{IdxSize, NullableIdxSize, OutOfMemory, ValueRef};
 
 /// Which row of a group stands for it.
@@ -25,31 +23,14 @@ pub(crate) enum Pick {
     GreatestValue,
 }
 
-// How two values of a key type compare, where values are to descend or to ascend.
-fn compare_in(first: ValueRef<'_>, second: ValueRef<'_>, descending: bool) -> Ordering
-    ensures { result ≡ order_of descending (lent first.entry) (lent second.entry) }
-{
-    let (first, second) = if descending {
-        (second, first)
-    } else {
-        (first, second)
-    };
-    match (first, second) {
-        (ValueRef::Boolean(a), ValueRef::Boolean(b)) => a.cmp(&b),
-        (ValueRef::Int(a), ValueRef::Int(b)) => a.cmp(&b),
-        (ValueRef::String(a), ValueRef::String(b)) => a.cmp(b),
-        (ValueRef::Binary(a), ValueRef::Binary(b)) => a.cmp(b),
-        _ => Ordering::Equal,
-    }
-}
-
 fn beats(best: ValueRef<'_>, value: ValueRef<'_>, greatest: bool) -> bool
     ensures { result ≡ beats greatest (lent best.entry) (lent value.entry) }
 {
     match (best, value) {
         (_, ValueRef::Null) => false,
         (ValueRef::Null, _) => true,
-        _ => compare_in(value, best, greatest).is_lt(),
+        _ if greatest => compare_values(best, value).is_lt(),
+        _ => compare_values(value, best).is_lt(),
     }
 }
 
