@@ -43,7 +43,8 @@ fn are_cut_as(columns: &[Column], first: &Column) -> bool
     true
 }
 
-fn are_cut_alike(first: &Series, second: &Series) -> bool
+/// Whether two columns have as many chunks, and those at a place are as long.
+pub fn are_cut_alike(first: &Series, second: &Series) -> bool
     ensures { IsTrue result ↔ (lens first.now ≡ lens second.now) }
 {
     let count = first.n_chunks();

@@ -18,6 +18,7 @@ mod validated;
 
 pub use args::{Direction, JoinArgs, JoinCoalesce, JoinType, JoinValidation, MaintainOrderJoin};
 pub use arranging::{arrange, cut_pairs, kept_part};
+pub use chunking::are_cut_alike;
 pub use coalescing::coalesce_columns;
 pub use equality::same_type;
 pub use frame::{DataFrame, IntoDf, column_name_set};
