@@ -10,6 +10,7 @@ use Rattle.tb_value.specs.Pairs.{row_numbers}
 use Rattle.tb_chunk.specs.Col.{Col, values}
 use Rattle.tb_frame.specs.declared.args.JoinArgs.{JoinArgs}
 use Rattle.tb_frame.specs.declared.args.JoinType.{JoinType}
+use Rattle.tb_frame.specs.declared.args.JoinType.TheVariants.{Inner, Left, Right, Full, Semi, Anti}
 use Rattle.tb_frame.specs.declared.args.JoinValidation.{JoinValidation}
 use Rattle.tb_frame.specs.Frame.{selected}
 use Rattle.tb_frame.specs.Join.{flag_at}
@@ -18,7 +19,7 @@ use Rattle.tb_pool.specs.ExecView.{ExecView}
 use Rattle.tb_rowkey.specs.Columns.{row_count, kinds, fields_at, keys_at}
 use Rattle.tb_rowkey.specs.RowKey.{rowkey, key_row}
 use Rattle.tb_sorted.specs.Columns.{first_values, sizes_by}
-use Rattle.tb_sorted.specs.Path.{takes_path_by}
+use Rattle.tb_sorted.specs.Path.{are_ordered, asks_nothing, is_merge_key, takes_path_by}
 use Rattle.tb_hash.specs.Hashing.{value_plan}
 use Rattle.tb_pairs.specs.Trace.{hash, merge, plain, has_long_row, lacks_keys, hashed_kind, hashed_values, trace_of}
 use Rattle.tb_join.specs.Traced.{named_trace}
@@ -79,10 +80,18 @@ hashed_unlaid nulls [] = refl
 hashed_unlaid nulls (c ∷ []) = refl
 hashed_unlaid nulls (c ∷ d ∷ cs) = keys_unlaid (c ∷ d ∷ cs) nulls
 
+ordered_unlaid : (how : JoinType) (exec : ExecView) (l r : Col) → are_ordered how exec (unlaid l) (unlaid r) ≡ are_ordered how exec l r
+ordered_unlaid Inner exec l r = refl
+ordered_unlaid Left exec l r = refl
+ordered_unlaid Right exec l r = refl
+ordered_unlaid Full exec l r = refl
+ordered_unlaid Semi exec l r = refl
+ordered_unlaid Anti exec l r = refl
+
 path_unlaid : (how : JoinType) (asked : JoinValidation) (exec : ExecView) (ls rs : List Col) → takes_path_by how asked exec (map unlaid ls) (map unlaid rs) ≡ takes_path_by how asked exec ls rs
 path_unlaid how asked exec [] rs = refl
 path_unlaid how asked exec (l ∷ []) [] = refl
-path_unlaid how asked exec (l ∷ []) (r ∷ []) = refl
+path_unlaid how asked exec (l ∷ []) (r ∷ []) = ap (λ b. asks_nothing asked && b && is_merge_key l && is_merge_key r) (ordered_unlaid how exec l r)
 path_unlaid how asked exec (l ∷ []) (r ∷ s ∷ rs) = refl
 path_unlaid how asked exec (l ∷ k ∷ ls) rs = refl
 
