@@ -53,10 +53,10 @@ fn cells_of<N: ReadField>(
 ) -> Result<Cells<N>, CsvFault>
     requires { physical (kind_at field_type) ≡ N.stored }
     ensures settles { Settles result (column_fault name.now field_type 1 (lent_fields fields.now)) }
-    ensures cells { IfOk result (λ c. map (or_null N.shows) c.cells.items ≡ map (cell_of field_type) (lent_fields fields.now)) }
-    ensures typed { IfOk result (λ c. All (HasType (kind_at field_type)) (map (or_null N.shows) c.cells.items)) }
+    ensures cells { IfOk result (λ c. map (or_null N.shows) c ≡ map (cell_of field_type) (lent_fields fields.now)) }
+    ensures typed { IfOk result (λ c. All (HasType (kind_at field_type)) (map (or_null N.shows) c)) }
 {
-    let mut cells = Vec::with_capacity(alloc, fields.len())?;
+    let mut cells = Cells::with_capacity(alloc, fields.len())?;
     for i in 0..fields.len() {
         let Some(cell) = cell_in(field_type, fields[i]) else {
             return Err(CsvFault::NotOfType {
@@ -67,7 +67,7 @@ fn cells_of<N: ReadField>(
         };
         cells.push(cell)?;
     }
-    Ok(Cells { cells })
+    Ok(cells)
 }
 
 // Whether a field is absent, or a text that is not too long to be a value.

@@ -1,5 +1,5 @@
 -- Columns of marks, and the height of all that stand in the place of columns.
-use Rattle.std.proofs.Common.{◌≡◌, ◌∙◌, ◌==◌, ℕ, pos, rules, Bool, true, false, cond, List, [], ◌∷◌, length, map, Option, Some, refl, ap}
+use Rattle.std.proofs.Common.{◌≡◌, ◌∙◌, ◌==◌, ℕ, pos, rules, Bool, true, false, cond, List, [], ◌∷◌, length, map, Some, refl, ap}
 use Rattle.std.specs.List.{All, flat_map}
 use Rattle.std.specs.Cmp.{IsTotalOrder}
 use Rattle.std.specs.Cmp.Lexicographic.{on_texts}
@@ -22,9 +22,11 @@ map-map : {X Y Z : Type 0} (f : X → Y) (g : Y → Z) (xs : List X) → map g (
 map-map f g [] = refl
 map-map f g (x ∷ xs) = ap (λ l. g (f x) ∷ l) (map-map f g xs)
 
-pub cells_shown : (p : ℕ) (numbers : List ℕ) (cells : List (Option ℕ)) → cells ≡ map (λ n. Some (cond {A = ℕ} (n == p) 1 0)) numbers
-    → map (or_null (λ n. int (pos n))) cells ≡ map (mark_in p) numbers
-cells_shown p numbers cells e = ap (map (or_null (λ n. int (pos n)))) e ∙ map-map (λ n. Some (cond {A = ℕ} (n == p) 1 0)) (or_null (λ n. int (pos n))) numbers
+pub marks_shown : (p : ℕ) (numbers marks : List ℕ) → marks ≡ map (λ n. cond {A = ℕ} (n == p) 1 0) numbers
+    → map (or_null (λ n. int (pos n))) (map Some marks) ≡ map (mark_in p) numbers
+marks_shown p numbers marks e =
+    map-map Some (or_null (λ n. int (pos n))) marks
+    ∙ ap (map (λ n. int (pos n))) e ∙ map-map (λ n. cond {A = ℕ} (n == p) 1 0) (λ n. int (pos n)) numbers
 
 mark_typed : (p n : ℕ) → HasType kind.uint8 (mark_in p n)
 mark_typed p n = by (n == p)

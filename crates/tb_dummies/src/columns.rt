@@ -1,5 +1,5 @@
 //! The columns that are made of a table's columns.
-ghost use Rattle.std.specs.Prelude.{◌≡◌, ◌==◌, ◌&&◌, ◌<◌, ◌≤◌, ◌∷◌, [], ◌++◌, IfOk, Some, if◌then◌else◌, length, map};
+ghost use Rattle.std.specs.Prelude.{◌≡◌, ◌==◌, ◌&&◌, ◌<◌, ◌≤◌, ◌∷◌, [], ◌++◌, IfOk, if◌then◌else◌, length, map};
 ghost use Rattle.std.specs.List.{flat_map};
 ghost use Rattle.tb_value.specs.Kind as kind;
 ghost use Rattle.tb_value.specs.See.{lent, IsText};
@@ -32,14 +32,14 @@ fn groups_of(alloc: Global, column: &Series) -> Result<Groups, OutOfMemory>
 }
 
 // For the group of each row 1 where it is this one, else 0.
-fn marks(alloc: Global, numbers: &[IdxSize], group: usize) -> Result<Vec<Option<u8>>, OutOfMemory>
-    ensures { IfOk result (λ v. v.items ≡ map (λ n. Some (if n == group then 1 else 0)) numbers.now) }
+fn marks(alloc: Global, numbers: &[IdxSize], group: usize) -> Result<Vec<u8>, OutOfMemory>
+    ensures { IfOk result (λ v. v.items ≡ map (λ n. if n == group then 1 else 0) numbers.now) }
 {
-    let cells = numbers
+    let marks = numbers
         .iter()
-        .map(|number| Some(u8::from(*number as usize == group)))
+        .map(|number| u8::from(*number as usize == group))
         .collect(alloc)?;
-    Ok(cells)
+    Ok(marks)
 }
 
 // The name of a column, the separator and the text of a value.
@@ -73,9 +73,9 @@ fn mark_column(
     requires { length numbers.now ≤ MAX_ROWS }
     ensures { IfOk result (λ c. plain c ≡ record { name = name; kind = kind.uint8; values = map (mark_in group) numbers.now }) }
 {
-    let cells = marks(alloc, numbers, group)?;
+    let marks = marks(alloc, numbers, group)?;
     let mut chunks = Vec::with_capacity(alloc, 1)?;
-    chunks.push(Cells { cells })?;
+    chunks.push(Cells::from_vec(alloc, marks))?;
     let series = Series::from_parts(name, mark_type(), Chunks::UInt8Type(chunks), IsSorted::Not);
     Ok(series.into_column())
 }

@@ -50,19 +50,19 @@ fn cells_of<N: ReadCell>(
     items: &Vec<Value>,
 ) -> Result<Option<Cells<N>>, OutOfMemory>
     requires { physical (kind_of dtype.now) ≡ N.stored }
-    ensures cells { IfOk result (λ o. option_map (λ c. map (or_null N.shows) c.cells.items) o
+    ensures cells { IfOk result (λ o. option_map (λ c. map (or_null N.shows) c) o
         ≡ each (cell_in (kind_of dtype.now)) (map view items.now.items)) }
     ensures typed { IfOk result (λ o. IfSome o
-        (λ c. All (HasType (kind_of dtype.now)) (map (or_null N.shows) c.cells.items))) }
+        (λ c. All (HasType (kind_of dtype.now)) (map (or_null N.shows) c))) }
 {
-    let mut cells = Vec::with_capacity(alloc, items.len())?;
+    let mut cells = Cells::with_capacity(alloc, items.len())?;
     for item in items {
         let Some(cell) = cell_of(alloc, dtype, item)? else {
             return Ok(None);
         };
         cells.push(cell)?;
     }
-    Ok(Some(Cells { cells }))
+    Ok(Some(cells))
 }
 
 fn are_null(items: &[Value]) -> bool

@@ -1,5 +1,5 @@
 -- Columns of a number for each row.
-use Rattle.std.proofs.Common.{◌≡◌, ◌∙◌, ℕ, ◌<◌, ℤ, pos, List, [], length, map, get_or, Option, Some, ap, sym, subst, arith, rules}
+use Rattle.std.proofs.Common.{◌≡◌, ◌∙◌, ℕ, ◌<◌, ℤ, pos, List, [], length, map, get_or, ap, sym, subst, arith, rules}
 use Rattle.std.specs.List.{All}
 use Rattle.std.proofs.lemmas.List.FromFn.{length-map-range_with_len, get_or-map-range_with_len}
 use Rattle.tb_value.specs.Datum.{Datum, int}
@@ -8,7 +8,6 @@ use Rattle.tb_value.specs.Names.{Name}
 use Rattle.tb_value.specs.Pairs.{row_numbers}
 use Rattle.tb_value.specs.Typed.{HasType}
 use Rattle.tb_value.proofs.Loops.{map-map}
-use Rattle.tb_chunk.specs.Chunk.{or_null}
 use Rattle.tb_chunk.specs.Col.{Col}
 use Rattle.tb_frame.specs.Table.{IsTyped, plain}
 use Rattle.tb_sample.specs.Sample.{numbers}
@@ -23,15 +22,15 @@ numbers_typed name f n h = λ k d low.
     let at : get_or (map (λ i. int (pos (f i))) (row_numbers n)) k d ≡ int (pos (f k)) = get_or-map-range_with_len (λ i. int (pos (f i))) 0 n k k d in_n (omega arith) in
     subst (HasType int64) (sym at) (number_typed (f k) (h k in_n))
 
-module _ (f : ℕ → ℕ) (n : ℕ) (cells : List (Option ℤ)) (are : cells ≡ map (λ i. Some (pos (f i))) (row_numbers n)) where
-  shown : map (or_null int) cells ≡ map (λ i. int (pos (f i))) (row_numbers n)
-  shown = ap (map (or_null int)) are ∙ map-map (or_null int) (λ i. Some (pos (f i))) (row_numbers n)
+module _ (f : ℕ → ℕ) (n : ℕ) (zs : List ℤ) (are : zs ≡ map (λ i. pos (f i)) (row_numbers n)) where
+  shown : map int zs ≡ map (λ i. int (pos (f i))) (row_numbers n)
+  shown = ap (map int) are ∙ map-map int (λ i. pos (f i)) (row_numbers n)
 
-  pub long : length cells ≡ n
-  long = ap length are ∙ length-map-range_with_len (λ i. Some (pos (f i))) 0 n
+  pub long : length zs ≡ n
+  long = ap length are ∙ length-map-range_with_len (λ i. pos (f i)) 0 n
 
-  pub cells_typed : ((i : ℕ) → i < n → f i < 9223372036854775808) → All (HasType int64) (map (or_null int) cells)
-  cells_typed h = subst (λ (vs : List Datum). All (HasType int64) vs) (sym shown) (numbers_typed [] f n h)
+  pub are_typed : ((i : ℕ) → i < n → f i < 9223372036854775808) → All (HasType int64) (map int zs)
+  are_typed h = subst (λ (vs : List Datum). All (HasType int64) vs) (sym shown) (numbers_typed [] f n h)
 
-  pub column_is : (name : Name) (c : Col) → plain c ≡ record { name = name; kind = int64; values = map (or_null int) cells } → plain c ≡ numbers name f n
+  pub column_is : (name : Name) (c : Col) → plain c ≡ record { name = name; kind = int64; values = map int zs } → plain c ≡ numbers name f n
   column_is name c e = e ∙ ap (λ (vs : List Datum). record { name = name; kind = int64; values = vs }) shown

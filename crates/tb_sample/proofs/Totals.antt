@@ -8,7 +8,6 @@ use Rattle.std.proofs.lemmas.List.Sums.{fold-append}
 use Rattle.tb_value.specs.Datum.{Datum, int}
 use Rattle.tb_chunk.specs.Chunk.{or_null}
 use Rattle.tb_chunk.specs.Col.{flat}
-use Rattle.tb_chunk.specs.declared.chunk.Cells.{Cells}
 use Rattle.tb_agg.specs.Aggregates.{number, total}
 
 from : (a : ℤ) (zs : List ℤ) → fold ◌+ℤ◌ a zs ≡ a +ℤ fold ◌+ℤ◌ (pos 0) zs
@@ -32,14 +31,14 @@ total_more cells i low =
     ∙ ap (λ (z : ℤ). total (map (or_null int) (take i cells)) +ℤ z) (number_of (get_or cells i None))
 
 -- what the cells of a chunk show
-abbrev shown : Cells ℤ → List Datum
-shown c = map (or_null int) c.cells.items
+abbrev shown : List (Option ℤ) → List Datum
+shown c = map (or_null int) c
 
-module _ (chunks : List (Cells ℤ)) (i : ℕ) (chunk : Cells ℤ) (low : i < length chunks) (is : chunk ≡ get_or chunks i chunk) where
+module _ (chunks : List (List (Option ℤ))) (i : ℕ) (chunk : List (Option ℤ)) (low : i < length chunks) (is : chunk ≡ get_or chunks i chunk) where
   -- the values of one chunk more
   values_more : flat (map shown (take (i + 1) chunks)) ≡ flat (map shown (take i chunks)) ++ shown chunk
   values_more =
-      ap (λ (cs : List (Cells ℤ)). flat (map shown cs)) (take_more chunks i chunk low)
+      ap (λ (cs : List (List (Option ℤ))). flat (map shown cs)) (take_more chunks i chunk low)
       ∙ ap flat (map-append shown (take i chunks) (get_or chunks i chunk ∷ []))
       ∙ flat_map-append (λ (vs : List Datum). vs) (map shown (take i chunks)) (shown (get_or chunks i chunk) ∷ [])
       ∙ ap (λ (vs : List Datum). flat (map shown (take i chunks)) ++ vs) (append-nil (shown (get_or chunks i chunk)) ∙ ap shown (sym is))
@@ -47,18 +46,18 @@ module _ (chunks : List (Cells ℤ)) (i : ℕ) (chunk : Cells ℤ) (low : i < le
   pub total_of_more : total (flat (map shown (take (i + 1) chunks))) ≡ total (flat (map shown (take i chunks))) +ℤ total (shown chunk)
   total_of_more = ap total values_more ∙ total-append (flat (map shown (take i chunks))) (shown chunk)
 
-  pub length_of_more : length (flat (map shown (take (i + 1) chunks))) ≡ length (flat (map shown (take i chunks))) + length chunk.cells.items
+  pub length_of_more : length (flat (map shown (take (i + 1) chunks))) ≡ length (flat (map shown (take i chunks))) + length chunk
   length_of_more =
       let long = ap length values_more in
       let both = length-append (flat (map shown (take i chunks))) (shown chunk) in
-      let one = length-map chunk.cells.items (or_null int) in
+      let one = length-map chunk (or_null int) in
       omega (arith, long, both, one)
 
   -- which are some of all values
   pub length_within : length (flat (map shown (take (i + 1) chunks))) ≤ length (flat (map shown chunks))
   length_within =
       let parts : flat (map shown chunks) ≡ flat (map shown (take (i + 1) chunks)) ++ flat (map shown (drop (i + 1) chunks)) =
-      ap (λ (cs : List (Cells ℤ)). flat (map shown cs)) (sym (take-append-drop (i + 1) chunks))
+      ap (λ (cs : List (List (Option ℤ))). flat (map shown cs)) (sym (take-append-drop (i + 1) chunks))
       ∙ ap flat (map-append shown (take (i + 1) chunks) (drop (i + 1) chunks))
       ∙ flat_map-append (λ (vs : List Datum). vs) (map shown (take (i + 1) chunks)) (map shown (drop (i + 1) chunks))
       in

@@ -1,5 +1,5 @@
 //! What is told of a table: its height, and the sums of two columns.
-ghost use Rattle.std.specs.Prelude.{◌≡◌, ◌≤◌, IfOk, codes, length, map, string_bytes};
+ghost use Rattle.std.specs.Prelude.{◌≡◌, ◌<◌, ◌≤◌, IfOk, None, codes, get_or, length, map, pos, string_bytes, unwrap_or};
 ghost use Rattle.std.specs.List.{find};
 ghost use Rattle.std.specs.Option.{option_copied};
 ghost use Rattle.tb_value.specs.Datum.{int};
@@ -28,25 +28,36 @@ pub struct Summary {
     pub w_sum: i128,
 }
 
-fn cells_sum(cells: &[Option<i64>]) -> i128
+// The number of a row, 0 where there is none.
+fn number_at(cells: &Cells<i64>, row: usize) -> i64
+    requires { row < length cells.now }
+    ensures { result ≡ unwrap_or (get_or cells.now row None) (pos 0) }
+{
+    match cells.get(row) {
+        Some(number) => *number,
+        None => 0,
+    }
+}
+
+fn cells_sum(cells: &Cells<i64>) -> i128
     requires { length cells.now ≤ MAX_ROWS }
     ensures sum { result ≡ total (map (or_null int) cells.now) }
     ensures near { IsSumOf (length cells.now) result }
 {
     let mut sum = 0;
-    for cell in cells {
-        sum += i128::from(cell.unwrap_or(0));
+    for row in 0..cells.len() {
+        sum += i128::from(number_at(cells, row));
     }
     sum
 }
 
 fn chunks_sum(chunks: &[Cells<i64>]) -> i128
-    requires { length (flat (map (λ c. map (or_null int) c.cells.items) chunks.now)) ≤ MAX_ROWS }
-    ensures { result ≡ total (flat (map (λ c. map (or_null int) c.cells.items) chunks.now)) }
+    requires { length (flat (map (λ c. map (or_null int) c) chunks.now)) ≤ MAX_ROWS }
+    ensures { result ≡ total (flat (map (λ c. map (or_null int) c) chunks.now)) }
 {
     let mut sum = 0;
     for chunk in chunks {
-        sum += cells_sum(&chunk.cells);
+        sum += cells_sum(chunk);
     }
     sum
 }

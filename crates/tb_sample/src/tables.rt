@@ -1,12 +1,11 @@
 //! The tables of the sample.
-ghost use Rattle.std.specs.Prelude.{◌≡◌, ◌<◌, ◌≤◌, ◌*◌, ◌%◌, ◌∷◌, [], IfOk, None, Some, length, map, pos};
+ghost use Rattle.std.specs.Prelude.{◌≡◌, ◌<◌, ◌≤◌, ◌*◌, ◌%◌, ◌∷◌, [], IfOk, None, length, map, pos};
 ghost use Rattle.std.specs.List.{All};
 ghost use Rattle.tb_value.specs.Datum.{int};
 ghost use Rattle.tb_value.specs.Kind.{int64};
 ghost use Rattle.tb_value.specs.Pairs.{row_numbers};
 ghost use Rattle.tb_value.specs.SeeKind.{kind_of};
 ghost use Rattle.tb_value.specs.Typed.{HasType};
-ghost use Rattle.tb_chunk.specs.Chunk.{or_null};
 ghost use Rattle.tb_frame.specs.Frame.{frame_refusal};
 ghost use Rattle.tb_frame.specs.Table.{plain, table_of};
 ghost use Rattle.tb_sample.specs.Sample.{left_table, right_table};
@@ -17,20 +16,18 @@ use tb_store::{Cells, Chunks, Column, IsSorted, Series};
 use tb_value::{DataType, MAX_ROWS, OutOfMemory, PlSmallStr, only_memory};
 
 // The numbers of the rows.
-fn row_numbers(alloc: Global, rows: u32) -> Result<Vec<Option<i64>>, OutOfMemory>
-    ensures { IfOk result (λ v. v.items ≡ map (λ i. Some (pos i)) (row_numbers rows)) }
+fn row_numbers(alloc: Global, rows: u32) -> Result<Vec<i64>, OutOfMemory>
+    ensures { IfOk result (λ v. v.items ≡ map (λ i. pos i) (row_numbers rows)) }
 {
-    let numbers = (0..rows).map(|row| Some(i64::from(row))).collect(alloc)?;
+    let numbers = (0..rows).map(|row| i64::from(row)).collect(alloc)?;
     Ok(numbers)
 }
 
 // Three times the number of each row.
-fn triples(alloc: Global, rows: u32) -> Result<Vec<Option<i64>>, OutOfMemory>
-    ensures { IfOk result (λ v. v.items ≡ map (λ i. Some (pos (3 * i))) (row_numbers rows)) }
+fn triples(alloc: Global, rows: u32) -> Result<Vec<i64>, OutOfMemory>
+    ensures { IfOk result (λ v. v.items ≡ map (λ i. pos (3 * i)) (row_numbers rows)) }
 {
-    let numbers = (0..rows)
-        .map(|row| Some(3 * i64::from(row)))
-        .collect(alloc)?;
+    let numbers = (0..rows).map(|row| 3 * i64::from(row)).collect(alloc)?;
     Ok(numbers)
 }
 
@@ -42,13 +39,11 @@ fn right_key(row: u32, rows: u32) -> i64
 }
 
 // Seven times the number of each row, modulo the number of rows.
-fn right_keys(alloc: Global, rows: u32) -> Result<Vec<Option<i64>>, OutOfMemory>
+fn right_keys(alloc: Global, rows: u32) -> Result<Vec<i64>, OutOfMemory>
     requires { 0 < rows }
-    ensures { IfOk result (λ v. v.items ≡ map (λ j. Some (pos ((7 * j) % rows))) (row_numbers rows)) }
+    ensures { IfOk result (λ v. v.items ≡ map (λ j. pos ((7 * j) % rows)) (row_numbers rows)) }
 {
-    let numbers = (0..rows)
-        .map(|row| Some(right_key(row, rows)))
-        .collect(alloc)?;
+    let numbers = (0..rows).map(|row| right_key(row, rows)).collect(alloc)?;
     Ok(numbers)
 }
 
@@ -59,14 +54,14 @@ fn number_type() -> DataType
 }
 
 // The column of this name and these numbers, in one chunk.
-fn number_column(alloc: Global, name: &str, cells: Vec<Option<i64>>) -> Result<Column, OutOfMemory>
-    requires few { length cells.items ≤ MAX_ROWS }
-    requires typed { All (HasType int64) (map (or_null int) cells.items) }
-    ensures { IfOk result (λ c. plain c ≡ record { name = name.now; kind = int64; values = map (or_null int) cells.items }) }
+fn number_column(alloc: Global, name: &str, numbers: Vec<i64>) -> Result<Column, OutOfMemory>
+    requires few { length numbers.items ≤ MAX_ROWS }
+    requires typed { All (HasType int64) (map int numbers.items) }
+    ensures { IfOk result (λ c. plain c ≡ record { name = name.now; kind = int64; values = map int numbers.items }) }
 {
     let name = PlSmallStr::from_str(alloc, name)?;
     let mut chunks = Vec::with_capacity(alloc, 1)?;
-    chunks.push(Cells { cells })?;
+    chunks.push(Cells::from_vec(alloc, numbers))?;
     let series = Series::from_parts(
         name,
         number_type(),

@@ -71,15 +71,15 @@ fn cells_of<N: Cell>(
     column: &Series,
 ) -> Result<Cells<N>, OutOfMemory>
     requires { All (Fits N.kind) (cast_values (kind_of dtype.now) column.now) }
-    ensures { IfOk result (λ c. map (or_null N.shows) c.cells.items ≡ cast_values (kind_of dtype.now) column.now) }
+    ensures { IfOk result (λ c. map (or_null N.shows) c ≡ cast_values (kind_of dtype.now) column.now) }
 {
     let class = class_of(dtype);
     let rows = column.len();
-    let mut cells = Vec::with_capacity(alloc, rows)?;
+    let mut cells = Cells::with_capacity(alloc, rows)?;
     for row in 0..rows {
         cells.push(cell_of(alloc, class, column.get(row))?)?;
     }
-    Ok(Cells { cells })
+    Ok(cells)
 }
 
 // Appends a text.

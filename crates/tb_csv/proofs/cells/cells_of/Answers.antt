@@ -23,6 +23,6 @@ loop-i-preserved g c =
     let some = read_some (or_null g.N.Cell.shows) c.args.field_type _ c.cell_in.result c.in-Some.cell c.cell_in.ensures.value c.in-Some.is in
     record {
       fault = c.loop-i.invariant.fault ∙ fault_more c.args.name.now c.args.field_type (c.loop-i.i + 1) c.args.fields.now c.loop-i.i _ c.loop-i-test.true some.0;
-      cells = rw c.in_ok-push.ensures.items (cells_more g.N.Cell.shows c.args.field_type c.args.fields.now c.loop-i.i _ c.loop-i.cells.items c.in-Some.cell c.loop-i-test.true some.1 c.loop-i.invariant.cells);
-      typed = rw (c.in_ok-push.ensures.items, map_push) (All-push (HasType (kind_at c.args.field_type)) _ _ c.loop-i.invariant.typed (rw c.in-Some.is at c.cell_in.ensures.typed));
+      cells = rw c.in_ok-push.ensures.ok (cells_more g.N.Cell.shows c.args.field_type c.args.fields.now c.loop-i.i _ c.loop-i.cells c.in-Some.cell c.loop-i-test.true some.1 c.loop-i.invariant.cells);
+      typed = rw (c.in_ok-push.ensures.ok, map_push) (All-push (HasType (kind_at c.args.field_type)) _ _ c.loop-i.invariant.typed (rw c.in-Some.is at c.cell_in.ensures.typed));
     }

@@ -1,33 +1,33 @@
-use Rattle.std.proofs.Common.{◌≡◌, ◌∙◌, ◌∷◌, [], ◌++◌, ℕ, List, Vec, Global, Option, Some, ◌==◌, if◌then◌else◌, arith, map, ap, pos, refl}
+use Rattle.std.proofs.Common.{◌≡◌, ◌∙◌, ◌∷◌, [], ◌++◌, ℕ, List, Option, Some, ◌==◌, if◌then◌else◌, arith, map, ap, pos, refl}
 use Rattle.std.proofs.lemmas.List.{append-nil, length-map}
 use Rattle.tb_value.specs.Datum.{Datum, int}
 use Rattle.tb_value.specs.Kind as kind
 use Rattle.tb_chunk.specs.Chunk.{or_null}
 use Rattle.tb_chunk.specs.Col.{flat}
-use Rattle.tb_chunk.specs.declared.chunk.Cells.{Cells}
 use Rattle.tb_chunk.proofs.OneChunk.{one_chunk_is_column}
 use Rattle.tb_frame.specs.Table.{plain}
 use Rattle.tb_dummies.specs.Lent.{mark_in}
-use Rattle.tb_dummies.proofs.Made.{cells_shown, marks_typed}
+use Rattle.tb_dummies.proofs.Made.{marks_shown, marks_typed}
 use Rattle.tb_dummies.proofs.columns.mark_column.Goals as goal
 
 -- one chunk of marks
-chunk_is : (p : ℕ) (numbers : List ℕ) (cells : Vec (Option ℕ) Global) (none more : List (Cells ℕ)) → cells.items ≡ map (λ n. Some (if n == p then 1 else 0)) numbers → none ≡ [] → more ≡ none ++ record { cells = cells } ∷ []
-    → map (λ (b : Cells ℕ). map (or_null (λ n. int (pos n))) b.cells.items) more ≡ map (mark_in p) numbers ∷ []
-chunk_is p numbers cells none more e empty put =
-    ap (map (λ (b : Cells ℕ). map (or_null (λ n. int (pos n))) b.cells.items)) (put ∙ ap (λ (l : List (Cells ℕ)). l ++ record { cells = cells } ∷ []) empty) ∙ ap (λ (vs : List Datum). vs ∷ []) (cells_shown p numbers cells.items e)
+chunk_is : (p : ℕ) (numbers marks : List ℕ) (cells : List (Option ℕ)) (none more : List (List (Option ℕ))) → marks ≡ map (λ n. if n == p then 1 else 0) numbers → cells ≡ map Some marks → none ≡ [] → more ≡ none ++ cells ∷ []
+    → map (λ (c : List (Option ℕ)). map (or_null (λ n. int (pos n))) c) more ≡ map (mark_in p) numbers ∷ []
+chunk_is p numbers marks cells none more e are empty put =
+    ap (map (λ (c : List (Option ℕ)). map (or_null (λ n. int (pos n))) c)) (put ∙ ap (λ (l : List (List (Option ℕ))). l ++ cells ∷ []) empty ∙ ap (λ (c : List (Option ℕ)). c ∷ []) are)
+    ∙ ap (λ (vs : List Datum). vs ∷ []) (marks_shown p numbers marks e)
 
 pub from_parts-series-requires-clause-column : goal.from_parts-series-requires-clause-column
 from_parts-series-requires-clause-column c =
     let p = c.args.group in
     let numbers = c.args.numbers.now in
     one_chunk_is_column _ kind.uint8 (map (mark_in p) numbers) (omega (arith, length-map numbers (mark_in p), c.requires)) (marks_typed p numbers) c.mark_type.ensures
-    (chunk_is p numbers c.in_ok-cells.cells c.in_ok-chunks.chunks.items c.push.new.self.items c.in_ok-cells.ensures c.in_ok-chunks.ensures.items c.in_ok-push.ensures.items) refl
+    (chunk_is p numbers c.in_ok-marks.marks.items c.from_vec.result c.in_ok-chunks.chunks.items c.push.new.self.items c.in_ok-marks.ensures c.from_vec.ensures c.in_ok-chunks.ensures.items c.in_ok-push.ensures.items) refl
 
 pub returns : goal.returns
 returns c =
     let p = c.args.group in
     let numbers = c.args.numbers.now in
-    let chunks = chunk_is p numbers c.in_ok-cells.cells c.in_ok-chunks.chunks.items c.push.new.self.items c.in_ok-cells.ensures c.in_ok-chunks.ensures.items c.in_ok-push.ensures.items in
+    let chunks = chunk_is p numbers c.in_ok-marks.marks.items c.from_vec.result c.in_ok-chunks.chunks.items c.push.new.self.items c.in_ok-marks.ensures c.from_vec.ensures c.in_ok-chunks.ensures.items c.in_ok-push.ensures.items in
     ap plain (c.into_column.ensures ∙ c.from_parts-series.ensures) ∙ (λ t. record { name = c.args.name; kind = c.mark_type.ensures t; values = flat (chunks t) })
     ∙ ap (λ (l : List Datum). record { name = c.args.name; kind = kind.uint8; values = l }) (append-nil (map (mark_in p) numbers))

@@ -18,9 +18,9 @@ returns-in_default-clause-cells g c =
 pub loop-item-preserved : goal.loop-item-preserved
 loop-item-preserved g c = record {
   walked =
-      rw (c.in_ok-push.ensures.items, map_push)
+      rw (c.in_ok-push.ensures.ok, map_push)
       (Walk-more view (cell_in (kind_of c.args.dtype.now)) _ _ _ _ _ c.loop-item-test.true c.item-item.is (sym c.in_ok-cell.ensures.value ∙ ap (option_map (or_null g.N.Cell.shows)) c.in-Some.is) c.loop-item.invariant.walked);
-  typed = rw (c.in_ok-push.ensures.items, map_push) (All-push (HasType (kind_of c.args.dtype.now)) _ _ c.loop-item.invariant.typed (rw c.in-Some.is at c.in_ok-cell.ensures.typed));
+  typed = rw (c.in_ok-push.ensures.ok, map_push) (All-push (HasType (kind_of c.args.dtype.now)) _ _ c.loop-item.invariant.typed (rw c.in-Some.is at c.in_ok-cell.ensures.typed));
 }
 
 pub returns-clause-cells : goal.returns-clause-cells

@@ -10,6 +10,6 @@ use Rattle.tb_json.proofs.read_arrays.cells_of.Given as goal
 
 abbrev pub invariant-loop-item : goal.invariant-loop-item
 invariant-loop-item g l = record {
-  walked : Walk view (cell_in (kind_of l.dtype)) l.item-items (map (or_null g.N.Cell.shows) l.cells.items) l.item-index;
-  typed : All (HasType (kind_of l.dtype)) (map (or_null g.N.Cell.shows) l.cells.items);
+  walked : Walk view (cell_in (kind_of l.dtype)) l.item-items (map (or_null g.N.Cell.shows) l.cells) l.item-index;
+  typed : All (HasType (kind_of l.dtype)) (map (or_null g.N.Cell.shows) l.cells);
 }

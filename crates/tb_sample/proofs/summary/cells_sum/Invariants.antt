@@ -5,8 +5,8 @@ use Rattle.tb_agg.specs.Aggregates.{total}
 use Rattle.tb_sample.specs.Bounds.{IsSumOf}
 use Rattle.tb_sample.proofs.summary.cells_sum.Given as goal
 
-abbrev pub invariant-loop-cell : goal.invariant-loop-cell
-invariant-loop-cell l = record {
-  sum : l.sum ≡ total (map (or_null int) (take l.cell-index l.cells));
-  near : IsSumOf l.cell-index l.sum;
+abbrev pub invariant-loop-row : goal.invariant-loop-row
+invariant-loop-row l = record {
+  sum : l.sum ≡ total (map (or_null int) (take l.row l.cells));
+  near : IsSumOf l.row l.sum;
 }

@@ -8,6 +8,6 @@ use Rattle.tb_sample.proofs.summary.chunks_sum.Given as goal
 
 abbrev pub invariant-loop-chunk : goal.invariant-loop-chunk
 invariant-loop-chunk l = record {
-  sum : l.sum ≡ total (flat (map (λ c. map (or_null int) c.cells.items) (take l.chunk-index l.chunks)));
-  near : IsSumOf (length (flat (map (λ c. map (or_null int) c.cells.items) (take l.chunk-index l.chunks)))) l.sum;
+  sum : l.sum ≡ total (flat (map (λ c. map (or_null int) c) (take l.chunk-index l.chunks)));
+  near : IsSumOf (length (flat (map (λ c. map (or_null int) c) (take l.chunk-index l.chunks)))) l.sum;
 }

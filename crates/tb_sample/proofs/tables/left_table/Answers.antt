@@ -3,17 +3,17 @@ use Rattle.std.specs.Prelude.{codes}
 use Rattle.std.proofs.lemmas.Result.{IfOk-weaker}
 use Rattle.tb_frame.specs.Table.{table_of}
 use Rattle.tb_sample.specs.Sample.{left_table}
-use Rattle.tb_sample.proofs.Numbers.{cells_typed, column_is, long}
+use Rattle.tb_sample.proofs.Numbers.{are_typed, column_is, long}
 use Rattle.tb_sample.proofs.tables.left_table.Goals as goal
 
 pub number_column-requires-clause-few : goal.number_column-requires-clause-few
 number_column-requires-clause-few c = omega (arith, long (λ i. i) c.args.rows _ c.in_ok-row_numbers.ensures, c.requires)
 
 pub number_column-requires-clause-typed : goal.number_column-requires-clause-typed
-number_column-requires-clause-typed c = cells_typed (λ i. i) c.args.rows _ c.in_ok-row_numbers.ensures (λ i low. omega (arith, c.requires))
+number_column-requires-clause-typed c = are_typed (λ i. i) c.args.rows _ c.in_ok-row_numbers.ensures (λ i low. omega (arith, c.requires))
 
 pub number_column-requires-2-clause-typed : goal.number_column-requires-2-clause-typed
-number_column-requires-2-clause-typed c = cells_typed (λ i. 3 * i) c.args.rows _ c.in_ok-triples.ensures (λ i low. omega (arith, c.requires))
+number_column-requires-2-clause-typed c = are_typed (λ i. 3 * i) c.args.rows _ c.in_ok-triples.ensures (λ i low. omega (arith, c.requires))
 
 pub returns : goal.returns
 returns c =

@@ -6,4 +6,4 @@ use Rattle.tb_supertype.specs.Cast.{cast}
 use Rattle.tb_supertype.proofs.casting.cells_of.Given as goal
 
 abbrev pub invariant-loop-row : goal.invariant-loop-row
-invariant-loop-row g l = map (or_null g.N.Cell.shows) l.cells.items ≡ map (cast (kind_of l.dtype)) (take l.row (values l.column))
+invariant-loop-row g l = map (or_null g.N.Cell.shows) l.cells ≡ map (cast (kind_of l.dtype)) (take l.row (values l.column))
