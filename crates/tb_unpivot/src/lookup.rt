@@ -8,6 +8,7 @@ ghost use Rattle.tb_value.specs.declared.error.PolarsError.TheVariants.{InvalidO
 ghost use Rattle.tb_chunk.specs.Col.{Col};
 ghost use Rattle.tb_chunk.specs.Lent.{lent_columns};
 ghost use Rattle.tb_frame.specs.Frame.{selected, without_names};
+ghost use Rattle.tb_frame.specs.Refusal.{unknown_key};
 ghost use Rattle.tb_frame.specs.Table.{table_of};
 ghost use Rattle.std.specs.Option.{option_map};
 ghost use Rattle.tb_unpivot.specs.Unpivot.{asked_causes, common_kind, failed_at, no_supertype, on_names, table_causes, too_many_values};
@@ -63,6 +64,18 @@ pub(crate) fn on_names(
         return other_names(alloc, columns, index);
     }
     copies(alloc, on)
+}
+
+// The columns of these names, lent. Refuses the first name that no column has (ColumnNotFound).
+fn named_columns<'a>(
+    alloc: Global,
+    table: &'a DataFrame,
+    names: &[PlSmallStr],
+) -> PolarsResult<Vec<&'a Series>>
+    ensures settles { Settles result (unknown_key (table_of table.now) names.now) }
+    ensures columns { IfOk result (λ v. lent_columns v.items ≡ selected names.now table.now) }
+{
+    lend_columns(alloc, table.get_columns(), names)
 }
 
 // The common type of a type and the column's, or the refusal that there is none.
@@ -132,8 +145,8 @@ fn found<'a>(
     ensures settles { Settles result (first_cause (asked_causes (table_of table.now) (table_of (selected on.now table.now)) on.now index.now)) }
     ensures asked { IfOk result (IsAsked table.now on.now index.now) }
 {
-    let on_columns = lend_columns(alloc, table.get_columns(), on)?;
-    let index_columns = lend_columns(alloc, table.get_columns(), index)?;
+    let on_columns = named_columns(alloc, table, on)?;
+    let index_columns = named_columns(alloc, table, index)?;
     check_repeated(alloc, index)?;
     let dtype = check_columns(alloc, table.height(), &on_columns)?;
     Ok(RequestColumns {
