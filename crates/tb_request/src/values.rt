@@ -29,7 +29,7 @@ fn column_of(alloc: Global, written: WrittenColumn) -> Result<Option<ClaimedColu
     let Some(arrays) = arrays_in(alloc, &dtype, &chunks)? else {
         return Ok(None);
     };
-    match Series::from_arrays(alloc, name, dtype, arrays) {
+    match Series::from_typed(alloc, name, dtype, arrays) {
         Ok(series) => Ok(Some(ClaimedColumn {
             column: series.into_column(),
             flag,
