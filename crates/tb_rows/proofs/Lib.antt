@@ -1,3 +1,4 @@
+pub mod ByCode
 pub mod FirstRows
 pub mod FirstsIn
 pub mod InOrder

@@ -59,3 +59,11 @@ leader test n j = position_or_len (λ i. test i j) (row_numbers n)
 pub record AreLeaders (test : ℕ → ℕ → Bool) (n : ℕ) (leaders : List ℕ) : Type 0 where
   pub count : length leaders ≡ n
   pub each : (j : ℕ) → j < n → slice_index_or leaders j 0 ≡ leader test n j
+
+-- whether two of the rows have one code
+abbrev pub same_code : List CodedRow → ℕ → ℕ → Bool
+same_code rows i j = (slice_index_or rows i no_row).code == (slice_index_or rows j no_row).code
+
+-- the first n rows have the values of their leaders
+abbrev pub AreAsLed : List (Bor Col) → List CodedRow → List ℕ → ℕ → Type 0
+AreAsLed cs rows leaders n = (j : ℕ) → j < n → same_at cs (slice_index_or rows (slice_index_or leaders j 0) no_row).row (slice_index_or rows j no_row).row ≡ true

@@ -5,6 +5,7 @@ ghost use Rattle.tb_rows.specs.Fields.{same_at};
 ghost use Rattle.tb_rows.specs.InGroups.{named_rows};
 ghost use Rattle.tb_rows.specs.Members.{name_of, AreNamed};
 
+use crate::by_code::{are_as_led, code_leaders};
 use crate::fields::{code_at, compare_fields, same_fields};
 use crate::members::RowNames;
 use std::alloc::Global;
@@ -129,9 +130,9 @@ fn leader_at(
     rows[at].place
 }
 
-/// For each place the first one whose row has the same values. Whatever the rows, it takes no more comparisons of rows
-/// than a sort.
-pub(crate) fn leaders(
+// For each place the first one whose row has the same values. Whatever the rows, it takes no more comparisons of rows
+// than a sort.
+fn sorted_leaders(
     alloc: Global,
     columns: &[&Series],
     names: RowNames<'_>,
@@ -150,4 +151,23 @@ pub(crate) fn leaders(
         leaders[rows[at].place as usize] = leader;
     }
     Ok(leaders)
+}
+
+/// For each place the first one whose row has the same values. Rows are told apart by their codes; where rows of other
+/// values have one code, it takes no more comparisons of rows than a sort.
+pub(crate) fn leaders(
+    alloc: Global,
+    columns: &[&Series],
+    names: RowNames<'_>,
+    len: usize,
+) -> Result<Vec<IdxSize>, OutOfMemory>
+    requires { AreNamed names len }
+    ensures { IfOk result (λ v. AreLeaders (named_rows (name_of names.entry) (same_at columns.now)) len v.items) }
+{
+    let rows = coded_rows(alloc, columns, names, len)?;
+    let leaders = code_leaders(alloc, rows.as_slice())?;
+    if are_as_led(columns, rows.as_slice(), leaders.as_slice()) {
+        return Ok(leaders);
+    }
+    sorted_leaders(alloc, columns, names, len)
 }

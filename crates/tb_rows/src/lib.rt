@@ -1,6 +1,7 @@
 //! Rows that have the same values in some columns, in groups, and lists put in an order.
 #![tactic(auto)]
 
+mod by_code;
 mod coded;
 mod fields;
 mod grouping;

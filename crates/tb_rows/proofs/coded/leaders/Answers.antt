@@ -1,45 +1,24 @@
-use Rattle.std.proofs.Common.{◌≡◌, ◌∙◌, ◌+◌, ◌<◌, List, ap, get_or, length, subst, sym, arith, slice_set as set}
-use Rattle.std.specs.Prelude.{if◌then◌else◌}
-use Rattle.std.proofs.lemmas.List.{get_or_default}
-use Rattle.tb_rows.specs.Coded.{coded_cmp, goes_on, no_row, AreSorted}
-use Rattle.tb_rows.specs.Fields.{same_at}
-use Rattle.tb_rows.specs.InGroups.{named_rows}
+use Rattle.std.proofs.Common.{◌≡◌, ◌∙◌, List, ℕ, length, ap, subst, arith}
+use Rattle.std.proofs.lemmas.List.FromFn.{length-map-range_with_len}
+use Rattle.tb_rows.specs.Coded.{coded_row, same_code, AreAsLed, AreLeaders}
 use Rattle.tb_rows.specs.Members.{name_of}
 use Rattle.tb_rows.specs.declared.coded.CodedRow.{CodedRow}
-use Rattle.tb_rows.proofs.Leaders.{are_items, led_all, led_more, AreLed}
+use Rattle.tb_rows.proofs.ByCode.{are_leaders}
+use Rattle.tb_rows.proofs.Numbered.{named_few}
 use Rattle.tb_rows.proofs.coded.leaders.Goals as goal
 
-pub index_mut-requires : goal.index_mut-requires
-index_mut-requires c =
-    let rows = c.sort_rows.new.rows.items in
-    let t = c.loop-at.at in
-    let low : t < length rows = omega arith in
-    let sorted = subst (λ (old : List CodedRow). AreSorted (coded_cmp c.args.columns.now) old rows) c.in_ok-rows.ensures c.in_ok-told.ensures.sorted in
-    let is : c.index.result.now ≡ get_or rows t no_row = c.index.ensures ∙ get_or_default rows t c.index.result.now no_row low in
-    let here = are_items c.args.columns.now (name_of c.args.names) c.args.len rows sorted t no_row low in
-    omega (arith, here.0, ap (λ (r : CodedRow). r.place) is, c.loop-at.invariant.count)
+pub code_leaders-requires : goal.code_leaders-requires
+code_leaders-requires c =
+    let all = ap length (c.as_slice.ensures.value ∙ c.in_ok-rows.ensures) in
+    let long = length-map-range_with_len (coded_row c.args.columns.now (name_of c.args.names)) 0 c.args.len in
+    omega (arith, all, long, named_few c.args.names c.args.len c.requires)
 
-pub loop-at-preserved : goal.loop-at-preserved
-loop-at-preserved c =
+pub returns-then-are_as_led : goal.returns-then-are_as_led
+returns-then-are_as_led c =
     let cs = c.args.columns.now in
-    let name = name_of c.args.names in
-    let rows = c.sort_rows.new.rows.items in
-    let t = c.loop-at.at in
-    let now = c.leader_at-leader.result in
-    let low : t < length rows = omega arith in
-    let sorted = subst (λ (old : List CodedRow). AreSorted (coded_cmp cs) old rows) c.in_ok-rows.ensures c.in_ok-told.ensures.sorted in
-    let is : c.index.result.now ≡ get_or rows t no_row = c.index.ensures ∙ get_or_default rows t c.index.result.now no_row low in
-    let lent : c.as_slice.result.now ≡ rows = c.as_slice.ensures.value in
-    let leads = c.leader_at-leader.ensures ∙ (λ u. if goes_on cs (lent u) t then c.loop-at.leader else (get_or (lent u) t no_row).place) in
-    subst (λ (r : CodedRow). AreLed (named_rows name (same_at cs)) c.args.len rows (t + 1) now (set c.loop-at.leaders.items r.place now)) (sym is)
-    (led_more cs name c.args.len rows sorted t low c.loop-at.leader now c.loop-at.leaders.items leads c.loop-at.invariant)
-
-pub returns : goal.returns
-returns c =
-    let cs = c.args.columns.now in
-    let name = name_of c.args.names in
-    let rows = c.sort_rows.new.rows.items in
-    let sorted = subst (λ (old : List CodedRow). AreSorted (coded_cmp cs) old rows) c.in_ok-rows.ensures c.in_ok-told.ensures.sorted in
-    let done : c.loop-at.at ≡ length rows = omega arith in
-    led_all cs name c.args.len rows sorted c.loop-at.leader c.loop-at.leaders.items
-    (subst (λ t. AreLed (named_rows name (same_at cs)) c.args.len rows t c.loop-at.leader c.loop-at.leaders.items) done c.loop-at.invariant)
+    let rows : List CodedRow = c.in_ok-rows.rows.items in
+    let leaders : List ℕ = c.in_ok-leaders.leaders.items in
+    let led = subst (λ (rs : List CodedRow). AreLeaders (same_code rs) (length rs) leaders) c.as_slice.ensures.value c.in_ok-leaders.ensures in
+    let first = subst (λ (rs : List CodedRow). AreAsLed cs rs c.as_slice-3.result.now (length rs)) c.as_slice-2.ensures.value (c.are_as_led.ensures c.if-are_as_led.true) in
+    let as_led = subst (λ (ls : List ℕ). AreAsLed cs rows ls (length rows)) c.as_slice-3.ensures.value first in
+    are_leaders cs (name_of c.args.names) c.args.len rows c.in_ok-rows.ensures leaders led as_led

@@ -2,7 +2,7 @@ use Rattle.tb_rows.specs.Fields.{same_at}
 use Rattle.tb_rows.specs.InGroups.{named_rows}
 use Rattle.tb_rows.specs.Members.{name_of}
 use Rattle.tb_rows.proofs.Leaders.{AreLed}
-use Rattle.tb_rows.proofs.coded.leaders.Given as goal
+use Rattle.tb_rows.proofs.coded.sorted_leaders.Given as goal
 
 -- the leaders of the rows so far
 abbrev pub invariant-loop-at : goal.invariant-loop-at
