@@ -11,13 +11,13 @@ use Rattle.tb_value.specs.Typed.{HasType}
 use Rattle.tb_value.specs.declared.limits.TheConstants.{MAX_ROWS}
 use Rattle.tb_chunk.specs.Col.{flat}
 use Rattle.tb_chunk.specs.Fresh.{fresh_run, fresh_runs}
-use Rattle.tb_chunk.specs.Layout.{Filling, placed, begun}
+use Rattle.tb_view.specs.Layout.{Filling, placed, begun}
 use Rattle.tb_chunk.specs.Made.{at_least_one}
-use Rattle.tb_chunk.specs.Texts.{text_of}
-use Rattle.tb_chunk.specs.Whole.{HaveFewBuffers, all_buffers, runs_of}
-use Rattle.tb_chunk.specs.declared.view.View.{View}
+use Rattle.tb_value.specs.Texts.{text_of}
+use Rattle.tb_view.specs.Whole.{HaveFewBuffers, all_buffers, runs_of}
+use Rattle.tb_view.specs.declared.view.View.{View}
 use Rattle.tb_chunk.proofs.Alls.{all_split}
-use Rattle.tb_chunk.proofs.Filled.{placed_fits, placed_passes}
+use Rattle.tb_view.proofs.Filled.{placed_fits, placed_passes}
 
 -- the buffers that are left are those of the next chunk and then the others
 pub buffers_drop : {C : Type 0} (views : C → List (Option View)) (buffers : C → List (List ℕ)) (cs : List C) (i : ℕ) (c : C) → i < length cs → c ≡ get_or cs i c → all_buffers (runs_of views buffers (drop i cs)) ≡ buffers c ++ all_buffers (runs_of views buffers (drop (i + 1) cs))

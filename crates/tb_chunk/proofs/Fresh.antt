@@ -4,10 +4,10 @@ use Rattle.std.specs.List.{fold}
 use Rattle.tb_value.specs.Datum.{Datum, null, string, binary}
 use Rattle.tb_value.specs.See.{datum, data_of}
 use Rattle.tb_value.specs.declared.any_value.AnyValue.{AnyValue}
-use Rattle.tb_chunk.specs.Chunk.{or_null}
-use Rattle.tb_chunk.specs.Layout.{Filling, placed, begun, views_placed, laid}
+use Rattle.tb_cell.specs.Shown.{or_null}
+use Rattle.tb_view.specs.Layout.{Filling, placed, begun, views_placed, laid}
 use Rattle.tb_chunk.specs.Fresh.{fresh_run, no_views}
-use Rattle.tb_chunk.specs.Texts.{text_of}
+use Rattle.tb_value.specs.Texts.{text_of}
 
 -- rows without a text have no view, and nothing is put for them
 no_view : {N : Type 0} (s : Filling) (xs : List N) → views_placed s (map (λ _. None) xs) ≡ map (λ _. None) xs

@@ -31,15 +31,3 @@ value_of_row P xs (Some i) none all within = all i null within
 
 pub All-picked : {R : Type 0} (P : Datum → Type 0) (xs : List Datum) (number : R → Option ℕ) (rows : List R) → P null → All P xs → All (λ r. IsRowOf (length xs) (number r)) rows → All P (map (λ r. value_or_null xs (number r)) rows)
 All-picked P xs number rows none all within = All-map P (λ r. value_or_null xs (number r)) rows (λ k d h. value_of_row P xs (number (get_or rows k d)) none all (within k d h))
-
--- one element from place n on, which is there, and none past the end
-pub one_taken : {X : Type 0} (xs : List X) (n : ℕ) (d : X) → n < length xs → take 1 (drop n xs) ≡ get_or xs n d ∷ []
-one_taken [] n d low = absurd (omega arith)
-one_taken (x ∷ xs) zero d low = refl
-one_taken (x ∷ xs) (suc n) d low = one_taken xs n d (omega arith)
-
-pub none_taken : {X : Type 0} (xs : List X) (n : ℕ) → length xs ≤ n → take 1 (drop n xs) ≡ []
-none_taken [] zero past = refl
-none_taken [] (suc n) past = refl
-none_taken (x ∷ xs) zero past = absurd (omega arith)
-none_taken (x ∷ xs) (suc n) past = none_taken xs n (omega arith)

@@ -5,7 +5,7 @@ use Rattle.tb_value.specs.Kind.{Kind}
 use Rattle.tb_value.specs.declared.sorted.IsSorted.{IsSorted}
 use Rattle.tb_chunk.specs.Col.{Col}
 use Rattle.tb_chunk.specs.Made.{IsOf}
-use Rattle.tb_chunk.specs.Whole.{ViewRun}
+use Rattle.tb_view.specs.Whole.{ViewRun}
 
 -- wherever they stand
 pub is_of : (n : List ℕ) (t : Kind) (cs : List (List Datum)) (f : IsSorted) (rs : List ViewRun) (c : Col) → c ≡ record { name = n; kind = t; chunks = cs; flag = f; runs = rs } → IsOf n t cs f c

@@ -11,9 +11,9 @@ use Rattle.tb_value.specs.declared.any_value.ValueRef.TheVariants as ref
 use Rattle.tb_value.specs.declared.sorted.IsSorted.TheVariants.{Not}
 use Rattle.tb_chunk.specs.Col.{Col, IsColumn, flat, values}
 use Rattle.tb_chunk.specs.Merged.{or_else, merged, merged_run}
-use Rattle.tb_chunk.specs.Moved.{moved}
-use Rattle.tb_chunk.specs.Whole.{ViewRun}
-use Rattle.tb_chunk.specs.declared.view.View.{View}
+use Rattle.tb_view.specs.Moved.{moved}
+use Rattle.tb_view.specs.Whole.{ViewRun}
+use Rattle.tb_view.specs.declared.view.View.{View}
 
 pub length-merged : (xs ys : List Datum) → length xs ≡ length ys → length (merged xs ys) ≡ length xs
 length-merged [] ys h = refl

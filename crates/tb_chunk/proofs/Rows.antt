@@ -11,14 +11,14 @@ use Rattle.tb_value.specs.Datum as value
 use Rattle.tb_value.specs.Kind as kind
 use Rattle.tb_value.specs.See.{datum, data_of}
 use Rattle.tb_value.specs.declared.any_value.AnyValue.{AnyValue}
-use Rattle.tb_chunk.specs.Chunk.{or_null}
-use Rattle.tb_chunk.specs.Fits.{Fits}
-use Rattle.tb_chunk.specs.Flag.{nulls}
-use Rattle.tb_chunk.specs.Texts.{text_of, IsUtf8Row}
-use Rattle.tb_chunk.specs.View.{texts}
-use Rattle.tb_chunk.specs.declared.view.View.{View}
+use Rattle.tb_cell.specs.Shown.{or_null}
+use Rattle.tb_cell.specs.Fits.{Fits}
+use Rattle.tb_cell.specs.Flag.{nulls}
+use Rattle.tb_value.specs.Texts.{text_of, IsUtf8Row}
+use Rattle.tb_view.specs.View.{texts}
+use Rattle.tb_view.specs.declared.view.View.{View}
 use Rattle.tb_chunk.proofs.Fresh.{texts_among}
-use Rattle.tb_chunk.proofs.Nulls.{nulls_of_cells}
+use Rattle.tb_cell.proofs.Nulls.{nulls_of_cells}
 
 -- the texts are all of the values
 string_again : (v : Datum) → Fits kind.string v → or_null string (text_of v) ≡ v

@@ -11,40 +11,24 @@ use Rattle.tb_value.specs.Kind as kind
 use Rattle.tb_value.specs.See.{datum, data_of}
 use Rattle.tb_value.specs.Typed.{HasType}
 use Rattle.tb_value.specs.declared.any_value.AnyValue.{AnyValue}
-use Rattle.tb_chunk.specs.Chunk.{or_null}
-use Rattle.tb_chunk.specs.Fits.{Fits}
+use Rattle.tb_cell.specs.Shown.{or_null}
+use Rattle.tb_cell.specs.Fits.{Fits}
 use Rattle.tb_chunk.specs.Fresh.{no_views}
 use Rattle.tb_chunk.specs.Made.{IsShort, IsTyped}
-use Rattle.tb_chunk.specs.Layout.{Building, begun, built, with_nulls, with_rows}
-use Rattle.tb_chunk.specs.RunLayout.{AreFewRows, AreRunsOf, data_runs, expansion, laid_runs, run_building, text_runs, total_of, with_run}
-use Rattle.tb_chunk.specs.Texts.{text_of}
-use Rattle.tb_chunk.specs.declared.view.View.{View}
+use Rattle.tb_view.specs.Layout.{Building, begun, built, with_nulls, with_rows}
+use Rattle.tb_chunk.specs.RunLayout.{AreFewRows, AreRunsOf, expansion, total_of}
+use Rattle.tb_view.specs.RunViews.{data_runs, laid_runs, run_building, text_runs, with_run}
+use Rattle.tb_value.specs.Texts.{text_of}
+use Rattle.tb_view.specs.declared.view.View.{View}
 use Rattle.tb_chunk.proofs.Alls.{all_split}
-use Rattle.tb_chunk.proofs.Filled.{map-replicate}
-use Rattle.tb_chunk.proofs.Fitting.{null-only}
+use Rattle.tb_view.proofs.Filled.{map-replicate}
+use Rattle.tb_view.proofs.RunViews.{data_more}
+use Rattle.tb_cell.proofs.Fitting.{null-only}
 use Rattle.tb_chunk.proofs.Lists.{replicate-nulls}
 
 -- what is left is the next count and then what is left after it
 pub total_drop : {A : Type 0} (rs : List (A × ℕ)) (i : ℕ) (r : A × ℕ) → i < length rs → r ≡ get_or rs i r → total_of (drop i rs) ≡ r.1 + total_of (drop (i + 1) rs)
 total_drop rs i r low is = sum_by-drop_more (λ s. s.1) rs i r low ∙ ap (λ s. s.1 + total_of (drop (i + 1) rs)) (sym is)
-
--- a run of some rows puts its text, and one without a text puts none
-pub run_of_text : (b : Building) (t : List ℕ) (n : ℕ) → 0 < n → with_run b (Some t, n) ≡ with_rows b t n
-run_of_text b t zero some = absurd (omega arith)
-run_of_text b t (suc n) some = refl
-
-pub run_of_none : (b : Building) (n : ℕ) → 0 < n → with_run b (None, n) ≡ with_nulls b n
-run_of_none b zero some = absurd (omega arith)
-run_of_none b (suc n) some = refl
-
--- the runs so far with the next one
-data_more : (rs : List (AnyValue × ℕ)) (n : ℕ) (r : AnyValue × ℕ) → n < length rs → r ≡ get_or rs n r → data_runs (take (n + 1) rs) ≡ data_runs (take n rs) ++ (datum r.0, r.1) ∷ []
-data_more rs n r low is = map_more (λ (s : AnyValue × ℕ). (datum s.0, s.1)) rs n r low ∙ ap (λ (s : AnyValue × ℕ). data_runs (take n rs) ++ (datum s.0, s.1) ∷ []) (sym is)
-
-pub building_more : (rs : List (AnyValue × ℕ)) (n : ℕ) (r : AnyValue × ℕ) → n < length rs → r ≡ get_or rs n r → with_run (run_building (text_runs (data_runs (take n rs)))) (text_of (datum r.0), r.1) ≡ run_building (text_runs (data_runs (take (n + 1) rs)))
-building_more rs n r low is =
-    let t : text_runs (data_runs (take (n + 1) rs)) ≡ text_runs (data_runs (take n rs)) ++ (text_of (datum r.0), r.1) ∷ [] = ap text_runs (data_more rs n r low is) ∙ map_push (λ (s : Datum × ℕ). (text_of s.0, s.1)) (data_runs (take n rs)) (datum r.0, r.1) in
-    sym (ap run_building t ∙ fold_push with_run (built []) (text_runs (data_runs (take n rs))) (text_of (datum r.0), r.1))
 
 pub expansion_more : (rs : List (AnyValue × ℕ)) (n : ℕ) (r : AnyValue × ℕ) → n < length rs → r ≡ get_or rs n r → expansion (data_runs (take (n + 1) rs)) ≡ expansion (data_runs (take n rs)) ++ replicate r.1 (datum r.0)
 expansion_more rs n r low is =

@@ -2,17 +2,17 @@
 use Rattle.std.proofs.Common.{arith, ◌≤◌, ◌∙◌, ℕ, List, [], Option, None, length, map, replicate, sym, pos}
 use Rattle.std.proofs.lemmas.List.{length-map, length-replicate}
 use Rattle.tb_value.specs.Datum.{Datum, null, boolean, int, string, binary, list, struct, items_of}
-use Rattle.tb_chunk.specs.Chunk.{or_null}
+use Rattle.tb_cell.specs.Shown.{or_null}
 use Rattle.tb_chunk.specs.Fresh.{no_views}
 use Rattle.tb_chunk.specs.Runs.{chunk_runs}
 use Rattle.tb_chunk.specs.Seen.{chunk_lists}
-use Rattle.tb_chunk.specs.View.{row_text, texts}
-use Rattle.tb_chunk.specs.Whole.{AreViewed, HaveFewBuffers, runs_of}
+use Rattle.tb_view.specs.View.{row_text, texts}
+use Rattle.tb_view.specs.Whole.{AreViewed, HaveFewBuffers, runs_of}
 use Rattle.tb_chunk.specs.declared.chunks.Chunks.{Chunks}
 use Rattle.tb_chunk.specs.declared.chunks.Chunks.TheVariants.{BooleanType, Int8Type, Int16Type, Int32Type, Int64Type, Int128Type, UInt8Type, UInt16Type, UInt32Type, UInt64Type, StringType, BinaryType, ListType, StructType, Null}
-use Rattle.tb_chunk.specs.declared.view.View.{View}
+use Rattle.tb_view.specs.declared.view.View.{View}
 use Rattle.tb_chunk.proofs.Few.{one_few}
-use Rattle.tb_chunk.proofs.Whole.{runs_viewed}
+use Rattle.tb_view.proofs.Whole.{runs_viewed}
 
 -- cells of type N, which a chunk of type C holds
 cells_viewed : {C N : Type 0} (cells : C → List (Option N)) (shows : N → Datum) (cs : List C) → AreViewed (map (λ c. map (or_null shows) (cells c)) cs) (map (λ c. no_views (cells c)) cs)

@@ -9,10 +9,10 @@ use Rattle.tb_value.specs.Datum.{Datum, string}
 use Rattle.tb_value.specs.Kind as kind
 use Rattle.tb_value.specs.Kind.{Kind}
 use Rattle.tb_value.specs.Typed.{HasType}
-use Rattle.tb_chunk.specs.Chunk.{or_null}
-use Rattle.tb_chunk.specs.Layout.{Building}
-use Rattle.tb_chunk.specs.Texts.{IsUtf8Row}
-use Rattle.tb_chunk.proofs.Filled.{map-replicate}
+use Rattle.tb_cell.specs.Shown.{or_null}
+use Rattle.tb_view.specs.Layout.{Building}
+use Rattle.tb_value.specs.Texts.{IsUtf8Row}
+use Rattle.tb_view.proofs.Filled.{map-replicate}
 
 abbrev pub AreTyped : Kind → (List ℕ → Datum) → List (Option (List ℕ)) → Type 0
 AreTyped t shows rows = All (HasType t) (map (or_null shows) rows)

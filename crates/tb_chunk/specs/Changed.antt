@@ -5,8 +5,8 @@ use Rattle.tb_value.specs.declared.sorted.IsSorted.TheVariants.{Not}
 use Rattle.tb_chunk.specs.Col.{Col, values}
 use Rattle.tb_chunk.specs.Merged.{merged, merged_run}
 use Rattle.tb_chunk.specs.Rows.{value_or_null}
-use Rattle.tb_chunk.specs.Whole.{picked_of, whole, window_of}
-use Rattle.tb_chunk.specs.Window.{window}
+use Rattle.tb_view.specs.Whole.{picked_of, whole, window_of}
+use Rattle.tb_cell.specs.Window.{window}
 
 -- these rows of a column in this order
 abbrev pub taken : List ℕ → Col → Col

@@ -1,6 +1,6 @@
 -- The texts of a chunk of texts or of bytes, over its own buffers.
 use Rattle.std.specs.Prelude.{ℕ, List, Option}
-use Rattle.tb_chunk.specs.View.{texts}
+use Rattle.tb_view.specs.View.{texts}
 use Rattle.tb_chunk.specs.declared.chunk.StringChunk.{StringChunk}
 use Rattle.tb_chunk.specs.declared.owned_chunks.BinaryChunk.{BinaryChunk}
 

@@ -3,12 +3,12 @@ use Rattle.std.specs.Prelude.{◌<◌, ◌≤◌, ℕ, List, length}
 use Rattle.std.specs.List.{flat_map, All}
 use Rattle.tb_value.specs.Datum.{Datum}
 use Rattle.tb_value.specs.Kind.{Kind}
-use Rattle.tb_value.specs.Kind as kind
 use Rattle.tb_value.specs.Typed.{HasType}
 use Rattle.tb_value.specs.declared.limits.TheConstants.{MAX_ROWS}
 use Rattle.tb_value.specs.declared.sorted.IsSorted.{IsSorted}
-use Rattle.tb_chunk.specs.Flag.{FlagHolds}
-use Rattle.tb_chunk.specs.Whole.{ViewRun}
+use Rattle.tb_cell.specs.Flag.{FlagHolds}
+pub use Rattle.tb_cell.specs.Physical.{physical}
+use Rattle.tb_view.specs.Whole.{ViewRun}
 
 -- a name, a type, the values of each chunk, the flag, and the views and buffers of the texts of each chunk
 pub record Col : Type 0 where
@@ -25,16 +25,6 @@ flat = flat_map (λ vs. vs)
 -- the values of all chunks, in order
 abbrev pub values : Col → List Datum
 values c = flat c.chunks
-
--- the type by which values are stored
-abbrev pub physical : Kind → Kind
-physical kind.date = kind.int32
-physical (kind.datetime u z) = kind.int64
-physical (kind.duration u) = kind.int64
-physical kind.time = kind.int64
-physical (kind.list t) = kind.list kind.null
-physical (kind.struct ps) = kind.struct kind.end
-physical t = t
 
 -- what is true of each column
 pub record IsColumn (c : Col) : Type 0 where

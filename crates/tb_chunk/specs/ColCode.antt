@@ -8,8 +8,8 @@ use Rattle.tb_value.specs.Proved.KindCode.{coded_kind}
 use Rattle.tb_value.specs.declared.sorted.IsSorted.{IsSorted}
 use Rattle.tb_value.specs.contracts.sorted.IsSorted as sorted
 use Rattle.tb_chunk.specs.Col.{Col}
-use Rattle.tb_chunk.specs.Whole.{ViewRun}
-use Rattle.tb_chunk.specs.declared.view.View.{View}
+use Rattle.tb_view.specs.Whole.{ViewRun}
+use Rattle.tb_view.specs.declared.view.View.{View}
 
 abbrev pub coded_view : Coded View
 coded_view = code_by (ℕ × List ℕ) (coded× coded_ℕ (coded_list coded_ℕ)) (λ v. (v.length, v.rest)) (λ p. record { length = p.0; rest = p.1 }) (λ _. refl)

@@ -1,9 +1,9 @@
 -- What chunks that are made of values hold of texts.
 use Rattle.std.specs.Prelude.{List, [], ◌∷◌, None, map}
 use Rattle.tb_value.specs.Datum.{Datum}
-use Rattle.tb_chunk.specs.Layout.{laid}
-use Rattle.tb_chunk.specs.Texts.{text_of}
-use Rattle.tb_chunk.specs.Whole.{ViewRun}
+use Rattle.tb_view.specs.Layout.{laid}
+use Rattle.tb_value.specs.Texts.{text_of}
+use Rattle.tb_view.specs.Whole.{ViewRun}
 
 -- values that are no texts have no view and no buffer
 abbrev pub no_views : {N : Type 0} → List N → ViewRun

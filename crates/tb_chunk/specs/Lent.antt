@@ -2,7 +2,7 @@
 use Rattle.std.specs.Prelude.{List, [], ◌∷◌, map}
 use Rattle.std.specs.Borrow.{Bor}
 use Rattle.tb_chunk.specs.Col.{Col, values}
-use Rattle.tb_chunk.specs.Whole.{whole}
+use Rattle.tb_view.specs.Whole.{whole}
 
 abbrev pub lent_columns : List (Bor Col) → List Col
 lent_columns rs = map (λ (r : Bor Col). r.now) rs

@@ -9,9 +9,10 @@ use Rattle.tb_value.specs.declared.limits.TheConstants.{MAX_ROWS}
 use Rattle.tb_value.specs.declared.any_value.AnyValue.{AnyValue}
 use Rattle.std.specs.declared.vec.Vec.{Vec}
 use Rattle.std.specs.declared.alloc.Global.{Global}
-use Rattle.tb_chunk.specs.Col.{Col, flat, physical}
+use Rattle.tb_chunk.specs.Col.{Col, flat}
+use Rattle.tb_cell.specs.Physical.{physical}
 use Rattle.tb_chunk.specs.Fresh.{fresh_runs, or_one_run}
-use Rattle.tb_chunk.specs.Whole.{ViewRun}
+use Rattle.tb_view.specs.Whole.{ViewRun}
 use Rattle.tb_value.specs.declared.error.ComputeCause.TheVariants.{TooManyRows}
 use Rattle.tb_value.specs.declared.error.PolarsError.{PolarsError}
 use Rattle.tb_value.specs.declared.error.PolarsError.TheVariants.{ComputeError, SchemaMismatch, OutOfMemory}

@@ -2,9 +2,9 @@
 use Rattle.std.specs.Prelude.{◌++◌, if◌then◌else◌, List, Option, length, map}
 use Rattle.std.specs.List.{zip}
 use Rattle.tb_value.specs.Datum.{Datum, is_null}
-use Rattle.tb_chunk.specs.Moved.{moved}
-use Rattle.tb_chunk.specs.Whole.{ViewRun}
-use Rattle.tb_chunk.specs.declared.view.View.{View}
+use Rattle.tb_view.specs.Moved.{moved}
+use Rattle.tb_view.specs.Whole.{ViewRun}
+use Rattle.tb_view.specs.declared.view.View.{View}
 
 -- the first value, or the second where it is Null
 abbrev pub or_else : Datum → Datum → Datum

@@ -10,12 +10,13 @@ use Rattle.tb_value.specs.declared.error.PolarsError.{PolarsError}
 use Rattle.tb_value.specs.declared.limits.TheConstants.{MAX_ROWS}
 use Rattle.tb_value.specs.declared.sorted.IsSorted.TheVariants.{Not}
 use Rattle.tb_chunk.specs.Col.{Col}
-use Rattle.tb_chunk.specs.Layout.{Building, begun, built, with_nulls, with_rows}
+pub use Rattle.tb_view.specs.RunViews.{data_runs, laid_runs, text_runs}
+use Rattle.tb_view.specs.Layout.{Building, begun, built, with_nulls, with_rows}
 use Rattle.tb_chunk.specs.Made.{IsRefused}
 use Rattle.tb_chunk.specs.Runs.{chunk_runs}
 use Rattle.tb_chunk.specs.Seen.{chunk_lists, storage}
-use Rattle.tb_chunk.specs.Texts.{text_of}
-use Rattle.tb_chunk.specs.Whole.{ViewRun}
+use Rattle.tb_value.specs.Texts.{text_of}
+use Rattle.tb_view.specs.Whole.{ViewRun}
 use Rattle.tb_chunk.specs.declared.chunks.Chunks.{Chunks}
 
 -- each value as often as its count says, in the order of the runs
@@ -25,28 +26,6 @@ expansion rs = flat_map (λ r. replicate r.1 r.0) rs
 -- the rows of all
 abbrev pub total_of : {A : Type 0} → List (A × ℕ) → ℕ
 total_of rs = sum_by (λ r. r.1) rs
-
--- the runs of values of a column
-abbrev pub data_runs : List (AnyValue × ℕ) → List (Datum × ℕ)
-data_runs rs = map (λ r. (datum r.0, r.1)) rs
-
--- their texts and bytes; none of other values
-abbrev pub text_runs : List (Datum × ℕ) → List (Option (List ℕ) × ℕ)
-text_runs rs = map (λ r. (text_of r.0, r.1)) rs
-
--- a run more: its text is put once. A run of no row puts nothing
-abbrev pub with_run : Building → Option (List ℕ) × ℕ → Building
-with_run b (o, zero) = b
-with_run b (None, suc n) = with_nulls b (suc n)
-with_run b (Some t, suc n) = with_rows b t (suc n)
-
--- what a builder holds after these runs
-abbrev pub run_building : List (Option (List ℕ) × ℕ) → Building
-run_building rs = fold with_run (built []) rs
-
--- the views and the buffers of a chunk of these runs
-abbrev pub laid_runs : List (Option (List ℕ) × ℕ) → ViewRun
-laid_runs rs = record { views = (run_building rs).views; buffers = begun (run_building rs).laid }
 
 -- the value of each run is of the type, that of a run of no row too
 abbrev pub AreRunsOf : Kind → List (Datum × ℕ) → Type 0

@@ -3,7 +3,7 @@ use Rattle.std.specs.Prelude.{List, map, replicate, pos}
 use Rattle.tb_value.specs.Datum.{Datum, null, boolean, int, string, binary, list, struct, items_of}
 use Rattle.tb_value.specs.Kind.{Kind}
 use Rattle.tb_value.specs.Kind as kind
-use Rattle.tb_chunk.specs.Chunk.{or_null}
+use Rattle.tb_cell.specs.Shown.{or_null}
 use Rattle.tb_chunk.specs.ChunkTexts.{texts_of, bytes_of}
 use Rattle.tb_chunk.specs.declared.chunks.Chunks.{Chunks}
 use Rattle.tb_chunk.specs.declared.chunks.Chunks.TheVariants.{BooleanType, Int8Type, Int16Type, Int32Type, Int64Type, Int128Type, UInt8Type, UInt16Type, UInt32Type, UInt64Type, StringType, BinaryType, ListType, StructType, Null}

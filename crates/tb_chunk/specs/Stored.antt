@@ -7,7 +7,7 @@ use Rattle.tb_chunk.specs.Made.{at_least_one, IsTyped, IsShort, IsRefused}
 use Rattle.tb_chunk.specs.Fresh.{or_one_run}
 use Rattle.tb_chunk.specs.Runs.{chunk_runs}
 use Rattle.tb_chunk.specs.Seen.{chunk_lists, storage}
-use Rattle.tb_chunk.specs.Whole.{ViewRun}
+use Rattle.tb_view.specs.Whole.{ViewRun}
 use Rattle.tb_chunk.specs.declared.chunks.Chunks.{Chunks}
 
 -- the chunks of these lists for a column of type t, stored by the type s, with these runs, or why there are none

@@ -3,7 +3,7 @@ use Rattle.std.specs.Prelude.{ℕ, List, Option, map}
 use Rattle.tb_value.specs.Datum.{Datum, binary, string}
 use Rattle.tb_value.specs.Kind.{Kind}
 use Rattle.tb_value.specs.Kind as kind
-use Rattle.tb_chunk.specs.Chunk.{or_null}
+use Rattle.tb_cell.specs.Shown.{or_null}
 
 -- texts as values of type String, and as Binary of any other
 abbrev pub text_values : Kind → List (Option (List ℕ)) → List Datum

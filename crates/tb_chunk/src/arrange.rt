@@ -3,21 +3,21 @@ ghost use Rattle.std.specs.Prelude.{◌≡◌, ◌↔◌, IfOk, IsTrue, map};
 ghost use Rattle.std.specs.List.{All};
 ghost use Rattle.tb_value.specs.SeeKind.{kind_of};
 ghost use Rattle.tb_value.specs.Typed.{HasType};
-ghost use Rattle.tb_chunk.specs.Col.{physical};
+ghost use Rattle.tb_cell.specs.Physical.{physical};
 ghost use Rattle.tb_chunk.specs.Made.{at_least_one, IsTyped, IsShort};
-ghost use Rattle.tb_chunk.specs.Physical.{kind_for};
+ghost use Rattle.tb_cell.specs.Physical.{kind_for};
 ghost use Rattle.tb_chunk.specs.Fresh.{or_one_run};
 ghost use Rattle.tb_chunk.specs.Runs.{chunk_runs};
 ghost use Rattle.tb_chunk.specs.Seen.{chunk_lists, storage};
 ghost use Rattle.tb_chunk.specs.Stored.{AreMade};
-ghost use Rattle.tb_chunk.specs.Whole.{runs_of, HaveFewBuffers};
+ghost use Rattle.tb_view.specs.Whole.{runs_of, HaveFewBuffers};
 
 use crate::chunk::Chunk;
 use crate::chunks::Chunks;
 use crate::each::for_chunks;
-use crate::marker::{Physical, physical_of};
 use crate::stored::Stored;
 use std::alloc::Global;
+use tb_cell::Physical;
 use tb_value::{ComputeCause, DataType, MAX_ROWS, OutOfMemory, PolarsError, PolarsResult};
 
 fn is_chunk_of<C: Chunk>(dtype: &DataType, chunk: &C) -> bool

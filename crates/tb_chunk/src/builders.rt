@@ -5,16 +5,16 @@ ghost use Rattle.std.specs.List.{All};
 ghost use Rattle.tb_value.specs.Datum.{binary, string};
 ghost use Rattle.tb_value.specs.Kind as kind;
 ghost use Rattle.tb_value.specs.Typed.{HasType};
-ghost use Rattle.tb_chunk.specs.Chunk.{or_null};
+ghost use Rattle.tb_cell.specs.Shown.{or_null};
 ghost use Rattle.tb_chunk.specs.ChunkTexts.{bytes_of, texts_of};
-ghost use Rattle.tb_chunk.specs.Layout.{begun, built, with_nulls, with_row, with_rows};
+ghost use Rattle.tb_view.specs.Layout.{begun, built, with_nulls, with_row, with_rows};
 
 use crate::chunk::{Chunk, StringChunk};
 use crate::owned_chunks::BinaryChunk;
-use crate::view_builder::ViewBuilder;
 use std::alloc::Global;
 use std::marker::Model;
 use tb_value::OutOfMemory;
+use tb_view::ViewBuilder;
 
 /// A String chunk to which texts are pushed. A text takes no memory of its own: one of up to 12 bytes stands in its view, and a
 /// longer one in a buffer that it shares. After a refusal a builder is as it was.
@@ -29,8 +29,8 @@ impl Model for StringBuilder {
     ghost use Rattle.tb_value.specs.Datum.{string};
     ghost use Rattle.tb_value.specs.Kind as kind;
     ghost use Rattle.tb_value.specs.Typed.{HasType};
-    ghost use Rattle.tb_chunk.specs.Chunk.{or_null};
-    ghost use Rattle.tb_chunk.specs.Layout.{Building};
+    ghost use Rattle.tb_cell.specs.Shown.{or_null};
+    ghost use Rattle.tb_view.specs.Layout.{Building};
 
     ghost Value = { Building };
 
@@ -120,8 +120,8 @@ impl Model for BinaryBuilder {
     ghost use Rattle.tb_value.specs.Datum.{binary};
     ghost use Rattle.tb_value.specs.Kind as kind;
     ghost use Rattle.tb_value.specs.Typed.{HasType};
-    ghost use Rattle.tb_chunk.specs.Chunk.{or_null};
-    ghost use Rattle.tb_chunk.specs.Layout.{Building};
+    ghost use Rattle.tb_cell.specs.Shown.{or_null};
+    ghost use Rattle.tb_view.specs.Layout.{Building};
 
     ghost Value = { Building };
 

@@ -4,21 +4,21 @@ ghost use Rattle.std.specs.List.{All, count_by};
 ghost use Rattle.tb_value.specs.Datum.{Datum, null, string};
 ghost use Rattle.tb_value.specs.Kind as kinds;
 ghost use Rattle.tb_value.specs.See.{data_of, datum, lent, IsText};
-ghost use Rattle.tb_chunk.specs.Chunk.{or_null};
-ghost use Rattle.tb_chunk.specs.Fits.{Fits};
-ghost use Rattle.tb_chunk.specs.Flag.{nulls};
-ghost use Rattle.tb_chunk.specs.Held.{StandsAt};
-ghost use Rattle.tb_chunk.specs.Moved.{placed_at, used_buffer};
+ghost use Rattle.tb_cell.specs.Shown.{or_null};
+ghost use Rattle.tb_cell.specs.Fits.{Fits};
+ghost use Rattle.tb_cell.specs.Flag.{nulls};
+ghost use Rattle.tb_view.specs.Held.{StandsAt};
+ghost use Rattle.tb_view.specs.Moved.{placed_at, used_buffer};
 ghost use Rattle.tb_chunk.specs.Fresh.{fresh_run};
-ghost use Rattle.tb_chunk.specs.Texts.{IsUtf8Row};
-ghost use Rattle.tb_chunk.specs.View.{texts};
+ghost use Rattle.tb_value.specs.Texts.{IsUtf8Row};
+ghost use Rattle.tb_view.specs.View.{texts};
 ghost use Rattle.std.proofs.Common.{arith, rules};
 ghost use Rattle.std.proofs.Props.{props};
 ghost use Rattle.std.proofs.lemmas.List.{length-map, length-replicate};
 
-use crate::view_chunk::ViewChunk;
 use std::alloc::Global;
 use tb_value::{AnyValue, OutOfMemory, ValueRef};
+use tb_view::ViewChunk;
 
 /// Values of a column that stand together, and to which values can be appended. `shown` is what contracts see of them,
 /// `kind` is the type by which they are stored, and `buffers` are the bytes of long texts that they share with others.
@@ -27,7 +27,7 @@ use tb_value::{AnyValue, OutOfMemory, ValueRef};
 pub trait Chunk: Drop {
     ghost use Rattle.std.specs.Prelude.{ℕ, List, Option};
     ghost use Rattle.tb_value.specs.Kind.{Kind};
-    ghost use Rattle.tb_chunk.specs.declared.view.View.{View};
+    ghost use Rattle.tb_view.specs.declared.view.View.{View};
 
     ghost shown: { Self → List Datum };
 
@@ -244,8 +244,8 @@ impl Chunk for StringChunk {
     ghost use Rattle.std.specs.Prelude.{map};
     ghost use Rattle.tb_value.specs.Datum.{string};
     ghost use Rattle.tb_value.specs.Kind as kinds;
-    ghost use Rattle.tb_chunk.specs.Chunk.{or_null};
-    ghost use Rattle.tb_chunk.specs.View.{texts};
+    ghost use Rattle.tb_cell.specs.Shown.{or_null};
+    ghost use Rattle.tb_view.specs.View.{texts};
 
     ghost shown = { λ c. map (or_null string) (texts c.inner.buffers.items c.inner.views.items) };
 

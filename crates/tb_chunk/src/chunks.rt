@@ -3,17 +3,17 @@ ghost use Rattle.std.specs.Prelude.{◌≡◌, ◌<◌, ◌^◌, [], IfOk, lengt
 ghost use Rattle.tb_value.specs.Datum.{null};
 ghost use Rattle.tb_value.specs.See.{lent, IsText};
 ghost use Rattle.tb_chunk.specs.Col.{flat};
-ghost use Rattle.tb_chunk.specs.Flag.{nulls};
+ghost use Rattle.tb_cell.specs.Flag.{nulls};
 ghost use Rattle.tb_chunk.specs.Runs.{chunk_runs};
 ghost use Rattle.tb_chunk.specs.Seen.{chunk_lists, storage};
-ghost use Rattle.tb_chunk.specs.Whole.{AreViewed, runs_of};
+ghost use Rattle.tb_view.specs.Whole.{AreViewed, runs_of};
 
-use crate::cells::Cells;
 use crate::chunk::{Chunk, StringChunk};
 use crate::each::for_chunks;
 use crate::owned_chunks::{BinaryChunk, ListChunk, StructChunk};
 use crate::stored::Stored;
 use std::alloc::Global;
+use tb_cell::Cells;
 use tb_value::{OutOfMemory, ValueRef};
 
 /// The chunks of a column. A variant is the type by which the values are stored; `Null` holds the
@@ -51,7 +51,7 @@ pub fn rows_in<C: Chunk>(chunks: &[C]) -> usize
 }
 
 /// The number of nulls.
-#[tactic(auto, using(crate::proofs::Nulls::nulls_at_most, crate::proofs::Nulls::nulls_drop))]
+#[tactic(auto, using(tb_cell::proofs::Nulls::nulls_at_most, crate::proofs::Nulls::nulls_drop))]
 pub fn nulls_in<C: Chunk>(chunks: &[C]) -> usize
     requires { length (flat (map C.shown chunks.now)) < 2 ^ 64 }
     ensures { result ≡ length (nulls (flat (map C.shown chunks.now))) }

@@ -1,11 +1,11 @@
 //! Chunks made of the rows of others.
 ghost use Rattle.std.specs.Prelude.{◌≡◌, ◌<◌, ◌≤◌, ◌^◌, ◌+◌, ◌++◌, ◌∷◌, [], IfOk, OnOk, get_or, length, map, take, drop};
 ghost use Rattle.tb_chunk.specs.Col.{flat};
-ghost use Rattle.tb_chunk.specs.Held.{AreHeld};
-ghost use Rattle.tb_chunk.specs.Moved.{moved};
+ghost use Rattle.tb_view.specs.Held.{AreHeld};
+ghost use Rattle.tb_view.specs.Moved.{moved};
 ghost use Rattle.tb_chunk.specs.Runs.{chunk_runs};
 ghost use Rattle.tb_chunk.specs.Seen.{chunk_lists, storage};
-ghost use Rattle.tb_chunk.specs.Whole.{runs_of, whole, window_of};
+ghost use Rattle.tb_view.specs.Whole.{runs_of, whole, window_of};
 
 use crate::chunk::Chunk;
 use crate::chunks::Chunks;

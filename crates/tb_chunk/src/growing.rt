@@ -1,9 +1,9 @@
 //! Chunks that take up rows of others.
 ghost use Rattle.std.specs.Prelude.{◌≡◌, ◌<◌, ◌≤◌, ◌+◌, ◌^◌, ◌++◌, ◌∷◌, [], IfOk, OnOk, None, length, map, get_or, take, drop};
 ghost use Rattle.tb_value.specs.Datum.{null};
-ghost use Rattle.tb_chunk.specs.Held.{AreHeld};
-ghost use Rattle.tb_chunk.specs.Moved.{moved, number_from};
-ghost use Rattle.tb_chunk.specs.Whole.{AreBases, all_buffers, runs_of};
+ghost use Rattle.tb_view.specs.Held.{AreHeld};
+ghost use Rattle.tb_view.specs.Moved.{moved, number_from};
+ghost use Rattle.tb_view.specs.Whole.{AreBases, all_buffers, runs_of};
 
 use crate::chunk::Chunk;
 use std::alloc::Global;

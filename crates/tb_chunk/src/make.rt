@@ -4,21 +4,22 @@ ghost use Rattle.std.specs.List.{All};
 ghost use Rattle.tb_value.specs.See.{data_of};
 ghost use Rattle.tb_value.specs.SeeKind.{kind_of};
 ghost use Rattle.tb_value.specs.Typed.{HasType};
-ghost use Rattle.tb_chunk.specs.Col.{flat, physical};
-ghost use Rattle.tb_chunk.specs.Fits.{Fits};
+ghost use Rattle.tb_chunk.specs.Col.{flat};
+ghost use Rattle.tb_cell.specs.Physical.{physical};
+ghost use Rattle.tb_cell.specs.Fits.{Fits};
 ghost use Rattle.tb_chunk.specs.Made.{lists_of, at_least_one};
 ghost use Rattle.tb_chunk.specs.Fresh.{fresh_runs};
 ghost use Rattle.tb_chunk.specs.Runs.{chunk_runs};
 ghost use Rattle.tb_chunk.specs.Seen.{chunk_lists, storage};
 ghost use Rattle.tb_chunk.specs.Stored.{AreMade};
-ghost use Rattle.tb_chunk.specs.Whole.{runs_of, HaveFewBuffers};
+ghost use Rattle.tb_view.specs.Whole.{runs_of, HaveFewBuffers};
 
-use crate::cells::Cells;
 use crate::chunk::{Chunk, StringChunk};
 use crate::chunks::Chunks;
 use crate::owned_chunks::{BinaryChunk, ListChunk, StructChunk};
 use crate::stored::Stored;
 use std::alloc::Global;
+use tb_cell::Cells;
 use tb_value::{
     AnyValue, ComputeCause, DataType, MAX_ROWS, OutOfMemory, PolarsError, PolarsResult,
 };

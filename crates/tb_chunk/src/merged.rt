@@ -4,7 +4,7 @@ ghost use Rattle.tb_chunk.specs.Col.{flat};
 ghost use Rattle.tb_chunk.specs.Merged.{merged, merged_run};
 ghost use Rattle.tb_chunk.specs.Runs.{chunk_runs};
 ghost use Rattle.tb_chunk.specs.Seen.{chunk_lists, storage};
-ghost use Rattle.tb_chunk.specs.Whole.{run_at, runs_of, whole};
+ghost use Rattle.tb_view.specs.Whole.{run_at, runs_of, whole};
 
 use crate::chunk::Chunk;
 use crate::chunks::{Chunks, rows_in};

@@ -2,50 +2,15 @@
 ghost use Rattle.std.specs.Prelude.{◌≡◌, ◌<◌, ◌≤◌, ◌^◌, ◌+◌, if◌then◌else◌, is_some, option_map, length, get_or, map, take, drop};
 ghost use Rattle.tb_value.specs.Datum.{null, is_null};
 ghost use Rattle.tb_value.specs.See.{lent};
-ghost use Rattle.tb_chunk.specs.Order.{order_of, may_follow, followed, keeps_order};
+ghost use Rattle.tb_cell.specs.Order.{followed, keeps_order};
 ghost use Rattle.tb_chunk.specs.Col.{flat};
-ghost use Rattle.tb_chunk.specs.Flag.{datum_cmp};
 ghost use Rattle.tb_chunk.specs.Seen.{chunk_lists};
 
 use crate::chunk::Chunk;
 use crate::chunks::{Chunks, nulls_in, rows_in, value_in};
 use crate::each::for_chunks;
-use std::cmp::Ordering;
+use tb_cell::may_follow;
 use tb_value::ValueRef;
-
-/// How two values of one key type compare: numbers as numbers, false before true, texts and bytes by their bytes. Null has
-/// no place among them: it is Equal to every value, as are lists, structs and values of different kinds.
-pub fn compare_values(first: ValueRef<'_>, second: ValueRef<'_>) -> Ordering
-    ensures { result ≡ datum_cmp (lent first.entry) (lent second.entry) }
-{
-    match (first, second) {
-        (ValueRef::Boolean(a), ValueRef::Boolean(b)) => a.cmp(&b),
-        (ValueRef::Int(a), ValueRef::Int(b)) => a.cmp(&b),
-        (ValueRef::String(a), ValueRef::String(b)) => a.cmp(b),
-        (ValueRef::Binary(a), ValueRef::Binary(b)) => a.cmp(b),
-        _ => Ordering::Equal,
-    }
-}
-
-// How they compare where values are to ascend, or to descend.
-fn compare_in(first: ValueRef<'_>, second: ValueRef<'_>, descending: bool) -> Ordering
-    ensures { result ≡ order_of descending (lent first.entry) (lent second.entry) }
-{
-    if descending {
-        compare_values(second, first)
-    } else {
-        compare_values(first, second)
-    }
-}
-
-fn may_follow(before: ValueRef<'_>, value: ValueRef<'_>, descending: bool) -> bool
-    ensures { result ≡ may_follow descending (lent before.entry) (lent value.entry) }
-{
-    match value {
-        ValueRef::Null => false,
-        _ => !compare_in(value, before, descending).is_lt(),
-    }
-}
 
 // The last of these rows of a chunk, or the value before them where there are none. None where the
 // rows are not in order.
@@ -116,7 +81,7 @@ fn present_from<C: Chunk>(chunks: &[C], nulls: usize) -> usize
 }
 
 /// Whether the values that are present ascend, or descend, and the nulls stand at one end.
-#[tactic(auto, using(crate::proofs::Nulls::nulls_at_most), unfolding(crate::specs::Order::keeps_order))]
+#[tactic(auto, using(tb_cell::proofs::Nulls::nulls_at_most), unfolding(tb_cell::specs::Order::keeps_order))]
 pub fn keeps_order<C: Chunk>(chunks: &[C], descending: bool) -> bool
     requires { length (flat (map C.shown chunks.now)) < 2 ^ 64 }
     ensures { result ≡ keeps_order descending (flat (map C.shown chunks.now)) }

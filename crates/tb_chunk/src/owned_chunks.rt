@@ -4,15 +4,14 @@ ghost use Rattle.std.proofs.Common.{arith, rules};
 ghost use Rattle.std.proofs.lemmas.List.{length-map, length-replicate};
 ghost use Rattle.tb_value.specs.Datum.{binary, list, struct, items_of};
 ghost use Rattle.tb_value.specs.Kind as kinds;
-ghost use Rattle.tb_chunk.specs.Chunk.{or_null};
-ghost use Rattle.tb_chunk.specs.View.{texts};
+ghost use Rattle.tb_cell.specs.Shown.{or_null};
+ghost use Rattle.tb_view.specs.View.{texts};
 
-use crate::cell::FieldValues;
-use crate::cells::Cells;
 use crate::chunk::Chunk;
-use crate::view_chunk::ViewChunk;
 use std::alloc::Global;
+use tb_cell::{Cells, FieldValues};
 use tb_value::{AnyValue, OutOfMemory, ValueRef, Values};
+use tb_view::ViewChunk;
 
 /// Optional bytes, each as a view over shared buffers.
 #[derive(Drop)]

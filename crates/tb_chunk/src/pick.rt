@@ -5,16 +5,16 @@ ghost use Rattle.tb_chunk.specs.Col.{flat};
 ghost use Rattle.tb_chunk.specs.Rows.{IsRowOf, value_or_null};
 ghost use Rattle.tb_chunk.specs.Runs.{chunk_runs};
 ghost use Rattle.tb_chunk.specs.Seen.{chunk_lists, storage};
-ghost use Rattle.tb_chunk.specs.Whole.{picked_of, runs_of, whole};
+ghost use Rattle.tb_view.specs.Whole.{picked_of, runs_of, whole};
 
 use crate::chunk::Chunk;
 use crate::chunks::{Chunks, rows_in};
 use crate::each::for_chunks;
 use crate::grow::join_one;
 use crate::growing::Growing;
-use crate::row_number::RowNumber;
 use crate::stored::Stored;
 use std::alloc::Global;
+use tb_cell::RowNumber;
 use tb_value::OutOfMemory;
 
 // The values of these rows of the only chunk.

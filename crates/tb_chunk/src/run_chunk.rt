@@ -5,25 +5,25 @@ ghost use Rattle.tb_value.specs.Datum.{Datum};
 ghost use Rattle.tb_value.specs.See.{data_of, datum};
 ghost use Rattle.tb_value.specs.SeeKind.{kind_of};
 ghost use Rattle.tb_value.specs.Typed.{HasType};
-ghost use Rattle.tb_chunk.specs.Chunk.{or_null};
-ghost use Rattle.tb_chunk.specs.Col.{physical};
-ghost use Rattle.tb_chunk.specs.Fits.{Fits};
+ghost use Rattle.tb_cell.specs.Shown.{or_null};
+ghost use Rattle.tb_cell.specs.Physical.{physical};
+ghost use Rattle.tb_cell.specs.Fits.{Fits};
 ghost use Rattle.tb_chunk.specs.Made.{IsShort, IsTyped};
-ghost use Rattle.tb_chunk.specs.RunLayout.{AreFewRows, AreRunsOf, IsChunkOfRuns, data_runs, expansion, laid_runs, text_runs, total_of};
+ghost use Rattle.tb_chunk.specs.RunLayout.{AreFewRows, AreRunsOf, IsChunkOfRuns, expansion, total_of};
+ghost use Rattle.tb_view.specs.RunViews.{data_runs, laid_runs, text_runs};
 ghost use Rattle.tb_chunk.specs.Runs.{chunk_runs};
 ghost use Rattle.tb_chunk.specs.Seen.{chunk_lists, storage};
 
-use crate::cell::Cell;
-use crate::cells::{Cells, cell_of, copy_cell};
 use crate::chunk::{Chunk, StringChunk};
 use crate::chunks::Chunks;
 use crate::owned_chunks::{BinaryChunk, ListChunk, StructChunk};
 use crate::stored::Stored;
-use crate::view_chunk::ViewChunk;
 use std::alloc::Global;
+use tb_cell::{Cell, Cells, cell_of, copy_cell};
 use tb_value::{
     AnyValue, ComputeCause, DataType, MAX_ROWS, OutOfMemory, PolarsError, PolarsResult,
 };
+use tb_view::ViewChunk;
 
 // A chunk that can be made of runs.
 trait RunChunk: Chunk {

@@ -2,12 +2,12 @@
 ghost use Rattle.std.specs.Prelude.{◌≡◌, ◌≢◌, MatchOption, map};
 ghost use Rattle.tb_chunk.specs.Runs.{chunk_runs};
 ghost use Rattle.tb_chunk.specs.Seen.{chunk_lists, storage};
-ghost use Rattle.tb_chunk.specs.Whole.{runs_of};
+ghost use Rattle.tb_view.specs.Whole.{runs_of};
 
-use crate::cells::Cells;
 use crate::chunk::{Chunk, StringChunk};
 use crate::chunks::Chunks;
 use crate::owned_chunks::{BinaryChunk, ListChunk, StructChunk};
+use tb_cell::Cells;
 
 /// Chunks that a column can have.
 pub trait Stored: Chunk {

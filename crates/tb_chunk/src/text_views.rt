@@ -5,17 +5,16 @@ ghost use Rattle.tb_value.specs.Kind as kind;
 ghost use Rattle.tb_chunk.specs.ChunkTexts.{bytes_of, texts_of};
 ghost use Rattle.tb_chunk.specs.Runs.{chunk_runs};
 ghost use Rattle.tb_chunk.specs.Seen.{chunk_lists, storage};
-ghost use Rattle.tb_chunk.specs.Texts.{IsUtf8Row};
+ghost use Rattle.tb_value.specs.Texts.{IsUtf8Row};
 ghost use Rattle.tb_chunk.specs.TextValues.{text_values};
-ghost use Rattle.tb_chunk.specs.View.{texts, IsViewOrNone};
-ghost use Rattle.tb_chunk.specs.Whole.{run_at};
+ghost use Rattle.tb_view.specs.View.{texts, IsViewOrNone};
+ghost use Rattle.tb_view.specs.Whole.{run_at};
 
 use crate::chunk::{Chunk, StringChunk};
 use crate::chunks::Chunks;
 use crate::owned_chunks::BinaryChunk;
-use crate::view::View;
-use crate::view_chunk::ViewChunk;
 use tb_value::Bytes;
+use tb_view::{View, ViewChunk};
 
 impl StringChunk {
     /// The chunk of the texts that these views stand for over these buffers; no view is Null. Nothing is copied.
@@ -89,23 +88,6 @@ impl BinaryChunk {
         ensures { result.now ≡ ⟦<BinaryChunk as Chunk>⟧.buffers self.now }
     {
         self.inner.buffers()
-    }
-}
-
-impl ViewChunk {
-    /// The view of each row, none where it is Null.
-    pub fn views(&self) -> &[Option<View>]
-        ensures views { result.now ≡ self.now.views.items }
-        ensures formed { All (IsViewOrNone self.now.buffers.items) result.now }
-    {
-        &self.views
-    }
-
-    /// The buffers that the views stand over.
-    pub fn buffers(&self) -> &[Bytes]
-        ensures { result.now ≡ self.now.buffers.items }
-    {
-        &self.buffers
     }
 }
 

@@ -7,7 +7,7 @@ use Rattle.tb_value.specs.declared.sorted.IsSorted.{IsSorted}
 use Rattle.tb_chunk.specs.Col.{Col, flat, values}
 use Rattle.tb_chunk.specs.Made.{IsOf}
 use Rattle.tb_chunk.specs.Whole.{ViewRun, view_or_none}
-use Rattle.tb_chunk.specs.declared.view.View.{View}
+use Rattle.tb_view.specs.declared.view.View.{View}
 use Rattle.tb_frame.specs.Frame.{lens, lengths}
 use Rattle.tb_gather.specs.Ids.{Id, NamesRow, row_of, row_or_none}
 use Rattle.tb_gather.specs.Gathered.{gathered, pick, value_at}

@@ -10,7 +10,7 @@ use Rattle.tb_value.specs.Datum.{Datum, null}
 use Rattle.tb_chunk.specs.Held.{StandsAt}
 use Rattle.tb_chunk.specs.Moved.{used_buffer}
 use Rattle.tb_chunk.specs.Whole.{ViewRun, picked_of, run_at, runs_of, whole}
-use Rattle.tb_chunk.specs.declared.view.View.{View}
+use Rattle.tb_view.specs.declared.view.View.{View}
 use Rattle.tb_frame.specs.Frame.{lengths}
 use Rattle.tb_gather.specs.Gathered.{value_at}
 use Rattle.tb_gather.specs.Ids.{Id, NamesRow, row_or_none}

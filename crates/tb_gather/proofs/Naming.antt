@@ -7,7 +7,7 @@ use Rattle.tb_chunk.specs.Col.{flat}
 use Rattle.tb_chunk.specs.Moved.{moved}
 use Rattle.tb_chunk.specs.Rows.{IsRowOf}
 use Rattle.tb_chunk.specs.Whole.{AreBases, run_at, runs_of, whole}
-use Rattle.tb_chunk.specs.declared.view.View.{View}
+use Rattle.tb_view.specs.declared.view.View.{View}
 use Rattle.tb_chunk.proofs.Whole.{length-runs_of, lengths_at, runs_viewed, view_of_row, views_at}
 use Rattle.tb_gather.specs.Ids.{Id, row_of, row_or_none, NamesRow}
 use Rattle.tb_frame.specs.Frame.{lengths}

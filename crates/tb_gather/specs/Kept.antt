@@ -4,7 +4,7 @@ use Rattle.std.specs.List.{position}
 use Rattle.std.specs.Option.{option_map}
 use Rattle.tb_chunk.specs.Moved.{placed_at, used_buffer}
 use Rattle.tb_chunk.specs.Whole.{ViewRun, all_buffers, picked_of, run_at, whole}
-use Rattle.tb_chunk.specs.declared.view.View.{View}
+use Rattle.tb_view.specs.declared.view.View.{View}
 use Rattle.tb_gather.specs.Ids.{Id, row_or_none}
 use Rattle.tb_gather.specs.declared.keep.Keep.{Keep}
 use Rattle.tb_gather.specs.declared.keep.Keep.TheVariants.{All, Used}

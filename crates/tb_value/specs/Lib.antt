@@ -12,3 +12,4 @@ pub mod Pairs
 pub mod Refusals
 pub mod SameKind
 pub mod Proved
+pub mod Texts

@@ -1,5 +1,5 @@
 use Rattle.std.proofs.Common.{◌≡◌, ◌+◌, ◌≤◌, length, drop}
-use Rattle.tb_chunk.specs.Whole.{all_buffers, runs_of}
+use Rattle.tb_view.specs.Whole.{all_buffers, runs_of}
 use Rattle.tb_chunk.proofs.arrange.have_few_buffers.Given as goal
 
 -- what is left of the room

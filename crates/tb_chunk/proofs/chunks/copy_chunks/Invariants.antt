@@ -1,5 +1,5 @@
 use Rattle.std.proofs.Common.{◌≡◌, map, take}
-use Rattle.tb_chunk.specs.Whole.{runs_of}
+use Rattle.tb_view.specs.Whole.{runs_of}
 use Rattle.tb_chunk.proofs.chunks.copy_chunks.Given as goal
 
 abbrev pub invariant-loop-chunk : goal.invariant-loop-chunk

@@ -1,11 +1,11 @@
 use Rattle.std.proofs.Common.{◌≡◌, ◌∙◌, ◌++◌, ◌-◌, ◌+◌, ◌<◌, [], ap, sym, arith, get_or, length, map, take, drop, min, length-append, length-take-le, length-drop}
 use Rattle.std.proofs.lemmas.List.{get_or-map, length-map}
 use Rattle.tb_chunk.specs.Col.{flat}
-use Rattle.tb_chunk.specs.Moved.{moved}
-use Rattle.tb_chunk.specs.Whole.{base_of, moved_views, runs_of}
+use Rattle.tb_view.specs.Moved.{moved}
+use Rattle.tb_view.specs.Whole.{base_of, moved_views, runs_of}
 use Rattle.tb_chunk.proofs.Lists.{flat_drop}
-use Rattle.tb_chunk.proofs.Parts.{parts_more}
-use Rattle.tb_chunk.proofs.Whole.{base_more, length-runs_of, moved_part, views_left}
+use Rattle.tb_cell.proofs.Parts.{parts_more}
+use Rattle.tb_view.proofs.Whole.{base_more, length-runs_of, moved_part, views_left}
 use Rattle.tb_chunk.proofs.grow.join_parts.Goals as goal
 
 pub loop-chunk-preserved : goal.loop-chunk-preserved

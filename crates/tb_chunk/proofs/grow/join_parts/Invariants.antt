@@ -1,7 +1,7 @@
 use Rattle.std.proofs.Common.{◌≡◌, ◌+◌, ◌≤◌, ◌++◌, length, take, drop, map}
 use Rattle.tb_chunk.specs.Col.{flat}
-use Rattle.tb_chunk.specs.Held.{AreHeld}
-use Rattle.tb_chunk.specs.Whole.{AreBases, all_buffers, base_of, moved_views, runs_of}
+use Rattle.tb_view.specs.Held.{AreHeld}
+use Rattle.tb_view.specs.Whole.{AreBases, all_buffers, base_of, moved_views, runs_of}
 use Rattle.tb_chunk.proofs.grow.join_parts.Given as goal
 
 abbrev pub invariant-loop-chunk : goal.invariant-loop-chunk

@@ -1,8 +1,8 @@
 use Rattle.std.proofs.Common.{arith, ◌≡◌, ◌∙◌, ◌+◌, ◌<◌, ◌++◌, ◌∷◌, [], ℕ, List, None, ap, sym, append_assoc, get_or, length, map, take, drop, length-drop}
 use Rattle.std.proofs.lemmas.List.{take_more, get_or-drop}
 use Rattle.tb_value.specs.Datum.{null}
-use Rattle.tb_chunk.specs.Moved.{moved}
-use Rattle.tb_chunk.proofs.Whole.{lengths_at, moved_more}
+use Rattle.tb_view.specs.Moved.{moved}
+use Rattle.tb_view.proofs.Whole.{lengths_at, moved_more}
 use Rattle.tb_chunk.proofs.grow.push_each.Goals as goal
 
 pub loop-i-preserved : goal.loop-i-preserved

@@ -1,6 +1,6 @@
 use Rattle.std.proofs.Common.{◌≡◌, ◌++◌, [], get_or, map, take, drop}
-use Rattle.tb_chunk.specs.Held.{AreHeld}
-use Rattle.tb_chunk.specs.Moved.{moved}
+use Rattle.tb_view.specs.Held.{AreHeld}
+use Rattle.tb_view.specs.Moved.{moved}
 use Rattle.tb_chunk.proofs.grow.push_each.Given as goal
 
 abbrev pub invariant-loop-i : goal.invariant-loop-i

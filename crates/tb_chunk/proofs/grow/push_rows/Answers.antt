@@ -1,6 +1,6 @@
 use Rattle.std.proofs.Common.{arith, ◌≡◌, ◌∙◌, ◌+◌, ◌-◌, ◌++◌, ℕ, List, [], ap, append_assoc, drop, get_or, length, length-append, length-drop, length-take-le, map, sym, take}
 use Rattle.std.proofs.lemmas.List.{map-append}
-use Rattle.tb_chunk.specs.Moved.{moved}
+use Rattle.tb_view.specs.Moved.{moved}
 use Rattle.tb_chunk.proofs.PlainRows.{two_parts}
 use Rattle.tb_chunk.proofs.grow.push_rows.Goals as goal
 

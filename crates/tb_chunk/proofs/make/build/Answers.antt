@@ -5,11 +5,11 @@ use Rattle.std.specs.declared.vec.Vec.{Vec}
 use Rattle.std.proofs.lemmas.Grind.{common_steps}
 use Rattle.tb_value.specs.See.{data_of}
 use Rattle.tb_value.specs.declared.any_value.AnyValue.{AnyValue}
-use Rattle.tb_chunk.specs.Fits.{Fits}
+use Rattle.tb_cell.specs.Fits.{Fits}
 use Rattle.tb_chunk.specs.Fresh.{fresh_run, fresh_runs}
 use Rattle.tb_chunk.specs.Made.{lists_of}
-use Rattle.tb_chunk.specs.Whole.{runs_of}
-use Rattle.tb_chunk.specs.declared.view.View.{View}
+use Rattle.tb_view.specs.Whole.{runs_of}
+use Rattle.tb_view.specs.declared.view.View.{View}
 use Rattle.tb_chunk.proofs.Alls.{all_next_list}
 use Rattle.tb_chunk.proofs.make.build.Goals as goal
 

@@ -1,10 +1,10 @@
 use Rattle.std.proofs.Common.{◌≡◌, map, take, drop}
 use Rattle.std.specs.List.{All}
 use Rattle.tb_chunk.specs.Col.{flat}
-use Rattle.tb_chunk.specs.Fits.{Fits}
+use Rattle.tb_cell.specs.Fits.{Fits}
 use Rattle.tb_chunk.specs.Fresh.{fresh_runs}
 use Rattle.tb_chunk.specs.Made.{lists_of}
-use Rattle.tb_chunk.specs.Whole.{runs_of}
+use Rattle.tb_view.specs.Whole.{runs_of}
 use Rattle.tb_chunk.proofs.make.build.Given as goal
 
 abbrev pub invariant-loop-list : goal.invariant-loop-list

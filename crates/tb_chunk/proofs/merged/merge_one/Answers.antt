@@ -2,9 +2,9 @@ use Rattle.std.proofs.Common.{arith, ◌≡◌, ◌∙◌, ℕ, List, [], ◌∷
 use Rattle.std.proofs.lemmas.List.{take_all}
 use Rattle.tb_chunk.specs.Col.{flat}
 use Rattle.tb_chunk.specs.Merged.{merged_run}
-use Rattle.tb_chunk.specs.Whole.{ViewRun, run_at, runs_of, whole}
-use Rattle.tb_chunk.specs.declared.view.View.{View}
-use Rattle.tb_chunk.proofs.Whole.{length-whole, runs_viewed}
+use Rattle.tb_view.specs.Whole.{ViewRun, run_at, runs_of, whole}
+use Rattle.tb_view.specs.declared.view.View.{View}
+use Rattle.tb_view.proofs.Whole.{length-whole, runs_viewed}
 use Rattle.tb_chunk.proofs.merged.merge_one.Goals as goal
 
 -- all of a run

@@ -2,11 +2,11 @@ use Rattle.std.proofs.Common.{◌≡◌, ◌<◌, ◌∙◌, ◌∷◌, ◌++◌
 use Rattle.std.proofs.lemmas.List.{get_or-map, take_all}
 use Rattle.tb_value.specs.Datum.{Datum, null, is_null}
 use Rattle.tb_chunk.specs.Merged.{or_else, merged, merged_run}
-use Rattle.tb_chunk.specs.Moved.{moved}
-use Rattle.tb_chunk.specs.Whole.{run_at, runs_of}
-use Rattle.tb_chunk.specs.declared.view.View.{View}
+use Rattle.tb_view.specs.Moved.{moved}
+use Rattle.tb_view.specs.Whole.{run_at, runs_of}
+use Rattle.tb_view.specs.declared.view.View.{View}
 use Rattle.tb_chunk.proofs.Merging.{length-merged, length-merged_run, merged-more, merged_run-more, or_else-null, lent-present, or_else-present}
-use Rattle.tb_chunk.proofs.Whole.{buffers_of_two, length-runs_of, lengths_at, moved-0, second_base, views_at}
+use Rattle.tb_view.proofs.Whole.{buffers_of_two, length-runs_of, lengths_at, moved-0, second_base, views_at}
 use Rattle.tb_chunk.proofs.merged.merge_rows.Goals as goal
 use Rattle.tb_chunk.proofs.merged.merge_rows.Goals.{in-Null+in_ok-push-in-Null, in_default+in_ok-push-in_default}
 

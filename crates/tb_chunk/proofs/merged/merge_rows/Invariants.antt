@@ -1,7 +1,7 @@
 use Rattle.std.proofs.Common.{◌≡◌, [], get_or, map, take}
-use Rattle.tb_chunk.specs.Held.{AreHeld}
+use Rattle.tb_view.specs.Held.{AreHeld}
 use Rattle.tb_chunk.specs.Merged.{merged, merged_run}
-use Rattle.tb_chunk.specs.Whole.{AreBases, all_buffers, run_at, runs_of}
+use Rattle.tb_view.specs.Whole.{AreBases, all_buffers, run_at, runs_of}
 use Rattle.tb_chunk.proofs.merged.merge_rows.Given as goal
 
 abbrev pub invariant-loop-row : goal.invariant-loop-row

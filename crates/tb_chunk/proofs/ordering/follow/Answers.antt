@@ -1,9 +1,9 @@
 use Rattle.std.proofs.Common.{arith, ◌≡◌, ◌∙◌, ◌-◌, ◌+◌, ap, sym, length, map, take, drop, min, length-append}
 use Rattle.std.specs.Prelude.{option_map, is_some}
 use Rattle.tb_value.specs.See.{lent}
-use Rattle.tb_chunk.specs.Order.{followed}
+use Rattle.tb_cell.specs.Order.{followed}
 use Rattle.tb_chunk.specs.Col.{flat}
-use Rattle.tb_chunk.proofs.Follow.{followed_part, followed_on}
+use Rattle.tb_cell.proofs.Follow.{followed_part, followed_on}
 use Rattle.tb_chunk.proofs.Lists.{flat_drop}
 use Rattle.tb_chunk.proofs.ordering.follow.Goals as goal
 

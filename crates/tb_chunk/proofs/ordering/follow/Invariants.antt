@@ -1,7 +1,7 @@
 use Rattle.std.proofs.Common.{◌≡◌, ◌+◌, ◌≤◌, length, take, drop, map}
 use Rattle.tb_value.specs.Datum.{null}
 use Rattle.tb_value.specs.See.{lent}
-use Rattle.tb_chunk.specs.Order.{followed}
+use Rattle.tb_cell.specs.Order.{followed}
 use Rattle.tb_chunk.specs.Col.{flat}
 use Rattle.tb_chunk.proofs.ordering.follow.Given as goal
 

@@ -1,7 +1,7 @@
 use Rattle.std.proofs.Common.{arith, ◌∙◌, ◌-◌, ◌+◌, ap, sym, take, drop, None, if◌then◌else◌}
 use Rattle.tb_value.specs.See.{lent}
-use Rattle.tb_chunk.specs.Order.{followed}
-use Rattle.tb_chunk.proofs.Follow.{followed_step}
+use Rattle.tb_cell.specs.Order.{followed}
+use Rattle.tb_cell.proofs.Follow.{followed_step}
 use Rattle.tb_chunk.proofs.ordering.follow_chunk.Goals as goal
 
 pub returns-then-not-may_follow : goal.returns-then-not-may_follow

@@ -1,6 +1,6 @@
 use Rattle.std.proofs.Common.{◌≡◌, ◌-◌, ◌+◌, take, drop}
 use Rattle.tb_value.specs.See.{lent}
-use Rattle.tb_chunk.specs.Order.{followed}
+use Rattle.tb_cell.specs.Order.{followed}
 use Rattle.tb_chunk.proofs.ordering.follow_chunk.Given as goal
 
 -- the rows that are left decide

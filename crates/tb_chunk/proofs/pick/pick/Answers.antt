@@ -1,6 +1,6 @@
 use Rattle.std.proofs.Common.{◌≡◌, ◌∙◌, IfOk, ap, sym, subst, map}
-use Rattle.tb_chunk.specs.Whole.{picked_of, runs_of, whole, window_of}
-use Rattle.tb_chunk.proofs.Whole.{length-whole, runs_viewed, whole-one, window-all}
+use Rattle.tb_view.specs.Whole.{picked_of, runs_of, whole, window_of}
+use Rattle.tb_view.proofs.Whole.{length-whole, runs_viewed, whole-one, window-all}
 use Rattle.tb_chunk.proofs.pick.pick.Goals as goal
 
 pub returns-clause-views : goal.returns-clause-views

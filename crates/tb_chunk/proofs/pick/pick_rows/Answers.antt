@@ -3,8 +3,8 @@ use Rattle.std.proofs.lemmas.List.{map_more}
 use Rattle.tb_value.specs.Datum.{Datum, null}
 use Rattle.tb_chunk.specs.Col.{flat}
 use Rattle.tb_chunk.specs.Rows.{value_or_null}
-use Rattle.tb_chunk.specs.Whole.{moved_views, runs_of, view_or_none}
-use Rattle.tb_chunk.proofs.Whole.{length-runs_of, view_of_one}
+use Rattle.tb_view.specs.Whole.{moved_views, runs_of, view_or_none}
+use Rattle.tb_view.proofs.Whole.{length-runs_of, view_of_one}
 use Rattle.tb_chunk.proofs.pick.pick_rows.Goals as goal
 use Rattle.tb_chunk.proofs.pick.pick_rows.Goals.{in-Some+in_ok-push-in-Some, in-None+in_ok-push_null-in-None}
 

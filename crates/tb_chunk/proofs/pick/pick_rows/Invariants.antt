@@ -1,8 +1,8 @@
 use Rattle.std.proofs.Common.{◌≡◌, map, take}
 use Rattle.tb_chunk.specs.Col.{flat}
-use Rattle.tb_chunk.specs.Held.{AreHeld}
+use Rattle.tb_view.specs.Held.{AreHeld}
 use Rattle.tb_chunk.specs.Rows.{value_or_null}
-use Rattle.tb_chunk.specs.Whole.{AreBases, all_buffers, moved_views, runs_of, view_or_none}
+use Rattle.tb_view.specs.Whole.{AreBases, all_buffers, moved_views, runs_of, view_or_none}
 use Rattle.tb_chunk.proofs.pick.pick_rows.Given as goal
 
 abbrev pub invariant-loop-row : goal.invariant-loop-row

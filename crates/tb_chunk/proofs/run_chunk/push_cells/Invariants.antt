@@ -1,5 +1,5 @@
 use Rattle.std.proofs.Common.{◌≡◌, ◌++◌, map, replicate}
-use Rattle.tb_chunk.specs.Chunk.{or_null}
+use Rattle.tb_cell.specs.Shown.{or_null}
 use Rattle.tb_chunk.proofs.run_chunk.push_cells.Given as goal
 
 abbrev pub invariant-loop : goal.invariant-loop

@@ -3,7 +3,7 @@ use Rattle.std.proofs.Common.{subst}
 use Rattle.tb_value.specs.Typed.{HasType}
 use Rattle.tb_chunk.specs.Physical.{kind_for}
 use Rattle.tb_chunk.specs.View.{texts}
-use Rattle.tb_chunk.specs.declared.marker.Physical.{Physical}
+use Rattle.tb_cell.specs.declared.marker.Physical.{Physical}
 use Rattle.tb_chunk.proofs.TypedRows.{utf8_rows}
 use Rattle.tb_chunk.specs.TextValues.{text_values}
 use Rattle.tb_store.proofs.text_views.text_chunks.Goals as goal

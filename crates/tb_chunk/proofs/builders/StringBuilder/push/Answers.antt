@@ -5,8 +5,8 @@ use Rattle.std.proofs.lemmas.Result.{on_ok_weaker}
 use Rattle.tb_value.specs.Datum.{string}
 use Rattle.tb_value.specs.Kind as kind
 use Rattle.tb_value.specs.Typed.{HasType}
-use Rattle.tb_chunk.specs.Chunk.{or_null}
-use Rattle.tb_chunk.specs.Layout.{Building, with_row}
+use Rattle.tb_cell.specs.Shown.{or_null}
+use Rattle.tb_view.specs.Layout.{Building, with_row}
 use Rattle.tb_chunk.proofs.TypedRows.{holds_after, typed-push}
 use Rattle.tb_chunk.proofs.builders.StringBuilder.push.Goals as goal
 

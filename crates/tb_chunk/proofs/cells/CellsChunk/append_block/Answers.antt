@@ -1,6 +1,6 @@
 use Rattle.std.proofs.Common.{arith}
 use Rattle.std.proofs.lemmas.List.{length-map}
-use Rattle.tb_chunk.specs.Chunk.{or_null}
+use Rattle.tb_cell.specs.Shown.{or_null}
 use Rattle.tb_chunk.proofs.PlainRows.{all_no_views, no_views_more}
 use Rattle.tb_chunk.proofs.cells.CellsChunk.append_block.Goals as goal
 

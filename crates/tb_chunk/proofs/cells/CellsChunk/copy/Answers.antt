@@ -1,6 +1,6 @@
 use Rattle.std.proofs.Common.{◌≡◌, ◌∙◌, ◌++◌, ap, map, take}
 use Rattle.std.proofs.lemmas.List.{take-map}
-use Rattle.tb_chunk.specs.Chunk.{or_null}
+use Rattle.tb_cell.specs.Shown.{or_null}
 use Rattle.tb_chunk.proofs.PlainRows.{no_views_same}
 use Rattle.tb_chunk.proofs.cells.CellsChunk.copy.Goals as goal
 

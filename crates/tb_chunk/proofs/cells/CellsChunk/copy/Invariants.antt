@@ -1,6 +1,6 @@
 use Rattle.std.proofs.Common.{◌≡◌, Option, None, List, map, take}
-use Rattle.tb_chunk.specs.Chunk.{or_null}
-use Rattle.tb_chunk.specs.declared.view.View.{View}
+use Rattle.tb_cell.specs.Shown.{or_null}
+use Rattle.tb_view.specs.declared.view.View.{View}
 use Rattle.tb_chunk.proofs.cells.CellsChunk.copy.Given as goal
 
 abbrev pub invariant-loop-row : goal.invariant-loop-row

@@ -3,10 +3,10 @@ use Rattle.std.proofs.lemmas.List.{take_all}
 use Rattle.tb_value.specs.Datum.{Datum}
 use Rattle.tb_value.specs.See.{datum, data_of}
 use Rattle.tb_value.specs.declared.any_value.AnyValue.{AnyValue}
-use Rattle.tb_chunk.specs.Chunk.{or_null}
-use Rattle.tb_chunk.specs.Fits.{Fits}
+use Rattle.tb_cell.specs.Shown.{or_null}
+use Rattle.tb_cell.specs.Fits.{Fits}
 use Rattle.tb_chunk.specs.Fresh.{fresh_run, no_views}
-use Rattle.tb_chunk.specs.Texts.{text_of}
+use Rattle.tb_value.specs.Texts.{text_of}
 use Rattle.tb_chunk.proofs.Fresh.{fresh_cells}
 use Rattle.tb_chunk.proofs.Lists.{All-map-at}
 use Rattle.tb_chunk.proofs.cells.CellsChunk.from_values.Goals as goal

@@ -1,6 +1,6 @@
 use Rattle.std.proofs.Common.{◌≡◌, map, take}
 use Rattle.tb_value.specs.See.{datum}
-use Rattle.tb_chunk.specs.Chunk.{or_null}
+use Rattle.tb_cell.specs.Shown.{or_null}
 use Rattle.tb_chunk.proofs.cells.CellsChunk.from_values.Given as goal
 
 abbrev pub invariant-loop-value : goal.invariant-loop-value

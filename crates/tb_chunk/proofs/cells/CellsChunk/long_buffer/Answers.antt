@@ -1,5 +1,5 @@
 use Rattle.std.proofs.Common.{ap, sym}
-use Rattle.tb_chunk.specs.Moved.{used_buffer}
+use Rattle.tb_view.specs.Moved.{used_buffer}
 use Rattle.tb_chunk.proofs.Used.{no_view_at}
 use Rattle.tb_chunk.proofs.cells.CellsChunk.long_buffer.Goals as goal
 

@@ -1,13 +1,6 @@
-use Rattle.std.proofs.Common.{◌∙◌, ap, sym}
-use Rattle.std.specs.Prelude.{is_none}
-use Rattle.std.specs.List.{count_by}
-use Rattle.tb_chunk.proofs.Nulls.{nulls_behind, nulls_of_cells}
+use Rattle.std.proofs.Common.{◌∙◌, sym}
+use Rattle.tb_cell.proofs.Nulls.{nulls_of_cells}
 use Rattle.tb_chunk.proofs.cells.CellsChunk.null_count.Goals as goal
 
 pub returns : goal.returns
-returns g c =
-    c.absent_in.ensures
-    ∙ ap (count_by is_none) c.deref.ensures.value
-    ∙ sym (nulls_behind c.self.inside.values.items c.self.inside.rest.items)
-    ∙ ap (count_by is_none) c.self.view_is
-    ∙ sym (nulls_of_cells g.N.Cell.shows g.N.Cell.some c.args.self.now)
+returns g c = c.none_count.ensures ∙ sym (nulls_of_cells g.N.Cell.shows g.N.Cell.some c.args.self.now)

@@ -5,11 +5,11 @@ use Rattle.tb_value.specs.Datum.{null}
 use Rattle.tb_value.specs.See.{datum, data_of}
 use Rattle.tb_value.specs.Kind as kind
 use Rattle.std.proofs.lemmas.List.Elements.{All-weaker}
-use Rattle.tb_chunk.specs.Fits.{Fits}
+use Rattle.tb_cell.specs.Fits.{Fits}
 use Rattle.tb_value.specs.declared.any_value.AnyValue.{AnyValue}
 use Rattle.tb_chunk.specs.Fresh.{fresh_run}
 use Rattle.tb_chunk.proofs.Fresh.{fresh_nulls}
-use Rattle.tb_chunk.proofs.Fitting.{null-only}
+use Rattle.tb_cell.proofs.Fitting.{null-only}
 use Rattle.tb_chunk.proofs.Lists.{replicate-nulls}
 use Rattle.tb_chunk.proofs.chunk.UsizeChunk.from_values.Goals as goal
 

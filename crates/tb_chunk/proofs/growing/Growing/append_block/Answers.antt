@@ -1,6 +1,6 @@
 use Rattle.std.proofs.Common.{◌≡◌, ◌∙◌, ◌++◌, [], ap, drop, get_or, map, sym, take}
 use Rattle.std.proofs.lemmas.List.{get_or-map}
-use Rattle.tb_chunk.specs.Moved.{moved}
+use Rattle.tb_view.specs.Moved.{moved}
 use Rattle.tb_chunk.proofs.PlainRows.{none_moved}
 use Rattle.tb_chunk.proofs.growing.Growing.append_block.Goals as goal
 

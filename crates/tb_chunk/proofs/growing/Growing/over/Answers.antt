@@ -1,8 +1,8 @@
 use Rattle.std.proofs.Common.{arith, ◌≡◌, ◌<◌, ◌++◌, ◌∷◌, [], ◌∙◌, ◌+◌, ap, sym, length, map, take, length-take-le}
 use Rattle.std.proofs.lemmas.List.{map_more, length-map}
-use Rattle.tb_chunk.specs.Whole.{runs_of}
-use Rattle.tb_chunk.proofs.Held.{AreHeld-nil, AreHeld-push}
-use Rattle.tb_chunk.proofs.Whole.{bases_more, buffers_more}
+use Rattle.tb_view.specs.Whole.{runs_of}
+use Rattle.tb_view.proofs.Held.{AreHeld-nil, AreHeld-push}
+use Rattle.tb_view.proofs.Whole.{bases_more, buffers_more}
 use Rattle.tb_chunk.proofs.growing.Growing.over.Goals as goal
 
 pub loop-other-init : goal.loop-other-init

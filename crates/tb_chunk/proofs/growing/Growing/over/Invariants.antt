@@ -1,6 +1,6 @@
 use Rattle.std.proofs.Common.{◌≡◌, ◌<◌, ℕ, [], get_or, map, take}
-use Rattle.tb_chunk.specs.Held.{AreHeld}
-use Rattle.tb_chunk.specs.Whole.{all_buffers, base_of, runs_of}
+use Rattle.tb_view.specs.Held.{AreHeld}
+use Rattle.tb_view.specs.Whole.{all_buffers, base_of, runs_of}
 use Rattle.tb_chunk.proofs.growing.Growing.over.Given as goal
 
 abbrev pub invariant-loop-other : goal.invariant-loop-other

@@ -1,5 +1,5 @@
 use Rattle.std.proofs.Common.{None, get_or}
-use Rattle.tb_chunk.proofs.Held.{Holds-at, StandsAt-from}
+use Rattle.tb_view.proofs.Held.{Holds-at, StandsAt-from}
 use Rattle.tb_chunk.proofs.growing.Growing.push.Goals as goal
 
 pub push_from-requires-clause-held : goal.push_from-requires-clause-held

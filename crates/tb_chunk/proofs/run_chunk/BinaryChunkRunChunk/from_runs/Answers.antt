@@ -1,8 +1,9 @@
 use Rattle.std.proofs.Common.{◌∙◌, ap, map}
 use Rattle.tb_value.specs.Datum.{binary}
 use Rattle.tb_value.specs.Kind as kind
-use Rattle.tb_chunk.specs.Chunk.{or_null}
-use Rattle.tb_chunk.specs.RunLayout.{data_runs, expansion}
+use Rattle.tb_cell.specs.Shown.{or_null}
+use Rattle.tb_view.specs.RunViews.{data_runs}
+use Rattle.tb_chunk.specs.RunLayout.{expansion}
 use Rattle.tb_chunk.proofs.RunLayout.{all_fit, run_texts}
 use Rattle.tb_chunk.proofs.Rows.{binaries_again}
 use Rattle.tb_chunk.proofs.run_chunk.BinaryChunkRunChunk.from_runs.Goals as goal

@@ -3,9 +3,10 @@ use Rattle.std.proofs.lemmas.List.{take_all}
 use Rattle.tb_value.specs.Datum.{Datum}
 use Rattle.tb_value.specs.See.{datum}
 use Rattle.tb_value.specs.declared.any_value.AnyValue.{AnyValue}
-use Rattle.tb_chunk.specs.Chunk.{or_null}
-use Rattle.tb_chunk.specs.Fits.{Fits}
-use Rattle.tb_chunk.specs.RunLayout.{data_runs, expansion}
+use Rattle.tb_cell.specs.Shown.{or_null}
+use Rattle.tb_cell.specs.Fits.{Fits}
+use Rattle.tb_view.specs.RunViews.{data_runs}
+use Rattle.tb_chunk.specs.RunLayout.{expansion}
 use Rattle.tb_chunk.proofs.Lists.{All-map-at}
 use Rattle.tb_chunk.proofs.RunLayout.{expansion_more, laid_cells}
 use Rattle.tb_chunk.proofs.run_chunk.CellsRunChunk.from_runs.Goals as goal

@@ -1,8 +1,9 @@
 use Rattle.std.proofs.Common.{◌∙◌, ap, map}
 use Rattle.tb_value.specs.Datum.{string}
 use Rattle.tb_value.specs.Kind as kind
-use Rattle.tb_chunk.specs.Chunk.{or_null}
-use Rattle.tb_chunk.specs.RunLayout.{data_runs, expansion}
+use Rattle.tb_cell.specs.Shown.{or_null}
+use Rattle.tb_view.specs.RunViews.{data_runs}
+use Rattle.tb_chunk.specs.RunLayout.{expansion}
 use Rattle.tb_chunk.proofs.RunLayout.{all_fit, run_texts}
 use Rattle.tb_chunk.proofs.Rows.{strings_again, utf8_all}
 use Rattle.tb_chunk.proofs.run_chunk.StringChunkRunChunk.from_runs.Goals as goal

@@ -3,7 +3,7 @@ use Rattle.tb_value.specs.SeeKind.{kind_of}
 use Rattle.tb_chunk.specs.Col.{physical}
 use Rattle.tb_chunk.specs.Physical.{kind_for}
 use Rattle.tb_chunk.specs.Seen.{storage}
-use Rattle.tb_chunk.specs.contracts.marker.Physical.{the_type}
+use Rattle.tb_cell.specs.contracts.marker.Physical.{the_type}
 use denote.Enum.Bare.{differs_false}
 use Rattle.tb_store.proofs.series.Series.from_arrays.Goals as goal
 

@@ -1,8 +1,0 @@
-use Rattle.std.proofs.Common.{◌≡◌, map, take}
-use Rattle.tb_value.specs.See.{datum}
-use Rattle.tb_chunk.specs.Layout.{built}
-use Rattle.tb_chunk.specs.Texts.{text_of}
-use Rattle.tb_chunk.proofs.view_chunk.ViewChunk.from_values.Given as goal
-
-abbrev pub invariant-loop-value : goal.invariant-loop-value
-invariant-loop-value l = l.builder ≡ built (map (λ v. text_of (datum v)) (take l.value-index l.values))

@@ -1,5 +1,0 @@
-use Rattle.std.proofs.Common.{◌≡◌, take}
-use Rattle.tb_chunk.proofs.view_chunk.copy_buffers.Given as goal
-
-abbrev pub invariant-loop-buffer : goal.invariant-loop-buffer
-invariant-loop-buffer l = l.copies.items ≡ take l.buffer-index l.buffers

@@ -1,0 +1,7 @@
+pub mod Filled
+pub mod Held
+pub mod Lists
+pub mod Moved
+pub mod RunViews
+pub mod Views
+pub mod Whole

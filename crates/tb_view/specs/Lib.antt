@@ -1,0 +1,6 @@
+pub mod Held
+pub mod Layout
+pub mod Moved
+pub mod RunViews
+pub mod View
+pub mod Whole
