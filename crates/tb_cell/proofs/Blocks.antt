@@ -1,12 +1,62 @@
 -- Facts on optional values, of which the first are there.
-use Rattle.std.proofs.Common.{arith, ℕ, ◌≡◌, ◌≤◌, ◌+◌, ◌∙◌, ◌++◌, ◌∷◌, [], List, Option, Some, ap, sym, refl, length, map, take, drop, append-nil, length-drop}
+use Rattle.std.proofs.Common.{arith, ℕ, ◌≡◌, ◌≤◌, ◌<◌, ◌+◌, ◌-◌, Bool, true, false, inl, inr, ◌∙◌, ◌++◌, ◌∷◌, [], List, Option, Some, None, get_or, ap, sym, refl, length, map, min, take, drop, append-nil, length-drop}
+use Rattle.std.specs.Prelude.{◌⊎◌, if◌then◌else◌, is_none, is_some}
+use Rattle.std.specs.List.{list_any, prefix_len}
 use Rattle.std.proofs.lemmas.List.{drop-append-le, drop-map, length-map, map-append, take-append-le, take-map}
 use Rattle.tb_value.specs.Datum.{Datum}
-use Rattle.tb_cell.specs.Shown.{or_null}
+use Rattle.tb_cell.specs.Shown.{block_len, or_null}
 
 no_more : {X : Type 0} (xs : List X) → length xs ≡ 0 → xs ≡ []
 no_more [] none = refl
 no_more (x ∷ xs) none = absurd (omega arith)
+
+either_none : (b : Bool) (n : ℕ) → 0 ≡ n → 0 ≡ (if b then 0 else n)
+either_none true n e = refl
+either_none false n e = e
+
+-- the first of the values that are marked is absent
+module _ {N : Type 0} where
+  pub none_absent : (vs : List N) (rest : List (Option N)) → length rest ≡ 0 → list_any is_none (map Some vs ++ rest) ≡ false
+  none_absent [] [] h = refl
+  none_absent [] (c ∷ rest) h = absurd (omega arith)
+  none_absent (v ∷ vs) rest h = none_absent vs rest h
+
+  pub some_absent : (vs : List N) (rest : List (Option N)) → get_or rest 0 None ≡ None → 0 < length rest → list_any is_none (map Some vs ++ rest) ≡ true
+  some_absent [] [] first h = absurd (omega arith)
+  some_absent [] (None ∷ rest) first h = refl
+  some_absent [] (Some x ∷ rest) first h = absurd (cc)
+  some_absent (v ∷ vs) rest first h = some_absent vs rest first h
+
+  pub length-leading : (vs : List N) (rest : List (Option N)) → get_or rest 0 None ≡ None → prefix_len is_some (map Some vs ++ rest) ≡ length vs
+  length-leading [] [] first = refl
+  length-leading [] (None ∷ rest) first = refl
+  length-leading [] (Some x ∷ rest) first = absurd (cc)
+  length-leading (v ∷ vs) rest first =
+      let e : prefix_len is_some (map Some vs ++ rest) ≡ length vs = length-leading vs rest first in
+      omega (arith, e)
+
+  -- no block where a value is absent here, and none past the values that are there
+  pub no_block : (vs theirs : List N) (rest others : List (Option N)) (xs zs : List (Option N)) (from count : ℕ)
+      → get_or rest 0 None ≡ None → get_or others 0 None ≡ None → map Some vs ++ rest ≡ xs → map Some theirs ++ others ≡ zs
+      → (0 < length rest) ⊎ (length theirs ≤ from)
+      → 0 ≡ (if list_any is_none xs then 0 else block_len zs from count)
+  no_block vs theirs rest others xs zs from count first second was other (inl some) =
+      let absent : list_any is_none xs ≡ true = ap (list_any is_none) (sym was) ∙ some_absent vs rest first some in
+      rw absent refl
+  no_block vs theirs rest others xs zs from count first second was other (inr past) =
+      let leading : prefix_len is_some zs ≡ length theirs = ap (prefix_len is_some) (sym other) ∙ length-leading theirs others second in
+      let none : 0 ≡ min (from + count) (length theirs) - from = omega (arith, past) in
+      either_none (list_any is_none xs) (block_len zs from count) (none ∙ ap (λ k. min (from + count) k - from) (sym leading))
+
+  -- the block that is taken where none is absent here
+  pub some_block : (vs theirs : List N) (rest others : List (Option N)) (xs zs : List (Option N)) (from count n : ℕ)
+      → length rest ≡ 0 → get_or others 0 None ≡ None → map Some vs ++ rest ≡ xs → map Some theirs ++ others ≡ zs
+      → n ≡ min (from + count) (length theirs) - from
+      → n ≡ (if list_any is_none xs then 0 else block_len zs from count)
+  some_block vs theirs rest others xs zs from count n none second was other e =
+      let there : list_any is_none xs ≡ false = ap (list_any is_none) (sym was) ∙ none_absent vs rest none in
+      let leading : prefix_len is_some zs ≡ length theirs = ap (prefix_len is_some) (sym other) ∙ length-leading theirs others second in
+      rw there (e ∙ ap (λ k. min (from + count) k - from) (sym leading))
 
 module _ {N : Type 0} (shows : N → Datum) where
   pub shown_values : (vs : List N) → map (or_null shows) (map Some vs) ≡ map shows vs

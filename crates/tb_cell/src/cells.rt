@@ -1,10 +1,10 @@
 //! Optional values of one type.
-ghost use Rattle.std.specs.Prelude.{◌≡◌, ◌<◌, ◌≤◌, ◌+◌, ◌^◌, ◌++◌, ◌∷◌, [], IfOk, OnOk, OnErr, Some, None, MatchOption, is_none, length, get_or, map, take, drop};
-ghost use Rattle.std.specs.List.{Contains, count_by};
+ghost use Rattle.std.specs.Prelude.{◌≡◌, ◌<◌, ◌≤◌, ◌+◌, ◌^◌, ◌++◌, ◌∷◌, [], if◌then◌else◌, IfOk, OnOk, OnErr, Some, None, MatchOption, is_none, length, get_or, map, take, drop};
+ghost use Rattle.std.specs.List.{Contains, count_by, list_any};
 ghost use Rattle.std.specs.Option.{option_map};
 ghost use Rattle.tb_value.specs.See.{datum};
-ghost use Rattle.tb_cell.specs.Shown.{or_null};
 ghost use Rattle.tb_cell.specs.Fits.{Fits};
+ghost use Rattle.tb_cell.specs.Shown.{block_len, or_null};
 
 use crate::cell::Cell;
 use std::alloc::Global;
@@ -121,7 +121,11 @@ impl<N: Drop> Cells<N> {
 
 impl<N: Cell> Cells<N> {
     /// Appends the values of another's rows from `from` on, up to so many and up to its first Null, where there is no Null here yet,
-    /// and tells how many these are.
+    /// and tells how many these are. After a refusal some of them may stand there.
+    ///
+    /// # Errors
+    ///
+    /// OutOfMemory.
     pub fn append_values(
         &mut self,
         alloc: Global,
@@ -132,6 +136,7 @@ impl<N: Cell> Cells<N> {
         requires room { length self.old + count < 2 ^ 64 }
         requires within { from + count ≤ length other.now }
         ensures count { IfOk result (λ n. n ≤ count) }
+        ensures exact { IfOk result (λ n. n ≡ (if list_any is_none self.old then 0 else block_len other.now from count)) }
         ensures shown { IfOk result (λ n. map (or_null N.shows) self.new
             ≡ map (or_null N.shows) self.old ++ take n (drop from (map (or_null N.shows) other.now))) }
     {
