@@ -1,5 +1,5 @@
 -- The first row of each code, and when it is the first row of the same values.
-use Rattle.std.proofs.Common.{◌≡◌, ◌∙◌, ◌+◌, ◌<◌, ◌≤◌, ◌==◌, ℕ, Bool, true, false, cond, eqb, List, [], ◌∷◌, ◌++◌, get_or, length, Option, Some, None, refl, sym, ap, subst, arith, ⊎_elim}
+use Rattle.std.proofs.Common.{◌≡◌, ◌∙◌, ◌+◌, ◌<◌, ◌≤◌, ℕ, Bool, true, false, cond, eqb, List, [], ◌∷◌, get_or, length, Option, Some, None, refl, sym, ap, arith, ⊎_elim}
 use Rattle.std.specs.Prelude.{unwrap_or}
 use Rattle.std.specs.Borrow.{Bor}
 use Rattle.std.specs.Cmp.{IsEquivalence, Equal-is, nat_cmp_is, nat_eq_equiv}
@@ -9,8 +9,8 @@ use Rattle.std.specs.Option.{option_or}
 use Rattle.std.specs.Ordering.{is_eq, nat_cmp}
 use Rattle.std.specs.declared.cmp.Ordering.TheVariants.{Equal}
 use Rattle.std.proofs.lemmas.Bool.{both_ways, cases_lt, eq-eqb, eqb-true, false_from_ne_true}
-use Rattle.std.proofs.lemmas.List.{get_or_past, length-map}
-use Rattle.std.proofs.lemmas.List.FromFn.{get_or-map-range_with_len, get_or-range_with_len, length-map-range_with_len, length-range_with_len}
+use Rattle.std.proofs.lemmas.List.{get_or_past}
+use Rattle.std.proofs.lemmas.List.FromFn.{get_or-map-range_with_len, length-map-range_with_len, length-range_with_len}
 use Rattle.std.proofs.lemmas.List.Folds.{find-append, find_at}
 use Rattle.std.proofs.lemmas.List.Sums.{fails_before_first, passes_at_first, position_or_len_is}
 use Rattle.std.proofs.lemmas.Option.{unwrap_or-slice_get}
@@ -18,18 +18,13 @@ use Rattle.tb_value.proofs.RowNumbers.{row_numbers_more}
 use Rattle.tb_value.specs.Pairs.{row_numbers}
 use Rattle.tb_value.specs.Proved.ValueTests.{pulled}
 use Rattle.tb_chunk.specs.Col.{Col}
-use Rattle.tb_rows.specs.Coded.{coded_row, coded_rows, leader, no_row, same_code, AreAsLed, AreLeaders}
+use Rattle.tb_rows.specs.Coded.{coded_row, coded_rows, leader, no_row, row_in, same_code, same_values, AreAsLed, AreCoded, AreLeaders}
 use Rattle.tb_rows.specs.Fields.{fields_at, row_code, same_at}
 use Rattle.tb_rows.specs.InGroups.{named_rows}
 use Rattle.tb_rows.specs.Proved.KeyTests.{fields-Decides}
 use Rattle.tb_rows.specs.declared.coded.CodedRow.{CodedRow}
-use Rattle.tb_rows.proofs.Leaders.{leader_low, leader_same, not_before}
-
-both : (a b : Bool) → (a ≡ true → b ≡ true) → (b ≡ true → a ≡ true) → a ≡ b
-both true true f g = refl
-both true false f g = sym (f refl)
-both false true f g = g refl
-both false false f g = refl
+use Rattle.tb_rows.proofs.Leaders.{both, leader_low, not_before, place-map, row_at}
+use Rattle.tb_rows.proofs.MemberRows.{map-agree_below}
 
 tie_is : (c q : ℕ) → is_eq (nat_cmp c q) ≡ eqb c q
 tie_is c q =
@@ -74,9 +69,6 @@ module _ (code : ℕ → ℕ) where
   abbrev test : ℕ → ℕ → Bool
   test i j = eqb (code i) (code j)
 
-  row_at : (n k d : ℕ) → k < n → get_or (row_numbers n) k d ≡ k
-  row_at n k d l = get_or-range_with_len 0 n k d l ∙ omega arith
-
   -- the first row with its code is the row's leader
   pub first_leads : (n p : ℕ) → p < n → unwrap_or (first_with p (code p)) p ≡ leader test n p
   first_leads n p low =
@@ -104,45 +96,73 @@ module _ (code : ℕ → ℕ) where
 -- THE ROWS OF COLUMNS
 
 -- leaders by codes are leaders where each row has the values of its own
-module _ (cs : List (Bor Col)) (name : ℕ → ℕ) (n : ℕ) (rows : List CodedRow) (are : rows ≡ coded_rows cs name n) (leaders : List ℕ)
-    (led : AreLeaders (same_code rows) (length rows) leaders) (as_led : AreAsLed cs rows leaders (length rows)) where
-  long : length rows ≡ n
-  long = ap length are ∙ length-map-range_with_len (coded_row cs name) 0 n
-
-  row_is : (j : ℕ) → j < n → get_or rows j no_row ≡ coded_row cs name j
-  row_is j low = ap (λ (rs : List CodedRow). get_or rs j no_row) are ∙ get_or-map-range_with_len (coded_row cs name) 0 n j j no_row low (omega arith)
-
+module _ (cs : List (Bor Col)) (rows : List CodedRow) (coded : AreCoded cs rows) (leaders : List ℕ) (led : AreLeaders (same_code rows) (length rows) leaders)
+    (as_led : AreAsLed cs rows leaders (length rows)) where
   abbrev code_of : ℕ → ℕ
   code_of i = (get_or rows i no_row).code
 
+  code_is : (j : ℕ) → j < length rows → code_of j ≡ row_code (fields_at cs (row_in rows j))
+  code_is j low =
+      ap (λ (rs : List CodedRow). (get_or rs j no_row).code) coded
+      ∙ ap (λ (r : CodedRow). r.code) (get_or-map-range_with_len (coded_row cs (row_in rows)) 0 (length rows) j j no_row low (omega arith))
+
   -- rows of the same values have one code
-  one_code : (i j : ℕ) → i < n → j < n → named_rows name (same_at cs) i j ≡ true → same_code rows i j ≡ true
+  one_code : (i j : ℕ) → i < length rows → j < length rows → same_values cs rows i j ≡ true → same_code rows i j ≡ true
   one_code i j low high e =
       eq-eqb (code_of i) (code_of j)
-      (ap (λ (r : CodedRow). r.code) (row_is i low) ∙ ap row_code ((fields-Decides (fields_at cs (name i)) (fields_at cs (name j))).0 e) ∙ sym (ap (λ (r : CodedRow). r.code) (row_is j high)))
+      (code_is i low ∙ ap row_code ((fields-Decides (fields_at cs (row_in rows i)) (fields_at cs (row_in rows j))).0 e) ∙ sym (code_is j high))
 
-  leader_is : (j : ℕ) → j < n → get_or leaders j 0 ≡ leader (named_rows name (same_at cs)) n j
+  leader_is : (j : ℕ) → j < length rows → get_or leaders j 0 ≡ leader (same_values cs rows) (length rows) j
   leader_is j low =
-      let test : ℕ → ℕ → Bool = named_rows name (same_at cs) in
-      let below : j < length rows = omega (arith, low, long) in
-      let l : ℕ = leader (same_code rows) (length rows) j in
-      let is : get_or leaders j 0 ≡ l = led.each j below in
-      let no_later : l ≤ j = leader_low (same_code rows) (test_equiv code_of) (length rows) j below in
+      let n : ℕ = length rows in
+      let test : ℕ → ℕ → Bool = same_values cs rows in
+      let l : ℕ = leader (same_code rows) n j in
+      let is : get_or leaders j 0 ≡ l = led.each j low in
+      let no_later : l ≤ j = leader_low (same_code rows) (test_equiv code_of) n j low in
       let there : l < n = omega (arith, no_later, low) in
-      let own : same_at cs (name l) (name j) ≡ true =
-      sym (λ t. same_at cs (ap (λ (r : CodedRow). r.row) (ap (λ k. get_or rows k no_row) is ∙ row_is l there) t) (ap (λ (r : CodedRow). r.row) (row_is j low) t)) ∙ as_led j below in
+      let own : test l j ≡ true = sym (ap (λ k. test k j) is) ∙ as_led j low in
       is ∙ sym (position_or_len_is (λ i. test i j) (row_numbers n) l 0 (omega (arith, there, length-range_with_len 0 n))
       (λ k before.
       let under : k < n = omega (arith, before, there) in
-      let not : same_code rows k j ≡ false = not_before (same_code rows) (test_equiv code_of) (length rows) j k (omega (arith, under, long)) before in
-      ap (λ i. test i j) (row_at code_of n k 0 under) ∙ false_from_ne_true (test k j) (λ e. both_ways (same_code rows k j) not (one_code k j under low e)))
-      (λ within. ap (λ i. test i j) (row_at code_of n l 0 there) ∙ own))
+      let not : same_code rows k j ≡ false = not_before (same_code rows) (test_equiv code_of) n j k under before in
+      ap (λ i. test i j) (row_at n k 0 under) ∙ false_from_ne_true (test k j) (λ e. both_ways (same_code rows k j) not (one_code k j under low e)))
+      (λ within. ap (λ i. test i j) (row_at n l 0 there) ∙ own))
 
-  pub are_leaders : AreLeaders (named_rows name (same_at cs)) n leaders
-  are_leaders = record { count = led.count ∙ long; each = leader_is }
+  pub are_leaders : AreLeaders (same_values cs rows) (length rows) leaders
+  are_leaders = record { count = led.count; each = leader_is }
 
 -- a leader is a row
 pub leads_low : (rows : List CodedRow) (leaders : List ℕ) → AreLeaders (same_code rows) (length rows) leaders → (j : ℕ) → j < length rows → get_or leaders j 0 < length rows
 leads_low rows leaders led j low =
     let no_later = leader_low (same_code rows) (test_equiv (λ i. (get_or rows i no_row).code)) (length rows) j low in
     omega (arith, led.each j low, no_later, low)
+
+-- ROWS BY THEIR NAMES
+
+module _ (cs : List (Bor Col)) (name : ℕ → ℕ) (n : ℕ) (rows : List CodedRow) (are : rows ≡ coded_rows cs name n) where
+  pub rows_long : length rows ≡ n
+  rows_long = ap length are ∙ length-map-range_with_len (coded_row cs name) 0 n
+
+  row_named : (j : ℕ) → j < n → row_in rows j ≡ name j
+  row_named j low = ap (λ (rs : List CodedRow). (get_or rs j no_row).row) are ∙ ap (λ (r : CodedRow). r.row) (get_or-map-range_with_len (coded_row cs name) 0 n j j no_row low (omega arith))
+
+  -- rows with codes are those that they are called
+  pub own_coded : AreCoded cs rows
+  own_coded =
+      are
+      ∙ map-agree_below (coded_row cs name) (coded_row cs (row_in rows)) n no_row
+      (λ j low. ap (λ (i : ℕ). coded_row cs (λ _. i) j) (sym (row_named j low)))
+      ∙ ap (coded_rows cs (row_in rows)) (sym rows_long)
+
+  leader_named : (j : ℕ) → j < n → leader (same_values cs rows) n j ≡ leader (named_rows name (same_at cs)) n j
+  leader_named j low =
+      let p : ℕ → Bool = λ i. same_at cs i (row_in rows j) in
+      sym (place-map p (row_in rows) (row_numbers n)) ∙ ap (position_or_len p) (map-agree_below (row_in rows) name n 0 row_named) ∙ place-map p name (row_numbers n)
+      ∙ ap (λ (k : ℕ). position_or_len (λ i. same_at cs (name i) k) (row_numbers n)) (row_named j low)
+
+  -- and so are their leaders
+  pub leaders_named : (leaders : List ℕ) → AreLeaders (same_values cs rows) (length rows) leaders → AreLeaders (named_rows name (same_at cs)) n leaders
+  leaders_named leaders led = record {
+    count = led.count ∙ rows_long;
+    each = λ j low. led.each j (omega (arith, low, rows_long)) ∙ ap (λ m. leader (same_values cs rows) m j) rows_long ∙ leader_named j low;
+  }

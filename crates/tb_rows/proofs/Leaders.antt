@@ -42,11 +42,11 @@ head_kept p (x ∷ xs) d = by (p x) (head_kept p xs d)
     by true h = refl
     by false h = let more : suc (position_or_len p xs) ≡ 1 + position_or_len p xs = omega arith in h ∙ ap (λ k. get_or (x ∷ xs) k d) more
 
-place-map : {X Y : Type 0} (p : Y → Bool) (f : X → Y) (xs : List X) → position_or_len p (map f xs) ≡ position_or_len (λ x. p (f x)) xs
+pub place-map : {X Y : Type 0} (p : Y → Bool) (f : X → Y) (xs : List X) → position_or_len p (map f xs) ≡ position_or_len (λ x. p (f x)) xs
 place-map p f [] = refl
 place-map p f (x ∷ xs) = ap (λ n. cond (not (p (f x))) (1 + n) 0) (place-map p f xs)
 
-both : (a b : Bool) → (a ≡ true → b ≡ true) → (b ≡ true → a ≡ true) → a ≡ b
+pub both : (a b : Bool) → (a ≡ true → b ≡ true) → (b ≡ true → a ≡ true) → a ≡ b
 both true true f g = refl
 both true false f g = sym (f refl)
 both false true f g = g refl
@@ -70,12 +70,12 @@ pub record AreLed (test : ℕ → ℕ → Bool) (n : ℕ) (rows : List CodedRow)
 
 -- THE FIRST OF THE ROWS THAT ARE THE SAME
 
-module _ (test : ℕ → ℕ → Bool) (same : IsEquivalence test) (n : ℕ) where
-  row_at : (k d : ℕ) → k < n → get_or (row_numbers n) k d ≡ k
-  row_at k d l = get_or-range_with_len 0 n k d l ∙ omega arith
+pub row_at : (n k d : ℕ) → k < n → get_or (row_numbers n) k d ≡ k
+row_at n k d l = get_or-range_with_len 0 n k d l ∙ omega arith
 
+module _ (test : ℕ → ℕ → Bool) (same : IsEquivalence test) (n : ℕ) where
   pub not_before : (j i : ℕ) → i < n → i < leader test n j → test i j ≡ false
-  not_before j i l low = ap (λ k. test k j) (sym (row_at i 0 l)) ∙ fails_before_first (λ i. test i j) (row_numbers n) i 0 low
+  not_before j i l low = ap (λ k. test k j) (sym (row_at n i 0 l)) ∙ fails_before_first (λ i. test i j) (row_numbers n) i 0 low
 
   -- it is no later than the row
   pub leader_low : (j : ℕ) → j < n → leader test n j ≤ j
@@ -84,7 +84,7 @@ module _ (test : ℕ → ℕ → Bool) (same : IsEquivalence test) (n : ℕ) whe
   pub leader_same : (j : ℕ) → j < n → test (leader test n j) j ≡ true
   leader_same j l =
       let low : leader test n j < n = omega (arith, leader_low j l) in
-      ap (λ k. test k j) (sym (row_at (leader test n j) 0 low))
+      ap (λ k. test k j) (sym (row_at n (leader test n j) 0 low))
       ∙ passes_at_first (λ i. test i j) (row_numbers n) 0 (omega (arith, low, length-range_with_len 0 n))
 
   -- rows that are the same have one leader

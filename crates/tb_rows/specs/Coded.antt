@@ -9,6 +9,7 @@ use Rattle.std.specs.declared.cmp.Ordering.{Ordering}
 use Rattle.tb_value.specs.Pairs.{row_numbers}
 use Rattle.tb_chunk.specs.Col.{Col}
 use Rattle.tb_rows.specs.Fields.{fields_at, row_code, same_at}
+use Rattle.tb_rows.specs.InGroups.{named_rows}
 use Rattle.tb_rows.specs.Order.{value_cmp}
 use Rattle.tb_rows.specs.declared.coded.CodedRow.{CodedRow}
 
@@ -23,6 +24,18 @@ coded_rows cs name n = map (coded_row cs name) (row_numbers n)
 -- no row
 abbrev pub no_row : CodedRow
 no_row = record { code = 0; row = 0; place = 0 }
+
+-- the row of a place
+abbrev pub row_in : List CodedRow → ℕ → ℕ
+row_in rows j = (slice_index_or rows j no_row).row
+
+-- each stands at its place, with the code of its values
+abbrev pub AreCoded : List (Bor Col) → List CodedRow → Type 0
+AreCoded cs rows = rows ≡ coded_rows cs (row_in rows) (length rows)
+
+-- whether the rows of two places have the same values
+abbrev pub same_values : List (Bor Col) → List CodedRow → ℕ → ℕ → Bool
+same_values cs rows = named_rows (row_in rows) (same_at cs)
 
 -- by codes
 abbrev pub code_cmp : CodedRow → CodedRow → Ordering

@@ -1,5 +1,5 @@
-//! The first row of each code, and whether rows of one code are the same.
-ghost use Rattle.std.specs.Prelude.{◌≡◌, ◌≤◌, ◌<◌, ℕ, true, if◌then◌else◌, length, slice_index_or, unwrap_or, IfOk, OnOk, Some};
+//! The first row of each code, where codes are few, and whether rows of one code are the same.
+ghost use Rattle.std.specs.Prelude.{◌≡◌, ◌≤◌, ◌<◌, ℕ, true, if◌then◌else◌, length, slice_index_or, unwrap_or, IfOk, IfSome, OnOk, Some};
 ghost use Rattle.std.specs.BTreeMap.{get, is_at};
 ghost use Rattle.std.specs.Ordering.{nat_cmp};
 ghost use Rattle.tb_rows.specs.Coded.{no_row, same_code, AreAsLed, AreLeaders};
@@ -11,6 +11,9 @@ use std::alloc::Global;
 use std::collections::BTreeMap;
 use tb_store::Series;
 use tb_value::{IdxSize, MAX_ROWS, OutOfMemory};
+
+// Rows of more codes are sorted: a map of so many is slow.
+const MANY_CODES: usize = 4_096;
 
 // The place that is kept for a code: this one, where none was.
 fn place_of(
@@ -35,17 +38,23 @@ fn code_at(rows: &[CodedRow], at: usize) -> u64
     rows[at].code
 }
 
-/// For each row the first one with the same code.
-pub(crate) fn code_leaders(alloc: Global, rows: &[CodedRow]) -> Result<Vec<IdxSize>, OutOfMemory>
+/// For each row the first one with the same code, or none where there are many codes.
+pub(crate) fn code_leaders(
+    alloc: Global,
+    rows: &[CodedRow],
+) -> Result<Option<Vec<IdxSize>>, OutOfMemory>
     requires { length rows.now ≤ MAX_ROWS }
-    ensures { IfOk result (λ v. AreLeaders (same_code rows.now) (length rows.now) v.items) }
+    ensures { IfOk result (λ o. IfSome o (λ v. AreLeaders (same_code rows.now) (length rows.now) v.items)) }
 {
     let mut places = BTreeMap::new(alloc);
     let mut leaders = Vec::with_capacity(alloc, rows.len())?;
     for at in 0..rows.len() {
+        if places.len() > MANY_CODES {
+            return Ok(None);
+        }
         leaders.push(place_of(&mut places, code_at(rows, at), at as IdxSize)?)?;
     }
-    Ok(leaders)
+    Ok(Some(leaders))
 }
 
 // Whether a row has the values of its leader, which may be the row itself.

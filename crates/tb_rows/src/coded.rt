@@ -1,6 +1,6 @@
 //! Rows sorted by their codes and values, and the first row of the same values.
-ghost use Rattle.std.specs.Prelude.{◌≡◌, ◌==◌, ◌<◌, true, if◌then◌else◌, length, slice_index_or, IfOk, OnOk};
-ghost use Rattle.tb_rows.specs.Coded.{code_cmp, coded_cmp, coded_rows, goes_on, no_row, same_coded, AreLeaders, AreSorted, AreToldByCodes};
+ghost use Rattle.std.specs.Prelude.{◌≡◌, ◌==◌, ◌<◌, ◌≤◌, true, if◌then◌else◌, length, slice_index_or, IfOk, IfSome, OnOk};
+ghost use Rattle.tb_rows.specs.Coded.{code_cmp, coded_cmp, coded_rows, goes_on, no_row, same_coded, same_values, AreCoded, AreLeaders, AreSorted, AreToldByCodes};
 ghost use Rattle.tb_rows.specs.Fields.{same_at};
 ghost use Rattle.tb_rows.specs.InGroups.{named_rows};
 ghost use Rattle.tb_rows.specs.Members.{name_of, AreNamed};
@@ -11,7 +11,7 @@ use crate::members::RowNames;
 use std::alloc::Global;
 use std::cmp::Ordering;
 use tb_store::Series;
-use tb_value::{IdxSize, OutOfMemory};
+use tb_value::{IdxSize, MAX_ROWS, OutOfMemory};
 
 /// The row of a place, with the code of its values.
 #[derive(Clone, Copy)]
@@ -135,16 +135,14 @@ fn leader_at(
 fn sorted_leaders(
     alloc: Global,
     columns: &[&Series],
-    names: RowNames<'_>,
-    len: usize,
+    mut rows: Vec<CodedRow>,
 ) -> Result<Vec<IdxSize>, OutOfMemory>
-    requires { AreNamed names len }
-    ensures { IfOk result (λ v. AreLeaders (named_rows (name_of names.entry) (same_at columns.now)) len v.items) }
+    requires { AreCoded columns.now rows.items }
+    ensures { IfOk result (λ v. AreLeaders (same_values columns.now rows.items) (length rows.items) v.items) }
 {
-    let mut rows = coded_rows(alloc, columns, names, len)?;
-    let told = sort_rows(columns, &mut rows)?;
     let mut leaders = Vec::new(alloc);
-    leaders.resize(len, 0u32)?;
+    leaders.resize(rows.len(), 0u32)?;
+    let told = sort_rows(columns, &mut rows)?;
     let mut leader = 0u32;
     for at in 0..rows.len() {
         leader = leader_at(columns, rows.as_slice(), at, leader, told);
@@ -153,8 +151,26 @@ fn sorted_leaders(
     Ok(leaders)
 }
 
-/// For each place the first one whose row has the same values. Rows are told apart by their codes; where rows of other
-/// values have one code, it takes no more comparisons of rows than a sort.
+// The same by a map of codes, or none where there are many codes, or where they don't tell the rows apart.
+fn few_leaders(
+    alloc: Global,
+    columns: &[&Series],
+    rows: &[CodedRow],
+) -> Result<Option<Vec<IdxSize>>, OutOfMemory>
+    requires coded { AreCoded columns.now rows.now }
+    requires few { length rows.now ≤ MAX_ROWS }
+    ensures { IfOk result (λ o. IfSome o (λ v. AreLeaders (same_values columns.now rows.now) (length rows.now) v.items)) }
+{
+    if let Some(leaders) = code_leaders(alloc, rows)? {
+        if are_as_led(columns, rows, leaders.as_slice()) {
+            return Ok(Some(leaders));
+        }
+    }
+    Ok(None)
+}
+
+/// For each place the first one whose row has the same values. Where codes are few and tell the rows apart, a map of codes
+/// finds it; else it takes no more comparisons of rows than a sort.
 pub(crate) fn leaders(
     alloc: Global,
     columns: &[&Series],
@@ -165,9 +181,8 @@ pub(crate) fn leaders(
     ensures { IfOk result (λ v. AreLeaders (named_rows (name_of names.entry) (same_at columns.now)) len v.items) }
 {
     let rows = coded_rows(alloc, columns, names, len)?;
-    let leaders = code_leaders(alloc, rows.as_slice())?;
-    if are_as_led(columns, rows.as_slice(), leaders.as_slice()) {
+    if let Some(leaders) = few_leaders(alloc, columns, rows.as_slice())? {
         return Ok(leaders);
     }
-    sorted_leaders(alloc, columns, names, len)
+    sorted_leaders(alloc, columns, rows)
 }

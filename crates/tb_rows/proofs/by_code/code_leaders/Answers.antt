@@ -1,11 +1,11 @@
-use Rattle.std.proofs.Common.{◌≡◌, ◌∙◌, ◌+◌, ◌<◌, ◌≤◌, ◌∷◌, [], ◌++◌, ℕ, List, get_or, length, ap, subst, sym, arith, ⊎_elim}
+use Rattle.std.proofs.Common.{◌≡◌, ◌∙◌, ◌+◌, ◌<◌, ◌≤◌, ◌∷◌, [], ◌++◌, ℕ, List, get_or, length, ap, sym, arith, ⊎_elim}
 use Rattle.std.specs.Prelude.{unwrap_or}
 use Rattle.std.specs.BTreeMap.{get}
 use Rattle.std.specs.Ordering.{nat_cmp}
 use Rattle.std.proofs.Math.Seq.{get_or-append_seam}
 use Rattle.std.proofs.lemmas.Bool.{cases_lt}
 use Rattle.std.proofs.lemmas.List.{get_or_append_left, length-append}
-use Rattle.tb_rows.specs.Coded.{leader, no_row, same_code, AreLeaders}
+use Rattle.tb_rows.specs.Coded.{leader, no_row, same_code}
 use Rattle.tb_rows.specs.declared.coded.CodedRow.{CodedRow}
 use Rattle.tb_rows.proofs.ByCode.{first_leads, first_with, kept_more}
 use Rattle.tb_rows.proofs.by_code.code_leaders.Goals as goal
