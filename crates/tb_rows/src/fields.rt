@@ -7,7 +7,7 @@ ghost use Rattle.tb_rows.specs.Fields.{fed_fields, fed_value, fields_at, row_cod
 ghost use Rattle.tb_rows.specs.Order.{value_cmp};
 ghost use Rattle.tb_rows.specs.Rows.{value_at};
 
-use crate::order::compare_values;
+use crate::order::order_of_values;
 use std::cmp::Ordering;
 use std::hash::{FoldHasher, Hash, Hasher};
 use tb_store::Series;
@@ -41,7 +41,7 @@ pub(crate) fn compare_fields(columns: &[&Series], first: usize, second: usize) -
     ensures { result ≡ slice_cmp value_cmp (fields_at columns.now first) (fields_at columns.now second) }
 {
     for column in columns {
-        let order = compare_values(value_or_null(column, first), value_or_null(column, second));
+        let order = order_of_values(value_or_null(column, first), value_or_null(column, second));
         if order.is_ne() {
             return order;
         }

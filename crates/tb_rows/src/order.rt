@@ -24,7 +24,7 @@ fn kind_number(value: ValueRef<'_>) -> u8
 
 /// How two values compare; only equal ones tie.
 #[cycle(order)]
-pub fn compare_values(first: ValueRef<'_>, second: ValueRef<'_>) -> Ordering
+pub fn order_of_values(first: ValueRef<'_>, second: ValueRef<'_>) -> Ordering
     ensures { result ≡ value_cmp (lent first.entry) (lent second.entry) }
 {
     match (first, second) {
@@ -46,7 +46,7 @@ fn compare_lists(first: &Values, second: &Values) -> Ordering
     let values = first.as_slice();
     let others = second.as_slice();
     for i in 0..values.len().min(others.len()) {
-        let order = compare_values(values[i].as_ref(), others[i].as_ref());
+        let order = order_of_values(values[i].as_ref(), others[i].as_ref());
         if order.is_ne() {
             return order;
         }

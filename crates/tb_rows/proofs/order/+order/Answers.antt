@@ -6,8 +6,8 @@ use Rattle.tb_value.specs.See.{datum, lent}
 use Rattle.tb_rows.proofs.Orders.{ends, light}
 use Rattle.tb_rows.proofs.order.+order.Goals as goal
 
-pub compare_lists-compare_values-order-requires : goal.compare_lists-compare_values-order-requires
-compare_lists-compare_values-order-requires t c =
+pub compare_lists-order_of_values-order-requires : goal.compare_lists-order_of_values-order-requires
+compare_lists-order_of_values-order-requires t c =
     let xs = c.as_slice-values.result.now in
     let i = c.loop-i.i in
     let x = c.index-values-i.result in

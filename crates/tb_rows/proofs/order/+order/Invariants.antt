@@ -4,8 +4,8 @@ use Rattle.tb_value.specs.See.{datum, lent}
 use Rattle.tb_rows.specs.Order.{items_cmp}
 use Rattle.tb_rows.proofs.order.+order.Given as goal
 
-abbrev pub decreases-compare_values : goal.decreases-compare_values
-decreases-compare_values l = 2 * weight (lent l.first)
+abbrev pub decreases-order_of_values : goal.decreases-order_of_values
+decreases-order_of_values l = 2 * weight (lent l.first)
 
 abbrev pub decreases-compare_lists : goal.decreases-compare_lists
 decreases-compare_lists l = 2 * weights (items_of l.first.now) + 1
