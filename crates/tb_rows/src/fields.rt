@@ -3,15 +3,15 @@ ghost use Rattle.std.specs.Prelude.{◌≡◌, fold};
 ghost use Rattle.std.specs.Cmp.Lexicographic.{slice_cmp};
 ghost use Rattle.tb_value.specs.See.{lent};
 ghost use Rattle.tb_chunk.specs.Col.{values};
-ghost use Rattle.tb_rows.specs.Fields.{fed_fields, fed_value, fields_at, row_code, same_at};
+ghost use Rattle.tb_rows.specs.Fields.{fed_fields, fields_at, row_code, same_at};
 ghost use Rattle.tb_rows.specs.Order.{value_cmp};
 ghost use Rattle.tb_rows.specs.Rows.{value_at};
 
 use crate::order::order_of_values;
 use std::cmp::Ordering;
-use std::hash::{FoldHasher, Hash, Hasher};
+use std::hash::{FoldHasher, Hasher};
 use tb_store::Series;
-use tb_value::{ValueRef, same_value};
+use tb_value::{ValueRef, hash_ref, same_value};
 
 // The value of a row, and Null past the end.
 fn value_or_null(column: &Series, row: usize) -> ValueRef<'_>
@@ -49,43 +49,11 @@ pub(crate) fn compare_fields(columns: &[&Series], first: usize, second: usize) -
     Ordering::Equal
 }
 
-fn hash_value<H: Hasher>(value: ValueRef<'_>, state: &mut H)
-    ensures { state.new ≡ fold H.write state.old (fed_value (lent value.entry)) }
-{
-    match value {
-        ValueRef::Null => state.write_u8(0),
-        ValueRef::Boolean(b) => {
-            state.write_u8(1);
-            b.hash(state);
-        }
-        ValueRef::Int(i) => {
-            state.write_u8(2);
-            i.hash(state);
-        }
-        ValueRef::String(s) => {
-            state.write_u8(3);
-            state.write(s);
-        }
-        ValueRef::Binary(s) => {
-            state.write_u8(4);
-            state.write(s);
-        }
-        ValueRef::List(vs) => {
-            state.write_u8(5);
-            vs.hash(state);
-        }
-        ValueRef::Struct(vs) => {
-            state.write_u8(6);
-            vs.hash(state);
-        }
-    }
-}
-
 fn hash_fields<H: Hasher>(columns: &[&Series], row: usize, state: &mut H)
     ensures { state.new ≡ fold H.write state.old (fed_fields (fields_at columns.now row)) }
 {
     for column in columns {
-        hash_value(value_or_null(column, row), state);
+        hash_ref(value_or_null(column, row), state);
     }
 }
 
