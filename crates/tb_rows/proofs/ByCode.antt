@@ -24,7 +24,7 @@ use Rattle.tb_rows.specs.InGroups.{named_rows}
 use Rattle.tb_rows.specs.Proved.KeyTests.{fields-Decides}
 use Rattle.tb_rows.specs.declared.coded.CodedRow.{CodedRow}
 use Rattle.tb_rows.proofs.Leaders.{both, leader_low, not_before, place-map, row_at}
-use Rattle.tb_rows.proofs.MemberRows.{map-agree_below}
+use Rattle.tb_numbered.proofs.NumberedRows.{map-agree_below}
 
 tie_is : (c q : ℕ) → is_eq (nat_cmp c q) ≡ eqb c q
 tie_is c q =

@@ -10,17 +10,12 @@ use Rattle.std.proofs.lemmas.List.Folds.{Any-from_list_any, list_any-append, lis
 use Rattle.std.proofs.lemmas.List.FromFn.{get_or-map-range_with_len, get_or-range_with_len, length-map-range_with_len, length-range_with_len}
 use Rattle.std.proofs.lemmas.List.Quantifiers.{all_pairs_push}
 use Rattle.std.proofs.lemmas.List.Sums.{fails_before_first, passes_at_first, position_or_len_is}
-use Rattle.tb_value.proofs.RowNumbers.{row_numbers_more}
+use Rattle.tb_value.proofs.RowNumbers.{row_numbers_more, rows_below}
 use Rattle.tb_value.specs.Pairs.{row_numbers}
 use Rattle.tb_rows.specs.Rows.{first_rows, group_of, is_first}
 
 one_more : (n : ℕ) → n + 1 ≡ suc n
 one_more n = omega arith
-
-pub rows_below : (n : ℕ) → All (λ j. j < n) (row_numbers n)
-rows_below n = λ k d h.
-    let low : k < n = omega (arith, h, length-range_with_len 0 n) in
-    omega (arith, get_or-range_with_len 0 n k d low, low)
 
 map_agree : {X : Type 0} (f g : ℕ → X) (xs : List ℕ) → All (λ x. f x ≡ g x) xs → map f xs ≡ map g xs
 map_agree f g [] all = refl

@@ -30,7 +30,7 @@ use Rattle.tb_rows.specs.Proved.KeyTests.{fields-Decides, fields_equiv}
 use Rattle.tb_rows.specs.declared.coded.CodedRow.{CodedRow}
 use Rattle.tb_rows.proofs.InOrder.{own, tied}
 use Rattle.tb_rows.proofs.Orders.{then_tie, value_tie, value_total}
-use Rattle.tb_rows.proofs.Places.{tells}
+use Rattle.tb_numbered.proofs.Places.{tells}
 
 -- the first that is kept is the first that passes
 head_kept : {X : Type 0} (p : X → Bool) (xs : List X) (d : X) → get_or (filter p xs) 0 d ≡ get_or xs (position_or_len p xs) d

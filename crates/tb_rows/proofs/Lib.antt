@@ -4,10 +4,7 @@ pub mod FirstsIn
 pub mod InOrder
 pub mod Leaders
 pub mod Listed
-pub mod MemberRows
-pub mod MemberSteps
 pub mod Numbered
 pub mod Orders
 pub mod OwnRows
-pub mod Places
 pub mod Sorts

@@ -1,34 +1,25 @@
 -- Places of a list in groups, as the list's rows in groups.
-use Rattle.std.proofs.Common.{◌≡◌, ◌∙◌, ℕ, Bool, true, false, cond, not, List, [], ◌∷◌, filter, length, map, refl, sym, ap}
+use Rattle.std.proofs.Common.{◌≡◌, ◌∙◌, ℕ, Bool, not, List, [], ◌∷◌, filter, length, map, refl, sym, ap}
 use Rattle.std.specs.Cmp.{IsEquivalence}
 use Rattle.std.specs.Prelude.{slice_index_or}
 use Rattle.std.proofs.lemmas.List.FromFn.{fill_by_all}
 use Rattle.tb_rows.specs.InGroups.{firsts_in, groups_in, listed}
+use Rattle.tb_value.proofs.Kept.{filter-map}
 use Rattle.tb_value.specs.Pairs.{row_numbers}
 use Rattle.tb_rows.specs.Rows.{first_rows}
 use Rattle.tb_rows.proofs.FirstsIn.{firsts_of_all}
-
--- a filter of what is made, and what is made of a filter
-filter_map-swap : (f : ℕ → ℕ) (p : ℕ → Bool) (xs : List ℕ) → filter p (map f xs) ≡ map f (filter (λ x. p (f x)) xs)
-filter_map-swap f p [] = refl
-filter_map-swap f p (x ∷ xs) = by (p (f x)) (filter_map-swap f p xs)
-  where
-    by : (b : Bool) → filter p (map f xs) ≡ map f (filter (λ y. p (f y)) xs)
-        → cond b (f x ∷ filter p (map f xs)) (filter p (map f xs)) ≡ map f (cond b (x ∷ filter (λ y. p (f y)) xs) (filter (λ y. p (f y)) xs))
-    by true k = ap (λ (l : List ℕ). f x ∷ l) k
-    by false k = k
 
 -- the first of some rows, by the tests of what is made of them
 firsts_made : (test : ℕ → ℕ → Bool) (f : ℕ → ℕ) (xs : List ℕ) → map f (firsts_in (λ a b. test (f a) (f b)) xs) ≡ firsts_in test (map f xs)
 firsts_made test f [] = refl
 firsts_made test f (x ∷ xs) =
-    ap (λ (l : List ℕ). f x ∷ l) (sym (filter_map-swap f (λ y. not (test (f x) y)) (firsts_in (λ a b. test (f a) (f b)) xs)))
+    ap (λ (l : List ℕ). f x ∷ l) (sym (filter-map f (λ y. not (test (f x) y)) (firsts_in (λ a b. test (f a) (f b)) xs)))
     ∙ ap (λ (l : List ℕ). f x ∷ filter (λ y. not (test (f x) y)) l) (firsts_made test f xs)
 
 groups_made : (test : ℕ → ℕ → Bool) (f : ℕ → ℕ) (xs ys : List ℕ) → map (λ x. map f (filter (λ y. test (f x) (f y)) xs)) ys ≡ map (λ x. filter (test x) (map f xs)) (map f ys)
 groups_made test f xs [] = refl
 groups_made test f xs (y ∷ ys) =
-    ap (λ (l : List ℕ). l ∷ map (λ x. map f (filter (λ z. test (f x) (f z)) xs)) ys) (sym (filter_map-swap f (test (f y)) xs))
+    ap (λ (l : List ℕ). l ∷ map (λ x. map f (filter (λ z. test (f x) (f z)) xs)) ys) (sym (filter-map f (test (f y)) xs))
     ∙ ap (λ (l : List (List ℕ)). filter (test (f y)) (map f xs) ∷ l) (groups_made test f xs ys)
 
 -- the rows at all places of a list

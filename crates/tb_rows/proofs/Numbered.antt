@@ -15,15 +15,15 @@ use Rattle.tb_rows.specs.Coded.{leader}
 use Rattle.tb_rows.specs.Fields.{fields_at, same_at}
 use Rattle.tb_rows.specs.Grouped.{AreGroups}
 use Rattle.tb_rows.specs.InGroups.{named_rows}
-use Rattle.tb_rows.specs.Members.{AreNamed}
+use Rattle.tb_rows.specs.Names.{AreNamed}
 use Rattle.tb_rows.specs.Proved.KeyTests.{fields_equiv}
-use Rattle.tb_rows.specs.declared.members.RowNames.{RowNames}
-use Rattle.tb_rows.specs.declared.members.RowNames.TheVariants.{From, Listed}
+use Rattle.tb_rows.specs.declared.names.RowNames.{RowNames}
+use Rattle.tb_rows.specs.declared.names.RowNames.TheVariants.{From, Listed}
 use Rattle.tb_rows.specs.declared.groups.Groups.{Groups}
 use Rattle.tb_rows.specs.Rows.{first_rows, group_of, is_first, same_rows, value_at}
 use Rattle.tb_rows.proofs.FirstRows.{at_end, few_firsts, first_any, firsts_more, groups_more, numbers_below}
 use Rattle.tb_rows.proofs.Leaders.{leader_low, leader_same, not_before}
-use Rattle.tb_rows.proofs.Places.{tells}
+use Rattle.tb_numbered.proofs.Places.{tells}
 
 module _ (test : ℕ → ℕ → Bool) (same : IsEquivalence test) (n m : ℕ) (l : m < n) where
   abbrev lead : ℕ

@@ -4,7 +4,7 @@ pub mod Grouped
 pub mod InGroups
 pub mod InOrder
 pub mod Laws
-pub mod Members
+pub mod Names
 pub mod Order
 pub mod Proved
 pub mod Rows

@@ -3,11 +3,11 @@ ghost use Rattle.std.specs.Prelude.{◌≡◌, ◌==◌, ◌<◌, ◌≤◌, tru
 ghost use Rattle.tb_rows.specs.Coded.{code_cmp, coded_cmp, coded_rows, goes_on, no_row, same_coded, same_values, AreCoded, AreLeaders, AreSorted, AreToldByCodes};
 ghost use Rattle.tb_rows.specs.Fields.{same_at};
 ghost use Rattle.tb_rows.specs.InGroups.{named_rows};
-ghost use Rattle.tb_rows.specs.Members.{name_of, AreNamed};
+ghost use Rattle.tb_rows.specs.Names.{name_of, AreNamed};
 
 use crate::by_code::{are_as_led, code_leaders};
 use crate::fields::{code_at, compare_fields, same_fields};
-use crate::members::RowNames;
+use crate::names::RowNames;
 use std::alloc::Global;
 use std::cmp::Ordering;
 use tb_store::Series;

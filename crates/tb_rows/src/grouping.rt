@@ -3,12 +3,12 @@ ghost use Rattle.std.specs.Prelude.{◌≡◌, ◌<◌, ◌≤◌, ◌∷◌, []
 ghost use Rattle.tb_chunk.specs.Col.{values};
 ghost use Rattle.tb_rows.specs.Grouped.{AreGroups};
 ghost use Rattle.tb_rows.specs.InGroups.{listed, named_rows};
-ghost use Rattle.tb_rows.specs.Members.{name_of, AreNamed};
+ghost use Rattle.tb_rows.specs.Names.{name_of, AreNamed};
 ghost use Rattle.tb_rows.specs.Rows.{same_rows};
 
 use crate::coded::leaders;
 use crate::groups::Groups;
-use crate::members::RowNames;
+use crate::names::RowNames;
 use std::alloc::Global;
 use tb_store::Series;
 use tb_value::{IdxSize, MAX_ROWS, OutOfMemory};

@@ -1,10 +1,9 @@
 //! The groups of rows.
-ghost use Rattle.std.specs.Prelude.{◌≡◌, ◌≤◌, ◌<◌, All, IfOk, length, map};
-ghost use Rattle.tb_value.specs.Pairs.{row_numbers};
-ghost use Rattle.tb_rows.specs.Members.{numbered_rows};
+ghost use Rattle.std.specs.Prelude.{◌≡◌, ◌≤◌, ◌<◌, All, IfOk, length};
+ghost use Rattle.tb_numbered.specs.Numbered.{grouped_rows, numbered_rows, row_from};
 
-use crate::members::{Members, rows_by_number};
 use std::alloc::Global;
+use tb_numbered::{RowsByNumber, rows_by_number};
 use tb_value::{IdxSize, MAX_ROWS, OutOfMemory};
 
 /// Rows in groups, in the order of the groups' first rows.
@@ -12,8 +11,8 @@ use tb_value::{IdxSize, MAX_ROWS, OutOfMemory};
 pub struct Groups {
     firsts: Vec<IdxSize>,
     numbers: Vec<IdxSize>,
-    members: Members,
-    ghost whole: { members ≡ map (numbered_rows numbers.items) (row_numbers (length firsts.items)) },
+    members: RowsByNumber,
+    ghost whole: { members ≡ grouped_rows (row_from 0) numbers.items (length firsts.items) },
 }
 
 impl Groups {
@@ -29,7 +28,7 @@ impl Groups {
         ensures firsts { IfOk result (λ g. g.firsts.items ≡ firsts.items) }
         ensures numbers { IfOk result (λ g. g.numbers.items ≡ numbers.items) }
     {
-        let members = rows_by_number(alloc, &numbers, firsts.len() as u32)?;
+        let members = rows_by_number(alloc, &numbers, firsts.len() as u32, 0)?;
         Ok(Groups {
             firsts,
             numbers,

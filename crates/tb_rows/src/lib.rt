@@ -7,9 +7,9 @@ mod fields;
 mod grouping;
 mod groups;
 pub mod laws;
-mod members;
+mod names;
 mod order;
 
 pub use grouping::{group_listed, group_rows};
 pub use groups::Groups;
-pub use members::RowNames;
+pub use names::RowNames;

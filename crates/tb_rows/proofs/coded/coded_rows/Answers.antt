@@ -1,4 +1,4 @@
-use Rattle.tb_rows.specs.Members.{name_of}
+use Rattle.tb_rows.specs.Names.{name_of}
 use Rattle.tb_rows.proofs.Leaders.{coded_more}
 use Rattle.tb_rows.proofs.coded.coded_rows.Goals as goal
 

@@ -1,6 +1,6 @@
 use Rattle.std.proofs.Common.{◌≡◌}
 use Rattle.tb_rows.specs.Coded.{coded_rows}
-use Rattle.tb_rows.specs.Members.{name_of}
+use Rattle.tb_rows.specs.Names.{name_of}
 use Rattle.tb_rows.proofs.coded.coded_rows.Given as goal
 
 -- the rows so far

@@ -3,7 +3,7 @@ use Rattle.std.proofs.lemmas.Result.{IfOk-weaker}
 use Rattle.tb_rows.specs.Coded.{same_values, AreCoded, AreLeaders}
 use Rattle.tb_rows.specs.Fields.{same_at}
 use Rattle.tb_rows.specs.InGroups.{named_rows}
-use Rattle.tb_rows.specs.Members.{name_of}
+use Rattle.tb_rows.specs.Names.{name_of}
 use Rattle.tb_rows.specs.declared.coded.CodedRow.{CodedRow}
 use Rattle.tb_rows.proofs.ByCode.{leaders_named, own_coded, rows_long}
 use Rattle.tb_rows.proofs.Numbered.{named_few}

@@ -4,7 +4,7 @@ use Rattle.std.proofs.lemmas.List.{get_or_default}
 use Rattle.tb_rows.specs.Coded.{leader}
 use Rattle.tb_rows.specs.Fields.{same_at}
 use Rattle.tb_rows.specs.InGroups.{named_rows}
-use Rattle.tb_rows.specs.Members.{name_of}
+use Rattle.tb_rows.specs.Names.{name_of}
 use Rattle.tb_rows.proofs.Numbered.{firsts-step, firsts_few, groups_made, leads_before, named_few, numbers-step, numbers_fit, numbers_long, same_named}
 use Rattle.tb_rows.proofs.grouping.group_named.Goals as goal
 

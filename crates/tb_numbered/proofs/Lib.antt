@@ -1,0 +1,3 @@
+pub mod NumberedRows
+pub mod Places
+pub mod Steps
