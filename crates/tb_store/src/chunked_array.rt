@@ -30,7 +30,7 @@ use tb_value::{
 pub struct ChunkedArray<T: PolarsDataType> {
     name: PlSmallStr,
     dtype: DataType,
-    chunks: Vec<T::Array>,
+    pub(crate) chunks: Vec<T::Array>,
     flag: IsSorted,
 }
 

@@ -20,7 +20,7 @@ use tb_value::{DataType, IsSorted, OutOfMemory, PlSmallStr, ValueRef};
 pub struct Series {
     name: PlSmallStr,
     dtype: DataType,
-    chunks: Chunks,
+    pub(crate) chunks: Chunks,
     flag: IsSorted,
 }
 

@@ -3,14 +3,15 @@ ghost use Rattle.std.specs.Prelude.{◌≡◌, ◌⊎◌, ◌<◌, ◌≤◌, �
 ghost use Rattle.tb_value.specs.Datum.{binary, string};
 ghost use Rattle.tb_value.specs.Kind as kind;
 ghost use Rattle.tb_value.specs.SeeKind.{kind_of};
-ghost use Rattle.tb_value.specs.Typed.{HasType};
+ghost use Rattle.tb_value.specs.Typed.{HasType, IsBytes};
 ghost use Rattle.tb_value.specs.declared.sorted.IsSorted.TheVariants.{Not};
 ghost use Rattle.tb_chunk.specs.Chunk.{or_null};
 ghost use Rattle.tb_chunk.specs.Physical.{kind_for};
 ghost use Rattle.tb_chunk.specs.Runs.{chunk_runs};
 ghost use Rattle.tb_chunk.specs.Seen.{chunk_lists, storage};
+ghost use Rattle.tb_value.specs.Texts.{IsUtf8Row};
 ghost use Rattle.tb_chunk.specs.TextValues.{text_values};
-ghost use Rattle.tb_chunk.specs.View.{texts, IsViewOrNone};
+ghost use Rattle.tb_chunk.specs.View.{row_text, texts, IsViewOrNone};
 ghost use Rattle.tb_chunk.specs.Whole.{run_at};
 
 use crate::chunked_array::ChunkedArray;
@@ -20,6 +21,32 @@ use crate::series::Series;
 use std::alloc::Global;
 use tb_chunk::{BinaryChunk, Chunks, Physical, StringChunk, View, physical_of};
 use tb_value::{Bytes, DataType, IsSorted, MAX_ROWS, OutOfMemory, PlSmallStr};
+
+// Bytes that are lent are numbers below 256, by their type.
+fn read_bytes(text: &[u8])
+    ensures { IsBytes text.now }
+{}
+
+// Reads the text of a row, which shows that it is of type Binary: its length is a number of 32 bits, and what is lent of it is bytes.
+fn read_text(view: &Option<View>, buffers: &[Bytes])
+    requires { IsViewOrNone buffers.now view.now }
+    ensures { HasType kind.binary (or_null binary (row_text buffers.now view.now)) }
+{
+    if let Some(view) = view {
+        let _length = view.length;
+        read_bytes(view.text(buffers));
+    }
+}
+
+// The same of all rows. It is shown by reading them, since contracts see a buffer as a list of any numbers.
+fn read_texts(views: &[Option<View>], buffers: &[Bytes])
+    requires { All (IsViewOrNone buffers.now) views.now }
+    ensures { All (HasType kind.binary) (text_values kind.binary (texts buffers.now views.now)) }
+{
+    for view in views {
+        read_text(view, buffers);
+    }
+}
 
 // The only chunk of these views, stored as texts or as bytes.
 fn text_chunks(
@@ -31,7 +58,7 @@ fn text_chunks(
     requires text { (kind_for stored ≡ kind.string) ⊎ (kind_for stored ≡ kind.binary) }
     requires formed { All (IsViewOrNone buffers.items) views.items }
     requires few { length buffers.items < 2 ^ 32 }
-    requires typed { All (HasType (kind_for stored)) (text_values (kind_for stored) (texts buffers.items views.items)) }
+    requires utf8 { kind_for stored ≡ kind.string → All IsUtf8Row (texts buffers.items views.items) }
     ensures lists { IfOk result (λ c. chunk_lists c ≡ text_values (kind_for stored) (texts buffers.items views.items) ∷ []) }
     ensures storage { IfOk result (λ c. storage c ≡ kind_for stored) }
     ensures runs { IfOk result (λ c. chunk_runs c ≡ record { views = views.items; buffers = buffers.items } ∷ []) }
@@ -53,7 +80,7 @@ fn text_chunks(
 
 impl Series {
     /// The column of one chunk with a row for each view: the text that it stands for over these buffers, or Null. The flag
-    /// is Not. The type is String or Binary, and each text is of it. No text is copied.
+    /// is Not. The type is String or Binary, and the texts of a String are UTF-8. Each text is read once, and none is copied.
     pub fn from_views(
         alloc: Global,
         name: PlSmallStr,
@@ -65,7 +92,7 @@ impl Series {
         requires formed { All (IsViewOrNone buffers.items) views.items }
         requires few { length views.items ≤ MAX_ROWS }
         requires few_buffers { length buffers.items < 2 ^ 32 }
-        requires typed { All (HasType (kind_of dtype)) (text_values (kind_of dtype) (texts buffers.items views.items)) }
+        requires utf8 { kind_of dtype ≡ kind.string → All IsUtf8Row (texts buffers.items views.items) }
         ensures { IfOk result (λ s. s ≡ record {
           name = name;
           kind = kind_of dtype;
@@ -74,29 +101,33 @@ impl Series {
           runs = record { views = views.items; buffers = buffers.items } ∷ [];
         }) }
     {
+        read_texts(&views, &buffers);
         let chunks = text_chunks(alloc, physical_of(&dtype), views, buffers)?;
         Ok(Series::from_parts(name, dtype, chunks, IsSorted::Not))
     }
 
     /// The view of each row of a chunk, none where it is Null. The views have their form over the chunk's buffers, and the values
-    /// of the chunk are the texts that they stand for.
+    /// of the chunk are the texts that they stand for. `from_views` takes them with copies of the buffers.
     pub fn views(&self, chunk: usize) -> &[Option<View>]
         requires text { (self.now.kind ≡ kind.string) ⊎ (self.now.kind ≡ kind.binary) }
         requires chunk { chunk < length self.now.chunks }
         ensures views { result.now ≡ (run_at self.now.runs chunk).views }
         ensures formed { All (IsViewOrNone (run_at self.now.runs chunk).buffers) result.now }
         ensures texts { slice_index_or self.now.chunks chunk [] ≡ text_values self.now.kind (texts (run_at self.now.runs chunk).buffers result.now) }
+        ensures few { length result.now ≤ MAX_ROWS }
+        ensures utf8 { self.now.kind ≡ kind.string → All IsUtf8Row (texts (run_at self.now.runs chunk).buffers result.now) }
     {
-        self.chunks().views(chunk)
+        self.chunks.views(chunk)
     }
 
     /// The buffers that the views of a chunk stand over.
     pub fn data_buffers(&self, chunk: usize) -> &[Bytes]
         requires text { (self.now.kind ≡ kind.string) ⊎ (self.now.kind ≡ kind.binary) }
         requires chunk { chunk < length self.now.chunks }
-        ensures { result.now ≡ (run_at self.now.runs chunk).buffers }
+        ensures buffers { result.now ≡ (run_at self.now.runs chunk).buffers }
+        ensures few { length result.now < 2 ^ 32 }
     {
-        self.chunks().data_buffers(chunk)
+        self.chunks.data_buffers(chunk)
     }
 }
 
@@ -108,6 +139,8 @@ impl Column {
         ensures views { result.now ≡ (run_at self.now.runs chunk).views }
         ensures formed { All (IsViewOrNone (run_at self.now.runs chunk).buffers) result.now }
         ensures texts { slice_index_or self.now.chunks chunk [] ≡ text_values self.now.kind (texts (run_at self.now.runs chunk).buffers result.now) }
+        ensures few { length result.now ≤ MAX_ROWS }
+        ensures utf8 { self.now.kind ≡ kind.string → All IsUtf8Row (texts (run_at self.now.runs chunk).buffers result.now) }
     {
         self.as_materialized_series().views(chunk)
     }
@@ -116,7 +149,8 @@ impl Column {
     pub fn data_buffers(&self, chunk: usize) -> &[Bytes]
         requires text { (self.now.kind ≡ kind.string) ⊎ (self.now.kind ≡ kind.binary) }
         requires chunk { chunk < length self.now.chunks }
-        ensures { result.now ≡ (run_at self.now.runs chunk).buffers }
+        ensures buffers { result.now ≡ (run_at self.now.runs chunk).buffers }
+        ensures few { length result.now < 2 ^ 32 }
     {
         self.as_materialized_series().data_buffers(chunk)
     }
@@ -129,16 +163,19 @@ impl ChunkedArray<StringType> {
         ensures views { result.now ≡ (run_at self.now.runs chunk).views }
         ensures formed { All (IsViewOrNone (run_at self.now.runs chunk).buffers) result.now }
         ensures texts { slice_index_or self.now.chunks chunk [] ≡ map (or_null string) (texts (run_at self.now.runs chunk).buffers result.now) }
+        ensures few { length result.now ≤ MAX_ROWS }
+        ensures utf8 { All IsUtf8Row (texts (run_at self.now.runs chunk).buffers result.now) }
     {
-        self.chunks()[chunk].views()
+        self.chunks[chunk].views()
     }
 
     /// As `Series::data_buffers`.
     pub fn data_buffers(&self, chunk: usize) -> &[Bytes]
         requires { chunk < length self.now.chunks }
-        ensures { result.now ≡ (run_at self.now.runs chunk).buffers }
+        ensures buffers { result.now ≡ (run_at self.now.runs chunk).buffers }
+        ensures few { length result.now < 2 ^ 32 }
     {
-        self.chunks()[chunk].buffers()
+        self.chunks[chunk].buffers()
     }
 }
 
@@ -149,15 +186,17 @@ impl ChunkedArray<BinaryType> {
         ensures views { result.now ≡ (run_at self.now.runs chunk).views }
         ensures formed { All (IsViewOrNone (run_at self.now.runs chunk).buffers) result.now }
         ensures texts { slice_index_or self.now.chunks chunk [] ≡ map (or_null binary) (texts (run_at self.now.runs chunk).buffers result.now) }
+        ensures few { length result.now ≤ MAX_ROWS }
     {
-        self.chunks()[chunk].views()
+        self.chunks[chunk].views()
     }
 
     /// As `Series::data_buffers`.
     pub fn data_buffers(&self, chunk: usize) -> &[Bytes]
         requires { chunk < length self.now.chunks }
-        ensures { result.now ≡ (run_at self.now.runs chunk).buffers }
+        ensures buffers { result.now ≡ (run_at self.now.runs chunk).buffers }
+        ensures few { length result.now < 2 ^ 32 }
     {
-        self.chunks()[chunk].buffers()
+        self.chunks[chunk].buffers()
     }
 }
