@@ -18,4 +18,6 @@ mod small_calls;
 #[cfg(test)]
 mod tables;
 #[cfg(test)]
+mod views;
+#[cfg(test)]
 mod workers;
