@@ -10,7 +10,7 @@ use std::test::Fail;
 use std::thread::Threads;
 use tb_frame::DataFrame;
 use tb_gather::{TakeChunked, TakeChunkedHorPar, ids_of};
-use tb_store::{ChunkedArray, Column, Int64Type, Series};
+use tb_store::{ChunkedArray, Column, Int64Type, PolarsDataType, Series};
 use tb_value::{IsSorted, MAX_ROWS, NullableIdxSize, OutOfMemory, StandardChunkId};
 
 pub(crate) fn are_present(ids: &[StandardChunkId]) -> bool
@@ -67,20 +67,21 @@ fn side_by_side<T: TakeChunkedHorPar<24>>(
     from._take_opt_chunked_unchecked_hor_par(rt, alloc, by)
 }
 
-// The rows of a column, as a column and as a series.
+// The rows of a column, which are as many as those of its series.
 fn check_column(
     rt: &impl Abort,
     alloc: Global,
     column: &Column,
     by: &[StandardChunkId],
-) -> Result<(), Fail>
+) -> Result<Column, Fail>
     requires named { All (NameRows by.now) (column.now ∷ []) }
     requires present { All (λ (id : Id). IsSome id) by.now }
     requires few { length by.now ≤ MAX_ROWS }
 {
-    assert!(rt; gathered(alloc, column, by)?.len() == 2);
+    let rows = gathered(alloc, column, by)?;
+    assert!(rt; rows.len() == 2);
     assert!(rt; gathered(alloc, column.as_materialized_series(), by)?.len() == 2);
-    Ok(())
+    Ok(rows)
 }
 
 // The rows of a table, by one thread and by several.
@@ -89,39 +90,56 @@ fn check_table(
     alloc: Global,
     table: &DataFrame,
     by: &[StandardChunkId],
-) -> Result<(), Fail>
+) -> Result<(DataFrame, DataFrame), Fail>
     requires named { All (NameRows by.now) table.now }
     requires present { All (λ (id : Id). IsSome id) by.now }
     requires few { length by.now ≤ MAX_ROWS }
 {
-    assert!(rt; gathered(alloc, table, by)?.height() == 2);
-    assert!(rt; side_by_side(rt, alloc, table, by)?.height() == 2);
-    Ok(())
+    let by_one = gathered(alloc, table, by)?;
+    assert!(rt; by_one.height() == 2);
+    let by_several = side_by_side(rt, alloc, table, by)?;
+    assert!(rt; by_several.height() == 2);
+    Ok((by_one, by_several))
 }
 
-#[test]
-fn rows_of_an_array(rt: HostRuntime) -> Result<(), Fail> {
-    let alloc = rt.alloc();
-    let series = left_keys(alloc)?;
+// Two rows of an array.
+pub(crate) fn rows_of_array<T: PolarsDataType>(
+    alloc: Global,
+    series: Series,
+) -> Result<ChunkedArray<T>, Fail> {
     let by = two_ids(alloc, &series)?;
-    let array: ChunkedArray<Int64Type> = ChunkedArray::from_series(series)?;
-    assert!(rt; gathered(alloc, &array, &by)?.len() == 2);
-    Ok(())
+    let array: ChunkedArray<T> = ChunkedArray::from_series(series)?;
+    Ok(gathered(alloc, &array, &by)?)
 }
 
-#[test]
-fn rows_of_a_column(rt: HostRuntime) -> Result<(), Fail> {
-    let alloc = rt.alloc();
-    let column = left_keys(alloc)?.into_column();
+// Two rows of a column.
+pub(crate) fn rows_of_column(
+    rt: &impl Abort,
+    alloc: Global,
+    series: Series,
+) -> Result<Column, Fail> {
+    let column = series.into_column();
     let by = two_ids(alloc, column.as_materialized_series())?;
-    check_column(&rt, alloc, &column, &by)
+    check_column(rt, alloc, &column, &by)
 }
 
-#[test]
-fn rows_of_a_table(rt: HostRuntime) -> Result<(), Fail> {
-    let alloc = rt.alloc();
-    let series = left_keys(alloc)?;
+// Two rows of the table of a column, by one thread and by several.
+pub(crate) fn rows_of_table(
+    rt: &(impl Threads + Sync + Abort),
+    alloc: Global,
+    series: Series,
+) -> Result<(DataFrame, DataFrame), Fail> {
     let by = two_ids(alloc, &series)?;
     let table = table_of(alloc, series.into_column())?;
-    check_table(&rt, alloc, &table, &by)
+    check_table(rt, alloc, &table, &by)
+}
+
+#[test]
+fn rows_of_keys(rt: HostRuntime) -> Result<(), Fail> {
+    let alloc = rt.alloc();
+    let array = rows_of_array::<Int64Type>(alloc, left_keys(alloc)?)?;
+    assert!(rt; array.len() == 2);
+    rows_of_column(&rt, alloc, left_keys(alloc)?)?;
+    rows_of_table(&rt, alloc, left_keys(alloc)?)?;
+    Ok(())
 }

@@ -1,16 +1,22 @@
 // Tests of gathers of texts by ids: which rows come, and which buffers stand behind them.
-ghost use Rattle.std.specs.Prelude.{◌≡◌, ◌<◌, ◌≤◌, All, IfOk, length};
+ghost use Rattle.std.specs.Prelude.{◌≡◌, ◌<◌, ◌≤◌, ◌↔◌, All, IfOk, IsTrue, length};
 ghost use Rattle.tb_value.specs.Kind as kind;
+ghost use Rattle.tb_value.specs.See.{data_of};
+ghost use Rattle.tb_value.specs.SeeKind.{kind_of};
+ghost use Rattle.tb_value.specs.Typed.{HasType};
 ghost use Rattle.tb_chunk.specs.Col.{values};
 ghost use Rattle.tb_chunk.specs.Rows.{IsRowOf};
 ghost use Rattle.tb_gather.specs.Gathered.{NameRows, opt_gathered};
 
-use crate::gathers::are_present;
+use crate::gathers::{are_present, rows_of_array, rows_of_column, rows_of_table};
 use std::alloc::Global;
 use std::process::Abort;
 use std::test::Fail;
+use tb_frame::DataFrame;
 use tb_gather::{TakeChunked, ids_of};
-use tb_store::{AnyValue, DataType, PlSmallStr, Series};
+use tb_store::{
+    AnyValue, Chunk, ChunkedArray, DataType, PlSmallStr, Series, StringChunk, StringType,
+};
 use tb_value::{IsSorted, MAX_ROWS, NullableIdxSize, OutOfMemory, StandardChunkId, ValueRef};
 
 fn chunk_of(alloc: Global, texts: &[Option<&str>]) -> Result<Vec<AnyValue>, Fail> {
@@ -55,10 +61,10 @@ fn has_texts(column: &Series, texts: &[Option<&str>]) -> bool {
     true
 }
 
-fn has_buffers(column: &Series, buffers: &[&str]) -> bool
-    requires text { column.now.kind ≡ kind.string }
-    requires chunk { 0 < length column.now.chunks }
-{
+fn has_buffers(column: &Series, buffers: &[&str]) -> bool {
+    if !matches!(column.dtype(), DataType::String) || column.n_chunks() != 1 {
+        return false;
+    }
     let held = column.data_buffers(0);
     if held.len() != buffers.len() {
         return false;
@@ -133,6 +139,8 @@ const SECOND: &str = "11 loooooooooooong string22 loooooooooooong string";
 
 const THIRD: &str = "111 loooooooooooong string222 loooooooooooong string";
 
+const ALL: [&str; 3] = [FIRST, SECOND, THIRD];
+
 // As many ids as chunks keep all buffers.
 #[test]
 fn many_rows_keep_all_buffers(rt: HostRuntime) -> Result<(), Fail> {
@@ -159,21 +167,79 @@ fn many_rows_keep_all_buffers(rt: HostRuntime) -> Result<(), Fail> {
         Some("222 loooooooooooong string"),
         Some("small"),
     ];
-    check_rows(&rt, alloc, &column, &rows, &texts, &[FIRST, SECOND, THIRD])
+    check_rows(&rt, alloc, &column, &rows, &texts, &ALL)
 }
 
-// So do null ids beside rows that are Null.
+// So do null ids.
 #[test]
-fn null_ids_among_rows(rt: HostRuntime) -> Result<(), Fail> {
+fn null_ids_of_texts(rt: HostRuntime) -> Result<(), Fail> {
     let alloc = rt.alloc();
+    let column = three_chunks(alloc)?;
+    if column.len() != 7 {
+        return Err(Fail::from("seven rows"));
+    }
+    let rows = [
+        NullableIdxSize::null(),
+        NullableIdxSize::some(1),
+        NullableIdxSize::some(3),
+        NullableIdxSize::some(2),
+    ];
+    let texts = [
+        None,
+        Some("2 loooooooooooong string"),
+        Some("22 loooooooooooong string"),
+        Some("11 loooooooooooong string"),
+    ];
+    check_rows(&rt, alloc, &column, &rows, &texts, &ALL)
+}
+
+// Two chunks of two rows, of which the last is Null.
+fn two_chunks(alloc: Global) -> Result<Series, Fail>
+    ensures { IfOk result (λ s. s.kind ≡ kind.string) }
+{
     let first = [
         Some("1 loooooooooooong string 1"),
         Some("2 loooooooooooong string 2"),
     ];
-    let column = column_of(
+    column_of(
         alloc,
         &[&first, &[Some("11 loooooooooooong string 11"), None]],
-    )?;
+    )
+}
+
+const BOTH: [&str; 2] = [
+    "1 loooooooooooong string 12 loooooooooooong string 2",
+    "11 loooooooooooong string 11",
+];
+
+// Ids of a row that is Null.
+#[test]
+fn ids_of_a_null_row(rt: HostRuntime) -> Result<(), Fail> {
+    let alloc = rt.alloc();
+    let column = two_chunks(alloc)?;
+    if column.len() != 4 {
+        return Err(Fail::from("four rows"));
+    }
+    let rows = [
+        NullableIdxSize::some(0),
+        NullableIdxSize::some(1),
+        NullableIdxSize::some(3),
+        NullableIdxSize::some(2),
+    ];
+    let texts = [
+        Some("1 loooooooooooong string 1"),
+        Some("2 loooooooooooong string 2"),
+        None,
+        Some("11 loooooooooooong string 11"),
+    ];
+    check_rows(&rt, alloc, &column, &rows, &texts, &BOTH)
+}
+
+// Null ids beside such a row.
+#[test]
+fn null_ids_among_rows(rt: HostRuntime) -> Result<(), Fail> {
+    let alloc = rt.alloc();
+    let column = two_chunks(alloc)?;
     if column.len() != 4 {
         return Err(Fail::from("four rows"));
     }
@@ -189,11 +255,115 @@ fn null_ids_among_rows(rt: HostRuntime) -> Result<(), Fail> {
         None,
         Some("11 loooooooooooong string 11"),
     ];
-    let buffers = [
-        "1 loooooooooooong string 12 loooooooooooong string 2",
-        "11 loooooooooooong string 11",
+    check_rows(&rt, alloc, &column, &rows, &texts, &BOTH)
+}
+
+const TWO_TEXTS: [Option<&str>; 2] = [
+    Some("11 loooooooooooong string 11"),
+    Some("1 loooooooooooong string 1"),
+];
+
+fn check_texts(rt: &impl Abort, column: &Series) -> Result<(), Fail> {
+    assert!(rt; has_texts(column, &TWO_TEXTS));
+    assert!(rt; has_buffers(column, &BOTH));
+    Ok(())
+}
+
+// Rows of a column keep the buffers. Those of an array stand anew.
+#[test]
+fn texts_of_a_column_and_an_array(rt: HostRuntime) -> Result<(), Fail> {
+    let alloc = rt.alloc();
+    let column = rows_of_column(&rt, alloc, two_chunks(alloc)?)?;
+    check_texts(&rt, column.as_materialized_series())?;
+    let array = rows_of_array::<StringType>(alloc, two_chunks(alloc)?)?;
+    assert!(rt; has_texts(&array.into_series(), &TWO_TEXTS));
+    Ok(())
+}
+
+// Of a table of one column.
+fn check_table(rt: &impl Abort, table: &DataFrame) -> Result<(), Fail> {
+    assert!(rt; table.width() == 1);
+    for column in table.get_columns() {
+        check_texts(rt, column.as_materialized_series())?;
+    }
+    Ok(())
+}
+
+#[test]
+fn texts_of_a_table(rt: HostRuntime) -> Result<(), Fail> {
+    let alloc = rt.alloc();
+    let (by_one, by_several) = rows_of_table(&rt, alloc, two_chunks(alloc)?)?;
+    check_table(&rt, &by_one)?;
+    check_table(&rt, &by_several)
+}
+
+// Whether a column has these texts, and the buffers of all three chunks.
+fn keeps_buffers(column: &Series, texts: &[Option<&str>]) -> bool {
+    has_texts(column, texts) && has_buffers(column, &ALL)
+}
+
+const LAST_TEXTS: [Option<&str>; 2] = [Some("222 loooooooooooong string"), Some("small")];
+
+fn last_part(alloc: Global, column: &Series) -> Result<bool, OutOfMemory> {
+    let part = column.slice(alloc, -2, 2)?;
+    Ok(keeps_buffers(&part, &LAST_TEXTS))
+}
+
+fn last_rows(alloc: Global, column: &Series) -> Result<bool, OutOfMemory> {
+    if column.len() != 7 {
+        return Ok(false);
+    }
+    let rows = column.take(alloc, &[5, 6])?;
+    Ok(keeps_buffers(&rows, &LAST_TEXTS))
+}
+
+fn in_one_chunk(alloc: Global, column: &Series) -> Result<bool, OutOfMemory> {
+    let whole = column.rechunk(alloc)?;
+    Ok(whole.len() == 7 && has_buffers(&whole, &ALL))
+}
+
+// A column in one chunk, its parts and its rows keep the buffers of all chunks.
+#[test]
+fn texts_in_one_chunk(rt: HostRuntime) -> Result<(), Fail> {
+    let alloc = rt.alloc();
+    let column = three_chunks(alloc)?;
+    assert!(rt; in_one_chunk(alloc, &column)?);
+    assert!(rt; last_part(alloc, &column)?);
+    assert!(rt; last_rows(alloc, &column)?);
+    Ok(())
+}
+
+#[tactic(auto, using(tb_chunk::proofs::Alls::all_next))]
+fn are_of(dtype: &DataType, values: &[AnyValue]) -> bool
+    ensures { IsTrue result ↔ All (HasType (kind_of dtype.now)) (data_of values.now) }
+{
+    for value in values {
+        if !dtype.is_of(value) {
+            return false;
+        }
+    }
+    true
+}
+
+// A chunk made of the texts of the third chunk has their views and their buffer.
+#[tactic(auto, using(tb_chunk::proofs::Fitting::fits_stored))]
+#[test]
+fn a_chunk_of_texts(rt: HostRuntime) -> Result<(), Fail> {
+    let alloc = rt.alloc();
+    let array: ChunkedArray<StringType> = ChunkedArray::from_series(three_chunks(alloc)?)?;
+    let texts = [
+        Some("111 loooooooooooong string"),
+        Some("222 loooooooooooong string"),
+        Some("small"),
     ];
-    check_rows(&rt, alloc, &column, &rows, &texts, &buffers)
+    let values = chunk_of(alloc, &texts)?;
+    if array.n_chunks() != 3 || !are_of(&DataType::String, &values) {
+        return Err(Fail::from("three chunks of texts"));
+    }
+    let chunk = StringChunk::from_values(alloc, &values)?;
+    assert!(rt; chunk.views() == array.views(2));
+    assert!(rt; chunk.buffers() == array.data_buffers(2));
+    Ok(())
 }
 
 // Fewer ids than chunks keep the buffers in use, in the order of first use.

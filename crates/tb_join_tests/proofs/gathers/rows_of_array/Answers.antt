@@ -1,6 +1,6 @@
 use Rattle.std.proofs.Common.{[], ◌∷◌, All, sym, subst}
 use Rattle.tb_gather.specs.Gathered.{NameRows}
-use Rattle.tb_join_tests.proofs.gathers.rows_of_an_array.Goals as goal
+use Rattle.tb_join_tests.proofs.gathers.rows_of_array.Goals as goal
 
 pub gathered-requires-clause-named : goal.gathered-requires-clause-named
 gathered-requires-clause-named g c =

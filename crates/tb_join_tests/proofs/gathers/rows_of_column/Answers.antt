@@ -1,6 +1,6 @@
 use Rattle.std.proofs.Common.{[], ◌∷◌, All, sym, subst}
 use Rattle.tb_gather.specs.Gathered.{NameRows}
-use Rattle.tb_join_tests.proofs.gathers.rows_of_a_column.Goals as goal
+use Rattle.tb_join_tests.proofs.gathers.rows_of_column.Goals as goal
 
 pub check_column-requires-clause-named : goal.check_column-requires-clause-named
 check_column-requires-clause-named g c =
