@@ -15,10 +15,10 @@ use Rattle.tb_value.specs.declared.limits.TheConstants.{MAX_ROWS}
 use Rattle.tb_value.specs.declared.sorted.IsSorted.TheVariants.{Not}
 use Rattle.tb_chunk.specs.Col.{Col, values}
 use Rattle.tb_chunk.specs.Lent.{in_one_chunk}
-use Rattle.tb_chunk.specs.Fresh.{fresh_runs}
+use Rattle.tb_chunk.specs.Fresh.{fresh_view_arrays}
 use Rattle.tb_chunk.specs.Made.{at_least_one, IsMade, IsOf}
 use Rattle.tb_chunk.proofs.Made.{is_of}
-use Rattle.tb_rows.specs.Rows.{value_at}
+use Rattle.tb_rows.specs.Rows.{row_value}
 use Rattle.tb_rows.specs.declared.groups.Groups.{Groups}
 use Rattle.tb_agg.specs.Aggregates.{result_kind, sum_kind, total}
 use Rattle.tb_agg.specs.Grouped.{aggregates, rows_of, values_of}
@@ -51,9 +51,9 @@ made_of agg g c r n t vs name is same h =
 pub of_one_list : (r : Result Col PolarsError) (m n : List ℕ) (t : Kind) (vs : List Datum) (cs : List (List Datum)) → n ≡ m → cs ≡ vs ∷ [] → IsMade n t cs r
     → IfOk r (IsOf m t (vs ∷ []) Not)
 of_one_list (Ok s) m n t vs cs name one made =
-    let runs = fresh_runs (at_least_one cs) in
+    let runs = fresh_view_arrays (at_least_one cs) in
     is_of m t (vs ∷ []) Not runs s
-    (made.2 ∙ (λ i. record { name = name i; kind = t; chunks = at_least_one (one i); flag = Not; runs = runs }))
+    (made.2 ∙ (λ i. record { name = name i; kind = t; chunks = at_least_one (one i); flag = Not; view_arrays = runs }))
 of_one_list (Err e) m n t vs cs name one made = tt
 
 map_twice : {A B C : Type 0} (f : B → C) (g : A → B) (xs : List A) → map f (map g xs) ≡ map (λ x. f (g x)) xs
@@ -67,7 +67,7 @@ sums_are g vs = map_twice int (λ k. total (values_of g.numbers.items vs k)) _
 pub counts_are : (numbers : List ℕ) (vs : List Datum) (ks : List ℕ) → map (λ n. int (pos n)) (map (λ k. length (rows_of numbers (length vs) k)) ks) ≡ map (λ k. int (pos (length (values_of numbers vs k)))) ks
 counts_are numbers vs [] = refl
 counts_are numbers vs (k ∷ ks) =
-    ap (λ n. int (pos n) ∷ map (λ m. int (pos m)) (map (λ j. length (rows_of numbers (length vs) j)) ks)) (sym (length-map (rows_of numbers (length vs) k) (value_at vs)))
+    ap (λ n. int (pos n) ∷ map (λ m. int (pos m)) (map (λ j. length (rows_of numbers (length vs) j)) ks)) (sym (length-map (rows_of numbers (length vs) k) (row_value vs)))
     ∙ ap (λ (l : List Datum). int (pos (length (values_of numbers vs k))) ∷ l) (counts_are numbers vs ks)
 
 -- a number of rows is one of 32 bits

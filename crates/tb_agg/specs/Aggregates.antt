@@ -6,7 +6,7 @@ use Rattle.tb_value.specs.Kind.{Kind}
 use Rattle.tb_value.specs.Kind as kind
 use Rattle.tb_value.specs.SameKind.{is_key}
 use Rattle.tb_chunk.specs.Order.{order_of}
-use Rattle.tb_rows.specs.Rows.{value_at}
+use Rattle.tb_rows.specs.Rows.{row_value}
 use Rattle.tb_agg.specs.declared.table.Aggregate.{Aggregate}
 use Rattle.tb_agg.specs.declared.table.Aggregate.TheVariants.{First, Last, Sum, Min, Max, Count}
 
@@ -30,8 +30,8 @@ extreme greatest vs = fold (λ best v. if beats greatest best v then v else best
 
 -- the one value for the values of a group
 abbrev pub aggregate : Aggregate → List Datum → Datum
-aggregate First vs = value_at vs 0
-aggregate Last vs = value_at vs (length vs - 1)
+aggregate First vs = row_value vs 0
+aggregate Last vs = row_value vs (length vs - 1)
 aggregate Sum vs = int (total vs)
 aggregate Min vs = extreme false vs
 aggregate Max vs = extreme true vs

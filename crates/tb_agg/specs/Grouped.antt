@@ -4,7 +4,7 @@ use Rattle.std.specs.List.{All}
 use Rattle.tb_value.specs.Datum.{Datum}
 use Rattle.tb_value.specs.Pairs.{row_numbers}
 use Rattle.tb_value.specs.declared.limits.TheConstants.{MAX_ROWS}
-use Rattle.tb_rows.specs.Rows.{value_at}
+use Rattle.tb_rows.specs.Rows.{row_value}
 use Rattle.tb_rows.specs.declared.groups.Groups.{Groups}
 use Rattle.tb_agg.specs.Aggregates.{aggregate}
 use Rattle.tb_agg.specs.declared.table.Aggregate.{Aggregate}
@@ -15,7 +15,7 @@ rows_of numbers n k = filter (λ i. slice_index numbers i == k) (row_numbers n)
 
 -- the values of the group, in the order of the rows
 abbrev pub values_of : List ℕ → List Datum → ℕ → List Datum
-values_of numbers vs k = map (value_at vs) (rows_of numbers (length vs) k)
+values_of numbers vs k = map (row_value vs) (rows_of numbers (length vs) k)
 
 -- one value for each group
 abbrev pub aggregates : Aggregate → Groups → List Datum → List Datum

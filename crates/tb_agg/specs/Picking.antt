@@ -2,7 +2,7 @@
 use Rattle.std.specs.Prelude.{ℕ, Bool, true, false, List, fold, Option, Some, None, is_none, if◌then◌else◌}
 use Rattle.tb_value.specs.Datum.{Datum}
 use Rattle.tb_chunk.specs.Rows.{value_or_null}
-use Rattle.tb_rows.specs.Rows.{value_at}
+use Rattle.tb_rows.specs.Rows.{row_value}
 use Rattle.tb_agg.specs.Aggregates.{beats}
 use Rattle.tb_agg.specs.declared.table.Aggregate.{Aggregate}
 use Rattle.tb_agg.specs.declared.table.Aggregate.TheVariants.{First, Last, Min, Max}
@@ -13,8 +13,8 @@ use Rattle.tb_agg.specs.declared.picks.Pick.TheVariants.{FirstRow, LastRow, Leas
 abbrev pub replaces : Pick → List Datum → Option ℕ → ℕ → Bool
 replaces FirstRow vs best row = is_none best
 replaces LastRow vs best row = true
-replaces LeastValue vs best row = beats false (value_or_null vs best) (value_at vs row)
-replaces GreatestValue vs best row = beats true (value_or_null vs best) (value_at vs row)
+replaces LeastValue vs best row = beats false (value_or_null vs best) (row_value vs row)
+replaces GreatestValue vs best row = beats true (value_or_null vs best) (row_value vs row)
 
 abbrev pub next_pick : Pick → List Datum → Option ℕ → ℕ → Option ℕ
 next_pick pick vs best row = (if replaces pick vs best row then Some row else best)

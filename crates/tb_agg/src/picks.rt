@@ -2,7 +2,7 @@
 ghost use Rattle.std.specs.Prelude.{◌≡◌, ◌<◌, IfOk, length, map};
 ghost use Rattle.std.specs.List.{All};
 ghost use Rattle.tb_value.specs.Pairs.{row_numbers};
-ghost use Rattle.tb_value.specs.See.{lent};
+ghost use Rattle.tb_value.specs.See.{lent_value};
 ghost use Rattle.tb_chunk.specs.Col.{values};
 ghost use Rattle.tb_chunk.specs.Rows.{value_or_null, IsRowOf};
 ghost use Rattle.tb_agg.specs.Aggregates.{beats};
@@ -24,7 +24,7 @@ pub(crate) enum Pick {
 }
 
 fn beats(best: ValueRef<'_>, value: ValueRef<'_>, greatest: bool) -> bool
-    ensures { result ≡ beats greatest (lent best.entry) (lent value.entry) }
+    ensures { result ≡ beats greatest (lent_value best.entry) (lent_value value.entry) }
 {
     match (best, value) {
         (_, ValueRef::Null) => false,
@@ -37,7 +37,7 @@ fn beats(best: ValueRef<'_>, value: ValueRef<'_>, greatest: bool) -> bool
 // The value of a row, and Null of none.
 fn value_or_null(column: &Series, row: NullableIdxSize) -> ValueRef<'_>
     requires { IsRowOf (length (values column.now)) row }
-    ensures { lent result ≡ value_or_null (values column.now) row }
+    ensures { lent_value result ≡ value_or_null (values column.now) row }
 {
     match row.row() {
         Some(row) => column.get(row as usize),

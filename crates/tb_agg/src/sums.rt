@@ -1,7 +1,7 @@
 //! The sums of groups.
 ghost use Rattle.std.specs.Prelude.{◌≡◌, ◌≤ℤ◌, ◌+ℤ◌, pos, neg_ℤ, IfOk, length, map};
 ghost use Rattle.tb_value.specs.Pairs.{row_numbers};
-ghost use Rattle.tb_value.specs.See.{lent};
+ghost use Rattle.tb_value.specs.See.{lent_value};
 ghost use Rattle.tb_chunk.specs.Col.{values};
 ghost use Rattle.tb_agg.specs.Aggregates.{number};
 ghost use Rattle.tb_agg.specs.Grouped.{AreGroupsOf};
@@ -15,7 +15,7 @@ use tb_store::Series;
 use tb_value::{OutOfMemory, ValueRef};
 
 fn number(value: ValueRef<'_>) -> i128
-    ensures { result ≡ number (lent value.entry) }
+    ensures { result ≡ number (lent_value value.entry) }
 {
     match value {
         ValueRef::Boolean(true) => 1,
@@ -27,7 +27,7 @@ fn number(value: ValueRef<'_>) -> i128
 fn plus_value(running: Running, value: ValueRef<'_>) -> Running
     requires down { neg_ℤ (pos 4294967296) ≤ℤ running.wraps }
     requires up { running.wraps ≤ℤ pos 4294967296 }
-    ensures total { sum_so_far result ≡ sum_so_far running +ℤ number (lent value.entry) }
+    ensures total { sum_so_far result ≡ sum_so_far running +ℤ number (lent_value value.entry) }
     ensures from { running.wraps ≤ℤ (result.wraps +ℤ pos 1) }
     ensures to { result.wraps ≤ℤ (running.wraps +ℤ pos 1) }
 {

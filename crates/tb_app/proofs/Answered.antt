@@ -15,8 +15,8 @@ use Rattle.tb_json.specs.Text.{text_of}
 use Rattle.tb_request.specs.declared.request.Reason.{Reason}
 use Rattle.tb_request.specs.declared.request.RequestFault.{RequestFault}
 use Rattle.tb_request.specs.declared.request.RequestFault.TheVariants.{NoRequest}
-use Rattle.tb_request.specs.Reading.{UnpivotRequest, DummiesRequest, PivotRequest, FaultIs, asked, request_view, unpivot_view, dummies_view, pivot_view}
-use Rattle.tb_request.specs.Columns.{unlaid}
+use Rattle.tb_request.specs.Reading.{UnpivotRequest, DummiesRequest, PivotRequest, FaultIs, asked_request, request_view, unpivot_view, dummies_view, pivot_view}
+use Rattle.tb_request.specs.Columns.{relaid_column}
 use Rattle.tb_request.specs.declared.request.JoinRequest as rust
 use Rattle.tb_request.specs.declared.request.UnpivotRequest as rust_long
 use Rattle.tb_request.specs.declared.request.DummiesRequest as rust_marked
@@ -32,7 +32,7 @@ use Rattle.tb_pivot.specs.Pivot.{pivot_table}
 use Rattle.tb_pivot.specs.Refusal.{pivot_refusal}
 use Rattle.tb_pivot.specs.Request.{way_of}
 use Rattle.tb_pivot.specs.Request as wide
-use Rattle.tb_pairs.specs.Trace.{IsTraced, Trace, told}
+use Rattle.tb_pairs.specs.Trace.{IsTraced, Trace, trace_told}
 use Rattle.tb_pairs.specs.declared.trace.JoinTrace.{JoinTrace}
 use Rattle.tb_join.specs.Traced.{named_trace}
 use Rattle.tb_app.specs.declared.status.Status.{Status}
@@ -53,9 +53,9 @@ pub fault_is_due : {A B E : Type 0} (f : B → Request) (read : Result B Reason)
     → FaultIs fault read
     → IfOk result (λ a. (reason : Reason) × (fault ≡ NoRequest reason) × DueOfReading (Err reason) (s a) (text a))
     → IfOk result (λ a. DueOfReading (as_request f read) (s a) (text a))
-fault_is_due f read fault s text (Ok a) is told =
-    reason_is_due f read told.0 (s a) (text a) (subst (λ e. FaultIs e read) told.1 is) told.2
-fault_is_due f read fault s text (Err e) is told = told
+fault_is_due f read fault s text (Ok a) is trace_told =
+    reason_is_due f read trace_told.0 (s a) (text a) (subst (λ e. FaultIs e read) trace_told.1 is) trace_told.2
+fault_is_due f read fault s text (Err e) is trace_told = trace_told
 
 -- ---- a request
 
@@ -82,17 +82,17 @@ outcomes_are_due q outcome s text (Err e) settles answers is = is
 
 module _ (q : rust.JoinRequest) (left_on right_on : List Name) (left : left_on ≡ q.left_on.items) (right : right_on ≡ q.right_on.items) where
   -- the tables show no views, and the lists of names are those that are lent
-  asked_lent : lent_request q.left q.right left_on right_on q.args ≡ asked (request_view q)
+  asked_lent : lent_request q.left q.right left_on right_on q.args ≡ asked_request (request_view q)
   asked_lent = λ t. by_names (sym (table_unlaid q.left) t) (sym (table_unlaid q.right) t) (left t) (right t) q.args
 
   trace_lent : named_trace q.left q.right left_on right_on q.args q.exec ≡ due_trace (request_view q)
-  trace_lent = sym (trace_unlaid q.left q.right left_on right_on q.args q.exec) ∙ (λ t. named_trace (map unlaid q.left) (map unlaid q.right) (left t) (right t) q.args q.exec)
+  trace_lent = sym (trace_unlaid q.left q.right left_on right_on q.args q.exec) ∙ (λ t. named_trace (map relaid_column q.left) (map relaid_column q.right) (left t) (right t) q.args q.exec)
 
   -- the table that the join gave answers the request, and its trace is the one that is due
   joined_is_due : (outcome : Result (List Col × JoinTrace) PolarsError) (s : Status) (text : List ℕ)
-      → Settles outcome (join_refusal (asked (request_view q)))
-      → IfOk outcome (λ x. IsAnswer (asked (request_view q)) (table_of x.0))
-      → IfOk outcome (λ x. told x.1 ≡ due_trace (request_view q))
+      → Settles outcome (join_refusal (asked_request (request_view q)))
+      → IfOk outcome (λ x. IsAnswer (asked_request (request_view q)) (table_of x.0))
+      → IfOk outcome (λ x. trace_told x.1 ≡ due_trace (request_view q))
       → IsJoinOutcome q.trace outcome s text → DueOfRequest (join (request_view q)) s text
   unfolding DueOf IsAnswerText refusal_of
   joined_is_due (Ok (t, how)) s text settles answer traced is =
@@ -101,14 +101,14 @@ module _ (q : rust.JoinRequest) (left_on right_on : List Name) (left : left_on �
   joined_is_due (Err e) s text (inr cause) answer traced is = subst (DueOf (join (request_view q)) s text) (sym cause) (is.1, is.2)
 
   joins_are_due : {A E : Type 0} (outcome : Result (List Col × JoinTrace) PolarsError) (s : A → Status) (text : A → List ℕ) (result : Result A E)
-      → Settles outcome (join_refusal (asked (request_view q)))
-      → IfOk outcome (λ x. IsAnswer (asked (request_view q)) (table_of x.0))
-      → IfOk outcome (λ x. told x.1 ≡ due_trace (request_view q))
+      → Settles outcome (join_refusal (asked_request (request_view q)))
+      → IfOk outcome (λ x. IsAnswer (asked_request (request_view q)) (table_of x.0))
+      → IfOk outcome (λ x. trace_told x.1 ≡ due_trace (request_view q))
       → IfOk result (λ a. IsJoinOutcome q.trace outcome (s a) (text a)) → IfOk result (λ a. DueOfRequest (join (request_view q)) (s a) (text a))
   joins_are_due outcome s text (Ok a) settles answer traced is = joined_is_due outcome (s a) (text a) settles answer traced is
   joins_are_due outcome s text (Err e) settles answer traced is = is
 
-  told_as_due : (outcome : Result (List Col × JoinTrace) PolarsError) (due : Trace) → IfOk outcome (λ x. IsTraced q.exec due x.1) → IfOk outcome (λ x. told x.1 ≡ due)
+  told_as_due : (outcome : Result (List Col × JoinTrace) PolarsError) (due : Trace) → IfOk outcome (λ x. IsTraced q.exec due x.1) → IfOk outcome (λ x. trace_told x.1 ≡ due)
   told_as_due (Ok x) due traced = traced.tells
   told_as_due (Err e) due traced = tt
 
@@ -121,7 +121,7 @@ module _ (q : rust.JoinRequest) (left_on right_on : List Name) (left : left_on �
       joins_are_due outcome s text result
       (subst (λ (a : asking.Request). Settles outcome (join_refusal a)) asked_lent settles)
       (subst (λ (a : asking.Request). IfOk outcome (λ x. IsAnswer a (table_of x.0))) asked_lent answer)
-      (subst (λ (d : Trace). IfOk outcome (λ x. told x.1 ≡ d)) trace_lent (told_as_due outcome _ traced))
+      (subst (λ (d : Trace). IfOk outcome (λ x. trace_told x.1 ≡ d)) trace_lent (told_as_due outcome _ traced))
       is
 
 -- ---- a table that is made long
@@ -162,7 +162,7 @@ module _ (q : rust_marked.DummiesRequest) (columns : Option (List Name)) (separa
   abbrev lent_dummies : marked.Request
   lent_dummies = lent.lent_request q.table columns separator q.drop_first
 
-  -- what is asked with what is lent of the request
+  -- what is asked_request with what is lent of the request
   lent_is : lent_dummies ≡ asked_dummies (dummies_view q)
   lent_is = λ t. record { table = sym (table_unlaid q.table) t; columns = names t; separator = separator_or (given t); drop_first = q.drop_first }
 
@@ -190,7 +190,7 @@ module _ (q : rust_wide.PivotRequest) (on : List Name) (index values : Option (L
   abbrev lent_pivot : wide.Request
   lent_pivot = borrowed.lent_request q.table on index values q.sort_columns (way_of q.agg) separator
 
-  -- what is asked with what is lent of the request
+  -- what is asked_request with what is lent of the request
   lent_pivot_is : lent_pivot ≡ asked_wide (pivot_view q)
   lent_pivot_is = λ t. record { table = sym (table_unlaid q.table) t; on = keys t; index = rows t; values = others t; sorts = q.sort_columns; way = way_of q.agg; separator = wide.separator_or (given t) }
 

@@ -11,7 +11,7 @@ use Rattle.tb_sample.specs.Sample.{IsSummary, text_of_summary}
 use Rattle.tb_sample.specs.declared.summary.Summary.{Summary}
 use Rattle.tb_request.specs.declared.request.Reason.{Reason}
 use Rattle.tb_request.specs.Reasons.{reason_word}
-use Rattle.tb_pairs.specs.Trace.{told}
+use Rattle.tb_pairs.specs.Trace.{trace_told}
 use Rattle.tb_pairs.specs.declared.trace.JoinTrace.{JoinTrace}
 use Rattle.tb_app.specs.Traces.{joined_text}
 use Rattle.tb_app.specs.declared.words.Command.{Command}
@@ -45,7 +45,7 @@ IsOutcome (Err e) s text = IsRefusal e s text
 
 -- the same of a join, whose table is written with its trace where that is asked
 abbrev pub IsJoinOutcome : Bool → Result (List Col × JoinTrace) PolarsError → Status → List ℕ → Type 0
-IsJoinOutcome asks (Ok joined) s text = (s ≡ status.Done) × (text ≡ joined_text asks (table_of joined.0) (told joined.1))
+IsJoinOutcome asks (Ok joined) s text = (s ≡ status.Done) × (text ≡ joined_text asks (table_of joined.0) (trace_told joined.1))
 IsJoinOutcome asks (Err e) s text = IsRefusal e s text
 
 -- a request is refused, or it is done
@@ -61,7 +61,7 @@ DueOfReading (Err reason) s text = (s ≡ status.BadRequest) × (text ≡ bad_re
 
 -- the text tells of an answer to the join of the sample's tables
 abbrev pub IsSampleText : ℕ → List ℕ → Type 0
-IsSampleText rows text = (told : Summary) × IsSummary rows told × (text ≡ text_of_summary told)
+IsSampleText rows text = (trace_told : Summary) × IsSummary rows trace_told × (text ≡ text_of_summary trace_told)
 
 -- the table of what is due for each form of words, and for a command by its bytes
 abbrev pub DueOfForm : Form → List ℕ → Status → List ℕ → Type 0
@@ -120,9 +120,9 @@ IsKnown Unknown = ⊥
 
 -- the words have a form, and under a command the source tells a request that nothing refuses
 abbrev pub IsValid : Form → Option (List ℕ) → Type 0
-IsValid (Reads command) told = IsSomeAnd told (λ bytes. (length bytes ≤ MAX_INPUT) × ((q : Request) × (request_of command bytes ≡ Ok q) × (refusal_of q ≡ None)))
-IsValid (Sample rows) told = ⊤
-IsValid Unknown told = ⊥
+IsValid (Reads command) trace_told = IsSomeAnd trace_told (λ bytes. (length bytes ≤ MAX_INPUT) × ((q : Request) × (request_of command bytes ≡ Ok q) × (refusal_of q ≡ None)))
+IsValid (Sample rows) trace_told = ⊤
+IsValid Unknown trace_told = ⊥
 
 -- The headline: the bytes, read to their end, are a request that nothing refuses, and the text of an answer to it was written.
 pub record DoneFor (command : Command) (left left' written written' : Option (List ℕ)) : Type 0 where

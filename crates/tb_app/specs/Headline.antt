@@ -9,7 +9,7 @@ use Rattle.tb_unpivot.specs.Unpivot.{unpivot_refusal, unpivot_table}
 use Rattle.tb_dummies.specs.Dummies.{dummies_refusal, dummies_table}
 use Rattle.tb_pivot.specs.Pivot.{pivot_table}
 use Rattle.tb_pivot.specs.Refusal.{pivot_refusal}
-use Rattle.tb_request.specs.Reading.{JoinRequest, UnpivotRequest, DummiesRequest, PivotRequest, asked, join_request_of, unpivot_request_of, dummies_request_of, pivot_request_of}
+use Rattle.tb_request.specs.Reading.{JoinRequest, UnpivotRequest, DummiesRequest, PivotRequest, asked_request, join_request_of, unpivot_request_of, dummies_request_of, pivot_request_of}
 use Rattle.tb_json.specs.Text.{text_of}
 use Rattle.tb_app.specs.Due.{Tells}
 use Rattle.tb_app.specs.Requests.{asked_dummies, asked_long, asked_wide}
@@ -24,9 +24,9 @@ pub record JoinDone (left left' written written' : Option (List ℕ)) : Type 0 w
   pub read : Consumes left left' bytes
   pub request : JoinRequest
   pub is_request : join_request_of bytes ≡ Ok request
-  pub valid : join_valid (asked request)
+  pub valid : join_valid (asked_request request)
   pub table : Table
-  pub is_answer : IsAnswer (asked request) table
+  pub is_answer : IsAnswer (asked_request request) table
   pub wrote : Appends written written' (joined_text request.trace table (due_trace request))
 
 -- The same for a table that is made long: the text of the long table was written.

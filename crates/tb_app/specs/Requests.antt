@@ -13,7 +13,7 @@ use Rattle.tb_pivot.specs.Refusal.{pivot_refusal}
 use Rattle.tb_pivot.specs.Request.{way_of}
 use Rattle.tb_pivot.specs.Request as wide
 use Rattle.tb_request.specs.declared.request.Reason.{Reason}
-use Rattle.tb_request.specs.Reading.{JoinRequest, UnpivotRequest, DummiesRequest, PivotRequest, asked, join_request_of, unpivot_request_of, dummies_request_of, pivot_request_of}
+use Rattle.tb_request.specs.Reading.{JoinRequest, UnpivotRequest, DummiesRequest, PivotRequest, asked_request, join_request_of, unpivot_request_of, dummies_request_of, pivot_request_of}
 use Rattle.tb_json.specs.Text.{text_of}
 use Rattle.tb_json.specs.Text as texts
 use Rattle.tb_app.specs.Traces.{due_trace, joined_text}
@@ -61,14 +61,14 @@ asked_wide r = record {
 
 -- why the operation refuses the request
 unfoldable pub refusal_of : Request → Option PolarsError
-refusal_of (join r) = join_refusal (asked r)
+refusal_of (join r) = join_refusal (asked_request r)
 refusal_of (unpivot r) = unpivot_refusal (asked_long r)
 refusal_of (dummies r) = dummies_refusal (asked_dummies r)
 refusal_of (pivot r) = pivot_refusal (asked_wide r)
 
 -- the text is that of some answer to the request
 unfoldable pub IsAnswerText : Request → List ℕ → Type 0
-IsAnswerText (join r) text = (t : Table) × IsAnswer (asked r) t × (text ≡ joined_text r.trace t (due_trace r))
+IsAnswerText (join r) text = (t : Table) × IsAnswer (asked_request r) t × (text ≡ joined_text r.trace t (due_trace r))
 IsAnswerText (unpivot r) text = text ≡ text_of (unpivot_table (asked_long r))
 IsAnswerText (dummies r) text = text ≡ text_of (dummies_table (asked_dummies r))
 IsAnswerText (pivot r) text = text ≡ text_of (pivot_table (asked_wide r))

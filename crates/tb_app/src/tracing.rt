@@ -6,7 +6,7 @@ ghost use Rattle.serde_json.specs.Written.{has_float};
 ghost use Rattle.tb_frame.specs.Table.{table_of};
 ghost use Rattle.tb_json.specs.Text.{traced_text_of};
 ghost use Rattle.tb_sorted.specs.Listed.{sizes_of};
-ghost use Rattle.tb_pairs.specs.Trace.{hash, merge, told};
+ghost use Rattle.tb_pairs.specs.Trace.{hash, merge, trace_told};
 ghost use Rattle.tb_app.specs.Traces.{count_data, trace_data};
 
 use serde_json::{Value, json};
@@ -58,7 +58,7 @@ fn merged_value(alloc: Global, merged: &Merged) -> Result<Value, OutOfMemory>
 }
 
 fn trace_value(alloc: Global, trace: &JoinTrace) -> Result<Value, OutOfMemory>
-    ensures { IfOk result (λ v. view v ≡ trace_data (told trace.now)) }
+    ensures { IfOk result (λ v. view v ≡ trace_data (trace_told trace.now)) }
 {
     match trace {
         JoinTrace::Hash(built) => built_value(alloc, built),
@@ -73,7 +73,7 @@ pub(crate) fn text_with_trace(
     table: &DataFrame,
     trace: &JoinTrace,
 ) -> Result<String, OutOfMemory>
-    ensures { IfOk result (λ s. string_bytes s ≡ traced_text_of (table_of table.now) (trace_data (told trace.now))) }
+    ensures { IfOk result (λ s. string_bytes s ≡ traced_text_of (table_of table.now) (trace_data (trace_told trace.now))) }
 {
     let trace = trace_value(alloc, trace)?;
     traced_text_of(alloc, table, &trace)

@@ -10,7 +10,7 @@ use Rattle.tb_value.specs.Datum.{Datum, is_null, is_present}
 use Rattle.tb_value.specs.Kind.{Kind}
 use Rattle.tb_value.specs.declared.sorted.IsSorted.{IsSorted}
 use Rattle.tb_value.specs.declared.sorted.IsSorted.TheVariants.{Ascending, Descending, Not}
-use Rattle.tb_cell.specs.Flag.{datum_cmp, present, nulls, HasNullsAtOneEnd, IsOrdered, FlagHolds}
+use Rattle.tb_cell.specs.Flag.{datum_cmp, present_values, nulls, HasNullsAtOneEnd, IsOrdered, FlagHolds}
 use Rattle.tb_cell.proofs.Parts.{drop_two, take_two}
 
 -- values that are all null, and values of which none is
@@ -24,7 +24,7 @@ pub not_true : (b : Bool) → not b ≡ true → b ≡ false
 not_true true e = absurd (cc)
 not_true false e = refl
 
-pub present_of_nulls : (vs : List Datum) → AreNull vs → present vs ≡ []
+pub present_of_nulls : (vs : List Datum) → AreNull vs → present_values vs ≡ []
 present_of_nulls [] h = refl
 present_of_nulls (v ∷ vs) h = rw (All-head (λ x. is_null x ≡ true) v vs h) (present_of_nulls vs (All-tail (λ x. is_null x ≡ true) v vs h))
 
@@ -32,7 +32,7 @@ pub nulls_of_nulls : (vs : List Datum) → AreNull vs → nulls vs ≡ vs
 nulls_of_nulls [] h = refl
 nulls_of_nulls (v ∷ vs) h = rw (All-head (λ x. is_null x ≡ true) v vs h) (ap (λ xs. v ∷ xs) (nulls_of_nulls vs (All-tail (λ x. is_null x ≡ true) v vs h)))
 
-pub present_of_present : (vs : List Datum) → ArePresent vs → present vs ≡ vs
+pub present_of_present : (vs : List Datum) → ArePresent vs → present_values vs ≡ vs
 present_of_present [] h = refl
 present_of_present (v ∷ vs) h =
     let e : is_null v ≡ false = not_true (is_null v) (All-head (λ x. is_present x ≡ true) v vs h) in
@@ -62,31 +62,31 @@ module _ {X : Type 0} (order : X → X → Ordering) where
 
 -- the part of values of which some come first and the others last
 module _ (order : Datum → Datum → Ordering) (t : Kind) (vs : List Datum) (start len : ℕ) where
-  nulls_first : IsInOrder order (present vs) → vs ≡ nulls vs ++ present vs → IsInOrder order (present (take len (drop start vs))) × HasNullsAtOneEnd (take len (drop start vs))
+  nulls_first : IsInOrder order (present_values vs) → vs ≡ nulls vs ++ present_values vs → IsInOrder order (present_values (take len (drop start vs))) × HasNullsAtOneEnd (take len (drop start vs))
   nulls_first sorted e =
       let ns : List Datum = take len (drop start (nulls vs)) in
-      let ps : List Datum = take (len - length (drop start (nulls vs))) (drop (start - length (nulls vs)) (present vs)) in
-      let cut : take len (drop start vs) ≡ ns ++ ps = ap (λ xs. take len (drop start xs)) e ∙ (ap (λ xs. take len xs) (drop_two start (nulls vs) (present vs)) ∙ take_two len (drop start (nulls vs)) (drop (start - length (nulls vs)) (present vs))) in
+      let ps : List Datum = take (len - length (drop start (nulls vs))) (drop (start - length (nulls vs)) (present_values vs)) in
+      let cut : take len (drop start vs) ≡ ns ++ ps = ap (λ xs. take len (drop start xs)) e ∙ (ap (λ xs. take len xs) (drop_two start (nulls vs) (present_values vs)) ∙ take_two len (drop start (nulls vs)) (drop (start - length (nulls vs)) (present_values vs))) in
       let none : AreNull ns = All-take (λ v. is_null v ≡ true) len (drop start (nulls vs)) (All-drop (λ v. is_null v ≡ true) start (nulls vs) (filter_passes is_null vs)) in
-      let some : ArePresent ps = All-take (λ v. is_present v ≡ true) (len - length (drop start (nulls vs))) (drop (start - length (nulls vs)) (present vs)) (All-drop (λ v. is_present v ≡ true) (start - length (nulls vs)) (present vs) (filter_passes is_present vs)) in
-      let p : present (ns ++ ps) ≡ ps = filter-append is_present ns ps ∙ (λ i. present_of_nulls ns none i ++ present_of_present ps some i) in
+      let some : ArePresent ps = All-take (λ v. is_present v ≡ true) (len - length (drop start (nulls vs))) (drop (start - length (nulls vs)) (present_values vs)) (All-drop (λ v. is_present v ≡ true) (start - length (nulls vs)) (present_values vs) (filter_passes is_present vs)) in
+      let p : present_values (ns ++ ps) ≡ ps = filter-append is_present ns ps ∙ (λ i. present_of_nulls ns none i ++ present_of_present ps some i) in
       let n : nulls (ns ++ ps) ≡ ns ++ [] = filter-append is_null ns ps ∙ (λ i. nulls_of_nulls ns none i ++ nulls_of_present ps some i) in
-      rw cut (rw p (in_order_take order (len - length (drop start (nulls vs))) (drop (start - length (nulls vs)) (present vs)) (in_order_drop order (start - length (nulls vs)) (present vs) sorted)), inl (sym (λ i. (n ∙ append-nil ns) i ++ p i)))
+      rw cut (rw p (in_order_take order (len - length (drop start (nulls vs))) (drop (start - length (nulls vs)) (present_values vs)) (in_order_drop order (start - length (nulls vs)) (present_values vs) sorted)), inl (sym (λ i. (n ∙ append-nil ns) i ++ p i)))
 
-  nulls_last : IsInOrder order (present vs) → vs ≡ present vs ++ nulls vs → IsInOrder order (present (take len (drop start vs))) × HasNullsAtOneEnd (take len (drop start vs))
+  nulls_last : IsInOrder order (present_values vs) → vs ≡ present_values vs ++ nulls vs → IsInOrder order (present_values (take len (drop start vs))) × HasNullsAtOneEnd (take len (drop start vs))
   nulls_last sorted e =
-      let ps : List Datum = take len (drop start (present vs)) in
-      let ns : List Datum = take (len - length (drop start (present vs))) (drop (start - length (present vs)) (nulls vs)) in
-      let cut : take len (drop start vs) ≡ ps ++ ns = ap (λ xs. take len (drop start xs)) e ∙ (ap (λ xs. take len xs) (drop_two start (present vs) (nulls vs)) ∙ take_two len (drop start (present vs)) (drop (start - length (present vs)) (nulls vs))) in
-      let some : ArePresent ps = All-take (λ v. is_present v ≡ true) len (drop start (present vs)) (All-drop (λ v. is_present v ≡ true) start (present vs) (filter_passes is_present vs)) in
-      let none : AreNull ns = All-take (λ v. is_null v ≡ true) (len - length (drop start (present vs))) (drop (start - length (present vs)) (nulls vs)) (All-drop (λ v. is_null v ≡ true) (start - length (present vs)) (nulls vs) (filter_passes is_null vs)) in
-      let p : present (ps ++ ns) ≡ ps = filter-append is_present ps ns ∙ ((λ i. present_of_present ps some i ++ present_of_nulls ns none i) ∙ append-nil ps) in
+      let ps : List Datum = take len (drop start (present_values vs)) in
+      let ns : List Datum = take (len - length (drop start (present_values vs))) (drop (start - length (present_values vs)) (nulls vs)) in
+      let cut : take len (drop start vs) ≡ ps ++ ns = ap (λ xs. take len (drop start xs)) e ∙ (ap (λ xs. take len xs) (drop_two start (present_values vs) (nulls vs)) ∙ take_two len (drop start (present_values vs)) (drop (start - length (present_values vs)) (nulls vs))) in
+      let some : ArePresent ps = All-take (λ v. is_present v ≡ true) len (drop start (present_values vs)) (All-drop (λ v. is_present v ≡ true) start (present_values vs) (filter_passes is_present vs)) in
+      let none : AreNull ns = All-take (λ v. is_null v ≡ true) (len - length (drop start (present_values vs))) (drop (start - length (present_values vs)) (nulls vs)) (All-drop (λ v. is_null v ≡ true) (start - length (present_values vs)) (nulls vs) (filter_passes is_null vs)) in
+      let p : present_values (ps ++ ns) ≡ ps = filter-append is_present ps ns ∙ ((λ i. present_of_present ps some i ++ present_of_nulls ns none i) ∙ append-nil ps) in
       let n : nulls (ps ++ ns) ≡ ns = filter-append is_null ps ns ∙ (λ i. nulls_of_present ps some i ++ nulls_of_nulls ns none i) in
-      rw cut (rw p (in_order_take order len (drop start (present vs)) (in_order_drop order start (present vs) sorted)), inr (sym (λ i. p i ++ n i)))
+      rw cut (rw p (in_order_take order len (drop start (present_values vs)) (in_order_drop order start (present_values vs) sorted)), inr (sym (λ i. p i ++ n i)))
 
   ordered_part : IsOrdered order t vs → IsOrdered order t (take len (drop start vs))
   ordered_part h =
-      let r : IsInOrder order (present (take len (drop start vs))) × HasNullsAtOneEnd (take len (drop start vs)) = elim h.2 [ inl e ↦ nulls_first h.1 e | inr e ↦ nulls_last h.1 e ] in
+      let r : IsInOrder order (present_values (take len (drop start vs))) × HasNullsAtOneEnd (take len (drop start vs)) = elim h.2 [ inl e ↦ nulls_first h.1 e | inr e ↦ nulls_last h.1 e ] in
       (h.0, r.0, r.1)
 
 pub flag_part : (flag : IsSorted) (t : Kind) (vs : List Datum) (start len : ℕ) → FlagHolds flag t vs → FlagHolds flag t (take len (drop start vs))

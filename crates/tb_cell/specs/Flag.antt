@@ -20,19 +20,19 @@ datum_cmp (binary a) (binary b) = slice_cmp nat_cmp a b
 datum_cmp _ _ = Equal
 
 -- the values that are present, and the nulls
-abbrev pub present : List Datum → List Datum
-present = filter is_present
+abbrev pub present_values : List Datum → List Datum
+present_values = filter is_present
 
 abbrev pub nulls : List Datum → List Datum
 nulls = filter is_null
 
 -- the nulls stand all first, or all last
 abbrev pub HasNullsAtOneEnd : List Datum → Type 0
-HasNullsAtOneEnd vs = (vs ≡ nulls vs ++ present vs) ⊎ (vs ≡ present vs ++ nulls vs)
+HasNullsAtOneEnd vs = (vs ≡ nulls vs ++ present_values vs) ⊎ (vs ≡ present_values vs ++ nulls vs)
 
 -- the type has keys, the values that are present are in the order, and the nulls stand at one end
 abbrev pub IsOrdered : (Datum → Datum → Ordering) → Kind → List Datum → Type 0
-IsOrdered order t vs = IsTrue (is_key t) × IsInOrder order (present vs) × HasNullsAtOneEnd vs
+IsOrdered order t vs = IsTrue (is_key t) × IsInOrder order (present_values vs) × HasNullsAtOneEnd vs
 
 -- what the flag says of values of the type
 abbrev pub FlagHolds : IsSorted → Kind → List Datum → Type 0

@@ -3,7 +3,7 @@ ghost use Rattle.std.specs.Prelude.{◌≡◌, ◌≢◌, ◌+◌, ◌++◌, ◌
 ghost use Rattle.tb_value.specs.Datum.{Datum, null, boolean, int, list, struct, items_of, is_null};
 ghost use Rattle.tb_value.specs.Kind.{Kind};
 ghost use Rattle.tb_value.specs.Kind as kinds;
-ghost use Rattle.tb_value.specs.See.{datum, lent, IsText};
+ghost use Rattle.tb_value.specs.See.{datum, lent_value, IsText};
 ghost use Rattle.tb_cell.specs.Fits.{Fits};
 ghost use Rattle.tb_value.specs.Texts.{text_of};
 
@@ -23,7 +23,7 @@ pub trait Cell: Drop {
 
     /// The value, lent.
     fn lend(&self) -> ValueRef<'_>
-        ensures value { lent result ≡ shows self.now }
+        ensures value { lent_value result ≡ shows self.now }
         ensures text { IsText result };
 
     /// The value, stored. It is not Null, and one that the column can hold.

@@ -1,6 +1,6 @@
 //! How values compare, and which may stand behind which.
 ghost use Rattle.std.specs.Prelude.{◌≡◌};
-ghost use Rattle.tb_value.specs.See.{lent};
+ghost use Rattle.tb_value.specs.See.{lent_value};
 ghost use Rattle.tb_cell.specs.Flag.{datum_cmp};
 ghost use Rattle.tb_cell.specs.Order.{may_follow, order_of};
 
@@ -10,7 +10,7 @@ use tb_value::ValueRef;
 /// How two values of one key type compare: numbers as numbers, false before true, texts and bytes by their bytes. Null has
 /// no place among them: it is Equal to every value, as are lists, structs and values of different kinds.
 pub fn compare_values(first: ValueRef<'_>, second: ValueRef<'_>) -> Ordering
-    ensures { result ≡ datum_cmp (lent first.entry) (lent second.entry) }
+    ensures { result ≡ datum_cmp (lent_value first.entry) (lent_value second.entry) }
 {
     match (first, second) {
         (ValueRef::Boolean(a), ValueRef::Boolean(b)) => a.cmp(&b),
@@ -23,7 +23,7 @@ pub fn compare_values(first: ValueRef<'_>, second: ValueRef<'_>) -> Ordering
 
 // How they compare where values are to ascend, or to descend.
 fn compare_in(first: ValueRef<'_>, second: ValueRef<'_>, descending: bool) -> Ordering
-    ensures { result ≡ order_of descending (lent first.entry) (lent second.entry) }
+    ensures { result ≡ order_of descending (lent_value first.entry) (lent_value second.entry) }
 {
     if descending {
         compare_values(second, first)
@@ -35,7 +35,7 @@ fn compare_in(first: ValueRef<'_>, second: ValueRef<'_>, descending: bool) -> Or
 /// Whether a value is present and not less than the one before it, where values are to ascend, or not greater where they are
 /// to descend. Null stands before the first.
 pub fn may_follow(before: ValueRef<'_>, value: ValueRef<'_>, descending: bool) -> bool
-    ensures { result ≡ may_follow descending (lent before.entry) (lent value.entry) }
+    ensures { result ≡ may_follow descending (lent_value before.entry) (lent_value value.entry) }
 {
     match value {
         ValueRef::Null => false,

@@ -1,13 +1,13 @@
 //! Parts of columns.
 ghost use Rattle.std.specs.Prelude.{◌≡◌, ◌≤◌, ◌+◌, ◌-◌};
-ghost use Rattle.tb_cell.specs.Window.{clamped, part_from, part_to};
+ghost use Rattle.tb_cell.specs.Window.{clamped_place, part_from, part_to};
 
 use std::alloc::Global;
 use tb_value::OutOfMemory;
 
 // A place, clamped into a list of `len`.
 fn clamped(place: i128, len: usize) -> usize
-    ensures { result ≡ clamped len place }
+    ensures { result ≡ clamped_place len place }
 {
     place.clamp(0, len as i128) as usize
 }

@@ -4,7 +4,7 @@ use Rattle.std.specs.List.{All}
 use Rattle.std.proofs.lemmas.List.Elements.{All-head, All-tail, All-cons, All-append}
 use Rattle.std.proofs.lemmas.List.{drop_all}
 use Rattle.tb_value.specs.Datum.{Datum, null}
-use Rattle.tb_chunk.specs.Col.{flat}
+use Rattle.tb_chunk.specs.Col.{concatenation}
 use Rattle.tb_chunk.proofs.Lists.{flat_drop}
 
 pub all_next : {X : Type 0} (P : Datum → Type 0) (f : X → Datum) (xs : List X) (i : ℕ) (x : X) → i < length xs → x ≡ get_or xs i x → All P (map f (drop i xs)) ↔ (P (f x) × All P (map f (drop (i + 1) xs)))
@@ -26,10 +26,10 @@ all_split P (x ∷ xs) ys a =
     let r = all_split P xs ys (All-tail P x (xs ++ ys) a) in
     (All-cons P x xs (All-head P x (xs ++ ys) a) r.0, r.1)
 
-pub all_next_list : {X : Type 0} (P : Datum → Type 0) (f : X → List Datum) (xs : List X) (i : ℕ) (x : X) → i < length xs → x ≡ get_or xs i x → All P (flat (map f (drop i xs))) ↔ (All P (f x) × All P (flat (map f (drop (i + 1) xs))))
+pub all_next_list : {X : Type 0} (P : Datum → Type 0) (f : X → List Datum) (xs : List X) (i : ℕ) (x : X) → i < length xs → x ≡ get_or xs i x → All P (concatenation (map f (drop i xs))) ↔ (All P (f x) × All P (concatenation (map f (drop (i + 1) xs))))
 all_next_list P f xs i x h e = rw (flat_drop f xs i x h e) (λ a. all_split P (f x) _ a, λ a. All-append P (f x) _ a.0 a.1)
 
-pub all_none : {X : Type 0} (P : Datum → Type 0) (f : X → List Datum) (xs : List X) (i : ℕ) → length xs ≤ i → All P (flat (map f (drop i xs)))
+pub all_none : {X : Type 0} (P : Datum → Type 0) (f : X → List Datum) (xs : List X) (i : ℕ) → length xs ≤ i → All P (concatenation (map f (drop i xs)))
 all_none P f xs i h = rw (drop_all i xs h) (λ k d h. absurd (omega arith))
 
 pub all_after : {X : Type 0} (P : Datum → Type 0) (f : X → Datum) (xs : List X) (i : ℕ) → length xs ≤ i → All P (map f (drop i xs))

@@ -6,12 +6,12 @@ pub mod Fresh
 pub mod Lent
 pub mod Lists
 pub mod Made
-pub mod Merging
+pub mod CoalescedLists
 pub mod Nulls
 pub mod OneChunk
 pub mod PlainRows
 pub mod Rows
-pub mod Runs
+pub mod ChunkViewArrays
 pub mod Used
 pub mod TypedRows
 pub mod RunLayout
@@ -19,4 +19,4 @@ pub use Rattle.tb_cell.proofs.Flags
 pub use Rattle.tb_cell.proofs.Follow
 pub use Rattle.tb_cell.proofs.Windows
 pub use Rattle.tb_view.proofs.Filled
-pub use Rattle.tb_view.proofs.Whole
+pub use Rattle.tb_view.proofs.ViewArrays

@@ -2,7 +2,7 @@
 use Rattle.std.proofs.Common.{arith, ◌≡◌, ℕ, ◌<◌, ◌≤◌, ◌+◌, suc, zero, refl, List, [], ◌∷◌, ◌++◌, length, map, get_or, take, drop, replicate, Option, Some, None, subst, sym, ◌∙◌, ap, add-one, drop-cons}
 use Rattle.std.specs.List.{All}
 use Rattle.tb_value.specs.Datum.{Datum, null}
-use Rattle.tb_chunk.specs.Col.{flat}
+use Rattle.tb_chunk.specs.Col.{concatenation}
 use Rattle.tb_chunk.specs.Rows.{IsRowOf, value_or_null}
 use Rattle.std.proofs.lemmas.List.{length-map}
 use Rattle.std.proofs.Math.ListN.{get_or-map}
@@ -13,8 +13,8 @@ pub All-map-at : {X Y : Type 0} (P : Y → Type 0) (f : X → Y) (xs : List X) (
 All-map-at P f xs i x h e all = subst P (get_or-map f xs i x ∙ ap f (sym e)) (All-get_or P (map f xs) i (f x) (rw (length-map xs f) h) all)
 
 -- what is left is the next piece and then what is left after it
-pub flat_drop : {X : Type 0} (f : X → List Datum) (xs : List X) (i : ℕ) (x : X) → i < length xs → x ≡ get_or xs i x → flat (map f (drop i xs)) ≡ f x ++ flat (map f (drop (i + 1) xs))
-flat_drop f xs i x h e = rw (add-one, drop-cons xs i x) (ap (λ y. f y ++ flat (map f (drop (suc i) xs))) (sym e))
+pub flat_drop : {X : Type 0} (f : X → List Datum) (xs : List X) (i : ℕ) (x : X) → i < length xs → x ≡ get_or xs i x → concatenation (map f (drop i xs)) ≡ f x ++ concatenation (map f (drop (i + 1) xs))
+flat_drop f xs i x h e = rw (add-one, drop-cons xs i x) (ap (λ y. f y ++ concatenation (map f (drop (suc i) xs))) (sym e))
 
 -- a list of nulls, from its length
 pub replicate-nulls : (vs : List Datum) → All (λ v. v ≡ null) vs → replicate (length vs) null ≡ vs

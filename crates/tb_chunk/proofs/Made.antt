@@ -5,10 +5,10 @@ use Rattle.tb_value.specs.Kind.{Kind}
 use Rattle.tb_value.specs.declared.sorted.IsSorted.{IsSorted}
 use Rattle.tb_chunk.specs.Col.{Col}
 use Rattle.tb_chunk.specs.Made.{IsOf}
-use Rattle.tb_view.specs.Whole.{ViewRun}
+use Rattle.tb_view.specs.ViewArrays.{ViewArray}
 
 -- wherever they stand
-pub is_of : (n : List ℕ) (t : Kind) (cs : List (List Datum)) (f : IsSorted) (rs : List ViewRun) (c : Col) → c ≡ record { name = n; kind = t; chunks = cs; flag = f; runs = rs } → IsOf n t cs f c
+pub is_of : (n : List ℕ) (t : Kind) (cs : List (List Datum)) (f : IsSorted) (rs : List ViewArray) (c : Col) → c ≡ record { name = n; kind = t; chunks = cs; flag = f; view_arrays = rs } → IsOf n t cs f c
 is_of n t cs f rs c e =
-    let runs = sym (ap (λ (d : Col). d.runs) e) in
-    e ∙ (λ i. record { name = n; kind = t; chunks = cs; flag = f; runs = runs i })
+    let runs = sym (ap (λ (d : Col). d.view_arrays) e) in
+    e ∙ (λ i. record { name = n; kind = t; chunks = cs; flag = f; view_arrays = runs i })

@@ -6,7 +6,7 @@ use Rattle.std.proofs.lemmas.List.{drop-append-le, drop-map, drop-replicate, get
 use Rattle.std.proofs.lemmas.List.Elements.{All-head, All-map, All-tail}
 use Rattle.tb_value.specs.Datum.{Datum, null}
 use Rattle.tb_cell.specs.Shown.{or_null}
-use Rattle.tb_view.specs.Moved.{moved, number_from, placed_at}
+use Rattle.tb_view.specs.Moved.{moved_view, number_from, view_at_number}
 use Rattle.tb_view.specs.declared.view.View.{View}
 use Rattle.tb_chunk.proofs.RunLayout.{views_of_none}
 
@@ -34,18 +34,18 @@ pub all_no_views : {N : Type 0} (zs : List (Option N)) (from n : ℕ) → All (�
 all_no_views zs from n = rw (drop-map {Y = Option View} (λ _. None) from zs, take-map {Y = Option View} (λ _. None) n (drop from zs)) (All-map (λ (v : Option View). v ≡ None) (λ _. None) (take n (drop from zs)) (λ k d h. refl))
 
 -- where there is no view, none is moved
-placed-none : (number : Option ℕ) → placed_at number None ≡ None
+placed-none : (number : Option ℕ) → view_at_number number None ≡ None
 placed-none None = refl
 placed-none (Some n) = refl
 
-moved-none : (base : ℕ) → moved base None ≡ None
+moved-none : (base : ℕ) → moved_view base None ≡ None
 moved-none base = placed-none (number_from base None)
 
-pub none_moved : (base : ℕ) (vs : List (Option View)) → All (λ (v : Option View). v ≡ None) vs → map (moved base) vs ≡ vs
+pub none_moved : (base : ℕ) (vs : List (Option View)) → All (λ (v : Option View). v ≡ None) vs → map (moved_view base) vs ≡ vs
 none_moved base [] all = refl
 none_moved base (v ∷ vs) all =
     let none : v ≡ None = All-head (λ (o : Option View). o ≡ None) v vs all in
-    let head : moved base v ≡ v = ap (moved base) none ∙ moved-none base ∙ sym none in
+    let head : moved_view base v ≡ v = ap (moved_view base) none ∙ moved-none base ∙ sym none in
     let tail = none_moved base vs (All-tail (λ (o : Option View). o ≡ None) v vs all) in
     λ i. head i ∷ tail i
 

@@ -15,7 +15,7 @@ use Rattle.tb_cell.specs.Shown.{or_null}
 use Rattle.tb_cell.specs.Fits.{Fits}
 use Rattle.tb_chunk.specs.Fresh.{no_views}
 use Rattle.tb_chunk.specs.Made.{IsShort, IsTyped}
-use Rattle.tb_view.specs.Layout.{Building, begun, built, with_nulls, with_rows}
+use Rattle.tb_view.specs.Layout.{Building, buffers_of, building_of, with_nulls, with_rows}
 use Rattle.tb_chunk.specs.RunLayout.{AreFewRows, AreRunsOf, expansion, total_of}
 use Rattle.tb_view.specs.RunViews.{data_runs, laid_runs, run_building, text_runs, with_run}
 use Rattle.tb_value.specs.Texts.{text_of}
@@ -97,9 +97,9 @@ nothing_put b ((v, suc n) ∷ rs) a =
 -- runs whose rows have no text have no view and no buffer
 pub laid_runs-none : (rs : List (Datum × ℕ)) → All HasNoText (expansion rs) → laid_runs (text_runs rs) ≡ record { views = map (λ _. None) (expansion rs); buffers = [] }
 laid_runs-none rs a =
-    let v = none_viewed (built []) rs a in
-    let b = nothing_put (built []) rs a in
-    λ i. record { views = v i; buffers = begun (b i) }
+    let v = none_viewed (building_of []) rs a in
+    let b = nothing_put (building_of []) rs a in
+    λ i. record { views = v i; buffers = buffers_of (b i) }
 
 -- rows without a view, by how many they are
 pub views_of_none : {A : Type 0} (xs : List A) → map {B = Option View} (λ _. None) xs ≡ replicate (length xs) None
@@ -134,7 +134,7 @@ laid_nulls rs n e a =
 
 -- the texts of runs whose values fit
 pub run_texts : (rs : List (AnyValue × ℕ)) → (run_building (text_runs (data_runs rs))).rows ≡ map text_of (expansion (data_runs rs))
-run_texts rs = run_rows (built []) (text_runs (data_runs rs)) ∙ text_expansion (data_runs rs)
+run_texts rs = run_rows (building_of []) (text_runs (data_runs rs)) ∙ text_expansion (data_runs rs)
 
 pub all_fit : (t : Kind) (rs : List (AnyValue × ℕ)) → All (Fits t) (map (λ r. datum r.0) rs) → All (Fits t) (expansion (data_runs rs))
 all_fit t rs a = All-expansion (Fits t) (data_runs rs) (rw (data_values rs) a)

@@ -8,7 +8,7 @@ use Rattle.tb_value.specs.declared.limits.TheConstants.{MAX_ROWS}
 use Rattle.tb_value.specs.declared.sorted.IsSorted.{IsSorted}
 use Rattle.tb_cell.specs.Flag.{FlagHolds}
 pub use Rattle.tb_cell.specs.Physical.{physical}
-use Rattle.tb_view.specs.Whole.{ViewRun}
+use Rattle.tb_view.specs.ViewArrays.{ViewArray}
 
 -- a name, a type, the values of each chunk, the flag, and the views and buffers of the texts of each chunk
 pub record Col : Type 0 where
@@ -16,15 +16,15 @@ pub record Col : Type 0 where
   pub kind : Kind
   pub chunks : List (List Datum)
   pub flag : IsSorted
-  pub runs : List ViewRun
+  pub view_arrays : List ViewArray
 
 -- lists, one after another
-abbrev pub flat : List (List Datum) → List Datum
-flat = flat_map (λ vs. vs)
+abbrev pub concatenation : List (List Datum) → List Datum
+concatenation = flat_map (λ vs. vs)
 
 -- the values of all chunks, in order
 abbrev pub values : Col → List Datum
-values c = flat c.chunks
+values c = concatenation c.chunks
 
 -- what is true of each column
 pub record IsColumn (c : Col) : Type 0 where

@@ -4,11 +4,11 @@ pub mod Col
 pub mod ColCode
 pub mod Made
 pub mod Lent
-pub mod Merged
+pub mod Coalesced
 pub mod Rows
 pub mod Changed
 pub mod Fresh
-pub mod Runs
+pub mod ChunkViewArrays
 pub mod Seen
 pub mod Stored
 pub mod TextValues
@@ -22,4 +22,4 @@ pub use Rattle.tb_view.specs.Held
 pub use Rattle.tb_view.specs.Layout
 pub use Rattle.tb_view.specs.Moved
 pub use Rattle.tb_view.specs.View
-pub use Rattle.tb_view.specs.Whole
+pub use Rattle.tb_view.specs.ViewArrays

@@ -9,10 +9,10 @@ use Rattle.tb_value.specs.declared.limits.TheConstants.{MAX_ROWS}
 use Rattle.tb_value.specs.declared.any_value.AnyValue.{AnyValue}
 use Rattle.std.specs.declared.vec.Vec.{Vec}
 use Rattle.std.specs.declared.alloc.Global.{Global}
-use Rattle.tb_chunk.specs.Col.{Col, flat}
+use Rattle.tb_chunk.specs.Col.{Col, concatenation}
 use Rattle.tb_cell.specs.Physical.{physical}
-use Rattle.tb_chunk.specs.Fresh.{fresh_runs, or_one_run}
-use Rattle.tb_view.specs.Whole.{ViewRun}
+use Rattle.tb_chunk.specs.Fresh.{fresh_view_arrays, or_one_view_array}
+use Rattle.tb_view.specs.ViewArrays.{ViewArray}
 use Rattle.tb_value.specs.declared.error.ComputeCause.TheVariants.{TooManyRows}
 use Rattle.tb_value.specs.declared.error.PolarsError.{PolarsError}
 use Rattle.tb_value.specs.declared.error.PolarsError.TheVariants.{ComputeError, SchemaMismatch, OutOfMemory}
@@ -29,18 +29,18 @@ at_least_one [] = [] ∷ []
 at_least_one (c ∷ cs) = c ∷ cs
 
 -- the column of this name, type, chunks and flag, made of values
-abbrev pub fresh : List ℕ → Kind → List (List Datum) → IsSorted → Col
-fresh n t cs f = record { name = n; kind = t; chunks = cs; flag = f; runs = fresh_runs cs }
+abbrev pub fresh_column : List ℕ → Kind → List (List Datum) → IsSorted → Col
+fresh_column n t cs f = record { name = n; kind = t; chunks = cs; flag = f; view_arrays = fresh_view_arrays cs }
 
 -- a column of this name, type, chunks and flag, wherever its texts stand
 abbrev pub IsOf : List ℕ → Kind → List (List Datum) → IsSorted → Col → Type 0
-IsOf n t cs f c = c ≡ record { name = n; kind = t; chunks = cs; flag = f; runs = c.runs }
+IsOf n t cs f c = c ≡ record { name = n; kind = t; chunks = cs; flag = f; view_arrays = c.view_arrays }
 
 abbrev pub IsTyped : Kind → List (List Datum) → Type 0
-IsTyped t cs = All (HasType t) (flat cs)
+IsTyped t cs = All (HasType t) (concatenation cs)
 
 abbrev pub IsShort : List (List Datum) → Type 0
-IsShort cs = length (flat cs) ≤ MAX_ROWS
+IsShort cs = length (concatenation cs) ≤ MAX_ROWS
 
 -- why there is no column: a value of another type first, then too many values; want of memory at any time
 abbrev pub IsRefused : Type 0 → Type 0 → PolarsError → Type 0
@@ -51,11 +51,11 @@ IsRefused typed short _ = ⊥
 
 -- the column of this name and type and these chunks, or why there is none
 abbrev pub IsMade : List ℕ → Kind → List (List Datum) → Result Col PolarsError → Type 0
-IsMade n t cs (Ok c) = IsTyped t cs × IsShort cs × (c ≡ fresh n t (at_least_one cs) Not)
+IsMade n t cs (Ok c) = IsTyped t cs × IsShort cs × (c ≡ fresh_column n t (at_least_one cs) Not)
 IsMade n t cs (Err e) = IsRefused (IsTyped t cs) (IsShort cs) e
 
 -- the same of typed chunks, which are stored by the type s, with their runs
-abbrev pub IsArranged : List ℕ → Kind → Kind → List (List Datum) → List ViewRun → Result Col PolarsError → Type 0
+abbrev pub IsArranged : List ℕ → Kind → Kind → List (List Datum) → List ViewArray → Result Col PolarsError → Type 0
 IsArranged n t s cs rs (Ok c) = (s ≡ physical t) × IsTyped t cs × IsShort cs
-    × (c ≡ record { name = n; kind = t; chunks = at_least_one cs; flag = Not; runs = or_one_run rs })
+    × (c ≡ record { name = n; kind = t; chunks = at_least_one cs; flag = Not; view_arrays = or_one_view_array rs })
 IsArranged n t s cs rs (Err e) = IsRefused ((s ≡ physical t) × IsTyped t cs) (IsShort cs) e

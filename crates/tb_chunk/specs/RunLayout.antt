@@ -11,12 +11,12 @@ use Rattle.tb_value.specs.declared.limits.TheConstants.{MAX_ROWS}
 use Rattle.tb_value.specs.declared.sorted.IsSorted.TheVariants.{Not}
 use Rattle.tb_chunk.specs.Col.{Col}
 pub use Rattle.tb_view.specs.RunViews.{data_runs, laid_runs, text_runs}
-use Rattle.tb_view.specs.Layout.{Building, begun, built, with_nulls, with_rows}
+use Rattle.tb_view.specs.Layout.{Building, buffers_of, building_of, with_nulls, with_rows}
 use Rattle.tb_chunk.specs.Made.{IsRefused}
-use Rattle.tb_chunk.specs.Runs.{chunk_runs}
+use Rattle.tb_chunk.specs.ChunkViewArrays.{chunk_view_arrays}
 use Rattle.tb_chunk.specs.Seen.{chunk_lists, storage}
 use Rattle.tb_value.specs.Texts.{text_of}
-use Rattle.tb_view.specs.Whole.{ViewRun}
+use Rattle.tb_view.specs.ViewArrays.{ViewArray}
 use Rattle.tb_chunk.specs.declared.chunks.Chunks.{Chunks}
 
 -- each value as often as its count says, in the order of the runs
@@ -38,7 +38,7 @@ AreFewRows rs = total_of rs ≤ MAX_ROWS
 -- the chunk of these runs for a column of type t, stored by the type s, or why there is none
 abbrev pub IsChunkOfRuns : Kind → Kind → List (Datum × ℕ) → Result Chunks PolarsError → Type 0
 IsChunkOfRuns t s rs (Ok c) = AreRunsOf t rs × AreFewRows rs
-    × (chunk_lists c ≡ expansion rs ∷ []) × (storage c ≡ s) × (chunk_runs c ≡ laid_runs (text_runs rs) ∷ [])
+    × (chunk_lists c ≡ expansion rs ∷ []) × (storage c ≡ s) × (chunk_view_arrays c ≡ laid_runs (text_runs rs) ∷ [])
 IsChunkOfRuns t s rs (Err e) = IsRefused (AreRunsOf t rs) (AreFewRows rs) e
 
 -- the column of this name and type and these runs, in one chunk, or why there is none
@@ -48,6 +48,6 @@ IsMadeOfRuns n t rs (Ok c) = AreRunsOf t rs × AreFewRows rs × (c ≡ record {
   kind = t;
   chunks = expansion rs ∷ [];
   flag = Not;
-  runs = laid_runs (text_runs rs) ∷ [];
+  view_arrays = laid_runs (text_runs rs) ∷ [];
 })
 IsMadeOfRuns n t rs (Err e) = IsRefused (AreRunsOf t rs) (AreFewRows rs) e

@@ -4,13 +4,13 @@ use Rattle.tb_value.specs.Datum.{Datum}
 use Rattle.tb_value.specs.Kind.{Kind}
 use Rattle.tb_value.specs.declared.error.PolarsError.{PolarsError}
 use Rattle.tb_chunk.specs.Made.{at_least_one, IsTyped, IsShort, IsRefused}
-use Rattle.tb_chunk.specs.Fresh.{or_one_run}
-use Rattle.tb_chunk.specs.Runs.{chunk_runs}
+use Rattle.tb_chunk.specs.Fresh.{or_one_view_array}
+use Rattle.tb_chunk.specs.ChunkViewArrays.{chunk_view_arrays}
 use Rattle.tb_chunk.specs.Seen.{chunk_lists, storage}
-use Rattle.tb_view.specs.Whole.{ViewRun}
+use Rattle.tb_view.specs.ViewArrays.{ViewArray}
 use Rattle.tb_chunk.specs.declared.chunks.Chunks.{Chunks}
 
 -- the chunks of these lists for a column of type t, stored by the type s, with these runs, or why there are none
-abbrev pub AreMade : Kind → Kind → List (List Datum) → List ViewRun → Result Chunks PolarsError → Type 0
-AreMade t s cs rs (Ok c) = IsTyped t cs × IsShort cs × (chunk_lists c ≡ at_least_one cs) × (storage c ≡ s) × (chunk_runs c ≡ or_one_run rs)
+abbrev pub AreMade : Kind → Kind → List (List Datum) → List ViewArray → Result Chunks PolarsError → Type 0
+AreMade t s cs rs (Ok c) = IsTyped t cs × IsShort cs × (chunk_lists c ≡ at_least_one cs) × (storage c ≡ s) × (chunk_view_arrays c ≡ or_one_view_array rs)
 AreMade t s cs rs (Err e) = IsRefused (IsTyped t cs) (IsShort cs) e

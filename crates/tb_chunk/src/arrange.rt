@@ -6,11 +6,11 @@ ghost use Rattle.tb_value.specs.Typed.{HasType};
 ghost use Rattle.tb_cell.specs.Physical.{physical};
 ghost use Rattle.tb_chunk.specs.Made.{at_least_one, IsTyped, IsShort};
 ghost use Rattle.tb_cell.specs.Physical.{kind_for};
-ghost use Rattle.tb_chunk.specs.Fresh.{or_one_run};
-ghost use Rattle.tb_chunk.specs.Runs.{chunk_runs};
+ghost use Rattle.tb_chunk.specs.Fresh.{or_one_view_array};
+ghost use Rattle.tb_chunk.specs.ChunkViewArrays.{chunk_view_arrays};
 ghost use Rattle.tb_chunk.specs.Seen.{chunk_lists, storage};
 ghost use Rattle.tb_chunk.specs.Stored.{AreMade};
-ghost use Rattle.tb_view.specs.Whole.{runs_of, HaveFewBuffers};
+ghost use Rattle.tb_view.specs.ViewArrays.{view_arrays_of, HaveFewBuffers};
 
 use crate::chunk::Chunk;
 use crate::chunks::Chunks;
@@ -61,7 +61,7 @@ fn are_few<C: Chunk>(chunks: &[C]) -> bool
 // Whether all buffers are few enough for their numbers.
 #[tactic(auto, using(crate::proofs::Few::buffers_drop))]
 fn have_few_buffers<C: Chunk>(chunks: &[C]) -> bool
-    ensures { IsTrue result ↔ HaveFewBuffers (runs_of C.views C.buffers chunks.now) }
+    ensures { IsTrue result ↔ HaveFewBuffers (view_arrays_of C.views C.buffers chunks.now) }
 {
     let mut room = u32::MAX as usize;
     for chunk in chunks {
@@ -77,7 +77,7 @@ fn have_few_buffers<C: Chunk>(chunks: &[C]) -> bool
 // No chunk at all makes one empty chunk.
 fn or_empty<C: Chunk>(alloc: Global, chunks: Vec<C>) -> Result<Vec<C>, OutOfMemory>
     ensures shown { IfOk result (λ v. map C.shown v.items ≡ at_least_one (map C.shown chunks.items)) }
-    ensures runs { IfOk result (λ v. runs_of C.views C.buffers v.items ≡ or_one_run (runs_of C.views C.buffers chunks.items)) }
+    ensures view_arrays { IfOk result (λ v. view_arrays_of C.views C.buffers v.items ≡ or_one_view_array (view_arrays_of C.views C.buffers chunks.items)) }
 {
     if !chunks.is_empty() {
         return Ok(chunks);
@@ -94,8 +94,8 @@ fn within_limits<C: Stored>(
     chunks: Vec<C>,
 ) -> PolarsResult<Chunks>
     requires typed { IsTyped (kind_of _dtype.now) (map C.shown chunks.items) }
-    ensures made { AreMade (kind_of _dtype.now) C.kind (map C.shown chunks.items) (runs_of C.views C.buffers chunks.items) result }
-    ensures few { IfOk result (λ c. HaveFewBuffers (chunk_runs c)) }
+    ensures made { AreMade (kind_of _dtype.now) C.kind (map C.shown chunks.items) (view_arrays_of C.views C.buffers chunks.items) result }
+    ensures few { IfOk result (λ c. HaveFewBuffers (chunk_view_arrays c)) }
 {
     if !are_few(&chunks) {
         return Err(PolarsError::ComputeError(ComputeCause::TooManyRows));
@@ -108,8 +108,8 @@ fn within_limits<C: Stored>(
 
 // The same of values that may be of another type.
 fn checked<C: Stored>(alloc: Global, dtype: &DataType, chunks: Vec<C>) -> PolarsResult<Chunks>
-    ensures made { AreMade (kind_of dtype.now) C.kind (map C.shown chunks.items) (runs_of C.views C.buffers chunks.items) result }
-    ensures few { IfOk result (λ c. HaveFewBuffers (chunk_runs c)) }
+    ensures made { AreMade (kind_of dtype.now) C.kind (map C.shown chunks.items) (view_arrays_of C.views C.buffers chunks.items) result }
+    ensures few { IfOk result (λ c. HaveFewBuffers (chunk_view_arrays c)) }
 {
     if !are_chunks_of(dtype, &chunks) {
         return Err(PolarsError::SchemaMismatch);
@@ -143,7 +143,7 @@ impl Chunks {
 
     /// Whether the buffers of all chunks are few enough for their numbers, fewer than 2^32.
     pub fn has_few_buffers(&self) -> bool
-        ensures { IsTrue result ↔ HaveFewBuffers (chunk_runs self.now) }
+        ensures { IsTrue result ↔ HaveFewBuffers (chunk_view_arrays self.now) }
     {
         for_chunks!(self, chunks => have_few_buffers(chunks))
     }
@@ -155,8 +155,8 @@ impl Chunks {
     /// 1 SchemaMismatch where a value is not of the type, 2 TooManyRows where the values number more
     /// than `MAX_ROWS`, and OutOfMemory, which stands for 2^32 buffers or more too.
     pub fn checked(self, alloc: Global, dtype: &DataType) -> PolarsResult<Chunks>
-        ensures few { IfOk result (λ c. HaveFewBuffers (chunk_runs c)) }
-        ensures made { AreMade (kind_of dtype.now) (storage self) (chunk_lists self) (chunk_runs self) result }
+        ensures few { IfOk result (λ c. HaveFewBuffers (chunk_view_arrays c)) }
+        ensures made { AreMade (kind_of dtype.now) (storage self) (chunk_lists self) (chunk_view_arrays self) result }
     {
         for_chunks!(self, arrays => checked(alloc, dtype, arrays))
     }
@@ -168,8 +168,8 @@ impl Chunks {
     /// TooManyRows where the values number more than `MAX_ROWS`, and OutOfMemory, which stands for 2^32 buffers or more too.
     pub fn within_limits(self, alloc: Global, dtype: &DataType) -> PolarsResult<Chunks>
         requires typed { IsTyped (kind_of dtype.now) (chunk_lists self) }
-        ensures few { IfOk result (λ c. HaveFewBuffers (chunk_runs c)) }
-        ensures made { AreMade (kind_of dtype.now) (storage self) (chunk_lists self) (chunk_runs self) result }
+        ensures few { IfOk result (λ c. HaveFewBuffers (chunk_view_arrays c)) }
+        ensures made { AreMade (kind_of dtype.now) (storage self) (chunk_lists self) (chunk_view_arrays self) result }
     {
         for_chunks!(self, arrays => within_limits(alloc, dtype, arrays))
     }

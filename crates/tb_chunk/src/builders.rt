@@ -7,7 +7,7 @@ ghost use Rattle.tb_value.specs.Kind as kind;
 ghost use Rattle.tb_value.specs.Typed.{HasType};
 ghost use Rattle.tb_cell.specs.Shown.{or_null};
 ghost use Rattle.tb_chunk.specs.ChunkTexts.{bytes_of, texts_of};
-ghost use Rattle.tb_view.specs.Layout.{begun, built, with_nulls, with_row, with_rows};
+ghost use Rattle.tb_view.specs.Layout.{buffers_of, building_of, with_nulls, with_row, with_rows};
 
 use crate::chunk::{Chunk, StringChunk};
 use crate::owned_chunks::BinaryChunk;
@@ -42,7 +42,7 @@ impl Model for StringBuilder {
 impl StringBuilder {
     /// The builder of no row, with room for as many as are given.
     pub fn with_capacity(alloc: Global, rows: usize) -> Result<StringBuilder, OutOfMemory>
-        ensures { IfOk result (λ b. b ≡ built []) }
+        ensures { IfOk result (λ b. b ≡ building_of []) }
     {
         Ok(StringBuilder {
             inner: ViewBuilder::with_capacity(alloc, rows)?,
@@ -98,7 +98,7 @@ impl StringBuilder {
     pub fn finish(self, alloc: Global) -> Result<StringChunk, OutOfMemory>
         ensures texts { IfOk result (λ c. texts_of c ≡ self.rows) }
         ensures views { IfOk result (λ c. ⟦<StringChunk as Chunk>⟧.views c ≡ self.views) }
-        ensures buffers { IfOk result (λ c. ⟦<StringChunk as Chunk>⟧.buffers c ≡ begun self.laid) }
+        ensures buffers { IfOk result (λ c. ⟦<StringChunk as Chunk>⟧.buffers c ≡ buffers_of self.laid) }
         ensures typed { All (HasType kind.string) (map (or_null string) self.rows) }
     {
         let StringBuilder { inner } = self;
@@ -133,7 +133,7 @@ impl Model for BinaryBuilder {
 impl BinaryBuilder {
     /// The builder of no row, with room for as many as are given.
     pub fn with_capacity(alloc: Global, rows: usize) -> Result<BinaryBuilder, OutOfMemory>
-        ensures { IfOk result (λ b. b ≡ built []) }
+        ensures { IfOk result (λ b. b ≡ building_of []) }
     {
         Ok(BinaryBuilder {
             inner: ViewBuilder::with_capacity(alloc, rows)?,
@@ -194,7 +194,7 @@ impl BinaryBuilder {
     pub fn finish(self, alloc: Global) -> Result<BinaryChunk, OutOfMemory>
         ensures bytes { IfOk result (λ c. bytes_of c ≡ self.rows) }
         ensures views { IfOk result (λ c. ⟦<BinaryChunk as Chunk>⟧.views c ≡ self.views) }
-        ensures buffers { IfOk result (λ c. ⟦<BinaryChunk as Chunk>⟧.buffers c ≡ begun self.laid) }
+        ensures buffers { IfOk result (λ c. ⟦<BinaryChunk as Chunk>⟧.buffers c ≡ buffers_of self.laid) }
         ensures typed { All (HasType kind.binary) (map (or_null binary) self.rows) }
     {
         let BinaryBuilder { inner } = self;

@@ -3,13 +3,13 @@ ghost use Rattle.std.specs.Prelude.{◌≡◌, ◌<◌, ◌≤◌, ◌+◌, ◌^
 ghost use Rattle.std.specs.List.{All, count_by};
 ghost use Rattle.tb_value.specs.Datum.{Datum, null, string};
 ghost use Rattle.tb_value.specs.Kind as kinds;
-ghost use Rattle.tb_value.specs.See.{data_of, datum, lent, IsText};
+ghost use Rattle.tb_value.specs.See.{data_of, datum, lent_value, IsText};
 ghost use Rattle.tb_cell.specs.Shown.{or_null};
 ghost use Rattle.tb_cell.specs.Fits.{Fits};
 ghost use Rattle.tb_cell.specs.Flag.{nulls};
 ghost use Rattle.tb_view.specs.Held.{StandsAt};
-ghost use Rattle.tb_view.specs.Moved.{placed_at, used_buffer};
-ghost use Rattle.tb_chunk.specs.Fresh.{fresh_run};
+ghost use Rattle.tb_view.specs.Moved.{view_at_number, used_buffer};
+ghost use Rattle.tb_chunk.specs.Fresh.{fresh_view_array};
 ghost use Rattle.tb_value.specs.Texts.{IsUtf8Row};
 ghost use Rattle.tb_view.specs.View.{texts};
 ghost use Rattle.std.proofs.Common.{arith, rules};
@@ -52,15 +52,15 @@ pub trait Chunk: Drop {
     /// The value of a row, lent.
     fn value(&self, row: usize) -> ValueRef<'_>
         requires { row < length (shown self.now) }
-        ensures value { lent result ≡ get_or (shown self.now) row null }
+        ensures value { lent_value result ≡ get_or (shown self.now) row null }
         ensures text { IsText result };
 
     /// The chunk of these values. Each is Null or of a type that is stored so.
     fn from_values(alloc: Global, values: &[AnyValue]) -> Result<Self, OutOfMemory>
         requires { All (Fits kind) (data_of values.now) }
         ensures shown { IfOk result (λ c. shown c ≡ data_of values.now) }
-        ensures views { IfOk result (λ c. views c ≡ (fresh_run (data_of values.now)).views) }
-        ensures buffers { IfOk result (λ c. buffers c ≡ (fresh_run (data_of values.now)).buffers) };
+        ensures views { IfOk result (λ c. views c ≡ (fresh_view_array (data_of values.now)).views) }
+        ensures buffers { IfOk result (λ c. buffers c ≡ (fresh_view_array (data_of values.now)).buffers) };
 
     /// A chunk of the same values. Their bytes are shared.
     fn copy(&self, alloc: Global) -> Result<Self, OutOfMemory>
@@ -125,7 +125,7 @@ pub trait Chunk: Drop {
         requires row { row < length (shown other.now) }
         requires held { StandsAt (buffers self.old) number (buffers other.now) (get_or (views other.now) row None) }
         ensures ok { OnOk result (shown self.new ≡ shown self.old ++ get_or (shown other.now) row null ∷ []) }
-        ensures views { OnOk result (views self.new ≡ views self.old ++ placed_at number (get_or (views other.now) row None) ∷ []) }
+        ensures views { OnOk result (views self.new ≡ views self.old ++ view_at_number number (get_or (views other.now) row None) ∷ []) }
         ensures err { OnErr result (shown self.new ≡ shown self.old) }
         ensures err_views { OnErr result (views self.new ≡ views self.old) }
         ensures buffers { buffers self.new ≡ buffers self.old };

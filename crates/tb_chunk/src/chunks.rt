@@ -1,12 +1,12 @@
 //! The chunks of a column, by the type that they are stored as.
 ghost use Rattle.std.specs.Prelude.{◌≡◌, ◌<◌, ◌^◌, [], IfOk, length, get_or, map};
 ghost use Rattle.tb_value.specs.Datum.{null};
-ghost use Rattle.tb_value.specs.See.{lent, IsText};
-ghost use Rattle.tb_chunk.specs.Col.{flat};
+ghost use Rattle.tb_value.specs.See.{lent_value, IsText};
+ghost use Rattle.tb_chunk.specs.Col.{concatenation};
 ghost use Rattle.tb_cell.specs.Flag.{nulls};
-ghost use Rattle.tb_chunk.specs.Runs.{chunk_runs};
+ghost use Rattle.tb_chunk.specs.ChunkViewArrays.{chunk_view_arrays};
 ghost use Rattle.tb_chunk.specs.Seen.{chunk_lists, storage};
-ghost use Rattle.tb_view.specs.Whole.{AreViewed, runs_of};
+ghost use Rattle.tb_view.specs.ViewArrays.{AreViewed, view_arrays_of};
 
 use crate::chunk::{Chunk, StringChunk};
 use crate::each::for_chunks;
@@ -40,8 +40,8 @@ pub enum Chunks {
 /// The number of values.
 #[tactic(auto, using(crate::proofs::Lists::flat_drop))]
 pub fn rows_in<C: Chunk>(chunks: &[C]) -> usize
-    requires { length (flat (map C.shown chunks.now)) < 2 ^ 64 }
-    ensures { result ≡ length (flat (map C.shown chunks.now)) }
+    requires { length (concatenation (map C.shown chunks.now)) < 2 ^ 64 }
+    ensures { result ≡ length (concatenation (map C.shown chunks.now)) }
 {
     let mut rows = 0;
     for chunk in chunks {
@@ -53,8 +53,8 @@ pub fn rows_in<C: Chunk>(chunks: &[C]) -> usize
 /// The number of nulls.
 #[tactic(auto, using(tb_cell::proofs::Nulls::nulls_at_most, crate::proofs::Nulls::nulls_drop))]
 pub fn nulls_in<C: Chunk>(chunks: &[C]) -> usize
-    requires { length (flat (map C.shown chunks.now)) < 2 ^ 64 }
-    ensures { result ≡ length (nulls (flat (map C.shown chunks.now))) }
+    requires { length (concatenation (map C.shown chunks.now)) < 2 ^ 64 }
+    ensures { result ≡ length (nulls (concatenation (map C.shown chunks.now))) }
 {
     let mut nulls = 0;
     for chunk in chunks {
@@ -66,8 +66,8 @@ pub fn nulls_in<C: Chunk>(chunks: &[C]) -> usize
 /// The value of a row.
 #[tactic(auto, using(crate::proofs::Lists::flat_drop))]
 pub fn value_in<C: Chunk>(chunks: &[C], row: usize) -> ValueRef<'_>
-    requires { row < length (flat (map C.shown chunks.now)) }
-    ensures value { lent result ≡ get_or (flat (map C.shown chunks.now)) row null }
+    requires { row < length (concatenation (map C.shown chunks.now)) }
+    ensures value { lent_value result ≡ get_or (concatenation (map C.shown chunks.now)) row null }
     ensures text { IsText result }
 {
     let mut left = row;
@@ -84,7 +84,7 @@ pub fn value_in<C: Chunk>(chunks: &[C], row: usize) -> ValueRef<'_>
 /// Equal chunks.
 pub fn copy_chunks<C: Chunk>(alloc: Global, chunks: &[C]) -> Result<Vec<C>, OutOfMemory>
     ensures shown { IfOk result (λ v. map C.shown v.items ≡ map C.shown chunks.now) }
-    ensures runs { IfOk result (λ v. runs_of C.views C.buffers v.items ≡ runs_of C.views C.buffers chunks.now) }
+    ensures view_arrays { IfOk result (λ v. view_arrays_of C.views C.buffers v.items ≡ view_arrays_of C.views C.buffers chunks.now) }
 {
     let mut copies = Vec::with_capacity(alloc, chunks.len())?;
     for chunk in chunks {
@@ -97,33 +97,33 @@ pub fn copy_chunks<C: Chunk>(alloc: Global, chunks: &[C]) -> Result<Vec<C>, OutO
 fn copied<C: Stored>(alloc: Global, chunks: &[C]) -> Result<Chunks, OutOfMemory>
     ensures lists { IfOk result (λ c. chunk_lists c ≡ map C.shown chunks.now) }
     ensures storage { IfOk result (λ c. storage c ≡ C.kind) }
-    ensures runs { IfOk result (λ c. chunk_runs c ≡ runs_of C.views C.buffers chunks.now) }
+    ensures view_arrays { IfOk result (λ c. chunk_view_arrays c ≡ view_arrays_of C.views C.buffers chunks.now) }
 {
     Ok(C::wrap(copy_chunks(alloc, chunks)?))
 }
 
 impl Chunks {
     /// The number of chunks. Each has a view or none for each of its values.
-    #[tactic(auto, using(crate::proofs::Runs::chunks_viewed))]
+    #[tactic(auto, using(crate::proofs::ChunkViewArrays::chunks_viewed))]
     pub fn count(&self) -> usize
         ensures count { result ≡ length (chunk_lists self.now) }
-        ensures viewed { AreViewed (chunk_lists self.now) (chunk_runs self.now) }
+        ensures viewed { AreViewed (chunk_lists self.now) (chunk_view_arrays self.now) }
     {
         for_chunks!(self, chunks => chunks.len())
     }
 
     /// The number of values of all chunks.
     pub fn rows(&self) -> usize
-        requires { length (flat (chunk_lists self.now)) < 2 ^ 64 }
-        ensures { result ≡ length (flat (chunk_lists self.now)) }
+        requires { length (concatenation (chunk_lists self.now)) < 2 ^ 64 }
+        ensures { result ≡ length (concatenation (chunk_lists self.now)) }
     {
         for_chunks!(self, chunks => rows_in(chunks))
     }
 
     /// The number of nulls of all chunks.
     pub fn nulls(&self) -> usize
-        requires { length (flat (chunk_lists self.now)) < 2 ^ 64 }
-        ensures { result ≡ length (nulls (flat (chunk_lists self.now))) }
+        requires { length (concatenation (chunk_lists self.now)) < 2 ^ 64 }
+        ensures { result ≡ length (nulls (concatenation (chunk_lists self.now))) }
     {
         for_chunks!(self, chunks => nulls_in(chunks))
     }
@@ -138,8 +138,8 @@ impl Chunks {
 
     /// The value of a row, counted through all chunks.
     pub fn value(&self, row: usize) -> ValueRef<'_>
-        requires { row < length (flat (chunk_lists self.now)) }
-        ensures value { lent result ≡ get_or (flat (chunk_lists self.now)) row null }
+        requires { row < length (concatenation (chunk_lists self.now)) }
+        ensures value { lent_value result ≡ get_or (concatenation (chunk_lists self.now)) row null }
         ensures text { IsText result }
     {
         for_chunks!(self, chunks => value_in(chunks, row))
@@ -149,7 +149,7 @@ impl Chunks {
     pub fn copy(&self, alloc: Global) -> Result<Chunks, OutOfMemory>
         ensures lists { IfOk result (λ c. chunk_lists c ≡ chunk_lists self.now) }
         ensures storage { IfOk result (λ c. storage c ≡ storage self.now) }
-        ensures runs { IfOk result (λ c. chunk_runs c ≡ chunk_runs self.now) }
+        ensures view_arrays { IfOk result (λ c. chunk_view_arrays c ≡ chunk_view_arrays self.now) }
     {
         for_chunks!(self, chunks => copied(alloc, chunks))
     }

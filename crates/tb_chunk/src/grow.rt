@@ -1,11 +1,11 @@
 //! Chunks made of the rows of others.
 ghost use Rattle.std.specs.Prelude.{◌≡◌, ◌<◌, ◌≤◌, ◌^◌, ◌+◌, ◌++◌, ◌∷◌, [], IfOk, OnOk, get_or, length, map, take, drop};
-ghost use Rattle.tb_chunk.specs.Col.{flat};
+ghost use Rattle.tb_chunk.specs.Col.{concatenation};
 ghost use Rattle.tb_view.specs.Held.{AreHeld};
-ghost use Rattle.tb_view.specs.Moved.{moved};
-ghost use Rattle.tb_chunk.specs.Runs.{chunk_runs};
+ghost use Rattle.tb_view.specs.Moved.{moved_view};
+ghost use Rattle.tb_chunk.specs.ChunkViewArrays.{chunk_view_arrays};
 ghost use Rattle.tb_chunk.specs.Seen.{chunk_lists, storage};
-ghost use Rattle.tb_view.specs.Whole.{runs_of, whole, window_of};
+ghost use Rattle.tb_view.specs.ViewArrays.{view_arrays_of, joined_view_array, window_of};
 
 use crate::chunk::Chunk;
 use crate::chunks::Chunks;
@@ -31,7 +31,7 @@ fn push_each<C: Chunk>(
     ensures shown { OnOk result (C.shown out.new.chunk ≡ C.shown out.old.chunk ++ take count (drop from (get_or (map C.shown chunks.now) chunk []))) }
     ensures held { AreHeld (C.buffers out.new.chunk) out.new.bases.items (map C.buffers chunks.now) }
     ensures views { OnOk result (C.views out.new.chunk ≡ C.views out.old.chunk
-        ++ map (moved (get_or out.old.bases.items chunk 0)) (take count (drop from (get_or (map C.views chunks.now) chunk [])))) }
+        ++ map (moved_view (get_or out.old.bases.items chunk 0)) (take count (drop from (get_or (map C.views chunks.now) chunk [])))) }
     ensures buffers { C.buffers out.new.chunk ≡ C.buffers out.old.chunk }
     ensures bases { out.new.bases.items ≡ out.old.bases.items }
 {
@@ -58,7 +58,7 @@ fn push_rows<C: Chunk>(
     ensures shown { OnOk result (C.shown out.new.chunk ≡ C.shown out.old.chunk ++ take count (drop from (get_or (map C.shown chunks.now) chunk []))) }
     ensures held { AreHeld (C.buffers out.new.chunk) out.new.bases.items (map C.buffers chunks.now) }
     ensures views { OnOk result (C.views out.new.chunk ≡ C.views out.old.chunk
-        ++ map (moved (get_or out.old.bases.items chunk 0)) (take count (drop from (get_or (map C.views chunks.now) chunk [])))) }
+        ++ map (moved_view (get_or out.old.bases.items chunk 0)) (take count (drop from (get_or (map C.views chunks.now) chunk [])))) }
     ensures buffers { C.buffers out.new.chunk ≡ C.buffers out.old.chunk }
     ensures bases { out.new.bases.items ≡ out.old.bases.items }
 {
@@ -75,11 +75,11 @@ fn join_parts<C: Chunk>(
     start: usize,
     len: usize,
 ) -> Result<C, OutOfMemory>
-    requires within { start + len ≤ length (flat (map C.shown chunks.now)) }
-    requires short { length (flat (map C.shown chunks.now)) < 2 ^ 32 }
-    ensures shown { IfOk result (λ c. C.shown c ≡ take len (drop start (flat (map C.shown chunks.now)))) }
-    ensures views { IfOk result (λ c. C.views c ≡ (window_of start len (whole (runs_of C.views C.buffers chunks.now))).views) }
-    ensures buffers { IfOk result (λ c. C.buffers c ≡ (whole (runs_of C.views C.buffers chunks.now)).buffers) }
+    requires within { start + len ≤ length (concatenation (map C.shown chunks.now)) }
+    requires short { length (concatenation (map C.shown chunks.now)) < 2 ^ 32 }
+    ensures shown { IfOk result (λ c. C.shown c ≡ take len (drop start (concatenation (map C.shown chunks.now)))) }
+    ensures views { IfOk result (λ c. C.views c ≡ (window_of start len (joined_view_array (view_arrays_of C.views C.buffers chunks.now))).views) }
+    ensures buffers { IfOk result (λ c. C.buffers c ≡ (joined_view_array (view_arrays_of C.views C.buffers chunks.now)).buffers) }
 {
     let mut out = Growing::over(alloc, chunks, len)?;
     let mut skip = start;
@@ -102,11 +102,11 @@ pub fn join_rows<C: Chunk>(
     start: usize,
     len: usize,
 ) -> Result<C, OutOfMemory>
-    requires within { start + len ≤ length (flat (map C.shown chunks.now)) }
-    requires short { length (flat (map C.shown chunks.now)) < 2 ^ 32 }
-    ensures shown { IfOk result (λ c. C.shown c ≡ take len (drop start (flat (map C.shown chunks.now)))) }
-    ensures views { IfOk result (λ c. C.views c ≡ (window_of start len (whole (runs_of C.views C.buffers chunks.now))).views) }
-    ensures buffers { IfOk result (λ c. C.buffers c ≡ (whole (runs_of C.views C.buffers chunks.now)).buffers) }
+    requires within { start + len ≤ length (concatenation (map C.shown chunks.now)) }
+    requires short { length (concatenation (map C.shown chunks.now)) < 2 ^ 32 }
+    ensures shown { IfOk result (λ c. C.shown c ≡ take len (drop start (concatenation (map C.shown chunks.now)))) }
+    ensures views { IfOk result (λ c. C.views c ≡ (window_of start len (joined_view_array (view_arrays_of C.views C.buffers chunks.now))).views) }
+    ensures buffers { IfOk result (λ c. C.buffers c ≡ (joined_view_array (view_arrays_of C.views C.buffers chunks.now)).buffers) }
 {
     if chunks.len() == 1 {
         let only = &chunks[0];
@@ -126,10 +126,10 @@ pub fn join_one<C: Chunk>(
     start: usize,
     len: usize,
 ) -> Result<Vec<C>, OutOfMemory>
-    requires within { start + len ≤ length (flat (map C.shown chunks.now)) }
-    requires short { length (flat (map C.shown chunks.now)) < 2 ^ 32 }
-    ensures shown { IfOk result (λ v. map C.shown v.items ≡ take len (drop start (flat (map C.shown chunks.now))) ∷ []) }
-    ensures runs { IfOk result (λ v. runs_of C.views C.buffers v.items ≡ window_of start len (whole (runs_of C.views C.buffers chunks.now)) ∷ []) }
+    requires within { start + len ≤ length (concatenation (map C.shown chunks.now)) }
+    requires short { length (concatenation (map C.shown chunks.now)) < 2 ^ 32 }
+    ensures shown { IfOk result (λ v. map C.shown v.items ≡ take len (drop start (concatenation (map C.shown chunks.now))) ∷ []) }
+    ensures view_arrays { IfOk result (λ v. view_arrays_of C.views C.buffers v.items ≡ window_of start len (joined_view_array (view_arrays_of C.views C.buffers chunks.now)) ∷ []) }
 {
     let chunk = join_rows(alloc, chunks, start, len)?;
     let mut one = Vec::new(alloc);
@@ -144,11 +144,11 @@ fn join_stored<C: Stored>(
     start: usize,
     len: usize,
 ) -> Result<Chunks, OutOfMemory>
-    requires within { start + len ≤ length (flat (map C.shown chunks.now)) }
-    requires short { length (flat (map C.shown chunks.now)) < 2 ^ 32 }
-    ensures lists { IfOk result (λ c. chunk_lists c ≡ take len (drop start (flat (map C.shown chunks.now))) ∷ []) }
+    requires within { start + len ≤ length (concatenation (map C.shown chunks.now)) }
+    requires short { length (concatenation (map C.shown chunks.now)) < 2 ^ 32 }
+    ensures lists { IfOk result (λ c. chunk_lists c ≡ take len (drop start (concatenation (map C.shown chunks.now))) ∷ []) }
     ensures storage { IfOk result (λ c. storage c ≡ C.kind) }
-    ensures runs { IfOk result (λ c. chunk_runs c ≡ window_of start len (whole (runs_of C.views C.buffers chunks.now)) ∷ []) }
+    ensures view_arrays { IfOk result (λ c. chunk_view_arrays c ≡ window_of start len (joined_view_array (view_arrays_of C.views C.buffers chunks.now)) ∷ []) }
 {
     Ok(C::wrap(join_one(alloc, chunks, start, len)?))
 }
@@ -156,11 +156,11 @@ fn join_stored<C: Stored>(
 impl Chunks {
     /// The rows from `start` on, in one chunk.
     pub fn joined(&self, alloc: Global, start: usize, len: usize) -> Result<Chunks, OutOfMemory>
-        requires within { start + len ≤ length (flat (chunk_lists self.now)) }
-        requires short { length (flat (chunk_lists self.now)) < 2 ^ 32 }
-        ensures lists { IfOk result (λ c. chunk_lists c ≡ take len (drop start (flat (chunk_lists self.now))) ∷ []) }
+        requires within { start + len ≤ length (concatenation (chunk_lists self.now)) }
+        requires short { length (concatenation (chunk_lists self.now)) < 2 ^ 32 }
+        ensures lists { IfOk result (λ c. chunk_lists c ≡ take len (drop start (concatenation (chunk_lists self.now))) ∷ []) }
         ensures storage { IfOk result (λ c. storage c ≡ storage self.now) }
-        ensures runs { IfOk result (λ c. chunk_runs c ≡ window_of start len (whole (chunk_runs self.now)) ∷ []) }
+        ensures view_arrays { IfOk result (λ c. chunk_view_arrays c ≡ window_of start len (joined_view_array (chunk_view_arrays self.now)) ∷ []) }
     {
         for_chunks!(self, chunks => join_stored(alloc, chunks, start, len))
     }

@@ -2,8 +2,8 @@
 ghost use Rattle.std.specs.Prelude.{◌≡◌, ◌<◌, ◌≤◌, ◌+◌, ◌^◌, ◌++◌, ◌∷◌, [], IfOk, OnOk, None, length, map, get_or, take, drop};
 ghost use Rattle.tb_value.specs.Datum.{null};
 ghost use Rattle.tb_view.specs.Held.{AreHeld};
-ghost use Rattle.tb_view.specs.Moved.{moved, number_from};
-ghost use Rattle.tb_view.specs.Whole.{AreBases, all_buffers, runs_of};
+ghost use Rattle.tb_view.specs.Moved.{moved_view, number_from};
+ghost use Rattle.tb_view.specs.ViewArrays.{AreBases, all_buffers, view_arrays_of};
 
 use crate::chunk::Chunk;
 use std::alloc::Global;
@@ -22,8 +22,8 @@ impl<C: Chunk> Growing<C> {
         ensures none { IfOk result (λ g. C.shown g.chunk ≡ []) }
         ensures held { IfOk result (λ g. AreHeld (C.buffers g.chunk) g.bases.items (map C.buffers chunks.now)) }
         ensures views { IfOk result (λ g. C.views g.chunk ≡ []) }
-        ensures buffers { IfOk result (λ g. C.buffers g.chunk ≡ all_buffers (runs_of C.views C.buffers chunks.now)) }
-        ensures bases { IfOk result (λ g. AreBases g.bases.items (runs_of C.views C.buffers chunks.now)) }
+        ensures buffers { IfOk result (λ g. C.buffers g.chunk ≡ all_buffers (view_arrays_of C.views C.buffers chunks.now)) }
+        ensures bases { IfOk result (λ g. AreBases g.bases.items (view_arrays_of C.views C.buffers chunks.now)) }
     {
         let mut chunk = C::with_capacity(alloc, rows)?;
         let mut bases = Vec::with_capacity(alloc, chunks.len())?;
@@ -52,7 +52,7 @@ impl<C: Chunk> Growing<C> {
         ensures shown { IfOk result (λ n. C.shown self.new.chunk ≡ C.shown self.old.chunk ++ take n (drop from (get_or (map C.shown chunks.now) chunk []))) }
         ensures held { AreHeld (C.buffers self.new.chunk) self.new.bases.items (map C.buffers chunks.now) }
         ensures views { IfOk result (λ n. C.views self.new.chunk ≡ C.views self.old.chunk
-            ++ map (moved (get_or self.old.bases.items chunk 0)) (take n (drop from (get_or (map C.views chunks.now) chunk [])))) }
+            ++ map (moved_view (get_or self.old.bases.items chunk 0)) (take n (drop from (get_or (map C.views chunks.now) chunk [])))) }
         ensures buffers { C.buffers self.new.chunk ≡ C.buffers self.old.chunk }
         ensures bases { self.new.bases.items ≡ self.old.bases.items }
     {
@@ -75,7 +75,7 @@ impl<C: Chunk> Growing<C> {
         ensures shown { OnOk result (C.shown self.new.chunk ≡ C.shown self.old.chunk ++ get_or (get_or (map C.shown chunks.now) chunk []) row null ∷ []) }
         ensures held { AreHeld (C.buffers self.new.chunk) self.new.bases.items (map C.buffers chunks.now) }
         ensures views { OnOk result (C.views self.new.chunk ≡ C.views self.old.chunk
-            ++ moved (get_or self.old.bases.items chunk 0) (get_or (get_or (map C.views chunks.now) chunk []) row None) ∷ []) }
+            ++ moved_view (get_or self.old.bases.items chunk 0) (get_or (get_or (map C.views chunks.now) chunk []) row None) ∷ []) }
         ensures buffers { C.buffers self.new.chunk ≡ C.buffers self.old.chunk }
         ensures bases { self.new.bases.items ≡ self.old.bases.items }
     {

@@ -11,7 +11,7 @@ mod each;
 mod grow;
 mod growing;
 mod make;
-mod merged;
+mod coalescing;
 mod ordering;
 mod owned_chunks;
 mod pick;

@@ -4,15 +4,15 @@ ghost use Rattle.std.specs.List.{All};
 ghost use Rattle.tb_value.specs.See.{data_of};
 ghost use Rattle.tb_value.specs.SeeKind.{kind_of};
 ghost use Rattle.tb_value.specs.Typed.{HasType};
-ghost use Rattle.tb_chunk.specs.Col.{flat};
+ghost use Rattle.tb_chunk.specs.Col.{concatenation};
 ghost use Rattle.tb_cell.specs.Physical.{physical};
 ghost use Rattle.tb_cell.specs.Fits.{Fits};
 ghost use Rattle.tb_chunk.specs.Made.{lists_of, at_least_one};
-ghost use Rattle.tb_chunk.specs.Fresh.{fresh_runs};
-ghost use Rattle.tb_chunk.specs.Runs.{chunk_runs};
+ghost use Rattle.tb_chunk.specs.Fresh.{fresh_view_arrays};
+ghost use Rattle.tb_chunk.specs.ChunkViewArrays.{chunk_view_arrays};
 ghost use Rattle.tb_chunk.specs.Seen.{chunk_lists, storage};
 ghost use Rattle.tb_chunk.specs.Stored.{AreMade};
-ghost use Rattle.tb_view.specs.Whole.{runs_of, HaveFewBuffers};
+ghost use Rattle.tb_view.specs.ViewArrays.{view_arrays_of, HaveFewBuffers};
 
 use crate::chunk::{Chunk, StringChunk};
 use crate::chunks::Chunks;
@@ -38,7 +38,7 @@ fn are_of(dtype: &DataType, values: &[AnyValue]) -> bool
 
 #[tactic(auto, using(crate::proofs::Alls::all_next_list))]
 fn all_are_of(dtype: &DataType, chunks: &[Vec<AnyValue>]) -> bool
-    ensures { IsTrue result ↔ All (HasType (kind_of dtype.now)) (flat (lists_of chunks.now)) }
+    ensures { IsTrue result ↔ All (HasType (kind_of dtype.now)) (concatenation (lists_of chunks.now)) }
 {
     for chunk in chunks {
         if !are_of(dtype, chunk) {
@@ -51,7 +51,7 @@ fn all_are_of(dtype: &DataType, chunks: &[Vec<AnyValue>]) -> bool
 // Whether there are few enough values.
 #[tactic(auto, using(crate::proofs::Lists::flat_drop))]
 fn is_short(chunks: &[Vec<AnyValue>]) -> bool
-    ensures { IsTrue result ↔ (length (flat (lists_of chunks.now)) ≤ MAX_ROWS) }
+    ensures { IsTrue result ↔ (length (concatenation (lists_of chunks.now)) ≤ MAX_ROWS) }
 {
     let mut room = MAX_ROWS;
     for chunk in chunks {
@@ -65,9 +65,9 @@ fn is_short(chunks: &[Vec<AnyValue>]) -> bool
 
 #[tactic(auto, using(crate::proofs::Alls::all_next_list))]
 fn build<C: Chunk>(alloc: Global, lists: &[Vec<AnyValue>]) -> Result<Vec<C>, OutOfMemory>
-    requires { All (Fits C.kind) (flat (lists_of lists.now)) }
+    requires { All (Fits C.kind) (concatenation (lists_of lists.now)) }
     ensures shown { IfOk result (λ v. map C.shown v.items ≡ lists_of lists.now) }
-    ensures runs { IfOk result (λ v. runs_of C.views C.buffers v.items ≡ fresh_runs (lists_of lists.now)) }
+    ensures view_arrays { IfOk result (λ v. view_arrays_of C.views C.buffers v.items ≡ fresh_view_arrays (lists_of lists.now)) }
 {
     let mut chunks = Vec::with_capacity(alloc, lists.len())?;
     for list in lists {
@@ -78,10 +78,10 @@ fn build<C: Chunk>(alloc: Global, lists: &[Vec<AnyValue>]) -> Result<Vec<C>, Out
 
 // The same, as those of a column.
 fn build_stored<C: Stored>(alloc: Global, lists: &[Vec<AnyValue>]) -> Result<Chunks, OutOfMemory>
-    requires { All (Fits C.kind) (flat (lists_of lists.now)) }
+    requires { All (Fits C.kind) (concatenation (lists_of lists.now)) }
     ensures lists { IfOk result (λ c. chunk_lists c ≡ lists_of lists.now) }
     ensures storage { IfOk result (λ c. storage c ≡ C.kind) }
-    ensures runs { IfOk result (λ c. chunk_runs c ≡ fresh_runs (lists_of lists.now)) }
+    ensures view_arrays { IfOk result (λ c. chunk_view_arrays c ≡ fresh_view_arrays (lists_of lists.now)) }
 {
     Ok(C::wrap(build(alloc, lists)?))
 }
@@ -91,10 +91,10 @@ fn build_chunks(
     dtype: &DataType,
     lists: &[Vec<AnyValue>],
 ) -> Result<Chunks, OutOfMemory>
-    requires { All (Fits (physical (kind_of dtype.now))) (flat (lists_of lists.now)) }
+    requires { All (Fits (physical (kind_of dtype.now))) (concatenation (lists_of lists.now)) }
     ensures lists { IfOk result (λ c. chunk_lists c ≡ lists_of lists.now) }
     ensures storage { IfOk result (λ c. storage c ≡ physical (kind_of dtype.now)) }
-    ensures runs { IfOk result (λ c. chunk_runs c ≡ fresh_runs (lists_of lists.now)) }
+    ensures view_arrays { IfOk result (λ c. chunk_view_arrays c ≡ fresh_view_arrays (lists_of lists.now)) }
 {
     match dtype {
         DataType::Null => build_stored::<usize>(alloc, lists),
@@ -145,8 +145,8 @@ impl Chunks {
         dtype: &DataType,
         lists: Vec<Vec<AnyValue>>,
     ) -> PolarsResult<Chunks>
-        ensures few { IfOk result (λ c. HaveFewBuffers (chunk_runs c)) }
-        ensures made { AreMade (kind_of dtype.now) (physical (kind_of dtype.now)) (lists_of lists.items) (fresh_runs (lists_of lists.items)) result }
+        ensures few { IfOk result (λ c. HaveFewBuffers (chunk_view_arrays c)) }
+        ensures made { AreMade (kind_of dtype.now) (physical (kind_of dtype.now)) (lists_of lists.items) (fresh_view_arrays (lists_of lists.items)) result }
     {
         if !all_are_of(dtype, &lists) {
             return Err(PolarsError::SchemaMismatch);

@@ -1,9 +1,9 @@
 //! Whether values ascend, or descend.
 ghost use Rattle.std.specs.Prelude.{◌≡◌, ◌<◌, ◌≤◌, ◌^◌, ◌+◌, if◌then◌else◌, is_some, option_map, length, get_or, map, take, drop};
 ghost use Rattle.tb_value.specs.Datum.{null, is_null};
-ghost use Rattle.tb_value.specs.See.{lent};
-ghost use Rattle.tb_cell.specs.Order.{followed, keeps_order};
-ghost use Rattle.tb_chunk.specs.Col.{flat};
+ghost use Rattle.tb_value.specs.See.{lent_value};
+ghost use Rattle.tb_cell.specs.Order.{last_in_order, keeps_order};
+ghost use Rattle.tb_chunk.specs.Col.{concatenation};
 ghost use Rattle.tb_chunk.specs.Seen.{chunk_lists};
 
 use crate::chunk::Chunk;
@@ -22,7 +22,7 @@ fn follow_chunk<'a, C: Chunk>(
     descending: bool,
 ) -> Option<ValueRef<'a>>
     requires { from + count ≤ length (C.shown chunk.now) }
-    ensures { option_map lent result ≡ followed descending (lent before.entry) (take count (drop from (C.shown chunk.now))) }
+    ensures { option_map lent_value result ≡ last_in_order descending (lent_value before.entry) (take count (drop from (C.shown chunk.now))) }
 {
     let _rows = chunk.len();
     let mut last = before;
@@ -38,8 +38,8 @@ fn follow_chunk<'a, C: Chunk>(
 
 // Whether the `len` rows from `start` on are in order.
 fn follow<C: Chunk>(chunks: &[C], start: usize, len: usize, descending: bool) -> bool
-    requires { start + len ≤ length (flat (map C.shown chunks.now)) }
-    ensures { result ≡ is_some (followed descending null (take len (drop start (flat (map C.shown chunks.now))))) }
+    requires { start + len ≤ length (concatenation (map C.shown chunks.now)) }
+    ensures { result ≡ is_some (last_in_order descending null (take len (drop start (concatenation (map C.shown chunks.now))))) }
 {
     let mut skip = start;
     let mut left = len;
@@ -59,8 +59,8 @@ fn follow<C: Chunk>(chunks: &[C], start: usize, len: usize, descending: bool) ->
 }
 
 fn starts_with_null<C: Chunk>(chunks: &[C]) -> bool
-    requires { length (flat (map C.shown chunks.now)) < 2 ^ 64 }
-    ensures { result ≡ is_null (get_or (flat (map C.shown chunks.now)) 0 null) }
+    requires { length (concatenation (map C.shown chunks.now)) < 2 ^ 64 }
+    ensures { result ≡ is_null (get_or (concatenation (map C.shown chunks.now)) 0 null) }
 {
     if rows_in(chunks) == 0 {
         return true;
@@ -73,8 +73,8 @@ fn starts_with_null<C: Chunk>(chunks: &[C]) -> bool
 
 // Where the values start that are present, if the nulls stand at one end.
 fn present_from<C: Chunk>(chunks: &[C], nulls: usize) -> usize
-    requires { length (flat (map C.shown chunks.now)) < 2 ^ 64 }
-    ensures exact { result ≡ (if is_null (get_or (flat (map C.shown chunks.now)) 0 null) then nulls else 0) }
+    requires { length (concatenation (map C.shown chunks.now)) < 2 ^ 64 }
+    ensures exact { result ≡ (if is_null (get_or (concatenation (map C.shown chunks.now)) 0 null) then nulls else 0) }
     ensures within { result ≤ nulls }
 {
     if starts_with_null(chunks) { nulls } else { 0 }
@@ -83,8 +83,8 @@ fn present_from<C: Chunk>(chunks: &[C], nulls: usize) -> usize
 /// Whether the values that are present ascend, or descend, and the nulls stand at one end.
 #[tactic(auto, using(tb_cell::proofs::Nulls::nulls_at_most), unfolding(tb_cell::specs::Order::keeps_order))]
 pub fn keeps_order<C: Chunk>(chunks: &[C], descending: bool) -> bool
-    requires { length (flat (map C.shown chunks.now)) < 2 ^ 64 }
-    ensures { result ≡ keeps_order descending (flat (map C.shown chunks.now)) }
+    requires { length (concatenation (map C.shown chunks.now)) < 2 ^ 64 }
+    ensures { result ≡ keeps_order descending (concatenation (map C.shown chunks.now)) }
 {
     let nulls = nulls_in(chunks);
     let start = present_from(chunks, nulls);
@@ -94,8 +94,8 @@ pub fn keeps_order<C: Chunk>(chunks: &[C], descending: bool) -> bool
 impl Chunks {
     /// Whether the values that are present ascend, or descend, and the nulls stand at one end.
     pub fn keeps_order(&self, descending: bool) -> bool
-        requires { length (flat (chunk_lists self.now)) < 2 ^ 64 }
-        ensures { result ≡ keeps_order descending (flat (chunk_lists self.now)) }
+        requires { length (concatenation (chunk_lists self.now)) < 2 ^ 64 }
+        ensures { result ≡ keeps_order descending (concatenation (chunk_lists self.now)) }
     {
         for_chunks!(self, chunks => keeps_order(chunks, descending))
     }

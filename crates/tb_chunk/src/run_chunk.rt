@@ -11,7 +11,7 @@ ghost use Rattle.tb_cell.specs.Fits.{Fits};
 ghost use Rattle.tb_chunk.specs.Made.{IsShort, IsTyped};
 ghost use Rattle.tb_chunk.specs.RunLayout.{AreFewRows, AreRunsOf, IsChunkOfRuns, expansion, total_of};
 ghost use Rattle.tb_view.specs.RunViews.{data_runs, laid_runs, text_runs};
-ghost use Rattle.tb_chunk.specs.Runs.{chunk_runs};
+ghost use Rattle.tb_chunk.specs.ChunkViewArrays.{chunk_view_arrays};
 ghost use Rattle.tb_chunk.specs.Seen.{chunk_lists, storage};
 
 use crate::chunk::{Chunk, StringChunk};
@@ -158,7 +158,7 @@ fn build_run<C: RunChunk + Stored>(
     requires rows { rows ≡ total_of runs.now }
     ensures lists { IfOk result (λ c. chunk_lists c ≡ expansion (data_runs runs.now) ∷ []) }
     ensures storage { IfOk result (λ c. storage c ≡ C.kind) }
-    ensures runs { IfOk result (λ c. chunk_runs c ≡ laid_runs (text_runs (data_runs runs.now)) ∷ []) }
+    ensures view_arrays { IfOk result (λ c. chunk_view_arrays c ≡ laid_runs (text_runs (data_runs runs.now)) ∷ []) }
 {
     let mut chunks = Vec::with_capacity(alloc, 1)?;
     chunks.push(C::from_runs(alloc, runs, rows)?)?;
@@ -175,7 +175,7 @@ fn build_runs(
     requires rows { rows ≡ total_of runs.now }
     ensures lists { IfOk result (λ c. chunk_lists c ≡ expansion (data_runs runs.now) ∷ []) }
     ensures storage { IfOk result (λ c. storage c ≡ physical (kind_of dtype.now)) }
-    ensures runs { IfOk result (λ c. chunk_runs c ≡ laid_runs (text_runs (data_runs runs.now)) ∷ []) }
+    ensures view_arrays { IfOk result (λ c. chunk_view_arrays c ≡ laid_runs (text_runs (data_runs runs.now)) ∷ []) }
 {
     match dtype {
         DataType::Null => build_run::<usize>(alloc, runs, rows),

@@ -3,12 +3,12 @@ ghost use Rattle.std.specs.Prelude.{◌≡◌, ◌⊎◌, ◌<◌, ◌^◌, [], 
 ghost use Rattle.std.specs.Option.{option_map};
 ghost use Rattle.tb_value.specs.Kind as kind;
 ghost use Rattle.tb_chunk.specs.ChunkTexts.{bytes_of, texts_of};
-ghost use Rattle.tb_chunk.specs.Runs.{chunk_runs};
+ghost use Rattle.tb_chunk.specs.ChunkViewArrays.{chunk_view_arrays};
 ghost use Rattle.tb_chunk.specs.Seen.{chunk_lists, storage};
 ghost use Rattle.tb_value.specs.Texts.{IsUtf8Row};
 ghost use Rattle.tb_chunk.specs.TextValues.{text_values};
 ghost use Rattle.tb_view.specs.View.{texts, IsViewOrNone};
-ghost use Rattle.tb_view.specs.Whole.{run_at};
+ghost use Rattle.tb_view.specs.ViewArrays.{view_array_at};
 
 use crate::chunk::{Chunk, StringChunk};
 use crate::chunks::Chunks;
@@ -95,8 +95,8 @@ impl BinaryChunk {
 fn texts_in(chunks: &Chunks, chunk: usize) -> &ViewChunk
     requires text { storage chunks.now ≡ kind.string ⊎ storage chunks.now ≡ kind.binary }
     requires chunk { chunk < length (chunk_lists chunks.now) }
-    ensures views { result.now.views.items ≡ (run_at (chunk_runs chunks.now) chunk).views }
-    ensures buffers { result.now.buffers.items ≡ (run_at (chunk_runs chunks.now) chunk).buffers }
+    ensures views { result.now.views.items ≡ (view_array_at (chunk_view_arrays chunks.now) chunk).views }
+    ensures buffers { result.now.buffers.items ≡ (view_array_at (chunk_view_arrays chunks.now) chunk).buffers }
     ensures texts { slice_index_or (chunk_lists chunks.now) chunk [] ≡ text_values (storage chunks.now) (texts result.now.buffers.items result.now.views.items) }
 {
     match chunks {
@@ -112,9 +112,9 @@ impl Chunks {
     pub fn views(&self, chunk: usize) -> &[Option<View>]
         requires text { storage self.now ≡ kind.string ⊎ storage self.now ≡ kind.binary }
         requires chunk { chunk < length (chunk_lists self.now) }
-        ensures views { result.now ≡ (run_at (chunk_runs self.now) chunk).views }
-        ensures formed { All (IsViewOrNone (run_at (chunk_runs self.now) chunk).buffers) result.now }
-        ensures texts { slice_index_or (chunk_lists self.now) chunk [] ≡ text_values (storage self.now) (texts (run_at (chunk_runs self.now) chunk).buffers result.now) }
+        ensures views { result.now ≡ (view_array_at (chunk_view_arrays self.now) chunk).views }
+        ensures formed { All (IsViewOrNone (view_array_at (chunk_view_arrays self.now) chunk).buffers) result.now }
+        ensures texts { slice_index_or (chunk_lists self.now) chunk [] ≡ text_values (storage self.now) (texts (view_array_at (chunk_view_arrays self.now) chunk).buffers result.now) }
     {
         texts_in(self, chunk).views()
     }
@@ -123,7 +123,7 @@ impl Chunks {
     pub fn data_buffers(&self, chunk: usize) -> &[Bytes]
         requires text { storage self.now ≡ kind.string ⊎ storage self.now ≡ kind.binary }
         requires chunk { chunk < length (chunk_lists self.now) }
-        ensures { result.now ≡ (run_at (chunk_runs self.now) chunk).buffers }
+        ensures { result.now ≡ (view_array_at (chunk_view_arrays self.now) chunk).buffers }
     {
         texts_in(self, chunk).buffers()
     }

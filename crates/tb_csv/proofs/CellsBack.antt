@@ -25,7 +25,7 @@ use Rattle.tb_csv.specs.Records.{bytes_of}
 use Rattle.tb_csv.specs.Texts.{field_among, field_of, field_type}
 use Rattle.tb_date.proofs.DateTexts.{date_is_text}
 use Rattle.tb_date.proofs.DatesBack.{date_back}
-use Rattle.tb_csv.specs.Types.{cell_value, empty_value, field_value, is_within, kind_at, or_string, ranged}
+use Rattle.tb_csv.specs.Types.{cell_value, empty_value, field_value, is_within, kind_at, or_string, ranged_number}
 use Rattle.tb_csv.specs.declared.field_type.FieldType.{FieldType}
 use Rattle.tb_csv.specs.declared.field_type.FieldType.TheVariants as field
 
@@ -106,13 +106,13 @@ within : (o : Option (ℤ × ℤ)) (z : ℤ) → IsSomeAnd o (λ e. (e.0 ≤ℤ 
 within None z h = absurd h
 within (Some e) z h = rw (le_true e.0 z h.0, le_true z e.1 h.1) refl
 
-ranged_back : (k : Kind) (z : ℤ) → HasType k (value.int z) → ranged k z ≡ Some (value.int z)
+ranged_back : (k : Kind) (z : ℤ) → HasType k (value.int z) → ranged_number k z ≡ Some (value.int z)
 ranged_back k z h = rw (within (ends k) z h) refl
 
-number_back : (t : FieldType) (k : Kind) (z : ℤ) → field_value t (signed_decimal z) ≡ option_and_then (ranged k) (whole_in (signed_decimal z)) → HasType k (value.int z) → IsBelow z
+number_back : (t : FieldType) (k : Kind) (z : ℤ) → field_value t (signed_decimal z) ≡ option_and_then (ranged_number k) (whole_in (signed_decimal z)) → HasType k (value.int z) → IsBelow z
     → cell_value t (Some (signed_decimal z)) ≡ Some (value.int z)
 number_back t k z e h below =
-    present t (signed_decimal z) (number_long z below) ∙ e ∙ ap (λ (o : Option ℤ). option_and_then (ranged k) o) (whole_back z below) ∙ ranged_back k z h
+    present t (signed_decimal z) (number_long z below) ∙ e ∙ ap (λ (o : Option ℤ). option_and_then (ranged_number k) o) (whole_back z below) ∙ ranged_back k z h
 
 no_list : (k : Kind) (P : Kind → Type 0) → IsListOf k P → is_none (ends k) ≡ true
 no_list (kind.list t) P h = refl
@@ -123,7 +123,7 @@ no_struct (kind.struct t) P h = refl
 no_struct _ P h = absurd h
 
 -- of a type of whole numbers
-whole_cells : (t : FieldType) (k : Kind) (v : Datum) → is_none (ends k) ≡ false → is_date k ≡ false → ((s : List ℕ) → field_value t s ≡ option_and_then (ranged k) (whole_in s)) → ((z : ℤ) → HasType k (value.int z) → IsBelow z)
+whole_cells : (t : FieldType) (k : Kind) (v : Datum) → is_none (ends k) ≡ false → is_date k ≡ false → ((s : List ℕ) → field_value t s ≡ option_and_then (ranged_number k) (whole_in s)) → ((z : ℤ) → HasType k (value.int z) → IsBelow z)
     → HasType k v → cell_value t (field_of k v) ≡ Some v
 whole_cells t k value.null some none e below h = refl
 whole_cells t k (value.boolean b) some none e below h = absurd (true≢false (rw h at some))

@@ -10,7 +10,7 @@ use Rattle.csv.specs.Reading.{default_config, records_from}
 use Rattle.csv.specs.Writing.{default_writer, escaped, needs_byte}
 use Rattle.csv.specs.declared.parser.State.{State}
 use Rattle.csv.specs.declared.parser.State.TheVariants as st
-use Rattle.tb_csv.specs.Records.{Field, Line, Record, bytes_of, field, line_of, marked, marked_records, marks_from}
+use Rattle.tb_csv.specs.Records.{Field, Line, Record, bytes_of, field, line_of, marked_fields, marked_records, marks_from}
 use Rattle.tb_csv.specs.Texts.{field_text, line_text, record_text, records_text}
 
 -- a record whose line has a byte
@@ -202,9 +202,9 @@ field_back None = refl
 field_back (Some []) = refl
 field_back (Some (c ∷ cs)) = refl
 
-marked_back : (r : Record) (qs : List Bool) → marked (map mark_of r ++ qs) (line_of r) ≡ r
+marked_back : (r : Record) (qs : List Bool) → marked_fields (map mark_of r ++ qs) (line_of r) ≡ r
 marked_back [] qs = refl
-marked_back (f ∷ fs) qs = ap (λ g. g ∷ marked (map mark_of fs ++ qs) (line_of fs)) (field_back f) ∙ ap (λ (gs : Record). f ∷ gs) (marked_back fs qs)
+marked_back (f ∷ fs) qs = ap (λ g. g ∷ marked_fields (map mark_of fs ++ qs) (line_of fs)) (field_back f) ∙ ap (λ (gs : Record). f ∷ gs) (marked_back fs qs)
 
 marks_behind : (r : Record) (qs : List Bool) → drop (length (line_of r)) (map mark_of r ++ qs) ≡ qs
 marks_behind [] qs = refl

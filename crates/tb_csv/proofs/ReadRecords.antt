@@ -5,7 +5,7 @@ use Rattle.csv.specs.Records.{field_at, fields_of}
 use Rattle.tb_value.specs.declared.limits.TheConstants.{MAX_ROWS}
 use Rattle.tb_csv.specs.Places.{MarkAlike}
 use Rattle.tb_csv.specs.Read.{AreLines, IsRead, lent_field}
-use Rattle.tb_csv.specs.Records.{Line, field, line_of, lines_of, marked, marked_records, marks_of, records_of}
+use Rattle.tb_csv.specs.Records.{Line, field, line_of, lines_of, marked_fields, marked_records, marks_of, records_of}
 use Rattle.tb_csv.specs.declared.records.Records.{Records}
 use Rattle.tb_csv.proofs.MarkedFields.{line_back, lines_back, marked_all, marked_at, marked_height, marked_level}
 use Rattle.tb_csv.proofs.RecordWalks.{found, place}
@@ -21,8 +21,8 @@ by_marks r qs (first ∷ ls) alike h =
     let rest = drop (length first) qs in (
       h.0 ∙ sym (line_back qs first),
       record {
-        fields = alike (length r.lines.names.items) (fields_of r.lines.fields) ∙ ap (λ (n : ℕ). marked (drop n qs) (fields_of r.lines.fields)) count
-            ∙ ap (marked rest) h.1 ∙ marked_all rest ls;
+        fields = alike (length r.lines.names.items) (fields_of r.lines.fields) ∙ ap (λ (n : ℕ). marked_fields (drop n qs) (fields_of r.lines.fields)) count
+            ∙ ap (marked_fields rest) h.1 ∙ marked_all rest ls;
         height = h.2 ∙ sym (marked_height rest ls);
         few = subst (λ (n : ℕ). n ≤ MAX_ROWS) (sym (marked_height rest ls)) h.3;
         level = marked_level (length r.lines.names.items) rest ls (subst (λ (n : ℕ). All (λ (k : Line). length k ≡ n) ls) (sym count) h.4);
@@ -35,6 +35,6 @@ records_read separator text r alike h = by_marks r (marks_of separator text) (li
 
 -- a field that is lent, by its mark
 pub field_there : (qs : List Bool) (l : Line) (i : ℕ) (q : Bool) (s : List ℕ) (f : Option (Bor (List ℕ))) (ms : List Bool) → Some s ≡ field_at l i → ms ≡ qs → q ≡ get_or ms i false
-    → lent_field f ≡ field q s → lent_field f ≡ get_or (marked qs l) i None
+    → lent_field f ≡ field q s → lent_field f ≡ get_or (marked_fields qs l) i None
 field_there qs l i q s f ms there marks mark is =
     is ∙ ap (λ (b : Bool). field b s) (mark ∙ ap (λ (ns : List Bool). get_or ns i false) marks) ∙ ap (field (get_or qs i false)) (sym (found l i s [] there)) ∙ sym (marked_at qs l i (place l i s there))

@@ -11,7 +11,7 @@ use Rattle.tb_value.specs.Datum.{null}
 use Rattle.tb_value.specs.Names.{Name}
 use Rattle.tb_value.specs.Pairs.{row_numbers}
 use Rattle.tb_chunk.specs.Col.{Col, values}
-use Rattle.tb_frame.specs.Table.{Table, TableColumn, height, names_of, plain, table_of}
+use Rattle.tb_frame.specs.Table.{Table, TableColumn, height, names_of, plain_column, table_of}
 use Rattle.tb_csv.specs.Records.{Field, Record}
 use Rattle.tb_csv.specs.Texts.{csv_text, field_among, field_text, field_type, gap, line_text, no_column, no_text, record_text, records_text, row_fields}
 use Rattle.tb_csv.specs.declared.fault.CsvFault.TheVariants.{NoText}
@@ -25,7 +25,7 @@ fields_in width [] i = refl
 fields_in width (c ∷ cs) i = ap (λ (fs : Record). field_in width i c ∷ fs) (fields_in width cs i)
 
 pub row_in : (cs : List Col) (i : ℕ) → map (field_in (length cs) i) cs ≡ row_fields (table_of cs) i
-row_in cs i = fields_in (length cs) cs i ∙ ap (λ (n : ℕ). map (λ (c : TableColumn). field_among n c.kind (get_or c.values i null)) (table_of cs)) (sym (length-map cs plain))
+row_in cs i = fields_in (length cs) cs i ∙ ap (λ (n : ℕ). map (λ (c : TableColumn). field_among n c.kind (get_or c.values i null)) (table_of cs)) (sym (length-map cs plain_column))
 
 -- the name of a column, as a field
 abbrev pub name_in : Col → Field
@@ -71,7 +71,7 @@ pub text_more : (separator : ℕ) (rs : List Record) (r : Record) → records_te
 text_more separator rs r = flat_map-append (record_text separator) rs (r ∷ []) ∙ ap (λ (s : List ℕ). records_text separator rs ++ s) (append-nil (record_text separator r))
 
 picked : (b : Bool) (c : Col) (x : Option TableColumn) (y : Option Col) → option_map (λ (t : TableColumn). NoText t.name) x ≡ option_map (λ (k : Col). NoText k.name) y
-    → option_map (λ (t : TableColumn). NoText t.name) (cond b (Some (plain c)) x) ≡ option_map (λ (k : Col). NoText k.name) (cond b (Some c) y)
+    → option_map (λ (t : TableColumn). NoText t.name) (cond b (Some (plain_column c)) x) ≡ option_map (λ (k : Col). NoText k.name) (cond b (Some c) y)
 picked true c x y h = refl
 picked false c x y h = h
 
@@ -80,7 +80,7 @@ no_text_of [] = refl
 no_text_of (c ∷ cs) = picked (is_none (field_type c.kind)) c _ _ (no_text_of cs)
 
 pub level_columns : (cs : List Col) (h : ℕ) → All (λ (c : TableColumn). length c.values ≡ h) (table_of cs) → All (λ (c : Col). length (values c) ≡ h) cs
-level_columns cs h all = λ k d low. subst (λ (c : TableColumn). length c.values ≡ h) (get_or-map plain cs k d) (all k (plain d) (rw (length-map cs plain) low))
+level_columns cs h all = λ k d low. subst (λ (c : TableColumn). length c.values ≡ h) (get_or-map plain_column cs k d) (all k (plain_column d) (rw (length-map cs plain_column) low))
 
 -- the text grows by that of a row
 pub grown : (separator : ℕ) (names : Record) (f : ℕ → Record) (i : ℕ) (so_far new : List ℕ) → new ≡ so_far ++ record_text separator (f i)

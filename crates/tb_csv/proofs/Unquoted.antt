@@ -11,7 +11,7 @@ use Rattle.csv.specs.declared.parser.Action.{Action}
 use Rattle.csv.specs.declared.parser.State.{State}
 use Rattle.csv.specs.declared.parser.State.TheVariants as st
 use Rattle.tb_csv.specs.Places.{MarkAlike, has_mark, has_quote}
-use Rattle.tb_csv.specs.Records.{Line, ends_field, form, is_quoted, marked, marks_from, marks_of}
+use Rattle.tb_csv.specs.Records.{Line, ends_field, form, is_quoted, marked_fields, marks_from, marks_of}
 
 -- states outside quotes
 abbrev outside : State → Bool
@@ -75,7 +75,7 @@ bare_drop zero qs h = h
 bare_drop (suc n) [] h = tt
 bare_drop (suc n) (q ∷ qs) h = bare_drop n qs h.1
 
-bare_marked : (qs : List Bool) (l : Line) → AreBare qs → marked [] l ≡ marked qs l
+bare_marked : (qs : List Bool) (l : Line) → AreBare qs → marked_fields [] l ≡ marked_fields qs l
 bare_marked qs [] h = refl
 bare_marked [] (s ∷ ss) h = refl
 bare_marked (q ∷ qs) (s ∷ ss) h = rw (h.0, bare_marked qs ss h.1) refl

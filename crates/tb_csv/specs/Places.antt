@@ -5,7 +5,7 @@ use Rattle.csv.specs.declared.parser.State.{State}
 use Rattle.csv.specs.declared.parser.State.TheVariants as st
 use Rattle.std.specs.List.{list_any}
 use Rattle.csv.specs.Reading.{is_bom}
-use Rattle.tb_csv.specs.Records.{Line, ends_field, marked}
+use Rattle.tb_csv.specs.Records.{Line, ends_field, marked_fields}
 use Rattle.tb_csv.specs.declared.marks.Place.{Place}
 use Rattle.tb_csv.specs.declared.marks.Place.TheVariants as place
 
@@ -32,4 +32,4 @@ has_mark _ = false
 
 -- lists of marks from which fields are the same
 abbrev pub MarkAlike : List Bool → List Bool → Type 0
-MarkAlike ps qs = (n : ℕ) (l : Line) → marked (drop n ps) l ≡ marked (drop n qs) l
+MarkAlike ps qs = (n : ℕ) (l : Line) → marked_fields (drop n ps) l ≡ marked_fields (drop n qs) l

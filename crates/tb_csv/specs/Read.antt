@@ -4,7 +4,7 @@ use Rattle.std.specs.Borrow.{Bor}
 use Rattle.std.specs.List.{All, flat_map}
 use Rattle.csv.specs.Records.{fields_of}
 use Rattle.tb_value.specs.declared.limits.TheConstants.{MAX_ROWS}
-use Rattle.tb_csv.specs.Records.{Field, Line, Record, line_of, marked}
+use Rattle.tb_csv.specs.Records.{Field, Line, Record, line_of, marked_fields}
 use Rattle.tb_csv.specs.declared.lines.Lines.{Lines}
 use Rattle.tb_csv.specs.declared.records.Records.{Records}
 
@@ -20,7 +20,7 @@ AreLines r (names ∷ lines) = (r.names.items ≡ names) × (fields_of r.fields 
 
 -- the fields that were read, by the marks behind those of the names
 abbrev pub fields_read : Records → List Field
-fields_read r = marked (drop (length r.lines.names.items) r.marks.items) (fields_of r.lines.fields)
+fields_read r = marked_fields (drop (length r.lines.names.items) r.marks.items) (fields_of r.lines.fields)
 
 -- the rows, each with as many fields as there are names
 pub record AreRows (r : Records) (rows : List Record) : Type 0 where

@@ -66,15 +66,15 @@ field false [] = None
 field q (c ∷ cs) = Some (c ∷ cs)
 
 -- fields, each by its mark. A field without a mark stands in no quotes
-abbrev pub marked : List Bool → Line → Record
-marked qs [] = []
-marked [] (s ∷ ss) = field false s ∷ marked [] ss
-marked (q ∷ qs) (s ∷ ss) = field q s ∷ marked qs ss
+abbrev pub marked_fields : List Bool → Line → Record
+marked_fields qs [] = []
+marked_fields [] (s ∷ ss) = field false s ∷ marked_fields [] ss
+marked_fields (q ∷ qs) (s ∷ ss) = field q s ∷ marked_fields qs ss
 
 -- records, whose fields have the marks one after another
 abbrev pub marked_records : List Bool → List Line → List Record
 marked_records qs [] = []
-marked_records qs (l ∷ ls) = marked qs l ∷ marked_records (drop (length l) qs) ls
+marked_records qs (l ∷ ls) = marked_fields qs l ∷ marked_records (drop (length l) qs) ls
 
 -- the records of a text
 unfoldable pub records_of : ℕ → List ℕ → List Record

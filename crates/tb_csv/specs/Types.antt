@@ -39,8 +39,8 @@ is_within None z = false
 is_within (Some e) z = int_le e.0 z && int_le z e.1
 
 -- a whole number between the ends of the type
-abbrev pub ranged : Kind → ℤ → Option Datum
-ranged t z = if is_within (ends t) z then Some (int z) else None
+abbrev pub ranged_number : Kind → ℤ → Option Datum
+ranged_number t z = if is_within (ends t) z then Some (int z) else None
 
 -- `true` or `false`
 abbrev pub truth_in : List ℕ → Option Datum
@@ -55,7 +55,7 @@ abbrev pub field_value : FieldType → List ℕ → Option Datum
 field_value field.Boolean s = truth_in s
 field_value field.String s = text_in s
 field_value field.Date s = option_map int (date_in s)
-field_value t s = option_and_then (ranged (kind_at t)) (whole_in s)
+field_value t s = option_and_then (ranged_number (kind_at t)) (whole_in s)
 
 -- a text without a byte is itself at String, and Null at each other type, which has no such value
 abbrev pub empty_value : FieldType → Datum

@@ -2,7 +2,7 @@
 ghost use Rattle.std.specs.Prelude.{◌≡◌, ◌≤◌, ◌<◌, ◌*◌, List, length, IfOk};
 ghost use Rattle.csv.specs.Records.{fields_of};
 ghost use Rattle.tb_value.specs.declared.limits.TheConstants.{MAX_ROWS};
-ghost use Rattle.tb_frame.specs.Table.{plain, table_of};
+ghost use Rattle.tb_frame.specs.Table.{plain_column, table_of};
 ghost use Rattle.tb_csv.specs.Faults.{Settles, column_fault, columns_fault, typed_fault};
 ghost use Rattle.tb_csv.specs.Read.{AreRows, lent_fields};
 ghost use Rattle.tb_csv.specs.Records.{Record};
@@ -60,7 +60,7 @@ fn read_column(
 ) -> Result<Column, CsvFault>
     requires { length fields.now ≤ MAX_ROWS }
     ensures settles { Settles result (column_fault name.now field_type 1 (lent_fields fields.now)) }
-    ensures column { IfOk result (λ c. plain c ≡ typed_column name.now field_type (lent_fields fields.now)) }
+    ensures column { IfOk result (λ c. plain_column c ≡ typed_column name.now field_type (lent_fields fields.now)) }
 {
     let chunks = read_chunk(alloc, name, field_type, fields)?;
     let name = name.copy(alloc)?;
@@ -81,7 +81,7 @@ fn csv_column(
     ensures settles { (rows : List Record) → AreRows records.now rows
         → Settles result (typed_fault types.now records.now.lines.names.items rows column) }
     ensures column { (rows : List Record) → AreRows records.now rows
-        → IfOk result (λ c. plain c ≡ csv_column types.now records.now.lines.names.items rows column) }
+        → IfOk result (λ c. plain_column c ≡ csv_column types.now records.now.lines.names.items rows column) }
 {
     let fields = records.column(alloc, column)?;
     let name = &records.lines.names[column];

@@ -4,7 +4,7 @@ ghost use Rattle.std.specs.List.{All, find};
 ghost use Rattle.std.specs.Option.{option_copied};
 ghost use Rattle.csv.specs.Writing.{escaped, needs_quotes, quoted};
 ghost use Rattle.tb_value.specs.Pairs.{row_numbers};
-ghost use Rattle.tb_value.specs.See.{lent};
+ghost use Rattle.tb_value.specs.See.{lent_value};
 ghost use Rattle.tb_value.specs.SeeKind.{kind_of};
 ghost use Rattle.tb_chunk.specs.Col.{Col, values};
 ghost use Rattle.tb_frame.specs.Table.{height, names_of, table_of};
@@ -105,7 +105,7 @@ fn push_value(
     dtype: &DataType,
     value: ValueRef<'_>,
 ) -> Result<(), OutOfMemory>
-    ensures { OnOk result (text.new.items ≡ text.old.items ++ field_text separator (field_among width (kind_of dtype.now) (lent value.entry))) }
+    ensures { OnOk result (text.new.items ≡ text.old.items ++ field_text separator (field_among width (kind_of dtype.now) (lent_value value.entry))) }
 {
     match value {
         ValueRef::Boolean(b) => push_field(text, separator, truth_text(b).as_bytes()),

@@ -11,16 +11,16 @@ use Rattle.tb_value.proofs.Ascending.{kept_ascend, left_met-sorted, left_unmet-s
 use Rattle.tb_value.proofs.Loops.{map-map}
 use Rattle.tb_chunk.specs.Col.{Col, values}
 use Rattle.tb_chunk.specs.Rows.{value_or_null}
-use Rattle.tb_chunk.specs.Whole.{view_or_none, whole}
+use Rattle.tb_chunk.specs.ViewArrays.{view_or_none, joined_view_array}
 use Rattle.tb_frame.specs.Answer.{IsListed, fill}
-use Rattle.tb_frame.specs.Frame.{opt_taken, taken, without_names}
+use Rattle.tb_frame.specs.Frame.{opt_taken_rows, taken_rows, without_names}
 use Rattle.tb_frame.specs.Join.{IsAnswer, IsOrdered, Request, cut, listing, out}
-use Rattle.tb_frame.specs.Table.{IsTable, Table, height, plain, table_of}
+use Rattle.tb_frame.specs.Table.{IsTable, Table, height, plain_column, table_of}
 use Rattle.tb_frame.specs.declared.args.MaintainOrderJoin.TheVariants as order
 use Rattle.tb_frame.proofs.Assembled.{makes_answer}
 use Rattle.tb_value.proofs.RowNumbers.{rows_below}
 use Rattle.tb_frame.proofs.Taking.{IsTable-taken}
-use Rattle.tb_gather.specs.Gathered.{rows_gathered}
+use Rattle.tb_gather.specs.Gathered.{gathered_rows}
 use Rattle.tb_hash.specs.Hashing.{value_listing}
 use Rattle.tb_join.proofs.AnswerMade.{columns-are}
 use Rattle.tb_join.proofs.KeptColumns.{without_names_none}
@@ -29,9 +29,9 @@ use Rattle.tb_dispatch.specs.Given.{by_match, semi_or_anti}
 use Rattle.tb_dispatch.specs.Rows.{Rise}
 use Rattle.tb_dispatch.proofs.Cuts.{cut-map, few_risen}
 
-without_flags : (rows : List (Option ℕ)) (cs : List Col) → table_of (map (opt_taken rows) cs) ≡ table_of (map (rows_gathered rows Ascending) cs)
+without_flags : (rows : List (Option ℕ)) (cs : List Col) → table_of (map (opt_taken_rows rows) cs) ≡ table_of (map (gathered_rows rows Ascending) cs)
 without_flags rows [] = refl
-without_flags rows (c ∷ cs) = ap (λ (t : Table). plain (opt_taken rows c) ∷ t) (without_flags rows cs)
+without_flags rows (c ∷ cs) = ap (λ (t : Table). plain_column (opt_taken_rows rows c) ∷ t) (without_flags rows cs)
 
 cut_none : (s : Option (ℤ × ℕ)) → cut s (map left_only []) ≡ []
 cut_none None = refl
@@ -45,14 +45,14 @@ numbers (i ∷ rows) = ap (λ (is : List ℕ). i ∷ is) (numbers rows)
 same_numbers : (rows is : List ℕ) → map left_only rows ≡ map left_only is → rows ≡ is
 same_numbers rows is e = sym (numbers rows) ∙ ap (map (λ (p : JoinPair). unwrap_or p.left 0)) e ∙ numbers is
 
-taken-is : (rows : List ℕ) (c : Col) → taken rows c ≡ opt_taken (map (λ (i : ℕ). Some i) rows) c
+taken-is : (rows : List ℕ) (c : Col) → taken_rows rows c ≡ opt_taken_rows (map (λ (i : ℕ). Some i) rows) c
 taken-is rows c =
-    let w = whole c.runs in
+    let w = joined_view_array c.view_arrays in
     let views = sym (map-map (view_or_none w.views) (λ (i : ℕ). Some i) rows) in
     λ t. record c {
       chunks = sym (map-map (value_or_null (values c)) (λ (i : ℕ). Some i) rows) t ∷ [];
-      flag = (taken rows c).flag;
-      runs = record { views = views t; buffers = w.buffers } ∷ [];
+      flag = (taken_rows rows c).flag;
+      view_arrays = record { views = views t; buffers = w.buffers } ∷ [];
     }
 
 module _ (nulls anti : Bool) (l r : Col) (rows : List ℕ) (is : map left_only rows ≡ value_listing nulls (semi_or_anti anti) (values l) (values r)) where
@@ -95,27 +95,27 @@ module _ (nulls anti : Bool) (l r : Col) (rows : List ℕ) (is : map left_only r
     lefts : map (λ (p : JoinPair). p.left) items ≡ map (λ (i : ℕ). Some i) (cut s rows)
     lefts = ap (map (λ (p : JoinPair). p.left)) (cut-map left_only s rows) ∙ map-map (λ (p : JoinPair). p.left) left_only (cut s rows)
 
-    made : map (taken (cut s rows)) left ≡ map (opt_taken (map (λ (p : JoinPair). p.left) items)) (without_names [] left)
-    made = (λ t. map (λ (c : Col). taken-is (cut s rows) c t) left) ∙ (λ t. map (opt_taken (sym lefts t)) (sym (without_names_none left) t))
+    made : map (taken_rows (cut s rows)) left ≡ map (opt_taken_rows (map (λ (p : JoinPair). p.left) items)) (without_names [] left)
+    made = (λ t. map (λ (c : Col). taken-is (cut s rows) c t) left) ∙ (λ t. map (opt_taken_rows (sym lefts t)) (sym (without_names_none left) t))
 
     -- a join gathers the same rows, which ascend, with flags that a table doesn't have
     gathered : List Col
-    gathered = map (rows_gathered (map (λ (p : JoinPair). p.left) items) Ascending) (without_names [] left)
+    gathered = map (gathered_rows (map (λ (p : JoinPair). p.left) items) Ascending) (without_names [] left)
 
-    same : table_of (map (taken (cut s rows)) left) ≡ table_of (gathered ++ [])
+    same : table_of (map (taken_rows (cut s rows)) left) ≡ table_of (gathered ++ [])
     unfolding gathered
     same = ap table_of made ∙ without_flags (map (λ (p : JoinPair). p.left) items) (without_names [] left) ∙ ap table_of (sym (append-nil gathered))
 
-    columns : table_of (map (taken (cut s rows)) left) ≡ map (fill items) (out q)
+    columns : table_of (map (taken_rows (cut s rows)) left) ≡ map (fill items) (out q)
     unfolding gathered
     columns = at anti
       where
-        at : (b : Bool) → table_of (map (taken (cut s rows)) left) ≡ map (fill items) (out (by_match b nulls s left l r))
+        at : (b : Bool) → table_of (map (taken_rows (cut s rows)) left) ≡ map (fill items) (out (by_match b nulls s left l r))
         at true = same ∙ columns-are (by_match true nulls s left l r) left (r ∷ []) items refl refl refl
         at false = same ∙ columns-are (by_match false nulls s left l r) left (r ∷ []) items refl refl refl
 
-    pub alone_answer : IsAnswer q (table_of (map (taken (cut s rows)) left))
-    alone_answer = makes_answer q items (table_of (map (taken (cut s rows)) left)) columns (at left table high) (IsTable-taken (cut s rows) left table) listed
+    pub alone_answer : IsAnswer q (table_of (map (taken_rows (cut s rows)) left))
+    alone_answer = makes_answer q items (table_of (map (taken_rows (cut s rows)) left)) columns (at left table high) (IsTable-taken (cut s rows) left table) listed
       where
         none : (n : ℕ) → length (values l) ≡ n → n ≡ 0 → rows ≡ []
         none n e zero = nil_from_length rows (let few = few_risen n rows rise (within n e) in omega (arith, few, zero))

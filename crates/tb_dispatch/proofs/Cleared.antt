@@ -25,17 +25,17 @@ use Rattle.tb_chunk.specs.Col.{Col, values}
 use Rattle.tb_frame.specs.declared.args.JoinArgs.{JoinArgs}
 use Rattle.tb_frame.specs.declared.args.JoinType.{JoinType}
 use Rattle.tb_frame.specs.declared.args.JoinType.TheVariants.{Inner, Left, Right, Full, Semi, Anti}
-use Rattle.tb_frame.specs.Join.{IsAnswer, IsOrdered, MergesAlike, Request, field, flag_at, listing, listing_of}
+use Rattle.tb_frame.specs.Join.{IsAnswer, IsOrdered, CoalescesAlike, Request, field, flag_at, listing, listing_of}
 use Rattle.tb_frame.specs.Sides.{asking}
 use Rattle.tb_frame.specs.Refusal.{asks_left, asks_right, broken_left, broken_right, column_causes, fits, given_refusal, has_twins, is_validated, key_kind, key_shapes, key_types, list_causes, name_causes, repeated_name, row_causes, too_many_rows}
-use Rattle.tb_frame.specs.Table.{Table, TableColumn, height, plain, table_of}
+use Rattle.tb_frame.specs.Table.{Table, TableColumn, height, plain_column, table_of}
 use Rattle.tb_frame.proofs.Causes.{first_cause-one, no_cause}
 use Rattle.tb_keys.specs.Causes.{later_refusal}
 use Rattle.tb_keys.specs.Rows.{HasRows}
 use Rattle.tb_keys.proofs.Refusing.{two_parts}
-use Rattle.tb_join.specs.Ready.{CanMerge}
+use Rattle.tb_join.specs.Ready.{CanCoalesceKeys}
 use Rattle.tb_join.proofs.NamesStand.{NamesStand, names_stand}
-use Rattle.tb_dispatch.specs.Given.{all_fit, cleared, early_refusal, emptied, given, misfit}
+use Rattle.tb_dispatch.specs.Given.{all_fit, cleared_columns, early_refusal, emptied_column, given_request, misfit}
 
 -- CAUSES
 
@@ -48,25 +48,25 @@ three_parts (Some e ∷ xs) k ys = refl
 
 -- THE KEYS
 
-kinds-emptied : (ks : List Col) → map (λ (c : TableColumn). c.kind) (table_of (map emptied ks)) ≡ map (λ (c : TableColumn). c.kind) (table_of ks)
+kinds-emptied : (ks : List Col) → map (λ (c : TableColumn). c.kind) (table_of (map emptied_column ks)) ≡ map (λ (c : TableColumn). c.kind) (table_of ks)
 kinds-emptied [] = refl
 kinds-emptied (k ∷ ks) = ap (λ (ts : List Kind). k.kind ∷ ts) (kinds-emptied ks)
 
-many-emptied : (ks : List Col) → length (table_of (map emptied ks)) ≡ length (table_of ks)
+many-emptied : (ks : List Col) → length (table_of (map emptied_column ks)) ≡ length (table_of ks)
 many-emptied [] = refl
 many-emptied (k ∷ ks) = ap (λ (n : ℕ). suc n) (many-emptied ks)
 
-kinds-cleared : (n : ℕ) (ks : List Col) → map (λ (c : TableColumn). c.kind) (table_of (cleared n ks)) ≡ map (λ (c : TableColumn). c.kind) (table_of ks)
+kinds-cleared : (n : ℕ) (ks : List Col) → map (λ (c : TableColumn). c.kind) (table_of (cleared_columns n ks)) ≡ map (λ (c : TableColumn). c.kind) (table_of ks)
 kinds-cleared n ks = at (n == 0)
   where
-    at : (b : Bool) → map (λ (c : TableColumn). c.kind) (table_of (cond b (map emptied ks) ks)) ≡ map (λ (c : TableColumn). c.kind) (table_of ks)
+    at : (b : Bool) → map (λ (c : TableColumn). c.kind) (table_of (cond b (map emptied_column ks) ks)) ≡ map (λ (c : TableColumn). c.kind) (table_of ks)
     at true = kinds-emptied ks
     at false = refl
 
-many-cleared : (n : ℕ) (ks : List Col) → length (table_of (cleared n ks)) ≡ length (table_of ks)
+many-cleared : (n : ℕ) (ks : List Col) → length (table_of (cleared_columns n ks)) ≡ length (table_of ks)
 many-cleared n ks = at (n == 0)
   where
-    at : (b : Bool) → length (table_of (cond b (map emptied ks) ks)) ≡ length (table_of ks)
+    at : (b : Bool) → length (table_of (cond b (map emptied_column ks) ks)) ≡ length (table_of ks)
     at true = many-emptied ks
     at false = refl
 
@@ -88,22 +88,22 @@ both_fit true true e h = (refl, refl)
 both_fit true false e h = absurd (cc)
 both_fit false b e h = absurd (cc)
 
-no-rows : (ks : List Col) → HasRows 0 (map emptied ks)
+no-rows : (ks : List Col) → HasRows 0 (map emptied_column ks)
 no-rows [] = All-nil (λ (c : Col). length (values c) ≡ 0)
-no-rows (k ∷ ks) = All-cons (λ (c : Col). length (values c) ≡ 0) (emptied k) (map emptied ks) refl (no-rows ks)
+no-rows (k ∷ ks) = All-cons (λ (c : Col). length (values c) ≡ 0) (emptied_column k) (map emptied_column ks) refl (no-rows ks)
 
 own-rows : (n : ℕ) (ks : List Col) → (n == 0) ≡ false → all_fit n ks ≡ true → HasRows n ks
 own-rows n [] some h = All-nil (λ (c : Col). length (values c) ≡ n)
 own-rows n (k ∷ ks) some h =
-    let here : fits n (plain k) ≡ true = and_first (fits n (plain k)) (all_fit n ks) h in
+    let here : fits n (plain_column k) ≡ true = and_first (fits n (plain_column k)) (all_fit n ks) h in
     let long : (length (values k) == n) ≡ true = or_false (length (values k) == n) (length (values k) == 1) ((λ t. (length (values k) == n) || sym some t && (length (values k) == 1)) ∙ here) in
-    All-cons (λ (c : Col). length (values c) ≡ n) k ks (eqb-true (length (values k)) n long) (own-rows n ks some (and_second (fits n (plain k)) (all_fit n ks) h))
+    All-cons (λ (c : Col). length (values c) ≡ n) k ks (eqb-true (length (values k)) n long) (own-rows n ks some (and_second (fits n (plain_column k)) (all_fit n ks) h))
 
-pub rows-cleared : (n : ℕ) (ks : List Col) → all_fit n ks ≡ true → HasRows n (cleared n ks)
+pub rows-cleared : (n : ℕ) (ks : List Col) → all_fit n ks ≡ true → HasRows n (cleared_columns n ks)
 rows-cleared n ks h = at (n == 0) refl
   where
-    at : (b : Bool) → (n == 0) ≡ b → HasRows n (cond b (map emptied ks) ks)
-    at true e = subst (λ (k : ℕ). HasRows k (map emptied ks)) (sym (eqb-true n 0 e)) (no-rows ks)
+    at : (b : Bool) → (n == 0) ≡ b → HasRows n (cond b (map emptied_column ks) ks)
+    at true e = subst (λ (k : ℕ). HasRows k (map emptied_column ks)) (sym (eqb-true n 0 e)) (no-rows ks)
     at false e = own-rows n ks e h
 
 -- TWINS AND PAIRS
@@ -111,11 +111,11 @@ rows-cleared n ks h = at (n == 0) refl
 no_twins : (nulls : ℕ → Bool) (keys : Table) (n : ℕ) → n ≡ 0 → has_twins nulls keys n ≡ false
 no_twins nulls keys n e = ap (has_twins nulls keys) e
 
-twins-cleared : (nulls : ℕ → Bool) (n : ℕ) (ks : List Col) → has_twins nulls (table_of (cleared n ks)) n ≡ has_twins nulls (table_of ks) n
+twins-cleared : (nulls : ℕ → Bool) (n : ℕ) (ks : List Col) → has_twins nulls (table_of (cleared_columns n ks)) n ≡ has_twins nulls (table_of ks) n
 twins-cleared nulls n ks = at (n == 0) refl
   where
-    at : (b : Bool) → (n == 0) ≡ b → has_twins nulls (table_of (cond b (map emptied ks) ks)) n ≡ has_twins nulls (table_of ks) n
-    at true e = no_twins nulls (table_of (map emptied ks)) n (eqb-true n 0 e) ∙ sym (no_twins nulls (table_of ks) n (eqb-true n 0 e))
+    at : (b : Bool) → (n == 0) ≡ b → has_twins nulls (table_of (cond b (map emptied_column ks) ks)) n ≡ has_twins nulls (table_of ks) n
+    at true e = no_twins nulls (table_of (map emptied_column ks)) n (eqb-true n 0 e) ∙ sym (no_twins nulls (table_of ks) n (eqb-true n 0 e))
     at false e = refl
 
 no_left : (how : JoinType) (r : ℕ) (m k : ℕ → ℕ → Bool) → listing_of how 0 r m ≡ listing_of how 0 r k
@@ -141,7 +141,7 @@ meet nulls ls rs i j = list_all (λ p. agrees (nulls p) (field (table_of ls) p i
 
 module _ (left right lk rk : List Col) (args : JoinArgs) where
   abbrev q : Request
-  q = given left right lk rk args
+  q = given_request left right lk rk args
 
   abbrev l : ℕ
   l = height (table_of left)
@@ -149,9 +149,9 @@ module _ (left right lk rk : List Col) (args : JoinArgs) where
   abbrev r : ℕ
   r = height (table_of right)
 
-  -- the request by the keys that are cleared
+  -- the request by the keys that are cleared_columns
   abbrev pub fitted : Request
-  fitted = record q { left_keys = table_of (cleared l lk); right_keys = table_of (cleared r rk) }
+  fitted = record q { left_keys = table_of (cleared_columns l lk); right_keys = table_of (cleared_columns r rk) }
 
   pub listed : listing fitted ≡ listing q
   listed = at (l == 0) (r == 0) refl refl
@@ -162,15 +162,15 @@ module _ (left right lk rk : List Col) (args : JoinArgs) where
       to_right : (m k : ℕ → ℕ → Bool) → r ≡ 0 → listing_of args.how l r m ≡ listing_of args.how l r k
       to_right m k e = ap (λ (n : ℕ). listing_of args.how l n m) e ∙ no_right args.how l m k ∙ sym (ap (λ (n : ℕ). listing_of args.how l n k) e)
 
-      at : (a b : Bool) → (l == 0) ≡ a → (r == 0) ≡ b → listing_of args.how l r (meet (flag_at args.join_nulls) (cond a (map emptied lk) lk) (cond b (map emptied rk) rk)) ≡ listing_of args.how l r (meet (flag_at args.join_nulls) lk rk)
-      at true b e f = to_left (meet (flag_at args.join_nulls) (map emptied lk) (cond b (map emptied rk) rk)) (meet (flag_at args.join_nulls) lk rk) (eqb-true l 0 e)
-      at false true e f = to_right (meet (flag_at args.join_nulls) lk (map emptied rk)) (meet (flag_at args.join_nulls) lk rk) (eqb-true r 0 f)
+      at : (a b : Bool) → (l == 0) ≡ a → (r == 0) ≡ b → listing_of args.how l r (meet (flag_at args.join_nulls) (cond a (map emptied_column lk) lk) (cond b (map emptied_column rk) rk)) ≡ listing_of args.how l r (meet (flag_at args.join_nulls) lk rk)
+      at true b e f = to_left (meet (flag_at args.join_nulls) (map emptied_column lk) (cond b (map emptied_column rk) rk)) (meet (flag_at args.join_nulls) lk rk) (eqb-true l 0 e)
+      at false true e f = to_right (meet (flag_at args.join_nulls) lk (map emptied_column rk)) (meet (flag_at args.join_nulls) lk rk) (eqb-true r 0 f)
       at false false e f = refl
 
-  abbrev left_kinds : map (λ (c : TableColumn). c.kind) (table_of (cleared l lk)) ≡ map (λ (c : TableColumn). c.kind) (table_of lk)
+  abbrev left_kinds : map (λ (c : TableColumn). c.kind) (table_of (cleared_columns l lk)) ≡ map (λ (c : TableColumn). c.kind) (table_of lk)
   left_kinds = kinds-cleared l lk
 
-  abbrev right_kinds : map (λ (c : TableColumn). c.kind) (table_of (cleared r rk)) ≡ map (λ (c : TableColumn). c.kind) (table_of rk)
+  abbrev right_kinds : map (λ (c : TableColumn). c.kind) (table_of (cleared_columns r rk)) ≡ map (λ (c : TableColumn). c.kind) (table_of rk)
   right_kinds = kinds-cleared r rk
 
   types : key_types fitted ≡ key_types q
@@ -197,7 +197,7 @@ module _ (left right lk rk : List Col) (args : JoinArgs) where
   -- THE CAUSES IN TWO PARTS
 
   fit_is : (n : ℕ) (ks : List Col) → list_all (fits n) (table_of ks) ≡ all_fit n ks
-  fit_is n ks = list_all-map (fits n) plain ks
+  fit_is n ks = list_all-map (fits n) plain_column ks
 
   shapes : key_shapes q ≡ misfit left right lk rk
   shapes = λ t. when (not (fit_is l lk t && fit_is r rk t)) ShapeMismatch
@@ -223,28 +223,28 @@ module _ (left right lk rk : List Col) (args : JoinArgs) where
         (two_parts (name_causes q.left q.right q.left_on q.right_on) (list_causes args.join_nulls q.left_on q.right_on)
         ∙ (λ t. first_cause (causes 0 None (omega arith) t ∷ causes 2 None (omega arith) t ∷ [])))
 
-    pub left_fit : HasRows l (cleared l lk)
+    pub left_fit : HasRows l (cleared_columns l lk)
     left_fit = rows-cleared l lk (both_fit (all_fit l lk) (all_fit r rk) ShapeMismatch (causes 1 None (omega arith))).0
 
-    pub right_fit : HasRows r (cleared r rk)
+    pub right_fit : HasRows r (cleared_columns r rk)
     right_fit = rows-cleared r rk (both_fit (all_fit l lk) (all_fit r rk) ShapeMismatch (causes 1 None (omega arith))).1
 
-    pub mergeable : MergesAlike q → CanMerge fitted
+    pub mergeable : CoalescesAlike q → CanCoalesceKeys fitted
     mergeable alike = record { known = λ merges. stand.known_right; many = λ merges. let counts = stand.counts in omega (arith, counts); alike = alike }
 
-    many_left : length (cleared l lk) ≡ length q.left_on
-    many_left = sym (length-map (cleared l lk) plain) ∙ many-cleared l lk ∙ sym (length-map (table_of lk) (λ (c : TableColumn). c.name))
+    many_left : length (cleared_columns l lk) ≡ length q.left_on
+    many_left = sym (length-map (cleared_columns l lk) plain_column) ∙ many-cleared l lk ∙ sym (length-map (table_of lk) (λ (c : TableColumn). c.name))
 
-    many_right : length (cleared r rk) ≡ length q.right_on
-    many_right = sym (length-map (cleared r rk) plain) ∙ many-cleared r rk ∙ sym (length-map (table_of rk) (λ (c : TableColumn). c.name))
+    many_right : length (cleared_columns r rk) ≡ length q.right_on
+    many_right = sym (length-map (cleared_columns r rk) plain_column) ∙ many-cleared r rk ∙ sym (length-map (table_of rk) (λ (c : TableColumn). c.name))
 
-    pub some : 0 < length (cleared l lk)
+    pub some : 0 < length (cleared_columns l lk)
     some = let n = many_left in let h = stand.some_left in omega (arith, n, h)
 
-    pub as_many : length (cleared l lk) ≡ length (cleared r rk)
+    pub as_many : length (cleared_columns l lk) ≡ length (cleared_columns r rk)
     as_many = many_left ∙ stand.counts ∙ sym many_right
 
   -- the request by lists that are those of the keys
-  pub fitted_is : (left_on right_on : List Name) (ls rs : List Col) → left_on ≡ q.left_on → right_on ≡ q.right_on → ls ≡ cleared l lk → rs ≡ cleared r rk
+  pub fitted_is : (left_on right_on : List Name) (ls rs : List Col) → left_on ≡ q.left_on → right_on ≡ q.right_on → ls ≡ cleared_columns l lk → rs ≡ cleared_columns r rk
       → asking args.how (record { left = table_of left; right = table_of right; left_on = left_on; right_on = right_on; left_keys = table_of ls; right_keys = table_of rs; args = args }) ≡ fitted
   fitted_is left_on right_on ls rs a b x y = λ t. asking args.how (record { left = table_of left; right = table_of right; left_on = a t; right_on = b t; left_keys = table_of (x t); right_keys = table_of (y t); args = args })

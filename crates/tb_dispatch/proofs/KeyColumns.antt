@@ -9,13 +9,13 @@ use Rattle.tb_value.specs.SameKind.{is_key}
 use Rattle.tb_chunk.specs.Col.{Col}
 use Rattle.tb_frame.specs.declared.args.JoinArgs.{JoinArgs}
 use Rattle.tb_frame.specs.declared.args.JoinType.TheVariants.{Full}
-use Rattle.tb_frame.specs.Join.{Out, Request, kept_left, left_out, listing, out, right_out, shown_right}
+use Rattle.tb_frame.specs.Join.{Out, Request, kept_left_columns, left_out, listing, out, right_out, shown_right_columns}
 use Rattle.tb_frame.specs.Naming.{coalesces, is_among, shows_right}
 use Rattle.tb_frame.specs.Sides.{asking}
-use Rattle.tb_frame.specs.Table.{Table, TableColumn, names_of, plain, table_of}
+use Rattle.tb_frame.specs.Table.{Table, TableColumn, names_of, plain_column, table_of}
 use Rattle.tb_frame.proofs.Causes.{has_column}
 use Rattle.tb_frame.proofs.Outs.{out_wide}
-use Rattle.tb_join.specs.Ready.{CanMerge}
+use Rattle.tb_join.specs.Ready.{CanCoalesceKeys}
 use Rattle.tb_pairs.specs.KeyColumns.{AreAlike}
 use Rattle.tb_dispatch.specs.Given.{AreKeys, CanCoalesce, by_series}
 
@@ -37,26 +37,26 @@ module _ (left right : List Col) (l r : Col) (args : JoinArgs) where
   abbrev q : Request
   q = by_series Full left right l r args
 
-  pub can_merge : CanCoalesce q → CanMerge q
+  pub can_merge : CanCoalesce q → CanCoalesceKeys q
   can_merge h = record { known = h.known_right; many = λ merges. omega arith; alike = h.alike }
 
   -- as many columns as are kept of both sides
-  wide : length (out q) ≡ length (kept_left q) + length (shown_right q)
+  wide : length (out q) ≡ length (kept_left_columns q) + length (shown_right_columns q)
   wide =
-      let ls : List Out = map (left_out q) (kept_left q) in
-      let rs : List Out = map (right_out (names_of (kept_left q)) q.args.suffix) (shown_right q) in
+      let ls : List Out = map (left_out q) (kept_left_columns q) in
+      let rs : List Out = map (right_out (names_of (kept_left_columns q)) q.args.suffix) (shown_right_columns q) in
       let both = length-append ls rs in
-      let on_left = length-map (kept_left q) (left_out q) in
-      let on_right = length-map (shown_right q) (right_out (names_of (kept_left q)) q.args.suffix) in
+      let on_left = length-map (kept_left_columns q) (left_out q) in
+      let on_right = length-map (shown_right_columns q) (right_out (names_of (kept_left_columns q)) q.args.suffix) in
       omega (arith, both, on_left, on_right)
 
--- where columns are put side by side and none is merged, that of a side is one of the answer
+-- where columns are put side by side and none is coalesced, that of a side is one of the answer
 module _ (left right : List Col) (l r : Col) (args : JoinArgs) (apart : coalesces (by_series Full left right l r args).args ≡ false) where
   apart_wide : (ls rs : List Col) → ls ≡ left → rs ≡ right → (0 < length (out (by_series Full ls rs l r args))) ⊎ (listing (by_series Full ls rs l r args) ≡ [])
   apart_wide [] [] is_l is_r = inr refl
   apart_wide [] (c ∷ cs) is_l is_r =
       let x : Request = by_series Full [] (c ∷ cs) l r args in
-      let some = first_kept (λ (k : TableColumn). shows_right x.args x.right_on k.name) (plain c) (table_of cs) (ap (λ (b : Bool). not (b && is_among x.right_on c.name)) apart) in
+      let some = first_kept (λ (k : TableColumn). shows_right x.args x.right_on k.name) (plain_column c) (table_of cs) (ap (λ (b : Bool). not (b && is_among x.right_on c.name)) apart) in
       let n = wide [] (c ∷ cs) l r args in
       inl (omega (arith, some, n))
   apart_wide (c ∷ cs) rs is_l is_r =

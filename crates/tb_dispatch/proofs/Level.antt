@@ -7,25 +7,25 @@ use Rattle.tb_value.specs.Names.{Name}
 use Rattle.tb_chunk.specs.Col.{Col}
 use Rattle.tb_frame.specs.Frame.{frame_refusal}
 use Rattle.tb_frame.specs.Refusal.{repeated_among}
-use Rattle.tb_frame.specs.Table.{IsTable, Table, TableColumn, height, names_of, plain, table_of}
+use Rattle.tb_frame.specs.Table.{IsTable, Table, TableColumn, height, names_of, plain_column, table_of}
 use Rattle.tb_frame.proofs.Causes.{first_cause-one}
 use Rattle.tb_frame.proofs.Frames.{level_refusal}
-use Rattle.tb_join.specs.AnswerColumns.{called, side_by_side}
+use Rattle.tb_join.specs.AnswerColumns.{column_called, side_by_side}
 use Rattle.tb_dispatch.specs.Standing.{AreLevel}
 
 -- a column is as long under another name
-called-rows : (taken : List Name) (suffix : Name) (n : ℕ) (cs : List Col) → All (λ (c : TableColumn). length c.values ≡ n) (table_of cs) → All (λ (c : TableColumn). length c.values ≡ n) (table_of (map (called taken suffix) cs))
+called-rows : (taken : List Name) (suffix : Name) (n : ℕ) (cs : List Col) → All (λ (c : TableColumn). length c.values ≡ n) (table_of cs) → All (λ (c : TableColumn). length c.values ≡ n) (table_of (map (column_called taken suffix) cs))
 called-rows taken suffix n [] h = All-nil (λ (c : TableColumn). length c.values ≡ n)
 called-rows taken suffix n (c ∷ cs) h =
     let high : TableColumn → Type 0 = λ k. length k.values ≡ n in
-    All-cons high (plain (called taken suffix c)) (table_of (map (called taken suffix) cs)) (All-head high (plain c) (table_of cs) h) (called-rows taken suffix n cs (All-tail high (plain c) (table_of cs) h))
+    All-cons high (plain_column (column_called taken suffix c)) (table_of (map (column_called taken suffix) cs)) (All-head high (plain_column c) (table_of cs) h) (called-rows taken suffix n cs (All-tail high (plain_column c) (table_of cs) h))
 
 both_rows : (suffix : Name) (n : ℕ) (left right : List Col) → All (λ (c : TableColumn). length c.values ≡ n) (table_of left) → All (λ (c : TableColumn). length c.values ≡ n) (table_of right)
     → All (λ (c : TableColumn). length c.values ≡ n) (table_of (side_by_side suffix left right))
 both_rows suffix n left right a b =
     let high : TableColumn → Type 0 = λ k. length k.values ≡ n in
-    let named : List Col = map (called (names_of (table_of left)) suffix) right in
-    subst (λ (t : Table). All high t) (sym (map-append plain left named)) (All-append high (table_of left) (table_of named) a (called-rows (names_of (table_of left)) suffix n right b))
+    let named : List Col = map (column_called (names_of (table_of left)) suffix) right in
+    subst (λ (t : Table). All high t) (sym (map-append plain_column left named)) (All-append high (table_of left) (table_of named) a (called-rows (names_of (table_of left)) suffix n right b))
 
 level : (suffix : Name) (left right : List Col) → AreLevel left right → IsTable (table_of left) → IsTable (table_of right) → (n : ℕ) × All (λ (c : TableColumn). length c.values ≡ n) (table_of (side_by_side suffix left right))
 level suffix left right (inl e) a b =

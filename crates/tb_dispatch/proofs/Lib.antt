@@ -3,5 +3,5 @@ pub mod Cleared
 pub mod Cuts
 pub mod KeyColumns
 pub mod Level
-pub mod Mergeable
+pub mod Coalescable
 pub mod Standing

@@ -13,16 +13,16 @@ use Rattle.tb_frame.specs.declared.args.JoinType.{JoinType}
 use Rattle.tb_frame.specs.declared.args.JoinType.TheVariants.{Semi, Anti}
 use Rattle.tb_frame.specs.declared.null_flags.JoinNulls.{JoinNulls}
 use Rattle.tb_frame.specs.declared.null_flags.JoinNulls.TheVariants.{All}
-use Rattle.tb_frame.specs.Join.{MergesAlike, Request}
-use Rattle.tb_frame.specs.Naming.{coalesces, merges_keys}
+use Rattle.tb_frame.specs.Join.{CoalescesAlike, Request}
+use Rattle.tb_frame.specs.Naming.{coalesces, coalesces_keys}
 use Rattle.tb_frame.specs.Refusal.{first_unknown, fits, list_causes, name_causes}
 use Rattle.tb_frame.specs.Sides.{asking}
-use Rattle.tb_frame.specs.Table.{height, names_of, plain, table_of}
-use Rattle.tb_join.specs.Asked.{plainly}
+use Rattle.tb_frame.specs.Table.{height, names_of, plain_column, table_of}
+use Rattle.tb_join.specs.Asked.{plain_args}
 
 -- the request by columns that are given, under their names
-abbrev pub given : List Col → List Col → List Col → List Col → JoinArgs → Request
-given left right left_keys right_keys args = record {
+abbrev pub given_request : List Col → List Col → List Col → List Col → JoinArgs → Request
+given_request left right left_keys right_keys args = record {
   left = table_of left;
   right = table_of right;
   left_on = names_of (table_of left_keys);
@@ -34,14 +34,14 @@ given left right left_keys right_keys args = record {
 
 -- the same by one column of each side, asked for a kind, whichever the arguments name
 abbrev pub by_series : JoinType → List Col → List Col → Col → Col → JoinArgs → Request
-by_series how left right l r args = asking how (given left right (l ∷ []) (r ∷ []) args)
+by_series how left right l r args = asking how (given_request left right (l ∷ []) (r ∷ []) args)
 
 -- the left rows with a match, or with `anti` those without one; the right side is its key column alone
 abbrev pub semi_or_anti : Bool → JoinType
 semi_or_anti anti = (if anti then Anti else Semi)
 
 abbrev pub by_match : Bool → Bool → Option (ℤ × ℕ) → List Col → Col → Col → Request
-by_match anti nulls slice left l r = given left (r ∷ []) (l ∷ []) (r ∷ []) (record (plainly (semi_or_anti anti)) { slice = slice; join_nulls = All nulls })
+by_match anti nulls slice left l r = given_request left (r ∷ []) (l ∷ []) (r ∷ []) (record (plain_args (semi_or_anti anti)) { slice = slice; join_nulls = All nulls })
 
 -- both have one key type
 pub record AreKeys (l r : Col) : Type 0 where
@@ -54,22 +54,22 @@ pub record StandBeside (left right : List Col) (l r : Col) : Type 0 where
   pub left_rows : length (values l) ≡ height (table_of left)
   pub right_rows : length (values r) ≡ height (table_of right)
 
--- where keys are merged, their names are columns of their tables, and two columns that are merged have one type
+-- where keys are coalesced, their names are columns of their tables, and two columns that are coalesced have one type
 pub record CanCoalesce (q : Request) : Type 0 where
-  pub known_left : merges_keys q.args.how (coalesces q.args) ≡ true → first_unknown q.left q.left_on ≡ None
-  pub known_right : merges_keys q.args.how (coalesces q.args) ≡ true → first_unknown q.right q.right_on ≡ None
-  pub alike : MergesAlike q
+  pub known_left : coalesces_keys q.args.how (coalesces q.args) ≡ true → first_unknown q.left q.left_on ≡ None
+  pub known_right : coalesces_keys q.args.how (coalesces q.args) ≡ true → first_unknown q.right q.right_on ≡ None
+  pub alike : CoalescesAlike q
 
 -- keys beside a table of that height, without their values where it has no rows
-abbrev pub emptied : Col → Col
-emptied c = part_of 0 0 c
+abbrev pub emptied_column : Col → Col
+emptied_column c = part_of 0 0 c
 
-abbrev pub cleared : ℕ → List Col → List Col
-cleared n keys = (if n == 0 then map emptied keys else keys)
+abbrev pub cleared_columns : ℕ → List Col → List Col
+cleared_columns n keys = (if n == 0 then map emptied_column keys else keys)
 
 -- each key is as long as its table is high, or has one value beside a table without rows
 abbrev pub all_fit : ℕ → List Col → Bool
-all_fit n keys = list_all (λ (c : Col). fits n (plain c)) keys
+all_fit n keys = list_all (λ (c : Col). fits n (plain_column c)) keys
 
 -- a key of a side is not
 abbrev pub misfit : List Col → List Col → List Col → List Col → Option PolarsError

@@ -4,8 +4,8 @@ use Rattle.tb_value.specs.declared.sorted.IsSorted.{IsSorted}
 use Rattle.tb_value.specs.declared.sorted.IsSorted.TheVariants.{Ascending, Not}
 
 -- the ids of a Left join ascend
-abbrev pub runs : Bool → IsSorted
-runs left_join = (if left_join then Ascending else Not)
+abbrev pub row_order : Bool → IsSorted
+row_order left_join = (if left_join then Ascending else Not)
 
 -- each number is greater than those before it
 abbrev pub Rise : List ℕ → Type 0

@@ -1,15 +1,15 @@
-//! The keys of a joined table, merged.
+//! The keys of a joined table, coalesced.
 ghost use Rattle.std.specs.Prelude.{◌≡◌, IfOk, List, None, length};
 ghost use Rattle.tb_value.specs.Names.{Name};
 ghost use Rattle.tb_value.specs.Refusals.{Settles};
 ghost use Rattle.tb_frame.specs.NameSets.{has_name};
 ghost use Rattle.tb_frame.specs.Naming.{is_among};
-ghost use Rattle.tb_dispatch.specs.Standing.{AreMergeable, coalesced_by, standing, stands_as, suffix_or};
+ghost use Rattle.tb_dispatch.specs.Standing.{AreCoalescable, coalesced_columns, names_standing, stands_as, suffix_or};
 
 use crate::names::{_join_suffix_name, suffix_text};
 use std::alloc::Global;
 use tb_frame::{DataFrame, NameSet, column_name_set};
-use tb_join::merged_left;
+use tb_join::coalesced_left;
 use tb_value::{OutOfMemory, PlSmallStr, PolarsResult, only_memory};
 
 // The name of a right key beside the left key at its place, where left columns have the names that are taken.
@@ -38,7 +38,7 @@ fn standing_names(
     keys_right: &[PlSmallStr],
 ) -> Result<Vec<PlSmallStr>, OutOfMemory>
     requires { length keys_left.now ≡ length keys_right.now }
-    ensures { IfOk result (λ v. v.items ≡ standing df_left.now suffix.now keys_left.now keys_right.now) }
+    ensures { IfOk result (λ v. v.items ≡ names_standing df_left.now suffix.now keys_left.now keys_right.now) }
 {
     let taken = column_name_set(alloc, df_left.get_columns())?;
     let mut names = Vec::with_capacity(alloc, keys_left.len())?;
@@ -49,19 +49,19 @@ fn standing_names(
     Ok(names)
 }
 
-// The table with these right keys merged into the left ones. Only memory may be wanting.
-fn merged_table(
+// The table with these right keys coalesced into the left ones. Only memory may be wanting.
+fn coalesced_table(
     alloc: Global,
     df: &DataFrame,
     keys_left: &[PlSmallStr],
     rights: &[PlSmallStr],
 ) -> PolarsResult<DataFrame>
-    requires { AreMergeable keys_left.now rights.now df.now }
+    requires { AreCoalescable keys_left.now rights.now df.now }
     ensures settles { Settles result None }
-    ensures columns { IfOk result (λ t. t ≡ coalesced_by keys_left.now rights.now df.now) }
+    ensures columns { IfOk result (λ t. t ≡ coalesced_columns keys_left.now rights.now df.now) }
 {
     let rest = df.drop_many(alloc, rights)?;
-    let columns = merged_left(
+    let columns = coalesced_left(
         alloc,
         rest.get_columns(),
         df.get_columns(),
@@ -75,7 +75,7 @@ fn merged_table(
 /// place where they have none. A right key stands under its name, and with the suffix behind it, `_right` where none is
 /// given, if the left key has that name or a column of the left table has it.
 ///
-/// There are as many right keys as left ones, all are columns, and two that are merged have one type.
+/// There are as many right keys as left ones, all are columns, and two that are coalesced have one type.
 pub fn _coalesce_full_join(
     alloc: Global,
     df: DataFrame,
@@ -85,10 +85,10 @@ pub fn _coalesce_full_join(
     df_left: &DataFrame,
 ) -> Result<DataFrame, OutOfMemory>
     requires many { length keys_left.now ≡ length keys_right.now }
-    requires merge { AreMergeable keys_left.now (standing df_left.now (suffix_or suffix) keys_left.now keys_right.now) df }
-    ensures { IfOk result (λ t. t ≡ coalesced_by keys_left.now (standing df_left.now (suffix_or suffix) keys_left.now keys_right.now) df) }
+    requires coalescing { AreCoalescable keys_left.now (names_standing df_left.now (suffix_or suffix) keys_left.now keys_right.now) df }
+    ensures { IfOk result (λ t. t ≡ coalesced_columns keys_left.now (names_standing df_left.now (suffix_or suffix) keys_left.now keys_right.now) df) }
 {
     let suffix = suffix_text(&suffix);
     let rights = standing_names(alloc, df_left, suffix, keys_left, keys_right)?;
-    only_memory(merged_table(alloc, &df, keys_left, &rights))
+    only_memory(coalesced_table(alloc, &df, keys_left, &rights))
 }

@@ -4,18 +4,18 @@ ghost use Rattle.tb_value.specs.Pairs.{left_only};
 ghost use Rattle.tb_value.specs.Refusals.{Settles, first_cause};
 ghost use Rattle.tb_chunk.specs.Col.{values};
 ghost use Rattle.tb_chunk.specs.Lent.{lent_columns};
-ghost use Rattle.tb_frame.specs.Frame.{taken};
+ghost use Rattle.tb_frame.specs.Frame.{taken_rows};
 ghost use Rattle.tb_frame.specs.Join.{IsAnswer, cut, listing, out};
 ghost use Rattle.tb_frame.specs.Refusal.{null_flags, repeated_name, row_causes};
 ghost use Rattle.tb_frame.specs.Table.{height, table_of};
-ghost use Rattle.tb_gather.specs.Gathered.{NameRows, gathered};
-ghost use Rattle.tb_gather.specs.Ids.{Id, RunsBy};
+ghost use Rattle.tb_gather.specs.Gathered.{NameRows, gathered_column};
+ghost use Rattle.tb_gather.specs.Ids.{Id, StandInOrder};
 ghost use Rattle.tb_hash.specs.Hashing.{value_listing};
-ghost use Rattle.tb_keys.specs.Asked.{asked};
-ghost use Rattle.tb_join.specs.Ready.{CanMerge};
+ghost use Rattle.tb_keys.specs.Asked.{asked_request};
+ghost use Rattle.tb_join.specs.Ready.{CanCoalesceKeys};
 ghost use Rattle.tb_pairs.specs.KeyColumns.{AreAlike};
 ghost use Rattle.tb_dispatch.specs.Given.{AreKeys, CanCoalesce, StandBeside, by_match, by_series, semi_or_anti};
-ghost use Rattle.tb_dispatch.specs.Rows.{Rise, runs};
+ghost use Rattle.tb_dispatch.specs.Rows.{Rise, row_order};
 
 use std::alloc::Global;
 use std::slice;
@@ -34,7 +34,7 @@ use tb_value::{
 
 // The ids of a Left join ascend.
 fn runs(left_join: bool) -> IsSorted
-    ensures { result ≡ runs left_join }
+    ensures { result ≡ row_order left_join }
 {
     if left_join {
         IsSorted::Ascending
@@ -57,9 +57,9 @@ pub trait JoinDispatch: IntoDf {
     ) -> Result<DataFrame, OutOfMemory>
         requires present { All (λ (id : Id). IsSome id) chunk_ids.now }
         requires named { All (NameRows chunk_ids.now) (Self.frame self.now) }
-        requires runs { RunsBy (runs left_join) chunk_ids.now }
+        requires in_order { StandInOrder (row_order left_join) chunk_ids.now }
         requires few { length chunk_ids.now ≤ MAX_ROWS }
-        ensures { IfOk result (λ t. t ≡ map (gathered chunk_ids.now (runs left_join)) (Self.frame self.now)) }
+        ensures { IfOk result (λ t. t ≡ map (gathered_column chunk_ids.now (row_order left_join)) (Self.frame self.now)) }
     {
         let sorted = runs(left_join);
         self.to_df()
@@ -78,7 +78,7 @@ pub trait JoinDispatch: IntoDf {
     ) -> Result<DataFrame, OutOfMemory>
         requires rows { All (λ r. r < height (table_of (Self.frame self.now))) join_tuples.now }
         requires few { length join_tuples.now ≤ MAX_ROWS }
-        ensures { IfOk result (λ t. t ≡ map (taken join_tuples.now) (Self.frame self.now)) }
+        ensures { IfOk result (λ t. t ≡ map (taken_rows join_tuples.now) (Self.frame self.now)) }
     {
         self.to_df().take(alloc, join_tuples)
     }
@@ -93,7 +93,7 @@ pub trait JoinDispatch: IntoDf {
     ) -> Result<DataFrame, OutOfMemory>
         requires rows { All (λ r. r < height (table_of (Self.frame self.now))) idx.now }
         requires rise { Rise idx.now }
-        ensures { IfOk result (λ t. t ≡ map (taken (cut slice idx.now)) (Self.frame self.now)) }
+        ensures { IfOk result (λ t. t ≡ map (taken_rows (cut slice idx.now)) (Self.frame self.now)) }
     {
         let table = self.to_df();
         let _height = table.height();
@@ -123,7 +123,7 @@ pub trait JoinDispatch: IntoDf {
     }
 
     /// The Full join of the table with another, by one key column of each side; where the arguments ask for coalesced
-    /// columns, the table's columns of the keys' names are merged. The kind that the arguments name is not read.
+    /// columns, the table's columns of the keys' names are coalesced. The kind that the arguments name is not read.
     ///
     /// Each key column is as long as its table is high, and both have one key type. Where columns are coalesced, the
     /// names of the keys are columns of their tables, and these have one type. There is one flag for all keys, or one for
@@ -132,7 +132,7 @@ pub trait JoinDispatch: IntoDf {
     /// # Errors
     ///
     /// The first of these that holds, or OutOfMemory:
-    /// 1. Duplicate: two columns of the answer, before any are merged, would have this name, the first that stood before;
+    /// 1. Duplicate: two columns of the answer, before any are coalesced, would have this name, the first that stood before;
     /// 2. Validation: two left rows have equal keys and may not, and then two right rows;
     /// 3. TooManyRows: there are more than `MAX_ROWS` pairs of rows before they are cut.
     final fn _full_join_from_series(
@@ -146,7 +146,7 @@ pub trait JoinDispatch: IntoDf {
         exec: &Exec,
     ) -> PolarsResult<DataFrame>
         requires keys { StandBeside (Self.frame self.now) other.now s_left.now s_right.now }
-        requires merge { CanCoalesce (by_series JoinType.Full (Self.frame self.now) other.now s_left.now s_right.now args) }
+        requires coalescing { CanCoalesce (by_series JoinType.Full (Self.frame self.now) other.now s_left.now s_right.now args) }
         requires flags { null_flags args.join_nulls 1 ≡ None }
         ensures settles { Settles result (first_cause
             (repeated_name (by_series JoinType.Full (Self.frame self.now) other.now s_left.now s_right.now args)
@@ -188,7 +188,7 @@ fn full_join_by(
     exec: &Exec,
 ) -> PolarsResult<DataFrame>
     requires keys { StandBeside left.now right.now s_left.now s_right.now }
-    requires merge { CanCoalesce (by_series JoinType.Full left.now right.now s_left.now s_right.now args.now) }
+    requires coalescing { CanCoalesce (by_series JoinType.Full left.now right.now s_left.now s_right.now args.now) }
     ensures settles { Settles result (first_cause
         (repeated_name (by_series JoinType.Full left.now right.now s_left.now s_right.now args.now)
         ∷ row_causes (by_series JoinType.Full left.now right.now s_left.now s_right.now args.now))) }
@@ -215,10 +215,10 @@ fn join_named(
     exec: &Exec,
 ) -> PolarsResult<DataFrame>
     requires alike { AreAlike (lent_columns request.now.left_keys.now) (lent_columns request.now.right_keys.now) }
-    requires wide { (0 < length (out (asked request.now))) ⊎ (listing (asked request.now) ≡ []) }
-    requires merge { CanMerge (asked request.now) }
-    ensures settles { Settles result (first_cause (repeated_name (asked request.now) ∷ row_causes (asked request.now))) }
-    ensures answer { IfOk result (λ t. IsAnswer (asked request.now) (table_of t)) }
+    requires wide { (0 < length (out (asked_request request.now))) ⊎ (listing (asked_request request.now) ≡ []) }
+    requires coalescing { CanCoalesceKeys (asked_request request.now) }
+    ensures settles { Settles result (first_cause (repeated_name (asked_request request.now) ∷ row_causes (asked_request request.now))) }
+    ensures answer { IfOk result (λ t. IsAnswer (asked_request request.now) (table_of t)) }
 {
     check_answer_names(alloc, request)?;
     let pairs = listed_pairs(rt, alloc, request, exec)?;

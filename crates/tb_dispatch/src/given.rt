@@ -2,11 +2,11 @@
 ghost use Rattle.std.specs.Prelude.{◌≡◌, IfOk};
 ghost use Rattle.tb_value.specs.Refusals.{Settles, SettlesOutright, first_cause};
 ghost use Rattle.tb_chunk.specs.Lent.{lent_columns};
-ghost use Rattle.tb_frame.specs.Join.{IsAnswer, MergesAlike};
+ghost use Rattle.tb_frame.specs.Join.{IsAnswer, CoalescesAlike};
 ghost use Rattle.tb_frame.specs.Refusal.{fits, given_refusal, name_causes};
-ghost use Rattle.tb_frame.specs.Table.{height, names_of, plain, table_of};
+ghost use Rattle.tb_frame.specs.Table.{height, names_of, plain_column, table_of};
 ghost use Rattle.tb_keys.specs.Rows.{HasRows};
-ghost use Rattle.tb_dispatch.specs.Given.{all_fit, cleared, early_refusal, given, misfit};
+ghost use Rattle.tb_dispatch.specs.Given.{all_fit, cleared_columns, early_refusal, given_request, misfit};
 
 use std::alloc::Global;
 use std::thread::Threads;
@@ -20,7 +20,7 @@ use tb_value::{OutOfMemory, PlSmallStr, PolarsError, PolarsResult};
 /// The join of the table that `self` lends by key columns that are given.
 pub trait GivenJoin: IntoDf {
     /// The answer that `join` would give, by key columns that are given beside the tables under names of the tables'
-    /// columns. Rows match by the given columns; the columns of the answer, and those that are merged or left out, are the
+    /// columns. Rows match by the given columns; the columns of the answer, and those that are coalesced or left out, are the
     /// tables' columns of these names. A key of one value beside a table without rows is taken to have none.
     ///
     /// Where a Full join merges columns, the table's columns under the names of a pair of keys have one type.
@@ -40,9 +40,9 @@ pub trait GivenJoin: IntoDf {
         args: JoinArgs,
         exec: &Exec,
     ) -> PolarsResult<DataFrame>
-        requires { MergesAlike (given (Self.frame self.now) other.now selected_left.items selected_right.items args) }
-        ensures settles { Settles result (given_refusal (given (Self.frame self.now) other.now selected_left.items selected_right.items args)) }
-        ensures answer { IfOk result (λ t. IsAnswer (given (Self.frame self.now) other.now selected_left.items selected_right.items args) (table_of t)) }
+        requires { CoalescesAlike (given_request (Self.frame self.now) other.now selected_left.items selected_right.items args) }
+        ensures settles { Settles result (given_refusal (given_request (Self.frame self.now) other.now selected_left.items selected_right.items args)) }
+        ensures answer { IfOk result (λ t. IsAnswer (given_request (Self.frame self.now) other.now selected_left.items selected_right.items args) (table_of t)) }
     {
         let left = self.to_df();
         join_given(
@@ -105,7 +105,7 @@ fn check_names(
 
 // Whether a key is as long as its table is high, or has one value where that has no rows.
 fn fits(height: usize, key: &Series) -> bool
-    ensures { result ≡ fits height (plain key.now) }
+    ensures { result ≡ fits height (plain_column key.now) }
 {
     key.len() == height || height == 0 && key.len() == 1
 }
@@ -139,7 +139,7 @@ fn check_shapes(
 
 // The keys beside a table of this height, without their values where it has no rows.
 fn cleared(alloc: Global, height: usize, keys: Vec<Series>) -> Result<Vec<Series>, OutOfMemory>
-    ensures { IfOk result (λ v. v.items ≡ cleared height keys.items) }
+    ensures { IfOk result (λ v. v.items ≡ cleared_columns height keys.items) }
 {
     if height != 0 {
         return Ok(keys);
@@ -180,9 +180,9 @@ fn join_given(
     args: &JoinArgs,
     exec: &Exec,
 ) -> PolarsResult<DataFrame>
-    requires merge { MergesAlike (given left.now right.now left_keys.items right_keys.items args.now) }
-    ensures settles { Settles result (given_refusal (given left.now right.now left_keys.items right_keys.items args.now)) }
-    ensures answer { IfOk result (λ t. IsAnswer (given left.now right.now left_keys.items right_keys.items args.now) (table_of t)) }
+    requires coalescing { CoalescesAlike (given_request left.now right.now left_keys.items right_keys.items args.now) }
+    ensures settles { Settles result (given_refusal (given_request left.now right.now left_keys.items right_keys.items args.now)) }
+    ensures answer { IfOk result (λ t. IsAnswer (given_request left.now right.now left_keys.items right_keys.items args.now) (table_of t)) }
 {
     let left_on = key_names(alloc, &left_keys)?;
     let right_on = key_names(alloc, &right_keys)?;

@@ -6,7 +6,7 @@ ghost use Rattle.tb_frame.specs.Frame.{without_names};
 ghost use Rattle.tb_frame.specs.Refusal.{null_flags, row_causes};
 ghost use Rattle.tb_frame.specs.Table.{height, table_of};
 ghost use Rattle.tb_dispatch.specs.Given.{StandBeside, by_series};
-ghost use Rattle.tb_dispatch.specs.Halves.{AreHalves, AreOver, dropped};
+ghost use Rattle.tb_dispatch.specs.Halves.{AreHalves, AreOver, dropped_names};
 
 use std::alloc::Global;
 use std::slice;
@@ -42,7 +42,7 @@ fn halves(
 
 // The names that go from the right side: those that are given, or that of its key where none are.
 fn dropped<'a>(key: &'a Series, names: &'a Option<Vec<PlSmallStr>>) -> &'a [PlSmallStr]
-    ensures { result.now ≡ dropped key.now.name names.now }
+    ensures { result.now ≡ dropped_names key.now.name names.now }
 {
     match names {
         Some(names) => names.as_slice(),
@@ -76,7 +76,7 @@ pub fn materialize_left_join_from_series(
     requires flags { null_flags args.now.join_nulls 1 ≡ None }
     ensures settles { Settles result (first_cause (row_causes (by_series JoinType.Left left right_.now s_left.now s_right.now args.now))) }
     ensures halves { IfOk result (AreHalves (by_series JoinType.Left left right_.now s_left.now s_right.now args.now) left
-        (without_names (dropped s_right.now.name drop_names) right_.now)) }
+        (without_names (dropped_names s_right.now.name drop_names) right_.now)) }
 {
     let request = LentRequest {
         left: &left,

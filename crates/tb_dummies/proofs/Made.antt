@@ -11,7 +11,7 @@ use Rattle.tb_value.specs.Names.{Name}
 use Rattle.tb_value.specs.Typed.{HasType}
 use Rattle.tb_chunk.specs.Chunk.{or_null}
 use Rattle.tb_frame.specs.Table.{TableColumn, Table}
-use Rattle.tb_rows.specs.Rows.{value_at}
+use Rattle.tb_rows.specs.Rows.{row_value}
 use Rattle.tb_rows.proofs.InOrder.{in_order-all}
 use Rattle.tb_dummies.specs.Dummies.{by_name, dummies_of, dummy, in_place_of, mark, value_rows}
 use Rattle.tb_dummies.specs.Lent.{mark_in}
@@ -45,16 +45,16 @@ pub by_name_total : IsTotalOrder by_name
 by_name_total = on_texts (λ (c : TableColumn). c.name)
 
 module _ (h : ℕ) (separator : Name) (drop_first : Bool) where
-  dummies_high : (c : TableColumn) → length c.values ≡ h → (rows : List ℕ) → All (λ (d : TableColumn). length d.values ≡ h) (map (λ i. dummy separator c (value_at c.values i)) rows)
+  dummies_high : (c : TableColumn) → length c.values ≡ h → (rows : List ℕ) → All (λ (d : TableColumn). length d.values ≡ h) (map (λ i. dummy separator c (row_value c.values i)) rows)
   dummies_high c e [] = All-nil (λ (d : TableColumn). length d.values ≡ h)
   dummies_high c e (i ∷ is) =
-      All-cons (λ (d : TableColumn). length d.values ≡ h) (dummy separator c (value_at c.values i)) (map (λ i. dummy separator c (value_at c.values i)) is) (length-map c.values (mark (value_at c.values i)) ∙ e) (dummies_high c e is)
+      All-cons (λ (d : TableColumn). length d.values ≡ h) (dummy separator c (row_value c.values i)) (map (λ i. dummy separator c (row_value c.values i)) is) (length-map c.values (mark (row_value c.values i)) ∙ e) (dummies_high c e is)
 
   place_high : (replaced : Name → Bool) (c : TableColumn) → length c.values ≡ h → All (λ (d : TableColumn). length d.values ≡ h) (in_place_of replaced separator drop_first c)
   place_high replaced c e = by (replaced c.name)
     where
       by : (b : Bool) → All (λ (d : TableColumn). length d.values ≡ h) (cond b (dummies_of separator drop_first c) (c ∷ []))
-      by true = in_order-all by_name by_name_total (λ (d : TableColumn). length d.values ≡ h) (map (λ i. dummy separator c (value_at c.values i)) (value_rows drop_first c.values)) (dummies_high c e (value_rows drop_first c.values))
+      by true = in_order-all by_name by_name_total (λ (d : TableColumn). length d.values ≡ h) (map (λ i. dummy separator c (row_value c.values i)) (value_rows drop_first c.values)) (dummies_high c e (value_rows drop_first c.values))
       by false = All-cons (λ (d : TableColumn). length d.values ≡ h) c [] e (All-nil (λ (d : TableColumn). length d.values ≡ h))
 
   pub places_high : (replaced : Name → Bool) (t : Table) → All (λ (c : TableColumn). length c.values ≡ h) t → All (λ (d : TableColumn). length d.values ≡ h) (flat_map (in_place_of replaced separator drop_first) t)

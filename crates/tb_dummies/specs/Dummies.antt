@@ -18,7 +18,7 @@ use Rattle.tb_frame.specs.Refusal.{repeated_among}
 use Rattle.tb_frame.specs.Table.{TableColumn, Table, names_of}
 use Rattle.tb_label.specs.Label.{is_header, value_text}
 use Rattle.tb_rows.specs.InOrder.{in_order}
-use Rattle.tb_rows.specs.Rows.{first_rows, same_rows, value_at}
+use Rattle.tb_rows.specs.Rows.{first_rows, same_rows, row_value}
 
 -- a request: the table, the names of the columns that are replaced, what stands between a column's name and a value's
 -- text, and whether the value of row 0 is left out
@@ -57,7 +57,7 @@ by_name c d = slice_cmp nat_cmp c.name d.name
 
 -- the columns for the values of a column, by the bytes of their names
 abbrev pub dummies_of : Name → Bool → TableColumn → List TableColumn
-dummies_of separator drop_first c = in_order by_name (map (λ i. dummy separator c (value_at c.values i)) (value_rows drop_first c.values))
+dummies_of separator drop_first c = in_order by_name (map (λ i. dummy separator c (row_value c.values i)) (value_rows drop_first c.values))
 
 -- THE TABLE
 

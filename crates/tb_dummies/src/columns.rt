@@ -2,13 +2,13 @@
 ghost use Rattle.std.specs.Prelude.{◌≡◌, ◌==◌, ◌&&◌, ◌<◌, ◌≤◌, ◌∷◌, [], ◌++◌, IfOk, if◌then◌else◌, length, map};
 ghost use Rattle.std.specs.List.{flat_map};
 ghost use Rattle.tb_value.specs.Kind as kind;
-ghost use Rattle.tb_value.specs.See.{lent, IsText};
+ghost use Rattle.tb_value.specs.See.{lent_value, IsText};
 ghost use Rattle.tb_value.specs.SeeKind.{kind_of};
 ghost use Rattle.tb_chunk.specs.Col.{values};
-ghost use Rattle.tb_frame.specs.Table.{plain, table_of};
+ghost use Rattle.tb_frame.specs.Table.{plain_column, table_of};
 ghost use Rattle.tb_label.specs.Label.{value_text};
 ghost use Rattle.tb_rows.specs.Grouped.{AreGroups};
-ghost use Rattle.tb_rows.specs.Rows.{same_rows, value_at};
+ghost use Rattle.tb_rows.specs.Rows.{same_rows, row_value};
 ghost use Rattle.tb_dummies.specs.Dummies.{dummies_of, dummy, in_place_of, mark, value_rows};
 ghost use Rattle.tb_dummies.specs.Lent.{is_in, mark_in};
 
@@ -50,7 +50,7 @@ fn dummy_name(
     value: ValueRef<'_>,
 ) -> Result<PlSmallStr, OutOfMemory>
     requires { IsText value }
-    ensures { IfOk result (λ n. n ≡ name.now ++ separator.now ++ value_text (lent value.entry)) }
+    ensures { IfOk result (λ n. n ≡ name.now ++ separator.now ++ value_text (lent_value value.entry)) }
 {
     let text = value_text(alloc, value)?;
     name.followed_by(alloc, separator)?
@@ -71,7 +71,7 @@ fn mark_column(
     group: usize,
 ) -> Result<Column, OutOfMemory>
     requires { length numbers.now ≤ MAX_ROWS }
-    ensures { IfOk result (λ c. plain c ≡ record { name = name; kind = kind.uint8; values = map (mark_in group) numbers.now }) }
+    ensures { IfOk result (λ c. plain_column c ≡ record { name = name; kind = kind.uint8; values = map (mark_in group) numbers.now }) }
 {
     let marks = marks(alloc, numbers, group)?;
     let mut chunks = Vec::with_capacity(alloc, 1)?;
@@ -91,8 +91,8 @@ fn dummy(
 ) -> Result<Column, OutOfMemory>
     requires row { row < length (values column.now) }
     requires few { length numbers.now ≤ MAX_ROWS }
-    requires marked { map (mark_in group) numbers.now ≡ map (mark (value_at (values column.now) row)) (values column.now) }
-    ensures { IfOk result (λ c. plain c ≡ dummy separator.now (plain column.now) (value_at (values column.now) row)) }
+    requires marked { map (mark_in group) numbers.now ≡ map (mark (row_value (values column.now) row)) (values column.now) }
+    ensures { IfOk result (λ c. plain_column c ≡ dummy separator.now (plain_column column.now) (row_value (values column.now) row)) }
 {
     let name = dummy_name(alloc, column.name(), separator, column.get(row))?;
     mark_column(alloc, name, numbers, group)
@@ -112,7 +112,7 @@ fn dummies_by_row(
     drop_first: bool,
 ) -> Result<Vec<Column>, OutOfMemory>
     ensures { IfOk result (λ v. table_of v.items
-        ≡ map (λ i. dummy separator.now (plain column.now) (value_at (values column.now) i)) (value_rows drop_first (values column.now))) }
+        ≡ map (λ i. dummy separator.now (plain_column column.now) (row_value (values column.now) i)) (value_rows drop_first (values column.now))) }
 {
     let groups = groups_of(alloc, column)?;
     let firsts = groups.firsts();
@@ -134,7 +134,7 @@ fn dummies_of(
     separator: &str,
     drop_first: bool,
 ) -> Result<Vec<Column>, OutOfMemory>
-    ensures { IfOk result (λ v. table_of v.items ≡ dummies_of separator.now drop_first (plain column.now)) }
+    ensures { IfOk result (λ v. table_of v.items ≡ dummies_of separator.now drop_first (plain_column column.now)) }
 {
     let mut made = dummies_by_row(alloc, column, separator, drop_first)?;
     made.sort_by(|a, b| a.name().cmp(b.name()))?;
@@ -157,7 +157,7 @@ fn in_place_of(
     separator: &str,
     drop_first: bool,
 ) -> Result<Vec<Column>, OutOfMemory>
-    ensures { IfOk result (λ v. table_of v.items ≡ in_place_of (is_in replaced.now.names) separator.now drop_first (plain column.now)) }
+    ensures { IfOk result (λ v. table_of v.items ≡ in_place_of (is_in replaced.now.names) separator.now drop_first (plain_column column.now)) }
 {
     if replaced.contains(column.name()) {
         dummies_of(

@@ -16,7 +16,7 @@ use Rattle.tb_value.specs.Names.{Name}
 use Rattle.tb_value.specs.Names.{same_name}
 use Rattle.tb_value.specs.Pairs.{row_numbers}
 use Rattle.tb_frame.specs.Table.{TableColumn, Table}
-use Rattle.tb_frame.specs.Join.{named}
+use Rattle.tb_frame.specs.Join.{column_named}
 use Rattle.tb_frame.specs.Naming.{is_among}
 use Rattle.tb_frame.specs.Refusal.{first_repeated, first_unknown, name_at, repeats}
 
@@ -96,13 +96,13 @@ found_holds P p (x ∷ xs) h c e = at (p x) e (found_holds P p xs (All-tail P x 
     at true k rest = let same : x ≡ c = cc in subst P same (All-head P x xs h)
     at false k rest = rest k
 
-pub selected_hold : (P : TableColumn → Type 0) (t : Table) → All P t → (names : List Name) → All P (filter_map (named t) names)
+pub selected_hold : (P : TableColumn → Type 0) (t : Table) → All P t → (names : List Name) → All P (filter_map (column_named t) names)
 selected_hold P t h [] = All-nil P
-selected_hold P t h (n ∷ ns) = at (named t n) refl (selected_hold P t h ns)
+selected_hold P t h (n ∷ ns) = at (column_named t n) refl (selected_hold P t h ns)
   where
-    at : (o : Option TableColumn) → named t n ≡ o → All P (filter_map (named t) ns) → All P (cons_option o (filter_map (named t) ns))
+    at : (o : Option TableColumn) → column_named t n ≡ o → All P (filter_map (column_named t) ns) → All P (cons_option o (filter_map (column_named t) ns))
     at None e rest = rest
-    at (Some c) e rest = All-cons P c (filter_map (named t) ns) (found_holds P (λ (k : TableColumn). same_name k.name n) t h c e) rest
+    at (Some c) e rest = All-cons P c (filter_map (column_named t) ns) (found_holds P (λ (k : TableColumn). same_name k.name n) t h c e) rest
 
 -- a table that has a key has a column
 pub has_column : (t : Table) (names : List Name) → 0 < length names → first_unknown t names ≡ None → 0 < length t

@@ -6,7 +6,7 @@ use Rattle.std.proofs.lemmas.List.{ext_get_or, length-map, get_or-map}
 use Rattle.tb_value.specs.Datum.{Datum}
 use Rattle.tb_chunk.specs.Col.{Col, values}
 use Rattle.tb_chunk.specs.Lent.{in_one_chunk}
-use Rattle.tb_frame.specs.Table.{TableColumn, plain, table_of, IsTable}
+use Rattle.tb_frame.specs.Table.{TableColumn, plain_column, table_of, IsTable}
 use Rattle.tb_frame.specs.Frame.{lens, AreCutAlike}
 
 -- as many chunks, and each as long as its fellow
@@ -49,7 +49,7 @@ not-alike P true h = (λ e. absurd (cc), λ no. absurd (no (h.0 refl)))
 not-alike P false h = (λ e. λ p. absurd (false_is_true (h.1 p)), λ no. refl)
 
 -- the table is the same
-pub plain-whole : (c : Col) → plain (in_one_chunk c) ≡ plain c
+pub plain-whole : (c : Col) → plain_column (in_one_chunk c) ≡ plain_column c
 plain-whole c = ap (λ (vs : List Datum). let k : TableColumn = record { name = c.name; kind = c.kind; values = vs } in k) (append-nil (values c))
 
 pub table-whole : (cs : List Col) → table_of (map in_one_chunk cs) ≡ table_of cs

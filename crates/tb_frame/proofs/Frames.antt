@@ -12,7 +12,7 @@ use Rattle.tb_value.specs.declared.error.PolarsError.TheVariants.{ShapeMismatch,
 use Rattle.tb_value.proofs.Ascending.{AllPairs-thinned}
 use Rattle.tb_value.proofs.Kept.{filter-map}
 use Rattle.tb_chunk.specs.Col.{Col}
-use Rattle.tb_frame.specs.Table.{TableColumn, Table, plain, table_of, height, names_of, IsTable, IsTyped}
+use Rattle.tb_frame.specs.Table.{TableColumn, Table, plain_column, table_of, height, names_of, IsTable, IsTyped}
 use Rattle.tb_frame.specs.Join.{columns_where}
 use Rattle.tb_frame.specs.Naming.{is_among}
 use Rattle.tb_frame.specs.Frame.{are_level, frame_refusal, without_names}
@@ -44,7 +44,7 @@ makes_frame t typed h =
 
 -- columns left out before or after chunks and flags are
 pub without-table : (names : List Name) (cs : List Col) → table_of (without_names names cs) ≡ columns_where (λ n. not (is_among names n)) (table_of cs)
-without-table names cs = sym (filter-map plain (λ (c : TableColumn). not (is_among names c.name)) cs)
+without-table names cs = sym (filter-map plain_column (λ (c : TableColumn). not (is_among names c.name)) cs)
 
 pub level_height : (n : ℕ) (t : Table) → All (λ (c : TableColumn). length c.values ≡ n) t → All (λ (c : TableColumn). length c.values ≡ height t) t
 level_height n [] h = All-nil (λ (c : TableColumn). length c.values ≡ height [])

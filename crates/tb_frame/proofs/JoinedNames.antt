@@ -8,9 +8,9 @@ use Rattle.tb_chunk.specs.Col.{Col}
 use Rattle.tb_frame.specs.declared.args.JoinArgs.{JoinArgs}
 use Rattle.tb_frame.specs.Frame.{without_names}
 use Rattle.tb_frame.specs.Join.{columns_where}
-use Rattle.tb_frame.specs.Naming.{Field, answer_fields, answer_names, coalesces, default_suffix, drops_left_keys, drops_right_keys, has_right, is_among, joined_names, keeps_left, keeps_right, left_names, merges_keys, right_name, shows_right}
+use Rattle.tb_frame.specs.Naming.{Field, answer_fields, answer_names, coalesces, default_suffix, drops_left_keys, drops_right_keys, has_right, is_among, joined_names, keeps_left, keeps_right, left_names, coalesces_keys, right_name, shows_right}
 use Rattle.tb_frame.specs.RightColumns.{beside, gone_beside, gone_left, gone_right, names_without, right_side}
-use Rattle.tb_frame.specs.Table.{TableColumn, plain, table_of, names_of}
+use Rattle.tb_frame.specs.Table.{TableColumn, plain_column, table_of, names_of}
 use Rattle.tb_value.proofs.Kept.{filter-map}
 use Rattle.tb_frame.proofs.Frames.{without-table}
 
@@ -39,7 +39,7 @@ shows-if false false keys n = refl
 shows_right-is : (a : JoinArgs) (keys : List Name) → shows_right a keys ≡ (λ n. has_right a.how && not (is_among (gone_right a keys) n))
 shows_right-is a keys =
     let d = drops_right_keys a.how (coalesces a) in
-    let m = merges_keys a.how (coalesces a) in
+    let m = coalesces_keys a.how (coalesces a) in
     λ t n. (assoc (has_right a.how) (not (d && is_among keys n)) (not (m && is_among keys n)) ∙ ap (λ (b : Bool). has_right a.how && b) (shows-if d m keys n)) t
   where
     assoc : (x y z : Bool) → ((x && y) && z) ≡ (x && (y && z))
@@ -54,7 +54,7 @@ filter-none (x ∷ xs) = filter-none xs
 
 -- the columns of a side that pass a test, where the side has columns in the answer
 side_where : (b : Bool) (test : Name → Bool) (cs : List Col) → columns_where (λ n. b && test n) (table_of cs) ≡ table_of (filter (λ (c : Col). test c.name) (cond b cs []))
-side_where true test cs = filter-map plain (λ (c : TableColumn). test c.name) cs
+side_where true test cs = filter-map plain_column (λ (c : TableColumn). test c.name) cs
 side_where false test cs = filter-none (table_of cs)
 
 side_names : (b : Bool) (test : Name → Bool) (ns : List Name) → filter (λ n. b && test n) ns ≡ filter test (cond b ns [])

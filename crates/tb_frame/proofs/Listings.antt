@@ -9,7 +9,7 @@ use Rattle.tb_value.specs.declared.index.JoinPair.{JoinPair}
 use Rattle.tb_frame.specs.declared.args.JoinType.{JoinType}
 use Rattle.tb_frame.specs.declared.args.JoinType.TheVariants.{Inner, Left, Right, Full, Semi, Anti}
 use Rattle.tb_value.specs.Pairs.{row_numbers}
-use Rattle.tb_value.specs.Pairs.{both, left_only, matched, left_unmet}
+use Rattle.tb_value.specs.Pairs.{both, left_only, matched_pairs, left_unmet}
 use Rattle.tb_frame.specs.Join.{listing_of}
 use Rattle.tb_value.specs.Pairs.{times, is_row}
 use Rattle.tb_value.proofs.Ascending.{matched-same, left_met-same, left_unmet-same, right_unmet-same}
@@ -27,7 +27,7 @@ times-alone p l i low =
     ∙ sum_one (λ k. cond (p k) 1 0) i 0 l (omega arith) (omega arith)
 
 -- with its matches
-pub times-matched : (l r : ℕ) (m : ℕ → ℕ → Bool) (i : ℕ) → i < l → times i (matched l r m) ≡ length (filter (m i) (row_numbers r))
+pub times-matched : (l r : ℕ) (m : ℕ → ℕ → Bool) (i : ℕ) → i < l → times i (matched_pairs l r m) ≡ length (filter (m i) (row_numbers r))
 times-matched l r m i low =
     let pairs : ℕ → List JoinPair = λ k. map (both k) (filter (m k) (row_numbers r)) in
     sum_by-flat_map (here i) pairs (row_numbers l)
@@ -49,7 +49,7 @@ module _ (l r : ℕ) (m : ℕ → ℕ → Bool) where
   times-left : (i : ℕ) → i < l → times i (listing_of Left l r m) ≡ rank i
   unfolding rank
   times-left i low =
-      let split = sum_by-append (here i) (matched l r m) (left_unmet l r m) in
+      let split = sum_by-append (here i) (matched_pairs l r m) (left_unmet l r m) in
       let one = times-matched l r m i low in
       let two = times-alone (λ k. not (list_any (m k) (row_numbers r))) l i low in
       omega (arith, split, one, two)
@@ -66,7 +66,7 @@ module _ (l r : ℕ) (m : ℕ → ℕ → Bool) where
   unfolding rank
   length-left =
       let pairs : ℕ → List JoinPair = λ k. map (both k) (filter (m k) (row_numbers r)) in
-      let a = length-append (matched l r m) (left_unmet l r m) in
+      let a = length-append (matched_pairs l r m) (left_unmet l r m) in
       let b = length-flat_map pairs (row_numbers l) in
       let c = sum_by-agree (λ k. length (pairs k)) (λ k. length (filter (m k) (row_numbers r))) (λ k. length-map (filter (m k) (row_numbers r)) (both k)) (row_numbers l) in
       let u : ℕ → Bool = λ k. not (list_any (m k) (row_numbers r)) in

@@ -11,7 +11,7 @@ use Rattle.tb_frame.specs.declared.args.JoinType.{JoinType}
 use Rattle.tb_frame.specs.declared.args.JoinType.TheVariants.{Inner, Left, Right, Full, Semi, Anti}
 use Rattle.tb_frame.specs.declared.args.MaintainOrderJoin.{MaintainOrderJoin}
 use Rattle.tb_frame.specs.Table.{TableColumn, Table, height, IsTable}
-use Rattle.tb_value.specs.Pairs.{row_numbers, both, left_only, right_only, matched, left_met, left_unmet, right_unmet}
+use Rattle.tb_value.specs.Pairs.{row_numbers, both, left_only, right_only, matched_pairs, left_met, left_unmet, right_unmet}
 use Rattle.tb_frame.specs.Join.{listing_of, in_slice, cut}
 use Rattle.tb_frame.specs.Answer.{IsPairOf, IsListed, AreLeftRows, AreRightRows}
 
@@ -19,7 +19,7 @@ All-flat_map : {X A : Type 0} (P : A → Type 0) (f : X → List A) (xs : List X
 All-flat_map P f [] h = All-nil P
 All-flat_map P f (x ∷ xs) h = All-append P (f x) (flat_map f xs) (All-head (λ y. All P (f y)) x xs h) (All-flat_map P f xs (All-tail (λ y. All P (f y)) x xs h))
 
-matched_rows : (l r : ℕ) (m : ℕ → ℕ → Bool) → All (IsPairOf l r) (matched l r m)
+matched_rows : (l r : ℕ) (m : ℕ → ℕ → Bool) → All (IsPairOf l r) (matched_pairs l r m)
 matched_rows l r m =
     let row : (i : ℕ) → i < l → All (IsPairOf l r) (map (both i) (filter (m i) (row_numbers r))) = λ i low.
     All-map (IsPairOf l r) (both i) (filter (m i) (row_numbers r)) (All-filter (m i) (λ j. IsPairOf l r (both i j)) (row_numbers r) (All-weaker (λ j. j < r) (λ j. IsPairOf l r (both i j)) (λ j in_r. (low, in_r)) (row_numbers r) (rows_below r))) in
@@ -42,9 +42,9 @@ right_unmet_rows l r m = right_rows_alone l r (λ j. not (list_any (λ i. m i j)
 
 pub listing_rows : (how : JoinType) (l r : ℕ) (m : ℕ → ℕ → Bool) → All (IsPairOf l r) (listing_of how l r m)
 listing_rows Inner l r m = matched_rows l r m
-listing_rows Left l r m = All-append (IsPairOf l r) (matched l r m) (left_unmet l r m) (matched_rows l r m) (unmet_rows l r m)
-listing_rows Right l r m = All-append (IsPairOf l r) (matched l r m) (right_unmet l r m) (matched_rows l r m) (right_unmet_rows l r m)
-listing_rows Full l r m = All-append (IsPairOf l r) (matched l r m ++ left_unmet l r m) (right_unmet l r m) (All-append (IsPairOf l r) (matched l r m) (left_unmet l r m) (matched_rows l r m) (unmet_rows l r m)) (right_unmet_rows l r m)
+listing_rows Left l r m = All-append (IsPairOf l r) (matched_pairs l r m) (left_unmet l r m) (matched_rows l r m) (unmet_rows l r m)
+listing_rows Right l r m = All-append (IsPairOf l r) (matched_pairs l r m) (right_unmet l r m) (matched_rows l r m) (right_unmet_rows l r m)
+listing_rows Full l r m = All-append (IsPairOf l r) (matched_pairs l r m ++ left_unmet l r m) (right_unmet l r m) (All-append (IsPairOf l r) (matched_pairs l r m) (left_unmet l r m) (matched_rows l r m) (unmet_rows l r m)) (right_unmet_rows l r m)
 listing_rows Semi l r m = met_rows l r m
 listing_rows Anti l r m = unmet_rows l r m
 

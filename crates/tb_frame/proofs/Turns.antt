@@ -7,7 +7,7 @@ use Rattle.std.proofs.lemmas.List.Sorted.{IsPermutation-sym, IsPermutation-trans
 use Rattle.tb_value.specs.declared.index.JoinPair.{JoinPair}
 use Rattle.tb_value.specs.Datum.{Datum, is_null, is_present}
 use Rattle.tb_value.specs.Proved.ValueTests.{same_equiv}
-use Rattle.tb_value.specs.Pairs.{row_numbers, left_only, matched, left_unmet, right_unmet, turn}
+use Rattle.tb_value.specs.Pairs.{row_numbers, left_only, matched_pairs, left_unmet, right_unmet, turn}
 use Rattle.tb_value.proofs.Loops.{map-map, permuted, turned_matches}
 use Rattle.tb_value.proofs.Probes.{turn_twice, turned_to_left, turned_to_right}
 use Rattle.tb_frame.specs.declared.args.JoinType.TheVariants.{Left, Right}
@@ -15,8 +15,8 @@ use Rattle.tb_frame.specs.declared.args.MaintainOrderJoin.{MaintainOrderJoin}
 use Rattle.tb_frame.specs.declared.args.MaintainOrderJoin.TheVariants as order
 use Rattle.tb_frame.specs.Table.{height}
 use Rattle.tb_value.specs.Same.{agrees}
-use Rattle.tb_frame.specs.Join.{Request, matches, field, nulls, places, listing, listing_of, Ascends, direction, IsOrdered}
-use Rattle.tb_frame.specs.Sides.{asking, exchanged, flip}
+use Rattle.tb_frame.specs.Join.{Request, matches, field, nulls_match, places, listing, listing_of, Ascends, direction, IsOrdered}
+use Rattle.tb_frame.specs.Sides.{asking, exchanged_request, flip}
 
 -- EQUALITY BOTH WAYS
 
@@ -36,20 +36,20 @@ turned_listing l r m n e =
     let goal_at : (ℕ → ℕ → Bool) → Type 0 = λ k. IsPermutation (map turn (listing_of Left r l k)) (listing_of Right l r m) in
     let f : ℕ → ℕ → Bool = λ j i. m i j in
     let alone : map turn (left_unmet r l f) ≡ right_unmet l r m = map-map turn left_only (filter (λ j. not (list_any (f j) (row_numbers l))) (row_numbers r)) in
-    let halves : map turn (matched r l f ++ left_unmet r l f) ≡ map turn (matched r l f) ++ right_unmet l r m = map-append turn (matched r l f) (left_unmet r l f) ∙ ap (λ (x : List JoinPair). map turn (matched r l f) ++ x) alone in
-    let both_halves : IsPermutation (map turn (matched r l f) ++ right_unmet l r m) (matched l r m ++ right_unmet l r m) = IsPermutation-append_left (right_unmet l r m) (map turn (matched r l f)) (matched l r m) (turned_matches l r m) in
-    subst goal_at (sym e) (subst (λ (x : List JoinPair). IsPermutation x (matched l r m ++ right_unmet l r m)) (sym halves) both_halves)
+    let halves : map turn (matched_pairs r l f ++ left_unmet r l f) ≡ map turn (matched_pairs r l f) ++ right_unmet l r m = map-append turn (matched_pairs r l f) (left_unmet r l f) ∙ ap (λ (x : List JoinPair). map turn (matched_pairs r l f) ++ x) alone in
+    let both_halves : IsPermutation (map turn (matched_pairs r l f) ++ right_unmet l r m) (matched_pairs l r m ++ right_unmet l r m) = IsPermutation-append_left (right_unmet l r m) (map turn (matched_pairs r l f)) (matched_pairs l r m) (turned_matches l r m) in
+    subst goal_at (sym e) (subst (λ (x : List JoinPair). IsPermutation x (matched_pairs l r m ++ right_unmet l r m)) (sym halves) both_halves)
 
-pub matches_turned : (q : Request) → matches (asking Left (exchanged q)) ≡ (λ j i. matches (asking Right q) i j)
+pub matches_turned : (q : Request) → matches (asking Left (exchanged_request q)) ≡ (λ j i. matches (asking Right q) i j)
 matches_turned q =
     let swap : min (length q.right_keys) (length q.left_keys) ≡ min (length q.left_keys) (length q.right_keys) = omega arith in
-    let at : (j i : ℕ) → matches (asking Left (exchanged q)) j i ≡ matches (asking Right q) i j = λ j i.
-    ap (λ (n : ℕ). list_all (λ p. agrees (nulls q p) (field q.right_keys p j) (field q.left_keys p i)) (row_numbers n)) swap
-    ∙ ap (λ (f : ℕ → Bool). list_all f (places q)) (λ t p. agrees_symm (nulls q p) (field q.right_keys p j) (field q.left_keys p i) t) in
+    let at : (j i : ℕ) → matches (asking Left (exchanged_request q)) j i ≡ matches (asking Right q) i j = λ j i.
+    ap (λ (n : ℕ). list_all (λ p. agrees (nulls_match q p) (field q.right_keys p j) (field q.left_keys p i)) (row_numbers n)) swap
+    ∙ ap (λ (f : ℕ → Bool). list_all f (places q)) (λ t p. agrees_symm (nulls_match q p) (field q.right_keys p j) (field q.left_keys p i) t) in
     λ t j i. at j i t
 
-pub turned_request : (q : Request) → IsPermutation (map turn (listing (asking Left (exchanged q)))) (listing (asking Right q))
-turned_request q = turned_listing (height q.left) (height q.right) (matches (asking Right q)) (matches (asking Left (exchanged q))) (matches_turned q)
+pub turned_request : (q : Request) → IsPermutation (map turn (listing (asking Left (exchanged_request q)))) (listing (asking Right q))
+turned_request q = turned_listing (height q.left) (height q.right) (matches (asking Right q)) (matches (asking Left (exchanged_request q))) (matches_turned q)
 
 -- ORDER
 
@@ -68,15 +68,15 @@ ascends_back order.LeftRight ps s = turned_to_left ps s
 ascends_back order.Right ps s = turned_to_right ps s
 ascends_back order.RightLeft ps s = turned_to_right ps s
 
-pub order_turned : (q : Request) (o : MaintainOrderJoin) (ps : List JoinPair) → IsOrdered Right o ps (listing (asking Right q)) → IsOrdered Left (flip o) (map turn ps) (listing (asking Left (exchanged q)))
+pub order_turned : (q : Request) (o : MaintainOrderJoin) (ps : List JoinPair) → IsOrdered Right o ps (listing (asking Right q)) → IsOrdered Left (flip o) (map turn ps) (listing (asking Left (exchanged_request q)))
 order_turned q o ps h =
-    let there : List JoinPair = listing (asking Left (exchanged q)) in
+    let there : List JoinPair = listing (asking Left (exchanged_request q)) in
     let a : IsPermutation (map turn (map turn there)) (map turn ps) = IsPermutation-map turn (map turn there) ps (IsPermutation-trans (map turn there) (listing (asking Right q)) ps (turned_request q) h.permutation) in
     record { permutation = subst (λ (x : List JoinPair). IsPermutation x (map turn ps)) (turn_twice there) a; ascends = ascends_turned o ps h.ascends }
 
-pub order_back : (q : Request) (o : MaintainOrderJoin) (ps : List JoinPair) → IsOrdered Left (flip o) (map turn ps) (listing (asking Left (exchanged q))) → IsOrdered Right o ps (listing (asking Right q))
+pub order_back : (q : Request) (o : MaintainOrderJoin) (ps : List JoinPair) → IsOrdered Left (flip o) (map turn ps) (listing (asking Left (exchanged_request q))) → IsOrdered Right o ps (listing (asking Right q))
 order_back q o ps h =
-    let there : List JoinPair = listing (asking Left (exchanged q)) in
+    let there : List JoinPair = listing (asking Left (exchanged_request q)) in
     let here : List JoinPair = listing (asking Right q) in
     let a : IsPermutation (map turn there) (map turn (map turn ps)) = IsPermutation-map turn there (map turn ps) h.permutation in
     let b : IsPermutation here (map turn (map turn ps)) = IsPermutation-trans here (map turn there) (map turn (map turn ps)) (IsPermutation-sym (map turn there) here (turned_request q)) a in

@@ -10,7 +10,7 @@ use Rattle.tb_value.specs.declared.error.ComputeCause.TheVariants.{TooManyRows}
 use Rattle.tb_value.specs.declared.index.JoinPair.{JoinPair}
 use Rattle.tb_value.specs.declared.limits.TheConstants.{MAX_ROWS}
 use Rattle.tb_frame.specs.Answer.{fill}
-use Rattle.tb_frame.specs.Join.{Request, IsAnswer, MergesAlike, cut, direction, listing, matches, out}
+use Rattle.tb_frame.specs.Join.{Request, IsAnswer, CoalescesAlike, cut, direction, listing, matches, out}
 use Rattle.tb_frame.specs.Naming.{joined_names}
 use Rattle.tb_frame.specs.Refusal.{join_causes, join_valid, key_types, first_unknown, first_repeated}
 use Rattle.tb_frame.specs.Table.{Table, IsTable, height, names_of}
@@ -62,7 +62,7 @@ module _ (q : Request) (valid : join_valid q) where
   ordered_pairs : List JoinPair
   ordered_pairs = in_order (direction q.args.how q.args.maintain_order) q.args.how (height q.left) (height q.right) (matches q)
 
-  pub some_answer : IsTable q.left → IsTable q.right → MergesAlike q → (t : Table) × IsAnswer q t
+  pub some_answer : IsTable q.left → IsTable q.right → CoalescesAlike q → (t : Table) × IsAnswer q t
   unfolding ordered_pairs
   some_answer left right alike = (
     map (fill (cut q.args.slice ordered_pairs)) (out q),

@@ -6,7 +6,7 @@ use Rattle.tb_value.specs.Names.{Name, same_name}
 use Rattle.tb_value.specs.Refusals.{first_cause, when}
 use Rattle.tb_value.specs.declared.error.PolarsError.{PolarsError}
 use Rattle.tb_value.specs.declared.error.PolarsError.TheVariants.{ShapeMismatch}
-pub use Rattle.tb_chunk.specs.Changed.{coalesced, opt_taken, sliced, taken}
+pub use Rattle.tb_chunk.specs.Changed.{coalesced_column, opt_taken_rows, sliced_rows, taken_rows}
 use Rattle.tb_chunk.specs.Col.{Col}
 use Rattle.tb_frame.specs.Table.{TableColumn, Table, height, names_of}
 use Rattle.tb_frame.specs.Naming.{is_among}
@@ -25,8 +25,8 @@ abbrev pub select_refusal : List Name → Table → Option PolarsError
 select_refusal names t = first_cause (unknown_key t names ∷ repeated_among names ∷ [])
 
 -- the columns of these names, in the order of the names
-abbrev pub selected : List Name → List Col → List Col
-selected names cs = filter_map (λ n. find (λ (c : Col). same_name c.name n) cs) names
+abbrev pub selected_columns : List Name → List Col → List Col
+selected_columns names cs = filter_map (λ n. find (λ (c : Col). same_name c.name n) cs) names
 
 -- the columns whose names are not among these
 abbrev pub without_names : List Name → List Col → List Col

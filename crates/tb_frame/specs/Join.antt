@@ -6,11 +6,11 @@ use Rattle.std.specs.Option.{ForSome, option_and_then}
 use Rattle.tb_value.specs.Datum.{Datum, null}
 use Rattle.tb_value.specs.Kind.{Kind}
 use Rattle.tb_value.specs.Names.{Name, same_name}
-use Rattle.tb_value.specs.Pairs.{row_numbers, matched, left_met, left_unmet, right_unmet, left_first, right_first}
+use Rattle.tb_value.specs.Pairs.{row_numbers, matched_pairs, left_met, left_unmet, right_unmet, left_first, right_first}
 pub use Rattle.tb_value.specs.Same.{agrees}
 use Rattle.tb_value.specs.declared.index.JoinPair.{JoinPair}
 use Rattle.tb_chunk.specs.Col.{Col}
-pub use Rattle.tb_chunk.specs.Merged.{or_else}
+pub use Rattle.tb_chunk.specs.Coalesced.{or_else}
 use Rattle.tb_frame.specs.declared.args.JoinArgs.{JoinArgs}
 use Rattle.tb_frame.specs.declared.args.JoinType.{JoinType}
 use Rattle.tb_frame.specs.declared.args.JoinType.TheVariants.{Inner, Left, Right, Full, Semi, Anti}
@@ -20,7 +20,7 @@ use Rattle.tb_frame.specs.declared.null_flags.JoinNulls.{JoinNulls}
 use Rattle.tb_frame.specs.declared.null_flags.JoinNulls.TheVariants as join_nulls
 use Rattle.tb_frame.specs.declared.args.Direction.{Direction}
 use Rattle.tb_frame.specs.declared.args.Direction.TheVariants.{Free, ByLeft, ByRight}
-use Rattle.tb_frame.specs.Naming.{answer_fields, coalesces, keeps_left, merges_keys, right_name, shows_right}
+use Rattle.tb_frame.specs.Naming.{answer_fields, coalesces, keeps_left, coalesces_keys, right_name, shows_right}
 use Rattle.tb_frame.specs.Table.{TableColumn, Table, IsTable, height, names_of, rows_of, schema_of, table_of}
 
 -- a request: two tables, the names and the columns of the keys, and the args
@@ -34,8 +34,8 @@ pub record Request : Type 0 where
   pub args : JoinArgs
 
 -- the column of that name
-abbrev pub named : Table → Name → Option TableColumn
-named t n = find (λ (c : TableColumn). same_name c.name n) t
+abbrev pub column_named : Table → Name → Option TableColumn
+column_named t n = find (λ (c : TableColumn). same_name c.name n) t
 
 -- the request of `join`, whose keys are the tables' columns of these names
 abbrev pub by_names : Table → Table → List Name → List Name → JoinArgs → Request
@@ -44,8 +44,8 @@ by_names left right left_on right_on args = record {
   right = right;
   left_on = left_on;
   right_on = right_on;
-  left_keys = filter_map (named left) left_on;
-  right_keys = filter_map (named right) right_on;
+  left_keys = filter_map (column_named left) left_on;
+  right_keys = filter_map (column_named right) right_on;
   args = args;
 }
 
@@ -65,8 +65,8 @@ flag_at (join_nulls.All b) p = b
 flag_at (join_nulls.Each flags) p = slice_index_or flags p false
 
 -- whether Nulls match at place p
-abbrev pub nulls : Request → ℕ → Bool
-nulls q p = flag_at q.args.join_nulls p
+abbrev pub nulls_match : Request → ℕ → Bool
+nulls_match q p = flag_at q.args.join_nulls p
 
 -- the places that both key lists have
 abbrev pub places : Request → List ℕ
@@ -74,15 +74,15 @@ places q = row_numbers (min (length q.left_keys) (length q.right_keys))
 
 -- rows i and j match where the fields agree at every place
 abbrev pub matches : Request → ℕ → ℕ → Bool
-matches q i j = list_all (λ p. agrees (nulls q p) (field q.left_keys p i) (field q.right_keys p j)) (places q)
+matches q i j = list_all (λ p. agrees (nulls_match q p) (field q.left_keys p i) (field q.right_keys p j)) (places q)
 
 -- THE LISTING
 
 abbrev pub listing_of : JoinType → ℕ → ℕ → (ℕ → ℕ → Bool) → List JoinPair
-listing_of Inner l r m = matched l r m
-listing_of Left l r m = matched l r m ++ left_unmet l r m
-listing_of Right l r m = matched l r m ++ right_unmet l r m
-listing_of Full l r m = matched l r m ++ left_unmet l r m ++ right_unmet l r m
+listing_of Inner l r m = matched_pairs l r m
+listing_of Left l r m = matched_pairs l r m ++ left_unmet l r m
+listing_of Right l r m = matched_pairs l r m ++ right_unmet l r m
+listing_of Full l r m = matched_pairs l r m ++ left_unmet l r m ++ right_unmet l r m
 listing_of Semi l r m = left_met l r m
 listing_of Anti l r m = left_unmet l r m
 
@@ -148,28 +148,28 @@ value_at c (Some i) = slice_index_or c.values i null
 abbrev pub columns_where : (Name → Bool) → Table → Table
 columns_where test t = filter (λ (c : TableColumn). test c.name) t
 
-abbrev pub kept_left : Request → Table
-kept_left q = columns_where (keeps_left q.args q.left_on) q.left
+abbrev pub kept_left_columns : Request → Table
+kept_left_columns q = columns_where (keeps_left q.args q.left_on) q.left
 
-abbrev pub shown_right : Request → Table
-shown_right q = columns_where (shows_right q.args q.right_on) q.right
+abbrev pub shown_right_columns : Request → Table
+shown_right_columns q = columns_where (shows_right q.args q.right_on) q.right
 
 -- the column of the right table that the right key at place p names, if there is one
 abbrev pub right_key : Request → ℕ → Option TableColumn
-right_key q p = option_and_then (named q.right) (slice_get q.right_on p)
+right_key q p = option_and_then (column_named q.right) (slice_get q.right_on p)
 
--- the column of the right table that is merged into a left one of this name: where keys are merged, that of the right key beside the left key
+-- the column of the right table that is coalesced with a left one of this name: where keys are coalesced, that of the right key beside the left key
 abbrev pub partner : Request → Name → Option TableColumn
-partner q n = (if merges_keys q.args.how (coalesces q.args) then option_and_then (right_key q) (position (same_name n) q.left_on) else None)
+partner q n = (if coalesces_keys q.args.how (coalesces q.args) then option_and_then (right_key q) (position (same_name n) q.left_on) else None)
 
 -- a left column's field, and the partner's where it is Null
 abbrev pub left_field : Option TableColumn → TableColumn → JoinPair → Datum
 left_field None c pair = value_at c pair.left
 left_field (Some k) c pair = or_else (value_at c pair.left) (value_at k pair.right)
 
--- where columns are merged, they have one type
-abbrev pub MergesAlike : Request → Type 0
-MergesAlike q = All (λ (c : TableColumn). ForSome (partner q c.name) (λ k. c.kind ≡ k.kind)) q.left
+-- where columns are coalesced, they have one type
+abbrev pub CoalescesAlike : Request → Type 0
+CoalescesAlike q = All (λ (c : TableColumn). ForSome (partner q c.name) (λ k. c.kind ≡ k.kind)) q.left
 
 abbrev pub left_out : Request → TableColumn → Out
 left_out q c = record { name = c.name; kind = c.kind; at = left_field (partner q c.name) c }
@@ -180,7 +180,7 @@ right_out taken suffix c = record { name = right_name taken suffix c.name; kind 
 
 -- the columns of the answer
 abbrev pub out : Request → List Out
-out q = map (left_out q) (kept_left q) ++ map (right_out (names_of (kept_left q)) q.args.suffix) (shown_right q)
+out q = map (left_out q) (kept_left_columns q) ++ map (right_out (names_of (kept_left_columns q)) q.args.suffix) (shown_right_columns q)
 
 abbrev pub out_row : Request → JoinPair → List Datum
 out_row q pair = map (λ (o : Out). o.at pair) (out q)

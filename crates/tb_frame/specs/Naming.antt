@@ -35,9 +35,9 @@ drops_right_keys Inner c = c
 drops_right_keys Left c = c
 drops_right_keys how c = false
 
-abbrev pub merges_keys : JoinType → Bool → Bool
-merges_keys Full c = c
-merges_keys how c = false
+abbrev pub coalesces_keys : JoinType → Bool → Bool
+coalesces_keys Full c = c
+coalesces_keys how c = false
 
 -- WHICH COLUMNS
 
@@ -54,9 +54,9 @@ keeps_left a left_on n = not (drops_left_keys a.how (coalesces a) && is_among le
 abbrev pub keeps_right : JoinArgs → List Name → Name → Bool
 keeps_right a right_on n = has_right a.how && not (drops_right_keys a.how (coalesces a) && is_among right_on n)
 
--- and whether a right one stays there, since it is not merged into a left one
+-- and whether a right one stays there, since it is not coalesced with a left one
 abbrev pub shows_right : JoinArgs → List Name → Name → Bool
-shows_right a right_on n = keeps_right a right_on n && not (merges_keys a.how (coalesces a) && is_among right_on n)
+shows_right a right_on n = keeps_right a right_on n && not (coalesces_keys a.how (coalesces a) && is_among right_on n)
 
 -- THEIR NAMES
 

@@ -23,7 +23,7 @@ use Rattle.tb_frame.specs.declared.null_flags.JoinNulls.TheVariants.{All, Each}
 use Rattle.tb_frame.specs.declared.args.JoinValidation.{JoinValidation}
 use Rattle.tb_frame.specs.declared.args.JoinValidation.TheVariants.{ManyToMany, ManyToOne, OneToMany, OneToOne}
 use Rattle.tb_frame.specs.Table.{TableColumn, Table, height, names_of}
-use Rattle.tb_frame.specs.Join.{Request, field, nulls, places, listing}
+use Rattle.tb_frame.specs.Join.{Request, field, nulls_match, places, listing}
 use Rattle.tb_frame.specs.Naming.{is_among, joined_names}
 
 -- NAMES
@@ -47,7 +47,7 @@ first_repeated names = option_map (name_at names) (find (repeats names) (row_num
 
 -- a row is counted where each key field is present, or Nulls match at its place
 abbrev pub is_counted : (ℕ → Bool) → List TableColumn → ℕ → Bool
-is_counted nulls keys i = list_all (λ p. is_present (field keys p i) || nulls p) (row_numbers (length keys))
+is_counted nulls_match keys i = list_all (λ p. is_present (field keys p i) || nulls_match p) (row_numbers (length keys))
 
 -- two rows have the same key fields, Null the same as Null
 abbrev pub same_keys : List TableColumn → ℕ → ℕ → Bool
@@ -55,11 +55,11 @@ same_keys keys i j = list_all (λ p. same (field keys p i) (field keys p j)) (ro
 
 -- two rows, the first before the second, are counted and have the same key fields
 abbrev pub are_twins : (ℕ → Bool) → List TableColumn → ℕ → ℕ → Bool
-are_twins nulls keys i j = nat_lt i j && is_counted nulls keys i && is_counted nulls keys j && same_keys keys i j
+are_twins nulls_match keys i j = nat_lt i j && is_counted nulls_match keys i && is_counted nulls_match keys j && same_keys keys i j
 
 -- two of n rows are twins
 abbrev pub has_twins : (ℕ → Bool) → List TableColumn → ℕ → Bool
-has_twins nulls keys n = list_any (λ i. list_any (are_twins nulls keys i) (row_numbers n)) (row_numbers n)
+has_twins nulls_match keys n = list_any (λ i. list_any (are_twins nulls_match keys i) (row_numbers n)) (row_numbers n)
 
 -- WHAT VALIDATION ASKS
 
@@ -117,10 +117,10 @@ abbrev pub repeated_name : Request → Option PolarsError
 repeated_name q = repeated_among (joined_names q.args q.left_on q.right_on (names_of q.left) (names_of q.right))
 
 abbrev pub broken_left : Request → Option PolarsError
-broken_left q = when (is_validated q.args.how && asks_left q.args.validation && has_twins (nulls q) q.left_keys (height q.left)) (ComputeError (Validation side.Left))
+broken_left q = when (is_validated q.args.how && asks_left q.args.validation && has_twins (nulls_match q) q.left_keys (height q.left)) (ComputeError (Validation side.Left))
 
 abbrev pub broken_right : Request → Option PolarsError
-broken_right q = when (is_validated q.args.how && asks_right q.args.validation && has_twins (nulls q) q.right_keys (height q.right))
+broken_right q = when (is_validated q.args.how && asks_right q.args.validation && has_twins (nulls_match q) q.right_keys (height q.right))
     (ComputeError (Validation side.Right))
 
 abbrev pub too_many_rows : Request → Option PolarsError
@@ -142,14 +142,14 @@ name_causes left right left_on right_on = unknown_key left left_on ∷ unknown_k
 
 -- a side has no keys, the sides have different numbers of keys, or the flags have another
 abbrev pub count_causes : JoinNulls → List Name → List Name → List (Option PolarsError)
-count_causes nulls left_on right_on = no_keys left_on right_on ∷ key_counts left_on right_on ∷ null_flags nulls (length left_on) ∷ []
+count_causes nulls_match left_on right_on = no_keys left_on right_on ∷ key_counts left_on right_on ∷ null_flags nulls_match (length left_on) ∷ []
 
 -- a key is repeated
 abbrev pub repeat_causes : List Name → List Name → List (Option PolarsError)
 repeat_causes left_on right_on = repeated_among left_on ∷ repeated_among right_on ∷ []
 
 abbrev pub list_causes : JoinNulls → List Name → List Name → List (Option PolarsError)
-list_causes nulls left_on right_on = count_causes nulls left_on right_on ++ repeat_causes left_on right_on
+list_causes nulls_match left_on right_on = count_causes nulls_match left_on right_on ++ repeat_causes left_on right_on
 
 -- the types of two keys differ, or have no keys, or a name of the answer is repeated
 abbrev pub column_causes : Request → List (Option PolarsError)

@@ -4,15 +4,15 @@ use Rattle.tb_value.specs.Names.{Name}
 use Rattle.tb_chunk.specs.Col.{Col}
 use Rattle.tb_frame.specs.declared.args.JoinArgs.{JoinArgs}
 use Rattle.tb_frame.specs.declared.args.JoinType.{JoinType}
-use Rattle.tb_frame.specs.Naming.{coalesces, drops_left_keys, drops_right_keys, has_right, is_among, merges_keys, right_name}
-use Rattle.tb_frame.specs.Frame.{opt_taken, without_names}
+use Rattle.tb_frame.specs.Naming.{coalesces, drops_left_keys, drops_right_keys, has_right, is_among, coalesces_keys, right_name}
+use Rattle.tb_frame.specs.Frame.{opt_taken_rows, without_names}
 
 -- the left names that the answer lacks, and the right ones
 abbrev pub gone_left : JoinArgs → List Name → List Name
 gone_left a left_on = (if drops_left_keys a.how (coalesces a) then left_on else [])
 
 abbrev pub gone_right : JoinArgs → List Name → List Name
-gone_right a right_on = (if drops_right_keys a.how (coalesces a) || merges_keys a.how (coalesces a) then right_on else [])
+gone_right a right_on = (if drops_right_keys a.how (coalesces a) || coalesces_keys a.how (coalesces a) then right_on else [])
 
 -- the right names that are not put beside the left ones: a Full join's keys go later
 abbrev pub gone_beside : JoinArgs → List Name → List Name
@@ -36,7 +36,7 @@ beside left gone_of_left right gone_of_right suffix = names_without gone_of_left
 
 -- a right column in the answer, with these rows
 abbrev pub right_column : List Name → Name → List (Option ℕ) → Col → Col
-right_column taken suffix rows c = record (opt_taken rows c) { name = right_name taken (Some suffix) c.name }
+right_column taken suffix rows c = record (opt_taken_rows rows c) { name = right_name taken (Some suffix) c.name }
 
 -- the right columns in the answer, with these rows, those that go left out
 abbrev pub right_columns : List Name → Name → List Name → List (Option ℕ) → List Col → List Col

@@ -14,8 +14,8 @@ abbrev pub asking : JoinType → Request → Request
 asking how q = record q { args = of_kind how q.args }
 
 -- the request with its sides exchanged
-abbrev pub exchanged : Request → Request
-exchanged q = record { left = q.right; right = q.left; left_on = q.right_on; right_on = q.left_on; left_keys = q.right_keys; right_keys = q.left_keys; args = q.args }
+abbrev pub exchanged_request : Request → Request
+exchanged_request q = record { left = q.right; right = q.left; left_on = q.right_on; right_on = q.left_on; left_keys = q.right_keys; right_keys = q.left_keys; args = q.args }
 
 -- the same order, of the other side
 abbrev pub flip : MaintainOrderJoin → MaintainOrderJoin

@@ -18,11 +18,11 @@ abbrev pub Table : Type 0
 Table = List TableColumn
 
 -- the table of columns that are cut into chunks
-abbrev pub plain : Col → TableColumn
-plain c = record { name = c.name; kind = c.kind; values = values c }
+abbrev pub plain_column : Col → TableColumn
+plain_column c = record { name = c.name; kind = c.kind; values = values c }
 
 abbrev pub table_of : List Col → Table
-table_of cs = map plain cs
+table_of cs = map plain_column cs
 
 -- the length of the columns, and 0 where there is none
 abbrev pub height : Table → ℕ

@@ -1,7 +1,7 @@
 //! Columns made of two, of which the second stands in where the first has Null.
 ghost use Rattle.std.specs.Prelude.{◌≡◌, IfOk, length};
 ghost use Rattle.tb_chunk.specs.Col.{values};
-ghost use Rattle.tb_frame.specs.Frame.{coalesced};
+ghost use Rattle.tb_frame.specs.Frame.{coalesced_column};
 
 use std::alloc::Global;
 use tb_store::Column;
@@ -16,7 +16,7 @@ pub fn coalesce_columns(
 ) -> Result<Column, OutOfMemory>
     requires one_type { first.now.kind ≡ second.now.kind }
     requires one_length { length (values first.now) ≡ length (values second.now) }
-    ensures { IfOk result (λ c. c ≡ coalesced first.now second.now) }
+    ensures { IfOk result (λ c. c ≡ coalesced_column first.now second.now) }
 {
-    first.merged(alloc, second)
+    first.coalesce(alloc, second)
 }

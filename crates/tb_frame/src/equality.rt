@@ -2,7 +2,7 @@
 ghost use Rattle.std.specs.Prelude.{◌≡◌, ◌↔◌, IsTrue};
 ghost use Rattle.tb_value.specs.SameKind.{same_kind};
 ghost use Rattle.tb_chunk.specs.Col.{values};
-ghost use Rattle.tb_frame.specs.Table.{plain, table_of};
+ghost use Rattle.tb_frame.specs.Table.{plain_column, table_of};
 
 use crate::frame::DataFrame;
 use tb_store::{Column, Series};
@@ -33,7 +33,7 @@ fn same_columns(first: &[Column], second: &[Column]) -> bool
 }
 
 fn same_column(first: &Column, second: &Column) -> bool
-    ensures { IsTrue result ↔ (plain first.now ≡ plain second.now) }
+    ensures { IsTrue result ↔ (plain_column first.now ≡ plain_column second.now) }
 {
     first.name().as_str() == second.name().as_str()
         && same_type(

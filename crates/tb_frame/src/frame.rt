@@ -12,7 +12,7 @@ ghost use Rattle.tb_frame.specs.Table.{table_of, height, names_of, IsTable, IsTy
 ghost use Rattle.tb_frame.specs.Refusal.{unknown_key};
 ghost use Rattle.tb_frame.specs.Naming.{is_among};
 ghost use Rattle.tb_frame.specs.NameSets.{has_name};
-ghost use Rattle.tb_frame.specs.Frame.{are_level, frame_refusal, opt_taken, select_refusal, selected, sliced, taken, without_names};
+ghost use Rattle.tb_frame.specs.Frame.{are_level, frame_refusal, opt_taken_rows, select_refusal, selected_columns, sliced_rows, taken_rows, without_names};
 
 use crate::lookup::lend_columns;
 use crate::names::{NameSet, check_distinct, name_set};
@@ -206,7 +206,7 @@ impl DataFrame {
     /// has (ColumnNotFound) and the first repeated name (Duplicate).
     pub fn select(&self, alloc: Global, names: &[PlSmallStr]) -> PolarsResult<DataFrame>
         ensures settles { Settles result (select_refusal names.now (table_of self.now)) }
-        ensures table { IfOk result (λ t. t ≡ selected names.now self.now) }
+        ensures table { IfOk result (λ t. t ≡ selected_columns names.now self.now) }
     {
         let columns = select_columns(alloc, &self.columns, names)?;
         DataFrame::new(alloc, columns)
@@ -236,7 +236,7 @@ impl DataFrame {
     pub fn take(&self, alloc: Global, rows: &[IdxSize]) -> Result<DataFrame, OutOfMemory>
         requires rows { All (λ r. r < height (table_of self.now)) rows.now }
         requires few { length rows.now ≤ MAX_ROWS }
-        ensures { IfOk result (λ t. t ≡ map (taken rows.now) self.now) }
+        ensures { IfOk result (λ t. t ≡ map (taken_rows rows.now) self.now) }
     {
         Ok(DataFrame {
             columns: take_columns(alloc, &self.columns, rows)?,
@@ -251,7 +251,7 @@ impl DataFrame {
     ) -> Result<DataFrame, OutOfMemory>
         requires rows { All (IsRowOf (height (table_of self.now))) rows.now }
         requires few { length rows.now ≤ MAX_ROWS }
-        ensures { IfOk result (λ t. t ≡ map (opt_taken rows.now) self.now) }
+        ensures { IfOk result (λ t. t ≡ map (opt_taken_rows rows.now) self.now) }
     {
         Ok(DataFrame {
             columns: take_opt_columns(alloc, &self.columns, rows)?,
@@ -261,7 +261,7 @@ impl DataFrame {
     /// The `len` rows from `offset` on, as far as there are such rows, each column in one chunk. A negative offset
     /// counts from the end.
     pub fn slice(&self, alloc: Global, offset: i64, len: usize) -> Result<DataFrame, OutOfMemory>
-        ensures { IfOk result (λ t. t ≡ map (sliced offset len) self.now) }
+        ensures { IfOk result (λ t. t ≡ map (sliced_rows offset len) self.now) }
     {
         Ok(DataFrame {
             columns: slice_columns(alloc, &self.columns, offset, len)?,
@@ -294,7 +294,7 @@ fn select_columns(
     names: &[PlSmallStr],
 ) -> PolarsResult<Vec<Column>>
     ensures settles { Settles result (unknown_key (table_of columns.now) names.now) }
-    ensures columns { IfOk result (λ v. v.items ≡ selected names.now columns.now) }
+    ensures columns { IfOk result (λ v. v.items ≡ selected_columns names.now columns.now) }
 {
     let lent = lend_columns(alloc, columns, names)?;
     Ok(copies_of(alloc, &lent)?)
@@ -356,7 +356,7 @@ fn take_columns(
 ) -> Result<Vec<Column>, OutOfMemory>
     requires rows { All (λ (c : Col). All (λ r. r < length (values c)) rows.now) columns.now }
     requires few { length rows.now ≤ MAX_ROWS }
-    ensures { IfOk result (λ v. v.items ≡ map (taken rows.now) columns.now) }
+    ensures { IfOk result (λ v. v.items ≡ map (taken_rows rows.now) columns.now) }
 {
     let mut taken = Vec::with_capacity(alloc, columns.len())?;
     for column in columns {
@@ -373,7 +373,7 @@ fn take_opt_columns(
 ) -> Result<Vec<Column>, OutOfMemory>
     requires rows { All (λ (c : Col). All (IsRowOf (length (values c))) rows.now) columns.now }
     requires few { length rows.now ≤ MAX_ROWS }
-    ensures { IfOk result (λ v. v.items ≡ map (opt_taken rows.now) columns.now) }
+    ensures { IfOk result (λ v. v.items ≡ map (opt_taken_rows rows.now) columns.now) }
 {
     let mut taken = Vec::with_capacity(alloc, columns.len())?;
     for column in columns {
@@ -388,7 +388,7 @@ fn slice_columns(
     offset: i64,
     len: usize,
 ) -> Result<Vec<Column>, OutOfMemory>
-    ensures { IfOk result (λ v. v.items ≡ map (sliced offset len) columns.now) }
+    ensures { IfOk result (λ v. v.items ≡ map (sliced_rows offset len) columns.now) }
 {
     let mut parts = Vec::with_capacity(alloc, columns.len())?;
     for column in columns {

@@ -7,7 +7,7 @@ ghost use Rattle.tb_value.specs.Refusals.{Settles, when};
 ghost use Rattle.tb_value.specs.declared.error.PolarsError.TheVariants.{ColumnNotFound};
 ghost use Rattle.tb_chunk.specs.Col.{Col};
 ghost use Rattle.tb_chunk.specs.Lent.{lent_columns};
-ghost use Rattle.tb_frame.specs.Frame.{selected};
+ghost use Rattle.tb_frame.specs.Frame.{selected_columns};
 ghost use Rattle.tb_frame.specs.NamedColumns.{column_by};
 ghost use Rattle.tb_frame.specs.Refusal.{unknown_key};
 ghost use Rattle.tb_frame.specs.Table.{table_of};
@@ -98,7 +98,7 @@ pub fn lend_columns<'a>(
     names: &[PlSmallStr],
 ) -> PolarsResult<Vec<&'a Series>>
     ensures settles { Settles result (unknown_key (table_of columns.now) names.now) }
-    ensures columns { IfOk result (λ v. lent_columns v.items ≡ selected names.now columns.now) }
+    ensures columns { IfOk result (λ v. lent_columns v.items ≡ selected_columns names.now columns.now) }
 {
     let by_name = columns_by_name(alloc, columns)?;
     let mut lent = Vec::new(alloc);

@@ -22,14 +22,14 @@ use Rattle.tb_front.specs.declared.fault.FrontFault.{FrontFault}
 use Rattle.tb_front.specs.declared.fault.FrontFault.TheVariants as fault
 use Rattle.tb_front.specs.declared.fault.Place.TheVariants.{First, Second}
 use Rattle.tb_front.specs.Asked.{IsAnswerText, answer_faults, asked_join, asked_of, join_fault}
-use Rattle.tb_front.specs.Faults.{Settles, bare, first_fault, no_table, not_written}
+use Rattle.tb_front.specs.Faults.{Settles, empty_table, first_fault, no_table, writing_fault}
 use Rattle.tb_front.specs.Texts.{IsOutcome, table_in}
 use Rattle.tb_front.proofs.Outcomes.{outcome_answers, outcome_settles}
 use Rattle.tb_front.proofs.Steps.{passes}
 
 -- ---- whether a table has a text is told by its names and types
 
-same_no_column : (t : Table) → no_column (bare (schema_of t)) ≡ no_column t
+same_no_column : (t : Table) → no_column (empty_table (schema_of t)) ≡ no_column t
 same_no_column [] = refl
 same_no_column (c ∷ cs) = refl
 
@@ -45,17 +45,17 @@ no_text_of c cs =
       | false ↦ refl
     ]
 
-same_no_text : (t : Table) → no_text (bare (schema_of t)) ≡ no_text t
+same_no_text : (t : Table) → no_text (empty_table (schema_of t)) ≡ no_text t
 same_no_text [] = refl
 same_no_text (c ∷ cs) =
-    no_text_of (record { name = c.name; kind = c.kind; values = [] }) (bare (schema_of cs))
+    no_text_of (record { name = c.name; kind = c.kind; values = [] }) (empty_table (schema_of cs))
     ∙ ap (first_column (is_none (field_type c.kind)) c.name) (same_no_text cs) ∙ sym (no_text_of c cs)
 
-same_refusal : (t : Table) → text_refusal (bare (schema_of t)) ≡ text_refusal t
+same_refusal : (t : Table) → text_refusal (empty_table (schema_of t)) ≡ text_refusal t
 same_refusal t = λ i. csv.first_fault (same_no_column t i ∷ same_no_text t i ∷ [])
 
-same_written : (form : TextForm) (t : Table) (schema : List (Name × Kind)) → schema_of t ≡ schema → not_written form t ≡ not_written form (bare schema)
-same_written Csv t schema is = ap (λ (r : Option CsvFault). option_map (λ e. fault.NoText e) r) (sym (same_refusal t) ∙ ap (λ (s : List (Name × Kind)). text_refusal (bare s)) is)
+same_written : (form : TextForm) (t : Table) (schema : List (Name × Kind)) → schema_of t ≡ schema → writing_fault form t ≡ writing_fault form (empty_table schema)
+same_written Csv t schema is = ap (λ (r : Option CsvFault). option_map (λ e. fault.NoText e) r) (sym (same_refusal t) ∙ ap (λ (s : List (Name × Kind)). text_refusal (empty_table s)) is)
 same_written Json t schema is = refl
 same_written (Layout width) t schema is = refl
 
@@ -63,7 +63,7 @@ same_written (Layout width) t schema is = refl
 
 module _ (form : TextForm) (separator : ℕ) (q : Request) where
   answers_written : (outcome : Result (List Col) PolarsError) → IfOk outcome (λ t. IsAnswer q (table_of t))
-      → IfOk outcome (λ t. not_written form (table_of t) ≡ not_written form (bare (out_columns q)))
+      → IfOk outcome (λ t. writing_fault form (table_of t) ≡ writing_fault form (empty_table (out_columns q)))
   answers_written (Ok t) answer = same_written form (table_of t) (out_columns q) answer.columns
   answers_written (Err e) answer = tt
 
@@ -71,7 +71,7 @@ module _ (form : TextForm) (separator : ℕ) (q : Request) where
       → causes.Settles outcome (join_refusal q) → IfOk outcome (λ t. IsAnswer q (table_of t))
       → IsOutcome form separator outcome result → Settles result (first_fault (answer_faults form q))
   answer_settles outcome result settles answer is =
-      outcome_settles form separator outcome result (join_refusal q) (not_written form (bare (out_columns q))) settles (answers_written outcome answer) is
+      outcome_settles form separator outcome result (join_refusal q) (writing_fault form (empty_table (out_columns q))) settles (answers_written outcome answer) is
 
 -- ---- the names that are lent
 

@@ -23,7 +23,7 @@ use Rattle.tb_front.specs.declared.arguments.DummiesArguments.{DummiesArguments}
 use Rattle.tb_front.specs.declared.arguments.PivotArguments.{PivotArguments}
 use Rattle.tb_front.specs.declared.fault.FrontFault.{FrontFault}
 use Rattle.tb_front.specs.declared.fault.Place.TheVariants.{First, Second}
-use Rattle.tb_front.specs.Faults.{bare, first_fault, no_table, not_written, refused}
+use Rattle.tb_front.specs.Faults.{empty_table, first_fault, no_table, writing_fault, refusal_fault}
 use Rattle.tb_front.specs.Texts.{table_in, text_in}
 
 -- JOINS
@@ -38,7 +38,7 @@ asked_join a left right = asked_of a (table_in a.options left) (table_in a.optio
 
 -- why a request isn't answered by a text: it is refused, or a table of the names and types of its answers has no text
 abbrev pub answer_faults : TextForm → joined.Request → List (Option FrontFault)
-answer_faults form q = refused (join_refusal q) ∷ not_written form (bare (out_columns q)) ∷ []
+answer_faults form q = refusal_fault (join_refusal q) ∷ writing_fault form (empty_table (out_columns q)) ∷ []
 
 -- why two texts aren't joined
 abbrev pub join_fault : JoinArguments → List ℕ → List ℕ → Option FrontFault
@@ -53,7 +53,7 @@ IsAnswerText form separator q text = (t : Table) × IsAnswer q t × (text ≡ te
 
 -- why a table has no answer with a text: the operation refuses, or its answer has no text
 abbrev pub table_faults : TextForm → Option PolarsError → Table → List (Option FrontFault)
-table_faults form cause answer = refused cause ∷ not_written form answer ∷ []
+table_faults form cause answer = refusal_fault cause ∷ writing_fault form answer ∷ []
 
 -- what is asked of the table that is made long
 abbrev pub long_of : UnpivotArguments → Table → long.Request

@@ -29,15 +29,15 @@ abbrev pub no_table : CsvOptions → Place → List ℕ → Option FrontFault
 no_table options place text = option_map (λ e. NoTable place e) (csv_refusal options.types.items (records_of options.separator text))
 
 -- why the operation refuses
-abbrev pub refused : Option PolarsError → Option FrontFault
-refused cause = option_map (λ e. Refused e) cause
+abbrev pub refusal_fault : Option PolarsError → Option FrontFault
+refusal_fault cause = option_map (λ e. Refused e) cause
 
 -- why a table has no text in a form
-abbrev pub not_written : TextForm → Table → Option FrontFault
-not_written Csv t = option_map (λ e. NoText e) (text_refusal t)
-not_written Json t = None
-not_written (Layout width) t = None
+abbrev pub writing_fault : TextForm → Table → Option FrontFault
+writing_fault Csv t = option_map (λ e. NoText e) (text_refusal t)
+writing_fault Json t = None
+writing_fault (Layout width) t = None
 
 -- a table of these names and types, without rows
-abbrev pub bare : List (Name × Kind) → Table
-bare schema = map (λ (s : Name × Kind). record { name = s.0; kind = s.1; values = [] }) schema
+abbrev pub empty_table : List (Name × Kind) → Table
+empty_table schema = map (λ (s : Name × Kind). record { name = s.0; kind = s.1; values = [] }) schema

@@ -16,7 +16,7 @@ use Rattle.tb_front.specs.declared.arguments.TextForm.{TextForm}
 use Rattle.tb_front.specs.declared.arguments.TextForm.TheVariants.{Csv, Json, Layout}
 use Rattle.tb_front.specs.declared.fault.FrontFault.{FrontFault}
 use Rattle.tb_front.specs.declared.fault.FrontFault.TheVariants as fault
-use Rattle.tb_front.specs.Faults.{Settles, not_written}
+use Rattle.tb_front.specs.Faults.{Settles, writing_fault}
 
 -- the table that a text is
 abbrev pub table_in : CsvOptions → List ℕ → Table
@@ -35,5 +35,5 @@ fault_of e = fault.Refused e
 -- what an operation answers is handed on: the text of its table, or its refusal
 abbrev pub IsOutcome : TextForm → ℕ → Result (List Col) PolarsError → Result (Vec ℕ Global) FrontFault → Type 0
 IsOutcome form separator (Ok t) result =
-    Settles result (not_written form (table_of t)) × IfOk result (λ v. v.items ≡ text_in form separator (table_of t))
+    Settles result (writing_fault form (table_of t)) × IfOk result (λ v. v.items ≡ text_in form separator (table_of t))
 IsOutcome form separator (Err e) result = result ≡ Err (fault_of e)

@@ -2,7 +2,7 @@
 ghost use Rattle.std.specs.Prelude.{◌≡◌, IfOk};
 ghost use Rattle.tb_chunk.specs.Col.{Col};
 ghost use Rattle.tb_frame.specs.Table.{table_of};
-ghost use Rattle.tb_front.specs.Faults.{Settles, no_table, not_written};
+ghost use Rattle.tb_front.specs.Faults.{Settles, no_table, writing_fault};
 ghost use Rattle.tb_front.specs.Texts.{IsOutcome, table_in, text_in};
 
 use crate::arguments::TextForm;
@@ -32,7 +32,7 @@ pub(crate) fn read_table(
 }
 
 fn write_csv(alloc: Global, separator: u8, table: &DataFrame) -> Result<Vec<u8>, FrontFault>
-    ensures settles { Settles result (not_written TextForm.Csv (table_of table.now)) }
+    ensures settles { Settles result (writing_fault TextForm.Csv (table_of table.now)) }
     ensures text { IfOk result (λ v. v.items ≡ text_in TextForm.Csv separator (table_of table.now)) }
 {
     match csv_of_table(alloc, table, separator) {
@@ -43,7 +43,7 @@ fn write_csv(alloc: Global, separator: u8, table: &DataFrame) -> Result<Vec<u8>,
 }
 
 fn write_json(alloc: Global, table: &DataFrame) -> Result<Vec<u8>, FrontFault>
-    ensures settles { Settles result (not_written TextForm.Json (table_of table.now)) }
+    ensures settles { Settles result (writing_fault TextForm.Json (table_of table.now)) }
     ensures text { IfOk result (λ v. v.items ≡ text_in TextForm.Json 0 (table_of table.now)) }
 {
     match text_of(alloc, table) {
@@ -53,7 +53,7 @@ fn write_json(alloc: Global, table: &DataFrame) -> Result<Vec<u8>, FrontFault>
 }
 
 fn write_lines(alloc: Global, width: usize, table: &DataFrame) -> Result<Vec<u8>, FrontFault>
-    ensures settles { Settles result (not_written (TextForm.Layout width) (table_of table.now)) }
+    ensures settles { Settles result (writing_fault (TextForm.Layout width) (table_of table.now)) }
     ensures text { IfOk result (λ v. v.items ≡ text_in (TextForm.Layout width) 0 (table_of table.now)) }
 {
     match layout_of_table(alloc, table, width) {
@@ -68,7 +68,7 @@ fn write_table(
     separator: u8,
     table: &DataFrame,
 ) -> Result<Vec<u8>, FrontFault>
-    ensures settles { Settles result (not_written form (table_of table.now)) }
+    ensures settles { Settles result (writing_fault form (table_of table.now)) }
     ensures text { IfOk result (λ v. v.items ≡ text_in form separator (table_of table.now)) }
 {
     match form {

@@ -4,34 +4,34 @@ use Rattle.std.specs.List.{sum}
 use Rattle.std.proofs.lemmas.Bool.{cases_lt}
 use Rattle.tb_value.specs.Datum.{Datum}
 use Rattle.tb_value.specs.declared.sorted.IsSorted.{IsSorted}
-use Rattle.tb_chunk.specs.Col.{Col, flat, values}
+use Rattle.tb_chunk.specs.Col.{Col, concatenation, values}
 use Rattle.tb_chunk.specs.Made.{IsOf}
-use Rattle.tb_chunk.specs.Whole.{ViewRun, view_or_none}
+use Rattle.tb_chunk.specs.ViewArrays.{ViewArray, view_or_none}
 use Rattle.tb_view.specs.declared.view.View.{View}
 use Rattle.tb_frame.specs.Frame.{lens, lengths}
 use Rattle.tb_gather.specs.Ids.{Id, NamesRow, row_of, row_or_none}
-use Rattle.tb_gather.specs.Gathered.{gathered, pick, value_at}
+use Rattle.tb_gather.specs.Gathered.{gathered_column, pick, value_of_id}
 use Rattle.tb_gather.proofs.Naming.{sum-cons}
 
 -- what is gathered is picked by the numbers of the rows
-pub gathered-pick : (chunks : List (List Datum)) (ids : List Id) → map (value_at chunks) ids ≡ pick (flat chunks) (map (row_or_none (lengths chunks)) ids)
+pub gathered-pick : (chunks : List (List Datum)) (ids : List Id) → map (value_of_id chunks) ids ≡ pick (concatenation chunks) (map (row_or_none (lengths chunks)) ids)
 gathered-pick chunks [] = refl
-gathered-pick chunks (id ∷ ids) = ap (λ vs. value_at chunks id ∷ vs) (gathered-pick chunks ids)
+gathered-pick chunks (id ∷ ids) = ap (λ vs. value_of_id chunks id ∷ vs) (gathered-pick chunks ids)
 
 -- views are picked by the numbers of the rows
 pub picked-numbers : {R : Type 0} (number : R → Option ℕ) (rows : List R) (vs : List (Option View)) → map (λ r. view_or_none vs (number r)) rows ≡ map (view_or_none vs) (map number rows)
 picked-numbers number [] vs = refl
 picked-numbers number (r ∷ rows) vs = ap (λ ws. view_or_none vs (number r) ∷ ws) (picked-numbers number rows vs)
 
-pub gathered-along : (c : Col) (chunks : List (List Datum)) (runs : List ViewRun) (ids along : List Id) (sorted : IsSorted)
-    → flat chunks ≡ values c → map (row_or_none (lengths chunks)) along ≡ map (row_or_none (lens c)) ids
-    → IsOf c.name c.kind (gathered ids sorted c).chunks (gathered ids sorted c).flag (gathered along sorted (record c { chunks = chunks; runs = runs }))
+pub gathered-along : (c : Col) (chunks : List (List Datum)) (runs : List ViewArray) (ids along : List Id) (sorted : IsSorted)
+    → concatenation chunks ≡ values c → map (row_or_none (lengths chunks)) along ≡ map (row_or_none (lens c)) ids
+    → IsOf c.name c.kind (gathered_column ids sorted c).chunks (gathered_column ids sorted c).flag (gathered_column along sorted (record c { chunks = chunks; view_arrays = runs }))
 gathered-along c chunks runs ids along sorted same_values same =
-    let picked : map (value_at chunks) along ≡ map (value_at c.chunks) ids =
+    let picked : map (value_of_id chunks) along ≡ map (value_of_id c.chunks) ids =
     gathered-pick chunks along ∙ ((λ i. pick (same_values i) (same i)) ∙ sym (gathered-pick c.chunks ids))
     in
-    let cut : Col = record c { chunks = chunks; runs = runs } in
-    λ i. let k : Col = record (gathered along sorted cut) { chunks = picked i ∷ [] } in k
+    let cut : Col = record c { chunks = chunks; view_arrays = runs } in
+    λ i. let k : Col = record (gathered_column along sorted cut) { chunks = picked i ∷ [] } in k
 
 -- the row that a number is of
 row-at : (ns : List ℕ) (r : ℕ) → r < sum ns → (p : ℕ × ℕ) × NamesRow ns (Some p) × (row_of ns p ≡ r)

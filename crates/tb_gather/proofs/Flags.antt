@@ -11,12 +11,12 @@ use Rattle.tb_value.specs.Kind.{Kind}
 use Rattle.tb_value.specs.Typed.{HasType}
 use Rattle.tb_value.specs.declared.sorted.IsSorted.{IsSorted}
 use Rattle.tb_value.specs.declared.sorted.IsSorted.TheVariants.{Ascending, Descending, Not}
-use Rattle.tb_chunk.specs.Col.{Col, flat, values, IsColumn}
-use Rattle.tb_chunk.specs.Flag.{datum_cmp, present, nulls, IsOrdered, FlagHolds}
+use Rattle.tb_chunk.specs.Col.{Col, concatenation, values, IsColumn}
+use Rattle.tb_chunk.specs.Flag.{datum_cmp, present_values, nulls, IsOrdered, FlagHolds}
 use Rattle.tb_chunk.specs.Rows.{IsRowOf, value_or_null}
 use Rattle.tb_frame.specs.Frame.{lengths}
-use Rattle.tb_gather.specs.Ids.{Id, AreRun, NamesRow, RunsBy, IsRowUpTo, RowsRunBy, RowsAreRun, row_or_none}
-use Rattle.tb_gather.specs.Gathered.{value_at, gathered_flag, gathered, named_rows, opt_gathered, NameRows}
+use Rattle.tb_gather.specs.Ids.{Id, AreAllInOrder, NamesRow, StandInOrder, IsRowUpTo, RowsStandInOrder, AreAllRowsInOrder, row_or_none}
+use Rattle.tb_gather.specs.Gathered.{value_of_id, gathered_flag, gathered_column, named_rows, opt_gathered_column, NameRows}
 use Rattle.tb_gather.specs.declared.keep.Keep.TheVariants.{Used}
 use Rattle.tb_gather.proofs.Comparing.{IsOf, Orders, ascending-orders, descending-orders}
 use Rattle.tb_gather.proofs.Cuts.{gathered-pick}
@@ -32,10 +32,10 @@ module _ (order : Datum → Datum → Ordering) (t : Kind) (o : Orders order (Is
   all-stand : (vs : List Datum) → All (HasType t) vs → IsOrdered order t vs → (first : Bool) × AllStand first order vs
   unfolding AllStand
   all-stand vs typed h =
-      let fit : All (IsOf t) (present vs) = λ k d low. (All-filter is_present (HasType t) vs typed k d low, filter_passes is_present vs k d low) in
+      let fit : All (IsOf t) (present_values vs) = λ k d low. (All-filter is_present (HasType t) vs typed k d low, filter_passes is_present vs k d low) in
       elim h.2 [
-        | inl e ↦ (true, subst (AllStand true order) (sym e) (nulls-first order (IsOf t) o (nulls vs) (present vs) (filter_passes is_null vs) (filter_passes is_present vs) fit h.1))
-        | inr e ↦ (false, subst (AllStand false order) (sym e) (nulls-last order (IsOf t) o (nulls vs) (present vs) (filter_passes is_null vs) (filter_passes is_present vs) fit h.1))
+        | inl e ↦ (true, subst (AllStand true order) (sym e) (nulls-first order (IsOf t) o (nulls vs) (present_values vs) (filter_passes is_null vs) (filter_passes is_present vs) fit h.1))
+        | inr e ↦ (false, subst (AllStand false order) (sym e) (nulls-last order (IsOf t) o (nulls vs) (present_values vs) (filter_passes is_null vs) (filter_passes is_present vs) fit h.1))
       ]
 
 -- ROWS THAT RUN
@@ -101,7 +101,7 @@ module _ (vs : List Datum) (rows : List (Option ℕ)) (some : All (λ (row : Opt
         let pairs = pairs-turned s.0 order s.1 runs in
         (ordered.0, in-order-of-pairs (not s.0) (flip_args order) (map (value_or_null vs) rows) pairs, ends-of-pairs (not s.0) (flip_args order) (map (value_or_null vs) rows) pairs)
 
-  flag-taken : (t : Kind) (flag sorted : IsSorted) → All (HasType t) vs → FlagHolds flag t vs → RowsRunBy sorted rows → FlagHolds (gathered_flag flag sorted) t (map (value_or_null vs) rows)
+  flag-taken : (t : Kind) (flag sorted : IsSorted) → All (HasType t) vs → FlagHolds flag t vs → RowsStandInOrder sorted rows → FlagHolds (gathered_flag flag sorted) t (map (value_or_null vs) rows)
   flag-taken t Ascending Ascending typed holds runs = order-kept datum_cmp t (ascending-orders t holds.0) typed holds runs
   flag-taken t Ascending Descending typed holds runs = order-turned datum_cmp t (ascending-orders t holds.0) typed holds runs
   flag-taken t Descending Ascending typed holds runs = order-kept (flip_args datum_cmp) t (descending-orders t holds.0) typed holds runs
@@ -129,45 +129,45 @@ flags-turned Not Descending = refl
 flags-turned Not Not = refl
 
 -- where values run in one direction and rows in one, what is taken by them runs so too
-flag-of-taken : (c : Col) (rows : List (Option ℕ)) (sorted : IsSorted) → IsColumn c → All (IsRowOf (length (values c))) rows → RowsAreRun sorted rows → FlagHolds (gathered_flag c.flag sorted) c.kind (map (value_or_null (values c)) rows)
+flag-of-taken : (c : Col) (rows : List (Option ℕ)) (sorted : IsSorted) → IsColumn c → All (IsRowOf (length (values c))) rows → AreAllRowsInOrder sorted rows → FlagHolds (gathered_flag c.flag sorted) c.kind (map (value_or_null (values c)) rows)
 flag-of-taken c rows Ascending column within run = flag-taken (values c) rows run.0 within c.kind c.flag Ascending column.typed column.flag_holds run.1
 flag-of-taken c rows Descending column within run = flag-taken (values c) rows run.0 within c.kind c.flag Descending column.typed column.flag_holds run.1
 flag-of-taken c rows Not column within run = subst (λ (f : IsSorted). FlagHolds f c.kind (map (value_or_null (values c)) rows)) (sym (flag-not c.flag)) tt
 
-pub flag-of-rows : (c : Col) (rows : List (Option ℕ)) (sorted : IsSorted) → IsColumn c → All (IsRowOf (length (values c))) rows → RowsAreRun sorted rows → FlagHolds (gathered_flag sorted c.flag) c.kind (map (value_or_null (values c)) rows)
+pub flag-of-rows : (c : Col) (rows : List (Option ℕ)) (sorted : IsSorted) → IsColumn c → All (IsRowOf (length (values c))) rows → AreAllRowsInOrder sorted rows → FlagHolds (gathered_flag sorted c.flag) c.kind (map (value_or_null (values c)) rows)
 flag-of-rows c rows sorted column within run =
     subst (λ (f : IsSorted). FlagHolds f c.kind (map (value_or_null (values c)) rows)) (flags-turned c.flag sorted) (flag-of-taken c rows sorted column within run)
 
 -- IDS THAT RUN
 
-flag-picked : (chunks : List (List Datum)) (ids : List Id) (some : All (λ (id : Id). IsSome id) ids) (named : All (NamesRow (lengths chunks)) ids) (t : Kind) (flag sorted : IsSorted) → All (HasType t) (flat chunks) → FlagHolds flag t (flat chunks) → RunsBy sorted ids → FlagHolds (gathered_flag flag sorted) t (map (value_at chunks) ids)
+flag-picked : (chunks : List (List Datum)) (ids : List Id) (some : All (λ (id : Id). IsSome id) ids) (named : All (NamesRow (lengths chunks)) ids) (t : Kind) (flag sorted : IsSorted) → All (HasType t) (concatenation chunks) → FlagHolds flag t (concatenation chunks) → StandInOrder sorted ids → FlagHolds (gathered_flag flag sorted) t (map (value_of_id chunks) ids)
 flag-picked chunks ids some named t flag sorted typed holds runs =
     let rows = map (row_or_none (lengths chunks)) ids in
     subst (FlagHolds (gathered_flag flag sorted) t) (sym (gathered-pick chunks ids))
-    (flag-taken (flat chunks) rows (rows-there (lengths chunks) ids some) (All-map (IsRowOf (length (flat chunks))) (row_or_none (lengths chunks)) ids (λ k d low. named-row chunks (get_or ids k d) (named k d low))) t flag sorted typed holds
+    (flag-taken (concatenation chunks) rows (rows-there (lengths chunks) ids some) (All-map (IsRowOf (length (concatenation chunks))) (row_or_none (lengths chunks)) ids (λ k d low. named-row chunks (get_or ids k d) (named k d low))) t flag sorted typed holds
     (rows-run (lengths chunks) ids some named sorted runs))
 
 -- what a column's flag and the run of ids say of the gathered values
-pub gathered-flag : (c : Col) (ids : List Id) (sorted : IsSorted) → IsColumn c → All (λ (id : Id). IsSome id) ids → NameRows ids c → RunsBy sorted ids → FlagHolds (gathered ids sorted c).flag c.kind (values (gathered ids sorted c))
+pub gathered-flag : (c : Col) (ids : List Id) (sorted : IsSorted) → IsColumn c → All (λ (id : Id). IsSome id) ids → NameRows ids c → StandInOrder sorted ids → FlagHolds (gathered_column ids sorted c).flag c.kind (values (gathered_column ids sorted c))
 gathered-flag c ids sorted column some named runs =
-    subst (FlagHolds (gathered_flag c.flag sorted) c.kind) (sym (append-nil (map (value_at c.chunks) ids)))
+    subst (FlagHolds (gathered_flag c.flag sorted) c.kind) (sym (append-nil (map (value_of_id c.chunks) ids)))
     (flag-picked c.chunks ids some named c.kind c.flag sorted column.typed column.flag_holds runs)
 
-pub flag-of-named : (c : Col) (ids : List Id) (sorted flag : IsSorted) → IsColumn c → All (λ (id : Id). IsSome id) ids → NameRows ids c → RunsBy sorted ids → flag ≡ gathered_flag c.flag sorted → FlagHolds flag c.kind (map (value_at c.chunks) ids)
+pub flag-of-named : (c : Col) (ids : List Id) (sorted flag : IsSorted) → IsColumn c → All (λ (id : Id). IsSome id) ids → NameRows ids c → StandInOrder sorted ids → flag ≡ gathered_flag c.flag sorted → FlagHolds flag c.kind (map (value_of_id c.chunks) ids)
 flag-of-named c ids sorted flag column some named runs is =
-    subst (λ (f : IsSorted). FlagHolds f c.kind (map (value_at c.chunks) ids)) (sym is) (flag-picked c.chunks ids some named c.kind c.flag sorted column.typed column.flag_holds runs)
+    subst (λ (f : IsSorted). FlagHolds f c.kind (map (value_of_id c.chunks) ids)) (sym is) (flag-picked c.chunks ids some named c.kind c.flag sorted column.typed column.flag_holds runs)
 
 -- the flag of what such ids gather is true
-pub flag-of-run : (c : Col) (ids : List Id) (sorted flag : IsSorted) → IsColumn c → NameRows ids c → AreRun sorted ids → flag ≡ gathered_flag c.flag sorted → FlagHolds flag c.kind (map (value_at c.chunks) ids)
+pub flag-of-run : (c : Col) (ids : List Id) (sorted flag : IsSorted) → IsColumn c → NameRows ids c → AreAllInOrder sorted ids → flag ≡ gathered_flag c.flag sorted → FlagHolds flag c.kind (map (value_of_id c.chunks) ids)
 flag-of-run c ids Ascending flag column named run is = flag-of-named c ids Ascending flag column run.0 named run.1 is
 flag-of-run c ids Descending flag column named run is = flag-of-named c ids Descending flag column run.0 named run.1 is
-flag-of-run c ids Not flag column named run is = subst (λ (f : IsSorted). FlagHolds f c.kind (map (value_at c.chunks) ids)) (sym (is ∙ flag-not c.flag)) tt
+flag-of-run c ids Not flag column named run is = subst (λ (f : IsSorted). FlagHolds f c.kind (map (value_of_id c.chunks) ids)) (sym (is ∙ flag-not c.flag)) tt
 
-pub are-run : (sorted : IsSorted) (ids : List Id) → All (λ (id : Id). IsSome id) ids → RunsBy sorted ids → AreRun sorted ids
+pub are-run : (sorted : IsSorted) (ids : List Id) → All (λ (id : Id). IsSome id) ids → StandInOrder sorted ids → AreAllInOrder sorted ids
 are-run Ascending ids some runs = (some, runs)
 are-run Descending ids some runs = (some, runs)
 are-run Not ids some runs = tt
 
 -- with no direction of the ids, what is gathered has the flag Not
-pub gathered-not : (ids : List Id) (cs : List Col) → map (gathered ids Not) cs ≡ map (opt_gathered ids) cs
+pub gathered-not : (ids : List Id) (cs : List Col) → map (gathered_column ids Not) cs ≡ map (opt_gathered_column ids) cs
 gathered-not ids cs = ap (λ (f : Col → Col). map f cs) (λ i c. named_rows Used ids (flag-not c.flag i) c)

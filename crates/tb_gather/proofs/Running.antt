@@ -7,7 +7,7 @@ use Rattle.std.proofs.lemmas.List.{get_or-map, length-map}
 use Rattle.std.proofs.lemmas.List.Elements.{All-map}
 use Rattle.tb_value.specs.declared.sorted.IsSorted.{IsSorted}
 use Rattle.tb_value.specs.declared.sorted.IsSorted.TheVariants.{Ascending, Descending, Not}
-use Rattle.tb_gather.specs.Ids.{Id, AreRun, NamesRow, IsUpTo, RunsBy, IsRowUpTo, RowsAreRun, RowsRunBy, row_of, row_or_none}
+use Rattle.tb_gather.specs.Ids.{Id, AreAllInOrder, NamesRow, IsUpTo, StandInOrder, IsRowUpTo, AreAllRowsInOrder, RowsStandInOrder, row_of, row_or_none}
 use Rattle.tb_gather.proofs.Naming.{row-before}
 
 up-of-rows : (lens : List ℕ) (p q : ℕ × ℕ) → NamesRow lens (Some p) → NamesRow lens (Some q) → row_of lens p ≤ row_of lens q → IsUpTo (Some p) (Some q)
@@ -29,7 +29,7 @@ module _ (lens : List ℕ) (ids : List Id) (named : All (NamesRow lens) ids) whe
   row-at : (i : ℕ) (d : Id) → i < length ids → get_or (map (row_or_none lens) ids) i (row_or_none lens d) ≡ row_or_none lens (get_or ids i d)
   row-at i d low = get_or-map (row_or_none lens) ids i d (row_or_none lens d) low
 
-  pub ids-run : (sorted : IsSorted) → RowsRunBy sorted (map (row_or_none lens) ids) → RunsBy sorted ids
+  pub ids-run : (sorted : IsSorted) → RowsStandInOrder sorted (map (row_or_none lens) ids) → StandInOrder sorted ids
   ids-run Ascending runs = λ i j d low high.
       let up = runs i j (row_or_none lens d) low (omega (arith, length-map ids (row_or_none lens))) in
       ids-up lens (get_or ids i d) (get_or ids j d) (named i d (omega arith)) (named j d high) (rw (row-at i d (omega arith), row-at j d high) at up)
@@ -63,7 +63,7 @@ module _ (lens : List ℕ) (ids : List Id) (some : All (λ (id : Id). IsSome id)
       let j-low : j < length ids = omega (arith, n) in
       rw (found i d low, found j d high) (rows-up lens (get_or ids i None) (get_or ids j None) (some i None i-low) (some j None j-low) (named i None i-low) (named j None j-low) runs)
 
-  pub rows-run : (sorted : IsSorted) → RunsBy sorted ids → RowsRunBy sorted (map (row_or_none lens) ids)
+  pub rows-run : (sorted : IsSorted) → StandInOrder sorted ids → RowsStandInOrder sorted (map (row_or_none lens) ids)
   rows-run Ascending runs = λ i j d low high. up i j d (omega arith) high (runs i j None low (omega (arith, length-map ids (row_or_none lens))))
   rows-run Descending runs = λ i j d low high. up j i d high (omega arith) (runs i j None low (omega (arith, length-map ids (row_or_none lens))))
   rows-run Not runs = tt
@@ -77,7 +77,7 @@ ids-there lens ids some = λ k d low.
     id-there lens (get_or ids k d) (subst (λ (row : Option ℕ). IsSome row) (get_or-map (row_or_none lens) ids k d None low) (some k None (omega (arith, length-map ids (row_or_none lens)))))
 
 -- ids of rows that run so are all there and run so
-pub ids-are-run : (sorted : IsSorted) (lens : List ℕ) (ids : List Id) (rows : List (Option ℕ)) → map (row_or_none lens) ids ≡ rows → (RowsRunBy sorted rows → RunsBy sorted ids) → RowsAreRun sorted rows → AreRun sorted ids
+pub ids-are-run : (sorted : IsSorted) (lens : List ℕ) (ids : List Id) (rows : List (Option ℕ)) → map (row_or_none lens) ids ≡ rows → (RowsStandInOrder sorted rows → StandInOrder sorted ids) → AreAllRowsInOrder sorted rows → AreAllInOrder sorted ids
 ids-are-run Ascending lens ids rows are runs run = (ids-there lens ids (subst (λ (rs : List (Option ℕ)). All (λ (row : Option ℕ). IsSome row) rs) (sym are) run.0), runs run.1)
 ids-are-run Descending lens ids rows are runs run = (ids-there lens ids (subst (λ (rs : List (Option ℕ)). All (λ (row : Option ℕ). IsSome row) rs) (sym are) run.0), runs run.1)
 ids-are-run Not lens ids rows are runs run = tt

@@ -8,11 +8,11 @@ use Rattle.std.proofs.lemmas.List.Elements.{All-head, All-tail}
 use Rattle.tb_value.specs.declared.sorted.IsSorted.{IsSorted}
 use Rattle.tb_chunk.specs.Col.{Col, values}
 use Rattle.tb_chunk.specs.Rows.{value_or_null}
-use Rattle.tb_chunk.specs.Whole.{view_or_none, whole}
+use Rattle.tb_chunk.specs.ViewArrays.{view_or_none, joined_view_array}
 use Rattle.tb_frame.specs.Frame.{lens, AreCutAlike}
 use Rattle.tb_frame.proofs.Cuts.{alike-by_first}
 use Rattle.tb_gather.specs.Ids.{Id, NamesRow, row_or_none}
-use Rattle.tb_gather.specs.Gathered.{NameRows, gathered_flag, named_rows, pick, rows_gathered, value_at}
+use Rattle.tb_gather.specs.Gathered.{NameRows, gathered_flag, named_rows, pick, gathered_rows, value_of_id}
 use Rattle.tb_gather.specs.declared.keep.Keep.TheVariants as keep
 use Rattle.tb_gather.proofs.Cuts.{gathered-pick, picked-numbers}
 use Rattle.tb_gather.proofs.Flags.{flags-turned}
@@ -48,15 +48,15 @@ module _ (cs : List Col) (first : Col) (is : Some first ≡ slice_get cs 0) (ali
     abbrev over_all : Col → Col
     over_all c = named_rows keep.All ids (gathered_flag c.flag sorted) c
 
-    taken-of : (c : Col) → lens c ≡ lens first → over_all c ≡ rows_gathered rows sorted c
+    taken-of : (c : Col) → lens c ≡ lens first → over_all c ≡ gathered_rows rows sorted c
     taken-of c e =
         let own : map (row_or_none (lens c)) ids ≡ rows = ap (λ (ns : List ℕ). map (row_or_none ns) ids) e ∙ numbers in
-        let picked : map (value_at c.chunks) ids ≡ map (value_or_null (values c)) rows = gathered-pick c.chunks ids ∙ ap (pick (values c)) own in
-        let vs = (whole c.runs).views in
+        let picked : map (value_of_id c.chunks) ids ≡ map (value_or_null (values c)) rows = gathered-pick c.chunks ids ∙ ap (pick (values c)) own in
+        let vs = (joined_view_array c.view_arrays).views in
         let views : map (λ id. view_or_none vs (row_or_none (lens c) id)) ids ≡ map (view_or_none vs) rows =
         picked-numbers (row_or_none (lens c)) ids vs ∙ ap (map (view_or_none vs)) own
         in
-        λ i. let k : Col = record c { chunks = picked i ∷ []; flag = flags-turned c.flag sorted i; runs = record (whole c.runs) { views = views i } ∷ [] } in k
+        λ i. let k : Col = record c { chunks = picked i ∷ []; flag = flags-turned c.flag sorted i; view_arrays = record (joined_view_array c.view_arrays) { views = views i } ∷ [] } in k
 
-    pub gathered-rows : map (λ c. named_rows keep.All ids (gathered_flag c.flag sorted) c) cs ≡ map (rows_gathered rows sorted) cs
-    gathered-rows = map-agreed over_all (rows_gathered rows sorted) cs (λ k d low. taken-of (get_or cs k d) (same k d low))
+    pub gathered-rows : map (λ c. named_rows keep.All ids (gathered_flag c.flag sorted) c) cs ≡ map (gathered_rows rows sorted) cs
+    gathered-rows = map-agreed over_all (gathered_rows rows sorted) cs (λ k d low. taken-of (get_or cs k d) (same k d low))

@@ -10,7 +10,7 @@ use Rattle.std.specs.Prelude.{IsSorted as IsInOrder}
 use Rattle.std.specs.Ordering.{flip_args}
 use Rattle.std.specs.declared.cmp.Ordering.{Ordering}
 use Rattle.tb_value.specs.Datum.{Datum, null, is_null, is_present}
-use Rattle.tb_chunk.specs.Flag.{present, nulls, HasNullsAtOneEnd}
+use Rattle.tb_chunk.specs.Flag.{present_values, nulls, HasNullsAtOneEnd}
 use Rattle.tb_chunk.proofs.Flags.{AreNull, ArePresent, not_true, present_of_nulls, nulls_of_nulls, present_of_present, nulls_of_present}
 use Rattle.tb_gather.proofs.Comparing.{UpTo, Orders}
 
@@ -49,21 +49,21 @@ present-after v vs e h = λ k d low. let n : is_null (get_or vs k d) ≡ true �
 null-after : (v : Datum) (vs : List Datum) → is_null v ≡ true → All (NullUpTo false v) vs → AreNull vs
 null-after v vs e h = λ k d low. h k d low e
 
-ends-first : (xs : List Datum) → AllPairs (NullUpTo true) xs → xs ≡ nulls xs ++ present xs
+ends-first : (xs : List Datum) → AllPairs (NullUpTo true) xs → xs ≡ nulls xs ++ present_values xs
 ends-first [] h = refl
 ends-first (x ∷ xs) h = by_null (is_null x) refl (ends-first xs (pairs-tail (NullUpTo true) x xs h))
   where
-    by_null : (b : Bool) → is_null x ≡ b → xs ≡ nulls xs ++ present xs → x ∷ xs ≡ nulls (x ∷ xs) ++ present (x ∷ xs)
+    by_null : (b : Bool) → is_null x ≡ b → xs ≡ nulls xs ++ present_values xs → x ∷ xs ≡ nulls (x ∷ xs) ++ present_values (x ∷ xs)
     by_null true e rest = rw e (ap (λ ys. x ∷ ys) rest)
     by_null false e rest =
         let some : ArePresent xs = present-after x xs e (pairs-head (NullUpTo true) x xs h) in
         rw (e, nulls_of_present xs some, present_of_present xs some) refl
 
-ends-last : (xs : List Datum) → AllPairs (NullUpTo false) xs → xs ≡ present xs ++ nulls xs
+ends-last : (xs : List Datum) → AllPairs (NullUpTo false) xs → xs ≡ present_values xs ++ nulls xs
 ends-last [] h = refl
 ends-last (x ∷ xs) h = by_null (is_null x) refl (ends-last xs (pairs-tail (NullUpTo false) x xs h))
   where
-    by_null : (b : Bool) → is_null x ≡ b → xs ≡ present xs ++ nulls xs → x ∷ xs ≡ present (x ∷ xs) ++ nulls (x ∷ xs)
+    by_null : (b : Bool) → is_null x ≡ b → xs ≡ present_values xs ++ nulls xs → x ∷ xs ≡ present_values (x ∷ xs) ++ nulls (x ∷ xs)
     by_null true e rest =
         let none : AreNull xs = null-after x xs e (pairs-head (NullUpTo false) x xs h) in
         rw (e, nulls_of_nulls xs none, present_of_nulls xs none) refl
@@ -73,10 +73,10 @@ pub ends-of-pairs : (first : Bool) (order : Datum → Datum → Ordering) (xs : 
 ends-of-pairs true order xs h = inl (ends-first xs (λ i j d low high. (h i j d low high).0))
 ends-of-pairs false order xs h = inr (ends-last xs (λ i j d low high. (h i j d low high).0))
 
-pub in-order-of-pairs : (first : Bool) (order : Datum → Datum → Ordering) (xs : List Datum) → AllPairs (Stands first order) xs → IsInOrder order (present xs)
+pub in-order-of-pairs : (first : Bool) (order : Datum → Datum → Ordering) (xs : List Datum) → AllPairs (Stands first order) xs → IsInOrder order (present_values xs)
 in-order-of-pairs first order xs h = λ k d low high.
-    let pairs : AllPairs (Stands first order) (present xs) = AllPairs-filter (Stands first order) is_present xs h in
-    let some : ArePresent (present xs) = filter_passes is_present xs in
+    let pairs : AllPairs (Stands first order) (present_values xs) = AllPairs-filter (Stands first order) is_present xs h in
+    let some : ArePresent (present_values xs) = filter_passes is_present xs in
     (pairs k (k + 1) d (omega arith) high).1 (some k d (omega arith)) (some (k + 1) d high)
 
 -- FROM LISTS TO PAIRS
@@ -98,7 +98,7 @@ module _ (order : Datum → Datum → Ordering) (P : Datum → Type 0) (o : Orde
       let e : i + (j - i) ≡ j = omega arith in
       subst (λ (k : ℕ). UpTo order (get_or ps i null) (get_or ps k null)) e (far ps fit sorted i (j - i) (omega arith))
 
-  -- a null is not present
+  -- a null is not present_values
   clash : (v : Datum) → is_null v ≡ true → is_present v ≡ true → ⊥
   clash v n p = let f : is_null v ≡ false = not_true (is_null v) p in absurd (cc)
 

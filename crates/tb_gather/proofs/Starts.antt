@@ -7,14 +7,14 @@ use Rattle.std.proofs.lemmas.Bool.{cases_lt, leb-true, leb-false, le-leb}
 use Rattle.std.proofs.lemmas.List.{get_or_append_left, get_or-map, get_or_default, length-map, take_all}
 use Rattle.std.proofs.Math.Seq.{get_or-append_seam}
 use Rattle.tb_value.specs.Datum.{Datum}
-use Rattle.tb_chunk.specs.Col.{Col, flat}
+use Rattle.tb_chunk.specs.Col.{Col, concatenation}
 use Rattle.tb_frame.specs.Frame.{lens, lengths}
 use Rattle.tb_gather.specs.Ids.{AreStarts}
 use Rattle.tb_gather.proofs.Naming.{sum-cons}
 
-pub sum-total : (chunks : List (List Datum)) → sum (lengths chunks) ≡ length (flat chunks)
+pub sum-total : (chunks : List (List Datum)) → sum (lengths chunks) ≡ length (concatenation chunks)
 sum-total [] = refl
-sum-total (vs ∷ rest) = omega (arith, sum-cons (length vs) (lengths rest), sum-total rest, length-append vs (flat rest))
+sum-total (vs ∷ rest) = omega (arith, sum-cons (length vs) (lengths rest), sum-total rest, length-append vs (concatenation rest))
 
 sum-suc : (ns : List ℕ) (k : ℕ) → k < length ns → sum (take (suc k) ns) ≡ sum (take k ns) + get_or ns k 0
 sum-suc [] k h = absurd (omega arith)

@@ -29,16 +29,16 @@ IsUpTo (Some p) (Some q) = (p.0 < q.0) ⊎ ((p.0 ≡ q.0) × (p.1 ≤ q.1))
 IsUpTo _ _ = Unit {0}
 
 -- what a direction says of ids that are not none
-abbrev pub RunsBy : IsSorted → List Id → Type 0
-RunsBy Ascending ids = AllPairs IsUpTo ids
-RunsBy Descending ids = AllPairs (λ (a b : Id). IsUpTo b a) ids
-RunsBy Not ids = Unit {0}
+abbrev pub StandInOrder : IsSorted → List Id → Type 0
+StandInOrder Ascending ids = AllPairs IsUpTo ids
+StandInOrder Descending ids = AllPairs (λ (a b : Id). IsUpTo b a) ids
+StandInOrder Not ids = Unit {0}
 
 -- ids of which a direction is said are all there and run so
-abbrev pub AreRun : IsSorted → List Id → Type 0
-AreRun Ascending ids = All (λ (id : Id). IsSome id) ids × RunsBy Ascending ids
-AreRun Descending ids = All (λ (id : Id). IsSome id) ids × RunsBy Descending ids
-AreRun Not ids = Unit {0}
+abbrev pub AreAllInOrder : IsSorted → List Id → Type 0
+AreAllInOrder Ascending ids = All (λ (id : Id). IsSome id) ids × StandInOrder Ascending ids
+AreAllInOrder Descending ids = All (λ (id : Id). IsSome id) ids × StandInOrder Descending ids
+AreAllInOrder Not ids = Unit {0}
 
 -- not behind the other, where both are there
 abbrev pub IsRowUpTo : Option ℕ → Option ℕ → Type 0
@@ -46,16 +46,16 @@ IsRowUpTo (Some i) (Some j) = i ≤ j
 IsRowUpTo _ _ = Unit {0}
 
 -- what a direction says of row numbers that are not none
-abbrev pub RowsRunBy : IsSorted → List (Option ℕ) → Type 0
-RowsRunBy Ascending rows = AllPairs IsRowUpTo rows
-RowsRunBy Descending rows = AllPairs (λ (i j : Option ℕ). IsRowUpTo j i) rows
-RowsRunBy Not rows = Unit {0}
+abbrev pub RowsStandInOrder : IsSorted → List (Option ℕ) → Type 0
+RowsStandInOrder Ascending rows = AllPairs IsRowUpTo rows
+RowsStandInOrder Descending rows = AllPairs (λ (i j : Option ℕ). IsRowUpTo j i) rows
+RowsStandInOrder Not rows = Unit {0}
 
 -- row numbers of which a direction is said are all there and run so
-abbrev pub RowsAreRun : IsSorted → List (Option ℕ) → Type 0
-RowsAreRun Ascending rows = All (λ (row : Option ℕ). IsSome row) rows × RowsRunBy Ascending rows
-RowsAreRun Descending rows = All (λ (row : Option ℕ). IsSome row) rows × RowsRunBy Descending rows
-RowsAreRun Not rows = Unit {0}
+abbrev pub AreAllRowsInOrder : IsSorted → List (Option ℕ) → Type 0
+AreAllRowsInOrder Ascending rows = All (λ (row : Option ℕ). IsSome row) rows × RowsStandInOrder Ascending rows
+AreAllRowsInOrder Descending rows = All (λ (row : Option ℕ). IsSome row) rows × RowsStandInOrder Descending rows
+AreAllRowsInOrder Not rows = Unit {0}
 
 -- where each chunk of these lengths starts, as a row number
 pub record AreStarts (lens starts : List ℕ) : Type 0 where

@@ -2,7 +2,7 @@
 ghost use Rattle.std.specs.Prelude.{◌≡◌, ◌≤◌, IfOk, length, map};
 ghost use Rattle.tb_chunk.specs.Col.{physical};
 ghost use Rattle.tb_chunk.specs.Flag.{FlagHolds};
-ghost use Rattle.tb_gather.specs.Gathered.{NameRows, named_rows, value_at};
+ghost use Rattle.tb_gather.specs.Gathered.{NameRows, named_rows, value_of_id};
 ghost use Rattle.tb_gather.specs.declared.keep.Keep.TheVariants.{Used};
 
 use crate::directions::gathered_flag;
@@ -22,7 +22,7 @@ fn gather_array<T: PolarsDataType, const B: u64>(
 ) -> Result<ChunkedArray<T>, OutOfMemory>
     requires named { NameRows by.now array.now }
     requires few { length by.now ≤ MAX_ROWS }
-    requires flag { FlagHolds flag array.now.kind (map (value_at array.now.chunks) by.now) }
+    requires flag { FlagHolds flag array.now.kind (map (value_of_id array.now.chunks) by.now) }
     ensures { IfOk result (λ a. a ≡ named_rows Used by.now flag array.now) }
 {
     let _len = array.len();

@@ -1,13 +1,13 @@
 //! Chunks made of the rows that ids name.
 ghost use Rattle.std.specs.Prelude.{◌≡◌, ◌<◌, ◌^◌, ◌∷◌, ◌++◌, [], All, IfOk, OnOk, length, map};
 ghost use Rattle.tb_chunk.specs.Held.{AreHeld};
-ghost use Rattle.tb_chunk.specs.Runs.{chunk_runs};
+ghost use Rattle.tb_chunk.specs.ChunkViewArrays.{chunk_view_arrays};
 ghost use Rattle.tb_chunk.specs.Seen.{chunk_lists, storage};
-ghost use Rattle.tb_chunk.specs.Whole.{AreBases, picked_of, runs_of, view_or_none, whole};
+ghost use Rattle.tb_chunk.specs.ViewArrays.{AreBases, picked_of, view_arrays_of, view_or_none, joined_view_array};
 ghost use Rattle.tb_gather.specs.Ids.{NamesRow, row_or_none};
 ghost use Rattle.tb_frame.specs.Frame.{lengths};
-ghost use Rattle.tb_gather.specs.Gathered.{value_at};
-ghost use Rattle.tb_gather.specs.Kept.{kept_run, keeps_used};
+ghost use Rattle.tb_gather.specs.Gathered.{value_of_id};
+ghost use Rattle.tb_gather.specs.Kept.{kept_view_array, keeps_used};
 
 use crate::keep::Keep;
 use crate::used::gather_used;
@@ -24,12 +24,12 @@ fn push_named<C: Chunk, const B: u64>(
 ) -> Result<(), OutOfMemory>
     requires held { AreHeld (C.buffers out.old.chunk) out.old.bases.items (map C.buffers chunks.now) }
     requires room { length (C.shown out.old.chunk) < 2 ^ 63 }
-    requires bases { AreBases out.old.bases.items (runs_of C.views C.buffers chunks.now) }
+    requires bases { AreBases out.old.bases.items (view_arrays_of C.views C.buffers chunks.now) }
     requires named { NamesRow (lengths (map C.shown chunks.now)) id.now }
-    ensures shown { OnOk result (C.shown out.new.chunk ≡ C.shown out.old.chunk ++ value_at (map C.shown chunks.now) id.now ∷ []) }
+    ensures shown { OnOk result (C.shown out.new.chunk ≡ C.shown out.old.chunk ++ value_of_id (map C.shown chunks.now) id.now ∷ []) }
     ensures held { AreHeld (C.buffers out.new.chunk) out.new.bases.items (map C.buffers chunks.now) }
     ensures views { OnOk result (C.views out.new.chunk ≡ C.views out.old.chunk
-        ++ view_or_none (whole (runs_of C.views C.buffers chunks.now)).views (row_or_none (lengths (map C.shown chunks.now)) id.now) ∷ []) }
+        ++ view_or_none (joined_view_array (view_arrays_of C.views C.buffers chunks.now)).views (row_or_none (lengths (map C.shown chunks.now)) id.now) ∷ []) }
     ensures buffers { C.buffers out.new.chunk ≡ C.buffers out.old.chunk }
     ensures bases { out.new.bases.items ≡ out.old.bases.items }
 {
@@ -48,9 +48,9 @@ fn gather_all<C: Chunk, const B: u64>(
 ) -> Result<C, OutOfMemory>
     requires named { All (NamesRow (lengths (map C.shown chunks.now))) ids.now }
     requires few { length ids.now < 2 ^ 32 }
-    ensures shown { IfOk result (λ c. C.shown c ≡ map (value_at (map C.shown chunks.now)) ids.now) }
-    ensures views { IfOk result (λ c. C.views c ≡ (picked_of (row_or_none (lengths (map C.shown chunks.now))) ids.now (whole (runs_of C.views C.buffers chunks.now))).views) }
-    ensures buffers { IfOk result (λ c. C.buffers c ≡ (whole (runs_of C.views C.buffers chunks.now)).buffers) }
+    ensures shown { IfOk result (λ c. C.shown c ≡ map (value_of_id (map C.shown chunks.now)) ids.now) }
+    ensures views { IfOk result (λ c. C.views c ≡ (picked_of (row_or_none (lengths (map C.shown chunks.now))) ids.now (joined_view_array (view_arrays_of C.views C.buffers chunks.now))).views) }
+    ensures buffers { IfOk result (λ c. C.buffers c ≡ (joined_view_array (view_arrays_of C.views C.buffers chunks.now)).buffers) }
 {
     let mut out = Growing::over(alloc, chunks, ids.len())?;
     for id in ids {
@@ -78,9 +78,9 @@ fn gather<C: Chunk, const B: u64>(
 ) -> Result<C, OutOfMemory>
     requires named { All (NamesRow (lengths (map C.shown chunks.now))) ids.now }
     requires few { length ids.now < 2 ^ 32 }
-    ensures shown { IfOk result (λ c. C.shown c ≡ map (value_at (map C.shown chunks.now)) ids.now) }
-    ensures views { IfOk result (λ c. C.views c ≡ (kept_run keep (lengths (map C.shown chunks.now)) ids.now (runs_of C.views C.buffers chunks.now)).views) }
-    ensures buffers { IfOk result (λ c. C.buffers c ≡ (kept_run keep (lengths (map C.shown chunks.now)) ids.now (runs_of C.views C.buffers chunks.now)).buffers) }
+    ensures shown { IfOk result (λ c. C.shown c ≡ map (value_of_id (map C.shown chunks.now)) ids.now) }
+    ensures views { IfOk result (λ c. C.views c ≡ (kept_view_array keep (lengths (map C.shown chunks.now)) ids.now (view_arrays_of C.views C.buffers chunks.now)).views) }
+    ensures buffers { IfOk result (λ c. C.buffers c ≡ (kept_view_array keep (lengths (map C.shown chunks.now)) ids.now (view_arrays_of C.views C.buffers chunks.now)).buffers) }
 {
     if keeps_used(keep, chunks.len(), ids.len()) {
         gather_used(alloc, chunks, ids)
@@ -98,8 +98,8 @@ pub(crate) fn gather_one<C: Chunk, const B: u64>(
 ) -> Result<Vec<C>, OutOfMemory>
     requires named { All (NamesRow (lengths (map C.shown chunks.now))) ids.now }
     requires few { length ids.now < 2 ^ 32 }
-    ensures shown { IfOk result (λ v. map C.shown v.items ≡ map (value_at (map C.shown chunks.now)) ids.now ∷ []) }
-    ensures runs { IfOk result (λ v. runs_of C.views C.buffers v.items ≡ kept_run keep (lengths (map C.shown chunks.now)) ids.now (runs_of C.views C.buffers chunks.now) ∷ []) }
+    ensures shown { IfOk result (λ v. map C.shown v.items ≡ map (value_of_id (map C.shown chunks.now)) ids.now ∷ []) }
+    ensures view_arrays { IfOk result (λ v. view_arrays_of C.views C.buffers v.items ≡ kept_view_array keep (lengths (map C.shown chunks.now)) ids.now (view_arrays_of C.views C.buffers chunks.now) ∷ []) }
 {
     let chunk = gather(alloc, chunks, ids, keep)?;
     let mut one = Vec::new(alloc);
@@ -116,9 +116,9 @@ fn gather_stored<C: Stored, const B: u64>(
 ) -> Result<Chunks, OutOfMemory>
     requires named { All (NamesRow (lengths (map C.shown chunks.now))) ids.now }
     requires few { length ids.now < 2 ^ 32 }
-    ensures lists { IfOk result (λ c. chunk_lists c ≡ map (value_at (map C.shown chunks.now)) ids.now ∷ []) }
+    ensures lists { IfOk result (λ c. chunk_lists c ≡ map (value_of_id (map C.shown chunks.now)) ids.now ∷ []) }
     ensures storage { IfOk result (λ c. storage c ≡ C.kind) }
-    ensures runs { IfOk result (λ c. chunk_runs c ≡ kept_run keep (lengths (map C.shown chunks.now)) ids.now (runs_of C.views C.buffers chunks.now) ∷ []) }
+    ensures view_arrays { IfOk result (λ c. chunk_view_arrays c ≡ kept_view_array keep (lengths (map C.shown chunks.now)) ids.now (view_arrays_of C.views C.buffers chunks.now) ∷ []) }
 {
     Ok(C::wrap(gather_one(alloc, chunks, ids, keep)?))
 }
@@ -132,9 +132,9 @@ pub(crate) fn gather_chunks<const B: u64>(
 ) -> Result<Chunks, OutOfMemory>
     requires named { All (NamesRow (lengths (chunk_lists chunks.now))) ids.now }
     requires few { length ids.now < 2 ^ 32 }
-    ensures lists { IfOk result (λ c. chunk_lists c ≡ map (value_at (chunk_lists chunks.now)) ids.now ∷ []) }
+    ensures lists { IfOk result (λ c. chunk_lists c ≡ map (value_of_id (chunk_lists chunks.now)) ids.now ∷ []) }
     ensures storage { IfOk result (λ c. storage c ≡ storage chunks.now) }
-    ensures runs { IfOk result (λ c. chunk_runs c ≡ kept_run keep (lengths (chunk_lists chunks.now)) ids.now (chunk_runs chunks.now) ∷ []) }
+    ensures view_arrays { IfOk result (λ c. chunk_view_arrays c ≡ kept_view_array keep (lengths (chunk_lists chunks.now)) ids.now (chunk_view_arrays chunks.now) ∷ []) }
 {
     match chunks {
         Chunks::BooleanType(chunks) => gather_stored(alloc, chunks, ids, keep),

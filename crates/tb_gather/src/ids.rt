@@ -4,7 +4,7 @@ ghost use Rattle.tb_value.specs.declared.sorted.IsSorted.{IsSorted};
 ghost use Rattle.tb_chunk.specs.Col.{values, IsColumn};
 ghost use Rattle.tb_chunk.specs.Rows.{IsRowOf};
 ghost use Rattle.tb_frame.specs.Frame.{lens};
-ghost use Rattle.tb_gather.specs.Ids.{AreStarts, NamesRow, RowsRunBy, RunsBy, row_or_none};
+ghost use Rattle.tb_gather.specs.Ids.{AreStarts, NamesRow, RowsStandInOrder, StandInOrder, row_or_none};
 ghost use Rattle.tb_gather.specs.Gathered.{NameRows};
 
 use std::alloc::Global;
@@ -83,7 +83,7 @@ pub fn ids_of<const B: u64>(
     requires rows { All (IsRowOf (length (values column.now))) rows.now }
     ensures named { IfOk result (λ v. NameRows v.items column.now) }
     ensures rows { IfOk result (λ v. map (row_or_none (lens column.now)) v.items ≡ rows.now) }
-    ensures runs { IfOk result (λ v. (sorted : IsSorted) → RowsRunBy sorted rows.now → RunsBy sorted v.items) }
+    ensures in_order { IfOk result (λ v. (sorted : IsSorted) → RowsStandInOrder sorted rows.now → StandInOrder sorted v.items) }
 {
     let _len = column.len();
     let starts = starts_of(alloc, column)?;

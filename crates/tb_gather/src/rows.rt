@@ -4,8 +4,8 @@ ghost use Rattle.tb_chunk.specs.Col.{Col};
 ghost use Rattle.tb_chunk.specs.Rows.{IsRowOf};
 ghost use Rattle.tb_frame.specs.Frame.{AreCutAlike};
 ghost use Rattle.tb_frame.specs.Table.{height, table_of};
-ghost use Rattle.tb_gather.specs.Gathered.{rows_gathered};
-ghost use Rattle.tb_gather.specs.Ids.{AreCutForIds, RowsAreRun};
+ghost use Rattle.tb_gather.specs.Gathered.{gathered_rows};
+ghost use Rattle.tb_gather.specs.Ids.{AreCutForIds, AreAllRowsInOrder};
 
 use crate::ids::ids_of;
 use crate::keep::Keep;
@@ -33,9 +33,9 @@ pub fn gather_rows(
     sorted: IsSorted,
 ) -> Result<DataFrame, OutOfMemory>
     requires rows { All (IsRowOf (height (table_of table.now))) rows.now }
-    requires runs { RowsAreRun sorted rows.now }
+    requires in_order { AreAllRowsInOrder sorted rows.now }
     requires few { length rows.now ≤ MAX_ROWS }
-    ensures { IfOk result (λ t. t ≡ map (rows_gathered rows.now sorted) table.now) }
+    ensures { IfOk result (λ t. t ≡ map (gathered_rows rows.now sorted) table.now) }
 {
     if are_in_one_chunk(table.get_columns()) || !is_cut_for_ids(table) {
         take_by_rows(rt, alloc, table, rows, sorted)
@@ -75,9 +75,9 @@ fn take_by_rows(
     sorted: IsSorted,
 ) -> Result<DataFrame, OutOfMemory>
     requires rows { All (IsRowOf (height (table_of table.now))) rows.now }
-    requires runs { RowsAreRun sorted rows.now }
+    requires in_order { AreAllRowsInOrder sorted rows.now }
     requires few { length rows.now ≤ MAX_ROWS }
-    ensures { IfOk result (λ t. t ≡ map (rows_gathered rows.now sorted) table.now) }
+    ensures { IfOk result (λ t. t ≡ map (gathered_rows rows.now sorted) table.now) }
 {
     let columns = take_side_by_side(rt, alloc, table.get_columns(), rows, sorted)?;
     made_table(alloc, columns)
@@ -93,9 +93,9 @@ fn gather_by_ids(
 ) -> Result<DataFrame, OutOfMemory>
     requires cut { AreCutForIds table.now }
     requires rows { All (IsRowOf (height (table_of table.now))) rows.now }
-    requires runs { RowsAreRun sorted rows.now }
+    requires in_order { AreAllRowsInOrder sorted rows.now }
     requires few { length rows.now ≤ MAX_ROWS }
-    ensures { IfOk result (λ t. t ≡ map (rows_gathered rows.now sorted) table.now) }
+    ensures { IfOk result (λ t. t ≡ map (gathered_rows rows.now sorted) table.now) }
 {
     match table.get_columns().first() {
         None => table.copy(alloc),

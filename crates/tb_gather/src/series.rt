@@ -3,8 +3,8 @@ ghost use Rattle.std.specs.Prelude.{◌≡◌, ◌≤◌, All, IfOk, length, map
 ghost use Rattle.tb_chunk.specs.Col.{values};
 ghost use Rattle.tb_chunk.specs.Flag.{FlagHolds};
 ghost use Rattle.tb_chunk.specs.Rows.{IsRowOf};
-ghost use Rattle.tb_gather.specs.Ids.{AreRun, RowsAreRun};
-ghost use Rattle.tb_gather.specs.Gathered.{NameRows, gathered_flag, named_rows, rows_gathered, value_at};
+ghost use Rattle.tb_gather.specs.Ids.{AreAllInOrder, AreAllRowsInOrder};
+ghost use Rattle.tb_gather.specs.Gathered.{NameRows, gathered_flag, named_rows, gathered_rows, value_of_id};
 
 use crate::directions::gathered_flag;
 use crate::gathering::gather_chunks;
@@ -24,7 +24,7 @@ fn gather_series<const B: u64>(
 ) -> Result<Series, OutOfMemory>
     requires named { NameRows by.now series.now }
     requires few { length by.now ≤ MAX_ROWS }
-    requires flag { FlagHolds flag series.now.kind (map (value_at series.now.chunks) by.now) }
+    requires flag { FlagHolds flag series.now.kind (map (value_of_id series.now.chunks) by.now) }
     ensures { IfOk result (λ s. s ≡ named_rows keep by.now flag series.now) }
 {
     let _len = series.len();
@@ -44,7 +44,7 @@ pub(crate) fn gather_column<const B: u64>(
     keep: Keep,
 ) -> Result<Column, OutOfMemory>
     requires named { NameRows by.now column.now }
-    requires runs { AreRun sorted by.now }
+    requires in_order { AreAllInOrder sorted by.now }
     requires few { length by.now ≤ MAX_ROWS }
     ensures { IfOk result (λ c. c ≡ named_rows keep by.now (gathered_flag column.now.flag sorted) column.now) }
 {
@@ -61,9 +61,9 @@ pub(crate) fn take_column(
     sorted: IsSorted,
 ) -> Result<Column, OutOfMemory>
     requires rows { All (IsRowOf (length (values column.now))) rows.now }
-    requires runs { RowsAreRun sorted rows.now }
+    requires in_order { AreAllRowsInOrder sorted rows.now }
     requires few { length rows.now ≤ MAX_ROWS }
-    ensures { IfOk result (λ c. c ≡ rows_gathered rows.now sorted column.now) }
+    ensures { IfOk result (λ c. c ≡ gathered_rows rows.now sorted column.now) }
 {
     let _len = column.len();
     let flag = gathered_flag(sorted, column.is_sorted_flag());

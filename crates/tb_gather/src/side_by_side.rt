@@ -2,8 +2,8 @@
 ghost use Rattle.std.specs.Prelude.{◌≡◌, ◌≤◌, All, IfOk, IsSome, length, map};
 ghost use Rattle.tb_chunk.specs.Col.{Col, values};
 ghost use Rattle.tb_chunk.specs.Rows.{IsRowOf};
-ghost use Rattle.tb_gather.specs.Ids.{AreRun, Id, RowsAreRun, RunsBy};
-ghost use Rattle.tb_gather.specs.Gathered.{NameRows, gathered, gathered_flag, named_rows, opt_gathered, rows_gathered};
+ghost use Rattle.tb_gather.specs.Ids.{AreAllInOrder, Id, AreAllRowsInOrder, StandInOrder};
+ghost use Rattle.tb_gather.specs.Gathered.{NameRows, gathered_column, gathered_flag, named_rows, opt_gathered_column, gathered_rows};
 
 use crate::keep::Keep;
 use crate::series::{gather_column, take_column};
@@ -30,9 +30,9 @@ pub trait TakeChunkedHorPar<const B: u64>: IntoDf {
     ) -> Result<DataFrame, OutOfMemory>
         requires present { All (λ (id : Id). IsSome id) idx.now }
         requires named { All (NameRows idx.now) (Self.frame self.now) }
-        requires runs { RunsBy sorted idx.now }
+        requires in_order { StandInOrder sorted idx.now }
         requires few { length idx.now ≤ MAX_ROWS }
-        ensures { IfOk result (λ t. t ≡ map (gathered idx.now sorted) (Self.frame self.now)) }
+        ensures { IfOk result (λ t. t ≡ map (gathered_column idx.now sorted) (Self.frame self.now)) }
     {
         let columns = gather_side_by_side(
             rt,
@@ -54,7 +54,7 @@ pub trait TakeChunkedHorPar<const B: u64>: IntoDf {
     ) -> Result<DataFrame, OutOfMemory>
         requires named { All (NameRows idx.now) (Self.frame self.now) }
         requires few { length idx.now ≤ MAX_ROWS }
-        ensures { IfOk result (λ t. t ≡ map (opt_gathered idx.now) (Self.frame self.now)) }
+        ensures { IfOk result (λ t. t ≡ map (opt_gathered_column idx.now) (Self.frame self.now)) }
     {
         let not = IsSorted::Not;
         let columns = gather_side_by_side(
@@ -86,7 +86,7 @@ pub(crate) fn gather_side_by_side<const B: u64>(
     keep: Keep,
 ) -> Result<Vec<Column>, OutOfMemory>
     requires named { All (NameRows by.now) columns.now }
-    requires runs { AreRun sorted by.now }
+    requires in_order { AreAllInOrder sorted by.now }
     requires few { length by.now ≤ MAX_ROWS }
     ensures { IfOk result (λ v. v.items ≡ map (λ c. named_rows keep by.now (gathered_flag c.flag sorted) c) columns.now) }
 {
@@ -96,7 +96,7 @@ pub(crate) fn gather_side_by_side<const B: u64>(
         .map(
             |column: &Column| -> Result<Column, OutOfMemory>
                 requires named { NameRows by.now column.now }
-                requires runs { AreRun sorted by.now }
+                requires in_order { AreAllInOrder sorted by.now }
                 requires few { length by.now ≤ MAX_ROWS }
                 ensures { IfOk result (λ c. c ≡ named_rows keep by.entry.now (gathered_flag column.now.flag sorted) column.now) }
             { gather_column(alloc, column, by, sorted, keep) },
@@ -113,9 +113,9 @@ pub(crate) fn take_side_by_side(
     sorted: IsSorted,
 ) -> Result<Vec<Column>, OutOfMemory>
     requires rows { All (λ (c : Col). All (IsRowOf (length (values c))) rows.now) columns.now }
-    requires runs { RowsAreRun sorted rows.now }
+    requires in_order { AreAllRowsInOrder sorted rows.now }
     requires few { length rows.now ≤ MAX_ROWS }
-    ensures { IfOk result (λ v. v.items ≡ map (rows_gathered rows.now sorted) columns.now) }
+    ensures { IfOk result (λ v. v.items ≡ map (gathered_rows rows.now sorted) columns.now) }
 {
     columns
         .par_iter()
@@ -123,9 +123,9 @@ pub(crate) fn take_side_by_side(
         .map(
             |column: &Column| -> Result<Column, OutOfMemory>
                 requires rows { All (IsRowOf (length (values column.now))) rows.now }
-                requires runs { RowsAreRun sorted rows.now }
+                requires in_order { AreAllRowsInOrder sorted rows.now }
                 requires few { length rows.now ≤ MAX_ROWS }
-                ensures { IfOk result (λ c. c ≡ rows_gathered rows.entry.now sorted column.now) }
+                ensures { IfOk result (λ c. c ≡ gathered_rows rows.entry.now sorted column.now) }
             { take_column(alloc, column, rows, sorted) },
         )
         .collect(rt, alloc)?

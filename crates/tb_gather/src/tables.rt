@@ -1,8 +1,8 @@
 //! Rows of a table, gathered by ids.
 ghost use Rattle.std.specs.Prelude.{◌≡◌, ◌≤◌, All, IfOk, length, map};
 ghost use Rattle.tb_frame.specs.Table.{table_of, IsTable};
-ghost use Rattle.tb_gather.specs.Ids.{AreRun};
-ghost use Rattle.tb_gather.specs.Gathered.{NameRows, gathered};
+ghost use Rattle.tb_gather.specs.Ids.{AreAllInOrder};
+ghost use Rattle.tb_gather.specs.Gathered.{NameRows, gathered_column};
 
 use crate::keep::Keep;
 use crate::series::gather_column;
@@ -20,9 +20,9 @@ fn gather_columns<const B: u64>(
     sorted: IsSorted,
 ) -> Result<Vec<Column>, OutOfMemory>
     requires named { All (NameRows by.now) columns.now }
-    requires runs { AreRun sorted by.now }
+    requires in_order { AreAllInOrder sorted by.now }
     requires few { length by.now ≤ MAX_ROWS }
-    ensures { IfOk result (λ v. v.items ≡ map (gathered by.now sorted) columns.now) }
+    ensures { IfOk result (λ v. v.items ≡ map (gathered_column by.now sorted) columns.now) }
 {
     let mut gathered = Vec::with_capacity(alloc, columns.len())?;
     for column in columns {

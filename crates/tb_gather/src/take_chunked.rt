@@ -1,7 +1,7 @@
 //! What rows are gathered from, by ids.
 ghost use Rattle.std.specs.Prelude.{◌≡◌, ◌≤◌, All, IfOk, IsSome, length, map};
-ghost use Rattle.tb_gather.specs.Ids.{Id, RunsBy};
-ghost use Rattle.tb_gather.specs.Gathered.{NameRows, gathered, opt_gathered};
+ghost use Rattle.tb_gather.specs.Ids.{Id, StandInOrder};
+ghost use Rattle.tb_gather.specs.Gathered.{NameRows, gathered_column, opt_gathered_column};
 
 use std::alloc::Global;
 use tb_value::{ChunkId, IsSorted, MAX_ROWS, OutOfMemory};
@@ -29,9 +29,9 @@ pub trait TakeChunked<const B: u64>: Sized {
     ) -> Result<Self, OutOfMemory>
         requires present { All (λ (id : Id). IsSome id) by.now }
         requires named { All (NameRows by.now) (columns self.now) }
-        requires runs { RunsBy sorted by.now }
+        requires in_order { StandInOrder sorted by.now }
         requires few { length by.now ≤ MAX_ROWS }
-        ensures { IfOk result (λ r. columns r ≡ map (gathered by.now sorted) (columns self.now)) };
+        ensures { IfOk result (λ r. columns r ≡ map (gathered_column by.now sorted) (columns self.now)) };
 
     /// As `take_chunked_unchecked`, where a null id gives Null, with the flag Not.
     fn take_opt_chunked_unchecked(
@@ -41,5 +41,5 @@ pub trait TakeChunked<const B: u64>: Sized {
     ) -> Result<Self, OutOfMemory>
         requires named { All (NameRows by.now) (columns self.now) }
         requires few { length by.now ≤ MAX_ROWS }
-        ensures { IfOk result (λ r. columns r ≡ map (opt_gathered by.now) (columns self.now)) };
+        ensures { IfOk result (λ r. columns r ≡ map (opt_gathered_column by.now) (columns self.now)) };
 }

@@ -1,10 +1,10 @@
 //! Chunks made of the rows that ids name, over the buffers that their texts lie in.
 ghost use Rattle.std.specs.Prelude.{◌≡◌, ◌<◌, ◌^◌, ◌∷◌, ◌++◌, [], All, Contains, IfOk, IfSome, OnOk, length, map};
-ghost use Rattle.tb_chunk.specs.Whole.{runs_of};
+ghost use Rattle.tb_chunk.specs.ViewArrays.{view_arrays_of};
 ghost use Rattle.tb_frame.specs.Frame.{lengths};
-ghost use Rattle.tb_gather.specs.Gathered.{value_at};
+ghost use Rattle.tb_gather.specs.Gathered.{value_of_id};
 ghost use Rattle.tb_gather.specs.Ids.{NamesRow};
-ghost use Rattle.tb_gather.specs.Kept.{IsPlace, buffer_at, number_in, place_of, used_places, used_run, view_among};
+ghost use Rattle.tb_gather.specs.Kept.{IsPlace, buffer_at, number_in, place_of, used_places, used_view_array, view_among};
 
 use indexmap::IndexSet;
 use std::alloc::Global;
@@ -17,8 +17,8 @@ type Place = (usize, u32);
 // Where the text of the row lies that an id names, none where it is short or there is none.
 fn place_of<C: Chunk, const B: u64>(chunks: &[C], id: &ChunkId<B>) -> Option<Place>
     requires named { NamesRow (lengths (map C.shown chunks.now)) id.now }
-    ensures place { result ≡ place_of (runs_of C.views C.buffers chunks.now) id.now }
-    ensures within { IfSome result (IsPlace (runs_of C.views C.buffers chunks.now)) }
+    ensures place { result ≡ place_of (view_arrays_of C.views C.buffers chunks.now) id.now }
+    ensures within { IfSome result (IsPlace (view_arrays_of C.views C.buffers chunks.now)) }
 {
     if id.is_null() {
         return None;
@@ -36,8 +36,8 @@ fn places_in_use<C: Chunk, const B: u64>(
     ids: &[ChunkId<B>],
 ) -> Result<IndexSet<Place>, OutOfMemory>
     requires named { All (NamesRow (lengths (map C.shown chunks.now))) ids.now }
-    ensures places { IfOk result (λ s. s.keys ≡ used_places (runs_of C.views C.buffers chunks.now) ids.now) }
-    ensures within { IfOk result (λ s. All (IsPlace (runs_of C.views C.buffers chunks.now)) s.keys) }
+    ensures places { IfOk result (λ s. s.keys ≡ used_places (view_arrays_of C.views C.buffers chunks.now) ids.now) }
+    ensures within { IfOk result (λ s. All (IsPlace (view_arrays_of C.views C.buffers chunks.now)) s.keys) }
 {
     let mut places = IndexSet::new(alloc);
     for id in ids {
@@ -55,10 +55,10 @@ fn over_places<C: Chunk>(
     places: &[Place],
     rows: usize,
 ) -> Result<C, OutOfMemory>
-    requires { All (IsPlace (runs_of C.views C.buffers chunks.now)) places.now }
+    requires { All (IsPlace (view_arrays_of C.views C.buffers chunks.now)) places.now }
     ensures shown { IfOk result (λ c. C.shown c ≡ []) }
     ensures views { IfOk result (λ c. C.views c ≡ []) }
-    ensures buffers { IfOk result (λ c. C.buffers c ≡ map (buffer_at (runs_of C.views C.buffers chunks.now)) places.now) }
+    ensures buffers { IfOk result (λ c. C.buffers c ≡ map (buffer_at (view_arrays_of C.views C.buffers chunks.now)) places.now) }
 {
     let mut out = C::with_capacity(alloc, rows)?;
     for (chunk, buffer) in places {
@@ -75,7 +75,7 @@ fn number_of<C: Chunk, const B: u64>(
 ) -> Option<u32>
     requires named { NamesRow (lengths (map C.shown chunks.now)) id.now }
     requires few { length places.now.keys < 2 ^ 32 }
-    ensures { result ≡ number_in places.now.keys (place_of (runs_of C.views C.buffers chunks.now) id.now) }
+    ensures { result ≡ number_in places.now.keys (place_of (view_arrays_of C.views C.buffers chunks.now) id.now) }
 {
     let place = place_of(chunks, id)?;
     let number = places.get_index_of(&place)?;
@@ -92,10 +92,10 @@ fn push_used<C: Chunk, const B: u64>(
 ) -> Result<(), OutOfMemory>
     requires room { length (C.shown out.old) < 2 ^ 63 }
     requires named { NamesRow (lengths (map C.shown chunks.now)) id.now }
-    requires held { C.buffers out.old ≡ map (buffer_at (runs_of C.views C.buffers chunks.now)) places.now.keys }
-    requires used { IfSome (place_of (runs_of C.views C.buffers chunks.now) id.now) (Contains places.now.keys) }
-    ensures shown { OnOk result (C.shown out.new ≡ C.shown out.old ++ value_at (map C.shown chunks.now) id.now ∷ []) }
-    ensures views { OnOk result (C.views out.new ≡ C.views out.old ++ view_among (runs_of C.views C.buffers chunks.now) places.now.keys id.now ∷ []) }
+    requires held { C.buffers out.old ≡ map (buffer_at (view_arrays_of C.views C.buffers chunks.now)) places.now.keys }
+    requires used { IfSome (place_of (view_arrays_of C.views C.buffers chunks.now) id.now) (Contains places.now.keys) }
+    ensures shown { OnOk result (C.shown out.new ≡ C.shown out.old ++ value_of_id (map C.shown chunks.now) id.now ∷ []) }
+    ensures views { OnOk result (C.views out.new ≡ C.views out.old ++ view_among (view_arrays_of C.views C.buffers chunks.now) places.now.keys id.now ∷ []) }
     ensures buffers { C.buffers out.new ≡ C.buffers out.old }
 {
     if id.is_null() {
@@ -114,9 +114,9 @@ pub(crate) fn gather_used<C: Chunk, const B: u64>(
 ) -> Result<C, OutOfMemory>
     requires named { All (NamesRow (lengths (map C.shown chunks.now))) ids.now }
     requires few { length ids.now < 2 ^ 32 }
-    ensures shown { IfOk result (λ c. C.shown c ≡ map (value_at (map C.shown chunks.now)) ids.now) }
-    ensures views { IfOk result (λ c. C.views c ≡ (used_run (runs_of C.views C.buffers chunks.now) ids.now).views) }
-    ensures buffers { IfOk result (λ c. C.buffers c ≡ (used_run (runs_of C.views C.buffers chunks.now) ids.now).buffers) }
+    ensures shown { IfOk result (λ c. C.shown c ≡ map (value_of_id (map C.shown chunks.now)) ids.now) }
+    ensures views { IfOk result (λ c. C.views c ≡ (used_view_array (view_arrays_of C.views C.buffers chunks.now) ids.now).views) }
+    ensures buffers { IfOk result (λ c. C.buffers c ≡ (used_view_array (view_arrays_of C.views C.buffers chunks.now) ids.now).buffers) }
 {
     let places = places_in_use(alloc, chunks, ids)?;
     let mut out = over_places(alloc, chunks, places.as_slice(), ids.len())?;

@@ -8,7 +8,7 @@ use Rattle.std.proofs.lemmas.Cmp.{nat_list_eq_equiv}
 use Rattle.std.proofs.lemmas.Slice.Eq.{bytes_eq-Decides}
 use Rattle.tb_value.specs.Names.{Name, same_name}
 use Rattle.tb_chunk.specs.Col.{Col}
-use Rattle.tb_keys.specs.Merging.{key_beside}
+use Rattle.tb_keys.specs.Coalescing.{key_beside}
 
 below : (a b : ℕ) → nat_lt (suc a) (suc b) ≡ nat_lt a b
 below a b = at (nat_lt a b) refl

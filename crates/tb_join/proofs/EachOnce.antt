@@ -3,7 +3,7 @@ use Rattle.std.proofs.Common.{◌≡◌, ℕ, zero, suc, ◌+◌, ◌<◌, Bool,
 use Rattle.std.specs.Prelude.{All, AllPairs, ◌≢◌, filter}
 use Rattle.std.specs.List.{flat_map, list_any, range_with_len}
 use Rattle.std.proofs.lemmas.List.Elements.{All-append, All-map}
-use Rattle.tb_value.specs.Pairs.{row_numbers, both, left_only, right_only, matched, left_unmet, right_unmet}
+use Rattle.tb_value.specs.Pairs.{row_numbers, both, left_only, right_only, matched_pairs, left_unmet, right_unmet}
 use Rattle.tb_value.specs.declared.index.JoinPair.{JoinPair}
 use Rattle.tb_value.proofs.Ascending.{Ascends_by, Ascends_by-append, Ascends_by-map, All-flat_map, kept_ascend, pairs_from-Ascends_by}
 use Rattle.tb_frame.specs.declared.args.JoinType.{JoinType}
@@ -76,7 +76,7 @@ module _ (l r : ℕ) (m : ℕ → ℕ → Bool) where
   right_alone : Ascends_by Differ (right_unmet l r m)
   right_alone = Ascends_by-map Differ ◌<◌ right_only other_right_alone (filter (λ j. not (list_any (λ i. m i j) (row_numbers l))) (row_numbers r)) (kept_ascend (λ j. not (list_any (λ i. m i j) (row_numbers l))) 0 r)
 
-  matched_has : (P : JoinPair → Type 0) → ((i j : ℕ) → P (both i j)) → All P (matched l r m)
+  matched_has : (P : JoinPair → Type 0) → ((i j : ℕ) → P (both i j)) → All P (matched_pairs l r m)
   matched_has P h = All-flat_map P row 0 0 l (omega arith) (λ i le. All-map P (both i) (filter (m i) (row_numbers r)) (each (λ j. P (both i j)) (h i) (filter (m i) (row_numbers r))))
 
   left_has : (P : JoinPair → Type 0) → ((i : ℕ) → P (left_only i)) → All P (left_unmet l r m)
@@ -85,24 +85,24 @@ module _ (l r : ℕ) (m : ℕ → ℕ → Bool) where
   right_has : (P : JoinPair → Type 0) → ((j : ℕ) → P (right_only j)) → All P (right_unmet l r m)
   right_has P h = All-map P right_only (filter (λ j. not (list_any (λ i. m i j) (row_numbers l))) (row_numbers r)) (each (λ j. P (right_only j)) h (filter (λ j. not (list_any (λ i. m i j) (row_numbers l))) (row_numbers r)))
 
-  left_apart : All (λ p. All (Differ p) (left_unmet l r m)) (matched l r m)
-  left_apart = apart_by HasRight (λ p. p.right ≡ None) by_right (matched l r m) (left_unmet l r m) (matched_has HasRight (λ i j. no_number j)) (left_has (λ p. p.right ≡ None) (λ i. refl))
+  left_apart : All (λ p. All (Differ p) (left_unmet l r m)) (matched_pairs l r m)
+  left_apart = apart_by HasRight (λ p. p.right ≡ None) by_right (matched_pairs l r m) (left_unmet l r m) (matched_has HasRight (λ i j. no_number j)) (left_has (λ p. p.right ≡ None) (λ i. refl))
 
-  right_apart : All (λ p. All (Differ p) (right_unmet l r m)) (matched l r m)
-  right_apart = apart_by HasLeft (λ p. p.left ≡ None) by_left (matched l r m) (right_unmet l r m) (matched_has HasLeft (λ i j. no_number i)) (right_has (λ p. p.left ≡ None) (λ j. refl))
+  right_apart : All (λ p. All (Differ p) (right_unmet l r m)) (matched_pairs l r m)
+  right_apart = apart_by HasLeft (λ p. p.left ≡ None) by_left (matched_pairs l r m) (right_unmet l r m) (matched_has HasLeft (λ i j. no_number i)) (right_has (λ p. p.left ≡ None) (λ j. refl))
 
   sides_apart : All (λ p. All (Differ p) (right_unmet l r m)) (left_unmet l r m)
   sides_apart = apart_by HasLeft (λ p. p.left ≡ None) by_left (left_unmet l r m) (right_unmet l r m) (left_has HasLeft (λ i. no_number i)) (right_has (λ p. p.left ≡ None) (λ j. refl))
 
   once : (how : JoinType) → Ascends_by Differ (listing_of how l r m)
   once Inner = rows 0 l
-  once Left = Ascends_by-append Differ (matched l r m) (left_unmet l r m) (rows 0 l) (alone (λ i. not (list_any (m i) (row_numbers r)))) left_apart
-  once Right = Ascends_by-append Differ (matched l r m) (right_unmet l r m) (rows 0 l) right_alone right_apart
+  once Left = Ascends_by-append Differ (matched_pairs l r m) (left_unmet l r m) (rows 0 l) (alone (λ i. not (list_any (m i) (row_numbers r)))) left_apart
+  once Right = Ascends_by-append Differ (matched_pairs l r m) (right_unmet l r m) (rows 0 l) right_alone right_apart
   once Full =
-      Ascends_by-append Differ (matched l r m ++ left_unmet l r m) (right_unmet l r m)
-      (Ascends_by-append Differ (matched l r m) (left_unmet l r m) (rows 0 l) (alone (λ i. not (list_any (m i) (row_numbers r)))) left_apart)
+      Ascends_by-append Differ (matched_pairs l r m ++ left_unmet l r m) (right_unmet l r m)
+      (Ascends_by-append Differ (matched_pairs l r m) (left_unmet l r m) (rows 0 l) (alone (λ i. not (list_any (m i) (row_numbers r)))) left_apart)
       right_alone
-      (All-append (λ p. All (Differ p) (right_unmet l r m)) (matched l r m) (left_unmet l r m) right_apart sides_apart)
+      (All-append (λ p. All (Differ p) (right_unmet l r m)) (matched_pairs l r m) (left_unmet l r m) right_apart sides_apart)
   once Semi = alone (λ i. list_any (m i) (row_numbers r))
   once Anti = alone (λ i. not (list_any (m i) (row_numbers r)))
 

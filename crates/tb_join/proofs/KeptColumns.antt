@@ -6,7 +6,7 @@ use Rattle.tb_value.specs.Names.{Name}
 use Rattle.tb_chunk.specs.Col.{Col}
 use Rattle.tb_frame.specs.Frame.{without_names}
 use Rattle.tb_frame.specs.Naming.{is_among}
-use Rattle.tb_frame.specs.Table.{TableColumn, Table, plain, table_of, height, IsTable}
+use Rattle.tb_frame.specs.Table.{TableColumn, Table, plain_column, table_of, height, IsTable}
 use Rattle.tb_frame.proofs.Frames.{without-table}
 
 -- no names leave none out
@@ -22,4 +22,4 @@ height-without names cs t some =
   where
     first : (ks : List Col) → 0 < length ks → All (λ (c : TableColumn). length c.values ≡ height (table_of cs)) (table_of ks) → height (table_of ks) ≡ height (table_of cs)
     first [] h all = absurd (omega arith)
-    first (k ∷ ks) h all = All-head (λ (c : TableColumn). length c.values ≡ height (table_of cs)) (plain k) (table_of ks) all
+    first (k ∷ ks) h all = All-head (λ (c : TableColumn). length c.values ≡ height (table_of cs)) (plain_column k) (table_of ks) all

@@ -11,10 +11,10 @@ use Rattle.tb_chunk.specs.Col.{Col}
 use Rattle.tb_chunk.specs.Lent.{lent_columns}
 use Rattle.tb_frame.specs.Join.{Request}
 use Rattle.tb_frame.specs.Refusal.{first_unknown, list_causes, name_causes}
-use Rattle.tb_frame.specs.Table.{Table, plain, table_of}
+use Rattle.tb_frame.specs.Table.{Table, plain_column, table_of}
 use Rattle.tb_frame.proofs.Causes.{map_none, no_cause, some_keys}
 use Rattle.tb_frame.proofs.Frames.{when_not}
-use Rattle.tb_keys.specs.Asked.{AreKeysOf, asked, asked_by_names}
+use Rattle.tb_keys.specs.Asked.{AreKeysOf, asked_request, asked_by_names}
 use Rattle.tb_keys.specs.Causes.{names_refusal}
 use Rattle.tb_keys.specs.declared.request.LentRequest.{LentRequest}
 use Rattle.tb_keys.specs.declared.request.NamedRequest.{NamedRequest}
@@ -23,9 +23,9 @@ use Rattle.tb_keys.proofs.KeysNamed.{keys_many}
 -- as many are lent as there are in a list of the same columns
 as_lent : (rs : List (Bor Col)) (ks : List Col) (t : Table) → table_of (lent_columns rs) ≡ t → table_of ks ≡ t → length rs ≡ length ks
 as_lent rs ks t is of =
-    sym (length-map rs (λ (b : Bor Col). b.now)) ∙ sym (length-map (lent_columns rs) plain) ∙ ap (λ (cs : Table). length cs) (is ∙ sym of) ∙ length-map ks plain
+    sym (length-map rs (λ (b : Bor Col). b.now)) ∙ sym (length-map (lent_columns rs) plain_column) ∙ ap (λ (cs : Table). length cs) (is ∙ sym of) ∙ length-map ks plain_column
 
-module _ (n : NamedRequest) (r : LentRequest) (lk rk : List Col) (is : asked r ≡ asked_by_names n) (none : names_refusal (table_of n.left.now) (table_of n.right.now) n.args.now.join_nulls n.left_on.now n.right_on.now ≡ None)
+module _ (n : NamedRequest) (r : LentRequest) (lk rk : List Col) (is : asked_request r ≡ asked_by_names n) (none : names_refusal (table_of n.left.now) (table_of n.right.now) n.args.now.join_nulls n.left_on.now n.right_on.now ≡ None)
     (of_left : AreKeysOf n.left.now n.left_on.now lk) (of_right : AreKeysOf n.right.now n.right_on.now rk) where
   abbrev causes : List (Option PolarsError)
   causes =

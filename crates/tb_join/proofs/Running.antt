@@ -13,7 +13,7 @@ use Rattle.std.proofs.lemmas.List.Sorted.{All-permutation, ranks_by, sorted_far}
 use Rattle.tb_value.specs.declared.index.JoinPair.{JoinPair}
 use Rattle.tb_value.specs.declared.sorted.IsSorted.{IsSorted}
 use Rattle.tb_value.specs.declared.sorted.IsSorted.TheVariants.{Ascending}
-use Rattle.tb_value.specs.Pairs.{both, left_first, left_met, left_only, left_unmet, matched, right_first, right_only, right_unmet, row_cmp, row_numbers}
+use Rattle.tb_value.specs.Pairs.{both, left_first, left_met, left_only, left_unmet, matched_pairs, right_first, right_only, right_unmet, row_cmp, row_numbers}
 use Rattle.tb_value.proofs.Orders.{left_first_total, right_first_total}
 use Rattle.tb_chunk.specs.Window.{part_from, part_to}
 use Rattle.tb_frame.specs.declared.args.Direction.{Direction}
@@ -25,8 +25,8 @@ use Rattle.tb_frame.specs.Answer.{IsListed}
 use Rattle.tb_frame.specs.Join.{Ascends, cut, direction, listing_of}
 use Rattle.tb_frame.proofs.Ranges.{All-cut}
 use Rattle.tb_frame.proofs.Windows.{slice_window}
-use Rattle.tb_gather.specs.Ids.{IsRowUpTo, RowsAreRun}
-use Rattle.tb_join.specs.Runs.{RunAsAsked, left_run, right_run}
+use Rattle.tb_gather.specs.Ids.{IsRowUpTo, AreAllRowsInOrder}
+use Rattle.tb_join.specs.RowOrder.{AscendAsAsked, left_order, right_order}
 
 -- PAIRS OF A LIST
 
@@ -72,7 +72,7 @@ right_up ps sorted = λ i j d low high.
 
 -- of pairs that are ordered by a side whose row each one has, those that are kept ascend by it
 module _ (side : JoinPair → Option ℕ) (s : Option (ℤ × ℕ)) (list ps items : List JoinPair) (same : IsPermutation list ps) (is : items ≡ cut s ps) where
-  ascending : All (λ (p : JoinPair). IsSome (side p)) list → AllPairs (λ (p q : JoinPair). IsRowUpTo (side p) (side q)) ps → RowsAreRun Ascending (map side items)
+  ascending : All (λ (p : JoinPair). IsSome (side p)) list → AllPairs (λ (p q : JoinPair). IsRowUpTo (side p) (side q)) ps → AreAllRowsInOrder Ascending (map side items)
   ascending there up =
       let kept : All (λ (p : JoinPair). IsSome (side p)) items = subst (λ (xs : List JoinPair). All (λ (p : JoinPair). IsSome (side p)) xs) (sym is) (All-cut (λ (p : JoinPair). IsSome (side p)) s ps (All-permutation (λ (p : JoinPair). IsSome (side p)) list ps same there)) in
       let runs : AllPairs (λ (p q : JoinPair). IsRowUpTo (side p) (side q)) items = subst (λ (xs : List JoinPair). AllPairs (λ (p q : JoinPair). IsRowUpTo (side p) (side q)) xs) (sym is) (AllPairs-cut (λ (p q : JoinPair). IsRowUpTo (side p) (side q)) s ps up) in
@@ -86,7 +86,7 @@ module _ (side : JoinPair → Option ℕ) (s : Option (ℤ × ℕ)) (list ps ite
 
 -- ROWS THAT EACH PAIR HAS
 
-all_matched : (P : JoinPair → Type 0) → ((i j : ℕ) → P (both i j)) → (l r : ℕ) (m : ℕ → ℕ → Bool) → All P (matched l r m)
+all_matched : (P : JoinPair → Type 0) → ((i j : ℕ) → P (both i j)) → (l r : ℕ) (m : ℕ → ℕ → Bool) → All P (matched_pairs l r m)
 all_matched P each l r m = over (row_numbers l)
   where
     over : (rows : List ℕ) → All P (flat_map (λ i. map (both i) (filter (m i) (row_numbers r))) rows)
@@ -100,13 +100,13 @@ abbrev HasRight : JoinPair → Type 0
 HasRight p = IsSome p.right
 
 module _ (l r : ℕ) (m : ℕ → ℕ → Bool) (s : Option (ℤ × ℕ)) (ps items : List JoinPair) where
-  left-runs : (d : Direction) (how : JoinType) → IsPermutation (listing_of how l r m) ps → Ascends d ps → items ≡ cut s ps → RowsAreRun (left_run d how) (map (λ (p : JoinPair). p.left) items)
+  left-runs : (d : Direction) (how : JoinType) → IsPermutation (listing_of how l r m) ps → Ascends d ps → items ≡ cut s ps → AreAllRowsInOrder (left_order d how) (map (λ (p : JoinPair). p.left) items)
   left-runs Free how same up is = tt
   left-runs ByRight how same up is = tt
-  left-runs ByLeft Inner same up is = ascending (λ (p : JoinPair). p.left) s (matched l r m) ps items same is (all_matched HasLeft (λ i j. refl) l r m) (left_up ps up)
+  left-runs ByLeft Inner same up is = ascending (λ (p : JoinPair). p.left) s (matched_pairs l r m) ps items same is (all_matched HasLeft (λ i j. refl) l r m) (left_up ps up)
   left-runs ByLeft Left same up is =
-      ascending (λ (p : JoinPair). p.left) s (matched l r m ++ left_unmet l r m) ps items same is
-      (All-append HasLeft (matched l r m) (left_unmet l r m) (all_matched HasLeft (λ i j. refl) l r m) (All-map HasLeft left_only (filter (λ i. not (list_any (m i) (row_numbers r))) (row_numbers l)) (λ k d low. refl))) (left_up ps up)
+      ascending (λ (p : JoinPair). p.left) s (matched_pairs l r m ++ left_unmet l r m) ps items same is
+      (All-append HasLeft (matched_pairs l r m) (left_unmet l r m) (all_matched HasLeft (λ i j. refl) l r m) (All-map HasLeft left_only (filter (λ i. not (list_any (m i) (row_numbers r))) (row_numbers l)) (λ k d low. refl))) (left_up ps up)
   left-runs ByLeft Semi same up is =
       ascending (λ (p : JoinPair). p.left) s (left_met l r m) ps items same is (All-map HasLeft left_only (filter (λ i. list_any (m i) (row_numbers r)) (row_numbers l)) (λ k d low. refl)) (left_up ps up)
   left-runs ByLeft Anti same up is =
@@ -114,20 +114,20 @@ module _ (l r : ℕ) (m : ℕ → ℕ → Bool) (s : Option (ℤ × ℕ)) (ps it
   left-runs ByLeft Right same up is = tt
   left-runs ByLeft Full same up is = tt
 
-  right-runs : (d : Direction) (how : JoinType) → IsPermutation (listing_of how l r m) ps → Ascends d ps → items ≡ cut s ps → RowsAreRun (right_run d how) (map (λ (p : JoinPair). p.right) items)
+  right-runs : (d : Direction) (how : JoinType) → IsPermutation (listing_of how l r m) ps → Ascends d ps → items ≡ cut s ps → AreAllRowsInOrder (right_order d how) (map (λ (p : JoinPair). p.right) items)
   right-runs Free how same up is = tt
   right-runs ByLeft how same up is = tt
-  right-runs ByRight Inner same up is = ascending (λ (p : JoinPair). p.right) s (matched l r m) ps items same is (all_matched HasRight (λ i j. refl) l r m) (right_up ps up)
+  right-runs ByRight Inner same up is = ascending (λ (p : JoinPair). p.right) s (matched_pairs l r m) ps items same is (all_matched HasRight (λ i j. refl) l r m) (right_up ps up)
   right-runs ByRight Right same up is =
-      ascending (λ (p : JoinPair). p.right) s (matched l r m ++ right_unmet l r m) ps items same is
-      (All-append HasRight (matched l r m) (right_unmet l r m) (all_matched HasRight (λ i j. refl) l r m) (All-map HasRight right_only (filter (λ j. not (list_any (λ i. m i j) (row_numbers l))) (row_numbers r)) (λ k d low. refl))) (right_up ps up)
+      ascending (λ (p : JoinPair). p.right) s (matched_pairs l r m ++ right_unmet l r m) ps items same is
+      (All-append HasRight (matched_pairs l r m) (right_unmet l r m) (all_matched HasRight (λ i j. refl) l r m) (All-map HasRight right_only (filter (λ j. not (list_any (λ i. m i j) (row_numbers l))) (row_numbers r)) (λ k d low. refl))) (right_up ps up)
   right-runs ByRight Left same up is = tt
   right-runs ByRight Full same up is = tt
   right-runs ByRight Semi same up is = tt
   right-runs ByRight Anti same up is = tt
 
 -- the rows of a listing that is ordered and cut as the arguments ask run as they say
-pub run-as-asked : (a : JoinArgs) (l r : ℕ) (m : ℕ → ℕ → Bool) (items : List JoinPair) → IsListed a.how a.maintain_order a.slice (listing_of a.how l r m) items → RunAsAsked a items
+pub run-as-asked : (a : JoinArgs) (l r : ℕ) (m : ℕ → ℕ → Bool) (items : List JoinPair) → IsListed a.how a.maintain_order a.slice (listing_of a.how l r m) items → AscendAsAsked a items
 run-as-asked a l r m items h = record {
   left = left-runs l r m a.slice h.pairs items (direction a.how a.maintain_order) a.how h.ordered.permutation h.ordered.ascends h.is;
   right = right-runs l r m a.slice h.pairs items (direction a.how a.maintain_order) a.how h.ordered.permutation h.ordered.ascends h.is;

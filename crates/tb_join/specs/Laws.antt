@@ -20,9 +20,9 @@ use Rattle.tb_frame.specs.declared.args.MaintainOrderJoin.TheVariants as order
 use Rattle.tb_frame.specs.declared.args.MaintainOrderJoin.{MaintainOrderJoin}
 use Rattle.tb_frame.specs.declared.null_flags.JoinNulls.TheVariants.{All, Each}
 use Rattle.tb_frame.specs.Table.{Table, IsTable, height}
-use Rattle.tb_frame.specs.Join.{Request, IsAnswer, IsOrdered, MergesAlike, cut, direction, field, listing, listing_of, matches, nulls}
+use Rattle.tb_frame.specs.Join.{Request, IsAnswer, IsOrdered, CoalescesAlike, cut, direction, field, listing, listing_of, matches, nulls_match}
 use Rattle.tb_frame.specs.Refusal.{join_refusal, join_valid}
-use Rattle.tb_frame.specs.Sides.{asking, exchanged, flip}
+use Rattle.tb_frame.specs.Sides.{asking, exchanged_request, flip}
 use Rattle.tb_frame.specs.Meaning.{Agree}
 use Rattle.tb_join.specs.Rows.{null_keys, full_right_left, cut_thrice, left_by_right, two_keys, two_keys_joined, split_texts, repeated_keys, validated, absent_by_turns, absent_twice, by_flagged_keys, by_keys, of_kinds, taken_name, number, numbers, keys, k_name, k_right_name}
 
@@ -41,17 +41,17 @@ Kept = (q : Request) (i : ℕ) → q.args.how ≡ Left → i < height q.left
 
 -- the Right listing is, up to order, the Left listing of the exchanged request with each pair turned round
 abbrev pub Turned : Type 0
-Turned = (q : Request) → IsPermutation (map turn (listing (asking Left (exchanged q)))) (listing (asking Right q))
+Turned = (q : Request) → IsPermutation (map turn (listing (asking Left (exchanged_request q)))) (listing (asking Right q))
 
 -- pairs are in an order for the one where they are, turned round, in the flipped order for the other
 abbrev pub TurnedOrder : Type 0
 TurnedOrder = (q : Request) (o : MaintainOrderJoin) (ps : List JoinPair)
-    → IsOrdered Right o ps (listing (asking Right q)) ↔ IsOrdered Left (flip o) (map turn ps) (listing (asking Left (exchanged q)))
+    → IsOrdered Right o ps (listing (asking Right q)) ↔ IsOrdered Left (flip o) (map turn ps) (listing (asking Left (exchanged_request q)))
 
 -- two rows match exactly where their fields agree at every place that both key lists have
 abbrev pub MatchesMean : Type 0
 MatchesMean = (q : Request) (i j : ℕ)
-    → Decides (matches q i j) ((p : ℕ) → p < min (length q.left_keys) (length q.right_keys) → Agree (nulls q p) (field q.left_keys p i) (field q.right_keys p j))
+    → Decides (matches q i j) ((p : ℕ) → p < min (length q.left_keys) (length q.right_keys) → Agree (nulls_match q p) (field q.left_keys p i) (field q.right_keys p j))
 
 -- the test of two values is their equality
 abbrev pub SameValue : Type 0
@@ -107,7 +107,7 @@ SlicedRows =
 
 -- a request of two tables that is not refused, and that merges columns of one type if any, has an answer
 abbrev pub SomeAnswer : Type 0
-SomeAnswer = (q : Request) → IsTable q.left → IsTable q.right → MergesAlike q → join_valid q → (t : Table) × IsAnswer q t
+SomeAnswer = (q : Request) → IsTable q.left → IsTable q.right → CoalescesAlike q → join_valid q → (t : Table) × IsAnswer q t
 
 -- no pair stands twice in a listing, whichever rows match
 abbrev pub EachOnce : Type 0

@@ -3,5 +3,5 @@ pub mod Laws
 pub mod Rows
 pub mod AnswerColumns
 pub mod Ready
-pub mod Runs
+pub mod RowOrder
 pub mod Traced

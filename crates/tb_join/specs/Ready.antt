@@ -1,11 +1,11 @@
 -- What a coalesced Full join needs of its keys' names.
 use Rattle.std.specs.Prelude.{◌≡◌, ◌≤◌, true, None, length}
-use Rattle.tb_frame.specs.Join.{MergesAlike, Request}
-use Rattle.tb_frame.specs.Naming.{coalesces, merges_keys}
+use Rattle.tb_frame.specs.Join.{CoalescesAlike, Request}
+use Rattle.tb_frame.specs.Naming.{coalesces, coalesces_keys}
 use Rattle.tb_frame.specs.Refusal.{first_unknown}
 
 -- where keys are merged, there is a right one for each left one, they are columns of their tables, and two that are merged have one type
-pub record CanMerge (q : Request) : Type 0 where
-  pub known : merges_keys q.args.how (coalesces q.args) ≡ true → first_unknown q.right q.right_on ≡ None
-  pub many : merges_keys q.args.how (coalesces q.args) ≡ true → length q.left_on ≤ length q.right_on
-  pub alike : MergesAlike q
+pub record CanCoalesceKeys (q : Request) : Type 0 where
+  pub known : coalesces_keys q.args.how (coalesces q.args) ≡ true → first_unknown q.right q.right_on ≡ None
+  pub many : coalesces_keys q.args.how (coalesces q.args) ≡ true → length q.left_on ≤ length q.right_on
+  pub alike : CoalescesAlike q

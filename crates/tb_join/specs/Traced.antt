@@ -3,10 +3,10 @@ use Rattle.std.specs.Prelude.{List}
 use Rattle.tb_value.specs.Names.{Name}
 use Rattle.tb_chunk.specs.Col.{Col}
 use Rattle.tb_frame.specs.declared.args.JoinArgs.{JoinArgs}
-use Rattle.tb_frame.specs.Frame.{selected}
+use Rattle.tb_frame.specs.Frame.{selected_columns}
 use Rattle.tb_pool.specs.ExecView.{ExecView}
 use Rattle.tb_pairs.specs.Trace.{Trace, trace_of}
 
 -- the trace of a join of two tables by the columns of these names
 abbrev pub named_trace : List Col → List Col → List Name → List Name → JoinArgs → ExecView → Trace
-named_trace left right left_on right_on args exec = trace_of args.how args exec (selected left_on left) (selected right_on right)
+named_trace left right left_on right_on args exec = trace_of args.how args exec (selected_columns left_on left) (selected_columns right_on right)

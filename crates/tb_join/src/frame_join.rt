@@ -5,11 +5,11 @@ ghost use Rattle.tb_frame.specs.Answer.{IsListed};
 ghost use Rattle.tb_frame.specs.Join.{IsAnswer, lent_request, listing, out};
 ghost use Rattle.tb_frame.specs.Refusal.{join_refusal, key_types};
 ghost use Rattle.tb_frame.specs.Table.{table_of};
-ghost use Rattle.tb_keys.specs.Asked.{asked, asked_by_names};
+ghost use Rattle.tb_keys.specs.Asked.{asked_request, asked_by_names};
 ghost use Rattle.tb_keys.specs.Causes.{later_refusal};
-ghost use Rattle.tb_join.specs.Asked.{plainly};
+ghost use Rattle.tb_join.specs.Asked.{plain_args};
 ghost use Rattle.tb_pairs.specs.Trace.{IsTraced, requested_trace};
-ghost use Rattle.tb_join.specs.Ready.{CanMerge};
+ghost use Rattle.tb_join.specs.Ready.{CanCoalesceKeys};
 ghost use Rattle.tb_join.specs.Traced.{named_trace};
 
 use crate::general::finish_join;
@@ -108,8 +108,8 @@ pub trait DataFrameJoinOps: IntoDf {
         right_on: &[PlSmallStr],
         exec: &Exec,
     ) -> PolarsResult<DataFrame>
-        ensures settles { Settles result (join_refusal (lent_request (Self.frame self.now) other.now left_on.now right_on.now (plainly JoinType.Inner))) }
-        ensures answer { IfOk result (λ t. IsAnswer (lent_request (Self.frame self.now) other.now left_on.now right_on.now (plainly JoinType.Inner)) (table_of t)) }
+        ensures settles { Settles result (join_refusal (lent_request (Self.frame self.now) other.now left_on.now right_on.now (plain_args JoinType.Inner))) }
+        ensures answer { IfOk result (λ t. IsAnswer (lent_request (Self.frame self.now) other.now left_on.now right_on.now (plain_args JoinType.Inner)) (table_of t)) }
     {
         let args = JoinArgs::new(JoinType::Inner);
         self.join(rt, alloc, other, left_on, right_on, args, exec)
@@ -129,8 +129,8 @@ pub trait DataFrameJoinOps: IntoDf {
         right_on: &[PlSmallStr],
         exec: &Exec,
     ) -> PolarsResult<DataFrame>
-        ensures settles { Settles result (join_refusal (lent_request (Self.frame self.now) other.now left_on.now right_on.now (plainly JoinType.Left))) }
-        ensures answer { IfOk result (λ t. IsAnswer (lent_request (Self.frame self.now) other.now left_on.now right_on.now (plainly JoinType.Left)) (table_of t)) }
+        ensures settles { Settles result (join_refusal (lent_request (Self.frame self.now) other.now left_on.now right_on.now (plain_args JoinType.Left))) }
+        ensures answer { IfOk result (λ t. IsAnswer (lent_request (Self.frame self.now) other.now left_on.now right_on.now (plain_args JoinType.Left)) (table_of t)) }
     {
         let args = JoinArgs::new(JoinType::Left);
         self.join(rt, alloc, other, left_on, right_on, args, exec)
@@ -150,8 +150,8 @@ pub trait DataFrameJoinOps: IntoDf {
         right_on: &[PlSmallStr],
         exec: &Exec,
     ) -> PolarsResult<DataFrame>
-        ensures settles { Settles result (join_refusal (lent_request (Self.frame self.now) other.now left_on.now right_on.now (plainly JoinType.Full))) }
-        ensures answer { IfOk result (λ t. IsAnswer (lent_request (Self.frame self.now) other.now left_on.now right_on.now (plainly JoinType.Full)) (table_of t)) }
+        ensures settles { Settles result (join_refusal (lent_request (Self.frame self.now) other.now left_on.now right_on.now (plain_args JoinType.Full))) }
+        ensures answer { IfOk result (λ t. IsAnswer (lent_request (Self.frame self.now) other.now left_on.now right_on.now (plain_args JoinType.Full)) (table_of t)) }
     {
         let args = JoinArgs::new(JoinType::Full);
         self.join(rt, alloc, other, left_on, right_on, args, exec)
@@ -170,9 +170,9 @@ fn checked_pairs<G: Gate>(
 ) -> PolarsResult<ListedPairs>
     requires some { 0 < length request.now.left_keys.now }
     requires as_many { length request.now.left_keys.now ≡ length request.now.right_keys.now }
-    ensures settles { Settles result (later_refusal (asked request.now)) }
+    ensures settles { Settles result (later_refusal (asked_request request.now)) }
     ensures listed { IfOk result (λ l. IsListed request.now.how request.now.args.now.maintain_order request.now.args.now.slice
-        (listing (asked request.now)) l.pairs.items) }
+        (listing (asked_request request.now)) l.pairs.items) }
     ensures traced { IfOk result (λ l. IsTraced exec.now (requested_trace request.now exec.now) l.trace) }
 {
     check_columns(alloc, request)?;
@@ -189,10 +189,10 @@ fn traced_columns<G: Gate>(
 ) -> PolarsResult<(DataFrame, JoinTrace)>
     requires some { 0 < length request.now.left_keys.now }
     requires as_many { length request.now.left_keys.now ≡ length request.now.right_keys.now }
-    requires wide { 0 < length (out (asked request.now)) }
-    requires merge { key_types (asked request.now) ≡ None → CanMerge (asked request.now) }
-    ensures settles { Settles result (later_refusal (asked request.now)) }
-    ensures answer { IfOk result (λ r. IsAnswer (asked request.now) (table_of r.0)) }
+    requires wide { 0 < length (out (asked_request request.now)) }
+    requires coalescing { key_types (asked_request request.now) ≡ None → CanCoalesceKeys (asked_request request.now) }
+    ensures settles { Settles result (later_refusal (asked_request request.now)) }
+    ensures answer { IfOk result (λ r. IsAnswer (asked_request request.now) (table_of r.0)) }
     ensures traced { IfOk result (λ r. IsTraced exec.now (requested_trace request.now exec.now) r.1) }
 {
     let ListedPairs { pairs, trace } = checked_pairs(rt, alloc, request, exec, gate)?;
@@ -209,10 +209,10 @@ pub fn join_columns(
 ) -> PolarsResult<DataFrame>
     requires some { 0 < length request.now.left_keys.now }
     requires as_many { length request.now.left_keys.now ≡ length request.now.right_keys.now }
-    requires wide { 0 < length (out (asked request.now)) }
-    requires merge { key_types (asked request.now) ≡ None → CanMerge (asked request.now) }
-    ensures settles { Settles result (later_refusal (asked request.now)) }
-    ensures answer { IfOk result (λ t. IsAnswer (asked request.now) (table_of t)) }
+    requires wide { 0 < length (out (asked_request request.now)) }
+    requires coalescing { key_types (asked_request request.now) ≡ None → CanCoalesceKeys (asked_request request.now) }
+    ensures settles { Settles result (later_refusal (asked_request request.now)) }
+    ensures answer { IfOk result (λ t. IsAnswer (asked_request request.now) (table_of t)) }
 {
     let (table, _trace) = traced_columns(rt, alloc, request, exec, &OpenGate)?;
     Ok(table)

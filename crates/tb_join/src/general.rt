@@ -5,19 +5,19 @@ ghost use Rattle.tb_chunk.specs.Rows.{IsRowOf};
 ghost use Rattle.tb_frame.specs.Answer.{IsListed, IsPairOf, fill};
 ghost use Rattle.tb_frame.specs.Frame.{without_names};
 ghost use Rattle.tb_frame.specs.Join.{IsAnswer, listing, out};
-ghost use Rattle.tb_frame.specs.Naming.{coalesces, merges_keys};
+ghost use Rattle.tb_frame.specs.Naming.{coalesces, coalesces_keys};
 ghost use Rattle.tb_frame.specs.Refusal.{repeated_name};
 ghost use Rattle.tb_frame.specs.Table.{height, table_of};
-ghost use Rattle.tb_gather.specs.Gathered.{rows_gathered};
-ghost use Rattle.tb_gather.specs.Ids.{RowsAreRun};
-ghost use Rattle.tb_keys.specs.Asked.{asked};
+ghost use Rattle.tb_gather.specs.Gathered.{gathered_rows};
+ghost use Rattle.tb_gather.specs.Ids.{AreAllRowsInOrder};
+ghost use Rattle.tb_keys.specs.Asked.{asked_request};
 ghost use Rattle.tb_join.specs.AnswerColumns.{answer_columns, right_part, side_by_side};
-ghost use Rattle.tb_join.specs.Ready.{CanMerge};
-ghost use Rattle.tb_join.specs.Runs.{RunAsAsked, right_asked};
+ghost use Rattle.tb_join.specs.Ready.{CanCoalesceKeys};
+ghost use Rattle.tb_join.specs.RowOrder.{AscendAsAsked, right_order_asked};
 
-use crate::merging::merged_columns;
+use crate::coalescing::coalesced_columns;
 use crate::names::side_by_side;
-use crate::runs::{left_run, right_run};
+use crate::row_order::{left_order, right_order};
 use std::alloc::Global;
 use std::thread::Threads;
 use tb_frame::{DataFrame, gone_left, gone_right, has_right, left_rows, right_rows, suffix_of};
@@ -39,9 +39,9 @@ pub fn kept_table(
     sorted: IsSorted,
 ) -> Result<DataFrame, OutOfMemory>
     requires rows { All (IsRowOf (height (table_of table.now))) rows.now }
-    requires runs { RowsAreRun sorted rows.now }
+    requires in_order { AreAllRowsInOrder sorted rows.now }
     requires few { length rows.now ≤ MAX_ROWS }
-    ensures { IfOk result (λ t. t ≡ map (rows_gathered rows.now sorted) (without_names gone.now table.now)) }
+    ensures { IfOk result (λ t. t ≡ map (gathered_rows rows.now sorted) (without_names gone.now table.now)) }
 {
     if gone.is_empty() {
         return gather_rows(rt, alloc, table, rows, sorted);
@@ -62,20 +62,20 @@ fn right_columns(
     pairs: &[JoinPair],
 ) -> Result<Vec<Column>, OutOfMemory>
     requires pairs { All (λ p. IsRowOf (height (table_of request.now.right.now)) p.right) pairs.now }
-    requires runs { RowsAreRun (right_asked (asked request.now).args) (map (λ p. p.right) pairs.now) }
+    requires in_order { AreAllRowsInOrder (right_order_asked (asked_request request.now).args) (map (λ p. p.right) pairs.now) }
     requires few { length pairs.now ≤ MAX_ROWS }
-    ensures { IfOk result (λ v. v.items ≡ right_part (asked request.now).args request.now.right_on.now pairs.now request.now.right.now) }
+    ensures { IfOk result (λ v. v.items ≡ right_part (asked_request request.now).args request.now.right_on.now pairs.now request.now.right.now) }
 {
     if !has_right(request.how) {
         return Ok(Vec::new(alloc));
     }
     let rows = right_rows(alloc, pairs)?;
     let gone = gone_right(request.how, request.args, request.right_on);
-    let sorted = right_run(request.how, request.args);
+    let sorted = right_order(request.how, request.args);
     Ok(kept_table(rt, alloc, request.right, gone, &rows, sorted)?.into_columns())
 }
 
-// The left columns over the pairs, and then the right ones, of which none are merged.
+// The left columns over the pairs, and then the right ones, of which none are coalesced.
 fn plain_columns(
     rt: &(impl Threads + Sync),
     alloc: Global,
@@ -83,14 +83,14 @@ fn plain_columns(
     pairs: &[JoinPair],
 ) -> Result<Vec<Column>, OutOfMemory>
     requires pairs { All (IsPairOf (height (table_of request.now.left.now)) (height (table_of request.now.right.now))) pairs.now }
-    requires runs { RunAsAsked (asked request.now).args pairs.now }
+    requires in_order { AscendAsAsked (asked_request request.now).args pairs.now }
     requires few { length pairs.now ≤ MAX_ROWS }
     ensures { IfOk result (λ v. v.items ≡ answer_columns
-        (asked request.now).args request.now.left_on.now request.now.right_on.now pairs.now request.now.left.now request.now.right.now) }
+        (asked_request request.now).args request.now.left_on.now request.now.right_on.now pairs.now request.now.left.now request.now.right.now) }
 {
     let rows = left_rows(alloc, pairs)?;
     let gone = gone_left(request.how, request.args, request.left_on);
-    let sorted = left_run(request.how, request.args);
+    let sorted = left_order(request.how, request.args);
     let left = kept_table(rt, alloc, request.left, gone, &rows, sorted)?.into_columns();
     let right = right_columns(rt, alloc, request, pairs)?;
     side_by_side(alloc, left, right, suffix_of(request.args))
@@ -104,14 +104,14 @@ fn answer_columns(
     pairs: &[JoinPair],
 ) -> PolarsResult<Vec<Column>>
     requires pairs { All (IsPairOf (height (table_of request.now.left.now)) (height (table_of request.now.right.now))) pairs.now }
-    requires runs { RunAsAsked (asked request.now).args pairs.now }
+    requires in_order { AscendAsAsked (asked_request request.now).args pairs.now }
     requires few { length pairs.now ≤ MAX_ROWS }
-    requires merge { CanMerge (asked request.now) }
+    requires coalescing { CanCoalesceKeys (asked_request request.now) }
     ensures settles { Settles result None }
-    ensures columns { IfOk result (λ v. table_of v.items ≡ map (fill pairs.now) (out (asked request.now))) }
+    ensures columns { IfOk result (λ v. table_of v.items ≡ map (fill pairs.now) (out (asked_request request.now))) }
 {
-    if request.merges_keys() {
-        merged_columns(rt, alloc, request, pairs)
+    if request.coalesces_keys() {
+        coalesced_columns(rt, alloc, request, pairs)
     } else {
         Ok(plain_columns(rt, alloc, request, pairs)?)
     }
@@ -124,13 +124,13 @@ pub fn finish_join(
     request: &LentRequest<'_>,
     pairs: &[JoinPair],
 ) -> PolarsResult<DataFrame>
-    requires named { repeated_name (asked request.now) ≡ None }
-    requires few { length (listing (asked request.now)) ≤ MAX_ROWS }
-    requires merge { CanMerge (asked request.now) }
-    requires some { (0 < length (out (asked request.now))) ⊎ (pairs.now ≡ []) }
-    requires listed { IsListed request.now.how request.now.args.now.maintain_order request.now.args.now.slice (listing (asked request.now)) pairs.now }
+    requires named { repeated_name (asked_request request.now) ≡ None }
+    requires few { length (listing (asked_request request.now)) ≤ MAX_ROWS }
+    requires coalescing { CanCoalesceKeys (asked_request request.now) }
+    requires some { (0 < length (out (asked_request request.now))) ⊎ (pairs.now ≡ []) }
+    requires listed { IsListed request.now.how request.now.args.now.maintain_order request.now.args.now.slice (listing (asked_request request.now)) pairs.now }
     ensures settles { Settles result None }
-    ensures answer { IfOk result (λ t. IsAnswer (asked request.now) (table_of t)) }
+    ensures answer { IfOk result (λ t. IsAnswer (asked_request request.now) (table_of t)) }
 {
     let columns = answer_columns(rt, alloc, request, pairs)?;
     DataFrame::new(alloc, columns)

@@ -6,7 +6,7 @@ pub fn one_answer()
     ensures { OneAnswer }
 {}
 
-/// A request of two tables that is not refused has an answer. Where a coalesced Full join merges columns, they must
+/// A request of two tables that is not refused has an answer. Where a coalesced Full join coalesces columns, they must
 /// have one type.
 pub fn some_answer()
     ensures { SomeAnswer }

@@ -4,12 +4,12 @@
 mod frame_join;
 mod general;
 pub mod laws;
-mod merging;
+mod coalescing;
 mod names;
-mod runs;
+mod row_order;
 
 pub use frame_join::{DataFrameJoinOps, join_columns};
 pub use general::{finish_join, kept_table};
-pub use merging::merged_left;
+pub use coalescing::coalesced_left;
 pub use names::side_by_side;
 pub use tb_pairs::{JoinTrace, private_left_join_multiple_keys};

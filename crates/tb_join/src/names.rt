@@ -1,7 +1,7 @@
 //! Columns side by side, and their names.
 ghost use Rattle.std.specs.Prelude.{◌≡◌, IfOk, map};
 ghost use Rattle.tb_frame.specs.Table.{names_of, table_of};
-ghost use Rattle.tb_join.specs.AnswerColumns.{called, side_by_side};
+ghost use Rattle.tb_join.specs.AnswerColumns.{column_called, side_by_side};
 
 use std::alloc::Global;
 use tb_frame::{column_name_set, right_name};
@@ -15,7 +15,7 @@ fn named_right(
     right: Vec<Column>,
     suffix: &str,
 ) -> Result<Vec<Column>, OutOfMemory>
-    ensures { IfOk result (λ v. v.items ≡ map (called (names_of (table_of left.now)) suffix.now) right.items) }
+    ensures { IfOk result (λ v. v.items ≡ map (column_called (names_of (table_of left.now)) suffix.now) right.items) }
 {
     let taken = column_name_set(alloc, left)?;
     let mut named = Vec::with_capacity(alloc, right.len())?;

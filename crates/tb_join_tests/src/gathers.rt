@@ -1,7 +1,7 @@
 // Tests of gathers by ids of rows in chunks, each through its bound.
 ghost use Rattle.std.specs.Prelude.{◌≡◌, ◌≤◌, ◌↔◌, ◌∷◌, [], All, IfOk, IsSome, IsTrue, length, map};
 ghost use Rattle.tb_gather.specs.Ids.{Id};
-ghost use Rattle.tb_gather.specs.Gathered.{NameRows, opt_gathered};
+ghost use Rattle.tb_gather.specs.Gathered.{NameRows, opt_gathered_column};
 
 use crate::pairs::{left_keys, table_of};
 use std::alloc::Global;
@@ -46,7 +46,7 @@ fn gathered<T: TakeChunked<24> + Drop>(
     requires named { All (NameRows by.now) (T.columns from.now) }
     requires present { All (λ (id : Id). IsSome id) by.now }
     requires few { length by.now ≤ MAX_ROWS }
-    ensures { IfOk result (λ r. T.columns r ≡ map (opt_gathered by.now) (T.columns from.now)) }
+    ensures { IfOk result (λ r. T.columns r ≡ map (opt_gathered_column by.now) (T.columns from.now)) }
 {
     from.take_chunked_unchecked(alloc, by, IsSorted::Not)?;
     from.take_opt_chunked_unchecked(alloc, by)
@@ -61,7 +61,7 @@ fn side_by_side<T: TakeChunkedHorPar<24>>(
     requires named { All (NameRows by.now) (T.frame from.now) }
     requires present { All (λ (id : Id). IsSome id) by.now }
     requires few { length by.now ≤ MAX_ROWS }
-    ensures { IfOk result (λ t. t ≡ map (opt_gathered by.now) (T.frame from.now)) }
+    ensures { IfOk result (λ t. t ≡ map (opt_gathered_column by.now) (T.frame from.now)) }
 {
     from._take_chunked_unchecked_hor_par(rt, alloc, by, IsSorted::Not)?;
     from._take_opt_chunked_unchecked_hor_par(rt, alloc, by)

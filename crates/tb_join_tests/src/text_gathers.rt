@@ -6,7 +6,7 @@ ghost use Rattle.tb_value.specs.SeeKind.{kind_of};
 ghost use Rattle.tb_value.specs.Typed.{HasType};
 ghost use Rattle.tb_chunk.specs.Col.{values};
 ghost use Rattle.tb_chunk.specs.Rows.{IsRowOf};
-ghost use Rattle.tb_gather.specs.Gathered.{NameRows, opt_gathered};
+ghost use Rattle.tb_gather.specs.Gathered.{NameRows, opt_gathered_column};
 
 use crate::gathers::{are_present, rows_of_array, rows_of_column, rows_of_table};
 use std::alloc::Global;
@@ -81,7 +81,7 @@ fn has_buffers(column: &Series, buffers: &[&str]) -> bool {
 fn gather(alloc: Global, column: &Series, by: &[StandardChunkId]) -> Result<Series, OutOfMemory>
     requires named { NameRows by.now column.now }
     requires few { length by.now ≤ MAX_ROWS }
-    ensures { IfOk result (λ s. s ≡ opt_gathered by.now column.now) }
+    ensures { IfOk result (λ s. s ≡ opt_gathered_column by.now column.now) }
 {
     if are_present(by) {
         column.take_chunked_unchecked(alloc, by, IsSorted::Not)

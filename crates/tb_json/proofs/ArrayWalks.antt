@@ -10,9 +10,9 @@ use Rattle.tb_value.specs.Datum as value
 use Rattle.tb_value.specs.Datum.{Datum}
 use Rattle.tb_value.specs.Kind as kind
 use Rattle.tb_json.specs.Lists.{each}
-use Rattle.tb_json.specs.Cells.{ranged, cell_in}
+use Rattle.tb_json.specs.Cells.{ranged_number, cell_in}
 
-no_number : (o : Option ℤ) → option_and_then (ranged kind.null) o ≡ None
+no_number : (o : Option ℤ) → option_and_then (ranged_number kind.null) o ≡ None
 no_number None = refl
 no_number (Some z) = refl
 

@@ -1,9 +1,9 @@
 -- Lists, one after another.
 use Rattle.std.proofs.Common.{◌≡◌, List, [], ◌∷◌, ◌++◌, ap, ◌∙◌, sym, refl, append_assoc}
 use Rattle.tb_value.specs.Datum.{Datum}
-use Rattle.tb_chunk.specs.Col.{flat}
+use Rattle.tb_chunk.specs.Col.{concatenation}
 
-pub flat-push : (xss : List (List Datum)) (xs : List Datum) → flat (xss ++ xs ∷ []) ≡ flat xss ++ xs
+pub flat-push : (xss : List (List Datum)) (xs : List Datum) → concatenation (xss ++ xs ∷ []) ≡ concatenation xss ++ xs
 flat-push [] [] = refl
 flat-push [] (x ∷ xs) = ap (λ ys. x ∷ ys) (flat-push [] xs)
-flat-push (ys ∷ yss) xs = ap (λ zs. ys ++ zs) (flat-push yss xs) ∙ sym (append_assoc ys (flat yss) xs)
+flat-push (ys ∷ yss) xs = ap (λ zs. ys ++ zs) (flat-push yss xs) ∙ sym (append_assoc ys (concatenation yss) xs)

@@ -11,7 +11,7 @@ use Rattle.tb_value.specs.Names.{Name}
 use Rattle.tb_value.specs.Typed.{HasType}
 use Rattle.tb_value.specs.declared.limits.TheConstants.{MAX_ROWS}
 use Rattle.tb_chunk.specs.Col.{Col, IsColumn, values}
-use Rattle.tb_frame.specs.Table.{TableColumn, Table, IsTyped, plain, table_of, height}
+use Rattle.tb_frame.specs.Table.{TableColumn, Table, IsTyped, plain_column, table_of, height}
 use Rattle.tb_json.specs.Text.{kind_data, value_data, column_data, table_data, text_of}
 use Rattle.tb_json.specs.Kinds.{kind_in}
 use Rattle.tb_json.specs.Writable.{IsWritable}
@@ -76,6 +76,6 @@ short_table (c ∷ cs) all = let first = All-head IsColumn c cs all in let short
 
 pub IsWritable-table_of : (cs : List Col) → All IsColumn cs → IsWritable (table_of cs)
 IsWritable-table_of cs all = record {
-  typed = All-map IsTyped plain cs (All-weaker IsColumn (λ c. IsTyped (plain c)) (λ c column. column.typed) cs all);
+  typed = All-map IsTyped plain_column cs (All-weaker IsColumn (λ c. IsTyped (plain_column c)) (λ c column. column.typed) cs all);
   short = short_table cs all;
 }

@@ -7,7 +7,7 @@ use Rattle.serde_json.specs.View.{items_of}
 use Rattle.serde_json.specs.Written.{comma_if, compact_text, items_text}
 use Rattle.tb_value.specs.Datum.{Datum}
 use Rattle.tb_value.specs.Kind.{Kind}
-use Rattle.tb_chunk.specs.Col.{flat}
+use Rattle.tb_chunk.specs.Col.{concatenation}
 use Rattle.tb_chunk.proofs.Lists.{flat_drop}
 use Rattle.tb_frame.specs.Table.{TableColumn, Table, height}
 use Rattle.tb_json.specs.Text.{value_data, kind_data, column_data, text_of, traced_text_of}
@@ -27,14 +27,14 @@ pub items_end : (ds : List Data) (i : ℕ) (s all : List ℕ × Bool) → length
 items_end ds i s all h so_far = ap (with_items s) (sym (drop_all i ds h)) ∙ so_far
 
 -- one chunk more is written, and is no longer left
-pub chunk_step : {X : Type 0} (f : X → List Datum) (k : Kind) (xs : List X) (i : ℕ) (x : X) (now after all : List ℕ × Bool) → i < length xs → x ≡ get_or xs i x → after ≡ with_items now (map (value_data k) (f x)) → with_items now (map (value_data k) (flat (map f (drop i xs)))) ≡ all → with_items after (map (value_data k) (flat (map f (drop (i + 1) xs)))) ≡ all
+pub chunk_step : {X : Type 0} (f : X → List Datum) (k : Kind) (xs : List X) (i : ℕ) (x : X) (now after all : List ℕ × Bool) → i < length xs → x ≡ get_or xs i x → after ≡ with_items now (map (value_data k) (f x)) → with_items now (map (value_data k) (concatenation (map f (drop i xs)))) ≡ all → with_items after (map (value_data k) (concatenation (map f (drop (i + 1) xs)))) ≡ all
 chunk_step f k xs i x now after all h e w so_far =
-    let rest = flat (map f (drop (i + 1) xs)) in
-    let cut : map (value_data k) (flat (map f (drop i xs))) ≡ map (value_data k) (f x) ++ map (value_data k) rest = ap (map (value_data k)) (flat_drop f xs i x h e) ∙ map-append (value_data k) (f x) rest in
+    let rest = concatenation (map f (drop (i + 1) xs)) in
+    let cut : map (value_data k) (concatenation (map f (drop i xs))) ≡ map (value_data k) (f x) ++ map (value_data k) rest = ap (map (value_data k)) (flat_drop f xs i x h e) ∙ map-append (value_data k) (f x) rest in
     ap (λ s. with_items s (map (value_data k) rest)) w ∙ sym (with_items-append now (map (value_data k) (f x)) (map (value_data k) rest)) ∙ ap (with_items now) (sym cut) ∙ so_far
 
-pub chunks_end : {X : Type 0} (f : X → List Datum) (k : Kind) (xs : List X) (i : ℕ) (now all : List ℕ × Bool) → length xs ≤ i → with_items now (map (value_data k) (flat (map f (drop i xs)))) ≡ all → now ≡ all
-chunks_end f k xs i now all h so_far = ap (λ ys. with_items now (map (value_data k) (flat (map f ys)))) (sym (drop_all i xs h)) ∙ so_far
+pub chunks_end : {X : Type 0} (f : X → List Datum) (k : Kind) (xs : List X) (i : ℕ) (now all : List ℕ × Bool) → length xs ≤ i → with_items now (map (value_data k) (concatenation (map f (drop i xs)))) ≡ all → now ≡ all
+chunks_end f k xs i now all h so_far = ap (λ ys. with_items now (map (value_data k) (concatenation (map f ys)))) (sym (drop_all i xs h)) ∙ so_far
 
 -- the bracket behind the items
 closed : (s : List ℕ) (later : Bool) (ds : List Data) → (with_items (s, later) ds).0 ++ 93 ∷ [] ≡ s ++ items_text later (items_of ds)

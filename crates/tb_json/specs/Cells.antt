@@ -15,8 +15,8 @@ use Rattle.tb_json.specs.Text.{is_wide}
 use Rattle.tb_label.specs.Numerals.{is_digit, whole_in}
 
 -- a whole number of the type
-abbrev pub ranged : Kind → ℤ → Option Datum
-ranged t z = do
+abbrev pub ranged_number : Kind → ℤ → Option Datum
+ranged_number t z = do
   e ← ends t
   within ← check (int_le e.0 z && int_le z e.1)
   Some (value.int z)
@@ -27,7 +27,7 @@ boolean_in _ b = None
 
 -- a whole number of at most 64 bits; those of 128 bits are texts
 abbrev pub number_in : Kind → Num → Option Datum
-number_in t n = if is_wide t then None else as_integer n >>= ranged t
+number_in t n = if is_wide t then None else as_integer n >>= ranged_number t
 
 -- a text, or the bytes, of fewer than 2^32 bytes
 abbrev pub short : List ℕ → Option (List ℕ)

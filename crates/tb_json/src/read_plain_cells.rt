@@ -11,7 +11,7 @@ ghost use Rattle.tb_value.specs.See.{datum};
 ghost use Rattle.tb_value.specs.SeeKind.{kind_of};
 ghost use Rattle.tb_value.specs.Typed.{HasType};
 ghost use Rattle.tb_chunk.specs.Chunk.{or_null};
-ghost use Rattle.tb_json.specs.Cells.{ranged, boolean_in, cell_in, number_in, short, is_lower_digit, bytes_in, text_in};
+ghost use Rattle.tb_json.specs.Cells.{ranged_number, boolean_in, cell_in, number_in, short, is_lower_digit, bytes_in, text_in};
 ghost use Rattle.tb_label.specs.Numerals.{whole_in};
 
 use crate::write_cells::is_wide;
@@ -122,7 +122,7 @@ pub(crate) fn boolean_of(b: bool, dtype: &DataType) -> Option<AnyValue>
 
 // A whole number, where it is of the type.
 fn ranged(integer: i128, dtype: &DataType) -> Option<AnyValue>
-    ensures value { option_map datum result ≡ ranged (kind_of dtype.now) integer }
+    ensures value { option_map datum result ≡ ranged_number (kind_of dtype.now) integer }
     ensures typed { IfSome result (λ v. HasType (kind_of dtype.now) (datum v)) }
 {
     let value = AnyValue::Int(integer);

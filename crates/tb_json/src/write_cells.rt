@@ -7,7 +7,7 @@ ghost use Rattle.serde_json.specs.Find.{of_integer};
 ghost use Rattle.serde_json.specs.View.{view, items_view};
 ghost use Rattle.tb_value.specs.Datum.{items_of, int, struct};
 ghost use Rattle.tb_value.specs.Kind.{parts_of};
-ghost use Rattle.tb_value.specs.See.{lent};
+ghost use Rattle.tb_value.specs.See.{lent_value};
 ghost use Rattle.tb_value.specs.SeeKind.{kind_of, parts};
 ghost use Rattle.tb_value.specs.Typed.{HasType, AreOf, AreEachOf};
 ghost use Rattle.tb_json.specs.Text.{is_wide, number_data, value_data, items_data, fields_data};
@@ -75,8 +75,8 @@ pub(crate) fn cell_value(
     value: ValueRef<'_>,
     dtype: &DataType,
 ) -> Result<Value, OutOfMemory>
-    requires { HasType (kind_of dtype.now) (lent value) }
-    ensures { IfOk result (λ v. view v ≡ value_data (kind_of dtype.now) (lent value.entry)) }
+    requires { HasType (kind_of dtype.now) (lent_value value) }
+    ensures { IfOk result (λ v. view v ≡ value_data (kind_of dtype.now) (lent_value value.entry)) }
 {
     match value {
         ValueRef::Null => Ok(Value::Null),

@@ -5,12 +5,12 @@ ghost use Rattle.serde_json.specs.View.{view, items_of};
 ghost use Rattle.serde_json.specs.Data.{array, number};
 ghost use Rattle.serde_json.specs.Find.{of_integer};
 ghost use Rattle.serde_json.specs.Written.{comma_if, compact_text, has_float};
-ghost use Rattle.tb_value.specs.See.{lent};
+ghost use Rattle.tb_value.specs.See.{lent_value};
 ghost use Rattle.tb_value.specs.SeeKind.{kind_of};
 ghost use Rattle.tb_value.specs.Typed.{HasType};
-ghost use Rattle.tb_chunk.specs.Col.{flat, values};
+ghost use Rattle.tb_chunk.specs.Col.{concatenation, values};
 ghost use Rattle.tb_chunk.specs.Seen.{chunk_lists};
-ghost use Rattle.tb_frame.specs.Table.{plain, table_of};
+ghost use Rattle.tb_frame.specs.Table.{plain_column, table_of};
 ghost use Rattle.tb_json.specs.Text.{value_data, column_data, text_of, traced_text_of};
 ghost use Rattle.tb_json.specs.Written.{heading, open_table, with_items};
 
@@ -64,9 +64,9 @@ fn push_cell(
     value: ValueRef<'_>,
     dtype: &DataType,
 ) -> Result<(), OutOfMemory>
-    requires { HasType (kind_of dtype.now) (lent value) }
+    requires { HasType (kind_of dtype.now) (lent_value value) }
     ensures { OnOk result (string_bytes text.new
-        ≡ string_bytes text.old ++ compact_text (value_data (kind_of dtype.now) (lent value.entry))) }
+        ≡ string_bytes text.old ++ compact_text (value_data (kind_of dtype.now) (lent_value value.entry))) }
 {
     match value {
         ValueRef::Null => Ok(text.push_str("null")?),
@@ -105,9 +105,9 @@ fn push_chunks<C: Chunk>(
     chunks: &[C],
     dtype: &DataType,
 ) -> Result<(), OutOfMemory>
-    requires { All (HasType (kind_of dtype.now)) (flat (map C.shown chunks.now)) }
+    requires { All (HasType (kind_of dtype.now)) (concatenation (map C.shown chunks.now)) }
     ensures { OnOk result (string_bytes text.new
-        ≡ (with_items (string_bytes text.old, false) (map (value_data (kind_of dtype.now)) (flat (map C.shown chunks.now)))).0) }
+        ≡ (with_items (string_bytes text.old, false) (map (value_data (kind_of dtype.now)) (concatenation (map C.shown chunks.now)))).0) }
 {
     let mut later = false;
     for chunk in chunks {
@@ -123,9 +123,9 @@ fn push_values(
     chunks: &Chunks,
     dtype: &DataType,
 ) -> Result<(), OutOfMemory>
-    requires { All (HasType (kind_of dtype.now)) (flat (chunk_lists chunks.now)) }
+    requires { All (HasType (kind_of dtype.now)) (concatenation (chunk_lists chunks.now)) }
     ensures { OnOk result (string_bytes text.new
-        ≡ (with_items (string_bytes text.old, false) (map (value_data (kind_of dtype.now)) (flat (chunk_lists chunks.now)))).0) }
+        ≡ (with_items (string_bytes text.old, false) (map (value_data (kind_of dtype.now)) (concatenation (chunk_lists chunks.now)))).0) }
 {
     match chunks {
         Chunks::BooleanType(chunks) => push_chunks(alloc, text, chunks, dtype),
@@ -161,7 +161,7 @@ fn push_array(alloc: Global, text: &mut String, column: &Column) -> Result<(), O
 
 // The name and the type of a column, as the first members of an object.
 fn push_heading(alloc: Global, text: &mut String, column: &Column) -> Result<(), OutOfMemory>
-    ensures { OnOk result (string_bytes text.new ≡ string_bytes text.old ++ heading (plain column.now)) }
+    ensures { OnOk result (string_bytes text.new ≡ string_bytes text.old ++ heading (plain_column column.now)) }
 {
     text.push_str("{\"name\":")?;
     let name = Value::try_from_str(alloc, column.name().as_str())?;
@@ -172,7 +172,7 @@ fn push_heading(alloc: Global, text: &mut String, column: &Column) -> Result<(),
 }
 
 fn push_column(alloc: Global, text: &mut String, column: &Column) -> Result<(), OutOfMemory>
-    ensures { OnOk result (string_bytes text.new ≡ string_bytes text.old ++ compact_text (column_data (plain column.now))) }
+    ensures { OnOk result (string_bytes text.new ≡ string_bytes text.old ++ compact_text (column_data (plain_column column.now))) }
 {
     push_heading(alloc, text, column)?;
     text.push_str(",\"values\":")?;

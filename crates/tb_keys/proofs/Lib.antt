@@ -1,5 +1,5 @@
 pub mod KeyFields
 pub mod KeysNamed
 pub mod Refusing
-pub mod KeysMerged
-pub mod MergedColumns
+pub mod CoalescedKeys
+pub mod CoalescedColumns

@@ -7,8 +7,8 @@ use Rattle.tb_value.specs.Refusals.{first_cause}
 use Rattle.tb_value.specs.declared.error.PolarsError.{PolarsError}
 use Rattle.tb_value.specs.declared.error.PolarsError.TheVariants.{OutOfMemory}
 use Rattle.tb_chunk.specs.Col.{Col}
-use Rattle.tb_frame.specs.Frame.{selected}
-use Rattle.tb_frame.specs.Join.{Request, named}
+use Rattle.tb_frame.specs.Frame.{selected_columns}
+use Rattle.tb_frame.specs.Join.{Request, column_named}
 use Rattle.tb_frame.specs.Refusal.{join_refusal, key_causes, column_causes, row_causes}
 use Rattle.tb_frame.specs.Table.{TableColumn, Table, IsTable, height, table_of}
 use Rattle.tb_frame.proofs.Causes.{first_cause-one, selected_hold}
@@ -19,7 +19,7 @@ use Rattle.tb_keys.specs.Asked.{AreKeysOf}
 use Rattle.tb_keys.specs.Rows.{HasRows}
 
 -- the columns of keys are as long as their table is high
-pub key_rows : (cs ks : List Col) (names : List Name) → IsTable (table_of cs) → table_of ks ≡ filter_map (named (table_of cs)) names → HasRows (height (table_of cs)) ks
+pub key_rows : (cs ks : List Col) (names : List Name) → IsTable (table_of cs) → table_of ks ≡ filter_map (column_named (table_of cs)) names → HasRows (height (table_of cs)) ks
 key_rows cs ks names t is =
     let P : TableColumn → Type 0 = λ c. length c.values ≡ height (table_of cs) in
     all_plain P ks (subst (λ (k : Table). All P k) (sym is) (selected_hold P (table_of cs) t.one_height names))
@@ -52,8 +52,8 @@ pub by_none : (j a b : Option PolarsError) → j ≡ first_cause (a ∷ b ∷ []
 by_none j a b is x y = is ∙ (λ t. first_cause (x t ∷ y t ∷ []))
 
 -- the columns of the names, which were found in the columns that the table lends
-pub keys_are : (cs lent : List Col) (names : List Name) (keys : List Col) → IsTable (table_of cs) → lent ≡ cs → keys ≡ selected names lent → AreKeysOf cs names keys
+pub keys_are : (cs lent : List Col) (names : List Name) (keys : List Col) → IsTable (table_of cs) → lent ≡ cs → keys ≡ selected_columns names lent → AreKeysOf cs names keys
 keys_are cs lent names keys t same is =
-    let here : keys ≡ selected names cs = is ∙ ap (selected names) same in
-    let of_names : table_of keys ≡ filter_map (named (table_of cs)) names = ap table_of here ∙ selected-table names cs in
+    let here : keys ≡ selected_columns names cs = is ∙ ap (selected_columns names) same in
+    let of_names : table_of keys ≡ filter_map (column_named (table_of cs)) names = ap table_of here ∙ selected-table names cs in
     record { columns = here; of_names = of_names; rows = key_rows cs keys names t of_names }

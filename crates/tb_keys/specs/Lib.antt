@@ -2,4 +2,4 @@ pub mod Rows
 pub mod Asked
 pub mod Causes
 pub mod Met
-pub mod Merging
+pub mod Coalescing

@@ -1,7 +1,7 @@
 //! The types of the keys.
 ghost use Rattle.tb_value.specs.Refusals.{Settles, SettlesOutright, first_cause};
 ghost use Rattle.tb_frame.specs.Refusal.{column_causes, key_kind, key_types};
-ghost use Rattle.tb_keys.specs.Asked.{asked};
+ghost use Rattle.tb_keys.specs.Asked.{asked_request};
 
 use crate::names::check_answer_names;
 use crate::request::LentRequest;
@@ -11,7 +11,7 @@ use tb_value::{ComputeCause, InvalidCause, PolarsError, PolarsResult};
 
 // Refuses the first place whose two types differ (KeyTypes).
 fn check_types(request: &LentRequest<'_>) -> PolarsResult<()>
-    ensures { SettlesOutright result (key_types (asked request.now)) }
+    ensures { SettlesOutright result (key_types (asked_request request.now)) }
 {
     for place in 0..request.places() {
         if !same_type(request.left_keys[place], request.right_keys[place]) {
@@ -23,7 +23,7 @@ fn check_types(request: &LentRequest<'_>) -> PolarsResult<()>
 
 // Refuses the first place whose left type is no key type (KeyKind).
 fn check_kinds(request: &LentRequest<'_>) -> PolarsResult<()>
-    ensures { SettlesOutright result (key_kind (asked request.now)) }
+    ensures { SettlesOutright result (key_kind (asked_request request.now)) }
 {
     for place in 0..request.places() {
         if !request.left_keys[place].dtype().is_key() {
@@ -37,7 +37,7 @@ fn check_kinds(request: &LentRequest<'_>) -> PolarsResult<()>
 /// which they are of a type that has no keys (KeyKind), and the first repeated name of the columns that the join puts
 /// side by side (Duplicate).
 pub fn check_columns(alloc: Global, request: &LentRequest<'_>) -> PolarsResult<()>
-    ensures { Settles result (first_cause (column_causes (asked request.now))) }
+    ensures { Settles result (first_cause (column_causes (asked_request request.now))) }
 {
     check_types(request)?;
     check_kinds(request)?;

@@ -1,13 +1,13 @@
 //! The pairs that two nested loops over row numbers list.
 ghost use Rattle.std.specs.Prelude.{◌≡◌, ◌<◌, ◌++◌, IfOk, OnOk, map, filter, length, nat_lt};
 ghost use Rattle.std.specs.List.{list_any};
-ghost use Rattle.tb_value.specs.Pairs.{row_numbers, both, matched, right_unmet};
+ghost use Rattle.tb_value.specs.Pairs.{row_numbers, both, matched_pairs, right_unmet};
 ghost use Rattle.tb_value.specs.Refusals.{SettlesOutright, when};
 ghost use Rattle.tb_value.specs.declared.error.PolarsError.TheVariants.{ComputeError};
 ghost use Rattle.tb_value.specs.declared.error.ComputeCause.TheVariants.{TooManyRows};
 ghost use Rattle.tb_frame.specs.Join.{matches, listing};
 ghost use Rattle.tb_frame.specs.Table.{table_of, height};
-ghost use Rattle.tb_keys.specs.Asked.{asked};
+ghost use Rattle.tb_keys.specs.Asked.{asked_request};
 ghost use Rattle.tb_keys.specs.Met.{left_alone};
 
 use crate::agreeing::rows_match;
@@ -25,7 +25,7 @@ fn push_matches(
     requires row { i < height (table_of request.now.left.now) }
     requires small { i < 4294967295 }
     ensures { OnOk result (pairs.new.items ≡ pairs.old.items
-        ++ map (both i) (filter (matches (asked request.now) i) (row_numbers (height (table_of request.now.right.now))))) }
+        ++ map (both i) (filter (matches (asked_request request.now) i) (row_numbers (height (table_of request.now.right.now))))) }
 {
     for j in 0..request.right.height() {
         if rows_match(request, i, j) {
@@ -38,7 +38,7 @@ fn push_matches(
 // Puts the matched pairs behind the others, the left row outside and the right row inside.
 fn push_matched(pairs: &mut Vec<JoinPair>, request: &LentRequest<'_>) -> Result<(), OutOfMemory>
     ensures { OnOk result (pairs.new.items ≡ pairs.old.items
-        ++ matched (height (table_of request.now.left.now)) (height (table_of request.now.right.now)) (matches (asked request.now))) }
+        ++ matched_pairs (height (table_of request.now.left.now)) (height (table_of request.now.right.now)) (matches (asked_request request.now))) }
 {
     for i in 0..request.left.height() {
         push_matches(pairs, request, i)?;
@@ -49,7 +49,7 @@ fn push_matched(pairs: &mut Vec<JoinPair>, request: &LentRequest<'_>) -> Result<
 // Whether a left row has a match.
 fn is_left_met(request: &LentRequest<'_>, i: usize) -> bool
     requires { i < height (table_of request.now.left.now) }
-    ensures { result ≡ list_any (matches (asked request.now) i) (row_numbers (height (table_of request.now.right.now))) }
+    ensures { result ≡ list_any (matches (asked_request request.now) i) (row_numbers (height (table_of request.now.right.now))) }
 {
     for j in 0..request.right.height() {
         if rows_match(request, i, j) {
@@ -62,7 +62,7 @@ fn is_left_met(request: &LentRequest<'_>, i: usize) -> bool
 // Whether a right row has a match.
 fn is_right_met(request: &LentRequest<'_>, j: usize) -> bool
     requires { j < height (table_of request.now.right.now) }
-    ensures { result ≡ list_any (λ i. matches (asked request.now) i j) (row_numbers (height (table_of request.now.left.now))) }
+    ensures { result ≡ list_any (λ i. matches (asked_request request.now) i j) (row_numbers (height (table_of request.now.left.now))) }
 {
     for i in 0..request.left.height() {
         if rows_match(request, i, j) {
@@ -79,7 +79,7 @@ fn push_left(
     met: bool,
 ) -> Result<(), OutOfMemory>
     ensures { OnOk result (pairs.new.items ≡ pairs.old.items
-        ++ left_alone met (height (table_of request.now.left.now)) (height (table_of request.now.right.now)) (matches (asked request.now))) }
+        ++ left_alone met (height (table_of request.now.left.now)) (height (table_of request.now.right.now)) (matches (asked_request request.now))) }
 {
     for i in 0..request.left.height() {
         if is_left_met(request, i) == met {
@@ -92,7 +92,7 @@ fn push_left(
 // Puts the right rows that have no match behind the others.
 fn push_right_unmet(pairs: &mut Vec<JoinPair>, request: &LentRequest<'_>) -> Result<(), OutOfMemory>
     ensures { OnOk result (pairs.new.items ≡ pairs.old.items
-        ++ right_unmet (height (table_of request.now.left.now)) (height (table_of request.now.right.now)) (matches (asked request.now))) }
+        ++ right_unmet (height (table_of request.now.left.now)) (height (table_of request.now.right.now)) (matches (asked_request request.now))) }
 {
     for j in 0..request.right.height() {
         if !is_right_met(request, j) {
@@ -103,7 +103,7 @@ fn push_right_unmet(pairs: &mut Vec<JoinPair>, request: &LentRequest<'_>) -> Res
 }
 
 fn push_pairs(pairs: &mut Vec<JoinPair>, request: &LentRequest<'_>) -> Result<(), OutOfMemory>
-    ensures { OnOk result (pairs.new.items ≡ pairs.old.items ++ listing (asked request.now)) }
+    ensures { OnOk result (pairs.new.items ≡ pairs.old.items ++ listing (asked_request request.now)) }
 {
     match request.how {
         JoinType::Inner => push_matched(pairs, request),
@@ -127,7 +127,7 @@ fn push_pairs(pairs: &mut Vec<JoinPair>, request: &LentRequest<'_>) -> Result<()
 
 /// The listing of the request.
 pub fn list_pairs(alloc: Global, request: &LentRequest<'_>) -> Result<Vec<JoinPair>, OutOfMemory>
-    ensures { IfOk result (λ v. v.items ≡ listing (asked request.now)) }
+    ensures { IfOk result (λ v. v.items ≡ listing (asked_request request.now)) }
 {
     let mut pairs = Vec::new(alloc);
     push_pairs(&mut pairs, request)?;

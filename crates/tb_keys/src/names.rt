@@ -2,7 +2,7 @@
 ghost use Rattle.tb_value.specs.Refusals.{Settles, SettlesOutright, first_cause};
 ghost use Rattle.std.specs.Prelude.{length};
 ghost use Rattle.tb_frame.specs.Refusal.{key_counts, list_causes, no_keys, null_flags, repeated_name};
-ghost use Rattle.tb_keys.specs.Asked.{asked};
+ghost use Rattle.tb_keys.specs.Asked.{asked_request};
 
 use crate::request::LentRequest;
 use std::alloc::Global;
@@ -65,7 +65,7 @@ pub fn check_lists(
 
 /// Refuses the first repeated name of the columns that the join puts side by side (Duplicate).
 pub fn check_answer_names(alloc: Global, request: &LentRequest<'_>) -> PolarsResult<()>
-    ensures { Settles result (repeated_name (asked request.now)) }
+    ensures { Settles result (repeated_name (asked_request request.now)) }
 {
     check_joined_names(
         alloc,

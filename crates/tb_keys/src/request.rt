@@ -1,5 +1,5 @@
 //! Requests to join whose parts are lent.
-ghost use Rattle.tb_frame.specs.Frame.{selected};
+ghost use Rattle.tb_frame.specs.Frame.{selected_columns};
 ghost use Rattle.tb_frame.specs.Table.{table_of, height};
 ghost use Rattle.tb_chunk.specs.Lent.{lent_columns};
 ghost use Rattle.tb_keys.specs.Rows.{HasRows};
@@ -28,8 +28,8 @@ pub struct LentRequest<'a> {
 
 impl LentRequest<'_> {
     ghost use Rattle.std.specs.Prelude.{◌≡◌, ◌≤◌, length};
-    ghost use Rattle.tb_frame.specs.Naming.{coalesces, merges_keys};
-    ghost use Rattle.tb_keys.specs.Asked.{asked, place_count};
+    ghost use Rattle.tb_frame.specs.Naming.{coalesces, coalesces_keys};
+    ghost use Rattle.tb_keys.specs.Asked.{asked_request, place_count};
 
     /// The number of places that both key lists have.
     pub fn places(&self) -> usize
@@ -40,9 +40,9 @@ impl LentRequest<'_> {
         self.left_keys.len().min(self.right_keys.len())
     }
 
-    /// Whether the right keys are merged into the left ones, as in a coalesced Full join.
-    pub fn merges_keys(&self) -> bool
-        ensures { result ≡ merges_keys self.now.how (coalesces (asked self.now).args) }
+    /// Whether the right keys are coalesced into the left ones, as in a coalesced Full join.
+    pub fn coalesces_keys(&self) -> bool
+        ensures { result ≡ coalesces_keys self.now.how (coalesces (asked_request self.now).args) }
     {
         self.how == JoinType::Full && self.args.coalesce.coalesce(&self.how)
     }
@@ -69,7 +69,7 @@ impl<'a> NamedRequest<'a> {
     ghost use Rattle.std.specs.Prelude.{◌≡◌, IfOk};
     ghost use Rattle.tb_value.specs.Refusals.{Settles};
     ghost use Rattle.tb_frame.specs.Table.{table_of};
-    ghost use Rattle.tb_keys.specs.Asked.{AreKeysOf, IsByNames, asked, asked_by_names};
+    ghost use Rattle.tb_keys.specs.Asked.{AreKeysOf, IsByNames, asked_request, asked_by_names};
     ghost use Rattle.tb_keys.specs.Causes.{names_refusal};
     ghost use Rattle.tb_chunk.specs.Lent.{lent_columns};
 
@@ -92,10 +92,10 @@ impl<'a> NamedRequest<'a> {
     pub fn with_keys<'k>(&self, keys: &'k KeyColumns<'a>) -> LentRequest<'k>
         requires left { AreKeysOf self.now.left.now self.now.left_on.now (lent_columns keys.now.left.items) }
         requires right { AreKeysOf self.now.right.now self.now.right_on.now (lent_columns keys.now.right.items) }
-        ensures asked { asked result ≡ asked_by_names self.now }
+        ensures asked { asked_request result ≡ asked_by_names self.now }
         ensures named { IsByNames result }
-        ensures left { lent_columns result.left_keys.now ≡ selected self.now.left_on.now self.now.left.now }
-        ensures right { lent_columns result.right_keys.now ≡ selected self.now.right_on.now self.now.right.now }
+        ensures left { lent_columns result.left_keys.now ≡ selected_columns self.now.left_on.now self.now.left.now }
+        ensures right { lent_columns result.right_keys.now ≡ selected_columns self.now.right_on.now self.now.right.now }
         ensures how { result.how ≡ self.now.args.now.how }
         ensures args { result.args.now ≡ self.now.args.now }
     {

@@ -4,13 +4,13 @@ ghost use Rattle.std.specs.List.{list_any};
 ghost use Rattle.tb_value.specs.Datum.{is_present};
 ghost use Rattle.tb_value.specs.Pairs.{row_numbers};
 ghost use Rattle.tb_value.specs.Refusals.{SettlesOutright, first_cause, when};
-ghost use Rattle.tb_value.specs.See.{lent};
+ghost use Rattle.tb_value.specs.See.{lent_value};
 ghost use Rattle.tb_value.specs.declared.error.ComputeCause.TheVariants.{Validation};
 ghost use Rattle.tb_value.specs.declared.error.PolarsError.TheVariants.{ComputeError};
 ghost use Rattle.tb_frame.specs.Join.{flag_at};
 ghost use Rattle.tb_frame.specs.Refusal.{are_twins, broken_left, broken_right, has_twins, is_counted, is_validated, same_keys};
 ghost use Rattle.tb_frame.specs.Table.{table_of};
-ghost use Rattle.tb_keys.specs.Asked.{asked};
+ghost use Rattle.tb_keys.specs.Asked.{asked_request};
 ghost use Rattle.tb_chunk.specs.Lent.{lent_columns};
 ghost use Rattle.tb_keys.specs.Rows.{HasRow, HasRows};
 
@@ -21,7 +21,7 @@ use tb_store::Series;
 use tb_value::{ComputeCause, PolarsError, PolarsResult, Side, ValueRef, same_value};
 
 fn counts(null_matches: bool, value: ValueRef<'_>) -> bool
-    ensures { result ≡ (is_present (lent value.entry) || null_matches) }
+    ensures { result ≡ (is_present (lent_value value.entry) || null_matches) }
 {
     !is_null(value) || null_matches
 }
@@ -108,7 +108,7 @@ fn check_side(is_broken: bool, side: Side) -> PolarsResult<()>
 }
 
 fn check_left(request: &LentRequest<'_>) -> PolarsResult<()>
-    ensures { SettlesOutright result (broken_left (asked request.now)) }
+    ensures { SettlesOutright result (broken_left (asked_request request.now)) }
 {
     let is_asked = request.args.validation.asks_left();
     let is_broken = is_broken(request, is_asked, request.left_keys, request.left.height());
@@ -116,7 +116,7 @@ fn check_left(request: &LentRequest<'_>) -> PolarsResult<()>
 }
 
 fn check_right(request: &LentRequest<'_>) -> PolarsResult<()>
-    ensures { SettlesOutright result (broken_right (asked request.now)) }
+    ensures { SettlesOutright result (broken_right (asked_request request.now)) }
 {
     let is_asked = request.args.validation.asks_right();
     let is_broken = is_broken(
@@ -130,7 +130,7 @@ fn check_right(request: &LentRequest<'_>) -> PolarsResult<()>
 
 /// Refuses a side that is asked to have each key once and has a key twice (Validation). The left side comes first.
 pub fn check_sides(request: &LentRequest<'_>) -> PolarsResult<()>
-    ensures { SettlesOutright result (first_cause (broken_left (asked request.now) ∷ broken_right (asked request.now) ∷ [])) }
+    ensures { SettlesOutright result (first_cause (broken_left (asked_request request.now) ∷ broken_right (asked_request request.now) ∷ [])) }
 {
     check_left(request)?;
     check_right(request)

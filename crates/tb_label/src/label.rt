@@ -1,7 +1,7 @@
 //! The text of a value.
 ghost use Rattle.std.specs.Prelude.{◌≡◌, IfOk};
 ghost use Rattle.tb_value.specs.Datum.{int};
-ghost use Rattle.tb_value.specs.See.{lent, IsText};
+ghost use Rattle.tb_value.specs.See.{lent_value, IsText};
 ghost use Rattle.tb_value.specs.SeeKind.{kind_of};
 ghost use Rattle.tb_label.specs.Label.{truth_text, value_text, is_header};
 
@@ -56,7 +56,7 @@ fn number_text(alloc: Global, number: i128) -> Result<PlSmallStr, OutOfMemory>
 /// `OutOfMemory` where memory is wanting.
 pub fn value_text(alloc: Global, value: ValueRef<'_>) -> Result<PlSmallStr, OutOfMemory>
     requires { IsText value }
-    ensures { IfOk result (λ s. s ≡ value_text (lent value.entry)) }
+    ensures { IfOk result (λ s. s ≡ value_text (lent_value value.entry)) }
 {
     match value {
         ValueRef::Null => PlSmallStr::from_str(alloc, "null"),

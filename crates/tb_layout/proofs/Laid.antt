@@ -6,15 +6,15 @@ use Rattle.std.proofs.lemmas.List.{take_more}
 use Rattle.std.proofs.lemmas.List.FromFn.{map-range_with_len_more}
 use Rattle.tb_value.specs.Pairs.{row_numbers}
 use Rattle.tb_frame.specs.Table.{Table, height}
-use Rattle.tb_layout.specs.Characters.{cut, trimmed}
+use Rattle.tb_layout.specs.Characters.{cut, trimmed_text}
 use Rattle.tb_layout.specs.Lines.{cell_in, dashes_in, layout, name_in, side_by_side}
 
 -- a line as it stands in the text
 abbrev pub piece : ℕ → List ℕ → List ℕ
-piece line l = trimmed (cut line l) ++ 10 ∷ []
+piece line l = trimmed_text (cut line l) ++ 10 ∷ []
 
 abbrev pub pieces : ℕ → List (List ℕ) → List ℕ
-pieces line ls = flat_map (λ l. l ++ 10 ∷ []) (map (λ l. trimmed (cut line l)) ls)
+pieces line ls = flat_map (λ l. l ++ 10 ∷ []) (map (λ l. trimmed_text (cut line l)) ls)
 
 -- the text up to a row
 abbrev pub laid : ℕ → Table → ℕ → List ℕ

@@ -8,17 +8,17 @@ use Rattle.tb_value.specs.Kind as kind
 use Rattle.tb_value.specs.Kind.{Kind}
 use Rattle.tb_value.specs.declared.sorted.IsSorted.TheVariants.{Not}
 use Rattle.tb_chunk.specs.Col.{Col, values}
-use Rattle.tb_frame.specs.Table.{TableColumn, height, plain, table_of}
-use Rattle.tb_layout.specs.Lines.{blanks, cell_of, column_width, dashes_in, padded, side_by_side}
+use Rattle.tb_frame.specs.Table.{TableColumn, height, plain_column, table_of}
+use Rattle.tb_layout.specs.Lines.{blanks, cell_of, column_width, dashes_in, padded_cell, side_by_side}
 
-sides_push : (f : TableColumn → List ℕ) (cs : List Col) (c : Col) → side_by_side f (table_of (cs ++ c ∷ [])) ≡ side_by_side f (table_of cs) ++ (f (plain c) ++ blanks 2)
-sides_push f [] c = append-nil (f (plain c) ++ blanks 2)
+sides_push : (f : TableColumn → List ℕ) (cs : List Col) (c : Col) → side_by_side f (table_of (cs ++ c ∷ [])) ≡ side_by_side f (table_of cs) ++ (f (plain_column c) ++ blanks 2)
+sides_push f [] c = append-nil (f (plain_column c) ++ blanks 2)
 sides_push f (d ∷ cs) c =
-    let first = f (plain d) ++ blanks 2 in
-    ap (λ (s : List ℕ). first ++ s) (sides_push f cs c) ∙ sym (append_assoc first (side_by_side f (table_of cs)) (f (plain c) ++ blanks 2))
+    let first = f (plain_column d) ++ blanks 2 in
+    ap (λ (s : List ℕ). first ++ s) (sides_push f cs c) ∙ sym (append_assoc first (side_by_side f (table_of cs)) (f (plain_column c) ++ blanks 2))
 
 -- one more column is appended
-pub side_more : (f : TableColumn → List ℕ) (cs : List Col) (k : ℕ) (c : Col) (old new x : List ℕ) → k < length cs → c ≡ get_or cs k c → x ≡ f (plain c) → new ≡ old ++ (x ++ blanks 2) → old ≡ side_by_side f (table_of (take k cs)) → new ≡ side_by_side f (table_of (take (k + 1) cs))
+pub side_more : (f : TableColumn → List ℕ) (cs : List Col) (k : ℕ) (c : Col) (old new x : List ℕ) → k < length cs → c ≡ get_or cs k c → x ≡ f (plain_column c) → new ≡ old ++ (x ++ blanks 2) → old ≡ side_by_side f (table_of (take k cs)) → new ≡ side_by_side f (table_of (take (k + 1) cs))
 side_more f cs k c old new x low is cell push so_far =
     push ∙ ap (λ (s : List ℕ). s ++ (x ++ blanks 2)) so_far
     ∙ ap (λ (s : List ℕ). side_by_side f (table_of (take k cs)) ++ (s ++ blanks 2)) cell
@@ -27,20 +27,20 @@ side_more f cs k c old new x low is cell push so_far =
     ∙ ap (λ (ds : List Col). side_by_side f (table_of ds)) (sym (take_more cs k c low))
 
 -- the width at the place of a column is that of the column
-pub width_at : (line : ℕ) (cs : List Col) (ws : List ℕ) (k : ℕ) (c : Col) (w : ℕ) → ws ≡ map (column_width line) (table_of cs) → k < length cs → c ≡ get_or cs k c → w ≡ get_or ws k w → w ≡ column_width line (plain c)
+pub width_at : (line : ℕ) (cs : List Col) (ws : List ℕ) (k : ℕ) (c : Col) (w : ℕ) → ws ≡ map (column_width line) (table_of cs) → k < length cs → c ≡ get_or cs k c → w ≡ get_or ws k w → w ≡ column_width line (plain_column c)
 width_at line cs ws k c w are low is at =
     at ∙ ap (λ (ns : List ℕ). get_or ns k w) are
-    ∙ get_or-map (column_width line) (table_of cs) k (plain c) w (rw (length-map cs plain) low)
-    ∙ ap (column_width line) (get_or-map plain cs k c (plain c) low ∙ ap plain (sym is))
+    ∙ get_or-map (column_width line) (table_of cs) k (plain_column c) w (rw (length-map cs plain_column) low)
+    ∙ ap (column_width line) (get_or-map plain_column cs k c (plain_column c) low ∙ ap plain_column (sym is))
 
-pub padded_same : (a b : Bool) (v w : ℕ) (s t : List ℕ) → a ≡ b → v ≡ w → s ≡ t → padded a v s ≡ padded b w t
-padded_same a b v w s t right wide same = ap (λ x. padded x v s) right ∙ ap (λ x. padded b x s) wide ∙ ap (λ x. padded b w x) same
+pub padded_same : (a b : Bool) (v w : ℕ) (s t : List ℕ) → a ≡ b → v ≡ w → s ≡ t → padded_cell a v s ≡ padded_cell b w t
+padded_same a b v w s t right wide same = ap (λ x. padded_cell x v s) right ∙ ap (λ x. padded_cell b x s) wide ∙ ap (λ x. padded_cell b w x) same
 
 pub cell_same : (k l : Kind) (v w : Datum) → k ≡ l → v ≡ w → cell_of k v ≡ cell_of l w
 cell_same k l v w kinds values = ap (λ t. cell_of t v) kinds ∙ ap (cell_of l) values
 
 no_column : Col
-no_column = record { name = []; kind = kind.null; chunks = []; flag = Not; runs = [] }
+no_column = record { name = []; kind = kind.null; chunks = []; flag = Not; view_arrays = [] }
 
 -- one more column's dashes are appended
 pub dashes_more : (line : ℕ) (cs : List Col) (ws : List ℕ) (k w : ℕ) (old mid new : List ℕ) → ws ≡ map (column_width line) (table_of cs) → k < length cs → w ≡ get_or ws k w → mid ≡ old ++ replicate w 45 → new ≡ mid ++ blanks 2
@@ -55,5 +55,5 @@ dashes_more line cs ws k w old mid new are low at dashes gap so_far =
 -- a row of the table is one of each column
 pub row_in_all : (cs ks : List Col) (i h : ℕ) → ks ≡ cs → h ≡ height (table_of cs) → i < h → All (λ (c : TableColumn). length c.values ≡ height (table_of cs)) (table_of cs) → All (λ (c : Col). i < length (values c)) ks
 row_in_all cs ks i h same high low all = rw same (λ k d within.
-    let level : length (values (get_or cs k d)) ≡ height (table_of cs) = subst (λ (c : TableColumn). length c.values ≡ height (table_of cs)) (listn.get_or-map plain cs k d) (all k (plain d) (rw (length-map cs plain) within)) in
+    let level : length (values (get_or cs k d)) ≡ height (table_of cs) = subst (λ (c : TableColumn). length c.values ≡ height (table_of cs)) (listn.get_or-map plain_column cs k d) (all k (plain_column d) (rw (length-map cs plain_column) within)) in
     omega arith)

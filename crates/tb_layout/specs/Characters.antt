@@ -12,8 +12,8 @@ abbrev pub width_of : List ℕ → ℕ
 width_of cs = sum_by columns_of cs
 
 -- a line feed, a tab and a carriage return are written \n, \t and \r, and other control characters as U+FFFD
-abbrev pub visible : ℕ → List ℕ
-visible c =
+abbrev pub visible_text : ℕ → List ℕ
+visible_text c =
     if c == 10 then 92 ∷ 110 ∷ []
     else if c == 9 then 92 ∷ 116 ∷ []
     else if c == 13 then 92 ∷ 114 ∷ []
@@ -21,8 +21,8 @@ visible c =
     else c ∷ []
 
 -- the characters by which a text is shown
-abbrev pub shown : List ℕ → List ℕ
-shown text = flat_map visible (chars text)
+abbrev pub shown_text : List ℕ → List ℕ
+shown_text text = flat_map visible_text (chars text)
 
 -- the longest front that fits into so many columns
 abbrev pub cut : ℕ → List ℕ → List ℕ
@@ -33,5 +33,5 @@ abbrev pub is_blank : ℕ → Bool
 is_blank c = c == 32
 
 -- no blanks at the end
-abbrev pub trimmed : List ℕ → List ℕ
-trimmed cs = take (length cs - suffix_len is_blank cs) cs
+abbrev pub trimmed_text : List ℕ → List ℕ
+trimmed_text cs = take (length cs - suffix_len is_blank cs) cs

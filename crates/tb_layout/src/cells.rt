@@ -1,9 +1,9 @@
 //! The cells of a table and the widths of its columns.
 ghost use Rattle.std.specs.Prelude.{◌≡◌, ◌++◌, IfOk, OnOk, map};
-ghost use Rattle.tb_value.specs.See.{lent, IsText};
+ghost use Rattle.tb_value.specs.See.{lent_value, IsText};
 ghost use Rattle.tb_value.specs.SeeKind.{kind_of};
-ghost use Rattle.tb_frame.specs.Table.{plain, table_of};
-ghost use Rattle.tb_layout.specs.Lines.{blanks, cell_of, cell_text, column_width, is_number, padded};
+ghost use Rattle.tb_frame.specs.Table.{plain_column, table_of};
+ghost use Rattle.tb_layout.specs.Lines.{blanks, cell_of, cell_text, column_width, is_number, padded_cell};
 
 use crate::characters::{push_repeated, shown, width_within};
 use std::alloc::Global;
@@ -18,7 +18,7 @@ fn cell_text(
     value: ValueRef<'_>,
 ) -> Result<PlSmallStr, OutOfMemory>
     requires { IsText value }
-    ensures { IfOk result (λ s. s ≡ cell_text (kind_of dtype.now) (lent value.entry)) }
+    ensures { IfOk result (λ s. s ≡ cell_text (kind_of dtype.now) (lent_value value.entry)) }
 {
     match value {
         ValueRef::Int(number) => number_text(alloc, is_date(dtype), number),
@@ -36,7 +36,7 @@ pub(crate) fn cell_of(
     value: ValueRef<'_>,
 ) -> Result<Vec<char>, OutOfMemory>
     requires { IsText value }
-    ensures { IfOk result (λ v. v.items ≡ cell_of (kind_of dtype.now) (lent value.entry)) }
+    ensures { IfOk result (λ v. v.items ≡ cell_of (kind_of dtype.now) (lent_value value.entry)) }
 {
     let text = cell_text(alloc, dtype, value)?;
     shown(alloc, text.as_str())
@@ -44,7 +44,7 @@ pub(crate) fn cell_of(
 
 /// Whether the value stands at the right of its column.
 pub(crate) fn is_number(value: ValueRef<'_>) -> bool
-    ensures { result ≡ is_number (lent value.entry) }
+    ensures { result ≡ is_number (lent_value value.entry) }
 {
     matches!(value, ValueRef::Int(_))
 }
@@ -56,7 +56,7 @@ pub(crate) fn push_cell(
     at_right: bool,
     width: usize,
 ) -> Result<(), OutOfMemory>
-    ensures { OnOk result (line.new.items ≡ line.old.items ++ (padded at_right width cell.now ++ blanks 2)) }
+    ensures { OnOk result (line.new.items ≡ line.old.items ++ (padded_cell at_right width cell.now ++ blanks 2)) }
 {
     let missing = width - width_within(width, cell);
     if at_right {
@@ -71,7 +71,7 @@ pub(crate) fn push_cell(
 
 // The width of a column, which is at most that of the line.
 fn column_width(alloc: Global, column: &Column, line: usize) -> Result<usize, OutOfMemory>
-    ensures { IfOk result (λ w. w ≡ column_width line (plain column.now)) }
+    ensures { IfOk result (λ w. w ≡ column_width line (plain_column column.now)) }
 {
     let name = shown(alloc, column.name().as_str())?;
     let mut widest = width_within(line, &name);

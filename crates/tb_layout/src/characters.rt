@@ -1,6 +1,6 @@
 //! Characters as a line of a terminal shows them.
 ghost use Rattle.std.specs.Prelude.{◌≡◌, ◌++◌, IfOk, OnOk, min, replicate};
-ghost use Rattle.tb_layout.specs.Characters.{columns_of, cut, shown, trimmed, visible, width_of};
+ghost use Rattle.tb_layout.specs.Characters.{columns_of, cut, shown_text, trimmed_text, visible_text, width_of};
 
 use std::alloc::Global;
 use tb_value::OutOfMemory;
@@ -24,7 +24,7 @@ pub(crate) fn width_within(limit: usize, characters: &[char]) -> usize
 }
 
 fn push_visible(line: &mut Vec<char>, c: char) -> Result<(), OutOfMemory>
-    ensures { OnOk result (line.new.items ≡ line.old.items ++ visible c) }
+    ensures { OnOk result (line.new.items ≡ line.old.items ++ visible_text c) }
 {
     match c {
         '\n' => line.extend_from_slice(&['\\', 'n'])?,
@@ -38,7 +38,7 @@ fn push_visible(line: &mut Vec<char>, c: char) -> Result<(), OutOfMemory>
 
 /// The characters by which the text is shown.
 pub(crate) fn shown(alloc: Global, text: &str) -> Result<Vec<char>, OutOfMemory>
-    ensures { IfOk result (λ v. v.items ≡ shown text.now) }
+    ensures { IfOk result (λ v. v.items ≡ shown_text text.now) }
 {
     let mut line = Vec::new(alloc);
     for c in text.chars() {
@@ -74,7 +74,7 @@ pub(crate) fn cut(line: &[char], width: usize) -> &[char]
 
 /// The characters without blanks at their end.
 pub(crate) fn trimmed(line: &[char]) -> &[char]
-    ensures { result.now ≡ trimmed line.now }
+    ensures { result.now ≡ trimmed_text line.now }
 {
     let mut end = line.len();
     while end > 0 && line[end - 1] == ' ' {

@@ -1,7 +1,7 @@
 //! The text of a table.
 ghost use Rattle.std.specs.Prelude.{◌≡◌, ◌++◌, ◌∷◌, [], ℕ, IfOk, OnOk, encode_utf8_all, string_bytes};
 ghost use Rattle.tb_frame.specs.Table.{table_of};
-ghost use Rattle.tb_layout.specs.Characters.{cut, trimmed};
+ghost use Rattle.tb_layout.specs.Characters.{cut, trimmed_text};
 ghost use Rattle.tb_layout.specs.Lines.{layout};
 
 use crate::cells::column_widths;
@@ -23,7 +23,7 @@ fn push_characters(text: &mut String, characters: &[char]) -> Result<(), OutOfMe
 
 // Appends the line, cut to the terminal and without blanks at its end, and a line feed.
 fn push_line(text: &mut String, line: &[char], width: usize) -> Result<(), OutOfMemory>
-    ensures { OnOk result (string_bytes text.new ≡ string_bytes text.old ++ encode_utf8_all (trimmed (cut width line.now) ++ 10 ∷ [])) }
+    ensures { OnOk result (string_bytes text.new ≡ string_bytes text.old ++ encode_utf8_all (trimmed_text (cut width line.now) ++ 10 ∷ [])) }
 {
     push_characters(text, trimmed(cut(line, width)))?;
     text.push('\n')?;

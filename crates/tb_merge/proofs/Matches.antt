@@ -6,7 +6,7 @@ use Rattle.std.specs.List.{range_with_len}
 use Rattle.std.proofs.lemmas.Int.{ints}
 use Rattle.std.proofs.lemmas.Bool.Decides.{nat_tests, Decides-int_eq}
 use Rattle.std.proofs.lemmas.List.Elements.{filter-append}
-use Rattle.tb_value.specs.Pairs.{row_numbers, both, matched}
+use Rattle.tb_value.specs.Pairs.{row_numbers, both, matched_pairs}
 use Rattle.tb_value.proofs.Loops.{flat_map_agree}
 use Rattle.tb_value.proofs.Probes.{left_pairs, each_left}
 use Rattle.tb_value.proofs.RowNumbers.{range_cut}
@@ -72,7 +72,7 @@ left_row i [] = refl
 left_row i (j ∷ js) = refl
 
 module _ (left right : List ℤ) where
-  pub inner_is : pairs_of left right false (row_numbers (length left)) ≡ matched (length left) (length right) (keys_match left right)
+  pub inner_is : pairs_of left right false (row_numbers (length left)) ≡ matched_pairs (length left) (length right) (keys_match left right)
   inner_is =
       flat_map_agree (λ i. row_pairs false i (rows_of left right i)) (λ i. map (both i) (rows_of left right i))
       (λ i. inner_row i (rows_of left right i)) (row_numbers (length left))

@@ -11,9 +11,9 @@ ghost use Rattle.tb_frame.specs.Join.{IsAnswer, listing, out};
 ghost use Rattle.tb_frame.specs.Refusal.{join_valid};
 ghost use Rattle.tb_frame.specs.RightColumns.{gone_left};
 ghost use Rattle.tb_frame.specs.Table.{table_of, height};
-ghost use Rattle.tb_keys.specs.Asked.{IsByNames, asked};
+ghost use Rattle.tb_keys.specs.Asked.{IsByNames, asked_request};
 ghost use Rattle.tb_chunk.specs.Lent.{lent_columns};
-ghost use Rattle.tb_keys.specs.Merging.{key_merged, left_column};
+ghost use Rattle.tb_keys.specs.Coalescing.{coalescing_key, left_column};
 
 use crate::beside::columns_beside;
 use std::alloc::Global;
@@ -24,7 +24,7 @@ use tb_value::{JoinPair, MAX_ROWS, NullableIdxSize, OutOfMemory, PlSmallStr, Pol
 
 // The left columns that stand in the answer.
 fn kept_left(alloc: Global, request: &LentRequest<'_>) -> Result<DataFrame, OutOfMemory>
-    ensures { IfOk result (λ t. t ≡ without_names (gone_left (asked request.now).args request.now.left_on.now) request.now.left.now) }
+    ensures { IfOk result (λ t. t ≡ without_names (gone_left (asked_request request.now).args request.now.left_on.now) request.now.left.now) }
 {
     request.left.drop_many(alloc, gone_left(request.how, request.args, request.left_on))
 }
@@ -37,11 +37,11 @@ fn place_of(names: &[PlSmallStr], name: &PlSmallStr) -> Option<usize>
         .position(|other| name.as_str() == other.as_str())
 }
 
-// The right key that a left column of this name is merged with: that of its place, in a coalesced Full join.
-fn merged_key<'a>(request: &LentRequest<'a>, name: &PlSmallStr) -> Option<&'a Series>
-    ensures { option_copied result ≡ key_merged request.now name.now }
+// The right key that a left column of this name is coalesced with: that of its place, in a coalesced Full join.
+fn coalesced_key<'a>(request: &LentRequest<'a>, name: &PlSmallStr) -> Option<&'a Series>
+    ensures { option_copied result ≡ coalescing_key request.now name.now }
 {
-    if !request.merges_keys() {
+    if !request.coalesces_keys() {
         return None;
     }
     let place = place_of(request.left_on, name)?;
@@ -84,12 +84,12 @@ fn left_columns(
     requires right_rows { All (λ (c : Col). All (IsRowOf (length (values c))) right_rows.now) (lent_columns request.now.right_keys.now) }
     requires level { length left_rows.now ≡ length right_rows.now }
     requires few { length left_rows.now ≤ MAX_ROWS }
-    requires types { All (λ (c : Col). ForSome (key_merged request.now c.name) (λ k. c.kind ≡ k.kind)) columns.now }
-    ensures { IfOk result (λ v. v.items ≡ map (λ (c : Col). left_column left_rows.now right_rows.now (key_merged request.now c.name) c) columns.now) }
+    requires types { All (λ (c : Col). ForSome (coalescing_key request.now c.name) (λ k. c.kind ≡ k.kind)) columns.now }
+    ensures { IfOk result (λ v. v.items ≡ map (λ (c : Col). left_column left_rows.now right_rows.now (coalescing_key request.now c.name) c) columns.now) }
 {
     let mut made = Vec::with_capacity(alloc, columns.len())?;
     for column in columns {
-        let key = merged_key(request, column.name());
+        let key = coalesced_key(request, column.name());
         made.push(left_column(alloc, column, key, left_rows, right_rows)?)?;
     }
     Ok(made)
@@ -101,10 +101,10 @@ fn answer_columns(
     pairs: &[JoinPair],
 ) -> Result<Vec<Column>, OutOfMemory>
     requires named { IsByNames request.now }
-    requires valid { join_valid (asked request.now) }
+    requires valid { join_valid (asked_request request.now) }
     requires pairs { All (IsPairOf (height (table_of request.now.left.now)) (height (table_of request.now.right.now))) pairs.now }
     requires few { length pairs.now ≤ MAX_ROWS }
-    ensures { IfOk result (λ v. table_of v.items ≡ map (fill pairs.now) (out (asked request.now))) }
+    ensures { IfOk result (λ v. table_of v.items ≡ map (fill pairs.now) (out (asked_request request.now))) }
 {
     let _columns = request.left.get_columns();
     let kept = kept_left(alloc, request)?;
@@ -131,10 +131,10 @@ pub(crate) fn answer_table(
     pairs: &[JoinPair],
 ) -> PolarsResult<DataFrame>
     requires named { IsByNames request.now }
-    requires valid { join_valid (asked request.now) }
-    requires listed { IsListed request.now.how request.now.args.now.maintain_order request.now.args.now.slice (listing (asked request.now)) pairs.now }
+    requires valid { join_valid (asked_request request.now) }
+    requires listed { IsListed request.now.how request.now.args.now.maintain_order request.now.args.now.slice (listing (asked_request request.now)) pairs.now }
     ensures settles { Settles result None }
-    ensures answer { IfOk result (λ t. IsAnswer (asked request.now) (table_of t)) }
+    ensures answer { IfOk result (λ t. IsAnswer (asked_request request.now) (table_of t)) }
 {
     let columns = answer_columns(alloc, request, pairs)?;
     DataFrame::new(alloc, columns)

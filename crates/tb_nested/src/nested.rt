@@ -5,7 +5,7 @@ ghost use Rattle.tb_frame.specs.Answer.{IsListed};
 ghost use Rattle.tb_frame.specs.Join.{IsAnswer, lent_request, listing};
 ghost use Rattle.tb_frame.specs.Refusal.{join_refusal, row_causes, too_many_rows};
 ghost use Rattle.tb_frame.specs.Table.{table_of};
-ghost use Rattle.tb_keys.specs.Asked.{asked};
+ghost use Rattle.tb_keys.specs.Asked.{asked_request};
 ghost use Rattle.tb_keys.specs.Causes.{later_refusal};
 
 use crate::columns::answer_table;
@@ -16,8 +16,8 @@ use tb_value::{JoinPair, PlSmallStr, PolarsResult};
 
 // The pairs of the answer. Refuses too many of them before they are cut.
 fn listed_pairs(alloc: Global, request: &LentRequest<'_>) -> PolarsResult<Vec<JoinPair>>
-    ensures settles { Settles result (too_many_rows (asked request.now)) }
-    ensures listed { IfOk result (λ v. IsListed request.now.how request.now.args.now.maintain_order request.now.args.now.slice (listing (asked request.now)) v.items) }
+    ensures settles { Settles result (too_many_rows (asked_request request.now)) }
+    ensures listed { IfOk result (λ v. IsListed request.now.how request.now.args.now.maintain_order request.now.args.now.slice (listing (asked_request request.now)) v.items) }
 {
     let pairs = list_pairs(alloc, request)?;
     check_size(&pairs)?;
@@ -26,8 +26,8 @@ fn listed_pairs(alloc: Global, request: &LentRequest<'_>) -> PolarsResult<Vec<Jo
 
 // The pairs of the answer, where no cause refuses the sides or the size.
 fn validated_pairs(alloc: Global, request: &LentRequest<'_>) -> PolarsResult<Vec<JoinPair>>
-    ensures settles { Settles result (first_cause (row_causes (asked request.now))) }
-    ensures listed { IfOk result (λ v. IsListed request.now.how request.now.args.now.maintain_order request.now.args.now.slice (listing (asked request.now)) v.items) }
+    ensures settles { Settles result (first_cause (row_causes (asked_request request.now))) }
+    ensures listed { IfOk result (λ v. IsListed request.now.how request.now.args.now.maintain_order request.now.args.now.slice (listing (asked_request request.now)) v.items) }
 {
     check_sides(request)?;
     listed_pairs(alloc, request)
@@ -35,8 +35,8 @@ fn validated_pairs(alloc: Global, request: &LentRequest<'_>) -> PolarsResult<Vec
 
 // The pairs of the answer, where no cause refuses the key columns, the names, the sides or the size.
 fn checked_pairs(alloc: Global, request: &LentRequest<'_>) -> PolarsResult<Vec<JoinPair>>
-    ensures settles { Settles result (later_refusal (asked request.now)) }
-    ensures listed { IfOk result (λ v. IsListed request.now.how request.now.args.now.maintain_order request.now.args.now.slice (listing (asked request.now)) v.items) }
+    ensures settles { Settles result (later_refusal (asked_request request.now)) }
+    ensures listed { IfOk result (λ v. IsListed request.now.how request.now.args.now.maintain_order request.now.args.now.slice (listing (asked_request request.now)) v.items) }
 {
     check_columns(alloc, request)?;
     validated_pairs(alloc, request)

@@ -15,10 +15,10 @@ use Rattle.tb_frame.specs.Table.{height, table_of}
 use Rattle.tb_hash.specs.Hashing.{value_listing}
 use Rattle.tb_hash.specs.Probing.{too_many}
 use Rattle.tb_build.specs.Keys.{twins_among}
-use Rattle.tb_hash.specs.Twins.{broken, value_causes, value_twins}
+use Rattle.tb_hash.specs.Twins.{validation_cause, value_causes, value_twins}
 use Rattle.tb_rowkey.specs.Columns.{AreKeyColumns, columns_meet, key_column, keys_at, row_count}
 use Rattle.tb_rowkey.proofs.ColumnRows.{columns_match}
-use Rattle.tb_keys.specs.Asked.{asked}
+use Rattle.tb_keys.specs.Asked.{asked_request}
 use Rattle.tb_keys.specs.declared.request.LentRequest.{LentRequest}
 use Rattle.tb_sorted.proofs.OneKey.{one_column}
 use Rattle.tb_pairs.specs.KeyColumns.{AreAlike}
@@ -51,9 +51,9 @@ module _ (r : LentRequest) where
   -- the causes of values with the same twins and the same listing
   same_causes : (nulls : Bool) (us vs : List Datum) → value_twins nulls us ≡ has_twins (flag_at r.args.now.join_nulls) (table_of (lent_columns r.left_keys.now)) (height (table_of r.left.now))
       → value_twins nulls vs ≡ has_twins (flag_at r.args.now.join_nulls) (table_of (lent_columns r.right_keys.now)) (height (table_of r.right.now))
-      → value_listing nulls r.how us vs ≡ listing (asked r) → first_cause (value_causes r.args.now.validation nulls r.how us vs) ≡ first_cause (row_causes (asked r))
+      → value_listing nulls r.how us vs ≡ listing (asked_request r) → first_cause (value_causes r.args.now.validation nulls r.how us vs) ≡ first_cause (row_causes (asked_request r))
   same_causes nulls us vs left right list =
-      λ t. first_cause (broken side.Left r.how (asks_left r.args.now.validation) (left t) ∷ broken side.Right r.how (asks_right r.args.now.validation) (right t) ∷ too_many (length (list t)) ∷ [])
+      λ t. first_cause (validation_cause side.Left r.how (asks_left r.args.now.validation) (left t) ∷ validation_cause side.Right r.how (asks_right r.args.now.validation) (right t) ∷ too_many (length (list t)) ∷ [])
 
   module _ (alike : AreAlike (lent_columns r.left_keys.now) (lent_columns r.right_keys.now)) where
     left_rows : row_count (lent_columns r.left_keys.now) ≡ height (table_of r.left.now)
@@ -64,7 +64,7 @@ module _ (r : LentRequest) where
 
     -- of one key on each side
     pub one_key_causes : (d e : Bor Col) → length r.left_keys.now ≡ 1 → (null_matches : Bool) → null_matches ≡ flag_at r.args.now.join_nulls 0
-        → first_cause (value_causes r.args.now.validation null_matches r.how (values (get_or r.left_keys.now 0 d).now) (values (get_or r.right_keys.now 0 e).now)) ≡ first_cause (row_causes (asked r))
+        → first_cause (value_causes r.args.now.validation null_matches r.how (values (get_or r.left_keys.now 0 d).now) (values (get_or r.right_keys.now 0 e).now)) ≡ first_cause (row_causes (asked_request r))
     one_key_causes d e one null_matches is =
         let nulls : ℕ → Bool = flag_at r.args.now.join_nulls in
         ap (λ (b : Bool). first_cause (value_causes r.args.now.validation b r.how (values (get_or r.left_keys.now 0 d).now) (values (get_or r.right_keys.now 0 e).now))) is
@@ -76,7 +76,7 @@ module _ (r : LentRequest) where
     -- of row keys
     pub row_key_causes : (left right : Col) → All IsColumn (lent_columns r.left_keys.now) → All IsColumn (lent_columns r.right_keys.now)
         → left ≡ key_column (lent_columns r.left_keys.now) (flag_at r.args.now.join_nulls) → right ≡ key_column (lent_columns r.right_keys.now) (flag_at r.args.now.join_nulls)
-        → first_cause (value_causes r.args.now.validation false r.how (values left) (values right)) ≡ first_cause (row_causes (asked r))
+        → first_cause (value_causes r.args.now.validation false r.how (values left) (values right)) ≡ first_cause (row_causes (asked_request r))
     row_key_causes left right in_left in_right is_left is_right =
         let nulls : ℕ → Bool = flag_at r.args.now.join_nulls in
         let ls : List Col = lent_columns r.left_keys.now in
@@ -91,7 +91,7 @@ module _ (r : LentRequest) where
     -- of keys that are made of both sides
     pub row_keys_causes : (us vs : List Datum) → All IsColumn (lent_columns r.left_keys.now) → All IsColumn (lent_columns r.right_keys.now)
         → us ≡ keys_at (lent_columns r.left_keys.now) (flag_at r.args.now.join_nulls) → vs ≡ keys_at (lent_columns r.right_keys.now) (flag_at r.args.now.join_nulls)
-        → first_cause (value_causes r.args.now.validation false r.how us vs) ≡ first_cause (row_causes (asked r))
+        → first_cause (value_causes r.args.now.validation false r.how us vs) ≡ first_cause (row_causes (asked_request r))
     row_keys_causes us vs in_left in_right is_left is_right =
         let n : ℕ → Bool = flag_at r.args.now.join_nulls in
         let ls : List Col = lent_columns r.left_keys.now in

@@ -15,7 +15,7 @@ use Rattle.tb_value.proofs.Loops.{map-map}
 use Rattle.tb_chunk.specs.Col.{Col}
 use Rattle.tb_frame.specs.Join.{Request}
 use Rattle.tb_frame.specs.Refusal.{key_kind, key_types, kind_at}
-use Rattle.tb_frame.specs.Table.{TableColumn, plain, table_of}
+use Rattle.tb_frame.specs.Table.{TableColumn, plain_column, table_of}
 use Rattle.tb_frame.proofs.Causes.{find_none, map_none}
 use Rattle.tb_rowkey.specs.Columns.{kinds}
 use Rattle.tb_pairs.specs.KeyColumns.{AreAlike}
@@ -32,13 +32,13 @@ everywhere test n none p low =
     not_not (test p) (ap (λ k. not (test k)) (sym at) ∙ find_none (λ k. not (test k)) (row_numbers n) none p 0 (omega (arith, long, low)))
 
 kind_of_place : (cs : List Col) (p : ℕ) → kind_at (table_of cs) p ≡ get_or (kinds cs) p kind.null
-kind_of_place cs p = ap (λ (ts : List Kind). get_or ts p kind.null) (map-map (λ (c : TableColumn). c.kind) plain cs)
+kind_of_place cs p = ap (λ (ts : List Kind). get_or ts p kind.null) (map-map (λ (c : TableColumn). c.kind) plain_column cs)
 
 pub checked_alike : (q : Request) (ls rs : List Col) → q.left_keys ≡ table_of ls → q.right_keys ≡ table_of rs → 0 < length ls → length ls ≡ length rs → key_types q ≡ None → key_kind q ≡ None → AreAlike ls rs
 checked_alike q ls rs left right some many types keys =
     let n : ℕ = min (length q.left_keys) (length q.right_keys) in
-    let long = ap (λ (cs : List TableColumn). length cs) left ∙ length-map ls plain in
-    let wide = ap (λ (cs : List TableColumn). length cs) right ∙ length-map rs plain in
+    let long = ap (λ (cs : List TableColumn). length cs) left ∙ length-map ls plain_column in
+    let wide = ap (λ (cs : List TableColumn). length cs) right ∙ length-map rs plain_column in
     let in_keys : (p : ℕ) → p < length ls → p < n = λ p low. omega (arith, long, wide, many, low) in
     let left_at : (p : ℕ) → kind_at q.left_keys p ≡ get_or (kinds ls) p kind.null = λ p. ap (λ (cs : List TableColumn). kind_at cs p) left ∙ kind_of_place ls p in
     let right_at : (p : ℕ) → kind_at q.right_keys p ≡ get_or (kinds rs) p kind.null = λ p. ap (λ (cs : List TableColumn). kind_at cs p) right ∙ kind_of_place rs p in

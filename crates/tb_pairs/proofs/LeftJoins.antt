@@ -4,7 +4,7 @@ use Rattle.std.specs.Prelude.{All, IsSome, filter, nat_lt}
 use Rattle.std.proofs.lemmas.List.Elements.{All-append, All-map}
 use Rattle.std.proofs.lemmas.List.Sorted.{All-permutation}
 use Rattle.tb_value.specs.Names.{Name}
-use Rattle.tb_value.specs.Pairs.{row_numbers, both, left_only, matched, left_unmet}
+use Rattle.tb_value.specs.Pairs.{row_numbers, both, left_only, matched_pairs, left_unmet}
 use Rattle.tb_value.specs.Refusals.{first_cause, when}
 use Rattle.tb_value.specs.declared.index.JoinPair.{JoinPair}
 use Rattle.tb_value.specs.declared.error.ComputeCause.TheVariants.{TooManyRows}
@@ -40,7 +40,7 @@ module _ (a b ls rs : List Col) (is_a : ls ≡ a) (is_b : rs ≡ b) (nulls : Boo
 left_listed : (l r : ℕ) (m : ℕ → ℕ → Bool) → All (λ (p : JoinPair). IsSome p.left) (listing_of Left l r m)
 left_listed l r m =
     let P : JoinPair → Type 0 = λ p. IsSome p.left in
-    All-append P (matched l r m) (left_unmet l r m)
+    All-append P (matched_pairs l r m) (left_unmet l r m)
     (All-flat_map P (λ i. map (both i) (filter (m i) (row_numbers r))) 0 0 l (omega arith) (λ j le. All-map P (both j) (filter (m j) (row_numbers r)) (λ k d low. refl)))
     (All-map P left_only _ (λ k d low. refl))
 

@@ -6,7 +6,7 @@ use Rattle.tb_value.specs.declared.error.PolarsError.{PolarsError}
 use Rattle.tb_value.specs.declared.error.PolarsError.TheVariants.{OutOfMemory}
 use Rattle.tb_frame.specs.Refusal.{row_causes}
 use Rattle.tb_pool.specs.ExecView.{ExecView}
-use Rattle.tb_keys.specs.Asked.{asked}
+use Rattle.tb_keys.specs.Asked.{asked_request}
 use Rattle.tb_keys.specs.declared.request.LentRequest.{LentRequest}
 use Rattle.tb_sorted.specs.Listed.{merge_refusal}
 use Rattle.tb_sorted.specs.Path.{takes_merge_path}
@@ -16,6 +16,6 @@ refused_alike true cause e h = h
 refused_alike false cause e h = absurd (cc)
 
 -- what refuses a merge refuses the request
-pub merge_refuses : (r : LentRequest) (exec : ExecView) (e : PolarsError) → (e ≡ OutOfMemory) ⊎ (merge_refusal r exec ≡ Some e) → (e ≡ OutOfMemory) ⊎ (first_cause (row_causes (asked r)) ≡ Some e)
+pub merge_refuses : (r : LentRequest) (exec : ExecView) (e : PolarsError) → (e ≡ OutOfMemory) ⊎ (merge_refusal r exec ≡ Some e) → (e ≡ OutOfMemory) ⊎ (first_cause (row_causes (asked_request r)) ≡ Some e)
 merge_refuses r exec e (inl want) = inl want
-merge_refuses r exec e (inr h) = inr (refused_alike (takes_merge_path r exec) (first_cause (row_causes (asked r))) e h)
+merge_refuses r exec e (inr h) = inr (refused_alike (takes_merge_path r exec) (first_cause (row_causes (asked_request r))) e h)

@@ -13,11 +13,11 @@ use Rattle.tb_chunk.specs.Col.{Col, values}
 use Rattle.tb_chunk.specs.Lent.{lent_columns}
 use Rattle.tb_frame.specs.declared.args.JoinType.{JoinType}
 use Rattle.tb_frame.specs.Join.{field, flag_at, listing, listing_of}
-use Rattle.tb_frame.specs.Table.{TableColumn, height, plain, table_of}
+use Rattle.tb_frame.specs.Table.{TableColumn, height, plain_column, table_of}
 use Rattle.tb_hash.specs.Hashing.{value_listing}
 use Rattle.tb_rowkey.specs.Columns.{columns_meet, field_of, row_count}
 use Rattle.tb_sorted.proofs.OneKey.{one_column}
-use Rattle.tb_keys.specs.Asked.{asked}
+use Rattle.tb_keys.specs.Asked.{asked_request}
 use Rattle.tb_keys.specs.declared.request.LentRequest.{LentRequest}
 use Rattle.tb_pairs.specs.KeyColumns.{AreAlike}
 use Rattle.tb_pairs.proofs.Keys.{as_many, one_alike, rows_counted, some_right}
@@ -31,12 +31,12 @@ abbrev pub keys_listing : (ℕ → Bool) → JoinType → ℕ → ℕ → List T
 keys_listing nulls how l r ls rs = listing_of how l r (λ i j. list_all (λ p. agrees (nulls p) (field ls p i) (field rs p j)) (row_numbers (min (length ls) (length rs))))
 
 pub field_is : (cs : List Col) (p i : ℕ) → field_of cs p i ≡ field (table_of cs) p i
-field_is cs p i = ap (λ (vs : List (List Datum)). get_or (get_or vs p []) i null) (sym (map-map (λ (c : TableColumn). c.values) plain cs))
+field_is cs p i = ap (λ (vs : List (List Datum)). get_or (get_or vs p []) i null) (sym (map-map (λ (c : TableColumn). c.values) plain_column cs))
 
 places_are : (ls rs : List Col) → length ls ≡ length rs → length ls ≡ min (length (table_of ls)) (length (table_of rs))
 places_are ls rs many =
-    let left = length-map ls plain in
-    let right = length-map rs plain in
+    let left = length-map ls plain_column in
+    let right = length-map rs plain_column in
     omega (arith, left, right, many)
 
 pub columns_listed : (nulls : ℕ → Bool) (how : JoinType) (ls rs : List Col) (l r : ℕ) → length ls ≡ length rs → row_count ls ≡ l → row_count rs ≡ r → columns_listing nulls how ls rs ≡ keys_listing nulls how l r (table_of ls) (table_of rs)
@@ -56,7 +56,7 @@ one_listed nulls how ls rs a b is_a is_b =
 -- THE REQUEST
 
 module _ (r : LentRequest) (alike : AreAlike (lent_columns r.left_keys.now) (lent_columns r.right_keys.now)) where
-  pub asked_listing : columns_listing (flag_at r.args.now.join_nulls) r.how (lent_columns r.left_keys.now) (lent_columns r.right_keys.now) ≡ listing (asked r)
+  pub asked_listing : columns_listing (flag_at r.args.now.join_nulls) r.how (lent_columns r.left_keys.now) (lent_columns r.right_keys.now) ≡ listing (asked_request r)
   asked_listing =
       let ls : List Col = lent_columns r.left_keys.now in
       let rs : List Col = lent_columns r.right_keys.now in
@@ -73,7 +73,7 @@ module _ (r : LentRequest) (alike : AreAlike (lent_columns r.left_keys.now) (len
   module _ (d e : Bor Col) (one : length r.left_keys.now ≡ 1) where
     -- the listing of their values is that of the request
     pub one_key_listing : (null_matches : Bool) → null_matches ≡ flag_at r.args.now.join_nulls 0
-        → value_listing null_matches r.how (values (get_or r.left_keys.now 0 d).now) (values (get_or r.right_keys.now 0 e).now) ≡ listing (asked r)
+        → value_listing null_matches r.how (values (get_or r.left_keys.now 0 d).now) (values (get_or r.right_keys.now 0 e).now) ≡ listing (asked_request r)
     one_key_listing null_matches is =
         ap (λ (b : Bool). value_listing b r.how (values (get_or r.left_keys.now 0 d).now) (values (get_or r.right_keys.now 0 e).now)) is
         ∙ one_listed (flag_at r.args.now.join_nulls) r.how (lent_columns r.left_keys.now) (lent_columns r.right_keys.now) (get_or r.left_keys.now 0 d).now (get_or r.right_keys.now 0 e).now (one_column r.left_keys.now d one) (one_column r.right_keys.now e (one_right one))

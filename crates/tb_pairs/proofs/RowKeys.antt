@@ -17,7 +17,7 @@ use Rattle.tb_hash.specs.Hashing.{value_listing}
 use Rattle.tb_rowkey.specs.Columns.{AreKeyColumns, fields_at, flag_of, kinds, row_count, key_at, keys_at, key_column, columns_meet}
 use Rattle.tb_rowkey.specs.RowKey.{has_key, rowkey}
 use Rattle.tb_rowkey.proofs.ColumnRows.{columns_match}
-use Rattle.tb_keys.specs.Asked.{asked}
+use Rattle.tb_keys.specs.Asked.{asked_request}
 use Rattle.tb_keys.specs.declared.request.LentRequest.{LentRequest}
 use Rattle.tb_pairs.specs.KeyColumns.{AreAlike}
 use Rattle.tb_pairs.proofs.Keys.{key_columns, right_keys, some_right}
@@ -67,7 +67,7 @@ key_listing n how ls rs l r same =
 -- of a request
 pub row_key_listing : (r : LentRequest) (left right : Col) → AreAlike (lent_columns r.left_keys.now) (lent_columns r.right_keys.now) → All IsColumn (lent_columns r.left_keys.now) → All IsColumn (lent_columns r.right_keys.now)
     → left ≡ key_column (lent_columns r.left_keys.now) (flag_at r.args.now.join_nulls) → right ≡ key_column (lent_columns r.right_keys.now) (flag_at r.args.now.join_nulls)
-    → value_listing false r.how (values left) (values right) ≡ listing (asked r)
+    → value_listing false r.how (values left) (values right) ≡ listing (asked_request r)
 row_key_listing r left right alike in_left in_right is_left is_right =
     let ls : List Col = lent_columns r.left_keys.now in
     let rs : List Col = lent_columns r.right_keys.now in
@@ -80,7 +80,7 @@ row_key_listing r left right alike in_left in_right is_left is_right =
 -- of keys that are made of both sides
 pub row_keys_listing : (r : LentRequest) (us vs : List Datum) → AreAlike (lent_columns r.left_keys.now) (lent_columns r.right_keys.now) → All IsColumn (lent_columns r.left_keys.now) → All IsColumn (lent_columns r.right_keys.now)
     → us ≡ keys_at (lent_columns r.left_keys.now) (flag_at r.args.now.join_nulls) → vs ≡ keys_at (lent_columns r.right_keys.now) (flag_at r.args.now.join_nulls)
-    → value_listing false r.how us vs ≡ listing (asked r)
+    → value_listing false r.how us vs ≡ listing (asked_request r)
 row_keys_listing r us vs alike in_left in_right is_left is_right =
     let n : ℕ → Bool = flag_at r.args.now.join_nulls in
     let ls : List Col = lent_columns r.left_keys.now in

@@ -15,7 +15,7 @@ use Rattle.tb_frame.specs.declared.args.JoinArgs.{JoinArgs}
 use Rattle.tb_frame.specs.declared.args.JoinType.{JoinType}
 use Rattle.tb_frame.specs.Join.{flag_at, listing}
 use Rattle.tb_pool.specs.ExecView.{ExecView}
-use Rattle.tb_keys.specs.Asked.{asked}
+use Rattle.tb_keys.specs.Asked.{asked_request}
 use Rattle.tb_keys.specs.declared.request.LentRequest.{LentRequest}
 use Rattle.tb_merge.specs.MergedView.{MergedView}
 use Rattle.tb_sorted.specs.Columns.{first_values, sizes_by}
@@ -94,7 +94,7 @@ module _ (r : LentRequest) (exec : ExecView) where
 
   -- by a hash table
   pub hash_found : (list : List JoinPair) (t : Kind) (us vs : List Datum) (probed : List JoinPair) (built : BuiltView) (found : FoundPairs)
-      → list ≡ listing (asked r) → requested_trace r exec ≡ hash (value_plan exec r.how t us vs)
+      → list ≡ listing (asked_request r) → requested_trace r exec ≡ hash (value_plan exec r.how t us vs)
       → IsProbed r.how (builds_left r.how (length us) (length vs)) list probed → built ≡ value_plan exec r.how t us vs
       → ((ps : List JoinPair) → IsProbed r.how built.left_built ps probed → IsListedIn ps found.listed) → found.trace ≡ Hash built → IsFound r exec found
   hash_found list t us vs probed built found is due h plan_is listed traced =
@@ -105,7 +105,7 @@ module _ (r : LentRequest) (exec : ExecView) where
       }
 
   -- field by field
-  pub plain_found : (found : FoundPairs) → IsListedIn (listing (asked r)) found.listed → found.trace ≡ Plain → lacks_keys (lent_columns r.left_keys.now) (lent_columns r.right_keys.now) ≡ true → IsFound r exec found
+  pub plain_found : (found : FoundPairs) → IsListedIn (listing (asked_request r)) found.listed → found.trace ≡ Plain → lacks_keys (lent_columns r.left_keys.now) (lent_columns r.right_keys.now) ≡ true → IsFound r exec found
   plain_found found listed traced long = record {
     listed = listed;
     traced = subst (IsTraced exec (requested_trace r exec)) (sym traced) (record { tells = sym (plain_trace r.how r.args.now exec (lent_columns r.left_keys.now) (lent_columns r.right_keys.now) long); cheap = tt });

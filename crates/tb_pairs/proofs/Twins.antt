@@ -11,7 +11,7 @@ use Rattle.tb_value.proofs.RowNumbers.{any_more, any_stop}
 use Rattle.tb_chunk.specs.Col.{Col}
 use Rattle.tb_frame.specs.Join.{field}
 use Rattle.tb_frame.specs.Refusal.{has_twins, is_counted, same_keys}
-use Rattle.tb_frame.specs.Table.{TableColumn, plain, table_of}
+use Rattle.tb_frame.specs.Table.{TableColumn, plain_column, table_of}
 use Rattle.tb_build.specs.Keys.{twins_among}
 use Rattle.tb_rowkey.specs.Columns.{columns_meet, row_count}
 use Rattle.tb_pairs.proofs.Requested.{field_is}
@@ -102,7 +102,7 @@ four false b c d = refl
 -- KEY COLUMNS
 
 meets : (nulls : ℕ → Bool) (cs : List Col) (i j : ℕ) → list_all (λ p. agrees (nulls p) (field (table_of cs) p i) (field (table_of cs) p j)) (row_numbers (length (table_of cs))) ≡ columns_meet nulls cs cs i j
-meets nulls cs i j = λ t. list_all (λ p. agrees (nulls p) (sym (field_is cs p i) t) (sym (field_is cs p j) t)) (row_numbers (length-map cs plain t))
+meets nulls cs i j = λ t. list_all (λ p. agrees (nulls p) (sym (field_is cs p i) t) (sym (field_is cs p j) t)) (row_numbers (length-map cs plain_column t))
 
 -- twins among the rows of columns, of which there are n
 pub columns_twins : (nulls : ℕ → Bool) (cs : List Col) (n : ℕ) → row_count cs ≡ n → has_twins nulls (table_of cs) n ≡ twins_among (row_count cs) (columns_meet nulls cs cs)

@@ -11,7 +11,7 @@ use Rattle.tb_frame.specs.declared.args.JoinArgs.{JoinArgs}
 use Rattle.tb_frame.specs.declared.args.JoinType.{JoinType}
 use Rattle.tb_frame.specs.Join.{flag_at, listing}
 use Rattle.tb_pool.specs.ExecView.{ExecView}
-use Rattle.tb_keys.specs.Asked.{asked}
+use Rattle.tb_keys.specs.Asked.{asked_request}
 use Rattle.tb_keys.specs.declared.request.LentRequest.{LentRequest}
 use Rattle.tb_sorted.specs.Columns.{first_values, sizes_by}
 use Rattle.tb_sorted.specs.Keys.{MergeSizes}
@@ -55,10 +55,10 @@ trace_of how args exec ls rs =
     else hash (value_plan exec how (hashed_kind ls) (hashed_values (flag_at args.join_nulls) ls) (hashed_values (flag_at args.join_nulls) rs))
 
 -- what a trace tells
-abbrev pub told : JoinTrace → Trace
-told (rust.Hash built) = hash built
-told (rust.Merge merged) = merge (sizes_of merged)
-told rust.Plain = plain
+abbrev pub trace_told : JoinTrace → Trace
+trace_told (rust.Hash built) = hash built
+trace_told (rust.Merge merged) = merge (sizes_of merged)
+trace_told rust.Plain = plain
 
 -- a merge of l left and r right keys made at most 2 * l + r comparisons
 abbrev pub IsCheap : JoinTrace → Type 0
@@ -67,7 +67,7 @@ IsCheap _ = ⊤
 
 -- a trace tells this, and is of a cheap merge, if of one
 pub record IsTraced (exec : ExecView) (due : Trace) (trace : JoinTrace) : Type 0 where
-  pub tells : told trace ≡ due
+  pub tells : trace_told trace ≡ due
   pub cheap : IsCheap trace
 
 -- the trace of a request
@@ -76,5 +76,5 @@ requested_trace r exec = trace_of r.how r.args.now exec (lent_columns r.left_key
 
 -- the pairs that a request lists, in an order that is said, and its trace
 pub record IsFound (r : LentRequest) (exec : ExecView) (found : FoundPairs) : Type 0 where
-  pub listed : IsListedIn (listing (asked r)) found.listed
+  pub listed : IsListedIn (listing (asked_request r)) found.listed
   pub traced : IsTraced exec (requested_trace r exec) found.trace

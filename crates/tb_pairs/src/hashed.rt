@@ -7,12 +7,12 @@ ghost use Rattle.tb_value.specs.Kind as kind;
 ghost use Rattle.tb_value.specs.declared.index.JoinPair.{JoinPair};
 ghost use Rattle.tb_chunk.specs.Chunk.{or_null};
 ghost use Rattle.tb_chunk.specs.Lent.{lent_columns};
-ghost use Rattle.tb_frame.specs.Join.{nulls};
+ghost use Rattle.tb_frame.specs.Join.{nulls_match};
 ghost use Rattle.tb_frame.specs.Refusal.{row_causes};
 ghost use Rattle.tb_hash.specs.Hashed.{AreValuesHashed};
 ghost use Rattle.tb_hash.specs.Probing.{IsProbed};
 ghost use Rattle.tb_rowkey.specs.Columns.{AreShortRows, keys_at};
-ghost use Rattle.tb_keys.specs.Asked.{asked};
+ghost use Rattle.tb_keys.specs.Asked.{asked_request};
 ghost use Rattle.tb_sorted.specs.Listed.{IsListedIn};
 ghost use Rattle.tb_sorted.specs.Path.{takes_merge_path};
 ghost use Rattle.tb_pairs.specs.KeyColumns.{AreAlike};
@@ -54,7 +54,7 @@ pub(crate) fn pairs_by_key<G: Gate>(
     requires one { length request.now.left_keys.now ≡ 1 }
     requires alike { AreAlike (lent_columns request.now.left_keys.now) (lent_columns request.now.right_keys.now) }
     requires hashed { takes_merge_path request.now exec.now ≡ false }
-    ensures settles { Settles result (first_cause (row_causes (asked request.now))) }
+    ensures settles { Settles result (first_cause (row_causes (asked_request request.now))) }
     ensures found { IfOk result (IsFound request.now exec.now) }
 {
     let left = request.left_keys[0];
@@ -130,11 +130,11 @@ pub(crate) fn pairs_by_row_key<G: Gate>(
 ) -> PolarsResult<FoundPairs>
     requires several { 1 < length request.now.left_keys.now }
     requires alike { AreAlike (lent_columns request.now.left_keys.now) (lent_columns request.now.right_keys.now) }
-    requires left { map (or_null binary) left.now ≡ keys_at (lent_columns request.now.left_keys.now) (nulls (asked request.now)) }
-    requires right { map (or_null binary) right.now ≡ keys_at (lent_columns request.now.right_keys.now) (nulls (asked request.now)) }
+    requires left { map (or_null binary) left.now ≡ keys_at (lent_columns request.now.left_keys.now) (nulls_match (asked_request request.now)) }
+    requires right { map (or_null binary) right.now ≡ keys_at (lent_columns request.now.right_keys.now) (nulls_match (asked_request request.now)) }
     requires left_short { AreShortRows (lent_columns request.now.left_keys.now) }
     requires right_short { AreShortRows (lent_columns request.now.right_keys.now) }
-    ensures settles { Settles result (first_cause (row_causes (asked request.now))) }
+    ensures settles { Settles result (first_cause (row_causes (asked_request request.now))) }
     ensures found { IfOk result (IsFound request.now exec.now) }
 {
     know_columns(request.left_keys);

@@ -11,7 +11,7 @@ ghost use Rattle.tb_frame.specs.Join.{flag_at, listing};
 ghost use Rattle.tb_frame.specs.Refusal.{row_causes};
 ghost use Rattle.tb_rowkey.specs.Columns.{AreShortRows, keys_at, row_count};
 ghost use Rattle.tb_sorted.specs.Listed.{IsListedIn};
-ghost use Rattle.tb_keys.specs.Asked.{asked};
+ghost use Rattle.tb_keys.specs.Asked.{asked_request};
 ghost use Rattle.tb_pairs.specs.KeyColumns.{AreAlike};
 ghost use Rattle.tb_pairs.specs.Trace.{IsFound, IsTraced, lacks_keys, requested_trace};
 
@@ -30,8 +30,8 @@ use tb_value::{JoinPair, OutOfMemory, PolarsResult};
 
 // The pairs of a request, whose fields are compared one by one.
 fn pairs_by_field(alloc: Global, request: &LentRequest<'_>) -> PolarsResult<DirectedPairs>
-    ensures settles { Settles result (first_cause (row_causes (asked request.now))) }
-    ensures found { IfOk result (IsListedIn (listing (asked request.now))) }
+    ensures settles { Settles result (first_cause (row_causes (asked_request request.now))) }
+    ensures found { IfOk result (IsListedIn (listing (asked_request request.now))) }
 {
     check_sides(request)?;
     let pairs = list_pairs(alloc, request)?;
@@ -43,7 +43,7 @@ fn pairs_by_field(alloc: Global, request: &LentRequest<'_>) -> PolarsResult<Dire
 // The same, where a row is too long for a key, with their trace.
 fn plain_pairs(alloc: Global, request: &LentRequest<'_>, exec: &Exec) -> PolarsResult<FoundPairs>
     requires long { lacks_keys (lent_columns request.now.left_keys.now) (lent_columns request.now.right_keys.now) ≡ true }
-    ensures settles { Settles result (first_cause (row_causes (asked request.now))) }
+    ensures settles { Settles result (first_cause (row_causes (asked_request request.now))) }
     ensures found { IfOk result (IsFound request.now exec.now) }
 {
     let listed = pairs_by_field(alloc, request)?;
@@ -76,7 +76,7 @@ fn pairs_by_rows<G: Gate>(
 ) -> PolarsResult<FoundPairs>
     requires several { 1 < length request.now.left_keys.now }
     requires alike { AreAlike (lent_columns request.now.left_keys.now) (lent_columns request.now.right_keys.now) }
-    ensures settles { Settles result (first_cause (row_causes (asked request.now))) }
+    ensures settles { Settles result (first_cause (row_causes (asked_request request.now))) }
     ensures found { IfOk result (IsFound request.now exec.now) }
 {
     let nulls = &request.args.join_nulls;
@@ -99,7 +99,7 @@ fn found_pairs<G: Gate>(
     gate: &G,
 ) -> PolarsResult<FoundPairs>
     requires alike { AreAlike (lent_columns request.now.left_keys.now) (lent_columns request.now.right_keys.now) }
-    ensures settles { Settles result (first_cause (row_causes (asked request.now))) }
+    ensures settles { Settles result (first_cause (row_causes (asked_request request.now))) }
     ensures found { IfOk result (IsFound request.now exec.now) }
 {
     if let Some(merged) = merged_pairs(alloc, request, exec)? {
@@ -135,9 +135,9 @@ pub fn traced_pairs<G: Gate>(
     gate: &G,
 ) -> PolarsResult<ListedPairs>
     requires alike { AreAlike (lent_columns request.now.left_keys.now) (lent_columns request.now.right_keys.now) }
-    ensures settles { Settles result (first_cause (row_causes (asked request.now))) }
+    ensures settles { Settles result (first_cause (row_causes (asked_request request.now))) }
     ensures listed { IfOk result (λ l. IsListed request.now.how request.now.args.now.maintain_order request.now.args.now.slice
-        (listing (asked request.now)) l.pairs.items) }
+        (listing (asked_request request.now)) l.pairs.items) }
     ensures traced { IfOk result (λ l. IsTraced exec.now (requested_trace request.now exec.now) l.trace) }
 {
     let found = found_pairs(rt, alloc, request, exec, gate)?;
@@ -160,8 +160,8 @@ pub fn listed_pairs(
     exec: &Exec,
 ) -> PolarsResult<Vec<JoinPair>>
     requires alike { AreAlike (lent_columns request.now.left_keys.now) (lent_columns request.now.right_keys.now) }
-    ensures settles { Settles result (first_cause (row_causes (asked request.now))) }
-    ensures listed { IfOk result (λ v. IsListed request.now.how request.now.args.now.maintain_order request.now.args.now.slice (listing (asked request.now)) v.items) }
+    ensures settles { Settles result (first_cause (row_causes (asked_request request.now))) }
+    ensures listed { IfOk result (λ v. IsListed request.now.how request.now.args.now.maintain_order request.now.args.now.slice (listing (asked_request request.now)) v.items) }
 {
     Ok(traced_pairs(rt, alloc, request, exec, &OpenGate)?.pairs)
 }

@@ -11,24 +11,24 @@ use Rattle.tb_value.specs.Same.{same}
 use Rattle.tb_value.specs.declared.limits.TheConstants.{MAX_ROWS}
 use Rattle.tb_chunk.specs.Col.{Col, values}
 use Rattle.tb_chunk.specs.Lent.{lent_columns}
-use Rattle.tb_frame.specs.Table.{TableColumn, plain, table_of}
+use Rattle.tb_frame.specs.Table.{TableColumn, plain_column, table_of}
 use Rattle.tb_rows.specs.Grouped.{AreGroups}
 use Rattle.tb_rows.specs.Proved.KeyTests.{fields_equiv}
-use Rattle.tb_rows.specs.Rows.{same_rows, value_at}
+use Rattle.tb_rows.specs.Rows.{same_rows, row_value}
 use Rattle.tb_rows.specs.declared.groups.Groups.{Groups}
 use Rattle.tb_agg.specs.Grouped.{AreGroupsOf}
-use Rattle.tb_pivot.specs.Pivot.{alike}
+use Rattle.tb_pivot.specs.Pivot.{are_alike}
 use Rattle.tb_pivot.proofs.Groups.{are_groups_of}
 use Rattle.tb_pivot.proofs.Members.{firsts_low}
 
 abbrev fields_at : List TableColumn → ℕ → List Datum
-fields_at cs i = map (λ (c : TableColumn). value_at c.values i) cs
+fields_at cs i = map (λ (c : TableColumn). row_value c.values i) cs
 
-fields_alike : (i j : ℕ) (cs : List TableColumn) → pointwise same (fields_at cs i) (fields_at cs j) ≡ alike cs i j
+fields_alike : (i j : ℕ) (cs : List TableColumn) → pointwise same (fields_at cs i) (fields_at cs j) ≡ are_alike cs i j
 fields_alike i j [] = refl
-fields_alike i j (c ∷ cs) = ap (λ (b : Bool). same (value_at c.values i) (value_at c.values j) && b) (fields_alike i j cs)
+fields_alike i j (c ∷ cs) = ap (λ (b : Bool). same (row_value c.values i) (row_value c.values j) && b) (fields_alike i j cs)
 
-pub alike_equiv : (cs : List TableColumn) → IsEquivalence (alike cs)
+pub alike_equiv : (cs : List TableColumn) → IsEquivalence (are_alike cs)
 alike_equiv cs = subst (λ (test : ℕ → ℕ → Bool). IsEquivalence test) (λ t i j. fields_alike i j cs t) (pulled (fields_at cs) fields_equiv)
 
 and_assoc : (a b c : Bool) → (a && (b && c)) ≡ ((a && b) && c)
@@ -36,31 +36,31 @@ and_assoc true b c = refl
 and_assoc false b c = refl
 
 -- rows are the same in all columns where they are in the first ones and in the rest
-pub both_alike : (cs ds : List TableColumn) (i j : ℕ) → alike (cs ++ ds) i j ≡ (alike cs i j && alike ds i j)
+pub both_alike : (cs ds : List TableColumn) (i j : ℕ) → are_alike (cs ++ ds) i j ≡ (are_alike cs i j && are_alike ds i j)
 both_alike [] ds i j = refl
 both_alike (c ∷ cs) ds i j =
-    let here : Bool = same (value_at c.values i) (value_at c.values j) in
-    ap (λ (b : Bool). here && b) (both_alike cs ds i j) ∙ and_assoc here (alike cs i j) (alike ds i j)
+    let here : Bool = same (row_value c.values i) (row_value c.values j) in
+    ap (λ (b : Bool). here && b) (both_alike cs ds i j) ∙ and_assoc here (are_alike cs i j) (are_alike ds i j)
 
 lent_values : (cs : List (Bor Col)) → map (λ (c : Bor Col). values c.now) cs ≡ map (λ (c : TableColumn). c.values) (table_of (lent_columns cs))
 lent_values [] = refl
 lent_values (c ∷ cs) = ap (λ (vs : List (List Datum)). values c.now ∷ vs) (lent_values cs)
 
 -- columns that are lent have their rows in groups as those of a table
-pub lent_groups : (ks cs : List (Bor Col)) (n : ℕ) (g : Groups) → ks ≡ cs → AreGroups (same_rows (map (λ (c : Bor Col). values c.now) ks)) n g → AreGroups (alike (table_of (lent_columns cs))) n g
+pub lent_groups : (ks cs : List (Bor Col)) (n : ℕ) (g : Groups) → ks ≡ cs → AreGroups (same_rows (map (λ (c : Bor Col). values c.now) ks)) n g → AreGroups (are_alike (table_of (lent_columns cs))) n g
 lent_groups ks cs n g same groups = subst (λ (lists : List (List Datum)). AreGroups (same_rows lists) n g) (lent_values ks ∙ ap (λ (ds : List (Bor Col)). map (λ (c : TableColumn). c.values) (table_of (lent_columns ds))) same) groups
 
-pub key_groups : (ks is os : List (Bor Col)) (n : ℕ) (g : Groups) → lent_columns ks ≡ lent_columns is ++ lent_columns os → AreGroups (same_rows (map (λ (c : Bor Col). values c.now) ks)) n g → AreGroups (alike (table_of (lent_columns is) ++ table_of (lent_columns os))) n g
+pub key_groups : (ks is os : List (Bor Col)) (n : ℕ) (g : Groups) → lent_columns ks ≡ lent_columns is ++ lent_columns os → AreGroups (same_rows (map (λ (c : Bor Col). values c.now) ks)) n g → AreGroups (are_alike (table_of (lent_columns is) ++ table_of (lent_columns os))) n g
 key_groups ks is os n g keys groups =
-    subst (λ (cs : List TableColumn). AreGroups (alike cs) n g) (ap table_of keys ∙ map-append plain (lent_columns is) (lent_columns os)) (lent_groups ks ks n g refl groups)
+    subst (λ (cs : List TableColumn). AreGroups (are_alike cs) n g) (ap table_of keys ∙ map-append plain_column (lent_columns is) (lent_columns os)) (lent_groups ks ks n g refl groups)
 
 -- rows in groups by columns have each the number of a group
-pub groups_fit : (cs : List TableColumn) (n : ℕ) (g : Groups) → AreGroups (alike cs) n g → n ≤ MAX_ROWS → AreGroupsOf n g
-groups_fit cs n g groups few = are_groups_of (alike cs) (alike_equiv cs) n g groups few
+pub groups_fit : (cs : List TableColumn) (n : ℕ) (g : Groups) → AreGroups (are_alike cs) n g → n ≤ MAX_ROWS → AreGroupsOf n g
+groups_fit cs n g groups few = are_groups_of (are_alike cs) (alike_equiv cs) n g groups few
 
 -- groups of the same rows by other columns
-pub others_fit : (cs ds : List TableColumn) (n : ℕ) (g others : Groups) → AreGroups (alike cs) n g → AreGroups (alike ds) n others → n ≤ MAX_ROWS → AreGroupsOf (length g.numbers.items) others
+pub others_fit : (cs ds : List TableColumn) (n : ℕ) (g others : Groups) → AreGroups (are_alike cs) n g → AreGroups (are_alike ds) n others → n ≤ MAX_ROWS → AreGroupsOf (length g.numbers.items) others
 others_fit cs ds n g others groups are few = subst (λ (k : ℕ). AreGroupsOf k others) (sym (groups_fit cs n g groups few).each) (groups_fit ds n others are few)
 
-pub firsts_fit : (cs : List TableColumn) (n : ℕ) (g : Groups) → AreGroups (alike cs) n g → n ≤ MAX_ROWS → All (λ r. r < length g.numbers.items) g.firsts.items
-firsts_fit cs n g groups few = subst (λ (k : ℕ). All (λ r. r < k) g.firsts.items) (sym (groups_fit cs n g groups few).each) (firsts_low (alike cs) (alike_equiv cs) n g groups)
+pub firsts_fit : (cs : List TableColumn) (n : ℕ) (g : Groups) → AreGroups (are_alike cs) n g → n ≤ MAX_ROWS → All (λ r. r < length g.numbers.items) g.firsts.items
+firsts_fit cs n g groups few = subst (λ (k : ℕ). All (λ r. r < k) g.firsts.items) (sym (groups_fit cs n g groups few).each) (firsts_low (are_alike cs) (alike_equiv cs) n g groups)

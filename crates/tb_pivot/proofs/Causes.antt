@@ -12,7 +12,7 @@ use Rattle.tb_value.specs.declared.error.PolarsError.{PolarsError}
 use Rattle.tb_value.specs.declared.error.PolarsError.TheVariants.{OutOfMemory}
 use Rattle.tb_chunk.specs.Col.{Col}
 use Rattle.tb_chunk.specs.Lent.{lent_columns}
-use Rattle.tb_frame.specs.Frame.{selected}
+use Rattle.tb_frame.specs.Frame.{selected_columns}
 use Rattle.tb_frame.specs.Naming.{is_among}
 use Rattle.tb_frame.specs.Refusal.{repeated_among, unknown_key}
 use Rattle.tb_frame.specs.Table.{Table, TableColumn, names_of, table_of}
@@ -36,11 +36,11 @@ onward e a b same (inl h) = inl h
 onward e a b same (inr h) = inr (same ∙ h)
 
 -- columns that were found are those of the table
-pub columns_found : (cs ds : List Col) (names : List Name) (rs : List (Bor Col)) → ds ≡ cs → lent_columns rs ≡ selected names ds → table_of (lent_columns rs) ≡ columns_named (table_of cs) names
-columns_found cs ds names rs same found = ap table_of found ∙ ap (λ (t : List Col). table_of (selected names t)) same ∙ selected-table names cs
+pub columns_found : (cs ds : List Col) (names : List Name) (rs : List (Bor Col)) → ds ≡ cs → lent_columns rs ≡ selected_columns names ds → table_of (lent_columns rs) ≡ columns_named (table_of cs) names
+columns_found cs ds names rs same found = ap table_of found ∙ ap (λ (t : List Col). table_of (selected_columns names t)) same ∙ selected-table names cs
 
 -- where the names are known and distinct, the types of the columns decide
-module _ (cs ds : List Col) (on index vs : List Name) (way : Way) (same : ds ≡ cs) (a : unknown_key (table_of ds) on ≡ None) (b : unknown_key (table_of ds) index ≡ None) (d : unknown_key (table_of ds) vs ≡ None) (keys : repeated_among (on ++ index) ≡ None) (others : repeated_among vs ≡ None) (braces : brace_taken (table_of cs) on ≡ None) (rs : List (Bor Col)) (found : lent_columns rs ≡ selected on ds) where
+module _ (cs ds : List Col) (on index vs : List Name) (way : Way) (same : ds ≡ cs) (a : unknown_key (table_of ds) on ≡ None) (b : unknown_key (table_of ds) index ≡ None) (d : unknown_key (table_of ds) vs ≡ None) (keys : repeated_among (on ++ index) ≡ None) (others : repeated_among vs ≡ None) (braces : brace_taken (table_of cs) on ≡ None) (rs : List (Bor Col)) (found : lent_columns rs ≡ selected_columns on ds) where
   known : (names : List Name) → unknown_key (table_of ds) names ≡ None → unknown_key (table_of cs) names ≡ None
   known names h = ap (λ (t : List Col). unknown_key (table_of t) names) (sym same) ∙ h
 
@@ -55,7 +55,7 @@ module _ (cs ds : List Col) (on index vs : List Name) (way : Way) (same : ds ≡
       onward e (first_cause (header_cause (columns_named (table_of cs) on) ∷ agg_cause way (columns_named (table_of cs) vs) ∷ [])) (first_cause (column_causes (table_of cs) on index vs way)) types_decide
       (stops e (header_cause (columns_named (table_of cs) on)) (agg_cause way (columns_named (table_of cs) vs) ∷ []) (onward e (header_cause (table_of (lent_columns rs))) (header_cause (columns_named (table_of cs) on)) headers_are h))
 
-  module _ (headers : header_cause (table_of (lent_columns rs)) ≡ None) (ws : List (Bor Col)) (there : lent_columns ws ≡ selected vs ds) where
+  module _ (headers : header_cause (table_of (lent_columns rs)) ≡ None) (ws : List (Bor Col)) (there : lent_columns ws ≡ selected_columns vs ds) where
     aggregate_decides : first_cause (column_causes (table_of cs) on index vs way) ≡ first_cause (agg_cause way (table_of (lent_columns ws)) ∷ [])
     aggregate_decides =
         types_decide

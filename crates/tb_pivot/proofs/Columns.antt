@@ -22,12 +22,12 @@ use Rattle.tb_value.specs.declared.limits.TheConstants.{MAX_ROWS}
 use Rattle.tb_chunk.specs.Col.{Col, values}
 use Rattle.tb_chunk.specs.Lent.{in_one_chunk, lent_columns}
 use Rattle.tb_chunk.specs.Rows.{value_or_null}
-use Rattle.tb_frame.specs.Frame.{frame_refusal, taken}
+use Rattle.tb_frame.specs.Frame.{frame_refusal, taken_rows}
 use Rattle.tb_frame.specs.Refusal.{repeated_among}
-use Rattle.tb_frame.specs.Table.{TableColumn, Table, names_of, plain, table_of}
+use Rattle.tb_frame.specs.Table.{TableColumn, Table, names_of, plain_column, table_of}
 use Rattle.tb_frame.proofs.Frames.{level_refusal}
 use Rattle.tb_rows.specs.InOrder.{in_order}
-use Rattle.tb_rows.specs.Rows.{value_at}
+use Rattle.tb_rows.specs.Rows.{row_value}
 use Rattle.tb_rows.proofs.InOrder.{in_order-all, in_order-map}
 use Rattle.tb_pivot.specs.Cells.{cells_under}
 use Rattle.tb_pivot.specs.Headers.{block_name, header_text}
@@ -133,20 +133,20 @@ module _ (l : Layout) (h : IsLayout l) where
     q = laid_out l way
 
     pub wide_is : 0 < length lent_values → wide q ≡ index_and_blocks q
-    wide_is some = some_blocks q q.values (omega (arith, some, length-map (lent_columns lent_values) plain, length-map lent_values (λ (c : Bor Col). c.now)))
+    wide_is some = some_blocks q q.values (omega (arith, some, length-map (lent_columns lent_values) plain_column, length-map lent_values (λ (c : Bor Col). c.now)))
 
     -- the columns of the index
-    pub index_is : (columns : List Col) → columns ≡ map (taken l.cells.rows.firsts.items) (lent_columns l.columns.now.index.items) → table_of columns ≡ map (index_column q) q.index
+    pub index_is : (columns : List Col) → columns ≡ map (taken_rows l.cells.rows.firsts.items) (lent_columns l.columns.now.index.items) → table_of columns ≡ map (index_column q) q.index
     index_is columns is =
         let rows : List ℕ = l.cells.rows.firsts.items in
         let cs : List Col = lent_columns l.columns.now.index.items in
-        let each : (c : Col) → plain (taken rows c) ≡ index_column q (plain c) = λ c.
-        ap (λ (vs : List Datum). record { name = c.name; kind = c.kind; values = vs }) (append-nil (map (value_at (values c)) rows) ∙ ap (map (value_at (values c))) h.cells.rows.firsts) in
-        ap table_of is ∙ map-map plain (taken rows) cs ∙ (λ t. map (λ c. each c t) cs) ∙ sym (map-map (index_column q) plain cs)
+        let each : (c : Col) → plain_column (taken_rows rows c) ≡ index_column q (plain_column c) = λ c.
+        ap (λ (vs : List Datum). record { name = c.name; kind = c.kind; values = vs }) (append-nil (map (row_value (values c)) rows) ∙ ap (map (row_value (values c))) h.cells.rows.firsts) in
+        ap table_of is ∙ map-map plain_column (taken_rows rows) cs ∙ (λ t. map (λ c. each c t) cs) ∙ sym (map-map (index_column q) plain_column cs)
 
     -- there are as many texts as headers, and each is that of its header
     abbrev text_of : ℕ → Name
-    text_of x = header_text (map (λ (c : Bor Col). value_at (values c.now) x) l.columns.now.on.items)
+    text_of x = header_text (map (λ (c : Bor Col). row_value (values c.now) x) l.columns.now.on.items)
 
     texts_long : length l.texts.items ≡ length l.cells.headers.firsts.items
     texts_long = ap length h.texts ∙ length-map l.cells.headers.firsts.items text_of
@@ -155,32 +155,32 @@ module _ (l : Layout) (h : IsLayout l) where
     text_is y low =
         let x : ℕ = get_or l.cells.headers.firsts.items y 0 in
         let on : List (Bor Col) = l.columns.now.on.items in
-        let fields : map (λ (c : TableColumn). value_at c.values x) q.on ≡ map (λ (c : Bor Col). value_at (values c.now) x) on =
-        map-map (λ (c : TableColumn). value_at c.values x) plain (lent_columns on) ∙ map-map (λ (c : Col). value_at (values c) x) (λ (c : Bor Col). c.now) on in
+        let fields : map (λ (c : TableColumn). row_value c.values x) q.on ≡ map (λ (c : Bor Col). row_value (values c.now) x) on =
+        map-map (λ (c : TableColumn). row_value c.values x) plain_column (lent_columns on) ∙ map-map (λ (c : Col). row_value (values c) x) (λ (c : Bor Col). c.now) on in
         ap (λ (ts : List Name). get_or ts y []) h.texts
         ∙ get_or-map text_of l.cells.headers.firsts.items y 0 [] low
         ∙ ap header_text (sym fields)
         ∙ ap (λ (rows : List ℕ). header_at q (get_or rows y 0)) h.cells.headers.firsts
 
     module _ (v made : Col) (high : length (values v) ≡ l.height) (is : IsMade way l.cells.groups v made) where
-      column_is : (y : ℕ) → y < length l.cells.headers.firsts.items → header_column l v made y ≡ block_column q (plain v) (get_or (header_rows q) y 0)
+      column_is : (y : ℕ) → y < length l.cells.headers.firsts.items → header_column l v made y ≡ block_column q (plain_column v) (get_or (header_rows q) y 0)
       column_is y low =
-          let width : length lent_values ≡ length q.values = sym (length-map (lent_columns lent_values) plain ∙ length-map lent_values (λ (c : Bor Col). c.now)) in
+          let width : length lent_values ≡ length q.values = sym (length-map (lent_columns lent_values) plain_column ∙ length-map lent_values (λ (c : Bor Col). c.now)) in
           let text : get_or l.texts.items y [] ≡ header_at q (get_or (header_rows q) y 0) = text_is y low in
-          let kind : made.kind ≡ way_kind q (plain v) way = kind_is q l.cells v h.cells way made is in
-          let cells : map (value_or_null (values made)) (cells_under l.cells y) ≡ map (λ x. cell q (plain v) x (get_or (header_rows q) y 0)) (answer_rows q) =
-          cells_are q l.cells v h.cells high made y h.few is low ∙ ap (λ (rows : List ℕ). map (λ x. cell q (plain v) x (get_or rows y 0)) (answer_rows q)) h.cells.headers.firsts in
+          let kind : made.kind ≡ way_kind q (plain_column v) way = kind_is q l.cells v h.cells way made is in
+          let cells : map (value_or_null (values made)) (cells_under l.cells y) ≡ map (λ x. cell q (plain_column v) x (get_or (header_rows q) y 0)) (answer_rows q) =
+          cells_are q l.cells v h.cells high made y h.few is low ∙ ap (λ (rows : List ℕ). map (λ x. cell q (plain_column v) x (get_or rows y 0)) (answer_rows q)) h.cells.headers.firsts in
           λ t. record { name = block_name (width t) l.separator.now v.name (text t); kind = kind t; values = cells t }
 
-      columns_are : header_columns l v made ≡ map (block_column q (plain v)) (header_rows q)
+      columns_are : header_columns l v made ≡ map (block_column q (plain_column v)) (header_rows q)
       columns_are =
-          let make : ℕ → TableColumn = block_column q (plain v) in
+          let make : ℕ → TableColumn = block_column q (plain_column v) in
           let long : length (header_rows q) ≡ length l.texts.items = sym (texts_long ∙ ap length h.cells.headers.firsts) in
           sym (fill_by_all (header_column l v made) (map make (header_rows q)) (length l.texts.items) (make 0) (length-map (header_rows q) make ∙ long) (λ k low.
           get_or-map make (header_rows q) k 0 (make 0) (omega (arith, low, long))
           ∙ sym (column_is k (omega (arith, low, texts_long)))))
 
-      pub block_is : laid_block l v made ≡ block q (plain v)
+      pub block_is : laid_block l v made ≡ block q (plain_column v)
       block_is = ap (λ (cs : List TableColumn). cond l.sorts (in_order by_name cs) cs) columns_are
 
     -- the blocks of the value columns
@@ -201,11 +201,11 @@ module _ (l : Layout) (h : IsLayout l) where
 
     -- so what stands behind the index is the answer
     pub answer_is : (bs : List GroupValues) → map (λ (b : GroupValues). b.value) bs ≡ lent_values → All (λ (b : GroupValues). IsMade way l.cells.groups b.value.now b.made) bs
-        → (t : Table) → t ≡ table_of (map (taken l.cells.rows.firsts.items) (lent_columns l.columns.now.index.items)) ++ flat_map (λ (b : GroupValues). laid_block l b.value.now b.made) bs → t ≡ index_and_blocks q
+        → (t : Table) → t ≡ table_of (map (taken_rows l.cells.rows.firsts.items) (lent_columns l.columns.now.index.items)) ++ flat_map (λ (b : GroupValues). laid_block l b.value.now b.made) bs → t ≡ index_and_blocks q
     answer_is bs same made t is =
         let high : All (λ (c : Bor Col). length (values c.now) ≡ l.height) (map (λ (b : GroupValues). b.value) bs) =
         subst (λ (cs : List (Bor Col)). All (λ (c : Bor Col). length (values c.now) ≡ l.height) cs) (sym same) h.high.values in
-        let first = index_is (map (taken l.cells.rows.firsts.items) (lent_columns l.columns.now.index.items)) refl in
+        let first = index_is (map (taken_rows l.cells.rows.firsts.items) (lent_columns l.columns.now.index.items)) refl in
         let last = blocks_are bs high made in
         is ∙ (λ i. first i ++ last i) ∙ ap (λ (vs : List (Bor Col)). map (index_column q) q.index ++ flat_map (block q) (table_of (lent_columns vs))) same
 
@@ -216,14 +216,14 @@ module _ (l : Layout) (h : IsLayout l) where
     texts_are =
         let on : List (Bor Col) = l.columns.now.on.items in
         let same : (x : ℕ) → text_of x ≡ header_at q x = λ x.
-        ap header_text (sym (map-map (λ (c : TableColumn). value_at c.values x) plain (lent_columns on) ∙ map-map (λ (c : Col). value_at (values c) x) (λ (c : Bor Col). c.now) on)) in
+        ap header_text (sym (map-map (λ (c : TableColumn). row_value c.values x) plain_column (lent_columns on) ∙ map-map (λ (c : Col). row_value (values c) x) (λ (c : Bor Col). c.now) on)) in
         h.texts ∙ (λ t. map (λ x. same x t) (h.cells.headers.firsts t))
 
     names_of_block : (v : TableColumn) → names_of (block q v) ≡ block_names l v.name
     names_of_block v = by l.sorts
       where
         width : length q.values ≡ length lent_values
-        width = length-map (lent_columns lent_values) plain ∙ length-map lent_values (λ (c : Bor Col). c.now)
+        width = length-map (lent_columns lent_values) plain_column ∙ length-map lent_values (λ (c : Bor Col). c.now)
 
         plain_names : names_of (map (block_column q v) (header_rows q)) ≡ map (block_name (length lent_values) l.separator.now v.name) l.texts.items
         plain_names =
@@ -239,16 +239,16 @@ module _ (l : Layout) (h : IsLayout l) where
     names_of_blocks : (bs : List (Bor Col)) → names_of (flat_map (block q) (table_of (lent_columns bs))) ≡ flat_map (λ (c : Bor Col). block_names l c.now.name) bs
     names_of_blocks [] = refl
     names_of_blocks (b ∷ bs) =
-        let here = names_of_block (plain b.now) in
+        let here = names_of_block (plain_column b.now) in
         let later = names_of_blocks bs in
-        map-append (λ (c : TableColumn). c.name) (block q (plain b.now)) (flat_map (block q) (table_of (lent_columns bs))) ∙ (λ t. here t ++ later t)
+        map-append (λ (c : TableColumn). c.name) (block q (plain_column b.now)) (flat_map (block q) (table_of (lent_columns bs))) ∙ (λ t. here t ++ later t)
 
     pub names_are : names_of (index_and_blocks q) ≡ answer_names l
     names_are =
         let index : List (Bor Col) = l.columns.now.index.items in
         let name : TableColumn → Name = λ c. c.name in
         let first : names_of (map (index_column q) q.index) ≡ map (λ (c : Bor Col). c.now.name) index =
-        map-map name (index_column q) q.index ∙ map-map name plain (lent_columns index) ∙ map-map (λ (c : Col). c.name) (λ (c : Bor Col). c.now) index in
+        map-map name (index_column q) q.index ∙ map-map name plain_column (lent_columns index) ∙ map-map (λ (c : Col). c.name) (λ (c : Bor Col). c.now) index in
         let last = names_of_blocks lent_values in
         map-append name (map (index_column q) q.index) (flat_map (block q) q.values) ∙ (λ t. first t ++ last t)
 
@@ -270,12 +270,12 @@ module _ (l : Layout) (h : IsLayout l) where
 
     each_cause : (bs : List (Bor Col)) → All (λ (c : Bor Col). length (values c.now) ≡ l.height) bs → All (λ (c : Bor Col). takes way c.now.kind ≡ true) bs
         → map (λ (x : TableColumn). first_cause (when (is_out_of_range q way x) (ComputeError (SumRange x.name)) ∷ way_cause q way x ∷ [])) (table_of (lent_columns bs)) ≡ map (made_cause way l.cells.groups) (lent_columns bs)
-    each_cause [] high taken = refl
-    each_cause (b ∷ bs) high taken =
+    each_cause [] high taken_rows = refl
+    each_cause (b ∷ bs) high taken_rows =
         let H : Bor Col → Type 0 = λ c. length (values c.now) ≡ l.height in
         let T : Bor Col → Type 0 = λ c. takes way c.now.kind ≡ true in
-        let here = cause_is q l.cells b.now h.cells (All-head H b bs high) way (All-head T b bs taken) in
-        let later = each_cause bs (All-tail H b bs high) (All-tail T b bs taken) in
+        let here = cause_is q l.cells b.now h.cells (All-head H b bs high) way (All-head T b bs taken_rows) in
+        let later = each_cause bs (All-tail H b bs high) (All-tail T b bs taken_rows) in
         λ t. sym here t ∷ later t
 
     module _ (typed : All (λ (c : Bor Col). takes way c.now.kind ≡ true) lent_values) (one : many_cause q ≡ None) where
@@ -307,7 +307,7 @@ module _ (l : Layout) (h : IsLayout l) where
 
       index_high : (cs : List TableColumn) → All IsHigh (map (index_column q) cs)
       index_high [] = All-nil IsHigh
-      index_high (c ∷ cs) = All-cons IsHigh (index_column q c) (map (index_column q) cs) (length-map (answer_rows q) (value_at c.values)) (index_high cs)
+      index_high (c ∷ cs) = All-cons IsHigh (index_column q c) (map (index_column q) cs) (length-map (answer_rows q) (row_value c.values)) (index_high cs)
 
       headers_high : (v : TableColumn) (ys : List ℕ) → All IsHigh (map (block_column q v) ys)
       headers_high v [] = All-nil IsHigh

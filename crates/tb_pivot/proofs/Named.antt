@@ -13,8 +13,8 @@ use Rattle.tb_value.specs.declared.error.PolarsError.{PolarsError}
 use Rattle.tb_value.specs.declared.error.PolarsError.TheVariants.{InvalidOperation, OutOfMemory}
 use Rattle.tb_chunk.specs.Col.{Col, values}
 use Rattle.tb_chunk.specs.Lent.{lent_columns}
-use Rattle.tb_frame.specs.Frame.{selected}
-use Rattle.tb_frame.specs.Table.{IsTable, Table, TableColumn, height, names_of, plain, table_of}
+use Rattle.tb_frame.specs.Frame.{selected_columns}
+use Rattle.tb_frame.specs.Table.{IsTable, Table, TableColumn, height, names_of, plain_column, table_of}
 use Rattle.tb_frame.proofs.Causes.{find_none, first_cause-append, map_none, selected_hold}
 use Rattle.tb_pivot.specs.Lent.{lent_request, name_causes}
 use Rattle.tb_pivot.specs.Lookup.{AreAsHigh, AreFound, chosen_of}
@@ -29,8 +29,8 @@ module _ (p : Name → Bool) (cs : List Col) (i : ℕ) (x : Col) (low : i < leng
   next_name : names_of (table_of (take (i + 1) cs)) ≡ names_of (table_of (take i cs)) ++ x.name ∷ []
   next_name =
       ap (λ (l : List Col). names_of (table_of l)) (take_more cs i x low)
-      ∙ ap names_of (map-append plain (take i cs) (get_or cs i x ∷ []))
-      ∙ map-append (λ (c : TableColumn). c.name) (table_of (take i cs)) (plain (get_or cs i x) ∷ [])
+      ∙ ap names_of (map-append plain_column (take i cs) (get_or cs i x ∷ []))
+      ∙ map-append (λ (c : TableColumn). c.name) (table_of (take i cs)) (plain_column (get_or cs i x) ∷ [])
       ∙ ap (λ (c : Col). names_of (table_of (take i cs)) ++ c.name ∷ []) (sym is)
 
   pub kept_names : (b : Bool) → p x.name ≡ b → filter p (names_of (table_of (take (i + 1) cs))) ≡ filter p (names_of (table_of (take i cs))) ++ cond b (x.name ∷ []) []
@@ -43,10 +43,10 @@ un_mapped P f [] all = All-nil (λ x. P (f x))
 un_mapped P f (x ∷ xs) all = All-cons (λ x. P (f x)) x xs (All-head P (f x) (map f xs) all) (un_mapped P f xs (All-tail P (f x) (map f xs) all))
 
 -- what holds of the columns as a table holds of them as they are lent
-lent_each : (P : TableColumn → Type 0) (rs : List (Bor Col)) → All P (table_of (lent_columns rs)) → All (λ (c : Bor Col). P (plain c.now)) rs
-lent_each P rs all = un_mapped (λ (c : Col). P (plain c)) (λ (c : Bor Col). c.now) rs (un_mapped P plain (lent_columns rs) all)
+lent_each : (P : TableColumn → Type 0) (rs : List (Bor Col)) → All P (table_of (lent_columns rs)) → All (λ (c : Bor Col). P (plain_column c.now)) rs
+lent_each P rs all = un_mapped (λ (c : Col). P (plain_column c)) (λ (c : Bor Col). c.now) rs (un_mapped P plain_column (lent_columns rs) all)
 
-as_high : (cs : List Col) (names : List Name) (rs : List (Bor Col)) → IsTable (table_of cs) → lent_columns rs ≡ selected names cs → All (λ (c : Bor Col). length (values c.now) ≡ height (table_of cs)) rs
+as_high : (cs : List Col) (names : List Name) (rs : List (Bor Col)) → IsTable (table_of cs) → lent_columns rs ≡ selected_columns names cs → All (λ (c : Bor Col). length (values c.now) ≡ height (table_of cs)) rs
 as_high cs names rs table found =
     let P : TableColumn → Type 0 = λ c. length c.values ≡ height (table_of cs) in
     lent_each P rs (subst (λ (t : Table). All P t) (sym (columns_found cs cs names rs refl found)) (selected_hold P (table_of cs) table.one_height names))
@@ -67,8 +67,8 @@ is_true false c e h = absurd (let k : true ≡ false = e ∙ h in cc)
 pub all_taken : (way : Way) (rs : List (Bor Col)) → agg_cause way (table_of (lent_columns rs)) ≡ None → All (λ (c : Bor Col). takes way c.now.kind ≡ true) rs
 all_taken way rs none =
     let vs : Table = table_of (lent_columns rs) in
-    let kinds : All (λ (c : Bor Col). has_no_kind way (plain c.now) ≡ false) rs = lent_each (λ (c : TableColumn). has_no_kind way c ≡ false) rs (find_none (has_no_kind way) vs (map_none (λ (c : TableColumn). InvalidOperation (AggType c.name)) (find (has_no_kind way) vs) none)) in
-    λ k d low. let c : Bor Col = get_or rs k d in is_true (takes way c.now.kind) (has_no_kind way (plain c.now)) (not_taken way (plain c.now)) (kinds k d low)
+    let kinds : All (λ (c : Bor Col). has_no_kind way (plain_column c.now) ≡ false) rs = lent_each (λ (c : TableColumn). has_no_kind way c ≡ false) rs (find_none (has_no_kind way) vs (map_none (λ (c : TableColumn). InvalidOperation (AggType c.name)) (find (has_no_kind way) vs) none)) in
+    λ k d low. let c : Bor Col = get_or rs k d in is_true (takes way c.now.kind) (has_no_kind way (plain_column c.now)) (not_taken way (plain_column c.now)) (kinds k d low)
 
 -- a cause of the first part is the cause of the whole
 early : (xs ys : List (Option PolarsError)) (e : PolarsError) → (e ≡ OutOfMemory) ⊎ (first_cause xs ≡ Some e) → (e ≡ OutOfMemory) ⊎ (first_cause (xs ++ ys) ≡ Some e)

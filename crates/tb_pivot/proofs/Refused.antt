@@ -7,14 +7,14 @@ use Rattle.tb_value.specs.declared.error.InvalidCause.TheVariants.{AggType}
 use Rattle.tb_value.specs.declared.error.PolarsError.{PolarsError}
 use Rattle.tb_value.specs.declared.error.PolarsError.TheVariants.{ComputeError, InvalidOperation}
 use Rattle.tb_chunk.specs.Col.{Col, values}
-use Rattle.tb_frame.specs.Table.{plain}
+use Rattle.tb_frame.specs.Table.{plain_column}
 use Rattle.tb_agg.specs.Aggregates.{result_kind, sum_kind}
 use Rattle.tb_agg.specs.Outcome.{are_in_range, range_cause}
 use Rattle.tb_agg.specs.declared.table.Aggregate.{Aggregate}
 use Rattle.tb_agg.specs.declared.table.Aggregate.TheVariants.{First, Last, Sum, Min, Max, Count}
 use Rattle.tb_pivot.specs.Cells.{AreCells}
 use Rattle.tb_pivot.specs.Made.{made_cause, takes}
-use Rattle.tb_pivot.specs.Pivot.{answered}
+use Rattle.tb_pivot.specs.Pivot.{answered_column}
 use Rattle.tb_pivot.specs.Refusal.{is_out_of_range, refused_by, way_cause}
 use Rattle.tb_pivot.specs.Request.{Chosen, Way, one_row, aggregated, asked}
 use Rattle.tb_pivot.specs.declared.cells.Cells.{Cells}
@@ -34,7 +34,7 @@ typed None e cause taken = absurd (cc)
 typed (Some t) e cause taken = second_alone cause
 
 module _ (q : Chosen) (c : Cells) (v : Col) (cells : AreCells q.height q.index q.on c) (high : length (values v) ≡ q.height) where
-  range_is : (agg : Aggregate) → range_cause agg c.groups v ≡ when (is_out_of_range q (aggregated agg) (plain v)) (ComputeError (SumRange v.name))
+  range_is : (agg : Aggregate) → range_cause agg c.groups v ≡ when (is_out_of_range q (aggregated agg) (plain_column v)) (ComputeError (SumRange v.name))
   range_is First = refl
   range_is Last = refl
   range_is Min = refl
@@ -43,12 +43,12 @@ module _ (q : Chosen) (c : Cells) (v : Col) (cells : AreCells q.height q.index q
   range_is Sum = ap (λ (sums : List ℤ). when (not (are_in_range (sum_kind v.kind) sums)) (ComputeError (SumRange v.name))) (totals_are q c v cells high)
 
   -- a sum that is outside the range of its type, or the refusal of a caller's object
-  pub cause_is : (w : Way) → takes w v.kind ≡ true → made_cause w c.groups v ≡ first_cause (when (is_out_of_range q w (plain v)) (ComputeError (SumRange v.name)) ∷ way_cause q w (plain v) ∷ [])
+  pub cause_is : (w : Way) → takes w v.kind ≡ true → made_cause w c.groups v ≡ first_cause (when (is_out_of_range q w (plain_column v)) (ComputeError (SumRange v.name)) ∷ way_cause q w (plain_column v) ∷ [])
   cause_is one_row taken = refl
   cause_is (aggregated agg) taken =
       typed (result_kind agg v.kind) (InvalidOperation (AggType v.name)) (range_cause agg c.groups v) taken
       ∙ range_is agg
-      ∙ sym (first_alone (when (is_out_of_range q (aggregated agg) (plain v)) (ComputeError (SumRange v.name))))
+      ∙ sym (first_alone (when (is_out_of_range q (aggregated agg) (plain_column v)) (ComputeError (SumRange v.name))))
   cause_is (asked name answers) taken =
       ap refused_by (sym (answers_are q c v cells name answers))
-      ∙ sym (second_alone (refused_by (answered q (plain v) name answers)))
+      ∙ sym (second_alone (refused_by (answered_column q (plain_column v) name answers)))

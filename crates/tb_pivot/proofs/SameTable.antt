@@ -7,20 +7,20 @@ use Rattle.std.proofs.lemmas.List.Elements.{All-map, All-same}
 use Rattle.tb_value.specs.Names.{Name}
 use Rattle.tb_chunk.specs.Col.{Col}
 use Rattle.tb_chunk.specs.Lent.{in_one_chunk, lent_columns}
-use Rattle.tb_frame.specs.Table.{TableColumn, plain, table_of}
+use Rattle.tb_frame.specs.Table.{TableColumn, plain_column, table_of}
 use Rattle.tb_frame.proofs.Cuts.{table-whole}
 use Rattle.tb_pivot.specs.Lookup.{AreAsHigh, chosen_of}
 use Rattle.tb_pivot.specs.Request.{Way}
 use Rattle.tb_pivot.specs.declared.lookup.RequestColumns.{RequestColumns}
 use Rattle.tb_pivot.proofs.Texts.{map_twice}
 
-lent_plain : (cs : List (Bor Col)) → table_of (lent_columns cs) ≡ map (λ (c : Bor Col). plain c.now) cs
-lent_plain cs = map_twice plain (λ (c : Bor Col). c.now) cs
+lent_plain : (cs : List (Bor Col)) → table_of (lent_columns cs) ≡ map (λ (c : Bor Col). plain_column c.now) cs
+lent_plain cs = map_twice plain_column (λ (c : Bor Col). c.now) cs
 
 -- what holds of the columns of a table
-pub all_plain : (P : TableColumn → Type 0) (cs ds : List (Bor Col)) → table_of (lent_columns cs) ≡ table_of (lent_columns ds) → All (λ c. P (plain c.now)) ds → All (λ c. P (plain c.now)) cs
+pub all_plain : (P : TableColumn → Type 0) (cs ds : List (Bor Col)) → table_of (lent_columns cs) ≡ table_of (lent_columns ds) → All (λ c. P (plain_column c.now)) ds → All (λ c. P (plain_column c.now)) cs
 all_plain P cs ds same all = λ k d low.
-    let see : Bor Col → TableColumn = λ c. plain c.now in
+    let see : Bor Col → TableColumn = λ c. plain_column c.now in
     let each : All P (map see cs) = All-same P (map see cs) (map see ds) (sym (lent_plain cs) ∙ same ∙ lent_plain ds) (All-map P see ds all) in
     subst P (get_or-map see cs k d (see d) low) (each k (see d) (omega (arith, low, length-map cs see)))
 

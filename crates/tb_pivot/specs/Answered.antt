@@ -5,7 +5,7 @@ use Rattle.tb_value.specs.declared.error.PolarsError.{PolarsError}
 use Rattle.tb_value.specs.declared.error.PolarsError.TheVariants.{ComputeError}
 use Rattle.tb_value.specs.declared.error.PolarsError.TheVariants as error
 use Rattle.tb_chunk.specs.Col.{Col}
-use Rattle.tb_frame.specs.Table.{TableColumn, plain}
+use Rattle.tb_frame.specs.Table.{TableColumn, plain_column}
 use Rattle.tb_pivot.specs.declared.expr.ExprFault.{ExprFault}
 use Rattle.tb_pivot.specs.declared.expr.ExprFault.TheVariants.{Refused}
 use Rattle.tb_pivot.specs.declared.expr.ExprFault.TheVariants as fault
@@ -26,4 +26,4 @@ error_of fault.OutOfMemory = error.OutOfMemory
 
 -- a call gives the column that is due, or is refused as is due, or lacks memory
 abbrev pub Gives : Result Col PolarsError → Result TableColumn PolarsError → Type 0
-Gives r due = MatchResult r (λ c. due ≡ Ok (plain c)) (λ e. (e ≡ error.OutOfMemory) ⊎ (due ≡ Err e))
+Gives r due = MatchResult r (λ c. due ≡ Ok (plain_column c)) (λ e. (e ≡ error.OutOfMemory) ⊎ (due ≡ Err e))

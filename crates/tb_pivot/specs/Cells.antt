@@ -3,14 +3,14 @@ use Rattle.std.specs.Prelude.{ℕ, ◌+◌, ◌*◌, List, ◌++◌, length, Opt
 use Rattle.tb_frame.specs.Table.{TableColumn}
 use Rattle.tb_rows.specs.Grouped.{AreGroups}
 use Rattle.tb_pivot.specs.Grid.{grid}
-use Rattle.tb_pivot.specs.Pivot.{alike}
+use Rattle.tb_pivot.specs.Pivot.{are_alike}
 use Rattle.tb_pivot.specs.declared.cells.Cells.{Cells}
 
 -- the groups of rows by their index and header, by their index, and by their header
 pub record AreCells (height : ℕ) (index on : List TableColumn) (c : Cells) : Type 0 where
-  pub groups : AreGroups (alike (index ++ on)) height c.groups
-  pub rows : AreGroups (alike index) height c.rows
-  pub headers : AreGroups (alike on) height c.headers
+  pub groups : AreGroups (are_alike (index ++ on)) height c.groups
+  pub rows : AreGroups (are_alike index) height c.rows
+  pub headers : AreGroups (are_alike on) height c.headers
 
 -- for each cell its group, header after header
 abbrev pub cell_grid : Cells → List (Option ℕ)

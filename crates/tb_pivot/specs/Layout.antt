@@ -12,7 +12,7 @@ use Rattle.tb_chunk.specs.Lent.{lent_columns}
 use Rattle.tb_chunk.specs.Rows.{value_or_null}
 use Rattle.tb_frame.specs.Table.{TableColumn, Table, table_of}
 use Rattle.tb_rows.specs.InOrder.{in_order}
-use Rattle.tb_rows.specs.Rows.{value_at}
+use Rattle.tb_rows.specs.Rows.{row_value}
 use Rattle.tb_pivot.specs.Cells.{AreCells, cells_under}
 use Rattle.tb_pivot.specs.Headers.{block_name, header_text}
 use Rattle.tb_pivot.specs.Lookup.{AreAsHigh, chosen_of}
@@ -22,7 +22,7 @@ use Rattle.tb_pivot.specs.declared.blocks.Layout.{Layout}
 
 -- the texts of the headers of these rows
 abbrev pub texts_at : List (Bor Col) → List ℕ → List Name
-texts_at on rows = map (λ y. header_text (map (λ (c : Bor Col). value_at (values c.now) y) on)) rows
+texts_at on rows = map (λ y. header_text (map (λ (c : Bor Col). row_value (values c.now) y) on)) rows
 
 -- the cells of columns that are as high as the table, and the texts of their headers
 pub record IsLayout (l : Layout) : Type 0 where

@@ -5,16 +5,16 @@ use Rattle.std.specs.List.{All}
 use Rattle.tb_value.specs.Names.{Name}
 use Rattle.tb_chunk.specs.Col.{Col, values}
 use Rattle.tb_chunk.specs.Lent.{lent_columns}
-use Rattle.tb_frame.specs.Frame.{selected}
+use Rattle.tb_frame.specs.Frame.{selected_columns}
 use Rattle.tb_frame.specs.Table.{table_of}
 use Rattle.tb_pivot.specs.Request.{Chosen, Way}
 use Rattle.tb_pivot.specs.declared.lookup.RequestColumns.{RequestColumns}
 
 -- the columns of these names, in the order of the names
 pub record AreFound (cs : List Col) (keys rows others : List Name) (f : RequestColumns) : Type 0 where
-  pub on : lent_columns f.on.items ≡ selected keys cs
-  pub index : lent_columns f.index.items ≡ selected rows cs
-  pub values : lent_columns f.values.items ≡ selected others cs
+  pub on : lent_columns f.on.items ≡ selected_columns keys cs
+  pub index : lent_columns f.index.items ≡ selected_columns rows cs
+  pub values : lent_columns f.values.items ≡ selected_columns others cs
 
 -- the columns that were found, and what is made of them
 abbrev pub chosen_of : ℕ → RequestColumns → Bool → Way → Name → Chosen

@@ -15,7 +15,7 @@ use Rattle.tb_value.specs.declared.error.PolarsError.{PolarsError}
 use Rattle.tb_value.specs.declared.error.PolarsError.TheVariants.{ComputeError}
 use Rattle.tb_frame.specs.Table.{TableColumn, Table}
 use Rattle.tb_rows.specs.InOrder.{in_order}
-use Rattle.tb_rows.specs.Rows.{first_rows, group_of, same_rows, value_at}
+use Rattle.tb_rows.specs.Rows.{first_rows, group_of, same_rows, row_value}
 use Rattle.tb_agg.specs.Aggregates.{aggregate, result_kind}
 use Rattle.tb_pivot.specs.Headers.{block_name, header_text}
 use Rattle.tb_pivot.specs.Request.{Chosen, Request, Way, one_row, aggregated, asked, chosen}
@@ -23,12 +23,12 @@ use Rattle.tb_pivot.specs.Request.{Chosen, Request, Way, one_row, aggregated, as
 -- ROWS AND HEADERS
 
 -- two rows of the table have the same values in each of some columns
-abbrev pub alike : List TableColumn → ℕ → ℕ → Bool
-alike cs = same_rows (map (λ (c : TableColumn). c.values) cs)
+abbrev pub are_alike : List TableColumn → ℕ → ℕ → Bool
+are_alike cs = same_rows (map (λ (c : TableColumn). c.values) cs)
 
 -- the rows of the table in which a row of some columns stands for the first time
 abbrev pub distinct_rows : Chosen → List TableColumn → List ℕ
-distinct_rows q cs = first_rows (alike cs) q.height
+distinct_rows q cs = first_rows (are_alike cs) q.height
 
 abbrev pub answer_rows : Chosen → List ℕ
 answer_rows q = distinct_rows q q.index
@@ -37,13 +37,13 @@ abbrev pub header_rows : Chosen → List ℕ
 header_rows q = distinct_rows q q.on
 
 abbrev pub header_at : Chosen → ℕ → Name
-header_at q y = header_text (map (λ (c : TableColumn). value_at c.values y) q.on)
+header_at q y = header_text (map (λ (c : TableColumn). row_value c.values y) q.on)
 
 -- CELLS
 
 -- the rows of the table that have the index of row x and the header of row y
 abbrev pub cell_rows : Chosen → ℕ → ℕ → List ℕ
-cell_rows q x y = filter (λ i. alike q.index x i && alike q.on y i) (row_numbers q.height)
+cell_rows q x y = filter (λ i. are_alike q.index x i && are_alike q.on y i) (row_numbers q.height)
 
 -- the columns whose rows are cells: those of the index and of the headers
 abbrev pub key_columns : Chosen → List TableColumn
@@ -53,27 +53,27 @@ key_columns q = q.index ++ q.on
 abbrev pub one_each : ℕ → TableColumn → Result TableColumn PolarsError
 one_each groups c = (if length c.values == groups then Ok c else Err (ComputeError (EvaluateLength groups (length c.values))))
 
-abbrev pub given : ℕ → Result TableColumn ℕ → Result TableColumn PolarsError
-given groups (Ok c) = one_each groups c
-given groups (Err code) = Err (ComputeError (Evaluate code))
+abbrev pub given_column : ℕ → Result TableColumn ℕ → Result TableColumn PolarsError
+given_column groups (Ok c) = one_each groups c
+given_column groups (Err code) = Err (ComputeError (Evaluate code))
 
 abbrev pub answer_of : List ℕ → List ℕ → TableColumn → Result Name ℕ → (Table → List ℕ → List ℕ → Result TableColumn ℕ) → Result TableColumn PolarsError
 answer_of firsts numbers v (Err code) answers = Err (ComputeError (Evaluate code))
-answer_of firsts numbers v (Ok n) answers = given (length firsts) (answers (record v { name = n } ∷ []) firsts numbers)
+answer_of firsts numbers v (Ok n) answers = given_column (length firsts) (answers (record v { name = n } ∷ []) firsts numbers)
 
-abbrev pub answered : Chosen → TableColumn → Result Name ℕ → (Table → List ℕ → List ℕ → Result TableColumn ℕ) → Result TableColumn PolarsError
-answered q v name answers = answer_of (distinct_rows q (key_columns q)) (map (group_of (alike (key_columns q)) q.height) (row_numbers q.height)) v name answers
+abbrev pub answered_column : Chosen → TableColumn → Result Name ℕ → (Table → List ℕ → List ℕ → Result TableColumn ℕ) → Result TableColumn PolarsError
+answered_column q v name answers = answer_of (distinct_rows q (key_columns q)) (map (group_of (are_alike (key_columns q)) q.height) (row_numbers q.height)) v name answers
 
 -- the value at the place of a group, of the column that was answered
 abbrev pub answer_at : Result TableColumn PolarsError → ℕ → Datum
-answer_at (Ok c) k = value_at c.values k
+answer_at (Ok c) k = row_value c.values k
 answer_at (Err e) k = null
 
 -- the value for the rows of a cell, of which row i is the first
 abbrev pub value_for : Chosen → TableColumn → Way → ℕ → List ℕ → Datum
-value_for q v one_row i rows = value_at v.values i
-value_for q v (aggregated agg) i rows = aggregate agg (map (value_at v.values) rows)
-value_for q v (asked name answers) i rows = answer_at (answered q v name answers) (group_of (alike (key_columns q)) q.height i)
+value_for q v one_row i rows = row_value v.values i
+value_for q v (aggregated agg) i rows = aggregate agg (map (row_value v.values) rows)
+value_for q v (asked name answers) i rows = answer_at (answered_column q v name answers) (group_of (are_alike (key_columns q)) q.height i)
 
 -- Null where the cell has no rows
 abbrev pub cell_of : Chosen → TableColumn → List ℕ → Datum
@@ -93,7 +93,7 @@ answer_kind (Err e) = kind.null
 abbrev pub way_kind : Chosen → TableColumn → Way → Kind
 way_kind q v one_row = v.kind
 way_kind q v (aggregated agg) = unwrap_or (result_kind agg v.kind) kind.null
-way_kind q v (asked name answers) = answer_kind (answered q v name answers)
+way_kind q v (asked name answers) = answer_kind (answered_column q v name answers)
 
 -- the columns of a value column, one for each header
 abbrev pub block_column : Chosen → TableColumn → ℕ → TableColumn
@@ -111,7 +111,7 @@ block q v = (if q.sorts then in_order by_name (map (block_column q v) (header_ro
 
 -- the values of a column in the rows in which a row of the index stands for the first time
 abbrev pub index_column : Chosen → TableColumn → TableColumn
-index_column q c = record c { values = map (value_at c.values) (answer_rows q) }
+index_column q c = record c { values = map (row_value c.values) (answer_rows q) }
 
 -- the index and the blocks; without value columns there is no column
 abbrev pub with_blocks : Chosen → List TableColumn → Table

@@ -13,12 +13,12 @@ use Rattle.tb_frame.specs.Naming.{is_among}
 use Rattle.tb_frame.specs.Refusal.{repeated_among, unknown_key}
 use Rattle.tb_frame.specs.Table.{TableColumn, Table, names_of}
 use Rattle.tb_label.specs.Label.{is_header}
-use Rattle.tb_rows.specs.Rows.{value_at}
+use Rattle.tb_rows.specs.Rows.{row_value}
 use Rattle.tb_agg.specs.Aggregates.{result_kind, sum_kind, total}
 use Rattle.tb_agg.specs.Outcome.{are_in_range}
 use Rattle.tb_agg.specs.declared.table.Aggregate.TheVariants.{Sum}
 use Rattle.tb_pivot.specs.Headers.{brace_name}
-use Rattle.tb_pivot.specs.Pivot.{alike, answered, distinct_rows, key_columns, wide}
+use Rattle.tb_pivot.specs.Pivot.{are_alike, answered_column, distinct_rows, key_columns, wide}
 use Rattle.tb_pivot.specs.Request.{Chosen, Request, Way, one_row, aggregated, asked, chosen, columns_named, index_names, value_names}
 
 -- NAMES
@@ -62,7 +62,7 @@ many_cause q = when (is_one_row q.way && (nat_lt 0 (length q.values) && nat_lt (
 
 -- 10 the first value column of which the sum for a cell is outside the range of its type
 abbrev pub sums_of : Chosen → TableColumn → List ℕ → Bool
-sums_of q v firsts = are_in_range (sum_kind v.kind) (map (λ x. total (map (value_at v.values) (filter (alike (key_columns q) x) (row_numbers q.height)))) firsts)
+sums_of q v firsts = are_in_range (sum_kind v.kind) (map (λ x. total (map (row_value v.values) (filter (are_alike (key_columns q) x) (row_numbers q.height)))) firsts)
 
 abbrev pub is_out_of_range : Chosen → Way → TableColumn → Bool
 is_out_of_range q (aggregated Sum) v = not (sums_of q v (distinct_rows q (key_columns q)))
@@ -77,7 +77,7 @@ refused_by (Ok c) = None
 refused_by (Err e) = Some e
 
 abbrev pub way_cause : Chosen → Way → TableColumn → Option PolarsError
-way_cause q (asked name answers) v = refused_by (answered q v name answers)
+way_cause q (asked name answers) v = refused_by (answered_column q v name answers)
 way_cause q way v = None
 
 abbrev pub answer_cause : Chosen → Option PolarsError

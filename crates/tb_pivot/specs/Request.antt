@@ -2,7 +2,7 @@
 use Rattle.std.specs.Prelude.{ℕ, Bool, ◌||◌, not, List, [], filter, Option, Some, None, unwrap_or, codes, Result}
 use Rattle.std.specs.List.{filter_map}
 use Rattle.tb_value.specs.Names.{Name}
-use Rattle.tb_frame.specs.Join.{named}
+use Rattle.tb_frame.specs.Join.{column_named}
 use Rattle.tb_frame.specs.Naming.{is_among}
 use Rattle.tb_frame.specs.Table.{TableColumn, Table, height, names_of}
 use Rattle.tb_agg.specs.declared.table.Aggregate.{Aggregate}
@@ -51,7 +51,7 @@ value_names q = given_or_rest q.table q.on q.values q.index
 
 -- the columns of these names
 abbrev pub columns_named : Table → List Name → List TableColumn
-columns_named t names = filter_map (named t) names
+columns_named t names = filter_map (column_named t) names
 
 -- what a request chooses of its table: how many rows there are, the columns whose rows become headers, those of the index and of
 -- the values, and what is made of them

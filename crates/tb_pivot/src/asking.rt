@@ -1,9 +1,9 @@
 //! Asking a caller's object for the values of cells.
 ghost use Rattle.std.specs.Prelude.{◌≡◌, ◌∷◌, [], IfOk, None, length};
 ghost use Rattle.tb_value.specs.Refusals.{Settles};
-ghost use Rattle.tb_frame.specs.Table.{plain, table_of};
+ghost use Rattle.tb_frame.specs.Table.{plain_column, table_of};
 ghost use Rattle.tb_pivot.specs.Answered.{error_of, Gives};
-ghost use Rattle.tb_pivot.specs.Pivot.{answer_of, given, one_each};
+ghost use Rattle.tb_pivot.specs.Pivot.{answer_of, given_column, one_each};
 
 use crate::expr::{ExprFault, PhysicalAggExpr};
 use crate::maker::CellMaker;
@@ -39,14 +39,14 @@ fn named_column(
 // The column under another name, as a table.
 fn named_table(alloc: Global, column: &Series, name: &PlSmallStr) -> PolarsResult<DataFrame>
     ensures settles { Settles result None }
-    ensures table { IfOk result (λ t. table_of t ≡ record (plain column.now) { name = name.now } ∷ []) }
+    ensures table { IfOk result (λ t. table_of t ≡ record (plain_column column.now) { name = name.now } ∷ []) }
 {
     DataFrame::new(alloc, named_column(alloc, column, name)?)
 }
 
 // Refuses a column that has another number of values than there are groups (EvaluateLength).
 fn one_each(column: Series, groups: &Groups) -> PolarsResult<Series>
-    ensures { Gives result (one_each (length groups.now.firsts.items) (plain column)) }
+    ensures { Gives result (one_each (length groups.now.firsts.items) (plain_column column)) }
 {
     let values = column.len();
     if values == groups.firsts().len() {
@@ -65,7 +65,7 @@ fn evaluated(
     table: &DataFrame,
     groups: &Groups,
 ) -> PolarsResult<Series>
-    ensures { Gives result (given (length groups.now.firsts.items) (answers expr.now (table_of table.now) groups.now.firsts.items groups.now.numbers.items)) }
+    ensures { Gives result (given_column (length groups.now.firsts.items) (answers expr.now (table_of table.now) groups.now.firsts.items groups.now.numbers.items)) }
 {
     match expr.evaluate(alloc, table, groups) {
         Ok(column) => one_each(column, groups),
@@ -80,7 +80,7 @@ pub(crate) fn answer_to(
     column: &Series,
     groups: &Groups,
 ) -> PolarsResult<Series>
-    ensures { Gives result (answer_of groups.now.firsts.items groups.now.numbers.items (plain column.now) (named expr.now) (answers expr.now)) }
+    ensures { Gives result (answer_of groups.now.firsts.items groups.now.numbers.items (plain_column column.now) (named expr.now) (answers expr.now)) }
 {
     let name = match expr.root_name() {
         Ok(name) => name,
@@ -122,7 +122,7 @@ impl<K: Told, F: Fn(Global, &Series, &Groups) -> PolarsResult<Series>> CellMaker
     ghost use Rattle.std.specs.Borrow.{Bor};
     ghost use Rattle.tb_value.specs.declared.error.PolarsError.{PolarsError};
     ghost use Rattle.tb_chunk.specs.Col.{Col};
-    ghost use Rattle.tb_frame.specs.Table.{plain};
+    ghost use Rattle.tb_frame.specs.Table.{plain_column};
     ghost use Rattle.tb_rows.specs.declared.groups.Groups.{Groups};
     ghost use Rattle.tb_pivot.specs.Answered.{Gives};
     ghost use Rattle.tb_pivot.specs.Pivot.{answer_of};
@@ -132,7 +132,7 @@ impl<K: Told, F: Fn(Global, &Series, &Groups) -> PolarsResult<Series>> CellMaker
 
     ghost IsReady = { λ maker. F.IsAlwaysCallable maker.ask
         × ((alloc : _) (c : Bor Col) (g : Bor Groups) (r : Result Col PolarsError) → F.post maker.ask alloc c g r
-        → Gives r (answer_of g.now.firsts.items g.now.numbers.items (plain c.now) K.told_name K.told_answers)) };
+        → Gives r (answer_of g.now.firsts.items g.now.numbers.items (plain_column c.now) K.told_name K.told_answers)) };
 
     fn takes(&self, _dtype: &DataType) -> bool {
         true

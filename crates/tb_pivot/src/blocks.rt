@@ -6,9 +6,9 @@ ghost use Rattle.std.specs.Ordering.{nat_cmp};
 ghost use Rattle.tb_value.specs.Refusals.{Settles, first_cause};
 ghost use Rattle.tb_chunk.specs.Col.{Col, values};
 ghost use Rattle.tb_chunk.specs.Lent.{lent_columns};
-ghost use Rattle.tb_frame.specs.Frame.{taken};
+ghost use Rattle.tb_frame.specs.Frame.{taken_rows};
 ghost use Rattle.tb_frame.specs.Refusal.{repeated_among};
-ghost use Rattle.tb_frame.specs.Table.{plain, table_of};
+ghost use Rattle.tb_frame.specs.Table.{plain_column, table_of};
 ghost use Rattle.tb_rows.specs.InOrder.{in_order};
 ghost use Rattle.tb_pivot.specs.Cells.{cell_grid};
 ghost use Rattle.tb_pivot.specs.Layout.{answer_names, block_names, header_column, header_columns, laid_block, laid_out, texts_at, IsLayout};
@@ -85,7 +85,7 @@ fn columns_at(
 ) -> Result<Vec<Column>, OutOfMemory>
     requires rows { All (λ c. All (λ r. r < length (values c.now)) rows.now) columns.now }
     requires few { length rows.now ≤ MAX_ROWS }
-    ensures { IfOk result (λ v. v.items ≡ map (taken rows.now) (lent_columns columns.now)) }
+    ensures { IfOk result (λ v. v.items ≡ map (taken_rows rows.now) (lent_columns columns.now)) }
 {
     let mut taken = Vec::with_capacity(alloc, columns.len())?;
     for column in columns {
@@ -173,7 +173,7 @@ impl<'a, 'b> Layout<'a, 'b> {
         requires places { places.now ≡ cell_grid self.now.cells }
         requires made { length (values made.now) ≡ length self.now.cells.groups.firsts.items }
         requires header { header < length self.now.texts.items }
-        ensures { IfOk result (λ c. plain c ≡ header_column self.now value.now made.now header) }
+        ensures { IfOk result (λ c. plain_column c ≡ header_column self.now value.now made.now header) }
     {
         let mut column = self.cells.column(alloc, places, made, header)?;
         column.rename(block_name(
@@ -268,7 +268,7 @@ impl<'a, 'b> Layout<'a, 'b> {
     // The columns of the index, in the rows in which a row of the index stands for the first time.
     fn index_columns(&self, alloc: Global) -> Result<Vec<Column>, OutOfMemory>
         requires { IsLayout self.now }
-        ensures { IfOk result (λ v. v.items ≡ map (taken self.now.cells.rows.firsts.items) (lent_columns self.now.columns.now.index.items)) }
+        ensures { IfOk result (λ v. v.items ≡ map (taken_rows self.now.cells.rows.firsts.items) (lent_columns self.now.columns.now.index.items)) }
     {
         columns_at(alloc, &self.columns.index, self.cells.answer_rows())
     }
@@ -352,7 +352,7 @@ impl<'a, 'b> Layout<'a, 'b> {
     ) -> Result<Vec<Column>, OutOfMemory>
         requires layout { IsLayout self.now }
         requires made { All (λ b. length (values b.made) ≡ length self.now.cells.groups.firsts.items) blocks.now }
-        ensures { IfOk result (λ v. table_of v.items ≡ table_of (map (taken self.now.cells.rows.firsts.items) (lent_columns self.now.columns.now.index.items)) ++ flat_map (λ b. laid_block self.now b.value.now b.made) blocks.now) }
+        ensures { IfOk result (λ v. table_of v.items ≡ table_of (map (taken_rows self.now.cells.rows.firsts.items) (lent_columns self.now.columns.now.index.items)) ++ flat_map (λ b. laid_block self.now b.value.now b.made) blocks.now) }
     {
         let places = self.cells.grid(alloc, self.height, self.columns)?;
         let mut columns = self.index_columns(alloc)?;

@@ -1,6 +1,6 @@
 //! The cells of the answer.
 ghost use Rattle.std.specs.Prelude.{◌≡◌, ◌≤◌, ◌<◌, ◌*◌, ◌++◌, IfOk, OnOk, length};
-ghost use Rattle.tb_chunk.specs.Changed.{opt_taken};
+ghost use Rattle.tb_chunk.specs.Changed.{opt_taken_rows};
 ghost use Rattle.tb_chunk.specs.Col.{values};
 ghost use Rattle.tb_chunk.specs.Lent.{lent_columns};
 ghost use Rattle.tb_frame.specs.Table.{table_of};
@@ -124,7 +124,7 @@ impl Cells {
         requires rows { length self.now.rows.firsts.items ≤ MAX_ROWS }
         requires header { header < length self.now.headers.firsts.items }
         requires made { length (values made.now) ≡ length self.now.groups.firsts.items }
-        ensures { IfOk result (λ s. s ≡ opt_taken (cells_under self.now header) made.now) }
+        ensures { IfOk result (λ s. s ≡ opt_taken_rows (cells_under self.now header) made.now) }
     {
         made.take_opt(alloc, self.cells_under(places, header))
     }

@@ -21,7 +21,7 @@ pub enum ExprFault {
 pub trait PhysicalAggExpr: Drop {
     ghost use Rattle.std.specs.Prelude.{ℕ, List, Result};
     ghost use Rattle.tb_value.specs.Names.{Name};
-    ghost use Rattle.tb_frame.specs.Table.{Table, TableColumn, plain, table_of};
+    ghost use Rattle.tb_frame.specs.Table.{Table, TableColumn, plain_column, table_of};
     ghost use Rattle.tb_pivot.specs.Answered.{Answers};
 
     /// The name that it asks for, or the number that it refuses with.
@@ -37,7 +37,7 @@ pub trait PhysicalAggExpr: Drop {
 
     /// A column of one value for each group of the table's rows, in the order of the groups. Its type is that of the cells.
     fn evaluate(&self, alloc: Global, df: &DataFrame, groups: &Groups) -> Result<Series, ExprFault>
-        ensures { Answers plain result (answers self.now (table_of df.now) groups.now.firsts.items groups.now.numbers.items) };
+        ensures { Answers plain_column result (answers self.now (table_of df.now) groups.now.firsts.items groups.now.numbers.items) };
 }
 
 /// What the value of a cell is, of the rows with its index and its header. Sum, Min and Max skip nulls.

@@ -8,7 +8,7 @@ ghost use Rattle.tb_pivot.specs.Pivot.{pivot_table};
 ghost use Rattle.tb_pivot.specs.Refusal.{pivot_refusal};
 ghost use Rattle.tb_pivot.specs.AggWay.{agg_way, way_or_row};
 ghost use Rattle.tb_pivot.specs.Answered.{Gives};
-ghost use Rattle.tb_frame.specs.Table.{plain};
+ghost use Rattle.tb_frame.specs.Table.{plain_column};
 ghost use Rattle.tb_pivot.specs.Pivot.{answer_of};
 ghost use Rattle.tb_pivot.specs.Request.{asked, separator_or, way_of};
 
@@ -112,7 +112,7 @@ fn pivot_asked<K: Told>(
         (asked K.told_name K.told_answers) separator.entry)) }
 {
     let ask = |alloc: Global, column: &Series, groups: &Groups| -> PolarsResult<Series>
-        ensures { Gives result (answer_of groups.now.firsts.items groups.now.numbers.items (plain column.now) (named expr.entry.now) (answers expr.entry.now)) }
+        ensures { Gives result (answer_of groups.now.firsts.items groups.now.numbers.items (plain_column column.now) (named expr.entry.now) (answers expr.entry.now)) }
     { answer_to(alloc, expr, column, groups) };
     let maker = Asked::<K, _> {
         ask,

@@ -2,10 +2,10 @@
 ghost use Rattle.std.specs.Prelude.{◌≡◌, ◌<◌, ◌∷◌, ◌++◌, IfOk, OnOk, length, map};
 ghost use Rattle.std.specs.String.{string_bytes};
 ghost use Rattle.std.specs.List.{All, join_with_byte};
-ghost use Rattle.tb_value.specs.See.{lent, IsText};
+ghost use Rattle.tb_value.specs.See.{lent_value, IsText};
 ghost use Rattle.tb_chunk.specs.Col.{values};
-ghost use Rattle.tb_rows.specs.Rows.{value_at};
-ghost use Rattle.tb_pivot.specs.Headers.{block_name, brace_name, field_text, header_text, in_braces, quoted};
+ghost use Rattle.tb_rows.specs.Rows.{row_value};
+ghost use Rattle.tb_pivot.specs.Headers.{block_name, brace_name, field_text, header_text, in_braces, quoted_text};
 
 use std::alloc::Global;
 use tb_label::value_text;
@@ -14,7 +14,7 @@ use tb_value::{OutOfMemory, PlSmallStr, ValueRef};
 
 // The text in double quotes, in which nothing is escaped.
 fn quoted(alloc: Global, text: &str) -> Result<PlSmallStr, OutOfMemory>
-    ensures { IfOk result (λ s. s ≡ quoted text.now) }
+    ensures { IfOk result (λ s. s ≡ quoted_text text.now) }
 {
     PlSmallStr::from_str(alloc, "\"")?
         .followed_by(alloc, text)?
@@ -24,7 +24,7 @@ fn quoted(alloc: Global, text: &str) -> Result<PlSmallStr, OutOfMemory>
 // The text of a value among several.
 fn field_text(alloc: Global, value: ValueRef<'_>) -> Result<PlSmallStr, OutOfMemory>
     requires { IsText value }
-    ensures { IfOk result (λ s. s ≡ field_text (lent value.entry)) }
+    ensures { IfOk result (λ s. s ≡ field_text (lent_value value.entry)) }
 {
     let text = value_text(alloc, value)?;
     match value {
@@ -74,7 +74,7 @@ fn field_texts(
     row: usize,
 ) -> Result<Vec<PlSmallStr>, OutOfMemory>
     requires { All (λ c. row < length (values c.now)) columns.now }
-    ensures { IfOk result (λ v. v.items ≡ map (λ c. field_text (value_at (values c.now) row)) columns.now) }
+    ensures { IfOk result (λ v. v.items ≡ map (λ c. field_text (row_value (values c.now) row)) columns.now) }
 {
     let mut texts = Vec::with_capacity(alloc, columns.len())?;
     for column in columns {
@@ -95,7 +95,7 @@ pub fn header_text(
     row: usize,
 ) -> Result<PlSmallStr, OutOfMemory>
     requires { All (λ c. row < length (values c.now)) columns.now }
-    ensures { IfOk result (λ s. s ≡ header_text (map (λ c. value_at (values c.now) row) columns.now)) }
+    ensures { IfOk result (λ s. s ≡ header_text (map (λ c. row_value (values c.now) row) columns.now)) }
 {
     if columns.len() == 1 {
         return value_text(alloc, columns[0].get(row));

@@ -5,7 +5,7 @@ ghost use Rattle.tb_value.specs.Refusals.{Settles, first_cause};
 ghost use Rattle.tb_chunk.specs.Lent.{lent_columns};
 ghost use Rattle.tb_frame.specs.Naming.{is_among};
 ghost use Rattle.tb_frame.specs.Refusal.{repeated_among};
-ghost use Rattle.tb_frame.specs.Table.{height, names_of, plain, table_of};
+ghost use Rattle.tb_frame.specs.Table.{height, names_of, plain_column, table_of};
 ghost use Rattle.tb_label.specs.Label.{is_header};
 ghost use Rattle.tb_pivot.specs.Lookup.{AreAsHigh, AreFound};
 ghost use Rattle.tb_pivot.specs.Made.{takes};
@@ -100,7 +100,7 @@ fn check_headers(alloc: Global, columns: &[&Series]) -> PolarsResult<()>
 
 // Whether cells are made of the column's values.
 fn is_taken<M: CellMaker>(column: &Series, maker: &M) -> bool
-    ensures { not result ≡ has_no_kind (M.way maker.now) (plain column.now) }
+    ensures { not result ≡ has_no_kind (M.way maker.now) (plain_column column.now) }
 {
     maker.takes(column.dtype())
 }

@@ -8,7 +8,7 @@ use lib.ListN.{get_elem?}
 use Rattle.atomic_table.specs.Table.{Me, Allows, Splits, Joins, Final, Seen, keeps}
 use Rattle.tb_pool.specs.declared.seat.Seat.{Seat}
 use Rattle.tb_pool.specs.Core.{seat_with, times, once_below, IsPast, state, StateRule, EachSeat}
-use Rattle.tb_pool.specs.Running.{WordRule, Drew, lighter, together}
+use Rattle.tb_pool.specs.Running.{WordRule, Drew, lighter_seat, joined_seat}
 use Rattle.tb_pool.proofs.Keeps.{claims, splits, joins, bounded}
 
 seat_le : (f : Seat → ℕ) (seats : List Seat) (w : ℕ) (h : Seat) → get_elem? seats w ≡ some h → f h ≤ sum_by f seats
@@ -87,10 +87,10 @@ module _ {S : Type 0} where
       wraps_not : (n next : ℕ) → n < 2 ^ 32 → next ≤ n + 1024 → (next + 1) % 2 ^ 64 ≡ next + 1
       wraps_not n next a b = omega arith
 
-  pub gives : (n id : ℕ) (h : Seat) → ¬ (IsPast n h.drawn) → 2 ≤ h.weight → Splits {S = S} (WordRule n) id h (lighter h) (seat_with [] 1)
+  pub gives : (n id : ℕ) (h : Seat) → ¬ (IsPast n h.drawn) → 2 ≤ h.weight → Splits {S = S} (WordRule n) id h (lighter_seat h) (seat_with [] 1)
   gives n id h early heavy s r at = (r.0, r.1, splits n (state (slice_index s.words 0) s.views) id h at early heavy r.2)
 
-  pub meets : (n id : ℕ) (h : Seat) (other : ℕ) (g : Seat) → 0 < h.weight → Joins {S = S} (WordRule n) id h other g (together h g) (seat_with [] 0)
+  pub meets : (n id : ℕ) (h : Seat) (other : ℕ) (g : Seat) → 0 < h.weight → Joins {S = S} (WordRule n) id h other g (joined_seat h g) (seat_with [] 0)
   meets n id h other g heavy s r at apart there = (r.0, r.1, joins n (state (slice_index s.words 0) s.views) id other h g at there apart heavy r.2)
 
   -- who has all the weight has drawn each number below the word once

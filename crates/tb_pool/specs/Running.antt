@@ -31,9 +31,9 @@ Drew me found after = (after.0 ≡ seat_with (me.0.drawn ++ found ∷ []) me.0.w
     × All (λ y. y < found) me.0.drawn
 
 -- the seat after it gave a weight of 1 away
-abbrev pub lighter : Seat → Seat
-lighter h = seat_with h.drawn (h.weight - 1)
+abbrev pub lighter_seat : Seat → Seat
+lighter_seat h = seat_with h.drawn (h.weight - 1)
 
 -- the first seat after it took the second in
-abbrev pub together : Seat → Seat → Seat
-together h g = seat_with (h.drawn ++ g.drawn) (h.weight + g.weight)
+abbrev pub joined_seat : Seat → Seat → Seat
+joined_seat h g = seat_with (h.drawn ++ g.drawn) (h.weight + g.weight)

@@ -36,10 +36,10 @@ impl Play<(), Seat> for Draw {
 struct SplitOff;
 
 impl Split<Seat> for SplitOff {
-    ghost use Rattle.tb_pool.specs.Running.{lighter};
+    ghost use Rattle.tb_pool.specs.Running.{lighter_seat};
     ghost use Rattle.tb_pool.specs.Core.{seat_with};
 
-    ghost left = { lighter };
+    ghost left = { lighter_seat };
 
     ghost right = { λ _. seat_with [] 1 };
 }
@@ -48,10 +48,10 @@ impl Split<Seat> for SplitOff {
 struct TakeIn;
 
 impl Join<Seat> for TakeIn {
-    ghost use Rattle.tb_pool.specs.Running.{together};
+    ghost use Rattle.tb_pool.specs.Running.{joined_seat};
     ghost use Rattle.tb_pool.specs.Core.{seat_with};
 
-    ghost both = { together };
+    ghost both = { joined_seat };
 
     ghost spent = { seat_with [] 0 };
 }

@@ -10,7 +10,7 @@ use Rattle.tb_frame.specs.Frame.{are_level}
 use Rattle.tb_request.specs.declared.request.Reason.{Reason}
 use Rattle.tb_request.specs.declared.request.Reason.TheVariants.{Heights, Name, Flag}
 use Rattle.tb_request.specs.Flags.{flags_hold}
-use Rattle.tb_request.specs.Reading.{◌>>=◌, only_if, are_distinct, are_frames, are_tables, earlier, earliest, IsJudged}
+use Rattle.tb_request.specs.Reading.{◌>>=◌, only_if, are_distinct, are_frames, are_tables, earlier_reason, earliest_reason, IsJudged}
 
 abbrev verdict : Bool → Bool → Bool → Result ⊤ Reason
 verdict a b c = (only_if a Heights >>= λ _. only_if b Name) >>= λ _. only_if c Flag
@@ -35,7 +35,7 @@ judged ts us = λ i. verdict
 abbrev joined : Result ⊤ Reason → Result ⊤ Reason → Result ⊤ Reason
 joined (Ok a) r = r
 joined (Err e) (Ok a) = Err e
-joined (Err e) (Err f) = Err (earlier e f)
+joined (Err e) (Err f) = Err (earlier_reason e f)
 
 both : (a b c a' b' c' : Bool) → verdict (a && a') (b && b') (c && c') ≡ joined (verdict a b c) (verdict a' b' c')
 both true true true a' b' c' = refl
@@ -64,6 +64,6 @@ pub one_more : (ts : List (List Col)) (t : List Col) (fault : Option Reason) →
 one_more ts t None h e = judged_joined ts t ∙ (λ i. joined (h i) (e i))
 one_more ts t (Some reason) h e = judged_joined ts t ∙ (λ i. joined (h i) (e i))
 
-pub one_more_none : (ts : List (List Col)) (t : List Col) (fault : Option Reason) (reason : Reason) → IsJudged ts fault → are_tables (t ∷ []) ≡ Err reason → IsJudged (ts ++ t ∷ []) (Some (earliest fault reason))
+pub one_more_none : (ts : List (List Col)) (t : List Col) (fault : Option Reason) (reason : Reason) → IsJudged ts fault → are_tables (t ∷ []) ≡ Err reason → IsJudged (ts ++ t ∷ []) (Some (earliest_reason fault reason))
 one_more_none ts t None reason h e = judged_joined ts t ∙ (λ i. joined (h i) (e i))
 one_more_none ts t (Some first) reason h e = judged_joined ts t ∙ (λ i. joined (h i) (e i))

@@ -1,9 +1,9 @@
 -- A table doesn't show where texts stand.
 use Rattle.std.proofs.Common.{◌≡◌, List, [], ◌∷◌, map, refl, ap}
 use Rattle.tb_chunk.specs.Col.{Col}
-use Rattle.tb_frame.specs.Table.{plain, table_of}
-use Rattle.tb_request.specs.Columns.{unlaid}
+use Rattle.tb_frame.specs.Table.{plain_column, table_of}
+use Rattle.tb_request.specs.Columns.{relaid_column}
 
-pub table_unlaid : (cs : List Col) → table_of (map unlaid cs) ≡ table_of cs
+pub table_unlaid : (cs : List Col) → table_of (map relaid_column cs) ≡ table_of cs
 table_unlaid [] = refl
-table_unlaid (c ∷ cs) = ap (λ t. plain c ∷ t) (table_unlaid cs)
+table_unlaid (c ∷ cs) = ap (λ t. plain_column c ∷ t) (table_unlaid cs)

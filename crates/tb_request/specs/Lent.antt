@@ -13,7 +13,7 @@ use Rattle.tb_request.specs.declared.one_table.WrittenUnpivot.{WrittenUnpivot}
 use Rattle.tb_request.specs.declared.one_table.WrittenDummies.{WrittenDummies}
 use Rattle.tb_request.specs.declared.one_table.WrittenPivot.{WrittenPivot}
 use Rattle.tb_request.specs.declared.values.ClaimedColumn.{ClaimedColumn}
-use Rattle.tb_request.specs.Columns.{unlaid}
+use Rattle.tb_request.specs.Columns.{relaid_column}
 use Rattle.tb_request.specs.Written as written
 
 abbrev pub written_view : WrittenColumn → written.Written
@@ -63,7 +63,7 @@ written_pivot w = record {
 
 -- the column, as if it had the flag that is claimed, wherever its texts stand
 abbrev pub claimed_view : ClaimedColumn → Col
-claimed_view c = unlaid (record c.column { flag = c.flag })
+claimed_view c = relaid_column (record c.column { flag = c.flag })
 
 abbrev pub claimed_views : Vec ClaimedColumn Global → List Col
 claimed_views v = map claimed_view v.items

@@ -24,7 +24,7 @@ use Rattle.tb_request.specs.declared.request.Reason.TheVariants as why
 use Rattle.tb_request.specs.declared.request.RequestFault.{RequestFault}
 use Rattle.tb_request.specs.declared.request.RequestFault.TheVariants.{OutOfMemory, NoRequest}
 use Rattle.tb_request.specs.Written.{Written, join_of, unpivot_of, dummies_of, pivot_of}
-use Rattle.tb_request.specs.Columns.{tables_of, columns_from, unlaid}
+use Rattle.tb_request.specs.Columns.{tables_of, columns_from, relaid_column}
 use Rattle.tb_request.specs.Flags.{flags_hold}
 
 pub record JoinRequest : Type 0 where
@@ -94,14 +94,14 @@ IsJudged tables None = are_tables tables ≡ Ok tt
 IsJudged tables (Some reason) = are_tables tables ≡ Err reason
 
 -- the one of two reasons why tables are none that is judged first
-abbrev pub earlier : Reason → Reason → Reason
-earlier why.Heights other = why.Heights
-earlier why.Name why.Flag = why.Name
-earlier one other = other
+abbrev pub earlier_reason : Reason → Reason → Reason
+earlier_reason why.Heights other = why.Heights
+earlier_reason why.Name why.Flag = why.Name
+earlier_reason one other = other
 
-abbrev pub earliest : Option Reason → Reason → Reason
-earliest None reason = reason
-earliest (Some first) reason = earlier first reason
+abbrev pub earliest_reason : Option Reason → Reason → Reason
+earliest_reason None reason = reason
+earliest_reason (Some first) reason = earlier_reason first reason
 
 -- Each line speaks of the whole value, so the first that fails is the reason.
 unfoldable pub join_in : Data → Result JoinRequest Reason
@@ -171,22 +171,22 @@ unfoldable pub pivot_request_of : List ℕ → Result PivotRequest Reason
 pivot_request_of bytes = value_of bytes >>= pivot_in
 
 -- what is asked of the join
-abbrev pub asked : JoinRequest → Request
-asked r = by_names (table_of r.left) (table_of r.right) r.left_on r.right_on r.args
+abbrev pub asked_request : JoinRequest → Request
+asked_request r = by_names (table_of r.left) (table_of r.right) r.left_on r.right_on r.args
 
 -- what the program's requests stand for, wherever the texts of their columns stand
 abbrev pub request_view : rust_join.JoinRequest → JoinRequest
-request_view r = record { left = map unlaid r.left; right = map unlaid r.right; left_on = r.left_on.items; right_on = r.right_on.items; args = r.args; exec = r.exec; trace = r.trace }
+request_view r = record { left = map relaid_column r.left; right = map relaid_column r.right; left_on = r.left_on.items; right_on = r.right_on.items; args = r.args; exec = r.exec; trace = r.trace }
 
 abbrev pub unpivot_view : rust_unpivot.UnpivotRequest → UnpivotRequest
-unpivot_view r = record { table = map unlaid r.table; on = r.on.items; index = r.index.items; variable_name = r.variable_name; value_name = r.value_name }
+unpivot_view r = record { table = map relaid_column r.table; on = r.on.items; index = r.index.items; variable_name = r.variable_name; value_name = r.value_name }
 
 abbrev pub dummies_view : rust_dummies.DummiesRequest → DummiesRequest
-dummies_view r = record { table = map unlaid r.table; columns = option_map (λ v. v.items) r.columns; separator = r.separator; drop_first = r.drop_first }
+dummies_view r = record { table = map relaid_column r.table; columns = option_map (λ v. v.items) r.columns; separator = r.separator; drop_first = r.drop_first }
 
 abbrev pub pivot_view : rust_pivot.PivotRequest → PivotRequest
 pivot_view r = record {
-  table = map unlaid r.table;
+  table = map relaid_column r.table;
   on = r.on.items;
   index = option_map (λ v. v.items) r.index;
   values = option_map (λ v. v.items) r.values;

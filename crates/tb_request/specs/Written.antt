@@ -25,17 +25,17 @@ use Rattle.tb_json.specs.Kinds.{kind_in}
 use Rattle.tb_json.specs.Lists.{◌>>=◌, check, as_list, list_of, has_only}
 
 -- a member that may be absent, which then means `absent`, and else is what f reads of it
-abbrev pub optional : {A : Type 0} → A → (Data → Option A) → Option Data → Option A
-optional absent f None = Some absent
-optional absent f (Some d) = f d
+abbrev pub optional_member : {A : Type 0} → A → (Data → Option A) → Option Data → Option A
+optional_member absent f None = Some absent
+optional_member absent f (Some d) = f d
 
 -- the same, where it is a text that f reads
 abbrev pub text_or : {A : Type 0} → A → (List ℕ → Option A) → Option Data → Option A
-text_or absent f o = optional absent (λ d. as_str d >>= f) o
+text_or absent f o = optional_member absent (λ d. as_str d >>= f) o
 
 -- a truth value, which is false where it is absent
 abbrev pub truth_at : List ℕ → Data → Option Bool
-truth_at name d = optional false as_bool (get name d)
+truth_at name d = optional_member false as_bool (get name d)
 
 -- any text, where it is there
 abbrev pub text_at : List ℕ → Data → Option (Option Name)
@@ -47,7 +47,7 @@ texts_at name d = get name d >>= list_of as_str
 
 -- the same, where the member is there
 abbrev pub texts_if_at : List ℕ → Data → Option (Option (List Name))
-texts_if_at name d = optional None (λ m. option_map Some (list_of as_str m)) (get name d)
+texts_if_at name d = optional_member None (λ m. option_map Some (list_of as_str m)) (get name d)
 
 -- ---- tables
 
@@ -138,7 +138,7 @@ abbrev pub validation_of : Data → Option JoinValidation
 validation_of d = text_or ManyToMany validation_named (get (codes "validation") d)
 
 abbrev pub slice_of : Data → Option (Option (ℤ × ℕ))
-slice_of d = optional None slice_in (get (codes "slice") d)
+slice_of d = optional_member None slice_in (get (codes "slice") d)
 
 -- a truth value for all keys, or a list of one for each
 abbrev pub nulls_from : Option Bool → Option (List Bool) → Option JoinNulls
@@ -149,7 +149,7 @@ abbrev pub nulls_in : Data → Option JoinNulls
 nulls_in d = nulls_from (as_bool d) (list_of as_bool d)
 
 abbrev pub nulls_of : Data → Option JoinNulls
-nulls_of d = optional (All false) nulls_in (get (codes "join_nulls") d)
+nulls_of d = optional_member (All false) nulls_in (get (codes "join_nulls") d)
 
 abbrev pub coalesce_of : Data → Option JoinCoalesce
 coalesce_of d = text_or JoinSpecific coalesce_named (get (codes "coalesce") d)
@@ -192,11 +192,11 @@ plan_of d = do
   Some (record { workers = workers; partitions = partitions; small = small; num = num; den = den })
 
 -- the numbers of `Exec::standard`
-abbrev pub standard : ExecView
-standard = record { workers = 4; partitions = 8; small = 256; num = 1; den = 1 }
+abbrev pub standard_exec : ExecView
+standard_exec = record { workers = 4; partitions = 8; small = 256; num = 1; den = 1 }
 
 abbrev pub exec_of : Data → Option ExecView
-exec_of d = optional standard plan_of (get (codes "exec") d)
+exec_of d = optional_member standard_exec plan_of (get (codes "exec") d)
 
 -- ---- a request to join
 

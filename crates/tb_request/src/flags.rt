@@ -1,8 +1,8 @@
 //! The flags that are claimed of columns.
 ghost use Rattle.std.specs.Prelude.{◌≡◌, map, IfOk, IsTrue};
 ghost use Rattle.tb_chunk.specs.Col.{values};
-ghost use Rattle.tb_frame.specs.Table.{plain, table_of};
-ghost use Rattle.tb_request.specs.Columns.{unlaid};
+ghost use Rattle.tb_frame.specs.Table.{plain_column, table_of};
+ghost use Rattle.tb_request.specs.Columns.{relaid_column};
 ghost use Rattle.tb_request.specs.Flags.{flag_holds, flags_hold};
 ghost use Rattle.tb_request.specs.Lent.{claimed_view};
 
@@ -32,8 +32,8 @@ pub fn flag_holds(column: &Column, flag: IsSorted) -> bool
 // The column with the flag that is claimed of it, where this is true, and whether it is.
 fn settled(claimed: ClaimedColumn) -> (Column, bool)
     ensures holds { result.1 ≡ flag_holds claimed.flag claimed.column.kind (values claimed.column) }
-    ensures flagged { IsTrue result.1 → unlaid result.0 ≡ claimed_view claimed }
-    ensures plain { plain result.0 ≡ plain (claimed_view claimed) }
+    ensures flagged { IsTrue result.1 → relaid_column result.0 ≡ claimed_view claimed }
+    ensures plain { plain_column result.0 ≡ plain_column (claimed_view claimed) }
 {
     let ClaimedColumn { mut column, flag } = claimed;
     if flag_holds(&column, flag) {
@@ -47,7 +47,7 @@ fn settled(claimed: ClaimedColumn) -> (Column, bool)
 pub fn flagged(alloc: Global, claimed: Vec<ClaimedColumn>) -> Result<FlaggedColumns, OutOfMemory>
     ensures hold { IfOk result (λ f. f.hold ≡ flags_hold (map claimed_view claimed.items)) }
     ensures flagged { IfOk result (λ f. IsTrue f.hold
-        → map unlaid f.columns.items ≡ map claimed_view claimed.items) }
+        → map relaid_column f.columns.items ≡ map claimed_view claimed.items) }
     ensures table { IfOk result (λ f. table_of f.columns.items
         ≡ table_of (map claimed_view claimed.items)) }
 {

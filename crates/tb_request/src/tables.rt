@@ -1,8 +1,8 @@
 //! The tables of a request.
 ghost use Rattle.std.specs.Prelude.{◌≡◌, [], ◌∷◌, map, IfOk, MatchResult, Ok, Err};
 ghost use Rattle.tb_frame.specs.Table.{Table, table_of};
-ghost use Rattle.tb_request.specs.Columns.{unlaid};
-ghost use Rattle.tb_request.specs.Reading.{are_frames, are_tables, fault_of, table_from, earlier, earliest, FaultIs};
+ghost use Rattle.tb_request.specs.Columns.{relaid_column};
+ghost use Rattle.tb_request.specs.Reading.{are_frames, are_tables, fault_of, table_from, earlier_reason, earliest_reason, FaultIs};
 ghost use Rattle.tb_request.specs.Lent.{claimed_view, claimed_views, written_view};
 
 use crate::flags::flagged;
@@ -85,7 +85,7 @@ fn frames_of(
 // The table of these columns with the flags that are claimed.
 #[tactic(auto, unfolding(crate::specs::Reading::are_tables))]
 fn table_of(alloc: Global, claimed: Vec<ClaimedColumn>) -> Result<DataFrame, RequestFault>
-    ensures columns { IfOk result (λ t. map unlaid t ≡ map claimed_view claimed.items) }
+    ensures columns { IfOk result (λ t. map relaid_column t ≡ map claimed_view claimed.items) }
     ensures tables { MatchResult result
         (λ t. are_tables (map claimed_view claimed.items ∷ []) ≡ Ok tt)
         (λ e. FaultIs e (are_tables (map claimed_view claimed.items ∷ []))) }
@@ -105,7 +105,7 @@ pub(crate) fn table_from(
     alloc: Global,
     written: Vec<WrittenColumn>,
 ) -> Result<DataFrame, RequestFault>
-    ensures { MatchResult result (λ t. table_from (map written_view written.items) ≡ Ok (map unlaid t))
+    ensures { MatchResult result (λ t. table_from (map written_view written.items) ≡ Ok (map relaid_column t))
         (λ e. FaultIs e (table_from (map written_view written.items))) }
 {
     match columns_of(alloc, written)? {
@@ -121,8 +121,8 @@ pub(crate) fn tables_of(
     left: Vec<ClaimedColumn>,
     right: Vec<ClaimedColumn>,
 ) -> Result<(DataFrame, DataFrame), RequestFault>
-    ensures columns { IfOk result (λ p. (map unlaid p.0 ≡ map claimed_view left.items)
-        × (map unlaid p.1 ≡ map claimed_view right.items)) }
+    ensures columns { IfOk result (λ p. (map relaid_column p.0 ≡ map claimed_view left.items)
+        × (map relaid_column p.1 ≡ map claimed_view right.items)) }
     ensures tables { MatchResult result
         (λ p. are_tables (map claimed_view left.items ∷ map claimed_view right.items ∷ []) ≡ Ok tt)
         (λ e. FaultIs e (are_tables (map claimed_view left.items ∷ map claimed_view right.items ∷ []))) }
@@ -139,7 +139,7 @@ pub(crate) fn tables_of(
 
 // The one of two reasons that is judged first.
 fn earlier(one: Reason, other: Reason) -> Reason
-    ensures { result ≡ earlier one other }
+    ensures { result ≡ earlier_reason one other }
 {
     match (one, other) {
         (Reason::Heights, _) => Reason::Heights,
@@ -149,7 +149,7 @@ fn earlier(one: Reason, other: Reason) -> Reason
 }
 
 fn earliest(fault: Option<Reason>, reason: Reason) -> Reason
-    ensures { result ≡ earliest fault reason }
+    ensures { result ≡ earliest_reason fault reason }
 {
     match fault {
         Some(first) => earlier(first, reason),
@@ -169,7 +169,7 @@ pub fn tables_from(
     alloc: Global,
     claimed: Vec<Vec<ClaimedColumn>>,
 ) -> Result<Vec<DataFrame>, RequestFault>
-    ensures columns { IfOk result (λ ts. map (map unlaid) ts.items ≡ map claimed_views claimed.items) }
+    ensures columns { IfOk result (λ ts. map (map relaid_column) ts.items ≡ map claimed_views claimed.items) }
     ensures tables { MatchResult result (λ ts. are_tables (map claimed_views claimed.items) ≡ Ok tt)
         (λ e. FaultIs e (are_tables (map claimed_views claimed.items))) }
 {

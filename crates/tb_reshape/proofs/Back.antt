@@ -13,9 +13,9 @@ use Rattle.tb_value.specs.Pairs.{row_numbers}
 use Rattle.tb_frame.specs.Table.{TableColumn, Table, height, names_of, IsTyped}
 use Rattle.tb_frame.proofs.Causes.{selected_hold}
 use Rattle.tb_label.specs.Label.{value_text}
-use Rattle.tb_rows.specs.Rows.{value_at}
+use Rattle.tb_rows.specs.Rows.{row_value}
 use Rattle.tb_unpivot.specs.Unpivot.{columns_named, common_kind, kind_or_null, long_table, repeated, value_column, variable_column}
-use Rattle.tb_pivot.specs.Pivot.{alike, answer_rows, block_column, cell, cell_of, header_at, header_rows, index_column, wide}
+use Rattle.tb_pivot.specs.Pivot.{are_alike, answer_rows, block_column, cell, cell_of, header_at, header_rows, index_column, wide}
 use Rattle.tb_pivot.specs.Request.{Chosen, one_row}
 use Rattle.tb_pivot.proofs.Texts.{map_twice}
 use Rattle.tb_reshape.specs.Undo.{made_long, made_wide, AreOf, AreUndone}
@@ -23,7 +23,7 @@ use Rattle.tb_reshape.proofs.Lookups.{Differ, at_front, first_found, past}
 use Rattle.tb_reshape.proofs.Places.{first_ones, first_of_each, one_row_each, small}
 use Rattle.tb_reshape.proofs.Stacked.{IsHigh, one_kind_is, one_row_alike, repeated_alike, repeated_at, repeated_long, value_is, variable_alike, variable_at, variable_long}
 
-module _ (index on : List TableColumn) (h : ℕ) (some : 0 < h) (k : Kind) (variable value separator : Name) (index_high : All (IsHigh h) index) (on_high : All (IsHigh h) on) (o : TableColumn) (columns : 0 < length on) (distinct : AllPairs (λ (x y : TableColumn). x.name ≢ y.name) on) (apart : (i j : ℕ) → i < h → j < h → alike index i j ≡ true → i ≡ j) (one : All (λ (c : TableColumn). c.kind ≡ k) on) (typed : All IsTyped on) where
+module _ (index on : List TableColumn) (h : ℕ) (some : 0 < h) (k : Kind) (variable value separator : Name) (index_high : All (IsHigh h) index) (on_high : All (IsHigh h) on) (o : TableColumn) (columns : 0 < length on) (distinct : AllPairs (λ (x y : TableColumn). x.name ≢ y.name) on) (apart : (i j : ℕ) → i < h → j < h → are_alike index i j ≡ true → i ≡ j) (one : All (λ (c : TableColumn). c.kind ≡ k) on) (typed : All IsTyped on) where
   abbrev copies : List TableColumn
   copies = map (repeated (length on)) index
 
@@ -39,29 +39,29 @@ module _ (index on : List TableColumn) (h : ℕ) (some : 0 < h) (k : Kind) (vari
   fits : h ≤ length on * h
   fits = let up : 1 * h ≤ length on * h = mul-le 1 h (length on) h (omega (arith, columns)) (omega arith) in omega (arith, up)
 
-  by_row : (i j : ℕ) → i < length on * h → j < length on * h → alike copies i j ≡ eqb (i % h) (j % h)
+  by_row : (i j : ℕ) → i < length on * h → j < length on * h → are_alike copies i j ≡ eqb (i % h) (j % h)
   by_row i j low under = repeated_alike h some (length on) index index_high i j low under ∙ one_row_alike index h apart (i % h) (j % h) (mod_below i h some) (mod_below j h some)
 
-  by_column : (i j : ℕ) → i < length on * h → j < length on * h → alike (names_column ∷ []) i j ≡ eqb (i / h) (j / h)
+  by_column : (i j : ℕ) → i < length on * h → j < length on * h → are_alike (names_column ∷ []) i j ≡ eqb (i / h) (j / h)
   by_column i j low under = variable_alike on h some on_high o distinct variable i j low under
 
   answers : answer_rows q ≡ row_numbers h
-  answers = first_ones h some (length on) (alike copies) by_row fits
+  answers = first_ones h some (length on) (are_alike copies) by_row fits
 
   headers : header_rows q ≡ map (λ a. a * h) (row_numbers (length on))
-  headers = first_of_each h some (length on) (alike (names_column ∷ [])) by_column
+  headers = first_of_each h some (length on) (are_alike (names_column ∷ [])) by_column
 
-  cell_back : (x a : ℕ) → x < h → a < length on → cell q values_column x (a * h) ≡ value_at (get_or on a o).values x
+  cell_back : (x a : ℕ) → x < h → a < length on → cell q values_column x (a * h) ≡ row_value (get_or on a o).values x
   cell_back x a low under =
-      ap (cell_of q values_column) (one_row_each h some (length on) (alike copies) (alike (names_column ∷ [])) by_row by_column x a low under)
+      ap (cell_of q values_column) (one_row_each h some (length on) (are_alike copies) (are_alike (names_column ∷ [])) by_row by_column x a low under)
       ∙ value_is on h some on_high o k one typed value a x under low
 
   -- THE COLUMNS
 
   index_back : (c : TableColumn) → IsHigh h c → index_column q (repeated (length on) c) ≡ c
   index_back c high =
-      let at : ℕ → Datum = value_at (repeated (length on) c).values in
-      let back : map at (answer_rows q) ≡ c.values = ap (map at) answers ∙ sym (fill_by_all at c.values h null high (λ x low. sym (repeated_at h some (length on) c high x (omega (arith, low, fits)) ∙ ap (value_at c.values) (small h some x low)))) in
+      let at : ℕ → Datum = row_value (repeated (length on) c).values in
+      let back : map at (answer_rows q) ≡ c.values = ap (map at) answers ∙ sym (fill_by_all at c.values h null high (λ x low. sym (repeated_at h some (length on) c high x (omega (arith, low, fits)) ∙ ap (row_value c.values) (small h some x low)))) in
       λ t. record { name = c.name; kind = c.kind; values = back t }
 
   indexes_back : (cs : List TableColumn) → All (IsHigh h) cs → map (index_column q) (map (repeated (length on)) cs) ≡ cs
@@ -75,7 +75,7 @@ module _ (index on : List TableColumn) (h : ℕ) (some : 0 < h) (k : Kind) (vari
   header_back a low =
       let c : TableColumn = get_or on a o in
       let place : a * h ≡ a * h + 0 = omega arith in
-      let text : header_at q (a * h) ≡ c.name = ap value_text (ap (value_at names_column.values) place ∙ variable_at on h some on_high o variable a 0 low some) in
+      let text : header_at q (a * h) ≡ c.name = ap value_text (ap (row_value names_column.values) place ∙ variable_at on h some on_high o variable a 0 low some) in
       let type : k ≡ c.kind = sym (All-get_or (λ (d : TableColumn). d.kind ≡ k) on a o low one) in
       let at : ℕ → Datum = λ x. cell q values_column x (a * h) in
       let back : map at (answer_rows q) ≡ c.values = ap (map at) answers ∙ sym (fill_by_all at c.values h null (All-get_or (IsHigh h) on a o low on_high) (λ x under. sym (cell_back x a under low))) in

@@ -16,31 +16,31 @@ use Rattle.tb_value.specs.Same.{same}
 use Rattle.tb_value.specs.SameKind.{same_kind}
 use Rattle.tb_value.specs.Typed.{HasType}
 use Rattle.tb_frame.specs.Table.{TableColumn, IsTyped}
-use Rattle.tb_rows.specs.Rows.{value_at}
+use Rattle.tb_rows.specs.Rows.{row_value}
 use Rattle.tb_supertype.specs.Cast.{cast}
-use Rattle.tb_supertype.specs.Supertype.{class_of, common, supertype}
+use Rattle.tb_supertype.specs.Supertype.{class_of, common_by_class, supertype}
 use Rattle.tb_supertype.proofs.Stacks.{cast-each}
 use Rattle.tb_unpivot.specs.Unpivot.{common_kind, repeated, value_column, variable_column}
 use Rattle.tb_unpivot.proofs.CommonKinds.{kind_more, one_kind}
-use Rattle.tb_pivot.specs.Pivot.{alike}
+use Rattle.tb_pivot.specs.Pivot.{are_alike}
 use Rattle.tb_pivot.proofs.Alike.{alike_equiv}
 
 -- VALUES OF COLUMNS ONE BELOW THE OTHER
 
-in_flat : {X : Type 0} (f : X → List Datum) (h : ℕ) (xs : List X) (e : X) → All (λ x. length (f x) ≡ h) xs → (a r : ℕ) → a < length xs → r < h → value_at (flat_map f xs) (a * h + r) ≡ value_at (f (get_or xs a e)) r
+in_flat : {X : Type 0} (f : X → List Datum) (h : ℕ) (xs : List X) (e : X) → All (λ x. length (f x) ≡ h) xs → (a r : ℕ) → a < length xs → r < h → row_value (flat_map f xs) (a * h + r) ≡ row_value (f (get_or xs a e)) r
 in_flat f h [] e high a r low under = absurd (omega (arith, low))
 in_flat {X} f h (x ∷ xs) e high zero r low under =
     let P : X → Type 0 = λ y. length (f y) ≡ h in
     let place : 0 * h + r ≡ r = omega arith in
-    ap (value_at (f x ++ flat_map f xs)) place ∙ get_or_append_left (f x) (flat_map f xs) null r (omega (arith, under, All-head P x xs high))
+    ap (row_value (f x ++ flat_map f xs)) place ∙ get_or_append_left (f x) (flat_map f xs) null r (omega (arith, under, All-head P x xs high))
 in_flat {X} f h (x ∷ xs) e high (suc a) r low under =
     let P : X → Type 0 = λ y. length (f y) ≡ h in
     let here : length (f x) ≡ h = All-head P x xs high in
     let next : suc a * h + r ≡ h + (a * h + r) = omega arith in
     let back : h + (a * h + r) - h ≡ a * h + r = omega arith in
-    ap (value_at (f x ++ flat_map f xs)) next
+    ap (row_value (f x ++ flat_map f xs)) next
     ∙ get_or-append_right (f x) (flat_map f xs) h (h + (a * h + r)) null here (omega arith)
-    ∙ ap (value_at (flat_map f xs)) back
+    ∙ ap (row_value (flat_map f xs)) back
     ∙ in_flat f h xs e (All-tail P x xs high) a r (omega (arith, low)) under
 
 flat_long : {X : Type 0} (f : X → List Datum) (h : ℕ) (xs : List X) → All (λ x. length (f x) ≡ h) xs → length (flat_map f xs) ≡ length xs * h
@@ -55,36 +55,36 @@ IsHigh h c = length c.values ≡ h
 
 module _ (h : ℕ) (some : 0 < h) (m : ℕ) where
   -- a column so many times
-  pub repeated_at : (c : TableColumn) → IsHigh h c → (i : ℕ) → i < m * h → value_at (repeated m c).values i ≡ value_at c.values (i % h)
+  pub repeated_at : (c : TableColumn) → IsHigh h c → (i : ℕ) → i < m * h → row_value (repeated m c).values i ≡ row_value c.values (i % h)
   repeated_at c high i low =
       let a : ℕ = i / h in
       let r : ℕ = i % h in
       let block : a < m = div_below i h m some low in
       let copies : All (λ (vs : List Datum). length vs ≡ h) (replicate m c.values) = All-replicate (λ (vs : List Datum). length vs ≡ h) m c.values high in
-      ap (value_at (repeated m c).values) (sym (div-add-mod' i h))
+      ap (row_value (repeated m c).values) (sym (div-add-mod' i h))
       ∙ in_flat (λ vs. vs) h (replicate m c.values) [] copies a r (omega (arith, block, length-replicate m c.values)) (mod_below i h some)
-      ∙ ap (λ (vs : List Datum). value_at vs r) (get_or-replicate m a c.values [] block)
+      ∙ ap (λ (vs : List Datum). row_value vs r) (get_or-replicate m a c.values [] block)
 
   pub repeated_long : (c : TableColumn) → IsHigh h c → length (repeated m c).values ≡ m * h
   repeated_long c high =
       flat_long (λ vs. vs) h (replicate m c.values) (All-replicate (λ (vs : List Datum). length vs ≡ h) m c.values high) ∙ ap (λ (n : ℕ). n * h) (length-replicate m c.values)
 
   -- rows of columns so many times are the same where they are those of one row
-  pub repeated_alike : (cs : List TableColumn) → All (IsHigh h) cs → (i j : ℕ) → i < m * h → j < m * h → alike (map (repeated m) cs) i j ≡ alike cs (i % h) (j % h)
+  pub repeated_alike : (cs : List TableColumn) → All (IsHigh h) cs → (i j : ℕ) → i < m * h → j < m * h → are_alike (map (repeated m) cs) i j ≡ are_alike cs (i % h) (j % h)
   repeated_alike [] high i j low under = refl
   repeated_alike (c ∷ cs) high i j low under =
-      let first : value_at (repeated m c).values i ≡ value_at c.values (i % h) = repeated_at c (All-head (IsHigh h) c cs high) i low in
-      let second : value_at (repeated m c).values j ≡ value_at c.values (j % h) = repeated_at c (All-head (IsHigh h) c cs high) j under in
-      let rest : alike (map (repeated m) cs) i j ≡ alike cs (i % h) (j % h) = repeated_alike cs (All-tail (IsHigh h) c cs high) i j low under in
+      let first : row_value (repeated m c).values i ≡ row_value c.values (i % h) = repeated_at c (All-head (IsHigh h) c cs high) i low in
+      let second : row_value (repeated m c).values j ≡ row_value c.values (j % h) = repeated_at c (All-head (IsHigh h) c cs high) j under in
+      let rest : are_alike (map (repeated m) cs) i j ≡ are_alike cs (i % h) (j % h) = repeated_alike cs (All-tail (IsHigh h) c cs high) i j low under in
       λ t. same (first t) (second t) && rest t
 
 -- distinct rows are the same where they are one
-pub one_row_alike : (cs : List TableColumn) (h : ℕ) → ((i j : ℕ) → i < h → j < h → alike cs i j ≡ true → i ≡ j) → (i j : ℕ) → i < h → j < h → alike cs i j ≡ eqb i j
+pub one_row_alike : (cs : List TableColumn) (h : ℕ) → ((i j : ℕ) → i < h → j < h → are_alike cs i j ≡ true → i ≡ j) → (i j : ℕ) → i < h → j < h → are_alike cs i j ≡ eqb i j
 one_row_alike cs h distinct i j low under = by (eqb i j) refl
   where
-    by : (b : Bool) → eqb i j ≡ b → alike cs i j ≡ b
-    by true e = ap (alike cs i) (sym (eqb-true i j e)) ∙ (alike_equiv cs).refl i
-    by false e = false_from_ne_true (alike cs i j) (λ t. eqb-false i j e (distinct i j low under t))
+    by : (b : Bool) → eqb i j ≡ b → are_alike cs i j ≡ b
+    by true e = ap (are_alike cs i) (sym (eqb-true i j e)) ∙ (alike_equiv cs).refl i
+    by false e = false_from_ne_true (are_alike cs i j) (λ t. eqb-false i j e (distinct i j low under t))
 
 -- THE NAMES OF COLUMNS AS VALUES
 
@@ -99,7 +99,7 @@ module _ (os : List TableColumn) (h : ℕ) (some : 0 < h) (high : All (IsHigh h)
   pub variable_long : (n : Name) → length (variable_column n os).values ≡ length os * h
   variable_long n = flat_long (λ (c : TableColumn). map (λ (v : Datum). string c.name) c.values) h os (λ k d low. length-map (get_or os k d).values (λ (v : Datum). string (get_or os k d).name) ∙ high k d low)
 
-  pub variable_at : (n : Name) (a r : ℕ) → a < length os → r < h → value_at (variable_column n os).values (a * h + r) ≡ string (name_at a)
+  pub variable_at : (n : Name) (a r : ℕ) → a < length os → r < h → row_value (variable_column n os).values (a * h + r) ≡ string (name_at a)
   variable_at n a r low under =
       in_flat (λ (c : TableColumn). map (λ (v : Datum). string c.name) c.values) h os o (λ k d below. length-map (get_or os k d).values (λ (v : Datum). string (get_or os k d).name) ∙ high k d below) a r low under
       ∙ get_or-map (λ (v : Datum). string (name_at a)) (get_or os a o).values r null null (omega (arith, under, high a o low))
@@ -123,14 +123,14 @@ module _ (os : List TableColumn) (h : ℕ) (some : 0 < h) (high : All (IsHigh h)
     and_true false = refl
 
     -- rows have one name where they are of one column
-    pub variable_alike : (n : Name) (i j : ℕ) → i < length os * h → j < length os * h → alike (variable_column n os ∷ []) i j ≡ eqb (i / h) (j / h)
+    pub variable_alike : (n : Name) (i j : ℕ) → i < length os * h → j < length os * h → are_alike (variable_column n os ∷ []) i j ≡ eqb (i / h) (j / h)
     variable_alike n i j low under =
         let vs : List Datum = (variable_column n os).values in
         let a : i / h < length os = div_below i h (length os) some low in
         let b : j / h < length os = div_below j h (length os) some under in
-        let first : value_at vs i ≡ string (name_at (i / h)) = ap (value_at vs) (sym (div-add-mod' i h)) ∙ variable_at n (i / h) (i % h) a (mod_below i h some) in
-        let second : value_at vs j ≡ string (name_at (j / h)) = ap (value_at vs) (sym (div-add-mod' j h)) ∙ variable_at n (j / h) (j % h) b (mod_below j h some) in
-        and_true (same (value_at vs i) (value_at vs j)) ∙ (λ t. same (first t) (second t)) ∙ names_same (i / h) (j / h) a b
+        let first : row_value vs i ≡ string (name_at (i / h)) = ap (row_value vs) (sym (div-add-mod' i h)) ∙ variable_at n (i / h) (i % h) a (mod_below i h some) in
+        let second : row_value vs j ≡ string (name_at (j / h)) = ap (row_value vs) (sym (div-add-mod' j h)) ∙ variable_at n (j / h) (j % h) b (mod_below j h some) in
+        and_true (same (row_value vs i) (row_value vs j)) ∙ (λ t. same (first t) (second t)) ∙ names_same (i / h) (j / h) a b
 
   -- THE VALUES
 
@@ -138,15 +138,15 @@ module _ (os : List TableColumn) (h : ℕ) (some : 0 < h) (high : All (IsHigh h)
     own : (c : TableColumn) → c.kind ≡ k → IsTyped c → map (cast k) c.values ≡ c.values
     own c is each = cast-each k c.values (subst (λ (t : Kind). All (HasType t) c.values) is each)
 
-    pub value_is : (n : Name) (a r : ℕ) → a < length os → r < h → value_at (value_column n k os).values (a * h + r) ≡ value_at (get_or os a o).values r
+    pub value_is : (n : Name) (a r : ℕ) → a < length os → r < h → row_value (value_column n k os).values (a * h + r) ≡ row_value (get_or os a o).values r
     value_is n a r low under =
         in_flat (λ (c : TableColumn). map (cast k) c.values) h os o (λ i d below. length-map (get_or os i d).values (cast k) ∙ high i d below) a r low under
-        ∙ ap (λ (vs : List Datum). value_at vs r) (own (get_or os a o) (All-get_or (λ (c : TableColumn). c.kind ≡ k) os a o low one) (All-get_or IsTyped os a o low typed))
+        ∙ ap (λ (vs : List Datum). row_value vs r) (own (get_or os a o) (All-get_or (λ (c : TableColumn). c.kind ≡ k) os a o low one) (All-get_or IsTyped os a o low typed))
 
 -- THEIR TYPE
 
 with_itself : (k : Kind) → supertype k k ≡ Some k
-with_itself k = ap (λ (b : Bool). cond b (Some k) (common k k (class_of k) (class_of k))) ((same_kind-Decides k k).1 refl)
+with_itself k = ap (λ (b : Bool). cond b (Some k) (common_by_class k k (class_of k) (class_of k))) ((same_kind-Decides k k).1 refl)
 
 with_null : (k : Kind) → supertype kind.null k ≡ Some k
 with_null k = by (same_kind kind.null k) refl

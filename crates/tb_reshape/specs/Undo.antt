@@ -6,7 +6,7 @@ use Rattle.tb_value.specs.Names.{Name}
 use Rattle.tb_frame.specs.Table.{TableColumn, Table, height, names_of, IsTable}
 use Rattle.tb_unpivot.specs.Unpivot.{columns_named, unpivot_table}
 use Rattle.tb_unpivot.specs.Unpivot as long
-use Rattle.tb_pivot.specs.Pivot.{alike, pivot_table}
+use Rattle.tb_pivot.specs.Pivot.{are_alike, pivot_table}
 use Rattle.tb_pivot.specs.Request.{one_row}
 use Rattle.tb_pivot.specs.Request as wide
 
@@ -43,7 +43,7 @@ pub record AreUndone (t : Table) (index on : List TableColumn) (k : Kind) (varia
   pub of_on : AreOf t on
   pub some : 0 < length on
   pub one_kind : All (λ (c : TableColumn). c.kind ≡ k) on
-  pub one_row_each : (i j : ℕ) → i < height t → j < height t → alike index i j ≡ true → i ≡ j
+  pub one_row_each : (i j : ℕ) → i < height t → j < height t → are_alike index i j ≡ true → i ≡ j
   pub names : variable ≢ value
   pub no_variable : All (λ (n : Name). n ≢ variable) (names_of index)
   pub no_value : All (λ (n : Name). n ≢ value) (names_of index)

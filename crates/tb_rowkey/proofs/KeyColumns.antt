@@ -7,12 +7,12 @@ use Rattle.tb_value.specs.Kind as kind
 use Rattle.tb_value.specs.Typed.{HasType}
 use Rattle.tb_value.specs.declared.limits.TheConstants.{MAX_ROWS}
 use Rattle.tb_value.specs.declared.sorted.IsSorted.TheVariants.{Not}
-use Rattle.tb_chunk.specs.Col.{Col, IsColumn, flat, values}
+use Rattle.tb_chunk.specs.Col.{Col, IsColumn, concatenation, values}
 
 pub bytes_column : (d : Col) (vs : List Datum) → length vs ≤ MAX_ROWS → All (HasType kind.binary) vs → d.kind ≡ kind.binary → d.chunks ≡ vs ∷ [] → d.flag ≡ Not
     → IsColumn d
 bytes_column d vs few typed same_kind one not =
-    let all : values d ≡ vs = ap flat one ∙ append-nil vs in
+    let all : values d ≡ vs = ap concatenation one ∙ append-nil vs in
     record {
       chunked = omega (arith, ap length one);
       short = omega (arith, ap length all);

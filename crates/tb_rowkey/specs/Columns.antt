@@ -8,7 +8,7 @@ use Rattle.tb_value.specs.Pairs.{row_numbers}
 use Rattle.tb_value.specs.SameKind.{is_key}
 use Rattle.tb_value.specs.declared.sorted.IsSorted.TheVariants.{Not}
 use Rattle.tb_chunk.specs.Col.{Col, IsColumn, values}
-use Rattle.tb_chunk.specs.Made.{fresh}
+use Rattle.tb_chunk.specs.Made.{fresh_column}
 pub use Rattle.tb_chunk.specs.Lent.{lent_columns}
 use Rattle.tb_rowkey.specs.RowKey.{rowkey, key_row}
 use Rattle.tb_value.specs.Same.{agrees}
@@ -50,7 +50,7 @@ keys_at cs nulls = map (key_at cs nulls) (row_numbers (row_count cs))
 
 -- a column without a name, with the key of each row, in one chunk
 abbrev pub key_column : List Col → (ℕ → Bool) → Col
-key_column cs nulls = fresh [] kind.binary (keys_at cs nulls ∷ []) Not
+key_column cs nulls = fresh_column [] kind.binary (keys_at cs nulls ∷ []) Not
 
 -- the field of row i in the column at place p
 abbrev pub field_of : List Col → ℕ → ℕ → Datum

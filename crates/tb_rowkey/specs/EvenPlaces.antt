@@ -4,8 +4,8 @@ use Rattle.tb_value.specs.Pairs.{row_numbers}
 use Rattle.tb_value.specs.declared.limits.TheConstants.{MAX_ROWS}
 
 -- n places from 0 on, each a width behind the one before
-abbrev pub even : ℕ → ℕ → List ℕ
-even width n = map (λ i. i * width) (row_numbers n)
+abbrev pub even_places : ℕ → ℕ → List ℕ
+even_places width n = map (λ i. i * width) (row_numbers n)
 
 -- place i is i times place 1
 abbrev pub AreEven : List ℕ → Type 0

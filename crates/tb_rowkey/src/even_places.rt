@@ -17,11 +17,11 @@ pub(crate) struct EvenPlaces {
 
 impl Model for EvenPlaces {
     ghost use Rattle.std.specs.Prelude.{ℕ, List, ◌+◌};
-    ghost use Rattle.tb_rowkey.specs.EvenPlaces.{even, IsWidth};
+    ghost use Rattle.tb_rowkey.specs.EvenPlaces.{even_places, IsWidth};
 
     ghost Value = { List ℕ };
 
-    ghost view = { λ p. even p.width (p.gaps + 1) };
+    ghost view = { λ p. even_places p.width (p.gaps + 1) };
 
     ghost invariant = { λ p. IsWidth p.width p.gaps };
 }

@@ -10,7 +10,7 @@ ghost use Rattle.tb_value.specs.declared.sorted.IsSorted.TheVariants.{Not};
 ghost use Rattle.tb_chunk.specs.Chunk.{or_null};
 ghost use Rattle.tb_chunk.specs.ChunkTexts.{bytes_of};
 ghost use Rattle.tb_chunk.specs.Col.{values};
-ghost use Rattle.tb_chunk.specs.Layout.{laid};
+ghost use Rattle.tb_chunk.specs.Layout.{text_view_array};
 ghost use Rattle.tb_rowkey.specs.Columns.{row_count, key_column, AreShortRows, flag_of};
 
 use crate::row_keys::RowKeys;
@@ -23,8 +23,8 @@ use tb_store::{
 // The keys of all rows, copied.
 fn chunk_of(alloc: Global, keys: &RowKeys) -> Result<BinaryChunk, OutOfMemory>
     ensures value { IfOk result (λ c. bytes_of c ≡ keys.now) }
-    ensures views { IfOk result (λ c. ⟦<BinaryChunk as Chunk>⟧.views c ≡ (laid keys.now).views) }
-    ensures buffers { IfOk result (λ c. ⟦<BinaryChunk as Chunk>⟧.buffers c ≡ (laid keys.now).buffers) }
+    ensures views { IfOk result (λ c. ⟦<BinaryChunk as Chunk>⟧.views c ≡ (text_view_array keys.now).views) }
+    ensures buffers { IfOk result (λ c. ⟦<BinaryChunk as Chunk>⟧.buffers c ≡ (text_view_array keys.now).buffers) }
     ensures few { length keys.now ≤ MAX_ROWS }
     ensures typed { IfOk result (λ _. All (HasType kind.binary) (map (or_null binary) keys.now)) }
 {
@@ -51,7 +51,7 @@ fn column_of(alloc: Global, chunk: BinaryChunk) -> Result<Series, OutOfMemory>
       kind = kind.binary;
       chunks = ⟦<BinaryChunk as Chunk>⟧.shown chunk ∷ [];
       flag = Not;
-      runs = record { views = ⟦<BinaryChunk as Chunk>⟧.views chunk; buffers = ⟦<BinaryChunk as Chunk>⟧.buffers chunk } ∷ [];
+      view_arrays = record { views = ⟦<BinaryChunk as Chunk>⟧.views chunk; buffers = ⟦<BinaryChunk as Chunk>⟧.buffers chunk } ∷ [];
     }) }
 {
     let name = PlSmallStr::from_str(alloc, "")?;

@@ -1,6 +1,6 @@
 //! Places in a buffer, in a list.
 ghost use Rattle.std.specs.Prelude.{◌≡◌, ◌<◌, ◌++◌, ◌∷◌, [], IfOk, OnErr, OnOk, length, slice_index_or};
-ghost use Rattle.tb_rowkey.specs.PlaceList.{listed};
+ghost use Rattle.tb_rowkey.specs.PlaceList.{listed_places};
 
 use crate::even_places::EvenPlaces;
 use std::alloc::Global;
@@ -30,14 +30,14 @@ fn widened(alloc: Global, narrow: &[u32]) -> Result<Vec<usize>, OutOfMemory>
 impl PlaceList {
     // No places, with room for this many.
     fn with_capacity(alloc: Global, places: usize) -> Result<PlaceList, OutOfMemory>
-        ensures { IfOk result (λ p. listed p ≡ []) }
+        ensures { IfOk result (λ p. listed_places p ≡ []) }
     {
         Ok(PlaceList::Narrow(Vec::with_capacity(alloc, places)?))
     }
 
     /// These places, with room for as many as they are to be.
     pub(crate) fn of_even(alloc: Global, even: &EvenPlaces) -> Result<PlaceList, OutOfMemory>
-        ensures { IfOk result (λ l. listed l ≡ even.now) }
+        ensures { IfOk result (λ l. listed_places l ≡ even.now) }
     {
         let mut list = PlaceList::with_capacity(alloc, even.room())?;
         for index in 0..even.len() {
@@ -48,7 +48,7 @@ impl PlaceList {
 
     /// The number of places.
     pub(crate) fn len(&self) -> usize
-        ensures { result ≡ length (listed self.now) }
+        ensures { result ≡ length (listed_places self.now) }
     {
         match self {
             PlaceList::Narrow(places) => places.len(),
@@ -58,8 +58,8 @@ impl PlaceList {
 
     /// A place.
     pub(crate) fn at(&self, index: usize) -> usize
-        requires { index < length (listed self.now) }
-        ensures { result ≡ slice_index_or (listed self.now) index 0 }
+        requires { index < length (listed_places self.now) }
+        ensures { result ≡ slice_index_or (listed_places self.now) index 0 }
     {
         match self {
             PlaceList::Narrow(places) => places[index] as usize,
@@ -69,8 +69,8 @@ impl PlaceList {
 
     /// Appends a place. Where memory is wanting, nothing changes.
     pub(crate) fn push(&mut self, alloc: Global, place: usize) -> Result<(), OutOfMemory>
-        ensures ok { OnOk result (listed self.new ≡ listed self.old ++ place ∷ []) }
-        ensures err { OnErr result (listed self.new ≡ listed self.old) }
+        ensures ok { OnOk result (listed_places self.new ≡ listed_places self.old ++ place ∷ []) }
+        ensures err { OnErr result (listed_places self.new ≡ listed_places self.old) }
     {
         match self {
             PlaceList::Narrow(places) if place < WIDE => places.push(place as u32)?,

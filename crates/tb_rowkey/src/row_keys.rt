@@ -3,7 +3,7 @@ ghost use Rattle.std.specs.Prelude.{◌≡◌, ◌↔◌, ◌<◌, ◌≤◌, �
 ghost use Rattle.std.specs.List.{All};
 ghost use Rattle.std.specs.Option.{option_copied};
 ghost use Rattle.tb_value.specs.Datum.{binary, is_null, is_present, null};
-ghost use Rattle.tb_value.specs.See.{lent};
+ghost use Rattle.tb_value.specs.See.{lent_value};
 ghost use Rattle.tb_chunk.specs.Chunk.{or_null};
 ghost use Rattle.tb_chunk.specs.Col.{values, IsColumn};
 ghost use Rattle.tb_rowkey.specs.Columns.{lent_columns, fields_at, row_bytes, row_count, key_at, keys_at, AreShortRows, flag_of};
@@ -107,7 +107,7 @@ fn key_between(bytes: &[u8], start: usize, end: usize) -> Option<&[u8]>
 
 // Whether the value is absent.
 fn is_null(value: ValueRef<'_>) -> bool
-    ensures { result ≡ is_null (lent value.entry) }
+    ensures { result ≡ is_null (lent_value value.entry) }
 {
     matches!(value, ValueRef::Null)
 }

@@ -17,13 +17,13 @@ pub(crate) struct UnevenPlaces {
 impl Model for UnevenPlaces {
     ghost use Rattle.std.specs.Prelude.{ℕ, List};
     ghost use Rattle.tb_rowkey.specs.EvenPlaces.{AreEven};
-    ghost use Rattle.tb_rowkey.specs.PlaceList.{listed};
+    ghost use Rattle.tb_rowkey.specs.PlaceList.{listed_places};
 
     ghost Value = { List ℕ };
 
-    ghost view = { λ p. listed p.list };
+    ghost view = { λ p. listed_places p.list };
 
-    ghost invariant = { λ p. ¬ AreEven (listed p.list) };
+    ghost invariant = { λ p. ¬ AreEven (listed_places p.list) };
 }
 
 impl UnevenPlaces {

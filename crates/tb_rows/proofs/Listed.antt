@@ -3,7 +3,7 @@ use Rattle.std.proofs.Common.{◌≡◌, ◌∙◌, ℕ, Bool, not, List, [], �
 use Rattle.std.specs.Cmp.{IsEquivalence}
 use Rattle.std.specs.Prelude.{slice_index_or}
 use Rattle.std.proofs.lemmas.List.FromFn.{fill_by_all}
-use Rattle.tb_rows.specs.InGroups.{firsts_in, groups_in, listed}
+use Rattle.tb_rows.specs.InGroups.{firsts_in, groups_in, listed_test}
 use Rattle.tb_value.proofs.Kept.{filter-map}
 use Rattle.tb_value.specs.Pairs.{row_numbers}
 use Rattle.tb_rows.specs.Rows.{first_rows}
@@ -30,20 +30,20 @@ module _ (test : ℕ → ℕ → Bool) (same : IsEquivalence test) (rows : List 
   abbrev pub row : ℕ → ℕ
   row j = slice_index_or rows j 0
 
-  also : IsEquivalence (listed rows test)
+  also : IsEquivalence (listed_test rows test)
   also = record {
     refl = λ a. same.refl (row a);
     symm = λ a b. same.symm (row a) (row b);
     congr = λ a b c. same.congr (row a) (row b) (row c);
   }
 
-  firsts : first_rows (listed rows test) (length rows) ≡ firsts_in (listed rows test) (row_numbers (length rows))
-  firsts = firsts_of_all (listed rows test) also (length rows)
+  firsts : first_rows (listed_test rows test) (length rows) ≡ firsts_in (listed_test rows test) (row_numbers (length rows))
+  firsts = firsts_of_all (listed_test rows test) also (length rows)
 
-  pub firsts_listed : map row (first_rows (listed rows test) (length rows)) ≡ firsts_in test rows
+  pub firsts_listed : map row (first_rows (listed_test rows test) (length rows)) ≡ firsts_in test rows
   firsts_listed = ap (map row) firsts ∙ firsts_made test row (row_numbers (length rows)) ∙ ap (firsts_in test) (all_places rows)
 
-  pub groups_listed : map (λ x. map row (filter (listed rows test x) (row_numbers (length rows)))) (first_rows (listed rows test) (length rows)) ≡ groups_in test rows
+  pub groups_listed : map (λ x. map row (filter (listed_test rows test x) (row_numbers (length rows)))) (first_rows (listed_test rows test) (length rows)) ≡ groups_in test rows
   groups_listed =
-      groups_made test row (row_numbers (length rows)) (first_rows (listed rows test) (length rows))
+      groups_made test row (row_numbers (length rows)) (first_rows (listed_test rows test) (length rows))
       ∙ (λ t. map (λ x. filter (test x) (all_places rows t)) (firsts_listed t))

@@ -20,7 +20,7 @@ use Rattle.tb_rows.specs.Proved.KeyTests.{fields_equiv}
 use Rattle.tb_rows.specs.declared.names.RowNames.{RowNames}
 use Rattle.tb_rows.specs.declared.names.RowNames.TheVariants.{From, Listed}
 use Rattle.tb_rows.specs.declared.groups.Groups.{Groups}
-use Rattle.tb_rows.specs.Rows.{first_rows, group_of, is_first, same_rows, value_at}
+use Rattle.tb_rows.specs.Rows.{first_rows, group_of, is_first, same_rows, row_value}
 use Rattle.tb_rows.proofs.FirstRows.{at_end, few_firsts, first_any, firsts_more, groups_more, numbers_below}
 use Rattle.tb_rows.proofs.Leaders.{leader_low, leader_same, not_before}
 use Rattle.tb_numbered.proofs.Places.{tells}
@@ -82,7 +82,7 @@ module _ (test : ℕ → ℕ → Bool) (same : IsEquivalence test) (n m : ℕ) (
 
 fields_same : (i j : ℕ) (cs : List (Bor Col)) → same_at cs i j ≡ same_rows (map (λ (c : Bor Col). values c.now) cs) i j
 fields_same i j [] = refl
-fields_same i j (c ∷ cs) = ap (λ b. same (value_at (values c.now) i) (value_at (values c.now) j) && b) (fields_same i j cs)
+fields_same i j (c ∷ cs) = ap (λ b. same (row_value (values c.now) i) (row_value (values c.now) j) && b) (fields_same i j cs)
 
 pub rows_test : (cs : List (Bor Col)) → same_at cs ≡ same_rows (map (λ (c : Bor Col). values c.now) cs)
 rows_test cs = λ t i j. fields_same i j cs t

@@ -9,11 +9,11 @@ use Rattle.tb_value.specs.Datum.{Datum}
 use Rattle.tb_value.specs.Fed.{fed_datum}
 use Rattle.tb_value.specs.Same.{same}
 use Rattle.tb_chunk.specs.Col.{Col, values}
-use Rattle.tb_rows.specs.Rows.{value_at}
+use Rattle.tb_rows.specs.Rows.{row_value}
 
 -- the values of a row
 abbrev pub fields_at : List (Bor Col) → ℕ → List Datum
-fields_at cs i = map (λ (c : Bor Col). value_at (values c.now) i) cs
+fields_at cs i = map (λ (c : Bor Col). row_value (values c.now) i) cs
 
 -- whether two rows have the same values
 abbrev pub same_at : List (Bor Col) → ℕ → ℕ → Bool

@@ -11,8 +11,8 @@ abbrev pub groups_in : (ℕ → ℕ → Bool) → List ℕ → List (List ℕ)
 groups_in test rows = map (λ x. filter (test x) rows) (firsts_in test rows)
 
 -- a test of rows, as a test of their places in a list
-abbrev pub listed : List ℕ → (ℕ → ℕ → Bool) → ℕ → ℕ → Bool
-listed rows test a b = test (slice_index_or rows a 0) (slice_index_or rows b 0)
+abbrev pub listed_test : List ℕ → (ℕ → ℕ → Bool) → ℕ → ℕ → Bool
+listed_test rows test a b = test (slice_index_or rows a 0) (slice_index_or rows b 0)
 
 -- the same by what the rows of the places are called
 abbrev pub named_rows : (ℕ → ℕ) → (ℕ → ℕ → Bool) → ℕ → ℕ → Bool

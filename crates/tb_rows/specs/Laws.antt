@@ -4,7 +4,7 @@ use Rattle.std.specs.Cmp.{IsEquivalence, IsTotalOrder}
 use Rattle.std.specs.List.Sorted.{IsStable}
 use Rattle.std.specs.declared.cmp.Ordering.{Ordering}
 use Rattle.tb_value.specs.Pairs.{row_numbers}
-use Rattle.tb_rows.specs.InGroups.{firsts_in, groups_in, listed}
+use Rattle.tb_rows.specs.InGroups.{firsts_in, groups_in, listed_test}
 use Rattle.tb_rows.specs.InOrder.{in_order}
 use Rattle.tb_rows.specs.Rows.{first_rows}
 
@@ -16,5 +16,5 @@ OrderedOnce X = (cmp : X → X → Ordering) → IsTotalOrder cmp → (xs : List
 -- places of a list in groups are the list's rows in groups: by the first rows, and by the rows of each group
 abbrev pub PlacesAreRows : Type 0
 PlacesAreRows = (test : ℕ → ℕ → Bool) → IsEquivalence test → (rows : List ℕ)
-    → (map (λ j. slice_index_or rows j 0) (first_rows (listed rows test) (length rows)) ≡ firsts_in test rows)
-    × (map (λ x. map (λ j. slice_index_or rows j 0) (filter (listed rows test x) (row_numbers (length rows)))) (first_rows (listed rows test) (length rows)) ≡ groups_in test rows)
+    → (map (λ j. slice_index_or rows j 0) (first_rows (listed_test rows test) (length rows)) ≡ firsts_in test rows)
+    × (map (λ x. map (λ j. slice_index_or rows j 0) (filter (listed_test rows test x) (row_numbers (length rows)))) (first_rows (listed_test rows test) (length rows)) ≡ groups_in test rows)

@@ -6,12 +6,12 @@ use Rattle.tb_value.specs.Pairs.{row_numbers}
 use Rattle.tb_value.specs.Same.{same}
 
 -- the value of a row
-abbrev pub value_at : List Datum → ℕ → Datum
-value_at vs i = slice_index_or vs i null
+abbrev pub row_value : List Datum → ℕ → Datum
+row_value vs i = slice_index_or vs i null
 
 -- two rows have the same value in each of the lists, Null the same as Null
 abbrev pub same_rows : List (List Datum) → ℕ → ℕ → Bool
-same_rows lists i j = list_all (λ vs. same (value_at vs i) (value_at vs j)) lists
+same_rows lists i j = list_all (λ vs. same (row_value vs i) (row_value vs j)) lists
 
 -- whether no row before it is the same as a row
 abbrev pub is_first : (ℕ → ℕ → Bool) → ℕ → Bool

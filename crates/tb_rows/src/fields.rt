@@ -1,11 +1,11 @@
 //! The values of a row in some columns: whether they are the same, how they compare, and their code.
 ghost use Rattle.std.specs.Prelude.{◌≡◌, fold};
 ghost use Rattle.std.specs.Cmp.Lexicographic.{slice_cmp};
-ghost use Rattle.tb_value.specs.See.{lent};
+ghost use Rattle.tb_value.specs.See.{lent_value};
 ghost use Rattle.tb_chunk.specs.Col.{values};
 ghost use Rattle.tb_rows.specs.Fields.{fed_fields, fields_at, row_code, same_at};
 ghost use Rattle.tb_rows.specs.Order.{value_cmp};
-ghost use Rattle.tb_rows.specs.Rows.{value_at};
+ghost use Rattle.tb_rows.specs.Rows.{row_value};
 
 use crate::order::order_of_values;
 use std::cmp::Ordering;
@@ -15,7 +15,7 @@ use tb_value::{ValueRef, hash_ref, same_value};
 
 // The value of a row, and Null past the end.
 fn value_or_null(column: &Series, row: usize) -> ValueRef<'_>
-    ensures { lent result ≡ value_at (values column.now) row }
+    ensures { lent_value result ≡ row_value (values column.now) row }
 {
     if row < column.len() {
         column.get(row)

@@ -2,7 +2,7 @@
 ghost use Rattle.std.specs.Prelude.{◌≡◌, ◌<◌, ◌≤◌, ◌∷◌, [], ◌++◌, false, if◌then◌else◌, IfOk, OnOk, cond, length, map, slice_index_or};
 ghost use Rattle.tb_chunk.specs.Col.{values};
 ghost use Rattle.tb_rows.specs.Grouped.{AreGroups};
-ghost use Rattle.tb_rows.specs.InGroups.{listed, named_rows};
+ghost use Rattle.tb_rows.specs.InGroups.{listed_test, named_rows};
 ghost use Rattle.tb_rows.specs.Names.{name_of, AreNamed};
 ghost use Rattle.tb_rows.specs.Rows.{same_rows};
 
@@ -84,7 +84,7 @@ pub fn group_listed(
     rows: &[IdxSize],
 ) -> Result<Groups, OutOfMemory>
     requires { length rows.now ≤ MAX_ROWS }
-    ensures { IfOk result (AreGroups (listed rows.now (same_rows (map (λ c. values c.now) columns.now))) (length rows.now)) }
+    ensures { IfOk result (AreGroups (listed_test rows.now (same_rows (map (λ c. values c.now) columns.now))) (length rows.now)) }
 {
     group_named(alloc, columns, RowNames::Listed(rows), rows.len())
 }

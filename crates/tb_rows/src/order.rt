@@ -1,7 +1,7 @@
 //! How values compare: by their kinds, and then by what they hold.
 ghost use Rattle.std.specs.Prelude.{◌≡◌};
 ghost use Rattle.tb_value.specs.Datum.{items_of};
-ghost use Rattle.tb_value.specs.See.{lent};
+ghost use Rattle.tb_value.specs.See.{lent_value};
 ghost use Rattle.tb_rows.specs.Order.{items_cmp, kind_number, value_cmp};
 
 use std::cmp::Ordering;
@@ -9,7 +9,7 @@ use tb_value::{ValueRef, Values};
 
 // The place of a value's kind among the kinds.
 fn kind_number(value: ValueRef<'_>) -> u8
-    ensures { result ≡ kind_number (lent value.entry) }
+    ensures { result ≡ kind_number (lent_value value.entry) }
 {
     match value {
         ValueRef::Null => 0,
@@ -25,7 +25,7 @@ fn kind_number(value: ValueRef<'_>) -> u8
 /// How two values compare; only equal ones tie.
 #[cycle(order)]
 pub fn order_of_values(first: ValueRef<'_>, second: ValueRef<'_>) -> Ordering
-    ensures { result ≡ value_cmp (lent first.entry) (lent second.entry) }
+    ensures { result ≡ value_cmp (lent_value first.entry) (lent_value second.entry) }
 {
     match (first, second) {
         (ValueRef::Boolean(a), ValueRef::Boolean(b)) => a.cmp(&b),

@@ -17,14 +17,14 @@ use Rattle.tb_value.specs.declared.error.PolarsError.{PolarsError}
 use Rattle.tb_agg.specs.Aggregates.{total}
 use Rattle.tb_chunk.specs.Col.{Col, values}
 use Rattle.tb_frame.specs.declared.args.JoinType.TheVariants.{Inner}
-use Rattle.tb_frame.specs.Join.{IsAnswer, Request, by_names, lent_request, named}
+use Rattle.tb_frame.specs.Join.{IsAnswer, Request, by_names, lent_request, column_named}
 use Rattle.tb_frame.specs.Naming.{Field}
 use Rattle.tb_frame.specs.Refusal.{join_refusal}
-use Rattle.tb_frame.specs.Table.{TableColumn, Table, IsTable, IsTyped, height, plain, schema_of, table_of}
+use Rattle.tb_frame.specs.Table.{TableColumn, Table, IsTable, IsTyped, height, plain_column, schema_of, table_of}
 use Rattle.tb_frame.proofs.Causes.{distinct_names}
 use Rattle.tb_frame.proofs.Selected.{found, named-plain}
 use Rattle.tb_frame.proofs.Validity.{some_answer}
-use Rattle.tb_join.specs.Asked.{plainly}
+use Rattle.tb_join.specs.Asked.{plain_args}
 use Rattle.tb_sample.specs.declared.summary.Summary.{Summary}
 use Rattle.tb_sample.specs.Sample.{HasNumbers, IsSummary, left_table, numbers, request, right_table, sum_of, summary, values_in}
 use Rattle.tb_sample.proofs.Numbers.{numbers_typed}
@@ -72,9 +72,9 @@ module _ (n : ℕ) (few : n ≤ MAX_ROWS) where
 -- ITS JOIN
 
 -- the tables as they are lent
-pub is_request : (n : ℕ) (left right : List Col) (on : List Name) → table_of left ≡ left_table n → table_of right ≡ right_table n → on ≡ codes "key" ∷ [] → lent_request left right on on (plainly Inner) ≡ request n
+pub is_request : (n : ℕ) (left right : List Col) (on : List Name) → table_of left ≡ left_table n → table_of right ≡ right_table n → on ≡ codes "key" ∷ [] → lent_request left right on on (plain_args Inner) ≡ request n
 unfolding request
-is_request n left right on l r o = λ t. by_names (l t) (r t) (o t) (o t) (plainly Inner)
+is_request n left right on l r o = λ t. by_names (l t) (r t) (o t) (o t) (plain_args Inner)
 
 pub unrefused : (n : ℕ) (q : Request) (outcome : Result (List Col) PolarsError) → q ≡ request n → n ≤ MAX_ROWS → Settles outcome (join_refusal q) → Settles outcome None
 unrefused n q outcome is few h = subst (Settles outcome) (ap join_refusal is ∙ valid n few) h
@@ -87,13 +87,13 @@ answered n q outcome result is answer h =
 -- THE COLUMNS OF AN ANSWER
 
 -- a column has the type that the names and types say
-named_kind : (name : Name) (k : Kind) (t : Table) → IsSomeAnd (find (λ (f : Field). same_name f.0 name) (schema_of t)) (λ f. f.1 ≡ k) → IsSomeAnd (named t name) (λ c. c.kind ≡ k)
+named_kind : (name : Name) (k : Kind) (t : Table) → IsSomeAnd (find (λ (f : Field). same_name f.0 name) (schema_of t)) (λ f. f.1 ≡ k) → IsSomeAnd (column_named t name) (λ c. c.kind ≡ k)
 named_kind name k [] h = h
 named_kind name k (c ∷ cs) h = at (same_name c.name name) h (named_kind name k cs)
   where
     at : (b : Bool) → IsSomeAnd (cond b (Some (c.name, c.kind)) (find (λ (f : Field). same_name f.0 name) (schema_of cs))) (λ f. f.1 ≡ k)
-        → (IsSomeAnd (find (λ (f : Field). same_name f.0 name) (schema_of cs)) (λ f. f.1 ≡ k) → IsSomeAnd (named cs name) (λ d. d.kind ≡ k))
-        → IsSomeAnd (cond b (Some c) (named cs name)) (λ d. d.kind ≡ k)
+        → (IsSomeAnd (find (λ (f : Field). same_name f.0 name) (schema_of cs)) (λ f. f.1 ≡ k) → IsSomeAnd (column_named cs name) (λ d. d.kind ≡ k))
+        → IsSomeAnd (cond b (Some c) (column_named cs name)) (λ d. d.kind ≡ k)
     at true g rest = g
     at false g rest = rest g
 
@@ -109,8 +109,8 @@ module _ (n : ℕ) (t : Table) (answer : IsAnswer (request n) t) where
 -- THE COLUMN OF A NAME, AMONG COLUMNS
 
 module _ (name : Name) (cs : List Col) (c : Col) (is : Some c ≡ found name cs) where
-  named_is : named (table_of cs) name ≡ Some (plain c)
-  named_is = named-plain name cs ∙ ap (option_map plain) (sym is)
+  named_is : column_named (table_of cs) name ≡ Some (plain_column c)
+  named_is = named-plain name cs ∙ ap (option_map plain_column) (sym is)
 
   pub kind_is : HasNumbers name (table_of cs) → c.kind ≡ int64
   kind_is has = subst (λ (o : Option TableColumn). IsSomeAnd o (λ d. d.kind ≡ int64)) named_is has
@@ -120,4 +120,4 @@ module _ (name : Name) (cs : List Col) (c : Col) (is : Some c ≡ found name cs)
 
 -- there is one
 pub some_column : (name : Name) (cs : List Col) → HasNumbers name (table_of cs) → None ≡ found name cs → ⊥
-some_column name cs has none = subst (λ (o : Option TableColumn). IsSomeAnd o (λ d. d.kind ≡ int64)) (named-plain name cs ∙ ap (option_map plain) (sym none)) has
+some_column name cs has none = subst (λ (o : Option TableColumn). IsSomeAnd o (λ d. d.kind ≡ int64)) (named-plain name cs ∙ ap (option_map plain_column) (sym none)) has

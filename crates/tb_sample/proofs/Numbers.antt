@@ -9,7 +9,7 @@ use Rattle.tb_value.specs.Pairs.{row_numbers}
 use Rattle.tb_value.specs.Typed.{HasType}
 use Rattle.tb_value.proofs.Loops.{map-map}
 use Rattle.tb_chunk.specs.Col.{Col}
-use Rattle.tb_frame.specs.Table.{IsTyped, plain}
+use Rattle.tb_frame.specs.Table.{IsTyped, plain_column}
 use Rattle.tb_sample.specs.Sample.{numbers}
 
 number_typed : (k : ℕ) → k < 9223372036854775808 → HasType int64 (int (pos k))
@@ -32,5 +32,5 @@ module _ (f : ℕ → ℕ) (n : ℕ) (zs : List ℤ) (are : zs ≡ map (λ i. po
   pub are_typed : ((i : ℕ) → i < n → f i < 9223372036854775808) → All (HasType int64) (map int zs)
   are_typed h = subst (λ (vs : List Datum). All (HasType int64) vs) (sym shown) (numbers_typed [] f n h)
 
-  pub column_is : (name : Name) (c : Col) → plain c ≡ record { name = name; kind = int64; values = map int zs } → plain c ≡ numbers name f n
+  pub column_is : (name : Name) (c : Col) → plain_column c ≡ record { name = name; kind = int64; values = map int zs } → plain_column c ≡ numbers name f n
   column_is name c e = e ∙ ap (λ (vs : List Datum). record { name = name; kind = int64; values = vs }) shown

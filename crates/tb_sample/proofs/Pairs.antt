@@ -7,7 +7,7 @@ use Rattle.std.proofs.lemmas.List.FromFn.{length-range_with_len, length-map-rang
 use Rattle.std.proofs.lemmas.List.Sorted.{sum_by-IsPermutation}
 use Rattle.std.proofs.lemmas.List.Sums.{sum_by-cons}
 use Rattle.tb_value.specs.Datum.{int, null}
-use Rattle.tb_value.specs.Pairs.{row_numbers, both, matched, turn}
+use Rattle.tb_value.specs.Pairs.{row_numbers, both, matched_pairs, turn}
 use Rattle.tb_value.specs.Proved.ValueTests.{same-Decides}
 use Rattle.tb_value.specs.Same.{same, agrees}
 use Rattle.tb_value.specs.declared.index.JoinPair.{JoinPair}
@@ -41,7 +41,7 @@ same_sum f g n h = sum_by-rows f g 0 n (λ k low high. h k (omega arith))
 
 -- where each right row matches one left row alone, a sum over the pairs is one over the right rows
 module _ (l r : ℕ) (partner : ℕ → ℕ) (below : (j : ℕ) → j < r → partner j < l) (h : JoinPair → ℕ) where
-  pub sum_pairs : sum_by h (matched l r (λ i j. partner j == i)) ≡ sum_by (λ j. h (both (partner j) j)) (row_numbers r)
+  pub sum_pairs : sum_by h (matched_pairs l r (λ i j. partner j == i)) ≡ sum_by (λ j. h (both (partner j) j)) (row_numbers r)
   sum_pairs =
       let lefts : ℕ → List JoinPair = λ j. map (both j) (filter (λ i. partner j == i) (row_numbers l)) in
       let one : (j : ℕ) → j < r → sum_by (λ p. h (turn p)) (lefts j) ≡ h (both (partner j) j) = λ j low.
@@ -49,8 +49,8 @@ module _ (l r : ℕ) (partner : ℕ → ℕ) (below : (j : ℕ) → j < r → pa
       ∙ sum_by-filter (λ i. h (both i j)) (λ i. partner j == i) (row_numbers l)
       ∙ sum_one (λ i. h (both i j)) (partner j) 0 l (omega arith) (omega (arith, below j low))
       in
-      sum_by-IsPermutation h (map turn (matched r l (λ j i. partner j == i))) (matched l r (λ i j. partner j == i)) (turned_matches l r (λ i j. partner j == i))
-      ∙ sum_by-map h turn (matched r l (λ j i. partner j == i))
+      sum_by-IsPermutation h (map turn (matched_pairs r l (λ j i. partner j == i))) (matched_pairs l r (λ i j. partner j == i)) (turned_matches l r (λ i j. partner j == i))
+      ∙ sum_by-map h turn (matched_pairs r l (λ j i. partner j == i))
       ∙ sum_by-flat_map (λ p. h (turn p)) lefts (row_numbers r)
       ∙ same_sum (λ j. sum_by (λ p. h (turn p)) (lefts j)) (λ j. h (both (partner j) j)) r one
 
@@ -97,7 +97,7 @@ module _ (n : ℕ) where
   below j low = omega (arith, left_high, right_high)
 
   -- the pairs that are listed
-  listing_is : listing (request n) ≡ matched (height (left_table n)) (height (right_table n)) (λ i j. key j == i)
+  listing_is : listing (request n) ≡ matched_pairs (height (left_table n)) (height (right_table n)) (λ i j. key j == i)
   unfolding request key
   listing_is =
       matched-same (height (left_table n)) (height (right_table n)) (matches (request n)) (λ i j. key j == i) (λ i j low high. rows_match i j (omega (arith, left_high)) (omega (arith, right_high)))

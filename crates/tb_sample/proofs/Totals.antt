@@ -7,7 +7,7 @@ use Rattle.std.proofs.lemmas.List.Concat.{flat_map-append}
 use Rattle.std.proofs.lemmas.List.Sums.{fold-append}
 use Rattle.tb_value.specs.Datum.{Datum, int}
 use Rattle.tb_chunk.specs.Chunk.{or_null}
-use Rattle.tb_chunk.specs.Col.{flat}
+use Rattle.tb_chunk.specs.Col.{concatenation}
 use Rattle.tb_agg.specs.Aggregates.{number, total}
 
 from : (a : ℤ) (zs : List ℤ) → fold ◌+ℤ◌ a zs ≡ a +ℤ fold ◌+ℤ◌ (pos 0) zs
@@ -36,31 +36,31 @@ shown c = map (or_null int) c
 
 module _ (chunks : List (List (Option ℤ))) (i : ℕ) (chunk : List (Option ℤ)) (low : i < length chunks) (is : chunk ≡ get_or chunks i chunk) where
   -- the values of one chunk more
-  values_more : flat (map shown (take (i + 1) chunks)) ≡ flat (map shown (take i chunks)) ++ shown chunk
+  values_more : concatenation (map shown (take (i + 1) chunks)) ≡ concatenation (map shown (take i chunks)) ++ shown chunk
   values_more =
-      ap (λ (cs : List (List (Option ℤ))). flat (map shown cs)) (take_more chunks i chunk low)
-      ∙ ap flat (map-append shown (take i chunks) (get_or chunks i chunk ∷ []))
+      ap (λ (cs : List (List (Option ℤ))). concatenation (map shown cs)) (take_more chunks i chunk low)
+      ∙ ap concatenation (map-append shown (take i chunks) (get_or chunks i chunk ∷ []))
       ∙ flat_map-append (λ (vs : List Datum). vs) (map shown (take i chunks)) (shown (get_or chunks i chunk) ∷ [])
-      ∙ ap (λ (vs : List Datum). flat (map shown (take i chunks)) ++ vs) (append-nil (shown (get_or chunks i chunk)) ∙ ap shown (sym is))
+      ∙ ap (λ (vs : List Datum). concatenation (map shown (take i chunks)) ++ vs) (append-nil (shown (get_or chunks i chunk)) ∙ ap shown (sym is))
 
-  pub total_of_more : total (flat (map shown (take (i + 1) chunks))) ≡ total (flat (map shown (take i chunks))) +ℤ total (shown chunk)
-  total_of_more = ap total values_more ∙ total-append (flat (map shown (take i chunks))) (shown chunk)
+  pub total_of_more : total (concatenation (map shown (take (i + 1) chunks))) ≡ total (concatenation (map shown (take i chunks))) +ℤ total (shown chunk)
+  total_of_more = ap total values_more ∙ total-append (concatenation (map shown (take i chunks))) (shown chunk)
 
-  pub length_of_more : length (flat (map shown (take (i + 1) chunks))) ≡ length (flat (map shown (take i chunks))) + length chunk
+  pub length_of_more : length (concatenation (map shown (take (i + 1) chunks))) ≡ length (concatenation (map shown (take i chunks))) + length chunk
   length_of_more =
       let long = ap length values_more in
-      let both = length-append (flat (map shown (take i chunks))) (shown chunk) in
+      let both = length-append (concatenation (map shown (take i chunks))) (shown chunk) in
       let one = length-map chunk (or_null int) in
       omega (arith, long, both, one)
 
   -- which are some of all values
-  pub length_within : length (flat (map shown (take (i + 1) chunks))) ≤ length (flat (map shown chunks))
+  pub length_within : length (concatenation (map shown (take (i + 1) chunks))) ≤ length (concatenation (map shown chunks))
   length_within =
-      let parts : flat (map shown chunks) ≡ flat (map shown (take (i + 1) chunks)) ++ flat (map shown (drop (i + 1) chunks)) =
-      ap (λ (cs : List (List (Option ℤ))). flat (map shown cs)) (sym (take-append-drop (i + 1) chunks))
-      ∙ ap flat (map-append shown (take (i + 1) chunks) (drop (i + 1) chunks))
+      let parts : concatenation (map shown chunks) ≡ concatenation (map shown (take (i + 1) chunks)) ++ concatenation (map shown (drop (i + 1) chunks)) =
+      ap (λ (cs : List (List (Option ℤ))). concatenation (map shown cs)) (sym (take-append-drop (i + 1) chunks))
+      ∙ ap concatenation (map-append shown (take (i + 1) chunks) (drop (i + 1) chunks))
       ∙ flat_map-append (λ (vs : List Datum). vs) (map shown (take (i + 1) chunks)) (map shown (drop (i + 1) chunks))
       in
       let long = ap length parts in
-      let both = length-append (flat (map shown (take (i + 1) chunks))) (flat (map shown (drop (i + 1) chunks))) in
+      let both = length-append (concatenation (map shown (take (i + 1) chunks))) (concatenation (map shown (drop (i + 1) chunks))) in
       omega (arith, long, both)

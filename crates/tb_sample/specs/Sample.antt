@@ -7,9 +7,9 @@ use Rattle.tb_value.specs.Names.{Name}
 use Rattle.tb_value.specs.Pairs.{row_numbers}
 use Rattle.tb_agg.specs.Aggregates.{total}
 use Rattle.tb_frame.specs.declared.args.JoinType.TheVariants.{Inner}
-use Rattle.tb_frame.specs.Join.{Request, IsAnswer, by_names, named}
+use Rattle.tb_frame.specs.Join.{Request, IsAnswer, by_names, column_named}
 use Rattle.tb_frame.specs.Table.{TableColumn, Table, height}
-use Rattle.tb_join.specs.Asked.{plainly}
+use Rattle.tb_join.specs.Asked.{plain_args}
 use Rattle.tb_sample.specs.declared.summary.Summary.{Summary}
 
 -- THE TABLES
@@ -28,7 +28,7 @@ right_table n = numbers (codes "key") (λ j. (7 * j) % n) n ∷ numbers (codes "
 
 -- their Inner join by `key`, with nothing else asked
 unfoldable pub request : ℕ → Request
-request n = by_names (left_table n) (right_table n) (codes "key" ∷ []) (codes "key" ∷ []) (plainly Inner)
+request n = by_names (left_table n) (right_table n) (codes "key" ∷ []) (codes "key" ∷ []) (plain_args Inner)
 
 -- WHAT IS TOLD OF A TABLE
 
@@ -38,7 +38,7 @@ values_in (Some c) = c.values
 
 -- the sum of the column of this name
 abbrev pub sum_of : Name → Table → ℤ
-sum_of name t = total (values_in (named t name))
+sum_of name t = total (values_in (column_named t name))
 
 -- the height, and the sums of `key` and of `w`
 abbrev pub summary : Table → Summary
@@ -46,7 +46,7 @@ summary t = record { height = height t; key_sum = sum_of (codes "key") t; w_sum 
 
 -- a column of the table has this name, and is of type Int64
 abbrev pub HasNumbers : Name → Table → Type 0
-HasNumbers name t = IsSomeAnd (named t name) (λ c. c.kind ≡ int64)
+HasNumbers name t = IsSomeAnd (column_named t name) (λ c. c.kind ≡ int64)
 
 -- what is told of some answer to the join of the tables of n rows
 unfoldable pub IsSummary : ℕ → Summary → Type 0

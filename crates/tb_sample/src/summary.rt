@@ -6,7 +6,7 @@ ghost use Rattle.tb_value.specs.Datum.{int};
 ghost use Rattle.tb_value.specs.Kind.{int64};
 ghost use Rattle.tb_value.specs.Names.{same_name};
 ghost use Rattle.tb_chunk.specs.Chunk.{or_null};
-ghost use Rattle.tb_chunk.specs.Col.{Col, flat, values};
+ghost use Rattle.tb_chunk.specs.Col.{Col, concatenation, values};
 ghost use Rattle.tb_agg.specs.Aggregates.{total};
 ghost use Rattle.tb_frame.specs.Table.{table_of};
 ghost use Rattle.tb_sample.specs.Bounds.{IsSumOf};
@@ -52,8 +52,8 @@ fn cells_sum(cells: &Cells<i64>) -> i128
 }
 
 fn chunks_sum(chunks: &[Cells<i64>]) -> i128
-    requires { length (flat (map (λ c. map (or_null int) c) chunks.now)) ≤ MAX_ROWS }
-    ensures { result ≡ total (flat (map (λ c. map (or_null int) c) chunks.now)) }
+    requires { length (concatenation (map (λ c. map (or_null int) c) chunks.now)) ≤ MAX_ROWS }
+    ensures { result ≡ total (concatenation (map (λ c. map (or_null int) c) chunks.now)) }
 {
     let mut sum = 0;
     for chunk in chunks {

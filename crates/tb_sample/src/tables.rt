@@ -7,7 +7,7 @@ ghost use Rattle.tb_value.specs.Pairs.{row_numbers};
 ghost use Rattle.tb_value.specs.SeeKind.{kind_of};
 ghost use Rattle.tb_value.specs.Typed.{HasType};
 ghost use Rattle.tb_frame.specs.Frame.{frame_refusal};
-ghost use Rattle.tb_frame.specs.Table.{plain, table_of};
+ghost use Rattle.tb_frame.specs.Table.{plain_column, table_of};
 ghost use Rattle.tb_sample.specs.Sample.{left_table, right_table};
 
 use std::alloc::Global;
@@ -57,7 +57,7 @@ fn number_type() -> DataType
 fn number_column(alloc: Global, name: &str, numbers: Vec<i64>) -> Result<Column, OutOfMemory>
     requires few { length numbers.items ≤ MAX_ROWS }
     requires typed { All (HasType int64) (map int numbers.items) }
-    ensures { IfOk result (λ c. plain c ≡ record { name = name.now; kind = int64; values = map int numbers.items }) }
+    ensures { IfOk result (λ c. plain_column c ≡ record { name = name.now; kind = int64; values = map int numbers.items }) }
 {
     let name = PlSmallStr::from_str(alloc, name)?;
     let mut chunks = Vec::with_capacity(alloc, 1)?;
@@ -73,7 +73,7 @@ fn number_column(alloc: Global, name: &str, numbers: Vec<i64>) -> Result<Column,
 
 // The table of two columns.
 fn table_of_two(alloc: Global, first: Column, second: Column) -> Result<DataFrame, OutOfMemory>
-    requires { frame_refusal (plain first ∷ plain second ∷ []) ≡ None }
+    requires { frame_refusal (plain_column first ∷ plain_column second ∷ []) ≡ None }
     ensures { IfOk result (λ t. t ≡ first ∷ second ∷ []) }
 {
     let mut columns = Vec::with_capacity(alloc, 2)?;

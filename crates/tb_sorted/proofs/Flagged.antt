@@ -6,8 +6,8 @@ use Rattle.tb_value.specs.Same.{agrees, same}
 use Rattle.tb_value.specs.Typed.{is_whole_physical}
 use Rattle.tb_value.specs.declared.sorted.IsSorted.{IsSorted}
 use Rattle.tb_value.specs.declared.sorted.IsSorted.TheVariants.{Ascending, Descending, Not}
-use Rattle.tb_chunk.specs.Col.{Col, IsColumn, flat, values}
-use Rattle.tb_chunk.specs.Flag.{FlagHolds, datum_cmp, nulls, present}
+use Rattle.tb_chunk.specs.Col.{Col, IsColumn, concatenation, values}
+use Rattle.tb_chunk.specs.Flag.{FlagHolds, datum_cmp, nulls, present_values}
 use Rattle.tb_frame.specs.declared.args.Direction.TheVariants.{ByLeft}
 use Rattle.tb_frame.specs.declared.args.JoinType.{JoinType}
 use Rattle.tb_frame.specs.declared.args.JoinType.TheVariants.{Left}
@@ -28,14 +28,14 @@ second_of true b e = e
 second_of false b e = absurd (cc)
 
 -- where none is Null, all are present
-pub all_present : (vs : List Datum) → length (nulls vs) ≡ 0 → present vs ≡ vs
+pub all_present : (vs : List Datum) → length (nulls vs) ≡ 0 → present_values vs ≡ vs
 all_present [] none = refl
 all_present (v ∷ vs) none = at (is_null v) refl (all_present vs)
   where
     later : is_null v ≡ false → length (nulls vs) ≡ 0
     later e = ap (λ (b : Bool). length (cond b (v ∷ nulls vs) (nulls vs))) (sym e) ∙ none
 
-    at : (b : Bool) → is_null v ≡ b → (length (nulls vs) ≡ 0 → present vs ≡ vs) → present (v ∷ vs) ≡ v ∷ vs
+    at : (b : Bool) → is_null v ≡ b → (length (nulls vs) ≡ 0 → present_values vs ≡ vs) → present_values (v ∷ vs) ≡ v ∷ vs
     at true e rest = absurd (let c : length (v ∷ nulls vs) ≡ 0 = ap (λ (b : Bool). length (cond b (v ∷ nulls vs) (nulls vs))) (sym e) ∙ none in omega (arith, c))
     at false e rest = rw e (ap (λ (xs : List Datum). v ∷ xs) (rest (later e)))
 
@@ -107,18 +107,18 @@ nulls_apart null_matches how us vs none =
     ◌∙◌ {A = Bool} (λ t. here || (no t && is_null b && false)) (λ t. here || (sym no t && is_null b && null_matches)))
 
 -- a list alone
-pub alone : (vs : List Datum) → flat (vs ∷ []) ≡ vs
+pub alone : (vs : List Datum) → concatenation (vs ∷ []) ≡ vs
 alone vs = append-nil vs
 
 -- the same of the chunk that it has
-pub lone_list : (c : Col) (lists : List (List Datum)) → lists ≡ values c ∷ [] → flat lists ≡ values c
-lone_list c lists is = ap flat is ∙ alone (values c)
+pub lone_list : (c : Col) (lists : List (List Datum)) → lists ≡ values c ∷ [] → concatenation lists ≡ values c
+lone_list c lists is = ap concatenation is ∙ alone (values c)
 
-pub lone_keys : (c : Col) (lists : List (List Datum)) → lists ≡ values c ∷ [] → AreMergeKeys (values c) → AreMergeKeys (flat lists)
+pub lone_keys : (c : Col) (lists : List (List Datum)) → lists ≡ values c ∷ [] → AreMergeKeys (values c) → AreMergeKeys (concatenation lists)
 lone_keys c lists is keys = subst AreMergeKeys (sym (lone_list c lists is)) keys
 
 -- one list of values is all of them
-pub only_list : (lists : List (List Datum)) → length lists ≡ 1 → lists ≡ flat lists ∷ []
+pub only_list : (lists : List (List Datum)) → length lists ≡ 1 → lists ≡ concatenation lists ∷ []
 only_list [] one = absurd (omega arith)
 only_list (vs ∷ []) one = λ t. sym (append-nil vs) t ∷ []
 only_list (vs ∷ ws ∷ lists) one = absurd (omega arith)

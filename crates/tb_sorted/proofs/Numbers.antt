@@ -13,7 +13,7 @@ use Rattle.tb_value.specs.Same.{agrees}
 use Rattle.tb_value.specs.declared.error.PolarsError.{PolarsError}
 use Rattle.tb_value.specs.declared.index.JoinPair.{JoinPair}
 use Rattle.tb_chunk.specs.Chunk.{or_null}
-use Rattle.tb_chunk.specs.Col.{flat}
+use Rattle.tb_chunk.specs.Col.{concatenation}
 use Rattle.tb_chunk.specs.Flag.{datum_cmp, nulls}
 use Rattle.tb_frame.specs.declared.args.Direction.{Direction}
 use Rattle.tb_frame.specs.declared.args.JoinType.{JoinType}
@@ -49,7 +49,7 @@ numbers_listed null_matches how ls rs =
 
 -- CELLS
 
-pub one_list : {X : Type 0} (f : X → List Datum) (xs : List X) (d : X) → length (map f xs) ≡ 1 → flat (map f xs) ≡ f (get_or xs 0 d)
+pub one_list : {X : Type 0} (f : X → List Datum) (xs : List X) (d : X) → length (map f xs) ≡ 1 → concatenation (map f xs) ≡ f (get_or xs 0 d)
 one_list f [] d one = absurd (omega arith)
 one_list f (x ∷ []) d one = append-nil (f x)
 one_list f (x ∷ y ∷ xs) d one = absurd (omega arith)
@@ -104,7 +104,7 @@ module _ (us vs : List Datum) (ls rs : List ℤ) (is_left : us ≡ map int ls) (
 
 -- what was merged of chunks was merged of those with equal values
 pub chunks_merged : {A : Type 0} (order : Direction) (keep : Bool) (ls rs ls' rs' : List (List Datum)) (answer : Result (Vec JoinPair A × MergedView) PolarsError)
-    → ls ≡ ls' → rs ≡ rs' → AreValuesMerged order keep (flat ls) (flat rs) answer → AreValuesMerged order keep (flat ls') (flat rs') answer
+    → ls ≡ ls' → rs ≡ rs' → AreValuesMerged order keep (concatenation ls) (concatenation rs) answer → AreValuesMerged order keep (concatenation ls') (concatenation rs') answer
 chunks_merged order keep ls rs ls' rs' answer left right h =
-    subst (λ (xs : List (List Datum)). AreValuesMerged order keep (flat xs) (flat rs') answer) left
-    (subst (λ (xs : List (List Datum)). AreValuesMerged order keep (flat ls) (flat xs) answer) right h)
+    subst (λ (xs : List (List Datum)). AreValuesMerged order keep (concatenation xs) (concatenation rs') answer) left
+    (subst (λ (xs : List (List Datum)). AreValuesMerged order keep (concatenation ls) (concatenation xs) answer) right h)

@@ -21,7 +21,7 @@ use Rattle.tb_frame.specs.Refusal.{asks_left, asks_right, is_validated, row_caus
 use Rattle.tb_frame.specs.Table.{height, table_of}
 use Rattle.tb_frame.proofs.Causes.{first_cause-one}
 use Rattle.tb_pool.specs.ExecView.{ExecView}
-use Rattle.tb_keys.specs.Asked.{asked}
+use Rattle.tb_keys.specs.Asked.{asked_request}
 use Rattle.tb_keys.specs.Rows.{HasRows}
 use Rattle.tb_keys.specs.declared.request.LentRequest.{LentRequest}
 use Rattle.tb_sorted.specs.Columns.{value_listing}
@@ -103,7 +103,7 @@ abbrev one_key_matches : (ℕ → Bool) → List Col → List Col → ℕ → �
 one_key_matches nulls ls rs i j = list_all (λ p. agrees (nulls p) (field (table_of ls) p i) (field (table_of rs) p j)) (row_numbers (min (length (table_of ls)) (length (table_of rs))))
 
 module _ (r : LentRequest) (a b : Col) (is_left : lent_columns r.left_keys.now ≡ a ∷ []) (is_right : lent_columns r.right_keys.now ≡ b ∷ []) where
-  pub requested_listing : value_listing (flag_at r.args.now.join_nulls 0) r.how (values a) (values b) ≡ listing (asked r)
+  pub requested_listing : value_listing (flag_at r.args.now.join_nulls 0) r.how (values a) (values b) ≡ listing (asked_request r)
   requested_listing =
       let high_left : length (values a) ≡ height (table_of r.left.now) = rows_are (height (table_of r.left.now)) (lent_columns r.left_keys.now) a is_left r.left_rows in
       let high_right : length (values b) ≡ height (table_of r.right.now) = rows_are (height (table_of r.right.now)) (lent_columns r.right_keys.now) b is_right r.right_rows in
@@ -131,5 +131,5 @@ no_cause Right exec a b ManyToOne x y d e o h n = absurd (cc)
 no_cause Right exec a b OneToMany x y d e o h n = absurd (cc)
 no_cause Right exec a b OneToOne x y d e o h n = absurd (cc)
 
-pub size_alone : (r : LentRequest) (exec : ExecView) (a b : Col) → are_ordered r.how exec a b ≡ true → asks_nothing r.args.now.validation ≡ true → first_cause (row_causes (asked r)) ≡ too_long (listing (asked r))
-size_alone r exec a b ordered nothing = no_cause r.how exec a b r.args.now.validation _ _ _ _ (too_long (listing (asked r))) ordered nothing
+pub size_alone : (r : LentRequest) (exec : ExecView) (a b : Col) → are_ordered r.how exec a b ≡ true → asks_nothing r.args.now.validation ≡ true → first_cause (row_causes (asked_request r)) ≡ too_long (listing (asked_request r))
+size_alone r exec a b ordered nothing = no_cause r.how exec a b r.args.now.validation _ _ _ _ (too_long (listing (asked_request r))) ordered nothing

@@ -17,7 +17,7 @@ use denote.Ref.{Bor}
 use denote.Param.Members.{Mut}
 use Rattle.tb_value.specs.declared.index.JoinPair.{JoinPair}
 use Rattle.tb_value.specs.declared.limits.TheConstants.{MAX_ROWS}
-use Rattle.tb_value.specs.Pairs.{both, left_first, matched, row_numbers, turn}
+use Rattle.tb_value.specs.Pairs.{both, left_first, matched_pairs, row_numbers, turn}
 use Rattle.tb_value.proofs.Ascending.{matched-sorted}
 use Rattle.tb_value.proofs.Loops.{flat_map_agree, map-flat_map, map-map, turned_matches}
 use Rattle.tb_value.proofs.Orders.{left_first_same, left_first_total}
@@ -31,18 +31,18 @@ use Rattle.tb_merge.specs.Keys.{key_at, keys_match}
 use Rattle.tb_merge.specs.RowPairs.{pairs_of, row_pairs, rows_of}
 use Rattle.tb_merge.proofs.Matches.{inner_is, left_is}
 use Rattle.tb_sorted.specs.Keys.{kind_of_merge, number_listing, number_sizes}
-use Rattle.tb_sorted.specs.SortedRows.{AreSortedRows, has_key, keys_of, left_placed, numbered, right_placed, row_at, with_rows}
+use Rattle.tb_sorted.specs.SortedRows.{AreSortedRows, has_key, keys_of, left_placed, numbered_keys, right_placed, row_at, with_rows}
 
 -- STORED KEYS AS NUMBERS
 
 module _ {N : Type 0} (number : N → ℤ) (rows : List (N × ℕ)) (i : ℕ) (d : N × ℕ) (low : i < length rows) where
-  pub numbered_at : (e : ℤ × ℕ) → get_or (numbered number rows) i e ≡ (number (get_or rows i d).0, (get_or rows i d).1)
+  pub numbered_at : (e : ℤ × ℕ) → get_or (numbered_keys number rows) i e ≡ (number (get_or rows i d).0, (get_or rows i d).1)
   numbered_at e = get_or-map (λ (p : N × ℕ). (number p.0, p.1)) rows i d e low
 
-  pub numbered_key : (e : ℤ) → get_or (keys_of (numbered number rows)) i e ≡ number (get_or rows i d).0
+  pub numbered_key : (e : ℤ) → get_or (keys_of (numbered_keys number rows)) i e ≡ number (get_or rows i d).0
   numbered_key e =
-      let long : length (numbered number rows) ≡ length rows = length-map rows (λ (p : N × ℕ). (number p.0, p.1)) in
-      get_or-map (λ (p : ℤ × ℕ). p.0) (numbered number rows) i (pos 0, 0) e (omega (arith, long, low)) ∙ ap (λ (p : ℤ × ℕ). p.0) (numbered_at (pos 0, 0))
+      let long : length (numbered_keys number rows) ≡ length rows = length-map rows (λ (p : N × ℕ). (number p.0, p.1)) in
+      get_or-map (λ (p : ℤ × ℕ). p.0) (numbered_keys number rows) i (pos 0, 0) e (omega (arith, long, low)) ∙ ap (λ (p : ℤ × ℕ). p.0) (numbered_at (pos 0, 0))
 
 -- THE ORDER OF A SORT
 
@@ -98,13 +98,13 @@ module _ {N : Type 0} (cmp : N → N → Ordering) (number : N → ℤ) (ordered
       by [] e (y ∷ vs) f = at y (passes ys y vs f)
       by [] e [] f = sym f ∙ e
 
-  numbered_kept : (v : ℤ) (xs : List (N × ℕ)) → map (λ (p : N × ℕ). (number p.0, p.1)) (filter (has_number v) xs) ≡ filter (has_key v) (numbered number xs)
-  numbered_kept v xs = kept_images (λ (p : N × ℕ). (number p.0, p.1)) (has_key v) (λ q. q) xs ∙ map-id (filter (has_key v) (numbered number xs))
+  numbered_kept : (v : ℤ) (xs : List (N × ℕ)) → map (λ (p : N × ℕ). (number p.0, p.1)) (filter (has_number v) xs) ≡ filter (has_key v) (numbered_keys number xs)
+  numbered_kept v xs = kept_images (λ (p : N × ℕ). (number p.0, p.1)) (has_key v) (λ q. q) xs ∙ map-id (filter (has_key v) (numbered_keys number xs))
 
   -- what a stable sort by key gives, where each call of the closure gives the key
-  pub sorted_by_key : {F : Type 0} (g : Mut F (Bor (N × ℕ) × Unit {0}) N) (f : F) (keys : List ℤ) (xs ys : List (N × ℕ)) → numbered number xs ≡ with_rows keys → IsPermutation xs ys
+  pub sorted_by_key : {F : Type 0} (g : Mut F (Bor (N × ℕ) × Unit {0}) N) (f : F) (keys : List ℤ) (xs ys : List (N × ℕ)) → numbered_keys number xs ≡ with_rows keys → IsPermutation xs ys
       → IsSortedByKeyClosure g cmp f ys → IsStableByKeyClosure g cmp f xs ys
-      → ((a : Bor (N × ℕ) × Unit {0}) (r : N) (f' : F) → Called g f a r f' → (r ≡ a.0.now.0) × (f' ≡ f)) → AreSortedRows keys (numbered number ys)
+      → ((a : Bor (N × ℕ) × Unit {0}) (r : N) (f' : F) → Called g f a r f' → (r ≡ a.0.now.0) × (f' ≡ f)) → AreSortedRows keys (numbered_keys number ys)
   sorted_by_key g f keys xs ys is moved sorted stable says =
       let key : N × ℕ → N = λ p. p.0 in
       let image : N × ℕ → ℤ × ℕ = λ p. (number p.0, p.1) in
@@ -114,7 +114,7 @@ module _ {N : Type 0} (cmp : N → N → Ordering) (number : N → ℤ) (ordered
         ascends =
             subst (IsSorted int_cmp) (sym (map-map (λ (p : ℤ × ℕ). p.0) image ys))
             (sorted_images (λ (p : N × ℕ). number p.0) int_cmp ys (subst (λ (order : N × ℕ → N × ℕ → Ordering). IsSorted order ys) by_numbers (sorted key computes)));
-        permutation = subst (λ (l : List (ℤ × ℕ)). IsPermutation l (numbered number ys)) is (IsPermutation-map image xs ys moved);
+        permutation = subst (λ (l : List (ℤ × ℕ)). IsPermutation l (numbered_keys number ys)) is (IsPermutation-map image xs ys moved);
         stable = λ v.
             sym (numbered_kept v ys) ∙ ap (map image) (kept_by_number xs ys (stable key computes) v) ∙ numbered_kept v xs ∙ ap (filter (has_key v)) is;
       }
@@ -223,7 +223,7 @@ module _ (keys : List ℤ) (rows : List (ℤ × ℕ)) (sorted : AreSortedRows ke
     turned_inner : (ks : List ℤ) → IsPermutation (map turn (way false right ks)) (number_listing false ks right)
     turned_inner ks =
         subst (λ (l : List JoinPair). IsPermutation (map turn l) (number_listing false ks right))
-        (ap (λ (m : ℕ → ℕ → Bool). matched (length right) (length ks) m) (exchanged ks) ∙ sym (inner_is right ks))
+        (ap (λ (m : ℕ → ℕ → Bool). matched_pairs (length right) (length ks) m) (exchanged ks) ∙ sym (inner_is right ks))
         (turned_matches (length ks) (length right) (keys_match ks right))
 
     turned_placed : (ps : List JoinPair) → map turn (map (right_placed rows) ps) ≡ map (left_placed rows) (map turn ps)

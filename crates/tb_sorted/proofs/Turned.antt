@@ -4,7 +4,7 @@ use Rattle.std.specs.Prelude.{IsPermutation, nat_lt}
 use Rattle.std.proofs.lemmas.List.{length-map}
 use Rattle.std.proofs.lemmas.List.Sorted.{IsPermutation-map, IsPermutation-sym, IsPermutation-trans, length_permutation}
 use Rattle.tb_value.specs.Datum.{Datum, null}
-use Rattle.tb_value.specs.Pairs.{matched, turn}
+use Rattle.tb_value.specs.Pairs.{matched_pairs, turn}
 use Rattle.tb_value.specs.Refusals.{when}
 use Rattle.tb_value.specs.Same.{agrees}
 use Rattle.tb_value.specs.declared.error.ComputeCause.TheVariants.{TooManyRows}
@@ -45,11 +45,11 @@ module _ (null_matches : Bool) (us vs : List Datum) where
 pub sizes_turned : (us vs : List Datum) → value_sizes vs us ≡ sizes_by Right us vs
 sizes_turned us vs =
     let here : ℕ → ℕ → Bool = λ i j. agrees false (get_or us i null) (get_or vs j null) in
-    let there : List JoinPair = matched (length vs) (length us) (λ j i. here i j) in
-    let same : value_listing false Inner vs us ≡ there = λ t. matched (length vs) (length us) (λ j i. agrees_symm false (get_or vs j null) (get_or us i null) t) in
+    let there : List JoinPair = matched_pairs (length vs) (length us) (λ j i. here i j) in
+    let same : value_listing false Inner vs us ≡ there = λ t. matched_pairs (length vs) (length us) (λ j i. agrees_symm false (get_or vs j null) (get_or us i null) t) in
     let many : match_count vs us ≡ match_count us vs =
     ap (λ (ps : List JoinPair). length ps) same ∙ sym (length-map there turn)
-    ∙ sym (length_permutation (map turn there) (matched (length us) (length vs) here) (turned_matches (length us) (length vs) here)) in
+    ∙ sym (length_permutation (map turn there) (matched_pairs (length us) (length vs) here) (turned_matches (length us) (length vs) here)) in
     λ t. record { left_len = length vs; right_len = length us; pairs = many t }
 
 -- IN PLACE

@@ -10,7 +10,7 @@ use Rattle.tb_frame.specs.declared.args.Direction.{Direction}
 use Rattle.tb_frame.specs.Join.{Ascends}
 use Rattle.tb_frame.specs.Refusal.{row_causes}
 use Rattle.tb_pool.specs.ExecView.{ExecView}
-use Rattle.tb_keys.specs.Asked.{asked}
+use Rattle.tb_keys.specs.Asked.{asked_request}
 use Rattle.tb_keys.specs.declared.request.LentRequest.{LentRequest}
 use Rattle.tb_merge.specs.MergedView.{MergedView}
 use Rattle.tb_sorted.specs.Columns.{first_values, sizes_by, value_listing, value_sizes}
@@ -52,4 +52,4 @@ requested_sizes r = sizes_by r.how (first_values (lent_columns r.left_keys.now))
 
 -- the cause why a request is refused, where its keys are merged
 abbrev pub merge_refusal : LentRequest → ExecView → Option PolarsError
-merge_refusal r exec = (if takes_merge_path r exec then first_cause (row_causes (asked r)) else None)
+merge_refusal r exec = (if takes_merge_path r exec then first_cause (row_causes (asked_request r)) else None)

@@ -13,8 +13,8 @@ abbrev pub keys_of : List (ℤ × ℕ) → List ℤ
 keys_of rows = map (λ (p : ℤ × ℕ). p.0) rows
 
 -- stored keys, each as the number that it is, with their rows
-abbrev pub numbered : {N : Type 0} → (N → ℤ) → List (N × ℕ) → List (ℤ × ℕ)
-numbered number rows = map (λ p. (number p.0, p.1)) rows
+abbrev pub numbered_keys : {N : Type 0} → (N → ℤ) → List (N × ℕ) → List (ℤ × ℕ)
+numbered_keys number rows = map (λ p. (number p.0, p.1)) rows
 
 -- whether a row has the key
 abbrev pub has_key : ℤ → ℤ × ℕ → Bool

@@ -45,9 +45,9 @@ pub(crate) struct SortedRows<'a, N> {
 }
 
 impl<N: WholeCell> NumberList<N> for SortedRows<'_, N> {
-    ghost use Rattle.tb_sorted.specs.SortedRows.{keys_of, numbered};
+    ghost use Rattle.tb_sorted.specs.SortedRows.{keys_of, numbered_keys};
 
-    ghost keys = { λ s. keys_of (numbered N.number s.rows.now) };
+    ghost keys = { λ s. keys_of (numbered_keys N.number s.rows.now) };
 
     fn len(&self) -> usize {
         self.rows.len()

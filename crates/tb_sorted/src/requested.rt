@@ -6,7 +6,7 @@ ghost use Rattle.tb_chunk.specs.Col.{Col, values};
 ghost use Rattle.tb_chunk.specs.Lent.{lent_columns};
 ghost use Rattle.tb_frame.specs.Join.{listing};
 ghost use Rattle.tb_frame.specs.Refusal.{row_causes};
-ghost use Rattle.tb_keys.specs.Asked.{asked};
+ghost use Rattle.tb_keys.specs.Asked.{asked_request};
 ghost use Rattle.tb_sorted.specs.Columns.{IsInOneChunk, sizes_by, value_listing, value_sizes};
 ghost use Rattle.tb_sorted.specs.Keys.{kind_of_merge, too_long};
 ghost use Rattle.tb_sorted.specs.Listed.{AreValuesMerged, IsListedIn, IsMergeWithin, merge_refusal, requested_sizes};
@@ -148,8 +148,8 @@ fn takes_merge_path(request: &LentRequest<'_>, exec: &Exec) -> bool
 fn taken_pairs(alloc: Global, request: &LentRequest<'_>, exec: &Exec) -> PolarsResult<MergedPairs>
     requires alike { map (λ (c : Col). c.kind) (lent_columns request.now.left_keys.now) ≡ map (λ (c : Col). c.kind) (lent_columns request.now.right_keys.now) }
     requires taken { takes_merge_path request.now exec.now ≡ true }
-    ensures settles { Settles result (first_cause (row_causes (asked request.now))) }
-    ensures found { IfOk result (λ m. IsListedIn (listing (asked request.now)) m.listed) }
+    ensures settles { Settles result (first_cause (row_causes (asked_request request.now))) }
+    ensures found { IfOk result (λ m. IsListedIn (listing (asked_request request.now)) m.listed) }
     ensures merged { IfOk result (λ m. IsMergeWithin (requested_sizes request.now) m.merged) }
 {
     let left = request.left_keys[0];
@@ -181,7 +181,7 @@ pub fn merged_pairs(
     requires alike { map (λ (c : Col). c.kind) (lent_columns request.now.left_keys.now) ≡ map (λ (c : Col). c.kind) (lent_columns request.now.right_keys.now) }
     ensures taken { IfOk result (λ o. is_some o ≡ takes_merge_path request.now exec.now) }
     ensures settles { Settles result (merge_refusal request.now exec.now) }
-    ensures found { IfOk result (λ o. IfSome o (λ m. IsListedIn (listing (asked request.now)) m.listed)) }
+    ensures found { IfOk result (λ o. IfSome o (λ m. IsListedIn (listing (asked_request request.now)) m.listed)) }
     ensures merged { IfOk result (λ o. IfSome o (λ m. IsMergeWithin (requested_sizes request.now) m.merged)) }
 {
     if !takes_merge_path(request, exec) {

@@ -3,7 +3,7 @@ ghost use Rattle.std.specs.Prelude.{◌≡◌, ◌<◌, ◌≤◌, ℕ, ℤ, All
 ghost use Rattle.tb_chunk.specs.Rows.{IsRowOf};
 ghost use Rattle.tb_frame.specs.Answer.{AreLeftRows, AreRightRows};
 ghost use Rattle.tb_merge.specs.Keys.{key_at};
-ghost use Rattle.tb_sorted.specs.SortedRows.{AreSortedRows, left_placed, numbered, right_placed, row_or_none, with_rows};
+ghost use Rattle.tb_sorted.specs.SortedRows.{AreSortedRows, left_placed, numbered_keys, right_placed, row_or_none, with_rows};
 
 use crate::cells::WholeCell;
 use crate::key_lists::NumberList;
@@ -26,7 +26,7 @@ fn keys_with_rows<N: WholeCell, K: NumberList<N>>(
     list: &K,
 ) -> Result<Vec<(N, IdxSize)>, OutOfMemory>
     requires { length (K.keys list.now) ≤ MAX_ROWS }
-    ensures rows { IfOk result (λ v. numbered N.number v.items ≡ with_rows (K.keys list.now)) }
+    ensures rows { IfOk result (λ v. numbered_keys N.number v.items ≡ with_rows (K.keys list.now)) }
 {
     let len = list.len();
     let mut rows = Vec::with_capacity(alloc, len)?;
@@ -42,7 +42,7 @@ pub(crate) fn sorted_rows<N: WholeCell, K: NumberList<N>>(
     list: &K,
 ) -> Result<Vec<(N, IdxSize)>, OutOfMemory>
     requires { length (K.keys list.now) ≤ MAX_ROWS }
-    ensures { IfOk result (λ v. AreSortedRows (K.keys list.now) (numbered N.number v.items)) }
+    ensures { IfOk result (λ v. AreSortedRows (K.keys list.now) (numbered_keys N.number v.items)) }
 {
     let mut rows = keys_with_rows(alloc, list)?;
     rows.sort_by_key(|row| row.0)?;
@@ -52,8 +52,8 @@ pub(crate) fn sorted_rows<N: WholeCell, K: NumberList<N>>(
 // The row that stands at the place.
 fn row_at<N: WholeCell>(rows: &[(N, IdxSize)], place: NullableIdxSize) -> NullableIdxSize
     requires place { IsRowOf (length rows.now) place }
-    requires rows { All (λ (p : ℤ × ℕ). p.1 < MAX_ROWS) (numbered N.number rows.now) }
-    ensures { result ≡ row_or_none (numbered N.number rows.now) place }
+    requires rows { All (λ (p : ℤ × ℕ). p.1 < MAX_ROWS) (numbered_keys N.number rows.now) }
+    ensures { result ≡ row_or_none (numbered_keys N.number rows.now) place }
 {
     match place.row() {
         None => NullableIdxSize::null(),
@@ -67,8 +67,8 @@ pub(crate) fn with_right_rows<N: WholeCell>(
     rows: &[(N, IdxSize)],
 ) -> Vec<JoinPair>
     requires places { AreRightRows (length rows.now) pairs.items }
-    requires rows { All (λ (p : ℤ × ℕ). p.1 < MAX_ROWS) (numbered N.number rows.now) }
-    ensures { result.items ≡ map (right_placed (numbered N.number rows.now)) pairs.items }
+    requires rows { All (λ (p : ℤ × ℕ). p.1 < MAX_ROWS) (numbered_keys N.number rows.now) }
+    ensures { result.items ≡ map (right_placed (numbered_keys N.number rows.now)) pairs.items }
 {
     for pair in pairs.iter_mut() {
         pair.right = row_at(rows, pair.right);
@@ -82,8 +82,8 @@ pub(crate) fn with_left_rows<N: WholeCell>(
     rows: &[(N, IdxSize)],
 ) -> Vec<JoinPair>
     requires places { AreLeftRows (length rows.now) pairs.items }
-    requires rows { All (λ (p : ℤ × ℕ). p.1 < MAX_ROWS) (numbered N.number rows.now) }
-    ensures { result.items ≡ map (left_placed (numbered N.number rows.now)) pairs.items }
+    requires rows { All (λ (p : ℤ × ℕ). p.1 < MAX_ROWS) (numbered_keys N.number rows.now) }
+    ensures { result.items ≡ map (left_placed (numbered_keys N.number rows.now)) pairs.items }
 {
     for pair in pairs.iter_mut() {
         pair.left = row_at(rows, pair.left);

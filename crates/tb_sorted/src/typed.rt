@@ -1,7 +1,7 @@
 //! Keys by the type that they are stored as.
 ghost use Rattle.std.specs.Prelude.{◌≡◌, true, false, length, map};
 ghost use Rattle.tb_value.specs.Typed.{is_whole_physical};
-ghost use Rattle.tb_chunk.specs.Col.{flat};
+ghost use Rattle.tb_chunk.specs.Col.{concatenation};
 ghost use Rattle.tb_chunk.specs.Seen.{chunk_lists, storage};
 ghost use Rattle.tb_sorted.specs.Columns.{AreMergeKeys, MayMerge, cell_lists};
 ghost use Rattle.tb_sorted.specs.Listed.{AreValuesMerged};
@@ -42,8 +42,8 @@ fn merged_values<N: WholeCell>(
 // The values of the one chunk, none of which is Null.
 fn lone_values<N: WholeCell>(chunks: &[Cells<N>]) -> LentValues<'_, N>
     requires one { length (cell_lists N.shows chunks.now) ≡ 1 }
-    requires keys { AreMergeKeys (flat (cell_lists N.shows chunks.now)) }
-    ensures { map N.shows result.values.now ≡ flat (cell_lists N.shows chunks.now) }
+    requires keys { AreMergeKeys (concatenation (cell_lists N.shows chunks.now)) }
+    ensures { map N.shows result.values.now ≡ concatenation (cell_lists N.shows chunks.now) }
 {
     match chunks[0].as_values() {
         Some(values) => LentValues { values },
@@ -62,10 +62,10 @@ fn pairs_of_cells<N: WholeCell>(
 ) -> PolarsResult<(Vec<JoinPair>, Merged)>
     requires left_one { length (cell_lists N.shows left.now) ≡ 1 }
     requires right_one { length (cell_lists N.shows right.now) ≡ 1 }
-    requires left { AreMergeKeys (flat (cell_lists N.shows left.now)) }
-    requires right { AreMergeKeys (flat (cell_lists N.shows right.now)) }
-    requires may { MayMerge first keep_unmatched (flat (cell_lists N.shows left.now)) (flat (cell_lists N.shows right.now)) }
-    ensures { AreValuesMerged (order_after first) keep_unmatched (flat (cell_lists N.shows left.now)) (flat (cell_lists N.shows right.now)) result }
+    requires left { AreMergeKeys (concatenation (cell_lists N.shows left.now)) }
+    requires right { AreMergeKeys (concatenation (cell_lists N.shows right.now)) }
+    requires may { MayMerge first keep_unmatched (concatenation (cell_lists N.shows left.now)) (concatenation (cell_lists N.shows right.now)) }
+    ensures { AreValuesMerged (order_after first) keep_unmatched (concatenation (cell_lists N.shows left.now)) (concatenation (cell_lists N.shows right.now)) result }
 {
     let left = lone_values(left);
     let right = lone_values(right);
@@ -85,10 +85,10 @@ pub(crate) fn pairs_of_chunks(
     requires same { storage left.now ≡ storage right.now }
     requires left_one { length (chunk_lists left.now) ≡ 1 }
     requires right_one { length (chunk_lists right.now) ≡ 1 }
-    requires left { AreMergeKeys (flat (chunk_lists left.now)) }
-    requires right { AreMergeKeys (flat (chunk_lists right.now)) }
-    requires may { MayMerge first keep_unmatched (flat (chunk_lists left.now)) (flat (chunk_lists right.now)) }
-    ensures { AreValuesMerged (order_after first) keep_unmatched (flat (chunk_lists left.now)) (flat (chunk_lists right.now)) result }
+    requires left { AreMergeKeys (concatenation (chunk_lists left.now)) }
+    requires right { AreMergeKeys (concatenation (chunk_lists right.now)) }
+    requires may { MayMerge first keep_unmatched (concatenation (chunk_lists left.now)) (concatenation (chunk_lists right.now)) }
+    ensures { AreValuesMerged (order_after first) keep_unmatched (concatenation (chunk_lists left.now)) (concatenation (chunk_lists right.now)) result }
 {
     match (left, right) {
         (Chunks::Int8Type(l), Chunks::Int8Type(r)) => {

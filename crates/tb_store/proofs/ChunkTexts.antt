@@ -15,11 +15,11 @@ use Rattle.tb_value.specs.Kind as kind
 use Rattle.tb_value.specs.Typed.{HasType}
 use Rattle.tb_value.specs.declared.limits.TheConstants.{MAX_ROWS}
 use Rattle.tb_chunk.specs.Chunk.{or_null}
-use Rattle.tb_chunk.specs.Col.{Col, IsColumn, flat, values}
+use Rattle.tb_chunk.specs.Col.{Col, IsColumn, concatenation, values}
 use Rattle.tb_value.specs.Texts.{IsUtf8Row}
 use Rattle.tb_chunk.specs.TextValues.{text_values}
 use Rattle.tb_chunk.specs.View.{buffer_of, offset_of, row_text, text_in, texts, view_text}
-use Rattle.tb_chunk.specs.Whole.{HaveFewBuffers, ViewRun, run_at}
+use Rattle.tb_chunk.specs.ViewArrays.{HaveFewBuffers, ViewArray, view_array_at}
 use Rattle.tb_view.specs.declared.view.View.{View}
 
 -- a text is no longer than its view says
@@ -55,7 +55,7 @@ few_in_chunk c k n vs column low is count = omega (arith, length-flat_map-take (
 -- and they are of the column's type
 typed_chunk : (c : Col) (k : ℕ) → IsColumn c → k < length c.chunks → All (HasType c.kind) (get_or c.chunks k [])
 typed_chunk c k column low = λ j d within.
-    let before = length (flat (take k c.chunks)) in
+    let before = length (concatenation (take k c.chunks)) in
     let fits = length-flat_map-take (λ (ds : List Datum). ds) c.chunks k [] low in
     subst (HasType c.kind) (get_or-flat_map (λ (ds : List Datum). ds) c.chunks k j [] d low within) (column.typed (before + j) d (omega (arith, fits, within)))
 
@@ -72,10 +72,10 @@ pub utf8_in_chunk : (c : Col) (k : ℕ) (ts : List (Option (List ℕ))) → IsCo
 utf8_in_chunk c k ts column low is = utf8_typed c.kind ts (subst (All (HasType c.kind)) is (typed_chunk c k column low))
 
 -- a chunk has no more buffers than its column
-pub few_in_run : (rs : List ViewRun) (k : ℕ) → HaveFewBuffers rs → length (run_at rs k).buffers < 2 ^ 32
+pub few_in_run : (rs : List ViewArray) (k : ℕ) → HaveFewBuffers rs → length (view_array_at rs k).buffers < 2 ^ 32
 few_in_run rs k few =
-    let none : ViewRun = record { views = []; buffers = [] } in
+    let none : ViewArray = record { views = []; buffers = [] } in
     elim (cases_lt k (length rs)) [
-      | inl low ↦ omega (arith, length-flat_map-take (λ (r : ViewRun). r.buffers) rs k none low, few)
-      | inr past ↦ omega (arith, ap (λ (r : ViewRun). length r.buffers) (get_or-eq_default rs none past))
+      | inl low ↦ omega (arith, length-flat_map-take (λ (r : ViewArray). r.buffers) rs k none low, few)
+      | inr past ↦ omega (arith, ap (λ (r : ViewArray). length r.buffers) (get_or-eq_default rs none past))
     ]

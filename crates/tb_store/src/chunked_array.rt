@@ -1,18 +1,18 @@
 //! Columns whose stored type is known by a marker.
 ghost use Rattle.std.specs.Prelude.{◌≡◌, ◌≢◌, ◌<◌, ◌≤◌, ◌+◌, ◌↔◌, [], IfOk, IsTrue, MatchResult, length, get_or, map};
 ghost use Rattle.tb_value.specs.Datum.{null};
-ghost use Rattle.tb_value.specs.See.{lent, IsText};
+ghost use Rattle.tb_value.specs.See.{lent_value, IsText};
 ghost use Rattle.tb_value.specs.SeeKind.{kind_of};
 ghost use Rattle.tb_value.specs.declared.error.PolarsError.TheVariants.{SchemaMismatch};
 ghost use Rattle.tb_value.specs.declared.sorted.IsSorted.TheVariants.{Ascending, Descending};
 ghost use Rattle.tb_chunk.specs.Col.{values, physical, IsColumn};
-ghost use Rattle.tb_chunk.specs.Changed.{part_of, sliced};
+ghost use Rattle.tb_chunk.specs.Changed.{part_of, sliced_rows};
 ghost use Rattle.tb_chunk.specs.Flag.{nulls, FlagHolds, IsOrdered};
-ghost use Rattle.tb_chunk.specs.Fresh.{fresh_runs};
+ghost use Rattle.tb_chunk.specs.Fresh.{fresh_view_arrays};
 ghost use Rattle.tb_chunk.specs.Lent.{in_one_chunk};
 ghost use Rattle.tb_chunk.specs.Made.{lists_of, IsArranged};
 ghost use Rattle.tb_chunk.specs.Order.{order_of};
-ghost use Rattle.tb_chunk.specs.Whole.{runs_of, AreViewed, HaveFewBuffers};
+ghost use Rattle.tb_chunk.specs.ViewArrays.{view_arrays_of, AreViewed, HaveFewBuffers};
 
 use crate::data_type::PolarsDataType;
 use crate::series::Series;
@@ -39,17 +39,17 @@ impl<T: PolarsDataType> Model for ChunkedArray<T> {
     ghost use Rattle.tb_value.specs.SeeKind.{kind_of};
     ghost use Rattle.tb_chunk.specs.Col.{Col, IsColumn, physical};
     ghost use Rattle.tb_chunk.specs.ColCode.{coded_col};
-    ghost use Rattle.tb_chunk.specs.Whole.{runs_of, HaveFewBuffers};
+    ghost use Rattle.tb_chunk.specs.ViewArrays.{view_arrays_of, HaveFewBuffers};
 
     ghost Value = { Col };
 
     ghost coded = { coded_col };
 
-    ghost view = { λ s. record { name = s.name; kind = kind_of s.dtype; chunks = map T.Array.shown s.chunks.items; flag = s.flag; runs = runs_of T.Array.views T.Array.buffers s.chunks.items } };
+    ghost view = { λ s. record { name = s.name; kind = kind_of s.dtype; chunks = map T.Array.shown s.chunks.items; flag = s.flag; view_arrays = view_arrays_of T.Array.views T.Array.buffers s.chunks.items } };
 
     ghost invariant = { λ s. (physical (kind_of s.dtype) ≡ T.Array.kind)
-        × IsColumn record { name = s.name; kind = kind_of s.dtype; chunks = map T.Array.shown s.chunks.items; flag = s.flag; runs = runs_of T.Array.views T.Array.buffers s.chunks.items }
-        × HaveFewBuffers (runs_of T.Array.views T.Array.buffers s.chunks.items) };
+        × IsColumn record { name = s.name; kind = kind_of s.dtype; chunks = map T.Array.shown s.chunks.items; flag = s.flag; view_arrays = view_arrays_of T.Array.views T.Array.buffers s.chunks.items }
+        × HaveFewBuffers (view_arrays_of T.Array.views T.Array.buffers s.chunks.items) };
 }
 
 impl<T: PolarsDataType> ChunkedArray<T> {
@@ -85,7 +85,7 @@ impl<T: PolarsDataType> ChunkedArray<T> {
         dtype: DataType,
         chunks: Vec<Vec<AnyValue>>,
     ) -> PolarsResult<ChunkedArray<T>>
-        ensures { IsArranged name.now (kind_of dtype) T.Array.kind (lists_of chunks.items) (fresh_runs (lists_of chunks.items)) result }
+        ensures { IsArranged name.now (kind_of dtype) T.Array.kind (lists_of chunks.items) (fresh_view_arrays (lists_of chunks.items)) result }
     {
         if !T::accepts(&dtype) {
             return Err(PolarsError::SchemaMismatch);
@@ -130,7 +130,7 @@ impl<T: PolarsDataType> ChunkedArray<T> {
     /// The chunks.
     pub fn chunks(&self) -> &[T::Array]
         ensures shown { map T.Array.shown result.now ≡ self.now.chunks }
-        ensures runs { runs_of T.Array.views T.Array.buffers result.now ≡ self.now.runs }
+        ensures view_arrays { view_arrays_of T.Array.views T.Array.buffers result.now ≡ self.now.view_arrays }
     {
         &self.chunks
     }
@@ -190,8 +190,8 @@ impl<T: PolarsDataType> ChunkedArray<T> {
         ensures len { result ≡ length (values self.now) }
         ensures column { IsColumn self.now }
         ensures kind { physical self.now.kind ≡ T.Array.kind }
-        ensures viewed { AreViewed self.now.chunks self.now.runs }
-        ensures few_buffers { HaveFewBuffers self.now.runs }
+        ensures viewed { AreViewed self.now.chunks self.now.view_arrays }
+        ensures few_buffers { HaveFewBuffers self.now.view_arrays }
     {
         rows_in(&self.chunks)
     }
@@ -207,7 +207,7 @@ impl<T: PolarsDataType> ChunkedArray<T> {
     /// The value of a row, lent. Its steps are at most the number of chunks.
     pub fn get(&self, row: usize) -> ValueRef<'_>
         requires { row < length (values self.now) }
-        ensures value { lent result ≡ get_or (values self.now) row null }
+        ensures value { lent_value result ≡ get_or (values self.now) row null }
         ensures text { IsText result }
     {
         value_in(&self.chunks, row)
@@ -242,7 +242,7 @@ impl<T: PolarsDataType> ChunkedArray<T> {
         offset: i64,
         len: usize,
     ) -> Result<ChunkedArray<T>, OutOfMemory>
-        ensures { IfOk result (λ a. a ≡ sliced offset len self.now) }
+        ensures { IfOk result (λ a. a ≡ sliced_rows offset len self.now) }
     {
         let (start, count) = slice_offsets(offset, len, self.len());
         self.part(alloc, start, count)

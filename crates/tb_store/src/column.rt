@@ -1,13 +1,13 @@
 //! Columns of a table.
 ghost use Rattle.std.specs.Prelude.{◌≡◌, ◌<◌, [], IfOk, length, get_or};
 ghost use Rattle.tb_value.specs.Datum.{null};
-ghost use Rattle.tb_value.specs.See.{lent, IsText};
+ghost use Rattle.tb_value.specs.See.{lent_value, IsText};
 ghost use Rattle.tb_value.specs.SeeKind.{kind_of};
 ghost use Rattle.tb_chunk.specs.Col.{values, IsColumn};
 ghost use Rattle.tb_chunk.specs.Flag.{nulls, FlagHolds};
 ghost use Rattle.tb_chunk.specs.Lent.{in_one_chunk};
 ghost use Rattle.tb_chunk.specs.Made.{lists_of, IsMade};
-ghost use Rattle.tb_chunk.specs.Whole.{AreViewed, HaveFewBuffers};
+ghost use Rattle.tb_chunk.specs.ViewArrays.{AreViewed, HaveFewBuffers};
 
 use crate::series::Series;
 use std::alloc::Global;
@@ -129,8 +129,8 @@ impl Column {
     pub fn len(&self) -> usize
         ensures len { result ≡ length (values self.now) }
         ensures column { IsColumn self.now }
-        ensures viewed { AreViewed self.now.chunks self.now.runs }
-        ensures few_buffers { HaveFewBuffers self.now.runs }
+        ensures viewed { AreViewed self.now.chunks self.now.view_arrays }
+        ensures few_buffers { HaveFewBuffers self.now.view_arrays }
     {
         self.series.len()
     }
@@ -138,7 +138,7 @@ impl Column {
     /// The value of a row, lent.
     pub fn get(&self, row: usize) -> ValueRef<'_>
         requires { row < length (values self.now) }
-        ensures value { lent result ≡ get_or (values self.now) row null }
+        ensures value { lent_value result ≡ get_or (values self.now) row null }
         ensures text { IsText result }
     {
         self.series.get(row)

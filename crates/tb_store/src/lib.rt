@@ -7,7 +7,7 @@ mod data_type;
 pub mod laws;
 mod lent;
 mod making;
-mod merging;
+mod coalescing;
 mod ordering;
 mod series;
 mod slicing;

@@ -4,7 +4,7 @@ ghost use Rattle.std.specs.Prelude.{◌≡◌};
 ghost use Rattle.tb_chunk.specs.Col.{physical};
 ghost use Rattle.tb_chunk.specs.Made.{lists_of, IsMade, IsArranged, IsTyped};
 ghost use Rattle.tb_chunk.specs.RunLayout.{IsMadeOfRuns, data_runs};
-ghost use Rattle.tb_chunk.specs.Runs.{chunk_runs};
+ghost use Rattle.tb_chunk.specs.ChunkViewArrays.{chunk_view_arrays};
 ghost use Rattle.tb_chunk.specs.Seen.{chunk_lists, storage};
 
 use crate::series::Series;
@@ -66,7 +66,7 @@ impl Series {
         dtype: DataType,
         arrays: Chunks,
     ) -> PolarsResult<Series>
-        ensures { IsArranged name (kind_of dtype) (storage arrays) (chunk_lists arrays) (chunk_runs arrays) result }
+        ensures { IsArranged name (kind_of dtype) (storage arrays) (chunk_lists arrays) (chunk_view_arrays arrays) result }
     {
         if arrays.physical() != physical_of(&dtype) {
             return Err(PolarsError::SchemaMismatch);
@@ -87,7 +87,7 @@ impl Series {
     ) -> PolarsResult<Series>
         requires storage { storage arrays ≡ physical (kind_of dtype) }
         requires typed { IsTyped (kind_of dtype) (chunk_lists arrays) }
-        ensures { IsArranged name (kind_of dtype) (storage arrays) (chunk_lists arrays) (chunk_runs arrays) result }
+        ensures { IsArranged name (kind_of dtype) (storage arrays) (chunk_lists arrays) (chunk_view_arrays arrays) result }
     {
         let chunks = arrays.within_limits(alloc, &dtype)?;
         Ok(Series::from_parts(name, dtype, chunks, IsSorted::Not))

@@ -1,15 +1,15 @@
 //! Columns.
 ghost use Rattle.std.specs.Prelude.{◌≡◌, ◌<◌, ◌≤◌, [], IfOk, length, get_or, drop, ◌+◌};
 ghost use Rattle.tb_value.specs.Datum.{null};
-ghost use Rattle.tb_value.specs.See.{lent, IsText};
+ghost use Rattle.tb_value.specs.See.{lent_value, IsText};
 ghost use Rattle.tb_value.specs.SeeKind.{kind_of};
 ghost use Rattle.tb_chunk.specs.Col.{Col, values, IsColumn, physical};
 ghost use Rattle.tb_chunk.specs.Changed.{part_of};
 ghost use Rattle.tb_chunk.specs.Flag.{nulls, FlagHolds};
 ghost use Rattle.tb_chunk.specs.Lent.{in_one_chunk};
-ghost use Rattle.tb_chunk.specs.Runs.{chunk_runs};
+ghost use Rattle.tb_chunk.specs.ChunkViewArrays.{chunk_view_arrays};
 ghost use Rattle.tb_chunk.specs.Seen.{chunk_lists, storage};
-ghost use Rattle.tb_chunk.specs.Whole.{AreViewed, HaveFewBuffers};
+ghost use Rattle.tb_chunk.specs.ViewArrays.{AreViewed, HaveFewBuffers};
 
 use std::alloc::Global;
 use std::marker::Model;
@@ -41,19 +41,19 @@ impl Model for Series {
     ghost use Rattle.tb_value.specs.SeeKind.{kind_of};
     ghost use Rattle.tb_chunk.specs.Col.{Col, IsColumn, physical};
     ghost use Rattle.tb_chunk.specs.ColCode.{coded_col};
-    ghost use Rattle.tb_chunk.specs.Runs.{chunk_runs};
+    ghost use Rattle.tb_chunk.specs.ChunkViewArrays.{chunk_view_arrays};
     ghost use Rattle.tb_chunk.specs.Seen.{chunk_lists, storage};
-    ghost use Rattle.tb_chunk.specs.Whole.{HaveFewBuffers};
+    ghost use Rattle.tb_chunk.specs.ViewArrays.{HaveFewBuffers};
 
     ghost Value = { Col };
 
     ghost coded = { coded_col };
 
-    ghost view = { λ s. record { name = s.name; kind = kind_of s.dtype; chunks = chunk_lists s.chunks; flag = s.flag; runs = chunk_runs s.chunks } };
+    ghost view = { λ s. record { name = s.name; kind = kind_of s.dtype; chunks = chunk_lists s.chunks; flag = s.flag; view_arrays = chunk_view_arrays s.chunks } };
 
     ghost invariant = { λ s. (storage s.chunks ≡ physical (kind_of s.dtype))
-        × IsColumn record { name = s.name; kind = kind_of s.dtype; chunks = chunk_lists s.chunks; flag = s.flag; runs = chunk_runs s.chunks }
-        × HaveFewBuffers (chunk_runs s.chunks) };
+        × IsColumn record { name = s.name; kind = kind_of s.dtype; chunks = chunk_lists s.chunks; flag = s.flag; view_arrays = chunk_view_arrays s.chunks }
+        × HaveFewBuffers (chunk_view_arrays s.chunks) };
 }
 
 impl Series {
@@ -81,7 +81,7 @@ impl Series {
     /// The chunks, by the type that the values are stored as.
     pub fn chunks(&self) -> &Chunks
         ensures lists { chunk_lists result.now ≡ self.now.chunks }
-        ensures runs { chunk_runs result.now ≡ self.now.runs }
+        ensures view_arrays { chunk_view_arrays result.now ≡ self.now.view_arrays }
         ensures storage { storage result.now ≡ physical self.now.kind }
     {
         &self.chunks
@@ -120,8 +120,8 @@ impl Series {
     pub fn len(&self) -> usize
         ensures len { result ≡ length (values self.now) }
         ensures column { IsColumn self.now }
-        ensures viewed { AreViewed self.now.chunks self.now.runs }
-        ensures few_buffers { HaveFewBuffers self.now.runs }
+        ensures viewed { AreViewed self.now.chunks self.now.view_arrays }
+        ensures few_buffers { HaveFewBuffers self.now.view_arrays }
     {
         self.chunks.rows()
     }
@@ -137,7 +137,7 @@ impl Series {
     /// The value of a row, lent. Its steps are at most the number of chunks.
     pub fn get(&self, row: usize) -> ValueRef<'_>
         requires { row < length (values self.now) }
-        ensures value { lent result ≡ get_or (values self.now) row null }
+        ensures value { lent_value result ≡ get_or (values self.now) row null }
         ensures text { IsText result }
     {
         self.chunks.value(row)
@@ -182,10 +182,10 @@ impl Series {
     }
 
     pub(crate) fn into_parts(self) -> (PlSmallStr, DataType, Chunks, IsSorted)
-        ensures view { self ≡ record { name = result.0; kind = kind_of result.1; chunks = chunk_lists result.2; flag = result.3; runs = chunk_runs result.2 } }
+        ensures view { self ≡ record { name = result.0; kind = kind_of result.1; chunks = chunk_lists result.2; flag = result.3; view_arrays = chunk_view_arrays result.2 } }
         ensures storage { storage result.2 ≡ physical (kind_of result.1) }
         ensures column { IsColumn self }
-        ensures few_buffers { HaveFewBuffers self.runs }
+        ensures few_buffers { HaveFewBuffers self.view_arrays }
     {
         let Series {
             name,
@@ -200,9 +200,9 @@ impl Series {
     /// than one, their buffers together number fewer than 2^32, which `Chunks::has_few_buffers` tells.
     pub fn from_parts(name: PlSmallStr, dtype: DataType, chunks: Chunks, flag: IsSorted) -> Series
         requires storage { storage chunks ≡ physical (kind_of dtype) }
-        requires column { IsColumn record { name = name; kind = kind_of dtype; chunks = chunk_lists chunks; flag = flag; runs = chunk_runs chunks } }
-        requires few_buffers { 1 < length (chunk_lists chunks) → HaveFewBuffers (chunk_runs chunks) }
-        ensures { result ≡ record { name = name; kind = kind_of dtype; chunks = chunk_lists chunks; flag = flag; runs = chunk_runs chunks } }
+        requires column { IsColumn record { name = name; kind = kind_of dtype; chunks = chunk_lists chunks; flag = flag; view_arrays = chunk_view_arrays chunks } }
+        requires few_buffers { 1 < length (chunk_lists chunks) → HaveFewBuffers (chunk_view_arrays chunks) }
+        ensures { result ≡ record { name = name; kind = kind_of dtype; chunks = chunk_lists chunks; flag = flag; view_arrays = chunk_view_arrays chunks } }
     {
         Series {
             name,

@@ -2,10 +2,10 @@
 ghost use Rattle.std.specs.Prelude.{◌≡◌, ◌<◌, ◌≤◌, ◌∷◌, [], IfOk, length, map};
 ghost use Rattle.std.specs.List.{All};
 ghost use Rattle.tb_value.specs.declared.sorted.IsSorted.TheVariants.{Not};
-ghost use Rattle.tb_chunk.specs.Changed.{opt_taken, taken};
+ghost use Rattle.tb_chunk.specs.Changed.{opt_taken_rows, taken_rows};
 ghost use Rattle.tb_chunk.specs.Col.{values};
 ghost use Rattle.tb_chunk.specs.Rows.{IsRowOf, value_or_null};
-ghost use Rattle.tb_chunk.specs.Whole.{picked_of, whole};
+ghost use Rattle.tb_chunk.specs.ViewArrays.{picked_of, joined_view_array};
 
 use crate::column::Column;
 use crate::series::Series;
@@ -19,7 +19,7 @@ impl Series {
     pub fn take(&self, alloc: Global, rows: &[IdxSize]) -> Result<Series, OutOfMemory>
         requires rows { All (λ r. r < length (values self.now)) rows.now }
         requires few { length rows.now ≤ MAX_ROWS }
-        ensures { IfOk result (λ s. s ≡ taken rows.now self.now) }
+        ensures { IfOk result (λ s. s ≡ taken_rows rows.now self.now) }
     {
         self.picked(alloc, rows)
     }
@@ -28,7 +28,7 @@ impl Series {
     pub fn take_opt(&self, alloc: Global, rows: &[NullableIdxSize]) -> Result<Series, OutOfMemory>
         requires rows { All (IsRowOf (length (values self.now))) rows.now }
         requires few { length rows.now ≤ MAX_ROWS }
-        ensures { IfOk result (λ s. s ≡ opt_taken rows.now self.now) }
+        ensures { IfOk result (λ s. s ≡ opt_taken_rows rows.now self.now) }
     {
         self.picked(alloc, rows)
     }
@@ -39,7 +39,7 @@ impl Series {
         ensures { IfOk result (λ s. s ≡ record self.now {
           chunks = map (λ r. value_or_null (values self.now) (R.number r)) rows.now ∷ [];
           flag = Not;
-          runs = picked_of R.number rows.now (whole self.now.runs) ∷ [];
+          view_arrays = picked_of R.number rows.now (joined_view_array self.now.view_arrays) ∷ [];
         }) }
     {
         let _len = self.len();
@@ -55,7 +55,7 @@ impl Column {
     pub fn take(&self, alloc: Global, rows: &[IdxSize]) -> Result<Column, OutOfMemory>
         requires rows { All (λ r. r < length (values self.now)) rows.now }
         requires few { length rows.now ≤ MAX_ROWS }
-        ensures { IfOk result (λ c. c ≡ taken rows.now self.now) }
+        ensures { IfOk result (λ c. c ≡ taken_rows rows.now self.now) }
     {
         let series = self.as_materialized_series().take(alloc, rows)?;
         Ok(series.into_column())
@@ -65,7 +65,7 @@ impl Column {
     pub fn take_opt(&self, alloc: Global, rows: &[NullableIdxSize]) -> Result<Column, OutOfMemory>
         requires rows { All (IsRowOf (length (values self.now))) rows.now }
         requires few { length rows.now ≤ MAX_ROWS }
-        ensures { IfOk result (λ c. c ≡ opt_taken rows.now self.now) }
+        ensures { IfOk result (λ c. c ≡ opt_taken_rows rows.now self.now) }
     {
         let series = self.as_materialized_series().take_opt(alloc, rows)?;
         Ok(series.into_column())

@@ -7,12 +7,12 @@ ghost use Rattle.tb_value.specs.Typed.{HasType, IsBytes};
 ghost use Rattle.tb_value.specs.declared.sorted.IsSorted.TheVariants.{Not};
 ghost use Rattle.tb_chunk.specs.Chunk.{or_null};
 ghost use Rattle.tb_chunk.specs.Physical.{kind_for};
-ghost use Rattle.tb_chunk.specs.Runs.{chunk_runs};
+ghost use Rattle.tb_chunk.specs.ChunkViewArrays.{chunk_view_arrays};
 ghost use Rattle.tb_chunk.specs.Seen.{chunk_lists, storage};
 ghost use Rattle.tb_value.specs.Texts.{IsUtf8Row};
 ghost use Rattle.tb_chunk.specs.TextValues.{text_values};
 ghost use Rattle.tb_chunk.specs.View.{row_text, texts, IsViewOrNone};
-ghost use Rattle.tb_chunk.specs.Whole.{run_at};
+ghost use Rattle.tb_chunk.specs.ViewArrays.{view_array_at};
 
 use crate::chunked_array::ChunkedArray;
 use crate::column::Column;
@@ -61,7 +61,7 @@ fn text_chunks(
     requires utf8 { kind_for stored ≡ kind.string → All IsUtf8Row (texts buffers.items views.items) }
     ensures lists { IfOk result (λ c. chunk_lists c ≡ text_values (kind_for stored) (texts buffers.items views.items) ∷ []) }
     ensures storage { IfOk result (λ c. storage c ≡ kind_for stored) }
-    ensures runs { IfOk result (λ c. chunk_runs c ≡ record { views = views.items; buffers = buffers.items } ∷ []) }
+    ensures view_arrays { IfOk result (λ c. chunk_view_arrays c ≡ record { views = views.items; buffers = buffers.items } ∷ []) }
 {
     match stored {
         Physical::String => {
@@ -98,7 +98,7 @@ impl Series {
           kind = kind_of dtype;
           chunks = text_values (kind_of dtype) (texts buffers.items views.items) ∷ [];
           flag = Not;
-          runs = record { views = views.items; buffers = buffers.items } ∷ [];
+          view_arrays = record { views = views.items; buffers = buffers.items } ∷ [];
         }) }
     {
         read_texts(&views, &buffers);
@@ -111,11 +111,11 @@ impl Series {
     pub fn views(&self, chunk: usize) -> &[Option<View>]
         requires text { (self.now.kind ≡ kind.string) ⊎ (self.now.kind ≡ kind.binary) }
         requires chunk { chunk < length self.now.chunks }
-        ensures views { result.now ≡ (run_at self.now.runs chunk).views }
-        ensures formed { All (IsViewOrNone (run_at self.now.runs chunk).buffers) result.now }
-        ensures texts { slice_index_or self.now.chunks chunk [] ≡ text_values self.now.kind (texts (run_at self.now.runs chunk).buffers result.now) }
+        ensures views { result.now ≡ (view_array_at self.now.view_arrays chunk).views }
+        ensures formed { All (IsViewOrNone (view_array_at self.now.view_arrays chunk).buffers) result.now }
+        ensures texts { slice_index_or self.now.chunks chunk [] ≡ text_values self.now.kind (texts (view_array_at self.now.view_arrays chunk).buffers result.now) }
         ensures few { length result.now ≤ MAX_ROWS }
-        ensures utf8 { self.now.kind ≡ kind.string → All IsUtf8Row (texts (run_at self.now.runs chunk).buffers result.now) }
+        ensures utf8 { self.now.kind ≡ kind.string → All IsUtf8Row (texts (view_array_at self.now.view_arrays chunk).buffers result.now) }
     {
         self.chunks.views(chunk)
     }
@@ -124,7 +124,7 @@ impl Series {
     pub fn data_buffers(&self, chunk: usize) -> &[Bytes]
         requires text { (self.now.kind ≡ kind.string) ⊎ (self.now.kind ≡ kind.binary) }
         requires chunk { chunk < length self.now.chunks }
-        ensures buffers { result.now ≡ (run_at self.now.runs chunk).buffers }
+        ensures buffers { result.now ≡ (view_array_at self.now.view_arrays chunk).buffers }
         ensures few { length result.now < 2 ^ 32 }
     {
         self.chunks.data_buffers(chunk)
@@ -136,11 +136,11 @@ impl Column {
     pub fn views(&self, chunk: usize) -> &[Option<View>]
         requires text { (self.now.kind ≡ kind.string) ⊎ (self.now.kind ≡ kind.binary) }
         requires chunk { chunk < length self.now.chunks }
-        ensures views { result.now ≡ (run_at self.now.runs chunk).views }
-        ensures formed { All (IsViewOrNone (run_at self.now.runs chunk).buffers) result.now }
-        ensures texts { slice_index_or self.now.chunks chunk [] ≡ text_values self.now.kind (texts (run_at self.now.runs chunk).buffers result.now) }
+        ensures views { result.now ≡ (view_array_at self.now.view_arrays chunk).views }
+        ensures formed { All (IsViewOrNone (view_array_at self.now.view_arrays chunk).buffers) result.now }
+        ensures texts { slice_index_or self.now.chunks chunk [] ≡ text_values self.now.kind (texts (view_array_at self.now.view_arrays chunk).buffers result.now) }
         ensures few { length result.now ≤ MAX_ROWS }
-        ensures utf8 { self.now.kind ≡ kind.string → All IsUtf8Row (texts (run_at self.now.runs chunk).buffers result.now) }
+        ensures utf8 { self.now.kind ≡ kind.string → All IsUtf8Row (texts (view_array_at self.now.view_arrays chunk).buffers result.now) }
     {
         self.as_materialized_series().views(chunk)
     }
@@ -149,7 +149,7 @@ impl Column {
     pub fn data_buffers(&self, chunk: usize) -> &[Bytes]
         requires text { (self.now.kind ≡ kind.string) ⊎ (self.now.kind ≡ kind.binary) }
         requires chunk { chunk < length self.now.chunks }
-        ensures buffers { result.now ≡ (run_at self.now.runs chunk).buffers }
+        ensures buffers { result.now ≡ (view_array_at self.now.view_arrays chunk).buffers }
         ensures few { length result.now < 2 ^ 32 }
     {
         self.as_materialized_series().data_buffers(chunk)
@@ -160,11 +160,11 @@ impl ChunkedArray<StringType> {
     /// As `Series::views`.
     pub fn views(&self, chunk: usize) -> &[Option<View>]
         requires { chunk < length self.now.chunks }
-        ensures views { result.now ≡ (run_at self.now.runs chunk).views }
-        ensures formed { All (IsViewOrNone (run_at self.now.runs chunk).buffers) result.now }
-        ensures texts { slice_index_or self.now.chunks chunk [] ≡ map (or_null string) (texts (run_at self.now.runs chunk).buffers result.now) }
+        ensures views { result.now ≡ (view_array_at self.now.view_arrays chunk).views }
+        ensures formed { All (IsViewOrNone (view_array_at self.now.view_arrays chunk).buffers) result.now }
+        ensures texts { slice_index_or self.now.chunks chunk [] ≡ map (or_null string) (texts (view_array_at self.now.view_arrays chunk).buffers result.now) }
         ensures few { length result.now ≤ MAX_ROWS }
-        ensures utf8 { All IsUtf8Row (texts (run_at self.now.runs chunk).buffers result.now) }
+        ensures utf8 { All IsUtf8Row (texts (view_array_at self.now.view_arrays chunk).buffers result.now) }
     {
         self.chunks[chunk].views()
     }
@@ -172,7 +172,7 @@ impl ChunkedArray<StringType> {
     /// As `Series::data_buffers`.
     pub fn data_buffers(&self, chunk: usize) -> &[Bytes]
         requires { chunk < length self.now.chunks }
-        ensures buffers { result.now ≡ (run_at self.now.runs chunk).buffers }
+        ensures buffers { result.now ≡ (view_array_at self.now.view_arrays chunk).buffers }
         ensures few { length result.now < 2 ^ 32 }
     {
         self.chunks[chunk].buffers()
@@ -183,9 +183,9 @@ impl ChunkedArray<BinaryType> {
     /// As `Series::views`.
     pub fn views(&self, chunk: usize) -> &[Option<View>]
         requires { chunk < length self.now.chunks }
-        ensures views { result.now ≡ (run_at self.now.runs chunk).views }
-        ensures formed { All (IsViewOrNone (run_at self.now.runs chunk).buffers) result.now }
-        ensures texts { slice_index_or self.now.chunks chunk [] ≡ map (or_null binary) (texts (run_at self.now.runs chunk).buffers result.now) }
+        ensures views { result.now ≡ (view_array_at self.now.view_arrays chunk).views }
+        ensures formed { All (IsViewOrNone (view_array_at self.now.view_arrays chunk).buffers) result.now }
+        ensures texts { slice_index_or self.now.chunks chunk [] ≡ map (or_null binary) (texts (view_array_at self.now.view_arrays chunk).buffers result.now) }
         ensures few { length result.now ≤ MAX_ROWS }
     {
         self.chunks[chunk].views()
@@ -194,7 +194,7 @@ impl ChunkedArray<BinaryType> {
     /// As `Series::data_buffers`.
     pub fn data_buffers(&self, chunk: usize) -> &[Bytes]
         requires { chunk < length self.now.chunks }
-        ensures buffers { result.now ≡ (run_at self.now.runs chunk).buffers }
+        ensures buffers { result.now ≡ (view_array_at self.now.view_arrays chunk).buffers }
         ensures few { length result.now < 2 ^ 32 }
     {
         self.chunks[chunk].buffers()

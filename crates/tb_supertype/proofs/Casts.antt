@@ -16,7 +16,7 @@ use Rattle.tb_label.specs.Label.{truth_text}
 use Rattle.tb_supertype.specs.Cast.{cast, cast_to, truth_number}
 use Rattle.tb_supertype.specs.Laws.{CastTyped, CastsOn, Symmetric}
 use Rattle.tb_supertype.specs.Lines.{same_answer}
-use Rattle.tb_supertype.specs.Supertype.{class_of, common, supertype}
+use Rattle.tb_supertype.specs.Supertype.{class_of, common_by_class, supertype}
 use Rattle.tb_supertype.specs.declared.class.Class.{Class}
 use Rattle.tb_supertype.specs.declared.class.Class.TheVariants.{Nothing, Truth, Signed, Unsigned, Text, Other}
 use Rattle.tb_supertype.proofs.Wholes.{is_whole, whole_common, whole_turned, has_truths, is_bounded}
@@ -276,7 +276,7 @@ unsigned t n e = rw e refl
 wholes_on : (t u s : Kind) → is_whole (class_of t) ≡ true → is_whole (class_of u) ≡ true → supertype t u ≡ Some s → (v : Datum) → HasType t (cast t v) → HasType s (cast s v)
 wholes_on t u s w x e v h = whole_to_whole t u s w x e v (cast_scalar t v w h) h
 
-common_on : (a b : Class) (t u s : Kind) → class_of t ≡ a → class_of u ≡ b → common t u a b ≡ Some s → supertype t u ≡ Some s → (v : Datum) → HasType t (cast t v) → HasType s (cast s v)
+common_on : (a b : Class) (t u s : Kind) → class_of t ≡ a → class_of u ≡ b → common_by_class t u a b ≡ Some s → supertype t u ≡ Some s → (v : Datum) → HasType t (cast t v) → HasType s (cast s v)
 common_on Nothing b t u s p q e f v h = the_same u s v e (null_to_any u v (fits_at t Nothing v p h))
 common_on a Nothing t u s p q e f v h = the_same t s v e h
 common_on (Signed m) (Signed n) t u s p q e f v h = wholes_on t u s (signed t m p) (signed u n q) f v h
@@ -298,7 +298,7 @@ common_on (Unsigned m) Text t u s p q e f v h =
 common_on _ _ t u s p q e f v h = absurd (cc)
 
 -- of equal types one of them, else what their classes say
-by_sameness : (t u : Kind) (b : Bool) → same_kind t u ≡ b → ((b ≡ true) × (t ≡ u) × (supertype t u ≡ Some t)) ⊎ ((b ≡ false) × (supertype t u ≡ common t u (class_of t) (class_of u)))
+by_sameness : (t u : Kind) (b : Bool) → same_kind t u ≡ b → ((b ≡ true) × (t ≡ u) × (supertype t u ≡ Some t)) ⊎ ((b ≡ false) × (supertype t u ≡ common_by_class t u (class_of t) (class_of u)))
 by_sameness t u true e = inl (refl, (same_kind-Decides t u).0 e, rw e refl)
 by_sameness t u false e = inr (refl, rw e refl)
 
@@ -317,7 +317,7 @@ some_kinds (Some t) (Some u) h = ap Some ((same_kind-Decides t u).0 h)
 some_kinds None (Some u) h = absurd (false≢true h)
 some_kinds (Some t) None h = absurd (false≢true h)
 
-common_turned : (a b : Class) (t u : Kind) → class_of t ≡ a → class_of u ≡ b → supertype t u ≡ common t u a b → supertype u t ≡ common u t b a → supertype t u ≡ supertype u t
+common_turned : (a b : Class) (t u : Kind) → class_of t ≡ a → class_of u ≡ b → supertype t u ≡ common_by_class t u a b → supertype u t ≡ common_by_class u t b a → supertype t u ≡ supertype u t
 common_turned Nothing Nothing t u p q e f =
     let same : t ≡ u = by_class t ∙ ap (λ (c : Class). kind_for c t) p ∙ sym (by_class u ∙ ap (λ (c : Class). kind_for c u) q) in
     e ∙ ap Some (sym same) ∙ sym f

@@ -9,10 +9,10 @@ use Rattle.tb_value.specs.Kind.{Kind}
 use Rattle.tb_value.specs.Kind as kind
 use Rattle.tb_value.specs.Typed.{HasType}
 use Rattle.tb_value.specs.declared.limits.TheConstants.{MAX_ROWS}
-use Rattle.tb_chunk.specs.Col.{Col, IsColumn, flat, physical, values}
+use Rattle.tb_chunk.specs.Col.{Col, IsColumn, concatenation, physical, values}
 use Rattle.tb_chunk.specs.Fits.{Fits}
 use Rattle.tb_chunk.specs.Made.{at_least_one}
-use Rattle.tb_chunk.specs.Whole.{ViewRun}
+use Rattle.tb_chunk.specs.ViewArrays.{ViewArray}
 use Rattle.tb_value.specs.declared.sorted.IsSorted.TheVariants.{Not}
 use Rattle.tb_chunk.proofs.Fitting.{fits_stored, null-only}
 use Rattle.tb_chunk.proofs.Lists.{All-map-at, replicate-nulls}
@@ -26,21 +26,21 @@ only_nulls t c n e k all =
     ap (λ m. replicate m null) (k ∙ sym (length-map (values c) (cast t)))
     ∙ replicate-nulls (cast_values t c) (All-weaker (Fits kind.null) (λ v. v ≡ null) null-only (cast_values t c) (fits_stored t kind.null (cast_values t c) e all))
 
-stacked_lengths : (t : Kind) (cs : List (Bor Col)) → length (flat (map (λ (c : Bor Col). cast_values t c.now) cs)) ≡ length (flat (map (λ (c : Bor Col). values c.now) cs))
+stacked_lengths : (t : Kind) (cs : List (Bor Col)) → length (concatenation (map (λ (c : Bor Col). cast_values t c.now) cs)) ≡ length (concatenation (map (λ (c : Bor Col). values c.now) cs))
 stacked_lengths t [] = refl
-stacked_lengths t (c ∷ cs) = omega (arith, length-append (cast_values t c.now) (flat (map (λ (d : Bor Col). cast_values t d.now) cs)), length-append (values c.now) (flat (map (λ (d : Bor Col). values d.now) cs)), length-map (values c.now) (cast t), stacked_lengths t cs)
+stacked_lengths t (c ∷ cs) = omega (arith, length-append (cast_values t c.now) (concatenation (map (λ (d : Bor Col). cast_values t d.now) cs)), length-append (values c.now) (concatenation (map (λ (d : Bor Col). values d.now) cs)), length-map (values c.now) (cast t), stacked_lengths t cs)
 
-stacked_typed : (t : Kind) (cs : List (Bor Col)) → All (λ (c : Bor Col). CastsTo t c.now) cs → All (HasType t) (flat (map (λ (c : Bor Col). cast_values t c.now) cs))
+stacked_typed : (t : Kind) (cs : List (Bor Col)) → All (λ (c : Bor Col). CastsTo t c.now) cs → All (HasType t) (concatenation (map (λ (c : Bor Col). cast_values t c.now) cs))
 stacked_typed t [] all = λ i d h. absurd (omega arith)
 stacked_typed t (c ∷ cs) all =
     let P : Bor Col → Type 0 = λ b. CastsTo t b.now in
-    All-append (HasType t) (cast_values t c.now) (flat (map (λ (d : Bor Col). cast_values t d.now) cs)) (All-head P c cs all) (stacked_typed t cs (All-tail P c cs all))
+    All-append (HasType t) (cast_values t c.now) (concatenation (map (λ (d : Bor Col). cast_values t d.now) cs)) (All-head P c cs all) (stacked_typed t cs (All-tail P c cs all))
 
 pub stacked-again : (t : Kind) (cs : List (Bor Col)) → map (λ (c : Bor Col). cast_values t c.now) cs ≡ map (cast_values t) (map (λ (c : Bor Col). c.now) cs)
 stacked-again t [] = refl
 stacked-again t (c ∷ cs) = ap (λ l. cast_values t c.now ∷ l) (stacked-again t cs)
 
-pub flat-at_least_one : (cs : List (List Datum)) → flat (at_least_one cs) ≡ flat cs
+pub flat-at_least_one : (cs : List (List Datum)) → concatenation (at_least_one cs) ≡ concatenation cs
 flat-at_least_one [] = refl
 flat-at_least_one (c ∷ cs) = refl
 
@@ -48,7 +48,7 @@ length-at_least_one : (cs : List (List Datum)) → 0 < length (at_least_one cs)
 length-at_least_one [] = omega arith
 length-at_least_one (c ∷ cs) = omega arith
 
-pub stacked_column : (n : List ℕ) (t : Kind) (cs : List (Bor Col)) (runs : List ViewRun) → length (flat (map (λ (c : Bor Col). values c.now) cs)) ≤ MAX_ROWS → All (λ (c : Bor Col). CastsTo t c.now) cs → IsColumn record { name = n; kind = t; chunks = at_least_one (map (cast_values t) (map (λ (c : Bor Col). c.now) cs)); flag = Not; runs = runs }
+pub stacked_column : (n : List ℕ) (t : Kind) (cs : List (Bor Col)) (runs : List ViewArray) → length (concatenation (map (λ (c : Bor Col). values c.now) cs)) ≤ MAX_ROWS → All (λ (c : Bor Col). CastsTo t c.now) cs → IsColumn record { name = n; kind = t; chunks = at_least_one (map (cast_values t) (map (λ (c : Bor Col). c.now) cs)); flag = Not; view_arrays = runs }
 stacked_column n t cs runs few typed =
     let e = stacked-again t cs in
     record {

@@ -26,34 +26,34 @@ abbrev pub signed_kind : ℕ → Kind
 signed_kind n = (if nat_lt 64 n then int128 else (if nat_lt 32 n then int64 else (if nat_lt 16 n then int32 else (if nat_lt 8 n then int16 else int8))))
 
 -- of two types of m and n bits, the one of more bits
-abbrev pub wider : Kind → Kind → ℕ → ℕ → Kind
-wider t u m n = (if nat_lt m n then u else t)
+abbrev pub wider_kind : Kind → Kind → ℕ → ℕ → Kind
+wider_kind t u m n = (if nat_lt m n then u else t)
 
 -- the type of signed numbers of s bits and unsigned ones of u bits, which have one bit more with a sign.
 -- Those of 64 bits fit no signed type but that of 128, and take it only where it is there
-abbrev pub mixed : ℕ → ℕ → Option Kind
-mixed s u = (if s == 128 then Some int128 else (if u == 64 then None else Some (signed_kind (max s (2 * u)))))
+abbrev pub mixed_kind : ℕ → ℕ → Option Kind
+mixed_kind s u = (if s == 128 then Some int128 else (if u == 64 then None else Some (signed_kind (max s (2 * u)))))
 
 -- of two types that differ: the other one of Null; whole numbers of Boolean; String of Boolean or whole numbers;
 -- and whole numbers by their bits
-abbrev pub common : Kind → Kind → Class → Class → Option Kind
-common t u Nothing _ = Some u
-common t u _ Nothing = Some t
-common t u (Signed m) (Signed n) = Some (wider t u m n)
-common t u (Unsigned m) (Unsigned n) = Some (wider t u m n)
-common t u (Signed m) (Unsigned n) = mixed m n
-common t u (Unsigned m) (Signed n) = mixed n m
-common t u Truth (Signed n) = Some u
-common t u Truth (Unsigned n) = Some u
-common t u Truth Text = Some u
-common t u (Signed m) Truth = Some t
-common t u (Unsigned m) Truth = Some t
-common t u Text Truth = Some t
-common t u (Signed m) Text = Some u
-common t u (Unsigned m) Text = Some u
-common t u Text (Signed n) = Some t
-common t u Text (Unsigned n) = Some t
-common t u _ _ = None
+abbrev pub common_by_class : Kind → Kind → Class → Class → Option Kind
+common_by_class t u Nothing _ = Some u
+common_by_class t u _ Nothing = Some t
+common_by_class t u (Signed m) (Signed n) = Some (wider_kind t u m n)
+common_by_class t u (Unsigned m) (Unsigned n) = Some (wider_kind t u m n)
+common_by_class t u (Signed m) (Unsigned n) = mixed_kind m n
+common_by_class t u (Unsigned m) (Signed n) = mixed_kind n m
+common_by_class t u Truth (Signed n) = Some u
+common_by_class t u Truth (Unsigned n) = Some u
+common_by_class t u Truth Text = Some u
+common_by_class t u (Signed m) Truth = Some t
+common_by_class t u (Unsigned m) Truth = Some t
+common_by_class t u Text Truth = Some t
+common_by_class t u (Signed m) Text = Some u
+common_by_class t u (Unsigned m) Text = Some u
+common_by_class t u Text (Signed n) = Some t
+common_by_class t u Text (Unsigned n) = Some t
+common_by_class t u _ _ = None
 
 abbrev pub supertype : Kind → Kind → Option Kind
-supertype t u = (if same_kind t u then Some t else common t u (class_of t) (class_of u))
+supertype t u = (if same_kind t u then Some t else common_by_class t u (class_of t) (class_of u))

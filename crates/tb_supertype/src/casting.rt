@@ -4,11 +4,11 @@ ghost use Rattle.std.specs.List.{All};
 ghost use Rattle.std.specs.Str.{IsUtf8};
 ghost use Rattle.tb_value.specs.Datum.{binary, null, string};
 ghost use Rattle.tb_value.specs.Kind as kind;
-ghost use Rattle.tb_value.specs.See.{datum, lent, IsText};
+ghost use Rattle.tb_value.specs.See.{datum, lent_value, IsText};
 ghost use Rattle.tb_value.specs.SeeKind.{kind_of};
 ghost use Rattle.tb_value.specs.Typed.{HasType};
 ghost use Rattle.tb_chunk.specs.Chunk.{or_null};
-ghost use Rattle.tb_chunk.specs.Col.{physical, values, flat};
+ghost use Rattle.tb_chunk.specs.Col.{physical, values, concatenation};
 ghost use Rattle.tb_chunk.specs.Fits.{Fits};
 ghost use Rattle.tb_chunk.specs.Lent.{lent_columns};
 ghost use Rattle.tb_chunk.specs.Made.{at_least_one};
@@ -36,7 +36,7 @@ fn truth_number(value: bool) -> i128
 // The value cast to a type of the class.
 fn cast_value(alloc: Global, class: Class, value: ValueRef<'_>) -> Result<AnyValue, OutOfMemory>
     requires { IsText value }
-    ensures { IfOk result (λ v. datum v ≡ cast_to class (lent value.entry)) }
+    ensures { IfOk result (λ v. datum v ≡ cast_to class (lent_value value.entry)) }
 {
     match (class, value) {
         (Class::Text, ValueRef::Int(_) | ValueRef::Boolean(_)) => Ok(AnyValue::String(value_text(
@@ -55,8 +55,8 @@ fn cell_of<N: Cell>(
     value: ValueRef<'_>,
 ) -> Result<Option<N>, OutOfMemory>
     requires text { IsText value }
-    requires fits { Fits N.kind (cast_to class (lent value)) }
-    ensures { IfOk result (λ c. or_null N.shows c ≡ cast_to class (lent value.entry)) }
+    requires fits { Fits N.kind (cast_to class (lent_value value)) }
+    ensures { IfOk result (λ c. or_null N.shows c ≡ cast_to class (lent_value value.entry)) }
 {
     let cast = cast_value(alloc, class, value)?;
     match cast {
@@ -100,8 +100,8 @@ fn push_cast(
     value: ValueRef<'_>,
 ) -> Result<(), OutOfMemory>
     requires text { IsText value }
-    requires fits { Fits kind.string (cast kind.string (lent value)) }
-    ensures { OnOk result (map (or_null string) builder.new.rows ≡ map (or_null string) builder.old.rows ++ cast kind.string (lent value.entry) ∷ []) }
+    requires fits { Fits kind.string (cast kind.string (lent_value value)) }
+    ensures { OnOk result (map (or_null string) builder.new.rows ≡ map (or_null string) builder.old.rows ++ cast kind.string (lent_value value.entry) ∷ []) }
 {
     match value {
         ValueRef::Null => builder.push_null(),
@@ -131,8 +131,8 @@ fn push_bytes(
     builder: &mut BinaryBuilder,
     value: ValueRef<'_>,
 ) -> Result<(), OutOfMemory>
-    requires { Fits kind.binary (lent value) }
-    ensures { OnOk result (map (or_null binary) builder.new.rows ≡ map (or_null binary) builder.old.rows ++ lent value.entry ∷ []) }
+    requires { Fits kind.binary (lent_value value) }
+    ensures { OnOk result (map (or_null binary) builder.new.rows ≡ map (or_null binary) builder.old.rows ++ lent_value value.entry ∷ []) }
 {
     match value {
         ValueRef::Null => builder.push_null(),
@@ -325,7 +325,7 @@ pub fn stack(
     dtype: DataType,
     columns: &[&Series],
 ) -> Result<Series, OutOfMemory>
-    requires few { length (flat (map (λ c. values c.now) columns.now)) ≤ MAX_ROWS }
+    requires few { length (concatenation (map (λ c. values c.now) columns.now)) ≤ MAX_ROWS }
     requires typed { All (λ c. CastsTo (kind_of dtype) c.now) columns.now }
     ensures { IfOk result (IsStacked name (kind_of dtype) (lent_columns columns.now)) }
 {

@@ -1,7 +1,7 @@
 //! The type that two types have in common.
 ghost use Rattle.std.specs.Prelude.{◌≡◌, ◌≤◌, IfOk, Some, option_map};
 ghost use Rattle.tb_value.specs.SeeKind.{kind_of};
-ghost use Rattle.tb_supertype.specs.Supertype.{signed_kind, mixed, wider, common, class_of, supertype};
+ghost use Rattle.tb_supertype.specs.Supertype.{signed_kind, mixed_kind, wider_kind, common_by_class, class_of, supertype};
 
 use crate::class::{Class, class_of};
 use std::alloc::Global;
@@ -27,7 +27,7 @@ fn signed_type(bits: u32) -> DataType
 // The common type of signed and unsigned numbers of so many bits.
 fn mixed(signed: u32, unsigned: u32) -> Option<DataType>
     requires { unsigned ≤ 128 }
-    ensures { option_map kind_of result ≡ mixed signed unsigned }
+    ensures { option_map kind_of result ≡ mixed_kind signed unsigned }
 {
     if signed == 128 {
         return Some(DataType::Int128);
@@ -40,7 +40,7 @@ fn mixed(signed: u32, unsigned: u32) -> Option<DataType>
 
 // Of two types of whole numbers with one kind of sign, the one of more bits.
 fn wider<'a>(first: &'a DataType, second: &'a DataType, bits: u32, other_bits: u32) -> &'a DataType
-    ensures { kind_of result.now ≡ wider (kind_of first.now) (kind_of second.now) bits other_bits }
+    ensures { kind_of result.now ≡ wider_kind (kind_of first.now) (kind_of second.now) bits other_bits }
 {
     if bits < other_bits { second } else { first }
 }
@@ -57,7 +57,7 @@ fn common(
     first: &DataType,
     second: &DataType,
 ) -> Result<Option<DataType>, OutOfMemory>
-    ensures { IfOk result (λ o. option_map kind_of o ≡ common (kind_of first.now) (kind_of second.now) (class_of (kind_of first.now)) (class_of (kind_of second.now))) }
+    ensures { IfOk result (λ o. option_map kind_of o ≡ common_by_class (kind_of first.now) (kind_of second.now) (class_of (kind_of first.now)) (class_of (kind_of second.now))) }
 {
     match (class_of(first), class_of(second)) {
         (Class::Nothing, _) => copied(alloc, second),

@@ -3,7 +3,7 @@ use Rattle.std.proofs.Common.{arith, ◌≡◌, ◌∙◌, ℕ, List, [], ◌∷
 use Rattle.std.proofs.lemmas.List.{length-map}
 use Rattle.tb_value.specs.declared.sorted.IsSorted.TheVariants.{Not}
 use Rattle.tb_chunk.specs.Col.{Col}
-use Rattle.tb_chunk.specs.Whole.{AreViewed, ViewRun, run_at}
+use Rattle.tb_chunk.specs.ViewArrays.{AreViewed, ViewArray, view_array_at}
 
 only : {X : Type 0} (xs : List X) (d : X) → length xs ≡ 1 → get_or xs 0 d ∷ [] ≡ xs
 only [] d one = absurd (omega (arith, one))
@@ -11,10 +11,10 @@ only (x ∷ []) d one = refl
 only (x ∷ y ∷ ys) d one = absurd (omega (arith, one))
 
 -- the first chunk is the column
-pub first_alone : (c : Col) → length c.chunks ≡ 1 → AreViewed c.chunks c.runs → c.flag ≡ Not → record c { chunks = get_or c.chunks 0 [] ∷ []; flag = Not; runs = run_at c.runs 0 ∷ [] } ≡ c
+pub first_alone : (c : Col) → length c.chunks ≡ 1 → AreViewed c.chunks c.view_arrays → c.flag ≡ Not → record c { chunks = get_or c.chunks 0 [] ∷ []; flag = Not; view_arrays = view_array_at c.view_arrays 0 ∷ [] } ≡ c
 first_alone c one viewed not =
     let chunk = only c.chunks [] one in
-    let count : length c.runs ≡ 1 = sym (length-map c.runs (λ r. length r.views)) ∙ (ap (λ (ns : List ℕ). length ns) viewed ∙ (length-map c.chunks (λ vs. length vs) ∙ one)) in
-    let run = only c.runs (record { views = []; buffers = [] }) count in
+    let count : length c.view_arrays ≡ 1 = sym (length-map c.view_arrays (λ r. length r.views)) ∙ (ap (λ (ns : List ℕ). length ns) viewed ∙ (length-map c.chunks (λ vs. length vs) ∙ one)) in
+    let run = only c.view_arrays (record { views = []; buffers = [] }) count in
     let flag = sym not in
-    λ i. record c { chunks = chunk i; flag = flag i; runs = run i }
+    λ i. record c { chunks = chunk i; flag = flag i; view_arrays = run i }

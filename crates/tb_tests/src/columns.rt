@@ -47,7 +47,7 @@ fn check_merged(
     if !same_types(first.dtype(), second.dtype()) || first.len() != second.len() {
         return Err(Fail::from("two columns of other types or lengths"));
     }
-    let merged = first.merged(alloc, second)?;
+    let merged = first.coalesce(alloc, second)?;
     assert_eq!(rt; merged.len(), 2);
     assert!(rt; same_value(merged.get(0), value.as_ref()));
     assert!(rt; same_value(merged.get(1), value.as_ref()));

@@ -18,11 +18,11 @@ struct Given {
 
 impl PhysicalAggExpr for Given {
     ghost use Rattle.std.specs.Prelude.{Ok};
-    ghost use Rattle.tb_frame.specs.Table.{plain};
+    ghost use Rattle.tb_frame.specs.Table.{plain_column};
 
     ghost named = { λ given. Ok given.name };
 
-    ghost answers = { λ given table firsts numbers. Ok (plain given.column) };
+    ghost answers = { λ given table firsts numbers. Ok (plain_column given.column) };
 
     fn root_name(&self) -> Result<&PlSmallStr, ExprFault> {
         Ok(&self.name)

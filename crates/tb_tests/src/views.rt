@@ -3,7 +3,7 @@ ghost use Rattle.std.specs.Prelude.{◌≡◌, ◌⊎◌, ◌<◌, ◌∷◌, []
 ghost use Rattle.tb_value.specs.Kind as kind;
 ghost use Rattle.tb_value.specs.SeeKind.{kind_of};
 ghost use Rattle.tb_value.specs.declared.sorted.IsSorted.TheVariants.{Not};
-ghost use Rattle.tb_chunk.specs.Whole.{run_at};
+ghost use Rattle.tb_chunk.specs.ViewArrays.{view_array_at};
 
 use std::alloc::Global;
 use std::process::Abort;
@@ -29,7 +29,7 @@ fn column_of_chunk(alloc: Global, column: &Series, chunk: usize) -> Result<Serie
     ensures { IfOk result (λ s. s ≡ record column.now {
       chunks = slice_index_or column.now.chunks chunk [] ∷ [];
       flag = Not;
-      runs = run_at column.now.runs chunk ∷ [];
+      view_arrays = view_array_at column.now.view_arrays chunk ∷ [];
     }) }
 {
     let name = column.name().copy(alloc)?;

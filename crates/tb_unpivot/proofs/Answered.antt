@@ -12,11 +12,11 @@ use Rattle.tb_value.specs.Names.{Name}
 use Rattle.tb_value.specs.Refusals.{first_cause}
 use Rattle.tb_value.specs.SeeKind.{kind_of}
 use Rattle.tb_value.specs.declared.limits.TheConstants.{MAX_ROWS}
-use Rattle.tb_chunk.specs.Col.{Col, flat, values}
+use Rattle.tb_chunk.specs.Col.{Col, concatenation, values}
 use Rattle.tb_chunk.specs.Lent.{lent_columns}
-use Rattle.tb_frame.specs.Frame.{frame_refusal, selected}
+use Rattle.tb_frame.specs.Frame.{frame_refusal, selected_columns}
 use Rattle.tb_frame.specs.Refusal.{repeated_among}
-use Rattle.tb_frame.specs.Table.{TableColumn, Table, IsTable, IsTyped, height, names_of, plain, table_of}
+use Rattle.tb_frame.specs.Table.{TableColumn, Table, IsTable, IsTyped, height, names_of, plain_column, table_of}
 use Rattle.tb_frame.proofs.Causes.{selected_hold}
 use Rattle.tb_frame.proofs.Frames.{level_refusal}
 use Rattle.tb_frame.proofs.Selected.{selected-table}
@@ -34,39 +34,39 @@ un_mapped P f [] all = All-nil (λ x. P (f x))
 un_mapped P f (x ∷ xs) all = All-cons (λ x. P (f x)) x xs (All-head P (f x) (map f xs) all) (un_mapped P f xs (All-tail P (f x) (map f xs) all))
 
 -- what holds of each column of the table holds of those that are selected
-selected_each : (P : TableColumn → Type 0) (cs : List Col) (names : List Name) → All P (table_of cs) → All (λ (c : Col). P (plain c)) (selected names cs)
+selected_each : (P : TableColumn → Type 0) (cs : List Col) (names : List Name) → All P (table_of cs) → All (λ (c : Col). P (plain_column c)) (selected_columns names cs)
 selected_each P cs names all =
-    un_mapped P plain (selected names cs) (subst (λ (t : Table). All P t) (sym (selected-table names cs)) (selected_hold P (table_of cs) all names))
+    un_mapped P plain_column (selected_columns names cs) (subst (λ (t : Table). All P t) (sym (selected-table names cs)) (selected_hold P (table_of cs) all names))
 
-selected_level : (cs : List Col) (names : List Name) → IsTable (table_of cs) → All (λ (c : Col). length (values c) ≡ height (table_of cs)) (selected names cs)
+selected_level : (cs : List Col) (names : List Name) → IsTable (table_of cs) → All (λ (c : Col). length (values c) ≡ height (table_of cs)) (selected_columns names cs)
 selected_level cs names table = selected_each (λ (c : TableColumn). length c.values ≡ height (table_of cs)) cs names table.one_height
 
-module _ (cs : List Col) (on : List Name) (rs : List (Bor Col)) (table : IsTable (table_of cs)) (found : lent_columns rs ≡ selected on cs) where
-  as_many : length rs ≡ length (selected on cs)
+module _ (cs : List Col) (on : List Name) (rs : List (Bor Col)) (table : IsTable (table_of cs)) (found : lent_columns rs ≡ selected_columns on cs) where
+  as_many : length rs ≡ length (selected_columns on cs)
   as_many = sym (length-map rs (λ (r : Bor Col). r.now)) ∙ ap length found
 
-  pub on_few : height (table_of cs) * length (selected on cs) ≤ MAX_ROWS → length (flat (map (λ (r : Bor Col). values r.now) rs)) ≤ MAX_ROWS
+  pub on_few : height (table_of cs) * length (selected_columns on cs) ≤ MAX_ROWS → length (concatenation (map (λ (r : Bor Col). values r.now) rs)) ≤ MAX_ROWS
   on_few few =
-      rw (lent_values rs, found) (omega (arith, level_values (height (table_of cs)) (selected on cs) (selected_level cs on table)))
+      rw (lent_values rs, found) (omega (arith, level_values (height (table_of cs)) (selected_columns on cs) (selected_level cs on table)))
 
-  pub on_typed : (t : Kind) → common_kind kind.null (table_of (selected on cs)) ≡ Ok t → All (λ (r : Bor Col). CastsTo t r.now) rs
+  pub on_typed : (t : Kind) → common_kind kind.null (table_of (selected_columns on cs)) ≡ Ok t → All (λ (r : Bor Col). CastsTo t r.now) rs
   on_typed t e =
-      let typed : All IsTyped (table_of (selected on cs)) = All-map IsTyped plain (selected on cs) (selected_each IsTyped cs on table.typed) in
-      un_lent (CastsTo t) rs (subst (λ (ds : List Col). All (CastsTo t) ds) (sym found) (casts_all kind.null t (selected on cs) e typed))
+      let typed : All IsTyped (table_of (selected_columns on cs)) = All-map IsTyped plain_column (selected_columns on cs) (selected_each IsTyped cs on table.typed) in
+      un_lent (CastsTo t) rs (subst (λ (ds : List Col). All (CastsTo t) ds) (sym found) (casts_all kind.null t (selected_columns on cs) e typed))
 
-  pub index_few : (index : List Name) (is : List (Bor Col)) → lent_columns is ≡ selected index cs → height (table_of cs) * length (selected on cs) ≤ MAX_ROWS
+  pub index_few : (index : List Name) (is : List (Bor Col)) → lent_columns is ≡ selected_columns index cs → height (table_of cs) * length (selected_columns on cs) ≤ MAX_ROWS
       → All (λ (r : Bor Col). length (values r.now) * length rs ≤ MAX_ROWS) is
   index_few index is there few =
       let P : Col → Type 0 = λ c. length (values c) ≡ height (table_of cs) in
       let Q : Col → Type 0 = λ c. length (values c) * length rs ≤ MAX_ROWS in
       let each : (c : Col) → P c → Q c = λ c e. rw (e, as_many) few in
-      un_lent Q is (subst (λ (ds : List Col). All Q ds) (sym there) (All-weaker P Q each (selected index cs) (selected_level cs index table)))
+      un_lent Q is (subst (λ (ds : List Col). All Q ds) (sym there) (All-weaker P Q each (selected_columns index cs) (selected_level cs index table)))
 
 -- THE HEIGHT OF THE LONG TABLE
 
-length-repeated : (n : ℕ) (vs : List Datum) → length (flat (replicate n vs)) ≡ length vs * n
+length-repeated : (n : ℕ) (vs : List Datum) → length (concatenation (replicate n vs)) ≡ length vs * n
 length-repeated zero vs = omega arith
-length-repeated (suc n) vs = omega (arith, length-append vs (flat (replicate n vs)), length-repeated n vs, mul-suc (length vs) n)
+length-repeated (suc n) vs = omega (arith, length-append vs (concatenation (replicate n vs)), length-repeated n vs, mul-suc (length vs) n)
 
 length-each : (f : TableColumn → Datum → Datum) (h : ℕ) (on : List TableColumn) → All (λ (c : TableColumn). length c.values ≡ h) on
     → length (flat_map (λ (o : TableColumn). map (f o) o.values) on) ≡ h * length on
@@ -95,23 +95,23 @@ long_refusal h t on index variable value level beside =
 -- WHAT IS FOUND
 
 -- the causes of the columns that are found are those of the columns that are named
-pub columns_causes : (cs : List Col) (on : List Name) (rs : List (Bor Col)) (rows : ℕ) → rows ≡ height (table_of cs) → lent_columns rs ≡ selected on cs
-    → first_cause (no_supertype (table_of (lent_columns rs)) ∷ too_many_values rows (length rs) ∷ []) ≡ first_cause (no_supertype (table_of (selected on cs)) ∷ too_many_values (height (table_of cs)) (length (table_of (selected on cs))) ∷ [])
+pub columns_causes : (cs : List Col) (on : List Name) (rs : List (Bor Col)) (rows : ℕ) → rows ≡ height (table_of cs) → lent_columns rs ≡ selected_columns on cs
+    → first_cause (no_supertype (table_of (lent_columns rs)) ∷ too_many_values rows (length rs) ∷ []) ≡ first_cause (no_supertype (table_of (selected_columns on cs)) ∷ too_many_values (height (table_of cs)) (length (table_of (selected_columns on cs))) ∷ [])
 columns_causes cs on rs rows high found =
-    let many : length rs ≡ length (table_of (selected on cs)) = sym (length-map rs (λ (r : Bor Col). r.now)) ∙ ap length found ∙ sym (length-map (selected on cs) plain) in
+    let many : length rs ≡ length (table_of (selected_columns on cs)) = sym (length-map rs (λ (r : Bor Col). r.now)) ∙ ap length found ∙ sym (length-map (selected_columns on cs) plain_column) in
     λ t. first_cause (no_supertype (table_of (found t)) ∷ too_many_values (high t) (many t) ∷ [])
 
 pub are_asked : (cs : List Col) (on index : List Name) (a : RequestColumns) (rs : List (Bor Col)) (rows : ℕ) → rows ≡ height (table_of cs) → rs ≡ a.on.items
-    → lent_columns a.on.items ≡ selected on cs → lent_columns a.index.items ≡ selected index cs → common_kind kind.null (table_of (lent_columns rs)) ≡ Ok (kind_of a.dtype)
+    → lent_columns a.on.items ≡ selected_columns on cs → lent_columns a.index.items ≡ selected_columns index cs → common_kind kind.null (table_of (lent_columns rs)) ≡ Ok (kind_of a.dtype)
     → rows * length rs ≤ MAX_ROWS → IsAsked cs on index a
 are_asked cs on index a rs rows high same found there common few =
-    let here : lent_columns rs ≡ selected on cs = ap lent_columns same ∙ found in
-    let many : length rs ≡ length (selected on cs) = sym (length-map rs (λ (r : Bor Col). r.now)) ∙ ap length here in
+    let here : lent_columns rs ≡ selected_columns on cs = ap lent_columns same ∙ found in
+    let many : length rs ≡ length (selected_columns on cs) = sym (length-map rs (λ (r : Bor Col). r.now)) ∙ ap length here in
     record {
       on = found;
       index = there;
       kind = sym (ap (λ (ds : List Col). common_kind kind.null (table_of ds)) here) ∙ common;
-      few = subst (λ (n : ℕ). n * length (selected on cs) ≤ MAX_ROWS) high (subst (λ (n : ℕ). rows * n ≤ MAX_ROWS) many few);
+      few = subst (λ (n : ℕ). n * length (selected_columns on cs) ≤ MAX_ROWS) high (subst (λ (n : ℕ). rows * n ≤ MAX_ROWS) many few);
     }
 
 -- in a table without columns nothing is looked at, and nothing is found
@@ -120,7 +120,7 @@ none_asked cs columns on index e = ap (λ (ds : List Col). first_cause (table_ca
 
 pub nothing_asked : (cs : List Col) (on index : List Name) (a : RequestColumns) → length cs ≡ 0 → a.on.items ≡ [] → a.index.items ≡ [] → kind_of a.dtype ≡ kind.null → IsAsked cs on index a
 nothing_asked cs on index a e no_on no_index no_type =
-    let empty : (names : List Name) → [] ≡ selected names cs = λ names. sym (ap (selected names) (nil_from_length cs e) ∙ selected-none names) in
+    let empty : (names : List Name) → [] ≡ selected_columns names cs = λ names. sym (ap (selected_columns names) (nil_from_length cs e) ∙ selected-none names) in
     record {
       on = ap lent_columns no_on ∙ empty on;
       index = ap lent_columns no_index ∙ empty index;
@@ -139,10 +139,10 @@ abbrev pub asked_of : List Col → List Name → List Name → Name → Name →
 asked_of cs on index variable value = record { table = table_of cs; on = on; index = index; variable = variable; value = value }
 
 module _ (cs : List Col) (on index names : List Name) (variable value : Name) (is : names ≡ on_names (table_of cs) on index) where
-  named_columns : table_of (selected names cs) ≡ on_columns (asked_of cs on index variable value)
-  named_columns = ap (λ (ns : List Name). table_of (selected ns cs)) is ∙ selected-table (on_names (table_of cs) on index) cs
+  named_columns : table_of (selected_columns names cs) ≡ on_columns (asked_of cs on index variable value)
+  named_columns = ap (λ (ns : List Name). table_of (selected_columns ns cs)) is ∙ selected-table (on_names (table_of cs) on index) cs
 
-  pub asked_for : first_cause (table_causes (table_of cs) (table_of (selected names cs)) names index) ≡ first_cause (table_causes (table_of cs) (on_columns (asked_of cs on index variable value)) (on_names (table_of cs) on index) index)
+  pub asked_for : first_cause (table_causes (table_of cs) (table_of (selected_columns names cs)) names index) ≡ first_cause (table_causes (table_of cs) (on_columns (asked_of cs on index variable value)) (on_names (table_of cs) on index) index)
   asked_for = λ t. first_cause (table_causes (table_of cs) (named_columns t) (is t) index)
 
   pub long_is : (a : RequestColumns) (ons ins : List (Bor Col)) → IsAsked cs names index a → ons ≡ a.on.items → ins ≡ a.index.items
@@ -155,7 +155,7 @@ module _ (cs : List Col) (on index names : List Name) (variable value : Name) (i
 
   -- where no cause stands before, the long table is refused as the request is
   pub long_refused : (long : Table) → IsTable (table_of cs) → long ≡ unpivot_table (asked_of cs on index variable value)
-      → first_cause (table_causes (table_of cs) (table_of (selected names cs)) names index) ≡ None → frame_refusal long ≡ unpivot_refusal (asked_of cs on index variable value)
+      → first_cause (table_causes (table_of cs) (table_of (selected_columns names cs)) names index) ≡ None → frame_refusal long ≡ unpivot_refusal (asked_of cs on index variable value)
   long_refused long table made none =
       let q : Request = asked_of cs on index variable value in
       let P : TableColumn → Type 0 = λ c. length c.values ≡ height (table_of cs) in

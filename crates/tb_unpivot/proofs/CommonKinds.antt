@@ -13,7 +13,7 @@ use Rattle.tb_value.specs.declared.error.InvalidCause.TheVariants.{NoSupertype}
 use Rattle.tb_value.specs.declared.error.PolarsError.{PolarsError}
 use Rattle.tb_value.specs.declared.error.PolarsError.TheVariants.{InvalidOperation, OutOfMemory}
 use Rattle.tb_chunk.specs.Col.{Col, values}
-use Rattle.tb_frame.specs.Table.{TableColumn, plain, table_of, IsTyped}
+use Rattle.tb_frame.specs.Table.{TableColumn, plain_column, table_of, IsTyped}
 use Rattle.tb_supertype.specs.Cast.{cast}
 use Rattle.tb_supertype.specs.Columns.{CastsTo}
 use Rattle.tb_supertype.specs.Supertype.{supertype}
@@ -64,14 +64,14 @@ IsCarried s t = (v : Datum) → HasType s (cast s v) → HasType t (cast t v)
 
 carried : (s t : Kind) (cs : List Col) → common_kind s (table_of cs) ≡ Ok t → All IsTyped (table_of cs) → All (CastsTo t) cs × IsCarried s t
 carried s t [] e typed = (All-nil (CastsTo t), λ v h. let same : s ≡ t = cc in subst (λ (x : Kind). HasType x (cast x v)) same h)
-carried s t (c ∷ cs) e typed = at (supertype s c.kind) refl (sym (kind_after s (plain c) (table_of cs)) ∙ e) (λ (u : Kind) (h : common_kind u (table_of cs) ≡ Ok t). carried u t cs h (All-tail IsTyped (plain c) (table_of cs) typed))
+carried s t (c ∷ cs) e typed = at (supertype s c.kind) refl (sym (kind_after s (plain_column c) (table_of cs)) ∙ e) (λ (u : Kind) (h : common_kind u (table_of cs) ≡ Ok t). carried u t cs h (All-tail IsTyped (plain_column c) (table_of cs) typed))
   where
     at : (o : Option Kind) → supertype s c.kind ≡ o → after o c.name (λ u. common_kind u (table_of cs)) ≡ Ok t
         → ((u : Kind) → common_kind u (table_of cs) ≡ Ok t → All (CastsTo t) cs × IsCarried u t) → All (CastsTo t) (c ∷ cs) × IsCarried s t
     at None k h more = absurd (cc)
     at (Some u) k h more =
         let rest = more u h in
-        let own = All-weaker (HasType c.kind) (λ v. HasType t (cast t v)) (λ v w. rest.1 v ((cast_typed s c.kind u k v).1 w)) (values c) (All-head IsTyped (plain c) (table_of cs) typed) in
+        let own = All-weaker (HasType c.kind) (λ v. HasType t (cast t v)) (λ v w. rest.1 v ((cast_typed s c.kind u k v).1 w)) (values c) (All-head IsTyped (plain_column c) (table_of cs) typed) in
         (All-cons (CastsTo t) c cs (All-map (HasType t) (cast t) (values c) own) rest.0, λ v w. rest.1 v (casts_on s c.kind u k v w))
 
 -- values cast to the common type are of it

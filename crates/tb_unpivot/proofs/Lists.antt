@@ -14,13 +14,13 @@ use Rattle.tb_value.specs.Typed.{HasType}
 use Rattle.tb_value.specs.declared.limits.TheConstants.{MAX_ROWS}
 use Rattle.tb_value.specs.declared.sorted.IsSorted.TheVariants.{Not}
 use Rattle.tb_chunk.specs.Chunk.{or_null}
-use Rattle.tb_chunk.specs.Col.{Col, IsColumn, flat, values}
+use Rattle.tb_chunk.specs.Col.{Col, IsColumn, concatenation, values}
 use Rattle.tb_chunk.specs.Lent.{lent_columns}
 use Rattle.tb_chunk.specs.Made.{at_least_one}
-use Rattle.tb_chunk.specs.Whole.{ViewRun}
-use Rattle.tb_frame.specs.Frame.{selected, without_names}
+use Rattle.tb_chunk.specs.ViewArrays.{ViewArray}
+use Rattle.tb_frame.specs.Frame.{selected_columns, without_names}
 use Rattle.tb_frame.specs.Naming.{is_among}
-use Rattle.tb_frame.specs.Table.{TableColumn, Table, names_of, plain, table_of}
+use Rattle.tb_frame.specs.Table.{TableColumn, Table, names_of, plain_column, table_of}
 use Rattle.tb_value.proofs.Kept.{filter-map}
 use Rattle.tb_supertype.specs.Cast.{cast}
 use Rattle.tb_supertype.specs.Columns.{CastsTo, IsStacked, cast_values}
@@ -48,11 +48,11 @@ lent_more rs i r low is =
     ap lent_columns (take_more rs i r low ∙ ap (λ (b : Bor Col). take i rs ++ b ∷ []) (sym is)) ∙ map_push (λ (b : Bor Col). b.now) (take i rs) r
 
 -- columns of one length have so many values
-pub level_values : (n : ℕ) (cs : List Col) → All (λ (c : Col). length (values c) ≡ n) cs → length (flat (map values cs)) ≡ n * length cs
+pub level_values : (n : ℕ) (cs : List Col) → All (λ (c : Col). length (values c) ≡ n) cs → length (concatenation (map values cs)) ≡ n * length cs
 level_values n [] level = omega arith
 level_values n (c ∷ cs) level =
     let P : Col → Type 0 = λ d. length (values d) ≡ n in
-    omega (arith, length-append (values c) (flat (map values cs)), All-head P c cs level, level_values n cs (All-tail P c cs level), mul-suc n (length cs))
+    omega (arith, length-append (values c) (concatenation (map values cs)), All-head P c cs level, level_values n cs (All-tail P c cs level), mul-suc n (length cs))
 
 -- A COLUMN SO MANY TIMES
 
@@ -61,10 +61,10 @@ replicated f zero x = refl
 replicated {X} {Y} f (suc n) x = ap (λ (l : List Y). f x ∷ l) (replicated f n x)
 
 pub repeated_few : (rs : List (Bor Col)) (n : ℕ) (c : Col) → lent_columns rs ≡ replicate n c → length (values c) * n ≤ MAX_ROWS
-    → length (flat (map (λ (r : Bor Col). values r.now) rs)) ≤ MAX_ROWS
+    → length (concatenation (map (λ (r : Bor Col). values r.now) rs)) ≤ MAX_ROWS
 repeated_few rs n c e few =
     let all : All (λ (d : Col). length (values d) ≡ length (values c)) (replicate n c) = All-replicate (λ (d : Col). length (values d) ≡ length (values c)) n c refl in
-    let k : length (flat (map values (replicate n c))) ≡ length (values c) * length (replicate n c) = level_values (length (values c)) (replicate n c) all in
+    let k : length (concatenation (map values (replicate n c))) ≡ length (values c) * length (replicate n c) = level_values (length (values c)) (replicate n c) all in
     rw (lent_values rs, e) (omega (arith, k, ap (λ m. length (values c) * m) (length-replicate n c)))
 
 pub repeated_typed : (rs : List (Bor Col)) (n : ℕ) (c : Col) (t : Kind) → lent_columns rs ≡ replicate n c → t ≡ c.kind → IsColumn c → All (λ (r : Bor Col). CastsTo t r.now) rs
@@ -73,35 +73,35 @@ repeated_typed rs n c t e same column =
     subst (λ (k : Kind). All (λ (r : Bor Col). CastsTo k r.now) rs) (sym same)
     (un_lent (CastsTo c.kind) rs (subst (λ (ds : List Col). All (CastsTo c.kind) ds) (sym e) (All-replicate (CastsTo c.kind) n c own)))
 
-pub stacked_plain : (n : Name) (t : Kind) (cs : List Col) (d : Col) → IsStacked n t cs d → plain d ≡ record { name = n; kind = t; values = flat (map (cast_values t) cs) }
-stacked_plain n t cs d e = ap plain e ∙ ap (λ (vs : List Datum). record { name = n; kind = t; values = vs }) (flat-at_least_one (map (cast_values t) cs))
+pub stacked_plain : (n : Name) (t : Kind) (cs : List Col) (d : Col) → IsStacked n t cs d → plain_column d ≡ record { name = n; kind = t; values = concatenation (map (cast_values t) cs) }
+stacked_plain n t cs d e = ap plain_column e ∙ ap (λ (vs : List Datum). record { name = n; kind = t; values = vs }) (flat-at_least_one (map (cast_values t) cs))
 
-pub repeated_is : (n : ℕ) (c d : Col) → IsColumn c → IsStacked c.name c.kind (replicate n c) d → plain d ≡ repeated n (plain c)
+pub repeated_is : (n : ℕ) (c d : Col) → IsColumn c → IsStacked c.name c.kind (replicate n c) d → plain_column d ≡ repeated n (plain_column c)
 repeated_is n c d column e =
     stacked_plain c.name c.kind (replicate n c) d e
-    ∙ ap (λ (l : List (List Datum)). record { name = c.name; kind = c.kind; values = flat l }) (replicated (cast_values c.kind) n c ∙ ap (replicate n) (cast_same c.kind (values c) column.typed))
+    ∙ ap (λ (l : List (List Datum)). record { name = c.name; kind = c.kind; values = concatenation l }) (replicated (cast_values c.kind) n c ∙ ap (replicate n) (cast_same c.kind (values c) column.typed))
 
 pub repeated_made : (d c : Col) (n : Name) (t : Kind) (rs : List (Bor Col)) (times : ℕ) → IsStacked n t (lent_columns rs) d → n ≡ c.name → t ≡ c.kind
-    → lent_columns rs ≡ replicate times c → IsColumn c → plain d ≡ repeated times (plain c)
+    → lent_columns rs ≡ replicate times c → IsColumn c → plain_column d ≡ repeated times (plain_column c)
 repeated_made d c n t rs times e named kinded lent column =
-    repeated_is times c d column (e ∙ (λ i. record { name = named i; kind = kinded i; chunks = at_least_one (map (cast_values (kinded i)) (lent i)); flag = Not; runs = d.runs }))
+    repeated_is times c d column (e ∙ (λ i. record { name = named i; kind = kinded i; chunks = at_least_one (map (cast_values (kinded i)) (lent i)); flag = Not; view_arrays = d.view_arrays }))
 
 pub repeats_more : (times : ℕ) (done more : List Col) (rs : List (Bor Col)) (i : ℕ) (r : Bor Col) (d : Col) → i < length rs → r ≡ get_or rs i r → more ≡ done ++ d ∷ []
-    → plain d ≡ repeated times (plain r.now) → table_of done ≡ map (repeated times) (table_of (lent_columns (take i rs)))
+    → plain_column d ≡ repeated times (plain_column r.now) → table_of done ≡ map (repeated times) (table_of (lent_columns (take i rs)))
     → table_of more ≡ map (repeated times) (table_of (lent_columns (take (i + 1) rs)))
 repeats_more times done more rs i r d low is e made so_far =
-    ap table_of e ∙ map_push plain done d ∙ (λ t. so_far t ++ made t ∷ [])
+    ap table_of e ∙ map_push plain_column done d ∙ (λ t. so_far t ++ made t ∷ [])
     ∙ sym (ap (λ (cs : List Col). map (repeated times) (table_of cs)) (lent_more rs i r low is)
-    ∙ ap (map (repeated times)) (map_push plain (lent_columns (take i rs)) r.now)
-    ∙ map_push (repeated times) (table_of (lent_columns (take i rs))) (plain r.now))
+    ∙ ap (map (repeated times)) (map_push plain_column (lent_columns (take i rs)) r.now)
+    ∙ map_push (repeated times) (table_of (lent_columns (take i rs))) (plain_column r.now))
 
 -- THE COLUMNS OF VALUES AND NAMES
 
-cast_each : (t : Kind) (cs : List Col) → flat (map (cast_values t) cs) ≡ flat_map (λ (o : TableColumn). map (cast t) o.values) (table_of cs)
+cast_each : (t : Kind) (cs : List Col) → concatenation (map (cast_values t) cs) ≡ flat_map (λ (o : TableColumn). map (cast t) o.values) (table_of cs)
 cast_each t [] = refl
 cast_each t (c ∷ cs) = ap (λ (l : List Datum). cast_values t c ++ l) (cast_each t cs)
 
-pub value_is : (n : Name) (t : Kind) (cs : List Col) (d : Col) → IsStacked n t cs d → plain d ≡ value_column n t (table_of cs)
+pub value_is : (n : Name) (t : Kind) (cs : List Col) (d : Col) → IsStacked n t cs d → plain_column d ≡ value_column n t (table_of cs)
 value_is n t cs d e = stacked_plain n t cs d e ∙ ap (λ (vs : List Datum). record { name = n; kind = t; values = vs }) (cast_each t cs)
 
 abbrev pub names_at : Col → List Datum
@@ -111,19 +111,19 @@ pub names_each : (cs : List Col) → flat_map names_at cs ≡ flat_map (λ (o : 
 names_each [] = refl
 names_each (c ∷ cs) = ap (λ (l : List Datum). names_at c ++ l) (names_each cs)
 
-names_count : (cs : List Col) → length (flat_map names_at cs) ≡ length (flat (map values cs))
+names_count : (cs : List Col) → length (flat_map names_at cs) ≡ length (concatenation (map values cs))
 names_count [] = refl
-names_count (c ∷ cs) = omega (arith, length-append (names_at c) (flat_map names_at cs), length-append (values c) (flat (map values cs)), length-map (values c) (λ (d : Datum). string c.name), names_count cs)
+names_count (c ∷ cs) = omega (arith, length-append (names_at c) (flat_map names_at cs), length-append (values c) (concatenation (map values cs)), length-map (values c) (λ (d : Datum). string c.name), names_count cs)
 
 pub names_few : (cells : List (Option Name)) (rs : List (Bor Col)) → map (or_null string) cells ≡ flat_map names_at (lent_columns rs)
-    → length (flat (map (λ (r : Bor Col). values r.now) rs)) ≤ MAX_ROWS → length cells ≤ MAX_ROWS
+    → length (concatenation (map (λ (r : Bor Col). values r.now) rs)) ≤ MAX_ROWS → length cells ≤ MAX_ROWS
 names_few cells rs e few =
-    omega (arith, length-map cells (or_null string), ap (λ (vs : List Datum). length vs) e, names_count (lent_columns rs), ap (λ (l : List (List Datum)). length (flat l)) (lent_values rs))
+    omega (arith, length-map cells (or_null string), ap (λ (vs : List Datum). length vs) e, names_count (lent_columns rs), ap (λ (l : List (List Datum)). length (concatenation l)) (lent_values rs))
 
 -- a column of one chunk of texts
 pub text_column_is : (d : Col) (vs : List Datum) → length vs ≤ MAX_ROWS → All (HasType kind.string) vs → d.kind ≡ kind.string → d.chunks ≡ vs ∷ [] → d.flag ≡ Not → IsColumn d
 text_column_is d vs few typed same_kind one not =
-    let all : values d ≡ vs = ap flat one ∙ append-nil vs in
+    let all : values d ≡ vs = ap concatenation one ∙ append-nil vs in
     record {
       chunked = omega (arith, ap length one);
       short = omega (arith, ap length all);
@@ -131,10 +131,10 @@ text_column_is d vs few typed same_kind one not =
       flag_holds = rw not tt;
     }
 
-pub text_plain : {rs : List ViewRun} (d : Col) (n : Name) (k : Kind) (chunks : List (List Datum)) (vs : List Datum) → d ≡ record { name = n; kind = k; chunks = chunks; flag = Not; runs = rs } → k ≡ kind.string
-    → chunks ≡ vs ∷ [] → plain d ≡ record { name = n; kind = kind.string; values = vs }
+pub text_plain : {rs : List ViewArray} (d : Col) (n : Name) (k : Kind) (chunks : List (List Datum)) (vs : List Datum) → d ≡ record { name = n; kind = k; chunks = chunks; flag = Not; view_arrays = rs } → k ≡ kind.string
+    → chunks ≡ vs ∷ [] → plain_column d ≡ record { name = n; kind = kind.string; values = vs }
 text_plain d n k chunks vs e same one =
-    ap plain e ∙ (λ t. record { name = n; kind = same t; values = flat (one t) }) ∙ ap (λ (l : List Datum). record { name = n; kind = kind.string; values = l }) (append-nil vs)
+    ap plain_column e ∙ (λ t. record { name = n; kind = same t; values = concatenation (one t) }) ∙ ap (λ (l : List Datum). record { name = n; kind = kind.string; values = l }) (append-nil vs)
 
 names_again : (x : Datum) (vs : List Datum) → map (λ (d : Datum). x) vs ≡ replicate (length vs) x
 names_again x [] = refl
@@ -155,18 +155,18 @@ names_more cells more rs i r n k low is named long e so_far =
 
 -- the next of columns that are left
 pub next_left : (rs : List (Bor Col)) (i : ℕ) (r : Bor Col) → i < length rs → r ≡ get_or rs i r
-    → table_of (lent_columns (drop i rs)) ≡ plain r.now ∷ table_of (lent_columns (drop (i + 1) rs))
+    → table_of (lent_columns (drop i rs)) ≡ plain_column r.now ∷ table_of (lent_columns (drop (i + 1) rs))
 next_left rs i r low is =
     let here : drop i rs ≡ r ∷ drop (i + 1) rs = rw (add-one, drop-cons rs i r) (ap (λ (b : Bor Col). b ∷ drop (suc i) rs) (sym is)) in
     ap (λ (l : List (Bor Col)). table_of (lent_columns l)) here
 
 -- the columns of the index, the names and the values
 pub long_made : (t : Kind) (times : ℕ) (on index : List TableColumn) (v w : Name) (cs more all : List Col) (c d : Col) → times ≡ length on → table_of cs ≡ map (repeated times) index
-    → more ≡ cs ++ c ∷ [] → all ≡ more ++ d ∷ [] → plain c ≡ variable_column v on → plain d ≡ value_column w t on → table_of all ≡ long_table t on index v w
+    → more ≡ cs ++ c ∷ [] → all ≡ more ++ d ∷ [] → plain_column c ≡ variable_column v on → plain_column d ≡ value_column w t on → table_of all ≡ long_table t on index v w
 long_made t times on index v w cs more all c d many first one two names values =
     ap table_of (two ∙ ap (λ (l : List Col). l ++ d ∷ []) one)
-    ∙ map_push plain (cs ++ c ∷ []) d ∙ ap (λ (l : List TableColumn). l ++ plain d ∷ []) (map_push plain cs c)
-    ∙ append_assoc (table_of cs) (plain c ∷ []) (plain d ∷ [])
+    ∙ map_push plain_column (cs ++ c ∷ []) d ∙ ap (λ (l : List TableColumn). l ++ plain_column d ∷ []) (map_push plain_column cs c)
+    ∙ append_assoc (table_of cs) (plain_column c ∷ []) (plain_column d ∷ [])
     ∙ (λ j. (first ∙ ap (λ (n : ℕ). map (repeated n) index) many) j ++ names j ∷ values j ∷ [])
 
 -- THE COLUMNS THAT ARE NAMED
@@ -187,6 +187,6 @@ some_named t [] index h = absurd (omega arith)
 some_named t (n ∷ ns) index h = refl
 
 -- in a table without columns nothing is selected
-pub selected-none : (names : List Name) → selected names [] ≡ []
+pub selected-none : (names : List Name) → selected_columns names [] ≡ []
 selected-none [] = refl
 selected-none (n ∷ ns) = selected-none ns

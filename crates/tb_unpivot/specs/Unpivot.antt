@@ -12,8 +12,8 @@ use Rattle.tb_value.specs.declared.error.InvalidCause.TheVariants.{NoSupertype}
 use Rattle.tb_value.specs.declared.error.ComputeCause.TheVariants.{TooManyRows}
 use Rattle.tb_value.specs.declared.error.PolarsError.{PolarsError}
 use Rattle.tb_value.specs.declared.error.PolarsError.TheVariants.{InvalidOperation, ComputeError}
-use Rattle.tb_chunk.specs.Col.{flat}
-use Rattle.tb_frame.specs.Join.{named}
+use Rattle.tb_chunk.specs.Col.{concatenation}
+use Rattle.tb_frame.specs.Join.{column_named}
 use Rattle.tb_frame.specs.Naming.{is_among}
 use Rattle.tb_frame.specs.Refusal.{repeated_among, unknown_key}
 use Rattle.tb_frame.specs.Table.{TableColumn, Table, height, names_of}
@@ -44,7 +44,7 @@ on_names t [] index = filter (λ n. not (is_among index n)) (names_of t)
 on_names t (n ∷ ns) index = n ∷ ns
 
 abbrev pub columns_named : Table → List Name → List TableColumn
-columns_named t names = filter_map (named t) names
+columns_named t names = filter_map (column_named t) names
 
 abbrev pub on_columns : Request → List TableColumn
 on_columns q = columns_named q.table (on_names q.table q.on q.index)
@@ -74,7 +74,7 @@ value_kind q = kind_or_null (common_kind kind.null (on_columns q))
 
 -- the values of a column n times over
 abbrev pub repeated : ℕ → TableColumn → TableColumn
-repeated n c = record c { values = flat (replicate n c.values) }
+repeated n c = record c { values = concatenation (replicate n c.values) }
 
 -- for each value of each of the columns the column's name
 abbrev pub variable_column : Name → List TableColumn → TableColumn

@@ -6,9 +6,9 @@ ghost use Rattle.tb_value.specs.Kind as kind;
 ghost use Rattle.tb_value.specs.SeeKind.{kind_of};
 ghost use Rattle.tb_value.specs.Typed.{HasType};
 ghost use Rattle.tb_chunk.specs.ChunkTexts.{texts_of};
-ghost use Rattle.tb_chunk.specs.Col.{Col, flat, values};
+ghost use Rattle.tb_chunk.specs.Col.{Col, concatenation, values};
 ghost use Rattle.tb_chunk.specs.Lent.{lent_columns};
-ghost use Rattle.tb_frame.specs.Table.{plain, table_of};
+ghost use Rattle.tb_frame.specs.Table.{plain_column, table_of};
 ghost use Rattle.tb_supertype.specs.Columns.{CastsTo};
 ghost use Rattle.tb_unpivot.specs.Unpivot.{long_table, repeated, value_column, variable_column};
 
@@ -35,7 +35,7 @@ fn lent_times<'a>(
 // A column with its values so many times over.
 fn repeated(alloc: Global, column: &Series, times: usize) -> Result<Column, OutOfMemory>
     requires { length (values column.now) * times ≤ MAX_ROWS }
-    ensures { IfOk result (λ c. plain c ≡ repeated times (plain column.now)) }
+    ensures { IfOk result (λ c. plain_column c ≡ repeated times (plain_column column.now)) }
 {
     let _len = column.len();
     let lent = lent_times(alloc, column, times)?;
@@ -90,7 +90,7 @@ fn text_type() -> DataType
 fn text_column(alloc: Global, name: PlSmallStr, chunk: StringChunk) -> Result<Column, OutOfMemory>
     requires few { length (texts_of chunk) ≤ MAX_ROWS }
     requires typed { All (HasType kind.string) (⟦<StringChunk as Chunk>⟧.shown chunk) }
-    ensures { IfOk result (λ c. plain c ≡ record {
+    ensures { IfOk result (λ c. plain_column c ≡ record {
       name = name;
       kind = kind.string;
       values = ⟦<StringChunk as Chunk>⟧.shown chunk;
@@ -107,8 +107,8 @@ fn variable_column(
     name: PlSmallStr,
     columns: &[&Series],
 ) -> Result<Column, OutOfMemory>
-    requires { length (flat (map (λ c. values c.now) columns.now)) ≤ MAX_ROWS }
-    ensures { IfOk result (λ c. plain c ≡ variable_column name (table_of (lent_columns columns.now))) }
+    requires { length (concatenation (map (λ c. values c.now) columns.now)) ≤ MAX_ROWS }
+    ensures { IfOk result (λ c. plain_column c ≡ variable_column name (table_of (lent_columns columns.now))) }
 {
     let chunk = name_chunk(alloc, columns)?;
     text_column(alloc, name, chunk)
@@ -120,9 +120,9 @@ fn value_column(
     dtype: DataType,
     columns: &[&Series],
 ) -> Result<Column, OutOfMemory>
-    requires few { length (flat (map (λ c. values c.now) columns.now)) ≤ MAX_ROWS }
+    requires few { length (concatenation (map (λ c. values c.now) columns.now)) ≤ MAX_ROWS }
     requires typed { All (λ c. CastsTo (kind_of dtype) c.now) columns.now }
-    ensures { IfOk result (λ c. plain c ≡ value_column name (kind_of dtype) (table_of (lent_columns columns.now))) }
+    ensures { IfOk result (λ c. plain_column c ≡ value_column name (kind_of dtype) (table_of (lent_columns columns.now))) }
 {
     Ok(stack(alloc, name, dtype, columns)?.into_column())
 }
@@ -137,7 +137,7 @@ pub(crate) fn long_columns(
     variable: &str,
     value: &str,
 ) -> Result<Vec<Column>, OutOfMemory>
-    requires few { length (flat (map (λ c. values c.now) on.now)) ≤ MAX_ROWS }
+    requires few { length (concatenation (map (λ c. values c.now) on.now)) ≤ MAX_ROWS }
     requires level { All (λ c. length (values c.now) * length on.now ≤ MAX_ROWS) index.now }
     requires typed { All (λ c. CastsTo (kind_of dtype) c.now) on.now }
     ensures { IfOk result (λ v. table_of v.items

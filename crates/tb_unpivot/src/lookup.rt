@@ -7,7 +7,7 @@ ghost use Rattle.tb_value.specs.declared.error.InvalidCause.TheVariants.{NoSuper
 ghost use Rattle.tb_value.specs.declared.error.PolarsError.TheVariants.{InvalidOperation};
 ghost use Rattle.tb_chunk.specs.Col.{Col};
 ghost use Rattle.tb_chunk.specs.Lent.{lent_columns};
-ghost use Rattle.tb_frame.specs.Frame.{selected, without_names};
+ghost use Rattle.tb_frame.specs.Frame.{selected_columns, without_names};
 ghost use Rattle.tb_frame.specs.Refusal.{unknown_key};
 ghost use Rattle.tb_frame.specs.Table.{table_of};
 ghost use Rattle.std.specs.Option.{option_map};
@@ -73,7 +73,7 @@ fn named_columns<'a>(
     names: &[PlSmallStr],
 ) -> PolarsResult<Vec<&'a Series>>
     ensures settles { Settles result (unknown_key (table_of table.now) names.now) }
-    ensures columns { IfOk result (λ v. lent_columns v.items ≡ selected names.now table.now) }
+    ensures columns { IfOk result (λ v. lent_columns v.items ≡ selected_columns names.now table.now) }
 {
     lend_columns(alloc, table.get_columns(), names)
 }
@@ -142,7 +142,7 @@ fn found<'a>(
     on: &[PlSmallStr],
     index: &[PlSmallStr],
 ) -> PolarsResult<RequestColumns<'a>>
-    ensures settles { Settles result (first_cause (asked_causes (table_of table.now) (table_of (selected on.now table.now)) on.now index.now)) }
+    ensures settles { Settles result (first_cause (asked_causes (table_of table.now) (table_of (selected_columns on.now table.now)) on.now index.now)) }
     ensures asked { IfOk result (IsAsked table.now on.now index.now) }
 {
     let on_columns = named_columns(alloc, table, on)?;
@@ -172,7 +172,7 @@ pub(crate) fn asked<'a>(
     on: &[PlSmallStr],
     index: &[PlSmallStr],
 ) -> PolarsResult<RequestColumns<'a>>
-    ensures settles { Settles result (first_cause (table_causes (table_of table.now) (table_of (selected on.now table.now)) on.now index.now)) }
+    ensures settles { Settles result (first_cause (table_causes (table_of table.now) (table_of (selected_columns on.now table.now)) on.now index.now)) }
     ensures asked { IfOk result (IsAsked table.now on.now index.now) }
 {
     if table.width() == 0 {

@@ -9,7 +9,7 @@ use Rattle.std.specs.Ordering.{is_lt, nat_cmp, ordering_then}
 use Rattle.std.proofs.lemmas.Cmp.{ranked}
 use Rattle.std.proofs.lemmas.List.Elements.{All-nil, All-cons, All-head, All-tail, All-append, All-map, All-weaker}
 use Rattle.tb_value.specs.declared.index.JoinPair.{JoinPair}
-use Rattle.tb_value.specs.Pairs.{row_numbers, both, left_only, right_only, matched, left_met, left_unmet, right_unmet, left_first}
+use Rattle.tb_value.specs.Pairs.{row_numbers, both, left_only, right_only, matched_pairs, left_met, left_unmet, right_unmet, left_first}
 
 -- each element stands before the later ones
 abbrev pub Ascends_by : {X : Type 0} → (X → X → Type 0) → List X → Type 0
@@ -163,9 +163,9 @@ module _ (l r : ℕ) (m : ℕ → ℕ → Bool) where
       (rows_ascend (a + 1) n)
       (All-map (λ p. All (NotBelow left_first p) rest) (both a) (filter (m a) (row_numbers r)) (All-any (λ u. All (NotBelow left_first (both a u)) rest) (λ u. below_later a u (a + 1) n (omega arith)) (filter (m a) (row_numbers r))))
 
-  -- the matched pairs ascend by (left, right)
-  pub matched-sorted : IsSorted left_first (matched l r m)
-  matched-sorted = sorted_from-Ascends_by left_first (matched l r m) (rows_ascend 0 l)
+  -- the matched_pairs pairs ascend by (left, right)
+  pub matched-sorted : IsSorted left_first (matched_pairs l r m)
+  matched-sorted = sorted_from-Ascends_by left_first (matched_pairs l r m) (rows_ascend 0 l)
 
 -- SAME TESTS, SAME PAIRS
 
@@ -181,7 +181,7 @@ flat_map_same f g a (suc n) h = λ t. h a (omega arith) (omega arith) t ++ flat_
 pub kept_same : (p q : ℕ → Bool) (n : ℕ) → ((k : ℕ) → k < n → p k ≡ q k) → filter p (row_numbers n) ≡ filter q (row_numbers n)
 kept_same p q n h = filter_same p q 0 n (λ k low high. h k (omega arith))
 
-pub matched-same : (l r : ℕ) (m n : ℕ → ℕ → Bool) → ((i j : ℕ) → i < l → j < r → m i j ≡ n i j) → matched l r m ≡ matched l r n
+pub matched-same : (l r : ℕ) (m n : ℕ → ℕ → Bool) → ((i j : ℕ) → i < l → j < r → m i j ≡ n i j) → matched_pairs l r m ≡ matched_pairs l r n
 matched-same l r m n h =
     flat_map_same (λ i. map (both i) (filter (m i) (row_numbers r))) (λ i. map (both i) (filter (n i) (row_numbers r))) 0 l (λ i low high. ap (map (both i)) (kept_same (m i) (n i) r (λ j in_r. h i j (omega arith) in_r)))
 

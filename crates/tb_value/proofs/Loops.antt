@@ -6,7 +6,7 @@ use Rattle.std.proofs.lemmas.List.{map-append}
 use Rattle.std.proofs.lemmas.List.Concat.{flat_map-append}
 use Rattle.std.proofs.lemmas.List.Sorted.{IsPermutation-refl, IsPermutation-trans, IsPermutation-append_comm, IsPermutation-append_left, IsPermutation-append_right}
 use Rattle.tb_value.specs.declared.index.JoinPair.{JoinPair}
-use Rattle.tb_value.specs.Pairs.{row_numbers, both, matched, turn}
+use Rattle.tb_value.specs.Pairs.{row_numbers, both, matched_pairs, turn}
 
 pub permuted : {X : Type 0} (xs ys zs : List X) → ys ≡ zs → IsPermutation xs ys → IsPermutation xs zs
 permuted xs ys zs e h = subst (λ (l : List _). IsPermutation xs l) e h
@@ -66,16 +66,16 @@ pub map-map : {X Y Z : Type 0} (g : Y → Z) (f : X → Y) (xs : List X) → map
 map-map g f [] = refl
 map-map g f (x ∷ xs) = λ t. g (f x) ∷ map-map g f xs t
 
-loops : (l r : ℕ) (m : ℕ → ℕ → Bool) → matched l r m ≡ flat_map (λ i. flat_map (λ j. one_if (m i j) (both i j)) (row_numbers r)) (row_numbers l)
+loops : (l r : ℕ) (m : ℕ → ℕ → Bool) → matched_pairs l r m ≡ flat_map (λ i. flat_map (λ j. one_if (m i j) (both i j)) (row_numbers r)) (row_numbers l)
 loops l r m = flat_map_agree (λ i. map (both i) (filter (m i) (row_numbers r))) (λ i. flat_map (λ j. one_if (m i j) (both i j)) (row_numbers r)) (λ i. by_test (both i) (m i) (row_numbers r)) (row_numbers l)
 
-turned_loops : (l r : ℕ) (m : ℕ → ℕ → Bool) → map turn (matched r l (λ j i. m i j)) ≡ flat_map (λ j. flat_map (λ i. one_if (m i j) (both i j)) (row_numbers l)) (row_numbers r)
+turned_loops : (l r : ℕ) (m : ℕ → ℕ → Bool) → map turn (matched_pairs r l (λ j i. m i j)) ≡ flat_map (λ j. flat_map (λ i. one_if (m i j) (both i j)) (row_numbers l)) (row_numbers r)
 turned_loops l r m =
     map-flat_map turn (λ j. map (both j) (filter (λ i. m i j) (row_numbers l))) (row_numbers r)
     ∙ flat_map_agree (λ j. map turn (map (both j) (filter (λ i. m i j) (row_numbers l)))) (λ j. flat_map (λ i. one_if (m i j) (both i j)) (row_numbers l)) (λ j. map-map turn (both j) (filter (λ i. m i j) (row_numbers l)) ∙ by_test (λ i. both i j) (λ i. m i j) (row_numbers l)) (row_numbers r)
 
-pub turned_matches : (l r : ℕ) (m : ℕ → ℕ → Bool) → IsPermutation (map turn (matched r l (λ j i. m i j))) (matched l r m)
+pub turned_matches : (l r : ℕ) (m : ℕ → ℕ → Bool) → IsPermutation (map turn (matched_pairs r l (λ j i. m i j))) (matched_pairs l r m)
 turned_matches l r m =
     let a = exchange (λ j i. one_if (m i j) (both i j)) (row_numbers r) (row_numbers l) in
-    let b : IsPermutation (map turn (matched r l (λ j i. m i j))) (flat_map (λ i. flat_map (λ j. one_if (m i j) (both i j)) (row_numbers r)) (row_numbers l)) = subst (λ (x : List JoinPair). IsPermutation x (flat_map (λ i. flat_map (λ j. one_if (m i j) (both i j)) (row_numbers r)) (row_numbers l))) (sym (turned_loops l r m)) a in
-    permuted (map turn (matched r l (λ j i. m i j))) (flat_map (λ i. flat_map (λ j. one_if (m i j) (both i j)) (row_numbers r)) (row_numbers l)) (matched l r m) (sym (loops l r m)) b
+    let b : IsPermutation (map turn (matched_pairs r l (λ j i. m i j))) (flat_map (λ i. flat_map (λ j. one_if (m i j) (both i j)) (row_numbers r)) (row_numbers l)) = subst (λ (x : List JoinPair). IsPermutation x (flat_map (λ i. flat_map (λ j. one_if (m i j) (both i j)) (row_numbers r)) (row_numbers l))) (sym (turned_loops l r m)) a in
+    permuted (map turn (matched_pairs r l (λ j i. m i j))) (flat_map (λ i. flat_map (λ j. one_if (m i j) (both i j)) (row_numbers r)) (row_numbers l)) (matched_pairs l r m) (sym (loops l r m)) b

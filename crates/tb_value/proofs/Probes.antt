@@ -9,7 +9,7 @@ use Rattle.std.proofs.lemmas.List.{append-nil, length-map, get_or-map}
 use Rattle.std.proofs.lemmas.List.Elements.{All-nil, All-cons, All-map, All-weaker}
 use Rattle.std.proofs.lemmas.List.Sorted.{IsPermutation-append_left}
 use Rattle.tb_value.specs.declared.index.JoinPair.{JoinPair}
-use Rattle.tb_value.specs.Pairs.{row_numbers, both, left_only, right_only, matched, left_unmet, right_unmet, row_cmp, left_first, right_first, turn}
+use Rattle.tb_value.specs.Pairs.{row_numbers, both, left_only, right_only, matched_pairs, left_unmet, right_unmet, row_cmp, left_first, right_first, turn}
 use Rattle.tb_value.proofs.Ascending.{Ascends_by, Ascends_by-append, Ascends_by-map, NotBelow, sorted_from-Ascends_by, kept_ascend, nat_cmp_above, later_right, All-flat_map}
 use Rattle.tb_value.proofs.Loops.{flat_map_agree, zipped, permuted}
 
@@ -50,18 +50,18 @@ joined_row i (j ∷ js) = append-nil (map (both i) (j ∷ js))
 row_is : (r : ℕ) (m : ℕ → ℕ → Bool) (i : ℕ) → map (both i) (filter (m i) (row_numbers r)) ++ cond (not (list_any (m i) (row_numbers r))) (left_only i ∷ []) [] ≡ left_pairs i (filter (m i) (row_numbers r))
 row_is r m i = ap (λ (b : Bool). map (both i) (filter (m i) (row_numbers r)) ++ cond (not b) (left_only i ∷ []) []) (any_kept (m i) (row_numbers r)) ∙ joined_row i (filter (m i) (row_numbers r))
 
-pub each_left-permutation : (l r : ℕ) (m : ℕ → ℕ → Bool) → IsPermutation (matched l r m ++ left_unmet l r m) (each_left l r m)
+pub each_left-permutation : (l r : ℕ) (m : ℕ → ℕ → Bool) → IsPermutation (matched_pairs l r m ++ left_unmet l r m) (each_left l r m)
 each_left-permutation l r m =
     let f : ℕ → List JoinPair = λ i. map (both i) (filter (m i) (row_numbers r)) in
     let g : ℕ → List JoinPair = λ i. cond (not (list_any (m i) (row_numbers r))) (left_only i ∷ []) [] in
     let unmet : left_unmet l r m ≡ flat_map g (row_numbers l) = alone left_only (λ i. not (list_any (m i) (row_numbers r))) (row_numbers l) in
     let rows : flat_map (λ i. f i ++ g i) (row_numbers l) ≡ each_left l r m = flat_map_agree (λ i. f i ++ g i) (λ i. left_pairs i (filter (m i) (row_numbers r))) (row_is r m) (row_numbers l) in
-    let both_loops : IsPermutation (matched l r m ++ flat_map g (row_numbers l)) (each_left l r m) = permuted (matched l r m ++ flat_map g (row_numbers l)) (flat_map (λ i. f i ++ g i) (row_numbers l)) (each_left l r m) rows (zipped f g (row_numbers l)) in
-    subst (λ (x : List JoinPair). IsPermutation (matched l r m ++ x) (each_left l r m)) (sym unmet) both_loops
+    let both_loops : IsPermutation (matched_pairs l r m ++ flat_map g (row_numbers l)) (each_left l r m) = permuted (matched_pairs l r m ++ flat_map g (row_numbers l)) (flat_map (λ i. f i ++ g i) (row_numbers l)) (each_left l r m) rows (zipped f g (row_numbers l)) in
+    subst (λ (x : List JoinPair). IsPermutation (matched_pairs l r m ++ x) (each_left l r m)) (sym unmet) both_loops
 
 -- and with the right rows that match none
-pub each_row-permutation : (l r : ℕ) (m : ℕ → ℕ → Bool) → IsPermutation (matched l r m ++ left_unmet l r m ++ right_unmet l r m) (each_left l r m ++ right_unmet l r m)
-each_row-permutation l r m = IsPermutation-append_left (right_unmet l r m) (matched l r m ++ left_unmet l r m) (each_left l r m) (each_left-permutation l r m)
+pub each_row-permutation : (l r : ℕ) (m : ℕ → ℕ → Bool) → IsPermutation (matched_pairs l r m ++ left_unmet l r m ++ right_unmet l r m) (each_left l r m ++ right_unmet l r m)
+each_row-permutation l r m = IsPermutation-append_left (right_unmet l r m) (matched_pairs l r m ++ left_unmet l r m) (each_left l r m) (each_left-permutation l r m)
 
 -- THEIR ORDER
 
@@ -128,8 +128,8 @@ module _ (l r : ℕ) (m : ℕ → ℕ → Bool) where
   pub each_row-sorted : IsSorted left_first (each_left l r m ++ right_unmet l r m)
   each_row-sorted = blocks_then-sorted (λ i. left_pairs i (filter (m i) (row_numbers r))) left_ascends (λ i. pairs_lefts i (filter (m i) (row_numbers r))) l r (λ j. not (list_any (λ i. m i j) (row_numbers l)))
 
-  -- the matched pairs, and then the right rows that match none
-  pub matched_then-sorted : IsSorted left_first (matched l r m ++ right_unmet l r m)
+  -- the matched_pairs pairs, and then the right rows that match none
+  pub matched_then-sorted : IsSorted left_first (matched_pairs l r m ++ right_unmet l r m)
   matched_then-sorted = blocks_then-sorted (λ i. map (both i) (filter (m i) (row_numbers r))) row_ascends (λ i. row_lefts i (filter (m i) (row_numbers r))) l r (λ j. not (list_any (λ i. m i j) (row_numbers l)))
 
 -- PAIRS TURNED ROUND

@@ -6,7 +6,7 @@ use Rattle.std.proofs.lemmas.List.{map-append, append-nil, append_assoc}
 use Rattle.std.proofs.lemmas.List.Elements.{filter-append}
 use Rattle.std.proofs.lemmas.List.Concat.{flat_map-append}
 use Rattle.tb_value.specs.declared.index.JoinPair.{JoinPair}
-use Rattle.tb_value.specs.Pairs.{row_numbers, both, matched}
+use Rattle.tb_value.specs.Pairs.{row_numbers, both, matched_pairs}
 use Rattle.std.proofs.lemmas.List.Folds.{list_all-append, list_all_at, list_any-append, list_any_at}
 use Rattle.std.proofs.lemmas.List.FromFn.{length-range_with_len, get_or-range_with_len}
 use Rattle.std.proofs.lemmas.Bool.{and_from, or_from}
@@ -62,11 +62,11 @@ kept_more {X} f p n b e =
     one true = refl
     one false = refl
 
-pub matched_more : (l r : ℕ) (m : ℕ → ℕ → Bool) → matched (l + 1) r m ≡ matched l r m ++ map (both l) (filter (m l) (row_numbers r))
+pub matched_more : (l r : ℕ) (m : ℕ → ℕ → Bool) → matched_pairs (l + 1) r m ≡ matched_pairs l r m ++ map (both l) (filter (m l) (row_numbers r))
 matched_more l r m =
     ap (flat_map (λ i. map (both i) (filter (m i) (row_numbers r)))) (row_numbers_more l)
     ∙ flat_map-append (λ i. map (both i) (filter (m i) (row_numbers r))) (row_numbers l) (l ∷ [])
-    ∙ ap (λ (x : List JoinPair). matched l r m ++ x) (append-nil (map (both l) (filter (m l) (row_numbers r))))
+    ∙ ap (λ (x : List JoinPair). matched_pairs l r m ++ x) (append-nil (map (both l) (filter (m l) (row_numbers r))))
 
 pub any_more : (f : ℕ → Bool) (n : ℕ) → list_any f (row_numbers n) ≡ false → f n ≡ false → list_any f (row_numbers (n + 1)) ≡ false
 any_more f n h k =

@@ -21,8 +21,8 @@ abbrev pub right_only : ℕ → JoinPair
 right_only j = record { left = None; right = Some j }
 
 -- two loops over row numbers, i outside and j inside
-abbrev pub matched : ℕ → ℕ → (ℕ → ℕ → Bool) → List JoinPair
-matched l r m = flat_map (λ i. map (both i) (filter (m i) (row_numbers r))) (row_numbers l)
+abbrev pub matched_pairs : ℕ → ℕ → (ℕ → ℕ → Bool) → List JoinPair
+matched_pairs l r m = flat_map (λ i. map (both i) (filter (m i) (row_numbers r))) (row_numbers l)
 
 -- the left rows with a match, those without one, and the right rows without one
 abbrev pub left_met : ℕ → ℕ → (ℕ → ℕ → Bool) → List JoinPair

@@ -20,14 +20,14 @@ abbrev pub data_of : List AnyValue → List Datum
 data_of vs = map datum vs
 
 -- the value that a lent one stands for
-abbrev pub lent : ValueRef → Datum
-lent ref.Null = null
-lent (ref.Boolean b) = boolean b
-lent (ref.Int i) = int i
-lent (ref.String s) = string s.now
-lent (ref.Binary s) = binary s.now
-lent (ref.List vs) = list (items_of vs.now)
-lent (ref.Struct vs) = struct (items_of vs.now)
+abbrev pub lent_value : ValueRef → Datum
+lent_value ref.Null = null
+lent_value (ref.Boolean b) = boolean b
+lent_value (ref.Int i) = int i
+lent_value (ref.String s) = string s.now
+lent_value (ref.Binary s) = binary s.now
+lent_value (ref.List vs) = list (items_of vs.now)
+lent_value (ref.Struct vs) = struct (items_of vs.now)
 
 -- a text's bytes are UTF-8
 abbrev pub IsText : ValueRef → Type 0

@@ -1,7 +1,7 @@
 //! Values of columns.
 ghost use Rattle.std.specs.Prelude.{◌≡◌, IfOk};
 ghost use Rattle.std.specs.Str.{IsUtf8};
-ghost use Rattle.tb_value.specs.See.{datum, data_of, lent, IsText};
+ghost use Rattle.tb_value.specs.See.{datum, data_of, lent_value, IsText};
 
 use crate::bytes::Bytes;
 use crate::error::OutOfMemory;
@@ -87,7 +87,7 @@ pub enum ValueRef<'a> {
 impl AnyValue {
     /// The same value, lent. It takes no memory.
     pub fn as_ref(&self) -> ValueRef<'_>
-        ensures value { lent result ≡ datum self.now }
+        ensures value { lent_value result ≡ datum self.now }
         ensures text { IsText result }
     {
         match self {
@@ -106,7 +106,7 @@ impl ValueRef<'_> {
     /// The same value, owned. The bytes of a text are UTF-8.
     pub fn to_value(&self, alloc: Global) -> Result<AnyValue, OutOfMemory>
         requires { IsText self.now }
-        ensures { IfOk result (λ v. datum v ≡ lent self.now) }
+        ensures { IfOk result (λ v. datum v ≡ lent_value self.now) }
     {
         match *self {
             ValueRef::Null => Ok(AnyValue::Null),

@@ -2,7 +2,7 @@
 ghost use Rattle.std.specs.Prelude.{◌≡◌, fold};
 ghost use Rattle.tb_value.specs.Datum.{items_of};
 ghost use Rattle.tb_value.specs.Fed.{fed_datum, fed_items};
-ghost use Rattle.tb_value.specs.See.{lent};
+ghost use Rattle.tb_value.specs.See.{lent_value};
 
 use crate::any_value::{AnyValue, ValueRef, Values};
 use std::hash::{Hash, Hasher};
@@ -10,7 +10,7 @@ use std::hash::{Hash, Hasher};
 /// Feeds what an equal value that is owned feeds, so that one can be looked for by the other.
 #[cycle(hashed)]
 pub fn hash_ref<H: Hasher>(value: ValueRef<'_>, state: &mut H)
-    ensures { state.new ≡ fold H.write state.old (fed_datum (lent value.entry)) }
+    ensures { state.new ≡ fold H.write state.old (fed_datum (lent_value value.entry)) }
 {
     match value {
         ValueRef::Null => state.write_u8(0),

@@ -2,13 +2,13 @@
 ghost use Rattle.std.specs.Prelude.{◌≡◌};
 ghost use Rattle.tb_value.specs.Datum.{items_of};
 ghost use Rattle.tb_value.specs.Same.{same, same_items};
-ghost use Rattle.tb_value.specs.See.{datum, lent};
+ghost use Rattle.tb_value.specs.See.{datum, lent_value};
 
 use crate::any_value::{AnyValue, ValueRef, Values};
 
 /// Whether two lent values are the same.
 pub fn same_value(first: ValueRef<'_>, second: ValueRef<'_>) -> bool
-    ensures { result ≡ same (lent first.entry) (lent second.entry) }
+    ensures { result ≡ same (lent_value first.entry) (lent_value second.entry) }
 {
     match (first, second) {
         (ValueRef::Null, ValueRef::Null) => true,

@@ -4,7 +4,7 @@ ghost use Rattle.tb_value.specs.Datum.{items_of};
 ghost use Rattle.tb_value.specs.Kind.{boolean, string, binary};
 ghost use Rattle.std.specs.Str.{IsUtf8};
 ghost use Rattle.tb_value.specs.SameKind.{is_key};
-ghost use Rattle.tb_value.specs.See.{datum, data_of, lent};
+ghost use Rattle.tb_value.specs.See.{datum, data_of, lent_value};
 ghost use Rattle.tb_value.specs.SeeKind.{kind_of, part};
 ghost use Rattle.tb_value.specs.Typed.{HasType, AreOf, AreEachOf, FitsFields, IsBytes, IsListOf, IsStructOf, ends, is_whole_physical};
 
@@ -22,7 +22,7 @@ impl DataType {
 
     /// Whether the value that is lent is of this type.
     pub fn is_of_ref(&self, value: ValueRef<'_>) -> bool
-        ensures { IsTrue result ↔ HasType (kind_of self.now) (lent value.entry) }
+        ensures { IsTrue result ↔ HasType (kind_of self.now) (lent_value value.entry) }
     {
         match value {
             ValueRef::Null => true,

@@ -5,7 +5,7 @@ use Rattle.std.specs.Option.{option_map}
 use Rattle.std.proofs.lemmas.List.{map-append, take_all}
 use Rattle.std.proofs.lemmas.List.Elements.{All-append, All-cons, All-nil, All-replicate}
 use Rattle.std.proofs.lemmas.List.Sums.{fold_push}
-use Rattle.tb_view.specs.Layout.{Filling, Building, IsPut, IsRow, placed, begun, all_of, built, with_nulls, with_row, with_rows, long_view, view_placed, views_placed}
+use Rattle.tb_view.specs.Layout.{Filling, Building, IsPut, IsRow, with_text, buffers_of, all_of, building_of, with_nulls, with_row, with_rows, long_view, next_view, next_views}
 use Rattle.tb_view.specs.View.{buffer_of, offset_of, row_text, texts, IsViewOrNone}
 use Rattle.tb_view.specs.declared.view.View.{View}
 use Rattle.tb_view.proofs.Views.{IsView-last, Extend-further, Extend-last, rows-extend, rows-drop_last}
@@ -18,16 +18,16 @@ pub record IsBehind (bs : List (List ℕ)) (b t : List ℕ) (v : View) : Type 0 
   pub offset : offset_of v ≡ length b
   pub is : v ≡ long_view t (length bs) (length b)
 
-pub placed_fits : (s : Filling) (t : List ℕ) → 12 < length t → length s.1 + length t ≤ 4294967295 → placed s (Some t) ≡ (s.0, s.1 ++ t)
+pub placed_fits : (s : Filling) (t : List ℕ) → 12 < length t → length s.1 + length t ≤ 4294967295 → with_text s (Some t) ≡ (s.0, s.1 ++ t)
 placed_fits s t l h = grind arith
 
-pub placed_passes : (s : Filling) (t : List ℕ) → 12 < length t → 4294967295 < length s.1 + length t → placed s (Some t) ≡ (s.0 ++ s.1 ∷ [], t)
+pub placed_passes : (s : Filling) (t : List ℕ) → 12 < length t → 4294967295 < length s.1 + length t → with_text s (Some t) ≡ (s.0 ++ s.1 ∷ [], t)
 placed_passes s t l h = grind arith
 
-long_fits : (s : Filling) (t : List ℕ) → 12 < length t → length s.1 + length t ≤ 4294967295 → view_placed s t ≡ long_view t (length s.0) (length s.1)
+long_fits : (s : Filling) (t : List ℕ) → 12 < length t → length s.1 + length t ≤ 4294967295 → next_view s t ≡ long_view t (length s.0) (length s.1)
 long_fits s t l h = grind arith
 
-long_passes : (s : Filling) (t : List ℕ) → 12 < length t → 4294967295 < length s.1 + length t → view_placed s t ≡ long_view t (length s.0 + 1) 0
+long_passes : (s : Filling) (t : List ℕ) → 12 < length t → 4294967295 < length s.1 + length t → next_view s t ≡ long_view t (length s.0 + 1) 0
 long_passes s t l h = grind arith
 
 pub put_fits : (s : Filling) (t : List ℕ) (v : View) → 12 < length t → length s.1 + length t ≤ 4294967295 → IsBehind s.0 s.1 t v → IsPut t s (s.0, s.1 ++ t) v
@@ -83,18 +83,18 @@ rows_pushed s s' vs t w n r a =
     (m.0, λ i. record { rows = e i; views = vs ++ replicate n (r.is i); laid = r.placed i })
 
 -- one more view
-views_placed-push : (s : Filling) (ts : List (Option (List ℕ))) (o : Option (List ℕ)) → views_placed s ts ++ option_map (view_placed (fold placed s ts)) o ∷ [] ≡ views_placed s (ts ++ o ∷ [])
+views_placed-push : (s : Filling) (ts : List (Option (List ℕ))) (o : Option (List ℕ)) → next_views s ts ++ option_map (next_view (fold with_text s ts)) o ∷ [] ≡ next_views s (ts ++ o ∷ [])
 views_placed-push s [] o = refl
-views_placed-push s (t ∷ ts) o = ap (λ vs. option_map (view_placed s) t ∷ vs) (views_placed-push (placed s t) ts o)
+views_placed-push s (t ∷ ts) o = ap (λ vs. option_map (next_view s) t ∷ vs) (views_placed-push (with_text s t) ts o)
 
-pub built-push : (ts : List (Option (List ℕ))) (o : Option (List ℕ)) → with_row (built ts) o ≡ built (ts ++ o ∷ [])
+pub built-push : (ts : List (Option (List ℕ))) (o : Option (List ℕ)) → with_row (building_of ts) o ≡ building_of (ts ++ o ∷ [])
 built-push ts o =
-    let e = fold_push placed ([], []) ts o in
+    let e = fold_push with_text ([], []) ts o in
     let v = views_placed-push ([], []) ts o in
     λ i. record { rows = ts ++ o ∷ []; views = v i; laid = sym e i }
 
 -- the buffers at the end hold the same texts
-pub rows-begun : (s : Filling) (vs : List (Option View)) → All (IsViewOrNone (all_of s)) vs → All (IsViewOrNone (begun s)) vs × (texts (begun s) vs ≡ texts (all_of s) vs)
+pub rows-begun : (s : Filling) (vs : List (Option View)) → All (IsViewOrNone (all_of s)) vs → All (IsViewOrNone (buffers_of s)) vs × (texts (buffers_of s) vs ≡ texts (all_of s) vs)
 rows-begun (full, []) vs a = rows-drop_last full vs a
 rows-begun (full, b ∷ bs) vs a = (a, refl)
 

@@ -4,4 +4,4 @@ pub mod Lists
 pub mod Moved
 pub mod RunViews
 pub mod Views
-pub mod Whole
+pub mod ViewArrays

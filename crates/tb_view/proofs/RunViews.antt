@@ -6,7 +6,7 @@ use Rattle.tb_value.specs.Datum.{Datum}
 use Rattle.tb_value.specs.See.{datum}
 use Rattle.tb_value.specs.Texts.{text_of}
 use Rattle.tb_value.specs.declared.any_value.AnyValue.{AnyValue}
-use Rattle.tb_view.specs.Layout.{Building, built, with_nulls, with_rows}
+use Rattle.tb_view.specs.Layout.{Building, building_of, with_nulls, with_rows}
 use Rattle.tb_view.specs.RunViews.{data_runs, run_building, text_runs, with_run}
 
 -- a run of some rows puts its text, and one without a text puts none
@@ -25,4 +25,4 @@ data_more rs n r low is = map_more (λ (s : AnyValue × ℕ). (datum s.0, s.1)) 
 pub building_more : (rs : List (AnyValue × ℕ)) (n : ℕ) (r : AnyValue × ℕ) → n < length rs → r ≡ get_or rs n r → with_run (run_building (text_runs (data_runs (take n rs)))) (text_of (datum r.0), r.1) ≡ run_building (text_runs (data_runs (take (n + 1) rs)))
 building_more rs n r low is =
     let t : text_runs (data_runs (take (n + 1) rs)) ≡ text_runs (data_runs (take n rs)) ++ (text_of (datum r.0), r.1) ∷ [] = ap text_runs (data_more rs n r low is) ∙ map_push (λ (s : Datum × ℕ). (text_of s.0, s.1)) (data_runs (take n rs)) (datum r.0, r.1) in
-    sym (ap run_building t ∙ fold_push with_run (built []) (text_runs (data_runs (take n rs))) (text_of (datum r.0), r.1))
+    sym (ap run_building t ∙ fold_push with_run (building_of []) (text_runs (data_runs (take n rs))) (text_of (datum r.0), r.1))

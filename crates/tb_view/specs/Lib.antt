@@ -3,4 +3,4 @@ pub mod Layout
 pub mod Moved
 pub mod RunViews
 pub mod View
-pub mod Whole
+pub mod ViewArrays

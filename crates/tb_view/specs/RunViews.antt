@@ -5,8 +5,8 @@ use Rattle.tb_value.specs.Datum.{Datum}
 use Rattle.tb_value.specs.See.{datum}
 use Rattle.tb_value.specs.Texts.{text_of}
 use Rattle.tb_value.specs.declared.any_value.AnyValue.{AnyValue}
-use Rattle.tb_view.specs.Layout.{Building, begun, built, with_nulls, with_rows}
-use Rattle.tb_view.specs.Whole.{ViewRun}
+use Rattle.tb_view.specs.Layout.{Building, buffers_of, building_of, with_nulls, with_rows}
+use Rattle.tb_view.specs.ViewArrays.{ViewArray}
 
 -- the runs of values of a column
 abbrev pub data_runs : List (AnyValue × ℕ) → List (Datum × ℕ)
@@ -24,8 +24,8 @@ with_run b (Some t, suc n) = with_rows b t (suc n)
 
 -- what a builder holds after these runs
 abbrev pub run_building : List (Option (List ℕ) × ℕ) → Building
-run_building rs = fold with_run (built []) rs
+run_building rs = fold with_run (building_of []) rs
 
 -- the views and the buffers of a chunk of these runs
-abbrev pub laid_runs : List (Option (List ℕ) × ℕ) → ViewRun
-laid_runs rs = record { views = (run_building rs).views; buffers = begun (run_building rs).laid }
+abbrev pub laid_runs : List (Option (List ℕ) × ℕ) → ViewArray
+laid_runs rs = record { views = (run_building rs).views; buffers = buffers_of (run_building rs).laid }

@@ -1,6 +1,6 @@
 //! Buffers that texts are put into.
 ghost use Rattle.std.specs.Prelude.{◌≡◌, ◌<◌, ◌+◌, ◌^◌, ◌∷◌, ◌++◌, [], IfOk, OnOk, OnErr, Some, length, map};
-ghost use Rattle.tb_view.specs.Layout.{IsPut, IsRow, begun};
+ghost use Rattle.tb_view.specs.Layout.{IsPut, IsRow, buffers_of};
 
 use crate::view::View;
 use std::alloc::Global;
@@ -87,7 +87,7 @@ impl Filling {
 
     /// All buffers, which are not copied.
     pub(crate) fn finish(self, alloc: Global) -> Result<Vec<Bytes>, OutOfMemory>
-        ensures buffers { IfOk result (λ v. v.items ≡ begun self) }
+        ensures buffers { IfOk result (λ v. v.items ≡ buffers_of self) }
         ensures few { IfOk result (λ v. length v.items < 2 ^ 32) }
     {
         let Filling { full, last } = self;

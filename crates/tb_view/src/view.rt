@@ -1,7 +1,7 @@
 //! Texts of 16 bytes, or the place of a longer one.
 ghost use Rattle.std.specs.Prelude.{◌≡◌, ◌<◌, ◌≤◌, ◌+◌, ◌^◌, length, take};
 ghost use Rattle.tb_view.specs.Layout.{long_view, short_view};
-ghost use Rattle.tb_view.specs.Moved.{renumbered};
+ghost use Rattle.tb_view.specs.Moved.{renumbered_view};
 ghost use Rattle.tb_view.specs.View.{buffer_of, offset_of, view_text, IsInline, IsView};
 
 use tb_value::Bytes;
@@ -68,7 +68,7 @@ impl View {
 
     /// The same text, where its buffer has this number.
     pub fn renumbered(&self, buffer: u32) -> View
-        ensures whole { result ≡ renumbered self.now buffer }
+        ensures whole { result ≡ renumbered_view self.now buffer }
         ensures length { result.length ≡ self.now.length }
         ensures front { take 4 result.rest ≡ take 4 self.now.rest }
         ensures buffer { buffer_of result ≡ buffer }

@@ -1,7 +1,7 @@
 //! Views made of texts, one after another.
 ghost use Rattle.std.specs.Prelude.{◌≡◌, ◌<◌, ◌^◌, [], IfOk, OnOk, OnErr, None, Some, length, map};
 ghost use Rattle.tb_value.specs.See.{datum};
-ghost use Rattle.tb_view.specs.Layout.{begun, built, laid, with_nulls, with_row, with_rows};
+ghost use Rattle.tb_view.specs.Layout.{buffers_of, building_of, text_view_array, with_nulls, with_row, with_rows};
 ghost use Rattle.tb_view.specs.RunViews.{data_runs, run_building, text_runs, with_run};
 ghost use Rattle.tb_value.specs.Texts.{text_of};
 ghost use Rattle.tb_view.specs.View.{texts};
@@ -36,7 +36,7 @@ impl Model for ViewBuilder {
 impl ViewBuilder {
     /// The builder of no row, with room for as many as are given.
     pub fn with_capacity(alloc: Global, rows: usize) -> Result<ViewBuilder, OutOfMemory>
-        ensures { IfOk result (λ b. b ≡ built []) }
+        ensures { IfOk result (λ b. b ≡ building_of []) }
     {
         Ok(ViewBuilder {
             views: Vec::with_capacity(alloc, rows)?,
@@ -98,7 +98,7 @@ impl ViewBuilder {
     pub fn finish(self, alloc: Global) -> Result<ViewChunk, OutOfMemory>
         ensures texts { IfOk result (λ c. texts c.buffers.items c.views.items ≡ self.rows) }
         ensures views { IfOk result (λ c. c.views.items ≡ self.views) }
-        ensures buffers { IfOk result (λ c. c.buffers.items ≡ begun self.laid) }
+        ensures buffers { IfOk result (λ c. c.buffers.items ≡ buffers_of self.laid) }
     {
         let ViewBuilder { views, filling } = self;
         let buffers = filling.finish(alloc)?;
@@ -146,7 +146,7 @@ impl ViewChunk {
     ) -> Result<ViewChunk, OutOfMemory>
         ensures texts { IfOk result (λ c. texts c.buffers.items c.views.items ≡ (run_building (text_runs (data_runs runs.now))).rows) }
         ensures views { IfOk result (λ c. c.views.items ≡ (run_building (text_runs (data_runs runs.now))).views) }
-        ensures buffers { IfOk result (λ c. c.buffers.items ≡ begun (run_building (text_runs (data_runs runs.now))).laid) }
+        ensures buffers { IfOk result (λ c. c.buffers.items ≡ buffers_of (run_building (text_runs (data_runs runs.now))).laid) }
     {
         let mut builder = ViewBuilder::with_capacity(alloc, rows)?;
         for (value, times) in runs {
@@ -158,8 +158,8 @@ impl ViewChunk {
     /// The chunk of the texts and bytes among these values.
     pub fn from_values(alloc: Global, values: &[AnyValue]) -> Result<ViewChunk, OutOfMemory>
         ensures texts { IfOk result (λ c. texts c.buffers.items c.views.items ≡ map (λ v. text_of (datum v)) values.now) }
-        ensures views { IfOk result (λ c. c.views.items ≡ (laid (map (λ v. text_of (datum v)) values.now)).views) }
-        ensures buffers { IfOk result (λ c. c.buffers.items ≡ (laid (map (λ v. text_of (datum v)) values.now)).buffers) }
+        ensures views { IfOk result (λ c. c.views.items ≡ (text_view_array (map (λ v. text_of (datum v)) values.now)).views) }
+        ensures buffers { IfOk result (λ c. c.buffers.items ≡ (text_view_array (map (λ v. text_of (datum v)) values.now)).buffers) }
     {
         let mut builder = ViewBuilder::with_capacity(alloc, values.len())?;
         for value in values {

@@ -4,7 +4,7 @@ ghost use Rattle.std.proofs.Props.{props};
 ghost use Rattle.std.specs.List.{count_by};
 ghost use Rattle.std.specs.Option.{option_map};
 ghost use Rattle.tb_view.specs.Held.{StandsAt};
-ghost use Rattle.tb_view.specs.Moved.{placed_at, used_buffer};
+ghost use Rattle.tb_view.specs.Moved.{view_at_number, used_buffer};
 ghost use Rattle.tb_view.specs.View.{texts, row_text, IsViewOrNone};
 
 use crate::view::View;
@@ -141,7 +141,7 @@ impl ViewChunk {
         requires held { StandsAt self.old.buffers.items number other.now.buffers.items (slice_index_or other.now.views.items row None) }
         ensures ok { OnOk result (texts self.new.buffers.items self.new.views.items ≡ texts self.old.buffers.items self.old.views.items
             ++ slice_index_or (texts other.now.buffers.items other.now.views.items) row None ∷ []) }
-        ensures views { OnOk result (self.new.views.items ≡ self.old.views.items ++ placed_at number (slice_index_or other.now.views.items row None) ∷ []) }
+        ensures views { OnOk result (self.new.views.items ≡ self.old.views.items ++ view_at_number number (slice_index_or other.now.views.items row None) ∷ []) }
         ensures err { OnErr result (self.new.views.items ≡ self.old.views.items) }
         ensures buffers { self.new.buffers.items ≡ self.old.buffers.items }
     {
@@ -183,7 +183,7 @@ fn view_at(
     requires held { StandsAt all.now number buffers.now view.now }
     ensures view { IsViewOrNone all.now result }
     ensures text { row_text all.now result ≡ row_text buffers.now view.now }
-    ensures placed { result ≡ placed_at number view.now }
+    ensures placed { result ≡ view_at_number number view.now }
 {
     match (view, number) {
         (Some(view), Some(number)) if view.length > 12 => Some(view.renumbered(number)),

@@ -10,7 +10,7 @@ use Rattle.tb_frame.specs.Refusal.{repeats}
 use Rattle.tb_why.specs.declared.spot.Expected.TheVariants.{OtherName}
 use Rattle.tb_why.specs.declared.spot.Step.TheVariants.{Member, Index}
 use Rattle.tb_why.specs.Columns.{name_at, name_spot}
-use Rattle.tb_why.specs.Spots.{Spot, here, under}
+use Rattle.tb_why.specs.Spots.{Spot, spot_here, under}
 
 -- within a list no default is asked for
 pub within : (names : List Name) (i : ℕ) (n m : Name) → i < length names → get_or names i n ≡ get_or names i m
@@ -23,7 +23,7 @@ not_added true h = refl
 not_added false h = absurd (cc)
 
 abbrev repeat_at : ℕ → Option Spot
-repeat_at i = under (Index i) (under (Member (codes "name")) (here OtherName))
+repeat_at i = under (Index i) (under (Member (codes "name")) (spot_here OtherName))
 
 pub name_spot_is : (ds : List Data) (names : List Name) (i : ℕ) → names ≡ map name_at ds → Some i ≡ find (repeats names) (row_numbers (length names)) → repeat_at i ≡ name_spot ds
 name_spot_is ds names i is found =

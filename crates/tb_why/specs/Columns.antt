@@ -23,7 +23,7 @@ use Rattle.tb_request.specs.Written.{flag_of}
 use Rattle.tb_why.specs.declared.spot.Expected.{Expected}
 use Rattle.tb_why.specs.declared.spot.Expected.TheVariants as expected
 use Rattle.tb_why.specs.declared.spot.Step.TheVariants.{Member, Index}
-use Rattle.tb_why.specs.Spots.{Spot, here, unless, under, or_else, inside, first_at}
+use Rattle.tb_why.specs.Spots.{Spot, spot_here, unless, under, or_else, inside, first_at}
 use Rattle.tb_why.specs.Members.{members_spot, column_members, table_members}
 
 -- the values of an array, and those of a member that is one; none where it is none
@@ -114,7 +114,7 @@ height (c ∷ cs) = count_at c
 
 -- the first column that has the name of one before it
 abbrev pub name_spot : List Data → Option Spot
-name_spot columns = option_and_then (λ i. under (Index i) (under (Member (codes "name")) (here expected.OtherName)))
+name_spot columns = option_and_then (λ i. under (Index i) (under (Member (codes "name")) (spot_here expected.OtherName)))
     (find (repeats (map name_at columns)) (row_numbers (length columns)))
 
 -- the first column that is at fault for this reason

@@ -14,7 +14,7 @@ use Rattle.tb_why.specs.declared.spot.Word.{Word}
 use Rattle.tb_why.specs.declared.spot.Word.TheVariants as word
 use Rattle.tb_why.specs.declared.spot.Step.TheVariants.{Member}
 use Rattle.tb_why.specs.declared.members.Known as rust
-use Rattle.tb_why.specs.Spots.{Spot, here, unless, under, or_else}
+use Rattle.tb_why.specs.Spots.{Spot, spot_here, unless, under, or_else}
 
 abbrev pub is_word : Word → List ℕ → Bool
 is_word word.How s = is_some (how_named s)
@@ -52,14 +52,14 @@ known_view k = record { name = k.name.now; needed = k.needed; form = k.form }
 abbrev pub known_views : List rust.Known → List Known
 known_views ks = map known_view ks
 
-abbrev pub needed : List ℕ → Form → Known
-needed name f = record { name = name; needed = true; form = f }
+abbrev pub needed_member : List ℕ → Form → Known
+needed_member name f = record { name = name; needed = true; form = f }
 
-abbrev pub optional : List ℕ → Form → Known
-optional name f = record { name = name; needed = false; form = f }
+abbrev pub optional_member : List ℕ → Form → Known
+optional_member name f = record { name = name; needed = false; form = f }
 
 abbrev pub fault_of : Known → Option Data → Option Spot
-fault_of k None = if k.needed then here (expected.Wanting k.form) else None
+fault_of k None = if k.needed then spot_here (expected.Wanting k.form) else None
 fault_of k (Some d) = unless (has_form k.form d) (expected.Form k.form)
 
 abbrev pub each_known : List Known → Data → Option Spot
@@ -83,7 +83,7 @@ abbrev pub names_of : List Known → List Name
 names_of ks = map (λ (k : Known). k.name) ks
 
 abbrev pub unknown_spot : List Name → Data → Option Spot
-unknown_spot names d = option_and_then (λ k. under (Member k) (here expected.NoMember)) (unknown_in names d)
+unknown_spot names d = option_and_then (λ k. under (Member k) (spot_here expected.NoMember)) (unknown_in names d)
 
 -- the value where it is no object, or an unknown member, or the first of the known ones that is wanting or of another form
 abbrev pub members_spot : List Known → Data → Option Spot
@@ -93,71 +93,71 @@ members_spot ks d = or_else (unless (has_form form.Object d) (expected.Form form
 
 abbrev pub column_members : List Known
 column_members =
-    needed (codes "chunks") form.Chunks
-    ∷ needed (codes "name") form.Text
-    ∷ optional (codes "sorted") (form.Word word.Sorted)
-    ∷ needed (codes "type") form.Type
+    needed_member (codes "chunks") form.Chunks
+    ∷ needed_member (codes "name") form.Text
+    ∷ optional_member (codes "sorted") (form.Word word.Sorted)
+    ∷ needed_member (codes "type") form.Type
     ∷ []
 
 abbrev pub table_members : List Known
-table_members = needed (codes "columns") form.Values ∷ []
+table_members = needed_member (codes "columns") form.Values ∷ []
 
 abbrev pub args_members : List Known
 args_members =
-    optional (codes "coalesce") (form.Word word.Coalesce)
-    ∷ needed (codes "how") (form.Word word.How)
-    ∷ optional (codes "join_nulls") form.Nulls
-    ∷ optional (codes "maintain_order") (form.Word word.Order)
-    ∷ optional (codes "slice") form.Slice
-    ∷ optional (codes "suffix") form.Text
-    ∷ optional (codes "validation") (form.Word word.Validation)
+    optional_member (codes "coalesce") (form.Word word.Coalesce)
+    ∷ needed_member (codes "how") (form.Word word.How)
+    ∷ optional_member (codes "join_nulls") form.Nulls
+    ∷ optional_member (codes "maintain_order") (form.Word word.Order)
+    ∷ optional_member (codes "slice") form.Slice
+    ∷ optional_member (codes "suffix") form.Text
+    ∷ optional_member (codes "validation") (form.Word word.Validation)
     ∷ []
 
 -- the numbers by which work is run, where counts of workers and a divisor have these forms
 abbrev pub exec_with : Form → Form → List Known
 exec_with workers divisor =
-    needed (codes "den") divisor
-    ∷ needed (codes "num") form.Count
-    ∷ needed (codes "partitions") workers
-    ∷ needed (codes "small") form.Count
-    ∷ needed (codes "workers") workers
+    needed_member (codes "den") divisor
+    ∷ needed_member (codes "num") form.Count
+    ∷ needed_member (codes "partitions") workers
+    ∷ needed_member (codes "small") form.Count
+    ∷ needed_member (codes "workers") workers
     ∷ []
 
 abbrev pub join_members : List Known
 join_members =
-    needed (codes "args") form.Object
-    ∷ optional (codes "exec") form.Object
-    ∷ needed (codes "left") form.Object
-    ∷ needed (codes "left_on") form.Texts
-    ∷ needed (codes "right") form.Object
-    ∷ needed (codes "right_on") form.Texts
-    ∷ optional (codes "trace") form.Truth
+    needed_member (codes "args") form.Object
+    ∷ optional_member (codes "exec") form.Object
+    ∷ needed_member (codes "left") form.Object
+    ∷ needed_member (codes "left_on") form.Texts
+    ∷ needed_member (codes "right") form.Object
+    ∷ needed_member (codes "right_on") form.Texts
+    ∷ optional_member (codes "trace") form.Truth
     ∷ []
 
 abbrev pub unpivot_members : List Known
 unpivot_members =
-    needed (codes "index") form.Texts
-    ∷ needed (codes "on") form.Texts
-    ∷ needed (codes "table") form.Object
-    ∷ optional (codes "value_name") form.Text
-    ∷ optional (codes "variable_name") form.Text
+    needed_member (codes "index") form.Texts
+    ∷ needed_member (codes "on") form.Texts
+    ∷ needed_member (codes "table") form.Object
+    ∷ optional_member (codes "value_name") form.Text
+    ∷ optional_member (codes "variable_name") form.Text
     ∷ []
 
 abbrev pub dummies_members : List Known
 dummies_members =
-    optional (codes "columns") form.Texts
-    ∷ optional (codes "drop_first") form.Truth
-    ∷ optional (codes "separator") form.Text
-    ∷ needed (codes "table") form.Object
+    optional_member (codes "columns") form.Texts
+    ∷ optional_member (codes "drop_first") form.Truth
+    ∷ optional_member (codes "separator") form.Text
+    ∷ needed_member (codes "table") form.Object
     ∷ []
 
 abbrev pub pivot_members : List Known
 pivot_members =
-    optional (codes "agg") (form.Word word.Aggregate)
-    ∷ optional (codes "index") form.Texts
-    ∷ needed (codes "on") form.Texts
-    ∷ optional (codes "separator") form.Text
-    ∷ optional (codes "sort_columns") form.Truth
-    ∷ needed (codes "table") form.Object
-    ∷ optional (codes "values") form.Texts
+    optional_member (codes "agg") (form.Word word.Aggregate)
+    ∷ optional_member (codes "index") form.Texts
+    ∷ needed_member (codes "on") form.Texts
+    ∷ optional_member (codes "separator") form.Text
+    ∷ optional_member (codes "sort_columns") form.Truth
+    ∷ needed_member (codes "table") form.Object
+    ∷ optional_member (codes "values") form.Texts
     ∷ []

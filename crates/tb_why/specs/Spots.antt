@@ -13,11 +13,11 @@ pub record Spot : Type 0 where
   pub path : List Step
   pub expected : Expected
 
-abbrev pub here : Expected → Option Spot
-here e = Some (record { path = []; expected = e })
+abbrev pub spot_here : Expected → Option Spot
+spot_here e = Some (record { path = []; expected = e })
 
 abbrev pub unless : Bool → Expected → Option Spot
-unless b e = if b then None else here e
+unless b e = if b then None else spot_here e
 
 abbrev pub under : Step → Option Spot → Option Spot
 under s None = None

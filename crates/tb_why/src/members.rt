@@ -2,7 +2,7 @@
 ghost use Rattle.std.specs.Prelude.{◌≡◌, option_map};
 ghost use Rattle.tb_tree.specs.View.{view};
 ghost use Rattle.tb_json.specs.Lists.{is_among};
-ghost use Rattle.tb_why.specs.Members.{known_view, known_views, names_of, needed, optional, fault_of, each_known, unknown_spot, members_spot};
+ghost use Rattle.tb_why.specs.Members.{known_view, known_views, names_of, needed_member, optional_member, fault_of, each_known, unknown_spot, members_spot};
 ghost use Rattle.tb_why.specs.Spots.{spot_view, unless, Finds};
 
 use crate::forms::has_form;
@@ -21,7 +21,7 @@ pub(crate) struct Known {
 
 /// A member that an object must have.
 pub(crate) fn needed(name: &'static str, form: Form) -> Known
-    ensures { known_view result ≡ needed name.now form }
+    ensures { known_view result ≡ needed_member name.now form }
 {
     Known {
         name,
@@ -32,7 +32,7 @@ pub(crate) fn needed(name: &'static str, form: Form) -> Known
 
 /// A member that an object may have.
 pub(crate) fn optional(name: &'static str, form: Form) -> Known
-    ensures { known_view result ≡ optional name.now form }
+    ensures { known_view result ≡ optional_member name.now form }
 {
     Known {
         name,

@@ -1,7 +1,7 @@
 //! Faults of requests, their places, and what is expected there.
 ghost use Rattle.std.specs.Prelude.{◌≡◌, Some, option_map, IfOk};
 ghost use Rattle.tb_why.specs.declared.spot.Step.TheVariants.{Member, Index};
-ghost use Rattle.tb_why.specs.Spots.{here, spot_view, under, Finds};
+ghost use Rattle.tb_why.specs.Spots.{spot_here, spot_view, under, Finds};
 
 use std::alloc::Global;
 use tb_request::Reason;
@@ -129,7 +129,7 @@ pub(crate) struct Spot {
 
 /// The value itself.
 pub(crate) fn here(alloc: Global, expected: Expected) -> Spot
-    ensures { Some (spot_view result) ≡ here expected }
+    ensures { Some (spot_view result) ≡ spot_here expected }
 {
     Spot {
         path: Vec::new(alloc),

@@ -4,7 +4,7 @@ use Rattle.std.proofs.lemmas.List.FromFn.{length-map-range_with_len}
 use Rattle.tb_value.specs.Datum.{Datum}
 use Rattle.tb_value.specs.Pairs.{row_numbers}
 use Rattle.tb_chunk.specs.Col.{Col, values}
-use Rattle.tb_chunk.specs.Changed.{opt_taken}
+use Rattle.tb_chunk.specs.Changed.{opt_taken_rows}
 use Rattle.tb_chunk.specs.Made.{IsOf}
 use Rattle.tb_chunk.specs.Rows.{value_or_null}
 use Rattle.tb_chunk.proofs.Made.{is_of}
@@ -27,5 +27,5 @@ returns c =
     subst (λ (l : List Datum). IfOk c.take_opt.result (IsOf column.name column.kind (l ∷ []) Not))
     (ap (map (value_or_null vs)) (c.deref.ensures.value ∙ c.in_ok-rows.ensures.picked)
     ∙ all_picked vs c.args.pick (rows_of c.args.groups.now.numbers.items (length vs)) (row_numbers (length c.args.groups.now.firsts.items)))
-    (IfOk-weaker c.take_opt.result (λ (s : Col). s ≡ opt_taken c.deref.result.now column) (IsOf column.name column.kind (map (value_or_null vs) c.deref.result.now ∷ []) Not)
-    (λ s h. is_of column.name column.kind (map (value_or_null vs) c.deref.result.now ∷ []) Not (opt_taken c.deref.result.now column).runs s h) c.take_opt.ensures)
+    (IfOk-weaker c.take_opt.result (λ (s : Col). s ≡ opt_taken_rows c.deref.result.now column) (IsOf column.name column.kind (map (value_or_null vs) c.deref.result.now ∷ []) Not)
+    (λ s h. is_of column.name column.kind (map (value_or_null vs) c.deref.result.now ∷ []) Not (opt_taken_rows c.deref.result.now column).view_arrays s h) c.take_opt.ensures)

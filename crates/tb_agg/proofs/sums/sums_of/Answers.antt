@@ -2,9 +2,9 @@ use Rattle.std.proofs.Common.{◌≡◌, ◌∙◌, ◌+◌, ◌<◌, ◌≤ℤ�
 use Rattle.std.specs.List.{All}
 use Rattle.std.proofs.lemmas.Int.{ints}
 use Rattle.std.proofs.lemmas.List.Elements.{All-get_or, All-replicate, All-set}
-use Rattle.tb_value.specs.See.{lent}
+use Rattle.tb_value.specs.See.{lent_value}
 use Rattle.tb_chunk.specs.Col.{values}
-use Rattle.tb_rows.specs.Rows.{value_at}
+use Rattle.tb_rows.specs.Rows.{row_value}
 use Rattle.tb_agg.specs.Aggregates.{total}
 use Rattle.tb_agg.specs.Grouped.{rows_of}
 use Rattle.tb_agg.specs.Running.{sum_so_far}
@@ -25,7 +25,7 @@ loop-row-init c =
     let down : neg_ℤ (pos 0) ≤ℤ pos 0 = omega (arith, ints) in
     let up : pos 0 ≤ℤ pos 0 = omega (arith, ints) in
     record {
-      totals = ap (map sum_so_far) is ∙ none_yet (λ rows. total (map (value_at vs) rows)) sum_so_far numbers g zero_sum refl;
+      totals = ap (map sum_so_far) is ∙ none_yet (λ rows. total (map (row_value vs) rows)) sum_so_far numbers g zero_sum refl;
       down = subst (λ (l : List Running). All (λ r. neg_ℤ (pos 0) ≤ℤ r.wraps) l) (sym is) (All-replicate (λ (r : Running). neg_ℤ (pos 0) ≤ℤ r.wraps) g zero_sum down);
       up = subst (λ (l : List Running). All (λ r. r.wraps ≤ℤ pos 0) l) (sym is) (All-replicate (λ (r : Running). r.wraps ≤ℤ pos 0) g zero_sum up);
     }
@@ -42,7 +42,7 @@ loop-row-preserved c =
     let is : p ≡ get_or numbers n 0 = ap (λ xs. get_or xs n 0) c.numbers.ensures in
     let below : n < length vs = omega (arith, c.loop-row-test.true, c.len-rows.ensures.len) in
     let low = group_low numbers g (length vs) n p c.requires.each c.requires.within below is in
-    let made = λ (rows : List ℕ). total (map (value_at vs) rows) in
+    let made = λ (rows : List ℕ). total (map (row_value vs) rows) in
     let there = kept_there made sum_so_far numbers g n kept so_far.totals p is low c.index.result.now in
     let long = all_kept made sum_so_far numbers g n kept so_far.totals p is low in
     let old : c.index.result.now ≡ get_or kept p c.index.result.now = c.index.ensures in
@@ -53,7 +53,7 @@ loop-row-preserved c =
     let to = c.plus_value.ensures.to in
     record {
       totals = one_more made sum_so_far numbers g n kept so_far.totals p is low c.plus_value.result
-          (total_step (value_at vs) (rows_of numbers n p) n (sum_so_far c.index.result.now) (sum_so_far c.plus_value.result) (lent c.get.result) (ap sum_so_far old ∙ there) c.get.ensures.value c.plus_value.ensures.total);
+          (total_step (row_value vs) (rows_of numbers n p) n (sum_so_far c.index.result.now) (sum_so_far c.plus_value.result) (lent_value c.get.result) (ap sum_so_far old ∙ there) c.get.ensures.value c.plus_value.ensures.total);
       down = All-set (λ (r : Running). neg_ℤ (pos (n + 1)) ≤ℤ r.wraps) kept p c.plus_value.result (omega (arith, ints, wraps, low_was, from)) (λ k d h. let was = so_far.down k d h in omega (arith, ints, was));
       up = All-set (λ (r : Running). r.wraps ≤ℤ pos (n + 1)) kept p c.plus_value.result (omega (arith, ints, wraps, high_was, to)) (λ k d h. let was = so_far.up k d h in omega (arith, ints, was));
     }

@@ -2,7 +2,7 @@ use Rattle.std.proofs.Common.{◌≡◌, ◌≤ℤ◌, pos, neg_ℤ, length, map
 use Rattle.std.specs.List.{All}
 use Rattle.tb_value.specs.Pairs.{row_numbers}
 use Rattle.tb_chunk.specs.Col.{values}
-use Rattle.tb_rows.specs.Rows.{value_at}
+use Rattle.tb_rows.specs.Rows.{row_value}
 use Rattle.tb_agg.specs.Aggregates.{total}
 use Rattle.tb_agg.specs.Grouped.{rows_of}
 use Rattle.tb_agg.specs.Running.{sum_so_far}
@@ -10,7 +10,7 @@ use Rattle.tb_agg.proofs.sums.sums_of.Given as goal
 
 abbrev pub invariant-loop-row : goal.invariant-loop-row
 invariant-loop-row l = record {
-  totals : map sum_so_far l.sums.items ≡ map (λ k. total (map (value_at (values l.column)) (rows_of l.groups.numbers.items l.row k))) (row_numbers (length l.groups.firsts.items));
+  totals : map sum_so_far l.sums.items ≡ map (λ k. total (map (row_value (values l.column)) (rows_of l.groups.numbers.items l.row k))) (row_numbers (length l.groups.firsts.items));
   down : All (λ r. neg_ℤ (pos l.row) ≤ℤ r.wraps) l.sums.items;
   up : All (λ r. r.wraps ≤ℤ pos l.row) l.sums.items;
 }

@@ -4,12 +4,12 @@ use Rattle.serde_json.specs.Data.{Data}
 use Rattle.serde_json.specs.Written.{has_float}
 use Rattle.tb_frame.specs.Table.{table_of}
 use Rattle.tb_json.specs.Text.{traced_text_of}
-use Rattle.tb_pairs.specs.Trace.{told}
+use Rattle.tb_pairs.specs.Trace.{trace_told}
 use Rattle.tb_app.proofs.TraceTexts.{no_float}
 use Rattle.tb_app.proofs.tracing.text_with_trace.Goals as goal
 
 pub traced_text_of-requires : goal.traced_text_of-requires
-traced_text_of-requires c = ap has_float c.in_ok-trace.ensures ∙ no_float (told c.args.trace.now)
+traced_text_of-requires c = ap has_float c.in_ok-trace.ensures ∙ no_float (trace_told c.args.trace.now)
 
 pub returns : goal.returns
 returns c =

@@ -1,6 +1,6 @@
 use Rattle.std.proofs.Common.{◌≡◌, ◌+◌, length, map, drop}
-use Rattle.tb_chunk.specs.Col.{flat}
+use Rattle.tb_chunk.specs.Col.{concatenation}
 use Rattle.tb_chunk.proofs.chunks.rows_in.Given as goal
 
 abbrev pub invariant-loop-chunk : goal.invariant-loop-chunk
-invariant-loop-chunk g l = l.rows + length (flat (map g.C.Chunk.shown (drop l.chunk-index l.chunks))) ≡ length (flat (map g.C.Chunk.shown l.chunks))
+invariant-loop-chunk g l = l.rows + length (concatenation (map g.C.Chunk.shown (drop l.chunk-index l.chunks))) ≡ length (concatenation (map g.C.Chunk.shown l.chunks))

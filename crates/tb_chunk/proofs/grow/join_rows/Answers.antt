@@ -1,5 +1,5 @@
 use Rattle.std.proofs.Common.{arith, ◌≡◌, ◌∙◌, ap, length}
-use Rattle.tb_view.proofs.Whole.{only_run}
+use Rattle.tb_view.proofs.ViewArrays.{only_run}
 use Rattle.tb_chunk.proofs.grow.join_rows.Goals as goal
 
 pub returns-then-rows-len-clause-views : goal.returns-then-rows-len-clause-views

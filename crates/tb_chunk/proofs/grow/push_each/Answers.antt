@@ -1,8 +1,8 @@
 use Rattle.std.proofs.Common.{arith, ◌≡◌, ◌∙◌, ◌+◌, ◌<◌, ◌++◌, ◌∷◌, [], ℕ, List, None, ap, sym, append_assoc, get_or, length, map, take, drop, length-drop}
 use Rattle.std.proofs.lemmas.List.{take_more, get_or-drop}
 use Rattle.tb_value.specs.Datum.{null}
-use Rattle.tb_view.specs.Moved.{moved}
-use Rattle.tb_view.proofs.Whole.{lengths_at, moved_more}
+use Rattle.tb_view.specs.Moved.{moved_view}
+use Rattle.tb_view.proofs.ViewArrays.{lengths_at, moved_more}
 use Rattle.tb_chunk.proofs.grow.push_each.Goals as goal
 
 pub loop-i-preserved : goal.loop-i-preserved
@@ -30,9 +30,9 @@ loop-i-preserved g c =
       held = c.push.ensures.held;
       views =
           c.in_ok-push.ensures.views
-          ∙ ap (λ (bs : List ℕ). views l.out.chunk ++ moved (get_or bs c.args.chunk 0) (get_or vs (from + l.i) None) ∷ []) l.invariant.bases
-          ∙ ap (λ ws. ws ++ moved base (get_or vs (from + l.i) None) ∷ []) l.invariant.views
-          ∙ append_assoc viewed (map (moved base) (take l.i (drop from vs))) (moved base (get_or vs (from + l.i) None) ∷ [])
+          ∙ ap (λ (bs : List ℕ). views l.out.chunk ++ moved_view (get_or bs c.args.chunk 0) (get_or vs (from + l.i) None) ∷ []) l.invariant.bases
+          ∙ ap (λ ws. ws ++ moved_view base (get_or vs (from + l.i) None) ∷ []) l.invariant.views
+          ∙ append_assoc viewed (map (moved_view base) (take l.i (drop from vs))) (moved_view base (get_or vs (from + l.i) None) ∷ [])
           ∙ ap (λ ws. viewed ++ ws) (sym (moved_more base vs from l.i low_view));
       buffers = c.push.ensures.buffers ∙ l.invariant.buffers;
       bases = c.push.ensures.bases ∙ l.invariant.bases;

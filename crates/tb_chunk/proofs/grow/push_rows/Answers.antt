@@ -1,6 +1,6 @@
 use Rattle.std.proofs.Common.{arith, ◌≡◌, ◌∙◌, ◌+◌, ◌-◌, ◌++◌, ℕ, List, [], ap, append_assoc, drop, get_or, length, length-append, length-drop, length-take-le, map, sym, take}
 use Rattle.std.proofs.lemmas.List.{map-append}
-use Rattle.tb_view.specs.Moved.{moved}
+use Rattle.tb_view.specs.Moved.{moved_view}
 use Rattle.tb_chunk.proofs.PlainRows.{two_parts}
 use Rattle.tb_chunk.proofs.grow.push_rows.Goals as goal
 
@@ -40,8 +40,8 @@ returns-clause-views g c =
     let front = take n (drop c.args.from vs) in
     let behind = take (c.args.count - n) (drop (c.args.from + n) vs) in
     c.in_ok-push_each.ensures.views
-    ∙ ap (λ (bs : List ℕ). views c.append_block.new.self.chunk ++ map (moved (get_or bs c.args.chunk 0)) behind) c.append_block.ensures.bases
-    ∙ ap (λ ws. ws ++ map (moved base) behind) c.in_ok-block.ensures.views
-    ∙ append_assoc old (map (moved base) front) (map (moved base) behind)
-    ∙ ap (λ ws. old ++ ws) (sym (map-append (moved base) front behind))
-    ∙ ap (λ ws. old ++ map (moved base) ws) (two_parts vs c.args.from n c.args.count c.in_ok-block.ensures.count)
+    ∙ ap (λ (bs : List ℕ). views c.append_block.new.self.chunk ++ map (moved_view (get_or bs c.args.chunk 0)) behind) c.append_block.ensures.bases
+    ∙ ap (λ ws. ws ++ map (moved_view base) behind) c.in_ok-block.ensures.views
+    ∙ append_assoc old (map (moved_view base) front) (map (moved_view base) behind)
+    ∙ ap (λ ws. old ++ ws) (sym (map-append (moved_view base) front behind))
+    ∙ ap (λ ws. old ++ map (moved_view base) ws) (two_parts vs c.args.from n c.args.count c.in_ok-block.ensures.count)

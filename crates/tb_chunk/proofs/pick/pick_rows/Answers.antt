@@ -1,10 +1,10 @@
 use Rattle.std.proofs.Common.{arith, ◌≡◌, ◌<◌, ◌+◌, ◌∙◌, ◌++◌, ◌∷◌, [], ℕ, List, Option, Some, None, ap, sym, append-nil, get_or, length, map, take}
 use Rattle.std.proofs.lemmas.List.{map_more}
 use Rattle.tb_value.specs.Datum.{Datum, null}
-use Rattle.tb_chunk.specs.Col.{flat}
+use Rattle.tb_chunk.specs.Col.{concatenation}
 use Rattle.tb_chunk.specs.Rows.{value_or_null}
-use Rattle.tb_view.specs.Whole.{moved_views, runs_of, view_or_none}
-use Rattle.tb_view.proofs.Whole.{length-runs_of, view_of_one}
+use Rattle.tb_view.specs.ViewArrays.{moved_views, view_arrays_of, view_or_none}
+use Rattle.tb_view.proofs.ViewArrays.{length-runs_of, view_of_one}
 use Rattle.tb_chunk.proofs.pick.pick_rows.Goals as goal
 use Rattle.tb_chunk.proofs.pick.pick_rows.Goals.{in-Some+in_ok-push-in-Some, in-None+in_ok-push_null-in-None}
 
@@ -15,9 +15,9 @@ row_more f rows i r old new y low is same pushed e =
     pushed ∙ (λ j. same j ++ last j ∷ []) ∙ sym (map_more f rows i r low)
 
 -- a value of the only chunk
-value_of_one : {C : Type 0} (shown : C → List Datum) (cs : List C) (o : Option ℕ) (row : ℕ) → length cs ≡ 1 → Some row ≡ o → get_or (get_or (map shown cs) 0 []) row null ≡ value_or_null (flat (map shown cs)) o
+value_of_one : {C : Type 0} (shown : C → List Datum) (cs : List C) (o : Option ℕ) (row : ℕ) → length cs ≡ 1 → Some row ≡ o → get_or (get_or (map shown cs) 0 []) row null ≡ value_or_null (concatenation (map shown cs)) o
 value_of_one shown [] o row one is = absurd (omega arith)
-value_of_one shown (c ∷ []) o row one is = ap (λ vs. get_or vs row null) (sym (append-nil (shown c))) ∙ ap (value_or_null (flat (shown c ∷ []))) is
+value_of_one shown (c ∷ []) o row one is = ap (λ vs. get_or vs row null) (sym (append-nil (shown c))) ∙ ap (value_or_null (concatenation (shown c ∷ []))) is
 value_of_one shown (c ∷ d ∷ cs) o row one is = absurd (omega arith)
 
 pub loop-row-preserved : goal.loop-row-preserved
@@ -31,14 +31,14 @@ loop-row-preserved g c =
     let rows = c.args.rows.now in
     let i = l.row-index in
     let r = c.row-item.result in
-    let rs = runs_of views buffers chunks in
+    let rs = view_arrays_of views buffers chunks in
     let low : i < length rows = omega (arith, c.loop-row-test.true) in
     let first = l.invariant.bases 0 (omega (arith, length-runs_of views buffers chunks, c.requires.one)) in
     elim c.match-number.branch [
       | in-Some+in_ok-push-in-Some w ↦
           let is : Some w.in-Some.row ≡ number r = w.in-Some.ensures in
           record {
-            same = row_more (λ r. value_or_null (flat (map shown chunks)) (number r)) rows i r (shown l.out.chunk) _ _ low c.row-item.is l.invariant.same
+            same = row_more (λ r. value_or_null (concatenation (map shown chunks)) (number r)) rows i r (shown l.out.chunk) _ _ low c.row-item.is l.invariant.same
                 (ap (λ o. shown o.chunk) w.out-is ∙ w.in_ok-push-in-Some.ensures.shown) (value_of_one shown chunks (number r) w.in-Some.row c.requires.one is);
             held = rw w.out-is w.push.ensures.held;
             views = row_more (λ r. view_or_none (moved_views 0 rs) (number r)) rows i r (views l.out.chunk) _ _ low c.row-item.is l.invariant.views
@@ -50,8 +50,8 @@ loop-row-preserved g c =
       | in-None+in_ok-push_null-in-None w ↦
           let is : None ≡ number r = w.in-None.ensures in
           record {
-            same = row_more (λ r. value_or_null (flat (map shown chunks)) (number r)) rows i r (shown l.out.chunk) _ _ low c.row-item.is l.invariant.same
-                (ap (λ o. shown o.chunk) w.out-is ∙ w.in_ok-push_null-in-None.ensures.shown) (ap (value_or_null (flat (map shown chunks))) is);
+            same = row_more (λ r. value_or_null (concatenation (map shown chunks)) (number r)) rows i r (shown l.out.chunk) _ _ low c.row-item.is l.invariant.same
+                (ap (λ o. shown o.chunk) w.out-is ∙ w.in_ok-push_null-in-None.ensures.shown) (ap (value_or_null (concatenation (map shown chunks))) is);
             held = rw (w.out-is, w.push_null.ensures.buffers, w.push_null.ensures.bases) l.invariant.held;
             views = row_more (λ r. view_or_none (moved_views 0 rs) (number r)) rows i r (views l.out.chunk) _ _ low c.row-item.is l.invariant.views
                 (ap (λ o. views o.chunk) w.out-is ∙ w.in_ok-push_null-in-None.ensures.views) (ap (view_or_none (moved_views 0 rs)) is);

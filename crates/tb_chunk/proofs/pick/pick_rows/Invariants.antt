@@ -1,15 +1,15 @@
 use Rattle.std.proofs.Common.{◌≡◌, map, take}
-use Rattle.tb_chunk.specs.Col.{flat}
+use Rattle.tb_chunk.specs.Col.{concatenation}
 use Rattle.tb_view.specs.Held.{AreHeld}
 use Rattle.tb_chunk.specs.Rows.{value_or_null}
-use Rattle.tb_view.specs.Whole.{AreBases, all_buffers, moved_views, runs_of, view_or_none}
+use Rattle.tb_view.specs.ViewArrays.{AreBases, all_buffers, moved_views, view_arrays_of, view_or_none}
 use Rattle.tb_chunk.proofs.pick.pick_rows.Given as goal
 
 abbrev pub invariant-loop-row : goal.invariant-loop-row
 invariant-loop-row g l =
-    let rs = runs_of g.C.Chunk.views g.C.Chunk.buffers l.chunks in
+    let rs = view_arrays_of g.C.Chunk.views g.C.Chunk.buffers l.chunks in
     record {
-      same : g.C.Chunk.shown l.out.chunk ≡ map (λ r. value_or_null (flat (map g.C.Chunk.shown l.chunks)) (g.R.RowNumber.number r)) (take l.row-index l.rows);
+      same : g.C.Chunk.shown l.out.chunk ≡ map (λ r. value_or_null (concatenation (map g.C.Chunk.shown l.chunks)) (g.R.RowNumber.number r)) (take l.row-index l.rows);
       held : AreHeld (g.C.Chunk.buffers l.out.chunk) l.out.bases.items (map g.C.Chunk.buffers l.chunks);
       views : g.C.Chunk.views l.out.chunk ≡ map (λ r. view_or_none (moved_views 0 rs) (g.R.RowNumber.number r)) (take l.row-index l.rows);
       buffers : g.C.Chunk.buffers l.out.chunk ≡ all_buffers rs;

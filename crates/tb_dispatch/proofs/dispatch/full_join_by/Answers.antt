@@ -5,7 +5,7 @@ use Rattle.tb_value.specs.Refusals.{Settles, first_cause}
 use Rattle.tb_frame.specs.Join.{IsAnswer, Request, listing, out}
 use Rattle.tb_frame.specs.Refusal.{repeated_name, row_causes}
 use Rattle.tb_frame.specs.Table.{table_of}
-use Rattle.tb_join.specs.Ready.{CanMerge}
+use Rattle.tb_join.specs.Ready.{CanCoalesceKeys}
 use Rattle.tb_dispatch.proofs.KeyColumns.{alike_one, can_merge, full_wide, series_is}
 use Rattle.tb_dispatch.proofs.dispatch.full_join_by.Goals as goal
 
@@ -14,11 +14,11 @@ join_named-requires-clause-alike g c κs within = alike_one c.args.s_left.now c.
 
 pub join_named-requires-clause-wide : goal.join_named-requires-clause-wide
 join_named-requires-clause-wide g c κs within =
-    subst (λ (q : Request). (0 < length (out q)) ⊎ (listing q ≡ [])) (sym (series_is c.args.left.now c.args.right.now c.args.s_left.now c.args.s_right.now c.args.args.now c.from_ref.result.now c.from_ref-2.result.now (c.from_ref.ensures.value ∙ ap (λ (n : Name). n ∷ []) c.name.ensures) (c.from_ref-2.ensures.value ∙ ap (λ (n : Name). n ∷ []) c.name-2.ensures))) (full_wide c.args.left.now c.args.right.now c.args.s_left.now c.args.s_right.now c.args.args.now c.requires.merge)
+    subst (λ (q : Request). (0 < length (out q)) ⊎ (listing q ≡ [])) (sym (series_is c.args.left.now c.args.right.now c.args.s_left.now c.args.s_right.now c.args.args.now c.from_ref.result.now c.from_ref-2.result.now (c.from_ref.ensures.value ∙ ap (λ (n : Name). n ∷ []) c.name.ensures) (c.from_ref-2.ensures.value ∙ ap (λ (n : Name). n ∷ []) c.name-2.ensures))) (full_wide c.args.left.now c.args.right.now c.args.s_left.now c.args.s_right.now c.args.args.now c.requires.coalescing)
 
-pub join_named-requires-clause-merge : goal.join_named-requires-clause-merge
-join_named-requires-clause-merge g c κs within =
-    subst CanMerge (sym (series_is c.args.left.now c.args.right.now c.args.s_left.now c.args.s_right.now c.args.args.now c.from_ref.result.now c.from_ref-2.result.now (c.from_ref.ensures.value ∙ ap (λ (n : Name). n ∷ []) c.name.ensures) (c.from_ref-2.ensures.value ∙ ap (λ (n : Name). n ∷ []) c.name-2.ensures))) (can_merge c.args.left.now c.args.right.now c.args.s_left.now c.args.s_right.now c.args.args.now c.requires.merge)
+pub join_named-requires-clause-coalescing : goal.join_named-requires-clause-coalescing
+join_named-requires-clause-coalescing g c κs within =
+    subst CanCoalesceKeys (sym (series_is c.args.left.now c.args.right.now c.args.s_left.now c.args.s_right.now c.args.args.now c.from_ref.result.now c.from_ref-2.result.now (c.from_ref.ensures.value ∙ ap (λ (n : Name). n ∷ []) c.name.ensures) (c.from_ref-2.ensures.value ∙ ap (λ (n : Name). n ∷ []) c.name-2.ensures))) (can_merge c.args.left.now c.args.right.now c.args.s_left.now c.args.s_right.now c.args.args.now c.requires.coalescing)
 
 pub returns-clause-settles : goal.returns-clause-settles
 returns-clause-settles g c =

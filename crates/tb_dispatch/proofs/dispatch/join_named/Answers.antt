@@ -7,23 +7,23 @@ use Rattle.tb_frame.specs.Answer.{IsListed}
 use Rattle.tb_frame.specs.Join.{listing, out}
 use Rattle.tb_frame.specs.Refusal.{row_causes}
 use Rattle.tb_frame.proofs.Causes.{no_cause, when_not_above}
-use Rattle.tb_keys.specs.Asked.{asked}
+use Rattle.tb_keys.specs.Asked.{asked_request}
 use Rattle.tb_dispatch.proofs.Cuts.{none_listed}
 use Rattle.tb_dispatch.proofs.dispatch.join_named.Goals as goal
 
 pub finish_join-requires-clause-few : goal.finish_join-requires-clause-few
 finish_join-requires-clause-few g c κs within =
-    let q = asked c.args.request.now in
+    let q = asked_request c.args.request.now in
     when_not_above MAX_ROWS (length (listing q)) (ComputeError TooManyRows) (no_cause (row_causes q) c.in_ok-pairs.ensures.settles 2 None (omega arith))
 
 pub finish_join-requires-clause-some : goal.finish_join-requires-clause-some
 finish_join-requires-clause-some g c κs within = at c.requires.wide
   where
-    at : (0 < length (out (asked c.args.request.now))) ⊎ (listing (asked c.args.request.now) ≡ []) → (0 < length (out (asked c.args.request.now))) ⊎ (c.deref.result.now ≡ [])
+    at : (0 < length (out (asked_request c.args.request.now))) ⊎ (listing (asked_request c.args.request.now) ≡ []) → (0 < length (out (asked_request c.args.request.now))) ⊎ (c.deref.result.now ≡ [])
     at (inl h) = inl h
-    at (inr h) = inr (c.deref.ensures.value ∙ none_listed (asked c.args.request.now) c.in_ok-pairs.pairs.items h c.in_ok-pairs.ensures.listed)
+    at (inr h) = inr (c.deref.ensures.value ∙ none_listed (asked_request c.args.request.now) c.in_ok-pairs.pairs.items h c.in_ok-pairs.ensures.listed)
 
 pub finish_join-requires-clause-listed : goal.finish_join-requires-clause-listed
 finish_join-requires-clause-listed g c κs within =
     let r = c.args.request.now in
-    subst (λ (ps : List JoinPair). IsListed r.how r.args.now.maintain_order r.args.now.slice (listing (asked r)) ps) (sym c.deref.ensures.value) c.in_ok-pairs.ensures.listed
+    subst (λ (ps : List JoinPair). IsListed r.how r.args.now.maintain_order r.args.now.slice (listing (asked_request r)) ps) (sym c.deref.ensures.value) c.in_ok-pairs.ensures.listed

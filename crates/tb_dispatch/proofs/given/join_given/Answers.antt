@@ -14,9 +14,9 @@ use Rattle.tb_frame.specs.Table.{height, names_of, table_of}
 use Rattle.tb_keys.specs.Causes.{later_refusal}
 use Rattle.tb_keys.specs.Rows.{HasRows}
 use Rattle.tb_keys.proofs.Refusing.{by_first}
-use Rattle.tb_join.specs.Ready.{CanMerge}
+use Rattle.tb_join.specs.Ready.{CanCoalesceKeys}
 use Rattle.tb_join.proofs.NamesStand.{wide_out}
-use Rattle.tb_dispatch.specs.Given.{cleared, early_refusal}
+use Rattle.tb_dispatch.specs.Given.{cleared_columns, early_refusal}
 use Rattle.tb_dispatch.proofs.Cleared.{all_later, answers, as_many, fitted, fitted_is, in_parts, later, left_fit, mergeable, right_fit, some, stand}
 use Rattle.tb_dispatch.proofs.given.join_given.Goals as goal
 
@@ -43,7 +43,7 @@ lent_keys-requires g c =
     let lk = c.args.left_keys.items in
     let rk = c.args.right_keys.items in
     let args = c.args.args.now in
-    subst (λ (cs : List Col). HasRows (height (table_of left)) cs) (sym (c.deref-7.ensures.value ∙ c.in_ok-left_keys.ensures ∙ (λ t. cleared (c.height.ensures.height t) lk))) (left_fit left right lk rk args (sym (none_of left right lk rk c.deref-3.result.now c.deref-4.result.now args.join_nulls c.deref-5.result.now c.deref-6.result.now c.deref-3.ensures.value c.deref-4.ensures.value (c.deref-5.ensures.value ∙ c.in_ok-left_on.ensures ∙ ap (λ (cs : List Col). names_of (table_of cs)) c.deref.ensures.value) (c.deref-6.ensures.value ∙ c.in_ok-right_on.ensures ∙ ap (λ (cs : List Col). names_of (table_of cs)) c.deref-2.ensures.value)) ∙ c.in_ok-check_given.ensures))
+    subst (λ (cs : List Col). HasRows (height (table_of left)) cs) (sym (c.deref-7.ensures.value ∙ c.in_ok-left_keys.ensures ∙ (λ t. cleared_columns (c.height.ensures.height t) lk))) (left_fit left right lk rk args (sym (none_of left right lk rk c.deref-3.result.now c.deref-4.result.now args.join_nulls c.deref-5.result.now c.deref-6.result.now c.deref-3.ensures.value c.deref-4.ensures.value (c.deref-5.ensures.value ∙ c.in_ok-left_on.ensures ∙ ap (λ (cs : List Col). names_of (table_of cs)) c.deref.ensures.value) (c.deref-6.ensures.value ∙ c.in_ok-right_on.ensures ∙ ap (λ (cs : List Col). names_of (table_of cs)) c.deref-2.ensures.value)) ∙ c.in_ok-check_given.ensures))
 
 pub lent_keys-requires-2 : goal.lent_keys-requires-2
 lent_keys-requires-2 g c =
@@ -52,7 +52,7 @@ lent_keys-requires-2 g c =
     let lk = c.args.left_keys.items in
     let rk = c.args.right_keys.items in
     let args = c.args.args.now in
-    subst (λ (cs : List Col). HasRows (height (table_of right)) cs) (sym (c.deref-8.ensures.value ∙ c.in_ok-right_keys.ensures ∙ (λ t. cleared (c.height-2.ensures.height t) rk))) (right_fit left right lk rk args (sym (none_of left right lk rk c.deref-3.result.now c.deref-4.result.now args.join_nulls c.deref-5.result.now c.deref-6.result.now c.deref-3.ensures.value c.deref-4.ensures.value (c.deref-5.ensures.value ∙ c.in_ok-left_on.ensures ∙ ap (λ (cs : List Col). names_of (table_of cs)) c.deref.ensures.value) (c.deref-6.ensures.value ∙ c.in_ok-right_on.ensures ∙ ap (λ (cs : List Col). names_of (table_of cs)) c.deref-2.ensures.value)) ∙ c.in_ok-check_given.ensures))
+    subst (λ (cs : List Col). HasRows (height (table_of right)) cs) (sym (c.deref-8.ensures.value ∙ c.in_ok-right_keys.ensures ∙ (λ t. cleared_columns (c.height-2.ensures.height t) rk))) (right_fit left right lk rk args (sym (none_of left right lk rk c.deref-3.result.now c.deref-4.result.now args.join_nulls c.deref-5.result.now c.deref-6.result.now c.deref-3.ensures.value c.deref-4.ensures.value (c.deref-5.ensures.value ∙ c.in_ok-left_on.ensures ∙ ap (λ (cs : List Col). names_of (table_of cs)) c.deref.ensures.value) (c.deref-6.ensures.value ∙ c.in_ok-right_on.ensures ∙ ap (λ (cs : List Col). names_of (table_of cs)) c.deref-2.ensures.value)) ∙ c.in_ok-check_given.ensures))
 
 pub invariant_of-request-clause-left_rows : goal.invariant_of-request-clause-left_rows
 invariant_of-request-clause-left_rows g c = subst (λ (rs : List (Bor Col)). HasRows (height (table_of c.args.left.now)) (lent_columns rs)) (sym c.deref-11.ensures.value) c.in_ok-left_lent.ensures.rows
@@ -67,7 +67,7 @@ join_columns-requires-clause-some g c κs within =
     let lk = c.args.left_keys.items in
     let rk = c.args.right_keys.items in
     let args = c.args.args.now in
-    let is = (ap lent_columns c.deref-11.ensures.value ∙ c.in_ok-left_lent.ensures.lent ∙ (c.deref-7.ensures.value ∙ c.in_ok-left_keys.ensures ∙ (λ t. cleared (c.height.ensures.height t) lk))) in
+    let is = (ap lent_columns c.deref-11.ensures.value ∙ c.in_ok-left_lent.ensures.lent ∙ (c.deref-7.ensures.value ∙ c.in_ok-left_keys.ensures ∙ (λ t. cleared_columns (c.height.ensures.height t) lk))) in
     let there = some left right lk rk args (sym (none_of left right lk rk c.deref-3.result.now c.deref-4.result.now args.join_nulls c.deref-5.result.now c.deref-6.result.now c.deref-3.ensures.value c.deref-4.ensures.value (c.deref-5.ensures.value ∙ c.in_ok-left_on.ensures ∙ ap (λ (cs : List Col). names_of (table_of cs)) c.deref.ensures.value) (c.deref-6.ensures.value ∙ c.in_ok-right_on.ensures ∙ ap (λ (cs : List Col). names_of (table_of cs)) c.deref-2.ensures.value)) ∙ c.in_ok-check_given.ensures) in
     let long = ap (λ (cs : List Col). length cs) is in
     let many = length-map c.deref-11.result.now (λ (b : Bor Col). b.now) in
@@ -81,8 +81,8 @@ join_columns-requires-clause-as_many g c κs within =
     let rk = c.args.right_keys.items in
     let args = c.args.args.now in
     let same = as_many left right lk rk args (sym (none_of left right lk rk c.deref-3.result.now c.deref-4.result.now args.join_nulls c.deref-5.result.now c.deref-6.result.now c.deref-3.ensures.value c.deref-4.ensures.value (c.deref-5.ensures.value ∙ c.in_ok-left_on.ensures ∙ ap (λ (cs : List Col). names_of (table_of cs)) c.deref.ensures.value) (c.deref-6.ensures.value ∙ c.in_ok-right_on.ensures ∙ ap (λ (cs : List Col). names_of (table_of cs)) c.deref-2.ensures.value)) ∙ c.in_ok-check_given.ensures) in
-    let long = ap (λ (cs : List Col). length cs) (ap lent_columns c.deref-11.ensures.value ∙ c.in_ok-left_lent.ensures.lent ∙ (c.deref-7.ensures.value ∙ c.in_ok-left_keys.ensures ∙ (λ t. cleared (c.height.ensures.height t) lk))) in
-    let wide = ap (λ (cs : List Col). length cs) (ap lent_columns c.deref-12.ensures.value ∙ c.in_ok-right_lent.ensures.lent ∙ (c.deref-8.ensures.value ∙ c.in_ok-right_keys.ensures ∙ (λ t. cleared (c.height-2.ensures.height t) rk))) in
+    let long = ap (λ (cs : List Col). length cs) (ap lent_columns c.deref-11.ensures.value ∙ c.in_ok-left_lent.ensures.lent ∙ (c.deref-7.ensures.value ∙ c.in_ok-left_keys.ensures ∙ (λ t. cleared_columns (c.height.ensures.height t) lk))) in
+    let wide = ap (λ (cs : List Col). length cs) (ap lent_columns c.deref-12.ensures.value ∙ c.in_ok-right_lent.ensures.lent ∙ (c.deref-8.ensures.value ∙ c.in_ok-right_keys.ensures ∙ (λ t. cleared_columns (c.height-2.ensures.height t) rk))) in
     sym (length-map c.deref-11.result.now (λ (b : Bor Col). b.now)) ∙ long ∙ same ∙ sym wide ∙ length-map c.deref-12.result.now (λ (b : Bor Col). b.now)
 
 pub join_columns-requires-clause-wide : goal.join_columns-requires-clause-wide
@@ -92,16 +92,16 @@ join_columns-requires-clause-wide g c κs within =
     let lk = c.args.left_keys.items in
     let rk = c.args.right_keys.items in
     let args = c.args.args.now in
-    subst (λ (q : Request). 0 < length (out q)) (sym (fitted_is left right lk rk args c.deref-9.result.now c.deref-10.result.now (lent_columns c.deref-11.result.now) (lent_columns c.deref-12.result.now) (c.deref-9.ensures.value ∙ c.in_ok-left_on.ensures ∙ ap (λ (cs : List Col). names_of (table_of cs)) c.deref.ensures.value) (c.deref-10.ensures.value ∙ c.in_ok-right_on.ensures ∙ ap (λ (cs : List Col). names_of (table_of cs)) c.deref-2.ensures.value) (ap lent_columns c.deref-11.ensures.value ∙ c.in_ok-left_lent.ensures.lent ∙ (c.deref-7.ensures.value ∙ c.in_ok-left_keys.ensures ∙ (λ t. cleared (c.height.ensures.height t) lk))) (ap lent_columns c.deref-12.ensures.value ∙ c.in_ok-right_lent.ensures.lent ∙ (c.deref-8.ensures.value ∙ c.in_ok-right_keys.ensures ∙ (λ t. cleared (c.height-2.ensures.height t) rk))))) (wide_out (fitted left right lk rk args) (stand left right lk rk args (sym (none_of left right lk rk c.deref-3.result.now c.deref-4.result.now args.join_nulls c.deref-5.result.now c.deref-6.result.now c.deref-3.ensures.value c.deref-4.ensures.value (c.deref-5.ensures.value ∙ c.in_ok-left_on.ensures ∙ ap (λ (cs : List Col). names_of (table_of cs)) c.deref.ensures.value) (c.deref-6.ensures.value ∙ c.in_ok-right_on.ensures ∙ ap (λ (cs : List Col). names_of (table_of cs)) c.deref-2.ensures.value)) ∙ c.in_ok-check_given.ensures)))
+    subst (λ (q : Request). 0 < length (out q)) (sym (fitted_is left right lk rk args c.deref-9.result.now c.deref-10.result.now (lent_columns c.deref-11.result.now) (lent_columns c.deref-12.result.now) (c.deref-9.ensures.value ∙ c.in_ok-left_on.ensures ∙ ap (λ (cs : List Col). names_of (table_of cs)) c.deref.ensures.value) (c.deref-10.ensures.value ∙ c.in_ok-right_on.ensures ∙ ap (λ (cs : List Col). names_of (table_of cs)) c.deref-2.ensures.value) (ap lent_columns c.deref-11.ensures.value ∙ c.in_ok-left_lent.ensures.lent ∙ (c.deref-7.ensures.value ∙ c.in_ok-left_keys.ensures ∙ (λ t. cleared_columns (c.height.ensures.height t) lk))) (ap lent_columns c.deref-12.ensures.value ∙ c.in_ok-right_lent.ensures.lent ∙ (c.deref-8.ensures.value ∙ c.in_ok-right_keys.ensures ∙ (λ t. cleared_columns (c.height-2.ensures.height t) rk))))) (wide_out (fitted left right lk rk args) (stand left right lk rk args (sym (none_of left right lk rk c.deref-3.result.now c.deref-4.result.now args.join_nulls c.deref-5.result.now c.deref-6.result.now c.deref-3.ensures.value c.deref-4.ensures.value (c.deref-5.ensures.value ∙ c.in_ok-left_on.ensures ∙ ap (λ (cs : List Col). names_of (table_of cs)) c.deref.ensures.value) (c.deref-6.ensures.value ∙ c.in_ok-right_on.ensures ∙ ap (λ (cs : List Col). names_of (table_of cs)) c.deref-2.ensures.value)) ∙ c.in_ok-check_given.ensures)))
 
-pub join_columns-requires-clause-merge : goal.join_columns-requires-clause-merge
-join_columns-requires-clause-merge g c κs within =
+pub join_columns-requires-clause-coalescing : goal.join_columns-requires-clause-coalescing
+join_columns-requires-clause-coalescing g c κs within =
     let left = c.args.left.now in
     let right = c.args.right.now in
     let lk = c.args.left_keys.items in
     let rk = c.args.right_keys.items in
     let args = c.args.args.now in
-    subst (λ (q : Request). key_types q ≡ None → CanMerge q) (sym (fitted_is left right lk rk args c.deref-9.result.now c.deref-10.result.now (lent_columns c.deref-11.result.now) (lent_columns c.deref-12.result.now) (c.deref-9.ensures.value ∙ c.in_ok-left_on.ensures ∙ ap (λ (cs : List Col). names_of (table_of cs)) c.deref.ensures.value) (c.deref-10.ensures.value ∙ c.in_ok-right_on.ensures ∙ ap (λ (cs : List Col). names_of (table_of cs)) c.deref-2.ensures.value) (ap lent_columns c.deref-11.ensures.value ∙ c.in_ok-left_lent.ensures.lent ∙ (c.deref-7.ensures.value ∙ c.in_ok-left_keys.ensures ∙ (λ t. cleared (c.height.ensures.height t) lk))) (ap lent_columns c.deref-12.ensures.value ∙ c.in_ok-right_lent.ensures.lent ∙ (c.deref-8.ensures.value ∙ c.in_ok-right_keys.ensures ∙ (λ t. cleared (c.height-2.ensures.height t) rk))))) (λ types. mergeable left right lk rk args (sym (none_of left right lk rk c.deref-3.result.now c.deref-4.result.now args.join_nulls c.deref-5.result.now c.deref-6.result.now c.deref-3.ensures.value c.deref-4.ensures.value (c.deref-5.ensures.value ∙ c.in_ok-left_on.ensures ∙ ap (λ (cs : List Col). names_of (table_of cs)) c.deref.ensures.value) (c.deref-6.ensures.value ∙ c.in_ok-right_on.ensures ∙ ap (λ (cs : List Col). names_of (table_of cs)) c.deref-2.ensures.value)) ∙ c.in_ok-check_given.ensures) c.requires.merge)
+    subst (λ (q : Request). key_types q ≡ None → CanCoalesceKeys q) (sym (fitted_is left right lk rk args c.deref-9.result.now c.deref-10.result.now (lent_columns c.deref-11.result.now) (lent_columns c.deref-12.result.now) (c.deref-9.ensures.value ∙ c.in_ok-left_on.ensures ∙ ap (λ (cs : List Col). names_of (table_of cs)) c.deref.ensures.value) (c.deref-10.ensures.value ∙ c.in_ok-right_on.ensures ∙ ap (λ (cs : List Col). names_of (table_of cs)) c.deref-2.ensures.value) (ap lent_columns c.deref-11.ensures.value ∙ c.in_ok-left_lent.ensures.lent ∙ (c.deref-7.ensures.value ∙ c.in_ok-left_keys.ensures ∙ (λ t. cleared_columns (c.height.ensures.height t) lk))) (ap lent_columns c.deref-12.ensures.value ∙ c.in_ok-right_lent.ensures.lent ∙ (c.deref-8.ensures.value ∙ c.in_ok-right_keys.ensures ∙ (λ t. cleared_columns (c.height-2.ensures.height t) rk))))) (λ types. mergeable left right lk rk args (sym (none_of left right lk rk c.deref-3.result.now c.deref-4.result.now args.join_nulls c.deref-5.result.now c.deref-6.result.now c.deref-3.ensures.value c.deref-4.ensures.value (c.deref-5.ensures.value ∙ c.in_ok-left_on.ensures ∙ ap (λ (cs : List Col). names_of (table_of cs)) c.deref.ensures.value) (c.deref-6.ensures.value ∙ c.in_ok-right_on.ensures ∙ ap (λ (cs : List Col). names_of (table_of cs)) c.deref-2.ensures.value)) ∙ c.in_ok-check_given.ensures) c.requires.coalescing)
 
 pub returns-clause-settles : goal.returns-clause-settles
 returns-clause-settles g c =
@@ -110,7 +110,7 @@ returns-clause-settles g c =
     let lk = c.args.left_keys.items in
     let rk = c.args.right_keys.items in
     let args = c.args.args.now in
-    subst (λ (o : Option PolarsError). Settles c.join_columns.result o) (ap later_refusal (fitted_is left right lk rk args c.deref-9.result.now c.deref-10.result.now (lent_columns c.deref-11.result.now) (lent_columns c.deref-12.result.now) (c.deref-9.ensures.value ∙ c.in_ok-left_on.ensures ∙ ap (λ (cs : List Col). names_of (table_of cs)) c.deref.ensures.value) (c.deref-10.ensures.value ∙ c.in_ok-right_on.ensures ∙ ap (λ (cs : List Col). names_of (table_of cs)) c.deref-2.ensures.value) (ap lent_columns c.deref-11.ensures.value ∙ c.in_ok-left_lent.ensures.lent ∙ (c.deref-7.ensures.value ∙ c.in_ok-left_keys.ensures ∙ (λ t. cleared (c.height.ensures.height t) lk))) (ap lent_columns c.deref-12.ensures.value ∙ c.in_ok-right_lent.ensures.lent ∙ (c.deref-8.ensures.value ∙ c.in_ok-right_keys.ensures ∙ (λ t. cleared (c.height-2.ensures.height t) rk)))) ∙ later left right lk rk args ∙ sym (all_later left right lk rk args (sym (none_of left right lk rk c.deref-3.result.now c.deref-4.result.now args.join_nulls c.deref-5.result.now c.deref-6.result.now c.deref-3.ensures.value c.deref-4.ensures.value (c.deref-5.ensures.value ∙ c.in_ok-left_on.ensures ∙ ap (λ (cs : List Col). names_of (table_of cs)) c.deref.ensures.value) (c.deref-6.ensures.value ∙ c.in_ok-right_on.ensures ∙ ap (λ (cs : List Col). names_of (table_of cs)) c.deref-2.ensures.value)) ∙ c.in_ok-check_given.ensures))) c.join_columns.ensures.settles
+    subst (λ (o : Option PolarsError). Settles c.join_columns.result o) (ap later_refusal (fitted_is left right lk rk args c.deref-9.result.now c.deref-10.result.now (lent_columns c.deref-11.result.now) (lent_columns c.deref-12.result.now) (c.deref-9.ensures.value ∙ c.in_ok-left_on.ensures ∙ ap (λ (cs : List Col). names_of (table_of cs)) c.deref.ensures.value) (c.deref-10.ensures.value ∙ c.in_ok-right_on.ensures ∙ ap (λ (cs : List Col). names_of (table_of cs)) c.deref-2.ensures.value) (ap lent_columns c.deref-11.ensures.value ∙ c.in_ok-left_lent.ensures.lent ∙ (c.deref-7.ensures.value ∙ c.in_ok-left_keys.ensures ∙ (λ t. cleared_columns (c.height.ensures.height t) lk))) (ap lent_columns c.deref-12.ensures.value ∙ c.in_ok-right_lent.ensures.lent ∙ (c.deref-8.ensures.value ∙ c.in_ok-right_keys.ensures ∙ (λ t. cleared_columns (c.height-2.ensures.height t) rk)))) ∙ later left right lk rk args ∙ sym (all_later left right lk rk args (sym (none_of left right lk rk c.deref-3.result.now c.deref-4.result.now args.join_nulls c.deref-5.result.now c.deref-6.result.now c.deref-3.ensures.value c.deref-4.ensures.value (c.deref-5.ensures.value ∙ c.in_ok-left_on.ensures ∙ ap (λ (cs : List Col). names_of (table_of cs)) c.deref.ensures.value) (c.deref-6.ensures.value ∙ c.in_ok-right_on.ensures ∙ ap (λ (cs : List Col). names_of (table_of cs)) c.deref-2.ensures.value)) ∙ c.in_ok-check_given.ensures))) c.join_columns.ensures.settles
 
 pub returns-clause-answer : goal.returns-clause-answer
 returns-clause-answer g c =
@@ -119,4 +119,4 @@ returns-clause-answer g c =
     let lk = c.args.left_keys.items in
     let rk = c.args.right_keys.items in
     let args = c.args.args.now in
-    IfOk-weaker c.join_columns.result _ _ (λ t h. answers left right lk rk args (table_of t) (subst (λ (q : Request). IsAnswer q (table_of t)) (fitted_is left right lk rk args c.deref-9.result.now c.deref-10.result.now (lent_columns c.deref-11.result.now) (lent_columns c.deref-12.result.now) (c.deref-9.ensures.value ∙ c.in_ok-left_on.ensures ∙ ap (λ (cs : List Col). names_of (table_of cs)) c.deref.ensures.value) (c.deref-10.ensures.value ∙ c.in_ok-right_on.ensures ∙ ap (λ (cs : List Col). names_of (table_of cs)) c.deref-2.ensures.value) (ap lent_columns c.deref-11.ensures.value ∙ c.in_ok-left_lent.ensures.lent ∙ (c.deref-7.ensures.value ∙ c.in_ok-left_keys.ensures ∙ (λ t. cleared (c.height.ensures.height t) lk))) (ap lent_columns c.deref-12.ensures.value ∙ c.in_ok-right_lent.ensures.lent ∙ (c.deref-8.ensures.value ∙ c.in_ok-right_keys.ensures ∙ (λ t. cleared (c.height-2.ensures.height t) rk)))) h)) c.join_columns.ensures.answer
+    IfOk-weaker c.join_columns.result _ _ (λ t h. answers left right lk rk args (table_of t) (subst (λ (q : Request). IsAnswer q (table_of t)) (fitted_is left right lk rk args c.deref-9.result.now c.deref-10.result.now (lent_columns c.deref-11.result.now) (lent_columns c.deref-12.result.now) (c.deref-9.ensures.value ∙ c.in_ok-left_on.ensures ∙ ap (λ (cs : List Col). names_of (table_of cs)) c.deref.ensures.value) (c.deref-10.ensures.value ∙ c.in_ok-right_on.ensures ∙ ap (λ (cs : List Col). names_of (table_of cs)) c.deref-2.ensures.value) (ap lent_columns c.deref-11.ensures.value ∙ c.in_ok-left_lent.ensures.lent ∙ (c.deref-7.ensures.value ∙ c.in_ok-left_keys.ensures ∙ (λ t. cleared_columns (c.height.ensures.height t) lk))) (ap lent_columns c.deref-12.ensures.value ∙ c.in_ok-right_lent.ensures.lent ∙ (c.deref-8.ensures.value ∙ c.in_ok-right_keys.ensures ∙ (λ t. cleared_columns (c.height-2.ensures.height t) rk)))) h)) c.join_columns.ensures.answer

@@ -4,7 +4,7 @@ use Rattle.std.proofs.lemmas.List.Elements.{All-weaker}
 use Rattle.tb_value.specs.declared.index.JoinPair.{JoinPair}
 use Rattle.tb_chunk.specs.Rows.{IsRowOf}
 use Rattle.tb_frame.specs.Answer.{IsPairOf}
-use Rattle.tb_frame.specs.Frame.{opt_taken, without_names}
+use Rattle.tb_frame.specs.Frame.{opt_taken_rows, without_names}
 use Rattle.tb_frame.specs.Table.{height, table_of}
 use Rattle.tb_frame.proofs.Filled.{left_within, right_within}
 use Rattle.tb_dispatch.proofs.left.halves.Goals as goal
@@ -22,6 +22,6 @@ kept_table-requires-clause-rows g c κs within =
 
 pub returns : goal.returns
 returns g c = (
-  c.in_ok-left.ensures ∙ (λ t. map (opt_taken ((c.deref.ensures.value ∙ c.in_ok-rows.ensures) t)) c.args.left.now),
-  c.in_ok-right.ensures ∙ (λ t. map (opt_taken ((c.deref-2.ensures.value ∙ c.in_ok-rows-2.ensures) t)) (without_names c.args.gone.now c.args.right.now)),
+  c.in_ok-left.ensures ∙ (λ t. map (opt_taken_rows ((c.deref.ensures.value ∙ c.in_ok-rows.ensures) t)) c.args.left.now),
+  c.in_ok-right.ensures ∙ (λ t. map (opt_taken_rows ((c.deref-2.ensures.value ∙ c.in_ok-rows-2.ensures) t)) (without_names c.args.gone.now c.args.right.now)),
 )

@@ -6,7 +6,7 @@ use Rattle.tb_value.specs.declared.index.JoinPair.{JoinPair}
 use Rattle.tb_value.specs.declared.limits.TheConstants.{MAX_ROWS}
 use Rattle.tb_frame.specs.declared.args.JoinType.TheVariants.{Left}
 use Rattle.tb_frame.specs.Answer.{IsPairOf}
-use Rattle.tb_frame.specs.Frame.{opt_taken, without_names}
+use Rattle.tb_frame.specs.Frame.{opt_taken_rows, without_names}
 use Rattle.tb_frame.specs.Join.{listing}
 use Rattle.tb_frame.specs.Refusal.{row_causes}
 use Rattle.tb_frame.specs.Table.{height}
@@ -35,7 +35,7 @@ returns-clause-halves g c = record {
   pairs = c.in_ok-pairs.pairs.items;
   listed = c.in_ok-pairs.ensures.listed;
   over = (
-    c.in_ok-halves.ensures.0 ∙ (λ t. map (opt_taken (map (λ (p : JoinPair). p.left) (c.deref.ensures.value t))) c.args.left),
-    c.in_ok-halves.ensures.1 ∙ (λ t. map (opt_taken (map (λ (p : JoinPair). p.right) (c.deref.ensures.value t))) (without_names (c.dropped-gone.ensures t) c.args.right_.now)),
+    c.in_ok-halves.ensures.0 ∙ (λ t. map (opt_taken_rows (map (λ (p : JoinPair). p.left) (c.deref.ensures.value t))) c.args.left),
+    c.in_ok-halves.ensures.1 ∙ (λ t. map (opt_taken_rows (map (λ (p : JoinPair). p.right) (c.deref.ensures.value t))) (without_names (c.dropped-gone.ensures t) c.args.right_.now)),
   );
 }

@@ -1,7 +1,7 @@
 use Rattle.std.proofs.Common.{◌∙◌, ap, rules}
 use Rattle.std.specs.Cmp.Lexicographic.{on_texts}
 use Rattle.tb_chunk.specs.Col.{Col}
-use Rattle.tb_frame.specs.Table.{plain, table_of}
+use Rattle.tb_frame.specs.Table.{plain_column, table_of}
 use Rattle.tb_rows.specs.InOrder.{in_order}
 use Rattle.tb_rows.proofs.InOrder.{in_order-map, sorted_in_order}
 use Rattle.tb_dummies.specs.Dummies.{by_name}
@@ -10,5 +10,5 @@ use Rattle.tb_dummies.proofs.columns.dummies_of.Goals as goal
 pub returns : goal.returns
 returns c =
     let made = c.in_ok-made.made.items in
-    ap table_of (sorted_in_order _ _ (λ (a b : Col). by_name (plain a) (plain b)) (on_texts (λ (d : Col). d.name)) (λ f a r g k. search rules) made c.sort_by.new.self.items c.in_ok-sort_by.ensures.sorted c.in_ok-sort_by.ensures.stable)
-    ∙ in_order-map plain by_name made ∙ ap (in_order by_name) c.in_ok-made.ensures
+    ap table_of (sorted_in_order _ _ (λ (a b : Col). by_name (plain_column a) (plain_column b)) (on_texts (λ (d : Col). d.name)) (λ f a r g k. search rules) made c.sort_by.new.self.items c.in_ok-sort_by.ensures.sorted c.in_ok-sort_by.ensures.stable)
+    ∙ in_order-map plain_column by_name made ∙ ap (in_order by_name) c.in_ok-made.ensures

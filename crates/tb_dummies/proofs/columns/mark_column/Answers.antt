@@ -3,9 +3,9 @@ use Rattle.std.proofs.lemmas.List.{append-nil, length-map}
 use Rattle.tb_value.specs.Datum.{Datum, int}
 use Rattle.tb_value.specs.Kind as kind
 use Rattle.tb_chunk.specs.Chunk.{or_null}
-use Rattle.tb_chunk.specs.Col.{flat}
+use Rattle.tb_chunk.specs.Col.{concatenation}
 use Rattle.tb_chunk.proofs.OneChunk.{one_chunk_is_column}
-use Rattle.tb_frame.specs.Table.{plain}
+use Rattle.tb_frame.specs.Table.{plain_column}
 use Rattle.tb_dummies.specs.Lent.{mark_in}
 use Rattle.tb_dummies.proofs.Made.{marks_shown, marks_typed}
 use Rattle.tb_dummies.proofs.columns.mark_column.Goals as goal
@@ -29,5 +29,5 @@ returns c =
     let p = c.args.group in
     let numbers = c.args.numbers.now in
     let chunks = chunk_is p numbers c.in_ok-marks.marks.items c.from_vec.result c.in_ok-chunks.chunks.items c.push.new.self.items c.in_ok-marks.ensures c.from_vec.ensures c.in_ok-chunks.ensures.items c.in_ok-push.ensures.items in
-    ap plain (c.into_column.ensures ∙ c.from_parts-series.ensures) ∙ (λ t. record { name = c.args.name; kind = c.mark_type.ensures t; values = flat (chunks t) })
+    ap plain_column (c.into_column.ensures ∙ c.from_parts-series.ensures) ∙ (λ t. record { name = c.args.name; kind = c.mark_type.ensures t; values = concatenation (chunks t) })
     ∙ ap (λ (l : List Datum). record { name = c.args.name; kind = kind.uint8; values = l }) (append-nil (map (mark_in p) numbers))

@@ -1,7 +1,7 @@
 use Rattle.std.proofs.Common.{◌≡◌, ◌∙◌, ℕ, ap, sym, refl, get_or, arith, below_more}
 use Rattle.std.proofs.lemmas.List.{get_or_default}
 use Rattle.tb_chunk.specs.Col.{Col}
-use Rattle.tb_frame.specs.Table.{plain}
+use Rattle.tb_frame.specs.Table.{plain_column}
 use Rattle.tb_frame.proofs.Equal.{table-ext, plain-at}
 use Rattle.tb_frame.proofs.equality.same_columns.Goals as goal
 
@@ -18,11 +18,11 @@ loop-i-preserved c =
     let i = c.loop-i.i in
     let x = c.index-first-i.result in
     let y = c.index-second-i.result in
-    let here : (d : Col) → plain (get_or xs i d) ≡ plain (get_or ys i d) = λ d.
-    ap plain (get_or_default xs i d x c.loop-i-test.true ∙ sym c.index-first-i.is)
+    let here : (d : Col) → plain_column (get_or xs i d) ≡ plain_column (get_or ys i d) = λ d.
+    ap plain_column (get_or_default xs i d x c.loop-i-test.true ∙ sym c.index-first-i.is)
     ∙ c.if-not-same_column.ensures.0 refl
-    ∙ ap plain (c.index-second-i.is ∙ sym (get_or_default ys i d y (omega arith))) in
-    λ k d low. below_more (λ (j : ℕ). plain (get_or xs j d) ≡ plain (get_or ys j d)) i (λ j h. c.loop-i.invariant j d h) (here d) k low
+    ∙ ap plain_column (c.index-second-i.is ∙ sym (get_or_default ys i d y (omega arith))) in
+    λ k d low. below_more (λ (j : ℕ). plain_column (get_or xs j d) ≡ plain_column (get_or ys j d)) i (λ j h. c.loop-i.invariant j d h) (here d) k low
 
 pub returns : goal.returns
 returns c = (

@@ -1,7 +1,7 @@
 use Rattle.std.proofs.Common.{◌≡◌, take, None, not}
 use Rattle.std.specs.List.{find}
 use Rattle.tb_chunk.specs.Lent.{lent_columns}
-use Rattle.tb_frame.specs.Frame.{selected}
+use Rattle.tb_frame.specs.Frame.{selected_columns}
 use Rattle.tb_frame.specs.Naming.{is_among}
 use Rattle.tb_frame.specs.Table.{table_of, names_of}
 use Rattle.tb_frame.proofs.lookup.lend_columns.Given as goal
@@ -10,5 +10,5 @@ use Rattle.tb_frame.proofs.lookup.lend_columns.Given as goal
 abbrev pub invariant-loop-name : goal.invariant-loop-name
 invariant-loop-name l = record {
   known : find (λ n. not (is_among (names_of (table_of l.fn.columns)) n)) (take l.name-index l.names) ≡ None;
-  selected : lent_columns l.lent.items ≡ selected (take l.name-index l.names) l.fn.columns;
+  selected : lent_columns l.lent.items ≡ selected_columns (take l.name-index l.names) l.fn.columns;
 }

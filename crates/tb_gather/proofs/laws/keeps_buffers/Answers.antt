@@ -4,4 +4,4 @@ use Rattle.tb_gather.proofs.Kept.{buffers-kept}
 use Rattle.tb_gather.proofs.laws.keeps_buffers.Goals as goal
 
 pub returns : goal.returns
-returns _ c ids sorted = ap (λ bs. bs ∷ []) (buffers-kept (lens c) ids c.runs)
+returns _ c ids sorted = ap (λ bs. bs ∷ []) (buffers-kept (lens c) ids c.view_arrays)

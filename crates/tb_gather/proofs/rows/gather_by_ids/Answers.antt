@@ -4,7 +4,7 @@ use Rattle.rayon.proofs.ListFacts.{IfOk-then}
 use Rattle.tb_chunk.specs.Col.{Col}
 use Rattle.tb_frame.specs.Frame.{lens}
 use Rattle.tb_frame.specs.Table.{table_of, IsTable}
-use Rattle.tb_gather.specs.Ids.{Id, AreRun, row_or_none}
+use Rattle.tb_gather.specs.Ids.{Id, AreAllInOrder, row_or_none}
 use Rattle.tb_gather.specs.Gathered.{NameRows, gathered_flag, named_rows}
 use Rattle.tb_gather.specs.declared.keep.Keep.TheVariants as keep
 use Rattle.tb_gather.proofs.Frames.{IsTable-gathered}
@@ -24,8 +24,8 @@ gather_side_by_side-requires-after_bounds g c κs within =
     let made = in_column ids c.args.rows.now c.as_materialized_series.result.now c.in-Some.column.now c.as_materialized_series.ensures c.in_ok-ids-in-Some.ensures.named c.in_ok-ids-in-Some.ensures.rows in
     let named = named-each cs c.in-Some.column.now is c.requires.cut.alike ids c.args.rows.now made.0 made.1 in
     let count = length-ids cs c.in-Some.column.now is c.requires.cut.alike ids c.args.rows.now made.0 made.1 in
-    let run = ids-are-run c.args.sorted _ ids c.args.rows.now c.in_ok-ids-in-Some.ensures.rows (c.in_ok-ids-in-Some.ensures.runs c.args.sorted) c.requires.runs in
-    (omega arith, (subst (λ (by : List Id). All (NameRows by) c.get_columns-in-Some.result.now) (sym c.deref.ensures.value) (subst (λ (ks : List Col). All (NameRows ids) ks) (sym c.get_columns-in-Some.ensures.columns) named), (subst (λ (by : List Id). AreRun c.args.sorted by) (sym c.deref.ensures.value) run, omega (arith, c.deref.ensures.len, count, c.requires.few))))
+    let run = ids-are-run c.args.sorted _ ids c.args.rows.now c.in_ok-ids-in-Some.ensures.rows (c.in_ok-ids-in-Some.ensures.in_order c.args.sorted) c.requires.in_order in
+    (omega arith, (subst (λ (by : List Id). All (NameRows by) c.get_columns-in-Some.result.now) (sym c.deref.ensures.value) (subst (λ (ks : List Col). All (NameRows ids) ks) (sym c.get_columns-in-Some.ensures.columns) named), (subst (λ (by : List Id). AreAllInOrder c.args.sorted by) (sym c.deref.ensures.value) run, omega (arith, c.deref.ensures.len, count, c.requires.few))))
 
 pub made_table-requires : goal.made_table-requires
 made_table-requires g c =

@@ -5,7 +5,7 @@ use Rattle.tb_chunk.specs.Col.{Col, values}
 use Rattle.tb_chunk.specs.Rows.{IsRowOf}
 use Rattle.tb_frame.specs.Table.{table_of, IsTable}
 use Rattle.tb_frame.proofs.Taking.{rows_or_none}
-use Rattle.tb_gather.specs.Gathered.{rows_gathered}
+use Rattle.tb_gather.specs.Gathered.{gathered_rows}
 use Rattle.tb_gather.proofs.Frames.{IsTable-rows}
 use Rattle.tb_gather.proofs.rows.take_by_rows.Goals as goal
 
@@ -17,9 +17,9 @@ take_side_by_side-requires-clause-rows g c κs within =
 
 pub made_table-requires : goal.made_table-requires
 made_table-requires g c =
-    let taken = c.in_ok-columns.ensures ∙ ap (map (rows_gathered c.args.rows.now c.args.sorted)) c.get_columns.ensures.columns in
+    let taken = c.in_ok-columns.ensures ∙ ap (map (gathered_rows c.args.rows.now c.args.sorted)) c.get_columns.ensures.columns in
     subst (λ (cs : List Col). IsTable (table_of cs)) (sym taken) (IsTable-rows c.args.rows.now c.args.sorted c.args.table.now c.get_columns.ensures.table)
 
 pub returns : goal.returns
 returns g c =
-    IfOk-then c.made_table.result _ _ c.made_table.ensures (λ t is. is ∙ (c.in_ok-columns.ensures ∙ ap (map (rows_gathered c.args.rows.now c.args.sorted)) c.get_columns.ensures.columns))
+    IfOk-then c.made_table.result _ _ c.made_table.ensures (λ t is. is ∙ (c.in_ok-columns.ensures ∙ ap (map (gathered_rows c.args.rows.now c.args.sorted)) c.get_columns.ensures.columns))

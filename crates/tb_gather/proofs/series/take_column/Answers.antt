@@ -10,5 +10,5 @@ set_sorted_flag-requires c =
     let col = c.args.column.now in
     let rows = c.args.rows.now in
     let is : c.gathered_flag-flag.result ≡ gathered_flag c.args.sorted col.flag = c.gathered_flag-flag.ensures ∙ ap (gathered_flag c.args.sorted) c.is_sorted_flag.ensures in
-    let holds = flag-of-rows col rows c.args.sorted c.len-len.ensures.column c.requires.rows c.requires.runs in
+    let holds = flag-of-rows col rows c.args.sorted c.len-len.ensures.column c.requires.rows c.requires.in_order in
     rw (c.in_ok-taken.ensures, append-nil (map (value_or_null (values col)) rows), is) holds

@@ -35,7 +35,7 @@ collect-requires-send-C g c κs within = search (Column-send, crosses, sendable)
 pub collect-requires-clause-ready : goal.collect-requires-clause-ready
 collect-requires-clause-ready g c κs within = rw (c.map.ensures.base, c.map.ensures.f, c.with_min_len.ensures.base, c.par_iter.ensures) λ k d low x is.
     let named : NameRows c.args.by.now x.now = subst (λ (col : Col). NameRows c.args.by.now col) (sym is) (c.requires.named k d low) in
-    ((search, (named, (c.requires.runs, c.requires.few))), λ y h. tt)
+    ((search, (named, (c.requires.in_order, c.requires.few))), λ y h. tt)
 
 pub returns : goal.returns
 returns g c =

@@ -6,7 +6,7 @@ use Rattle.std.specs.Result.{IfOk}
 use Rattle.tb_chunk.specs.Col.{Col, values}
 use Rattle.tb_chunk.specs.Rows.{IsRowOf}
 use Rattle.tb_store.proofs.Crossing.{Column-send, Column-sync}
-use Rattle.tb_gather.specs.Gathered.{rows_gathered}
+use Rattle.tb_gather.specs.Gathered.{gathered_rows}
 use Rattle.tb_gather.proofs.Chained.{chained}
 use Rattle.tb_gather.proofs.side_by_side.take_side_by_side.Goals as goal
 
@@ -37,7 +37,7 @@ collect-requires-send-C g c κs within = search (Column-send, crosses, sendable)
 pub collect-requires-clause-ready : goal.collect-requires-clause-ready
 collect-requires-clause-ready g c κs within = rw (c.map.ensures.base, c.map.ensures.f, c.with_min_len.ensures.base, c.par_iter.ensures) λ k d low x is.
     let within : All (IsRowOf (length (values x.now))) c.args.rows.now = subst (λ (col : Col). All (IsRowOf (length (values col))) c.args.rows.now) (sym is) (c.requires.rows k d low) in
-    ((within, (c.requires.runs, c.requires.few)), λ y h. tt)
+    ((within, (c.requires.in_order, c.requires.few)), λ y h. tt)
 
 pub returns : goal.returns
 returns g c =
@@ -45,5 +45,5 @@ returns g c =
     let sorted : c.map.result.f.2.now ≡ c.args.sorted = ap (λ f. f.2.now) c.map.ensures.f in
     let whole : c.map.result.base.base.slice.now ≡ c.args.columns.now = ap (λ it. it.base.slice.now) c.map.ensures.base ∙ (ap (λ it. it.slice.now) c.with_min_len.ensures.base ∙ c.par_iter.ensures) in
     let h = c.in_ok-collect.ensures in
-    subst (λ m. IfOk c.in_ok-collect.field-0 (λ v. v.items ≡ m)) (λ i. map (rows_gathered (rows i) (sorted i)) (whole i))
-    (chained (rows_gathered c.map.result.f.1.now c.map.result.f.2.now) (λ v. v.items) c.map.result.base.base.slice.now h.1.0 h.0 c.in_ok-collect.field-0 h.1.1 h.1.2 h.2)
+    subst (λ m. IfOk c.in_ok-collect.field-0 (λ v. v.items ≡ m)) (λ i. map (gathered_rows (rows i) (sorted i)) (whole i))
+    (chained (gathered_rows c.map.result.f.1.now c.map.result.f.2.now) (λ v. v.items) c.map.result.base.base.slice.now h.1.0 h.0 c.in_ok-collect.field-0 h.1.1 h.1.2 h.2)

@@ -2,7 +2,7 @@ use Rattle.std.proofs.Common.{◌≡◌, ◌∙◌, subst, sym}
 use Rattle.std.specs.Prelude.{IfSome}
 use Rattle.std.specs.List.{All}
 use Rattle.indexmap.specs.IndexSet.{insert_key}
-use Rattle.tb_chunk.specs.Whole.{runs_of}
+use Rattle.tb_chunk.specs.ViewArrays.{view_arrays_of}
 use Rattle.tb_gather.specs.Kept.{IsPlace, same_place}
 use Rattle.tb_gather.proofs.Kept.{used-more, used-same}
 use Rattle.tb_gather.proofs.Places.{All-inserted}
@@ -11,7 +11,7 @@ use Rattle.tb_gather.proofs.used.places_in_use.Goals.{in-Some+in_ok-insert, in_d
 
 pub loop-id-preserved : goal.loop-id-preserved
 loop-id-preserved g c =
-    let rs = runs_of g.C.Chunk.views g.C.Chunk.buffers c.args.chunks.now in
+    let rs = view_arrays_of g.C.Chunk.views g.C.Chunk.buffers c.args.chunks.now in
     let ids = c.args.ids.now in
     let i = c.loop-id.id-index in
     let before = c.loop-id.places.keys in

@@ -2,18 +2,18 @@ use Rattle.std.proofs.Common.{◌≡◌, ◌∙◌, Some, None, Contains, ap, ar
 use Rattle.std.specs.Prelude.{IfSome}
 use Rattle.std.proofs.lemmas.List.{length-map}
 use Rattle.tb_chunk.specs.Held.{StandsAt}
-use Rattle.tb_chunk.specs.Moved.{placed_at}
-use Rattle.tb_chunk.specs.Whole.{ViewRun, runs_of}
+use Rattle.tb_chunk.specs.Moved.{view_at_number}
+use Rattle.tb_chunk.specs.ViewArrays.{ViewArray, view_arrays_of}
 use Rattle.tb_frame.specs.Frame.{lengths}
-use Rattle.tb_gather.specs.Gathered.{value_at}
+use Rattle.tb_gather.specs.Gathered.{value_of_id}
 use Rattle.tb_gather.specs.Ids.{Id, NamesRow}
-use Rattle.tb_gather.specs.Kept.{buffer_at, number_in, place_of, view_among, view_named}
+use Rattle.tb_gather.specs.Kept.{buffer_at, number_in, place_of, view_among, named_view}
 use Rattle.tb_gather.proofs.Kept.{chunk-low, row-low, run-there, stands-there, value-there, view-there}
 use Rattle.tb_gather.proofs.used.push_used.Goals as goal
 
 pub number_of-number-requires : goal.number_of-number-requires
 number_of-number-requires g c =
-    let rs = runs_of g.C.Chunk.views g.C.Chunk.buffers c.args.chunks.now in
+    let rs = view_arrays_of g.C.Chunk.views g.C.Chunk.buffers c.args.chunks.now in
     (omega arith, (c.requires.named, omega (arith, g.met.C.Chunk.few c.args.out.now, ap length c.requires.held, length-map c.args.places.now.keys (buffer_at rs))))
 
 pub push_from-requires-clause-row : goal.push_from-requires-clause-row
@@ -27,7 +27,7 @@ pub push_from-requires-clause-held : goal.push_from-requires-clause-held
 push_from-requires-clause-held g c =
     let shown = g.C.Chunk.shown in
     let chunks = c.args.chunks.now in
-    let rs = runs_of g.C.Chunk.views g.C.Chunk.buffers chunks in
+    let rs = view_arrays_of g.C.Chunk.views g.C.Chunk.buffers chunks in
     let ps = c.args.places.now.keys in
     let p = c.extract-chunk.result in
     let n = c.number_of-number.result in
@@ -36,27 +36,27 @@ push_from-requires-clause-held g c =
     let number : n ≡ number_in ps (place_of rs c.args.id.now) = c.number_of-number.ensures in
     let there = stands-there rs ps (g.C.Chunk.buffers c.args.out.now) p n c.requires.held used (number ∙ ap (λ id. number_in ps (place_of rs id)) c.extract-chunk.ensures) in
     let run = run-there g.C.Chunk.views g.C.Chunk.buffers chunks p.0 c.index-chunks-chunk.result (chunk-low shown chunks p named) c.index-chunks-chunk.is in
-    subst (λ (r : ViewRun). StandsAt (g.C.Chunk.buffers c.args.out.now) n r.buffers (get_or r.views p.1 None)) run there
+    subst (λ (r : ViewArray). StandsAt (g.C.Chunk.buffers c.args.out.now) n r.buffers (get_or r.views p.1 None)) run there
 
 pub returns-clause-shown : goal.returns-clause-shown
 returns-clause-shown g c =
     let shown = g.C.Chunk.shown in
     let chunks = c.args.chunks.now in
     let named : NamesRow (lengths (map shown chunks)) (Some c.extract-chunk.result) = subst (λ (id : Id). NamesRow (lengths (map shown chunks)) id) c.extract-chunk.ensures c.requires.named in
-    let value = ap (value_at (map shown chunks)) c.extract-chunk.ensures ∙ value-there shown chunks c.extract-chunk.result named c.index-chunks-chunk.result c.index-chunks-chunk.is in
+    let value = ap (value_of_id (map shown chunks)) c.extract-chunk.ensures ∙ value-there shown chunks c.extract-chunk.result named c.index-chunks-chunk.result c.index-chunks-chunk.is in
     rw value c.push_from.ensures.ok
 
 pub returns-clause-views : goal.returns-clause-views
 returns-clause-views g c =
     let shown = g.C.Chunk.shown in
     let chunks = c.args.chunks.now in
-    let rs = runs_of g.C.Chunk.views g.C.Chunk.buffers chunks in
+    let rs = view_arrays_of g.C.Chunk.views g.C.Chunk.buffers chunks in
     let ps = c.args.places.now.keys in
     let p = c.extract-chunk.result in
     let named : NamesRow (lengths (map shown chunks)) (Some p) = subst (λ (id : Id). NamesRow (lengths (map shown chunks)) id) c.extract-chunk.ensures c.requires.named in
-    let view : view_named rs c.args.id.now ≡ get_or (g.C.Chunk.views c.index-chunks-chunk.result) p.1 None =
-    ap (view_named rs) c.extract-chunk.ensures ∙ view-there g.C.Chunk.views g.C.Chunk.buffers chunks p c.index-chunks-chunk.result (chunk-low shown chunks p named) c.index-chunks-chunk.is
+    let view : named_view rs c.args.id.now ≡ get_or (g.C.Chunk.views c.index-chunks-chunk.result) p.1 None =
+    ap (named_view rs) c.extract-chunk.ensures ∙ view-there g.C.Chunk.views g.C.Chunk.buffers chunks p c.index-chunks-chunk.result (chunk-low shown chunks p named) c.index-chunks-chunk.is
     in
     let number : c.number_of-number.result ≡ number_in ps (place_of rs c.args.id.now) = c.number_of-number.ensures in
-    let placed : view_among rs ps c.args.id.now ≡ placed_at c.number_of-number.result (get_or (g.C.Chunk.views c.index-chunks-chunk.result) p.1 None) = λ i. placed_at (sym number i) (view i) in
+    let placed : view_among rs ps c.args.id.now ≡ view_at_number c.number_of-number.result (get_or (g.C.Chunk.views c.index-chunks-chunk.result) p.1 None) = λ i. view_at_number (sym number i) (view i) in
     rw placed c.push_from.ensures.views

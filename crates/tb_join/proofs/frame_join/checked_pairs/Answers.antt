@@ -8,14 +8,14 @@ use Rattle.tb_chunk.specs.Col.{Col}
 use Rattle.tb_chunk.specs.Lent.{lent_columns}
 use Rattle.tb_frame.specs.Refusal.{column_causes, row_causes}
 use Rattle.tb_frame.proofs.Causes.{no_cause}
-use Rattle.tb_keys.specs.Asked.{asked}
+use Rattle.tb_keys.specs.Asked.{asked_request}
 use Rattle.tb_keys.proofs.Refusing.{by_first, second_part, two_parts}
 use Rattle.tb_pairs.proofs.Checked.{checked_alike}
 use Rattle.tb_join.proofs.frame_join.checked_pairs.Goals as goal
 
 pub returns-in_err-check_columns-clause-settles : goal.returns-in_err-check_columns-clause-settles
 returns-in_err-check_columns-clause-settles g c =
-    let q = asked c.args.request.now in
+    let q = asked_request c.args.request.now in
     let p = err_from_is_err_and c.from_residual.result c.from_residual.ensures.1 in
     rw (p.1, p.2) (by_first _ _ _ _ _ (two_parts (column_causes q) (row_causes q)) refl c.in_err-check_columns.ensures)
 
@@ -26,10 +26,10 @@ traced_pairs-requires-clause-alike g c κs within =
     let right = length-map r.right_keys.now (λ (b : Bor Col). b.now) in
     let some = c.requires.some in
     let many = c.requires.as_many in
-    let none = no_cause (column_causes (asked r)) c.in_ok-check_columns.ensures in
-    checked_alike (asked r) (lent_columns r.left_keys.now) (lent_columns r.right_keys.now) refl refl (omega (arith, left, some)) (omega (arith, left, right, many)) (none 0 None (omega arith)) (none 1 None (omega arith))
+    let none = no_cause (column_causes (asked_request r)) c.in_ok-check_columns.ensures in
+    checked_alike (asked_request r) (lent_columns r.left_keys.now) (lent_columns r.right_keys.now) refl refl (omega (arith, left, some)) (omega (arith, left, right, many)) (none 0 None (omega arith)) (none 1 None (omega arith))
 
 pub returns-clause-settles : goal.returns-clause-settles
 returns-clause-settles g c =
-    let q = asked c.args.request.now in
+    let q = asked_request c.args.request.now in
     subst (λ (o : Option PolarsError). Settles c.traced_pairs.result o) (sym (second_part (column_causes q) (row_causes q) c.in_ok-check_columns.ensures)) c.traced_pairs.ensures.settles

@@ -11,7 +11,7 @@ use Rattle.tb_keys.specs.Asked.{asked_by_names}
 use Rattle.tb_keys.specs.Causes.{later_refusal}
 use Rattle.tb_keys.proofs.Refusing.{by_first, second_part, two_causes}
 use Rattle.tb_pairs.specs.Trace.{IsTraced, Trace, trace_of}
-use Rattle.tb_join.specs.Ready.{CanMerge}
+use Rattle.tb_join.specs.Ready.{CanCoalesceKeys}
 use Rattle.tb_join.proofs.NamedKeys.{keys_as_many, keys_there}
 use Rattle.tb_join.proofs.NamesStand.{can_merge, names_stand, wide_out}
 use Rattle.tb_join.proofs.frame_join.join_tables.Goals as goal
@@ -37,11 +37,11 @@ traced_columns-requires-clause-wide g c κs within =
     let q = asked_by_names c.args.request.now in
     subst (λ (x : Request). 0 < length (out x)) (sym c.with_keys-lent.ensures.asked) (wide_out q (names_stand q c.in_ok-keys.ensures.settles))
 
-pub traced_columns-requires-clause-merge : goal.traced_columns-requires-clause-merge
-traced_columns-requires-clause-merge g c κs within =
+pub traced_columns-requires-clause-coalescing : goal.traced_columns-requires-clause-coalescing
+traced_columns-requires-clause-coalescing g c κs within =
     let n = c.args.request.now in
     let keys = c.in_ok-keys in
-    subst (λ (x : Request). key_types x ≡ None → CanMerge x) (sym c.with_keys-lent.ensures.asked)
+    subst (λ (x : Request). key_types x ≡ None → CanCoalesceKeys x) (sym c.with_keys-lent.ensures.asked)
     (can_merge (asked_by_names n) n.left.now n.right.now (λ _. table_of n.left.now) (λ _. table_of n.right.now) (names_stand (asked_by_names n) keys.ensures.settles) c.get_columns-columns.ensures.table refl refl)
 
 pub traced_columns-requires-clause-some : goal.traced_columns-requires-clause-some

@@ -9,7 +9,7 @@ use Rattle.tb_frame.specs.Answer.{IsListed}
 use Rattle.tb_frame.specs.Join.{Request, listing}
 use Rattle.tb_frame.specs.Refusal.{column_causes, row_causes}
 use Rattle.tb_frame.proofs.Causes.{no_cause, when_not_above}
-use Rattle.tb_keys.specs.Asked.{asked}
+use Rattle.tb_keys.specs.Asked.{asked_request}
 use Rattle.tb_keys.specs.Causes.{later_refusal}
 use Rattle.tb_join.proofs.Finishing.{settled}
 use Rattle.tb_join.proofs.frame_join.traced_columns.Goals as goal
@@ -18,15 +18,15 @@ each : (q : Request) → later_refusal q ≡ None → All (λ (o : Option Polars
 each q h = no_cause (column_causes q ++ row_causes q) h
 
 pub finish_join-requires-clause-named : goal.finish_join-requires-clause-named
-finish_join-requires-clause-named g c κs within = each (asked c.args.request.now) c.in_ok-pairs.ensures.settles 2 None (omega arith)
+finish_join-requires-clause-named g c κs within = each (asked_request c.args.request.now) c.in_ok-pairs.ensures.settles 2 None (omega arith)
 
 pub finish_join-requires-clause-few : goal.finish_join-requires-clause-few
 finish_join-requires-clause-few g c κs within =
-    let q = asked c.args.request.now in
+    let q = asked_request c.args.request.now in
     when_not_above MAX_ROWS (length (listing q)) (ComputeError TooManyRows) (each q c.in_ok-pairs.ensures.settles 5 None (omega arith))
 
-pub finish_join-requires-clause-merge : goal.finish_join-requires-clause-merge
-finish_join-requires-clause-merge g c κs within = c.requires.merge (each (asked c.args.request.now) c.in_ok-pairs.ensures.settles 0 None (omega arith))
+pub finish_join-requires-clause-coalescing : goal.finish_join-requires-clause-coalescing
+finish_join-requires-clause-coalescing g c κs within = c.requires.coalescing (each (asked_request c.args.request.now) c.in_ok-pairs.ensures.settles 0 None (omega arith))
 
 pub finish_join-requires-clause-some : goal.finish_join-requires-clause-some
 finish_join-requires-clause-some g c κs within = inl c.requires.wide
@@ -34,7 +34,7 @@ finish_join-requires-clause-some g c κs within = inl c.requires.wide
 pub finish_join-requires-clause-listed : goal.finish_join-requires-clause-listed
 finish_join-requires-clause-listed g c κs within =
     let r = c.args.request.now in
-    subst (λ (ps : List JoinPair). IsListed r.how r.args.now.maintain_order r.args.now.slice (listing (asked r)) ps) (sym c.deref.ensures.value) c.in_ok-pairs.ensures.listed
+    subst (λ (ps : List JoinPair). IsListed r.how r.args.now.maintain_order r.args.now.slice (listing (asked_request r)) ps) (sym c.deref.ensures.value) c.in_ok-pairs.ensures.listed
 
 pub returns-clause-settles : goal.returns-clause-settles
 returns-clause-settles g c = c.in_ok-pairs.ensures.settles

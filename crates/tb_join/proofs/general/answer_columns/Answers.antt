@@ -1,6 +1,6 @@
 use Rattle.std.proofs.Common.{◌∙◌, ap, sym}
 use Rattle.tb_frame.specs.Table.{table_of}
-use Rattle.tb_keys.specs.Asked.{asked}
+use Rattle.tb_keys.specs.Asked.{asked_request}
 use Rattle.tb_join.proofs.AnswerMade.{columns-are}
 use Rattle.tb_join.proofs.general.answer_columns.Goals as goal
 
@@ -8,4 +8,4 @@ pub returns-in_ok-plain_columns-clause-columns : goal.returns-in_ok-plain_column
 returns-in_ok-plain_columns-clause-columns g c =
     let r = c.args.request.now in
     ap table_of c.in_ok-plain_columns.ensures
-    ∙ columns-are (asked r) r.left.now r.right.now c.args.pairs.now (sym c.merges_keys.ensures ∙ c.if-merges_keys.false) (λ _. table_of r.left.now) (λ _. table_of r.right.now)
+    ∙ columns-are (asked_request r) r.left.now r.right.now c.args.pairs.now (sym c.coalesces_keys.ensures ∙ c.if-coalesces_keys.false) (λ _. table_of r.left.now) (λ _. table_of r.right.now)

@@ -6,29 +6,29 @@ use Rattle.tb_frame.specs.Join.{matches}
 use Rattle.tb_frame.specs.Table.{height, names_of}
 use Rattle.tb_frame.proofs.Assembled.{few_listed, makes_frame, pairs_in_range, table_answers}
 use Rattle.tb_frame.proofs.Causes.{distinct_names, map_none}
-use Rattle.tb_keys.specs.Asked.{asked}
+use Rattle.tb_keys.specs.Asked.{asked_request}
 use Rattle.tb_join.proofs.Finishing.{settled}
 use Rattle.tb_join.proofs.Running.{run-as-asked}
 use Rattle.tb_join.proofs.general.finish_join.Goals as goal
 
 pub answer_columns-requires-clause-pairs : goal.answer_columns-requires-clause-pairs
-answer_columns-requires-clause-pairs g c κs within = pairs_in_range (asked c.args.request.now) c.args.pairs.now c.requires.listed
+answer_columns-requires-clause-pairs g c κs within = pairs_in_range (asked_request c.args.request.now) c.args.pairs.now c.requires.listed
 
 pub answer_columns-requires-clause-few : goal.answer_columns-requires-clause-few
-answer_columns-requires-clause-few g c κs within = few_listed (asked c.args.request.now) c.args.pairs.now c.requires.few c.requires.listed
+answer_columns-requires-clause-few g c κs within = few_listed (asked_request c.args.request.now) c.args.pairs.now c.requires.few c.requires.listed
 
-pub answer_columns-requires-clause-runs : goal.answer_columns-requires-clause-runs
-answer_columns-requires-clause-runs g c κs within =
-    let q = asked c.args.request.now in
+pub answer_columns-requires-clause-in_order : goal.answer_columns-requires-clause-in_order
+answer_columns-requires-clause-in_order g c κs within =
+    let q = asked_request c.args.request.now in
     run-as-asked q.args (height q.left) (height q.right) (matches q) c.args.pairs.now c.requires.listed
 
 pub returns-clause-settles : goal.returns-clause-settles
 returns-clause-settles g c =
-    let q = asked c.args.request.now in
+    let q = asked_request c.args.request.now in
     let names = joined_names q.args q.left_on q.right_on (names_of q.left) (names_of q.right) in
     let apart = distinct_names names (map_none (λ n. Duplicate n) (first_repeated names) c.requires.named) in
     settled c.new.result _ None (makes_frame q c.args.pairs.now _ c.in_ok-columns.ensures.columns apart) c.new.ensures.settles
 
 pub returns-clause-answer : goal.returns-clause-answer
 returns-clause-answer g c =
-    table_answers (asked c.args.request.now) c.args.pairs.now _ c.new.result c.in_ok-columns.ensures.columns c.requires.some c.requires.listed c.new.ensures.columns c.new.ensures.table
+    table_answers (asked_request c.args.request.now) c.args.pairs.now _ c.new.result c.in_ok-columns.ensures.columns c.requires.some c.requires.listed c.new.ensures.columns c.new.ensures.table

@@ -6,7 +6,7 @@ use Rattle.tb_chunk.specs.Col.{Col}
 use Rattle.tb_chunk.specs.Rows.{IsRowOf}
 use Rattle.tb_frame.specs.Frame.{without_names}
 use Rattle.tb_frame.specs.Table.{height, table_of}
-use Rattle.tb_gather.specs.Gathered.{rows_gathered}
+use Rattle.tb_gather.specs.Gathered.{gathered_rows}
 use Rattle.tb_join.proofs.KeptColumns.{height-without, without_names_none}
 use Rattle.tb_join.proofs.general.kept_table.Goals as goal
 
@@ -14,7 +14,7 @@ pub returns-then-is_empty : goal.returns-then-is_empty
 returns-then-is_empty g c =
     let zero : length c.args.gone.now ≡ 0 = search rules in
     let none : c.args.gone.now ≡ [] = nil_from_length c.args.gone.now zero in
-    subst (λ (cs : List Col). IfOk c.gather_rows.result (λ t. t ≡ map (rows_gathered c.args.rows.now c.args.sorted) cs)) (sym (ap (λ (names : List Name). without_names names c.args.table.now) none ∙ without_names_none c.args.table.now)) c.gather_rows.ensures
+    subst (λ (cs : List Col). IfOk c.gather_rows.result (λ t. t ≡ map (gathered_rows c.args.rows.now c.args.sorted) cs)) (sym (ap (λ (names : List Name). without_names names c.args.table.now) none ∙ without_names_none c.args.table.now)) c.gather_rows.ensures
 
 pub gather_rows-requires-2-clause-rows : goal.gather_rows-requires-2-clause-rows
 gather_rows-requires-2-clause-rows g c κs within =

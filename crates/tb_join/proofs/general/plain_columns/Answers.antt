@@ -3,8 +3,8 @@ use Rattle.std.specs.Prelude.{All}
 use Rattle.std.proofs.lemmas.Result.{IfOk-weaker}
 use Rattle.tb_chunk.specs.Rows.{IsRowOf}
 use Rattle.tb_frame.specs.Frame.{without_names}
-use Rattle.tb_gather.specs.Gathered.{rows_gathered}
-use Rattle.tb_keys.specs.Asked.{asked}
+use Rattle.tb_gather.specs.Gathered.{gathered_rows}
+use Rattle.tb_keys.specs.Asked.{asked_request}
 use Rattle.tb_join.specs.AnswerColumns.{left_part, side_by_side}
 use Rattle.tb_frame.specs.Table.{table_of, height}
 use Rattle.tb_frame.proofs.Filled.{left_within}
@@ -18,7 +18,7 @@ kept_table-requires-clause-rows g c κs within =
 pub returns : goal.returns
 returns g c =
     let r = c.args.request.now in
-    let left : c.into_columns-left.result.items ≡ left_part (asked r).args r.left_on.now c.args.pairs.now r.left.now =
-    c.into_columns-left.ensures ∙ c.in_ok-kept_table.ensures ∙ (λ t. map (rows_gathered ((c.deref.ensures.value ∙ c.in_ok-rows.ensures) t) (c.left_run-sorted.ensures t)) (without_names (c.gone_left-gone.ensures t) r.left.now))
+    let left : c.into_columns-left.result.items ≡ left_part (asked_request r).args r.left_on.now c.args.pairs.now r.left.now =
+    c.into_columns-left.ensures ∙ c.in_ok-kept_table.ensures ∙ (λ t. map (gathered_rows ((c.deref.ensures.value ∙ c.in_ok-rows.ensures) t) (c.left_order-sorted.ensures t)) (without_names (c.gone_left-gone.ensures t) r.left.now))
     in
     IfOk-weaker c.side_by_side.result _ _ (λ v h. h ∙ (λ t. side_by_side (c.suffix_of.ensures t) (left t) (c.in_ok-right.ensures t))) c.side_by_side.ensures

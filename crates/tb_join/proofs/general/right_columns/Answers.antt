@@ -7,7 +7,7 @@ use Rattle.tb_frame.specs.Frame.{without_names}
 use Rattle.tb_frame.specs.RightColumns.{right_side}
 use Rattle.tb_frame.specs.Table.{table_of, height}
 use Rattle.tb_frame.proofs.Filled.{right_within}
-use Rattle.tb_gather.specs.Gathered.{rows_gathered}
+use Rattle.tb_gather.specs.Gathered.{gathered_rows}
 use Rattle.tb_join.proofs.general.right_columns.Goals as goal
 
 pub kept_table-requires-clause-rows : goal.kept_table-requires-clause-rows
@@ -22,4 +22,4 @@ returns g c =
     let rows : c.deref.result.now ≡ map (λ (p : JoinPair). p.right) c.args.pairs.now = c.deref.ensures.value ∙ c.in_ok-rows.ensures in
     let some : has_right request.how ≡ true = sym c.has_right.ensures ∙ c.if-not-has_right.false in
     let side : right ≡ right_side request.how right = sym (ap (λ (b : Bool). cond b right []) some) in
-    c.into_columns.ensures ∙ c.in_ok-kept_table.ensures ∙ (λ t. map (rows_gathered (rows t) (c.right_run-sorted.ensures t)) (without_names (c.gone_right-gone.ensures t) (side t)))
+    c.into_columns.ensures ∙ c.in_ok-kept_table.ensures ∙ (λ t. map (gathered_rows (rows t) (c.right_order-sorted.ensures t)) (without_names (c.gone_right-gone.ensures t) (side t)))

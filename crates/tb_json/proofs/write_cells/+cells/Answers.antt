@@ -5,7 +5,7 @@ use Rattle.serde_json.specs.View.{view}
 use Rattle.serde_json.specs.Data.{Data}
 use Rattle.tb_value.specs.Datum.{weight, weights, items_of}
 use Rattle.tb_value.specs.Kind.{parts_of}
-use Rattle.tb_value.specs.See.{datum, lent}
+use Rattle.tb_value.specs.See.{datum, lent_value}
 use Rattle.tb_value.specs.SeeKind.{kind_of, part, parts}
 use Rattle.tb_value.specs.Typed.{AreOf, AreEachOf}
 use Rattle.tb_json.specs.Text.{value_data, items_data, fields_data}
@@ -21,7 +21,7 @@ list_values-cell_value-requires t c =
     let at : datum x ≡ get_or (map datum listed) i (datum x) = sym (get_or-map datum listed i x (datum x) within ∙ ap datum (sym c.value-item.is)) in
     let light : weight (datum x) ≤ weights (items_of (map datum listed)) = weight_in (map datum listed) i (datum x) (rw length-map within) at in
     let same : weights (items_of (map datum listed)) ≡ weights (items_of c.args.values.now) = ap (λ vs. weights (items_of vs)) c.as_slice-listed.ensures in
-    let e : weight (lent c.as_ref.result) ≡ weight (datum x) = ap weight c.as_ref.ensures.value in (
+    let e : weight (lent_value c.as_ref.result) ≡ weight (datum x) = ap weight c.as_ref.ensures.value in (
       omega (arith, light, same, e, c.decreases),
       rw c.as_ref.ensures.value
           (AreOf_at (kind_of c.args.dtype.now) (map datum listed) i (datum x) (rw length-map within) at (subst (λ vs. AreOf (kind_of c.args.dtype.now) (items_of vs)) (sym c.as_slice-listed.ensures) c.requires)),
@@ -49,7 +49,7 @@ struct_values-cell_value-requires t c =
     let here = placed part datum members listed c.loop-i.i f x same (omega arith) c.index-members-i.is c.index-listed-i.is in
     let light = weight_in (map datum listed) c.loop-i.i (datum x) here.within here.at in
     let all : weights (items_of (map datum listed)) ≡ weights (items_of c.args.values.now) = ap (λ vs. weights (items_of vs)) c.as_slice-listed.ensures in
-    let e : weight (lent c.as_ref.result) ≡ weight (datum x) = ap weight c.as_ref.ensures.value in
+    let e : weight (lent_value c.as_ref.result) ≡ weight (datum x) = ap weight c.as_ref.ensures.value in
     let typed : AreEachOf (parts_of (map part members)) (items_of (map datum listed)) =
     subst (λ vs. AreEachOf (parts_of (map part members)) (items_of vs)) (sym c.as_slice-listed.ensures) (subst (λ ps. AreEachOf (parts_of ps) (items_of c.args.values.now)) (sym c.as_slice-members.ensures) c.requires) in (
       omega (arith, light, all, e, c.decreases),

@@ -1,14 +1,14 @@
 use Rattle.std.proofs.Common.{◌≡◌, ◌+◌, ◌*◌, map, take}
 use Rattle.serde_json.specs.View.{view}
 use Rattle.tb_value.specs.Datum.{weight, weights, items_of}
-use Rattle.tb_value.specs.See.{datum, lent}
+use Rattle.tb_value.specs.See.{datum, lent_value}
 use Rattle.tb_value.specs.SeeKind.{kind_of, part}
 use Rattle.tb_json.specs.Text.{value_data}
 use Rattle.tb_json.proofs.Nested.{RowSoFar}
 use Rattle.tb_json.proofs.write_cells.+cells.Given as goal
 
 abbrev pub decreases-cell_value : goal.decreases-cell_value
-decreases-cell_value l = 3 * weight (lent l.value)
+decreases-cell_value l = 3 * weight (lent_value l.value)
 
 abbrev pub decreases-list_values : goal.decreases-list_values
 decreases-list_values l = 3 * weights (items_of l.values.now) + 1

@@ -2,7 +2,7 @@ use Rattle.std.proofs.Common.{◌≡◌, false, map, drop, string_bytes}
 use Rattle.std.specs.List.{All}
 use Rattle.tb_value.specs.SeeKind.{kind_of}
 use Rattle.tb_value.specs.Typed.{HasType}
-use Rattle.tb_chunk.specs.Col.{flat}
+use Rattle.tb_chunk.specs.Col.{concatenation}
 use Rattle.tb_json.specs.Text.{value_data}
 use Rattle.tb_json.specs.Written.{with_items}
 use Rattle.tb_json.proofs.write_tables.push_chunks.Given as goal
@@ -10,6 +10,6 @@ use Rattle.tb_json.proofs.write_tables.push_chunks.Given as goal
 -- what is written, and what is left
 abbrev pub invariant-loop-chunk : goal.invariant-loop-chunk
 invariant-loop-chunk g l = record {
-  same : with_items (string_bytes l.text, l.later) (map (value_data (kind_of l.dtype)) (flat (map g.C.Chunk.shown (drop l.chunk-index l.chunks)))) ≡ with_items (string_bytes l.initial.text, false) (map (value_data (kind_of l.dtype)) (flat (map g.C.Chunk.shown l.chunks)));
-  typed : All (HasType (kind_of l.dtype)) (flat (map g.C.Chunk.shown (drop l.chunk-index l.chunks)));
+  same : with_items (string_bytes l.text, l.later) (map (value_data (kind_of l.dtype)) (concatenation (map g.C.Chunk.shown (drop l.chunk-index l.chunks)))) ≡ with_items (string_bytes l.initial.text, false) (map (value_data (kind_of l.dtype)) (concatenation (map g.C.Chunk.shown l.chunks)));
+  typed : All (HasType (kind_of l.dtype)) (concatenation (map g.C.Chunk.shown (drop l.chunk-index l.chunks)));
 }

@@ -5,7 +5,7 @@ use Rattle.tb_value.specs.Pairs.{row_numbers, left_only}
 use Rattle.tb_value.proofs.RowNumbers.{kept_push, kept_skip}
 use Rattle.tb_frame.specs.Join.{matches}
 use Rattle.tb_frame.specs.Table.{table_of, height}
-use Rattle.tb_keys.specs.Asked.{asked}
+use Rattle.tb_keys.specs.Asked.{asked_request}
 use Rattle.tb_keys.specs.Met.{is_so}
 use Rattle.tb_keys.proofs.listing.push_left.Goals as goal
 use Rattle.tb_keys.proofs.listing.push_left.Goals.{then-is_left_met-met+in_ok-push, else-is_left_met-met}
@@ -19,7 +19,7 @@ so-beq false false = refl
 pub loop-i-preserved : goal.loop-i-preserved
 loop-i-preserved c =
     let met = c.args.met in
-    let here : ℕ → Bool = λ i. list_any (matches (asked c.args.request.now) i) (row_numbers (height (table_of c.args.request.now.right.now))) in
+    let here : ℕ → Bool = λ i. list_any (matches (asked_request c.args.request.now) i) (row_numbers (height (table_of c.args.request.now.right.now))) in
     let test : ℕ → Bool = λ i. is_so met (here i) in
     let is : test c.loop-i.i ≡ beq c.is_left_met.result met = so-beq met (here c.loop-i.i) ∙ ap (λ (b : Bool). beq b met) (sym c.is_left_met.ensures) in
     elim c.if-is_left_met-met.branch [

@@ -2,13 +2,13 @@ use Rattle.std.proofs.Common.{ℕ, Bool, sym, ◌∙◌}
 use Rattle.tb_value.specs.Pairs.{both}
 use Rattle.tb_value.proofs.RowNumbers.{kept_push, kept_skip}
 use Rattle.tb_frame.specs.Join.{matches}
-use Rattle.tb_keys.specs.Asked.{asked}
+use Rattle.tb_keys.specs.Asked.{asked_request}
 use Rattle.tb_keys.proofs.listing.push_matches.Goals as goal
 use Rattle.tb_keys.proofs.listing.push_matches.Goals.{then-rows_match+in_ok-push, else-rows_match}
 
 pub loop-j-preserved : goal.loop-j-preserved
 loop-j-preserved c =
-    let test : ℕ → Bool = matches (asked c.args.request.now) c.args.i in
+    let test : ℕ → Bool = matches (asked_request c.args.request.now) c.args.i in
     elim c.if-rows_match.branch [
       | then-rows_match+in_ok-push w ↦
           let step = kept_push (both c.args.i) test c.loop-j.j c.args.pairs.now.items c.loop-j.pairs.items w.both.result c.loop-j.invariant

@@ -4,13 +4,13 @@ use Rattle.tb_value.specs.Pairs.{row_numbers, right_only}
 use Rattle.tb_value.proofs.RowNumbers.{kept_push, kept_skip}
 use Rattle.tb_frame.specs.Join.{matches}
 use Rattle.tb_frame.specs.Table.{table_of, height}
-use Rattle.tb_keys.specs.Asked.{asked}
+use Rattle.tb_keys.specs.Asked.{asked_request}
 use Rattle.tb_keys.proofs.listing.push_right_unmet.Goals as goal
 use Rattle.tb_keys.proofs.listing.push_right_unmet.Goals.{then-not-is_right_met+in_ok-push, else-not-is_right_met}
 
 pub loop-j-preserved : goal.loop-j-preserved
 loop-j-preserved c =
-    let unmet : ℕ → Bool = λ j. not (list_any (λ i. matches (asked c.args.request.now) i j) (row_numbers (height (table_of c.args.request.now.left.now)))) in
+    let unmet : ℕ → Bool = λ j. not (list_any (λ i. matches (asked_request c.args.request.now) i j) (row_numbers (height (table_of c.args.request.now.left.now)))) in
     elim c.if-not-is_right_met.branch [
       | then-not-is_right_met+in_ok-push w ↦
           let step = kept_push right_only unmet c.loop-j.j c.args.pairs.now.items c.loop-j.pairs.items w.right_only.result c.loop-j.invariant

@@ -7,7 +7,7 @@ use Rattle.tb_value.specs.declared.error.Side.TheVariants as side
 use Rattle.tb_frame.specs.Join.{flag_at}
 use Rattle.tb_frame.specs.Refusal.{broken_left, has_twins, is_validated}
 use Rattle.tb_frame.specs.Table.{table_of}
-use Rattle.tb_keys.specs.Asked.{asked}
+use Rattle.tb_keys.specs.Asked.{asked_request}
 use Rattle.tb_chunk.specs.Lent.{lent_columns}
 use Rattle.tb_keys.proofs.validation.check_left.Goals as goal
 
@@ -17,5 +17,5 @@ returns c =
     let a = r.args.now in
     let cause : Bool → Option PolarsError = λ b. when b (ComputeError (Validation side.Left)) in
     let broken : Bool → ℕ → Bool = λ asks n. is_validated r.how && asks && has_twins (flag_at a.join_nulls) (table_of (lent_columns r.left_keys.now)) n in
-    let is : cause c.is_broken-is_broken.result ≡ broken_left (asked r) = ap cause (c.is_broken-is_broken.ensures ∙ (λ t. broken (c.asks_left-is_asked.ensures t) (c.height.ensures.height t))) in
+    let is : cause c.is_broken-is_broken.result ≡ broken_left (asked_request r) = ap cause (c.is_broken-is_broken.ensures ∙ (λ t. broken (c.asks_left-is_asked.ensures t) (c.height.ensures.height t))) in
     subst (λ (o : Option PolarsError). SettlesOutright c.check_side.result o) is c.check_side.ensures

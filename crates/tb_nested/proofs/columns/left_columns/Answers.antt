@@ -3,9 +3,9 @@ use Rattle.std.specs.Prelude.{All, length}
 use Rattle.tb_chunk.specs.Col.{Col, values}
 use Rattle.tb_chunk.specs.Lent.{lent_columns}
 use Rattle.tb_chunk.specs.Rows.{IsRowOf}
-use Rattle.tb_frame.specs.Naming.{coalesces, merges_keys}
-use Rattle.tb_keys.specs.Asked.{asked}
-use Rattle.tb_keys.proofs.KeysMerged.{merged_holds}
+use Rattle.tb_frame.specs.Naming.{coalesces, coalesces_keys}
+use Rattle.tb_keys.specs.Asked.{asked_request}
+use Rattle.tb_keys.proofs.CoalescedKeys.{merged_holds}
 use Rattle.tb_nested.proofs.columns.left_columns.Goals as goal
 
 pub left_column-requires-clause-left_rows : goal.left_column-requires-clause-left_rows
@@ -16,5 +16,5 @@ left_column-requires-clause-left_rows c =
 pub left_column-requires-clause-right_rows : goal.left_column-requires-clause-right_rows
 left_column-requires-clause-right_rows c =
     let r = c.args.request.now in
-    λ k e. merged_holds (λ (x : Col). All (IsRowOf (length (values x))) c.args.right_rows.now) (merges_keys r.how (coalesces (asked r).args)) r.left_on.now
-    (lent_columns r.right_keys.now) c.name.result.now c.requires.right_rows k (sym c.merged_key-key.ensures ∙ e)
+    λ k e. merged_holds (λ (x : Col). All (IsRowOf (length (values x))) c.args.right_rows.now) (coalesces_keys r.how (coalesces (asked_request r).args)) r.left_on.now
+    (lent_columns r.right_keys.now) c.name.result.now c.requires.right_rows k (sym c.coalesced_key-key.ensures ∙ e)

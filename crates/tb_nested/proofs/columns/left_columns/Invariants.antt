@@ -1,7 +1,7 @@
 use Rattle.std.proofs.Common.{◌≡◌, take, map}
 use Rattle.tb_chunk.specs.Col.{Col}
-use Rattle.tb_keys.specs.Merging.{key_merged, left_column}
+use Rattle.tb_keys.specs.Coalescing.{coalescing_key, left_column}
 use Rattle.tb_nested.proofs.columns.left_columns.Given as goal
 
 abbrev pub invariant-loop-column : goal.invariant-loop-column
-invariant-loop-column l = l.made.items ≡ map (λ (c : Col). left_column l.left_rows l.right_rows (key_merged l.request c.name) c) (take l.column-index l.columns)
+invariant-loop-column l = l.made.items ≡ map (λ (c : Col). left_column l.left_rows l.right_rows (coalescing_key l.request c.name) c) (take l.column-index l.columns)

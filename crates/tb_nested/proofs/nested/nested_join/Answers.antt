@@ -9,7 +9,7 @@ use Rattle.tb_frame.specs.Answer.{IsListed}
 use Rattle.tb_frame.specs.Join.{IsAnswer, Request, lent_request, listing}
 use Rattle.tb_frame.specs.Refusal.{join_refusal}
 use Rattle.tb_frame.specs.Table.{table_of}
-use Rattle.tb_keys.specs.Asked.{asked}
+use Rattle.tb_keys.specs.Asked.{asked_request}
 use Rattle.tb_keys.specs.Causes.{later_refusal}
 use Rattle.tb_keys.proofs.Refusing.{by_first, by_none, by_second, two_causes}
 use Rattle.tb_nested.proofs.nested.nested_join.Goals as goal
@@ -39,7 +39,7 @@ pub answer_table-requires-clause-named : goal.answer_table-requires-clause-named
 answer_table-requires-clause-named c = c.with_keys-request.ensures.named
 
 -- where nothing refuses the request by names, it is valid
-valid : (c : After-with_keys-request) → later_refusal (asked c.with_keys-request.result) ≡ None
+valid : (c : After-with_keys-request) → later_refusal (asked_request c.with_keys-request.result) ≡ None
     → join_refusal (lent_request c.args.left.now c.args.right.now c.args.left_on.now c.args.right_on.now c.args.args.now) ≡ None
 valid c h =
     let q = lent_request c.args.left.now c.args.right.now c.args.left_on.now c.args.right_on.now c.args.args.now in
@@ -53,7 +53,7 @@ answer_table-requires-clause-valid c =
 pub answer_table-requires-clause-listed : goal.answer_table-requires-clause-listed
 answer_table-requires-clause-listed c =
     let r = c.with_keys-request.result in
-    subst (λ (ps : List JoinPair). IsListed r.how r.args.now.maintain_order r.args.now.slice (listing (asked r)) ps) (sym c.deref.ensures.value) c.in_ok-pairs.ensures.listed
+    subst (λ (ps : List JoinPair). IsListed r.how r.args.now.maintain_order r.args.now.slice (listing (asked_request r)) ps) (sym c.deref.ensures.value) c.in_ok-pairs.ensures.listed
 
 pub returns-clause-settles : goal.returns-clause-settles
 returns-clause-settles c =

@@ -5,7 +5,7 @@ use Rattle.std.proofs.lemmas.List.{length-map}
 use Rattle.std.proofs.lemmas.Result.{err_from_is_err_and}
 use Rattle.tb_chunk.specs.Col.{Col}
 use Rattle.tb_frame.specs.Join.{listing}
-use Rattle.tb_keys.specs.Asked.{asked}
+use Rattle.tb_keys.specs.Asked.{asked_request}
 use Rattle.tb_sorted.specs.Listed.{IsListedIn, IsMergeWithin, requested_sizes}
 use Rattle.tb_sorted.specs.declared.pairs.MergedPairs.{MergedPairs}
 use Rattle.tb_pairs.proofs.Merged.{merge_refuses}
@@ -23,7 +23,7 @@ returns-in-Some-clause-found g c =
     let exec = c.args.exec.now in
     let h = c.in_ok-merged.ensures in
     record {
-      listed = subst (λ (o : Option MergedPairs). IfSome o (λ m. IsListedIn (listing (asked r)) m.listed)) c.in-Some.is h.found;
+      listed = subst (λ (o : Option MergedPairs). IfSome o (λ m. IsListedIn (listing (asked_request r)) m.listed)) c.in-Some.is h.found;
       traced = merge_traced r exec c.in-Some.merged.merged (sym h.taken ∙ ap is_some c.in-Some.is) (subst (λ (o : Option MergedPairs). IfSome o (λ m. IsMergeWithin (requested_sizes r) m.merged)) c.in-Some.is h.merged);
     }
 

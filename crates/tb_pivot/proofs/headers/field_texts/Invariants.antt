@@ -1,8 +1,8 @@
 use Rattle.std.proofs.Common.{◌≡◌, map, take}
 use Rattle.tb_chunk.specs.Col.{values}
-use Rattle.tb_rows.specs.Rows.{value_at}
+use Rattle.tb_rows.specs.Rows.{row_value}
 use Rattle.tb_pivot.specs.Headers.{field_text}
 use Rattle.tb_pivot.proofs.headers.field_texts.Given as goal
 
 abbrev pub invariant-loop-column : goal.invariant-loop-column
-invariant-loop-column l = l.texts.items ≡ map (λ c. field_text (value_at (values c.now) l.row)) (take l.column-index l.columns)
+invariant-loop-column l = l.texts.items ≡ map (λ c. field_text (row_value (values c.now) l.row)) (take l.column-index l.columns)

@@ -3,7 +3,7 @@ use Rattle.std.specs.Borrow.{Bor}
 use Rattle.std.proofs.lemmas.Result.{err_from_is_err_and}
 use Rattle.tb_chunk.specs.Col.{Col}
 use Rattle.tb_chunk.specs.Lent.{lent_columns}
-use Rattle.tb_frame.specs.Frame.{selected}
+use Rattle.tb_frame.specs.Frame.{selected_columns}
 use Rattle.tb_frame.specs.Table.{table_of}
 use Rattle.tb_pivot.specs.Refusal.{agg_cause}
 use Rattle.tb_pivot.proofs.Causes.{header_stops, none_holds, value_stops}
@@ -43,9 +43,9 @@ returns-clause-high g c =
     (record { on = c.in_ok-on_columns.on_columns; index = c.in_ok-index_columns.index_columns; values = c.in_ok-value_columns.value_columns })
     c.get_columns-columns.ensures.table
     (record {
-      on = c.in_ok-on_columns.ensures.columns ∙ ap (selected c.args.on.now) c.get_columns-columns.ensures.columns;
-      index = c.in_ok-index_columns.ensures.columns ∙ ap (selected c.args.index.now) c.get_columns-columns.ensures.columns;
-      values = c.in_ok-value_columns.ensures.columns ∙ ap (selected c.args.values.now) c.get_columns-columns.ensures.columns;
+      on = c.in_ok-on_columns.ensures.columns ∙ ap (selected_columns c.args.on.now) c.get_columns-columns.ensures.columns;
+      index = c.in_ok-index_columns.ensures.columns ∙ ap (selected_columns c.args.index.now) c.get_columns-columns.ensures.columns;
+      values = c.in_ok-value_columns.ensures.columns ∙ ap (selected_columns c.args.values.now) c.get_columns-columns.ensures.columns;
     })
 
 pub returns-clause-taken : goal.returns-clause-taken

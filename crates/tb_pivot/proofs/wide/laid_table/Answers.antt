@@ -3,7 +3,7 @@ use Rattle.std.specs.List.{flat_map}
 use Rattle.std.proofs.lemmas.Result.{err_from_is_err_and, IfOk-weaker}
 use Rattle.tb_value.specs.Refusals.{Settles}
 use Rattle.tb_chunk.specs.Lent.{lent_columns}
-use Rattle.tb_frame.specs.Frame.{taken}
+use Rattle.tb_frame.specs.Frame.{taken_rows}
 use Rattle.tb_frame.specs.Table.{Table, table_of}
 use Rattle.tb_pivot.specs.Layout.{index_and_blocks, laid_block, laid_out}
 use Rattle.tb_pivot.specs.declared.blocks.GroupValues.{GroupValues}
@@ -29,7 +29,7 @@ columns-requires-clause-made g c =
 
 -- the columns are those of the answer
 abbrev laid : Layout → List GroupValues → Table
-laid l bs = table_of (map (taken l.cells.rows.firsts.items) (lent_columns l.columns.now.index.items)) ++ flat_map (λ (b : GroupValues). laid_block l b.value.now b.made) bs
+laid l bs = table_of (map (taken_rows l.cells.rows.firsts.items) (lent_columns l.columns.now.index.items)) ++ flat_map (λ (b : GroupValues). laid_block l b.value.now b.made) bs
 
 pub returns-clause-settles : goal.returns-clause-settles
 returns-clause-settles g c =

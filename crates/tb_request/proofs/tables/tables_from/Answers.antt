@@ -3,7 +3,7 @@ use Rattle.std.proofs.lemmas.List.{map-append}
 use Rattle.tb_chunk.specs.Col.{Col}
 use Rattle.tb_request.specs.declared.request.RequestFault.{RequestFault}
 use Rattle.tb_request.specs.declared.request.RequestFault.TheVariants.{NoRequest}
-use Rattle.tb_request.specs.Columns.{unlaid}
+use Rattle.tb_request.specs.Columns.{relaid_column}
 use Rattle.tb_request.specs.Lent.{claimed_views}
 use Rattle.tb_request.specs.Reading.{are_tables, FaultIs, IsJudged}
 use Rattle.tb_request.proofs.Judged.{one_more, one_more_none}
@@ -16,8 +16,8 @@ loop-columns-preserved-in-Continue-branch-2 c =
     record {
       judged = subst (λ (ts : List (List Col)). IsJudged ts c.loop-columns.fault) (sym more) (one_more before (claimed_views c.in-Some.columns) c.loop-columns.fault c.loop-columns.invariant.judged c.in-Ok.ensures.tables);
       made = λ none.
-          ap (map (map unlaid)) c.in_ok-push-in-Ok.ensures.items
-          ∙ map-append (map unlaid) c.loop-columns.tables.items (c.in-Ok.table ∷ [])
+          ap (map (map relaid_column)) c.in_ok-push-in-Ok.ensures.items
+          ∙ map-append (map relaid_column) c.loop-columns.tables.items (c.in-Ok.table ∷ [])
           ∙ (λ i. c.loop-columns.invariant.made none i ++ c.in-Ok.ensures.columns i ∷ [])
           ∙ sym more;
     }

@@ -1,7 +1,7 @@
 use Rattle.std.proofs.Common.{List, subst}
 use Rattle.tb_rows.specs.Grouped.{AreGroups}
 use Rattle.tb_frame.specs.Table.{TableColumn, table_of}
-use Rattle.tb_pivot.specs.Pivot.{alike}
+use Rattle.tb_pivot.specs.Pivot.{are_alike}
 use Rattle.tb_pivot.specs.Request.{columns_named}
 use Rattle.tb_pivot.proofs.Alike.{lent_groups}
 use Rattle.tb_pivot.proofs.Causes.{columns_found}
@@ -12,5 +12,5 @@ returns-clause-groups c =
     let columns = c.in_ok-columns.columns.items in
     let found = columns_found c.args.table.now c.get_columns.result.now c.args.names.now columns c.get_columns.ensures.columns c.in_ok-columns.ensures.columns in
     let grouped = lent_groups c.deref.result.now columns c.height.result c.in_ok-group_rows.field-0 c.deref.ensures.value c.in_ok-group_rows.ensures in
-    subst (λ n. AreGroups (alike (columns_named (table_of c.args.table.now) c.args.names.now)) n c.in_ok-group_rows.field-0) c.height.ensures.height
-    (subst (λ (cs : List TableColumn). AreGroups (alike cs) c.height.result c.in_ok-group_rows.field-0) found grouped)
+    subst (λ n. AreGroups (are_alike (columns_named (table_of c.args.table.now) c.args.names.now)) n c.in_ok-group_rows.field-0) c.height.ensures.height
+    (subst (λ (cs : List TableColumn). AreGroups (are_alike cs) c.height.result c.in_ok-group_rows.field-0) found grouped)

@@ -6,7 +6,7 @@ use Rattle.tb_value.specs.Datum.{binary}
 use Rattle.tb_value.specs.Kind as kind
 use Rattle.tb_value.specs.Typed.{HasType}
 use Rattle.tb_chunk.specs.Chunk.{or_null}
-use Rattle.tb_chunk.specs.Layout.{begun, built, laid, with_row}
+use Rattle.tb_chunk.specs.Layout.{buffers_of, building_of, text_view_array, with_row}
 use Rattle.tb_chunk.specs.View.{texts}
 use Rattle.tb_chunk.specs.declared.owned_chunks.BinaryChunk.{BinaryChunk}
 use Rattle.tb_chunk.proofs.Filled.{built-push}
@@ -19,32 +19,32 @@ loop-row-preserved c =
     c.in_ok-push_option.ensures.ok
     ∙ (λ i. with_row (c.loop-row.invariant i) (c.get.ensures.value i))
     ∙ built-push (take row keys) _
-    ∙ ap built (sym (take_more keys row None (omega (arith, c.loop-row-test.true, c.len-rows.ensures.exact))))
+    ∙ ap building_of (sym (take_more keys row None (omega (arith, c.loop-row-test.true, c.len-rows.ensures.exact))))
 
 pub returns-clause-value : goal.returns-clause-value
 returns-clause-value c =
     let keys = c.args.keys.now in
-    let all : c.loop-row.builder ≡ built keys = c.loop-row.invariant ∙ ap built (take_all c.loop-row.row keys (omega (arith, c.loop-row-test.false, c.len-rows.ensures.exact))) in
+    let all : c.loop-row.builder ≡ building_of keys = c.loop-row.invariant ∙ ap building_of (take_all c.loop-row.row keys (omega (arith, c.loop-row-test.false, c.len-rows.ensures.exact))) in
     IfOk-weaker c.finish.result (λ (b : BinaryChunk). texts b.inner.buffers.items b.inner.views.items ≡ c.loop-row.builder.rows)
     (λ (b : BinaryChunk). texts b.inner.buffers.items b.inner.views.items ≡ keys) (λ b h. h ∙ ap (λ x. x.rows) all) c.finish.ensures.bytes
 
 pub returns-clause-views : goal.returns-clause-views
 returns-clause-views c =
     let keys = c.args.keys.now in
-    let all : c.loop-row.builder ≡ built keys = c.loop-row.invariant ∙ ap built (take_all c.loop-row.row keys (omega (arith, c.loop-row-test.false, c.len-rows.ensures.exact))) in
+    let all : c.loop-row.builder ≡ building_of keys = c.loop-row.invariant ∙ ap building_of (take_all c.loop-row.row keys (omega (arith, c.loop-row-test.false, c.len-rows.ensures.exact))) in
     IfOk-weaker c.finish.result (λ (b : BinaryChunk). b.inner.views.items ≡ c.loop-row.builder.views)
-    (λ (b : BinaryChunk). b.inner.views.items ≡ (laid keys).views) (λ b h. h ∙ ap (λ x. x.views) all) c.finish.ensures.views
+    (λ (b : BinaryChunk). b.inner.views.items ≡ (text_view_array keys).views) (λ b h. h ∙ ap (λ x. x.views) all) c.finish.ensures.views
 
 pub returns-clause-buffers : goal.returns-clause-buffers
 returns-clause-buffers c =
     let keys = c.args.keys.now in
-    let all : c.loop-row.builder ≡ built keys = c.loop-row.invariant ∙ ap built (take_all c.loop-row.row keys (omega (arith, c.loop-row-test.false, c.len-rows.ensures.exact))) in
-    IfOk-weaker c.finish.result (λ (b : BinaryChunk). b.inner.buffers.items ≡ begun c.loop-row.builder.laid)
-    (λ (b : BinaryChunk). b.inner.buffers.items ≡ (laid keys).buffers) (λ b h. h ∙ ap (λ x. begun x.laid) all) c.finish.ensures.buffers
+    let all : c.loop-row.builder ≡ building_of keys = c.loop-row.invariant ∙ ap building_of (take_all c.loop-row.row keys (omega (arith, c.loop-row-test.false, c.len-rows.ensures.exact))) in
+    IfOk-weaker c.finish.result (λ (b : BinaryChunk). b.inner.buffers.items ≡ buffers_of c.loop-row.builder.laid)
+    (λ (b : BinaryChunk). b.inner.buffers.items ≡ (text_view_array keys).buffers) (λ b h. h ∙ ap (λ x. buffers_of x.laid) all) c.finish.ensures.buffers
 
 pub returns-clause-typed : goal.returns-clause-typed
 returns-clause-typed c =
     let keys = c.args.keys.now in
-    let all : c.loop-row.builder ≡ built keys = c.loop-row.invariant ∙ ap built (take_all c.loop-row.row keys (omega (arith, c.loop-row-test.false, c.len-rows.ensures.exact))) in
+    let all : c.loop-row.builder ≡ building_of keys = c.loop-row.invariant ∙ ap building_of (take_all c.loop-row.row keys (omega (arith, c.loop-row-test.false, c.len-rows.ensures.exact))) in
     IfOk-weaker c.finish.result (λ (b : BinaryChunk). texts b.inner.buffers.items b.inner.views.items ≡ c.loop-row.builder.rows)
     (λ (b : BinaryChunk). All (HasType kind.binary) (map (or_null binary) keys)) (λ b h. rw (sym (ap (λ x. x.rows) all)) c.finish.ensures.typed) c.finish.ensures.bytes

@@ -5,10 +5,10 @@ use Rattle.tb_value.specs.Kind as kind
 use Rattle.tb_value.specs.declared.sorted.IsSorted.TheVariants.{Not}
 use Rattle.tb_chunk.specs.Chunk.{or_null}
 use Rattle.tb_chunk.specs.Col.{Col}
-use Rattle.tb_chunk.specs.Fresh.{fresh_run}
-use Rattle.tb_chunk.specs.Layout.{laid}
+use Rattle.tb_chunk.specs.Fresh.{fresh_view_array}
+use Rattle.tb_chunk.specs.Layout.{text_view_array}
 use Rattle.tb_chunk.specs.View.{texts}
-use Rattle.tb_chunk.specs.Whole.{ViewRun}
+use Rattle.tb_chunk.specs.ViewArrays.{ViewArray}
 use Rattle.tb_chunk.proofs.Fresh.{fresh_binaries}
 use Rattle.tb_rowkey.specs.Columns.{lent_columns, flag_of, keys_at, key_column}
 use Rattle.tb_rowkey.proofs.keys.prepare_keys_multiple.Goals as goal
@@ -20,8 +20,8 @@ pub column_of-requires-clause-typed : goal.column_of-requires-clause-typed
 column_of-requires-clause-typed c = rw c.in_ok-chunk_of-in-Some.ensures.value c.in_ok-chunk_of-in-Some.ensures.typed
 
 -- a column of bytes without a name
-abbrev bytes_column : List Datum → ViewRun → Col
-bytes_column vs run = record { name = []; kind = kind.binary; chunks = vs ∷ []; flag = Not; runs = run ∷ [] }
+abbrev bytes_column : List Datum → ViewArray → Col
+bytes_column vs run = record { name = []; kind = kind.binary; chunks = vs ∷ []; flag = Not; view_arrays = run ∷ [] }
 
 pub returns : goal.returns
 returns c =
@@ -33,9 +33,9 @@ returns c =
     let keys = rw c.in-Some.is at c.in_ok-keys.ensures.keys in
     let views = c.in_ok-chunk_of-in-Some.ensures.views in
     let buffers = c.in_ok-chunk_of-in-Some.ensures.buffers in
-    let own : ViewRun = record { views = chunk.inner.views.items; buffers = chunk.inner.buffers.items } in
-    let run : own ≡ laid _ = λ i. record { views = views i; buffers = buffers i } in
+    let own : ViewArray = record { views = chunk.inner.views.items; buffers = chunk.inner.buffers.items } in
+    let run : own ≡ text_view_array _ = λ i. record { views = views i; buffers = buffers i } in
     let all = cells ∙ keys ∙ ap (λ (ds : List Col). keys_at ds nulls) lent in
-    let fresh_keys = run ∙ sym (fresh_binaries _) ∙ ap fresh_run (keys ∙ ap (λ (ds : List Col). keys_at ds nulls) lent) in
+    let fresh_keys = run ∙ sym (fresh_binaries _) ∙ ap fresh_view_array (keys ∙ ap (λ (ds : List Col). keys_at ds nulls) lent) in
     IfOk-weaker c.column_of.result (λ (s : Col). s ≡ bytes_column (map (or_null binary) rows) own) (λ (s : Col). s ≡ key_column c.args.columns.now nulls)
     (λ s h. h ∙ (λ i. bytes_column (all i) (fresh_keys i))) c.column_of.ensures

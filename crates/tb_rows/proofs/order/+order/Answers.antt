@@ -2,7 +2,7 @@ use Rattle.std.proofs.Common.{◌≡◌, ◌≤◌, ◌<◌, ◌-◌, ◌⊎◌,
 use Rattle.std.proofs.lemmas.Bool.{cases_lt}
 use Rattle.std.proofs.lemmas.List.{get_or-map, length-map, length-drop}
 use Rattle.tb_value.specs.Datum.{items_of, weight, weights}
-use Rattle.tb_value.specs.See.{datum, lent}
+use Rattle.tb_value.specs.See.{datum, lent_value}
 use Rattle.tb_rows.proofs.Orders.{ends, light}
 use Rattle.tb_rows.proofs.order.+order.Goals as goal
 
@@ -15,7 +15,7 @@ compare_lists-order_of_values-order-requires t c =
     let at : datum x ≡ get_or (map datum xs) i (datum x) = sym (get_or-map datum xs i x (datum x) within ∙ ap datum (sym c.index-values-i.is)) in
     let less : weight (datum x) ≤ weights (items_of (map datum xs)) = light (map datum xs) i (datum x) (datum x) (rw length-map within) at in
     let same : weights (items_of (map datum xs)) ≡ weights (items_of c.args.first.now) = ap (λ vs. weights (items_of vs)) c.as_slice-values.ensures in
-    let e : weight (lent c.as_ref.result) ≡ weight (datum x) = ap weight c.as_ref.ensures.value in
+    let e : weight (lent_value c.as_ref.result) ≡ weight (datum x) = ap weight c.as_ref.ensures.value in
     (omega (arith, less, same, e, c.decreases), tt)
 
 pub compare_lists-returns : goal.compare_lists-returns

@@ -1,11 +1,11 @@
 use Rattle.std.proofs.Common.{◌≡◌, ◌+◌, ◌*◌, drop, map}
 use Rattle.tb_value.specs.Datum.{items_of, weight, weights}
-use Rattle.tb_value.specs.See.{datum, lent}
+use Rattle.tb_value.specs.See.{datum, lent_value}
 use Rattle.tb_rows.specs.Order.{items_cmp}
 use Rattle.tb_rows.proofs.order.+order.Given as goal
 
 abbrev pub decreases-order_of_values : goal.decreases-order_of_values
-decreases-order_of_values l = 2 * weight (lent l.first)
+decreases-order_of_values l = 2 * weight (lent_value l.first)
 
 abbrev pub decreases-compare_lists : goal.decreases-compare_lists
 decreases-compare_lists l = 2 * weights (items_of l.first.now) + 1

@@ -4,9 +4,9 @@ use Rattle.tb_value.specs.Datum.{Datum, int}
 use Rattle.tb_value.specs.Kind.{int64}
 use Rattle.tb_value.proofs.Loops.{map-map}
 use Rattle.tb_chunk.specs.Chunk.{or_null}
-use Rattle.tb_chunk.specs.Col.{flat}
+use Rattle.tb_chunk.specs.Col.{concatenation}
 use Rattle.tb_chunk.proofs.OneChunk.{one_chunk_is_column}
-use Rattle.tb_frame.specs.Table.{plain}
+use Rattle.tb_frame.specs.Table.{plain_column}
 use Rattle.tb_sample.proofs.tables.number_column.Goals as goal
 
 -- one chunk of numbers
@@ -26,5 +26,5 @@ pub returns : goal.returns
 returns c =
     let zs = c.args.numbers.items in
     let chunks = chunk_is zs c.from_vec.result c.in_ok-chunks.chunks.items c.push.new.self.items c.from_vec.ensures c.in_ok-chunks.ensures.items c.in_ok-push.ensures.items in
-    ap plain (c.into_column.ensures ∙ c.from_parts-series.ensures) ∙ (λ t. record { name = c.in_ok-name.ensures t; kind = c.number_type.ensures t; values = flat (chunks t) })
+    ap plain_column (c.into_column.ensures ∙ c.from_parts-series.ensures) ∙ (λ t. record { name = c.in_ok-name.ensures t; kind = c.number_type.ensures t; values = concatenation (chunks t) })
     ∙ ap (λ (l : List Datum). record { name = c.args.name.now; kind = int64; values = l }) (append-nil (map int zs))

@@ -7,7 +7,7 @@ use Rattle.tb_value.specs.declared.index.JoinPair.{JoinPair}
 use Rattle.tb_frame.specs.Answer.{AreRightRows}
 use Rattle.tb_sorted.specs.Keys.{MergeSizes, number_listing}
 use Rattle.tb_sorted.specs.Listed.{IsMergeWithin}
-use Rattle.tb_sorted.specs.SortedRows.{AreSortedRows, keys_of, right_placed, numbered}
+use Rattle.tb_sorted.specs.SortedRows.{AreSortedRows, keys_of, right_placed, numbered_keys}
 use Rattle.tb_sorted.proofs.Places.{as_many_keys, right_many, right_places, right_sizes, right_way, rows_few, way_permutation, way_sorted}
 use Rattle.tb_sorted.proofs.Turned.{as_long}
 use Rattle.tb_sorted.proofs.one_sorted.right_sorted_lists.Goals as goal
@@ -15,46 +15,46 @@ use Rattle.tb_sorted.proofs.one_sorted.right_sorted_lists.Goals as goal
 pub merged_lists-requires-clause-right_few : goal.merged_lists-requires-clause-right_few
 merged_lists-requires-clause-right_few g c κs within =
     let keys = g.B.NumberList.keys c.args.right.now in
-    let rows = numbered g.N.WholeCell.number c.deref.result.now in
-    let many = as_many_keys keys rows (subst (λ (l : List (g.row.N.Denot × ℕ)). AreSortedRows keys (numbered g.N.WholeCell.number l)) (sym c.deref.ensures.value) c.in_ok-rows.ensures) in
+    let rows = numbered_keys g.N.WholeCell.number c.deref.result.now in
+    let many = as_many_keys keys rows (subst (λ (l : List (g.row.N.Denot × ℕ)). AreSortedRows keys (numbered_keys g.N.WholeCell.number l)) (sym c.deref.ensures.value) c.in_ok-rows.ensures) in
     omega (arith, many, c.requires.right_few)
 
 pub returns-in_err-pairs : goal.returns-in_err-pairs
 returns-in_err-pairs g c =
     let left = g.A.NumberList.keys c.args.left.now in
     let keys = g.B.NumberList.keys c.args.right.now in
-    let rows = numbered g.N.WholeCell.number c.deref.result.now in
+    let rows = numbered_keys g.N.WholeCell.number c.deref.result.now in
     let keep = c.args.keep_unmatched in
-    let many = right_many keys rows (subst (λ (l : List (g.row.N.Denot × ℕ)). AreSortedRows keys (numbered g.N.WholeCell.number l)) (sym c.deref.ensures.value) c.in_ok-rows.ensures) keep left in
+    let many = right_many keys rows (subst (λ (l : List (g.row.N.Denot × ℕ)). AreSortedRows keys (numbered_keys g.N.WholeCell.number l)) (sym c.deref.ensures.value) c.in_ok-rows.ensures) keep left in
     record { settles = subst (Settles c.from_residual-in_err-pairs.result) (as_long (number_listing keep left (keys_of rows)) (number_listing keep left keys) many) (search rules); pairs = search rules; ascends = search rules; merged = search rules }
 
 pub with_right_rows-requires-clause-places : goal.with_right_rows-requires-clause-places
 with_right_rows-requires-clause-places g c κs within =
     let left = g.A.NumberList.keys c.args.left.now in
     let keys = g.B.NumberList.keys c.args.right.now in
-    let rows = numbered g.N.WholeCell.number c.deref.result.now in
+    let rows = numbered_keys g.N.WholeCell.number c.deref.result.now in
     let same = c.deref.ensures.value ∙ sym c.deref-2.ensures.value in
-    let sorted = subst (λ (l : List (g.row.N.Denot × ℕ)). AreSortedRows keys (numbered g.N.WholeCell.number l)) (sym c.deref.ensures.value) c.in_ok-rows.ensures in
+    let sorted = subst (λ (l : List (g.row.N.Denot × ℕ)). AreSortedRows keys (numbered_keys g.N.WholeCell.number l)) (sym c.deref.ensures.value) c.in_ok-rows.ensures in
     subst (λ (n : ℕ). AreRightRows n c.in_ok-pairs.pairs.items)
     (length-map c.deref.result.now (λ (p : g.row.N.Denot × ℕ). (g.N.WholeCell.number p.0, p.1)) ∙ ap (λ (l : List (g.row.N.Denot × ℕ)). length l) same) (right_places keys rows sorted c.args.keep_unmatched left c.in_ok-pairs.pairs.items c.in_ok-pairs.ensures.pairs)
 
 pub with_right_rows-requires-clause-rows : goal.with_right_rows-requires-clause-rows
 with_right_rows-requires-clause-rows g c κs within =
     let keys = g.B.NumberList.keys c.args.right.now in
-    rows_few keys (numbered g.N.WholeCell.number c.deref-2.result.now) (subst (λ (l : List (g.row.N.Denot × ℕ)). AreSortedRows keys (numbered g.N.WholeCell.number l)) (sym c.deref-2.ensures.value) c.in_ok-rows.ensures) c.requires.right_few
+    rows_few keys (numbered_keys g.N.WholeCell.number c.deref-2.result.now) (subst (λ (l : List (g.row.N.Denot × ℕ)). AreSortedRows keys (numbered_keys g.N.WholeCell.number l)) (sym c.deref-2.ensures.value) c.in_ok-rows.ensures) c.requires.right_few
 
 pub returns : goal.returns
 returns g c =
     let left = g.A.NumberList.keys c.args.left.now in
     let keys = g.B.NumberList.keys c.args.right.now in
-    let rows = numbered g.N.WholeCell.number c.deref.result.now in
+    let rows = numbered_keys g.N.WholeCell.number c.deref.result.now in
     let keep = c.args.keep_unmatched in
     let ps = c.in_ok-pairs.pairs.items in
     let same : c.deref-2.result.now ≡ c.deref.result.now = c.deref-2.ensures.value ∙ sym c.deref.ensures.value in
-    let sorted = subst (λ (l : List (g.row.N.Denot × ℕ)). AreSortedRows keys (numbered g.N.WholeCell.number l)) (sym c.deref.ensures.value) c.in_ok-rows.ensures in
+    let sorted = subst (λ (l : List (g.row.N.Denot × ℕ)). AreSortedRows keys (numbered_keys g.N.WholeCell.number l)) (sym c.deref.ensures.value) c.in_ok-rows.ensures in
     let h = c.in_ok-pairs.ensures in
     let list = number_listing keep left keys in
-    let is = ◌∙◌ {A = List JoinPair} c.with_right_rows.ensures (◌∙◌ {A = List JoinPair} (λ t. map (right_placed (numbered g.N.WholeCell.number (same t))) ps) (right_way keys rows sorted keep left ps h.pairs h.ascends)) in
+    let is = ◌∙◌ {A = List JoinPair} c.with_right_rows.ensures (◌∙◌ {A = List JoinPair} (λ t. map (right_placed (numbered_keys g.N.WholeCell.number (same t))) ps) (right_way keys rows sorted keep left ps h.pairs h.ascends)) in
     record {
       settles = sym (as_long (number_listing keep left (keys_of rows)) list (right_many keys rows sorted keep left)) ∙ h.settles;
       pairs = subst (λ (l : List JoinPair). IsPermutation list l) (sym is) (way_permutation keep left keys);

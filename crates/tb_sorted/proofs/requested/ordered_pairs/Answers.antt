@@ -1,6 +1,6 @@
 use Rattle.std.proofs.Common.{List, subst, sym}
 use Rattle.tb_value.specs.Datum.{Datum}
-use Rattle.tb_chunk.specs.Col.{flat, values}
+use Rattle.tb_chunk.specs.Col.{concatenation, values}
 use Rattle.tb_chunk.specs.Seen.{chunk_lists}
 use Rattle.tb_sorted.specs.Columns.{MayMerge}
 use Rattle.tb_sorted.specs.Listed.{AreValuesMerged}
@@ -21,8 +21,8 @@ pairs_of_chunks-requires-clause-may c =
     let r = c.args.right.now in
     let keep = c.args.keep_unmatched in
     let first = sorted_first l r in
-    let us = flat (chunk_lists c.lone_chunk.result.now) in
-    let vs = flat (chunk_lists c.lone_chunk-2.result.now) in
+    let us = concatenation (chunk_lists c.lone_chunk.result.now) in
+    let vs = concatenation (chunk_lists c.lone_chunk-2.result.now) in
     let may = may_merge keep c.args.exec.now l r c.len.ensures.column c.len-2.ensures.column c.requires.left c.requires.right c.requires.ordered in
     subst (λ (f : SortedFirst). MayMerge f keep us vs) (sym c.sorted_first.ensures)
     (subst (λ (xs : List Datum). MayMerge first keep xs vs) (sym (lone_list l (chunk_lists c.lone_chunk.result.now) c.lone_chunk.ensures.lists))
@@ -32,8 +32,8 @@ pub returns : goal.returns
 returns c =
     let l = c.args.left.now in
     let r = c.args.right.now in
-    let us = flat (chunk_lists c.lone_chunk.result.now) in
-    let vs = flat (chunk_lists c.lone_chunk-2.result.now) in
+    let us = concatenation (chunk_lists c.lone_chunk.result.now) in
+    let vs = concatenation (chunk_lists c.lone_chunk-2.result.now) in
     let there = c.pairs_of_chunks.result in
     let keep = c.args.keep_unmatched in
     subst (λ (f : SortedFirst). AreValuesMerged (order_after f) keep (values l) (values r) there) c.sorted_first.ensures

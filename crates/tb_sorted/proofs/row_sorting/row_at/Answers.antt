@@ -1,7 +1,7 @@
 use Rattle.std.proofs.Common.{◌≡◌, ◌<◌, ◌∙◌, Some, ap, arith, length, pos, subst, sym, ℕ, ℤ}
 use Rattle.std.proofs.lemmas.List.{length-map}
 use Rattle.tb_chunk.specs.Rows.{IsRowOf}
-use Rattle.tb_sorted.specs.SortedRows.{numbered, row_or_none}
+use Rattle.tb_sorted.specs.SortedRows.{numbered_keys, row_or_none}
 use Rattle.tb_sorted.proofs.Places.{numbered_at}
 use Rattle.tb_sorted.proofs.row_sorting.row_at.Goals as goal
 
@@ -25,4 +25,4 @@ returns-in-Some g c =
     let is : c.args.place ≡ Some row = sym c.row.ensures ∙ c.in-Some.is in
     let low : row < length rows = subst (IsRowOf (length rows)) is c.requires.place in
     c.some.ensures ∙ ap (λ (p : ℤ × ℕ). Some p.1) (sym (numbered_at number rows row c.index-rows-row.result low (pos 0, 0)))
-    ∙ ap (row_or_none (numbered number rows)) (sym is)
+    ∙ ap (row_or_none (numbered_keys number rows)) (sym is)

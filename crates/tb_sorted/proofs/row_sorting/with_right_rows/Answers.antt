@@ -1,13 +1,13 @@
 use Rattle.std.proofs.Common.{◌∙◌, List, arith, get_or, length, set, subst, sym, ap}
 use Rattle.tb_value.specs.declared.index.JoinPair.{JoinPair}
 use Rattle.tb_chunk.specs.Rows.{IsRowOf}
-use Rattle.tb_sorted.specs.SortedRows.{right_placed, numbered}
+use Rattle.tb_sorted.specs.SortedRows.{right_placed, numbered_keys}
 use Rattle.tb_sorted.proofs.Turned.{mapped_here, mapped_long, mapped_more}
 use Rattle.tb_sorted.proofs.row_sorting.with_right_rows.Goals as goal
 
 pub row_at-pair-requires-clause-place : goal.row_at-pair-requires-clause-place
 row_at-pair-requires-clause-place g c κs within =
-    let rows = numbered g.N.WholeCell.number c.args.rows.now in
+    let rows = numbered_keys g.N.WholeCell.number c.args.rows.now in
     let f = right_placed rows in
     let ps = c.args.pairs.items in
     let i = c.loop-pair.pair-index in
@@ -24,4 +24,4 @@ loop-pair-preserved g c =
     let i = c.loop-pair.pair-index in
     let d = c.pair-item.result in
     let p = get_or items i d in
-    ◌∙◌ {A = List JoinPair} (λ t. set items i (record { left = p.left; right = c.row_at-pair.ensures t })) (mapped_more (right_placed (numbered g.N.WholeCell.number c.args.rows.now)) c.args.pairs.items items i d c.loop-pair.invariant (omega (arith, c.loop-pair-test.true, c.loop-pair.auto)))
+    ◌∙◌ {A = List JoinPair} (λ t. set items i (record { left = p.left; right = c.row_at-pair.ensures t })) (mapped_more (right_placed (numbered_keys g.N.WholeCell.number c.args.rows.now)) c.args.pairs.items items i d c.loop-pair.invariant (omega (arith, c.loop-pair-test.true, c.loop-pair.auto)))

@@ -1,10 +1,10 @@
 use Rattle.std.proofs.Common.{arith}
 use Rattle.tb_value.specs.Kind as kind
-use Rattle.tb_value.specs.See.{lent}
+use Rattle.tb_value.specs.See.{lent_value}
 use Rattle.tb_chunk.specs.Col.{values}
 use Rattle.tb_supertype.proofs.Stacks.{fits_at}
 use Rattle.tb_supertype.proofs.casting.cast_bytes.Goals as goal
 
 pub push_bytes-requires : goal.push_bytes-requires
 push_bytes-requires c =
-    fits_at kind.binary kind.binary (values c.args.column.now) c.loop-row.row (lent c.get.result) (omega arith) c.get.ensures.value c.requires
+    fits_at kind.binary kind.binary (values c.args.column.now) c.loop-row.row (lent_value c.get.result) (omega arith) c.get.ensures.value c.requires

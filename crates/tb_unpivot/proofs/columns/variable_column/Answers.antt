@@ -4,7 +4,7 @@ use Rattle.tb_value.specs.Datum.{Datum}
 use Rattle.tb_value.specs.Kind as kind
 use Rattle.tb_chunk.specs.Lent.{lent_columns}
 use Rattle.tb_chunk.specs.View.{texts}
-use Rattle.tb_frame.specs.Table.{plain}
+use Rattle.tb_frame.specs.Table.{plain_column}
 use Rattle.tb_unpivot.proofs.Lists.{names_each, names_few}
 use Rattle.tb_unpivot.proofs.columns.variable_column.Goals as goal
 
@@ -15,4 +15,4 @@ text_column-requires-clause-few c =
 
 pub returns : goal.returns
 returns c =
-    subst (λ (vs : List Datum). IfOk c.text_column.result (λ d. plain d ≡ record { name = c.args.name; kind = kind.string; values = vs })) (c.in_ok-chunk.ensures.names ∙ names_each (lent_columns c.args.columns.now)) c.text_column.ensures
+    subst (λ (vs : List Datum). IfOk c.text_column.result (λ d. plain_column d ≡ record { name = c.args.name; kind = kind.string; values = vs })) (c.in_ok-chunk.ensures.names ∙ names_each (lent_columns c.args.columns.now)) c.text_column.ensures

@@ -3,7 +3,7 @@ use Rattle.std.proofs.lemmas.Result.{IfOk-weaker, err_from_is_err_and}
 use Rattle.tb_value.specs.SeeKind.{kind_of}
 use Rattle.tb_chunk.specs.Col.{Col}
 use Rattle.tb_chunk.specs.Lent.{lent_columns}
-use Rattle.tb_frame.specs.Frame.{selected}
+use Rattle.tb_frame.specs.Frame.{selected_columns}
 use Rattle.tb_frame.specs.Table.{table_of}
 use Rattle.tb_unpivot.specs.Unpivot.{on_names, unpivot_table}
 use Rattle.tb_unpivot.proofs.Answered.{asked_for, asked_of, index_few, long_is, long_refused, on_few, on_typed}
@@ -29,7 +29,7 @@ long_columns-requires-clause-few c =
     let index = c.args.index.now in
     let names = c.deref.result.now in
     let asked = c.in_ok-asked.ensures.asked in
-    let found : lent_columns c.deref-2.result.now ≡ selected names cs = ap lent_columns c.deref-2.ensures.value ∙ asked.on in
+    let found : lent_columns c.deref-2.result.now ≡ selected_columns names cs = ap lent_columns c.deref-2.ensures.value ∙ asked.on in
     on_few cs names c.deref-2.result.now c.get_columns.ensures.table found asked.few
 
 pub long_columns-requires-clause-level : goal.long_columns-requires-clause-level
@@ -39,7 +39,7 @@ long_columns-requires-clause-level c =
     let index = c.args.index.now in
     let names = c.deref.result.now in
     let asked = c.in_ok-asked.ensures.asked in
-    let found : lent_columns c.deref-2.result.now ≡ selected names cs = ap lent_columns c.deref-2.ensures.value ∙ asked.on in
+    let found : lent_columns c.deref-2.result.now ≡ selected_columns names cs = ap lent_columns c.deref-2.ensures.value ∙ asked.on in
     index_few cs names c.deref-2.result.now c.get_columns.ensures.table found index c.deref-3.result.now (ap lent_columns c.deref-3.ensures.value ∙ asked.index) asked.few
 
 pub long_columns-requires-clause-typed : goal.long_columns-requires-clause-typed
@@ -49,7 +49,7 @@ long_columns-requires-clause-typed c =
     let index = c.args.index.now in
     let names = c.deref.result.now in
     let asked = c.in_ok-asked.ensures.asked in
-    let found : lent_columns c.deref-2.result.now ≡ selected names cs = ap lent_columns c.deref-2.ensures.value ∙ asked.on in
+    let found : lent_columns c.deref-2.result.now ≡ selected_columns names cs = ap lent_columns c.deref-2.ensures.value ∙ asked.on in
     on_typed cs names c.deref-2.result.now c.get_columns.ensures.table found (kind_of c.in_ok-asked.asked.dtype) asked.kind
 
 pub returns-clause-settles : goal.returns-clause-settles

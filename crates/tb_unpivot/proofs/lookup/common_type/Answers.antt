@@ -5,7 +5,7 @@ use Rattle.tb_value.specs.Kind as kind
 use Rattle.tb_value.specs.SeeKind.{kind_of}
 use Rattle.tb_chunk.specs.Col.{Col}
 use Rattle.tb_chunk.specs.Lent.{lent_columns}
-use Rattle.tb_frame.specs.Table.{plain, table_of}
+use Rattle.tb_frame.specs.Table.{plain_column, table_of}
 use Rattle.tb_unpivot.specs.Unpivot.{common_kind}
 use Rattle.tb_unpivot.proofs.CommonKinds.{kind_more, refused, refused_here}
 use Rattle.tb_unpivot.proofs.Lists.{next_left}
@@ -18,7 +18,7 @@ returns-in_err-dtype-clause-settles c =
     let r = c.column-item.result in
     let t = kind_of c.loop-column.dtype in
     let p = err_from_is_err_and c.from_residual.result c.from_residual.ensures.1 in
-    rw (p.1, p.2) (refused_here t (plain r.now) (table_of (lent_columns (drop (i + 1) rs))) (table_of (lent_columns rs)) _ (c.loop-column.invariant ∙ ap (common_kind t) (next_left rs i r c.loop-column-test.true c.column-item.is)) c.in_err-dtype.ensures.settles)
+    rw (p.1, p.2) (refused_here t (plain_column r.now) (table_of (lent_columns (drop (i + 1) rs))) (table_of (lent_columns rs)) _ (c.loop-column.invariant ∙ ap (common_kind t) (next_left rs i r c.loop-column-test.true c.column-item.is)) c.in_err-dtype.ensures.settles)
 
 pub loop-column-preserved : goal.loop-column-preserved
 loop-column-preserved c =
@@ -26,7 +26,7 @@ loop-column-preserved c =
     let i = c.loop-column.column-index in
     let r = c.column-item.result in
     let t = kind_of c.loop-column.dtype in
-    c.loop-column.invariant ∙ ap (common_kind t) (next_left rs i r c.loop-column-test.true c.column-item.is) ∙ kind_more t (kind_of c.in_ok-dtype.dtype) (plain r.now) (table_of (lent_columns (drop (i + 1) rs))) c.in_ok-dtype.ensures.value
+    c.loop-column.invariant ∙ ap (common_kind t) (next_left rs i r c.loop-column-test.true c.column-item.is) ∙ kind_more t (kind_of c.in_ok-dtype.dtype) (plain_column r.now) (table_of (lent_columns (drop (i + 1) rs))) c.in_ok-dtype.ensures.value
 
 pub returns-clause-value : goal.returns-clause-value
 returns-clause-value c =

@@ -1,11 +1,11 @@
 use Rattle.std.proofs.Common.{◌≡◌, ◌+◌, ◌*◌, fold, map, drop}
 use Rattle.tb_value.specs.Datum.{items_of, weight, weights}
 use Rattle.tb_value.specs.Fed.{fed_each, fed_items}
-use Rattle.tb_value.specs.See.{datum, lent}
+use Rattle.tb_value.specs.See.{datum, lent_value}
 use Rattle.tb_value.proofs.hashed.+hashed.Given as goal
 
 abbrev pub decreases-hash_ref : goal.decreases-hash_ref
-decreases-hash_ref g l = 2 * weight (lent l.value)
+decreases-hash_ref g l = 2 * weight (lent_value l.value)
 
 abbrev pub decreases-hash_values : goal.decreases-hash_values
 decreases-hash_values g l = 2 * weights (items_of l.values.now) + 1

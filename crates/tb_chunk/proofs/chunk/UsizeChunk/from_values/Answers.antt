@@ -7,7 +7,7 @@ use Rattle.tb_value.specs.Kind as kind
 use Rattle.std.proofs.lemmas.List.Elements.{All-weaker}
 use Rattle.tb_cell.specs.Fits.{Fits}
 use Rattle.tb_value.specs.declared.any_value.AnyValue.{AnyValue}
-use Rattle.tb_chunk.specs.Fresh.{fresh_run}
+use Rattle.tb_chunk.specs.Fresh.{fresh_view_array}
 use Rattle.tb_chunk.proofs.Fresh.{fresh_nulls}
 use Rattle.tb_cell.proofs.Fitting.{null-only}
 use Rattle.tb_chunk.proofs.Lists.{replicate-nulls}
@@ -16,8 +16,8 @@ use Rattle.tb_chunk.proofs.chunk.UsizeChunk.from_values.Goals as goal
 same : (values : List AnyValue) → All (Fits kind.null) (data_of values) → replicate (length values) null ≡ data_of values
 same values all = ap (λ n. replicate n null) (sym (length-map values datum)) ∙ replicate-nulls (data_of values) (All-weaker (Fits kind.null) (λ v. v ≡ null) null-only (data_of values) all)
 
-fresh : (values : List AnyValue) → All (Fits kind.null) (data_of values) → record { views = replicate (length values) None; buffers = [] } ≡ fresh_run (data_of values)
-fresh values all = sym (fresh_nulls (length values)) ∙ ap fresh_run (same values all)
+fresh : (values : List AnyValue) → All (Fits kind.null) (data_of values) → record { views = replicate (length values) None; buffers = [] } ≡ fresh_view_array (data_of values)
+fresh values all = sym (fresh_nulls (length values)) ∙ ap fresh_view_array (same values all)
 
 pub returns-clause-shown : goal.returns-clause-shown
 returns-clause-shown c = same c.args.values.now c.requires

@@ -23,5 +23,5 @@ returns-clause-made c = (
   few_data c.args.runs.now c.in-Some.ensures.1,
   c.in_ok-build_runs.ensures.lists,
   c.in_ok-build_runs.ensures.storage,
-  c.in_ok-build_runs.ensures.runs,
+  c.in_ok-build_runs.ensures.view_arrays,
 )

@@ -1,8 +1,8 @@
 use Rattle.std.proofs.Common.{arith, ◌≡◌, ◌<◌, ◌++◌, ◌∷◌, [], ◌∙◌, ◌+◌, ap, sym, length, map, take, length-take-le}
 use Rattle.std.proofs.lemmas.List.{map_more, length-map}
-use Rattle.tb_view.specs.Whole.{runs_of}
+use Rattle.tb_view.specs.ViewArrays.{view_arrays_of}
 use Rattle.tb_view.proofs.Held.{AreHeld-nil, AreHeld-push}
-use Rattle.tb_view.proofs.Whole.{bases_more, buffers_more}
+use Rattle.tb_view.proofs.ViewArrays.{bases_more, buffers_more}
 use Rattle.tb_chunk.proofs.growing.Growing.over.Goals as goal
 
 pub loop-other-init : goal.loop-other-init
@@ -22,7 +22,7 @@ loop-other-preserved g c =
     let x = c.other-item.result in
     let n = l.other-index in
     let low : n < length chunks = omega arith in
-    let rs = runs_of g.C.Chunk.views buffers chunks in
+    let rs = view_arrays_of g.C.Chunk.views buffers chunks in
     let next : map buffers (take (n + 1) chunks) ≡ map buffers (take n chunks) ++ buffers x ∷ [] = map_more buffers chunks n x low ∙ ap (λ y. map buffers (take n chunks) ++ buffers y ∷ []) (sym c.other-item.is) in
     let p = AreHeld-push (buffers l.chunk) l.bases.items (map buffers (take n chunks)) (buffers x) l.invariant.held in
     let h0 = l.invariant.held.whole in

@@ -13,8 +13,8 @@ use Rattle.tb_dispatch.proofs.dispatch.JoinDispatch._full_join_from_series.Goals
 pub full_join_by-requires-clause-keys : goal.full_join_by-requires-clause-keys
 full_join_by-requires-clause-keys g c κs within = subst (λ (cs : List Col). StandBeside cs c.args.other.now c.args.s_left.now c.args.s_right.now) (sym c.to_df.ensures) c.requires.keys
 
-pub full_join_by-requires-clause-merge : goal.full_join_by-requires-clause-merge
-full_join_by-requires-clause-merge g c κs within = subst (λ (cs : List Col). CanCoalesce (by_series Full cs c.args.other.now c.args.s_left.now c.args.s_right.now c.args.args)) (sym c.to_df.ensures) c.requires.merge
+pub full_join_by-requires-clause-coalescing : goal.full_join_by-requires-clause-coalescing
+full_join_by-requires-clause-coalescing g c κs within = subst (λ (cs : List Col). CanCoalesce (by_series Full cs c.args.other.now c.args.s_left.now c.args.s_right.now c.args.args)) (sym c.to_df.ensures) c.requires.coalescing
 
 pub returns-clause-settles : goal.returns-clause-settles
 returns-clause-settles g c =

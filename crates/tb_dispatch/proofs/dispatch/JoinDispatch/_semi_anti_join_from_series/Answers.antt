@@ -2,7 +2,7 @@ use Rattle.std.proofs.Common.{◌∙◌, ◌<◌, ℕ, List, map, sym, subst}
 use Rattle.std.specs.Prelude.{All}
 use Rattle.std.proofs.lemmas.Result.{IfOk-weaker}
 use Rattle.tb_chunk.specs.Col.{Col}
-use Rattle.tb_frame.specs.Frame.{taken}
+use Rattle.tb_frame.specs.Frame.{taken_rows}
 use Rattle.tb_frame.specs.Join.{IsAnswer, cut}
 use Rattle.tb_frame.specs.Table.{IsTable, height, table_of}
 use Rattle.tb_dispatch.specs.Given.{by_match}
@@ -24,6 +24,6 @@ returns g c =
     let q = by_match c.args.anti c.args.join_nulls c.args.slice left c.args.s_left.now c.args.s_right.now in
     let table : IsTable (table_of left) = subst (λ (cs : List Col). IsTable (table_of cs)) c.to_df.ensures c.get_columns-columns.ensures.table in
     IfOk-weaker c._finish_anti_semi_join.result _ _
-    (λ t e. subst (λ (cs : List Col). IsAnswer q (table_of cs)) (sym (e ∙ (λ k. map (taken (cut c.args.slice (c.deref.ensures.value k))) left)))
+    (λ t e. subst (λ (cs : List Col). IsAnswer q (table_of cs)) (sym (e ∙ (λ k. map (taken_rows (cut c.args.slice (c.deref.ensures.value k))) left)))
     (alone_answer c.args.join_nulls c.args.anti c.args.s_left.now c.args.s_right.now c.in_ok-rows.rows.items c.in_ok-rows.ensures c.args.slice left table c.requires.rows))
     c._finish_anti_semi_join.ensures

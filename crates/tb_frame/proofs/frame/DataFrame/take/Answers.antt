@@ -2,7 +2,7 @@ use Rattle.std.proofs.Common.{List, ◌<◌, map, ap, sym, ◌∙◌, subst, len
 use Rattle.std.specs.Prelude.{All}
 use Rattle.tb_chunk.specs.Col.{Col, values}
 use Rattle.tb_frame.specs.Table.{table_of, height, IsTable}
-use Rattle.tb_frame.specs.Frame.{taken}
+use Rattle.tb_frame.specs.Frame.{taken_rows}
 use Rattle.tb_frame.proofs.Taking.{rows_in_columns, IsTable-taken}
 use Rattle.tb_frame.proofs.frame.DataFrame.take.Goals as goal
 
@@ -15,4 +15,4 @@ take_columns-requires-clause-rows c =
 pub invariant_of-result : goal.invariant_of-result
 invariant_of-result c =
     let rows = c.args.rows.now in
-    subst (λ (cs : List Col). IsTable (table_of cs)) (sym (c.in_ok-take_columns.ensures ∙ ap (λ (cs : List Col). map (taken rows) cs) c.deref.ensures.value)) (IsTable-taken rows c.self.inside.columns.items c.self.invariant)
+    subst (λ (cs : List Col). IsTable (table_of cs)) (sym (c.in_ok-take_columns.ensures ∙ ap (λ (cs : List Col). map (taken_rows rows) cs) c.deref.ensures.value)) (IsTable-taken rows c.self.inside.columns.items c.self.invariant)

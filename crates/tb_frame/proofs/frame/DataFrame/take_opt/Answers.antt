@@ -3,7 +3,7 @@ use Rattle.std.specs.Prelude.{All}
 use Rattle.tb_chunk.specs.Col.{Col, values}
 use Rattle.tb_chunk.specs.Rows.{IsRowOf}
 use Rattle.tb_frame.specs.Table.{table_of, height, IsTable}
-use Rattle.tb_frame.specs.Frame.{opt_taken}
+use Rattle.tb_frame.specs.Frame.{opt_taken_rows}
 use Rattle.tb_frame.proofs.Taking.{rows_or_none, IsTable-opt_taken}
 use Rattle.tb_frame.proofs.frame.DataFrame.take_opt.Goals as goal
 
@@ -16,4 +16,4 @@ take_opt_columns-requires-clause-rows c =
 pub invariant_of-result : goal.invariant_of-result
 invariant_of-result c =
     let rows = c.args.rows.now in
-    subst (λ (cs : List Col). IsTable (table_of cs)) (sym (c.in_ok-take_opt_columns.ensures ∙ ap (λ (cs : List Col). map (opt_taken rows) cs) c.deref.ensures.value)) (IsTable-opt_taken rows c.self.inside.columns.items c.self.invariant)
+    subst (λ (cs : List Col). IsTable (table_of cs)) (sym (c.in_ok-take_opt_columns.ensures ∙ ap (λ (cs : List Col). map (opt_taken_rows rows) cs) c.deref.ensures.value)) (IsTable-opt_taken rows c.self.inside.columns.items c.self.invariant)

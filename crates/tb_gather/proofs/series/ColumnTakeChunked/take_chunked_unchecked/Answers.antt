@@ -7,4 +7,4 @@ use Rattle.tb_gather.proofs.series.ColumnTakeChunked.take_chunked_unchecked.Goal
 pub take_chunked_unchecked-requires : goal.take_chunked_unchecked-requires
 take_chunked_unchecked-requires g c =
     let named = subst (λ (s : Col). All (NameRows c.args.by.now) (s ∷ [])) (sym c.as_materialized_series-series.ensures) c.requires.named in
-    (omega arith, (c.requires.present, (named, (c.requires.runs, c.requires.few))))
+    (omega arith, (c.requires.present, (named, (c.requires.in_order, c.requires.few))))

@@ -5,7 +5,7 @@ use Rattle.tb_chunk.specs.Col.{Col}
 use Rattle.tb_frame.specs.Table.{table_of, IsTable}
 use Rattle.tb_value.specs.declared.sorted.IsSorted.TheVariants.{Not}
 use Rattle.tb_gather.specs.declared.keep.Keep.TheVariants.{Used}
-use Rattle.tb_gather.specs.Gathered.{NameRows, gathered}
+use Rattle.tb_gather.specs.Gathered.{NameRows, gathered_column}
 use Rattle.tb_gather.proofs.Flags.{gathered-not}
 use Rattle.tb_gather.proofs.Frames.{IsTable-gathered}
 use Rattle.tb_gather.proofs.tables.DataFrameTakeChunked.take_opt_chunked_unchecked.Goals as goal
@@ -19,9 +19,9 @@ gather_columns-requires g c =
 pub made_table-requires : goal.made_table-requires
 made_table-requires g c =
     let by = c.args.by.now in
-    subst (λ (cs : List Col). IsTable (table_of cs)) (sym (c.in_ok-columns.ensures ∙ ap (map (gathered by Not)) c.get_columns.ensures.columns)) (IsTable-gathered Used by Not c.args.self.now c.get_columns.ensures.table)
+    subst (λ (cs : List Col). IsTable (table_of cs)) (sym (c.in_ok-columns.ensures ∙ ap (map (gathered_column by Not)) c.get_columns.ensures.columns)) (IsTable-gathered Used by Not c.args.self.now c.get_columns.ensures.table)
 
 pub returns : goal.returns
 returns g c =
-    let is = c.in_ok-columns.ensures ∙ ap (map (gathered c.args.by.now Not)) c.get_columns.ensures.columns ∙ gathered-not c.args.by.now c.args.self.now in
+    let is = c.in_ok-columns.ensures ∙ ap (map (gathered_column c.args.by.now Not)) c.get_columns.ensures.columns ∙ gathered-not c.args.by.now c.args.self.now in
     IfOk-weaker c.made_table.result (λ (t : List Col). t ≡ c.in_ok-columns.columns.items) _ (λ t h. h ∙ is) c.made_table.ensures

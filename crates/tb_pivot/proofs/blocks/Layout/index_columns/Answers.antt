@@ -4,7 +4,7 @@ use Rattle.std.proofs.lemmas.Result.{IfOk-weaker}
 use Rattle.tb_value.specs.declared.limits.TheConstants.{MAX_ROWS}
 use Rattle.tb_chunk.specs.Col.{Col, values}
 use Rattle.tb_chunk.specs.Lent.{lent_columns}
-use Rattle.tb_frame.specs.Frame.{taken}
+use Rattle.tb_frame.specs.Frame.{taken_rows}
 use Rattle.tb_pivot.proofs.Cell.{rows_low}
 use Rattle.tb_pivot.proofs.Columns.{layout_rows, rows_in}
 use Rattle.tb_pivot.proofs.blocks.Layout.index_columns.Goals as goal
@@ -23,5 +23,5 @@ columns_at-requires-clause-few c = subst (λ (rs : List ℕ). length rs ≤ MAX_
 pub returns : goal.returns
 returns c =
     let l = c.args.self.now in
-    let same : map (taken c.answer_rows.result.now) (lent_columns c.deref.result.now) ≡ map (taken l.cells.rows.firsts.items) (lent_columns l.columns.now.index.items) = λ t. map (taken (c.answer_rows.ensures t)) (lent_columns (c.deref.ensures.value t)) in
+    let same : map (taken_rows c.answer_rows.result.now) (lent_columns c.deref.result.now) ≡ map (taken_rows l.cells.rows.firsts.items) (lent_columns l.columns.now.index.items) = λ t. map (taken_rows (c.answer_rows.ensures t)) (lent_columns (c.deref.ensures.value t)) in
     IfOk-weaker c.columns_at.result _ _ (λ v is. is ∙ same) c.columns_at.ensures

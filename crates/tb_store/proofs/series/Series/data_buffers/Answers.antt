@@ -1,6 +1,6 @@
 use Rattle.std.proofs.Common.{arith, ◌∙◌, ap, inl, inr, ℕ, List, length}
 use Rattle.tb_chunk.specs.Col.{Col, physical}
-use Rattle.tb_chunk.specs.Runs.{chunk_runs}
+use Rattle.tb_chunk.specs.ChunkViewArrays.{chunk_view_arrays}
 use Rattle.tb_store.proofs.ChunkTexts.{few_in_run}
 use Rattle.tb_store.proofs.series.Series.data_buffers.Goals as goal
 
@@ -11,4 +11,4 @@ data_buffers-requires-clause-text c = elim c.requires.text [
 ]
 
 pub returns-clause-few : goal.returns-clause-few
-returns-clause-few c = omega (arith, ap (λ (bs : List (List ℕ)). length bs) c.data_buffers.ensures, few_in_run (chunk_runs c.self.inside.chunks) c.args.chunk c.self.invariant.2)
+returns-clause-few c = omega (arith, ap (λ (bs : List (List ℕ)). length bs) c.data_buffers.ensures, few_in_run (chunk_view_arrays c.self.inside.chunks) c.args.chunk c.self.invariant.2)

@@ -4,7 +4,7 @@ use Rattle.tb_chunk.specs.Chunk.{or_null}
 use Rattle.tb_chunk.specs.Col.{Col, IsColumn, physical}
 use Rattle.tb_chunk.specs.TextValues.{text_values}
 use Rattle.tb_chunk.specs.View.{texts}
-use Rattle.tb_chunk.specs.Whole.{run_at}
+use Rattle.tb_chunk.specs.ViewArrays.{view_array_at}
 use Rattle.tb_store.proofs.ChunkTexts.{few_in_chunk, length-text_values, utf8_in_chunk}
 use Rattle.tb_store.proofs.series.Series.views.Goals as goal
 
@@ -17,7 +17,7 @@ views-requires-clause-text c = elim c.requires.text [
 pub returns-clause-few : goal.returns-clause-few
 returns-clause-few c =
     let self = c.args.self.now in
-    let bs = (run_at self.runs c.args.chunk).buffers in
+    let bs = (view_array_at self.view_arrays c.args.chunk).buffers in
     let vs = c.views.result.now in
     let column = subst IsColumn c.self.view_is c.self.invariant.1 in
     let is : get_or self.chunks c.args.chunk [] ≡ text_values self.kind (texts bs vs) = search rules in
@@ -26,7 +26,7 @@ returns-clause-few c =
 pub returns-clause-utf8 : goal.returns-clause-utf8
 returns-clause-utf8 c = λ string_kind.
     let self = c.args.self.now in
-    let ts = texts (run_at self.runs c.args.chunk).buffers c.views.result.now in
+    let ts = texts (view_array_at self.view_arrays c.args.chunk).buffers c.views.result.now in
     let column = subst IsColumn c.self.view_is c.self.invariant.1 in
     let is : get_or self.chunks c.args.chunk [] ≡ text_values self.kind ts = search rules in
     utf8_in_chunk self c.args.chunk ts column c.requires.chunk (is ∙ ap (λ t. text_values t ts) string_kind)

@@ -3,7 +3,7 @@ use Rattle.std.proofs.lemmas.List.{take_all}
 use Rattle.std.proofs.lemmas.Result.{IfOk-weaker}
 use Rattle.tb_value.specs.See.{datum}
 use Rattle.tb_value.specs.declared.any_value.AnyValue.{AnyValue}
-use Rattle.tb_view.specs.Layout.{Building, begun}
+use Rattle.tb_view.specs.Layout.{Building, buffers_of}
 use Rattle.tb_view.specs.RunViews.{data_runs, run_building, text_runs, with_run}
 use Rattle.tb_value.specs.Texts.{text_of}
 use Rattle.tb_view.specs.View.{texts}
@@ -40,4 +40,4 @@ returns-clause-buffers c =
     let rs = c.args.runs.now in
     let b = c.loop-value.builder in
     let w = whole rs c.loop-value.value-index b (omega arith) c.loop-value.invariant in
-    IfOk-weaker c.finish.result (λ (k : ViewChunk). k.buffers.items ≡ begun b.laid) (λ (k : ViewChunk). k.buffers.items ≡ begun (run_building (text_runs (data_runs rs))).laid) (λ k h. h ∙ ap (λ x. begun x.laid) w) c.finish.ensures.buffers
+    IfOk-weaker c.finish.result (λ (k : ViewChunk). k.buffers.items ≡ buffers_of b.laid) (λ (k : ViewChunk). k.buffers.items ≡ buffers_of (run_building (text_runs (data_runs rs))).laid) (λ k h. h ∙ ap (λ x. buffers_of x.laid) w) c.finish.ensures.buffers
