@@ -12,7 +12,8 @@ use Rattle.std.proofs.lemmas.List.{take_all, take_more}
 use Rattle.std.proofs.lemmas.List.Folds.{list_all_at, list_all_more}
 use Rattle.csv.specs.Records.{field_at}
 use Rattle.tb_value.specs.Pairs.{row_numbers}
-use Rattle.tb_csv.specs.Faults.{first_fault, row_fault, rows_fault, when}
+use Rattle.tb_value.specs.Refusals.{first_cause, when}
+use Rattle.tb_csv.specs.Faults.{row_fault, rows_fault}
 use Rattle.tb_csv.specs.Read.{all_fields}
 use Rattle.tb_csv.specs.Records.{Field, Line, Record, column_fields, is_text}
 use Rattle.tb_csv.specs.declared.fault.CsvFault.{CsvFault}
@@ -87,16 +88,16 @@ in_column rows w j h all =
 
 -- ROWS WITHOUT A FAULT
 
-first_some : (a b : Option CsvFault) (e : CsvFault) → a ≡ Some e → first_fault (a ∷ b ∷ []) ≡ Some e
+first_some : (a b : Option CsvFault) (e : CsvFault) → a ≡ Some e → first_cause (a ∷ b ∷ []) ≡ Some e
 first_some None b e h = cc h
 first_some (Some x) b e h = h
 
-first_skip : (a b : Option CsvFault) → a ≡ None → first_fault (a ∷ b ∷ []) ≡ b
+first_skip : (a b : Option CsvFault) → a ≡ None → first_cause (a ∷ b ∷ []) ≡ b
 first_skip None None h = refl
 first_skip None (Some e) h = refl
 first_skip (Some x) b h = cc h
 
-first_none : (a b : Option CsvFault) → first_fault (a ∷ b ∷ []) ≡ None → (a ≡ None) × (b ≡ None)
+first_none : (a b : Option CsvFault) → first_cause (a ∷ b ∷ []) ≡ None → (a ≡ None) × (b ≡ None)
 first_none None None h = (refl, refl)
 first_none None (Some e) h = cc h
 first_none (Some x) b h = cc h

@@ -19,7 +19,8 @@ use Rattle.tb_value.specs.declared.limits.TheConstants.{MAX_ROWS}
 use Rattle.tb_frame.specs.Refusal.{name_at}
 use Rattle.tb_frame.specs.Table.{IsTyped, Table, TableColumn, height, names_of}
 use Rattle.tb_frame.proofs.Causes.{unrepeated_names}
-use Rattle.tb_csv.specs.Faults.{column_fault, columns_fault, csv_refusal, first_fault, records_fault, repeated_name, rows_fault, typed_fault, when}
+use Rattle.tb_value.specs.Refusals.{first_cause, when}
+use Rattle.tb_csv.specs.Faults.{column_fault, columns_fault, csv_refusal, records_fault, repeated_name, rows_fault, typed_fault}
 use Rattle.tb_csv.specs.Laws.{IsPlain, IsTold, comma, types_of}
 use Rattle.tb_csv.specs.Records.{Field, Record, bytes_of, column_fields, is_text, line_of, records_of}
 use Rattle.tb_csv.specs.Tables.{csv_column, csv_columns, csv_table, typed_column}
@@ -167,7 +168,7 @@ equal a b e = grind (arith, nat_tests)
 not_more : (a b : ℕ) → b ≤ a → nat_lt a b ≡ false
 not_more a b h = grind (arith, nat_tests)
 
-all_none : (f : ℕ → Option CsvFault) (k n : ℕ) → ((i : ℕ) → i < n → f (k + i) ≡ None) → first_fault (map f (range_with_len k n)) ≡ None
+all_none : (f : ℕ → Option CsvFault) (k n : ℕ) → ((i : ℕ) → i < n → f (k + i) ≡ None) → first_cause (map f (range_with_len k n)) ≡ None
 all_none f k zero h = refl
 all_none f k (suc n) h =
     let at : k + 0 ≡ k = omega arith in

@@ -14,7 +14,7 @@ use Rattle.tb_value.specs.Pairs.{row_numbers}
 use Rattle.tb_frame.specs.Table.{Table, TableColumn, height, names_of}
 use Rattle.tb_date.specs.Dates.{is_date, number_text}
 use Rattle.tb_csv.specs.Records.{Field, Record, bytes_of}
-use Rattle.tb_csv.specs.Faults.{first_fault}
+use Rattle.tb_value.specs.Refusals.{first_cause}
 use Rattle.tb_csv.specs.declared.fault.CsvFault.{CsvFault}
 use Rattle.tb_csv.specs.declared.fault.CsvFault.TheVariants.{Empty, NoText}
 use Rattle.tb_csv.specs.declared.field_type.FieldType.{FieldType}
@@ -100,4 +100,4 @@ no_text t = option_map (λ (c : TableColumn). NoText c.name) (find (λ (c : Tabl
 
 -- why a table has no text
 abbrev pub text_refusal : Table → Option CsvFault
-text_refusal t = first_fault (no_column t ∷ no_text t ∷ [])
+text_refusal t = first_cause (no_column t ∷ no_text t ∷ [])

@@ -22,7 +22,8 @@ use Rattle.tb_front.specs.declared.fault.FrontFault.{FrontFault}
 use Rattle.tb_front.specs.declared.fault.FrontFault.TheVariants as fault
 use Rattle.tb_front.specs.declared.fault.Place.TheVariants.{First, Second}
 use Rattle.tb_front.specs.Asked.{IsAnswerText, answer_faults, asked_join, asked_of, join_fault}
-use Rattle.tb_front.specs.Faults.{Settles, empty_table, first_fault, no_table, writing_fault}
+use Rattle.tb_value.specs.Refusals.{first_cause}
+use Rattle.tb_front.specs.Faults.{Settles, empty_table, no_table, writing_fault}
 use Rattle.tb_front.specs.Texts.{IsOutcome, table_in}
 use Rattle.tb_front.proofs.Outcomes.{outcome_answers, outcome_settles}
 use Rattle.tb_front.proofs.Steps.{passes}
@@ -52,7 +53,7 @@ same_no_text (c ∷ cs) =
     ∙ ap (first_column (is_none (field_type c.kind)) c.name) (same_no_text cs) ∙ sym (no_text_of c cs)
 
 same_refusal : (t : Table) → text_refusal (empty_table (schema_of t)) ≡ text_refusal t
-same_refusal t = λ i. csv.first_fault (same_no_column t i ∷ same_no_text t i ∷ [])
+same_refusal t = λ i. first_cause (same_no_column t i ∷ same_no_text t i ∷ [])
 
 same_written : (form : TextForm) (t : Table) (schema : List (Name × Kind)) → schema_of t ≡ schema → writing_fault form t ≡ writing_fault form (empty_table schema)
 same_written Csv t schema is = ap (λ (r : Option CsvFault). option_map (λ e. fault.NoText e) r) (sym (same_refusal t) ∙ ap (λ (s : List (Name × Kind)). text_refusal (empty_table s)) is)
@@ -69,7 +70,7 @@ module _ (form : TextForm) (separator : ℕ) (q : Request) where
 
   answer_settles : (outcome : Result (List Col) PolarsError) (result : Result (Vec ℕ Global) FrontFault)
       → causes.Settles outcome (join_refusal q) → IfOk outcome (λ t. IsAnswer q (table_of t))
-      → IsOutcome form separator outcome result → Settles result (first_fault (answer_faults form q))
+      → IsOutcome form separator outcome result → Settles result (first_cause (answer_faults form q))
   answer_settles outcome result settles answer is =
       outcome_settles form separator outcome result (join_refusal q) (writing_fault form (empty_table (out_columns q))) settles (answers_written outcome answer) is
 
@@ -83,9 +84,9 @@ module _ (a : JoinArguments) (left right : Table) (left_on right_on : List Name)
       → causes.Settles outcome (join_refusal (by_names left right left_on right_on a.args))
       → IfOk outcome (λ t. IsAnswer (by_names left right left_on right_on a.args) (table_of t))
       → IsOutcome a.form a.options.separator outcome result
-      → Settles result (first_fault (answer_faults a.form (asked_of a left right)))
+      → Settles result (first_cause (answer_faults a.form (asked_of a left right)))
   lent_settles outcome result settles answer is =
-      subst (λ (q : Request). Settles result (first_fault (answer_faults a.form q))) lent_is
+      subst (λ (q : Request). Settles result (first_cause (answer_faults a.form q))) lent_is
       (answer_settles a.form a.options.separator (by_names left right left_on right_on a.args) outcome result settles answer is)
 
   pub lent_answer : (outcome : Result (List Col) PolarsError) (result : Result (Vec ℕ Global) FrontFault)
@@ -103,11 +104,11 @@ module _ (a : JoinArguments) (left right : Table) (l r : List ℕ) (first : left
   asked_is = λ t. asked_of a (first t) (second t)
 
   pub texts_settle : {T : Type 0} (result : Result T FrontFault) → no_table a.options First l ≡ None → no_table a.options Second r ≡ None
-      → Settles result (first_fault (answer_faults a.form (asked_of a left right))) → Settles result (join_fault a l r)
+      → Settles result (first_cause (answer_faults a.form (asked_of a left right))) → Settles result (join_fault a l r)
   texts_settle result none none' settles =
       passes result (no_table a.options First l) (no_table a.options Second r ∷ answer_faults a.form (asked_join a l r)) none
       (passes result (no_table a.options Second r) (answer_faults a.form (asked_join a l r)) none'
-      (subst (λ (q : Request). Settles result (first_fault (answer_faults a.form q))) asked_is settles))
+      (subst (λ (q : Request). Settles result (first_cause (answer_faults a.form q))) asked_is settles))
 
   pub texts_answer : {E : Type 0} (result : Result (Vec ℕ Global) E)
       → IfOk result (λ v. IsAnswerText a.form a.options.separator (asked_of a left right) v.items)

@@ -24,7 +24,8 @@ use Rattle.tb_front.specs.declared.arguments.TextForm.{TextForm}
 use Rattle.tb_front.specs.declared.fault.FrontFault.{FrontFault}
 use Rattle.tb_front.specs.declared.fault.Place.TheVariants.{First}
 use Rattle.tb_front.specs.Asked.{dummies_faults, marked_of, names_in, pivot_faults, wide_of}
-use Rattle.tb_front.specs.Faults.{Settles, first_fault, no_table}
+use Rattle.tb_value.specs.Refusals.{first_cause}
+use Rattle.tb_front.specs.Faults.{Settles, no_table}
 use Rattle.tb_front.specs.Texts.{IsOutcome, table_in, text_in}
 use Rattle.tb_front.proofs.Outcomes.{table_settles, table_text}
 use Rattle.tb_front.proofs.Steps.{passes}
@@ -33,10 +34,10 @@ use Rattle.tb_front.proofs.Steps.{passes}
 
 pub read_settles : {T : Type 0} (options : CsvOptions) (text : List ℕ) (table : Table) (faults : Table → List (Option FrontFault)) (result : Result T FrontFault)
     → table ≡ table_in options text → no_table options First text ≡ None
-    → Settles result (first_fault (faults table)) → Settles result (first_fault (no_table options First text ∷ faults (table_in options text)))
+    → Settles result (first_cause (faults table)) → Settles result (first_cause (no_table options First text ∷ faults (table_in options text)))
 read_settles options text table faults result is none settles =
     passes result (no_table options First text) (faults (table_in options text)) none
-    (subst (λ (t : Table). Settles result (first_fault (faults t))) is settles)
+    (subst (λ (t : Table). Settles result (first_cause (faults t))) is settles)
 
 pub read_answer : {E : Type 0} (form : TextForm) (options : CsvOptions) (text : List ℕ) (table : Table) (answer : Table → Table) (result : Result (Vec ℕ Global) E)
     → table ≡ table_in options text
@@ -54,7 +55,7 @@ module _ (a : DummiesArguments) (cs : List Col) (columns : Option (List Name)) (
   pub dummies_settle : (outcome : Result (List Col) PolarsError) (result : Result (Vec ℕ Global) FrontFault)
       → causes.Settles outcome (dummies_refusal (lent.lent_request cs columns separator a.drop_first))
       → IfOk outcome (λ t. table_of t ≡ dummies_table (lent.lent_request cs columns separator a.drop_first))
-      → IsOutcome a.form a.options.separator outcome result → Settles result (first_fault (dummies_faults a (table_of cs)))
+      → IsOutcome a.form a.options.separator outcome result → Settles result (first_cause (dummies_faults a (table_of cs)))
   dummies_settle outcome result settles table is =
       table_settles a.form a.options.separator outcome result (dummies_refusal (marked_of a (table_of cs))) (dummies_table (marked_of a (table_of cs)))
       (subst (λ (q : marked.Request). causes.Settles outcome (dummies_refusal q)) lent_is settles)
@@ -83,7 +84,7 @@ module _ (a : PivotArguments) (cs : List Col) (on : List Name) (index values : O
   pub pivot_settles : (outcome : Result (List Col) PolarsError) (result : Result (Vec ℕ Global) FrontFault)
       → causes.Settles outcome (pivot_refusal (borrowed.lent_request cs on index values a.sort_columns (way_of a.agg) separator))
       → IfOk outcome (λ t. table_of t ≡ pivot_table (borrowed.lent_request cs on index values a.sort_columns (way_of a.agg) separator))
-      → IsOutcome a.form a.options.separator outcome result → Settles result (first_fault (pivot_faults a (table_of cs)))
+      → IsOutcome a.form a.options.separator outcome result → Settles result (first_cause (pivot_faults a (table_of cs)))
   pivot_settles outcome result settles table is =
       table_settles a.form a.options.separator outcome result (pivot_refusal (wide_of a (table_of cs))) (pivot_table (wide_of a (table_of cs)))
       (subst (λ (q : wide.Request). causes.Settles outcome (pivot_refusal q)) lent_pivot_is settles)

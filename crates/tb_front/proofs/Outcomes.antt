@@ -11,7 +11,8 @@ use Rattle.tb_frame.specs.Table.{Table, table_of}
 use Rattle.tb_front.specs.declared.arguments.TextForm.{TextForm}
 use Rattle.tb_front.specs.declared.fault.FrontFault.{FrontFault}
 use Rattle.tb_front.specs.declared.fault.FrontFault.TheVariants as fault
-use Rattle.tb_front.specs.Faults.{Settles, first_fault, writing_fault, refusal_fault}
+use Rattle.tb_value.specs.Refusals.{first_cause}
+use Rattle.tb_front.specs.Faults.{Settles, writing_fault, refusal_fault}
 use Rattle.tb_front.specs.Texts.{IsOutcome, fault_of, text_in}
 use Rattle.tb_front.proofs.Steps.{first_of_one}
 
@@ -27,22 +28,22 @@ fault_cases cause.OutOfMemory = inl refl
 
 module _ (form : TextForm) (separator : ℕ) where
   refusal_settles : (e : PolarsError) (refusal : Option PolarsError) (fs : List (Option FrontFault))
-      → (e ≡ cause.OutOfMemory) ⊎ (refusal ≡ Some e) → (fault_of e ≡ fault.OutOfMemory) ⊎ (first_fault (refusal_fault refusal ∷ fs) ≡ Some (fault_of e))
+      → (e ≡ cause.OutOfMemory) ⊎ (refusal ≡ Some e) → (fault_of e ≡ fault.OutOfMemory) ⊎ (first_cause (refusal_fault refusal ∷ fs) ≡ Some (fault_of e))
   refusal_settles e refusal fs (inl want) = inl (ap fault_of want)
   refusal_settles e refusal fs (inr there) = elim (fault_cases e) [
     | inl want ↦ inl want
-    | inr same ↦ inr (subst (λ (r : Option PolarsError). first_fault (refusal_fault r ∷ fs) ≡ Some (fault_of e)) (sym there) (ap Some (sym same)))
+    | inr same ↦ inr (subst (λ (r : Option PolarsError). first_cause (refusal_fault r ∷ fs) ≡ Some (fault_of e)) (sym there) (ap Some (sym same)))
   ]
 
   -- the operation's cause is settled, and then the fault of writing its table
   pub outcome_settles : (outcome : Result (List Col) PolarsError) (result : Result (Vec ℕ Global) FrontFault) (refusal : Option PolarsError) (last : Option FrontFault)
       → causes.Settles outcome refusal → IfOk outcome (λ t. writing_fault form (table_of t) ≡ last)
-      → IsOutcome form separator outcome result → Settles result (first_fault (refusal_fault refusal ∷ last ∷ []))
+      → IsOutcome form separator outcome result → Settles result (first_cause (refusal_fault refusal ∷ last ∷ []))
   outcome_settles (Ok t) result refusal last settles same is =
-      subst (λ (r : Option PolarsError). Settles result (first_fault (refusal_fault r ∷ last ∷ []))) (sym settles)
+      subst (λ (r : Option PolarsError). Settles result (first_cause (refusal_fault r ∷ last ∷ []))) (sym settles)
       (subst (λ (f : Option FrontFault). Settles result f) (same ∙ sym (first_of_one last)) is.0)
   outcome_settles (Err e) result refusal last settles same is =
-      subst (λ (r : Result (Vec ℕ Global) FrontFault). Settles r (first_fault (refusal_fault refusal ∷ last ∷ []))) (sym is) (refusal_settles e refusal (last ∷ []) settles)
+      subst (λ (r : Result (Vec ℕ Global) FrontFault). Settles r (first_cause (refusal_fault refusal ∷ last ∷ []))) (sym is) (refusal_settles e refusal (last ∷ []) settles)
 
   -- what holds of the operation's table holds of the table whose text is given
   pub outcome_answers : (P : Table → Type 0) (outcome : Result (List Col) PolarsError) (result : Result (Vec ℕ Global) FrontFault)
@@ -61,7 +62,7 @@ module _ (form : TextForm) (separator : ℕ) where
   -- the same where the operation has one answer
   pub table_settles : (outcome : Result (List Col) PolarsError) (result : Result (Vec ℕ Global) FrontFault) (refusal : Option PolarsError) (answer : Table)
       → causes.Settles outcome refusal → IfOk outcome (λ t. table_of t ≡ answer)
-      → IsOutcome form separator outcome result → Settles result (first_fault (refusal_fault refusal ∷ writing_fault form answer ∷ []))
+      → IsOutcome form separator outcome result → Settles result (first_cause (refusal_fault refusal ∷ writing_fault form answer ∷ []))
   table_settles outcome result refusal answer settles table is =
       outcome_settles outcome result refusal (writing_fault form answer) settles (written_as answer outcome table) is
 

@@ -23,7 +23,8 @@ use Rattle.tb_front.specs.declared.arguments.DummiesArguments.{DummiesArguments}
 use Rattle.tb_front.specs.declared.arguments.PivotArguments.{PivotArguments}
 use Rattle.tb_front.specs.declared.fault.FrontFault.{FrontFault}
 use Rattle.tb_front.specs.declared.fault.Place.TheVariants.{First, Second}
-use Rattle.tb_front.specs.Faults.{empty_table, first_fault, no_table, writing_fault, refusal_fault}
+use Rattle.tb_value.specs.Refusals.{first_cause}
+use Rattle.tb_front.specs.Faults.{empty_table, no_table, writing_fault, refusal_fault}
 use Rattle.tb_front.specs.Texts.{table_in, text_in}
 
 -- JOINS
@@ -43,7 +44,7 @@ answer_faults form q = refusal_fault (join_refusal q) ∷ writing_fault form (em
 -- why two texts aren't joined
 abbrev pub join_fault : JoinArguments → List ℕ → List ℕ → Option FrontFault
 join_fault a left right =
-    first_fault (no_table a.options First left ∷ no_table a.options Second right ∷ answer_faults a.form (asked_join a left right))
+    first_cause (no_table a.options First left ∷ no_table a.options Second right ∷ answer_faults a.form (asked_join a left right))
 
 -- the text is that of some answer to a request
 abbrev pub IsAnswerText : TextForm → ℕ → joined.Request → List ℕ → Type 0
@@ -67,7 +68,7 @@ unpivot_faults a t = table_faults a.form (unpivot_refusal (long_of a t)) (unpivo
 
 -- the text is no table, or its table has no such answer
 abbrev pub unpivot_fault : UnpivotArguments → List ℕ → Option FrontFault
-unpivot_fault a text = first_fault (no_table a.options First text ∷ unpivot_faults a (table_in a.options text))
+unpivot_fault a text = first_cause (no_table a.options First text ∷ unpivot_faults a (table_in a.options text))
 
 -- names that may be given
 abbrev pub names_in : Option (Vec Name Global) → Option (List Name)
@@ -85,7 +86,7 @@ dummies_faults a t = table_faults a.form (dummies_refusal (marked_of a t)) (dumm
 
 -- the text is no table, or its table has no such answer
 abbrev pub dummies_fault : DummiesArguments → List ℕ → Option FrontFault
-dummies_fault a text = first_fault (no_table a.options First text ∷ dummies_faults a (table_in a.options text))
+dummies_fault a text = first_cause (no_table a.options First text ∷ dummies_faults a (table_in a.options text))
 
 -- what is asked of the table that is made wide
 abbrev pub wide_of : PivotArguments → Table → wide.Request
@@ -107,4 +108,4 @@ pivot_faults a t = table_faults a.form (pivot_refusal (wide_of a t)) (pivot_tabl
 
 -- the text is no table, or its table has no such answer
 abbrev pub pivot_fault : PivotArguments → List ℕ → Option FrontFault
-pivot_fault a text = first_fault (no_table a.options First text ∷ pivot_faults a (table_in a.options text))
+pivot_fault a text = first_cause (no_table a.options First text ∷ pivot_faults a (table_in a.options text))

@@ -2,6 +2,7 @@
 use Rattle.std.specs.Prelude.{◌≡◌, ◌⊎◌, ℕ, List, [], ◌∷◌, map, Option, Some, None, option_map, Result, MatchResult}
 use Rattle.tb_value.specs.Kind.{Kind}
 use Rattle.tb_value.specs.Names.{Name}
+use Rattle.tb_value.specs.Refusals.{SettlesBut, first_cause}
 use Rattle.tb_value.specs.declared.error.PolarsError.{PolarsError}
 use Rattle.tb_frame.specs.Table.{Table}
 use Rattle.tb_csv.specs.Faults.{csv_refusal}
@@ -14,15 +15,9 @@ use Rattle.tb_front.specs.declared.fault.FrontFault.{FrontFault}
 use Rattle.tb_front.specs.declared.fault.FrontFault.TheVariants.{NoTable, Refused, NoText, OutOfMemory}
 use Rattle.tb_front.specs.declared.fault.Place.{Place}
 
--- the first that is there
-abbrev pub first_fault : List (Option FrontFault) → Option FrontFault
-first_fault [] = None
-first_fault (None ∷ fs) = first_fault fs
-first_fault (Some e ∷ fs) = Some e
-
 -- A call settles a fault: it passes exactly where there is none, and else refuses by it. Want of memory may come at any time.
 abbrev pub Settles : {T : Type 0} → Result T FrontFault → Option FrontFault → Type 0
-Settles r fault = MatchResult r (λ _. fault ≡ None) (λ e. (e ≡ OutOfMemory) ⊎ (fault ≡ Some e))
+Settles r fault = SettlesBut OutOfMemory r fault
 
 -- why the text at a place is no table
 abbrev pub no_table : CsvOptions → Place → List ℕ → Option FrontFault

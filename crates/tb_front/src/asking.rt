@@ -4,7 +4,8 @@ ghost use Rattle.std.specs.Option.{option_copied};
 ghost use Rattle.tb_dummies.specs.Dummies.{dummies_table};
 ghost use Rattle.tb_frame.specs.Table.{table_of};
 ghost use Rattle.tb_front.specs.Asked.{IsAnswerText, answer_faults, asked_dummies, asked_join, asked_long, asked_of, asked_wide, dummies_fault, dummies_faults, join_fault, long_of, marked_of, pivot_fault, pivot_faults, unpivot_fault, unpivot_faults, wide_of};
-ghost use Rattle.tb_front.specs.Faults.{Settles, first_fault};
+ghost use Rattle.tb_value.specs.Refusals.{first_cause};
+ghost use Rattle.tb_front.specs.Faults.{Settles};
 ghost use Rattle.tb_front.specs.Texts.{text_in};
 ghost use Rattle.tb_pivot.specs.Pivot.{pivot_table};
 ghost use Rattle.tb_unpivot.specs.Unpivot.{unpivot_table};
@@ -29,7 +30,7 @@ fn join_tables(
     right: DataFrame,
     arguments: JoinArguments,
 ) -> Result<Vec<u8>, FrontFault>
-    ensures settles { Settles result (first_fault (answer_faults arguments.form (asked_of arguments (table_of left) (table_of right)))) }
+    ensures settles { Settles result (first_cause (answer_faults arguments.form (asked_of arguments (table_of left) (table_of right)))) }
     ensures answer { IfOk result (λ v. IsAnswerText arguments.form arguments.options.separator (asked_of arguments (table_of left) (table_of right)) v.items) }
 {
     let JoinArguments {
@@ -74,7 +75,7 @@ fn made_long(
     table: DataFrame,
     arguments: UnpivotArguments,
 ) -> Result<Vec<u8>, FrontFault>
-    ensures settles { Settles result (first_fault (unpivot_faults arguments (table_of table))) }
+    ensures settles { Settles result (first_cause (unpivot_faults arguments (table_of table))) }
     ensures answer { IfOk result (λ v. v.items ≡ text_in arguments.form arguments.options.separator (unpivot_table (long_of arguments (table_of table)))) }
 {
     let UnpivotArguments {
@@ -136,7 +137,7 @@ fn with_dummies(
     table: DataFrame,
     arguments: &DummiesArguments,
 ) -> Result<Vec<u8>, FrontFault>
-    ensures settles { Settles result (first_fault (dummies_faults arguments.now (table_of table))) }
+    ensures settles { Settles result (first_cause (dummies_faults arguments.now (table_of table))) }
     ensures answer { IfOk result (λ v. v.items ≡ text_in arguments.now.form arguments.now.options.separator (dummies_table (marked_of arguments.now (table_of table)))) }
 {
     let columns = names_given(&arguments.columns);
@@ -168,7 +169,7 @@ fn made_wide(
     table: DataFrame,
     arguments: &PivotArguments,
 ) -> Result<Vec<u8>, FrontFault>
-    ensures settles { Settles result (first_fault (pivot_faults arguments.now (table_of table))) }
+    ensures settles { Settles result (first_cause (pivot_faults arguments.now (table_of table))) }
     ensures answer { IfOk result (λ v. v.items ≡ text_in arguments.now.form arguments.now.options.separator (pivot_table (wide_of arguments.now (table_of table)))) }
 {
     let index = names_given(&arguments.index);

@@ -1,7 +1,8 @@
 use Rattle.std.proofs.Common.{◌≡◌, List, None, map}
 use Rattle.tb_value.specs.Pairs.{row_numbers}
 use Rattle.tb_frame.specs.Table.{table_of}
-use Rattle.tb_csv.specs.Faults.{first_fault, typed_fault}
+use Rattle.tb_value.specs.Refusals.{first_cause}
+use Rattle.tb_csv.specs.Faults.{typed_fault}
 use Rattle.tb_csv.specs.Read.{AreRows}
 use Rattle.tb_csv.specs.Records.{Record}
 use Rattle.tb_csv.specs.Tables.{csv_column}
@@ -11,4 +12,4 @@ abbrev pub invariant-loop-column : goal.invariant-loop-column
 invariant-loop-column l =
     (rows : List Record) → AreRows l.records rows
     → (table_of l.columns.items ≡ map (csv_column l.types l.records.lines.names.items rows) (row_numbers l.column))
-    × (first_fault (map (typed_fault l.types l.records.lines.names.items rows) (row_numbers l.column)) ≡ None)
+    × (first_cause (map (typed_fault l.types l.records.lines.names.items rows) (row_numbers l.column)) ≡ None)

@@ -4,7 +4,8 @@ use Rattle.std.proofs.lemmas.Result.{err_from_is_err_and}
 use Rattle.csv.specs.Records.{fields_of}
 use Rattle.tb_value.specs.Names.{Name}
 use Rattle.tb_value.specs.declared.limits.TheConstants.{MAX_ROWS}
-use Rattle.tb_csv.specs.Faults.{repeated_name, rows_fault, when}
+use Rattle.tb_value.specs.Refusals.{when}
+use Rattle.tb_csv.specs.Faults.{repeated_name, rows_fault}
 use Rattle.tb_csv.specs.Records.{lines_of}
 use Rattle.tb_csv.specs.declared.fault.CsvFault.TheVariants.{TooManyRows}
 use Rattle.tb_csv.proofs.Causes.{by_first, by_later, none_later, same_fault}
