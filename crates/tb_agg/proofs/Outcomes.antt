@@ -3,26 +3,28 @@ use Rattle.std.proofs.Common.{◌≡◌, ◌∙◌, ◌≤◌, ℕ, zero, suc, p
 use Rattle.std.specs.List.{All}
 use Rattle.std.proofs.lemmas.Int.{ints}
 use Rattle.std.proofs.lemmas.List.{append-nil, length-map}
-use Rattle.tb_value.specs.Datum.{Datum, int}
-use Rattle.tb_value.specs.Kind.{Kind}
-use Rattle.tb_value.specs.Kind as kind
-use Rattle.tb_value.specs.Refusals.{when}
-use Rattle.tb_value.specs.Typed.{HasType}
+use Rattle.tb_value.specs.Promise.Datum.{Datum, int}
+use Rattle.tb_value.specs.Promise.Kind.{Kind}
+use Rattle.tb_value.specs.Promise.Kind as kind
+use Rattle.tb_value.specs.Promise.Refusals.{when}
+use Rattle.tb_value.specs.Promise.Typed.{HasType}
 use Rattle.tb_value.specs.declared.error.ComputeCause.TheVariants.{SumRange}
 use Rattle.tb_value.specs.declared.error.PolarsError.{PolarsError}
 use Rattle.tb_value.specs.declared.error.PolarsError.TheVariants.{ComputeError}
 use Rattle.tb_value.specs.declared.limits.TheConstants.{MAX_ROWS}
 use Rattle.tb_value.specs.declared.sorted.IsSorted.TheVariants.{Not}
-use Rattle.tb_chunk.specs.Col.{Col, values}
+use Rattle.tb_chunk.specs.Promise.Col.{Col, values}
 use Rattle.tb_chunk.specs.Lent.{in_one_chunk}
-use Rattle.tb_chunk.specs.Fresh.{fresh_view_arrays}
-use Rattle.tb_chunk.specs.Made.{at_least_one, IsMade, IsOf}
+use Rattle.tb_chunk.specs.Promise.Fresh.{fresh_view_arrays}
+use Rattle.tb_chunk.specs.Promise.Made.{at_least_one}
+use Rattle.tb_chunk.specs.Made.{IsMade, IsOf}
 use Rattle.tb_chunk.proofs.Made.{is_of}
-use Rattle.tb_rows.specs.Rows.{row_value}
+use Rattle.tb_rows.specs.Promise.Rows.{row_value}
 use Rattle.tb_rows.specs.declared.groups.Groups.{Groups}
-use Rattle.tb_agg.specs.Aggregates.{result_kind, sum_kind, total}
+use Rattle.tb_agg.specs.Promise.Aggregates.{result_kind, sum_kind, total}
 use Rattle.tb_agg.specs.Grouped.{aggregates, rows_of, values_of}
-use Rattle.tb_agg.specs.Outcome.{are_in_range, range_cause, totals, IsAggColumn, IsAggregated}
+use Rattle.tb_agg.specs.Promise.Outcome.{are_in_range}
+use Rattle.tb_agg.specs.Outcome.{range_cause, totals, IsAggColumn, IsAggregated}
 use Rattle.tb_agg.specs.declared.table.Aggregate.{Aggregate}
 use Rattle.tb_agg.specs.declared.table.Aggregate.TheVariants.{First, Last, Sum, Min, Max, Count}
 use Rattle.tb_agg.proofs.Steps.{rows_few}

@@ -1,10 +1,10 @@
 -- The rows that are picked have the values of the aggregates.
 use Rattle.std.proofs.Common.{◌≡◌, ◌∙◌, ◌-◌, ℕ, suc, Bool, true, false, cond, List, [], ◌∷◌, ◌++◌, get_or, length, map, fold, Option, Some, None, refl, sym, ap, arith}
 use Rattle.std.proofs.lemmas.List.Sums.{fold-append}
-use Rattle.tb_value.specs.Datum.{Datum, null}
+use Rattle.tb_value.specs.Promise.Datum.{Datum, null}
 use Rattle.tb_chunk.specs.Rows.{value_or_null}
-use Rattle.tb_rows.specs.Rows.{row_value}
-use Rattle.tb_agg.specs.Aggregates.{aggregate, beats}
+use Rattle.tb_rows.specs.Promise.Rows.{row_value}
+use Rattle.tb_agg.specs.Promise.Aggregates.{aggregate, beats}
 use Rattle.tb_agg.specs.Picking.{aggregate_of, next_pick, picked_row}
 use Rattle.tb_agg.specs.declared.picks.Pick.{Pick}
 use Rattle.tb_agg.specs.declared.picks.Pick.TheVariants.{FirstRow, LastRow, LeastValue, GreatestValue}

@@ -6,10 +6,10 @@ use Rattle.std.proofs.lemmas.List.Elements.{All-append, All-head, All-tail}
 use Rattle.std.proofs.lemmas.List.{map-append}
 use Rattle.tb_value.specs.declared.any_value.AnyValue.{AnyValue}
 use Rattle.tb_value.specs.See.{datum, data_of}
-use Rattle.tb_value.specs.Datum.{Datum, int}
-use Rattle.tb_value.specs.Kind.{Kind}
-use Rattle.tb_value.specs.Typed.{HasType, ends}
-use Rattle.tb_agg.specs.Outcome.{lies_within}
+use Rattle.tb_value.specs.Promise.Datum.{Datum, int}
+use Rattle.tb_value.specs.Promise.Kind.{Kind}
+use Rattle.tb_value.specs.Promise.Typed.{HasType, ends}
+use Rattle.tb_agg.specs.Promise.Outcome.{lies_within}
 
 within_by : (o : Option (ℤ × ℤ)) (z : ℤ) → IsSomeAnd o (λ e. (e.0 ≤ℤ z) × (z ≤ℤ e.1)) → lies_within o z ≡ true
 within_by None z h = absurd h

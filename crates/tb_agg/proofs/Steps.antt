@@ -7,7 +7,7 @@ use Rattle.std.proofs.lemmas.List.Elements.{All-get_or, filter-append}
 use Rattle.std.proofs.lemmas.List.FromFn.{get_or-map-range_with_len, length-map-range_with_len, length-range_with_len}
 use Rattle.std.proofs.lemmas.List.{length-map}
 use Rattle.tb_value.proofs.RowNumbers.{row_numbers_more}
-use Rattle.tb_value.specs.Pairs.{row_numbers}
+use Rattle.tb_value.specs.Promise.Pairs.{row_numbers}
 use Rattle.tb_agg.specs.Grouped.{rows_of}
 
 agree_from : {X : Type 0} (f h : ℕ → X) (b n : ℕ) → ((k : ℕ) → b ≤ k → f k ≡ h k) → map f (range_with_len b n) ≡ map h (range_with_len b n)

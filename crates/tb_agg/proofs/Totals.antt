@@ -2,10 +2,10 @@
 use Rattle.std.proofs.Common.{◌≡◌, ◌∙◌, ℕ, ℤ, pos, ◌+◌, ◌+ℤ◌, ◌<◌, List, [], ◌∷◌, ◌++◌, map, fold, get_or, length, take, sym, ap}
 use Rattle.std.proofs.lemmas.List.{map-append, take_more}
 use Rattle.std.proofs.lemmas.List.Sums.{fold-append}
-use Rattle.tb_value.specs.Datum.{Datum, int}
+use Rattle.tb_value.specs.Promise.Datum.{Datum, int}
 use Rattle.tb_value.specs.See.{datum, data_of}
 use Rattle.tb_value.specs.declared.any_value.AnyValue.{AnyValue}
-use Rattle.tb_agg.specs.Aggregates.{number, total}
+use Rattle.tb_agg.specs.Promise.Aggregates.{number, total}
 
 pub total_more : (f : ℕ → Datum) (rows : List ℕ) (n : ℕ) → total (map f (rows ++ n ∷ [])) ≡ total (map f rows) +ℤ number (f n)
 total_more f rows n =

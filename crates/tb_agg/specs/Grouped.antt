@@ -1,12 +1,12 @@
 -- The rows of a group, and their values.
 use Rattle.std.specs.Prelude.{◌≡◌, ◌==◌, ◌<◌, ◌≤◌, ℕ, List, filter, length, map, slice_index}
 use Rattle.std.specs.List.{All}
-use Rattle.tb_value.specs.Datum.{Datum}
-use Rattle.tb_value.specs.Pairs.{row_numbers}
+use Rattle.tb_value.specs.Promise.Datum.{Datum}
+use Rattle.tb_value.specs.Promise.Pairs.{row_numbers}
 use Rattle.tb_value.specs.declared.limits.TheConstants.{MAX_ROWS}
-use Rattle.tb_rows.specs.Rows.{row_value}
+use Rattle.tb_rows.specs.Promise.Rows.{row_value}
 use Rattle.tb_rows.specs.declared.groups.Groups.{Groups}
-use Rattle.tb_agg.specs.Aggregates.{aggregate}
+use Rattle.tb_agg.specs.Promise.Aggregates.{aggregate}
 use Rattle.tb_agg.specs.declared.table.Aggregate.{Aggregate}
 
 -- of n rows, of which each has the number of its group, those of a group, ascending

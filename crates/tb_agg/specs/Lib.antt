@@ -1,5 +1,5 @@
-pub mod Aggregates
 pub mod Grouped
 pub mod Outcome
 pub mod Picking
 pub mod Running
+pub mod Promise

@@ -1,37 +1,26 @@
 -- The column of an aggregate, and why there is none.
-use Rattle.std.specs.Prelude.{◌&&◌, ℤ, Bool, true, false, not, List, [], ◌∷◌, length, map, Option, Some, None, is_none, IsSomeAnd, int_le}
-use Rattle.std.specs.List.{list_all}
-use Rattle.tb_value.specs.Datum.{Datum}
-use Rattle.tb_value.specs.Kind.{Kind}
-use Rattle.tb_value.specs.Pairs.{row_numbers}
-use Rattle.tb_value.specs.Refusals.{first_cause, when}
-use Rattle.tb_value.specs.Typed.{ends}
+use Rattle.std.specs.Prelude.{ℤ, not, List, [], ◌∷◌, length, map, Option, None, is_none, IsSomeAnd}
+use Rattle.tb_value.specs.Promise.Datum.{Datum}
+use Rattle.tb_value.specs.Promise.Kind.{Kind}
+use Rattle.tb_value.specs.Promise.Pairs.{row_numbers}
+use Rattle.tb_value.specs.Promise.Refusals.{first_cause, when}
 use Rattle.tb_value.specs.declared.error.ComputeCause.TheVariants.{SumRange}
 use Rattle.tb_value.specs.declared.error.InvalidCause.TheVariants.{AggType}
 use Rattle.tb_value.specs.declared.error.PolarsError.{PolarsError}
 use Rattle.tb_value.specs.declared.error.PolarsError.TheVariants.{ComputeError, InvalidOperation}
 use Rattle.tb_value.specs.declared.sorted.IsSorted.TheVariants.{Not}
-use Rattle.tb_chunk.specs.Col.{Col, values}
+use Rattle.tb_chunk.specs.Promise.Col.{Col, values}
 use Rattle.tb_chunk.specs.Made.{IsOf}
 use Rattle.tb_rows.specs.declared.groups.Groups.{Groups}
-use Rattle.tb_agg.specs.Aggregates.{result_kind, sum_kind, total}
+use Rattle.tb_agg.specs.Promise.Aggregates.{result_kind, sum_kind, total}
 use Rattle.tb_agg.specs.Grouped.{aggregates, values_of}
 use Rattle.tb_agg.specs.declared.table.Aggregate.{Aggregate}
 use Rattle.tb_agg.specs.declared.table.Aggregate.TheVariants.{Sum}
+use Rattle.tb_agg.specs.Promise.Outcome.{are_in_range}
 
 -- the exact sum of each group
 abbrev pub totals : Groups → List Datum → List ℤ
 totals g vs = map (λ k. total (values_of g.numbers.items vs k)) (row_numbers (length g.firsts.items))
-
--- whether a number lies from one end to the other
-abbrev pub lies_within : Option (ℤ × ℤ) → ℤ → Bool
-lies_within None z = false
-lies_within (Some e) z = int_le e.0 z && int_le z e.1
-
--- whether the sums are numbers of their type
-abbrev pub are_in_range : Option Kind → List ℤ → Bool
-are_in_range None zs = true
-are_in_range (Some t) zs = list_all (lies_within (ends t)) zs
 
 -- why there is no column of the aggregate: it does not take the type, or a sum is outside the range of its type
 abbrev pub type_cause : Aggregate → Col → Option PolarsError

@@ -1,9 +1,9 @@
 -- The row whose value stands for a group.
 use Rattle.std.specs.Prelude.{ℕ, Bool, true, false, List, fold, Option, Some, None, is_none, if◌then◌else◌}
-use Rattle.tb_value.specs.Datum.{Datum}
+use Rattle.tb_value.specs.Promise.Datum.{Datum}
 use Rattle.tb_chunk.specs.Rows.{value_or_null}
-use Rattle.tb_rows.specs.Rows.{row_value}
-use Rattle.tb_agg.specs.Aggregates.{beats}
+use Rattle.tb_rows.specs.Promise.Rows.{row_value}
+use Rattle.tb_agg.specs.Promise.Aggregates.{beats}
 use Rattle.tb_agg.specs.declared.table.Aggregate.{Aggregate}
 use Rattle.tb_agg.specs.declared.table.Aggregate.TheVariants.{First, Last, Min, Max}
 use Rattle.tb_agg.specs.declared.picks.Pick.{Pick}

@@ -1,9 +1,9 @@
 //! Columns of one value for each group.
 ghost use Rattle.std.specs.Prelude.{◌∷◌, [], IfOk, IsSome, None, length};
 ghost use Rattle.tb_value.specs.Refusals.{Settles};
-ghost use Rattle.tb_chunk.specs.Col.{values};
+ghost use Rattle.tb_chunk.specs.Promise.Col.{values};
 ghost use Rattle.tb_chunk.specs.Made.{IsOf};
-ghost use Rattle.tb_agg.specs.Aggregates.{result_kind, sum_kind};
+ghost use Rattle.tb_agg.specs.Promise.Aggregates.{result_kind, sum_kind};
 ghost use Rattle.tb_agg.specs.Grouped.{AreGroupsOf, aggregates};
 ghost use Rattle.tb_agg.specs.Outcome.{agg_refusal, range_cause, IsAggregated};
 ghost use Rattle.tb_agg.specs.declared.table.Aggregate.TheVariants.{First, Last, Sum, Min, Max, Count};

@@ -1,6 +1,6 @@
 //! How many rows the groups have.
 ghost use Rattle.std.specs.Prelude.{◌≡◌, ◌≤◌, IfOk, length, map};
-ghost use Rattle.tb_value.specs.Pairs.{row_numbers};
+ghost use Rattle.tb_value.specs.Promise.Pairs.{row_numbers};
 ghost use Rattle.tb_agg.specs.Grouped.{rows_of, AreGroupsOf};
 
 use std::alloc::Global;

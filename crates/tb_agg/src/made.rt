@@ -1,14 +1,14 @@
 //! Columns of numbers that were counted or summed.
 ghost use Rattle.std.specs.Prelude.{◌≡◌, ◌≤◌, ◌∷◌, [], IfOk, MatchOption, None, true, false, length, map, pos};
 ghost use Rattle.std.specs.List.{All, list_all};
-ghost use Rattle.tb_value.specs.Datum.{int};
+ghost use Rattle.tb_value.specs.Promise.Datum.{int};
 ghost use Rattle.tb_value.specs.See.{datum, data_of};
 ghost use Rattle.tb_value.specs.SeeKind.{kind_of};
-ghost use Rattle.tb_value.specs.Typed.{HasType, ends};
+ghost use Rattle.tb_value.specs.Promise.Typed.{HasType, ends};
 ghost use Rattle.tb_value.specs.Refusals.{Settles};
 ghost use Rattle.tb_value.specs.declared.sorted.IsSorted.TheVariants.{Not};
 ghost use Rattle.tb_chunk.specs.Made.{lists_of, IsOf};
-ghost use Rattle.tb_agg.specs.Outcome.{lies_within};
+ghost use Rattle.tb_agg.specs.Promise.Outcome.{lies_within};
 ghost use Rattle.tb_agg.specs.Running.{sum_so_far};
 
 use crate::running::{Running, exact};

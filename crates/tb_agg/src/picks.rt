@@ -1,11 +1,11 @@
 //! The rows whose values stand for groups.
 ghost use Rattle.std.specs.Prelude.{◌≡◌, ◌<◌, IfOk, length, map};
 ghost use Rattle.std.specs.List.{All};
-ghost use Rattle.tb_value.specs.Pairs.{row_numbers};
+ghost use Rattle.tb_value.specs.Promise.Pairs.{row_numbers};
 ghost use Rattle.tb_value.specs.See.{lent_value};
-ghost use Rattle.tb_chunk.specs.Col.{values};
+ghost use Rattle.tb_chunk.specs.Promise.Col.{values};
 ghost use Rattle.tb_chunk.specs.Rows.{value_or_null, IsRowOf};
-ghost use Rattle.tb_agg.specs.Aggregates.{beats};
+ghost use Rattle.tb_agg.specs.Promise.Aggregates.{beats};
 ghost use Rattle.tb_agg.specs.Grouped.{rows_of, AreGroupsOf};
 ghost use Rattle.tb_agg.specs.Picking.{next_pick, picked_row, replaces};
 

@@ -1,9 +1,9 @@
 //! The sums of groups.
 ghost use Rattle.std.specs.Prelude.{◌≡◌, ◌≤ℤ◌, ◌+ℤ◌, pos, neg_ℤ, IfOk, length, map};
-ghost use Rattle.tb_value.specs.Pairs.{row_numbers};
+ghost use Rattle.tb_value.specs.Promise.Pairs.{row_numbers};
 ghost use Rattle.tb_value.specs.See.{lent_value};
-ghost use Rattle.tb_chunk.specs.Col.{values};
-ghost use Rattle.tb_agg.specs.Aggregates.{number};
+ghost use Rattle.tb_chunk.specs.Promise.Col.{values};
+ghost use Rattle.tb_agg.specs.Promise.Aggregates.{number};
 ghost use Rattle.tb_agg.specs.Grouped.{AreGroupsOf};
 ghost use Rattle.tb_agg.specs.Outcome.{totals};
 ghost use Rattle.tb_agg.specs.Running.{sum_so_far};

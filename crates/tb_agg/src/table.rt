@@ -1,8 +1,8 @@
 //! Which aggregates there are, and of which types.
 ghost use Rattle.std.specs.Prelude.{◌≡◌, is_some, option_map};
-ghost use Rattle.tb_value.specs.Kind as kind;
+ghost use Rattle.tb_value.specs.Promise.Kind as kind;
 ghost use Rattle.tb_value.specs.SeeKind.{kind_of};
-ghost use Rattle.tb_agg.specs.Aggregates.{result_kind, sum_kind};
+ghost use Rattle.tb_agg.specs.Promise.Aggregates.{result_kind, sum_kind};
 
 use tb_value::DataType;
 

@@ -3,44 +3,46 @@ use Rattle.std.proofs.Common.{◌≡◌, ◌∙◌, ℕ, List, Option, Result, O
 use mathlib.Core.Logic.{inl, inr}
 use Rattle.std.specs.Borrow.{Bor}
 use Rattle.std.specs.Option.{option_copied, option_map}
-use Rattle.tb_value.specs.Names.{Name}
+use Rattle.tb_value.specs.Promise.Names.{Name}
 use Rattle.tb_value.specs.Refusals.{Settles}
 use Rattle.tb_value.specs.declared.error.PolarsError.{PolarsError}
-use Rattle.tb_chunk.specs.Col.{Col}
-use Rattle.tb_frame.specs.Join.{IsAnswer, by_names, lent_request}
-use Rattle.tb_frame.specs.Join as asking
-use Rattle.tb_frame.specs.Refusal.{join_refusal}
-use Rattle.tb_frame.specs.Table.{table_of}
-use Rattle.tb_json.specs.Text.{text_of}
+use Rattle.tb_chunk.specs.Promise.Col.{Col}
+use Rattle.tb_frame.specs.Promise.Join.{IsAnswer, by_names}
+use Rattle.tb_frame.specs.Join.{lent_request}
+use Rattle.tb_frame.specs.Promise.Join as asking
+use Rattle.tb_frame.specs.Promise.Refusal.{join_refusal}
+use Rattle.tb_frame.specs.Promise.Table.{table_of}
+use Rattle.tb_json.specs.Promise.Text.{text_of}
 use Rattle.tb_request.specs.declared.request.Reason.{Reason}
 use Rattle.tb_request.specs.declared.request.RequestFault.{RequestFault}
 use Rattle.tb_request.specs.declared.request.RequestFault.TheVariants.{NoRequest}
-use Rattle.tb_request.specs.Reading.{UnpivotRequest, DummiesRequest, PivotRequest, FaultIs, asked_request, request_view, unpivot_view, dummies_view, pivot_view}
+use Rattle.tb_request.specs.Promise.Reading.{UnpivotRequest, DummiesRequest, PivotRequest, FaultIs, asked_request, request_view, unpivot_view, dummies_view, pivot_view}
 use Rattle.tb_request.specs.Columns.{relaid_column}
 use Rattle.tb_request.specs.declared.request.JoinRequest as rust
 use Rattle.tb_request.specs.declared.request.UnpivotRequest as rust_long
 use Rattle.tb_request.specs.declared.request.DummiesRequest as rust_marked
 use Rattle.tb_request.specs.declared.request.PivotRequest as rust_wide
 use Rattle.tb_request.proofs.Unlaid.{table_unlaid}
-use Rattle.tb_unpivot.specs.Unpivot.{unpivot_refusal, unpivot_table, variable_or, value_or}
-use Rattle.tb_unpivot.specs.Unpivot as long
-use Rattle.tb_dummies.specs.Dummies.{dummies_refusal, dummies_table, separator_or}
-use Rattle.tb_dummies.specs.Dummies as marked
+use Rattle.tb_unpivot.specs.Promise.Unpivot.{unpivot_refusal, unpivot_table, variable_or, value_or}
+use Rattle.tb_unpivot.specs.Promise.Unpivot as long
+use Rattle.tb_dummies.specs.Promise.Dummies.{dummies_refusal, dummies_table, separator_or}
+use Rattle.tb_dummies.specs.Promise.Dummies as marked
 use Rattle.tb_dummies.specs.Lent as lent
 use Rattle.tb_pivot.specs.Lent as borrowed
-use Rattle.tb_pivot.specs.Pivot.{pivot_table}
-use Rattle.tb_pivot.specs.Refusal.{pivot_refusal}
-use Rattle.tb_pivot.specs.Request.{way_of}
-use Rattle.tb_pivot.specs.Request as wide
-use Rattle.tb_pairs.specs.Trace.{IsTraced, Trace, trace_told}
+use Rattle.tb_pivot.specs.Promise.Pivot.{pivot_table}
+use Rattle.tb_pivot.specs.Promise.Refusal.{pivot_refusal}
+use Rattle.tb_pivot.specs.Promise.Request.{way_of}
+use Rattle.tb_pivot.specs.Promise.Request as wide
+use Rattle.tb_pairs.specs.Promise.Trace.{IsTraced, Trace, trace_told}
 use Rattle.tb_pairs.specs.declared.trace.JoinTrace.{JoinTrace}
-use Rattle.tb_join.specs.Traced.{named_trace}
+use Rattle.tb_join.specs.Promise.Traced.{named_trace}
 use Rattle.tb_app.specs.declared.status.Status.{Status}
 use Rattle.tb_app.specs.declared.status.Status.TheVariants as status
-use Rattle.tb_app.specs.Due.{DueOfReading, DueOfRequest, IsJoinOutcome, IsOutcome}
-use Rattle.tb_app.specs.Traces.{due_trace, joined_text}
+use Rattle.tb_app.specs.Promise.Due.{DueOfReading, DueOfRequest}
+use Rattle.tb_app.specs.Due.{IsJoinOutcome, IsOutcome}
+use Rattle.tb_app.specs.Promise.Traces.{due_trace, joined_text}
 use Rattle.tb_app.proofs.Unlaid.{trace_unlaid}
-use Rattle.tb_app.specs.Requests.{Request, as_request, asked_dummies, asked_long, asked_wide, join, unpivot, dummies, pivot, refusal_of, IsAnswerText, text_of_refusal}
+use Rattle.tb_app.specs.Promise.Requests.{Request, as_request, asked_dummies, asked_long, asked_wide, join, unpivot, dummies, pivot, refusal_of, IsAnswerText, text_of_refusal}
 
 -- ---- no request
 

@@ -1,11 +1,11 @@
 -- What `done` says of each word, in the words of its command.
 use Rattle.std.proofs.Common.{◌≡◌, ℕ, List, Option, Result, Ok, Err, None, refl, subst}
 use Rattle.tb_request.specs.declared.request.Reason.{Reason}
-use Rattle.tb_request.specs.Reading.{join_request_of, unpivot_request_of, dummies_request_of, pivot_request_of}
+use Rattle.tb_request.specs.Promise.Reading.{join_request_of, unpivot_request_of, dummies_request_of, pivot_request_of}
 use Rattle.tb_app.specs.declared.words.Command.TheVariants.{Join, Unpivot, Dummies, Pivot}
 use Rattle.tb_app.specs.Due.{DoneFor}
-use Rattle.tb_app.specs.Headline.{JoinDone, UnpivotDone, DummiesDone, PivotDone}
-use Rattle.tb_app.specs.Requests.{Request, join, unpivot, dummies, pivot, as_request, request_of, refusal_of, IsAnswerText}
+use Rattle.tb_app.specs.Promise.Headline.{JoinDone, UnpivotDone, DummiesDone, PivotDone}
+use Rattle.tb_app.specs.Promise.Requests.{Request, join, unpivot, dummies, pivot, as_request, request_of, refusal_of, IsAnswerText}
 use Rattle.std.specs.Io.KnownBytes.{Appends}
 
 -- what is read as a request of one command is one

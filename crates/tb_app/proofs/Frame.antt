@@ -14,8 +14,9 @@ use Rattle.tb_value.specs.declared.error.PolarsError.{PolarsError}
 use Rattle.tb_value.specs.declared.limits.TheConstants.{MAX_INPUT}
 use Rattle.tb_request.specs.declared.request.Reason.{Reason}
 use Rattle.tb_app.specs.Ends.{Rose, AppendsPart}
-use Rattle.tb_app.specs.Requests.{Request, request_of, refusal_of, IsAnswerText, text_of_refusal}
-use Rattle.tb_app.specs.Due.{DoneFor, DueOfReading, DueOfForm, IsSampleText, Tells, read_for, IsDue, HasText, IsCommand, IsValid, usage_text, too_long_text}
+use Rattle.tb_app.specs.Promise.Requests.{Request, request_of, refusal_of, IsAnswerText, text_of_refusal}
+use Rattle.tb_app.specs.Promise.Due.{DueOfReading, DueOfForm, IsSampleText, Tells, read_for, IsDue, usage_text, too_long_text}
+use Rattle.tb_app.specs.Due.{DoneFor, HasText, IsCommand, IsValid}
 use Rattle.tb_app.specs.Run.{IsReply}
 
 -- WHAT WAS READ

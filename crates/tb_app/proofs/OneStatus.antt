@@ -7,9 +7,9 @@ use Rattle.tb_app.specs.declared.words.Form.{Form}
 use Rattle.tb_app.specs.declared.words.Form.TheVariants.{Reads, Sample, Unknown}
 use Rattle.tb_app.specs.declared.status.Status.{Status}
 use Rattle.tb_app.specs.declared.status.Status.TheVariants as status
-use Rattle.tb_app.specs.Words.{form}
-use Rattle.tb_app.specs.Requests.{Request, request_of, refusal_of, IsAnswerText, text_of_refusal}
-use Rattle.tb_app.specs.Due.{due, DueOfReading, DueOfForm, too_long_text}
+use Rattle.tb_app.specs.Promise.Words.{form}
+use Rattle.tb_app.specs.Promise.Requests.{Request, request_of, refusal_of, IsAnswerText, text_of_refusal}
+use Rattle.tb_app.specs.Promise.Due.{due, DueOfReading, DueOfForm, too_long_text}
 
 one_request : (refusal : Option PolarsError) (q : Request) (s s' : Status) (text text' : List ℕ)
     → MatchOption refusal ((s ≡ status.Done) × IsAnswerText q text) (λ e. (s ≡ status.Refused) × (text ≡ text_of_refusal e))

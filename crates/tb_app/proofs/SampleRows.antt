@@ -5,7 +5,7 @@ use Rattle.std.specs.List.{list_all}
 use Rattle.std.specs.Str.Parse.{AllDigits, IsNumeral, digits_value, without_leading_plus}
 use Rattle.std.proofs.lemmas.Bool.{lt-ltb, ltb-true}
 use Rattle.std.proofs.lemmas.Bool.Decides.{nat_tests}
-use Rattle.tb_app.specs.Words.{begins_plainly, in_bounds, sample_rows}
+use Rattle.tb_app.specs.Promise.Words.{begins_plainly, in_bounds, sample_rows}
 
 -- a word that begins with a digit has no sign
 unsigned : (word : List ℕ) → begins_plainly word ≡ true → without_leading_plus word ≡ word

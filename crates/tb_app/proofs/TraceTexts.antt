@@ -2,8 +2,8 @@
 use Rattle.std.proofs.Common.{◌≡◌, ℕ, false, List, [], ◌∷◌, map, refl}
 use Rattle.serde_json.specs.View.{items_of}
 use Rattle.serde_json.specs.Written.{has_float, items_have_float}
-use Rattle.tb_pairs.specs.Trace.{Trace, hash, merge, plain}
-use Rattle.tb_app.specs.Traces.{count_data, trace_data}
+use Rattle.tb_pairs.specs.Promise.Trace.{Trace, hash, merge, plain}
+use Rattle.tb_app.specs.Promise.Traces.{count_data, trace_data}
 
 counts : (ns : List ℕ) → items_have_float (items_of (map count_data ns)) ≡ false
 counts [] = refl

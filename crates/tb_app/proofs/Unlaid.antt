@@ -3,26 +3,26 @@ use Rattle.std.proofs.Common.{◌≡◌, ◌∙◌, ℕ, ◌^◌, Bool, true, fa
 use Rattle.std.specs.Prelude.{nat_lt, slice_index_or}
 use Rattle.std.specs.List.{cons_option, list_any}
 use Rattle.std.proofs.lemmas.List.{length-map}
-use Rattle.tb_value.specs.Datum.{Datum, null}
-use Rattle.tb_value.specs.Kind.{Kind}
-use Rattle.tb_value.specs.Names.{Name, same_name}
-use Rattle.tb_value.specs.Pairs.{row_numbers}
-use Rattle.tb_chunk.specs.Col.{Col, values}
+use Rattle.tb_value.specs.Promise.Datum.{Datum, null}
+use Rattle.tb_value.specs.Promise.Kind.{Kind}
+use Rattle.tb_value.specs.Promise.Names.{Name, same_name}
+use Rattle.tb_value.specs.Promise.Pairs.{row_numbers}
+use Rattle.tb_chunk.specs.Promise.Col.{Col, values}
 use Rattle.tb_frame.specs.declared.args.JoinArgs.{JoinArgs}
 use Rattle.tb_frame.specs.declared.args.JoinType.{JoinType}
 use Rattle.tb_frame.specs.declared.args.JoinType.TheVariants.{Inner, Left, Right, Full, Semi, Anti}
 use Rattle.tb_frame.specs.declared.args.JoinValidation.{JoinValidation}
-use Rattle.tb_frame.specs.Frame.{selected_columns}
-use Rattle.tb_frame.specs.Join.{flag_at}
+use Rattle.tb_frame.specs.Promise.Frame.{selected_columns}
+use Rattle.tb_frame.specs.Promise.Join.{flag_at}
 use Rattle.tb_frame.proofs.Selected.{found}
-use Rattle.tb_pool.specs.ExecView.{ExecView}
-use Rattle.tb_rowkey.specs.Columns.{row_count, kinds, fields_at, keys_at}
-use Rattle.tb_rowkey.specs.RowKey.{rowkey, key_row}
-use Rattle.tb_sorted.specs.Columns.{first_values, sizes_by}
-use Rattle.tb_sorted.specs.Path.{are_ordered, asks_nothing, is_merge_key, takes_path_by}
-use Rattle.tb_hash.specs.Hashing.{value_plan}
-use Rattle.tb_pairs.specs.Trace.{hash, merge, plain, has_long_row, lacks_keys, hashed_kind, hashed_values, trace_of}
-use Rattle.tb_join.specs.Traced.{named_trace}
+use Rattle.tb_pool.specs.Promise.ExecView.{ExecView}
+use Rattle.tb_rowkey.specs.Promise.Columns.{row_count, kinds, fields_at, keys_at}
+use Rattle.tb_rowkey.specs.Promise.RowKey.{rowkey, key_row}
+use Rattle.tb_sorted.specs.Promise.Columns.{first_values, sizes_by}
+use Rattle.tb_sorted.specs.Promise.Path.{are_ordered, asks_nothing, is_merge_key, takes_path_by}
+use Rattle.tb_hash.specs.Promise.Hashing.{value_plan}
+use Rattle.tb_pairs.specs.Promise.Trace.{hash, merge, plain, has_long_row, lacks_keys, hashed_kind, hashed_values, trace_of}
+use Rattle.tb_join.specs.Promise.Traced.{named_trace}
 use Rattle.tb_request.specs.Columns.{relaid_column}
 
 -- ---- the key columns

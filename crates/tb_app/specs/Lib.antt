@@ -2,8 +2,6 @@ pub mod Ends
 pub mod Memory
 pub mod Reading
 pub mod Words
-pub mod Traces
-pub mod Requests
 pub mod Due
 pub mod Run
-pub mod Headline
+pub mod Promise

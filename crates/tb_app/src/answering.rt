@@ -1,10 +1,11 @@
 //! A request that is read is answered: the one door to the commands.
 ghost use Rattle.std.specs.Prelude.{◌≡◌, Err, IfOk, string_bytes};
 ghost use Rattle.std.specs.Option.{option_copied, option_map};
-ghost use Rattle.tb_request.specs.Reading.{request_view, unpivot_view, dummies_view, pivot_view, join_request_of, unpivot_request_of, dummies_request_of, pivot_request_of};
-ghost use Rattle.tb_request.specs.Reasons.{reason_word};
-ghost use Rattle.tb_app.specs.Due.{DueOfReading, DueOfRequest, IsJoinOutcome, IsOutcome, IsRefusal, bad_request_text};
-ghost use Rattle.tb_app.specs.Requests.{request_of, as_request, join, unpivot, dummies, pivot};
+ghost use Rattle.tb_request.specs.Promise.Reading.{request_view, unpivot_view, dummies_view, pivot_view, join_request_of, unpivot_request_of, dummies_request_of, pivot_request_of};
+ghost use Rattle.tb_request.specs.Promise.Reasons.{reason_word};
+ghost use Rattle.tb_app.specs.Promise.Due.{DueOfReading, DueOfRequest, bad_request_text};
+ghost use Rattle.tb_app.specs.Due.{IsJoinOutcome, IsOutcome, IsRefusal};
+ghost use Rattle.tb_app.specs.Promise.Requests.{request_of, as_request, join, unpivot, dummies, pivot};
 
 use crate::status::Status;
 use crate::tracing::text_with_trace;
@@ -31,7 +32,7 @@ pub struct Answer {
     pub text: String,
 }
 
-#[tactic(auto, unfolding(crate::specs::Requests::request_of))]
+#[tactic(auto, unfolding(crate::specs::Promise::Requests::request_of))]
 pub(crate) fn answer_request(
     rt: &(impl Threads + Sync),
     alloc: Global,
@@ -215,7 +216,7 @@ fn answered(alloc: Global, outcome: PolarsResult<DataFrame>) -> Result<Answer, O
 }
 
 // Want of memory is handed on, and any other refusal has a text.
-#[tactic(auto, unfolding(crate::specs::Requests::text_of_refusal))]
+#[tactic(auto, unfolding(crate::specs::Promise::Requests::text_of_refusal))]
 fn refused(alloc: Global, error: PolarsError) -> Result<Answer, OutOfMemory>
     ensures { IfOk result (λ a. IsRefusal error a.status (string_bytes a.text)) }
 {

@@ -4,8 +4,9 @@ ghost use Rattle.tb_app.specs.declared.status.Status.{Status};
 ghost use Rattle.tb_app.specs.declared.status.Status.TheVariants.{Done};
 ghost use Rattle.tb_app.specs.declared.words.Command.TheVariants.{Join, Unpivot, Dummies, Pivot};
 ghost use Rattle.tb_app.specs.declared.words.Form.{Form};
-ghost use Rattle.tb_app.specs.Due.{due, DoneFor, IsDue, IsValid};
-ghost use Rattle.tb_app.specs.Headline.{JoinDone, UnpivotDone, DummiesDone, PivotDone};
+ghost use Rattle.tb_app.specs.Promise.Due.{due, IsDue};
+ghost use Rattle.tb_app.specs.Due.{DoneFor, IsValid};
+ghost use Rattle.tb_app.specs.Promise.Headline.{JoinDone, UnpivotDone, DummiesDone, PivotDone};
 
 pub use tb_json::laws::text_one_to_one;
 use tb_value::PlSmallStr;

@@ -2,10 +2,11 @@
 ghost use Rattle.std.specs.Prelude.{◌≡◌, ◌≢◌, ◌≤◌, ◌⊎◌, List, ℕ, IfOk, string_bytes};
 ghost use Rattle.std.specs.Io.KnownBytes.{Appends};
 ghost use Rattle.tb_app.specs.declared.words.Command.{Command};
-ghost use Rattle.tb_app.specs.Due.{due, DoneFor, IsDue, HasText, IsCommand, IsKnown, IsSampleText, IsValid};
+ghost use Rattle.tb_app.specs.Promise.Due.{due, IsDue, IsSampleText};
+ghost use Rattle.tb_app.specs.Due.{DoneFor, HasText, IsCommand, IsKnown, IsValid};
 ghost use Rattle.tb_app.specs.Ends.{Rose, AppendsPart};
 ghost use Rattle.tb_app.specs.Reading.{CountsReads};
-ghost use Rattle.tb_app.specs.Words.{form};
+ghost use Rattle.tb_app.specs.Promise.Words.{form};
 ghost use Rattle.tb_app.specs.Run.{IsReply};
 
 use crate::answering::{Answer, answer_request};

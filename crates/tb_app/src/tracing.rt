@@ -3,11 +3,11 @@ ghost use Rattle.std.specs.Prelude.{◌≡◌, false, IfOk, map, string_bytes};
 ghost use Rattle.serde_json.specs.Data.{array};
 ghost use Rattle.serde_json.specs.View.{items_of, items_view, view};
 ghost use Rattle.serde_json.specs.Written.{has_float};
-ghost use Rattle.tb_frame.specs.Table.{table_of};
-ghost use Rattle.tb_json.specs.Text.{traced_text_of};
-ghost use Rattle.tb_sorted.specs.Listed.{sizes_of};
-ghost use Rattle.tb_pairs.specs.Trace.{hash, merge, trace_told};
-ghost use Rattle.tb_app.specs.Traces.{count_data, trace_data};
+ghost use Rattle.tb_frame.specs.Promise.Table.{table_of};
+ghost use Rattle.tb_json.specs.Promise.Text.{traced_text_of};
+ghost use Rattle.tb_sorted.specs.Promise.Listed.{sizes_of};
+ghost use Rattle.tb_pairs.specs.Promise.Trace.{hash, merge, trace_told};
+ghost use Rattle.tb_app.specs.Promise.Traces.{count_data, trace_data};
 
 use serde_json::{Value, json};
 use std::alloc::Global;

@@ -1,6 +1,6 @@
 //! The words that the program is called with.
 ghost use Rattle.std.specs.Prelude.{◌≡◌};
-ghost use Rattle.tb_app.specs.Words.{begins_plainly, command, form, in_bounds, sample_rows};
+ghost use Rattle.tb_app.specs.Promise.Words.{begins_plainly, command, form, in_bounds, sample_rows};
 
 use tb_value::PlSmallStr;
 

@@ -5,7 +5,7 @@ use Rattle.std.specs.Map.{lookup}
 use Rattle.std.proofs.lemmas.List.{length-map}
 use Rattle.std.specs.Cmp.{IsEquivalence}
 use Rattle.std.specs.List.{list_any}
-use Rattle.tb_value.specs.Pairs.{row_numbers}
+use Rattle.tb_value.specs.Promise.Pairs.{row_numbers}
 use Rattle.tb_value.proofs.RowNumbers.{any_more, any_stop}
 use Rattle.tb_build.specs.Keys.{key_twins, keys_match, rows_match, rows_with}
 use Rattle.tb_build.specs.KeyRows.{AreKeyRows, HasNoTwins, HasTwins, KeyRows}

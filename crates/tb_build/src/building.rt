@@ -1,6 +1,7 @@
 //! The tables of all parts of the keys.
 ghost use Rattle.std.specs.Prelude.{◌≡◌, ℕ, ◌+◌, ◌<◌, ◌≤◌, length, map, All, IfOk};
-ghost use Rattle.tb_build.specs.Plan.{codes_of, part_count, part_sizes};
+ghost use Rattle.tb_build.specs.Promise.Plan.{part_count, part_sizes};
+ghost use Rattle.tb_build.specs.Plan.{codes_of};
 ghost use Rattle.tb_build.specs.TableView.{ArePartTables};
 ghost use Rattle.tb_build.specs.Packed.{key_rows, PackedView};
 ghost use Rattle.tb_build.specs.Pieces.{bare_of_part, items_of_part, IsTableOfItems, PiecesView};

@@ -1,7 +1,8 @@
 //! The tables of the built keys: for each key its rows.
 ghost use Rattle.std.specs.Prelude.{◌≡◌, ℕ, Bool, ◌+◌, ◌^◌, ◌<◌, ◌≤◌, None, length, map, slice_index_or, All, IfOk, Option};
-ghost use Rattle.tb_build.specs.Codes.{part_of};
-ghost use Rattle.tb_build.specs.Plan.{codes_of, plan_of};
+ghost use Rattle.tb_build.specs.Promise.Codes.{part_of};
+ghost use Rattle.tb_build.specs.Promise.Plan.{plan_of};
+ghost use Rattle.tb_build.specs.Plan.{codes_of};
 ghost use Rattle.tb_build.specs.TableView.{rows_at, tables_view, IsParted, IsTableOf};
 ghost use Rattle.tb_build.specs.Packed.{cut_of, key_rows, starts_at, AreAsked, IsAsked};
 ghost use Rattle.std.specs.List.{range_with_len};
@@ -188,7 +189,7 @@ pub struct Built {
 }
 
 impl Model for Built {
-    ghost use Rattle.tb_build.specs.Plan.{BuiltView};
+    ghost use Rattle.tb_build.specs.Promise.Plan.{BuiltView};
 
     ghost Value = { BuiltView };
 

@@ -3,7 +3,7 @@ use Rattle.std.proofs.Common.{arith, ℕ, ◌≡◌, ◌≤◌, ◌<◌, ◌+◌
 use Rattle.std.specs.Prelude.{◌⊎◌, if◌then◌else◌, is_none, is_some}
 use Rattle.std.specs.List.{list_any, prefix_len}
 use Rattle.std.proofs.lemmas.List.{drop-append-le, drop-map, length-map, map-append, take-append-le, take-map}
-use Rattle.tb_value.specs.Datum.{Datum}
+use Rattle.tb_value.specs.Promise.Datum.{Datum}
 use Rattle.tb_cell.specs.Shown.{block_len, or_null}
 
 no_more : {X : Type 0} (xs : List X) → length xs ≡ 0 → xs ≡ []

@@ -2,11 +2,11 @@
 use Rattle.std.proofs.Common.{◌≡◌, List, refl, ap, subst}
 use Rattle.std.specs.List.{All}
 use Rattle.std.proofs.lemmas.List.Elements.{All-weaker}
-use Rattle.tb_value.specs.Datum.{Datum}
-use Rattle.tb_value.specs.Datum as value
-use Rattle.tb_value.specs.Kind.{Kind}
-use Rattle.tb_value.specs.Kind as kind
-use Rattle.tb_value.specs.Typed.{HasType, IsListOf, IsStructOf, ends}
+use Rattle.tb_value.specs.Promise.Datum.{Datum}
+use Rattle.tb_value.specs.Promise.Datum as value
+use Rattle.tb_value.specs.Promise.Kind.{Kind}
+use Rattle.tb_value.specs.Promise.Kind as kind
+use Rattle.tb_value.specs.Promise.Typed.{HasType, IsListOf, IsStructOf, ends}
 use Rattle.tb_cell.specs.Physical.{physical}
 use Rattle.tb_cell.specs.Fits.{Fits}
 

@@ -6,11 +6,12 @@ use Rattle.std.specs.List.{All}
 use Rattle.std.specs.Prelude.{IsSorted as IsInOrder}
 use Rattle.std.specs.Ordering.{flip_args}
 use Rattle.std.specs.declared.cmp.Ordering.{Ordering}
-use Rattle.tb_value.specs.Datum.{Datum, is_null, is_present}
-use Rattle.tb_value.specs.Kind.{Kind}
+use Rattle.tb_value.specs.Promise.Datum.{Datum, is_null, is_present}
+use Rattle.tb_value.specs.Promise.Kind.{Kind}
 use Rattle.tb_value.specs.declared.sorted.IsSorted.{IsSorted}
 use Rattle.tb_value.specs.declared.sorted.IsSorted.TheVariants.{Ascending, Descending, Not}
-use Rattle.tb_cell.specs.Flag.{datum_cmp, present_values, nulls, HasNullsAtOneEnd, IsOrdered, FlagHolds}
+use Rattle.tb_cell.specs.Promise.Flag.{datum_cmp, nulls}
+use Rattle.tb_cell.specs.Flag.{present_values, HasNullsAtOneEnd, IsOrdered, FlagHolds}
 use Rattle.tb_cell.proofs.Parts.{drop_two, take_two}
 
 -- values that are all null, and values of which none is

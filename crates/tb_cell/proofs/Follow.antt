@@ -6,12 +6,13 @@ use Rattle.std.proofs.lemmas.List.Filters.{length-filter_both}
 use Rattle.std.specs.Prelude.{IsSorted as IsInOrder}
 use Rattle.std.specs.Ordering.{is_lt}
 use Rattle.std.specs.declared.cmp.Ordering.{Ordering}
-use Rattle.tb_value.specs.Datum.{Datum, is_null, is_present}
-use Rattle.tb_value.specs.Datum as value
-use Rattle.tb_value.specs.Kind.{Kind}
-use Rattle.tb_value.specs.SameKind.{is_key}
-use Rattle.tb_cell.specs.Order.{order_of, may_follow, last_in_order, keeps_order}
-use Rattle.tb_cell.specs.Flag.{present_values, nulls, HasNullsAtOneEnd, IsOrdered}
+use Rattle.tb_value.specs.Promise.Datum.{Datum, is_null, is_present}
+use Rattle.tb_value.specs.Promise.Datum as value
+use Rattle.tb_value.specs.Promise.Kind.{Kind}
+use Rattle.tb_value.specs.Promise.SameKind.{is_key}
+use Rattle.tb_cell.specs.Promise.Order.{order_of, may_follow, last_in_order, keeps_order}
+use Rattle.tb_cell.specs.Promise.Flag.{nulls}
+use Rattle.tb_cell.specs.Flag.{present_values, HasNullsAtOneEnd, IsOrdered}
 use Rattle.tb_cell.proofs.Flags.{AreNull, ArePresent, not_true, present_of_nulls, nulls_of_nulls, present_of_present, nulls_of_present, in_order_drop}
 use Rattle.tb_cell.proofs.Nulls.{nulls_at_most}
 use Rattle.tb_cell.proofs.Parts.{part_of_two}

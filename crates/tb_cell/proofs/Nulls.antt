@@ -4,10 +4,10 @@ use Rattle.std.proofs.lemmas.List.Elements.{filter-append}
 use Rattle.std.proofs.lemmas.List.Sums.{length-filter, count_by-le-length}
 use Rattle.std.specs.List.{count_by}
 use Rattle.std.specs.Prelude.{filter, is_none}
-use Rattle.tb_value.specs.Datum.{Datum, null, is_null}
+use Rattle.tb_value.specs.Promise.Datum.{Datum, null, is_null}
 use Rattle.tb_value.proofs.Unique.{count_by-cons}
 use Rattle.tb_cell.specs.Shown.{or_null}
-use Rattle.tb_cell.specs.Flag.{nulls}
+use Rattle.tb_cell.specs.Promise.Flag.{nulls}
 
 pub nulls_of_replicated : (n : ℕ) → length (nulls (replicate n null)) ≡ n
 nulls_of_replicated zero = refl

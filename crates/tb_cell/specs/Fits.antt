@@ -1,8 +1,8 @@
 -- Which values a chunk can hold.
-use Rattle.tb_value.specs.Datum.{Datum}
-use Rattle.tb_value.specs.Datum as value
-use Rattle.tb_value.specs.Kind.{Kind}
-use Rattle.tb_value.specs.Typed.{HasType, IsListOf, IsStructOf}
+use Rattle.tb_value.specs.Promise.Datum.{Datum}
+use Rattle.tb_value.specs.Promise.Datum as value
+use Rattle.tb_value.specs.Promise.Kind.{Kind}
+use Rattle.tb_value.specs.Promise.Typed.{HasType, IsListOf, IsStructOf}
 
 -- a chunk of a physical type holds the values of that type, and any list or any struct
 abbrev pub Fits : Kind → Datum → Type 0

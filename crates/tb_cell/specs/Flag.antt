@@ -1,30 +1,18 @@
 -- When the flag of a column is true of its values.
 use Rattle.std.specs.Prelude.{◌≡◌, ◌⊎◌, ◌++◌, List, filter, IsTrue}
 use Rattle.std.specs.Prelude.{IsSorted as IsInOrder}
-use Rattle.std.specs.Cmp.Lexicographic.{slice_cmp}
-use Rattle.std.specs.Ordering.{nat_cmp, int_cmp, bool_cmp, flip_args}
+use Rattle.std.specs.Ordering.{flip_args}
 use Rattle.std.specs.declared.cmp.Ordering.{Ordering}
-use Rattle.std.specs.declared.cmp.Ordering.TheVariants.{Equal}
-use Rattle.tb_value.specs.Datum.{Datum, boolean, int, string, binary, is_null, is_present}
-use Rattle.tb_value.specs.Kind.{Kind}
-use Rattle.tb_value.specs.SameKind.{is_key}
+use Rattle.tb_value.specs.Promise.Datum.{Datum, is_present}
+use Rattle.tb_value.specs.Promise.Kind.{Kind}
+use Rattle.tb_value.specs.Promise.SameKind.{is_key}
 use Rattle.tb_value.specs.declared.sorted.IsSorted.{IsSorted}
 use Rattle.tb_value.specs.declared.sorted.IsSorted.TheVariants.{Ascending, Descending, Not}
-
--- numbers as numbers, false before true, texts and bytes by their bytes
-abbrev pub datum_cmp : Datum → Datum → Ordering
-datum_cmp (boolean a) (boolean b) = bool_cmp a b
-datum_cmp (int a) (int b) = int_cmp a b
-datum_cmp (string a) (string b) = slice_cmp nat_cmp a b
-datum_cmp (binary a) (binary b) = slice_cmp nat_cmp a b
-datum_cmp _ _ = Equal
+use Rattle.tb_cell.specs.Promise.Flag.{datum_cmp, nulls}
 
 -- the values that are present, and the nulls
 abbrev pub present_values : List Datum → List Datum
 present_values = filter is_present
-
-abbrev pub nulls : List Datum → List Datum
-nulls = filter is_null
 
 -- the nulls stand all first, or all last
 abbrev pub HasNullsAtOneEnd : List Datum → Type 0

@@ -1,6 +1,6 @@
 pub mod Fits
 pub mod Flag
-pub mod Order
 pub mod Physical
 pub mod Shown
 pub mod Window
+pub mod Promise

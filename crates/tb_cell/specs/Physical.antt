@@ -1,6 +1,6 @@
 -- The types by which values are stored, and `Physical`, which names them.
-use Rattle.tb_value.specs.Kind.{Kind}
-use Rattle.tb_value.specs.Kind as kind
+use Rattle.tb_value.specs.Promise.Kind.{Kind}
+use Rattle.tb_value.specs.Promise.Kind as kind
 use Rattle.tb_cell.specs.declared.marker.Physical.{Physical}
 use Rattle.tb_cell.specs.declared.marker.Physical.TheVariants as the
 

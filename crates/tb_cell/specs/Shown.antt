@@ -1,7 +1,7 @@
 -- What contracts see of optional values.
 use Rattle.std.specs.Prelude.{◌+◌, ◌-◌, ℕ, List, Option, Some, None, is_some, min}
 use Rattle.std.specs.List.{prefix_len}
-use Rattle.tb_value.specs.Datum.{Datum, null}
+use Rattle.tb_value.specs.Promise.Datum.{Datum, null}
 
 -- an optional value, Null where there is none
 abbrev pub or_null : {N : Type 0} → (N → Datum) → Option N → Datum

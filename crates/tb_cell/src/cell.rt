@@ -1,11 +1,11 @@
 //! A value as a typed column stores it.
 ghost use Rattle.std.specs.Prelude.{◌≡◌, ◌≢◌, ◌+◌, ◌++◌, ◌≤◌, IfOk, OnOk, None, false, length, map, pos, refl};
-ghost use Rattle.tb_value.specs.Datum.{Datum, null, boolean, int, list, struct, items_of, is_null};
-ghost use Rattle.tb_value.specs.Kind.{Kind};
-ghost use Rattle.tb_value.specs.Kind as kinds;
+ghost use Rattle.tb_value.specs.Promise.Datum.{Datum, null, boolean, int, list, struct, items_of, is_null};
+ghost use Rattle.tb_value.specs.Promise.Kind.{Kind};
+ghost use Rattle.tb_value.specs.Promise.Kind as kinds;
 ghost use Rattle.tb_value.specs.See.{datum, lent_value, IsText};
 ghost use Rattle.tb_cell.specs.Fits.{Fits};
-ghost use Rattle.tb_value.specs.Texts.{text_of};
+ghost use Rattle.tb_value.specs.Promise.Texts.{text_of};
 
 use std::alloc::Global;
 use tb_value::{AnyValue, OutOfMemory, ValueRef, Values};

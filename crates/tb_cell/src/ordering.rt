@@ -1,8 +1,8 @@
 //! How values compare, and which may stand behind which.
 ghost use Rattle.std.specs.Prelude.{◌≡◌};
 ghost use Rattle.tb_value.specs.See.{lent_value};
-ghost use Rattle.tb_cell.specs.Flag.{datum_cmp};
-ghost use Rattle.tb_cell.specs.Order.{may_follow, order_of};
+ghost use Rattle.tb_cell.specs.Promise.Flag.{datum_cmp};
+ghost use Rattle.tb_cell.specs.Promise.Order.{may_follow, order_of};
 
 use std::cmp::Ordering;
 use tb_value::ValueRef;

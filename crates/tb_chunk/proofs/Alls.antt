@@ -3,8 +3,8 @@ use Rattle.std.proofs.Common.{arith, [], ◌≡◌, ◌↔◌, ℕ, ◌<◌, ◌
 use Rattle.std.specs.List.{All}
 use Rattle.std.proofs.lemmas.List.Elements.{All-head, All-tail, All-cons, All-append}
 use Rattle.std.proofs.lemmas.List.{drop_all}
-use Rattle.tb_value.specs.Datum.{Datum, null}
-use Rattle.tb_chunk.specs.Col.{concatenation}
+use Rattle.tb_value.specs.Promise.Datum.{Datum, null}
+use Rattle.tb_chunk.specs.Promise.Col.{concatenation}
 use Rattle.tb_chunk.proofs.Lists.{flat_drop}
 
 pub all_next : {X : Type 0} (P : Datum → Type 0) (f : X → Datum) (xs : List X) (i : ℕ) (x : X) → i < length xs → x ≡ get_or xs i x → All P (map f (drop i xs)) ↔ (P (f x) × All P (map f (drop (i + 1) xs)))

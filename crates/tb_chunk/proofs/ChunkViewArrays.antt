@@ -1,7 +1,7 @@
 -- Facts on what the chunks of a column hold of texts.
 use Rattle.std.proofs.Common.{arith, ◌≤◌, ◌∙◌, ℕ, List, [], Option, None, length, map, replicate, sym, pos}
 use Rattle.std.proofs.lemmas.List.{length-map, length-replicate}
-use Rattle.tb_value.specs.Datum.{Datum, null, boolean, int, string, binary, list, struct, items_of}
+use Rattle.tb_value.specs.Promise.Datum.{Datum, null, boolean, int, string, binary, list, struct, items_of}
 use Rattle.tb_cell.specs.Shown.{or_null}
 use Rattle.tb_chunk.specs.Fresh.{no_views}
 use Rattle.tb_chunk.specs.ChunkViewArrays.{chunk_view_arrays}

@@ -3,16 +3,18 @@ use Rattle.std.proofs.Common.{arith, ◌≡◌, ◌≢◌, ℕ, zero, suc, ◌<�
 use Rattle.std.specs.Prelude.{if◌then◌else◌}
 use Rattle.std.specs.List.{All, zip}
 use Rattle.std.proofs.lemmas.List.Elements.{All-nil, All-cons, All-head, All-tail}
-use Rattle.tb_value.specs.Datum.{Datum, null, is_null}
+use Rattle.tb_value.specs.Promise.Datum.{Datum, null, is_null}
 use Rattle.tb_value.specs.See.{lent_value}
-use Rattle.tb_value.specs.Typed.{HasType}
+use Rattle.tb_value.specs.Promise.Typed.{HasType}
 use Rattle.tb_value.specs.declared.any_value.ValueRef.{ValueRef}
 use Rattle.tb_value.specs.declared.any_value.ValueRef.TheVariants as ref
 use Rattle.tb_value.specs.declared.sorted.IsSorted.TheVariants.{Not}
-use Rattle.tb_chunk.specs.Col.{Col, IsColumn, concatenation, values}
-use Rattle.tb_chunk.specs.Coalesced.{or_else, coalesced_values, coalesced_view_array}
+use Rattle.tb_chunk.specs.Promise.Col.{Col, concatenation, values}
+use Rattle.tb_chunk.specs.Col.{IsColumn}
+use Rattle.tb_chunk.specs.Promise.Coalesced.{or_else}
+use Rattle.tb_chunk.specs.Coalesced.{coalesced_values, coalesced_view_array}
 use Rattle.tb_view.specs.Moved.{moved_view}
-use Rattle.tb_view.specs.ViewArrays.{ViewArray}
+use Rattle.tb_view.specs.Promise.ViewArrays.{ViewArray}
 use Rattle.tb_view.specs.declared.view.View.{View}
 
 pub length-merged : (xs ys : List Datum) → length xs ≡ length ys → length (coalesced_values xs ys) ≡ length xs

@@ -4,16 +4,16 @@ use Rattle.std.specs.Prelude.{IfSome}
 use Rattle.std.specs.List.{All, fold}
 use Rattle.std.proofs.lemmas.Bool.{cases_lt}
 use Rattle.std.proofs.lemmas.List.Elements.{All-head, All-tail}
-use Rattle.tb_value.specs.Datum.{Datum}
-use Rattle.tb_value.specs.Datum as value
-use Rattle.tb_value.specs.Kind.{Kind}
-use Rattle.tb_value.specs.Typed.{HasType}
+use Rattle.tb_value.specs.Promise.Datum.{Datum}
+use Rattle.tb_value.specs.Promise.Datum as value
+use Rattle.tb_value.specs.Promise.Kind.{Kind}
+use Rattle.tb_value.specs.Promise.Typed.{HasType}
 use Rattle.tb_value.specs.declared.limits.TheConstants.{MAX_ROWS}
-use Rattle.tb_chunk.specs.Col.{concatenation}
-use Rattle.tb_chunk.specs.Fresh.{fresh_view_array, fresh_view_arrays}
-use Rattle.tb_view.specs.Layout.{Filling, with_text, buffers_of}
-use Rattle.tb_chunk.specs.Made.{at_least_one}
-use Rattle.tb_value.specs.Texts.{text_of}
+use Rattle.tb_chunk.specs.Promise.Col.{concatenation}
+use Rattle.tb_chunk.specs.Promise.Fresh.{fresh_view_array, fresh_view_arrays}
+use Rattle.tb_view.specs.Promise.Layout.{Filling, with_text, buffers_of}
+use Rattle.tb_chunk.specs.Promise.Made.{at_least_one}
+use Rattle.tb_value.specs.Promise.Texts.{text_of}
 use Rattle.tb_view.specs.ViewArrays.{HaveFewBuffers, all_buffers, view_arrays_of}
 use Rattle.tb_view.specs.declared.view.View.{View}
 use Rattle.tb_chunk.proofs.Alls.{all_split}

@@ -1,13 +1,14 @@
 -- Facts on the views and buffers of chunks that are made of values.
 use Rattle.std.proofs.Common.{◌≡◌, ◌∙◌, zero, suc, ℕ, List, [], ◌∷◌, Option, Some, None, map, replicate, refl, ap}
 use Rattle.std.specs.List.{fold}
-use Rattle.tb_value.specs.Datum.{Datum, null, string, binary}
+use Rattle.tb_value.specs.Promise.Datum.{Datum, null, string, binary}
 use Rattle.tb_value.specs.See.{datum, data_of}
 use Rattle.tb_value.specs.declared.any_value.AnyValue.{AnyValue}
 use Rattle.tb_cell.specs.Shown.{or_null}
-use Rattle.tb_view.specs.Layout.{Filling, with_text, buffers_of, next_views, text_view_array}
-use Rattle.tb_chunk.specs.Fresh.{fresh_view_array, no_views}
-use Rattle.tb_value.specs.Texts.{text_of}
+use Rattle.tb_view.specs.Promise.Layout.{Filling, with_text, buffers_of, next_views, text_view_array}
+use Rattle.tb_chunk.specs.Promise.Fresh.{fresh_view_array}
+use Rattle.tb_chunk.specs.Fresh.{no_views}
+use Rattle.tb_value.specs.Promise.Texts.{text_of}
 
 -- rows without a text have no view, and nothing is put for them
 no_view : {N : Type 0} (s : Filling) (xs : List N) → next_views s (map (λ _. None) xs) ≡ map (λ _. None) xs

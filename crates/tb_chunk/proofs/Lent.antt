@@ -2,7 +2,7 @@
 use Rattle.std.proofs.Common.{◌≡◌, ◌<◌, ℕ, List, length, get_or, Bor, subst, arith, ap, sym, ◌∙◌}
 use Rattle.std.specs.List.{All}
 use Rattle.std.proofs.lemmas.List.{length-map, get_or-map}
-use Rattle.tb_chunk.specs.Col.{Col}
+use Rattle.tb_chunk.specs.Promise.Col.{Col}
 use Rattle.tb_chunk.specs.Lent.{lent_columns}
 
 module _ (rs : List (Bor Col)) (n : ℕ) (r : Bor Col) (low : n < length rs) (is : r ≡ get_or rs n r) where

@@ -1,8 +1,8 @@
 -- How many nulls there are in lists that stand one after another.
 use Rattle.std.proofs.Common.{◌≡◌, ◌∙◌, ◌+◌, ℕ, ◌<◌, List, length, map, ap, get_or, drop}
-use Rattle.tb_value.specs.Datum.{Datum}
-use Rattle.tb_chunk.specs.Col.{concatenation}
-use Rattle.tb_cell.specs.Flag.{nulls}
+use Rattle.tb_value.specs.Promise.Datum.{Datum}
+use Rattle.tb_chunk.specs.Promise.Col.{concatenation}
+use Rattle.tb_cell.specs.Promise.Flag.{nulls}
 use Rattle.tb_cell.proofs.Nulls.{nulls_two}
 use Rattle.tb_chunk.proofs.Lists.{flat_drop}
 

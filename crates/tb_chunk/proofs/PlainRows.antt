@@ -4,7 +4,7 @@ use Rattle.std.specs.List.{All}
 use Rattle.std.proofs.Math.Seq.{drop-nil, take-nil}
 use Rattle.std.proofs.lemmas.List.{drop-append-le, drop-map, drop-replicate, get_or-replicate, length-map, length-replicate, map-append, take-append-le, take-map, take-replicate}
 use Rattle.std.proofs.lemmas.List.Elements.{All-head, All-map, All-tail}
-use Rattle.tb_value.specs.Datum.{Datum, null}
+use Rattle.tb_value.specs.Promise.Datum.{Datum, null}
 use Rattle.tb_cell.specs.Shown.{or_null}
 use Rattle.tb_view.specs.Moved.{moved_view, number_from, view_at_number}
 use Rattle.tb_view.specs.declared.view.View.{View}

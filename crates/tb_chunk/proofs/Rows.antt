@@ -6,15 +6,16 @@ use Rattle.std.specs.Str.{IsUtf8}
 use Rattle.std.proofs.lemmas.Str.{IsUtf8-from_is_utf8, is_utf8-from_IsUtf8}
 use Rattle.std.proofs.lemmas.List.Sums.{length-filter}
 use Rattle.std.proofs.lemmas.List.Elements.{All-cons, All-nil, All-head, All-tail, All-get_or}
-use Rattle.tb_value.specs.Datum.{Datum, is_null, string, binary}
-use Rattle.tb_value.specs.Datum as value
-use Rattle.tb_value.specs.Kind as kind
+use Rattle.tb_value.specs.Promise.Datum.{Datum, is_null, string, binary}
+use Rattle.tb_value.specs.Promise.Datum as value
+use Rattle.tb_value.specs.Promise.Kind as kind
 use Rattle.tb_value.specs.See.{datum, data_of}
 use Rattle.tb_value.specs.declared.any_value.AnyValue.{AnyValue}
 use Rattle.tb_cell.specs.Shown.{or_null}
 use Rattle.tb_cell.specs.Fits.{Fits}
-use Rattle.tb_cell.specs.Flag.{nulls}
-use Rattle.tb_value.specs.Texts.{text_of, IsUtf8Row}
+use Rattle.tb_cell.specs.Promise.Flag.{nulls}
+use Rattle.tb_value.specs.Promise.Texts.{text_of}
+use Rattle.tb_value.specs.Texts.{IsUtf8Row}
 use Rattle.tb_view.specs.View.{texts}
 use Rattle.tb_view.specs.declared.view.View.{View}
 use Rattle.tb_chunk.proofs.Fresh.{texts_among}

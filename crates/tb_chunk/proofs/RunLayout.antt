@@ -5,20 +5,21 @@ use Rattle.std.proofs.lemmas.List.{append_assoc, flat_map_more, length-map, leng
 use Rattle.std.proofs.lemmas.List.Elements.{All-append, All-head, All-map, All-nil, All-replicate, All-tail, All-weaker}
 use Rattle.std.proofs.lemmas.List.Sums.{fold_push, sum_by-cons, sum_by-drop_more}
 use Rattle.tb_value.proofs.Counts.{sum_by-map}
-use Rattle.tb_value.specs.Datum.{Datum, null}
-use Rattle.tb_value.specs.Kind.{Kind}
-use Rattle.tb_value.specs.Kind as kind
+use Rattle.tb_value.specs.Promise.Datum.{Datum, null}
+use Rattle.tb_value.specs.Promise.Kind.{Kind}
+use Rattle.tb_value.specs.Promise.Kind as kind
 use Rattle.tb_value.specs.See.{datum, data_of}
-use Rattle.tb_value.specs.Typed.{HasType}
+use Rattle.tb_value.specs.Promise.Typed.{HasType}
 use Rattle.tb_value.specs.declared.any_value.AnyValue.{AnyValue}
 use Rattle.tb_cell.specs.Shown.{or_null}
 use Rattle.tb_cell.specs.Fits.{Fits}
 use Rattle.tb_chunk.specs.Fresh.{no_views}
 use Rattle.tb_chunk.specs.Made.{IsShort, IsTyped}
-use Rattle.tb_view.specs.Layout.{Building, buffers_of, building_of, with_nulls, with_rows}
+use Rattle.tb_view.specs.Promise.Layout.{buffers_of}
+use Rattle.tb_view.specs.Layout.{Building, building_of, with_nulls, with_rows}
 use Rattle.tb_chunk.specs.RunLayout.{AreFewRows, AreRunsOf, expansion, total_of}
 use Rattle.tb_view.specs.RunViews.{data_runs, laid_runs, run_building, text_runs, with_run}
-use Rattle.tb_value.specs.Texts.{text_of}
+use Rattle.tb_value.specs.Promise.Texts.{text_of}
 use Rattle.tb_view.specs.declared.view.View.{View}
 use Rattle.tb_chunk.proofs.Alls.{all_split}
 use Rattle.tb_view.proofs.Filled.{map-replicate}

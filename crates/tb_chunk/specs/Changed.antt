@@ -1,8 +1,8 @@
 -- What becomes of a column where rows of it are taken. Its chunks become one, and keep the buffers of all.
 use Rattle.std.specs.Prelude.{ℕ, ℤ, List, [], ◌∷◌, Option, Some, length, map, take, drop, slice_index_or}
-use Rattle.tb_value.specs.Datum.{null}
+use Rattle.tb_value.specs.Promise.Datum.{null}
 use Rattle.tb_value.specs.declared.sorted.IsSorted.TheVariants.{Not}
-use Rattle.tb_chunk.specs.Col.{Col, values}
+use Rattle.tb_chunk.specs.Promise.Col.{Col, values}
 use Rattle.tb_chunk.specs.Coalesced.{coalesced_values, coalesced_view_array}
 use Rattle.tb_chunk.specs.Rows.{value_or_null}
 use Rattle.tb_view.specs.ViewArrays.{picked_of, joined_view_array, window_of}

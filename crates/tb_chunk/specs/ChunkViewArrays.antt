@@ -1,7 +1,7 @@
 -- What the chunks of a column hold of texts.
 use Rattle.std.specs.Prelude.{List, [], None, map, replicate}
 use Rattle.tb_chunk.specs.Fresh.{no_views}
-use Rattle.tb_view.specs.ViewArrays.{ViewArray}
+use Rattle.tb_view.specs.Promise.ViewArrays.{ViewArray}
 use Rattle.tb_chunk.specs.declared.chunks.Chunks.{Chunks}
 use Rattle.tb_chunk.specs.declared.chunks.Chunks.TheVariants.{BooleanType, Int8Type, Int16Type, Int32Type, Int64Type, Int128Type, UInt8Type, UInt16Type, UInt32Type, UInt64Type, StringType, BinaryType, ListType, StructType, Null}
 

@@ -1,16 +1,13 @@
 -- Two lists of values, of which the second stands in where the first has none.
 use Rattle.std.specs.Prelude.{◌++◌, if◌then◌else◌, List, Option, length, map}
 use Rattle.std.specs.List.{zip}
-use Rattle.tb_value.specs.Datum.{Datum, is_null}
+use Rattle.tb_value.specs.Promise.Datum.{Datum, is_null}
 use Rattle.tb_view.specs.Moved.{moved_view}
-use Rattle.tb_view.specs.ViewArrays.{ViewArray}
+use Rattle.tb_view.specs.Promise.ViewArrays.{ViewArray}
 use Rattle.tb_view.specs.declared.view.View.{View}
+use Rattle.tb_chunk.specs.Promise.Coalesced.{or_else}
 
--- the first value, or the second where it is Null
-abbrev pub or_else : Datum → Datum → Datum
-or_else a b = (if is_null a then b else a)
-
--- the same place by place
+-- two lists place by place: the first value, or the second where the first is Null
 abbrev pub coalesced_values : List Datum → List Datum → List Datum
 coalesced_values xs ys = map (λ (p : Datum × Datum). or_else p.0 p.1) (zip xs ys)
 

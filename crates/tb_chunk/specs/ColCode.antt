@@ -1,14 +1,14 @@
 -- How the logic stores a column.
 use Rattle.std.specs.Prelude.{ℕ, List, Option, refl}
 use Rattle.std.specs.Coded.{Coded, code_by, coded×, coded_ℕ, coded_list, coded_option}
-use Rattle.tb_value.specs.Datum.{Datum}
+use Rattle.tb_value.specs.Promise.Datum.{Datum}
 use Rattle.tb_value.specs.Proved.DatumCode.{coded_data}
-use Rattle.tb_value.specs.Kind.{Kind}
+use Rattle.tb_value.specs.Promise.Kind.{Kind}
 use Rattle.tb_value.specs.Proved.KindCode.{coded_kind}
 use Rattle.tb_value.specs.declared.sorted.IsSorted.{IsSorted}
 use Rattle.tb_value.specs.contracts.sorted.IsSorted as sorted
-use Rattle.tb_chunk.specs.Col.{Col}
-use Rattle.tb_view.specs.ViewArrays.{ViewArray}
+use Rattle.tb_chunk.specs.Promise.Col.{Col}
+use Rattle.tb_view.specs.Promise.ViewArrays.{ViewArray}
 use Rattle.tb_view.specs.declared.view.View.{View}
 
 abbrev pub coded_view : Coded View

@@ -1,7 +1,7 @@
 -- Columns that are lent, and columns put into one chunk.
 use Rattle.std.specs.Prelude.{List, [], ◌∷◌, map}
 use Rattle.std.specs.Borrow.{Bor}
-use Rattle.tb_chunk.specs.Col.{Col, values}
+use Rattle.tb_chunk.specs.Promise.Col.{Col, values}
 use Rattle.tb_view.specs.ViewArrays.{joined_view_array}
 
 abbrev pub lent_columns : List (Bor Col) → List Col

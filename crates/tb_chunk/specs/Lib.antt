@@ -15,7 +15,7 @@ pub mod TextValues
 pub mod RunLayout
 pub use Rattle.tb_cell.specs.Fits
 pub use Rattle.tb_cell.specs.Flag
-pub use Rattle.tb_cell.specs.Order
+pub use Rattle.tb_cell.specs.Promise.Order
 pub use Rattle.tb_cell.specs.Physical
 pub use Rattle.tb_cell.specs.Window
 pub use Rattle.tb_view.specs.Held
@@ -23,3 +23,4 @@ pub use Rattle.tb_view.specs.Layout
 pub use Rattle.tb_view.specs.Moved
 pub use Rattle.tb_view.specs.View
 pub use Rattle.tb_view.specs.ViewArrays
+pub mod Promise

@@ -1,36 +1,28 @@
 -- What a column is that is made of lists of values.
-use Rattle.std.specs.Prelude.{◌≡◌, ◌≤◌, ℕ, List, [], ◌∷◌, length, map, Result, Ok, Err}
+use Rattle.std.specs.Prelude.{◌≡◌, ◌≤◌, ℕ, List, length, map, Result, Ok, Err}
 use Rattle.std.specs.List.{All}
-use Rattle.tb_value.specs.Datum.{Datum}
-use Rattle.tb_value.specs.Kind.{Kind}
+use Rattle.tb_value.specs.Promise.Datum.{Datum}
+use Rattle.tb_value.specs.Promise.Kind.{Kind}
 use Rattle.tb_value.specs.See.{data_of}
-use Rattle.tb_value.specs.Typed.{HasType}
+use Rattle.tb_value.specs.Promise.Typed.{HasType}
 use Rattle.tb_value.specs.declared.limits.TheConstants.{MAX_ROWS}
 use Rattle.tb_value.specs.declared.any_value.AnyValue.{AnyValue}
 use Rattle.std.specs.declared.vec.Vec.{Vec}
 use Rattle.std.specs.declared.alloc.Global.{Global}
-use Rattle.tb_chunk.specs.Col.{Col, concatenation}
+use Rattle.tb_chunk.specs.Promise.Col.{Col, concatenation}
 use Rattle.tb_cell.specs.Physical.{physical}
-use Rattle.tb_chunk.specs.Fresh.{fresh_view_arrays, or_one_view_array}
-use Rattle.tb_view.specs.ViewArrays.{ViewArray}
+use Rattle.tb_chunk.specs.Fresh.{or_one_view_array}
+use Rattle.tb_view.specs.Promise.ViewArrays.{ViewArray}
 use Rattle.tb_value.specs.declared.error.ComputeCause.TheVariants.{TooManyRows}
 use Rattle.tb_value.specs.declared.error.PolarsError.{PolarsError}
 use Rattle.tb_value.specs.declared.error.PolarsError.TheVariants.{ComputeError, SchemaMismatch, OutOfMemory}
 use Rattle.tb_value.specs.declared.sorted.IsSorted.{IsSorted}
 use Rattle.tb_value.specs.declared.sorted.IsSorted.TheVariants.{Not}
+use Rattle.tb_chunk.specs.Promise.Made.{at_least_one, fresh_column}
 
 -- the values of each list
 abbrev pub lists_of : List (Vec AnyValue Global) → List (List Datum)
 lists_of vs = map (λ v. data_of v.items) vs
-
--- no chunk at all makes one empty chunk
-abbrev pub at_least_one : List (List Datum) → List (List Datum)
-at_least_one [] = [] ∷ []
-at_least_one (c ∷ cs) = c ∷ cs
-
--- the column of this name, type, chunks and flag, made of values
-abbrev pub fresh_column : List ℕ → Kind → List (List Datum) → IsSorted → Col
-fresh_column n t cs f = record { name = n; kind = t; chunks = cs; flag = f; view_arrays = fresh_view_arrays cs }
 
 -- a column of this name, type, chunks and flag, wherever its texts stand
 abbrev pub IsOf : List ℕ → Kind → List (List Datum) → IsSorted → Col → Type 0

@@ -1,6 +1,6 @@
 -- Which values rows name.
 use Rattle.std.specs.Prelude.{◌<◌, ℕ, List, Option, Some, None, slice_index_or}
-use Rattle.tb_value.specs.Datum.{Datum, null}
+use Rattle.tb_value.specs.Promise.Datum.{Datum, null}
 
 -- none, or one of n rows
 abbrev pub IsRowOf : ℕ → Option ℕ → Type 0

@@ -1,22 +1,23 @@
 -- Runs: values, each with its count, which says how often it stands. What a chunk of them is.
 use Rattle.std.specs.Prelude.{◌≡◌, ◌≤◌, ℕ, List, [], ◌∷◌, Option, Some, None, Result, Ok, Err, zero, suc, map, replicate}
 use Rattle.std.specs.List.{All, flat_map, fold, sum_by}
-use Rattle.tb_value.specs.Datum.{Datum}
-use Rattle.tb_value.specs.Kind.{Kind}
+use Rattle.tb_value.specs.Promise.Datum.{Datum}
+use Rattle.tb_value.specs.Promise.Kind.{Kind}
 use Rattle.tb_value.specs.See.{datum}
-use Rattle.tb_value.specs.Typed.{HasType}
+use Rattle.tb_value.specs.Promise.Typed.{HasType}
 use Rattle.tb_value.specs.declared.any_value.AnyValue.{AnyValue}
 use Rattle.tb_value.specs.declared.error.PolarsError.{PolarsError}
 use Rattle.tb_value.specs.declared.limits.TheConstants.{MAX_ROWS}
 use Rattle.tb_value.specs.declared.sorted.IsSorted.TheVariants.{Not}
-use Rattle.tb_chunk.specs.Col.{Col}
+use Rattle.tb_chunk.specs.Promise.Col.{Col}
 pub use Rattle.tb_view.specs.RunViews.{data_runs, laid_runs, text_runs}
-use Rattle.tb_view.specs.Layout.{Building, buffers_of, building_of, with_nulls, with_rows}
+use Rattle.tb_view.specs.Promise.Layout.{buffers_of}
+use Rattle.tb_view.specs.Layout.{Building, building_of, with_nulls, with_rows}
 use Rattle.tb_chunk.specs.Made.{IsRefused}
 use Rattle.tb_chunk.specs.ChunkViewArrays.{chunk_view_arrays}
 use Rattle.tb_chunk.specs.Seen.{chunk_lists, storage}
-use Rattle.tb_value.specs.Texts.{text_of}
-use Rattle.tb_view.specs.ViewArrays.{ViewArray}
+use Rattle.tb_value.specs.Promise.Texts.{text_of}
+use Rattle.tb_view.specs.Promise.ViewArrays.{ViewArray}
 use Rattle.tb_chunk.specs.declared.chunks.Chunks.{Chunks}
 
 -- each value as often as its count says, in the order of the runs

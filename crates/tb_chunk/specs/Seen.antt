@@ -1,8 +1,8 @@
 -- What the chunks of a column show.
 use Rattle.std.specs.Prelude.{List, map, replicate, pos}
-use Rattle.tb_value.specs.Datum.{Datum, null, boolean, int, string, binary, list, struct, items_of}
-use Rattle.tb_value.specs.Kind.{Kind}
-use Rattle.tb_value.specs.Kind as kind
+use Rattle.tb_value.specs.Promise.Datum.{Datum, null, boolean, int, string, binary, list, struct, items_of}
+use Rattle.tb_value.specs.Promise.Kind.{Kind}
+use Rattle.tb_value.specs.Promise.Kind as kind
 use Rattle.tb_cell.specs.Shown.{or_null}
 use Rattle.tb_chunk.specs.ChunkTexts.{texts_of, bytes_of}
 use Rattle.tb_chunk.specs.declared.chunks.Chunks.{Chunks}

@@ -1,8 +1,8 @@
 -- The values of a column of texts or of bytes.
 use Rattle.std.specs.Prelude.{ℕ, List, Option, map}
-use Rattle.tb_value.specs.Datum.{Datum, binary, string}
-use Rattle.tb_value.specs.Kind.{Kind}
-use Rattle.tb_value.specs.Kind as kind
+use Rattle.tb_value.specs.Promise.Datum.{Datum, binary, string}
+use Rattle.tb_value.specs.Promise.Kind.{Kind}
+use Rattle.tb_value.specs.Promise.Kind as kind
 use Rattle.tb_cell.specs.Shown.{or_null}
 
 -- texts as values of type String, and as Binary of any other

@@ -2,9 +2,10 @@
 ghost use Rattle.std.specs.Prelude.{◌≡◌, ◌↔◌, IfOk, IsTrue, map};
 ghost use Rattle.std.specs.List.{All};
 ghost use Rattle.tb_value.specs.SeeKind.{kind_of};
-ghost use Rattle.tb_value.specs.Typed.{HasType};
+ghost use Rattle.tb_value.specs.Promise.Typed.{HasType};
 ghost use Rattle.tb_cell.specs.Physical.{physical};
-ghost use Rattle.tb_chunk.specs.Made.{at_least_one, IsTyped, IsShort};
+ghost use Rattle.tb_chunk.specs.Promise.Made.{at_least_one};
+ghost use Rattle.tb_chunk.specs.Made.{IsTyped, IsShort};
 ghost use Rattle.tb_cell.specs.Physical.{kind_for};
 ghost use Rattle.tb_chunk.specs.Fresh.{or_one_view_array};
 ghost use Rattle.tb_chunk.specs.ChunkViewArrays.{chunk_view_arrays};

@@ -2,12 +2,13 @@
 ghost use Rattle.std.specs.Prelude.{◌≡◌, ◌<◌, ◌^◌, [], IfOk, OnOk, OnErr, None, Some, length, map};
 ghost use Rattle.std.specs.Option.{option_map};
 ghost use Rattle.std.specs.List.{All};
-ghost use Rattle.tb_value.specs.Datum.{binary, string};
-ghost use Rattle.tb_value.specs.Kind as kind;
-ghost use Rattle.tb_value.specs.Typed.{HasType};
+ghost use Rattle.tb_value.specs.Promise.Datum.{binary, string};
+ghost use Rattle.tb_value.specs.Promise.Kind as kind;
+ghost use Rattle.tb_value.specs.Promise.Typed.{HasType};
 ghost use Rattle.tb_cell.specs.Shown.{or_null};
 ghost use Rattle.tb_chunk.specs.ChunkTexts.{bytes_of, texts_of};
-ghost use Rattle.tb_view.specs.Layout.{buffers_of, building_of, with_nulls, with_row, with_rows};
+ghost use Rattle.tb_view.specs.Promise.Layout.{buffers_of};
+ghost use Rattle.tb_view.specs.Layout.{building_of, with_nulls, with_row, with_rows};
 
 use crate::chunk::{Chunk, StringChunk};
 use crate::owned_chunks::BinaryChunk;
@@ -26,9 +27,9 @@ pub struct StringBuilder {
 impl Model for StringBuilder {
     ghost use Rattle.std.specs.Prelude.{map};
     ghost use Rattle.std.specs.List.{All};
-    ghost use Rattle.tb_value.specs.Datum.{string};
-    ghost use Rattle.tb_value.specs.Kind as kind;
-    ghost use Rattle.tb_value.specs.Typed.{HasType};
+    ghost use Rattle.tb_value.specs.Promise.Datum.{string};
+    ghost use Rattle.tb_value.specs.Promise.Kind as kind;
+    ghost use Rattle.tb_value.specs.Promise.Typed.{HasType};
     ghost use Rattle.tb_cell.specs.Shown.{or_null};
     ghost use Rattle.tb_view.specs.Layout.{Building};
 
@@ -117,9 +118,9 @@ pub struct BinaryBuilder {
 impl Model for BinaryBuilder {
     ghost use Rattle.std.specs.Prelude.{map};
     ghost use Rattle.std.specs.List.{All};
-    ghost use Rattle.tb_value.specs.Datum.{binary};
-    ghost use Rattle.tb_value.specs.Kind as kind;
-    ghost use Rattle.tb_value.specs.Typed.{HasType};
+    ghost use Rattle.tb_value.specs.Promise.Datum.{binary};
+    ghost use Rattle.tb_value.specs.Promise.Kind as kind;
+    ghost use Rattle.tb_value.specs.Promise.Typed.{HasType};
     ghost use Rattle.tb_cell.specs.Shown.{or_null};
     ghost use Rattle.tb_view.specs.Layout.{Building};
 

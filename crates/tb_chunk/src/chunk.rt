@@ -1,15 +1,15 @@
 //! A run of values of a column.
 ghost use Rattle.std.specs.Prelude.{◌≡◌, ◌<◌, ◌≤◌, ◌+◌, ◌^◌, ◌++◌, ◌∷◌, [], IfOk, IfSome, OnOk, OnErr, None, is_none, length, get_or, map, replicate, take, drop};
 ghost use Rattle.std.specs.List.{All, count_by};
-ghost use Rattle.tb_value.specs.Datum.{Datum, null, string};
-ghost use Rattle.tb_value.specs.Kind as kinds;
+ghost use Rattle.tb_value.specs.Promise.Datum.{Datum, null, string};
+ghost use Rattle.tb_value.specs.Promise.Kind as kinds;
 ghost use Rattle.tb_value.specs.See.{data_of, datum, lent_value, IsText};
 ghost use Rattle.tb_cell.specs.Shown.{or_null};
 ghost use Rattle.tb_cell.specs.Fits.{Fits};
-ghost use Rattle.tb_cell.specs.Flag.{nulls};
+ghost use Rattle.tb_cell.specs.Promise.Flag.{nulls};
 ghost use Rattle.tb_view.specs.Held.{StandsAt};
 ghost use Rattle.tb_view.specs.Moved.{view_at_number, used_buffer};
-ghost use Rattle.tb_chunk.specs.Fresh.{fresh_view_array};
+ghost use Rattle.tb_chunk.specs.Promise.Fresh.{fresh_view_array};
 ghost use Rattle.tb_value.specs.Texts.{IsUtf8Row};
 ghost use Rattle.tb_view.specs.View.{texts};
 ghost use Rattle.std.proofs.Common.{arith, rules};
@@ -26,7 +26,7 @@ use tb_view::ViewChunk;
 /// which has no view.
 pub trait Chunk: Drop {
     ghost use Rattle.std.specs.Prelude.{ℕ, List, Option};
-    ghost use Rattle.tb_value.specs.Kind.{Kind};
+    ghost use Rattle.tb_value.specs.Promise.Kind.{Kind};
     ghost use Rattle.tb_view.specs.declared.view.View.{View};
 
     ghost shown: { Self → List Datum };
@@ -242,8 +242,8 @@ impl Chunk for StringChunk {
     ghost use Rattle.std.proofs.Common.{rules};
     ghost use Rattle.std.proofs.lemmas.List.{length-map, length-replicate};
     ghost use Rattle.std.specs.Prelude.{map};
-    ghost use Rattle.tb_value.specs.Datum.{string};
-    ghost use Rattle.tb_value.specs.Kind as kinds;
+    ghost use Rattle.tb_value.specs.Promise.Datum.{string};
+    ghost use Rattle.tb_value.specs.Promise.Kind as kinds;
     ghost use Rattle.tb_cell.specs.Shown.{or_null};
     ghost use Rattle.tb_view.specs.View.{texts};
 

@@ -1,9 +1,9 @@
 //! The chunks of a column, by the type that they are stored as.
 ghost use Rattle.std.specs.Prelude.{◌≡◌, ◌<◌, ◌^◌, [], IfOk, length, get_or, map};
-ghost use Rattle.tb_value.specs.Datum.{null};
+ghost use Rattle.tb_value.specs.Promise.Datum.{null};
 ghost use Rattle.tb_value.specs.See.{lent_value, IsText};
-ghost use Rattle.tb_chunk.specs.Col.{concatenation};
-ghost use Rattle.tb_cell.specs.Flag.{nulls};
+ghost use Rattle.tb_chunk.specs.Promise.Col.{concatenation};
+ghost use Rattle.tb_cell.specs.Promise.Flag.{nulls};
 ghost use Rattle.tb_chunk.specs.ChunkViewArrays.{chunk_view_arrays};
 ghost use Rattle.tb_chunk.specs.Seen.{chunk_lists, storage};
 ghost use Rattle.tb_view.specs.ViewArrays.{AreViewed, view_arrays_of};

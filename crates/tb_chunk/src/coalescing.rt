@@ -1,6 +1,6 @@
 //! Columns made of two others, of which the second stands in where the first has no value.
 ghost use Rattle.std.specs.Prelude.{◌≡◌, ◌<◌, ◌^◌, ◌∷◌, ◌++◌, [], IfOk, get_or, length, map};
-ghost use Rattle.tb_chunk.specs.Col.{concatenation};
+ghost use Rattle.tb_chunk.specs.Promise.Col.{concatenation};
 ghost use Rattle.tb_chunk.specs.Coalesced.{coalesced_values, coalesced_view_array};
 ghost use Rattle.tb_chunk.specs.ChunkViewArrays.{chunk_view_arrays};
 ghost use Rattle.tb_chunk.specs.Seen.{chunk_lists, storage};

@@ -1,6 +1,6 @@
 //! Chunks made of the rows of others.
 ghost use Rattle.std.specs.Prelude.{◌≡◌, ◌<◌, ◌≤◌, ◌^◌, ◌+◌, ◌++◌, ◌∷◌, [], IfOk, OnOk, get_or, length, map, take, drop};
-ghost use Rattle.tb_chunk.specs.Col.{concatenation};
+ghost use Rattle.tb_chunk.specs.Promise.Col.{concatenation};
 ghost use Rattle.tb_view.specs.Held.{AreHeld};
 ghost use Rattle.tb_view.specs.Moved.{moved_view};
 ghost use Rattle.tb_chunk.specs.ChunkViewArrays.{chunk_view_arrays};

@@ -1,6 +1,6 @@
 //! Chunks that take up rows of others.
 ghost use Rattle.std.specs.Prelude.{◌≡◌, ◌<◌, ◌≤◌, ◌+◌, ◌^◌, ◌++◌, ◌∷◌, [], IfOk, OnOk, None, length, map, get_or, take, drop};
-ghost use Rattle.tb_value.specs.Datum.{null};
+ghost use Rattle.tb_value.specs.Promise.Datum.{null};
 ghost use Rattle.tb_view.specs.Held.{AreHeld};
 ghost use Rattle.tb_view.specs.Moved.{moved_view, number_from};
 ghost use Rattle.tb_view.specs.ViewArrays.{AreBases, all_buffers, view_arrays_of};

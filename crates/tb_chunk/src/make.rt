@@ -3,12 +3,13 @@ ghost use Rattle.std.specs.Prelude.{◌≡◌, ◌≤◌, ◌↔◌, IfOk, IsTru
 ghost use Rattle.std.specs.List.{All};
 ghost use Rattle.tb_value.specs.See.{data_of};
 ghost use Rattle.tb_value.specs.SeeKind.{kind_of};
-ghost use Rattle.tb_value.specs.Typed.{HasType};
-ghost use Rattle.tb_chunk.specs.Col.{concatenation};
+ghost use Rattle.tb_value.specs.Promise.Typed.{HasType};
+ghost use Rattle.tb_chunk.specs.Promise.Col.{concatenation};
 ghost use Rattle.tb_cell.specs.Physical.{physical};
 ghost use Rattle.tb_cell.specs.Fits.{Fits};
-ghost use Rattle.tb_chunk.specs.Made.{lists_of, at_least_one};
-ghost use Rattle.tb_chunk.specs.Fresh.{fresh_view_arrays};
+ghost use Rattle.tb_chunk.specs.Promise.Made.{at_least_one};
+ghost use Rattle.tb_chunk.specs.Made.{lists_of};
+ghost use Rattle.tb_chunk.specs.Promise.Fresh.{fresh_view_arrays};
 ghost use Rattle.tb_chunk.specs.ChunkViewArrays.{chunk_view_arrays};
 ghost use Rattle.tb_chunk.specs.Seen.{chunk_lists, storage};
 ghost use Rattle.tb_chunk.specs.Stored.{AreMade};

@@ -1,9 +1,9 @@
 //! Whether values ascend, or descend.
 ghost use Rattle.std.specs.Prelude.{◌≡◌, ◌<◌, ◌≤◌, ◌^◌, ◌+◌, if◌then◌else◌, is_some, option_map, length, get_or, map, take, drop};
-ghost use Rattle.tb_value.specs.Datum.{null, is_null};
+ghost use Rattle.tb_value.specs.Promise.Datum.{null, is_null};
 ghost use Rattle.tb_value.specs.See.{lent_value};
-ghost use Rattle.tb_cell.specs.Order.{last_in_order, keeps_order};
-ghost use Rattle.tb_chunk.specs.Col.{concatenation};
+ghost use Rattle.tb_cell.specs.Promise.Order.{last_in_order, keeps_order};
+ghost use Rattle.tb_chunk.specs.Promise.Col.{concatenation};
 ghost use Rattle.tb_chunk.specs.Seen.{chunk_lists};
 
 use crate::chunk::Chunk;
@@ -81,7 +81,7 @@ fn present_from<C: Chunk>(chunks: &[C], nulls: usize) -> usize
 }
 
 /// Whether the values that are present ascend, or descend, and the nulls stand at one end.
-#[tactic(auto, using(tb_cell::proofs::Nulls::nulls_at_most), unfolding(tb_cell::specs::Order::keeps_order))]
+#[tactic(auto, using(tb_cell::proofs::Nulls::nulls_at_most), unfolding(tb_cell::specs::Promise::Order::keeps_order))]
 pub fn keeps_order<C: Chunk>(chunks: &[C], descending: bool) -> bool
     requires { length (concatenation (map C.shown chunks.now)) < 2 ^ 64 }
     ensures { result ≡ keeps_order descending (concatenation (map C.shown chunks.now)) }

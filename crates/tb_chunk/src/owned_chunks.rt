@@ -2,8 +2,8 @@
 ghost use Rattle.std.specs.Prelude.{◌<◌, [], None, map};
 ghost use Rattle.std.proofs.Common.{arith, rules};
 ghost use Rattle.std.proofs.lemmas.List.{length-map, length-replicate};
-ghost use Rattle.tb_value.specs.Datum.{binary, list, struct, items_of};
-ghost use Rattle.tb_value.specs.Kind as kinds;
+ghost use Rattle.tb_value.specs.Promise.Datum.{binary, list, struct, items_of};
+ghost use Rattle.tb_value.specs.Promise.Kind as kinds;
 ghost use Rattle.tb_cell.specs.Shown.{or_null};
 ghost use Rattle.tb_view.specs.View.{texts};
 

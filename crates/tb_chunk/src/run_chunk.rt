@@ -1,10 +1,10 @@
 //! Chunks made of runs: values, each with a count that says how often it stands.
 ghost use Rattle.std.specs.Prelude.{◌≡◌, ◌↔◌, ◌<◌, ◌≤◌, ◌++◌, ◌∷◌, [], IfOk, OnOk, IsTrue, MatchOption, length, map, replicate};
 ghost use Rattle.std.specs.List.{All};
-ghost use Rattle.tb_value.specs.Datum.{Datum};
+ghost use Rattle.tb_value.specs.Promise.Datum.{Datum};
 ghost use Rattle.tb_value.specs.See.{data_of, datum};
 ghost use Rattle.tb_value.specs.SeeKind.{kind_of};
-ghost use Rattle.tb_value.specs.Typed.{HasType};
+ghost use Rattle.tb_value.specs.Promise.Typed.{HasType};
 ghost use Rattle.tb_cell.specs.Shown.{or_null};
 ghost use Rattle.tb_cell.specs.Physical.{physical};
 ghost use Rattle.tb_cell.specs.Fits.{Fits};

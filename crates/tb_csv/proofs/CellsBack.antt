@@ -13,19 +13,19 @@ use Rattle.std.proofs.lemmas.Int.{ints}
 use Rattle.std.proofs.Math.ListN.{get_or-append}
 use Rattle.std.proofs.lemmas.List.{length-append}
 use Rattle.std.proofs.lemmas.Str.Parse.{digit_from_value}
-use Rattle.tb_value.specs.Datum.{Datum}
-use Rattle.tb_value.specs.Datum as value
-use Rattle.tb_value.specs.Kind.{Kind, Parts}
-use Rattle.tb_value.specs.Kind as kind
-use Rattle.tb_value.specs.Typed.{HasType, IsListOf, IsStructOf, ends}
-use Rattle.tb_label.specs.Numerals.{are_digits, fits, is_digit, is_counting, is_whole, whole_in}
-use Rattle.tb_date.specs.Dates.{date_text, has_text, is_date, number_text}
+use Rattle.tb_value.specs.Promise.Datum.{Datum}
+use Rattle.tb_value.specs.Promise.Datum as value
+use Rattle.tb_value.specs.Promise.Kind.{Kind, Parts}
+use Rattle.tb_value.specs.Promise.Kind as kind
+use Rattle.tb_value.specs.Promise.Typed.{HasType, IsListOf, IsStructOf, ends}
+use Rattle.tb_label.specs.Promise.Numerals.{are_digits, fits, is_digit, is_counting, is_whole, whole_in}
+use Rattle.tb_date.specs.Promise.Dates.{date_text, has_text, is_date, number_text}
 use Rattle.tb_csv.specs.Laws.{IsPlain}
-use Rattle.tb_csv.specs.Records.{bytes_of}
-use Rattle.tb_csv.specs.Texts.{field_among, field_of, field_type}
+use Rattle.tb_csv.specs.Promise.Records.{bytes_of}
+use Rattle.tb_csv.specs.Promise.Texts.{field_among, field_of, field_type}
 use Rattle.tb_date.proofs.DateTexts.{date_is_text}
 use Rattle.tb_date.proofs.DatesBack.{date_back}
-use Rattle.tb_csv.specs.Types.{cell_value, empty_value, field_value, is_within, kind_at, or_string, ranged_number}
+use Rattle.tb_csv.specs.Promise.Types.{cell_value, empty_value, field_value, is_within, kind_at, or_string, ranged_number}
 use Rattle.tb_csv.specs.declared.field_type.FieldType.{FieldType}
 use Rattle.tb_csv.specs.declared.field_type.FieldType.TheVariants as field
 

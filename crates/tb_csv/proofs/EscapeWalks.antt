@@ -3,7 +3,7 @@ use Rattle.std.proofs.Common.{◌≡◌, ◌≢◌, ◌<◌, ◌≤◌, ◌+◌,
 use Rattle.std.proofs.lemmas.List.{append-nil, take_all, take_more}
 use Rattle.csv.proofs.WriteFacts.{escaped-append, escaped-double, escaped-other}
 use Rattle.csv.specs.Writing.{escaped}
-use Rattle.tb_csv.specs.Texts.{style}
+use Rattle.tb_csv.specs.Promise.Texts.{style}
 
 pub escaped_none : (separator : ℕ) (xs : List ℕ) → xs ≡ xs ++ escaped (style separator) []
 unfolding escaped

@@ -5,13 +5,13 @@ use Rattle.std.proofs.lemmas.Bool.{cases_Bool}
 use Rattle.std.specs.List.{list_all}
 use Rattle.std.proofs.lemmas.List.{at_drop_more, map_more, map-append}
 use Rattle.std.proofs.lemmas.List.Folds.{list_all-map, list_all_at, list_all_more}
-use Rattle.tb_value.specs.Datum.{Datum, string}
-use Rattle.tb_value.specs.Names.{Name}
+use Rattle.tb_value.specs.Promise.Datum.{Datum, string}
+use Rattle.tb_value.specs.Promise.Names.{Name}
 use Rattle.tb_chunk.specs.Chunk.{or_null}
-use Rattle.tb_csv.specs.Faults.{column_fault}
+use Rattle.tb_csv.specs.Promise.Faults.{column_fault}
 use Rattle.tb_csv.specs.Read.{lent_field, lent_fields}
-use Rattle.tb_csv.specs.Records.{Field}
-use Rattle.tb_csv.specs.Types.{cell_of, cell_value, is_of, value_or_null}
+use Rattle.tb_csv.specs.Promise.Records.{Field}
+use Rattle.tb_csv.specs.Promise.Types.{cell_of, cell_value, is_of, value_or_null}
 use Rattle.tb_csv.specs.declared.fault.CsvFault.TheVariants.{NotOfType}
 use Rattle.tb_csv.specs.declared.field_type.FieldType.{FieldType}
 use Rattle.tb_csv.specs.declared.field_type.FieldType.TheVariants as field

@@ -8,7 +8,7 @@ use Rattle.csv.specs.declared.reader.Reader.{Reader}
 use Rattle.csv.specs.declared.reader.Trim.TheVariants as trim
 use Rattle.std.specs.Result.{IfOk, OnOk, MatchResult, IsErrAnd}
 use Rattle.tb_csv.specs.Left.{IsNext, Leaves, bytes_left}
-use Rattle.tb_csv.specs.Records.{Line}
+use Rattle.tb_csv.specs.Promise.Records.{Line}
 
 records-next : (cfg : Config) (n : ℕ) (o : Option Read) (fields : Line) (s : State) (z : List ℕ) → NextIs o true fields s z
     → records_next (records_from cfg n) o ≡ fields ∷ records_from cfg n s z

@@ -10,8 +10,8 @@ use Rattle.csv.specs.Reading.{default_config, records_from}
 use Rattle.csv.specs.Writing.{default_writer, escaped, needs_byte}
 use Rattle.csv.specs.declared.parser.State.{State}
 use Rattle.csv.specs.declared.parser.State.TheVariants as st
-use Rattle.tb_csv.specs.Records.{Field, Line, Record, bytes_of, field, line_of, marked_fields, marked_records, marks_from}
-use Rattle.tb_csv.specs.Texts.{field_text, line_text, record_text, records_text}
+use Rattle.tb_csv.specs.Promise.Records.{Field, Line, Record, bytes_of, field, line_of, marked_fields, marked_records, marks_from}
+use Rattle.tb_csv.specs.Promise.Texts.{field_text, line_text, record_text, records_text}
 
 -- a record whose line has a byte
 abbrev pub Shows : Record → Type 0

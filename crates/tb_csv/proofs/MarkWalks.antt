@@ -8,7 +8,7 @@ use Rattle.csv.specs.declared.parser.State.{State}
 use Rattle.csv.specs.Reading.{strip_bom}
 use Rattle.csv.specs.declared.parser.State.TheVariants as st
 use Rattle.tb_csv.specs.Places.{MarkAlike}
-use Rattle.tb_csv.specs.Records.{ends_field, form, is_quoted, marks_from, marks_of}
+use Rattle.tb_csv.specs.Promise.Records.{ends_field, form, is_quoted, marks_from, marks_of}
 
 one_step : (cfg : Config) (s : State) (c : ℕ) (rest : List ℕ) (e : Bool) → e ≡ ends_field (step cfg s c).1
     → marks_from cfg s (c ∷ rest) ≡ cond e (is_quoted s ∷ []) [] ++ marks_from cfg (step cfg s c).0 rest

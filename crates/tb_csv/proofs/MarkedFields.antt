@@ -3,7 +3,7 @@ use Rattle.std.proofs.Common.{◌≡◌, ◌<◌, ◌++◌, ◌∷◌, ◌∙◌
 use Rattle.std.specs.List.{All}
 use Rattle.std.proofs.lemmas.List.Elements.{All-cons, All-head, All-nil, All-tail}
 use Rattle.tb_csv.specs.Read.{all_fields}
-use Rattle.tb_csv.specs.Records.{Line, Record, bytes_of, field, line_of, marked_fields, marked_records}
+use Rattle.tb_csv.specs.Promise.Records.{Line, Record, bytes_of, field, line_of, marked_fields, marked_records}
 
 bytes_back : (q : Bool) (s : List ℕ) → bytes_of (field q s) ≡ s
 bytes_back true [] = refl

@@ -10,7 +10,7 @@ use Rattle.csv.specs.declared.parser.Config.{Config}
 use Rattle.csv.specs.declared.parser.State.{State}
 use Rattle.csv.specs.declared.parser.State.TheVariants as st
 use Rattle.tb_csv.specs.Read.{all_fields}
-use Rattle.tb_csv.specs.Records.{Line, ends_field, form, is_quoted, lines_of, marks_from, marks_of}
+use Rattle.tb_csv.specs.Promise.Records.{Line, ends_field, form, is_quoted, lines_of, marks_from, marks_of}
 
 -- WHERE A STEP LEADS
 

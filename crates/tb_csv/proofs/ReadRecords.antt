@@ -5,7 +5,7 @@ use Rattle.csv.specs.Records.{field_at, fields_of}
 use Rattle.tb_value.specs.declared.limits.TheConstants.{MAX_ROWS}
 use Rattle.tb_csv.specs.Places.{MarkAlike}
 use Rattle.tb_csv.specs.Read.{AreLines, IsRead, lent_field}
-use Rattle.tb_csv.specs.Records.{Line, field, line_of, lines_of, marked_fields, marked_records, marks_of, records_of}
+use Rattle.tb_csv.specs.Promise.Records.{Line, field, line_of, lines_of, marked_fields, marked_records, marks_of, records_of}
 use Rattle.tb_csv.specs.declared.records.Records.{Records}
 use Rattle.tb_csv.proofs.MarkedFields.{line_back, lines_back, marked_all, marked_at, marked_height, marked_level}
 use Rattle.tb_csv.proofs.RecordWalks.{found, place}

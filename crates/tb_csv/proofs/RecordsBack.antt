@@ -4,11 +4,11 @@ use Rattle.std.specs.List.{All}
 use Rattle.std.proofs.lemmas.List.{length-append}
 use Rattle.std.proofs.lemmas.List.Elements.{All-cons, All-nil}
 use Rattle.csv.specs.Reading.{strip_bom}
-use Rattle.tb_value.specs.Pairs.{row_numbers}
-use Rattle.tb_frame.specs.Table.{Table, height, names_of}
+use Rattle.tb_value.specs.Promise.Pairs.{row_numbers}
+use Rattle.tb_frame.specs.Promise.Table.{Table, height, names_of}
 use Rattle.tb_csv.specs.Laws.{comma}
-use Rattle.tb_csv.specs.Records.{Record, lines_of, marks_of, records_of}
-use Rattle.tb_csv.specs.Texts.{csv_text, line_text, no_column, record_text, records_text, row_fields, table_records}
+use Rattle.tb_csv.specs.Promise.Records.{Record, lines_of, marks_of, records_of}
+use Rattle.tb_csv.specs.Promise.Texts.{csv_text, line_text, no_column, record_text, records_text, row_fields, table_records}
 use Rattle.tb_csv.proofs.LinesBack.{Shows, lines_run, records_run}
 
 -- a record takes a byte at least

@@ -9,23 +9,23 @@ use Rattle.std.proofs.lemmas.List.Elements.{All-head, All-tail}
 use Rattle.std.proofs.lemmas.List.FromFn.{length-range_with_len}
 use Rattle.std.proofs.lemmas.Cmp.{nat_list_eq_equiv}
 use Rattle.std.proofs.lemmas.Slice.Eq.{bytes_eq-Decides}
-use Rattle.tb_value.specs.Datum.{Datum, null}
-use Rattle.tb_value.specs.Kind.{Kind}
-use Rattle.tb_value.specs.Kind as kind
-use Rattle.tb_value.specs.Names.{Name, same_name}
-use Rattle.tb_value.specs.Pairs.{row_numbers}
-use Rattle.tb_value.specs.Typed.{HasType}
+use Rattle.tb_value.specs.Promise.Datum.{Datum, null}
+use Rattle.tb_value.specs.Promise.Kind.{Kind}
+use Rattle.tb_value.specs.Promise.Kind as kind
+use Rattle.tb_value.specs.Promise.Names.{Name, same_name}
+use Rattle.tb_value.specs.Promise.Pairs.{row_numbers}
+use Rattle.tb_value.specs.Promise.Typed.{HasType}
 use Rattle.tb_value.specs.declared.limits.TheConstants.{MAX_ROWS}
-use Rattle.tb_frame.specs.Refusal.{name_at}
-use Rattle.tb_frame.specs.Table.{IsTyped, Table, TableColumn, height, names_of}
+use Rattle.tb_frame.specs.Promise.Refusal.{name_at}
+use Rattle.tb_frame.specs.Promise.Table.{IsTyped, Table, TableColumn, height, names_of}
 use Rattle.tb_frame.proofs.Causes.{unrepeated_names}
-use Rattle.tb_value.specs.Refusals.{first_cause, when}
-use Rattle.tb_csv.specs.Faults.{column_fault, columns_fault, csv_refusal, records_fault, repeated_name, rows_fault, typed_fault}
+use Rattle.tb_value.specs.Promise.Refusals.{first_cause, when}
+use Rattle.tb_csv.specs.Promise.Faults.{column_fault, columns_fault, csv_refusal, records_fault, repeated_name, rows_fault, typed_fault}
 use Rattle.tb_csv.specs.Laws.{IsPlain, IsTold, comma, types_of}
-use Rattle.tb_csv.specs.Records.{Field, Record, bytes_of, column_fields, is_text, line_of, records_of}
-use Rattle.tb_csv.specs.Tables.{csv_column, csv_columns, csv_table, typed_column}
-use Rattle.tb_csv.specs.Texts.{csv_text, field_among, field_type, no_column, no_text, row_fields}
-use Rattle.tb_csv.specs.Types.{cell_of, column_type, given_type, or_string, or_told, value_or_null}
+use Rattle.tb_csv.specs.Promise.Records.{Field, Record, bytes_of, column_fields, is_text, line_of, records_of}
+use Rattle.tb_csv.specs.Promise.Tables.{csv_column, csv_columns, csv_table, typed_column}
+use Rattle.tb_csv.specs.Promise.Texts.{csv_text, field_among, field_type, no_column, no_text, row_fields}
+use Rattle.tb_csv.specs.Promise.Types.{cell_of, column_type, given_type, or_string, or_told, value_or_null}
 use Rattle.tb_csv.specs.declared.fault.CsvFault.{CsvFault}
 use Rattle.tb_csv.specs.declared.fault.CsvFault.TheVariants.{NoText, NotUtf8, RepeatedName, TooManyRows}
 use Rattle.tb_csv.specs.declared.field_type.FieldType.{FieldType}

@@ -7,13 +7,14 @@ use Rattle.std.proofs.lemmas.List.FromFn.{map-range_with_len_more}
 use Rattle.std.specs.List.{All, find, flat_map}
 use Rattle.std.proofs.lemmas.List.{append-nil, length-map, map_more, length-take-le, take_all}
 use Rattle.std.proofs.lemmas.Grind.{flat_map-append}
-use Rattle.tb_value.specs.Datum.{null}
-use Rattle.tb_value.specs.Names.{Name}
-use Rattle.tb_value.specs.Pairs.{row_numbers}
-use Rattle.tb_chunk.specs.Col.{Col, values}
-use Rattle.tb_frame.specs.Table.{Table, TableColumn, height, names_of, plain_column, table_of}
-use Rattle.tb_csv.specs.Records.{Field, Record}
-use Rattle.tb_csv.specs.Texts.{csv_text, field_among, field_text, field_type, gap, line_text, no_column, no_text, record_text, records_text, row_fields}
+use Rattle.tb_value.specs.Promise.Datum.{null}
+use Rattle.tb_value.specs.Promise.Names.{Name}
+use Rattle.tb_value.specs.Promise.Pairs.{row_numbers}
+use Rattle.tb_chunk.specs.Promise.Col.{Col, values}
+use Rattle.tb_frame.specs.Promise.Table.{Table, TableColumn, height, names_of, plain_column, table_of}
+use Rattle.tb_csv.specs.Promise.Records.{Field, Record}
+use Rattle.tb_csv.specs.Promise.Texts.{csv_text, field_among, field_text, field_type, line_text, no_column, no_text, record_text, records_text, row_fields}
+use Rattle.tb_csv.specs.Texts.{gap}
 use Rattle.tb_csv.specs.declared.fault.CsvFault.TheVariants.{NoText}
 
 -- the field of a row of a column, among so many

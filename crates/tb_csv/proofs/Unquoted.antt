@@ -11,7 +11,7 @@ use Rattle.csv.specs.declared.parser.Action.{Action}
 use Rattle.csv.specs.declared.parser.State.{State}
 use Rattle.csv.specs.declared.parser.State.TheVariants as st
 use Rattle.tb_csv.specs.Places.{MarkAlike, has_mark, has_quote}
-use Rattle.tb_csv.specs.Records.{Line, ends_field, form, is_quoted, marked_fields, marks_from, marks_of}
+use Rattle.tb_csv.specs.Promise.Records.{Line, ends_field, form, is_quoted, marked_fields, marks_from, marks_of}
 
 -- states outside quotes
 abbrev outside : State → Bool

@@ -1,58 +1,9 @@
 -- Why a text is no table: the first cause that holds.
-use Rattle.std.specs.Prelude.{◌≡◌, ◌⊎◌, ◌+◌, ◌==◌, ℕ, Bool, not, nat_lt, List, [], ◌∷◌, length, map, Option, Some, None, if◌then◌else◌, Result, MatchResult}
-use Rattle.std.specs.Option.{option_map}
-use Rattle.tb_value.specs.Names.{Name}
-use Rattle.tb_value.specs.Pairs.{row_numbers}
-use Rattle.tb_value.specs.Refusals.{SettlesBut, first_cause, when}
-use Rattle.tb_value.specs.declared.limits.TheConstants.{MAX_ROWS}
-use Rattle.tb_frame.specs.Refusal.{first_repeated, name_at}
-use Rattle.tb_csv.specs.Records.{Field, Line, Record, column_fields, is_text, line_of}
-use Rattle.tb_csv.specs.Types.{column_type, is_of}
+use Rattle.std.specs.Prelude.{Option, Result}
+use Rattle.tb_value.specs.Promise.Refusals.{SettlesBut}
 use Rattle.tb_csv.specs.declared.fault.CsvFault.{CsvFault}
-use Rattle.tb_csv.specs.declared.fault.CsvFault.TheVariants.{Empty, NotUtf8, RepeatedName, FieldCount, TooManyRows, NotOfType, OutOfMemory}
-use Rattle.tb_csv.specs.declared.field_type.FieldType.{FieldType}
-use Rattle.tb_csv.specs.declared.options.TypeOf.{TypeOf}
+use Rattle.tb_csv.specs.declared.fault.CsvFault.TheVariants.{OutOfMemory}
 
 -- A call settles a fault: it passes exactly where there is none, and else refuses by it. Want of memory may come at any time.
 abbrev pub Settles : {T : Type 0} → Result T CsvFault → Option CsvFault → Type 0
 Settles r fault = SettlesBut OutOfMemory r fault
-
--- record i has another number of fields than there are names, or is not UTF-8
-abbrev pub row_fault : ℕ → ℕ → Line → Option CsvFault
-row_fault width i r = first_cause (when (not (length r == width)) (FieldCount i width (length r)) ∷ when (not (is_text r)) (NotUtf8 i) ∷ [])
-
--- the first fault of rows, of which the first is record i
-abbrev pub rows_fault : ℕ → ℕ → List Line → Option CsvFault
-rows_fault width i [] = None
-rows_fault width i (r ∷ rs) = first_cause (row_fault width i r ∷ rows_fault width (i + 1) rs ∷ [])
-
-abbrev pub repeated_name : List Name → Option CsvFault
-repeated_name names = option_map (λ n. RepeatedName n) (first_repeated names)
-
--- the first field of a column that is none of its type. The first field stands in record i
-abbrev pub column_fault : Name → FieldType → ℕ → List Field → Option CsvFault
-column_fault name t i [] = None
-column_fault name t i (f ∷ fs) = if is_of t f then column_fault name t (i + 1) fs else Some (NotOfType i name t)
-
--- names, rows and their number. The record of names is number 0
-abbrev pub records_fault : List Line → Option CsvFault
-records_fault [] = Some Empty
-records_fault (names ∷ rows) = first_cause
-    (when (not (is_text names)) (NotUtf8 0) ∷ repeated_name names ∷ rows_fault (length names) 1 rows
-    ∷ when (nat_lt MAX_ROWS (length rows)) TooManyRows ∷ [])
-
--- column j of the table
-abbrev pub typed_fault : List TypeOf → List Name → List Record → ℕ → Option CsvFault
-typed_fault types names rows j =
-    let fields = column_fields rows j in
-    let name = name_at names j in
-    column_fault name (column_type types name fields) 1 fields
-
--- the columns of these names, from the left
-abbrev pub columns_fault : List TypeOf → List Name → List Record → Option CsvFault
-columns_fault types names rows = first_cause (map (typed_fault types names rows) (row_numbers (length names)))
-
--- why records are no table
-abbrev pub csv_refusal : List TypeOf → List Record → Option CsvFault
-csv_refusal types [] = Some Empty
-csv_refusal types (names ∷ rows) = first_cause (records_fault (map line_of (names ∷ rows)) ∷ columns_fault types (line_of names) rows ∷ [])

@@ -2,19 +2,19 @@
 use Rattle.std.specs.Prelude.{◌≡◌, ◌≢◌, ◌≤◌, ⊤, ℕ, List, length, map, Some, None, is_none, true, false}
 use Rattle.std.specs.List.{All}
 use Rattle.csv.specs.Reading.{strip_bom}
-use Rattle.tb_value.specs.Datum.{Datum, int, null}
-use Rattle.tb_value.specs.Kind.{Kind}
-use Rattle.tb_value.specs.Kind as kind
-use Rattle.tb_value.specs.Typed.{HasType}
+use Rattle.tb_value.specs.Promise.Datum.{Datum, int, null}
+use Rattle.tb_value.specs.Promise.Kind.{Kind}
+use Rattle.tb_value.specs.Promise.Kind as kind
+use Rattle.tb_value.specs.Promise.Typed.{HasType}
 use Rattle.tb_value.specs.declared.limits.TheConstants.{MAX_ROWS}
-use Rattle.tb_frame.specs.Table.{IsTable, Table, TableColumn, height, names_of}
-use Rattle.tb_date.specs.Dates.{has_text, is_date}
-use Rattle.tb_csv.specs.Faults.{csv_refusal}
+use Rattle.tb_frame.specs.Promise.Table.{IsTable, Table, TableColumn, height, names_of}
+use Rattle.tb_date.specs.Promise.Dates.{has_text, is_date}
+use Rattle.tb_csv.specs.Promise.Faults.{csv_refusal}
 use Rattle.tb_csv.specs.Read.{all_fields}
-use Rattle.tb_csv.specs.Records.{is_text, line_of, lines_of, marks_of, records_of}
-use Rattle.tb_csv.specs.Tables.{csv_table}
-use Rattle.tb_csv.specs.Texts.{csv_text, field_among, field_type, no_column, table_records, text_refusal}
-use Rattle.tb_csv.specs.Types.{cell_value, or_string}
+use Rattle.tb_csv.specs.Promise.Records.{is_text, line_of, lines_of, marks_of, records_of}
+use Rattle.tb_csv.specs.Promise.Tables.{csv_table}
+use Rattle.tb_csv.specs.Promise.Texts.{csv_text, field_among, field_type, no_column, table_records, text_refusal}
+use Rattle.tb_csv.specs.Promise.Types.{cell_value, or_string}
 use Rattle.tb_csv.specs.declared.options.TypeOf.{TypeOf}
 
 abbrev pub comma : ℕ

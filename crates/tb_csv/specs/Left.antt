@@ -6,7 +6,7 @@ use Rattle.csv.specs.Reading.{Ready, reader_config, reader_state, reader_trim, r
 use Rattle.csv.specs.declared.parser.Config.{Config}
 use Rattle.csv.specs.declared.reader.Reader.{Reader}
 use Rattle.csv.specs.declared.reader.Trim.TheVariants as trim
-use Rattle.tb_csv.specs.Records.{Line}
+use Rattle.tb_csv.specs.Promise.Records.{Line}
 
 -- the bytes of a slice are known
 abbrev pub bytes_left : Bor (List ℕ) → Option (List ℕ)

@@ -1,9 +1,8 @@
 pub mod Types
-pub mod Records
 pub mod Faults
-pub mod Tables
 pub mod Texts
 pub mod Left
 pub mod Read
 pub mod Places
 pub mod Laws
+pub mod Promise

@@ -5,7 +5,7 @@ use Rattle.csv.specs.declared.parser.State.{State}
 use Rattle.csv.specs.declared.parser.State.TheVariants as st
 use Rattle.std.specs.List.{list_any}
 use Rattle.csv.specs.Reading.{is_bom}
-use Rattle.tb_csv.specs.Records.{Line, ends_field, marked_fields}
+use Rattle.tb_csv.specs.Promise.Records.{Line, ends_field, marked_fields}
 use Rattle.tb_csv.specs.declared.marks.Place.{Place}
 use Rattle.tb_csv.specs.declared.marks.Place.TheVariants as place
 

@@ -4,7 +4,7 @@ use Rattle.std.specs.Borrow.{Bor}
 use Rattle.std.specs.List.{All, flat_map}
 use Rattle.csv.specs.Records.{fields_of}
 use Rattle.tb_value.specs.declared.limits.TheConstants.{MAX_ROWS}
-use Rattle.tb_csv.specs.Records.{Field, Line, Record, line_of, marked_fields}
+use Rattle.tb_csv.specs.Promise.Records.{Field, Line, Record, line_of, marked_fields}
 use Rattle.tb_csv.specs.declared.lines.Lines.{Lines}
 use Rattle.tb_csv.specs.declared.records.Records.{Records}
 

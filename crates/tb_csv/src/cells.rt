@@ -1,16 +1,17 @@
 //! The fields of a column, read into typed chunks.
 ghost use Rattle.std.specs.Prelude.{◌≡◌, ◌∷◌, [], map, option_map, IfOk, IfSome};
 ghost use Rattle.std.specs.List.{All, list_all};
-ghost use Rattle.tb_value.specs.Datum.{string};
-ghost use Rattle.tb_value.specs.Kind.{Kind};
-ghost use Rattle.tb_value.specs.Kind as kind;
-ghost use Rattle.tb_value.specs.Typed.{HasType};
+ghost use Rattle.tb_value.specs.Promise.Datum.{string};
+ghost use Rattle.tb_value.specs.Promise.Kind.{Kind};
+ghost use Rattle.tb_value.specs.Promise.Kind as kind;
+ghost use Rattle.tb_value.specs.Promise.Typed.{HasType};
 ghost use Rattle.tb_chunk.specs.Chunk.{or_null};
 ghost use Rattle.tb_chunk.specs.Seen.{chunk_lists, storage};
-ghost use Rattle.tb_csv.specs.Faults.{Settles, column_fault};
+ghost use Rattle.tb_csv.specs.Promise.Faults.{column_fault};
+ghost use Rattle.tb_csv.specs.Faults.{Settles};
 ghost use Rattle.tb_chunk.specs.Col.{physical};
 ghost use Rattle.tb_csv.specs.Read.{lent_field, lent_fields};
-ghost use Rattle.tb_csv.specs.Types.{cell_of, cell_value, is_of, kind_at};
+ghost use Rattle.tb_csv.specs.Promise.Types.{cell_of, cell_value, is_of, kind_at};
 
 use crate::fault::CsvFault;
 use crate::field_type::FieldType;

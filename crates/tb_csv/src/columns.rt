@@ -2,12 +2,13 @@
 ghost use Rattle.std.specs.Prelude.{◌≡◌, ◌≤◌, ◌<◌, ◌*◌, List, length, IfOk};
 ghost use Rattle.csv.specs.Records.{fields_of};
 ghost use Rattle.tb_value.specs.declared.limits.TheConstants.{MAX_ROWS};
-ghost use Rattle.tb_frame.specs.Table.{plain_column, table_of};
-ghost use Rattle.tb_csv.specs.Faults.{Settles, column_fault, columns_fault, typed_fault};
+ghost use Rattle.tb_frame.specs.Promise.Table.{plain_column, table_of};
+ghost use Rattle.tb_csv.specs.Promise.Faults.{column_fault, columns_fault, typed_fault};
+ghost use Rattle.tb_csv.specs.Faults.{Settles};
 ghost use Rattle.tb_csv.specs.Read.{AreRows, lent_fields};
-ghost use Rattle.tb_csv.specs.Records.{Record};
-ghost use Rattle.tb_csv.specs.Tables.{csv_column, csv_columns, typed_column};
-ghost use Rattle.tb_csv.specs.Types.{column_type, given_type, told_type};
+ghost use Rattle.tb_csv.specs.Promise.Records.{Record};
+ghost use Rattle.tb_csv.specs.Promise.Tables.{csv_column, csv_columns, typed_column};
+ghost use Rattle.tb_csv.specs.Promise.Types.{column_type, given_type, told_type};
 
 use crate::cells::{are_of, read_chunk};
 use crate::fault::CsvFault;

@@ -1,8 +1,8 @@
 //! The types that fields are read as.
 ghost use Rattle.std.specs.Prelude.{◌≡◌};
 ghost use Rattle.tb_value.specs.SeeKind.{kind_of};
-ghost use Rattle.tb_csv.specs.Texts.{field_type};
-ghost use Rattle.tb_csv.specs.Types.{kind_at};
+ghost use Rattle.tb_csv.specs.Promise.Texts.{field_type};
+ghost use Rattle.tb_csv.specs.Promise.Types.{kind_at};
 
 use tb_value::DataType;
 

@@ -1,11 +1,12 @@
 //! Fields, read as values of a type.
 ghost use Rattle.std.specs.Prelude.{◌≡◌, false, option_map, refl, IfSome};
-ghost use Rattle.tb_value.specs.Datum.{Datum, boolean};
-ghost use Rattle.tb_value.specs.Kind.{Kind};
-ghost use Rattle.tb_value.specs.Kind as kind;
-ghost use Rattle.tb_value.specs.Typed.{HasType};
+ghost use Rattle.tb_value.specs.Promise.Datum.{Datum, boolean};
+ghost use Rattle.tb_value.specs.Promise.Kind.{Kind};
+ghost use Rattle.tb_value.specs.Promise.Kind as kind;
+ghost use Rattle.tb_value.specs.Promise.Typed.{HasType};
 ghost use Rattle.tb_chunk.specs.Col.{physical};
-ghost use Rattle.tb_csv.specs.Types.{field_value, is_string, kind_at, truth_in};
+ghost use Rattle.tb_csv.specs.Promise.Types.{field_value, kind_at, truth_in};
+ghost use Rattle.tb_csv.specs.Types.{is_string};
 
 use crate::field_type::FieldType;
 use tb_date::date_in;

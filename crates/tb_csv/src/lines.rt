@@ -3,11 +3,12 @@ ghost use Rattle.std.specs.Prelude.{◌≡◌, ◌≤◌, ◌*◌, ◌++◌, ℕ
 ghost use Rattle.std.specs.List.{list_all};
 ghost use Rattle.std.specs.Str.{is_utf8};
 ghost use Rattle.csv.specs.Records.{fields_of};
-ghost use Rattle.tb_value.specs.Refusals.{when};
-ghost use Rattle.tb_csv.specs.Faults.{Settles, records_fault, repeated_name, row_fault, rows_fault};
+ghost use Rattle.tb_value.specs.Promise.Refusals.{when};
+ghost use Rattle.tb_csv.specs.Promise.Faults.{records_fault, repeated_name, row_fault, rows_fault};
+ghost use Rattle.tb_csv.specs.Faults.{Settles};
 ghost use Rattle.tb_csv.specs.Left.{IsNext, Leaves};
 ghost use Rattle.tb_csv.specs.Read.{AreLines, all_fields};
-ghost use Rattle.tb_csv.specs.Records.{Line, form, is_text, lines_of};
+ghost use Rattle.tb_csv.specs.Promise.Records.{Line, form, is_text, lines_of};
 ghost use Rattle.tb_value.specs.declared.limits.TheConstants.{MAX_ROWS};
 ghost use Rattle.tb_csv.specs.declared.fault.CsvFault.TheVariants.{NotUtf8, TooManyRows};
 

@@ -4,7 +4,7 @@ ghost use Rattle.csv.specs.Machine as machine;
 ghost use Rattle.csv.specs.Reading.{strip_bom};
 ghost use Rattle.csv.specs.declared.parser.State.TheVariants as st;
 ghost use Rattle.tb_csv.specs.Places.{IsStep, MarkAlike, has_mark, has_quote, state_at};
-ghost use Rattle.tb_csv.specs.Records.{form, is_quoted, marks_from, marks_of};
+ghost use Rattle.tb_csv.specs.Promise.Records.{form, is_quoted, marks_from, marks_of};
 
 use memchr::memchr;
 use std::alloc::Global;

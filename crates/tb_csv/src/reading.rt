@@ -2,7 +2,7 @@
 ghost use Rattle.std.specs.Prelude.{◌+◌, ℕ, List, length, IfOk};
 ghost use Rattle.csv.specs.Records.{fields_of};
 ghost use Rattle.tb_csv.specs.Left.{IsNext, Leaves};
-ghost use Rattle.tb_csv.specs.Records.{Line, form, lines_of};
+ghost use Rattle.tb_csv.specs.Promise.Records.{Line, form, lines_of};
 
 use csv::{ByteRecord, Reader, ReaderBuilder};
 use std::alloc::Global;

@@ -1,9 +1,10 @@
 //! The names and the fields of a text.
 ghost use Rattle.std.specs.Prelude.{◌≡◌, ◌≤◌, ◌<◌, ◌*◌, List, drop, length, map, slice_index_or, false, IfOk};
 ghost use Rattle.csv.specs.Records.{fields_of};
-ghost use Rattle.tb_csv.specs.Faults.{Settles, records_fault};
+ghost use Rattle.tb_csv.specs.Promise.Faults.{records_fault};
+ghost use Rattle.tb_csv.specs.Faults.{Settles};
 ghost use Rattle.tb_csv.specs.Read.{AreRows, IsRead, lent_field, lent_fields};
-ghost use Rattle.tb_csv.specs.Records.{Record, column_fields, field, line_of, records_of};
+ghost use Rattle.tb_csv.specs.Promise.Records.{Record, column_fields, field, line_of, records_of};
 ghost use Rattle.tb_value.specs.declared.limits.TheConstants.{MAX_ROWS};
 
 use crate::fault::CsvFault;

@@ -1,9 +1,10 @@
 //! The table of a text.
 ghost use Rattle.std.specs.Prelude.{◌≡◌, IfOk};
-ghost use Rattle.tb_frame.specs.Table.{table_of};
-ghost use Rattle.tb_csv.specs.Faults.{Settles, csv_refusal};
-ghost use Rattle.tb_csv.specs.Records.{records_of};
-ghost use Rattle.tb_csv.specs.Tables.{csv_table};
+ghost use Rattle.tb_frame.specs.Promise.Table.{table_of};
+ghost use Rattle.tb_csv.specs.Promise.Faults.{csv_refusal};
+ghost use Rattle.tb_csv.specs.Faults.{Settles};
+ghost use Rattle.tb_csv.specs.Promise.Records.{records_of};
+ghost use Rattle.tb_csv.specs.Promise.Tables.{csv_table};
 
 use crate::columns::csv_columns;
 use crate::fault::CsvFault;

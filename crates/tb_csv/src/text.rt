@@ -3,14 +3,15 @@ ghost use Rattle.std.specs.Prelude.{◌≡◌, ◌++◌, ◌∷◌, ◌<◌, [],
 ghost use Rattle.std.specs.List.{All, find};
 ghost use Rattle.std.specs.Option.{option_copied};
 ghost use Rattle.csv.specs.Writing.{escaped, needs_quotes, quoted};
-ghost use Rattle.tb_value.specs.Pairs.{row_numbers};
+ghost use Rattle.tb_value.specs.Promise.Pairs.{row_numbers};
 ghost use Rattle.tb_value.specs.See.{lent_value};
 ghost use Rattle.tb_value.specs.SeeKind.{kind_of};
-ghost use Rattle.tb_chunk.specs.Col.{Col, values};
-ghost use Rattle.tb_frame.specs.Table.{height, names_of, table_of};
+ghost use Rattle.tb_chunk.specs.Promise.Col.{Col, values};
+ghost use Rattle.tb_frame.specs.Promise.Table.{height, names_of, table_of};
 ghost use Rattle.tb_csv.specs.Faults.{Settles};
-ghost use Rattle.tb_date.specs.Dates.{number_text};
-ghost use Rattle.tb_csv.specs.Texts.{csv_text, field_among, field_text, field_type, gap, record_text, records_text, row_fields, style, text_refusal};
+ghost use Rattle.tb_date.specs.Promise.Dates.{number_text};
+ghost use Rattle.tb_csv.specs.Promise.Texts.{csv_text, field_among, field_text, field_type, record_text, records_text, row_fields, style, text_refusal};
+ghost use Rattle.tb_csv.specs.Texts.{gap};
 
 use crate::fault::CsvFault;
 use crate::field_type::FieldType;

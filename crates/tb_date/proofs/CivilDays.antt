@@ -6,7 +6,7 @@ use Rattle.jiff_core.specs.Calendar.{IsDate, days_in_month, days_from_civil}
 use Rattle.jiff_core.proofs.SignedLemmas.{signed_arith}
 use Rattle.jiff_core.specs.Date.{epoch_day}
 use Rattle.jiff_core.specs.declared.civil.date.Date.{Date}
-use Rattle.tb_date.specs.Dates.{day_in, is_civil}
+use Rattle.tb_date.specs.Promise.Dates.{day_in, is_civil}
 
 pub is_civil_of : (y m d : ℕ) → 1 ≤ m → m ≤ 12 → 1 ≤ d → d ≤ days_in_month (pos y) m → is_civil y m d ≡ true
 is_civil_of y m d a b c e = grind (arith, nat_tests)

@@ -1,8 +1,8 @@
 -- Numbers, from their digits.
 use Rattle.std.proofs.Common.{◌≡◌, ℕ, ◌<◌, ◌+◌, ◌-◌, ◌*◌, ◌/◌, ◌%◌, ◌∷◌, [], true, arith, Some, ap}
 use Rattle.std.proofs.lemmas.Bool.Decides.{nat_tests}
-use Rattle.tb_label.specs.Numerals.{is_digit}
-use Rattle.tb_date.specs.Dates.{number_in, two_digits}
+use Rattle.tb_label.specs.Promise.Numerals.{is_digit}
+use Rattle.tb_date.specs.Promise.Dates.{number_in, two_digits}
 
 digit_is : (n : ℕ) → n < 10 → is_digit (48 + n) ≡ true
 digit_is n low = grind (arith, nat_tests)

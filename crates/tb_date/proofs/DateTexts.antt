@@ -4,7 +4,7 @@ use Rattle.std.specs.Str.{IsAscii, IsUtf8}
 use Rattle.std.proofs.lemmas.Str.{IsUtf8-from_ascii}
 use Rattle.std.proofs.lemmas.Str.Ascii.{IsAscii-cons}
 use Rattle.jiff_core.proofs.CalendarLemmas.{days_in_month_bounds}
-use Rattle.tb_date.specs.Dates.{civil_text, date_text, day_of, has_text, month_of, year_of}
+use Rattle.tb_date.specs.Promise.Dates.{civil_text, date_text, day_of, has_text, month_of, year_of}
 use Rattle.tb_date.proofs.DatesBack.{split}
 
 ascii_four : (a b c d : ℕ) (rest : List ℕ) → a < 128 → b < 128 → c < 128 → d < 128 → IsAscii rest → IsAscii (a ∷ b ∷ c ∷ d ∷ rest)

@@ -8,7 +8,7 @@ use Rattle.jiff_core.proofs.DateLemmas.{civil, epoch_day_injective}
 use Rattle.jiff_core.specs.Calendar.{IsEpochDay, day_count, days_from_civil, days_in_month}
 use Rattle.jiff_core.proofs.CalendarLemmas.{days_from_civil-day_count, day_count-next_month, day_count-next_year, day_count-day, day_count-day_of_year, day_count-end, day_count-later_year, day_count-lt_year, day_count-year_bounds, day_count_bounds, days_of_months_all, days_in_month_bounds}
 use Rattle.jiff_core.proofs.SignedLemmas.{signed_arith}
-use Rattle.tb_date.specs.Dates.{civil_text, date_in, date_text, day_in, day_of, has_text, month_of, year_of}
+use Rattle.tb_date.specs.Promise.Dates.{civil_text, date_in, date_text, day_in, day_of, has_text, month_of, year_of}
 use Rattle.tb_date.proofs.CivilDays.{is_civil_of}
 use Rattle.tb_date.proofs.DateDigits.{four_back, two_back}
 use Rattle.tb_date.proofs.FirstFound.{first_is}

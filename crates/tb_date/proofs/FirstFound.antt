@@ -1,7 +1,7 @@
 -- The first number that passes a test.
 use Rattle.std.proofs.Common.{◌≡◌, ℕ, zero, suc, ◌<◌, ◌≤◌, ◌+◌, Bool, true, false, refl, sym, subst, arith, ◌∙◌, inl, inr, ap}
 use Rattle.std.proofs.lemmas.Bool.{cases_eq}
-use Rattle.tb_date.specs.Dates.{first_that}
+use Rattle.tb_date.specs.Promise.Dates.{first_that}
 
 -- the number is the first from here that passes
 pub record IsFirst (p : ℕ → Bool) (from last k : ℕ) : Type 0 where

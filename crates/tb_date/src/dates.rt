@@ -2,7 +2,7 @@
 ghost use Rattle.std.specs.Prelude.{◌≡◌, ◌^◌, ◌<◌, ◌≤◌, length, true, false, Some, IfSome, MatchOption};
 ghost use Rattle.jiff_core.specs.Calendar.{IsEpochDay};
 ghost use Rattle.jiff_core.specs.Date.{epoch_day};
-ghost use Rattle.tb_date.specs.Dates.{civil_text, date_in, date_text, day_in, has_text, is_shaped, number_in, two_digits};
+ghost use Rattle.tb_date.specs.Promise.Dates.{civil_text, date_in, date_text, day_in, has_text, is_shaped, number_in, two_digits};
 
 use jiff_core::civil::Date;
 

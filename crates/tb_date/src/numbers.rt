@@ -2,7 +2,7 @@
 ghost use Rattle.std.specs.Prelude.{◌≡◌, true, IfOk};
 ghost use Rattle.jiff_core.specs.Date.{epoch_day};
 ghost use Rattle.tb_value.specs.SeeKind.{kind_of};
-ghost use Rattle.tb_date.specs.Dates.{date_text, has_text, is_date, number_text};
+ghost use Rattle.tb_date.specs.Promise.Dates.{date_text, has_text, is_date, number_text};
 
 use crate::dates::{date_text, dated};
 use jiff_core::civil::Date;

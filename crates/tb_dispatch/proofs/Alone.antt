@@ -4,18 +4,18 @@ use Rattle.std.specs.Prelude.{All, IsSorted, filter, unwrap_or, ℤ}
 use Rattle.std.proofs.lemmas.List.{nil_from_length}
 use Rattle.std.proofs.lemmas.List.Elements.{All-filter}
 use Rattle.std.proofs.lemmas.List.Sorted.{IsPermutation-refl}
-use Rattle.tb_value.specs.Pairs.{left_first, left_only, row_numbers}
+use Rattle.tb_value.specs.Promise.Pairs.{left_first, left_only, row_numbers}
 use Rattle.tb_value.specs.declared.index.JoinPair.{JoinPair}
 use Rattle.tb_value.specs.declared.sorted.IsSorted.TheVariants.{Ascending}
 use Rattle.tb_value.proofs.Ascending.{kept_ascend, left_met-sorted, left_unmet-sorted, pairs_from-Ascends_by}
 use Rattle.tb_value.proofs.Loops.{map-map}
-use Rattle.tb_chunk.specs.Col.{Col, values}
+use Rattle.tb_chunk.specs.Promise.Col.{Col, values}
 use Rattle.tb_chunk.specs.Rows.{value_or_null}
 use Rattle.tb_chunk.specs.ViewArrays.{view_or_none, joined_view_array}
 use Rattle.tb_frame.specs.Answer.{IsListed, fill}
 use Rattle.tb_frame.specs.Frame.{opt_taken_rows, taken_rows, without_names}
-use Rattle.tb_frame.specs.Join.{IsAnswer, IsOrdered, Request, cut, listing, out}
-use Rattle.tb_frame.specs.Table.{IsTable, Table, height, plain_column, table_of}
+use Rattle.tb_frame.specs.Promise.Join.{IsAnswer, IsOrdered, Request, cut, listing, out}
+use Rattle.tb_frame.specs.Promise.Table.{IsTable, Table, height, plain_column, table_of}
 use Rattle.tb_frame.specs.declared.args.MaintainOrderJoin.TheVariants as order
 use Rattle.tb_frame.proofs.Assembled.{makes_answer}
 use Rattle.tb_value.proofs.RowNumbers.{rows_below}

@@ -7,13 +7,13 @@ use Rattle.std.proofs.lemmas.Bool.{eqb-true}
 use Rattle.std.proofs.lemmas.List.{length-map}
 use Rattle.std.proofs.lemmas.List.Folds.{list_all-map}
 use Rattle.std.proofs.lemmas.List.Elements.{All-cons, All-nil}
-use Rattle.tb_value.specs.Kind.{Kind}
-use Rattle.tb_value.specs.Kind as kind
-use Rattle.tb_value.specs.Names.{Name}
-use Rattle.tb_value.specs.Pairs.{row_numbers}
-use Rattle.tb_value.specs.Refusals.{first_cause, when}
-use Rattle.tb_value.specs.Same.{agrees}
-use Rattle.tb_value.specs.SameKind.{is_key, same_kind}
+use Rattle.tb_value.specs.Promise.Kind.{Kind}
+use Rattle.tb_value.specs.Promise.Kind as kind
+use Rattle.tb_value.specs.Promise.Names.{Name}
+use Rattle.tb_value.specs.Promise.Pairs.{row_numbers}
+use Rattle.tb_value.specs.Promise.Refusals.{first_cause, when}
+use Rattle.tb_value.specs.Promise.Same.{agrees}
+use Rattle.tb_value.specs.Promise.SameKind.{is_key, same_kind}
 use Rattle.tb_value.specs.declared.error.ComputeCause.TheVariants.{KeyTypes, TooManyRows, Validation}
 use Rattle.tb_value.specs.declared.error.InvalidCause.TheVariants.{KeyKind}
 use Rattle.tb_value.specs.declared.error.PolarsError.{PolarsError}
@@ -21,14 +21,16 @@ use Rattle.tb_value.specs.declared.error.PolarsError.TheVariants.{ComputeError, 
 use Rattle.tb_value.specs.declared.error.Side.TheVariants as side
 use Rattle.tb_value.specs.declared.index.JoinPair.{JoinPair}
 use Rattle.tb_value.specs.declared.limits.TheConstants.{MAX_ROWS}
-use Rattle.tb_chunk.specs.Col.{Col, values}
+use Rattle.tb_chunk.specs.Promise.Col.{Col, values}
 use Rattle.tb_frame.specs.declared.args.JoinArgs.{JoinArgs}
 use Rattle.tb_frame.specs.declared.args.JoinType.{JoinType}
 use Rattle.tb_frame.specs.declared.args.JoinType.TheVariants.{Inner, Left, Right, Full, Semi, Anti}
-use Rattle.tb_frame.specs.Join.{IsAnswer, IsOrdered, CoalescesAlike, Request, field, flag_at, listing, listing_of}
+use Rattle.tb_frame.specs.Promise.Join.{IsAnswer, IsOrdered, Request, field, flag_at, listing, listing_of}
+use Rattle.tb_frame.specs.Join.{CoalescesAlike}
 use Rattle.tb_frame.specs.Sides.{asking}
-use Rattle.tb_frame.specs.Refusal.{asks_left, asks_right, broken_left, broken_right, column_causes, fits, given_refusal, has_twins, is_validated, key_kind, key_shapes, key_types, list_causes, name_causes, repeated_name, row_causes, too_many_rows}
-use Rattle.tb_frame.specs.Table.{Table, TableColumn, height, plain_column, table_of}
+use Rattle.tb_frame.specs.Promise.Refusal.{asks_left, asks_right, broken_left, broken_right, column_causes, has_twins, is_validated, key_kind, key_types, list_causes, name_causes, repeated_name, row_causes, too_many_rows}
+use Rattle.tb_frame.specs.Refusal.{fits, given_refusal, key_shapes}
+use Rattle.tb_frame.specs.Promise.Table.{Table, TableColumn, height, plain_column, table_of}
 use Rattle.tb_frame.proofs.Causes.{first_cause-one, no_cause}
 use Rattle.tb_keys.specs.Causes.{later_refusal}
 use Rattle.tb_keys.specs.Rows.{HasRows}

@@ -3,16 +3,17 @@ use Rattle.std.proofs.Common.{◌≡◌, ◌≤◌, ◌∙◌, ℕ, zero, suc, n
 use Rattle.std.specs.Prelude.{All, position, slice_get}
 use Rattle.std.specs.Option.{ForSome, option_map}
 use Rattle.std.proofs.lemmas.List.Elements.{All-filter, All-head, All-tail}
-use Rattle.tb_value.specs.Datum.{Datum}
-use Rattle.tb_value.specs.Names.{Name, same_name}
+use Rattle.tb_value.specs.Promise.Datum.{Datum}
+use Rattle.tb_value.specs.Promise.Names.{Name, same_name}
 use Rattle.tb_value.specs.declared.error.PolarsError.TheVariants.{ColumnNotFound}
-use Rattle.tb_chunk.specs.Col.{Col, values}
+use Rattle.tb_chunk.specs.Promise.Col.{Col, values}
 use Rattle.tb_chunk.specs.Coalesced.{coalesced_values}
 use Rattle.tb_chunk.proofs.CoalescedLists.{length-merged}
-use Rattle.tb_frame.specs.Frame.{frame_refusal, selected_columns, without_names}
-use Rattle.tb_frame.specs.Naming.{is_among}
-use Rattle.tb_frame.specs.Refusal.{first_repeated, unknown_key}
-use Rattle.tb_frame.specs.Table.{IsTable, height, names_of, table_of}
+use Rattle.tb_frame.specs.Promise.Frame.{selected_columns}
+use Rattle.tb_frame.specs.Frame.{frame_refusal, without_names}
+use Rattle.tb_frame.specs.Promise.Naming.{is_among}
+use Rattle.tb_frame.specs.Promise.Refusal.{first_repeated, unknown_key}
+use Rattle.tb_frame.specs.Promise.Table.{IsTable, height, names_of, table_of}
 use Rattle.tb_frame.proofs.Causes.{unrepeated_names}
 use Rattle.tb_frame.proofs.Frames.{IsTable-where, no_refusal, without-table}
 use Rattle.tb_frame.proofs.Selected.{selected-table}

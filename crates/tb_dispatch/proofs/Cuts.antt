@@ -8,7 +8,7 @@ use Rattle.tb_value.specs.declared.index.JoinPair.{JoinPair}
 use Rattle.tb_value.proofs.Ascending.{Ascends_by, Ascends_by-from_pairs}
 use Rattle.tb_chunk.specs.Window.{part_from, part_to, window}
 use Rattle.tb_frame.specs.Answer.{IsListed}
-use Rattle.tb_frame.specs.Join.{Request, cut, listing}
+use Rattle.tb_frame.specs.Promise.Join.{Request, cut, listing}
 use Rattle.tb_frame.proofs.Windows.{slice_window}
 use Rattle.tb_dispatch.specs.Rows.{Rise}
 

@@ -3,16 +3,16 @@ use Rattle.std.proofs.Common.{◌≡◌, ◌<◌, ◌+◌, Bool, true, false, co
 use Rattle.std.specs.Prelude.{IsTrue, filter}
 use Rattle.std.proofs.lemmas.List.{length-append, length-map}
 use Rattle.std.proofs.lemmas.List.Elements.{All-cons, All-nil}
-use Rattle.tb_value.specs.Kind.{Kind}
-use Rattle.tb_value.specs.Names.{Name}
-use Rattle.tb_value.specs.SameKind.{is_key}
-use Rattle.tb_chunk.specs.Col.{Col}
+use Rattle.tb_value.specs.Promise.Kind.{Kind}
+use Rattle.tb_value.specs.Promise.Names.{Name}
+use Rattle.tb_value.specs.Promise.SameKind.{is_key}
+use Rattle.tb_chunk.specs.Promise.Col.{Col}
 use Rattle.tb_frame.specs.declared.args.JoinArgs.{JoinArgs}
 use Rattle.tb_frame.specs.declared.args.JoinType.TheVariants.{Full}
-use Rattle.tb_frame.specs.Join.{Out, Request, kept_left_columns, left_out, listing, out, right_out, shown_right_columns}
-use Rattle.tb_frame.specs.Naming.{coalesces, is_among, shows_right}
+use Rattle.tb_frame.specs.Promise.Join.{Out, Request, kept_left_columns, left_out, listing, out, right_out, shown_right_columns}
+use Rattle.tb_frame.specs.Promise.Naming.{coalesces, is_among, shows_right}
 use Rattle.tb_frame.specs.Sides.{asking}
-use Rattle.tb_frame.specs.Table.{Table, TableColumn, names_of, plain_column, table_of}
+use Rattle.tb_frame.specs.Promise.Table.{Table, TableColumn, names_of, plain_column, table_of}
 use Rattle.tb_frame.proofs.Causes.{has_column}
 use Rattle.tb_frame.proofs.Outs.{out_wide}
 use Rattle.tb_join.specs.Ready.{CanCoalesceKeys}

@@ -3,11 +3,11 @@ use Rattle.std.proofs.Common.{◌≡◌, ◌∙◌, ℕ, List, [], ◌∷◌, le
 use Rattle.std.specs.Prelude.{All}
 use Rattle.std.proofs.lemmas.List.{map-append}
 use Rattle.std.proofs.lemmas.List.Elements.{All-append, All-cons, All-head, All-nil, All-tail}
-use Rattle.tb_value.specs.Names.{Name}
-use Rattle.tb_chunk.specs.Col.{Col}
+use Rattle.tb_value.specs.Promise.Names.{Name}
+use Rattle.tb_chunk.specs.Promise.Col.{Col}
 use Rattle.tb_frame.specs.Frame.{frame_refusal}
-use Rattle.tb_frame.specs.Refusal.{repeated_among}
-use Rattle.tb_frame.specs.Table.{IsTable, Table, TableColumn, height, names_of, plain_column, table_of}
+use Rattle.tb_frame.specs.Promise.Refusal.{repeated_among}
+use Rattle.tb_frame.specs.Promise.Table.{IsTable, Table, TableColumn, height, names_of, plain_column, table_of}
 use Rattle.tb_frame.proofs.Causes.{first_cause-one}
 use Rattle.tb_frame.proofs.Frames.{level_refusal}
 use Rattle.tb_join.specs.AnswerColumns.{column_called, side_by_side}

@@ -1,24 +1,26 @@
 -- Requests whose key columns are given beside the tables.
 use Rattle.std.specs.Prelude.{◌≡◌, ◌==◌, ◌&&◌, not, ℕ, Bool, true, if◌then◌else◌, List, [], ◌∷◌, map, length, Option, None, ℤ}
 use Rattle.std.specs.List.{list_all}
-use Rattle.tb_value.specs.Names.{Name}
-use Rattle.tb_value.specs.Refusals.{first_cause, when}
-use Rattle.tb_value.specs.SameKind.{is_key}
+use Rattle.tb_value.specs.Promise.Names.{Name}
+use Rattle.tb_value.specs.Promise.Refusals.{first_cause, when}
+use Rattle.tb_value.specs.Promise.SameKind.{is_key}
 use Rattle.tb_value.specs.declared.error.PolarsError.{PolarsError}
 use Rattle.tb_value.specs.declared.error.PolarsError.TheVariants.{ShapeMismatch}
 use Rattle.tb_chunk.specs.Changed.{part_of}
-use Rattle.tb_chunk.specs.Col.{Col, values}
+use Rattle.tb_chunk.specs.Promise.Col.{Col, values}
 use Rattle.tb_frame.specs.declared.args.JoinArgs.{JoinArgs}
 use Rattle.tb_frame.specs.declared.args.JoinType.{JoinType}
 use Rattle.tb_frame.specs.declared.args.JoinType.TheVariants.{Semi, Anti}
 use Rattle.tb_frame.specs.declared.null_flags.JoinNulls.{JoinNulls}
 use Rattle.tb_frame.specs.declared.null_flags.JoinNulls.TheVariants.{All}
-use Rattle.tb_frame.specs.Join.{CoalescesAlike, Request}
-use Rattle.tb_frame.specs.Naming.{coalesces, coalesces_keys}
-use Rattle.tb_frame.specs.Refusal.{first_unknown, fits, list_causes, name_causes}
+use Rattle.tb_frame.specs.Promise.Join.{Request}
+use Rattle.tb_frame.specs.Join.{CoalescesAlike}
+use Rattle.tb_frame.specs.Promise.Naming.{coalesces, coalesces_keys}
+use Rattle.tb_frame.specs.Promise.Refusal.{first_unknown, list_causes, name_causes}
+use Rattle.tb_frame.specs.Refusal.{fits}
 use Rattle.tb_frame.specs.Sides.{asking}
-use Rattle.tb_frame.specs.Table.{height, names_of, plain_column, table_of}
-use Rattle.tb_join.specs.Asked.{plain_args}
+use Rattle.tb_frame.specs.Promise.Table.{height, names_of, plain_column, table_of}
+use Rattle.tb_join.specs.Promise.Asked.{plain_args}
 
 -- the request by columns that are given, under their names
 abbrev pub given_request : List Col → List Col → List Col → List Col → JoinArgs → Request

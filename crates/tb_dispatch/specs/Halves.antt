@@ -1,12 +1,12 @@
 -- The two sides of a join, each by itself.
 use Rattle.std.specs.Prelude.{◌≡◌, List, [], ◌∷◌, map, Option, Some, None}
 use Rattle.std.specs.declared.vec.Vec.{Vec}
-use Rattle.tb_value.specs.Names.{Name}
+use Rattle.tb_value.specs.Promise.Names.{Name}
 use Rattle.tb_value.specs.declared.index.JoinPair.{JoinPair}
-use Rattle.tb_chunk.specs.Col.{Col}
+use Rattle.tb_chunk.specs.Promise.Col.{Col}
 use Rattle.tb_frame.specs.Answer.{IsListed}
 use Rattle.tb_frame.specs.Frame.{opt_taken_rows}
-use Rattle.tb_frame.specs.Join.{Request, listing}
+use Rattle.tb_frame.specs.Promise.Join.{Request, listing}
 
 -- left columns over the left rows of pairs, and right ones over the right rows
 abbrev pub AreOver : List JoinPair → List Col → List Col → List Col × List Col → Type 0

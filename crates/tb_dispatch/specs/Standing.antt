@@ -2,12 +2,13 @@
 use Rattle.std.specs.Prelude.{◌≡◌, ◌||◌, ◌⊎◌, if◌then◌else◌, List, [], ◌++◌, map, length, Option, None, unwrap_or}
 use Rattle.std.specs.List.{All, zip}
 use Rattle.std.specs.Option.{ForSome}
-use Rattle.tb_value.specs.Names.{Name, same_name}
-use Rattle.tb_chunk.specs.Col.{Col}
-use Rattle.tb_frame.specs.Frame.{selected_columns, without_names}
-use Rattle.tb_frame.specs.Naming.{default_suffix, is_among}
-use Rattle.tb_frame.specs.Refusal.{first_unknown}
-use Rattle.tb_frame.specs.Table.{height, names_of, table_of}
+use Rattle.tb_value.specs.Promise.Names.{Name, same_name}
+use Rattle.tb_chunk.specs.Promise.Col.{Col}
+use Rattle.tb_frame.specs.Promise.Frame.{selected_columns}
+use Rattle.tb_frame.specs.Frame.{without_names}
+use Rattle.tb_frame.specs.Promise.Naming.{default_suffix, is_among}
+use Rattle.tb_frame.specs.Promise.Refusal.{first_unknown}
+use Rattle.tb_frame.specs.Promise.Table.{height, names_of, table_of}
 use Rattle.tb_keys.specs.Coalescing.{key_beside}
 use Rattle.tb_join.specs.AnswerColumns.{coalesced_part}
 

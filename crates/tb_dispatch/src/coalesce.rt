@@ -1,9 +1,9 @@
 //! The keys of a joined table, coalesced.
 ghost use Rattle.std.specs.Prelude.{◌≡◌, IfOk, List, None, length};
-ghost use Rattle.tb_value.specs.Names.{Name};
+ghost use Rattle.tb_value.specs.Promise.Names.{Name};
 ghost use Rattle.tb_value.specs.Refusals.{Settles};
 ghost use Rattle.tb_frame.specs.NameSets.{has_name};
-ghost use Rattle.tb_frame.specs.Naming.{is_among};
+ghost use Rattle.tb_frame.specs.Promise.Naming.{is_among};
 ghost use Rattle.tb_dispatch.specs.Standing.{AreCoalescable, coalesced_columns, names_standing, stands_as, suffix_or};
 
 use crate::names::{_join_suffix_name, suffix_text};

@@ -1,13 +1,14 @@
 //! Tables by rows that were found before, and by one key column of each side.
 ghost use Rattle.std.specs.Prelude.{◌≡◌, ◌<◌, ◌≤◌, ◌⊎◌, ◌∷◌, [], All, IfOk, IsSome, None, length, map};
-ghost use Rattle.tb_value.specs.Pairs.{left_only};
-ghost use Rattle.tb_value.specs.Refusals.{Settles, first_cause};
-ghost use Rattle.tb_chunk.specs.Col.{values};
+ghost use Rattle.tb_value.specs.Promise.Pairs.{left_only};
+ghost use Rattle.tb_value.specs.Promise.Refusals.{first_cause};
+ghost use Rattle.tb_value.specs.Refusals.{Settles};
+ghost use Rattle.tb_chunk.specs.Promise.Col.{values};
 ghost use Rattle.tb_chunk.specs.Lent.{lent_columns};
 ghost use Rattle.tb_frame.specs.Frame.{taken_rows};
-ghost use Rattle.tb_frame.specs.Join.{IsAnswer, cut, listing, out};
-ghost use Rattle.tb_frame.specs.Refusal.{null_flags, repeated_name, row_causes};
-ghost use Rattle.tb_frame.specs.Table.{height, table_of};
+ghost use Rattle.tb_frame.specs.Promise.Join.{IsAnswer, cut, listing, out};
+ghost use Rattle.tb_frame.specs.Promise.Refusal.{null_flags, repeated_name, row_causes};
+ghost use Rattle.tb_frame.specs.Promise.Table.{height, table_of};
 ghost use Rattle.tb_gather.specs.Gathered.{NameRows, gathered_column};
 ghost use Rattle.tb_gather.specs.Ids.{Id, StandInOrder};
 ghost use Rattle.tb_hash.specs.Hashing.{value_listing};

@@ -1,10 +1,13 @@
 //! The join by key columns that are given.
 ghost use Rattle.std.specs.Prelude.{◌≡◌, IfOk};
-ghost use Rattle.tb_value.specs.Refusals.{Settles, SettlesOutright, first_cause};
+ghost use Rattle.tb_value.specs.Promise.Refusals.{first_cause};
+ghost use Rattle.tb_value.specs.Refusals.{Settles, SettlesOutright};
 ghost use Rattle.tb_chunk.specs.Lent.{lent_columns};
-ghost use Rattle.tb_frame.specs.Join.{IsAnswer, CoalescesAlike};
-ghost use Rattle.tb_frame.specs.Refusal.{fits, given_refusal, name_causes};
-ghost use Rattle.tb_frame.specs.Table.{height, names_of, plain_column, table_of};
+ghost use Rattle.tb_frame.specs.Promise.Join.{IsAnswer};
+ghost use Rattle.tb_frame.specs.Join.{CoalescesAlike};
+ghost use Rattle.tb_frame.specs.Promise.Refusal.{name_causes};
+ghost use Rattle.tb_frame.specs.Refusal.{fits, given_refusal};
+ghost use Rattle.tb_frame.specs.Promise.Table.{height, names_of, plain_column, table_of};
 ghost use Rattle.tb_keys.specs.Rows.{HasRows};
 ghost use Rattle.tb_dispatch.specs.Given.{all_fit, cleared_columns, early_refusal, given_request, misfit};
 

@@ -1,10 +1,11 @@
 //! The two sides of a Left join, each by itself.
 ghost use Rattle.std.specs.Prelude.{◌≡◌, ◌≤◌, All, IfOk, None, length};
-ghost use Rattle.tb_value.specs.Refusals.{Settles, first_cause};
+ghost use Rattle.tb_value.specs.Promise.Refusals.{first_cause};
+ghost use Rattle.tb_value.specs.Refusals.{Settles};
 ghost use Rattle.tb_frame.specs.Answer.{IsPairOf};
 ghost use Rattle.tb_frame.specs.Frame.{without_names};
-ghost use Rattle.tb_frame.specs.Refusal.{null_flags, row_causes};
-ghost use Rattle.tb_frame.specs.Table.{height, table_of};
+ghost use Rattle.tb_frame.specs.Promise.Refusal.{null_flags, row_causes};
+ghost use Rattle.tb_frame.specs.Promise.Table.{height, table_of};
 ghost use Rattle.tb_dispatch.specs.Given.{StandBeside, by_series};
 ghost use Rattle.tb_dispatch.specs.Halves.{AreHalves, AreOver, dropped_names};
 

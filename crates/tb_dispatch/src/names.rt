@@ -1,8 +1,8 @@
 //! Names with a suffix, and tables side by side.
 ghost use Rattle.std.specs.Prelude.{◌≡◌, ◌++◌, IfOk};
 ghost use Rattle.tb_value.specs.Refusals.{Settles};
-ghost use Rattle.tb_frame.specs.Refusal.{repeated_among};
-ghost use Rattle.tb_frame.specs.Table.{names_of, table_of};
+ghost use Rattle.tb_frame.specs.Promise.Refusal.{repeated_among};
+ghost use Rattle.tb_frame.specs.Promise.Table.{names_of, table_of};
 ghost use Rattle.tb_join.specs.AnswerColumns.{side_by_side};
 ghost use Rattle.tb_dispatch.specs.Standing.{AreLevel, suffix_or};
 

@@ -5,15 +5,15 @@ use Rattle.std.specs.Cmp.{IsTotalOrder}
 use Rattle.std.specs.Cmp.Lexicographic.{on_texts}
 use Rattle.std.proofs.lemmas.List.{length-map}
 use Rattle.std.proofs.lemmas.List.Elements.{All-nil, All-cons, All-head, All-tail, All-append}
-use Rattle.tb_value.specs.Datum.{int}
-use Rattle.tb_value.specs.Kind as kind
-use Rattle.tb_value.specs.Names.{Name}
-use Rattle.tb_value.specs.Typed.{HasType}
+use Rattle.tb_value.specs.Promise.Datum.{int}
+use Rattle.tb_value.specs.Promise.Kind as kind
+use Rattle.tb_value.specs.Promise.Names.{Name}
+use Rattle.tb_value.specs.Promise.Typed.{HasType}
 use Rattle.tb_chunk.specs.Chunk.{or_null}
-use Rattle.tb_frame.specs.Table.{TableColumn, Table}
-use Rattle.tb_rows.specs.Rows.{row_value}
+use Rattle.tb_frame.specs.Promise.Table.{TableColumn, Table}
+use Rattle.tb_rows.specs.Promise.Rows.{row_value}
 use Rattle.tb_rows.proofs.InOrder.{in_order-all}
-use Rattle.tb_dummies.specs.Dummies.{by_name, dummies_of, dummy, in_place_of, mark, value_rows}
+use Rattle.tb_dummies.specs.Promise.Dummies.{by_name, dummies_of, dummy, in_place_of, mark, value_rows}
 use Rattle.tb_dummies.specs.Lent.{mark_in}
 
 -- MARKS AS A COLUMN

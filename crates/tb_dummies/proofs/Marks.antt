@@ -6,15 +6,15 @@ use Rattle.std.proofs.Math.Bool.{and-true}
 use Rattle.std.proofs.lemmas.List.{map_push, take_all, take_more}
 use Rattle.std.proofs.lemmas.List.FromFn.{length-map-range_with_len}
 use Rattle.tb_value.proofs.RowNumbers.{row_numbers_more}
-use Rattle.tb_value.specs.Datum.{Datum, int, null}
-use Rattle.tb_value.specs.Pairs.{row_numbers}
+use Rattle.tb_value.specs.Promise.Datum.{Datum, int, null}
+use Rattle.tb_value.specs.Promise.Pairs.{row_numbers}
 use Rattle.tb_value.specs.Proved.ValueTests.{pulled, same_equiv}
-use Rattle.tb_value.specs.Same.{same}
+use Rattle.tb_value.specs.Promise.Same.{same}
 use Rattle.tb_rows.specs.Grouped.{AreGroups}
-use Rattle.tb_rows.specs.Rows.{first_rows, group_of, same_rows, row_value}
+use Rattle.tb_rows.specs.Promise.Rows.{first_rows, group_of, same_rows, row_value}
 use Rattle.tb_rows.specs.declared.groups.Groups.{Groups}
 use Rattle.tb_rows.proofs.FirstRows.{firsts_below, group_is}
-use Rattle.tb_dummies.specs.Dummies.{mark}
+use Rattle.tb_dummies.specs.Promise.Dummies.{mark}
 use Rattle.tb_dummies.specs.Lent.{mark_in}
 
 -- whether two rows have the same value

@@ -2,15 +2,15 @@
 use Rattle.std.proofs.Common.{◌≡◌, ◌∙◌, Bool, List, [], ◌∷◌, Option, Some, None, inl, inr, refl, sym, ap}
 use Rattle.std.specs.Prelude.{◌⊎◌}
 use Rattle.std.specs.List.{flat_map}
-use Rattle.tb_value.specs.Names.{Name}
-use Rattle.tb_value.specs.Refusals.{first_cause}
+use Rattle.tb_value.specs.Promise.Names.{Name}
+use Rattle.tb_value.specs.Promise.Refusals.{first_cause}
 use Rattle.tb_value.specs.declared.error.PolarsError.{PolarsError}
 use Rattle.tb_value.specs.declared.error.PolarsError.TheVariants.{OutOfMemory}
 use Rattle.tb_frame.specs.Frame.{frame_refusal}
-use Rattle.tb_frame.specs.Refusal.{repeated_among}
-use Rattle.tb_frame.specs.Table.{Table, IsTable, height, names_of}
+use Rattle.tb_frame.specs.Promise.Refusal.{repeated_among}
+use Rattle.tb_frame.specs.Promise.Table.{Table, IsTable, height, names_of}
 use Rattle.tb_frame.proofs.Frames.{level_refusal}
-use Rattle.tb_dummies.specs.Dummies.{Request, dummies_refusal, dummies_table, header_cause, in_place_of, is_replaced}
+use Rattle.tb_dummies.specs.Promise.Dummies.{Request, dummies_refusal, dummies_table, header_cause, in_place_of, is_replaced}
 use Rattle.tb_dummies.proofs.Made.{places_high}
 
 -- where no column is refused, the columns in place are refused as the request is

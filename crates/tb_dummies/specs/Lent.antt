@@ -2,13 +2,13 @@
 use Rattle.std.specs.Prelude.{ℕ, pos, ◌==◌, Bool, true, if◌then◌else◌, List, Option, Some, None}
 use Rattle.std.specs.Borrow.{Bor}
 use Rattle.std.specs.Option.{option_copied}
-use Rattle.tb_value.specs.Datum.{Datum, int}
-use Rattle.tb_value.specs.Names.{Name}
-use Rattle.tb_chunk.specs.Col.{Col}
+use Rattle.tb_value.specs.Promise.Datum.{Datum, int}
+use Rattle.tb_value.specs.Promise.Names.{Name}
+use Rattle.tb_chunk.specs.Promise.Col.{Col}
 use Rattle.tb_frame.specs.NameSets.{has_name}
-use Rattle.tb_frame.specs.Table.{table_of}
+use Rattle.tb_frame.specs.Promise.Table.{table_of}
 use Rattle.tb_frame.specs.declared.names.NameSet.{NameSet}
-use Rattle.tb_dummies.specs.Dummies.{Request, separator_or}
+use Rattle.tb_dummies.specs.Promise.Dummies.{Request, separator_or}
 
 -- the request of columns and a separator that are lent
 abbrev pub lent_request : List Col → Option (List Name) → Option (Bor Name) → Bool → Request

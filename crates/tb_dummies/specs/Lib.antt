@@ -1,2 +1,2 @@
-pub mod Dummies
 pub mod Lent
+pub mod Promise

@@ -1,15 +1,15 @@
 //! The columns that are made of a table's columns.
 ghost use Rattle.std.specs.Prelude.{◌≡◌, ◌==◌, ◌&&◌, ◌<◌, ◌≤◌, ◌∷◌, [], ◌++◌, IfOk, if◌then◌else◌, length, map};
 ghost use Rattle.std.specs.List.{flat_map};
-ghost use Rattle.tb_value.specs.Kind as kind;
+ghost use Rattle.tb_value.specs.Promise.Kind as kind;
 ghost use Rattle.tb_value.specs.See.{lent_value, IsText};
 ghost use Rattle.tb_value.specs.SeeKind.{kind_of};
-ghost use Rattle.tb_chunk.specs.Col.{values};
-ghost use Rattle.tb_frame.specs.Table.{plain_column, table_of};
-ghost use Rattle.tb_label.specs.Label.{value_text};
+ghost use Rattle.tb_chunk.specs.Promise.Col.{values};
+ghost use Rattle.tb_frame.specs.Promise.Table.{plain_column, table_of};
+ghost use Rattle.tb_label.specs.Promise.Label.{value_text};
 ghost use Rattle.tb_rows.specs.Grouped.{AreGroups};
-ghost use Rattle.tb_rows.specs.Rows.{same_rows, row_value};
-ghost use Rattle.tb_dummies.specs.Dummies.{dummies_of, dummy, in_place_of, mark, value_rows};
+ghost use Rattle.tb_rows.specs.Promise.Rows.{same_rows, row_value};
+ghost use Rattle.tb_dummies.specs.Promise.Dummies.{dummies_of, dummy, in_place_of, mark, value_rows};
 ghost use Rattle.tb_dummies.specs.Lent.{is_in, mark_in};
 
 use crate::replaced::Replaced;

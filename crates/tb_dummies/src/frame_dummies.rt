@@ -2,8 +2,8 @@
 ghost use Rattle.std.specs.Prelude.{◌≡◌, IfOk, Some, None};
 ghost use Rattle.std.specs.Option.{option_copied};
 ghost use Rattle.tb_value.specs.Refusals.{Settles};
-ghost use Rattle.tb_frame.specs.Table.{table_of};
-ghost use Rattle.tb_dummies.specs.Dummies.{dummies_refusal, dummies_table, separator_or};
+ghost use Rattle.tb_frame.specs.Promise.Table.{table_of};
+ghost use Rattle.tb_dummies.specs.Promise.Dummies.{dummies_refusal, dummies_table, separator_or};
 ghost use Rattle.tb_dummies.specs.Lent.{lent_request};
 
 use crate::columns::columns_in_place;

@@ -1,11 +1,11 @@
 //! Which columns are replaced, and whether their values name columns.
 ghost use Rattle.std.specs.Prelude.{◌≡◌, ◌&&◌, not, IfOk};
 ghost use Rattle.std.specs.Option.{option_copied};
-ghost use Rattle.tb_value.specs.Names.{Name};
+ghost use Rattle.tb_value.specs.Promise.Names.{Name};
 ghost use Rattle.tb_value.specs.Refusals.{Settles};
-ghost use Rattle.tb_frame.specs.Table.{table_of};
-ghost use Rattle.tb_label.specs.Label.{is_header};
-ghost use Rattle.tb_dummies.specs.Dummies.{header_cause, is_replaced};
+ghost use Rattle.tb_frame.specs.Promise.Table.{table_of};
+ghost use Rattle.tb_label.specs.Promise.Label.{is_header};
+ghost use Rattle.tb_dummies.specs.Promise.Dummies.{header_cause, is_replaced};
 ghost use Rattle.tb_dummies.specs.Lent.{is_in};
 
 use std::alloc::Global;

@@ -4,17 +4,17 @@ use Rattle.std.specs.Prelude.{All, AllPairs, ◌≢◌}
 use Rattle.std.proofs.lemmas.List.{length-map, get_or-map, ext_get_or}
 use Rattle.std.proofs.lemmas.List.Elements.{All-map}
 use Rattle.tb_value.specs.declared.index.JoinPair.{JoinPair}
-use Rattle.tb_value.specs.Datum.{Datum}
-use Rattle.tb_value.specs.Datum.{null}
-use Rattle.tb_value.specs.Names.{Name}
-use Rattle.tb_value.specs.Typed.{HasType}
-use Rattle.tb_frame.specs.Table.{TableColumn, Table, height, rows_of, row_at, names_of, IsTable, IsTyped}
-use Rattle.tb_value.specs.Pairs.{left_only}
-use Rattle.tb_frame.specs.Join.{Request, Out, out, cut, listing, IsOrdered, IsAnswer}
+use Rattle.tb_value.specs.Promise.Datum.{Datum}
+use Rattle.tb_value.specs.Promise.Datum.{null}
+use Rattle.tb_value.specs.Promise.Names.{Name}
+use Rattle.tb_value.specs.Promise.Typed.{HasType}
+use Rattle.tb_frame.specs.Promise.Table.{TableColumn, Table, height, rows_of, row_at, names_of, IsTable, IsTyped}
+use Rattle.tb_value.specs.Promise.Pairs.{left_only}
+use Rattle.tb_frame.specs.Promise.Join.{Request, Out, out, cut, listing, IsOrdered, IsAnswer}
 use Rattle.tb_frame.specs.Answer.{fill}
 use Rattle.tb_value.proofs.Loops.{map-map}
 use Rattle.tb_frame.specs.Frame.{frame_refusal}
-use Rattle.tb_frame.specs.Refusal.{first_repeated}
+use Rattle.tb_frame.specs.Promise.Refusal.{first_repeated}
 use Rattle.tb_frame.proofs.Causes.{unrepeated_names}
 use Rattle.tb_frame.proofs.Frames.{level_height, no_refusal}
 use Rattle.tb_frame.proofs.Outs.{HasTypedFields, schema-out}

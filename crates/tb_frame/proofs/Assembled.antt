@@ -3,17 +3,17 @@ use Rattle.std.proofs.Common.{◌≡◌, ℕ, ◌≤◌, ◌<◌, ◌-◌, List,
 use Rattle.std.specs.Prelude.{All, AllPairs, ◌≢◌, ◌⊎◌, IfOk}
 use Rattle.std.proofs.lemmas.List.{length-take, length-drop}
 use Rattle.std.proofs.lemmas.List.Sorted.{length_permutation}
-use Rattle.tb_value.specs.Names.{Name}
+use Rattle.tb_value.specs.Promise.Names.{Name}
 use Rattle.tb_value.specs.declared.index.JoinPair.{JoinPair}
 use Rattle.tb_value.specs.declared.limits.TheConstants.{MAX_ROWS}
 use Rattle.tb_chunk.specs.Window.{part_from, part_to}
-use Rattle.tb_chunk.specs.Col.{Col}
-use Rattle.tb_frame.specs.Table.{TableColumn, Table, height, names_of, table_of, IsTable}
-use Rattle.tb_frame.specs.Join.{Request, out, matches, listing, IsAnswer, cut}
+use Rattle.tb_chunk.specs.Promise.Col.{Col}
+use Rattle.tb_frame.specs.Promise.Table.{TableColumn, Table, height, names_of, table_of, IsTable}
+use Rattle.tb_frame.specs.Promise.Join.{Request, out, matches, listing, IsAnswer, cut}
 use Rattle.tb_frame.specs.Answer.{fill, IsListed, IsPairOf}
 use Rattle.tb_frame.specs.Frame.{frame_refusal}
 use Rattle.tb_frame.proofs.Ranges.{listed_rows}
-use Rattle.tb_frame.specs.Naming.{joined_names}
+use Rattle.tb_frame.specs.Promise.Naming.{joined_names}
 use Rattle.tb_frame.proofs.Outs.{names_distinct}
 use Rattle.tb_frame.proofs.AnswerLemmas.{answer_of, fill-refusal}
 use Rattle.tb_frame.proofs.Windows.{slice_window}

@@ -10,8 +10,8 @@ use Rattle.std.proofs.lemmas.List.{take_more}
 use Rattle.std.proofs.lemmas.List.Folds.{find-append}
 use Rattle.std.proofs.lemmas.Map.Text.{is_eq-slice_cmp}
 use Rattle.std.proofs.lemmas.Slice.Eq.{bytes_eq-Decides}
-use Rattle.tb_value.specs.Names.{Name, same_name}
-use Rattle.tb_chunk.specs.Col.{Col}
+use Rattle.tb_value.specs.Promise.Names.{Name, same_name}
+use Rattle.tb_chunk.specs.Promise.Col.{Col}
 use Rattle.tb_frame.proofs.Selected.{found}
 
 some-or : (o : Option Col) (c : Col) → Some (unwrap_or o c) ≡ option_or o (Some c)

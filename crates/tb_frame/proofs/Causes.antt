@@ -11,14 +11,14 @@ use Rattle.std.proofs.lemmas.List.FromFn.{length-range_with_len, get_or-range_wi
 use Rattle.std.proofs.lemmas.Cmp.{nat_list_eq_equiv}
 use Rattle.std.proofs.lemmas.Slice.Eq.{bytes_eq-Decides}
 use Rattle.tb_value.specs.declared.error.PolarsError.{PolarsError}
-use Rattle.tb_value.specs.Refusals.{first_cause, when}
-use Rattle.tb_value.specs.Names.{Name}
-use Rattle.tb_value.specs.Names.{same_name}
-use Rattle.tb_value.specs.Pairs.{row_numbers}
-use Rattle.tb_frame.specs.Table.{TableColumn, Table}
-use Rattle.tb_frame.specs.Join.{column_named}
-use Rattle.tb_frame.specs.Naming.{is_among}
-use Rattle.tb_frame.specs.Refusal.{first_repeated, first_unknown, name_at, repeats}
+use Rattle.tb_value.specs.Promise.Refusals.{first_cause, when}
+use Rattle.tb_value.specs.Promise.Names.{Name}
+use Rattle.tb_value.specs.Promise.Names.{same_name}
+use Rattle.tb_value.specs.Promise.Pairs.{row_numbers}
+use Rattle.tb_frame.specs.Promise.Table.{TableColumn, Table}
+use Rattle.tb_frame.specs.Promise.Join.{column_named}
+use Rattle.tb_frame.specs.Promise.Naming.{is_among}
+use Rattle.tb_frame.specs.Promise.Refusal.{first_repeated, first_unknown, name_at, repeats}
 
 pub map_none : {X Y : Type 0} (f : X → Y) (o : Option X) → option_map f o ≡ None → o ≡ None
 map_none f None h = refl

@@ -3,10 +3,10 @@ use Rattle.std.proofs.Common.{◌≡◌, ◌↔◌, ℕ, zero, suc, ◌<◌, Boo
 use Rattle.std.specs.Prelude.{All}
 use Rattle.std.specs.List.{slice_get}
 use Rattle.std.proofs.lemmas.List.{ext_get_or, length-map, get_or-map}
-use Rattle.tb_value.specs.Datum.{Datum}
-use Rattle.tb_chunk.specs.Col.{Col, values}
+use Rattle.tb_value.specs.Promise.Datum.{Datum}
+use Rattle.tb_chunk.specs.Promise.Col.{Col, values}
 use Rattle.tb_chunk.specs.Lent.{in_one_chunk}
-use Rattle.tb_frame.specs.Table.{TableColumn, plain_column, table_of, IsTable}
+use Rattle.tb_frame.specs.Promise.Table.{TableColumn, plain_column, table_of, IsTable}
 use Rattle.tb_frame.specs.Frame.{lens, AreCutAlike}
 
 -- as many chunks, and each as long as its fellow

@@ -2,14 +2,14 @@
 use Rattle.std.proofs.Common.{◌≡◌, ◌↔◌, ℕ, suc, ◌<◌, Bool, true, false, List, [], ◌∷◌, length, get_or, refl, ap, sym, ◌∙◌, arith, IsTrue}
 use Rattle.std.proofs.lemmas.List.{get_or-map}
 use Rattle.std.proofs.lemmas.Slice.Eq.{bytes_eq-Decides}
-use Rattle.tb_value.specs.Datum.{Datum}
-use Rattle.tb_value.specs.Names.{same_name}
-use Rattle.tb_value.specs.Same.{same}
+use Rattle.tb_value.specs.Promise.Datum.{Datum}
+use Rattle.tb_value.specs.Promise.Names.{same_name}
+use Rattle.tb_value.specs.Promise.Same.{same}
 use Rattle.tb_value.specs.Proved.ValueTests.{same-Decides}
-use Rattle.tb_value.specs.SameKind.{same_kind}
+use Rattle.tb_value.specs.Promise.SameKind.{same_kind}
 use Rattle.tb_value.specs.Proved.TypeTests.{same_kind-Decides}
-use Rattle.tb_chunk.specs.Col.{Col, values}
-use Rattle.tb_frame.specs.Table.{TableColumn, plain_column, table_of}
+use Rattle.tb_chunk.specs.Promise.Col.{Col, values}
+use Rattle.tb_frame.specs.Promise.Table.{TableColumn, plain_column, table_of}
 
 -- what the test of two values says
 pub equal-same : (x y : Datum) → true ≡ same x y → x ≡ y

@@ -1,11 +1,11 @@
 -- The fields and types of columns, by their places.
 use Rattle.std.proofs.Common.{◌≡◌, ℕ, ◌<◌, List, [], length, get_or, map, ap, sym, ◌∙◌}
 use Rattle.std.proofs.lemmas.List.{get_or-map}
-use Rattle.tb_value.specs.Datum.{Datum, null}
-use Rattle.tb_value.specs.Kind as kind
-use Rattle.tb_frame.specs.Table.{TableColumn}
-use Rattle.tb_frame.specs.Join.{field}
-use Rattle.tb_frame.specs.Refusal.{kind_at}
+use Rattle.tb_value.specs.Promise.Datum.{Datum, null}
+use Rattle.tb_value.specs.Promise.Kind as kind
+use Rattle.tb_frame.specs.Promise.Table.{TableColumn}
+use Rattle.tb_frame.specs.Promise.Join.{field}
+use Rattle.tb_frame.specs.Promise.Refusal.{kind_at}
 
 pub field_at : (keys : List TableColumn) (p i : ℕ) (c : TableColumn) → p < length keys → c ≡ get_or keys p c → field keys p i ≡ get_or c.values i null
 field_at keys p i c low e =

@@ -3,17 +3,17 @@ use Rattle.std.proofs.Common.{◌≡◌, List, [], ◌∷◌, ◌++◌, map, ref
 use Rattle.std.specs.Prelude.{All, unwrap_or}
 use Rattle.std.proofs.lemmas.List.{map-append}
 use Rattle.std.proofs.lemmas.List.Elements.{All-map, All-weaker}
-use Rattle.tb_value.specs.Names.{Name}
+use Rattle.tb_value.specs.Promise.Names.{Name}
 use Rattle.tb_value.specs.declared.index.JoinPair.{JoinPair}
 use Rattle.tb_value.proofs.Loops.{map-map}
-use Rattle.tb_chunk.specs.Col.{Col, values}
+use Rattle.tb_chunk.specs.Promise.Col.{Col, values}
 use Rattle.tb_chunk.specs.Rows.{IsRowOf, value_or_null}
 use Rattle.tb_frame.specs.Answer.{IsPairOf, fill}
 use Rattle.tb_frame.specs.Frame.{opt_taken_rows}
-use Rattle.tb_frame.specs.Join.{Request, kept_left_columns, left_out, out, right_out, shown_right_columns, value_at}
-use Rattle.tb_frame.specs.Naming.{default_suffix}
+use Rattle.tb_frame.specs.Promise.Join.{Request, kept_left_columns, left_out, out, right_out, shown_right_columns, value_at}
+use Rattle.tb_frame.specs.Promise.Naming.{default_suffix}
 use Rattle.tb_frame.specs.RightColumns.{right_column}
-use Rattle.tb_frame.specs.Table.{TableColumn, Table, plain_column, table_of, names_of}
+use Rattle.tb_frame.specs.Promise.Table.{TableColumn, Table, plain_column, table_of, names_of}
 use Rattle.tb_frame.proofs.Taking.{values-opt_taken}
 
 -- ROWS OF A SIDE

@@ -5,18 +5,19 @@ use Rattle.std.specs.Option.{option_map}
 use Rattle.std.specs.List.{list_all}
 use Rattle.std.proofs.lemmas.Bool.{eqb-true, eq-eqb}
 use Rattle.std.proofs.lemmas.List.Elements.{All-nil, All-cons, All-head, All-tail, All-weaker, All-filter, filter_more}
-use Rattle.tb_value.specs.Names.{Name}
-use Rattle.tb_value.specs.Refusals.{first_cause, when}
+use Rattle.tb_value.specs.Promise.Names.{Name}
+use Rattle.tb_value.specs.Promise.Refusals.{first_cause, when}
 use Rattle.tb_value.specs.declared.error.PolarsError.{PolarsError}
 use Rattle.tb_value.specs.declared.error.PolarsError.TheVariants.{ShapeMismatch, Duplicate}
 use Rattle.tb_value.proofs.Ascending.{AllPairs-thinned}
 use Rattle.tb_value.proofs.Kept.{filter-map}
-use Rattle.tb_chunk.specs.Col.{Col}
-use Rattle.tb_frame.specs.Table.{TableColumn, Table, plain_column, table_of, height, names_of, IsTable, IsTyped}
-use Rattle.tb_frame.specs.Join.{columns_where}
-use Rattle.tb_frame.specs.Naming.{is_among}
-use Rattle.tb_frame.specs.Frame.{are_level, frame_refusal, without_names}
-use Rattle.tb_frame.specs.Refusal.{first_repeated, repeated_among}
+use Rattle.tb_chunk.specs.Promise.Col.{Col}
+use Rattle.tb_frame.specs.Promise.Table.{TableColumn, Table, plain_column, table_of, height, names_of, IsTable, IsTyped}
+use Rattle.tb_frame.specs.Promise.Join.{columns_where}
+use Rattle.tb_frame.specs.Promise.Naming.{is_among}
+use Rattle.tb_frame.specs.Promise.Frame.{are_level}
+use Rattle.tb_frame.specs.Frame.{frame_refusal, without_names}
+use Rattle.tb_frame.specs.Promise.Refusal.{first_repeated, repeated_among}
 use Rattle.tb_frame.proofs.Causes.{no_cause, map_none, distinct_names, unrepeated_names}
 
 pub all_true : {X : Type 0} (p : X → Bool) (xs : List X) → list_all p xs ≡ true → All (λ x. p x ≡ true) xs

@@ -5,7 +5,8 @@ use Rattle.std.specs.List.{list_any}
 use Rattle.std.proofs.lemmas.List.{map-append}
 use Rattle.std.proofs.lemmas.List.Sorted.{IsPermutation-refl, IsPermutation-sym, IsPermutation-trans, IsPermutation-append_comm, IsPermutation-append_left, IsPermutation-append_right, IsPermutation-map}
 use Rattle.tb_value.specs.declared.index.JoinPair.{JoinPair}
-use Rattle.tb_value.specs.Pairs.{row_numbers, right_only, matched_pairs, left_met, left_unmet, right_unmet, left_first, right_first, turn}
+use Rattle.tb_value.specs.Promise.Pairs.{row_numbers, right_only, matched_pairs, left_met, left_unmet, right_unmet, left_first, right_first}
+use Rattle.tb_value.specs.Pairs.{turn}
 use Rattle.tb_value.proofs.Ascending.{matched-sorted, left_met-sorted, left_unmet-sorted}
 use Rattle.tb_value.proofs.Loops.{map-map, permuted, turned_matches}
 use Rattle.tb_value.proofs.Probes.{each_left, each_left-permutation, each_row-permutation, each_left-sorted, each_row-sorted, matched_then-sorted, turn_twice, turned_to_right, left_alone-sorted_right}
@@ -14,7 +15,7 @@ use Rattle.tb_frame.specs.declared.args.JoinType.TheVariants.{Inner, Left, Right
 use Rattle.tb_frame.specs.declared.args.MaintainOrderJoin.{MaintainOrderJoin}
 use Rattle.tb_frame.specs.declared.args.Direction.{Direction}
 use Rattle.tb_frame.specs.declared.args.Direction.TheVariants.{Free, ByLeft, ByRight}
-use Rattle.tb_frame.specs.Join.{listing_of, Ascends, direction, IsOrdered}
+use Rattle.tb_frame.specs.Promise.Join.{listing_of, Ascends, direction, IsOrdered}
 use Rattle.tb_frame.proofs.Turns.{turned_listing}
 
 -- by left rows and then by right rows

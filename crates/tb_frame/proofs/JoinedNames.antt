@@ -2,15 +2,16 @@
 use Rattle.std.proofs.Common.{◌≡◌, Bool, true, false, cond, not, ◌&&◌, ◌||◌, List, [], ◌∷◌, ◌++◌, map, refl, ap, sym, ◌∙◌}
 use Rattle.std.specs.Prelude.{filter, unwrap_or}
 use Rattle.std.proofs.lemmas.List.{map-append}
-use Rattle.tb_value.specs.Names.{Name}
+use Rattle.tb_value.specs.Promise.Names.{Name}
 use Rattle.tb_value.proofs.Loops.{map-map}
-use Rattle.tb_chunk.specs.Col.{Col}
+use Rattle.tb_chunk.specs.Promise.Col.{Col}
 use Rattle.tb_frame.specs.declared.args.JoinArgs.{JoinArgs}
 use Rattle.tb_frame.specs.Frame.{without_names}
-use Rattle.tb_frame.specs.Join.{columns_where}
-use Rattle.tb_frame.specs.Naming.{Field, answer_fields, answer_names, coalesces, default_suffix, drops_left_keys, drops_right_keys, has_right, is_among, joined_names, keeps_left, keeps_right, left_names, coalesces_keys, right_name, shows_right}
+use Rattle.tb_frame.specs.Promise.Join.{columns_where}
+use Rattle.tb_frame.specs.Promise.Naming.{Field, answer_fields, coalesces, default_suffix, drops_left_keys, drops_right_keys, has_right, is_among, joined_names, keeps_left, keeps_right, left_names, coalesces_keys, right_name, shows_right}
+use Rattle.tb_frame.specs.Naming.{answer_names}
 use Rattle.tb_frame.specs.RightColumns.{beside, gone_beside, gone_left, gone_right, names_without, right_side}
-use Rattle.tb_frame.specs.Table.{TableColumn, plain_column, table_of, names_of}
+use Rattle.tb_frame.specs.Promise.Table.{TableColumn, plain_column, table_of, names_of}
 use Rattle.tb_value.proofs.Kept.{filter-map}
 use Rattle.tb_frame.proofs.Frames.{without-table}
 

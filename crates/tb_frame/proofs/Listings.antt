@@ -8,9 +8,9 @@ use Rattle.std.proofs.lemmas.List.Sums.{sum_by-append, length-filter}
 use Rattle.tb_value.specs.declared.index.JoinPair.{JoinPair}
 use Rattle.tb_frame.specs.declared.args.JoinType.{JoinType}
 use Rattle.tb_frame.specs.declared.args.JoinType.TheVariants.{Inner, Left, Right, Full, Semi, Anti}
-use Rattle.tb_value.specs.Pairs.{row_numbers}
-use Rattle.tb_value.specs.Pairs.{both, left_only, matched_pairs, left_unmet}
-use Rattle.tb_frame.specs.Join.{listing_of}
+use Rattle.tb_value.specs.Promise.Pairs.{row_numbers}
+use Rattle.tb_value.specs.Promise.Pairs.{both, left_only, matched_pairs, left_unmet}
+use Rattle.tb_frame.specs.Promise.Join.{listing_of}
 use Rattle.tb_value.specs.Pairs.{times, is_row}
 use Rattle.tb_value.proofs.Ascending.{matched-same, left_met-same, left_unmet-same, right_unmet-same}
 use Rattle.tb_value.proofs.Counts.{sum_by-map, sum_by-filter, sum_by-flat_map, sum_by-agree, sum_by-plus, sum_one, swap_conds, sum_by_test, counted_if_any, each_one}

@@ -5,10 +5,10 @@ use Rattle.std.specs.Bool.{Decides}
 use Rattle.std.specs.List.{list_all}
 use Rattle.std.proofs.lemmas.List.FromFn.{length-range_with_len, get_or-range_with_len}
 use Rattle.std.proofs.lemmas.List.Sums.{AllPass-from_list_all, list_all-from_AllPass}
-use Rattle.tb_value.specs.Datum.{Datum, null, boolean, int, string, binary, list, struct, is_null}
-use Rattle.tb_value.specs.Same.{same, agrees}
+use Rattle.tb_value.specs.Promise.Datum.{Datum, null, boolean, int, string, binary, list, struct, is_null}
+use Rattle.tb_value.specs.Promise.Same.{same, agrees}
 use Rattle.tb_value.specs.Proved.ValueTests.{same-Decides}
-use Rattle.tb_value.specs.Pairs.{row_numbers}
+use Rattle.tb_value.specs.Promise.Pairs.{row_numbers}
 use Rattle.tb_frame.specs.Meaning.{Agree}
 
 -- a test of each row number

@@ -2,8 +2,8 @@
 use Rattle.std.proofs.Common.{◌≡◌, List, refl}
 use Rattle.std.specs.Prelude.{◌≢◌, IsPermutation}
 use Rattle.tb_value.specs.declared.index.JoinPair.{JoinPair}
-use Rattle.tb_value.specs.Pairs.{left_first, right_first}
-use Rattle.tb_frame.specs.Join.{Ascends}
+use Rattle.tb_value.specs.Promise.Pairs.{left_first, right_first}
+use Rattle.tb_frame.specs.Promise.Join.{Ascends}
 use Rattle.tb_frame.specs.declared.args.Direction.{Direction}
 use Rattle.tb_frame.specs.declared.args.Direction.TheVariants.{Free, ByLeft, ByRight}
 use Rattle.tb_value.proofs.Orders.{left_first_total, right_first_total, left_first_same, right_first_same}

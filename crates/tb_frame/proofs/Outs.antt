@@ -6,16 +6,17 @@ use Rattle.std.proofs.lemmas.List.{map-append, length-map, length-append}
 use Rattle.std.proofs.lemmas.List.Elements.{All-append, All-filter, All-map}
 use Rattle.tb_value.proofs.Ascending.{AllPairs-thinned}
 use Rattle.tb_value.proofs.Loops.{map-map}
-use Rattle.tb_value.specs.Datum.{Datum, is_null}
-use Rattle.tb_value.specs.Kind.{Kind}
-use Rattle.tb_value.specs.Names.{Name, same_name}
-use Rattle.tb_value.specs.Typed.{HasType}
+use Rattle.tb_value.specs.Promise.Datum.{Datum, is_null}
+use Rattle.tb_value.specs.Promise.Kind.{Kind}
+use Rattle.tb_value.specs.Promise.Names.{Name, same_name}
+use Rattle.tb_value.specs.Promise.Typed.{HasType}
 use Rattle.tb_value.specs.declared.index.JoinPair.{JoinPair}
 use Rattle.tb_frame.specs.declared.args.JoinType.{JoinType}
 use Rattle.tb_frame.specs.declared.args.JoinType.TheVariants.{Inner, Left, Right, Full, Semi, Anti}
-use Rattle.tb_frame.specs.Table.{TableColumn, Table, IsTyped, names_of, schema_of}
-use Rattle.tb_frame.specs.Join.{Request, Out, kept_left_columns, shown_right_columns, column_named, partner, right_key, value_at, left_field, left_out, right_out, out, out_columns, CoalescesAlike}
-use Rattle.tb_frame.specs.Naming.{Field, coalesces, drops_left_keys, drops_right_keys, has_right, is_among, joined_names, keeps_left, keeps_right, left_names, coalesces_keys, right_name, shows_right}
+use Rattle.tb_frame.specs.Promise.Table.{TableColumn, Table, IsTyped, names_of, schema_of}
+use Rattle.tb_frame.specs.Promise.Join.{Request, Out, kept_left_columns, shown_right_columns, column_named, partner, right_key, value_at, left_field, left_out, right_out, out, out_columns}
+use Rattle.tb_frame.specs.Join.{CoalescesAlike}
+use Rattle.tb_frame.specs.Promise.Naming.{Field, coalesces, drops_left_keys, drops_right_keys, has_right, is_among, joined_names, keeps_left, keeps_right, left_names, coalesces_keys, right_name, shows_right}
 use Rattle.tb_frame.proofs.Causes.{found_holds}
 use Rattle.tb_value.proofs.Kept.{filter-map}
 use Rattle.tb_frame.proofs.Taking.{at_place}

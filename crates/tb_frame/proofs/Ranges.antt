@@ -10,9 +10,9 @@ use Rattle.tb_chunk.specs.Rows.{IsRowOf}
 use Rattle.tb_frame.specs.declared.args.JoinType.{JoinType}
 use Rattle.tb_frame.specs.declared.args.JoinType.TheVariants.{Inner, Left, Right, Full, Semi, Anti}
 use Rattle.tb_frame.specs.declared.args.MaintainOrderJoin.{MaintainOrderJoin}
-use Rattle.tb_frame.specs.Table.{TableColumn, Table, height, IsTable}
-use Rattle.tb_value.specs.Pairs.{row_numbers, both, left_only, right_only, matched_pairs, left_met, left_unmet, right_unmet}
-use Rattle.tb_frame.specs.Join.{listing_of, in_slice, cut}
+use Rattle.tb_frame.specs.Promise.Table.{TableColumn, Table, height, IsTable}
+use Rattle.tb_value.specs.Promise.Pairs.{row_numbers, both, left_only, right_only, matched_pairs, left_met, left_unmet, right_unmet}
+use Rattle.tb_frame.specs.Promise.Join.{listing_of, in_slice, cut}
 use Rattle.tb_frame.specs.Answer.{IsPairOf, IsListed, AreLeftRows, AreRightRows}
 
 All-flat_map : {X A : Type 0} (P : A → Type 0) (f : X → List A) (xs : List X) → All (λ x. All P (f x)) xs → All P (flat_map f xs)

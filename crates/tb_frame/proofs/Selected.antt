@@ -9,16 +9,17 @@ use Rattle.std.proofs.lemmas.Slice.Eq.{bytes_eq-Decides}
 use Rattle.std.proofs.lemmas.List.{get_or_default}
 use Rattle.tb_value.proofs.Finds.{find_more, find_stop}
 use Rattle.tb_value.proofs.Picks.{picked}
-use Rattle.tb_value.specs.Names.{Name, same_name}
-use Rattle.tb_value.specs.Refusals.{first_cause, when}
+use Rattle.tb_value.specs.Promise.Names.{Name, same_name}
+use Rattle.tb_value.specs.Promise.Refusals.{first_cause, when}
 use Rattle.tb_value.specs.declared.error.PolarsError.{PolarsError}
 use Rattle.tb_value.specs.declared.error.PolarsError.TheVariants.{ColumnNotFound, OutOfMemory}
-use Rattle.tb_chunk.specs.Col.{Col}
-use Rattle.tb_frame.specs.Table.{TableColumn, Table, plain_column, table_of, height, names_of, IsTable}
-use Rattle.tb_frame.specs.Join.{column_named}
-use Rattle.tb_frame.specs.Naming.{is_among}
-use Rattle.tb_frame.specs.Frame.{frame_refusal, select_refusal, selected_columns}
-use Rattle.tb_frame.specs.Refusal.{first_unknown, repeated_among, unknown_key}
+use Rattle.tb_chunk.specs.Promise.Col.{Col}
+use Rattle.tb_frame.specs.Promise.Table.{TableColumn, Table, plain_column, table_of, height, names_of, IsTable}
+use Rattle.tb_frame.specs.Promise.Join.{column_named}
+use Rattle.tb_frame.specs.Promise.Naming.{is_among}
+use Rattle.tb_frame.specs.Promise.Frame.{selected_columns}
+use Rattle.tb_frame.specs.Frame.{frame_refusal, select_refusal}
+use Rattle.tb_frame.specs.Promise.Refusal.{first_unknown, repeated_among, unknown_key}
 use Rattle.tb_frame.proofs.Causes.{find_none, selected_hold}
 use Rattle.tb_frame.proofs.Frames.{level_refusal}
 

@@ -2,11 +2,11 @@
 use Rattle.std.proofs.Common.{◌≡◌, ℕ, ◌<◌, List, [], length, get_or, ap, arith, sym, ◌∙◌}
 use Rattle.std.proofs.lemmas.List.{length-map, get_or-map, same_lists, ext_get_or}
 use Rattle.std.proofs.lemmas.List.FromFn.{length-map-range_with_len, get_or-map-range_with_len}
-use Rattle.tb_value.specs.Datum.{Datum}
-use Rattle.tb_value.specs.Datum.{null}
-use Rattle.tb_value.specs.Kind.{Kind}
-use Rattle.tb_value.specs.Names.{Name}
-use Rattle.tb_frame.specs.Table.{TableColumn, Table, height, IsTable, rows_of, row_at, schema_of}
+use Rattle.tb_value.specs.Promise.Datum.{Datum}
+use Rattle.tb_value.specs.Promise.Datum.{null}
+use Rattle.tb_value.specs.Promise.Kind.{Kind}
+use Rattle.tb_value.specs.Promise.Names.{Name}
+use Rattle.tb_frame.specs.Promise.Table.{TableColumn, Table, height, IsTable, rows_of, row_at, schema_of}
 
 -- the rows are as many as the table is high, and the field of a row in a column is the column's value
 pub length-rows_of : (t : Table) → length (rows_of t) ≡ height t

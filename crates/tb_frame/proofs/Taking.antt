@@ -3,13 +3,13 @@ use Rattle.std.proofs.Common.{◌≡◌, ℕ, zero, suc, ◌<◌, List, [], ◌�
 use Rattle.std.specs.Prelude.{All, AllPairs, ◌≢◌, ◌-◌, min, ℤ}
 use Rattle.std.proofs.lemmas.List.{length-map, get_or-map, length-take, length-drop}
 use Rattle.std.proofs.lemmas.List.Elements.{All-nil, All-cons, All-head, All-tail, All-map, All-weaker, All-take, All-drop}
-use Rattle.tb_value.specs.Datum.{Datum, null}
-use Rattle.tb_value.specs.Names.{Name}
-use Rattle.tb_value.specs.Typed.{HasType}
-use Rattle.tb_chunk.specs.Col.{Col, values}
+use Rattle.tb_value.specs.Promise.Datum.{Datum, null}
+use Rattle.tb_value.specs.Promise.Names.{Name}
+use Rattle.tb_value.specs.Promise.Typed.{HasType}
+use Rattle.tb_chunk.specs.Promise.Col.{Col, values}
 use Rattle.tb_chunk.specs.Rows.{IsRowOf, value_or_null}
 use Rattle.tb_chunk.specs.Window.{part_from, part_to}
-use Rattle.tb_frame.specs.Table.{TableColumn, plain_column, table_of, height, names_of, IsTable, IsTyped}
+use Rattle.tb_frame.specs.Promise.Table.{TableColumn, plain_column, table_of, height, names_of, IsTable, IsTyped}
 use Rattle.tb_frame.specs.Frame.{taken_rows, opt_taken_rows, sliced_rows}
 use Rattle.tb_frame.proofs.Frames.{level_height}
 

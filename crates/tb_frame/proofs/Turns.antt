@@ -5,17 +5,18 @@ use Rattle.std.specs.List.{list_any, list_all}
 use Rattle.std.proofs.lemmas.List.{map-append}
 use Rattle.std.proofs.lemmas.List.Sorted.{IsPermutation-sym, IsPermutation-trans, IsPermutation-append_left, IsPermutation-map}
 use Rattle.tb_value.specs.declared.index.JoinPair.{JoinPair}
-use Rattle.tb_value.specs.Datum.{Datum, is_null, is_present}
+use Rattle.tb_value.specs.Promise.Datum.{Datum, is_null, is_present}
 use Rattle.tb_value.specs.Proved.ValueTests.{same_equiv}
-use Rattle.tb_value.specs.Pairs.{row_numbers, left_only, matched_pairs, left_unmet, right_unmet, turn}
+use Rattle.tb_value.specs.Promise.Pairs.{row_numbers, left_only, matched_pairs, left_unmet, right_unmet}
+use Rattle.tb_value.specs.Pairs.{turn}
 use Rattle.tb_value.proofs.Loops.{map-map, permuted, turned_matches}
 use Rattle.tb_value.proofs.Probes.{turn_twice, turned_to_left, turned_to_right}
 use Rattle.tb_frame.specs.declared.args.JoinType.TheVariants.{Left, Right}
 use Rattle.tb_frame.specs.declared.args.MaintainOrderJoin.{MaintainOrderJoin}
 use Rattle.tb_frame.specs.declared.args.MaintainOrderJoin.TheVariants as order
-use Rattle.tb_frame.specs.Table.{height}
-use Rattle.tb_value.specs.Same.{agrees}
-use Rattle.tb_frame.specs.Join.{Request, matches, field, nulls_match, places, listing, listing_of, Ascends, direction, IsOrdered}
+use Rattle.tb_frame.specs.Promise.Table.{height}
+use Rattle.tb_value.specs.Promise.Same.{agrees}
+use Rattle.tb_frame.specs.Promise.Join.{Request, matches, field, nulls_match, places, listing, listing_of, Ascends, direction, IsOrdered}
 use Rattle.tb_frame.specs.Sides.{asking, exchanged_request, flip}
 
 -- EQUALITY BOTH WAYS

@@ -2,7 +2,7 @@
 use Rattle.std.proofs.Common.{◌≡◌, ◌==◌, ◌<◌, ◌≤◌, List, length, map, arith, Option, None, inl}
 use Rattle.std.specs.Prelude.{All, AllPairs, ◌≢◌}
 use Rattle.std.proofs.lemmas.Bool.{eqb-true}
-use Rattle.tb_value.specs.Names.{Name}
+use Rattle.tb_value.specs.Promise.Names.{Name}
 use Rattle.tb_value.specs.declared.error.InvalidCause.TheVariants.{NoKeys, KeyCounts}
 use Rattle.tb_value.specs.declared.error.PolarsError.{PolarsError}
 use Rattle.tb_value.specs.declared.error.PolarsError.TheVariants.{ColumnNotFound, InvalidOperation, Duplicate, ComputeError}
@@ -10,10 +10,11 @@ use Rattle.tb_value.specs.declared.error.ComputeCause.TheVariants.{TooManyRows}
 use Rattle.tb_value.specs.declared.index.JoinPair.{JoinPair}
 use Rattle.tb_value.specs.declared.limits.TheConstants.{MAX_ROWS}
 use Rattle.tb_frame.specs.Answer.{fill}
-use Rattle.tb_frame.specs.Join.{Request, IsAnswer, CoalescesAlike, cut, direction, listing, matches, out}
-use Rattle.tb_frame.specs.Naming.{joined_names}
-use Rattle.tb_frame.specs.Refusal.{join_causes, join_valid, key_types, first_unknown, first_repeated}
-use Rattle.tb_frame.specs.Table.{Table, IsTable, height, names_of}
+use Rattle.tb_frame.specs.Promise.Join.{Request, IsAnswer, cut, direction, listing, matches, out}
+use Rattle.tb_frame.specs.Join.{CoalescesAlike}
+use Rattle.tb_frame.specs.Promise.Naming.{joined_names}
+use Rattle.tb_frame.specs.Promise.Refusal.{join_causes, join_valid, key_types, first_unknown, first_repeated}
+use Rattle.tb_frame.specs.Promise.Table.{Table, IsTable, height, names_of}
 use Rattle.tb_frame.proofs.AnswerLemmas.{answer_of, table-fill}
 use Rattle.tb_frame.proofs.Causes.{map_none, no_cause, distinct_names, has_column, some_keys, some_right_keys, when_not_above}
 use Rattle.tb_frame.proofs.Frames.{when_not}

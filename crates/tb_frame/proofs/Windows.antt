@@ -5,7 +5,7 @@ use Rattle.std.specs.List.{enumerate_from}
 use Rattle.std.proofs.lemmas.Bool.Decides.{nat_tests}
 use Rattle.tb_chunk.specs.Window.{part_from, part_to, place_of, window}
 use Rattle.tb_chunk.proofs.Windows.{in_part}
-use Rattle.tb_frame.specs.Join.{in_slice, slice}
+use Rattle.tb_frame.specs.Promise.Join.{in_slice, slice}
 
 -- the test of a window, one place on
 past : (l c k : ℕ) → (leb (suc l) (suc k) && ltb (suc k) (suc l + c)) ≡ (leb l k && ltb k (l + c))

@@ -4,8 +4,8 @@ use Rattle.tb_value.specs.declared.index.JoinPair.{JoinPair}
 use Rattle.tb_chunk.specs.Rows.{IsRowOf}
 use Rattle.tb_frame.specs.declared.args.JoinType.{JoinType}
 use Rattle.tb_frame.specs.declared.args.MaintainOrderJoin.{MaintainOrderJoin}
-use Rattle.tb_frame.specs.Table.{TableColumn}
-use Rattle.tb_frame.specs.Join.{Out, IsOrdered, cut}
+use Rattle.tb_frame.specs.Promise.Table.{TableColumn}
+use Rattle.tb_frame.specs.Promise.Join.{Out, IsOrdered, cut}
 
 -- a column of the answer over the pairs
 abbrev pub fill : List JoinPair → Out → TableColumn

@@ -1,20 +1,17 @@
 -- Which lists of columns make no table, and what becomes of the columns of a table.
-use Rattle.std.specs.Prelude.{◌≡◌, ◌==◌, ℕ, Bool, not, List, [], ◌∷◌, length, map, filter, Option}
-use Rattle.std.specs.List.{AllPairs, list_all, filter_map, find}
-use Rattle.tb_value.specs.Datum.{Datum}
-use Rattle.tb_value.specs.Names.{Name, same_name}
-use Rattle.tb_value.specs.Refusals.{first_cause, when}
+use Rattle.std.specs.Prelude.{◌≡◌, ℕ, not, List, [], ◌∷◌, length, map, filter, Option}
+use Rattle.std.specs.List.{AllPairs}
+use Rattle.tb_value.specs.Promise.Datum.{Datum}
+use Rattle.tb_value.specs.Promise.Names.{Name}
+use Rattle.tb_value.specs.Promise.Refusals.{first_cause, when}
 use Rattle.tb_value.specs.declared.error.PolarsError.{PolarsError}
 use Rattle.tb_value.specs.declared.error.PolarsError.TheVariants.{ShapeMismatch}
 pub use Rattle.tb_chunk.specs.Changed.{coalesced_column, opt_taken_rows, sliced_rows, taken_rows}
-use Rattle.tb_chunk.specs.Col.{Col}
-use Rattle.tb_frame.specs.Table.{TableColumn, Table, height, names_of}
-use Rattle.tb_frame.specs.Naming.{is_among}
-use Rattle.tb_frame.specs.Refusal.{repeated_among, unknown_key}
-
--- all lists have one length
-abbrev pub are_level : Table → Bool
-are_level t = list_all (λ (c : TableColumn). length c.values == height t) t
+use Rattle.tb_chunk.specs.Promise.Col.{Col}
+use Rattle.tb_frame.specs.Promise.Table.{Table, names_of}
+use Rattle.tb_frame.specs.Promise.Naming.{is_among}
+use Rattle.tb_frame.specs.Promise.Refusal.{repeated_among, unknown_key}
+use Rattle.tb_frame.specs.Promise.Frame.{are_level}
 
 -- two lengths differ, or a name is repeated
 abbrev pub frame_refusal : Table → Option PolarsError
@@ -23,10 +20,6 @@ frame_refusal t = first_cause (when (not (are_level t)) ShapeMismatch ∷ repeat
 -- a name is of no column, or is repeated
 abbrev pub select_refusal : List Name → Table → Option PolarsError
 select_refusal names t = first_cause (unknown_key t names ∷ repeated_among names ∷ [])
-
--- the columns of these names, in the order of the names
-abbrev pub selected_columns : List Name → List Col → List Col
-selected_columns names cs = filter_map (λ n. find (λ (c : Col). same_name c.name n) cs) names
 
 -- the columns whose names are not among these
 abbrev pub without_names : List Name → List Col → List Col

@@ -1,4 +1,3 @@
-pub mod Table
 pub mod Naming
 pub mod Join
 pub mod Refusal
@@ -9,3 +8,4 @@ pub mod Answer
 pub mod Sides
 pub mod Meaning
 pub mod RightColumns
+pub mod Promise

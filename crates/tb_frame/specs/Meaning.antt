@@ -1,6 +1,6 @@
 -- What a match says, in words of its own.
 use Rattle.std.specs.Prelude.{◌≡◌, ◌≢◌, ◌⊎◌, Bool, true}
-use Rattle.tb_value.specs.Datum.{Datum, null}
+use Rattle.tb_value.specs.Promise.Datum.{Datum, null}
 
 -- two fields are present and equal, or both are Null and Nulls match
 abbrev pub Agree : Bool → Datum → Datum → Type 0

@@ -5,8 +5,8 @@ use Rattle.std.specs.BTreeMap.{get_by}
 use Rattle.std.specs.Cmp.Lexicographic.{slice_cmp}
 use Rattle.std.specs.Option.{option_copied}
 use Rattle.std.specs.Ordering.{nat_cmp}
-use Rattle.tb_value.specs.Names.{Name}
-use Rattle.tb_chunk.specs.Col.{Col}
+use Rattle.tb_value.specs.Promise.Names.{Name}
+use Rattle.tb_chunk.specs.Promise.Col.{Col}
 use Rattle.tb_frame.specs.declared.lookup.NamedColumns.{NamedColumns}
 
 -- the column under the name

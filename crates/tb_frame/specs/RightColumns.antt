@@ -1,10 +1,10 @@
 -- The columns that an answer takes of the two tables, by the lists of names that go.
 use Rattle.std.specs.Prelude.{if◌then◌else◌, ℕ, ◌||◌, not, List, [], ◌++◌, filter, map, Option, Some}
-use Rattle.tb_value.specs.Names.{Name}
-use Rattle.tb_chunk.specs.Col.{Col}
+use Rattle.tb_value.specs.Promise.Names.{Name}
+use Rattle.tb_chunk.specs.Promise.Col.{Col}
 use Rattle.tb_frame.specs.declared.args.JoinArgs.{JoinArgs}
 use Rattle.tb_frame.specs.declared.args.JoinType.{JoinType}
-use Rattle.tb_frame.specs.Naming.{coalesces, drops_left_keys, drops_right_keys, has_right, is_among, coalesces_keys, right_name}
+use Rattle.tb_frame.specs.Promise.Naming.{coalesces, drops_left_keys, drops_right_keys, has_right, is_among, coalesces_keys, right_name}
 use Rattle.tb_frame.specs.Frame.{opt_taken_rows, without_names}
 
 -- the left names that the answer lacks, and the right ones

@@ -3,7 +3,7 @@ use Rattle.tb_frame.specs.declared.args.JoinArgs.{JoinArgs}
 use Rattle.tb_frame.specs.declared.args.JoinType.{JoinType}
 use Rattle.tb_frame.specs.declared.args.MaintainOrderJoin.{MaintainOrderJoin}
 use Rattle.tb_frame.specs.declared.args.MaintainOrderJoin.TheVariants as order
-use Rattle.tb_frame.specs.Join.{Request}
+use Rattle.tb_frame.specs.Promise.Join.{Request}
 
 -- the same arguments, of another kind
 abbrev pub of_kind : JoinType → JoinArgs → JoinArgs

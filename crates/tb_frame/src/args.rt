@@ -1,7 +1,7 @@
 //! The arguments of a join.
 ghost use Rattle.std.specs.Prelude.{◌≡◌, IfOk, None, false};
-ghost use Rattle.tb_frame.specs.Naming.{coalesce, coalesces};
-ghost use Rattle.tb_frame.specs.Refusal.{asks_left, asks_right, asks_a_side};
+ghost use Rattle.tb_frame.specs.Promise.Naming.{coalesce, coalesces};
+ghost use Rattle.tb_frame.specs.Promise.Refusal.{asks_left, asks_right, asks_a_side};
 ghost use Rattle.tb_frame.specs.Sides.{flip};
 
 use crate::null_flags::JoinNulls;

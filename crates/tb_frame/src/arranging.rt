@@ -1,7 +1,7 @@
 //! The order of a join's pairs, and the part of them that a slice keeps.
 ghost use Rattle.std.specs.Prelude.{◌≡◌, IfOk, OnOk};
 ghost use Rattle.tb_frame.specs.Answer.{IsListed};
-ghost use Rattle.tb_frame.specs.Join.{IsOrdered, cut};
+ghost use Rattle.tb_frame.specs.Promise.Join.{IsOrdered, cut};
 
 use crate::args::{Direction, JoinArgs, JoinType, MaintainOrderJoin};
 use crate::order::direction_of;

@@ -1,6 +1,6 @@
 //! How the columns of a table are cut into chunks.
 ghost use Rattle.std.specs.Prelude.{◌≡◌, ◌↔◌, All, IfOk, IsTrue, OnErr, OnOk, map};
-ghost use Rattle.tb_chunk.specs.Col.{Col};
+ghost use Rattle.tb_chunk.specs.Promise.Col.{Col};
 ghost use Rattle.tb_chunk.specs.Lent.{in_one_chunk};
 ghost use Rattle.tb_frame.specs.Frame.{lens, AreCutAlike};
 

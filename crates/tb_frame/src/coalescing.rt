@@ -1,6 +1,6 @@
 //! Columns made of two, of which the second stands in where the first has Null.
 ghost use Rattle.std.specs.Prelude.{◌≡◌, IfOk, length};
-ghost use Rattle.tb_chunk.specs.Col.{values};
+ghost use Rattle.tb_chunk.specs.Promise.Col.{values};
 ghost use Rattle.tb_frame.specs.Frame.{coalesced_column};
 
 use std::alloc::Global;

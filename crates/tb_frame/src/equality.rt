@@ -1,8 +1,8 @@
 //! Whether two tables are equal.
 ghost use Rattle.std.specs.Prelude.{◌≡◌, ◌↔◌, IsTrue};
-ghost use Rattle.tb_value.specs.SameKind.{same_kind};
-ghost use Rattle.tb_chunk.specs.Col.{values};
-ghost use Rattle.tb_frame.specs.Table.{plain_column, table_of};
+ghost use Rattle.tb_value.specs.Promise.SameKind.{same_kind};
+ghost use Rattle.tb_chunk.specs.Promise.Col.{values};
+ghost use Rattle.tb_frame.specs.Promise.Table.{plain_column, table_of};
 
 use crate::frame::DataFrame;
 use tb_store::{Column, Series};

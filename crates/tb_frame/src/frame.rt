@@ -2,17 +2,19 @@
 ghost use Rattle.std.specs.Prelude.{◌≡◌, ◌==◌, ◌≤◌, ◌<◌, ◌∷◌, [], ◌++◌, All, IfOk, IfSome, IsTrue, OnOk, length, map, position, slice_index_or, is_none, Some};
 ghost use Rattle.std.specs.Option.{option_copied};
 ghost use Rattle.std.specs.List.{find, list_all};
-ghost use Rattle.tb_value.specs.Names.{Name, same_name};
-ghost use Rattle.tb_value.specs.Refusals.{Settles, when};
+ghost use Rattle.tb_value.specs.Promise.Names.{Name, same_name};
+ghost use Rattle.tb_value.specs.Promise.Refusals.{when};
+ghost use Rattle.tb_value.specs.Refusals.{Settles};
 ghost use Rattle.tb_value.specs.declared.error.PolarsError.TheVariants.{ColumnNotFound, Duplicate, ShapeMismatch};
-ghost use Rattle.tb_chunk.specs.Col.{Col, values};
+ghost use Rattle.tb_chunk.specs.Promise.Col.{Col, values};
 ghost use Rattle.tb_chunk.specs.Lent.{lent_columns};
 ghost use Rattle.tb_chunk.specs.Rows.{IsRowOf};
-ghost use Rattle.tb_frame.specs.Table.{table_of, height, names_of, IsTable, IsTyped};
-ghost use Rattle.tb_frame.specs.Refusal.{unknown_key};
-ghost use Rattle.tb_frame.specs.Naming.{is_among};
+ghost use Rattle.tb_frame.specs.Promise.Table.{table_of, height, names_of, IsTable, IsTyped};
+ghost use Rattle.tb_frame.specs.Promise.Refusal.{unknown_key};
+ghost use Rattle.tb_frame.specs.Promise.Naming.{is_among};
 ghost use Rattle.tb_frame.specs.NameSets.{has_name};
-ghost use Rattle.tb_frame.specs.Frame.{are_level, frame_refusal, opt_taken_rows, select_refusal, selected_columns, sliced_rows, taken_rows, without_names};
+ghost use Rattle.tb_frame.specs.Promise.Frame.{are_level, selected_columns};
+ghost use Rattle.tb_frame.specs.Frame.{frame_refusal, opt_taken_rows, select_refusal, sliced_rows, taken_rows, without_names};
 
 use crate::lookup::lend_columns;
 use crate::names::{NameSet, check_distinct, name_set};
@@ -32,9 +34,9 @@ pub struct DataFrame {
 impl Model for DataFrame {
     ghost use Rattle.std.specs.Prelude.{List};
     ghost use Rattle.std.specs.Coded.{coded_list};
-    ghost use Rattle.tb_chunk.specs.Col.{Col};
+    ghost use Rattle.tb_chunk.specs.Promise.Col.{Col};
     ghost use Rattle.tb_chunk.specs.ColCode.{coded_col};
-    ghost use Rattle.tb_frame.specs.Table.{table_of, IsTable};
+    ghost use Rattle.tb_frame.specs.Promise.Table.{table_of, IsTable};
 
     ghost Value = { List Col };
 
@@ -48,7 +50,7 @@ impl Model for DataFrame {
 /// What lends a table. Operations over it speak of the table that it lends.
 pub trait IntoDf {
     ghost use Rattle.std.specs.Prelude.{List};
-    ghost use Rattle.tb_chunk.specs.Col.{Col};
+    ghost use Rattle.tb_chunk.specs.Promise.Col.{Col};
 
     /// The columns of the table.
     ghost frame: { Self → List Col };

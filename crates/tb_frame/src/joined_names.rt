@@ -1,11 +1,12 @@
 //! The names of the columns that a join puts side by side, and of those of its answer.
 ghost use Rattle.std.specs.Prelude.{◌≡◌, ◌++◌, IfOk, List, OnOk, Some, map};
-ghost use Rattle.tb_value.specs.Names.{Name};
+ghost use Rattle.tb_value.specs.Promise.Names.{Name};
 ghost use Rattle.tb_value.specs.Refusals.{Settles};
 ghost use Rattle.tb_frame.specs.Join.{lent_request};
 ghost use Rattle.tb_frame.specs.NameSets.{has_name};
-ghost use Rattle.tb_frame.specs.Naming.{answer_names, is_among, right_name};
-ghost use Rattle.tb_frame.specs.Refusal.{repeated_name};
+ghost use Rattle.tb_frame.specs.Promise.Naming.{is_among, right_name};
+ghost use Rattle.tb_frame.specs.Naming.{answer_names};
+ghost use Rattle.tb_frame.specs.Promise.Refusal.{repeated_name};
 ghost use Rattle.tb_frame.specs.RightColumns.{beside, gone_beside, names_without};
 ghost use Rattle.tb_frame.specs.Sides.{asking, of_kind};
 

@@ -1,9 +1,10 @@
 //! What holds of the definitions of tables and of the arguments of a join, each as the contract of a function.
 ghost use Rattle.std.specs.Prelude.{◌≡◌, ◌↔◌, IsTrue, ℕ, ℤ, List, length, map};
 ghost use Rattle.tb_chunk.specs.Window.{window};
-ghost use Rattle.tb_value.specs.Names.{Name};
-ghost use Rattle.tb_frame.specs.Join.{slice};
-ghost use Rattle.tb_frame.specs.Naming.{Field, answer_fields, answer_names};
+ghost use Rattle.tb_value.specs.Promise.Names.{Name};
+ghost use Rattle.tb_frame.specs.Promise.Join.{slice};
+ghost use Rattle.tb_frame.specs.Promise.Naming.{Field, answer_fields};
+ghost use Rattle.tb_frame.specs.Naming.{answer_names};
 ghost use Rattle.tb_frame.specs.declared.args.JoinArgs.{JoinArgs};
 
 use crate::args::{JoinCoalesce, JoinType, JoinValidation, MaintainOrderJoin};

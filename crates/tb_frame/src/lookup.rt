@@ -2,15 +2,16 @@
 ghost use Rattle.std.specs.Prelude.{◌≡◌, ◌∷◌, [], ◌++◌, IfOk, None, OnOk, Some, if◌then◌else◌, is_none, unwrap_or};
 ghost use Rattle.std.specs.List.{find};
 ghost use Rattle.std.specs.Option.{option_copied};
-ghost use Rattle.tb_value.specs.Names.{Name, same_name};
-ghost use Rattle.tb_value.specs.Refusals.{Settles, when};
+ghost use Rattle.tb_value.specs.Promise.Names.{Name, same_name};
+ghost use Rattle.tb_value.specs.Promise.Refusals.{when};
+ghost use Rattle.tb_value.specs.Refusals.{Settles};
 ghost use Rattle.tb_value.specs.declared.error.PolarsError.TheVariants.{ColumnNotFound};
-ghost use Rattle.tb_chunk.specs.Col.{Col};
+ghost use Rattle.tb_chunk.specs.Promise.Col.{Col};
 ghost use Rattle.tb_chunk.specs.Lent.{lent_columns};
-ghost use Rattle.tb_frame.specs.Frame.{selected_columns};
+ghost use Rattle.tb_frame.specs.Promise.Frame.{selected_columns};
 ghost use Rattle.tb_frame.specs.NamedColumns.{column_by};
-ghost use Rattle.tb_frame.specs.Refusal.{unknown_key};
-ghost use Rattle.tb_frame.specs.Table.{table_of};
+ghost use Rattle.tb_frame.specs.Promise.Refusal.{unknown_key};
+ghost use Rattle.tb_frame.specs.Promise.Table.{table_of};
 
 use std::alloc::Global;
 use std::collections::BTreeMap;

@@ -1,10 +1,10 @@
 //! Names, and sets of them.
 ghost use Rattle.std.specs.Prelude.{◌≡◌, ◌||◌, ◌++◌, not, false, map, IfOk, OnOk, OnErr};
-ghost use Rattle.tb_value.specs.Names.{Name, same_name};
+ghost use Rattle.tb_value.specs.Promise.Names.{Name, same_name};
 ghost use Rattle.tb_value.specs.Refusals.{Settles};
-ghost use Rattle.tb_frame.specs.Naming.{is_among};
+ghost use Rattle.tb_frame.specs.Promise.Naming.{is_among};
 ghost use Rattle.tb_frame.specs.NameSets.{has_name};
-ghost use Rattle.tb_frame.specs.Refusal.{repeated_among};
+ghost use Rattle.tb_frame.specs.Promise.Refusal.{repeated_among};
 
 use std::alloc::Global;
 use std::collections::BTreeSet;

@@ -1,7 +1,7 @@
 //! In which keys absent fields match absent ones.
 ghost use Rattle.std.specs.Prelude.{◌≡◌, IfOk, map};
-ghost use Rattle.tb_value.specs.Pairs.{row_numbers};
-ghost use Rattle.tb_frame.specs.Join.{flag_at};
+ghost use Rattle.tb_value.specs.Promise.Pairs.{row_numbers};
+ghost use Rattle.tb_frame.specs.Promise.Join.{flag_at};
 
 use std::alloc::Global;
 use std::marker::Model;

@@ -1,6 +1,6 @@
 //! The order of a join's pairs.
 ghost use Rattle.std.specs.Prelude.{◌≡◌};
-ghost use Rattle.tb_frame.specs.Join.{direction};
+ghost use Rattle.tb_frame.specs.Promise.Join.{direction};
 
 use crate::args::{Direction, JoinType, MaintainOrderJoin};
 

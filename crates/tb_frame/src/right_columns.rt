@@ -1,8 +1,8 @@
 //! The columns that an answer takes of the two tables, and their rows.
 ghost use Rattle.std.specs.Prelude.{◌≡◌, IfOk, List, Some, map, unwrap_or};
-ghost use Rattle.tb_value.specs.Names.{Name};
+ghost use Rattle.tb_value.specs.Promise.Names.{Name};
 ghost use Rattle.tb_value.specs.declared.index.JoinPair.{JoinPair};
-ghost use Rattle.tb_frame.specs.Naming.{default_suffix, has_right, is_among, right_name};
+ghost use Rattle.tb_frame.specs.Promise.Naming.{default_suffix, has_right, is_among, right_name};
 ghost use Rattle.tb_frame.specs.NameSets.{has_name};
 ghost use Rattle.tb_frame.specs.RightColumns.{gone_left, gone_right, right_side};
 ghost use Rattle.tb_frame.specs.Sides.{of_kind};

@@ -1,6 +1,6 @@
 //! Which joins validation looks at.
 ghost use Rattle.std.specs.Prelude.{◌≡◌};
-ghost use Rattle.tb_frame.specs.Refusal.{is_validated};
+ghost use Rattle.tb_frame.specs.Promise.Refusal.{is_validated};
 
 use crate::args::JoinType;
 

@@ -3,16 +3,16 @@ use Rattle.std.proofs.Common.{◌≡◌, ◌∙◌, ℕ, Bool, true, false, List
 use Rattle.std.specs.List.{find}
 use Rattle.std.specs.declared.vec.Vec.{Vec}
 use Rattle.std.specs.declared.alloc.Global.{Global}
-use Rattle.tb_value.specs.Kind.{Kind}
-use Rattle.tb_value.specs.Names.{Name}
+use Rattle.tb_value.specs.Promise.Kind.{Kind}
+use Rattle.tb_value.specs.Promise.Names.{Name}
 use Rattle.tb_value.specs.Refusals as causes
 use Rattle.tb_value.specs.declared.error.PolarsError.{PolarsError}
-use Rattle.tb_chunk.specs.Col.{Col}
-use Rattle.tb_frame.specs.Join.{IsAnswer, Request, by_names, out_columns}
-use Rattle.tb_frame.specs.Refusal.{join_refusal}
-use Rattle.tb_frame.specs.Table.{Table, TableColumn, schema_of, table_of}
-use Rattle.tb_csv.specs.Faults as csv
-use Rattle.tb_csv.specs.Texts.{field_type, no_column, no_text, text_refusal}
+use Rattle.tb_chunk.specs.Promise.Col.{Col}
+use Rattle.tb_frame.specs.Promise.Join.{IsAnswer, Request, by_names, out_columns}
+use Rattle.tb_frame.specs.Promise.Refusal.{join_refusal}
+use Rattle.tb_frame.specs.Promise.Table.{Table, TableColumn, schema_of, table_of}
+use Rattle.tb_csv.specs.Promise.Faults as csv
+use Rattle.tb_csv.specs.Promise.Texts.{field_type, no_column, no_text, text_refusal}
 use Rattle.tb_csv.specs.declared.fault.CsvFault.{CsvFault}
 use Rattle.tb_csv.specs.declared.fault.CsvFault.TheVariants.{NoText}
 use Rattle.tb_front.specs.declared.arguments.JoinArguments.{JoinArguments}
@@ -21,10 +21,10 @@ use Rattle.tb_front.specs.declared.arguments.TextForm.TheVariants.{Csv, Json, La
 use Rattle.tb_front.specs.declared.fault.FrontFault.{FrontFault}
 use Rattle.tb_front.specs.declared.fault.FrontFault.TheVariants as fault
 use Rattle.tb_front.specs.declared.fault.Place.TheVariants.{First, Second}
-use Rattle.tb_front.specs.Asked.{IsAnswerText, answer_faults, asked_join, asked_of, join_fault}
-use Rattle.tb_value.specs.Refusals.{first_cause}
-use Rattle.tb_front.specs.Faults.{Settles, empty_table, no_table, writing_fault}
-use Rattle.tb_front.specs.Texts.{IsOutcome, table_in}
+use Rattle.tb_front.specs.Promise.Asked.{IsAnswerText, answer_faults, asked_join, asked_of, join_fault}
+use Rattle.tb_value.specs.Promise.Refusals.{first_cause}
+use Rattle.tb_front.specs.Promise.Faults.{Settles, empty_table, no_table, writing_fault}
+use Rattle.tb_front.specs.Promise.Texts.{IsOutcome, table_in}
 use Rattle.tb_front.proofs.Outcomes.{outcome_answers, outcome_settles}
 use Rattle.tb_front.proofs.Steps.{passes}
 

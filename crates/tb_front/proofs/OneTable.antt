@@ -4,29 +4,29 @@ use Rattle.std.specs.Borrow.{Bor}
 use Rattle.std.specs.Option.{option_copied}
 use Rattle.std.specs.declared.vec.Vec.{Vec}
 use Rattle.std.specs.declared.alloc.Global.{Global}
-use Rattle.tb_value.specs.Names.{Name}
+use Rattle.tb_value.specs.Promise.Names.{Name}
 use Rattle.tb_value.specs.Refusals as causes
 use Rattle.tb_value.specs.declared.error.PolarsError.{PolarsError}
-use Rattle.tb_chunk.specs.Col.{Col}
-use Rattle.tb_frame.specs.Table.{Table, table_of}
+use Rattle.tb_chunk.specs.Promise.Col.{Col}
+use Rattle.tb_frame.specs.Promise.Table.{Table, table_of}
 use Rattle.tb_csv.specs.declared.options.CsvOptions.{CsvOptions}
-use Rattle.tb_dummies.specs.Dummies.{dummies_refusal, dummies_table, separator_or}
-use Rattle.tb_dummies.specs.Dummies as marked
+use Rattle.tb_dummies.specs.Promise.Dummies.{dummies_refusal, dummies_table, separator_or}
+use Rattle.tb_dummies.specs.Promise.Dummies as marked
 use Rattle.tb_dummies.specs.Lent as lent
 use Rattle.tb_pivot.specs.Lent as borrowed
-use Rattle.tb_pivot.specs.Pivot.{pivot_table}
-use Rattle.tb_pivot.specs.Refusal.{pivot_refusal}
-use Rattle.tb_pivot.specs.Request.{way_of}
-use Rattle.tb_pivot.specs.Request as wide
+use Rattle.tb_pivot.specs.Promise.Pivot.{pivot_table}
+use Rattle.tb_pivot.specs.Promise.Refusal.{pivot_refusal}
+use Rattle.tb_pivot.specs.Promise.Request.{way_of}
+use Rattle.tb_pivot.specs.Promise.Request as wide
 use Rattle.tb_front.specs.declared.arguments.DummiesArguments.{DummiesArguments}
 use Rattle.tb_front.specs.declared.arguments.PivotArguments.{PivotArguments}
 use Rattle.tb_front.specs.declared.arguments.TextForm.{TextForm}
 use Rattle.tb_front.specs.declared.fault.FrontFault.{FrontFault}
 use Rattle.tb_front.specs.declared.fault.Place.TheVariants.{First}
-use Rattle.tb_front.specs.Asked.{dummies_faults, marked_of, names_in, pivot_faults, wide_of}
-use Rattle.tb_value.specs.Refusals.{first_cause}
-use Rattle.tb_front.specs.Faults.{Settles, no_table}
-use Rattle.tb_front.specs.Texts.{IsOutcome, table_in, text_in}
+use Rattle.tb_front.specs.Promise.Asked.{dummies_faults, marked_of, names_in, pivot_faults, wide_of}
+use Rattle.tb_value.specs.Promise.Refusals.{first_cause}
+use Rattle.tb_front.specs.Promise.Faults.{Settles, no_table}
+use Rattle.tb_front.specs.Promise.Texts.{IsOutcome, table_in, text_in}
 use Rattle.tb_front.proofs.Outcomes.{table_settles, table_text}
 use Rattle.tb_front.proofs.Steps.{passes}
 

@@ -6,14 +6,14 @@ use Rattle.std.specs.declared.alloc.Global.{Global}
 use Rattle.tb_value.specs.Refusals as causes
 use Rattle.tb_value.specs.declared.error.PolarsError.{PolarsError}
 use Rattle.tb_value.specs.declared.error.PolarsError.TheVariants as cause
-use Rattle.tb_chunk.specs.Col.{Col}
-use Rattle.tb_frame.specs.Table.{Table, table_of}
+use Rattle.tb_chunk.specs.Promise.Col.{Col}
+use Rattle.tb_frame.specs.Promise.Table.{Table, table_of}
 use Rattle.tb_front.specs.declared.arguments.TextForm.{TextForm}
 use Rattle.tb_front.specs.declared.fault.FrontFault.{FrontFault}
 use Rattle.tb_front.specs.declared.fault.FrontFault.TheVariants as fault
-use Rattle.tb_value.specs.Refusals.{first_cause}
-use Rattle.tb_front.specs.Faults.{Settles, writing_fault, refusal_fault}
-use Rattle.tb_front.specs.Texts.{IsOutcome, fault_of, text_in}
+use Rattle.tb_value.specs.Promise.Refusals.{first_cause}
+use Rattle.tb_front.specs.Promise.Faults.{Settles, writing_fault, refusal_fault}
+use Rattle.tb_front.specs.Promise.Texts.{IsOutcome, fault_of, text_in}
 use Rattle.tb_front.proofs.Steps.{first_of_one}
 
 -- a refusal is handed on as itself, or as want of memory

@@ -1,8 +1,8 @@
 -- The first of several faults.
 use Rattle.std.proofs.Common.{◌≡◌, List, [], ◌∷◌, Option, Some, None, Result, refl, sym, subst}
 use Rattle.tb_front.specs.declared.fault.FrontFault.{FrontFault}
-use Rattle.tb_value.specs.Refusals.{first_cause}
-use Rattle.tb_front.specs.Faults.{Settles}
+use Rattle.tb_value.specs.Promise.Refusals.{first_cause}
+use Rattle.tb_front.specs.Promise.Faults.{Settles}
 
 -- a fault that isn't there leaves the others
 pub passes : {T : Type 0} (result : Result T FrontFault) (f : Option FrontFault) (fs : List (Option FrontFault))

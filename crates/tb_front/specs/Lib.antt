@@ -1,3 +1,1 @@
-pub mod Faults
-pub mod Texts
-pub mod Asked
+pub mod Promise

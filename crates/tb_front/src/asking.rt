@@ -1,14 +1,14 @@
 //! The operations over texts.
 ghost use Rattle.std.specs.Prelude.{◌≡◌, IfOk, option_map};
 ghost use Rattle.std.specs.Option.{option_copied};
-ghost use Rattle.tb_dummies.specs.Dummies.{dummies_table};
-ghost use Rattle.tb_frame.specs.Table.{table_of};
-ghost use Rattle.tb_front.specs.Asked.{IsAnswerText, answer_faults, asked_dummies, asked_join, asked_long, asked_of, asked_wide, dummies_fault, dummies_faults, join_fault, long_of, marked_of, pivot_fault, pivot_faults, unpivot_fault, unpivot_faults, wide_of};
-ghost use Rattle.tb_value.specs.Refusals.{first_cause};
-ghost use Rattle.tb_front.specs.Faults.{Settles};
-ghost use Rattle.tb_front.specs.Texts.{text_in};
-ghost use Rattle.tb_pivot.specs.Pivot.{pivot_table};
-ghost use Rattle.tb_unpivot.specs.Unpivot.{unpivot_table};
+ghost use Rattle.tb_dummies.specs.Promise.Dummies.{dummies_table};
+ghost use Rattle.tb_frame.specs.Promise.Table.{table_of};
+ghost use Rattle.tb_front.specs.Promise.Asked.{IsAnswerText, answer_faults, asked_dummies, asked_join, asked_long, asked_of, asked_wide, dummies_fault, dummies_faults, join_fault, long_of, marked_of, pivot_fault, pivot_faults, unpivot_fault, unpivot_faults, wide_of};
+ghost use Rattle.tb_value.specs.Promise.Refusals.{first_cause};
+ghost use Rattle.tb_front.specs.Promise.Faults.{Settles};
+ghost use Rattle.tb_front.specs.Promise.Texts.{text_in};
+ghost use Rattle.tb_pivot.specs.Promise.Pivot.{pivot_table};
+ghost use Rattle.tb_unpivot.specs.Promise.Unpivot.{unpivot_table};
 
 use crate::arguments::{DummiesArguments, JoinArguments, PivotArguments, UnpivotArguments};
 use crate::fault::{FrontFault, Place};

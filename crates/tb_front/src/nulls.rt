@@ -1,6 +1,6 @@
 //! In which keys absent fields match absent ones, as names say it.
 ghost use Rattle.std.specs.Prelude.{◌≡◌, map, IfOk};
-ghost use Rattle.tb_frame.specs.Naming.{is_among};
+ghost use Rattle.tb_frame.specs.Promise.Naming.{is_among};
 
 use std::alloc::Global;
 use tb_frame::{Flags, name_set};

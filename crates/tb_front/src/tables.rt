@@ -1,9 +1,9 @@
 //! The table of a text, and the text of a table.
 ghost use Rattle.std.specs.Prelude.{◌≡◌, IfOk};
-ghost use Rattle.tb_chunk.specs.Col.{Col};
-ghost use Rattle.tb_frame.specs.Table.{table_of};
-ghost use Rattle.tb_front.specs.Faults.{Settles, no_table, writing_fault};
-ghost use Rattle.tb_front.specs.Texts.{IsOutcome, table_in, text_in};
+ghost use Rattle.tb_chunk.specs.Promise.Col.{Col};
+ghost use Rattle.tb_frame.specs.Promise.Table.{table_of};
+ghost use Rattle.tb_front.specs.Promise.Faults.{Settles, no_table, writing_fault};
+ghost use Rattle.tb_front.specs.Promise.Texts.{IsOutcome, table_in, text_in};
 
 use crate::arguments::TextForm;
 use crate::fault::{FrontFault, Place};

@@ -1,9 +1,10 @@
 -- What gathered columns are.
 use Rattle.std.proofs.Common.{arith, ◌≡◌, ◌∙◌, ◌≤◌, List, [], ◌∷◌, length, map, ap}
 use Rattle.std.proofs.lemmas.List.{length-map, append-nil}
-use Rattle.tb_value.specs.Typed.{HasType}
+use Rattle.tb_value.specs.Promise.Typed.{HasType}
 use Rattle.tb_value.specs.declared.sorted.IsSorted.{IsSorted}
-use Rattle.tb_chunk.specs.Col.{Col, IsColumn, concatenation, values}
+use Rattle.tb_chunk.specs.Promise.Col.{Col, concatenation, values}
+use Rattle.tb_chunk.specs.Col.{IsColumn}
 use Rattle.tb_chunk.specs.Flag.{FlagHolds}
 use Rattle.tb_chunk.proofs.Lists.{All-picked}
 use Rattle.tb_gather.specs.Ids.{Id, row_or_none}

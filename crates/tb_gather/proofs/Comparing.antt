@@ -7,13 +7,13 @@ use Rattle.std.specs.Cmp.{bool_cmp_total}
 use Rattle.std.proofs.lemmas.Cmp.{upto, int_cmp_total, nat_list_cmp_total, tied_itself}
 use Rattle.std.specs.declared.cmp.Ordering.{Ordering}
 use Rattle.std.specs.declared.cmp.Ordering.TheVariants.{Less, Equal, Greater}
-use Rattle.tb_value.specs.Datum.{Datum, is_present}
-use Rattle.tb_value.specs.Datum as value
-use Rattle.tb_value.specs.Kind.{Kind}
-use Rattle.tb_value.specs.Kind as kind
-use Rattle.tb_value.specs.SameKind.{is_key}
-use Rattle.tb_value.specs.Typed.{HasType}
-use Rattle.tb_chunk.specs.Flag.{datum_cmp}
+use Rattle.tb_value.specs.Promise.Datum.{Datum, is_present}
+use Rattle.tb_value.specs.Promise.Datum as value
+use Rattle.tb_value.specs.Promise.Kind.{Kind}
+use Rattle.tb_value.specs.Promise.Kind as kind
+use Rattle.tb_value.specs.Promise.SameKind.{is_key}
+use Rattle.tb_value.specs.Promise.Typed.{HasType}
+use Rattle.tb_cell.specs.Promise.Flag.{datum_cmp}
 
 -- the second is not less than the first
 abbrev pub UpTo : {X : Type 0} → (X → X → Ordering) → X → X → Type 0

@@ -2,11 +2,12 @@
 use Rattle.std.proofs.Common.{arith, ◌≡◌, ◌∙◌, ℕ, ◌<◌, ◌≤◌, ◌-◌, suc, zero, inl, inr, ◌⊎◌, List, [], ◌∷◌, map, get_or, take, ap, sym, refl, Option, Some, None}
 use Rattle.std.specs.List.{sum}
 use Rattle.std.proofs.lemmas.Bool.{cases_lt}
-use Rattle.tb_value.specs.Datum.{Datum}
+use Rattle.tb_value.specs.Promise.Datum.{Datum}
 use Rattle.tb_value.specs.declared.sorted.IsSorted.{IsSorted}
-use Rattle.tb_chunk.specs.Col.{Col, concatenation, values}
+use Rattle.tb_chunk.specs.Promise.Col.{Col, concatenation, values}
 use Rattle.tb_chunk.specs.Made.{IsOf}
-use Rattle.tb_chunk.specs.ViewArrays.{ViewArray, view_or_none}
+use Rattle.tb_view.specs.Promise.ViewArrays.{ViewArray}
+use Rattle.tb_chunk.specs.ViewArrays.{view_or_none}
 use Rattle.tb_view.specs.declared.view.View.{View}
 use Rattle.tb_frame.specs.Frame.{lens, lengths}
 use Rattle.tb_gather.specs.Ids.{Id, NamesRow, row_of, row_or_none}

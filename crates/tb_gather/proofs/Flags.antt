@@ -6,13 +6,15 @@ use Rattle.std.specs.Ordering.{flip_args}
 use Rattle.std.specs.declared.cmp.Ordering.{Ordering}
 use Rattle.std.proofs.lemmas.List.{get_or-map, length-map, append-nil}
 use Rattle.std.proofs.lemmas.List.Elements.{filter_passes, All-filter, All-map}
-use Rattle.tb_value.specs.Datum.{Datum, null, is_null, is_present}
-use Rattle.tb_value.specs.Kind.{Kind}
-use Rattle.tb_value.specs.Typed.{HasType}
+use Rattle.tb_value.specs.Promise.Datum.{Datum, null, is_null, is_present}
+use Rattle.tb_value.specs.Promise.Kind.{Kind}
+use Rattle.tb_value.specs.Promise.Typed.{HasType}
 use Rattle.tb_value.specs.declared.sorted.IsSorted.{IsSorted}
 use Rattle.tb_value.specs.declared.sorted.IsSorted.TheVariants.{Ascending, Descending, Not}
-use Rattle.tb_chunk.specs.Col.{Col, concatenation, values, IsColumn}
-use Rattle.tb_chunk.specs.Flag.{datum_cmp, present_values, nulls, IsOrdered, FlagHolds}
+use Rattle.tb_chunk.specs.Promise.Col.{Col, concatenation, values}
+use Rattle.tb_chunk.specs.Col.{IsColumn}
+use Rattle.tb_cell.specs.Promise.Flag.{datum_cmp, nulls}
+use Rattle.tb_chunk.specs.Flag.{present_values, IsOrdered, FlagHolds}
 use Rattle.tb_chunk.specs.Rows.{IsRowOf, value_or_null}
 use Rattle.tb_frame.specs.Frame.{lengths}
 use Rattle.tb_gather.specs.Ids.{Id, AreAllInOrder, NamesRow, StandInOrder, IsRowUpTo, RowsStandInOrder, AreAllRowsInOrder, row_or_none}

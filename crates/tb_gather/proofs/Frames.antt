@@ -2,11 +2,11 @@
 use Rattle.std.proofs.Common.{◌≡◌, ℕ, List, [], ◌∷◌, length, map, get_or, ap, sym, subst, Option, refl}
 use Rattle.std.specs.Prelude.{All}
 use Rattle.std.proofs.lemmas.List.Elements.{All-map}
-use Rattle.tb_value.specs.Datum.{Datum}
-use Rattle.tb_value.specs.Typed.{HasType}
+use Rattle.tb_value.specs.Promise.Datum.{Datum}
+use Rattle.tb_value.specs.Promise.Typed.{HasType}
 use Rattle.tb_value.specs.declared.sorted.IsSorted.{IsSorted}
-use Rattle.tb_chunk.specs.Col.{Col, values}
-use Rattle.tb_frame.specs.Table.{Table, plain_column, table_of, IsTable, IsTyped}
+use Rattle.tb_chunk.specs.Promise.Col.{Col, values}
+use Rattle.tb_frame.specs.Promise.Table.{Table, plain_column, table_of, IsTable, IsTyped}
 use Rattle.tb_frame.specs.Frame.{lengths, opt_taken_rows}
 use Rattle.tb_frame.proofs.Taking.{IsTable-made, IsTable-opt_taken, at_row}
 use Rattle.tb_gather.specs.Ids.{Id, row_or_none}

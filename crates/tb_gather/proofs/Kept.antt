@@ -6,10 +6,11 @@ use Rattle.std.proofs.lemmas.Option.{IfSome_then}
 use Rattle.std.proofs.lemmas.List.Elements.{filter_map-append}
 use Rattle.indexmap.specs.IndexSet.{insert_key}
 use Rattle.std.proofs.lemmas.List.{get_or-map, length-map, take_more}
-use Rattle.tb_value.specs.Datum.{Datum, null}
+use Rattle.tb_value.specs.Promise.Datum.{Datum, null}
 use Rattle.tb_chunk.specs.Held.{StandsAt}
 use Rattle.tb_chunk.specs.Moved.{used_buffer}
-use Rattle.tb_chunk.specs.ViewArrays.{ViewArray, picked_of, view_array_at, view_arrays_of, joined_view_array}
+use Rattle.tb_view.specs.Promise.ViewArrays.{ViewArray}
+use Rattle.tb_chunk.specs.ViewArrays.{picked_of, view_array_at, view_arrays_of, joined_view_array}
 use Rattle.tb_view.specs.declared.view.View.{View}
 use Rattle.tb_frame.specs.Frame.{lengths}
 use Rattle.tb_gather.specs.Gathered.{value_of_id}

@@ -2,8 +2,8 @@
 use Rattle.std.proofs.Common.{arith, ◌≡◌, ◌∙◌, ℕ, ◌<◌, ◌+◌, suc, zero, List, [], ◌∷◌, ◌++◌, length, map, get_or, take, ap, sym, Option, Some, None, length-append}
 use Rattle.std.specs.List.{sum, fold}
 use Rattle.std.proofs.lemmas.List.{get_or_append_left, get_or-append-add}
-use Rattle.tb_value.specs.Datum.{Datum, null}
-use Rattle.tb_chunk.specs.Col.{concatenation}
+use Rattle.tb_value.specs.Promise.Datum.{Datum, null}
+use Rattle.tb_chunk.specs.Promise.Col.{concatenation}
 use Rattle.tb_chunk.specs.Moved.{moved_view}
 use Rattle.tb_chunk.specs.Rows.{IsRowOf}
 use Rattle.tb_chunk.specs.ViewArrays.{AreBases, view_array_at, view_arrays_of, joined_view_array}

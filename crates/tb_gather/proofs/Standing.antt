@@ -9,8 +9,9 @@ use Rattle.std.specs.List.{All, AllPairs}
 use Rattle.std.specs.Prelude.{IsSorted as IsInOrder}
 use Rattle.std.specs.Ordering.{flip_args}
 use Rattle.std.specs.declared.cmp.Ordering.{Ordering}
-use Rattle.tb_value.specs.Datum.{Datum, null, is_null, is_present}
-use Rattle.tb_chunk.specs.Flag.{present_values, nulls, HasNullsAtOneEnd}
+use Rattle.tb_value.specs.Promise.Datum.{Datum, null, is_null, is_present}
+use Rattle.tb_cell.specs.Promise.Flag.{nulls}
+use Rattle.tb_chunk.specs.Flag.{present_values, HasNullsAtOneEnd}
 use Rattle.tb_chunk.proofs.Flags.{AreNull, ArePresent, not_true, present_of_nulls, nulls_of_nulls, present_of_present, nulls_of_present}
 use Rattle.tb_gather.proofs.Comparing.{UpTo, Orders}
 

@@ -6,8 +6,8 @@ use Rattle.std.specs.List.Sorted.{IsPartitionedBy, IsPartitionPoint}
 use Rattle.std.proofs.lemmas.Bool.{cases_lt, leb-true, leb-false, le-leb}
 use Rattle.std.proofs.lemmas.List.{get_or_append_left, get_or-map, get_or_default, length-map, take_all}
 use Rattle.std.proofs.Math.Seq.{get_or-append_seam}
-use Rattle.tb_value.specs.Datum.{Datum}
-use Rattle.tb_chunk.specs.Col.{Col, concatenation}
+use Rattle.tb_value.specs.Promise.Datum.{Datum}
+use Rattle.tb_chunk.specs.Promise.Col.{Col, concatenation}
 use Rattle.tb_frame.specs.Frame.{lens, lengths}
 use Rattle.tb_gather.specs.Ids.{AreStarts}
 use Rattle.tb_gather.proofs.Naming.{sum-cons}

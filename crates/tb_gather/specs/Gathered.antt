@@ -1,9 +1,9 @@
 -- What is gathered by ids of rows.
 use Rattle.std.specs.Prelude.{◌∷◌, [], ℕ, List, Option, map, All}
-use Rattle.tb_value.specs.Datum.{Datum}
+use Rattle.tb_value.specs.Promise.Datum.{Datum}
 use Rattle.tb_value.specs.declared.sorted.IsSorted.{IsSorted}
 use Rattle.tb_value.specs.declared.sorted.IsSorted.TheVariants.{Ascending, Descending, Not}
-use Rattle.tb_chunk.specs.Col.{Col, concatenation}
+use Rattle.tb_chunk.specs.Promise.Col.{Col, concatenation}
 use Rattle.tb_chunk.specs.Rows.{value_or_null}
 use Rattle.tb_frame.specs.Frame.{lens, lengths, opt_taken_rows}
 use Rattle.tb_gather.specs.Ids.{Id, row_or_none, NamesRow}

@@ -3,7 +3,8 @@ use Rattle.std.specs.Prelude.{◌<◌, ◌&&◌, if◌then◌else◌, ℕ, Bool,
 use Rattle.std.specs.List.{position}
 use Rattle.std.specs.Option.{option_map}
 use Rattle.tb_chunk.specs.Moved.{view_at_number, used_buffer}
-use Rattle.tb_chunk.specs.ViewArrays.{ViewArray, all_buffers, picked_of, view_array_at, joined_view_array}
+use Rattle.tb_view.specs.Promise.ViewArrays.{ViewArray}
+use Rattle.tb_chunk.specs.ViewArrays.{all_buffers, picked_of, view_array_at, joined_view_array}
 use Rattle.tb_view.specs.declared.view.View.{View}
 use Rattle.tb_gather.specs.Ids.{Id, row_or_none}
 use Rattle.tb_gather.specs.declared.keep.Keep.{Keep}

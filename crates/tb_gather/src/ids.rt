@@ -1,7 +1,8 @@
 //! Ids made from row numbers.
 ghost use Rattle.std.specs.Prelude.{◌≡◌, ◌<◌, ◌≤◌, ◌^◌, ◌-◌, All, IfOk, Some, length, map, nat_le, slice_index_or};
 ghost use Rattle.tb_value.specs.declared.sorted.IsSorted.{IsSorted};
-ghost use Rattle.tb_chunk.specs.Col.{values, IsColumn};
+ghost use Rattle.tb_chunk.specs.Promise.Col.{values};
+ghost use Rattle.tb_chunk.specs.Col.{IsColumn};
 ghost use Rattle.tb_chunk.specs.Rows.{IsRowOf};
 ghost use Rattle.tb_frame.specs.Frame.{lens};
 ghost use Rattle.tb_gather.specs.Ids.{AreStarts, NamesRow, RowsStandInOrder, StandInOrder, row_or_none};

@@ -1,12 +1,13 @@
 //! What holds of the definitions of a gather, as contracts of empty functions.
 ghost use Rattle.std.specs.Prelude.{◌≡◌, ◌∷◌, [], ℕ, List, All, IsSome, map};
 ghost use Rattle.std.specs.List.{sum};
-ghost use Rattle.tb_value.specs.Datum.{Datum};
+ghost use Rattle.tb_value.specs.Promise.Datum.{Datum};
 ghost use Rattle.tb_value.specs.declared.sorted.IsSorted.{IsSorted};
-ghost use Rattle.tb_chunk.specs.Col.{Col, concatenation, values, IsColumn};
+ghost use Rattle.tb_chunk.specs.Promise.Col.{Col, concatenation, values};
+ghost use Rattle.tb_chunk.specs.Col.{IsColumn};
 ghost use Rattle.tb_chunk.specs.Flag.{FlagHolds};
 ghost use Rattle.tb_chunk.specs.Made.{IsOf};
-ghost use Rattle.tb_chunk.specs.ViewArrays.{ViewArray};
+ghost use Rattle.tb_view.specs.Promise.ViewArrays.{ViewArray};
 ghost use Rattle.tb_frame.specs.Frame.{lens, lengths};
 ghost use Rattle.tb_gather.specs.Ids.{Id, NamesRow, StandInOrder, row_or_none};
 ghost use Rattle.tb_gather.specs.Gathered.{NameRows, gathered_column};

@@ -1,9 +1,9 @@
 //! Rows of a table, named by their numbers.
 ghost use Rattle.std.specs.Prelude.{◌≡◌, ◌<◌, ◌≤◌, ◌↔◌, All, IfOk, IsTrue, length, map};
-ghost use Rattle.tb_chunk.specs.Col.{Col};
+ghost use Rattle.tb_chunk.specs.Promise.Col.{Col};
 ghost use Rattle.tb_chunk.specs.Rows.{IsRowOf};
 ghost use Rattle.tb_frame.specs.Frame.{AreCutAlike};
-ghost use Rattle.tb_frame.specs.Table.{height, table_of};
+ghost use Rattle.tb_frame.specs.Promise.Table.{height, table_of};
 ghost use Rattle.tb_gather.specs.Gathered.{gathered_rows};
 ghost use Rattle.tb_gather.specs.Ids.{AreCutForIds, AreAllRowsInOrder};
 

@@ -1,6 +1,6 @@
 //! Rows of a table, gathered from its columns side by side.
 ghost use Rattle.std.specs.Prelude.{◌≡◌, ◌≤◌, All, IfOk, IsSome, length, map};
-ghost use Rattle.tb_chunk.specs.Col.{Col, values};
+ghost use Rattle.tb_chunk.specs.Promise.Col.{Col, values};
 ghost use Rattle.tb_chunk.specs.Rows.{IsRowOf};
 ghost use Rattle.tb_gather.specs.Ids.{AreAllInOrder, Id, AreAllRowsInOrder, StandInOrder};
 ghost use Rattle.tb_gather.specs.Gathered.{NameRows, gathered_column, gathered_flag, named_rows, opt_gathered_column, gathered_rows};

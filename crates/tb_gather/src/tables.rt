@@ -1,6 +1,6 @@
 //! Rows of a table, gathered by ids.
 ghost use Rattle.std.specs.Prelude.{◌≡◌, ◌≤◌, All, IfOk, length, map};
-ghost use Rattle.tb_frame.specs.Table.{table_of, IsTable};
+ghost use Rattle.tb_frame.specs.Promise.Table.{table_of, IsTable};
 ghost use Rattle.tb_gather.specs.Ids.{AreAllInOrder};
 ghost use Rattle.tb_gather.specs.Gathered.{NameRows, gathered_column};
 

@@ -10,7 +10,7 @@ use tb_value::{ChunkId, IsSorted, MAX_ROWS, OutOfMemory};
 /// each column.
 pub trait TakeChunked<const B: u64>: Sized {
     ghost use Rattle.std.specs.Prelude.{List};
-    ghost use Rattle.tb_chunk.specs.Col.{Col};
+    ghost use Rattle.tb_chunk.specs.Promise.Col.{Col};
 
     /// The columns, in their order.
     ghost columns: { Self → List Col };

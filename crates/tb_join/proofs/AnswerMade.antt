@@ -6,20 +6,21 @@ use Rattle.std.specs.Option.{ForSome, option_and_then, option_map}
 use Rattle.std.proofs.lemmas.List.{length-map, map-append}
 use Rattle.std.proofs.lemmas.Option.{slice_get-map}
 use Rattle.std.proofs.lemmas.List.Elements.{All-map}
-use Rattle.tb_value.specs.Names.{Name, same_name}
+use Rattle.tb_value.specs.Promise.Names.{Name, same_name}
 use Rattle.tb_value.specs.declared.index.JoinPair.{JoinPair}
 use Rattle.tb_value.specs.declared.sorted.IsSorted.{IsSorted}
 use Rattle.tb_value.proofs.Loops.{map-map}
-use Rattle.tb_chunk.specs.Col.{Col}
+use Rattle.tb_chunk.specs.Promise.Col.{Col}
 use Rattle.tb_frame.specs.declared.args.JoinType.{JoinType}
 use Rattle.tb_frame.specs.declared.args.JoinType.TheVariants.{Inner, Left, Right, Full, Semi, Anti}
 use Rattle.tb_frame.specs.Answer.{fill}
-use Rattle.tb_frame.specs.Frame.{opt_taken_rows, selected_columns, without_names}
-use Rattle.tb_frame.specs.Join.{Request, column_named, out, partner, right_key}
-use Rattle.tb_frame.specs.Naming.{coalesces, drops_left_keys, drops_right_keys, has_right, is_among, coalesces_keys}
-use Rattle.tb_frame.specs.Refusal.{first_unknown}
+use Rattle.tb_frame.specs.Promise.Frame.{selected_columns}
+use Rattle.tb_frame.specs.Frame.{opt_taken_rows, without_names}
+use Rattle.tb_frame.specs.Promise.Join.{Request, column_named, out, partner, right_key}
+use Rattle.tb_frame.specs.Promise.Naming.{coalesces, drops_left_keys, drops_right_keys, has_right, is_among, coalesces_keys}
+use Rattle.tb_frame.specs.Promise.Refusal.{first_unknown}
 use Rattle.tb_frame.specs.RightColumns.{gone_left, gone_right, right_column, right_columns, right_side}
-use Rattle.tb_frame.specs.Table.{Table, plain_column, table_of, names_of}
+use Rattle.tb_frame.specs.Promise.Table.{Table, plain_column, table_of, names_of}
 use Rattle.tb_value.proofs.Kept.{filter-map}
 use Rattle.tb_frame.proofs.Selected.{found, selected-table}
 use Rattle.tb_frame.proofs.Taking.{all_plain as plain_all, length-opt_taken, names-made, names-opt_taken}

@@ -6,8 +6,8 @@ use Rattle.std.specs.Option.{option_and_then, option_map, option_or}
 use Rattle.std.proofs.lemmas.Bool.{le-ltb, lt-ltb, ltb-false, ltb-true}
 use Rattle.std.proofs.lemmas.Cmp.{nat_list_eq_equiv}
 use Rattle.std.proofs.lemmas.Slice.Eq.{bytes_eq-Decides}
-use Rattle.tb_value.specs.Names.{Name, same_name}
-use Rattle.tb_chunk.specs.Col.{Col}
+use Rattle.tb_value.specs.Promise.Names.{Name, same_name}
+use Rattle.tb_chunk.specs.Promise.Col.{Col}
 use Rattle.tb_keys.specs.Coalescing.{key_beside}
 
 below : (a b : ℕ) → nat_lt (suc a) (suc b) ≡ nat_lt a b

@@ -3,11 +3,11 @@ use Rattle.std.proofs.Common.{◌≡◌, ℕ, ◌<◌, Bool, true, false, length
 use Rattle.std.specs.Prelude.{replicate}
 use Rattle.std.specs.List.{list_all}
 use Rattle.std.proofs.lemmas.List.{get_or-replicate}
-use Rattle.tb_value.specs.Datum.{Datum}
-use Rattle.tb_value.specs.Pairs.{row_numbers}
-use Rattle.tb_value.specs.Same.{agrees}
-use Rattle.tb_frame.specs.Join.{Request, field}
-use Rattle.tb_frame.specs.Table.{height}
+use Rattle.tb_value.specs.Promise.Datum.{Datum}
+use Rattle.tb_value.specs.Promise.Pairs.{row_numbers}
+use Rattle.tb_value.specs.Promise.Same.{agrees}
+use Rattle.tb_frame.specs.Promise.Join.{Request, field}
+use Rattle.tb_frame.specs.Promise.Table.{height}
 use Rattle.tb_frame.proofs.Listings.{listing-same}
 use Rattle.tb_frame.proofs.Meaning.{rows_all}
 use Rattle.tb_join.specs.Laws.{EqualFlags}

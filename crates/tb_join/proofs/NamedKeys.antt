@@ -7,11 +7,11 @@ use Rattle.std.proofs.lemmas.List.{length-map}
 use Rattle.tb_value.specs.declared.error.InvalidCause.TheVariants.{NoKeys, KeyCounts}
 use Rattle.tb_value.specs.declared.error.PolarsError.{PolarsError}
 use Rattle.tb_value.specs.declared.error.PolarsError.TheVariants.{ColumnNotFound, InvalidOperation}
-use Rattle.tb_chunk.specs.Col.{Col}
+use Rattle.tb_chunk.specs.Promise.Col.{Col}
 use Rattle.tb_chunk.specs.Lent.{lent_columns}
-use Rattle.tb_frame.specs.Join.{Request}
-use Rattle.tb_frame.specs.Refusal.{first_unknown, list_causes, name_causes}
-use Rattle.tb_frame.specs.Table.{Table, plain_column, table_of}
+use Rattle.tb_frame.specs.Promise.Join.{Request}
+use Rattle.tb_frame.specs.Promise.Refusal.{first_unknown, list_causes, name_causes}
+use Rattle.tb_frame.specs.Promise.Table.{Table, plain_column, table_of}
 use Rattle.tb_frame.proofs.Causes.{map_none, no_cause, some_keys}
 use Rattle.tb_frame.proofs.Frames.{when_not}
 use Rattle.tb_keys.specs.Asked.{AreKeysOf, asked_request, asked_by_names}

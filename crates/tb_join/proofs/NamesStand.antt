@@ -5,18 +5,18 @@ use Rattle.std.specs.List.{filter_map, find}
 use Rattle.std.specs.Option.{ForSome, option_and_then, option_map}
 use Rattle.std.proofs.lemmas.Bool.{eqb-true}
 use Rattle.std.proofs.lemmas.List.Elements.{All-map}
-use Rattle.tb_value.specs.Pairs.{row_numbers}
-use Rattle.tb_value.specs.SameKind.{same_kind}
+use Rattle.tb_value.specs.Promise.Pairs.{row_numbers}
+use Rattle.tb_value.specs.Promise.SameKind.{same_kind}
 use Rattle.tb_value.specs.declared.error.ComputeCause.TheVariants.{KeyTypes}
 use Rattle.tb_value.specs.declared.error.InvalidCause.TheVariants.{NoKeys, KeyCounts}
 use Rattle.tb_value.specs.declared.error.PolarsError.{PolarsError}
 use Rattle.tb_value.specs.declared.error.PolarsError.TheVariants.{ColumnNotFound, ComputeError, InvalidOperation}
-use Rattle.tb_chunk.specs.Col.{Col}
-use Rattle.tb_frame.specs.Frame.{selected_columns}
-use Rattle.tb_frame.specs.Join.{Request, column_named, out, partner, places}
-use Rattle.tb_frame.specs.Naming.{coalesces, coalesces_keys}
-use Rattle.tb_frame.specs.Refusal.{first_unknown, key_types, kind_at, list_causes, name_causes}
-use Rattle.tb_frame.specs.Table.{IsTable, Table, TableColumn, plain_column, table_of}
+use Rattle.tb_chunk.specs.Promise.Col.{Col}
+use Rattle.tb_frame.specs.Promise.Frame.{selected_columns}
+use Rattle.tb_frame.specs.Promise.Join.{Request, column_named, out, partner, places}
+use Rattle.tb_frame.specs.Promise.Naming.{coalesces, coalesces_keys}
+use Rattle.tb_frame.specs.Promise.Refusal.{first_unknown, key_types, kind_at, list_causes, name_causes}
+use Rattle.tb_frame.specs.Promise.Table.{IsTable, Table, TableColumn, plain_column, table_of}
 use Rattle.tb_frame.proofs.Causes.{has_column, map_none, no_cause, some_keys, some_right_keys}
 use Rattle.tb_frame.proofs.Frames.{when_not}
 use Rattle.tb_frame.proofs.Outs.{out_wide}

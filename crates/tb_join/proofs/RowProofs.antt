@@ -7,14 +7,14 @@ use Rattle.std.proofs.lemmas.Bool.{and_parts, not-true}
 use Rattle.std.proofs.lemmas.List.Elements.{All-cons, All-nil}
 use Rattle.std.proofs.lemmas.List.Sorted.{IsPermutation-refl}
 use Rattle.tb_value.specs.declared.index.JoinPair.{JoinPair}
-use Rattle.tb_value.specs.Datum.{Datum, null}
-use Rattle.tb_value.specs.Kind.{int64}
-use Rattle.tb_value.specs.Typed.{HasType}
-use Rattle.tb_value.specs.Pairs.{both, left_only, right_only, left_first, right_first}
+use Rattle.tb_value.specs.Promise.Datum.{Datum, null}
+use Rattle.tb_value.specs.Promise.Kind.{int64}
+use Rattle.tb_value.specs.Promise.Typed.{HasType}
+use Rattle.tb_value.specs.Promise.Pairs.{both, left_only, right_only, left_first, right_first}
 use Rattle.tb_frame.specs.declared.args.JoinCoalesce.TheVariants.{JoinSpecific, CoalesceColumns}
 use Rattle.tb_frame.specs.Frame.{frame_refusal}
-use Rattle.tb_frame.specs.Join.{IsAnswer, IsOrdered, listing}
-use Rattle.tb_frame.specs.Table.{Table, IsTable, IsTyped}
+use Rattle.tb_frame.specs.Promise.Join.{IsAnswer, IsOrdered, listing}
+use Rattle.tb_frame.specs.Promise.Table.{Table, IsTable, IsTyped}
 use Rattle.tb_frame.proofs.Frames.{makes_frame}
 use Rattle.tb_join.specs.Laws.{two_columns}
 use Rattle.tb_frame.specs.declared.args.JoinType.TheVariants.{Inner, Left}

@@ -13,7 +13,7 @@ use Rattle.std.proofs.lemmas.List.Sorted.{All-permutation, ranks_by, sorted_far}
 use Rattle.tb_value.specs.declared.index.JoinPair.{JoinPair}
 use Rattle.tb_value.specs.declared.sorted.IsSorted.{IsSorted}
 use Rattle.tb_value.specs.declared.sorted.IsSorted.TheVariants.{Ascending}
-use Rattle.tb_value.specs.Pairs.{both, left_first, left_met, left_only, left_unmet, matched_pairs, right_first, right_only, right_unmet, row_cmp, row_numbers}
+use Rattle.tb_value.specs.Promise.Pairs.{both, left_first, left_met, left_only, left_unmet, matched_pairs, right_first, right_only, right_unmet, row_cmp, row_numbers}
 use Rattle.tb_value.proofs.Orders.{left_first_total, right_first_total}
 use Rattle.tb_chunk.specs.Window.{part_from, part_to}
 use Rattle.tb_frame.specs.declared.args.Direction.{Direction}
@@ -22,7 +22,7 @@ use Rattle.tb_frame.specs.declared.args.JoinArgs.{JoinArgs}
 use Rattle.tb_frame.specs.declared.args.JoinType.{JoinType}
 use Rattle.tb_frame.specs.declared.args.JoinType.TheVariants.{Inner, Left, Right, Full, Semi, Anti}
 use Rattle.tb_frame.specs.Answer.{IsListed}
-use Rattle.tb_frame.specs.Join.{Ascends, cut, direction, listing_of}
+use Rattle.tb_frame.specs.Promise.Join.{Ascends, cut, direction, listing_of}
 use Rattle.tb_frame.proofs.Ranges.{All-cut}
 use Rattle.tb_frame.proofs.Windows.{slice_window}
 use Rattle.tb_gather.specs.Ids.{IsRowUpTo, AreAllRowsInOrder}

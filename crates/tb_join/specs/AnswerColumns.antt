@@ -1,13 +1,13 @@
 -- The columns of an answer, as they are gathered over its pairs.
 use Rattle.std.specs.Prelude.{◌≡◌, List, ◌++◌, length, map, Option, None, Some, unwrap_or}
-use Rattle.tb_value.specs.Names.{Name}
+use Rattle.tb_value.specs.Promise.Names.{Name}
 use Rattle.tb_value.specs.declared.index.JoinPair.{JoinPair}
-use Rattle.tb_chunk.specs.Col.{Col, values}
+use Rattle.tb_chunk.specs.Promise.Col.{Col, values}
 use Rattle.tb_frame.specs.declared.args.JoinArgs.{JoinArgs}
 use Rattle.tb_frame.specs.Frame.{coalesced_column, without_names}
-use Rattle.tb_frame.specs.Naming.{default_suffix, right_name}
+use Rattle.tb_frame.specs.Promise.Naming.{default_suffix, right_name}
 use Rattle.tb_frame.specs.RightColumns.{gone_left, gone_right, right_side}
-use Rattle.tb_frame.specs.Table.{names_of, table_of}
+use Rattle.tb_frame.specs.Promise.Table.{names_of, table_of}
 use Rattle.tb_gather.specs.Gathered.{gathered_rows}
 use Rattle.tb_keys.specs.Coalescing.{key_beside}
 use Rattle.tb_join.specs.RowOrder.{left_order_asked, right_order_asked}

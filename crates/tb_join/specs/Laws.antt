@@ -2,15 +2,16 @@
 use Rattle.std.specs.Prelude.{◌≡◌, ◌≢◌, ◌↔◌, AllPairs, Bool, ℕ, ◌+◌, ◌<◌, ◌≤◌, min, true, false, List, [], ◌∷◌, map, length, replicate, pos, negsuc, Some, None, IsPermutation, codes}
 use Rattle.std.specs.Bool.{Decides}
 use Rattle.tb_value.specs.declared.index.JoinPair.{JoinPair}
-use Rattle.tb_value.specs.Datum.{Datum, null}
-use Rattle.tb_value.specs.Kind.{int32, int64}
-use Rattle.tb_value.specs.Kind as kind
+use Rattle.tb_value.specs.Promise.Datum.{Datum, null}
+use Rattle.tb_value.specs.Promise.Kind.{int32, int64}
+use Rattle.tb_value.specs.Promise.Kind as kind
 use Rattle.tb_value.specs.declared.error.Side.TheVariants as side
 use Rattle.tb_value.specs.declared.error.InvalidCause.TheVariants.{NoKeys, KeyCounts, NullFlags, KeyKind}
 use Rattle.tb_value.specs.declared.error.ComputeCause.TheVariants.{KeyTypes, Validation}
 use Rattle.tb_value.specs.declared.error.PolarsError.TheVariants.{ColumnNotFound, InvalidOperation, ComputeError, Duplicate}
-use Rattle.tb_value.specs.Pairs.{both, left_only, times, turn}
-use Rattle.tb_value.specs.Same.{same}
+use Rattle.tb_value.specs.Promise.Pairs.{both, left_only}
+use Rattle.tb_value.specs.Pairs.{times, turn}
+use Rattle.tb_value.specs.Promise.Same.{same}
 use Rattle.tb_frame.specs.declared.args.Direction.TheVariants.{Free}
 use Rattle.tb_frame.specs.declared.args.JoinCoalesce.TheVariants.{JoinSpecific, CoalesceColumns}
 use Rattle.tb_frame.specs.declared.args.JoinType.{JoinType}
@@ -19,9 +20,10 @@ use Rattle.tb_frame.specs.declared.args.JoinValidation.TheVariants.{ManyToOne, O
 use Rattle.tb_frame.specs.declared.args.MaintainOrderJoin.TheVariants as order
 use Rattle.tb_frame.specs.declared.args.MaintainOrderJoin.{MaintainOrderJoin}
 use Rattle.tb_frame.specs.declared.null_flags.JoinNulls.TheVariants.{All, Each}
-use Rattle.tb_frame.specs.Table.{Table, IsTable, height}
-use Rattle.tb_frame.specs.Join.{Request, IsAnswer, IsOrdered, CoalescesAlike, cut, direction, field, listing, listing_of, matches, nulls_match}
-use Rattle.tb_frame.specs.Refusal.{join_refusal, join_valid}
+use Rattle.tb_frame.specs.Promise.Table.{Table, IsTable, height}
+use Rattle.tb_frame.specs.Promise.Join.{Request, IsAnswer, IsOrdered, cut, direction, field, listing, listing_of, matches, nulls_match}
+use Rattle.tb_frame.specs.Join.{CoalescesAlike}
+use Rattle.tb_frame.specs.Promise.Refusal.{join_refusal, join_valid}
 use Rattle.tb_frame.specs.Sides.{asking, exchanged_request, flip}
 use Rattle.tb_frame.specs.Meaning.{Agree}
 use Rattle.tb_join.specs.Rows.{null_keys, full_right_left, cut_thrice, left_by_right, two_keys, two_keys_joined, split_texts, repeated_keys, validated, absent_by_turns, absent_twice, by_flagged_keys, by_keys, of_kinds, taken_name, number, numbers, keys, k_name, k_right_name}

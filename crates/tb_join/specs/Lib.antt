@@ -1,7 +1,6 @@
-pub mod Asked
 pub mod Laws
 pub mod Rows
 pub mod AnswerColumns
 pub mod Ready
 pub mod RowOrder
-pub mod Traced
+pub mod Promise

@@ -1,8 +1,9 @@
 -- What a coalesced Full join needs of its keys' names.
 use Rattle.std.specs.Prelude.{◌≡◌, ◌≤◌, true, None, length}
-use Rattle.tb_frame.specs.Join.{CoalescesAlike, Request}
-use Rattle.tb_frame.specs.Naming.{coalesces, coalesces_keys}
-use Rattle.tb_frame.specs.Refusal.{first_unknown}
+use Rattle.tb_frame.specs.Promise.Join.{Request}
+use Rattle.tb_frame.specs.Join.{CoalescesAlike}
+use Rattle.tb_frame.specs.Promise.Naming.{coalesces, coalesces_keys}
+use Rattle.tb_frame.specs.Promise.Refusal.{first_unknown}
 
 -- where keys are merged, there is a right one for each left one, they are columns of their tables, and two that are merged have one type
 pub record CanCoalesceKeys (q : Request) : Type 0 where

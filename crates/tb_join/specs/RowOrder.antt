@@ -8,7 +8,7 @@ use Rattle.tb_frame.specs.declared.args.Direction.TheVariants.{ByLeft, ByRight}
 use Rattle.tb_frame.specs.declared.args.JoinArgs.{JoinArgs}
 use Rattle.tb_frame.specs.declared.args.JoinType.{JoinType}
 use Rattle.tb_frame.specs.declared.args.JoinType.TheVariants.{Inner, Left, Right, Semi, Anti}
-use Rattle.tb_frame.specs.Join.{direction}
+use Rattle.tb_frame.specs.Promise.Join.{direction}
 use Rattle.tb_gather.specs.Ids.{AreAllRowsInOrder}
 
 -- the left rows ascend where the pairs are in their order and have each one

@@ -1,9 +1,9 @@
 -- Small requests, and the tables that answer them.
 use Rattle.std.specs.Prelude.{ℕ, Bool, List, [], ◌∷◌, Option, ℤ, pos, codes}
-use Rattle.tb_value.specs.Datum.{Datum, null, int, string}
-use Rattle.tb_value.specs.Kind.{Kind, int32, int64}
-use Rattle.tb_value.specs.Kind as kind
-use Rattle.tb_value.specs.Names.{Name}
+use Rattle.tb_value.specs.Promise.Datum.{Datum, null, int, string}
+use Rattle.tb_value.specs.Promise.Kind.{Kind, int32, int64}
+use Rattle.tb_value.specs.Promise.Kind as kind
+use Rattle.tb_value.specs.Promise.Names.{Name}
 use Rattle.tb_frame.specs.declared.args.JoinArgs.{JoinArgs}
 use Rattle.tb_frame.specs.declared.args.JoinType.{JoinType}
 use Rattle.tb_frame.specs.declared.args.JoinType.TheVariants.{Inner, Left, Right, Full}
@@ -12,9 +12,9 @@ use Rattle.tb_frame.specs.declared.args.JoinValidation.TheVariants.{OneToMany}
 use Rattle.tb_frame.specs.declared.args.JoinCoalesce.{JoinCoalesce}
 use Rattle.tb_frame.specs.declared.args.MaintainOrderJoin.TheVariants as order
 use Rattle.tb_frame.specs.declared.null_flags.JoinNulls.TheVariants.{All, Each}
-use Rattle.tb_frame.specs.Table.{TableColumn, Table}
-use Rattle.tb_frame.specs.Join.{Request, by_names}
-use Rattle.tb_join.specs.Asked.{plain_args}
+use Rattle.tb_frame.specs.Promise.Table.{TableColumn, Table}
+use Rattle.tb_frame.specs.Promise.Join.{Request, by_names}
+use Rattle.tb_join.specs.Promise.Asked.{plain_args}
 
 abbrev pub k_name : Name
 k_name = codes "k"

@@ -1,17 +1,17 @@
 //! The columns of a coalesced Full join, whose keys are coalesced.
 ghost use Rattle.std.specs.Prelude.{◌≡◌, ◌≤◌, All, IfOk, None, length, map, true};
 ghost use Rattle.std.specs.Option.{ForSome, option_copied};
-ghost use Rattle.tb_value.specs.Names.{Name};
+ghost use Rattle.tb_value.specs.Promise.Names.{Name};
 ghost use Rattle.tb_value.specs.Refusals.{Settles};
-ghost use Rattle.tb_chunk.specs.Col.{Col, values};
+ghost use Rattle.tb_chunk.specs.Promise.Col.{Col, values};
 ghost use Rattle.tb_chunk.specs.Lent.{lent_columns};
 ghost use Rattle.tb_frame.specs.Answer.{IsPairOf, fill};
-ghost use Rattle.tb_frame.specs.Frame.{selected_columns};
-ghost use Rattle.tb_frame.specs.Join.{out};
+ghost use Rattle.tb_frame.specs.Promise.Frame.{selected_columns};
+ghost use Rattle.tb_frame.specs.Promise.Join.{out};
 ghost use Rattle.tb_frame.specs.NamedColumns.{column_by};
-ghost use Rattle.tb_frame.specs.Naming.{coalesces, coalesces_keys};
-ghost use Rattle.tb_frame.specs.Refusal.{unknown_key};
-ghost use Rattle.tb_frame.specs.Table.{height, table_of};
+ghost use Rattle.tb_frame.specs.Promise.Naming.{coalesces, coalesces_keys};
+ghost use Rattle.tb_frame.specs.Promise.Refusal.{unknown_key};
+ghost use Rattle.tb_frame.specs.Promise.Table.{height, table_of};
 ghost use Rattle.tb_keys.specs.Asked.{asked_request};
 ghost use Rattle.tb_keys.specs.Coalescing.{key_beside};
 ghost use Rattle.tb_join.specs.AnswerColumns.{Fits, filled_column, coalesced_part};

@@ -2,15 +2,16 @@
 ghost use Rattle.std.specs.Prelude.{◌≡◌, ◌<◌, IfOk, None, length};
 ghost use Rattle.tb_value.specs.Refusals.{Settles};
 ghost use Rattle.tb_frame.specs.Answer.{IsListed};
-ghost use Rattle.tb_frame.specs.Join.{IsAnswer, lent_request, listing, out};
-ghost use Rattle.tb_frame.specs.Refusal.{join_refusal, key_types};
-ghost use Rattle.tb_frame.specs.Table.{table_of};
+ghost use Rattle.tb_frame.specs.Promise.Join.{IsAnswer, listing, out};
+ghost use Rattle.tb_frame.specs.Join.{lent_request};
+ghost use Rattle.tb_frame.specs.Promise.Refusal.{join_refusal, key_types};
+ghost use Rattle.tb_frame.specs.Promise.Table.{table_of};
 ghost use Rattle.tb_keys.specs.Asked.{asked_request, asked_by_names};
 ghost use Rattle.tb_keys.specs.Causes.{later_refusal};
-ghost use Rattle.tb_join.specs.Asked.{plain_args};
-ghost use Rattle.tb_pairs.specs.Trace.{IsTraced, requested_trace};
+ghost use Rattle.tb_join.specs.Promise.Asked.{plain_args};
+ghost use Rattle.tb_pairs.specs.Promise.Trace.{IsTraced, requested_trace};
 ghost use Rattle.tb_join.specs.Ready.{CanCoalesceKeys};
-ghost use Rattle.tb_join.specs.Traced.{named_trace};
+ghost use Rattle.tb_join.specs.Promise.Traced.{named_trace};
 
 use crate::general::finish_join;
 use std::alloc::Global;

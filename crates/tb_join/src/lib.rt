@@ -1,15 +1,15 @@
 //! Joins of two tables, and the laws over their definitions.
 #![tactic(auto)]
 
+mod coalescing;
 mod frame_join;
 mod general;
 pub mod laws;
-mod coalescing;
 mod names;
 mod row_order;
 
+pub use coalescing::coalesced_left;
 pub use frame_join::{DataFrameJoinOps, join_columns};
 pub use general::{finish_join, kept_table};
-pub use coalescing::coalesced_left;
 pub use names::side_by_side;
 pub use tb_pairs::{JoinTrace, private_left_join_multiple_keys};

@@ -1,6 +1,6 @@
 //! Columns side by side, and their names.
 ghost use Rattle.std.specs.Prelude.{◌≡◌, IfOk, map};
-ghost use Rattle.tb_frame.specs.Table.{names_of, table_of};
+ghost use Rattle.tb_frame.specs.Promise.Table.{names_of, table_of};
 ghost use Rattle.tb_join.specs.AnswerColumns.{column_called, side_by_side};
 
 use std::alloc::Global;

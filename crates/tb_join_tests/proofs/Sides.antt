@@ -1,7 +1,7 @@
 -- Tables of one key column each.
 use Rattle.std.proofs.Common.{◌≡◌, ◌∙◌, List, [], ◌∷◌, sym, refl}
-use Rattle.tb_value.specs.Kind.{int64}
-use Rattle.tb_chunk.specs.Col.{Col}
+use Rattle.tb_value.specs.Promise.Kind.{int64}
+use Rattle.tb_chunk.specs.Promise.Col.{Col}
 use Rattle.tb_dispatch.specs.Given.{AreKeys, StandBeside}
 
 pub are_keys : (a b : Col) → a.kind ≡ int64 → b.kind ≡ int64 → AreKeys a b

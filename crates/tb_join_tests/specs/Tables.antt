@@ -1,6 +1,6 @@
 -- Tables that tests make.
 use Rattle.std.specs.Prelude.{◌≡◌, List, [], ◌∷◌, codes}
-use Rattle.tb_chunk.specs.Col.{Col}
+use Rattle.tb_chunk.specs.Promise.Col.{Col}
 
 -- the columns k, v and k_right, of which the first and the last have one type
 pub record HasBothKeys (cs : List Col) : Type 0 where

@@ -1,6 +1,6 @@
 // Tests of the calls beside the join.
 ghost use Rattle.std.specs.Prelude.{◌≡◌, ◌≤◌, ◌∷◌, [], All, IfOk, IsSome, codes, length};
-ghost use Rattle.tb_value.specs.Kind.{int64};
+ghost use Rattle.tb_value.specs.Promise.Kind.{int64};
 ghost use Rattle.tb_gather.specs.Gathered.{NameRows};
 ghost use Rattle.tb_gather.specs.Ids.{Id};
 ghost use Rattle.tb_dispatch.specs.Given.{AreKeys, StandBeside};

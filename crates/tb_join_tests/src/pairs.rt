@@ -1,7 +1,7 @@
 // Tests of codes of keys, and of pairs of rows.
 ghost use Rattle.std.specs.Prelude.{◌≡◌, ◌∷◌, [], IfOk, true};
-ghost use Rattle.tb_value.specs.Kind.{int64};
-ghost use Rattle.tb_value.specs.SameKind.{is_key};
+ghost use Rattle.tb_value.specs.Promise.Kind.{int64};
+ghost use Rattle.tb_value.specs.Promise.SameKind.{is_key};
 
 use std::alloc::Global;
 use std::process::Abort;

@@ -6,11 +6,11 @@ use Rattle.serde_json.specs.Data.{Data, null, boolean, number, string, array, ob
 use Rattle.serde_json.specs.Find.{as_null, as_integer}
 use Rattle.tb_tree.specs.View.{view}
 use Rattle.tb_tree.specs.declared.value.Value.{Value}
-use Rattle.tb_value.specs.Datum as value
-use Rattle.tb_value.specs.Datum.{Datum}
-use Rattle.tb_value.specs.Kind as kind
-use Rattle.tb_json.specs.Lists.{each}
-use Rattle.tb_json.specs.Cells.{ranged_number, cell_in}
+use Rattle.tb_value.specs.Promise.Datum as value
+use Rattle.tb_value.specs.Promise.Datum.{Datum}
+use Rattle.tb_value.specs.Promise.Kind as kind
+use Rattle.tb_json.specs.Promise.Lists.{each}
+use Rattle.tb_json.specs.Promise.Cells.{ranged_number, cell_in}
 
 no_number : (o : Option ℤ) → option_and_then (ranged_number kind.null) o ≡ None
 no_number None = refl

@@ -2,10 +2,10 @@
 use Rattle.std.proofs.Common.{◌≡◌, List, [], ◌∷◌, Option, Some, None, option_map, option_and_then, refl, ap}
 use Rattle.serde_json.specs.Data.{Data}
 use Rattle.serde_json.specs.View.{items_of}
-use Rattle.tb_value.specs.Kind as kind
-use Rattle.tb_value.specs.Kind.{Part, Parts, parts_of}
-use Rattle.tb_json.specs.Lists.{each}
-use Rattle.tb_json.specs.Kinds.{part_in, each_part}
+use Rattle.tb_value.specs.Promise.Kind as kind
+use Rattle.tb_value.specs.Promise.Kind.{Part, Parts, parts_of}
+use Rattle.tb_json.specs.Promise.Lists.{each}
+use Rattle.tb_json.specs.Promise.Kinds.{part_in, each_part}
 
 one_field : (o : Option Part) (r : Option (List Part)) (q : Option Parts) → q ≡ option_map parts_of r
     → option_and_then (λ p. option_map (kind.part p.0 p.1) q) o ≡ option_map parts_of (option_and_then (λ p. option_map (λ ps. p ∷ ps) r) o)

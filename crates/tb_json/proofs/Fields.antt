@@ -2,8 +2,8 @@
 use Rattle.std.proofs.Common.{◌≡◌, List, [], ◌∷◌, map, codes, refl, ap}
 use Rattle.serde_json.specs.Data.{Data, object, member, no_members, string, item}
 use Rattle.serde_json.specs.View.{items_of}
-use Rattle.tb_value.specs.Kind.{Part, parts_of}
-use Rattle.tb_json.specs.Text.{kind_data, parts_data}
+use Rattle.tb_value.specs.Promise.Kind.{Part, parts_of}
+use Rattle.tb_json.specs.Promise.Text.{kind_data, parts_data}
 
 abbrev pub field_data : Part → Data
 field_data p = object (member (codes "name") (string p.0) (member (codes "type") (kind_data p.1) no_members))

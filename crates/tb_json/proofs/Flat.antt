@@ -1,7 +1,7 @@
 -- Lists, one after another.
 use Rattle.std.proofs.Common.{◌≡◌, List, [], ◌∷◌, ◌++◌, ap, ◌∙◌, sym, refl, append_assoc}
-use Rattle.tb_value.specs.Datum.{Datum}
-use Rattle.tb_chunk.specs.Col.{concatenation}
+use Rattle.tb_value.specs.Promise.Datum.{Datum}
+use Rattle.tb_chunk.specs.Promise.Col.{concatenation}
 
 pub flat-push : (xss : List (List Datum)) (xs : List Datum) → concatenation (xss ++ xs ∷ []) ≡ concatenation xss ++ xs
 flat-push [] [] = refl

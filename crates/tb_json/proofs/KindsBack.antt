@@ -1,13 +1,13 @@
 -- The type that is read of a type as it is written is that type.
 use Rattle.std.proofs.Common.{◌≡◌, Option, Some, None, option_map, option_and_then, refl, ap, ◌∙◌}
 use Rattle.serde_json.specs.Data.{string}
-use Rattle.tb_value.specs.Kind as kind
-use Rattle.tb_value.specs.Kind.{Kind, Part, Parts}
-use Rattle.tb_value.specs.Names.{Name}
+use Rattle.tb_value.specs.Promise.Kind as kind
+use Rattle.tb_value.specs.Promise.Kind.{Kind, Part, Parts}
+use Rattle.tb_value.specs.Promise.Names.{Name}
 use Rattle.tb_value.specs.declared.dtype.TimeUnit.{TimeUnit}
 use Rattle.tb_value.specs.declared.dtype.TimeUnit.TheVariants.{Nanoseconds, Microseconds, Milliseconds}
-use Rattle.tb_json.specs.Text.{unit_word, zone_data, kind_data, parts_data}
-use Rattle.tb_json.specs.Kinds.{zone_in, datetime_in, duration_in, field_named, kind_in, each_part}
+use Rattle.tb_json.specs.Promise.Text.{unit_word, zone_data, kind_data, parts_data}
+use Rattle.tb_json.specs.Promise.Kinds.{zone_in, datetime_in, duration_in, field_named, kind_in, each_part}
 
 zone_back : (z : Option Name) → zone_in (zone_data z) ≡ Some z
 zone_back None = refl

@@ -8,7 +8,7 @@ use Rattle.serde_json.specs.View.{items_of}
 use Rattle.tb_tree.specs.View.{view, items_view, members_view}
 use Rattle.tb_tree.specs.declared.value.Value.{Value}
 use Rattle.tb_tree.proofs.Views.{Entry}
-use Rattle.tb_json.specs.Lists.{each, list_from, as_list, list_of, is_among, are_among, has_only}
+use Rattle.tb_json.specs.Promise.Lists.{each, list_from, as_list, list_of, is_among, are_among, has_only}
 use Rattle.tb_json.proofs.Walks.{EachSoFar, EachSoFar-more, EachSoFar-fails, EachSoFar-all, EachSoFar-start, EachSoFar-next, EachSoFar-stops, EachSoFar-end}
 
 pub list_from-items_of : (ds : List Data) → list_from (items_of ds) ≡ ds

@@ -1,11 +1,11 @@
 -- The whole numbers of all types but one have at most 64 bits.
 use Rattle.std.proofs.Common.{◌≡◌, ◌≤◌, ℕ, ℤ, pos, negsuc, ◌≤ℤ◌, false, arith, true≢false}
 use Rattle.std.proofs.lemmas.Int.{ints}
-use Rattle.tb_value.specs.Datum as value
-use Rattle.tb_value.specs.Kind as kind
-use Rattle.tb_value.specs.Kind.{Kind}
-use Rattle.tb_value.specs.Typed.{HasType}
-use Rattle.tb_json.specs.Text.{is_wide}
+use Rattle.tb_value.specs.Promise.Datum as value
+use Rattle.tb_value.specs.Promise.Kind as kind
+use Rattle.tb_value.specs.Promise.Kind.{Kind}
+use Rattle.tb_value.specs.Promise.Typed.{HasType}
+use Rattle.tb_json.specs.Promise.Text.{is_wide}
 
 abbrev pub IsNarrow : ℤ → Type 0
 IsNarrow z = (negsuc 9223372036854775807 ≤ℤ z) × (z ≤ℤ pos 18446744073709551615)

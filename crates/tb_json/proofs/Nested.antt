@@ -3,12 +3,12 @@ use Rattle.std.proofs.Common.{◌≡◌, ◌≤◌, ◌<◌, ◌+◌, ℕ, zero,
 use Rattle.std.proofs.lemmas.List.{get_or-map, length-map}
 use Rattle.serde_json.specs.Data.{Data, item}
 use Rattle.serde_json.specs.View.{items_of}
-use Rattle.tb_value.specs.Datum as value
-use Rattle.tb_value.specs.Datum.{Datum, weight, weights}
-use Rattle.tb_value.specs.Kind.{Kind, Part, parts_of}
-use Rattle.tb_value.specs.Typed.{HasType, AreOf, AreEachOf}
+use Rattle.tb_value.specs.Promise.Datum as value
+use Rattle.tb_value.specs.Promise.Datum.{Datum, weight, weights}
+use Rattle.tb_value.specs.Promise.Kind.{Kind, Part, parts_of}
+use Rattle.tb_value.specs.Promise.Typed.{HasType, AreOf, AreEachOf}
 use Rattle.tb_value.proofs.Lengths.{AreEachOf-length}
-use Rattle.tb_json.specs.Text.{value_data, items_data, fields_data}
+use Rattle.tb_json.specs.Promise.Text.{value_data, items_data, fields_data}
 
 pub items_data-map : (t : Kind) (vs : List Datum) → items_of (map (value_data t) vs) ≡ items_data t (value.items_of vs)
 items_data-map t [] = refl

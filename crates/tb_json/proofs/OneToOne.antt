@@ -5,15 +5,16 @@ use Rattle.std.proofs.lemmas.List.{append_cancel_right}
 use Rattle.std.proofs.lemmas.List.Elements.{All-head, All-tail, All-map, All-weaker}
 use Rattle.serde_json.specs.Data.{Items, no_items, item}
 use Rattle.serde_json.specs.View.{items_of}
-use Rattle.tb_value.specs.Datum.{Datum}
-use Rattle.tb_value.specs.Kind.{Kind}
-use Rattle.tb_value.specs.Names.{Name}
-use Rattle.tb_value.specs.Typed.{HasType}
+use Rattle.tb_value.specs.Promise.Datum.{Datum}
+use Rattle.tb_value.specs.Promise.Kind.{Kind}
+use Rattle.tb_value.specs.Promise.Names.{Name}
+use Rattle.tb_value.specs.Promise.Typed.{HasType}
 use Rattle.tb_value.specs.declared.limits.TheConstants.{MAX_ROWS}
-use Rattle.tb_chunk.specs.Col.{Col, IsColumn, values}
-use Rattle.tb_frame.specs.Table.{TableColumn, Table, IsTyped, plain_column, table_of, height}
-use Rattle.tb_json.specs.Text.{kind_data, value_data, column_data, table_data, text_of}
-use Rattle.tb_json.specs.Kinds.{kind_in}
+use Rattle.tb_chunk.specs.Promise.Col.{Col, values}
+use Rattle.tb_chunk.specs.Col.{IsColumn}
+use Rattle.tb_frame.specs.Promise.Table.{TableColumn, Table, IsTyped, plain_column, table_of, height}
+use Rattle.tb_json.specs.Promise.Text.{kind_data, value_data, column_data, table_data, text_of}
+use Rattle.tb_json.specs.Promise.Kinds.{kind_in}
 use Rattle.tb_json.specs.Writable.{IsWritable}
 use Rattle.tb_json.proofs.KindsBack.{kind_in-kind_data}
 use Rattle.tb_json.proofs.ReadBack.{compact_text_one_to_one}

@@ -8,7 +8,7 @@ use Rattle.tb_value.specs.declared.error.ComputeCause.{ComputeCause}
 use Rattle.tb_value.specs.declared.error.ComputeCause.TheVariants.{KeyTypes, Validation, TooManyRows, EmptyIndex, EmptyOn, BraceName, ManyInGroup, SumRange, EvaluateLength, Evaluate}
 use Rattle.tb_value.specs.declared.error.PolarsError.{PolarsError}
 use Rattle.tb_value.specs.declared.error.PolarsError.TheVariants.{ColumnNotFound, InvalidOperation, ComputeError, Duplicate, ShapeMismatch, SchemaMismatch, OutOfMemory}
-use Rattle.tb_json.specs.Text.{invalid_data, compute_data, error_data, text_of_refusal}
+use Rattle.tb_json.specs.Promise.Text.{invalid_data, compute_data, error_data, text_of_refusal}
 
 plain-invalid : (c : InvalidCause) → has_float (invalid_data c) ≡ false
 plain-invalid NoKeys = refl

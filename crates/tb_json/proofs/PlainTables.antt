@@ -4,11 +4,11 @@ use Rattle.std.specs.Fmt.{signed_decimal}
 use Rattle.serde_json.specs.Data.{number, string}
 use Rattle.serde_json.specs.Find.{of_integer}
 use Rattle.serde_json.specs.Written.{has_float, items_have_float}
-use Rattle.tb_value.specs.Datum as value
-use Rattle.tb_value.specs.Datum.{Datum}
-use Rattle.tb_value.specs.Kind as kind
-use Rattle.tb_value.specs.Kind.{Kind, Parts}
-use Rattle.tb_json.specs.Text.{zone_data, kind_data, parts_data, is_wide, inner_kind, fields_in, value_data, items_data, fields_data}
+use Rattle.tb_value.specs.Promise.Datum as value
+use Rattle.tb_value.specs.Promise.Datum.{Datum}
+use Rattle.tb_value.specs.Promise.Kind as kind
+use Rattle.tb_value.specs.Promise.Kind.{Kind, Parts}
+use Rattle.tb_json.specs.Promise.Text.{zone_data, kind_data, parts_data, is_wide, inner_kind, fields_in, value_data, items_data, fields_data}
 
 or_false : (a b : Bool) → a ≡ false → b ≡ false → (a || b) ≡ false
 or_false true b p q = p

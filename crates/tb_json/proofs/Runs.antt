@@ -5,12 +5,12 @@ use Rattle.json.specs.Print.{escape_byte}
 use Rattle.serde_json.specs.Data.{Data, array, number, unsigned, string}
 use Rattle.serde_json.specs.View.{items_of}
 use Rattle.serde_json.specs.Written.{comma_if, compact_text, items_text}
-use Rattle.tb_value.specs.Datum.{Datum}
-use Rattle.tb_value.specs.Kind.{Kind}
-use Rattle.tb_chunk.specs.Col.{concatenation}
+use Rattle.tb_value.specs.Promise.Datum.{Datum}
+use Rattle.tb_value.specs.Promise.Kind.{Kind}
+use Rattle.tb_chunk.specs.Promise.Col.{concatenation}
 use Rattle.tb_chunk.proofs.Lists.{flat_drop}
-use Rattle.tb_frame.specs.Table.{TableColumn, Table, height}
-use Rattle.tb_json.specs.Text.{value_data, kind_data, column_data, text_of, traced_text_of}
+use Rattle.tb_frame.specs.Promise.Table.{TableColumn, Table, height}
+use Rattle.tb_json.specs.Promise.Text.{value_data, kind_data, column_data, text_of, traced_text_of}
 use Rattle.tb_json.specs.Written.{heading, open_table, with_items}
 
 pub with_items-append : (s : List ℕ × Bool) (ds es : List Data) → with_items s (ds ++ es) ≡ with_items (with_items s ds) es

@@ -1,7 +1,7 @@
 -- Types that are stored as texts and as bytes.
 use Rattle.std.proofs.Common.{◌≡◌, ◌∙◌, Bool, true, false, ap, refl, sym}
-use Rattle.tb_value.specs.Kind as kind
-use Rattle.tb_value.specs.Kind.{Kind}
+use Rattle.tb_value.specs.Promise.Kind as kind
+use Rattle.tb_value.specs.Promise.Kind.{Kind}
 use Rattle.tb_chunk.specs.Col.{physical}
 
 abbrev is_text : Kind → Bool

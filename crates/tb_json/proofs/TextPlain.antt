@@ -5,13 +5,13 @@ use Rattle.std.proofs.lemmas.List.Elements.{All-head, All-tail}
 use Rattle.std.specs.List.{All}
 use Rattle.serde_json.specs.Find.{of_integer}
 use Rattle.serde_json.specs.View.{items_of}
-use Rattle.tb_value.specs.Datum as value
-use Rattle.tb_value.specs.Datum.{Datum}
-use Rattle.tb_value.specs.Kind as kind
-use Rattle.tb_value.specs.Kind.{Kind, Parts}
-use Rattle.tb_value.specs.Typed.{HasType, AreOf, AreEachOf}
-use Rattle.tb_frame.specs.Table.{Table, IsTyped}
-use Rattle.tb_json.specs.Text.{zone_data, kind_data, parts_data, inner_kind, fields_in, number_data, value_data, items_data, fields_data, column_data, table_data}
+use Rattle.tb_value.specs.Promise.Datum as value
+use Rattle.tb_value.specs.Promise.Datum.{Datum}
+use Rattle.tb_value.specs.Promise.Kind as kind
+use Rattle.tb_value.specs.Promise.Kind.{Kind, Parts}
+use Rattle.tb_value.specs.Promise.Typed.{HasType, AreOf, AreEachOf}
+use Rattle.tb_frame.specs.Promise.Table.{Table, IsTyped}
+use Rattle.tb_json.specs.Promise.Text.{zone_data, kind_data, parts_data, inner_kind, fields_in, number_data, value_data, items_data, fields_data, column_data, table_data}
 use Rattle.tb_json.specs.Writable.{IsWritable}
 use Rattle.tb_json.proofs.Narrow.{IsNarrow, narrow}
 use Rattle.tb_json.proofs.ReadBack.{IsKept, IsPlain, ArePlain}

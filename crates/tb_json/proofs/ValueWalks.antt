@@ -5,12 +5,12 @@ use Rattle.std.specs.List.{All}
 use Rattle.std.proofs.lemmas.List.Elements.{All-head, All-tail}
 use Rattle.serde_json.specs.Data.{Data}
 use Rattle.serde_json.specs.View.{items_of}
-use Rattle.tb_value.specs.Datum as value
-use Rattle.tb_value.specs.Datum.{Datum}
-use Rattle.tb_value.specs.Kind.{Kind, Part, parts_of}
-use Rattle.tb_value.specs.Typed.{HasType, AreOf, AreEachOf}
-use Rattle.tb_json.specs.Lists.{each}
-use Rattle.tb_json.specs.Cells.{cell_in, items_in, row_in}
+use Rattle.tb_value.specs.Promise.Datum as value
+use Rattle.tb_value.specs.Promise.Datum.{Datum}
+use Rattle.tb_value.specs.Promise.Kind.{Kind, Part, parts_of}
+use Rattle.tb_value.specs.Promise.Typed.{HasType, AreOf, AreEachOf}
+use Rattle.tb_json.specs.Promise.Lists.{each}
+use Rattle.tb_json.specs.Promise.Cells.{cell_in, items_in, row_in}
 
 -- ---- values of one type
 

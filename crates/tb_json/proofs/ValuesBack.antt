@@ -11,12 +11,12 @@ use Rattle.hex.specs.Hex.{decode_of, encode_lower}
 use Rattle.hex.proofs.HexLemmas.{decode_of-encode_lower}
 use Rattle.serde_json.specs.Data.{Num, unsigned, negative, float, Data, null, boolean, number, string, array, object, Items, no_items, item}
 use Rattle.serde_json.specs.Find.{of_integer}
-use Rattle.tb_value.specs.Datum as value
-use Rattle.tb_value.specs.Datum.{Datum}
-use Rattle.tb_value.specs.Kind as kind
-use Rattle.tb_value.specs.Kind.{Kind, Parts}
-use Rattle.tb_value.specs.Typed.{HasType, AreOf, AreEachOf, IsBytes, IsListOf, IsStructOf}
-use Rattle.tb_json.specs.Text.{inner_kind, fields_in, number_data, value_data, items_data, fields_data}
+use Rattle.tb_value.specs.Promise.Datum as value
+use Rattle.tb_value.specs.Promise.Datum.{Datum}
+use Rattle.tb_value.specs.Promise.Kind as kind
+use Rattle.tb_value.specs.Promise.Kind.{Kind, Parts}
+use Rattle.tb_value.specs.Promise.Typed.{HasType, AreOf, AreEachOf, IsBytes, IsListOf, IsStructOf}
+use Rattle.tb_json.specs.Promise.Text.{inner_kind, fields_in, number_data, value_data, items_data, fields_data}
 
 -- ---- the value that a JSON value was written for
 

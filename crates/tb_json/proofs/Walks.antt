@@ -1,7 +1,7 @@
 -- Walks over lists of values, a step at a time.
 use Rattle.std.proofs.Common.{◌≡◌, ℕ, ◌+◌, ◌<◌, ◌≤◌, List, [], ◌∷◌, ◌++◌, length, get_or, drop, Option, Some, None, option_map, option_and_then, refl, sym, ap, ◌∙◌, append_assoc}
 use Rattle.std.proofs.lemmas.List.{at_drop_more, at_drop_all}
-use Rattle.tb_json.specs.Lists.{each}
+use Rattle.tb_json.specs.Promise.Lists.{each}
 
 -- `each f` of xs, where the first ones gave `done`, and `rest` is what is left
 abbrev pub EachSoFar : {A B : Type 0} → (A → Option B) → List A → List B → List A → Type 0

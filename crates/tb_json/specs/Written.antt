@@ -3,8 +3,8 @@ use Rattle.std.specs.Prelude.{ℕ, Bool, true, false, List, [], ◌∷◌, ◌++
 use Rattle.serde_json.specs.Data.{Data, string, number, unsigned}
 use Rattle.serde_json.specs.View.{items_of}
 use Rattle.serde_json.specs.Written.{comma_if, compact_text, items_text}
-use Rattle.tb_frame.specs.Table.{TableColumn, Table, height}
-use Rattle.tb_json.specs.Text.{column_data, kind_data}
+use Rattle.tb_frame.specs.Promise.Table.{TableColumn, Table, height}
+use Rattle.tb_json.specs.Promise.Text.{column_data, kind_data}
 
 -- the text of some items, and whether an item stands in it already; the same after further items
 abbrev pub with_items : List ℕ × Bool → List Data → List ℕ × Bool

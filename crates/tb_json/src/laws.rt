@@ -1,8 +1,9 @@
 //! What holds of the texts of tables.
 ghost use Rattle.std.specs.Prelude.{◌≡◌, All, List};
-ghost use Rattle.tb_chunk.specs.Col.{Col, IsColumn};
-ghost use Rattle.tb_frame.specs.Table.{Table, table_of};
-ghost use Rattle.tb_json.specs.Text.{text_of};
+ghost use Rattle.tb_chunk.specs.Promise.Col.{Col};
+ghost use Rattle.tb_chunk.specs.Col.{IsColumn};
+ghost use Rattle.tb_frame.specs.Promise.Table.{Table, table_of};
+ghost use Rattle.tb_json.specs.Promise.Text.{text_of};
 ghost use Rattle.tb_json.specs.Writable.{IsWritable};
 
 /// Two tables with one text are equal, in their names, types and values. Nesting has no limit. Every table of columns

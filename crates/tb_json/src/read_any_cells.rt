@@ -1,12 +1,12 @@
 //! Values of any type, read from JSON.
 ghost use Rattle.std.specs.Prelude.{◌≡◌, option_map, IfOk, IfSome};
 ghost use Rattle.tb_tree.specs.View.{view, items_view};
-ghost use Rattle.tb_value.specs.Datum.{items_of};
-ghost use Rattle.tb_value.specs.Kind.{parts_of};
+ghost use Rattle.tb_value.specs.Promise.Datum.{items_of};
+ghost use Rattle.tb_value.specs.Promise.Kind.{parts_of};
 ghost use Rattle.tb_value.specs.See.{datum, data_of};
 ghost use Rattle.tb_value.specs.SeeKind.{kind_of, parts};
-ghost use Rattle.tb_value.specs.Typed.{HasType, AreOf, AreEachOf};
-ghost use Rattle.tb_json.specs.Cells.{cell_in, items_in, row_in};
+ghost use Rattle.tb_value.specs.Promise.Typed.{HasType, AreOf, AreEachOf};
+ghost use Rattle.tb_json.specs.Promise.Cells.{cell_in, items_in, row_in};
 
 use crate::read_plain_cells::{boolean_of, number_of, text_of};
 use crate::scalar::scalar_type;

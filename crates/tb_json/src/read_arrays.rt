@@ -3,17 +3,17 @@ ghost use Rattle.std.specs.Prelude.{◌≡◌, map, replicate, option_map, IfOk,
 ghost use Rattle.std.specs.List.{All, list_all};
 ghost use Rattle.serde_json.specs.Find.{as_null};
 ghost use Rattle.tb_tree.specs.View.{view};
-ghost use Rattle.tb_value.specs.Datum.{null};
-ghost use Rattle.tb_value.specs.Kind.{Kind};
-ghost use Rattle.tb_value.specs.Kind as kind;
+ghost use Rattle.tb_value.specs.Promise.Datum.{null};
+ghost use Rattle.tb_value.specs.Promise.Kind.{Kind};
+ghost use Rattle.tb_value.specs.Promise.Kind as kind;
 ghost use Rattle.tb_value.specs.SeeKind.{kind_of};
-ghost use Rattle.tb_value.specs.Typed.{HasType};
+ghost use Rattle.tb_value.specs.Promise.Typed.{HasType};
 ghost use Rattle.tb_chunk.specs.Chunk.{or_null};
 ghost use Rattle.tb_chunk.specs.Col.{physical};
 ghost use Rattle.tb_chunk.specs.Made.{IsTyped};
 ghost use Rattle.tb_chunk.specs.Seen.{chunk_lists, storage};
-ghost use Rattle.tb_json.specs.Lists.{each};
-ghost use Rattle.tb_json.specs.Cells.{cell_in};
+ghost use Rattle.tb_json.specs.Promise.Lists.{each};
+ghost use Rattle.tb_json.specs.Promise.Cells.{cell_in};
 
 use crate::read_cell::ReadCell;
 use crate::read_texts::{bytes_chunk, text_chunk};

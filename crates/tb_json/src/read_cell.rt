@@ -3,13 +3,13 @@ ghost use Rattle.std.specs.Prelude.{◌≡◌, ◌≢◌, option_map, option_and
 ghost use Rattle.serde_json.specs.Data.{null};
 ghost use Rattle.serde_json.specs.Find.{as_number, as_integer};
 ghost use Rattle.tb_tree.specs.View.{view};
-ghost use Rattle.tb_value.specs.Datum.{list, struct, items_of};
-ghost use Rattle.tb_value.specs.Kind as kind;
-ghost use Rattle.tb_value.specs.Kind.{Kind, parts_of};
+ghost use Rattle.tb_value.specs.Promise.Datum.{list, struct, items_of};
+ghost use Rattle.tb_value.specs.Promise.Kind as kind;
+ghost use Rattle.tb_value.specs.Promise.Kind.{Kind, parts_of};
 ghost use Rattle.tb_value.specs.SeeKind.{kind_of, parts};
-ghost use Rattle.tb_value.specs.Typed.{HasType, AreOf, AreEachOf};
+ghost use Rattle.tb_value.specs.Promise.Typed.{HasType, AreOf, AreEachOf};
 ghost use Rattle.tb_chunk.specs.Col.{physical};
-ghost use Rattle.tb_json.specs.Cells.{cell_in};
+ghost use Rattle.tb_json.specs.Promise.Cells.{cell_in};
 
 use crate::read_any_cells::{each_value, row_of};
 use crate::scalar::scalar_type;

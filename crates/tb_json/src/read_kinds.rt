@@ -3,9 +3,9 @@ ghost use Rattle.std.specs.Prelude.{◌≡◌, map, option_map, option_and_then,
 ghost use Rattle.serde_json.specs.Data.{member, no_members};
 ghost use Rattle.serde_json.specs.Find.{as_str};
 ghost use Rattle.tb_tree.specs.View.{view, items_view, members_view};
-ghost use Rattle.tb_value.specs.Kind.{list, struct, parts_of};
+ghost use Rattle.tb_value.specs.Promise.Kind.{list, struct, parts_of};
 ghost use Rattle.tb_value.specs.SeeKind.{kind_of, part, parts};
-ghost use Rattle.tb_json.specs.Kinds.{number_kind, word_kind, unit_named, zone_in, datetime_in, duration_in, field_named, kind_in, members_kind, parts_in, each_part, part_in, members_part};
+ghost use Rattle.tb_json.specs.Promise.Kinds.{number_kind, word_kind, unit_named, zone_in, datetime_in, duration_in, field_named, kind_in, members_kind, parts_in, each_part, part_in, members_part};
 
 use std::alloc::Global;
 use tb_tree::{Map, Value};

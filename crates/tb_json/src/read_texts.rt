@@ -3,12 +3,12 @@ ghost use Rattle.std.specs.Prelude.{◌≡◌, ◌++◌, ◌∷◌, [], false, m
 ghost use Rattle.std.specs.List.{All};
 ghost use Rattle.std.specs.Option.{MatchOption};
 ghost use Rattle.tb_tree.specs.View.{view};
-ghost use Rattle.tb_value.specs.Datum.{binary, string};
-ghost use Rattle.tb_value.specs.Kind as kind;
-ghost use Rattle.tb_value.specs.Typed.{HasType};
+ghost use Rattle.tb_value.specs.Promise.Datum.{binary, string};
+ghost use Rattle.tb_value.specs.Promise.Kind as kind;
+ghost use Rattle.tb_value.specs.Promise.Typed.{HasType};
 ghost use Rattle.tb_chunk.specs.Chunk.{or_null};
-ghost use Rattle.tb_json.specs.Lists.{each};
-ghost use Rattle.tb_json.specs.Cells.{cell_in};
+ghost use Rattle.tb_json.specs.Promise.Lists.{each};
+ghost use Rattle.tb_json.specs.Promise.Cells.{cell_in};
 
 use crate::read_plain_cells::{decode_short, lent_text};
 use std::alloc::Global;

@@ -5,12 +5,12 @@ ghost use Rattle.hex.specs.Hex.{encode_lower};
 ghost use Rattle.serde_json.specs.Data.{number, string};
 ghost use Rattle.serde_json.specs.Find.{of_integer};
 ghost use Rattle.serde_json.specs.View.{view, items_view};
-ghost use Rattle.tb_value.specs.Datum.{items_of, int, struct};
-ghost use Rattle.tb_value.specs.Kind.{parts_of};
+ghost use Rattle.tb_value.specs.Promise.Datum.{items_of, int, struct};
+ghost use Rattle.tb_value.specs.Promise.Kind.{parts_of};
 ghost use Rattle.tb_value.specs.See.{lent_value};
 ghost use Rattle.tb_value.specs.SeeKind.{kind_of, parts};
-ghost use Rattle.tb_value.specs.Typed.{HasType, AreOf, AreEachOf};
-ghost use Rattle.tb_json.specs.Text.{is_wide, number_data, value_data, items_data, fields_data};
+ghost use Rattle.tb_value.specs.Promise.Typed.{HasType, AreOf, AreEachOf};
+ghost use Rattle.tb_json.specs.Promise.Text.{is_wide, number_data, value_data, items_data, fields_data};
 
 use crate::scalar::scalar_type;
 use serde_json::Value;

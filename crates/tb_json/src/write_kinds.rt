@@ -2,10 +2,10 @@
 ghost use Rattle.std.specs.Prelude.{◌≡◌, IfOk, map, codes};
 ghost use Rattle.serde_json.specs.Data.{object, member, no_members, array, string};
 ghost use Rattle.serde_json.specs.View.{view, items_view};
-ghost use Rattle.tb_value.specs.Kind as kind;
-ghost use Rattle.tb_value.specs.Kind.{parts_of};
+ghost use Rattle.tb_value.specs.Promise.Kind as kind;
+ghost use Rattle.tb_value.specs.Promise.Kind.{parts_of};
 ghost use Rattle.tb_value.specs.SeeKind.{kind_of, part, parts};
-ghost use Rattle.tb_json.specs.Text.{unit_word, zone_data, kind_data, parts_data};
+ghost use Rattle.tb_json.specs.Promise.Text.{unit_word, zone_data, kind_data, parts_data};
 
 use serde_json::{Value, json};
 use std::alloc::Global;

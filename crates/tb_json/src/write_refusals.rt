@@ -2,7 +2,7 @@
 ghost use Rattle.std.specs.Prelude.{◌≡◌, IfOk, codes, string_bytes};
 ghost use Rattle.serde_json.specs.Data.{string, number, unsigned};
 ghost use Rattle.serde_json.specs.View.{view};
-ghost use Rattle.tb_json.specs.Text.{side_word, plain_error, named_error, caused, caused_with, caused_by_two, invalid_data, compute_data, error_data, text_of_refusal};
+ghost use Rattle.tb_json.specs.Promise.Text.{side_word, plain_error, named_error, caused, caused_with, caused_by_two, invalid_data, compute_data, error_data, text_of_refusal};
 
 use serde_json::{Value, json};
 use std::alloc::Global;

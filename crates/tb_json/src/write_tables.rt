@@ -7,11 +7,11 @@ ghost use Rattle.serde_json.specs.Find.{of_integer};
 ghost use Rattle.serde_json.specs.Written.{comma_if, compact_text, has_float};
 ghost use Rattle.tb_value.specs.See.{lent_value};
 ghost use Rattle.tb_value.specs.SeeKind.{kind_of};
-ghost use Rattle.tb_value.specs.Typed.{HasType};
-ghost use Rattle.tb_chunk.specs.Col.{concatenation, values};
+ghost use Rattle.tb_value.specs.Promise.Typed.{HasType};
+ghost use Rattle.tb_chunk.specs.Promise.Col.{concatenation, values};
 ghost use Rattle.tb_chunk.specs.Seen.{chunk_lists};
-ghost use Rattle.tb_frame.specs.Table.{plain_column, table_of};
-ghost use Rattle.tb_json.specs.Text.{value_data, column_data, text_of, traced_text_of};
+ghost use Rattle.tb_frame.specs.Promise.Table.{plain_column, table_of};
+ghost use Rattle.tb_json.specs.Promise.Text.{value_data, column_data, text_of, traced_text_of};
 ghost use Rattle.tb_json.specs.Written.{heading, open_table, with_items};
 
 use crate::write_cells::{cell_value, is_wide};

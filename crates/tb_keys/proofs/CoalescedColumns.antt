@@ -5,18 +5,19 @@ use Rattle.std.specs.Option.{option_and_then, option_map}
 use Rattle.std.proofs.lemmas.List.Elements.{All-weaker}
 use Rattle.std.proofs.lemmas.List.Quantifiers.{position-Some}
 use Rattle.std.proofs.lemmas.Option.{slice_get-get_or}
-use Rattle.tb_value.specs.Datum.{Datum}
-use Rattle.tb_value.specs.Names.{Name, same_name}
+use Rattle.tb_value.specs.Promise.Datum.{Datum}
+use Rattle.tb_value.specs.Promise.Names.{Name, same_name}
 use Rattle.tb_value.specs.declared.index.JoinPair.{JoinPair}
-use Rattle.tb_chunk.specs.Col.{Col, values}
+use Rattle.tb_chunk.specs.Promise.Col.{Col, values}
 use Rattle.tb_chunk.specs.Coalesced.{coalesced_values}
 use Rattle.tb_chunk.specs.Rows.{IsRowOf}
 use Rattle.tb_frame.specs.Answer.{fill}
 use Rattle.tb_frame.specs.Frame.{opt_taken_rows, without_names}
-use Rattle.tb_frame.specs.Join.{Request, columns_where, left_field, left_out, or_else, out, partner, right_key, value_at}
-use Rattle.tb_frame.specs.Naming.{coalesces, default_suffix, keeps_left, coalesces_keys, shows_right}
+use Rattle.tb_frame.specs.Promise.Join.{Request, columns_where, left_field, left_out, out, partner, right_key, value_at}
+use Rattle.tb_frame.specs.Join.{or_else}
+use Rattle.tb_frame.specs.Promise.Naming.{coalesces, default_suffix, keeps_left, coalesces_keys, shows_right}
 use Rattle.tb_frame.specs.RightColumns.{gone_left, gone_right, right_columns, right_side}
-use Rattle.tb_frame.specs.Table.{TableColumn, Table, plain_column, table_of, names_of}
+use Rattle.tb_frame.specs.Promise.Table.{TableColumn, Table, plain_column, table_of, names_of}
 use Rattle.tb_frame.proofs.Filled.{columns-made as filled, values-side}
 use Rattle.tb_frame.proofs.JoinedNames.{left-kept, right-shown}
 use Rattle.tb_keys.specs.Coalescing.{left_column, coalesced_key}

@@ -8,13 +8,13 @@ use Rattle.std.proofs.lemmas.List.{get_or-map, get_or_default, length-map}
 use Rattle.std.proofs.lemmas.List.Quantifiers.{position-Some}
 use Rattle.std.proofs.lemmas.Option.{get_or_from_slice_get, slice_get_within}
 use Rattle.std.proofs.lemmas.Slice.Eq.{bytes_eq-Decides}
-use Rattle.tb_value.specs.Names.{Name, same_name}
-use Rattle.tb_value.specs.Pairs.{row_numbers}
-use Rattle.tb_value.specs.SameKind.{same_kind}
-use Rattle.tb_chunk.specs.Col.{Col}
-use Rattle.tb_frame.specs.Join.{column_named}
-use Rattle.tb_frame.specs.Refusal.{first_unknown, kind_at}
-use Rattle.tb_frame.specs.Table.{TableColumn, Table, plain_column, table_of, names_of}
+use Rattle.tb_value.specs.Promise.Names.{Name, same_name}
+use Rattle.tb_value.specs.Promise.Pairs.{row_numbers}
+use Rattle.tb_value.specs.Promise.SameKind.{same_kind}
+use Rattle.tb_chunk.specs.Promise.Col.{Col}
+use Rattle.tb_frame.specs.Promise.Join.{column_named}
+use Rattle.tb_frame.specs.Promise.Refusal.{first_unknown, kind_at}
+use Rattle.tb_frame.specs.Promise.Table.{TableColumn, Table, plain_column, table_of, names_of}
 use Rattle.tb_frame.proofs.Causes.{selected_hold}
 use Rattle.tb_keys.specs.Coalescing.{coalesced_key}
 use Rattle.tb_keys.proofs.KeyFields.{column_kind}

@@ -2,15 +2,15 @@
 use Rattle.std.proofs.Common.{◌≡◌, ℕ, ◌<◌, Bool, ◌||◌, Bor, List, length, get_or, ap, sym, ◌∙◌, arith}
 use Rattle.std.specs.List.{All, list_all}
 use Rattle.std.proofs.lemmas.List.{get_or-map, get_or_default, length-map}
-use Rattle.tb_value.specs.Datum.{null, is_present}
-use Rattle.tb_value.specs.Pairs.{row_numbers}
-use Rattle.tb_value.specs.Same.{same}
-use Rattle.tb_chunk.specs.Col.{Col, values}
+use Rattle.tb_value.specs.Promise.Datum.{null, is_present}
+use Rattle.tb_value.specs.Promise.Pairs.{row_numbers}
+use Rattle.tb_value.specs.Promise.Same.{same}
+use Rattle.tb_chunk.specs.Promise.Col.{Col, values}
 use Rattle.tb_chunk.proofs.Lent.{low_lent, lent_is, lent_has}
-use Rattle.tb_frame.specs.Table.{TableColumn, plain_column, table_of}
-use Rattle.tb_value.specs.Same.{agrees}
-use Rattle.tb_frame.specs.Join.{Request, field, nulls_match}
-use Rattle.tb_frame.specs.Refusal.{kind_at}
+use Rattle.tb_frame.specs.Promise.Table.{TableColumn, plain_column, table_of}
+use Rattle.tb_value.specs.Promise.Same.{agrees}
+use Rattle.tb_frame.specs.Promise.Join.{Request, field, nulls_match}
+use Rattle.tb_frame.specs.Promise.Refusal.{kind_at}
 use Rattle.tb_frame.proofs.Fields.{field_at, kind_is}
 use Rattle.tb_chunk.specs.Lent.{lent_columns}
 

@@ -7,15 +7,15 @@ use Rattle.std.proofs.lemmas.Bool.{not-false}
 use Rattle.std.proofs.lemmas.List.{get_or-map, length-map}
 use Rattle.std.proofs.lemmas.List.FromFn.{length-range_with_len, get_or-range_with_len}
 use Rattle.std.proofs.lemmas.Option.{slice_get-get_or}
-use Rattle.tb_value.specs.Names.{Name}
-use Rattle.tb_value.specs.Pairs.{row_numbers}
-use Rattle.tb_value.specs.SameKind.{same_kind}
+use Rattle.tb_value.specs.Promise.Names.{Name}
+use Rattle.tb_value.specs.Promise.Pairs.{row_numbers}
+use Rattle.tb_value.specs.Promise.SameKind.{same_kind}
 use Rattle.tb_value.specs.Proved.TypeTests.{same_kind-Decides}
-use Rattle.tb_chunk.specs.Col.{Col}
-use Rattle.tb_frame.specs.Join.{column_named}
-use Rattle.tb_frame.specs.Naming.{is_among}
-use Rattle.tb_frame.specs.Refusal.{first_unknown, kind_at}
-use Rattle.tb_frame.specs.Table.{TableColumn, Table, plain_column, table_of, names_of}
+use Rattle.tb_chunk.specs.Promise.Col.{Col}
+use Rattle.tb_frame.specs.Promise.Join.{column_named}
+use Rattle.tb_frame.specs.Promise.Naming.{is_among}
+use Rattle.tb_frame.specs.Promise.Refusal.{first_unknown, kind_at}
+use Rattle.tb_frame.specs.Promise.Table.{TableColumn, Table, plain_column, table_of, names_of}
 use Rattle.tb_frame.proofs.Causes.{find_none}
 use Rattle.tb_frame.proofs.Selected.{named-key, names-selected, selected-table}
 

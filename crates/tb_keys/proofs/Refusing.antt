@@ -2,15 +2,15 @@
 use Rattle.std.proofs.Common.{◌≡◌, List, [], ◌∷◌, ◌++◌, length, refl, sym, ap, ◌∙◌, subst, Option, Some, None, ◌⊎◌, inl, inr}
 use Rattle.std.specs.Prelude.{All}
 use Rattle.std.specs.List.{filter_map}
-use Rattle.tb_value.specs.Names.{Name}
-use Rattle.tb_value.specs.Refusals.{first_cause}
+use Rattle.tb_value.specs.Promise.Names.{Name}
+use Rattle.tb_value.specs.Promise.Refusals.{first_cause}
 use Rattle.tb_value.specs.declared.error.PolarsError.{PolarsError}
 use Rattle.tb_value.specs.declared.error.PolarsError.TheVariants.{OutOfMemory}
-use Rattle.tb_chunk.specs.Col.{Col}
-use Rattle.tb_frame.specs.Frame.{selected_columns}
-use Rattle.tb_frame.specs.Join.{Request, column_named}
-use Rattle.tb_frame.specs.Refusal.{join_refusal, key_causes, column_causes, row_causes}
-use Rattle.tb_frame.specs.Table.{TableColumn, Table, IsTable, height, table_of}
+use Rattle.tb_chunk.specs.Promise.Col.{Col}
+use Rattle.tb_frame.specs.Promise.Frame.{selected_columns}
+use Rattle.tb_frame.specs.Promise.Join.{Request, column_named}
+use Rattle.tb_frame.specs.Promise.Refusal.{join_refusal, key_causes, column_causes, row_causes}
+use Rattle.tb_frame.specs.Promise.Table.{TableColumn, Table, IsTable, height, table_of}
 use Rattle.tb_frame.proofs.Causes.{first_cause-one, selected_hold}
 use Rattle.tb_frame.proofs.Selected.{selected-table}
 use Rattle.tb_frame.proofs.Taking.{all_plain}

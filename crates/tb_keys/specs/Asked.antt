@@ -1,12 +1,13 @@
 -- The requests that lent parts are.
 use Rattle.std.specs.Prelude.{◌≡◌, ℕ, List, min, length}
 use Rattle.std.specs.List.{filter_map}
-use Rattle.tb_value.specs.Names.{Name}
-use Rattle.tb_chunk.specs.Col.{Col}
-use Rattle.tb_frame.specs.Frame.{selected_columns}
-use Rattle.tb_frame.specs.Join.{Request, lent_request, column_named}
+use Rattle.tb_value.specs.Promise.Names.{Name}
+use Rattle.tb_chunk.specs.Promise.Col.{Col}
+use Rattle.tb_frame.specs.Promise.Frame.{selected_columns}
+use Rattle.tb_frame.specs.Promise.Join.{Request, column_named}
+use Rattle.tb_frame.specs.Join.{lent_request}
 use Rattle.tb_frame.specs.Sides.{asking}
-use Rattle.tb_frame.specs.Table.{height, table_of}
+use Rattle.tb_frame.specs.Promise.Table.{height, table_of}
 use Rattle.tb_chunk.specs.Lent.{lent_columns}
 use Rattle.tb_keys.specs.Rows.{HasRows}
 use Rattle.tb_keys.specs.declared.request.LentRequest.{LentRequest}

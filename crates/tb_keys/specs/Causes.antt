@@ -1,11 +1,11 @@
 -- The causes of a refusal in two parts: those that the names of the keys decide, and the others.
 use Rattle.std.specs.Prelude.{List, ◌++◌, Option}
-use Rattle.tb_value.specs.Names.{Name}
-use Rattle.tb_value.specs.Refusals.{first_cause}
+use Rattle.tb_value.specs.Promise.Names.{Name}
+use Rattle.tb_value.specs.Promise.Refusals.{first_cause}
 use Rattle.tb_value.specs.declared.error.PolarsError.{PolarsError}
-use Rattle.tb_frame.specs.Join.{Request}
-use Rattle.tb_frame.specs.Refusal.{name_causes, list_causes, column_causes, row_causes}
-use Rattle.tb_frame.specs.Table.{Table}
+use Rattle.tb_frame.specs.Promise.Join.{Request}
+use Rattle.tb_frame.specs.Promise.Refusal.{name_causes, list_causes, column_causes, row_causes}
+use Rattle.tb_frame.specs.Promise.Table.{Table}
 use Rattle.tb_frame.specs.declared.null_flags.JoinNulls.{JoinNulls}
 
 -- a key is unknown, there is none, there are more on one side, there are more or fewer flags, or a key is repeated

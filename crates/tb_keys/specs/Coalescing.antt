@@ -1,10 +1,10 @@
 -- The left columns of an answer, of which a coalesced Full join merges the keys.
 use Rattle.std.specs.Prelude.{ℕ, Bool, true, false, List, Option, Some, None, slice_get, position}
 use Rattle.std.specs.Option.{option_and_then}
-use Rattle.tb_value.specs.Names.{Name, same_name}
-use Rattle.tb_chunk.specs.Col.{Col}
+use Rattle.tb_value.specs.Promise.Names.{Name, same_name}
+use Rattle.tb_chunk.specs.Promise.Col.{Col}
 use Rattle.tb_frame.specs.Frame.{coalesced_column, opt_taken_rows}
-use Rattle.tb_frame.specs.Naming.{coalesces, coalesces_keys}
+use Rattle.tb_frame.specs.Promise.Naming.{coalesces, coalesces_keys}
 use Rattle.tb_chunk.specs.Lent.{lent_columns}
 use Rattle.tb_keys.specs.Asked.{asked_request}
 use Rattle.tb_keys.specs.declared.request.LentRequest.{LentRequest}

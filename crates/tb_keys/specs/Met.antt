@@ -1,7 +1,7 @@
 -- The left rows of a listing that stand alone.
 use Rattle.std.specs.Prelude.{ℕ, Bool, true, false, not, List, map, filter}
 use Rattle.std.specs.List.{list_any}
-use Rattle.tb_value.specs.Pairs.{row_numbers, left_only}
+use Rattle.tb_value.specs.Promise.Pairs.{row_numbers, left_only}
 use Rattle.tb_value.specs.declared.index.JoinPair.{JoinPair}
 
 -- the test has the answer that is asked for

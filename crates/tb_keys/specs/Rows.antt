@@ -1,6 +1,6 @@
 -- Columns that have rows.
 use Rattle.std.specs.Prelude.{◌≡◌, ◌<◌, ℕ, List, All, length}
-use Rattle.tb_chunk.specs.Col.{Col, values}
+use Rattle.tb_chunk.specs.Promise.Col.{Col, values}
 
 -- the column has that row
 abbrev pub HasRow : ℕ → Col → Type 0

@@ -1,10 +1,10 @@
 //! Whether the keys of two rows match.
 ghost use Rattle.std.specs.Prelude.{◌≡◌, ◌<◌};
-ghost use Rattle.tb_value.specs.Datum.{is_null};
+ghost use Rattle.tb_value.specs.Promise.Datum.{is_null};
 ghost use Rattle.tb_value.specs.See.{lent_value};
-ghost use Rattle.tb_value.specs.Same.{agrees};
-ghost use Rattle.tb_frame.specs.Join.{matches};
-ghost use Rattle.tb_frame.specs.Table.{table_of, height};
+ghost use Rattle.tb_value.specs.Promise.Same.{agrees};
+ghost use Rattle.tb_frame.specs.Promise.Join.{matches};
+ghost use Rattle.tb_frame.specs.Promise.Table.{table_of, height};
 ghost use Rattle.tb_keys.specs.Asked.{asked_request};
 
 use crate::request::LentRequest;

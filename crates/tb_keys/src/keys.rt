@@ -1,6 +1,7 @@
 //! The types of the keys.
-ghost use Rattle.tb_value.specs.Refusals.{Settles, SettlesOutright, first_cause};
-ghost use Rattle.tb_frame.specs.Refusal.{column_causes, key_kind, key_types};
+ghost use Rattle.tb_value.specs.Promise.Refusals.{first_cause};
+ghost use Rattle.tb_value.specs.Refusals.{Settles, SettlesOutright};
+ghost use Rattle.tb_frame.specs.Promise.Refusal.{column_causes, key_kind, key_types};
 ghost use Rattle.tb_keys.specs.Asked.{asked_request};
 
 use crate::names::check_answer_names;

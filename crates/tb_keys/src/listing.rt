@@ -1,12 +1,13 @@
 //! The pairs that two nested loops over row numbers list.
 ghost use Rattle.std.specs.Prelude.{◌≡◌, ◌<◌, ◌++◌, IfOk, OnOk, map, filter, length, nat_lt};
 ghost use Rattle.std.specs.List.{list_any};
-ghost use Rattle.tb_value.specs.Pairs.{row_numbers, both, matched_pairs, right_unmet};
-ghost use Rattle.tb_value.specs.Refusals.{SettlesOutright, when};
+ghost use Rattle.tb_value.specs.Promise.Pairs.{row_numbers, both, matched_pairs, right_unmet};
+ghost use Rattle.tb_value.specs.Promise.Refusals.{when};
+ghost use Rattle.tb_value.specs.Refusals.{SettlesOutright};
 ghost use Rattle.tb_value.specs.declared.error.PolarsError.TheVariants.{ComputeError};
 ghost use Rattle.tb_value.specs.declared.error.ComputeCause.TheVariants.{TooManyRows};
-ghost use Rattle.tb_frame.specs.Join.{matches, listing};
-ghost use Rattle.tb_frame.specs.Table.{table_of, height};
+ghost use Rattle.tb_frame.specs.Promise.Join.{matches, listing};
+ghost use Rattle.tb_frame.specs.Promise.Table.{table_of, height};
 ghost use Rattle.tb_keys.specs.Asked.{asked_request};
 ghost use Rattle.tb_keys.specs.Met.{left_alone};
 

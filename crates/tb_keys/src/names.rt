@@ -1,7 +1,8 @@
 //! The names of the keys.
-ghost use Rattle.tb_value.specs.Refusals.{Settles, SettlesOutright, first_cause};
+ghost use Rattle.tb_value.specs.Promise.Refusals.{first_cause};
+ghost use Rattle.tb_value.specs.Refusals.{Settles, SettlesOutright};
 ghost use Rattle.std.specs.Prelude.{length};
-ghost use Rattle.tb_frame.specs.Refusal.{key_counts, list_causes, no_keys, null_flags, repeated_name};
+ghost use Rattle.tb_frame.specs.Promise.Refusal.{key_counts, list_causes, no_keys, null_flags, repeated_name};
 ghost use Rattle.tb_keys.specs.Asked.{asked_request};
 
 use crate::request::LentRequest;

@@ -1,6 +1,6 @@
 //! Requests to join whose parts are lent.
-ghost use Rattle.tb_frame.specs.Frame.{selected_columns};
-ghost use Rattle.tb_frame.specs.Table.{table_of, height};
+ghost use Rattle.tb_frame.specs.Promise.Frame.{selected_columns};
+ghost use Rattle.tb_frame.specs.Promise.Table.{table_of, height};
 ghost use Rattle.tb_chunk.specs.Lent.{lent_columns};
 ghost use Rattle.tb_keys.specs.Rows.{HasRows};
 
@@ -28,7 +28,7 @@ pub struct LentRequest<'a> {
 
 impl LentRequest<'_> {
     ghost use Rattle.std.specs.Prelude.{◌≡◌, ◌≤◌, length};
-    ghost use Rattle.tb_frame.specs.Naming.{coalesces, coalesces_keys};
+    ghost use Rattle.tb_frame.specs.Promise.Naming.{coalesces, coalesces_keys};
     ghost use Rattle.tb_keys.specs.Asked.{asked_request, place_count};
 
     /// The number of places that both key lists have.
@@ -68,7 +68,7 @@ pub struct KeyColumns<'a> {
 impl<'a> NamedRequest<'a> {
     ghost use Rattle.std.specs.Prelude.{◌≡◌, IfOk};
     ghost use Rattle.tb_value.specs.Refusals.{Settles};
-    ghost use Rattle.tb_frame.specs.Table.{table_of};
+    ghost use Rattle.tb_frame.specs.Promise.Table.{table_of};
     ghost use Rattle.tb_keys.specs.Asked.{AreKeysOf, IsByNames, asked_request, asked_by_names};
     ghost use Rattle.tb_keys.specs.Causes.{names_refusal};
     ghost use Rattle.tb_chunk.specs.Lent.{lent_columns};

@@ -1,15 +1,16 @@
 //! Whether a key stands on two rows of a side that is to have each key once.
 ghost use Rattle.std.specs.Prelude.{◌≡◌, ◌&&◌, ◌||◌, ◌∷◌, [], All};
 ghost use Rattle.std.specs.List.{list_any};
-ghost use Rattle.tb_value.specs.Datum.{is_present};
-ghost use Rattle.tb_value.specs.Pairs.{row_numbers};
-ghost use Rattle.tb_value.specs.Refusals.{SettlesOutright, first_cause, when};
+ghost use Rattle.tb_value.specs.Promise.Datum.{is_present};
+ghost use Rattle.tb_value.specs.Promise.Pairs.{row_numbers};
+ghost use Rattle.tb_value.specs.Promise.Refusals.{first_cause, when};
+ghost use Rattle.tb_value.specs.Refusals.{SettlesOutright};
 ghost use Rattle.tb_value.specs.See.{lent_value};
 ghost use Rattle.tb_value.specs.declared.error.ComputeCause.TheVariants.{Validation};
 ghost use Rattle.tb_value.specs.declared.error.PolarsError.TheVariants.{ComputeError};
-ghost use Rattle.tb_frame.specs.Join.{flag_at};
-ghost use Rattle.tb_frame.specs.Refusal.{are_twins, broken_left, broken_right, has_twins, is_counted, is_validated, same_keys};
-ghost use Rattle.tb_frame.specs.Table.{table_of};
+ghost use Rattle.tb_frame.specs.Promise.Join.{flag_at};
+ghost use Rattle.tb_frame.specs.Promise.Refusal.{are_twins, broken_left, broken_right, has_twins, is_counted, is_validated, same_keys};
+ghost use Rattle.tb_frame.specs.Promise.Table.{table_of};
 ghost use Rattle.tb_keys.specs.Asked.{asked_request};
 ghost use Rattle.tb_chunk.specs.Lent.{lent_columns};
 ghost use Rattle.tb_keys.specs.Rows.{HasRow, HasRows};

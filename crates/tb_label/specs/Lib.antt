@@ -1,2 +1,2 @@
 pub mod Label
-pub mod Numerals
+pub mod Promise

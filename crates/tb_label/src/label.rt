@@ -1,9 +1,9 @@
 //! The text of a value.
 ghost use Rattle.std.specs.Prelude.{◌≡◌, IfOk};
-ghost use Rattle.tb_value.specs.Datum.{int};
+ghost use Rattle.tb_value.specs.Promise.Datum.{int};
 ghost use Rattle.tb_value.specs.See.{lent_value, IsText};
 ghost use Rattle.tb_value.specs.SeeKind.{kind_of};
-ghost use Rattle.tb_label.specs.Label.{truth_text, value_text, is_header};
+ghost use Rattle.tb_label.specs.Promise.Label.{truth_text, value_text, is_header};
 
 use std::alloc::Global;
 use tb_value::{DataType, OutOfMemory, PlSmallStr, ValueRef, copy_text};

@@ -1,6 +1,6 @@
 //! Whole numbers, read from texts.
 ghost use Rattle.std.specs.Prelude.{◌≡◌};
-ghost use Rattle.tb_label.specs.Numerals.{are_digits, is_counting, is_whole, whole_in};
+ghost use Rattle.tb_label.specs.Promise.Numerals.{are_digits, is_counting, is_whole, whole_in};
 
 fn are_digits(bytes: &[u8]) -> bool
     ensures { result ≡ are_digits bytes.now }

@@ -4,10 +4,10 @@ use Rattle.std.specs.List.{flat_map}
 use Rattle.std.proofs.lemmas.Str.{encodes-append}
 use Rattle.std.proofs.lemmas.List.{take_more}
 use Rattle.std.proofs.lemmas.List.FromFn.{map-range_with_len_more}
-use Rattle.tb_value.specs.Pairs.{row_numbers}
-use Rattle.tb_frame.specs.Table.{Table, height}
-use Rattle.tb_layout.specs.Characters.{cut, trimmed_text}
-use Rattle.tb_layout.specs.Lines.{cell_in, dashes_in, layout, name_in, side_by_side}
+use Rattle.tb_value.specs.Promise.Pairs.{row_numbers}
+use Rattle.tb_frame.specs.Promise.Table.{Table, height}
+use Rattle.tb_layout.specs.Promise.Characters.{cut, trimmed_text}
+use Rattle.tb_layout.specs.Promise.Lines.{cell_in, dashes_in, layout, name_in, side_by_side}
 
 -- a line as it stands in the text
 abbrev pub piece : ℕ → List ℕ → List ℕ

@@ -3,13 +3,13 @@ use Rattle.std.proofs.Common.{◌≡◌, ◌<◌, ◌+◌, ◌∷◌, ◌++◌, 
 use Rattle.std.specs.List.{All}
 use Rattle.std.proofs.Math.ListN as listn
 use Rattle.std.proofs.lemmas.List.{get_or-map, get_or_default, length-map, take_more}
-use Rattle.tb_value.specs.Datum.{Datum}
-use Rattle.tb_value.specs.Kind as kind
-use Rattle.tb_value.specs.Kind.{Kind}
+use Rattle.tb_value.specs.Promise.Datum.{Datum}
+use Rattle.tb_value.specs.Promise.Kind as kind
+use Rattle.tb_value.specs.Promise.Kind.{Kind}
 use Rattle.tb_value.specs.declared.sorted.IsSorted.TheVariants.{Not}
-use Rattle.tb_chunk.specs.Col.{Col, values}
-use Rattle.tb_frame.specs.Table.{TableColumn, height, plain_column, table_of}
-use Rattle.tb_layout.specs.Lines.{blanks, cell_of, column_width, dashes_in, padded_cell, side_by_side}
+use Rattle.tb_chunk.specs.Promise.Col.{Col, values}
+use Rattle.tb_frame.specs.Promise.Table.{TableColumn, height, plain_column, table_of}
+use Rattle.tb_layout.specs.Promise.Lines.{blanks, cell_of, column_width, dashes_in, padded_cell, side_by_side}
 
 sides_push : (f : TableColumn → List ℕ) (cs : List Col) (c : Col) → side_by_side f (table_of (cs ++ c ∷ [])) ≡ side_by_side f (table_of cs) ++ (f (plain_column c) ++ blanks 2)
 sides_push f [] c = append-nil (f (plain_column c) ++ blanks 2)

@@ -3,7 +3,7 @@ use Rattle.std.proofs.Common.{◌≡◌, ◌≤◌, ◌-◌, ◌∷◌, [], ℕ,
 use Rattle.std.specs.List.{suffix_len}
 use Rattle.std.proofs.lemmas.List.Sums.{sum_by-cons, sum_by-take-le}
 use Rattle.std.proofs.lemmas.Bool.Decides.{nat_tests}
-use Rattle.tb_layout.specs.Characters.{columns_of, cut, is_blank, trimmed_text, width_of}
+use Rattle.tb_layout.specs.Promise.Characters.{columns_of, cut, is_blank, trimmed_text, width_of}
 
 cut_step : (b : Bool) (room c : ℕ) (rest : List ℕ) → nat_le (columns_of c) room ≡ b → width_of rest ≤ room - columns_of c → width_of (cond b (c ∷ rest) []) ≤ room
 cut_step true room c rest fits less =

@@ -1,9 +1,9 @@
 -- What holds of the lines of a table.
 use Rattle.std.specs.Prelude.{◌≡◌, ◌≤◌, ◌+◌, ℕ, length}
 use Rattle.std.specs.List.{All}
-use Rattle.tb_frame.specs.Table.{Table, height}
-use Rattle.tb_layout.specs.Characters.{width_of}
-use Rattle.tb_layout.specs.Lines.{lines}
+use Rattle.tb_frame.specs.Promise.Table.{Table, height}
+use Rattle.tb_layout.specs.Promise.Characters.{width_of}
+use Rattle.tb_layout.specs.Promise.Lines.{lines}
 
 -- no line is wider than the terminal
 abbrev pub LinesFit : Type 0

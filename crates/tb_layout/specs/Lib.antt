@@ -1,3 +1,2 @@
-pub mod Characters
-pub mod Lines
 pub mod Laws
+pub mod Promise

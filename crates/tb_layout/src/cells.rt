@@ -2,8 +2,8 @@
 ghost use Rattle.std.specs.Prelude.{◌≡◌, ◌++◌, IfOk, OnOk, map};
 ghost use Rattle.tb_value.specs.See.{lent_value, IsText};
 ghost use Rattle.tb_value.specs.SeeKind.{kind_of};
-ghost use Rattle.tb_frame.specs.Table.{plain_column, table_of};
-ghost use Rattle.tb_layout.specs.Lines.{blanks, cell_of, cell_text, column_width, is_number, padded_cell};
+ghost use Rattle.tb_frame.specs.Promise.Table.{plain_column, table_of};
+ghost use Rattle.tb_layout.specs.Promise.Lines.{blanks, cell_of, cell_text, column_width, is_number, padded_cell};
 
 use crate::characters::{push_repeated, shown, width_within};
 use std::alloc::Global;

@@ -1,6 +1,6 @@
 //! Characters as a line of a terminal shows them.
 ghost use Rattle.std.specs.Prelude.{◌≡◌, ◌++◌, IfOk, OnOk, min, replicate};
-ghost use Rattle.tb_layout.specs.Characters.{columns_of, cut, shown_text, trimmed_text, visible_text, width_of};
+ghost use Rattle.tb_layout.specs.Promise.Characters.{columns_of, cut, shown_text, trimmed_text, visible_text, width_of};
 
 use std::alloc::Global;
 use tb_value::OutOfMemory;

@@ -1,7 +1,7 @@
 //! The columns of a table and their widths.
 ghost use Rattle.std.specs.Prelude.{◌≡◌, map};
-ghost use Rattle.tb_frame.specs.Table.{table_of};
-ghost use Rattle.tb_layout.specs.Lines.{column_width};
+ghost use Rattle.tb_frame.specs.Promise.Table.{table_of};
+ghost use Rattle.tb_layout.specs.Promise.Lines.{column_width};
 
 use tb_store::Column;
 

@@ -1,8 +1,8 @@
 //! The text of a table.
 ghost use Rattle.std.specs.Prelude.{◌≡◌, ◌++◌, ◌∷◌, [], ℕ, IfOk, OnOk, encode_utf8_all, string_bytes};
-ghost use Rattle.tb_frame.specs.Table.{table_of};
-ghost use Rattle.tb_layout.specs.Characters.{cut, trimmed_text};
-ghost use Rattle.tb_layout.specs.Lines.{layout};
+ghost use Rattle.tb_frame.specs.Promise.Table.{table_of};
+ghost use Rattle.tb_layout.specs.Promise.Characters.{cut, trimmed_text};
+ghost use Rattle.tb_layout.specs.Promise.Lines.{layout};
 
 use crate::cells::column_widths;
 use crate::characters::{cut, trimmed};

@@ -1,9 +1,9 @@
 //! The lines of a table, before they are cut.
 ghost use Rattle.std.specs.Prelude.{◌≡◌, ◌<◌, IfOk, length};
 ghost use Rattle.std.specs.List.{All};
-ghost use Rattle.tb_chunk.specs.Col.{Col, values};
-ghost use Rattle.tb_frame.specs.Table.{table_of};
-ghost use Rattle.tb_layout.specs.Lines.{cell_in, dashes_in, name_in, side_by_side};
+ghost use Rattle.tb_chunk.specs.Promise.Col.{Col, values};
+ghost use Rattle.tb_frame.specs.Promise.Table.{table_of};
+ghost use Rattle.tb_layout.specs.Promise.Lines.{cell_in, dashes_in, name_in, side_by_side};
 
 use crate::cells::{cell_of, is_number, push_cell};
 use crate::characters::{push_repeated, shown};

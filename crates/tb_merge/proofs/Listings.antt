@@ -6,7 +6,7 @@ use Rattle.std.proofs.lemmas.List.Concat.{flat_map-append}
 use Rattle.std.proofs.lemmas.List.Folds.{length-flat_map-take}
 use Rattle.std.proofs.lemmas.List.FromFn.{map-range_with_len_more, length-range_with_len, length-map-range_with_len, get_or-range_with_len, take-map-range_with_len}
 use Rattle.tb_value.specs.declared.index.JoinPair.{JoinPair}
-use Rattle.tb_value.specs.Pairs.{both, row_numbers}
+use Rattle.tb_value.specs.Promise.Pairs.{both, row_numbers}
 use Rattle.tb_value.proofs.RowNumbers.{range_more}
 use Rattle.tb_merge.specs.RowPairs.{row_pairs}
 

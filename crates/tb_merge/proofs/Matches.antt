@@ -6,7 +6,7 @@ use Rattle.std.specs.List.{range_with_len}
 use Rattle.std.proofs.lemmas.Int.{ints}
 use Rattle.std.proofs.lemmas.Bool.Decides.{nat_tests, Decides-int_eq}
 use Rattle.std.proofs.lemmas.List.Elements.{filter-append}
-use Rattle.tb_value.specs.Pairs.{row_numbers, both, matched_pairs}
+use Rattle.tb_value.specs.Promise.Pairs.{row_numbers, both, matched_pairs}
 use Rattle.tb_value.proofs.Loops.{flat_map_agree}
 use Rattle.tb_value.proofs.Probes.{left_pairs, each_left}
 use Rattle.tb_value.proofs.RowNumbers.{range_cut}

@@ -3,7 +3,7 @@ use Rattle.std.proofs.Common.{◌≡◌, inl, inr, ℕ, zero, suc, ◌+◌, ◌-
 use Rattle.std.specs.List.{flat_map, range_with_len}
 use Rattle.tb_value.specs.declared.limits.TheConstants.{MAX_ROWS}
 use Rattle.tb_value.specs.declared.index.JoinPair.{JoinPair}
-use Rattle.tb_value.specs.Pairs.{row_numbers}
+use Rattle.tb_value.specs.Promise.Pairs.{row_numbers}
 use Rattle.tb_merge.specs.declared.fault.MergeFault.{MergeFault}
 use Rattle.tb_merge.specs.declared.by_portion.Progress.{Progress}
 use Rattle.tb_merge.specs.declared.runs.Cursor.{Cursor}

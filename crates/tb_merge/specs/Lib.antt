@@ -4,3 +4,4 @@ pub mod Runs
 pub mod Faults
 pub mod MergedView
 pub mod Progress
+pub mod Promise

@@ -1,6 +1,6 @@
 //! The left rows' pairs, one portion of the left rows after another.
 ghost use Rattle.std.specs.Prelude.{◌≡◌, ◌+◌, ◌*◌, ◌<◌, ◌≤◌, [], length, IfOk};
-ghost use Rattle.tb_value.specs.Pairs.{row_numbers};
+ghost use Rattle.tb_value.specs.Promise.Pairs.{row_numbers};
 ghost use Rattle.tb_merge.specs.Faults.{GivesUpFor};
 ghost use Rattle.tb_merge.specs.Keys.{AreMergeable};
 ghost use Rattle.tb_merge.specs.Progress.{IsMergedTo};

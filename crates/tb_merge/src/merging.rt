@@ -1,6 +1,6 @@
 //! The merge of two ascending lists of keys.
 ghost use Rattle.std.specs.Prelude.{◌≡◌, ◌+◌, ◌*◌, ◌≤◌, length, IfOk, IsSorted, IsPermutation};
-ghost use Rattle.tb_value.specs.Pairs.{row_numbers, left_first};
+ghost use Rattle.tb_value.specs.Promise.Pairs.{row_numbers, left_first};
 ghost use Rattle.tb_merge.specs.Faults.{SettlesCount};
 ghost use Rattle.tb_merge.specs.Keys.{AreMergeable, inner_listing, left_listing};
 ghost use Rattle.tb_merge.specs.MergedView.{IsMergeOf};
@@ -26,7 +26,7 @@ pub struct Merged {
 }
 
 impl Model for Merged {
-    ghost use Rattle.tb_merge.specs.MergedView.{MergedView};
+    ghost use Rattle.tb_merge.specs.Promise.MergedView.{MergedView};
 
     ghost Value = { MergedView };
 

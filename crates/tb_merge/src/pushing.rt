@@ -1,7 +1,7 @@
 //! The pairs of one left row, put behind others.
 ghost use Rattle.std.specs.Prelude.{◌≡◌, ◌+◌, ◌-◌, ◌<◌, ◌≤◌, ◌++◌, ◌∷◌, [], length, map, OnOk};
 ghost use Rattle.std.specs.List.{range_with_len};
-ghost use Rattle.tb_value.specs.Pairs.{both};
+ghost use Rattle.tb_value.specs.Promise.Pairs.{both};
 ghost use Rattle.tb_merge.specs.Faults.{SettlesCount};
 ghost use Rattle.tb_merge.specs.RowPairs.{row_pairs};
 

@@ -1,9 +1,9 @@
 -- The right columns of an answer.
 use Rattle.std.specs.Prelude.{ℕ, List, Option, unwrap_or}
-use Rattle.tb_value.specs.Names.{Name}
-use Rattle.tb_chunk.specs.Col.{Col}
+use Rattle.tb_value.specs.Promise.Names.{Name}
+use Rattle.tb_chunk.specs.Promise.Col.{Col}
 use Rattle.tb_frame.specs.declared.args.JoinArgs.{JoinArgs}
-use Rattle.tb_frame.specs.Naming.{default_suffix}
+use Rattle.tb_frame.specs.Promise.Naming.{default_suffix}
 use Rattle.tb_frame.specs.RightColumns.{gone_right, right_columns, right_side}
 
 -- those of a join with these arguments, beside left columns of these names

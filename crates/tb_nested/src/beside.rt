@@ -1,13 +1,13 @@
 //! The right columns of an answer, under their names there.
 ghost use Rattle.std.specs.Prelude.{◌≡◌, ◌≤◌, All, IfOk, List, length};
-ghost use Rattle.tb_value.specs.Names.{Name};
-ghost use Rattle.tb_chunk.specs.Col.{Col, values};
+ghost use Rattle.tb_value.specs.Promise.Names.{Name};
+ghost use Rattle.tb_chunk.specs.Promise.Col.{Col, values};
 ghost use Rattle.tb_chunk.specs.Rows.{IsRowOf};
-ghost use Rattle.tb_frame.specs.Naming.{is_among};
+ghost use Rattle.tb_frame.specs.Promise.Naming.{is_among};
 ghost use Rattle.tb_frame.specs.NameSets.{has_name};
 ghost use Rattle.tb_frame.specs.RightColumns.{right_column};
 ghost use Rattle.tb_frame.specs.Sides.{of_kind};
-ghost use Rattle.tb_frame.specs.Table.{names_of, table_of};
+ghost use Rattle.tb_frame.specs.Promise.Table.{names_of, table_of};
 ghost use Rattle.tb_nested.specs.Beside.{columns_beside};
 
 use std::alloc::Global;

@@ -1,16 +1,16 @@
 //! The columns of an answer.
 ghost use Rattle.std.specs.Prelude.{◌≡◌, ◌≤◌, All, IfOk, None, length, map, position};
 ghost use Rattle.std.specs.Option.{ForSome, option_copied};
-ghost use Rattle.tb_value.specs.Names.{same_name};
+ghost use Rattle.tb_value.specs.Promise.Names.{same_name};
 ghost use Rattle.tb_value.specs.Refusals.{Settles};
-ghost use Rattle.tb_chunk.specs.Col.{Col, values};
+ghost use Rattle.tb_chunk.specs.Promise.Col.{Col, values};
 ghost use Rattle.tb_chunk.specs.Rows.{IsRowOf};
 ghost use Rattle.tb_frame.specs.Answer.{IsListed, IsPairOf, fill};
 ghost use Rattle.tb_frame.specs.Frame.{without_names};
-ghost use Rattle.tb_frame.specs.Join.{IsAnswer, listing, out};
-ghost use Rattle.tb_frame.specs.Refusal.{join_valid};
+ghost use Rattle.tb_frame.specs.Promise.Join.{IsAnswer, listing, out};
+ghost use Rattle.tb_frame.specs.Promise.Refusal.{join_valid};
 ghost use Rattle.tb_frame.specs.RightColumns.{gone_left};
-ghost use Rattle.tb_frame.specs.Table.{table_of, height};
+ghost use Rattle.tb_frame.specs.Promise.Table.{table_of, height};
 ghost use Rattle.tb_keys.specs.Asked.{IsByNames, asked_request};
 ghost use Rattle.tb_chunk.specs.Lent.{lent_columns};
 ghost use Rattle.tb_keys.specs.Coalescing.{coalescing_key, left_column};

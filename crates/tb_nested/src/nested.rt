@@ -1,10 +1,12 @@
 //! The join of two tables by nested loops.
 ghost use Rattle.std.specs.Prelude.{◌≡◌, IfOk};
-ghost use Rattle.tb_value.specs.Refusals.{Settles, first_cause};
+ghost use Rattle.tb_value.specs.Promise.Refusals.{first_cause};
+ghost use Rattle.tb_value.specs.Refusals.{Settles};
 ghost use Rattle.tb_frame.specs.Answer.{IsListed};
-ghost use Rattle.tb_frame.specs.Join.{IsAnswer, lent_request, listing};
-ghost use Rattle.tb_frame.specs.Refusal.{join_refusal, row_causes, too_many_rows};
-ghost use Rattle.tb_frame.specs.Table.{table_of};
+ghost use Rattle.tb_frame.specs.Promise.Join.{IsAnswer, listing};
+ghost use Rattle.tb_frame.specs.Join.{lent_request};
+ghost use Rattle.tb_frame.specs.Promise.Refusal.{join_refusal, row_causes, too_many_rows};
+ghost use Rattle.tb_frame.specs.Promise.Table.{table_of};
 ghost use Rattle.tb_keys.specs.Asked.{asked_request};
 ghost use Rattle.tb_keys.specs.Causes.{later_refusal};
 

@@ -2,21 +2,23 @@
 use Rattle.std.proofs.Common.{◌≡◌, ℕ, Bool, true, false, ◌&&◌, List, [], ◌∷◌, length, get_or, refl, ap, sym, ◌∙◌, Option}
 use Rattle.std.specs.Prelude.{All}
 use Rattle.std.specs.Borrow.{Bor}
-use Rattle.tb_value.specs.Datum.{Datum, null}
-use Rattle.tb_value.specs.Refusals.{first_cause}
-use Rattle.tb_value.specs.Same.{agrees}
+use Rattle.tb_value.specs.Promise.Datum.{Datum, null}
+use Rattle.tb_value.specs.Promise.Refusals.{first_cause}
+use Rattle.tb_value.specs.Promise.Same.{agrees}
 use Rattle.tb_value.specs.declared.error.PolarsError.{PolarsError}
 use Rattle.tb_value.specs.declared.error.Side.TheVariants as side
-use Rattle.tb_chunk.specs.Col.{Col, IsColumn, values}
+use Rattle.tb_chunk.specs.Promise.Col.{Col, values}
+use Rattle.tb_chunk.specs.Col.{IsColumn}
 use Rattle.tb_chunk.specs.Lent.{lent_columns}
-use Rattle.tb_frame.specs.Join.{flag_at, listing}
-use Rattle.tb_frame.specs.Refusal.{asks_left, asks_right, has_twins, row_causes}
-use Rattle.tb_frame.specs.Table.{height, table_of}
+use Rattle.tb_frame.specs.Promise.Join.{flag_at, listing}
+use Rattle.tb_frame.specs.Promise.Refusal.{asks_left, asks_right, has_twins, row_causes}
+use Rattle.tb_frame.specs.Promise.Table.{height, table_of}
 use Rattle.tb_hash.specs.Hashing.{value_listing}
 use Rattle.tb_hash.specs.Probing.{too_many}
 use Rattle.tb_build.specs.Keys.{twins_among}
 use Rattle.tb_hash.specs.Twins.{validation_cause, value_causes, value_twins}
-use Rattle.tb_rowkey.specs.Columns.{AreKeyColumns, columns_meet, key_column, keys_at, row_count}
+use Rattle.tb_rowkey.specs.Promise.Columns.{keys_at, row_count}
+use Rattle.tb_rowkey.specs.Columns.{AreKeyColumns, columns_meet, key_column}
 use Rattle.tb_rowkey.proofs.ColumnRows.{columns_match}
 use Rattle.tb_keys.specs.Asked.{asked_request}
 use Rattle.tb_keys.specs.declared.request.LentRequest.{LentRequest}

@@ -3,21 +3,21 @@ use Rattle.std.proofs.Common.{◌≡◌, ◌<◌, ℕ, Bool, true, false, not, m
 use Rattle.std.specs.List.{find}
 use Rattle.std.proofs.lemmas.List.{ext_get_or, get_or-map, length-map}
 use Rattle.std.proofs.lemmas.List.FromFn.{length-range_with_len, get_or-range_with_len}
-use Rattle.tb_value.specs.Kind.{Kind}
-use Rattle.tb_value.specs.Kind as kind
-use Rattle.tb_value.specs.Pairs.{row_numbers}
+use Rattle.tb_value.specs.Promise.Kind.{Kind}
+use Rattle.tb_value.specs.Promise.Kind as kind
+use Rattle.tb_value.specs.Promise.Pairs.{row_numbers}
 use Rattle.tb_value.specs.Proved.TypeTests.{same_kind-Decides}
-use Rattle.tb_value.specs.SameKind.{is_key, same_kind}
+use Rattle.tb_value.specs.Promise.SameKind.{is_key, same_kind}
 use Rattle.tb_value.specs.declared.error.ComputeCause.TheVariants.{KeyTypes}
 use Rattle.tb_value.specs.declared.error.InvalidCause.TheVariants.{KeyKind}
 use Rattle.tb_value.specs.declared.error.PolarsError.TheVariants.{ComputeError, InvalidOperation}
 use Rattle.tb_value.proofs.Loops.{map-map}
-use Rattle.tb_chunk.specs.Col.{Col}
-use Rattle.tb_frame.specs.Join.{Request}
-use Rattle.tb_frame.specs.Refusal.{key_kind, key_types, kind_at}
-use Rattle.tb_frame.specs.Table.{TableColumn, plain_column, table_of}
+use Rattle.tb_chunk.specs.Promise.Col.{Col}
+use Rattle.tb_frame.specs.Promise.Join.{Request}
+use Rattle.tb_frame.specs.Promise.Refusal.{key_kind, key_types, kind_at}
+use Rattle.tb_frame.specs.Promise.Table.{TableColumn, plain_column, table_of}
 use Rattle.tb_frame.proofs.Causes.{find_none, map_none}
-use Rattle.tb_rowkey.specs.Columns.{kinds}
+use Rattle.tb_rowkey.specs.Promise.Columns.{kinds}
 use Rattle.tb_pairs.specs.KeyColumns.{AreAlike}
 
 not_not : (b : Bool) → not b ≡ false → b ≡ true

@@ -8,7 +8,7 @@ use Rattle.tb_frame.specs.declared.args.Direction.TheVariants.{Free}
 use Rattle.tb_frame.specs.declared.args.JoinType.{JoinType}
 use Rattle.tb_frame.specs.declared.args.MaintainOrderJoin.{MaintainOrderJoin}
 use Rattle.tb_frame.specs.Answer.{IsListed}
-use Rattle.tb_frame.specs.Join.{Ascends}
+use Rattle.tb_frame.specs.Promise.Join.{Ascends}
 use Rattle.tb_sorted.specs.Listed.{IsListedIn}
 use Rattle.tb_sorted.specs.declared.pairs.DirectedPairs.{DirectedPairs}
 

@@ -3,11 +3,13 @@ use Rattle.std.proofs.Common.{◌≡◌, ◌<◌, ℕ, true, List, [], ◌∷◌
 use Rattle.std.specs.Prelude.{All, IsTrue}
 use Rattle.std.proofs.lemmas.List.{length-map, get_or_default}
 use Rattle.std.proofs.lemmas.List.Elements.{All-head, All-map}
-use Rattle.tb_value.specs.Kind.{Kind}
-use Rattle.tb_value.specs.SameKind.{is_key}
-use Rattle.tb_chunk.specs.Col.{Col, IsColumn, values}
+use Rattle.tb_value.specs.Promise.Kind.{Kind}
+use Rattle.tb_value.specs.Promise.SameKind.{is_key}
+use Rattle.tb_chunk.specs.Promise.Col.{Col, values}
+use Rattle.tb_chunk.specs.Col.{IsColumn}
 use Rattle.tb_chunk.proofs.Lists.{All-map-at}
-use Rattle.tb_rowkey.specs.Columns.{AreKeyColumns, kinds, row_count}
+use Rattle.tb_rowkey.specs.Promise.Columns.{kinds, row_count}
+use Rattle.tb_rowkey.specs.Columns.{AreKeyColumns}
 use Rattle.tb_keys.specs.Rows.{HasRows}
 use Rattle.tb_pairs.specs.KeyColumns.{AreAlike}
 

@@ -3,24 +3,24 @@ use Rattle.std.proofs.Common.{◌≡◌, ℕ, Bool, List, length, map, sym, subs
 use Rattle.std.specs.Prelude.{All, IsSome, filter, nat_lt}
 use Rattle.std.proofs.lemmas.List.Elements.{All-append, All-map}
 use Rattle.std.proofs.lemmas.List.Sorted.{All-permutation}
-use Rattle.tb_value.specs.Names.{Name}
-use Rattle.tb_value.specs.Pairs.{row_numbers, both, left_only, matched_pairs, left_unmet}
-use Rattle.tb_value.specs.Refusals.{first_cause, when}
+use Rattle.tb_value.specs.Promise.Names.{Name}
+use Rattle.tb_value.specs.Promise.Pairs.{row_numbers, both, left_only, matched_pairs, left_unmet}
+use Rattle.tb_value.specs.Promise.Refusals.{first_cause, when}
 use Rattle.tb_value.specs.declared.index.JoinPair.{JoinPair}
 use Rattle.tb_value.specs.declared.error.ComputeCause.TheVariants.{TooManyRows}
 use Rattle.tb_value.specs.declared.error.PolarsError.TheVariants.{ComputeError}
 use Rattle.tb_value.specs.declared.limits.TheConstants.{MAX_ROWS}
 use Rattle.tb_value.proofs.Ascending.{All-flat_map}
-use Rattle.tb_chunk.specs.Col.{Col}
+use Rattle.tb_chunk.specs.Promise.Col.{Col}
 use Rattle.tb_frame.specs.declared.args.JoinArgs.{JoinArgs}
 use Rattle.tb_frame.specs.declared.args.JoinType.TheVariants.{Left}
 use Rattle.tb_frame.specs.declared.args.JoinValidation.TheVariants.{ManyToMany}
 use Rattle.tb_frame.specs.declared.args.MaintainOrderJoin.TheVariants as order
 use Rattle.tb_frame.specs.declared.null_flags.JoinNulls.TheVariants as nulls_of
 use Rattle.tb_frame.specs.Answer.{IsListed}
-use Rattle.tb_frame.specs.Join.{Request, listing, listing_of}
-use Rattle.tb_frame.specs.Refusal.{row_causes, too_many_rows}
-use Rattle.tb_frame.specs.Table.{height, table_of}
+use Rattle.tb_frame.specs.Promise.Join.{Request, listing, listing_of}
+use Rattle.tb_frame.specs.Promise.Refusal.{row_causes, too_many_rows}
+use Rattle.tb_frame.specs.Promise.Table.{height, table_of}
 use Rattle.tb_pairs.specs.AllColumns.{by_all_columns}
 use Rattle.tb_pairs.proofs.Requested.{keys_listing}
 use Rattle.tb_pairs.proofs.Unbroken.{row_causes-unvalidated}

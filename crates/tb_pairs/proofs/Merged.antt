@@ -1,11 +1,11 @@
 -- What is refused where keys are merged.
 use Rattle.std.proofs.Common.{◌≡◌, Bool, true, false, cond, Option, Some, None, inl, inr}
 use Rattle.std.specs.Prelude.{◌⊎◌}
-use Rattle.tb_value.specs.Refusals.{first_cause}
+use Rattle.tb_value.specs.Promise.Refusals.{first_cause}
 use Rattle.tb_value.specs.declared.error.PolarsError.{PolarsError}
 use Rattle.tb_value.specs.declared.error.PolarsError.TheVariants.{OutOfMemory}
-use Rattle.tb_frame.specs.Refusal.{row_causes}
-use Rattle.tb_pool.specs.ExecView.{ExecView}
+use Rattle.tb_frame.specs.Promise.Refusal.{row_causes}
+use Rattle.tb_pool.specs.Promise.ExecView.{ExecView}
 use Rattle.tb_keys.specs.Asked.{asked_request}
 use Rattle.tb_keys.specs.declared.request.LentRequest.{LentRequest}
 use Rattle.tb_sorted.specs.Listed.{merge_refusal}

@@ -3,19 +3,20 @@ use Rattle.std.proofs.Common.{◌≡◌, ℕ, Bool, true, false, ◌&&◌, min, 
 use Rattle.std.specs.Borrow.{Bor}
 use Rattle.std.specs.List.{list_all}
 use Rattle.std.proofs.lemmas.List.{length-map}
-use Rattle.tb_value.specs.Datum.{Datum, null}
-use Rattle.tb_value.specs.Pairs.{row_numbers}
-use Rattle.tb_value.specs.Same.{agrees}
-use Rattle.tb_value.specs.SameKind.{is_key}
+use Rattle.tb_value.specs.Promise.Datum.{Datum, null}
+use Rattle.tb_value.specs.Promise.Pairs.{row_numbers}
+use Rattle.tb_value.specs.Promise.Same.{agrees}
+use Rattle.tb_value.specs.Promise.SameKind.{is_key}
 use Rattle.tb_value.specs.declared.index.JoinPair.{JoinPair}
 use Rattle.tb_value.proofs.Loops.{map-map}
-use Rattle.tb_chunk.specs.Col.{Col, values}
+use Rattle.tb_chunk.specs.Promise.Col.{Col, values}
 use Rattle.tb_chunk.specs.Lent.{lent_columns}
 use Rattle.tb_frame.specs.declared.args.JoinType.{JoinType}
-use Rattle.tb_frame.specs.Join.{field, flag_at, listing, listing_of}
-use Rattle.tb_frame.specs.Table.{TableColumn, height, plain_column, table_of}
+use Rattle.tb_frame.specs.Promise.Join.{field, flag_at, listing, listing_of}
+use Rattle.tb_frame.specs.Promise.Table.{TableColumn, height, plain_column, table_of}
 use Rattle.tb_hash.specs.Hashing.{value_listing}
-use Rattle.tb_rowkey.specs.Columns.{columns_meet, field_of, row_count}
+use Rattle.tb_rowkey.specs.Promise.Columns.{row_count}
+use Rattle.tb_rowkey.specs.Columns.{columns_meet, field_of}
 use Rattle.tb_sorted.proofs.OneKey.{one_column}
 use Rattle.tb_keys.specs.Asked.{asked_request}
 use Rattle.tb_keys.specs.declared.request.LentRequest.{LentRequest}

@@ -3,19 +3,21 @@ use Rattle.std.proofs.Common.{◌≡◌, ℕ, suc, ◌<◌, Bool, false, ◌&&�
 use Rattle.std.specs.Prelude.{All, if◌then◌else◌}
 use Rattle.std.proofs.lemmas.List.{append-nil, length-map}
 use Rattle.std.proofs.lemmas.List.FromFn.{length-range_with_len, get_or-map-range_with_len}
-use Rattle.tb_value.specs.Datum.{Datum, binary, is_present, null}
-use Rattle.tb_value.specs.Pairs.{row_numbers}
-use Rattle.tb_value.specs.Same.{agrees}
+use Rattle.tb_value.specs.Promise.Datum.{Datum, binary, is_present, null}
+use Rattle.tb_value.specs.Promise.Pairs.{row_numbers}
+use Rattle.tb_value.specs.Promise.Same.{agrees}
 use Rattle.tb_value.specs.declared.index.JoinPair.{JoinPair}
-use Rattle.tb_chunk.specs.Col.{Col, IsColumn, values}
+use Rattle.tb_chunk.specs.Promise.Col.{Col, values}
+use Rattle.tb_chunk.specs.Col.{IsColumn}
 use Rattle.tb_chunk.specs.Lent.{lent_columns}
 use Rattle.tb_frame.specs.declared.args.JoinType.{JoinType}
-use Rattle.tb_frame.specs.Join.{flag_at, listing, listing_of}
-use Rattle.tb_frame.specs.Table.{height, table_of}
+use Rattle.tb_frame.specs.Promise.Join.{flag_at, listing, listing_of}
+use Rattle.tb_frame.specs.Promise.Table.{height, table_of}
 use Rattle.tb_frame.proofs.Listings.{listing-same}
 use Rattle.tb_hash.specs.Hashing.{value_listing}
-use Rattle.tb_rowkey.specs.Columns.{AreKeyColumns, fields_at, flag_of, kinds, row_count, key_at, keys_at, key_column, columns_meet}
-use Rattle.tb_rowkey.specs.RowKey.{has_key, rowkey}
+use Rattle.tb_rowkey.specs.Promise.Columns.{fields_at, kinds, row_count, key_at, keys_at}
+use Rattle.tb_rowkey.specs.Columns.{AreKeyColumns, flag_of, key_column, columns_meet}
+use Rattle.tb_rowkey.specs.Promise.RowKey.{has_key, rowkey}
 use Rattle.tb_rowkey.proofs.ColumnRows.{columns_match}
 use Rattle.tb_keys.specs.Asked.{asked_request}
 use Rattle.tb_keys.specs.declared.request.LentRequest.{LentRequest}

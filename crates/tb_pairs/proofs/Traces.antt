@@ -5,28 +5,30 @@ use Rattle.std.proofs.lemmas.Bool.{ltb-true, lt-ltb, not-false}
 use Rattle.std.proofs.lemmas.List.{length-map}
 use Rattle.std.proofs.lemmas.List.Sorted.{IsPermutation-refl}
 use Rattle.std.specs.Borrow.{Bor}
-use Rattle.tb_value.specs.Datum.{Datum}
-use Rattle.tb_value.specs.Kind.{Kind}
-use Rattle.tb_value.specs.Kind as kind
+use Rattle.tb_value.specs.Promise.Datum.{Datum}
+use Rattle.tb_value.specs.Promise.Kind.{Kind}
+use Rattle.tb_value.specs.Promise.Kind as kind
 use Rattle.tb_value.specs.declared.index.JoinPair.{JoinPair}
-use Rattle.tb_chunk.specs.Col.{Col, values}
+use Rattle.tb_chunk.specs.Promise.Col.{Col, values}
 use Rattle.tb_chunk.specs.Lent.{lent_columns}
 use Rattle.tb_frame.specs.declared.args.JoinArgs.{JoinArgs}
 use Rattle.tb_frame.specs.declared.args.JoinType.{JoinType}
-use Rattle.tb_frame.specs.Join.{flag_at, listing}
-use Rattle.tb_pool.specs.ExecView.{ExecView}
+use Rattle.tb_frame.specs.Promise.Join.{flag_at, listing}
+use Rattle.tb_pool.specs.Promise.ExecView.{ExecView}
 use Rattle.tb_keys.specs.Asked.{asked_request}
 use Rattle.tb_keys.specs.declared.request.LentRequest.{LentRequest}
-use Rattle.tb_merge.specs.MergedView.{MergedView}
-use Rattle.tb_sorted.specs.Columns.{first_values, sizes_by}
-use Rattle.tb_sorted.specs.Keys.{MergeSizes}
+use Rattle.tb_merge.specs.Promise.MergedView.{MergedView}
+use Rattle.tb_sorted.specs.Promise.Columns.{first_values, sizes_by}
+use Rattle.tb_sorted.specs.Promise.Keys.{MergeSizes}
 use Rattle.tb_sorted.specs.Listed.{IsListedIn, IsMergeWithin, requested_sizes}
-use Rattle.tb_sorted.specs.Path.{takes_key_path, takes_merge_path, takes_path_by}
-use Rattle.tb_build.specs.Plan.{BuiltView}
-use Rattle.tb_hash.specs.Hashing.{builds_left, value_code, value_plan}
+use Rattle.tb_sorted.specs.Promise.Path.{takes_key_path, takes_path_by}
+use Rattle.tb_sorted.specs.Path.{takes_merge_path}
+use Rattle.tb_build.specs.Promise.Plan.{BuiltView}
+use Rattle.tb_hash.specs.Promise.Hashing.{builds_left, value_code, value_plan}
 use Rattle.tb_hash.specs.Probing.{IsProbed}
-use Rattle.tb_rowkey.specs.Columns.{AreShortRows, keys_at, row_bytes, row_count}
-use Rattle.tb_pairs.specs.Trace.{IsFound, IsTraced, Trace, hash, has_long_row, hashed_kind, hashed_values, lacks_keys, merge, plain, requested_trace, trace_of}
+use Rattle.tb_rowkey.specs.Promise.Columns.{keys_at, row_bytes, row_count}
+use Rattle.tb_rowkey.specs.Columns.{AreShortRows}
+use Rattle.tb_pairs.specs.Promise.Trace.{IsFound, IsTraced, Trace, hash, has_long_row, hashed_kind, hashed_values, lacks_keys, merge, plain, requested_trace, trace_of}
 use Rattle.tb_pairs.specs.declared.trace.FoundPairs.{FoundPairs}
 use Rattle.tb_pairs.specs.declared.trace.JoinTrace.{JoinTrace}
 use Rattle.tb_pairs.specs.declared.trace.JoinTrace.TheVariants.{Hash, Merge, Plain}

@@ -4,16 +4,17 @@ use Rattle.std.specs.Prelude.{nat_lt}
 use Rattle.std.specs.List.{list_all, list_any}
 use Rattle.std.proofs.lemmas.Bool.{ltb-true, lt-ltb}
 use Rattle.std.proofs.lemmas.List.{length-map}
-use Rattle.tb_value.specs.Datum.{Datum, null, is_present}
-use Rattle.tb_value.specs.Pairs.{row_numbers}
-use Rattle.tb_value.specs.Same.{agrees, same}
+use Rattle.tb_value.specs.Promise.Datum.{Datum, null, is_present}
+use Rattle.tb_value.specs.Promise.Pairs.{row_numbers}
+use Rattle.tb_value.specs.Promise.Same.{agrees, same}
 use Rattle.tb_value.proofs.RowNumbers.{any_more, any_stop}
-use Rattle.tb_chunk.specs.Col.{Col}
-use Rattle.tb_frame.specs.Join.{field}
-use Rattle.tb_frame.specs.Refusal.{has_twins, is_counted, same_keys}
-use Rattle.tb_frame.specs.Table.{TableColumn, plain_column, table_of}
+use Rattle.tb_chunk.specs.Promise.Col.{Col}
+use Rattle.tb_frame.specs.Promise.Join.{field}
+use Rattle.tb_frame.specs.Promise.Refusal.{has_twins, is_counted, same_keys}
+use Rattle.tb_frame.specs.Promise.Table.{TableColumn, plain_column, table_of}
 use Rattle.tb_build.specs.Keys.{twins_among}
-use Rattle.tb_rowkey.specs.Columns.{columns_meet, row_count}
+use Rattle.tb_rowkey.specs.Promise.Columns.{row_count}
+use Rattle.tb_rowkey.specs.Columns.{columns_meet}
 use Rattle.tb_pairs.proofs.Requested.{field_is}
 
 -- TESTS OF ROW NUMBERS

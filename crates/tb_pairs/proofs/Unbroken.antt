@@ -1,14 +1,14 @@
 -- Where no validation is asked for, no side is broken.
 use Rattle.std.proofs.Common.{◌≡◌, Bool, false, ◌&&◌, ◌∙◌, [], ◌∷◌}
 use Rattle.std.proofs.Math.Bool.{and-false}
-use Rattle.tb_value.specs.Refusals.{first_cause, when}
+use Rattle.tb_value.specs.Promise.Refusals.{first_cause, when}
 use Rattle.tb_value.specs.declared.error.Side.TheVariants as side
 use Rattle.tb_value.specs.declared.error.ComputeCause.TheVariants.{Validation}
 use Rattle.tb_value.specs.declared.error.PolarsError.TheVariants.{ComputeError}
 use Rattle.tb_frame.specs.declared.args.JoinValidation.TheVariants.{ManyToMany}
-use Rattle.tb_frame.specs.Join.{Request, nulls_match}
-use Rattle.tb_frame.specs.Refusal.{asks_left, asks_right, has_twins, is_validated, row_causes, too_many_rows}
-use Rattle.tb_frame.specs.Table.{height}
+use Rattle.tb_frame.specs.Promise.Join.{Request, nulls_match}
+use Rattle.tb_frame.specs.Promise.Refusal.{asks_left, asks_right, has_twins, is_validated, row_causes, too_many_rows}
+use Rattle.tb_frame.specs.Promise.Table.{height}
 use Rattle.tb_frame.proofs.Causes.{first_cause-one}
 
 pub row_causes-unvalidated : (q : Request) → q.args.validation ≡ ManyToMany → first_cause (row_causes q) ≡ too_many_rows q

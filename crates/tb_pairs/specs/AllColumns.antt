@@ -3,15 +3,15 @@ use Rattle.std.specs.Prelude.{◌≡◌, ℕ, Bool, List, map, Option, Some, Non
 use Rattle.std.specs.declared.vec.Vec.{Vec}
 use Rattle.either.specs.declared.Either.{Either}
 use Rattle.either.specs.Either.{IsLeftAnd}
-use Rattle.tb_value.specs.Pairs.{left_first}
+use Rattle.tb_value.specs.Promise.Pairs.{left_first}
 use Rattle.tb_value.specs.declared.index.JoinPair.{JoinPair}
 use Rattle.tb_frame.specs.declared.args.JoinType.TheVariants.{Left}
 use Rattle.tb_frame.specs.declared.args.JoinCoalesce.TheVariants.{JoinSpecific}
 use Rattle.tb_frame.specs.declared.args.JoinValidation.TheVariants.{ManyToMany}
 use Rattle.tb_frame.specs.declared.args.MaintainOrderJoin.TheVariants as order
 use Rattle.tb_frame.specs.declared.null_flags.JoinNulls.TheVariants.{All}
-use Rattle.tb_frame.specs.Join.{Request}
-use Rattle.tb_frame.specs.Table.{Table, names_of}
+use Rattle.tb_frame.specs.Promise.Join.{Request}
+use Rattle.tb_frame.specs.Promise.Table.{Table, names_of}
 
 -- the request of a Left join by all columns, with nothing else asked than whether Nulls match
 abbrev pub by_all_columns : Table → Table → Bool → Request

@@ -1,8 +1,8 @@
 -- Key columns of two sides.
 use Rattle.std.specs.Prelude.{◌≡◌, ◌<◌, List, All, IsTrue, length}
-use Rattle.tb_value.specs.SameKind.{is_key}
-use Rattle.tb_chunk.specs.Col.{Col}
-use Rattle.tb_rowkey.specs.Columns.{kinds}
+use Rattle.tb_value.specs.Promise.SameKind.{is_key}
+use Rattle.tb_chunk.specs.Promise.Col.{Col}
+use Rattle.tb_rowkey.specs.Promise.Columns.{kinds}
 
 -- as many columns on each side, one at least, of equal key types
 pub record AreAlike (ls rs : List Col) : Type 0 where

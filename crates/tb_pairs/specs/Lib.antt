@@ -1,5 +1,5 @@
 pub mod AllColumns
 pub mod Directions
 pub mod KeyColumns
-pub mod Trace
 pub mod LentKeys
+pub mod Promise

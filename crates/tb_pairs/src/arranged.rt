@@ -1,7 +1,7 @@
 //! Pairs in the order that is asked.
 ghost use Rattle.std.specs.Prelude.{◌≡◌, IfOk};
 ghost use Rattle.tb_frame.specs.Answer.{IsListed};
-ghost use Rattle.tb_frame.specs.Join.{Ascends};
+ghost use Rattle.tb_frame.specs.Promise.Join.{Ascends};
 ghost use Rattle.tb_pairs.specs.Directions.{suffices};
 
 use std::alloc::Global;

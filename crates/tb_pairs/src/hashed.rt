@@ -1,22 +1,24 @@
 //! Pairs by hash tables.
 ghost use Rattle.std.specs.Prelude.{◌≡◌, ◌<◌, ◌≤◌, false, IfOk, List, length, map};
 ghost use Rattle.std.specs.Option.{option_copied};
-ghost use Rattle.tb_value.specs.Datum.{binary};
-ghost use Rattle.tb_value.specs.Refusals.{Settles, first_cause};
-ghost use Rattle.tb_value.specs.Kind as kind;
+ghost use Rattle.tb_value.specs.Promise.Datum.{binary};
+ghost use Rattle.tb_value.specs.Promise.Refusals.{first_cause};
+ghost use Rattle.tb_value.specs.Refusals.{Settles};
+ghost use Rattle.tb_value.specs.Promise.Kind as kind;
 ghost use Rattle.tb_value.specs.declared.index.JoinPair.{JoinPair};
 ghost use Rattle.tb_chunk.specs.Chunk.{or_null};
 ghost use Rattle.tb_chunk.specs.Lent.{lent_columns};
-ghost use Rattle.tb_frame.specs.Join.{nulls_match};
-ghost use Rattle.tb_frame.specs.Refusal.{row_causes};
+ghost use Rattle.tb_frame.specs.Promise.Join.{nulls_match};
+ghost use Rattle.tb_frame.specs.Promise.Refusal.{row_causes};
 ghost use Rattle.tb_hash.specs.Hashed.{AreValuesHashed};
 ghost use Rattle.tb_hash.specs.Probing.{IsProbed};
-ghost use Rattle.tb_rowkey.specs.Columns.{AreShortRows, keys_at};
+ghost use Rattle.tb_rowkey.specs.Promise.Columns.{keys_at};
+ghost use Rattle.tb_rowkey.specs.Columns.{AreShortRows};
 ghost use Rattle.tb_keys.specs.Asked.{asked_request};
 ghost use Rattle.tb_sorted.specs.Listed.{IsListedIn};
 ghost use Rattle.tb_sorted.specs.Path.{takes_merge_path};
 ghost use Rattle.tb_pairs.specs.KeyColumns.{AreAlike};
-ghost use Rattle.tb_pairs.specs.Trace.{IsFound};
+ghost use Rattle.tb_pairs.specs.Promise.Trace.{IsFound};
 
 use crate::trace::{FoundPairs, JoinTrace};
 use std::alloc::Global;

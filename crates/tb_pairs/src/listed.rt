@@ -1,19 +1,21 @@
 //! The pairs of a request.
 ghost use Rattle.std.specs.Prelude.{◌≡◌, ◌↔◌, ◌<◌, IfOk, IfSome, IsSome, length, map, true};
 ghost use Rattle.std.specs.List.{All};
-ghost use Rattle.tb_value.specs.Datum.{binary};
-ghost use Rattle.tb_value.specs.Refusals.{Settles, first_cause};
+ghost use Rattle.tb_value.specs.Promise.Datum.{binary};
+ghost use Rattle.tb_value.specs.Promise.Refusals.{first_cause};
+ghost use Rattle.tb_value.specs.Refusals.{Settles};
 ghost use Rattle.tb_chunk.specs.Chunk.{or_null};
-ghost use Rattle.tb_chunk.specs.Col.{values};
+ghost use Rattle.tb_chunk.specs.Promise.Col.{values};
 ghost use Rattle.tb_chunk.specs.Lent.{lent_columns};
 ghost use Rattle.tb_frame.specs.Answer.{IsListed};
-ghost use Rattle.tb_frame.specs.Join.{flag_at, listing};
-ghost use Rattle.tb_frame.specs.Refusal.{row_causes};
-ghost use Rattle.tb_rowkey.specs.Columns.{AreShortRows, keys_at, row_count};
+ghost use Rattle.tb_frame.specs.Promise.Join.{flag_at, listing};
+ghost use Rattle.tb_frame.specs.Promise.Refusal.{row_causes};
+ghost use Rattle.tb_rowkey.specs.Promise.Columns.{keys_at, row_count};
+ghost use Rattle.tb_rowkey.specs.Columns.{AreShortRows};
 ghost use Rattle.tb_sorted.specs.Listed.{IsListedIn};
 ghost use Rattle.tb_keys.specs.Asked.{asked_request};
 ghost use Rattle.tb_pairs.specs.KeyColumns.{AreAlike};
-ghost use Rattle.tb_pairs.specs.Trace.{IsFound, IsTraced, lacks_keys, requested_trace};
+ghost use Rattle.tb_pairs.specs.Promise.Trace.{IsFound, IsTraced, lacks_keys, requested_trace};
 
 use crate::arranged::arranged;
 use crate::hashed::{pairs_by_key, pairs_by_row_key};

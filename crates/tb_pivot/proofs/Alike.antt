@@ -5,19 +5,19 @@ use Rattle.std.specs.Cmp.{IsEquivalence}
 use Rattle.std.specs.Cmp.Lexicographic.{pointwise}
 use Rattle.std.specs.List.{All}
 use Rattle.std.proofs.lemmas.List.{map-append}
-use Rattle.tb_value.specs.Datum.{Datum}
+use Rattle.tb_value.specs.Promise.Datum.{Datum}
 use Rattle.tb_value.specs.Proved.ValueTests.{pulled}
-use Rattle.tb_value.specs.Same.{same}
+use Rattle.tb_value.specs.Promise.Same.{same}
 use Rattle.tb_value.specs.declared.limits.TheConstants.{MAX_ROWS}
-use Rattle.tb_chunk.specs.Col.{Col, values}
+use Rattle.tb_chunk.specs.Promise.Col.{Col, values}
 use Rattle.tb_chunk.specs.Lent.{lent_columns}
-use Rattle.tb_frame.specs.Table.{TableColumn, plain_column, table_of}
+use Rattle.tb_frame.specs.Promise.Table.{TableColumn, plain_column, table_of}
 use Rattle.tb_rows.specs.Grouped.{AreGroups}
 use Rattle.tb_rows.specs.Proved.KeyTests.{fields_equiv}
-use Rattle.tb_rows.specs.Rows.{same_rows, row_value}
+use Rattle.tb_rows.specs.Promise.Rows.{same_rows, row_value}
 use Rattle.tb_rows.specs.declared.groups.Groups.{Groups}
 use Rattle.tb_agg.specs.Grouped.{AreGroupsOf}
-use Rattle.tb_pivot.specs.Pivot.{are_alike}
+use Rattle.tb_pivot.specs.Promise.Pivot.{are_alike}
 use Rattle.tb_pivot.proofs.Groups.{are_groups_of}
 use Rattle.tb_pivot.proofs.Members.{firsts_low}
 

@@ -5,22 +5,22 @@ use Rattle.std.specs.Borrow.{Bor}
 use Rattle.std.specs.List.{list_any, position_or_len}
 use Rattle.std.proofs.lemmas.Bool.{le-ltb, lt-ltb, ltb-false, ltb-true}
 use Rattle.std.proofs.lemmas.Cmp.{nat_list_eq_equiv}
-use Rattle.tb_value.specs.Kind.{Kind}
-use Rattle.tb_value.specs.Names.{Name, same_name}
-use Rattle.tb_value.specs.Refusals.{first_cause}
+use Rattle.tb_value.specs.Promise.Kind.{Kind}
+use Rattle.tb_value.specs.Promise.Names.{Name, same_name}
+use Rattle.tb_value.specs.Promise.Refusals.{first_cause}
 use Rattle.tb_value.specs.declared.error.PolarsError.{PolarsError}
 use Rattle.tb_value.specs.declared.error.PolarsError.TheVariants.{OutOfMemory}
-use Rattle.tb_chunk.specs.Col.{Col}
+use Rattle.tb_chunk.specs.Promise.Col.{Col}
 use Rattle.tb_chunk.specs.Lent.{lent_columns}
-use Rattle.tb_frame.specs.Frame.{selected_columns}
-use Rattle.tb_frame.specs.Naming.{is_among}
-use Rattle.tb_frame.specs.Refusal.{repeated_among, unknown_key}
-use Rattle.tb_frame.specs.Table.{Table, TableColumn, names_of, table_of}
+use Rattle.tb_frame.specs.Promise.Frame.{selected_columns}
+use Rattle.tb_frame.specs.Promise.Naming.{is_among}
+use Rattle.tb_frame.specs.Promise.Refusal.{repeated_among, unknown_key}
+use Rattle.tb_frame.specs.Promise.Table.{Table, TableColumn, names_of, table_of}
 use Rattle.tb_frame.proofs.Selected.{selected-table}
-use Rattle.tb_agg.specs.Aggregates.{result_kind}
+use Rattle.tb_agg.specs.Promise.Aggregates.{result_kind}
 use Rattle.tb_pivot.specs.Made.{takes}
-use Rattle.tb_pivot.specs.Refusal.{agg_cause, brace_taken, column_causes, has_no_kind, header_cause}
-use Rattle.tb_pivot.specs.Request.{Way, one_row, aggregated, asked, columns_named}
+use Rattle.tb_pivot.specs.Promise.Refusal.{agg_cause, brace_taken, column_causes, has_no_kind, header_cause}
+use Rattle.tb_pivot.specs.Promise.Request.{Way, one_row, aggregated, asked, columns_named}
 
 -- a cause that holds is the first
 pub stops : (e : PolarsError) (a : Option PolarsError) (rest : List (Option PolarsError)) → (e ≡ OutOfMemory) ⊎ (a ≡ Some e) → (e ≡ OutOfMemory) ⊎ (first_cause (a ∷ rest) ≡ Some e)

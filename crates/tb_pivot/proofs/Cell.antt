@@ -8,22 +8,22 @@ use Rattle.std.proofs.lemmas.List.Elements.{All-drop, All-get_or, All-map, All-s
 use Rattle.std.proofs.lemmas.List.Folds.{Any-from_list_any}
 use Rattle.std.proofs.lemmas.List.FromFn.{get_or-map-range_with_len, get_or-range_with_len, length-map-range_with_len, length-range_with_len}
 use Rattle.std.proofs.lemmas.Nat.{row_fits, same_from_place}
-use Rattle.tb_value.specs.Datum.{Datum, null}
-use Rattle.tb_value.specs.Kind.{Kind}
-use Rattle.tb_value.specs.Kind as kind
-use Rattle.tb_value.specs.Names.{Name}
-use Rattle.tb_value.specs.Pairs.{row_numbers}
+use Rattle.tb_value.specs.Promise.Datum.{Datum, null}
+use Rattle.tb_value.specs.Promise.Kind.{Kind}
+use Rattle.tb_value.specs.Promise.Kind as kind
+use Rattle.tb_value.specs.Promise.Names.{Name}
+use Rattle.tb_value.specs.Promise.Pairs.{row_numbers}
 use Rattle.tb_value.specs.declared.error.ComputeCause.TheVariants.{EvaluateLength}
 use Rattle.tb_value.specs.declared.error.PolarsError.{PolarsError}
 use Rattle.tb_value.specs.declared.error.PolarsError.TheVariants.{ComputeError}
 use Rattle.tb_value.specs.declared.limits.TheConstants.{MAX_ROWS}
-use Rattle.tb_chunk.specs.Col.{Col, values}
+use Rattle.tb_chunk.specs.Promise.Col.{Col, values}
 use Rattle.tb_chunk.specs.Rows.{value_or_null, IsRowOf}
-use Rattle.tb_frame.specs.Table.{TableColumn, Table, plain_column}
-use Rattle.tb_rows.specs.Rows.{first_rows, group_of, row_value}
+use Rattle.tb_frame.specs.Promise.Table.{TableColumn, Table, plain_column}
+use Rattle.tb_rows.specs.Promise.Rows.{first_rows, group_of, row_value}
 use Rattle.tb_rows.specs.declared.groups.Groups.{Groups}
 use Rattle.tb_rows.proofs.FirstRows.{covered}
-use Rattle.tb_agg.specs.Aggregates.{aggregate, result_kind, total}
+use Rattle.tb_agg.specs.Promise.Aggregates.{aggregate, result_kind, total}
 use Rattle.tb_agg.specs.Grouped.{aggregates, rows_of, values_of, AreGroupsOf}
 use Rattle.tb_agg.specs.Outcome.{totals, IsAggColumn}
 use Rattle.tb_agg.specs.declared.table.Aggregate.{Aggregate}
@@ -31,8 +31,8 @@ use Rattle.tb_agg.specs.declared.table.Aggregate.TheVariants.{First}
 use Rattle.tb_pivot.specs.Cells.{AreCells, cell_grid, cells_under}
 use Rattle.tb_pivot.specs.Grid.{cell_at, group_cell, last_below}
 use Rattle.tb_pivot.specs.Made.{IsMade}
-use Rattle.tb_pivot.specs.Pivot.{are_alike, answer_at, answer_kind, answer_of, answer_rows, answered_column, cell, cell_of, distinct_rows, given_column, key_columns, value_for, way_kind}
-use Rattle.tb_pivot.specs.Request.{Chosen, Way, one_row, aggregated, asked}
+use Rattle.tb_pivot.specs.Promise.Pivot.{are_alike, answer_at, answer_kind, answer_of, answer_rows, answered_column, cell, cell_of, distinct_rows, given_column, key_columns, value_for, way_kind}
+use Rattle.tb_pivot.specs.Promise.Request.{Chosen, Way, one_row, aggregated, asked}
 use Rattle.tb_pivot.specs.declared.cells.Cells.{Cells}
 use Rattle.tb_pivot.proofs.Alike.{alike_equiv, both_alike, groups_fit}
 use Rattle.tb_pivot.proofs.Members.{by_members, each_row, firsts_low, is_member, members, none_pass, number_is, some_pass}

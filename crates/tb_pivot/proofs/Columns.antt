@@ -11,31 +11,31 @@ use Rattle.std.proofs.lemmas.List.Elements.{All-append, All-cons, All-head, All-
 use Rattle.std.proofs.lemmas.List.FromFn.{fill_by_all}
 use Rattle.tb_value.proofs.Loops.{map-map}
 use Rattle.tb_value.proofs.RowNumbers.{row_numbers_more}
-use Rattle.tb_value.specs.Datum.{Datum}
-use Rattle.tb_value.specs.Names.{Name}
-use Rattle.tb_value.specs.Pairs.{row_numbers}
-use Rattle.tb_value.specs.Refusals.{first_cause, when}
+use Rattle.tb_value.specs.Promise.Datum.{Datum}
+use Rattle.tb_value.specs.Promise.Names.{Name}
+use Rattle.tb_value.specs.Promise.Pairs.{row_numbers}
+use Rattle.tb_value.specs.Promise.Refusals.{first_cause, when}
 use Rattle.tb_value.specs.declared.error.ComputeCause.TheVariants.{SumRange}
 use Rattle.tb_value.specs.declared.error.PolarsError.{PolarsError}
 use Rattle.tb_value.specs.declared.error.PolarsError.TheVariants.{ComputeError, OutOfMemory}
 use Rattle.tb_value.specs.declared.limits.TheConstants.{MAX_ROWS}
-use Rattle.tb_chunk.specs.Col.{Col, values}
+use Rattle.tb_chunk.specs.Promise.Col.{Col, values}
 use Rattle.tb_chunk.specs.Lent.{in_one_chunk, lent_columns}
 use Rattle.tb_chunk.specs.Rows.{value_or_null}
 use Rattle.tb_frame.specs.Frame.{frame_refusal, taken_rows}
-use Rattle.tb_frame.specs.Refusal.{repeated_among}
-use Rattle.tb_frame.specs.Table.{TableColumn, Table, names_of, plain_column, table_of}
+use Rattle.tb_frame.specs.Promise.Refusal.{repeated_among}
+use Rattle.tb_frame.specs.Promise.Table.{TableColumn, Table, names_of, plain_column, table_of}
 use Rattle.tb_frame.proofs.Frames.{level_refusal}
-use Rattle.tb_rows.specs.InOrder.{in_order}
-use Rattle.tb_rows.specs.Rows.{row_value}
+use Rattle.tb_rows.specs.Promise.InOrder.{in_order}
+use Rattle.tb_rows.specs.Promise.Rows.{row_value}
 use Rattle.tb_rows.proofs.InOrder.{in_order-all, in_order-map}
 use Rattle.tb_pivot.specs.Cells.{cells_under}
-use Rattle.tb_pivot.specs.Headers.{block_name, header_text}
+use Rattle.tb_pivot.specs.Promise.Headers.{block_name, header_text}
 use Rattle.tb_pivot.specs.Layout.{answer_names, block_names, header_column, header_columns, index_and_blocks, laid_block, laid_out, IsLayout}
 use Rattle.tb_pivot.specs.Made.{made_cause, takes, IsMade}
-use Rattle.tb_pivot.specs.Pivot.{answer_rows, block, block_column, by_name, cell, header_at, header_rows, index_column, way_kind, wide, with_blocks}
-use Rattle.tb_pivot.specs.Refusal.{answer_cause, is_out_of_range, many_cause, range_cause, value_causes, way_cause}
-use Rattle.tb_pivot.specs.Request.{Chosen, Way, one_row, aggregated, asked}
+use Rattle.tb_pivot.specs.Promise.Pivot.{answer_rows, block, block_column, by_name, cell, header_at, header_rows, index_column, way_kind, wide, with_blocks}
+use Rattle.tb_pivot.specs.Promise.Refusal.{answer_cause, is_out_of_range, many_cause, range_cause, value_causes, way_cause}
+use Rattle.tb_pivot.specs.Promise.Request.{Chosen, Way, one_row, aggregated, asked}
 use Rattle.tb_pivot.specs.declared.blocks.GroupValues.{GroupValues}
 use Rattle.tb_pivot.specs.declared.blocks.Layout.{Layout}
 use Rattle.tb_pivot.proofs.Cell.{cells_are, kind_is, made_high, rows_fit}

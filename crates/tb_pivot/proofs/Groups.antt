@@ -6,10 +6,10 @@ use Rattle.std.proofs.lemmas.Bool.{ltb-true}
 use Rattle.std.proofs.lemmas.List.Elements.{All-map}
 use Rattle.std.proofs.lemmas.List.FromFn.{get_or-range_with_len, length-map-range_with_len, length-range_with_len}
 use Rattle.std.proofs.lemmas.List.Sums.{count_by-le-length, length-filter}
-use Rattle.tb_value.specs.Pairs.{row_numbers}
+use Rattle.tb_value.specs.Promise.Pairs.{row_numbers}
 use Rattle.tb_value.specs.declared.limits.TheConstants.{MAX_ROWS}
 use Rattle.tb_rows.specs.Grouped.{AreGroups}
-use Rattle.tb_rows.specs.Rows.{first_rows, group_of, is_first}
+use Rattle.tb_rows.specs.Promise.Rows.{first_rows, group_of, is_first}
 use Rattle.tb_rows.specs.declared.groups.Groups.{Groups}
 use Rattle.tb_rows.proofs.FirstRows.{covered}
 use Rattle.tb_agg.specs.Grouped.{AreGroupsOf}

@@ -6,21 +6,21 @@ use Rattle.std.specs.List.{All, find}
 use Rattle.std.specs.Option.{option_copied}
 use Rattle.std.proofs.lemmas.List.{map-append, take_more}
 use Rattle.std.proofs.lemmas.List.Elements.{All-nil, All-cons, All-head, All-tail, filter-append}
-use Rattle.tb_value.specs.Names.{Name}
-use Rattle.tb_value.specs.Refusals.{first_cause}
+use Rattle.tb_value.specs.Promise.Names.{Name}
+use Rattle.tb_value.specs.Promise.Refusals.{first_cause}
 use Rattle.tb_value.specs.declared.error.InvalidCause.TheVariants.{AggType}
 use Rattle.tb_value.specs.declared.error.PolarsError.{PolarsError}
 use Rattle.tb_value.specs.declared.error.PolarsError.TheVariants.{InvalidOperation, OutOfMemory}
-use Rattle.tb_chunk.specs.Col.{Col, values}
+use Rattle.tb_chunk.specs.Promise.Col.{Col, values}
 use Rattle.tb_chunk.specs.Lent.{lent_columns}
-use Rattle.tb_frame.specs.Frame.{selected_columns}
-use Rattle.tb_frame.specs.Table.{IsTable, Table, TableColumn, height, names_of, plain_column, table_of}
+use Rattle.tb_frame.specs.Promise.Frame.{selected_columns}
+use Rattle.tb_frame.specs.Promise.Table.{IsTable, Table, TableColumn, height, names_of, plain_column, table_of}
 use Rattle.tb_frame.proofs.Causes.{find_none, first_cause-append, map_none, selected_hold}
 use Rattle.tb_pivot.specs.Lent.{lent_request, name_causes}
 use Rattle.tb_pivot.specs.Lookup.{AreAsHigh, AreFound, chosen_of}
 use Rattle.tb_pivot.specs.Made.{takes}
-use Rattle.tb_pivot.specs.Refusal.{agg_cause, column_causes, has_no_kind, pivot_refusal, value_causes}
-use Rattle.tb_pivot.specs.Request.{Request, Way, chosen, columns_named, given_or_rest, index_names, separator_or, value_names}
+use Rattle.tb_pivot.specs.Promise.Refusal.{agg_cause, column_causes, has_no_kind, pivot_refusal, value_causes}
+use Rattle.tb_pivot.specs.Promise.Request.{Request, Way, chosen, columns_named, given_or_rest, index_names, separator_or, value_names}
 use Rattle.tb_pivot.specs.declared.lookup.RequestColumns.{RequestColumns}
 use Rattle.tb_pivot.proofs.Causes.{columns_found, goes_on, not_taken, onward, stops}
 

@@ -1,22 +1,23 @@
 -- Why there are no values for groups, as a pivot is refused.
 use Rattle.std.proofs.Common.{◌≡◌, ◌∙◌, ℤ, true, not, List, [], ◌∷◌, length, Option, Some, None, is_none, is_some, refl, sym, ap}
-use Rattle.tb_value.specs.Kind.{Kind}
-use Rattle.tb_value.specs.Refusals.{first_cause, when}
+use Rattle.tb_value.specs.Promise.Kind.{Kind}
+use Rattle.tb_value.specs.Promise.Refusals.{first_cause, when}
 use Rattle.tb_value.specs.declared.error.ComputeCause.TheVariants.{SumRange}
 use Rattle.tb_value.specs.declared.error.InvalidCause.TheVariants.{AggType}
 use Rattle.tb_value.specs.declared.error.PolarsError.{PolarsError}
 use Rattle.tb_value.specs.declared.error.PolarsError.TheVariants.{ComputeError, InvalidOperation}
-use Rattle.tb_chunk.specs.Col.{Col, values}
-use Rattle.tb_frame.specs.Table.{plain_column}
-use Rattle.tb_agg.specs.Aggregates.{result_kind, sum_kind}
-use Rattle.tb_agg.specs.Outcome.{are_in_range, range_cause}
+use Rattle.tb_chunk.specs.Promise.Col.{Col, values}
+use Rattle.tb_frame.specs.Promise.Table.{plain_column}
+use Rattle.tb_agg.specs.Promise.Aggregates.{result_kind, sum_kind}
+use Rattle.tb_agg.specs.Promise.Outcome.{are_in_range}
+use Rattle.tb_agg.specs.Outcome.{range_cause}
 use Rattle.tb_agg.specs.declared.table.Aggregate.{Aggregate}
 use Rattle.tb_agg.specs.declared.table.Aggregate.TheVariants.{First, Last, Sum, Min, Max, Count}
 use Rattle.tb_pivot.specs.Cells.{AreCells}
 use Rattle.tb_pivot.specs.Made.{made_cause, takes}
-use Rattle.tb_pivot.specs.Pivot.{answered_column}
-use Rattle.tb_pivot.specs.Refusal.{is_out_of_range, refused_by, way_cause}
-use Rattle.tb_pivot.specs.Request.{Chosen, Way, one_row, aggregated, asked}
+use Rattle.tb_pivot.specs.Promise.Pivot.{answered_column}
+use Rattle.tb_pivot.specs.Promise.Refusal.{is_out_of_range, refused_by, way_cause}
+use Rattle.tb_pivot.specs.Promise.Request.{Chosen, Way, one_row, aggregated, asked}
 use Rattle.tb_pivot.specs.declared.cells.Cells.{Cells}
 use Rattle.tb_pivot.proofs.Cell.{answers_are, totals_are}
 

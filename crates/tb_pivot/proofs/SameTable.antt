@@ -4,13 +4,13 @@ use Rattle.std.specs.Borrow.{Bor}
 use Rattle.std.specs.List.{All}
 use Rattle.std.proofs.lemmas.List.{get_or-map, length-map}
 use Rattle.std.proofs.lemmas.List.Elements.{All-map, All-same}
-use Rattle.tb_value.specs.Names.{Name}
-use Rattle.tb_chunk.specs.Col.{Col}
+use Rattle.tb_value.specs.Promise.Names.{Name}
+use Rattle.tb_chunk.specs.Promise.Col.{Col}
 use Rattle.tb_chunk.specs.Lent.{in_one_chunk, lent_columns}
-use Rattle.tb_frame.specs.Table.{TableColumn, plain_column, table_of}
+use Rattle.tb_frame.specs.Promise.Table.{TableColumn, plain_column, table_of}
 use Rattle.tb_frame.proofs.Cuts.{table-whole}
 use Rattle.tb_pivot.specs.Lookup.{AreAsHigh, chosen_of}
-use Rattle.tb_pivot.specs.Request.{Way}
+use Rattle.tb_pivot.specs.Promise.Request.{Way}
 use Rattle.tb_pivot.specs.declared.lookup.RequestColumns.{RequestColumns}
 use Rattle.tb_pivot.proofs.Texts.{map_twice}
 

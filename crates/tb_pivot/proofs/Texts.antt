@@ -1,8 +1,8 @@
 -- Texts in a row, and headers of one value and of several.
 use Rattle.std.proofs.Common.{◌≡◌, ◌≢◌, ◌∙◌, ℕ, List, [], ◌∷◌, ◌++◌, length, map, refl, sym, ap, append_assoc}
 use Rattle.std.specs.List.{join_with_byte}
-use Rattle.tb_value.specs.Datum.{Datum}
-use Rattle.tb_pivot.specs.Headers.{field_text, header_text, in_braces}
+use Rattle.tb_value.specs.Promise.Datum.{Datum}
+use Rattle.tb_pivot.specs.Promise.Headers.{field_text, header_text, in_braces}
 
 -- one text more
 pub joined_more : (x : List ℕ) (ys : List (List ℕ)) (y : List ℕ) → join_with_byte 44 (x ∷ (ys ++ y ∷ [])) ≡ join_with_byte 44 (x ∷ ys) ++ (44 ∷ y)

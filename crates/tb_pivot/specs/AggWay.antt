@@ -1,10 +1,10 @@
 -- The way in which cells are made by what a caller hands in.
 use Rattle.std.specs.Prelude.{ℕ, List, Option, Some, None, Result}
-use Rattle.tb_value.specs.Names.{Name}
-use Rattle.tb_frame.specs.Table.{Table, TableColumn}
+use Rattle.tb_value.specs.Promise.Names.{Name}
+use Rattle.tb_frame.specs.Promise.Table.{Table, TableColumn}
 use Rattle.tb_agg.specs.declared.table.Aggregate.{Aggregate}
 use Rattle.tb_agg.specs.declared.table.Aggregate.TheVariants as agg
-use Rattle.tb_pivot.specs.Request.{Way, one_row, aggregated, asked}
+use Rattle.tb_pivot.specs.Promise.Request.{Way, one_row, aggregated, asked}
 use Rattle.tb_pivot.specs.declared.expr.PivotAgg.{PivotAgg}
 use Rattle.tb_pivot.specs.declared.expr.PivotAgg.TheVariants as code
 

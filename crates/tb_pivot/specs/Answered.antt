@@ -4,8 +4,8 @@ use Rattle.tb_value.specs.declared.error.ComputeCause.TheVariants.{Evaluate}
 use Rattle.tb_value.specs.declared.error.PolarsError.{PolarsError}
 use Rattle.tb_value.specs.declared.error.PolarsError.TheVariants.{ComputeError}
 use Rattle.tb_value.specs.declared.error.PolarsError.TheVariants as error
-use Rattle.tb_chunk.specs.Col.{Col}
-use Rattle.tb_frame.specs.Table.{TableColumn, plain_column}
+use Rattle.tb_chunk.specs.Promise.Col.{Col}
+use Rattle.tb_frame.specs.Promise.Table.{TableColumn, plain_column}
 use Rattle.tb_pivot.specs.declared.expr.ExprFault.{ExprFault}
 use Rattle.tb_pivot.specs.declared.expr.ExprFault.TheVariants.{Refused}
 use Rattle.tb_pivot.specs.declared.expr.ExprFault.TheVariants as fault

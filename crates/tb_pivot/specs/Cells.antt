@@ -1,9 +1,9 @@
 -- Where each cell of the answer finds its value.
 use Rattle.std.specs.Prelude.{ℕ, ◌+◌, ◌*◌, List, ◌++◌, length, Option, slice_range}
-use Rattle.tb_frame.specs.Table.{TableColumn}
+use Rattle.tb_frame.specs.Promise.Table.{TableColumn}
 use Rattle.tb_rows.specs.Grouped.{AreGroups}
 use Rattle.tb_pivot.specs.Grid.{grid}
-use Rattle.tb_pivot.specs.Pivot.{are_alike}
+use Rattle.tb_pivot.specs.Promise.Pivot.{are_alike}
 use Rattle.tb_pivot.specs.declared.cells.Cells.{Cells}
 
 -- the groups of rows by their index and header, by their index, and by their header

@@ -1,6 +1,6 @@
 -- Where the groups of rows stand in the answer.
 use Rattle.std.specs.Prelude.{ℕ, zero, suc, ◌==◌, ◌+◌, ◌*◌, Bool, if◌then◌else◌, List, length, map, Option, Some, None, slice_index}
-use Rattle.tb_value.specs.Pairs.{row_numbers}
+use Rattle.tb_value.specs.Promise.Pairs.{row_numbers}
 use Rattle.tb_rows.specs.declared.groups.Groups.{Groups}
 
 -- cells stand header after header, and for each header in the order of the answer's rows

@@ -4,20 +4,20 @@ use Rattle.std.specs.Borrow.{Bor}
 use Rattle.std.specs.List.{flat_map}
 use Rattle.std.specs.Cmp.Lexicographic.{slice_cmp}
 use Rattle.std.specs.Ordering.{nat_cmp}
-use Rattle.tb_value.specs.Names.{Name}
-use Rattle.tb_value.specs.Pairs.{row_numbers}
+use Rattle.tb_value.specs.Promise.Names.{Name}
+use Rattle.tb_value.specs.Promise.Pairs.{row_numbers}
 use Rattle.tb_value.specs.declared.limits.TheConstants.{MAX_ROWS}
-use Rattle.tb_chunk.specs.Col.{Col, values}
+use Rattle.tb_chunk.specs.Promise.Col.{Col, values}
 use Rattle.tb_chunk.specs.Lent.{lent_columns}
 use Rattle.tb_chunk.specs.Rows.{value_or_null}
-use Rattle.tb_frame.specs.Table.{TableColumn, Table, table_of}
-use Rattle.tb_rows.specs.InOrder.{in_order}
-use Rattle.tb_rows.specs.Rows.{row_value}
+use Rattle.tb_frame.specs.Promise.Table.{TableColumn, Table, table_of}
+use Rattle.tb_rows.specs.Promise.InOrder.{in_order}
+use Rattle.tb_rows.specs.Promise.Rows.{row_value}
 use Rattle.tb_pivot.specs.Cells.{AreCells, cells_under}
-use Rattle.tb_pivot.specs.Headers.{block_name, header_text}
+use Rattle.tb_pivot.specs.Promise.Headers.{block_name, header_text}
 use Rattle.tb_pivot.specs.Lookup.{AreAsHigh, chosen_of}
-use Rattle.tb_pivot.specs.Pivot.{block, by_name, index_column}
-use Rattle.tb_pivot.specs.Request.{Chosen, Way}
+use Rattle.tb_pivot.specs.Promise.Pivot.{block, by_name, index_column}
+use Rattle.tb_pivot.specs.Promise.Request.{Chosen, Way}
 use Rattle.tb_pivot.specs.declared.blocks.Layout.{Layout}
 
 -- the texts of the headers of these rows

@@ -2,16 +2,16 @@
 use Rattle.std.specs.Prelude.{Bool, ◌&&◌, List, [], ◌∷◌, Option, is_none}
 use Rattle.std.specs.Borrow.{Bor}
 use Rattle.std.specs.Option.{option_copied}
-use Rattle.tb_value.specs.Names.{Name}
-use Rattle.tb_value.specs.Refusals.{when}
+use Rattle.tb_value.specs.Promise.Names.{Name}
+use Rattle.tb_value.specs.Promise.Refusals.{when}
 use Rattle.tb_value.specs.declared.error.ComputeCause.TheVariants.{EmptyIndex, EmptyOn}
 use Rattle.tb_value.specs.declared.error.InvalidCause.TheVariants.{BothNone}
 use Rattle.tb_value.specs.declared.error.PolarsError.{PolarsError}
 use Rattle.tb_value.specs.declared.error.PolarsError.TheVariants.{ComputeError, InvalidOperation}
-use Rattle.tb_chunk.specs.Col.{Col}
-use Rattle.tb_frame.specs.Table.{Table, table_of}
-use Rattle.tb_pivot.specs.Refusal.{none_named}
-use Rattle.tb_pivot.specs.Request.{Request, Way, given_or_rest, separator_or}
+use Rattle.tb_chunk.specs.Promise.Col.{Col}
+use Rattle.tb_frame.specs.Promise.Table.{Table, table_of}
+use Rattle.tb_pivot.specs.Promise.Refusal.{none_named}
+use Rattle.tb_pivot.specs.Promise.Request.{Request, Way, given_or_rest, separator_or}
 
 -- the request of columns, names and a separator that are lent
 abbrev pub lent_request : List Col → List Name → Option (List Name) → Option (List Name) → Bool → Way → Option (Bor Name) → Request

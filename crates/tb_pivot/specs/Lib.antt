@@ -2,12 +2,9 @@ pub mod AggWay
 pub mod Answered
 pub mod Cells
 pub mod Grid
-pub mod Headers
 pub mod Laws
 pub mod Lent
 pub mod Layout
 pub mod Lookup
 pub mod Made
-pub mod Pivot
-pub mod Refusal
-pub mod Request
+pub mod Promise

@@ -1,16 +1,16 @@
 -- One value for each group of rows, as each way makes it.
 use Rattle.std.specs.Prelude.{◌≡◌, Bool, true, is_some, Option, None, Ok}
-use Rattle.tb_value.specs.Kind.{Kind}
+use Rattle.tb_value.specs.Promise.Kind.{Kind}
 use Rattle.tb_value.specs.declared.error.PolarsError.{PolarsError}
-use Rattle.tb_chunk.specs.Col.{Col}
-use Rattle.tb_frame.specs.Table.{plain_column}
+use Rattle.tb_chunk.specs.Promise.Col.{Col}
+use Rattle.tb_frame.specs.Promise.Table.{plain_column}
 use Rattle.tb_rows.specs.declared.groups.Groups.{Groups}
-use Rattle.tb_agg.specs.Aggregates.{result_kind}
+use Rattle.tb_agg.specs.Promise.Aggregates.{result_kind}
 use Rattle.tb_agg.specs.Outcome.{agg_refusal, IsAggColumn, IsAggregated}
 use Rattle.tb_agg.specs.declared.table.Aggregate.TheVariants.{First}
-use Rattle.tb_pivot.specs.Pivot.{answer_of}
-use Rattle.tb_pivot.specs.Refusal.{refused_by}
-use Rattle.tb_pivot.specs.Request.{Way, one_row, aggregated, asked}
+use Rattle.tb_pivot.specs.Promise.Pivot.{answer_of}
+use Rattle.tb_pivot.specs.Promise.Refusal.{refused_by}
+use Rattle.tb_pivot.specs.Promise.Request.{Way, one_row, aggregated, asked}
 
 -- whether cells are made of values of a type
 abbrev pub takes : Way → Kind → Bool

@@ -1,9 +1,9 @@
 //! Asking a caller's object for the values of cells.
 ghost use Rattle.std.specs.Prelude.{◌≡◌, ◌∷◌, [], IfOk, None, length};
 ghost use Rattle.tb_value.specs.Refusals.{Settles};
-ghost use Rattle.tb_frame.specs.Table.{plain_column, table_of};
+ghost use Rattle.tb_frame.specs.Promise.Table.{plain_column, table_of};
 ghost use Rattle.tb_pivot.specs.Answered.{error_of, Gives};
-ghost use Rattle.tb_pivot.specs.Pivot.{answer_of, given_column, one_each};
+ghost use Rattle.tb_pivot.specs.Promise.Pivot.{answer_of, given_column, one_each};
 
 use crate::expr::{ExprFault, PhysicalAggExpr};
 use crate::maker::CellMaker;
@@ -93,8 +93,8 @@ pub(crate) fn answer_to(
 /// What a caller's object answers, as contracts see it.
 pub(crate) trait Told {
     ghost use Rattle.std.specs.Prelude.{ℕ, List, Result};
-    ghost use Rattle.tb_value.specs.Names.{Name};
-    ghost use Rattle.tb_frame.specs.Table.{Table, TableColumn};
+    ghost use Rattle.tb_value.specs.Promise.Names.{Name};
+    ghost use Rattle.tb_frame.specs.Promise.Table.{Table, TableColumn};
 
     ghost told_name: { Result Name ℕ };
 
@@ -121,12 +121,12 @@ impl<K: Told, F: Fn(Global, &Series, &Groups) -> PolarsResult<Series>> CellMaker
     ghost use Rattle.std.specs.Prelude.{Result};
     ghost use Rattle.std.specs.Borrow.{Bor};
     ghost use Rattle.tb_value.specs.declared.error.PolarsError.{PolarsError};
-    ghost use Rattle.tb_chunk.specs.Col.{Col};
-    ghost use Rattle.tb_frame.specs.Table.{plain_column};
+    ghost use Rattle.tb_chunk.specs.Promise.Col.{Col};
+    ghost use Rattle.tb_frame.specs.Promise.Table.{plain_column};
     ghost use Rattle.tb_rows.specs.declared.groups.Groups.{Groups};
     ghost use Rattle.tb_pivot.specs.Answered.{Gives};
-    ghost use Rattle.tb_pivot.specs.Pivot.{answer_of};
-    ghost use Rattle.tb_pivot.specs.Request.{asked};
+    ghost use Rattle.tb_pivot.specs.Promise.Pivot.{answer_of};
+    ghost use Rattle.tb_pivot.specs.Promise.Request.{asked};
 
     ghost way = { λ _. asked K.told_name K.told_answers };
 

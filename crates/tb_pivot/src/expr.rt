@@ -20,8 +20,8 @@ pub enum ExprFault {
 /// a table; want of memory may come in place of it.
 pub trait PhysicalAggExpr: Drop {
     ghost use Rattle.std.specs.Prelude.{ℕ, List, Result};
-    ghost use Rattle.tb_value.specs.Names.{Name};
-    ghost use Rattle.tb_frame.specs.Table.{Table, TableColumn, plain_column, table_of};
+    ghost use Rattle.tb_value.specs.Promise.Names.{Name};
+    ghost use Rattle.tb_frame.specs.Promise.Table.{Table, TableColumn, plain_column, table_of};
     ghost use Rattle.tb_pivot.specs.Answered.{Answers};
 
     /// The name that it asks for, or the number that it refuses with.

@@ -1,16 +1,17 @@
 //! The calls by which a table is made wide.
 ghost use Rattle.std.specs.Prelude.{◌≡◌, ◌++◌, IfOk, option_map};
 ghost use Rattle.std.specs.Option.{option_copied};
-ghost use Rattle.tb_value.specs.Refusals.{Settles, first_cause};
-ghost use Rattle.tb_frame.specs.Table.{table_of};
+ghost use Rattle.tb_value.specs.Promise.Refusals.{first_cause};
+ghost use Rattle.tb_value.specs.Refusals.{Settles};
+ghost use Rattle.tb_frame.specs.Promise.Table.{table_of};
 ghost use Rattle.tb_pivot.specs.Lent.{lent_request};
-ghost use Rattle.tb_pivot.specs.Pivot.{pivot_table};
-ghost use Rattle.tb_pivot.specs.Refusal.{pivot_refusal};
+ghost use Rattle.tb_pivot.specs.Promise.Pivot.{pivot_table};
+ghost use Rattle.tb_pivot.specs.Promise.Refusal.{pivot_refusal};
 ghost use Rattle.tb_pivot.specs.AggWay.{agg_way, way_or_row};
 ghost use Rattle.tb_pivot.specs.Answered.{Gives};
-ghost use Rattle.tb_frame.specs.Table.{plain_column};
-ghost use Rattle.tb_pivot.specs.Pivot.{answer_of};
-ghost use Rattle.tb_pivot.specs.Request.{asked, separator_or, way_of};
+ghost use Rattle.tb_frame.specs.Promise.Table.{plain_column};
+ghost use Rattle.tb_pivot.specs.Promise.Pivot.{answer_of};
+ghost use Rattle.tb_pivot.specs.Promise.Request.{asked, separator_or, way_of};
 
 use crate::asking::{Asked, Told, answer_to};
 use crate::expr::{PhysicalAggExpr, PivotAgg};

@@ -3,9 +3,9 @@ ghost use Rattle.std.specs.Prelude.{◌≡◌, ◌<◌, ◌∷◌, ◌++◌, IfO
 ghost use Rattle.std.specs.String.{string_bytes};
 ghost use Rattle.std.specs.List.{All, join_with_byte};
 ghost use Rattle.tb_value.specs.See.{lent_value, IsText};
-ghost use Rattle.tb_chunk.specs.Col.{values};
-ghost use Rattle.tb_rows.specs.Rows.{row_value};
-ghost use Rattle.tb_pivot.specs.Headers.{block_name, brace_name, field_text, header_text, in_braces, quoted_text};
+ghost use Rattle.tb_chunk.specs.Promise.Col.{values};
+ghost use Rattle.tb_rows.specs.Promise.Rows.{row_value};
+ghost use Rattle.tb_pivot.specs.Promise.Headers.{block_name, brace_name, field_text, header_text, in_braces, quoted_text};
 
 use std::alloc::Global;
 use tb_label::value_text;

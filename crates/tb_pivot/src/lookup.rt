@@ -1,15 +1,16 @@
 //! The columns that a request names, and its refusals by names and types.
 ghost use Rattle.std.specs.Prelude.{◌≡◌, ◌∷◌, [], ◌++◌, not, true, IfOk, OnOk, length, map};
 ghost use Rattle.std.specs.List.{All};
-ghost use Rattle.tb_value.specs.Refusals.{Settles, first_cause};
+ghost use Rattle.tb_value.specs.Promise.Refusals.{first_cause};
+ghost use Rattle.tb_value.specs.Refusals.{Settles};
 ghost use Rattle.tb_chunk.specs.Lent.{lent_columns};
-ghost use Rattle.tb_frame.specs.Naming.{is_among};
-ghost use Rattle.tb_frame.specs.Refusal.{repeated_among};
-ghost use Rattle.tb_frame.specs.Table.{height, names_of, plain_column, table_of};
-ghost use Rattle.tb_label.specs.Label.{is_header};
+ghost use Rattle.tb_frame.specs.Promise.Naming.{is_among};
+ghost use Rattle.tb_frame.specs.Promise.Refusal.{repeated_among};
+ghost use Rattle.tb_frame.specs.Promise.Table.{height, names_of, plain_column, table_of};
+ghost use Rattle.tb_label.specs.Promise.Label.{is_header};
 ghost use Rattle.tb_pivot.specs.Lookup.{AreAsHigh, AreFound};
 ghost use Rattle.tb_pivot.specs.Made.{takes};
-ghost use Rattle.tb_pivot.specs.Refusal.{agg_cause, brace_taken, column_causes, has_no_kind, header_cause};
+ghost use Rattle.tb_pivot.specs.Promise.Refusal.{agg_cause, brace_taken, column_causes, has_no_kind, header_cause};
 
 use crate::headers::brace_name;
 use crate::maker::CellMaker;

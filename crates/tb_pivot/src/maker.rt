@@ -12,11 +12,11 @@ pub trait CellMaker {
     ghost use Rattle.std.specs.Prelude.{◌≡◌, IfOk, length};
     ghost use Rattle.tb_value.specs.Refusals.{Settles};
     ghost use Rattle.tb_value.specs.SeeKind.{kind_of};
-    ghost use Rattle.tb_chunk.specs.Col.{values};
+    ghost use Rattle.tb_chunk.specs.Promise.Col.{values};
     ghost use Rattle.tb_agg.specs.Grouped.{AreGroupsOf};
     ghost use Rattle.tb_pivot.specs.Made.{made_cause, takes, IsMade};
-    ghost use Rattle.tb_pivot.specs.Refusal.{is_one_row};
-    ghost use Rattle.tb_pivot.specs.Request.{Way};
+    ghost use Rattle.tb_pivot.specs.Promise.Refusal.{is_one_row};
+    ghost use Rattle.tb_pivot.specs.Promise.Request.{Way};
 
     ghost way: { Self → Way };
 
@@ -46,7 +46,7 @@ pub trait CellMaker {
 /// An aggregate, and without one the value of the one row.
 impl CellMaker for Option<Aggregate> {
     ghost use Rattle.std.specs.Prelude.{⊤};
-    ghost use Rattle.tb_pivot.specs.Request.{way_of};
+    ghost use Rattle.tb_pivot.specs.Promise.Request.{way_of};
 
     ghost way = { way_of };
 

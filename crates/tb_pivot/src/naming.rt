@@ -1,14 +1,15 @@
 //! The names of a request, where not all of them are given.
 ghost use Rattle.std.specs.Prelude.{◌≡◌, ◌&&◌, ◌||◌, not, IfOk, is_none, unwrap_or, []};
 ghost use Rattle.std.specs.Option.{option_copied};
-ghost use Rattle.tb_value.specs.Refusals.{Settles, SettlesOutright, first_cause, when};
+ghost use Rattle.tb_value.specs.Promise.Refusals.{first_cause, when};
+ghost use Rattle.tb_value.specs.Refusals.{Settles, SettlesOutright};
 ghost use Rattle.tb_value.specs.declared.error.InvalidCause.TheVariants.{BothNone};
 ghost use Rattle.tb_value.specs.declared.error.PolarsError.TheVariants.{ComputeError, InvalidOperation};
 ghost use Rattle.tb_frame.specs.NameSets.{has_name};
-ghost use Rattle.tb_frame.specs.Table.{table_of};
+ghost use Rattle.tb_frame.specs.Promise.Table.{table_of};
 ghost use Rattle.tb_pivot.specs.Lent.{name_causes};
-ghost use Rattle.tb_pivot.specs.Refusal.{none_named};
-ghost use Rattle.tb_pivot.specs.Request.{given_or_rest, outside};
+ghost use Rattle.tb_pivot.specs.Promise.Refusal.{none_named};
+ghost use Rattle.tb_pivot.specs.Promise.Request.{given_or_rest, outside};
 
 use std::alloc::Global;
 use tb_frame::{DataFrame, NameSet, name_set};

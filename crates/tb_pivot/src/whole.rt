@@ -1,13 +1,14 @@
 //! Columns put into one chunk each, since a row of several chunks is found in as many steps.
 ghost use Rattle.std.specs.Prelude.{◌≡◌, ◌↔◌, ◌≤◌, true, IfOk, IsTrue, length, map};
 ghost use Rattle.std.specs.List.{All};
-ghost use Rattle.tb_value.specs.Refusals.{Settles, first_cause};
+ghost use Rattle.tb_value.specs.Promise.Refusals.{first_cause};
+ghost use Rattle.tb_value.specs.Refusals.{Settles};
 ghost use Rattle.tb_chunk.specs.Lent.{in_one_chunk, lent_columns};
-ghost use Rattle.tb_frame.specs.Table.{table_of};
+ghost use Rattle.tb_frame.specs.Promise.Table.{table_of};
 ghost use Rattle.tb_pivot.specs.Lookup.{AreAsHigh, chosen_of};
 ghost use Rattle.tb_pivot.specs.Made.{takes};
-ghost use Rattle.tb_pivot.specs.Pivot.{wide};
-ghost use Rattle.tb_pivot.specs.Refusal.{value_causes};
+ghost use Rattle.tb_pivot.specs.Promise.Pivot.{wide};
+ghost use Rattle.tb_pivot.specs.Promise.Refusal.{value_causes};
 
 use crate::lookup::RequestColumns;
 use crate::maker::CellMaker;

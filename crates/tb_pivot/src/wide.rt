@@ -1,13 +1,14 @@
 //! Tables made wide.
 ghost use Rattle.std.specs.Prelude.{◌≡◌, ◌≤◌, ◌<◌, true, IfOk, length};
 ghost use Rattle.std.specs.List.{All};
-ghost use Rattle.tb_value.specs.Refusals.{Settles, first_cause};
-ghost use Rattle.tb_frame.specs.Table.{table_of};
+ghost use Rattle.tb_value.specs.Promise.Refusals.{first_cause};
+ghost use Rattle.tb_value.specs.Refusals.{Settles};
+ghost use Rattle.tb_frame.specs.Promise.Table.{table_of};
 ghost use Rattle.tb_pivot.specs.Layout.{laid_out, IsLayout};
 ghost use Rattle.tb_pivot.specs.Lookup.{AreAsHigh, chosen_of};
 ghost use Rattle.tb_pivot.specs.Made.{takes};
-ghost use Rattle.tb_pivot.specs.Pivot.{wide};
-ghost use Rattle.tb_pivot.specs.Refusal.{value_causes};
+ghost use Rattle.tb_pivot.specs.Promise.Pivot.{wide};
+ghost use Rattle.tb_pivot.specs.Promise.Refusal.{value_causes};
 
 use crate::blocks::Layout;
 use crate::lookup::RequestColumns;

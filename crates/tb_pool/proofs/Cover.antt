@@ -7,7 +7,7 @@ use Rattle.std.proofs.lemmas.List.{append-nil}
 use Rattle.std.proofs.lemmas.List.FromFn.{map-range_with_len_more, length-map-range_with_len, get_or-map-range_with_len}
 use Rattle.std.proofs.lemmas.Grind.{flat_map-append}
 use Rattle.std.proofs.Math.Nat.{suc-mul, mul-le-mul_right, mul-div-le, zero-mul}
-use Rattle.tb_value.specs.Pairs.{row_numbers}
+use Rattle.tb_value.specs.Promise.Pairs.{row_numbers}
 use Rattle.tb_value.proofs.RowNumbers.{range_cut}
 use Rattle.tb_pool.specs.Portions.{portion_of, places_of}
 

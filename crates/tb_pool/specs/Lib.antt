@@ -6,3 +6,4 @@ pub mod Running
 pub mod Workers
 pub mod DoneView
 pub mod Gathering
+pub mod Promise

@@ -17,7 +17,8 @@ pub struct Exec {
 }
 
 impl Model for Exec {
-    ghost use Rattle.tb_pool.specs.ExecView.{ExecView, MayStand};
+    ghost use Rattle.tb_pool.specs.Promise.ExecView.{ExecView};
+    ghost use Rattle.tb_pool.specs.ExecView.{MayStand};
 
     ghost Value = { ExecView };
 

@@ -3,15 +3,15 @@ use Rattle.std.proofs.Common.{◌≡◌, ◌↔◌, Bool, true, false, ◌&&◌,
 use Rattle.std.specs.Bool.{Decides, one_answer}
 use Rattle.std.specs.Prelude.{IsTrue}
 use Rattle.std.proofs.lemmas.Bool.{and_from, and_parts}
-use Rattle.tb_value.specs.Datum.{Datum}
-use Rattle.tb_value.specs.Kind.{Kind}
-use Rattle.tb_value.specs.SameKind.{is_key}
+use Rattle.tb_value.specs.Promise.Datum.{Datum}
+use Rattle.tb_value.specs.Promise.Kind.{Kind}
+use Rattle.tb_value.specs.Promise.SameKind.{is_key}
 use Rattle.tb_value.specs.declared.sorted.IsSorted.{IsSorted}
 use Rattle.tb_value.specs.declared.sorted.IsSorted.TheVariants.{Ascending, Descending, Not}
 use Rattle.tb_chunk.specs.Flag.{IsOrdered, FlagHolds}
-use Rattle.tb_chunk.specs.Order.{order_of, keeps_order}
+use Rattle.tb_cell.specs.Promise.Order.{order_of, keeps_order}
 use Rattle.tb_chunk.proofs.Follow.{keeps_order_decides}
-use Rattle.tb_request.specs.Flags.{flag_holds}
+use Rattle.tb_request.specs.Promise.Flags.{flag_holds}
 
 ordered_Decides : (down : Bool) (t : Kind) (vs : List Datum) → Decides (is_key t && keeps_order down vs) (IsOrdered (order_of down) t vs)
 ordered_Decides down t vs = (

@@ -9,7 +9,7 @@ use Rattle.tb_request.specs.declared.request.Reason.{Reason}
 use Rattle.tb_request.specs.declared.request.Reason.TheVariants.{Json}
 use Rattle.tb_request.specs.declared.request.RequestFault.{RequestFault}
 use Rattle.tb_request.specs.declared.request.RequestFault.TheVariants.{OutOfMemory, NoRequest}
-use Rattle.tb_request.specs.Reading.{◌>>=◌, value_of, FaultIs}
+use Rattle.tb_request.specs.Promise.Reading.{◌>>=◌, value_of, FaultIs}
 
 none_of : {A : Type 0} (b : Bool) (o : Option A) → (b ≡ true → o ≡ None) → cond b o None ≡ None
 none_of true o h = h refl

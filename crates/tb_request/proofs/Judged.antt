@@ -4,13 +4,13 @@ use Rattle.std.specs.Prelude.{Result, Ok, Err, ⊤}
 use Rattle.std.specs.List.{list_all}
 use Rattle.std.proofs.lemmas.List.{map-append}
 use Rattle.std.proofs.lemmas.List.Folds.{list_all-append}
-use Rattle.tb_chunk.specs.Col.{Col}
-use Rattle.tb_frame.specs.Table.{table_of, names_of}
-use Rattle.tb_frame.specs.Frame.{are_level}
+use Rattle.tb_chunk.specs.Promise.Col.{Col}
+use Rattle.tb_frame.specs.Promise.Table.{table_of, names_of}
+use Rattle.tb_frame.specs.Promise.Frame.{are_level}
 use Rattle.tb_request.specs.declared.request.Reason.{Reason}
 use Rattle.tb_request.specs.declared.request.Reason.TheVariants.{Heights, Name, Flag}
-use Rattle.tb_request.specs.Flags.{flags_hold}
-use Rattle.tb_request.specs.Reading.{◌>>=◌, only_if, are_distinct, are_frames, are_tables, earlier_reason, earliest_reason, IsJudged}
+use Rattle.tb_request.specs.Promise.Flags.{flags_hold}
+use Rattle.tb_request.specs.Promise.Reading.{◌>>=◌, only_if, are_distinct, are_frames, are_tables, earlier_reason, earliest_reason, IsJudged}
 
 abbrev verdict : Bool → Bool → Bool → Result ⊤ Reason
 verdict a b c = (only_if a Heights >>= λ _. only_if b Name) >>= λ _. only_if c Flag

@@ -1,18 +1,19 @@
 -- Which columns are no tables, and why.
 use Rattle.std.proofs.Common.{◌≡◌, ◌≢◌, ◌⊎◌, inl, inr, [], ◌∷◌, Bool, true, false, not, ◌&&◌, Option, Some, None, option_map, refl}
 use Rattle.std.specs.Prelude.{is_none, Result, Ok, Err, ⊤}
-use Rattle.tb_value.specs.Names.{Name}
-use Rattle.tb_value.specs.Refusals.{first_cause, when}
+use Rattle.tb_value.specs.Promise.Names.{Name}
+use Rattle.tb_value.specs.Promise.Refusals.{first_cause, when}
 use Rattle.tb_value.specs.declared.error.PolarsError.{PolarsError}
 use Rattle.tb_value.specs.declared.error.PolarsError.TheVariants.{ColumnNotFound, ComputeError, Duplicate, InvalidOperation, OutOfMemory, SchemaMismatch, ShapeMismatch}
-use Rattle.tb_frame.specs.Table.{Table, names_of}
-use Rattle.tb_frame.specs.Frame.{are_level, frame_refusal}
-use Rattle.tb_frame.specs.Refusal.{first_repeated}
+use Rattle.tb_frame.specs.Promise.Table.{Table, names_of}
+use Rattle.tb_frame.specs.Promise.Frame.{are_level}
+use Rattle.tb_frame.specs.Frame.{frame_refusal}
+use Rattle.tb_frame.specs.Promise.Refusal.{first_repeated}
 use Rattle.tb_request.specs.declared.request.Reason.{Reason}
 use Rattle.tb_request.specs.declared.request.Reason.TheVariants as why
 use Rattle.tb_request.specs.declared.request.RequestFault.{RequestFault}
 use Rattle.tb_request.specs.declared.request.RequestFault.TheVariants as fault
-use Rattle.tb_request.specs.Reading.{◌>>=◌, only_if, are_distinct, are_frames, fault_of, FaultIs}
+use Rattle.tb_request.specs.Promise.Reading.{◌>>=◌, only_if, are_distinct, are_frames, fault_of, FaultIs}
 
 -- ---- one table, whether its heights are level and its names are distinct
 

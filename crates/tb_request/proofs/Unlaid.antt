@@ -1,7 +1,7 @@
 -- A table doesn't show where texts stand.
 use Rattle.std.proofs.Common.{◌≡◌, List, [], ◌∷◌, map, refl, ap}
-use Rattle.tb_chunk.specs.Col.{Col}
-use Rattle.tb_frame.specs.Table.{plain_column, table_of}
+use Rattle.tb_chunk.specs.Promise.Col.{Col}
+use Rattle.tb_frame.specs.Promise.Table.{plain_column, table_of}
 use Rattle.tb_request.specs.Columns.{relaid_column}
 
 pub table_unlaid : (cs : List Col) → table_of (map relaid_column cs) ≡ table_of cs

@@ -4,8 +4,8 @@ use Rattle.std.specs.declared.alloc.Global.{Global}
 use Rattle.std.specs.declared.vec.Vec.{Vec}
 use Rattle.tb_tree.specs.View.{view}
 use Rattle.tb_value.specs.SeeKind.{kind_of}
-use Rattle.tb_pool.specs.ExecView.{ExecView}
-use Rattle.tb_chunk.specs.Col.{Col}
+use Rattle.tb_pool.specs.Promise.ExecView.{ExecView}
+use Rattle.tb_chunk.specs.Promise.Col.{Col}
 use Rattle.tb_request.specs.declared.shape.ExecNumbers.{ExecNumbers}
 use Rattle.tb_request.specs.declared.shape.WrittenColumn.{WrittenColumn}
 use Rattle.tb_request.specs.declared.shape.WrittenJoin.{WrittenJoin}
@@ -14,7 +14,7 @@ use Rattle.tb_request.specs.declared.one_table.WrittenDummies.{WrittenDummies}
 use Rattle.tb_request.specs.declared.one_table.WrittenPivot.{WrittenPivot}
 use Rattle.tb_request.specs.declared.values.ClaimedColumn.{ClaimedColumn}
 use Rattle.tb_request.specs.Columns.{relaid_column}
-use Rattle.tb_request.specs.Written as written
+use Rattle.tb_request.specs.Promise.Written as written
 
 abbrev pub written_view : WrittenColumn → written.Written
 written_view c = record { name = c.name; kind = kind_of c.dtype; chunks = map (λ v. map view v.items) c.chunks.items; flag = c.flag }

@@ -1,7 +1,7 @@
 //! The arguments of a join.
 ghost use Rattle.std.specs.Prelude.{◌≡◌, IfOk};
 ghost use Rattle.tb_tree.specs.View.{view};
-ghost use Rattle.tb_request.specs.Written.{how_named, validation_named, coalesce_named, order_named, how_of, validation_of, slice_in, slice_of, nulls_in, nulls_of, coalesce_of, order_of, args_of};
+ghost use Rattle.tb_request.specs.Promise.Written.{how_named, validation_named, coalesce_named, order_named, how_of, validation_of, slice_in, slice_of, nulls_in, nulls_of, coalesce_of, order_of, args_of};
 
 use crate::members::{has_only, text_at, truths_of};
 use std::alloc::Global;
@@ -145,7 +145,7 @@ fn nulls_of(alloc: Global, args: &Value) -> Result<Option<JoinNulls>, OutOfMemor
 }
 
 /// The arguments of a join, or None where the value has not the form of them.
-#[tactic(auto, unfolding(crate::specs::Written::args_of))]
+#[tactic(auto, unfolding(crate::specs::Promise::Written::args_of))]
 pub fn args_of(alloc: Global, value: &Value) -> Result<Option<JoinArgs>, OutOfMemory>
     ensures { IfOk result (λ o. o ≡ args_of (view value.now)) }
 {

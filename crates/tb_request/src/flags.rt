@@ -1,9 +1,9 @@
 //! The flags that are claimed of columns.
 ghost use Rattle.std.specs.Prelude.{◌≡◌, map, IfOk, IsTrue};
-ghost use Rattle.tb_chunk.specs.Col.{values};
-ghost use Rattle.tb_frame.specs.Table.{plain_column, table_of};
+ghost use Rattle.tb_chunk.specs.Promise.Col.{values};
+ghost use Rattle.tb_frame.specs.Promise.Table.{plain_column, table_of};
 ghost use Rattle.tb_request.specs.Columns.{relaid_column};
-ghost use Rattle.tb_request.specs.Flags.{flag_holds, flags_hold};
+ghost use Rattle.tb_request.specs.Promise.Flags.{flag_holds, flags_hold};
 ghost use Rattle.tb_request.specs.Lent.{claimed_view};
 
 use crate::values::ClaimedColumn;

@@ -2,8 +2,8 @@
 ghost use Rattle.std.specs.Prelude.{◌≡◌, codes, map, option_map, IfOk};
 ghost use Rattle.tb_tree.specs.View.{view};
 ghost use Rattle.serde_json.specs.Find.{as_bool, as_str, get};
-ghost use Rattle.tb_json.specs.Lists.{as_list, is_among, has_only, list_of};
-ghost use Rattle.tb_request.specs.Written.{text_at, texts_at, texts_if_at, truth_at};
+ghost use Rattle.tb_json.specs.Promise.Lists.{as_list, is_among, has_only, list_of};
+ghost use Rattle.tb_request.specs.Promise.Written.{text_at, texts_at, texts_if_at, truth_at};
 
 use std::alloc::Global;
 use tb_tree::Value;

@@ -1,7 +1,7 @@
 //! The members of a request with one table, before its values are read.
 ghost use Rattle.std.specs.Prelude.{◌≡◌, option_map, IfOk};
 ghost use Rattle.tb_tree.specs.View.{view};
-ghost use Rattle.tb_request.specs.Written.{agg_named, agg_of, dummies_of, pivot_of, unpivot_of};
+ghost use Rattle.tb_request.specs.Promise.Written.{agg_named, agg_of, dummies_of, pivot_of, unpivot_of};
 ghost use Rattle.tb_request.specs.Lent.{written_dummies, written_pivot, written_unpivot};
 
 use crate::members::{has_only, text_at, texts_at, texts_if_at, truth_at};
@@ -22,7 +22,7 @@ pub(crate) struct WrittenUnpivot {
 }
 
 /// The members of a request to make a table long, or None where the value has not the form of one.
-#[tactic(auto, unfolding(crate::specs::Written::unpivot_of))]
+#[tactic(auto, unfolding(crate::specs::Promise::Written::unpivot_of))]
 pub(crate) fn unpivot_of(alloc: Global, value: Value) -> Result<Option<WrittenUnpivot>, OutOfMemory>
     ensures { IfOk result (λ o. option_map written_unpivot o ≡ unpivot_of (view value)) }
 {
@@ -62,7 +62,7 @@ pub(crate) struct WrittenDummies {
 }
 
 /// The members of a request for dummies, or None where the value has not the form of one.
-#[tactic(auto, unfolding(crate::specs::Written::dummies_of))]
+#[tactic(auto, unfolding(crate::specs::Promise::Written::dummies_of))]
 pub(crate) fn dummies_of(alloc: Global, value: Value) -> Result<Option<WrittenDummies>, OutOfMemory>
     ensures { IfOk result (λ o. option_map written_dummies o ≡ dummies_of (view value)) }
 {
@@ -124,7 +124,7 @@ fn agg_of(object: &Value) -> Option<Option<Aggregate>>
 }
 
 /// The members of a request to make a table wide, or None where the value has not the form of one.
-#[tactic(auto, unfolding(crate::specs::Written::pivot_of))]
+#[tactic(auto, unfolding(crate::specs::Promise::Written::pivot_of))]
 pub(crate) fn pivot_of(alloc: Global, value: Value) -> Result<Option<WrittenPivot>, OutOfMemory>
     ensures { IfOk result (λ o. option_map written_pivot o ≡ pivot_of (view value)) }
 {

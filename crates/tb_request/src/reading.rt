@@ -2,7 +2,7 @@
 ghost use Rattle.std.specs.Prelude.{◌≡◌, if◌then◌else◌, IfOk, IfErr, MatchResult, Ok, Some, None};
 ghost use Rattle.tb_tree.specs.View.{view};
 ghost use Rattle.tb_request.specs.Lent.{written_dummies, written_join, written_pivot, written_unpivot, exec_view};
-ghost use Rattle.tb_request.specs.Reading.{may_stand, value_of, dummies_in, join_in, pivot_in, unpivot_in, dummies_request_of, join_request_of, pivot_request_of, unpivot_request_of, dummies_view, pivot_view, request_view, unpivot_view, FaultIs};
+ghost use Rattle.tb_request.specs.Promise.Reading.{may_stand, value_of, dummies_in, join_in, pivot_in, unpivot_in, dummies_request_of, join_request_of, pivot_request_of, unpivot_request_of, dummies_view, pivot_view, request_view, unpivot_view, FaultIs};
 
 use crate::one_table::{dummies_of, pivot_of, unpivot_of};
 use crate::request::{
@@ -37,7 +37,7 @@ pub fn exec_from(numbers: ExecNumbers) -> Option<Exec>
 /// # Errors
 ///
 /// Those of `join_request_of`, of the value.
-#[tactic(auto, unfolding(crate::specs::Reading::join_in, crate::specs::Columns::tables_of))]
+#[tactic(auto, unfolding(crate::specs::Promise::Reading::join_in, crate::specs::Promise::Columns::tables_of))]
 pub fn join_in(alloc: Global, value: Value) -> Result<JoinRequest, RequestFault>
     ensures { MatchResult result (λ q. join_in (view value) ≡ Ok (request_view q))
         (λ e. FaultIs e (join_in (view value))) }
@@ -71,7 +71,7 @@ pub fn join_in(alloc: Global, value: Value) -> Result<JoinRequest, RequestFault>
 /// # Errors
 ///
 /// `OutOfMemory` may come at any time. Else `Json`, where they are no JSON text.
-#[tactic(auto, unfolding(crate::specs::Reading::value_of))]
+#[tactic(auto, unfolding(crate::specs::Promise::Reading::value_of))]
 pub fn value_of(alloc: Global, bytes: &[u8]) -> Result<Value, RequestFault>
     ensures { MatchResult result (λ v. value_of bytes.now ≡ Ok (view v)) (λ e. FaultIs e (value_of bytes.now)) }
 {
@@ -96,7 +96,7 @@ fn value_in(alloc: Global, bytes: Vec<u8>) -> Result<Value, RequestFault>
 /// # Errors
 ///
 /// Those of `unpivot_request_of`, of the value.
-#[tactic(auto, unfolding(crate::specs::Reading::unpivot_in))]
+#[tactic(auto, unfolding(crate::specs::Promise::Reading::unpivot_in))]
 pub fn unpivot_in(alloc: Global, value: Value) -> Result<UnpivotRequest, RequestFault>
     ensures { MatchResult result (λ q. unpivot_in (view value) ≡ Ok (unpivot_view q))
         (λ e. FaultIs e (unpivot_in (view value))) }
@@ -118,7 +118,7 @@ pub fn unpivot_in(alloc: Global, value: Value) -> Result<UnpivotRequest, Request
 /// # Errors
 ///
 /// Those of `dummies_request_of`, of the value.
-#[tactic(auto, unfolding(crate::specs::Reading::dummies_in))]
+#[tactic(auto, unfolding(crate::specs::Promise::Reading::dummies_in))]
 pub fn dummies_in(alloc: Global, value: Value) -> Result<DummiesRequest, RequestFault>
     ensures { MatchResult result (λ q. dummies_in (view value) ≡ Ok (dummies_view q))
         (λ e. FaultIs e (dummies_in (view value))) }
@@ -139,7 +139,7 @@ pub fn dummies_in(alloc: Global, value: Value) -> Result<DummiesRequest, Request
 /// # Errors
 ///
 /// Those of `pivot_request_of`, of the value.
-#[tactic(auto, unfolding(crate::specs::Reading::pivot_in))]
+#[tactic(auto, unfolding(crate::specs::Promise::Reading::pivot_in))]
 pub fn pivot_in(alloc: Global, value: Value) -> Result<PivotRequest, RequestFault>
     ensures { MatchResult result (λ q. pivot_in (view value) ≡ Ok (pivot_view q))
         (λ e. FaultIs e (pivot_in (view value))) }
@@ -184,7 +184,7 @@ pub fn pivot_in(alloc: Global, value: Value) -> Result<PivotRequest, RequestFaul
 /// 5. `Heights`: two columns of a table differ in length.
 /// 6. `Name`: two columns of a table have one name.
 /// 7. `Flag`: a column is not in the order that `sorted` claims.
-#[tactic(auto, unfolding(crate::specs::Reading::join_request_of))]
+#[tactic(auto, unfolding(crate::specs::Promise::Reading::join_request_of))]
 pub fn join_request_of(alloc: Global, bytes: Vec<u8>) -> Result<JoinRequest, RequestFault>
     ensures { MatchResult result (λ q. join_request_of bytes.items ≡ Ok (request_view q))
         (λ e. FaultIs e (join_request_of bytes.items)) }
@@ -202,7 +202,7 @@ pub fn join_request_of(alloc: Global, bytes: Vec<u8>) -> Result<JoinRequest, Req
 ///
 /// `OutOfMemory` may come at any time. Else the first of these reasons of `join_request_of` that holds
 /// of the whole input: `Json`, `Shape`, `Value`, `Heights`, `Name`, `Flag`.
-#[tactic(auto, unfolding(crate::specs::Reading::unpivot_request_of))]
+#[tactic(auto, unfolding(crate::specs::Promise::Reading::unpivot_request_of))]
 pub fn unpivot_request_of(alloc: Global, bytes: Vec<u8>) -> Result<UnpivotRequest, RequestFault>
     ensures { MatchResult result (λ q. unpivot_request_of bytes.items ≡ Ok (unpivot_view q))
         (λ e. FaultIs e (unpivot_request_of bytes.items)) }
@@ -219,7 +219,7 @@ pub fn unpivot_request_of(alloc: Global, bytes: Vec<u8>) -> Result<UnpivotReques
 /// # Errors
 ///
 /// As those of `unpivot_request_of`.
-#[tactic(auto, unfolding(crate::specs::Reading::dummies_request_of))]
+#[tactic(auto, unfolding(crate::specs::Promise::Reading::dummies_request_of))]
 pub fn dummies_request_of(alloc: Global, bytes: Vec<u8>) -> Result<DummiesRequest, RequestFault>
     ensures { MatchResult result (λ q. dummies_request_of bytes.items ≡ Ok (dummies_view q))
         (λ e. FaultIs e (dummies_request_of bytes.items)) }
@@ -237,7 +237,7 @@ pub fn dummies_request_of(alloc: Global, bytes: Vec<u8>) -> Result<DummiesReques
 /// # Errors
 ///
 /// As those of `unpivot_request_of`.
-#[tactic(auto, unfolding(crate::specs::Reading::pivot_request_of))]
+#[tactic(auto, unfolding(crate::specs::Promise::Reading::pivot_request_of))]
 pub fn pivot_request_of(alloc: Global, bytes: Vec<u8>) -> Result<PivotRequest, RequestFault>
     ensures { MatchResult result (λ q. pivot_request_of bytes.items ≡ Ok (pivot_view q))
         (λ e. FaultIs e (pivot_request_of bytes.items)) }

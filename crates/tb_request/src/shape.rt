@@ -2,10 +2,10 @@
 ghost use Rattle.std.specs.Prelude.{◌≡◌, codes, map, option_and_then, option_map, IfOk};
 ghost use Rattle.serde_json.specs.Find.{as_str, get};
 ghost use Rattle.tb_tree.specs.View.{view};
-ghost use Rattle.tb_json.specs.Kinds.{kind_in};
-ghost use Rattle.tb_json.specs.Lists.{as_list, list_of};
+ghost use Rattle.tb_json.specs.Promise.Kinds.{kind_in};
+ghost use Rattle.tb_json.specs.Promise.Lists.{as_list, list_of};
 ghost use Rattle.tb_value.specs.SeeKind.{kind_of};
-ghost use Rattle.tb_request.specs.Written.{flag_named, flag_of, count_of, plan_of, exec_of, join_of, column_of, table_of, table_at};
+ghost use Rattle.tb_request.specs.Promise.Written.{flag_named, flag_of, count_of, plan_of, exec_of, join_of, column_of, table_of, table_at};
 ghost use Rattle.tb_request.specs.Lent.{written_view, exec_view, written_join};
 
 use crate::arguments::args_of;
@@ -114,7 +114,7 @@ fn chunks_in(alloc: Global, column: Value) -> Result<Option<Vec<Vec<Value>>>, Ou
     }
 }
 
-#[tactic(auto, unfolding(crate::specs::Written::column_of))]
+#[tactic(auto, unfolding(crate::specs::Promise::Written::column_of))]
 fn column_of(alloc: Global, value: Value) -> Result<Option<WrittenColumn>, OutOfMemory>
     ensures { IfOk result (λ o. option_map written_view o ≡ column_of (view value)) }
 {
@@ -153,7 +153,7 @@ fn columns_of(alloc: Global, value: Value) -> Result<Option<Vec<WrittenColumn>>,
     Ok(Some(columns))
 }
 
-#[tactic(auto, unfolding(crate::specs::Written::table_of))]
+#[tactic(auto, unfolding(crate::specs::Promise::Written::table_of))]
 fn table_of(alloc: Global, value: Value) -> Result<Option<Vec<WrittenColumn>>, OutOfMemory>
     ensures { IfOk result (λ o. option_map (λ v. map written_view v.items) o
         ≡ table_of (view value)) }
@@ -205,7 +205,7 @@ pub fn count_of(value: &Value) -> Option<u32>
     }
 }
 
-#[tactic(auto, unfolding(crate::specs::Written::plan_of))]
+#[tactic(auto, unfolding(crate::specs::Promise::Written::plan_of))]
 fn numbers_of(value: &Value) -> Option<ExecNumbers>
     ensures { option_map exec_view result ≡ plan_of (view value.now) }
 {
@@ -244,7 +244,7 @@ pub fn exec_of(request: &Value) -> Option<ExecNumbers>
 }
 
 /// The members of a request to join, or None where the value has not the form of one.
-#[tactic(auto, unfolding(crate::specs::Written::join_of))]
+#[tactic(auto, unfolding(crate::specs::Promise::Written::join_of))]
 pub(crate) fn join_of(alloc: Global, value: Value) -> Result<Option<WrittenJoin>, OutOfMemory>
     ensures { IfOk result (λ o. option_map written_join o ≡ join_of (view value)) }
 {

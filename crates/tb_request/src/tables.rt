@@ -1,8 +1,8 @@
 //! The tables of a request.
 ghost use Rattle.std.specs.Prelude.{◌≡◌, [], ◌∷◌, map, IfOk, MatchResult, Ok, Err};
-ghost use Rattle.tb_frame.specs.Table.{Table, table_of};
+ghost use Rattle.tb_frame.specs.Promise.Table.{Table, table_of};
 ghost use Rattle.tb_request.specs.Columns.{relaid_column};
-ghost use Rattle.tb_request.specs.Reading.{are_frames, are_tables, fault_of, table_from, earlier_reason, earliest_reason, FaultIs};
+ghost use Rattle.tb_request.specs.Promise.Reading.{are_frames, are_tables, fault_of, table_from, earlier_reason, earliest_reason, FaultIs};
 ghost use Rattle.tb_request.specs.Lent.{claimed_view, claimed_views, written_view};
 
 use crate::flags::flagged;
@@ -83,7 +83,7 @@ fn frames_of(
 }
 
 // The table of these columns with the flags that are claimed.
-#[tactic(auto, unfolding(crate::specs::Reading::are_tables))]
+#[tactic(auto, unfolding(crate::specs::Promise::Reading::are_tables))]
 fn table_of(alloc: Global, claimed: Vec<ClaimedColumn>) -> Result<DataFrame, RequestFault>
     ensures columns { IfOk result (λ t. map relaid_column t ≡ map claimed_view claimed.items) }
     ensures tables { MatchResult result
@@ -100,7 +100,7 @@ fn table_of(alloc: Global, claimed: Vec<ClaimedColumn>) -> Result<DataFrame, Req
 }
 
 /// The one table of a request, whose columns are written so.
-#[tactic(auto, unfolding(crate::specs::Reading::table_from))]
+#[tactic(auto, unfolding(crate::specs::Promise::Reading::table_from))]
 pub(crate) fn table_from(
     alloc: Global,
     written: Vec<WrittenColumn>,
@@ -115,7 +115,7 @@ pub(crate) fn table_from(
 }
 
 /// The two tables of these columns with the flags that are claimed.
-#[tactic(auto, unfolding(crate::specs::Reading::are_tables))]
+#[tactic(auto, unfolding(crate::specs::Promise::Reading::are_tables))]
 pub(crate) fn tables_of(
     alloc: Global,
     left: Vec<ClaimedColumn>,

@@ -1,6 +1,6 @@
 //! The values of a request.
 ghost use Rattle.std.specs.Prelude.{◌≡◌, map, option_map, IfOk};
-ghost use Rattle.tb_request.specs.Columns.{values_of, columns_from};
+ghost use Rattle.tb_request.specs.Promise.Columns.{values_of, columns_from};
 ghost use Rattle.tb_request.specs.Lent.{written_view, claimed_view};
 
 use crate::shape::WrittenColumn;
@@ -16,7 +16,7 @@ pub struct ClaimedColumn {
     pub flag: IsSorted,
 }
 
-#[tactic(auto, unfolding(crate::specs::Columns::values_of))]
+#[tactic(auto, unfolding(crate::specs::Promise::Columns::values_of))]
 fn column_of(alloc: Global, written: WrittenColumn) -> Result<Option<ClaimedColumn>, OutOfMemory>
     ensures { IfOk result (λ o. option_map claimed_view o ≡ values_of (written_view written)) }
 {

@@ -5,18 +5,18 @@ use Rattle.std.proofs.lemmas.List.{append-nil, get_or-map, length-map}
 use Rattle.std.proofs.lemmas.List.Elements.{All-cons, All-get_or, All-head, All-nil, All-tail}
 use Rattle.std.proofs.lemmas.List.FromFn.{fill_by_all}
 use Rattle.std.proofs.lemmas.Nat.{mod_below, mul-le}
-use Rattle.tb_value.specs.Datum.{Datum, null}
-use Rattle.tb_value.specs.Kind.{Kind}
-use Rattle.tb_value.specs.Kind as kind
-use Rattle.tb_value.specs.Names.{Name}
-use Rattle.tb_value.specs.Pairs.{row_numbers}
-use Rattle.tb_frame.specs.Table.{TableColumn, Table, height, names_of, IsTyped}
+use Rattle.tb_value.specs.Promise.Datum.{Datum, null}
+use Rattle.tb_value.specs.Promise.Kind.{Kind}
+use Rattle.tb_value.specs.Promise.Kind as kind
+use Rattle.tb_value.specs.Promise.Names.{Name}
+use Rattle.tb_value.specs.Promise.Pairs.{row_numbers}
+use Rattle.tb_frame.specs.Promise.Table.{TableColumn, Table, height, names_of, IsTyped}
 use Rattle.tb_frame.proofs.Causes.{selected_hold}
-use Rattle.tb_label.specs.Label.{value_text}
-use Rattle.tb_rows.specs.Rows.{row_value}
-use Rattle.tb_unpivot.specs.Unpivot.{columns_named, common_kind, kind_or_null, long_table, repeated, value_column, variable_column}
-use Rattle.tb_pivot.specs.Pivot.{are_alike, answer_rows, block_column, cell, cell_of, header_at, header_rows, index_column, wide}
-use Rattle.tb_pivot.specs.Request.{Chosen, one_row}
+use Rattle.tb_label.specs.Promise.Label.{value_text}
+use Rattle.tb_rows.specs.Promise.Rows.{row_value}
+use Rattle.tb_unpivot.specs.Promise.Unpivot.{columns_named, common_kind, kind_or_null, long_table, repeated, value_column, variable_column}
+use Rattle.tb_pivot.specs.Promise.Pivot.{are_alike, answer_rows, block_column, cell, cell_of, header_at, header_rows, index_column, wide}
+use Rattle.tb_pivot.specs.Promise.Request.{Chosen, one_row}
 use Rattle.tb_pivot.proofs.Texts.{map_twice}
 use Rattle.tb_reshape.specs.Undo.{made_long, made_wide, AreOf, AreUndone}
 use Rattle.tb_reshape.proofs.Lookups.{Differ, at_front, first_found, past}

@@ -4,9 +4,9 @@ use Rattle.std.specs.List.{All, AllPairs, cons_option, filter_map}
 use Rattle.std.proofs.lemmas.Bool.{false_from_ne_true}
 use Rattle.std.proofs.lemmas.List.Elements.{All-append, All-cons, All-head, All-nil, All-tail}
 use Rattle.std.proofs.lemmas.Slice.Eq.{bytes_eq-Decides}
-use Rattle.tb_value.specs.Names.{Name, same_name}
-use Rattle.tb_frame.specs.Join.{column_named}
-use Rattle.tb_frame.specs.Table.{TableColumn, Table, names_of}
+use Rattle.tb_value.specs.Promise.Names.{Name, same_name}
+use Rattle.tb_frame.specs.Promise.Join.{column_named}
+use Rattle.tb_frame.specs.Promise.Table.{TableColumn, Table, names_of}
 
 abbrev pub Differ : Name → TableColumn → Type 0
 Differ n c = c.name ≢ n

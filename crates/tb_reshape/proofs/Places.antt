@@ -7,9 +7,9 @@ use Rattle.std.proofs.lemmas.List.Elements.{All-head, All-tail, filter-append}
 use Rattle.std.proofs.lemmas.List.Folds.{list_any_at, list_any_none}
 use Rattle.std.proofs.lemmas.List.FromFn.{get_or-range_with_len, length-range_with_len}
 use Rattle.std.proofs.lemmas.Nat.{div-add-mod', div-mul-add, mod-mul-add, mod_below, row_fits}
-use Rattle.tb_value.specs.Pairs.{row_numbers}
+use Rattle.tb_value.specs.Promise.Pairs.{row_numbers}
 use Rattle.tb_value.proofs.RowNumbers.{range_cut, row_numbers_more}
-use Rattle.tb_rows.specs.Rows.{first_rows, is_first}
+use Rattle.tb_rows.specs.Promise.Rows.{first_rows, is_first}
 use Rattle.tb_pivot.proofs.Cell.{same_place}
 use Rattle.tb_pivot.proofs.Members.{each_row, filter_same, none_pass}
 

@@ -6,23 +6,23 @@ use Rattle.std.proofs.lemmas.Bool.{cases_order, eqb-false, eqb-true, false_from_
 use Rattle.std.proofs.lemmas.List.{get_or-append_right, get_or-map, get_or-replicate, get_or_append_left, length-append, length-map, length-replicate}
 use Rattle.std.proofs.lemmas.List.Elements.{All-get_or, All-head, All-replicate, All-tail}
 use Rattle.std.proofs.lemmas.Nat.{div-add-mod', div_below, mod_below}
-use Rattle.tb_value.specs.Datum.{Datum, null, string}
-use Rattle.tb_value.specs.Kind.{Kind}
-use Rattle.tb_value.specs.Kind as kind
-use Rattle.tb_value.specs.Names.{Name}
+use Rattle.tb_value.specs.Promise.Datum.{Datum, null, string}
+use Rattle.tb_value.specs.Promise.Kind.{Kind}
+use Rattle.tb_value.specs.Promise.Kind as kind
+use Rattle.tb_value.specs.Promise.Names.{Name}
 use Rattle.tb_value.specs.Proved.TypeTests.{same_kind-Decides}
 use Rattle.tb_value.specs.Proved.ValueTests.{same-Decides}
-use Rattle.tb_value.specs.Same.{same}
-use Rattle.tb_value.specs.SameKind.{same_kind}
-use Rattle.tb_value.specs.Typed.{HasType}
-use Rattle.tb_frame.specs.Table.{TableColumn, IsTyped}
-use Rattle.tb_rows.specs.Rows.{row_value}
-use Rattle.tb_supertype.specs.Cast.{cast}
-use Rattle.tb_supertype.specs.Supertype.{class_of, common_by_class, supertype}
+use Rattle.tb_value.specs.Promise.Same.{same}
+use Rattle.tb_value.specs.Promise.SameKind.{same_kind}
+use Rattle.tb_value.specs.Promise.Typed.{HasType}
+use Rattle.tb_frame.specs.Promise.Table.{TableColumn, IsTyped}
+use Rattle.tb_rows.specs.Promise.Rows.{row_value}
+use Rattle.tb_supertype.specs.Promise.Cast.{cast}
+use Rattle.tb_supertype.specs.Promise.Supertype.{class_of, common_by_class, supertype}
 use Rattle.tb_supertype.proofs.Stacks.{cast-each}
-use Rattle.tb_unpivot.specs.Unpivot.{common_kind, repeated, value_column, variable_column}
+use Rattle.tb_unpivot.specs.Promise.Unpivot.{common_kind, repeated, value_column, variable_column}
 use Rattle.tb_unpivot.proofs.CommonKinds.{kind_more, one_kind}
-use Rattle.tb_pivot.specs.Pivot.{are_alike}
+use Rattle.tb_pivot.specs.Promise.Pivot.{are_alike}
 use Rattle.tb_pivot.proofs.Alike.{alike_equiv}
 
 -- VALUES OF COLUMNS ONE BELOW THE OTHER

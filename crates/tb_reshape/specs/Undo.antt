@@ -1,14 +1,14 @@
 -- A table that is made long, and then wide again.
 use Rattle.std.specs.Prelude.{◌≡◌, ◌≢◌, ◌<◌, ℕ, true, false, List, [], ◌∷◌, ◌++◌, length, Some}
 use Rattle.std.specs.List.{All, AllPairs}
-use Rattle.tb_value.specs.Kind.{Kind}
-use Rattle.tb_value.specs.Names.{Name}
-use Rattle.tb_frame.specs.Table.{TableColumn, Table, height, names_of, IsTable}
-use Rattle.tb_unpivot.specs.Unpivot.{columns_named, unpivot_table}
-use Rattle.tb_unpivot.specs.Unpivot as long
-use Rattle.tb_pivot.specs.Pivot.{are_alike, pivot_table}
-use Rattle.tb_pivot.specs.Request.{one_row}
-use Rattle.tb_pivot.specs.Request as wide
+use Rattle.tb_value.specs.Promise.Kind.{Kind}
+use Rattle.tb_value.specs.Promise.Names.{Name}
+use Rattle.tb_frame.specs.Promise.Table.{TableColumn, Table, height, names_of, IsTable}
+use Rattle.tb_unpivot.specs.Promise.Unpivot.{columns_named, unpivot_table}
+use Rattle.tb_unpivot.specs.Promise.Unpivot as long
+use Rattle.tb_pivot.specs.Promise.Pivot.{are_alike, pivot_table}
+use Rattle.tb_pivot.specs.Promise.Request.{one_row}
+use Rattle.tb_pivot.specs.Promise.Request as wide
 
 -- the table with columns put one below the other, and the index beside them
 abbrev pub made_long : Table → List TableColumn → List TableColumn → Name → Name → Table

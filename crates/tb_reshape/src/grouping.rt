@@ -1,10 +1,10 @@
 //! The rows of a table in groups.
 ghost use Rattle.std.specs.Prelude.{◌≡◌, IfOk};
 ghost use Rattle.tb_value.specs.Refusals.{Settles};
-ghost use Rattle.tb_frame.specs.Refusal.{unknown_key};
-ghost use Rattle.tb_frame.specs.Table.{height, table_of};
-ghost use Rattle.tb_pivot.specs.Pivot.{are_alike};
-ghost use Rattle.tb_pivot.specs.Request.{columns_named};
+ghost use Rattle.tb_frame.specs.Promise.Refusal.{unknown_key};
+ghost use Rattle.tb_frame.specs.Promise.Table.{height, table_of};
+ghost use Rattle.tb_pivot.specs.Promise.Pivot.{are_alike};
+ghost use Rattle.tb_pivot.specs.Promise.Request.{columns_named};
 ghost use Rattle.tb_rows.specs.Grouped.{AreGroups};
 
 use std::alloc::Global;

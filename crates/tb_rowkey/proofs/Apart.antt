@@ -4,13 +4,13 @@ use Rattle.std.specs.Prelude.{IsTrue, ℤ, ◌≤ℤ◌, IsSomeAnd}
 use Rattle.std.specs.Int.{bytes_high_first}
 use Rattle.std.proofs.lemmas.List.{append_assoc}
 use Rattle.std.proofs.lemmas.Bool.{false≢true}
-use Rattle.tb_value.specs.Datum.{Datum, null, boolean, int, string, binary, list, struct}
-use Rattle.tb_value.specs.Kind.{Kind, Parts}
-use Rattle.tb_value.specs.Kind as kind
-use Rattle.tb_value.specs.SameKind.{is_key}
-use Rattle.tb_value.specs.Typed.{HasType, AreOf, AreEachOf, IsListOf, IsStructOf, ends}
-use Rattle.tb_rowkey.specs.Bytes.{width, twos_complement}
-use Rattle.tb_rowkey.specs.RowKey.{bit, text_code, field_code}
+use Rattle.tb_value.specs.Promise.Datum.{Datum, null, boolean, int, string, binary, list, struct}
+use Rattle.tb_value.specs.Promise.Kind.{Kind, Parts}
+use Rattle.tb_value.specs.Promise.Kind as kind
+use Rattle.tb_value.specs.Promise.SameKind.{is_key}
+use Rattle.tb_value.specs.Promise.Typed.{HasType, AreOf, AreEachOf, IsListOf, IsStructOf, ends}
+use Rattle.tb_rowkey.specs.Promise.Bytes.{width, twos_complement}
+use Rattle.tb_rowkey.specs.Promise.RowKey.{bit, text_code, field_code}
 use Rattle.tb_rowkey.specs.Rows.{IsKeyOf}
 use Rattle.tb_rowkey.proofs.Numbers.{first, rest, bytes_apart, front_apart}
 use Rattle.tb_rowkey.proofs.Widths.{wholes_apart}

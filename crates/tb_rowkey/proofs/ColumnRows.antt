@@ -3,14 +3,16 @@ use Rattle.std.proofs.Common.{◌≡◌, ◌<◌, ℕ, zero, suc, Bool, false, L
 use Rattle.std.specs.Prelude.{IsTrue}
 use Rattle.std.specs.List.{All, list_all}
 use Rattle.std.proofs.lemmas.List.{length-map}
-use Rattle.tb_value.specs.Datum.{null}
-use Rattle.tb_value.specs.Kind.{Kind}
-use Rattle.tb_value.specs.Pairs.{row_numbers}
-use Rattle.tb_value.specs.SameKind.{is_key}
-use Rattle.tb_chunk.specs.Col.{Col, IsColumn, values}
-use Rattle.tb_rowkey.specs.Columns.{AreKeyColumns, kinds, fields_at, row_count, field_of, key_at, columns_meet}
-use Rattle.tb_rowkey.specs.RowKey.{key_row}
-use Rattle.tb_value.specs.Same.{agrees}
+use Rattle.tb_value.specs.Promise.Datum.{null}
+use Rattle.tb_value.specs.Promise.Kind.{Kind}
+use Rattle.tb_value.specs.Promise.Pairs.{row_numbers}
+use Rattle.tb_value.specs.Promise.SameKind.{is_key}
+use Rattle.tb_chunk.specs.Promise.Col.{Col, values}
+use Rattle.tb_chunk.specs.Col.{IsColumn}
+use Rattle.tb_rowkey.specs.Promise.Columns.{kinds, fields_at, row_count, key_at}
+use Rattle.tb_rowkey.specs.Columns.{AreKeyColumns, field_of, columns_meet}
+use Rattle.tb_rowkey.specs.Promise.RowKey.{key_row}
+use Rattle.tb_value.specs.Promise.Same.{agrees}
 use Rattle.tb_rowkey.specs.Rows.{IsKeyRow, rows_meet}
 use Rattle.tb_rowkey.proofs.Rows.{keys_meet}
 

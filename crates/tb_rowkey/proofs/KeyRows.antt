@@ -3,14 +3,15 @@ use Rattle.std.proofs.Common.{◌≡◌, ◌+◌, ◌<◌, ◌≤◌, ℕ, suc, 
 use Rattle.std.specs.Prelude.{if◌then◌else◌}
 use Rattle.std.proofs.lemmas.Bool.{false≢true}
 use Rattle.std.proofs.lemmas.List.{append-nil, take_at, length-append, length-map, append_assoc, at_drop_more, at_drop_all}
-use Rattle.tb_value.specs.Datum.{Datum, null, boolean, int, string, binary, list, struct, is_present}
-use Rattle.tb_value.specs.Kind.{Kind}
+use Rattle.tb_value.specs.Promise.Datum.{Datum, null, boolean, int, string, binary, list, struct, is_present}
+use Rattle.tb_value.specs.Promise.Kind.{Kind}
 use Rattle.tb_chunk.specs.Chunk.{or_null}
 use Rattle.std.specs.List.{All}
-use Rattle.tb_chunk.specs.Col.{Col, values}
+use Rattle.tb_chunk.specs.Promise.Col.{Col, values}
 use Rattle.tb_chunk.proofs.Lent.{low_lent, lent_is, lent_has}
-use Rattle.tb_rowkey.specs.RowKey.{field_code, has_key}
-use Rattle.tb_rowkey.specs.Columns.{lent_columns, fields_at, key_at, row_bytes, row_count, IsShortRow}
+use Rattle.tb_rowkey.specs.Promise.RowKey.{field_code, has_key}
+use Rattle.tb_rowkey.specs.Promise.Columns.{fields_at, key_at, row_bytes, row_count}
+use Rattle.tb_rowkey.specs.Columns.{lent_columns, IsShortRow}
 use Rattle.tb_rowkey.specs.RowKeys.{bytes_of, key_of}
 
 -- whether the fields of row i in columns that begin at place n are present, or Nulls match there

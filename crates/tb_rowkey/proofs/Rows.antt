@@ -5,12 +5,12 @@ use Rattle.std.specs.List.{list_all, range_with_len}
 use Rattle.std.proofs.lemmas.Bool.{false≢true, or_left, and_parts, and_from}
 use Rattle.std.proofs.lemmas.List.{append_assoc, append-nil}
 use Rattle.std.proofs.lemmas.List.Folds.{list_all-map}
-use Rattle.tb_value.specs.Datum.{Datum, null, binary, is_present}
-use Rattle.tb_value.specs.Kind.{Kind}
-use Rattle.tb_value.specs.Pairs.{row_numbers}
-use Rattle.tb_value.specs.Same.{same, agrees}
+use Rattle.tb_value.specs.Promise.Datum.{Datum, null, binary, is_present}
+use Rattle.tb_value.specs.Promise.Kind.{Kind}
+use Rattle.tb_value.specs.Promise.Pairs.{row_numbers}
+use Rattle.tb_value.specs.Promise.Same.{same, agrees}
 use Rattle.tb_value.specs.Proved.ValueTests.{same-Decides}
-use Rattle.tb_rowkey.specs.RowKey.{field_code, rowkey, has_key, key_row}
+use Rattle.tb_rowkey.specs.Promise.RowKey.{field_code, rowkey, has_key, key_row}
 use Rattle.tb_rowkey.specs.Rows.{IsKeyRow, rows_meet}
 use Rattle.tb_rowkey.proofs.Apart.{field_apart}
 

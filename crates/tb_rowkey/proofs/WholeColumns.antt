@@ -3,13 +3,14 @@ use Rattle.std.proofs.Common.{◌≡◌, ◌<◌, ◌^◌, ℕ, Bool, List, [], 
 use Rattle.std.specs.List.{All}
 use Rattle.std.proofs.lemmas.List.{append-nil}
 use Rattle.std.proofs.lemmas.List.Elements.{All-map}
-use Rattle.tb_value.specs.Datum.{Datum, null}
-use Rattle.tb_value.specs.Kind.{Kind}
-use Rattle.tb_value.specs.Pairs.{row_numbers}
-use Rattle.tb_chunk.specs.Col.{Col, values}
+use Rattle.tb_value.specs.Promise.Datum.{Datum, null}
+use Rattle.tb_value.specs.Promise.Kind.{Kind}
+use Rattle.tb_value.specs.Promise.Pairs.{row_numbers}
+use Rattle.tb_chunk.specs.Promise.Col.{Col, values}
 use Rattle.tb_chunk.specs.Lent.{in_one_chunk}
-use Rattle.tb_rowkey.specs.Columns.{row_count, kinds, fields_at, AreShortRows, keys_at}
-use Rattle.tb_rowkey.specs.RowKey.{rowkey, key_row}
+use Rattle.tb_rowkey.specs.Promise.Columns.{row_count, kinds, fields_at, keys_at}
+use Rattle.tb_rowkey.specs.Columns.{AreShortRows}
+use Rattle.tb_rowkey.specs.Promise.RowKey.{rowkey, key_row}
 
 abbrev pub whole : List Col → List Col
 whole cs = map in_one_chunk cs

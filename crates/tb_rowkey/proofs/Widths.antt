@@ -2,9 +2,9 @@
 use Rattle.std.proofs.Common.{◌≡◌, ℕ, ◌^◌, ◌%◌, ap, arith}
 use Rattle.std.specs.Prelude.{ℤ, pos, negsuc, ◌≤ℤ◌, IsSomeAnd}
 use Rattle.std.proofs.lemmas.Int.{ints}
-use Rattle.tb_value.specs.Kind.{Kind, int8, int16, int32, int64, int128, uint8, uint16, uint32, uint64, date, time, datetime, duration}
-use Rattle.tb_value.specs.Typed.{ends}
-use Rattle.tb_rowkey.specs.Bytes.{width, twos_complement}
+use Rattle.tb_value.specs.Promise.Kind.{Kind, int8, int16, int32, int64, int128, uint8, uint16, uint32, uint64, date, time, datetime, duration}
+use Rattle.tb_value.specs.Promise.Typed.{ends}
+use Rattle.tb_rowkey.specs.Promise.Bytes.{width, twos_complement}
 
 -- a number from -h - 1 up to h, and one up to h
 abbrev IsSigned : ℕ → ℤ → Type 0

@@ -7,8 +7,8 @@ use Rattle.std.specs.Prelude.{IfSome}
 use Rattle.std.specs.List.{range_with_len}
 use Rattle.std.proofs.lemmas.List.FromFn.{length-range_with_len, get_or-map-range_with_len}
 use Rattle.std.proofs.lemmas.Simd.{map-map}
-use Rattle.tb_value.specs.Datum.{Datum}
-use Rattle.tb_value.specs.Pairs.{row_numbers}
+use Rattle.tb_value.specs.Promise.Datum.{Datum}
+use Rattle.tb_value.specs.Promise.Pairs.{row_numbers}
 use Rattle.tb_chunk.specs.Chunk.{or_null}
 use Rattle.tb_rowkey.specs.RowKeys.{bytes_at, key_of, keys_in, ArePlaces}
 

@@ -1,7 +1,7 @@
 -- The keys of rows, one behind another in one list of bytes.
 use Rattle.std.specs.Prelude.{◌<◌, ◌≤◌, ◌+◌, ◌-◌, ◌^◌, ℕ, List, [], ◌∷◌, length, map, take, drop, slice_index_or, Option, Some, None}
-use Rattle.tb_value.specs.Datum.{Datum, binary}
-use Rattle.tb_value.specs.Pairs.{row_numbers}
+use Rattle.tb_value.specs.Promise.Datum.{Datum, binary}
+use Rattle.tb_value.specs.Promise.Pairs.{row_numbers}
 use Rattle.tb_value.specs.declared.limits.TheConstants.{MAX_ROWS}
 
 -- the bytes of a key, of which an absent one has none

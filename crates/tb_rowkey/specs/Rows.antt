@@ -1,12 +1,12 @@
 -- Rows of key types, and when two of them match.
 use Rattle.std.specs.Prelude.{ℕ, Bool, IsTrue, List, slice_index_or}
 use Rattle.std.specs.List.{AllZip, list_all}
-use Rattle.tb_value.specs.Datum.{Datum, null}
-use Rattle.tb_value.specs.Kind.{Kind}
-use Rattle.tb_value.specs.Pairs.{row_numbers}
-use Rattle.tb_value.specs.Same.{agrees}
-use Rattle.tb_value.specs.SameKind.{is_key}
-use Rattle.tb_value.specs.Typed.{HasType}
+use Rattle.tb_value.specs.Promise.Datum.{Datum, null}
+use Rattle.tb_value.specs.Promise.Kind.{Kind}
+use Rattle.tb_value.specs.Promise.Pairs.{row_numbers}
+use Rattle.tb_value.specs.Promise.Same.{agrees}
+use Rattle.tb_value.specs.Promise.SameKind.{is_key}
+use Rattle.tb_value.specs.Promise.Typed.{HasType}
 
 -- a value of a key type
 abbrev pub IsKeyOf : Kind → Datum → Type 0

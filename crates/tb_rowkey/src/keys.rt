@@ -1,17 +1,18 @@
 //! Row keys as a column.
 ghost use Rattle.std.specs.Prelude.{◌≡◌, ◌<◌, ◌≤◌, ◌∷◌, [], IfOk, IsTrue, length, map};
 ghost use Rattle.std.specs.List.{All};
-ghost use Rattle.tb_value.specs.Datum.{binary};
-ghost use Rattle.tb_value.specs.Kind as kind;
-ghost use Rattle.tb_value.specs.SameKind.{is_key};
-ghost use Rattle.tb_value.specs.Typed.{HasType};
+ghost use Rattle.tb_value.specs.Promise.Datum.{binary};
+ghost use Rattle.tb_value.specs.Promise.Kind as kind;
+ghost use Rattle.tb_value.specs.Promise.SameKind.{is_key};
+ghost use Rattle.tb_value.specs.Promise.Typed.{HasType};
 ghost use Rattle.tb_value.specs.SeeKind.{kind_of};
 ghost use Rattle.tb_value.specs.declared.sorted.IsSorted.TheVariants.{Not};
 ghost use Rattle.tb_chunk.specs.Chunk.{or_null};
 ghost use Rattle.tb_chunk.specs.ChunkTexts.{bytes_of};
-ghost use Rattle.tb_chunk.specs.Col.{values};
-ghost use Rattle.tb_chunk.specs.Layout.{text_view_array};
-ghost use Rattle.tb_rowkey.specs.Columns.{row_count, key_column, AreShortRows, flag_of};
+ghost use Rattle.tb_chunk.specs.Promise.Col.{values};
+ghost use Rattle.tb_view.specs.Promise.Layout.{text_view_array};
+ghost use Rattle.tb_rowkey.specs.Promise.Columns.{row_count};
+ghost use Rattle.tb_rowkey.specs.Columns.{key_column, AreShortRows, flag_of};
 
 use crate::row_keys::RowKeys;
 use std::alloc::Global;

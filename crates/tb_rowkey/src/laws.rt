@@ -1,11 +1,12 @@
 //! What holds of row keys, as the contracts of empty functions.
 ghost use Rattle.std.specs.Prelude.{◌≡◌, ◌<◌, ◌↔◌, ◌++◌, ℕ, Bool, false, List, [], length};
-ghost use Rattle.tb_value.specs.Datum.{Datum};
-ghost use Rattle.tb_value.specs.Kind.{Kind};
-ghost use Rattle.tb_chunk.specs.Col.{Col};
-ghost use Rattle.tb_rowkey.specs.Columns.{AreKeyColumns, kinds, row_count, key_at, columns_meet};
-ghost use Rattle.tb_rowkey.specs.RowKey.{rowkey, key_row};
-ghost use Rattle.tb_value.specs.Same.{agrees};
+ghost use Rattle.tb_value.specs.Promise.Datum.{Datum};
+ghost use Rattle.tb_value.specs.Promise.Kind.{Kind};
+ghost use Rattle.tb_chunk.specs.Promise.Col.{Col};
+ghost use Rattle.tb_rowkey.specs.Promise.Columns.{kinds, row_count, key_at};
+ghost use Rattle.tb_rowkey.specs.Columns.{AreKeyColumns, columns_meet};
+ghost use Rattle.tb_rowkey.specs.Promise.RowKey.{rowkey, key_row};
+ghost use Rattle.tb_value.specs.Promise.Same.{agrees};
 ghost use Rattle.tb_rowkey.specs.Rows.{IsKeyRow, rows_meet};
 
 /// Of rows of the same key types, the row keys are equal exactly where the rows are, and no row key

@@ -2,12 +2,14 @@
 ghost use Rattle.std.specs.Prelude.{◌≡◌, ◌↔◌, ◌<◌, ◌≤◌, ◌^◌, ◌++◌, ◌&&◌, ◌||◌, ◌-◌, None, IfOk, IfSome, IsSome, OnOk, drop, length, map, slice_index_or, take};
 ghost use Rattle.std.specs.List.{All};
 ghost use Rattle.std.specs.Option.{option_copied};
-ghost use Rattle.tb_value.specs.Datum.{binary, is_null, is_present, null};
+ghost use Rattle.tb_value.specs.Promise.Datum.{binary, is_null, is_present, null};
 ghost use Rattle.tb_value.specs.See.{lent_value};
 ghost use Rattle.tb_chunk.specs.Chunk.{or_null};
-ghost use Rattle.tb_chunk.specs.Col.{values, IsColumn};
-ghost use Rattle.tb_rowkey.specs.Columns.{lent_columns, fields_at, row_bytes, row_count, key_at, keys_at, AreShortRows, flag_of};
-ghost use Rattle.tb_rowkey.specs.RowKey.{field_code, has_key};
+ghost use Rattle.tb_chunk.specs.Promise.Col.{values};
+ghost use Rattle.tb_chunk.specs.Col.{IsColumn};
+ghost use Rattle.tb_rowkey.specs.Promise.Columns.{fields_at, row_bytes, row_count, key_at, keys_at};
+ghost use Rattle.tb_rowkey.specs.Columns.{lent_columns, AreShortRows, flag_of};
+ghost use Rattle.tb_rowkey.specs.Promise.RowKey.{field_code, has_key};
 ghost use Rattle.tb_rowkey.specs.RowKeys.{bytes_of, key_of};
 
 use crate::fields::push_field;

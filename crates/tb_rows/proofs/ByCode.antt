@@ -15,9 +15,9 @@ use Rattle.std.proofs.lemmas.List.Folds.{find-append, find_at}
 use Rattle.std.proofs.lemmas.List.Sums.{fails_before_first, passes_at_first, position_or_len_is}
 use Rattle.std.proofs.lemmas.Option.{unwrap_or-slice_get}
 use Rattle.tb_value.proofs.RowNumbers.{row_numbers_more}
-use Rattle.tb_value.specs.Pairs.{row_numbers}
+use Rattle.tb_value.specs.Promise.Pairs.{row_numbers}
 use Rattle.tb_value.specs.Proved.ValueTests.{pulled}
-use Rattle.tb_chunk.specs.Col.{Col}
+use Rattle.tb_chunk.specs.Promise.Col.{Col}
 use Rattle.tb_rows.specs.Coded.{coded_row, coded_rows, leader, no_row, row_in, same_code, same_values, AreAsLed, AreCoded, AreLeaders}
 use Rattle.tb_rows.specs.Fields.{fields_at, row_code, same_at}
 use Rattle.tb_rows.specs.InGroups.{named_rows}

@@ -11,8 +11,8 @@ use Rattle.std.proofs.lemmas.List.FromFn.{get_or-map-range_with_len, get_or-rang
 use Rattle.std.proofs.lemmas.List.Quantifiers.{all_pairs_push}
 use Rattle.std.proofs.lemmas.List.Sums.{fails_before_first, passes_at_first, position_or_len_is}
 use Rattle.tb_value.proofs.RowNumbers.{row_numbers_more, rows_below}
-use Rattle.tb_value.specs.Pairs.{row_numbers}
-use Rattle.tb_rows.specs.Rows.{first_rows, group_of, is_first}
+use Rattle.tb_value.specs.Promise.Pairs.{row_numbers}
+use Rattle.tb_rows.specs.Promise.Rows.{first_rows, group_of, is_first}
 
 one_more : (n : ℕ) → n + 1 ≡ suc n
 one_more n = omega arith

@@ -4,9 +4,9 @@ use Rattle.std.specs.Cmp.{IsEquivalence}
 use Rattle.std.specs.List.{list_any}
 use Rattle.std.proofs.lemmas.List.Elements.{filter-append}
 use Rattle.tb_value.proofs.RowNumbers.{row_numbers_more}
-use Rattle.tb_value.specs.Pairs.{row_numbers}
+use Rattle.tb_value.specs.Promise.Pairs.{row_numbers}
 use Rattle.tb_rows.specs.InGroups.{firsts_in}
-use Rattle.tb_rows.specs.Rows.{first_rows, is_first}
+use Rattle.tb_rows.specs.Promise.Rows.{first_rows, is_first}
 use Rattle.tb_rows.proofs.FirstRows.{firsts_more}
 
 -- one row more in the list

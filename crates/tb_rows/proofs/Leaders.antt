@@ -18,10 +18,10 @@ use Rattle.std.proofs.lemmas.List.MinMax.{ranks_by}
 use Rattle.std.proofs.lemmas.List.Sorted.{All-permutation, IsPermutation-sym, length_permutation, sorted_far}
 use Rattle.std.proofs.lemmas.List.Sums.{fails_before_first, passes_at_first, position_or_len_is}
 use Rattle.tb_value.proofs.RowNumbers.{row_numbers_more}
-use Rattle.tb_value.specs.Datum.{Datum}
-use Rattle.tb_value.specs.Pairs.{row_numbers}
+use Rattle.tb_value.specs.Promise.Datum.{Datum}
+use Rattle.tb_value.specs.Promise.Pairs.{row_numbers}
 use Rattle.tb_value.specs.Proved.ValueTests.{pulled}
-use Rattle.tb_chunk.specs.Col.{Col}
+use Rattle.tb_chunk.specs.Promise.Col.{Col}
 use Rattle.tb_rows.specs.Coded.{coded_cmp, coded_row, coded_rows, goes_on, leader, no_row, same_coded, AreLeaders, AreSorted}
 use Rattle.tb_rows.specs.Fields.{fields_at, row_code, same_at}
 use Rattle.tb_rows.specs.InGroups.{named_rows}

@@ -5,8 +5,8 @@ use Rattle.std.specs.Prelude.{slice_index_or}
 use Rattle.std.proofs.lemmas.List.FromFn.{fill_by_all}
 use Rattle.tb_rows.specs.InGroups.{firsts_in, groups_in, listed_test}
 use Rattle.tb_value.proofs.Kept.{filter-map}
-use Rattle.tb_value.specs.Pairs.{row_numbers}
-use Rattle.tb_rows.specs.Rows.{first_rows}
+use Rattle.tb_value.specs.Promise.Pairs.{row_numbers}
+use Rattle.tb_rows.specs.Promise.Rows.{first_rows}
 use Rattle.tb_rows.proofs.FirstsIn.{firsts_of_all}
 
 -- the first of some rows, by the tests of what is made of them

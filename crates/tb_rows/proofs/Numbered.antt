@@ -7,10 +7,10 @@ use Rattle.std.specs.List.{All, list_any, position_or_len}
 use Rattle.std.proofs.lemmas.Bool.{eq-eqb, not-true, both_ways}
 use Rattle.std.proofs.lemmas.List.Folds.{list_any_at, list_any_none}
 use Rattle.std.proofs.lemmas.List.FromFn.{get_or-map-range_with_len, get_or-range_with_len, length-map-range_with_len, length-range_with_len}
-use Rattle.tb_value.specs.Pairs.{row_numbers}
+use Rattle.tb_value.specs.Promise.Pairs.{row_numbers}
 use Rattle.tb_value.specs.Proved.ValueTests.{pulled}
-use Rattle.tb_value.specs.Same.{same}
-use Rattle.tb_chunk.specs.Col.{Col, values}
+use Rattle.tb_value.specs.Promise.Same.{same}
+use Rattle.tb_chunk.specs.Promise.Col.{Col, values}
 use Rattle.tb_rows.specs.Coded.{leader}
 use Rattle.tb_rows.specs.Fields.{fields_at, same_at}
 use Rattle.tb_rows.specs.Grouped.{AreGroups}
@@ -20,7 +20,7 @@ use Rattle.tb_rows.specs.Proved.KeyTests.{fields_equiv}
 use Rattle.tb_rows.specs.declared.names.RowNames.{RowNames}
 use Rattle.tb_rows.specs.declared.names.RowNames.TheVariants.{From, Listed}
 use Rattle.tb_rows.specs.declared.groups.Groups.{Groups}
-use Rattle.tb_rows.specs.Rows.{first_rows, group_of, is_first, same_rows, row_value}
+use Rattle.tb_rows.specs.Promise.Rows.{first_rows, group_of, is_first, same_rows, row_value}
 use Rattle.tb_rows.proofs.FirstRows.{at_end, few_firsts, first_any, firsts_more, groups_more, numbers_below}
 use Rattle.tb_rows.proofs.Leaders.{leader_low, leader_same, not_before}
 use Rattle.tb_numbered.proofs.Places.{tells}

@@ -6,7 +6,7 @@ use Rattle.std.specs.Ordering.{bool_cmp, nat_cmp, ordering_reverse, ordering_the
 use Rattle.std.specs.declared.cmp.Ordering.{Ordering}
 use Rattle.std.specs.declared.cmp.Ordering.TheVariants.{Less, Equal, Greater}
 use Rattle.std.proofs.lemmas.Cmp.{int_cmp_total, nat_list_cmp_total, ranked}
-use Rattle.tb_value.specs.Datum.{Datum, Items, null, boolean, int, string, binary, list, struct, end, more, items_of, weight, weights}
+use Rattle.tb_value.specs.Promise.Datum.{Datum, Items, null, boolean, int, string, binary, list, struct, end, more, items_of, weight, weights}
 use Rattle.tb_rows.specs.Order.{items_cmp, kind_number, value_cmp}
 
 then_back : (o p q r : Ordering) → o ≡ ordering_reverse p → q ≡ ordering_reverse r → ordering_then o q ≡ ordering_reverse (ordering_then p r)

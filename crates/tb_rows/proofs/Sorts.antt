@@ -11,7 +11,7 @@ use Rattle.std.proofs.lemmas.Bool.{and_from, and_parts, both_ways, eq-eqb}
 use Rattle.std.proofs.lemmas.Cmp.{lists_total, nat_cmp_total, tied_itself}
 use Rattle.std.proofs.lemmas.List.{get_or_default}
 use Rattle.std.proofs.lemmas.List.Sorted.{IsPermutation-trans}
-use Rattle.tb_chunk.specs.Col.{Col}
+use Rattle.tb_chunk.specs.Promise.Col.{Col}
 use Rattle.tb_rows.specs.Coded.{code_cmp, coded_cmp, no_row, AreSorted, AreToldByCodes}
 use Rattle.tb_rows.specs.Fields.{fields_at, same_at}
 use Rattle.tb_rows.specs.Order.{value_cmp}

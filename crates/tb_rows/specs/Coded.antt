@@ -6,8 +6,8 @@ use Rattle.std.specs.List.{position_or_len}
 use Rattle.std.specs.List.Sorted.{IsStable}
 use Rattle.std.specs.Ordering.{nat_cmp, on, then_cmp}
 use Rattle.std.specs.declared.cmp.Ordering.{Ordering}
-use Rattle.tb_value.specs.Pairs.{row_numbers}
-use Rattle.tb_chunk.specs.Col.{Col}
+use Rattle.tb_value.specs.Promise.Pairs.{row_numbers}
+use Rattle.tb_chunk.specs.Promise.Col.{Col}
 use Rattle.tb_rows.specs.Fields.{fields_at, row_code, same_at}
 use Rattle.tb_rows.specs.InGroups.{named_rows}
 use Rattle.tb_rows.specs.Order.{value_cmp}

@@ -5,11 +5,11 @@ use Rattle.std.specs.Cmp.Lexicographic.{pointwise}
 use Rattle.std.specs.Hash.{HashWrites}
 use Rattle.std.specs.Hash.FoldHasher.{initial, write, finish}
 use Rattle.std.specs.List.{flat_map}
-use Rattle.tb_value.specs.Datum.{Datum}
+use Rattle.tb_value.specs.Promise.Datum.{Datum}
 use Rattle.tb_value.specs.Fed.{fed_datum}
-use Rattle.tb_value.specs.Same.{same}
-use Rattle.tb_chunk.specs.Col.{Col, values}
-use Rattle.tb_rows.specs.Rows.{row_value}
+use Rattle.tb_value.specs.Promise.Same.{same}
+use Rattle.tb_chunk.specs.Promise.Col.{Col, values}
+use Rattle.tb_rows.specs.Promise.Rows.{row_value}
 
 -- the values of a row
 abbrev pub fields_at : List (Bor Col) → ℕ → List Datum

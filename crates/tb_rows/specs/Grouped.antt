@@ -1,7 +1,7 @@
 -- The groups of rows that are told apart by a test.
 use Rattle.std.specs.Prelude.{◌≡◌, ℕ, Bool, map}
-use Rattle.tb_value.specs.Pairs.{row_numbers}
-use Rattle.tb_rows.specs.Rows.{first_rows, group_of}
+use Rattle.tb_value.specs.Promise.Pairs.{row_numbers}
+use Rattle.tb_rows.specs.Promise.Rows.{first_rows, group_of}
 use Rattle.tb_rows.specs.declared.groups.Groups.{Groups}
 
 -- the first row of each group, and for each row the place of its group

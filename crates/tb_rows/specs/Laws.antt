@@ -3,10 +3,10 @@ use Rattle.std.specs.Prelude.{◌≡◌, ℕ, Bool, List, IsSorted, filter, leng
 use Rattle.std.specs.Cmp.{IsEquivalence, IsTotalOrder}
 use Rattle.std.specs.List.Sorted.{IsStable}
 use Rattle.std.specs.declared.cmp.Ordering.{Ordering}
-use Rattle.tb_value.specs.Pairs.{row_numbers}
+use Rattle.tb_value.specs.Promise.Pairs.{row_numbers}
 use Rattle.tb_rows.specs.InGroups.{firsts_in, groups_in, listed_test}
-use Rattle.tb_rows.specs.InOrder.{in_order}
-use Rattle.tb_rows.specs.Rows.{first_rows}
+use Rattle.tb_rows.specs.Promise.InOrder.{in_order}
+use Rattle.tb_rows.specs.Promise.Rows.{first_rows}
 
 -- it is sorted, what ties stands in it as before, and no other list is so
 abbrev pub OrderedOnce : Type 0 → Type 0

@@ -2,9 +2,8 @@ pub mod Coded
 pub mod Fields
 pub mod Grouped
 pub mod InGroups
-pub mod InOrder
 pub mod Laws
 pub mod Names
 pub mod Order
 pub mod Proved
-pub mod Rows
+pub mod Promise

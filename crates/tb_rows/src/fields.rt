@@ -2,10 +2,10 @@
 ghost use Rattle.std.specs.Prelude.{◌≡◌, fold};
 ghost use Rattle.std.specs.Cmp.Lexicographic.{slice_cmp};
 ghost use Rattle.tb_value.specs.See.{lent_value};
-ghost use Rattle.tb_chunk.specs.Col.{values};
+ghost use Rattle.tb_chunk.specs.Promise.Col.{values};
 ghost use Rattle.tb_rows.specs.Fields.{fed_fields, fields_at, row_code, same_at};
 ghost use Rattle.tb_rows.specs.Order.{value_cmp};
-ghost use Rattle.tb_rows.specs.Rows.{row_value};
+ghost use Rattle.tb_rows.specs.Promise.Rows.{row_value};
 
 use crate::order::order_of_values;
 use std::cmp::Ordering;

@@ -1,10 +1,10 @@
 //! Rows in groups.
 ghost use Rattle.std.specs.Prelude.{◌≡◌, ◌<◌, ◌≤◌, ◌∷◌, [], ◌++◌, false, if◌then◌else◌, IfOk, OnOk, cond, length, map, slice_index_or};
-ghost use Rattle.tb_chunk.specs.Col.{values};
+ghost use Rattle.tb_chunk.specs.Promise.Col.{values};
 ghost use Rattle.tb_rows.specs.Grouped.{AreGroups};
 ghost use Rattle.tb_rows.specs.InGroups.{listed_test, named_rows};
 ghost use Rattle.tb_rows.specs.Names.{name_of, AreNamed};
-ghost use Rattle.tb_rows.specs.Rows.{same_rows};
+ghost use Rattle.tb_rows.specs.Promise.Rows.{same_rows};
 
 use crate::coded::leaders;
 use crate::groups::Groups;

@@ -1,6 +1,6 @@
 //! How values compare: by their kinds, and then by what they hold.
 ghost use Rattle.std.specs.Prelude.{◌≡◌};
-ghost use Rattle.tb_value.specs.Datum.{items_of};
+ghost use Rattle.tb_value.specs.Promise.Datum.{items_of};
 ghost use Rattle.tb_value.specs.See.{lent_value};
 ghost use Rattle.tb_rows.specs.Order.{items_cmp, kind_number, value_cmp};
 

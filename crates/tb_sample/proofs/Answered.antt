@@ -6,27 +6,29 @@ use Rattle.std.specs.Option.{option_map}
 use Rattle.std.proofs.lemmas.List.Elements.{All-nil, All-cons}
 use Rattle.std.proofs.lemmas.List.FromFn.{length-map-range_with_len}
 use Rattle.std.proofs.lemmas.Result.{IfOk-weaker}
-use Rattle.tb_value.specs.Datum.{int}
-use Rattle.tb_value.specs.Kind.{Kind, int64}
-use Rattle.tb_value.specs.Names.{Name, same_name}
+use Rattle.tb_value.specs.Promise.Datum.{int}
+use Rattle.tb_value.specs.Promise.Kind.{Kind, int64}
+use Rattle.tb_value.specs.Promise.Names.{Name, same_name}
 use Rattle.tb_value.specs.declared.limits.TheConstants.{MAX_ROWS}
-use Rattle.tb_value.specs.Pairs.{row_numbers}
+use Rattle.tb_value.specs.Promise.Pairs.{row_numbers}
 use Rattle.tb_value.specs.Refusals.{Settles}
 use Rattle.tb_value.specs.declared.error.OutOfMemory.{OutOfMemory}
 use Rattle.tb_value.specs.declared.error.PolarsError.{PolarsError}
-use Rattle.tb_agg.specs.Aggregates.{total}
-use Rattle.tb_chunk.specs.Col.{Col, values}
+use Rattle.tb_agg.specs.Promise.Aggregates.{total}
+use Rattle.tb_chunk.specs.Promise.Col.{Col, values}
 use Rattle.tb_frame.specs.declared.args.JoinType.TheVariants.{Inner}
-use Rattle.tb_frame.specs.Join.{IsAnswer, Request, by_names, lent_request, column_named}
-use Rattle.tb_frame.specs.Naming.{Field}
-use Rattle.tb_frame.specs.Refusal.{join_refusal}
-use Rattle.tb_frame.specs.Table.{TableColumn, Table, IsTable, IsTyped, height, plain_column, schema_of, table_of}
+use Rattle.tb_frame.specs.Promise.Join.{IsAnswer, Request, by_names, column_named}
+use Rattle.tb_frame.specs.Join.{lent_request}
+use Rattle.tb_frame.specs.Promise.Naming.{Field}
+use Rattle.tb_frame.specs.Promise.Refusal.{join_refusal}
+use Rattle.tb_frame.specs.Promise.Table.{TableColumn, Table, IsTable, IsTyped, height, plain_column, schema_of, table_of}
 use Rattle.tb_frame.proofs.Causes.{distinct_names}
 use Rattle.tb_frame.proofs.Selected.{found, named-plain}
 use Rattle.tb_frame.proofs.Validity.{some_answer}
-use Rattle.tb_join.specs.Asked.{plain_args}
+use Rattle.tb_join.specs.Promise.Asked.{plain_args}
 use Rattle.tb_sample.specs.declared.summary.Summary.{Summary}
-use Rattle.tb_sample.specs.Sample.{HasNumbers, IsSummary, left_table, numbers, request, right_table, sum_of, summary, values_in}
+use Rattle.tb_sample.specs.Promise.Sample.{IsSummary, left_table, numbers, request, right_table, sum_of, summary, values_in}
+use Rattle.tb_sample.specs.Sample.{HasNumbers}
 use Rattle.tb_sample.proofs.Numbers.{numbers_typed}
 use Rattle.tb_sample.proofs.Pairs.{valid}
 

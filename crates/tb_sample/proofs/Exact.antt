@@ -7,23 +7,23 @@ use Rattle.std.proofs.lemmas.List.Elements.{All-map}
 use Rattle.std.proofs.lemmas.List.FromFn.{get_or-map-range_with_len}
 use Rattle.std.proofs.lemmas.List.Sorted.{length_permutation, sum_by-IsPermutation}
 use Rattle.std.proofs.lemmas.List.Sums.{sum_by-cons}
-use Rattle.tb_value.specs.Datum.{Datum, int, null}
-use Rattle.tb_value.specs.Names.{Name}
-use Rattle.tb_value.specs.Pairs.{row_numbers, both}
+use Rattle.tb_value.specs.Promise.Datum.{Datum, int, null}
+use Rattle.tb_value.specs.Promise.Names.{Name}
+use Rattle.tb_value.specs.Promise.Pairs.{row_numbers, both}
 use Rattle.tb_value.specs.declared.index.JoinPair.{JoinPair}
 use Rattle.tb_value.specs.declared.limits.TheConstants.{MAX_ROWS}
 use Rattle.tb_value.proofs.Loops.{map-map}
-use Rattle.tb_agg.specs.Aggregates.{number, total}
+use Rattle.tb_agg.specs.Promise.Aggregates.{number, total}
 use Rattle.tb_frame.specs.Answer.{fill}
-use Rattle.tb_frame.specs.Join.{IsAnswer, out, value_at, listing}
-use Rattle.tb_frame.specs.Table.{TableColumn, Table, height}
+use Rattle.tb_frame.specs.Promise.Join.{IsAnswer, out, value_at, listing}
+use Rattle.tb_frame.specs.Promise.Table.{TableColumn, Table, height}
 use Rattle.tb_frame.proofs.AnswerLemmas.{rows-fill, table-fill}
 use Rattle.tb_frame.proofs.Outs.{names_distinct, outs_typed, schema-out}
 use Rattle.tb_frame.proofs.Tables.{same_table}
 use Rattle.tb_frame.proofs.Taking.{at_place}
 use Rattle.tb_frame.proofs.Validity.{names_apart, some_out}
 use Rattle.tb_sample.specs.declared.summary.Summary.{Summary}
-use Rattle.tb_sample.specs.Sample.{IsSummary, numbers, request, sum_of}
+use Rattle.tb_sample.specs.Promise.Sample.{IsSummary, numbers, request, sum_of}
 use Rattle.tb_sample.proofs.Answered.{left_is, right_is}
 use Rattle.tb_sample.proofs.Pairs.{pairs_count, same_sum, sum_of_pairs, valid}
 use Rattle.tb_sample.proofs.Totals.{total-append}

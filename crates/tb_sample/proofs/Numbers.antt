@@ -2,15 +2,15 @@
 use Rattle.std.proofs.Common.{◌≡◌, ◌∙◌, ℕ, ◌<◌, ℤ, pos, List, [], length, map, get_or, ap, sym, subst, arith, rules}
 use Rattle.std.specs.List.{All}
 use Rattle.std.proofs.lemmas.List.FromFn.{length-map-range_with_len, get_or-map-range_with_len}
-use Rattle.tb_value.specs.Datum.{Datum, int}
-use Rattle.tb_value.specs.Kind.{int64}
-use Rattle.tb_value.specs.Names.{Name}
-use Rattle.tb_value.specs.Pairs.{row_numbers}
-use Rattle.tb_value.specs.Typed.{HasType}
+use Rattle.tb_value.specs.Promise.Datum.{Datum, int}
+use Rattle.tb_value.specs.Promise.Kind.{int64}
+use Rattle.tb_value.specs.Promise.Names.{Name}
+use Rattle.tb_value.specs.Promise.Pairs.{row_numbers}
+use Rattle.tb_value.specs.Promise.Typed.{HasType}
 use Rattle.tb_value.proofs.Loops.{map-map}
-use Rattle.tb_chunk.specs.Col.{Col}
-use Rattle.tb_frame.specs.Table.{IsTyped, plain_column}
-use Rattle.tb_sample.specs.Sample.{numbers}
+use Rattle.tb_chunk.specs.Promise.Col.{Col}
+use Rattle.tb_frame.specs.Promise.Table.{IsTyped, plain_column}
+use Rattle.tb_sample.specs.Promise.Sample.{numbers}
 
 number_typed : (k : ℕ) → k < 9223372036854775808 → HasType int64 (int (pos k))
 number_typed k h = search rules

@@ -6,23 +6,24 @@ use Rattle.std.proofs.lemmas.Bool.{eqb-true, le-ltb}
 use Rattle.std.proofs.lemmas.List.FromFn.{length-range_with_len, length-map-range_with_len, get_or-map-range_with_len}
 use Rattle.std.proofs.lemmas.List.Sorted.{sum_by-IsPermutation}
 use Rattle.std.proofs.lemmas.List.Sums.{sum_by-cons}
-use Rattle.tb_value.specs.Datum.{int, null}
-use Rattle.tb_value.specs.Pairs.{row_numbers, both, matched_pairs, turn}
+use Rattle.tb_value.specs.Promise.Datum.{int, null}
+use Rattle.tb_value.specs.Promise.Pairs.{row_numbers, both, matched_pairs}
+use Rattle.tb_value.specs.Pairs.{turn}
 use Rattle.tb_value.specs.Proved.ValueTests.{same-Decides}
-use Rattle.tb_value.specs.Same.{same, agrees}
+use Rattle.tb_value.specs.Promise.Same.{same, agrees}
 use Rattle.tb_value.specs.declared.index.JoinPair.{JoinPair}
 use Rattle.tb_value.specs.declared.limits.TheConstants.{MAX_ROWS}
 use Rattle.tb_value.specs.declared.error.ComputeCause.TheVariants.{TooManyRows}
 use Rattle.tb_value.specs.declared.error.PolarsError.TheVariants.{ComputeError}
-use Rattle.tb_value.specs.Refusals.{when}
+use Rattle.tb_value.specs.Promise.Refusals.{when}
 use Rattle.tb_value.proofs.Ascending.{matched-same}
 use Rattle.tb_value.proofs.Counts.{sum_by-filter, sum_by-flat_map, sum_by-map, sum_by_ones, sum_one}
 use Rattle.tb_value.proofs.Loops.{turned_matches}
-use Rattle.tb_frame.specs.Join.{listing, matches}
-use Rattle.tb_frame.specs.Refusal.{join_valid, too_many_rows}
-use Rattle.tb_frame.specs.Table.{height}
+use Rattle.tb_frame.specs.Promise.Join.{listing, matches}
+use Rattle.tb_frame.specs.Promise.Refusal.{join_valid, too_many_rows}
+use Rattle.tb_frame.specs.Promise.Table.{height}
 use Rattle.tb_frame.proofs.Causes.{first_cause-one}
-use Rattle.tb_sample.specs.Sample.{left_table, right_table, request}
+use Rattle.tb_sample.specs.Promise.Sample.{left_table, right_table, request}
 
 -- SUMS OVER PAIRS
 

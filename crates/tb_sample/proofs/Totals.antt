@@ -5,10 +5,10 @@ use Rattle.std.proofs.lemmas.Int.{ints}
 use Rattle.std.proofs.lemmas.List.{append-nil, length-append, length-map, map-append, take-append-drop, take_more}
 use Rattle.std.proofs.lemmas.List.Concat.{flat_map-append}
 use Rattle.std.proofs.lemmas.List.Sums.{fold-append}
-use Rattle.tb_value.specs.Datum.{Datum, int}
+use Rattle.tb_value.specs.Promise.Datum.{Datum, int}
 use Rattle.tb_chunk.specs.Chunk.{or_null}
-use Rattle.tb_chunk.specs.Col.{concatenation}
-use Rattle.tb_agg.specs.Aggregates.{number, total}
+use Rattle.tb_chunk.specs.Promise.Col.{concatenation}
+use Rattle.tb_agg.specs.Promise.Aggregates.{number, total}
 
 from : (a : ℤ) (zs : List ℤ) → fold ◌+ℤ◌ a zs ≡ a +ℤ fold ◌+ℤ◌ (pos 0) zs
 from a [] = omega (arith, ints)

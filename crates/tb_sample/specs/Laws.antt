@@ -1,9 +1,9 @@
 -- What holds of the sample, whatever the number of rows.
 use Rattle.std.specs.Prelude.{◌≡◌, ℕ, ◌*◌, ◌%◌, ◌≤◌, pos, sum_by}
-use Rattle.tb_value.specs.Pairs.{row_numbers}
+use Rattle.tb_value.specs.Promise.Pairs.{row_numbers}
 use Rattle.tb_value.specs.declared.limits.TheConstants.{MAX_ROWS}
-use Rattle.tb_frame.specs.Refusal.{join_valid}
-use Rattle.tb_sample.specs.Sample.{IsSummary, request}
+use Rattle.tb_frame.specs.Promise.Refusal.{join_valid}
+use Rattle.tb_sample.specs.Promise.Sample.{IsSummary, request}
 use Rattle.tb_sample.specs.declared.summary.Summary.{Summary}
 
 -- no cause refuses the join

@@ -1,3 +1,4 @@
 pub mod Sample
 pub mod Bounds
 pub mod Laws
+pub mod Promise

@@ -1,8 +1,8 @@
 //! The join of the sample.
 ghost use Rattle.std.specs.Prelude.{◌≤◌, ◌<◌, IfOk};
-ghost use Rattle.tb_frame.specs.Join.{IsAnswer};
-ghost use Rattle.tb_frame.specs.Table.{table_of};
-ghost use Rattle.tb_sample.specs.Sample.{IsSummary, request};
+ghost use Rattle.tb_frame.specs.Promise.Join.{IsAnswer};
+ghost use Rattle.tb_frame.specs.Promise.Table.{table_of};
+ghost use Rattle.tb_sample.specs.Promise.Sample.{IsSummary, request};
 
 use crate::summary::{Summary, summary_of};
 use crate::tables::{left_table, right_table};

@@ -2,15 +2,16 @@
 ghost use Rattle.std.specs.Prelude.{◌≡◌, ◌<◌, ◌≤◌, IfOk, None, codes, get_or, length, map, pos, string_bytes, unwrap_or};
 ghost use Rattle.std.specs.List.{find};
 ghost use Rattle.std.specs.Option.{option_copied};
-ghost use Rattle.tb_value.specs.Datum.{int};
-ghost use Rattle.tb_value.specs.Kind.{int64};
-ghost use Rattle.tb_value.specs.Names.{same_name};
+ghost use Rattle.tb_value.specs.Promise.Datum.{int};
+ghost use Rattle.tb_value.specs.Promise.Kind.{int64};
+ghost use Rattle.tb_value.specs.Promise.Names.{same_name};
 ghost use Rattle.tb_chunk.specs.Chunk.{or_null};
-ghost use Rattle.tb_chunk.specs.Col.{Col, concatenation, values};
-ghost use Rattle.tb_agg.specs.Aggregates.{total};
-ghost use Rattle.tb_frame.specs.Table.{table_of};
+ghost use Rattle.tb_chunk.specs.Promise.Col.{Col, concatenation, values};
+ghost use Rattle.tb_agg.specs.Promise.Aggregates.{total};
+ghost use Rattle.tb_frame.specs.Promise.Table.{table_of};
 ghost use Rattle.tb_sample.specs.Bounds.{IsSumOf};
-ghost use Rattle.tb_sample.specs.Sample.{HasNumbers, sum_of, summary, text_of_summary};
+ghost use Rattle.tb_sample.specs.Promise.Sample.{sum_of, summary, text_of_summary};
+ghost use Rattle.tb_sample.specs.Sample.{HasNumbers};
 
 use std::alloc::Global;
 use tb_frame::DataFrame;
@@ -103,7 +104,7 @@ pub(crate) fn summary_of(table: &DataFrame) -> Summary
 }
 
 /// The text `{"height":H,"key_sum":K,"w_sum":W}`, with the newline that ends it.
-#[tactic(auto, unfolding(crate::specs::Sample::text_of_summary))]
+#[tactic(auto, unfolding(crate::specs::Promise::Sample::text_of_summary))]
 pub fn text_of_summary(alloc: Global, summary: &Summary) -> Result<String, OutOfMemory>
     ensures { IfOk result (λ s. string_bytes s ≡ text_of_summary summary.now) }
 {

@@ -1,14 +1,14 @@
 //! The tables of the sample.
 ghost use Rattle.std.specs.Prelude.{◌≡◌, ◌<◌, ◌≤◌, ◌*◌, ◌%◌, ◌∷◌, [], IfOk, None, length, map, pos};
 ghost use Rattle.std.specs.List.{All};
-ghost use Rattle.tb_value.specs.Datum.{int};
-ghost use Rattle.tb_value.specs.Kind.{int64};
-ghost use Rattle.tb_value.specs.Pairs.{row_numbers};
+ghost use Rattle.tb_value.specs.Promise.Datum.{int};
+ghost use Rattle.tb_value.specs.Promise.Kind.{int64};
+ghost use Rattle.tb_value.specs.Promise.Pairs.{row_numbers};
 ghost use Rattle.tb_value.specs.SeeKind.{kind_of};
-ghost use Rattle.tb_value.specs.Typed.{HasType};
+ghost use Rattle.tb_value.specs.Promise.Typed.{HasType};
 ghost use Rattle.tb_frame.specs.Frame.{frame_refusal};
-ghost use Rattle.tb_frame.specs.Table.{plain_column, table_of};
-ghost use Rattle.tb_sample.specs.Sample.{left_table, right_table};
+ghost use Rattle.tb_frame.specs.Promise.Table.{plain_column, table_of};
+ghost use Rattle.tb_sample.specs.Promise.Sample.{left_table, right_table};
 
 use std::alloc::Global;
 use tb_frame::DataFrame;

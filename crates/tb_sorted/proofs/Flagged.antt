@@ -1,21 +1,25 @@
 -- Columns that are flagged as ascending, and their one chunk.
 use Rattle.std.proofs.Common.{◌≡◌, ℕ, zero, suc, ◌<◌, ◌==◌, Bool, true, false, cond, ◌&&◌, ◌||◌, List, [], ◌∷◌, length, get_or, refl, sym, ap, ◌∙◌, subst, arith, append-nil, eqb-true}
 use Rattle.std.specs.Prelude.{IsSorted as IsInOrder, if◌then◌else◌}
-use Rattle.tb_value.specs.Datum.{Datum, null, is_null, is_present}
-use Rattle.tb_value.specs.Same.{agrees, same}
-use Rattle.tb_value.specs.Typed.{is_whole_physical}
+use Rattle.tb_value.specs.Promise.Datum.{Datum, null, is_null, is_present}
+use Rattle.tb_value.specs.Promise.Same.{agrees, same}
+use Rattle.tb_value.specs.Promise.Typed.{is_whole_physical}
 use Rattle.tb_value.specs.declared.sorted.IsSorted.{IsSorted}
 use Rattle.tb_value.specs.declared.sorted.IsSorted.TheVariants.{Ascending, Descending, Not}
-use Rattle.tb_chunk.specs.Col.{Col, IsColumn, concatenation, values}
-use Rattle.tb_chunk.specs.Flag.{FlagHolds, datum_cmp, nulls, present_values}
+use Rattle.tb_chunk.specs.Promise.Col.{Col, concatenation, values}
+use Rattle.tb_chunk.specs.Col.{IsColumn}
+use Rattle.tb_cell.specs.Promise.Flag.{datum_cmp, nulls}
+use Rattle.tb_chunk.specs.Flag.{FlagHolds, present_values}
 use Rattle.tb_frame.specs.declared.args.Direction.TheVariants.{ByLeft}
 use Rattle.tb_frame.specs.declared.args.JoinType.{JoinType}
 use Rattle.tb_frame.specs.declared.args.JoinType.TheVariants.{Left}
 use Rattle.tb_frame.proofs.Listings.{listing-same}
-use Rattle.tb_pool.specs.ExecView.{ExecView}
-use Rattle.tb_sorted.specs.Columns.{AreMergeKeys, MayMerge, value_listing}
+use Rattle.tb_pool.specs.Promise.ExecView.{ExecView}
+use Rattle.tb_sorted.specs.Promise.Columns.{value_listing}
+use Rattle.tb_sorted.specs.Columns.{AreMergeKeys, MayMerge}
 use Rattle.tb_sorted.specs.Keys.{kind_of_merge}
-use Rattle.tb_sorted.specs.Path.{have_order, is_flagged, is_inner, is_merge_key, is_worth, order_after, sorted_first}
+use Rattle.tb_sorted.specs.Promise.Path.{have_order, is_flagged, is_inner, is_merge_key, is_worth}
+use Rattle.tb_sorted.specs.Path.{order_after, sorted_first}
 use Rattle.tb_sorted.specs.declared.path.SortedFirst.{SortedFirst}
 use Rattle.tb_sorted.specs.declared.path.SortedFirst.TheVariants as the
 

@@ -7,22 +7,24 @@ use Rattle.std.specs.Ordering.{is_lt, int_cmp, int_eq}
 use Rattle.std.specs.declared.cmp.Ordering.{Ordering}
 use Rattle.std.specs.declared.vec.Vec.{Vec}
 use Rattle.std.proofs.lemmas.List.{length-map, get_or-map}
-use Rattle.tb_value.specs.Datum.{Datum, null, int, is_null}
+use Rattle.tb_value.specs.Promise.Datum.{Datum, null, int, is_null}
 use Rattle.tb_value.specs.Refusals.{Settles}
-use Rattle.tb_value.specs.Same.{agrees}
+use Rattle.tb_value.specs.Promise.Same.{agrees}
 use Rattle.tb_value.specs.declared.error.PolarsError.{PolarsError}
 use Rattle.tb_value.specs.declared.index.JoinPair.{JoinPair}
 use Rattle.tb_chunk.specs.Chunk.{or_null}
-use Rattle.tb_chunk.specs.Col.{concatenation}
-use Rattle.tb_chunk.specs.Flag.{datum_cmp, nulls}
+use Rattle.tb_chunk.specs.Promise.Col.{concatenation}
+use Rattle.tb_cell.specs.Promise.Flag.{datum_cmp, nulls}
 use Rattle.tb_frame.specs.declared.args.Direction.{Direction}
 use Rattle.tb_frame.specs.declared.args.JoinType.{JoinType}
-use Rattle.tb_frame.specs.Join.{listing_of}
+use Rattle.tb_frame.specs.Promise.Join.{listing_of}
 use Rattle.tb_frame.proofs.Listings.{listing-same}
 use Rattle.tb_merge.specs.Keys.{keys_match}
-use Rattle.tb_merge.specs.MergedView.{MergedView}
-use Rattle.tb_sorted.specs.Columns.{AreMergeKeys, value_listing, value_sizes}
-use Rattle.tb_sorted.specs.Keys.{MergeSizes, kind_of_merge, number_listing, number_sizes, too_long}
+use Rattle.tb_merge.specs.Promise.MergedView.{MergedView}
+use Rattle.tb_sorted.specs.Promise.Columns.{value_listing, value_sizes}
+use Rattle.tb_sorted.specs.Columns.{AreMergeKeys}
+use Rattle.tb_sorted.specs.Promise.Keys.{MergeSizes}
+use Rattle.tb_sorted.specs.Keys.{kind_of_merge, number_listing, number_sizes, too_long}
 use Rattle.tb_sorted.specs.Listed.{AreKeysMerged, AreValuesMerged, IsMergeWithin}
 
 -- what is in order by its images is in order

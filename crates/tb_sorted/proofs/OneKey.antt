@@ -4,29 +4,29 @@ use Rattle.std.specs.Prelude.{min}
 use Rattle.std.specs.List.{list_all}
 use Rattle.std.specs.Borrow.{Bor}
 use Rattle.std.proofs.lemmas.List.Elements.{All-head}
-use Rattle.tb_value.specs.Datum.{null}
-use Rattle.tb_value.specs.Pairs.{row_numbers}
-use Rattle.tb_value.specs.Refusals.{first_cause, when}
-use Rattle.tb_value.specs.Same.{agrees}
+use Rattle.tb_value.specs.Promise.Datum.{null}
+use Rattle.tb_value.specs.Promise.Pairs.{row_numbers}
+use Rattle.tb_value.specs.Promise.Refusals.{first_cause, when}
+use Rattle.tb_value.specs.Promise.Same.{agrees}
 use Rattle.tb_value.specs.declared.error.PolarsError.{PolarsError}
 use Rattle.tb_value.specs.declared.index.JoinPair.{JoinPair}
-use Rattle.tb_chunk.specs.Col.{Col, values}
+use Rattle.tb_chunk.specs.Promise.Col.{Col, values}
 use Rattle.tb_chunk.specs.Lent.{lent_columns}
 use Rattle.tb_frame.specs.declared.args.JoinType.{JoinType}
 use Rattle.tb_frame.specs.declared.args.JoinType.TheVariants.{Inner, Left, Right, Full, Semi, Anti}
 use Rattle.tb_frame.specs.declared.args.JoinValidation.{JoinValidation}
 use Rattle.tb_frame.specs.declared.args.JoinValidation.TheVariants.{ManyToMany, ManyToOne, OneToMany, OneToOne}
-use Rattle.tb_frame.specs.Join.{field, flag_at, listing, listing_of}
-use Rattle.tb_frame.specs.Refusal.{asks_left, asks_right, is_validated, row_causes}
-use Rattle.tb_frame.specs.Table.{height, table_of}
+use Rattle.tb_frame.specs.Promise.Join.{field, flag_at, listing, listing_of}
+use Rattle.tb_frame.specs.Promise.Refusal.{asks_left, asks_right, is_validated, row_causes}
+use Rattle.tb_frame.specs.Promise.Table.{height, table_of}
 use Rattle.tb_frame.proofs.Causes.{first_cause-one}
-use Rattle.tb_pool.specs.ExecView.{ExecView}
+use Rattle.tb_pool.specs.Promise.ExecView.{ExecView}
 use Rattle.tb_keys.specs.Asked.{asked_request}
 use Rattle.tb_keys.specs.Rows.{HasRows}
 use Rattle.tb_keys.specs.declared.request.LentRequest.{LentRequest}
-use Rattle.tb_sorted.specs.Columns.{value_listing}
+use Rattle.tb_sorted.specs.Promise.Columns.{value_listing}
 use Rattle.tb_sorted.specs.Keys.{too_long}
-use Rattle.tb_sorted.specs.Path.{are_ordered, asks_nothing, is_merge_key, takes_key_path, takes_path_by}
+use Rattle.tb_sorted.specs.Promise.Path.{are_ordered, asks_nothing, is_merge_key, takes_key_path, takes_path_by}
 use Rattle.tb_sorted.proofs.Flagged.{first_of, second_of}
 
 pub one_column : (rs : List (Bor Col)) (d : Bor Col) → length rs ≡ 1 → lent_columns rs ≡ (get_or rs 0 d).now ∷ []

@@ -17,7 +17,8 @@ use denote.Ref.{Bor}
 use denote.Param.Members.{Mut}
 use Rattle.tb_value.specs.declared.index.JoinPair.{JoinPair}
 use Rattle.tb_value.specs.declared.limits.TheConstants.{MAX_ROWS}
-use Rattle.tb_value.specs.Pairs.{both, left_first, matched_pairs, row_numbers, turn}
+use Rattle.tb_value.specs.Promise.Pairs.{both, left_first, matched_pairs, row_numbers}
+use Rattle.tb_value.specs.Pairs.{turn}
 use Rattle.tb_value.proofs.Ascending.{matched-sorted}
 use Rattle.tb_value.proofs.Loops.{flat_map_agree, map-flat_map, map-map, turned_matches}
 use Rattle.tb_value.proofs.Orders.{left_first_same, left_first_total}

@@ -3,10 +3,11 @@ use Rattle.std.proofs.Common.{◌≡◌, ℕ, zero, suc, ◌+◌, ◌<◌, Bool,
 use Rattle.std.specs.Prelude.{IsPermutation, nat_lt}
 use Rattle.std.proofs.lemmas.List.{length-map}
 use Rattle.std.proofs.lemmas.List.Sorted.{IsPermutation-map, IsPermutation-sym, IsPermutation-trans, length_permutation}
-use Rattle.tb_value.specs.Datum.{Datum, null}
-use Rattle.tb_value.specs.Pairs.{matched_pairs, turn}
-use Rattle.tb_value.specs.Refusals.{when}
-use Rattle.tb_value.specs.Same.{agrees}
+use Rattle.tb_value.specs.Promise.Datum.{Datum, null}
+use Rattle.tb_value.specs.Promise.Pairs.{matched_pairs}
+use Rattle.tb_value.specs.Pairs.{turn}
+use Rattle.tb_value.specs.Promise.Refusals.{when}
+use Rattle.tb_value.specs.Promise.Same.{agrees}
 use Rattle.tb_value.specs.declared.error.ComputeCause.TheVariants.{TooManyRows}
 use Rattle.tb_value.specs.declared.error.PolarsError.TheVariants.{ComputeError}
 use Rattle.tb_value.specs.declared.index.JoinPair.{JoinPair}
@@ -14,7 +15,7 @@ use Rattle.tb_value.specs.declared.limits.TheConstants.{MAX_ROWS}
 use Rattle.tb_frame.specs.declared.args.JoinType.TheVariants.{Inner, Left, Right}
 use Rattle.tb_value.proofs.Loops.{turned_matches}
 use Rattle.tb_frame.proofs.Turns.{agrees_symm, turned_listing}
-use Rattle.tb_sorted.specs.Columns.{match_count, sizes_by, value_listing, value_sizes}
+use Rattle.tb_sorted.specs.Promise.Columns.{match_count, sizes_by, value_listing, value_sizes}
 use Rattle.tb_sorted.specs.Keys.{too_long}
 
 -- lists of one length are both too long, or neither

@@ -1,17 +1,18 @@
 -- Keys as the whole numbers that they are.
-use Rattle.std.specs.Prelude.{ℕ, ℤ, Bool, false, if◌then◌else◌, List, length, nat_lt, Option}
+use Rattle.std.specs.Prelude.{ℤ, Bool, false, if◌then◌else◌, List, length, nat_lt, Option}
 use Rattle.tb_value.specs.declared.error.ComputeCause.TheVariants.{TooManyRows}
 use Rattle.tb_value.specs.declared.error.PolarsError.{PolarsError}
 use Rattle.tb_value.specs.declared.error.PolarsError.TheVariants as error
 use Rattle.tb_value.specs.declared.index.JoinPair.{JoinPair}
 use Rattle.tb_value.specs.declared.limits.TheConstants.{MAX_ROWS}
-use Rattle.tb_value.specs.Refusals.{when}
+use Rattle.tb_value.specs.Promise.Refusals.{when}
 use Rattle.tb_frame.specs.declared.args.JoinType.{JoinType}
 use Rattle.tb_frame.specs.declared.args.JoinType.TheVariants.{Inner, Left}
-use Rattle.tb_frame.specs.Join.{listing_of}
+use Rattle.tb_frame.specs.Promise.Join.{listing_of}
 use Rattle.tb_merge.specs.Keys.{keys_match}
 use Rattle.tb_merge.specs.declared.fault.MergeFault.{MergeFault}
 use Rattle.tb_merge.specs.declared.fault.MergeFault.TheVariants as fault
+use Rattle.tb_sorted.specs.Promise.Keys.{MergeSizes}
 
 -- the kind of a join that keeps the left rows without a match, or that doesn't
 abbrev pub kind_of_merge : Bool → JoinType
@@ -20,12 +21,6 @@ kind_of_merge keep = (if keep then Left else Inner)
 -- the listing of keys
 abbrev pub number_listing : Bool → List ℤ → List ℤ → List JoinPair
 number_listing keep left right = listing_of (kind_of_merge keep) (length left) (length right) (keys_match left right)
-
--- how many keys of each side are merged, and how many pairs of rows match
-pub record MergeSizes : Type 0 where
-  pub left_len : ℕ
-  pub right_len : ℕ
-  pub pairs : ℕ
 
 -- the sizes of a merge of keys
 abbrev pub number_sizes : List ℤ → List ℤ → MergeSizes

@@ -4,3 +4,4 @@ pub mod SortedRows
 pub mod Columns
 pub mod Path
 pub mod Listed
+pub mod Promise

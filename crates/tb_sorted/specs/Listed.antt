@@ -1,31 +1,30 @@
 -- Pairs of a listing, in an order that is said.
 use Rattle.std.specs.Prelude.{◌≡◌, ◌+◌, ◌*◌, ◌≤◌, ℤ, Bool, false, if◌then◌else◌, List, Option, None, Result, IfOk, IsPermutation}
 use Rattle.std.specs.declared.vec.Vec.{Vec}
-use Rattle.tb_value.specs.Datum.{Datum}
-use Rattle.tb_value.specs.Refusals.{Settles, first_cause}
+use Rattle.tb_value.specs.Promise.Datum.{Datum}
+use Rattle.tb_value.specs.Promise.Refusals.{first_cause}
+use Rattle.tb_value.specs.Refusals.{Settles}
 use Rattle.tb_value.specs.declared.error.PolarsError.{PolarsError}
 use Rattle.tb_value.specs.declared.index.JoinPair.{JoinPair}
 use Rattle.tb_chunk.specs.Lent.{lent_columns}
 use Rattle.tb_frame.specs.declared.args.Direction.{Direction}
-use Rattle.tb_frame.specs.Join.{Ascends}
-use Rattle.tb_frame.specs.Refusal.{row_causes}
-use Rattle.tb_pool.specs.ExecView.{ExecView}
+use Rattle.tb_frame.specs.Promise.Join.{Ascends}
+use Rattle.tb_frame.specs.Promise.Refusal.{row_causes}
+use Rattle.tb_pool.specs.Promise.ExecView.{ExecView}
 use Rattle.tb_keys.specs.Asked.{asked_request}
 use Rattle.tb_keys.specs.declared.request.LentRequest.{LentRequest}
-use Rattle.tb_merge.specs.MergedView.{MergedView}
-use Rattle.tb_sorted.specs.Columns.{first_values, sizes_by, value_listing, value_sizes}
-use Rattle.tb_sorted.specs.Keys.{MergeSizes, kind_of_merge, number_listing, number_sizes, too_long}
+use Rattle.tb_merge.specs.Promise.MergedView.{MergedView}
+use Rattle.tb_sorted.specs.Promise.Columns.{first_values, sizes_by, value_listing, value_sizes}
+use Rattle.tb_sorted.specs.Promise.Keys.{MergeSizes}
+use Rattle.tb_sorted.specs.Keys.{kind_of_merge, number_listing, number_sizes, too_long}
 use Rattle.tb_sorted.specs.Path.{takes_merge_path}
 use Rattle.tb_sorted.specs.declared.pairs.DirectedPairs.{DirectedPairs}
+use Rattle.tb_sorted.specs.Promise.Listed.{sizes_of}
 
 -- these are the pairs of the list, and they stand in the order that is said
 pub record IsListedIn (list : List JoinPair) (found : DirectedPairs) : Type 0 where
   pub permutation : IsPermutation list found.pairs.items
   pub ascends : Ascends found.order found.pairs.items
-
--- the merge was of this size
-abbrev pub sizes_of : MergedView → MergeSizes
-sizes_of merged = record { left_len = merged.left_len; right_len = merged.right_len; pairs = merged.pairs }
 
 -- a merge of these sizes, of l left and r right keys, that made at most 2 * l + r comparisons
 pub record IsMergeWithin (due : MergeSizes) (merged : MergedView) : Type 0 where

@@ -1,7 +1,7 @@
 -- Keys with their rows, sorted by key.
 use Rattle.std.specs.Prelude.{ℕ, ℤ, pos, ◌≡◌, Bool, List, length, map, filter, Option, Some, None, IsSorted, IsPermutation, slice_index_or}
 use Rattle.std.specs.Ordering.{int_cmp, int_eq}
-use Rattle.tb_value.specs.Pairs.{row_numbers}
+use Rattle.tb_value.specs.Promise.Pairs.{row_numbers}
 use Rattle.tb_value.specs.declared.index.JoinPair.{JoinPair}
 use Rattle.tb_merge.specs.Keys.{key_at}
 

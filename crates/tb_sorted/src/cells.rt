@@ -6,7 +6,7 @@ use tb_store::Cell;
 pub(crate) trait WholeCell: Cell + Copy + Ord + Sync {
     ghost use Rattle.std.specs.Ordering.{int_cmp};
     ghost use Rattle.std.specs.Prelude.{◌≡◌, ℤ};
-    ghost use Rattle.tb_value.specs.Datum.{int};
+    ghost use Rattle.tb_value.specs.Promise.Datum.{int};
 
     ghost number: { Self → ℤ };
 

@@ -1,7 +1,7 @@
 //! Two ascending lists of keys, merged.
 ghost use Rattle.std.specs.Prelude.{◌≡◌, ◌+◌, ◌*◌, ◌<◌, ◌≤◌, length, IfOk, IsSorted, IsPermutation};
 ghost use Rattle.std.specs.Ordering.{int_cmp};
-ghost use Rattle.tb_value.specs.Pairs.{left_first};
+ghost use Rattle.tb_value.specs.Promise.Pairs.{left_first};
 ghost use Rattle.tb_frame.specs.declared.args.Direction.TheVariants.{ByLeft};
 ghost use Rattle.tb_merge.specs.Faults.{SettlesCount};
 ghost use Rattle.tb_merge.specs.MergedView.{IsMergeOf};

@@ -1,6 +1,7 @@
 //! Whether keys are merged.
 ghost use Rattle.std.specs.Prelude.{◌≡◌, ◌≤◌};
-ghost use Rattle.tb_sorted.specs.Path.{are_ordered, have_order, is_flagged, is_inner, is_merge_key, is_worth, order_after, sorted_first, takes_key_path};
+ghost use Rattle.tb_sorted.specs.Promise.Path.{are_ordered, have_order, is_flagged, is_inner, is_merge_key, is_worth, takes_key_path};
+ghost use Rattle.tb_sorted.specs.Path.{order_after, sorted_first};
 
 use tb_frame::{Direction, JoinType, JoinValidation};
 use tb_pool::Exec;

@@ -1,16 +1,19 @@
 //! The pairs of a request whose keys are merged.
 ghost use Rattle.std.specs.Prelude.{◌≡◌, true, false, IfOk, IfSome, is_some, map};
 ghost use Rattle.tb_value.specs.Pairs.{turn};
-ghost use Rattle.tb_value.specs.Refusals.{Settles, first_cause};
-ghost use Rattle.tb_chunk.specs.Col.{Col, values};
+ghost use Rattle.tb_value.specs.Promise.Refusals.{first_cause};
+ghost use Rattle.tb_value.specs.Refusals.{Settles};
+ghost use Rattle.tb_chunk.specs.Promise.Col.{Col, values};
 ghost use Rattle.tb_chunk.specs.Lent.{lent_columns};
-ghost use Rattle.tb_frame.specs.Join.{listing};
-ghost use Rattle.tb_frame.specs.Refusal.{row_causes};
+ghost use Rattle.tb_frame.specs.Promise.Join.{listing};
+ghost use Rattle.tb_frame.specs.Promise.Refusal.{row_causes};
 ghost use Rattle.tb_keys.specs.Asked.{asked_request};
-ghost use Rattle.tb_sorted.specs.Columns.{IsInOneChunk, sizes_by, value_listing, value_sizes};
+ghost use Rattle.tb_sorted.specs.Promise.Columns.{sizes_by, value_listing, value_sizes};
+ghost use Rattle.tb_sorted.specs.Columns.{IsInOneChunk};
 ghost use Rattle.tb_sorted.specs.Keys.{kind_of_merge, too_long};
 ghost use Rattle.tb_sorted.specs.Listed.{AreValuesMerged, IsListedIn, IsMergeWithin, merge_refusal, requested_sizes};
-ghost use Rattle.tb_sorted.specs.Path.{are_ordered, have_order, is_merge_key, order_after, sorted_first, takes_merge_path};
+ghost use Rattle.tb_sorted.specs.Promise.Path.{are_ordered, have_order, is_merge_key};
+ghost use Rattle.tb_sorted.specs.Path.{order_after, sorted_first, takes_merge_path};
 
 use crate::one_chunk::{joined_key, lone_chunk};
 use crate::pairs::{DirectedPairs, MergedPairs};

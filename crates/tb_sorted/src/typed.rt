@@ -1,7 +1,7 @@
 //! Keys by the type that they are stored as.
 ghost use Rattle.std.specs.Prelude.{◌≡◌, true, false, length, map};
-ghost use Rattle.tb_value.specs.Typed.{is_whole_physical};
-ghost use Rattle.tb_chunk.specs.Col.{concatenation};
+ghost use Rattle.tb_value.specs.Promise.Typed.{is_whole_physical};
+ghost use Rattle.tb_chunk.specs.Promise.Col.{concatenation};
 ghost use Rattle.tb_chunk.specs.Seen.{chunk_lists, storage};
 ghost use Rattle.tb_sorted.specs.Columns.{AreMergeKeys, MayMerge, cell_lists};
 ghost use Rattle.tb_sorted.specs.Listed.{AreValuesMerged};

@@ -9,17 +9,19 @@ use Rattle.std.proofs.lemmas.List.Elements.{All-cons, All-head, All-nil, All-tai
 use Rattle.std.proofs.lemmas.List.Folds.{length-flat_map-take}
 use Rattle.std.proofs.lemmas.Str.{IsUtf8-from_is_utf8, is_utf8-from_IsUtf8}
 use Rattle.std.proofs.Math.ListN.{get_or-eq_default}
-use Rattle.tb_value.specs.Datum.{Datum, binary, string}
-use Rattle.tb_value.specs.Kind.{Kind}
-use Rattle.tb_value.specs.Kind as kind
-use Rattle.tb_value.specs.Typed.{HasType}
+use Rattle.tb_value.specs.Promise.Datum.{Datum, binary, string}
+use Rattle.tb_value.specs.Promise.Kind.{Kind}
+use Rattle.tb_value.specs.Promise.Kind as kind
+use Rattle.tb_value.specs.Promise.Typed.{HasType}
 use Rattle.tb_value.specs.declared.limits.TheConstants.{MAX_ROWS}
 use Rattle.tb_chunk.specs.Chunk.{or_null}
-use Rattle.tb_chunk.specs.Col.{Col, IsColumn, concatenation, values}
+use Rattle.tb_chunk.specs.Promise.Col.{Col, concatenation, values}
+use Rattle.tb_chunk.specs.Col.{IsColumn}
 use Rattle.tb_value.specs.Texts.{IsUtf8Row}
 use Rattle.tb_chunk.specs.TextValues.{text_values}
 use Rattle.tb_chunk.specs.View.{buffer_of, offset_of, row_text, text_in, texts, view_text}
-use Rattle.tb_chunk.specs.ViewArrays.{HaveFewBuffers, ViewArray, view_array_at}
+use Rattle.tb_view.specs.Promise.ViewArrays.{ViewArray}
+use Rattle.tb_chunk.specs.ViewArrays.{HaveFewBuffers, view_array_at}
 use Rattle.tb_view.specs.declared.view.View.{View}
 
 -- a text is no longer than its view says

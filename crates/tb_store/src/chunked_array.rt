@@ -1,17 +1,19 @@
 //! Columns whose stored type is known by a marker.
 ghost use Rattle.std.specs.Prelude.{◌≡◌, ◌≢◌, ◌<◌, ◌≤◌, ◌+◌, ◌↔◌, [], IfOk, IsTrue, MatchResult, length, get_or, map};
-ghost use Rattle.tb_value.specs.Datum.{null};
+ghost use Rattle.tb_value.specs.Promise.Datum.{null};
 ghost use Rattle.tb_value.specs.See.{lent_value, IsText};
 ghost use Rattle.tb_value.specs.SeeKind.{kind_of};
 ghost use Rattle.tb_value.specs.declared.error.PolarsError.TheVariants.{SchemaMismatch};
 ghost use Rattle.tb_value.specs.declared.sorted.IsSorted.TheVariants.{Ascending, Descending};
-ghost use Rattle.tb_chunk.specs.Col.{values, physical, IsColumn};
+ghost use Rattle.tb_chunk.specs.Promise.Col.{values};
+ghost use Rattle.tb_chunk.specs.Col.{physical, IsColumn};
 ghost use Rattle.tb_chunk.specs.Changed.{part_of, sliced_rows};
-ghost use Rattle.tb_chunk.specs.Flag.{nulls, FlagHolds, IsOrdered};
-ghost use Rattle.tb_chunk.specs.Fresh.{fresh_view_arrays};
+ghost use Rattle.tb_cell.specs.Promise.Flag.{nulls};
+ghost use Rattle.tb_chunk.specs.Flag.{FlagHolds, IsOrdered};
+ghost use Rattle.tb_chunk.specs.Promise.Fresh.{fresh_view_arrays};
 ghost use Rattle.tb_chunk.specs.Lent.{in_one_chunk};
 ghost use Rattle.tb_chunk.specs.Made.{lists_of, IsArranged};
-ghost use Rattle.tb_chunk.specs.Order.{order_of};
+ghost use Rattle.tb_cell.specs.Promise.Order.{order_of};
 ghost use Rattle.tb_chunk.specs.ViewArrays.{view_arrays_of, AreViewed, HaveFewBuffers};
 
 use crate::data_type::PolarsDataType;
@@ -37,7 +39,8 @@ pub struct ChunkedArray<T: PolarsDataType> {
 impl<T: PolarsDataType> Model for ChunkedArray<T> {
     ghost use Rattle.std.specs.Prelude.{◌≡◌, map};
     ghost use Rattle.tb_value.specs.SeeKind.{kind_of};
-    ghost use Rattle.tb_chunk.specs.Col.{Col, IsColumn, physical};
+    ghost use Rattle.tb_chunk.specs.Promise.Col.{Col};
+    ghost use Rattle.tb_chunk.specs.Col.{IsColumn, physical};
     ghost use Rattle.tb_chunk.specs.ColCode.{coded_col};
     ghost use Rattle.tb_chunk.specs.ViewArrays.{view_arrays_of, HaveFewBuffers};
 

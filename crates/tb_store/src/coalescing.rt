@@ -1,7 +1,7 @@
 //! Columns made of two others, of which the second stands in where the first has no value.
 ghost use Rattle.std.specs.Prelude.{◌≡◌, IfOk, length};
 ghost use Rattle.tb_chunk.specs.Changed.{coalesced_column};
-ghost use Rattle.tb_chunk.specs.Col.{values};
+ghost use Rattle.tb_chunk.specs.Promise.Col.{values};
 
 use crate::column::Column;
 use crate::series::Series;

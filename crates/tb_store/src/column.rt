@@ -1,10 +1,12 @@
 //! Columns of a table.
 ghost use Rattle.std.specs.Prelude.{◌≡◌, ◌<◌, [], IfOk, length, get_or};
-ghost use Rattle.tb_value.specs.Datum.{null};
+ghost use Rattle.tb_value.specs.Promise.Datum.{null};
 ghost use Rattle.tb_value.specs.See.{lent_value, IsText};
 ghost use Rattle.tb_value.specs.SeeKind.{kind_of};
-ghost use Rattle.tb_chunk.specs.Col.{values, IsColumn};
-ghost use Rattle.tb_chunk.specs.Flag.{nulls, FlagHolds};
+ghost use Rattle.tb_chunk.specs.Promise.Col.{values};
+ghost use Rattle.tb_chunk.specs.Col.{IsColumn};
+ghost use Rattle.tb_cell.specs.Promise.Flag.{nulls};
+ghost use Rattle.tb_chunk.specs.Flag.{FlagHolds};
 ghost use Rattle.tb_chunk.specs.Lent.{in_one_chunk};
 ghost use Rattle.tb_chunk.specs.Made.{lists_of, IsMade};
 ghost use Rattle.tb_chunk.specs.ViewArrays.{AreViewed, HaveFewBuffers};
@@ -21,7 +23,8 @@ pub struct Column {
 }
 
 impl Model for Column {
-    ghost use Rattle.tb_chunk.specs.Col.{Col, IsColumn};
+    ghost use Rattle.tb_chunk.specs.Promise.Col.{Col};
+    ghost use Rattle.tb_chunk.specs.Col.{IsColumn};
     ghost use Rattle.tb_chunk.specs.ColCode.{coded_col};
 
     ghost Value = { Col };

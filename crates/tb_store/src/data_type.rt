@@ -1,6 +1,6 @@
 //! The markers of the types by which values are stored.
 ghost use Rattle.std.specs.Prelude.{◌≡◌, ◌≢◌, ◌↔◌, IsTrue, MatchOption, map};
-ghost use Rattle.tb_value.specs.Kind as kinds;
+ghost use Rattle.tb_value.specs.Promise.Kind as kinds;
 ghost use Rattle.tb_value.specs.SeeKind.{kind_of};
 ghost use Rattle.tb_chunk.specs.Col.{physical};
 ghost use Rattle.tb_chunk.specs.Physical.{kind_for};

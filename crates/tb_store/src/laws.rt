@@ -1,7 +1,7 @@
 //! What holds of the definitions of a column, as the contract of an empty function.
 ghost use Rattle.std.specs.Prelude.{ℕ, ℤ, List, length};
-ghost use Rattle.tb_value.specs.Datum.{Datum};
-ghost use Rattle.tb_value.specs.Kind.{Kind};
+ghost use Rattle.tb_value.specs.Promise.Datum.{Datum};
+ghost use Rattle.tb_value.specs.Promise.Kind.{Kind};
 ghost use Rattle.tb_value.specs.declared.sorted.IsSorted.{IsSorted};
 ghost use Rattle.tb_chunk.specs.Flag.{FlagHolds};
 ghost use Rattle.tb_chunk.specs.Window.{window};

@@ -2,12 +2,12 @@
 #![tactic(auto)]
 
 mod chunked_array;
+mod coalescing;
 mod column;
 mod data_type;
 pub mod laws;
 mod lent;
 mod making;
-mod coalescing;
 mod ordering;
 mod series;
 mod slicing;

@@ -1,9 +1,9 @@
 //! Whether the values of a column ascend, or descend.
 ghost use Rattle.std.specs.Prelude.{◌↔◌, IsTrue};
 ghost use Rattle.tb_value.specs.declared.sorted.IsSorted.TheVariants.{Ascending, Descending};
-ghost use Rattle.tb_chunk.specs.Col.{values};
+ghost use Rattle.tb_chunk.specs.Promise.Col.{values};
 ghost use Rattle.tb_chunk.specs.Flag.{FlagHolds, IsOrdered};
-ghost use Rattle.tb_chunk.specs.Order.{order_of};
+ghost use Rattle.tb_cell.specs.Promise.Order.{order_of};
 
 use crate::column::Column;
 use crate::series::Series;

@@ -1,11 +1,13 @@
 //! Columns.
 ghost use Rattle.std.specs.Prelude.{◌≡◌, ◌<◌, ◌≤◌, [], IfOk, length, get_or, drop, ◌+◌};
-ghost use Rattle.tb_value.specs.Datum.{null};
+ghost use Rattle.tb_value.specs.Promise.Datum.{null};
 ghost use Rattle.tb_value.specs.See.{lent_value, IsText};
 ghost use Rattle.tb_value.specs.SeeKind.{kind_of};
-ghost use Rattle.tb_chunk.specs.Col.{Col, values, IsColumn, physical};
+ghost use Rattle.tb_chunk.specs.Promise.Col.{Col, values};
+ghost use Rattle.tb_chunk.specs.Col.{IsColumn, physical};
 ghost use Rattle.tb_chunk.specs.Changed.{part_of};
-ghost use Rattle.tb_chunk.specs.Flag.{nulls, FlagHolds};
+ghost use Rattle.tb_cell.specs.Promise.Flag.{nulls};
+ghost use Rattle.tb_chunk.specs.Flag.{FlagHolds};
 ghost use Rattle.tb_chunk.specs.Lent.{in_one_chunk};
 ghost use Rattle.tb_chunk.specs.ChunkViewArrays.{chunk_view_arrays};
 ghost use Rattle.tb_chunk.specs.Seen.{chunk_lists, storage};
@@ -39,7 +41,8 @@ impl Drop for Series {
 impl Model for Series {
     ghost use Rattle.std.specs.Prelude.{◌≡◌};
     ghost use Rattle.tb_value.specs.SeeKind.{kind_of};
-    ghost use Rattle.tb_chunk.specs.Col.{Col, IsColumn, physical};
+    ghost use Rattle.tb_chunk.specs.Promise.Col.{Col};
+    ghost use Rattle.tb_chunk.specs.Col.{IsColumn, physical};
     ghost use Rattle.tb_chunk.specs.ColCode.{coded_col};
     ghost use Rattle.tb_chunk.specs.ChunkViewArrays.{chunk_view_arrays};
     ghost use Rattle.tb_chunk.specs.Seen.{chunk_lists, storage};

@@ -1,9 +1,9 @@
 //! The views and the buffers of columns of texts and of bytes, as they are given and lent.
 ghost use Rattle.std.specs.Prelude.{◌≡◌, ◌⊎◌, ◌<◌, ◌≤◌, ◌^◌, ◌∷◌, [], All, IfOk, length, map, slice_index_or};
-ghost use Rattle.tb_value.specs.Datum.{binary, string};
-ghost use Rattle.tb_value.specs.Kind as kind;
+ghost use Rattle.tb_value.specs.Promise.Datum.{binary, string};
+ghost use Rattle.tb_value.specs.Promise.Kind as kind;
 ghost use Rattle.tb_value.specs.SeeKind.{kind_of};
-ghost use Rattle.tb_value.specs.Typed.{HasType, IsBytes};
+ghost use Rattle.tb_value.specs.Promise.Typed.{HasType, IsBytes};
 ghost use Rattle.tb_value.specs.declared.sorted.IsSorted.TheVariants.{Not};
 ghost use Rattle.tb_chunk.specs.Chunk.{or_null};
 ghost use Rattle.tb_chunk.specs.Physical.{kind_for};

@@ -6,17 +6,17 @@ use Rattle.std.proofs.lemmas.Fmt.{IsAscii-decimal_wide, length-decimal-le_wide}
 use Rattle.std.proofs.lemmas.Int.{ints}
 use Rattle.std.proofs.lemmas.Str.Ascii.{IsAscii-cons, IsAscii-nil}
 use Rattle.std.proofs.lemmas.Str.{IsUtf8-from_ascii}
-use Rattle.tb_value.specs.Datum as value
-use Rattle.tb_value.specs.Datum.{Datum}
-use Rattle.tb_value.specs.Kind.{Kind, null, boolean, int8, int16, int32, int64, int128, uint8, uint16, uint32, uint64, string, binary, date, time, datetime, duration, list, struct}
-use Rattle.tb_value.specs.SameKind.{same_kind}
-use Rattle.tb_value.specs.Typed.{HasType, IsListOf, IsStructOf}
+use Rattle.tb_value.specs.Promise.Datum as value
+use Rattle.tb_value.specs.Promise.Datum.{Datum}
+use Rattle.tb_value.specs.Promise.Kind.{Kind, null, boolean, int8, int16, int32, int64, int128, uint8, uint16, uint32, uint64, string, binary, date, time, datetime, duration, list, struct}
+use Rattle.tb_value.specs.Promise.SameKind.{same_kind}
+use Rattle.tb_value.specs.Promise.Typed.{HasType, IsListOf, IsStructOf}
 use Rattle.tb_value.specs.Proved.TypeTests.{same_kind-Decides}
-use Rattle.tb_label.specs.Label.{truth_text}
-use Rattle.tb_supertype.specs.Cast.{cast, cast_to, truth_number}
+use Rattle.tb_label.specs.Promise.Label.{truth_text}
+use Rattle.tb_supertype.specs.Promise.Cast.{cast, cast_to, truth_number}
 use Rattle.tb_supertype.specs.Laws.{CastTyped, CastsOn, Symmetric}
 use Rattle.tb_supertype.specs.Lines.{same_answer}
-use Rattle.tb_supertype.specs.Supertype.{class_of, common_by_class, supertype}
+use Rattle.tb_supertype.specs.Promise.Supertype.{class_of, common_by_class, supertype}
 use Rattle.tb_supertype.specs.declared.class.Class.{Class}
 use Rattle.tb_supertype.specs.declared.class.Class.TheVariants.{Nothing, Truth, Signed, Unsigned, Text, Other}
 use Rattle.tb_supertype.proofs.Wholes.{is_whole, whole_common, whole_turned, has_truths, is_bounded}

@@ -4,19 +4,20 @@ use Rattle.std.specs.Borrow.{Bor}
 use Rattle.std.specs.List.{All}
 use Rattle.std.proofs.lemmas.List.{length-map, get_or_default}
 use Rattle.std.proofs.lemmas.List.Elements.{All-weaker, All-head, All-tail, All-append}
-use Rattle.tb_value.specs.Datum.{Datum, null}
-use Rattle.tb_value.specs.Kind.{Kind}
-use Rattle.tb_value.specs.Kind as kind
-use Rattle.tb_value.specs.Typed.{HasType}
+use Rattle.tb_value.specs.Promise.Datum.{Datum, null}
+use Rattle.tb_value.specs.Promise.Kind.{Kind}
+use Rattle.tb_value.specs.Promise.Kind as kind
+use Rattle.tb_value.specs.Promise.Typed.{HasType}
 use Rattle.tb_value.specs.declared.limits.TheConstants.{MAX_ROWS}
-use Rattle.tb_chunk.specs.Col.{Col, IsColumn, concatenation, physical, values}
+use Rattle.tb_chunk.specs.Promise.Col.{Col, concatenation, values}
+use Rattle.tb_chunk.specs.Col.{IsColumn, physical}
 use Rattle.tb_chunk.specs.Fits.{Fits}
-use Rattle.tb_chunk.specs.Made.{at_least_one}
-use Rattle.tb_chunk.specs.ViewArrays.{ViewArray}
+use Rattle.tb_chunk.specs.Promise.Made.{at_least_one}
+use Rattle.tb_view.specs.Promise.ViewArrays.{ViewArray}
 use Rattle.tb_value.specs.declared.sorted.IsSorted.TheVariants.{Not}
 use Rattle.tb_chunk.proofs.Fitting.{fits_stored, null-only}
 use Rattle.tb_chunk.proofs.Lists.{All-map-at, replicate-nulls}
-use Rattle.tb_supertype.specs.Cast.{cast}
+use Rattle.tb_supertype.specs.Promise.Cast.{cast}
 use Rattle.tb_supertype.proofs.Casts.{cast-is}
 use Rattle.tb_supertype.specs.Columns.{cast_values, CastsTo}
 

@@ -5,11 +5,11 @@ use Rattle.std.specs.Prelude.{IsSomeAnd}
 use Rattle.std.specs.Int.Signed.{le_z}
 use Rattle.std.proofs.lemmas.Bool.{and_parts, false≢true}
 use Rattle.std.proofs.lemmas.Int.{ints}
-use Rattle.tb_value.specs.Datum.{int}
-use Rattle.tb_value.specs.Kind.{Kind, null, boolean, int8, int16, int32, int64, int128, uint8, uint16, uint32, uint64, string, binary, date, time, datetime, duration, list, struct}
-use Rattle.tb_value.specs.Typed.{HasType, ends}
+use Rattle.tb_value.specs.Promise.Datum.{int}
+use Rattle.tb_value.specs.Promise.Kind.{Kind, null, boolean, int8, int16, int32, int64, int128, uint8, uint16, uint32, uint64, string, binary, date, time, datetime, duration, list, struct}
+use Rattle.tb_value.specs.Promise.Typed.{HasType, ends}
 use Rattle.tb_supertype.specs.Lines.{whole_kinds, same_answer}
-use Rattle.tb_supertype.specs.Supertype.{class_of, supertype}
+use Rattle.tb_supertype.specs.Promise.Supertype.{class_of, supertype}
 use Rattle.tb_supertype.specs.declared.class.Class.{Class}
 use Rattle.tb_supertype.specs.declared.class.Class.TheVariants.{Signed, Unsigned}
 

@@ -1,13 +1,14 @@
 -- Columns whose values are cast to a type.
 use Rattle.std.specs.Prelude.{ℕ, List, map}
 use Rattle.std.specs.List.{All}
-use Rattle.tb_value.specs.Datum.{Datum}
-use Rattle.tb_value.specs.Kind.{Kind}
-use Rattle.tb_value.specs.Typed.{HasType}
+use Rattle.tb_value.specs.Promise.Datum.{Datum}
+use Rattle.tb_value.specs.Promise.Kind.{Kind}
+use Rattle.tb_value.specs.Promise.Typed.{HasType}
 use Rattle.tb_value.specs.declared.sorted.IsSorted.TheVariants.{Not}
-use Rattle.tb_chunk.specs.Col.{Col, values}
-use Rattle.tb_chunk.specs.Made.{at_least_one, IsOf}
-use Rattle.tb_supertype.specs.Cast.{cast}
+use Rattle.tb_chunk.specs.Promise.Col.{Col, values}
+use Rattle.tb_chunk.specs.Promise.Made.{at_least_one}
+use Rattle.tb_chunk.specs.Made.{IsOf}
+use Rattle.tb_supertype.specs.Promise.Cast.{cast}
 
 abbrev pub cast_values : Kind → Col → List Datum
 cast_values t c = map (cast t) (values c)

@@ -1,10 +1,10 @@
 -- The laws over common types.
 use Rattle.std.specs.Prelude.{◌≡◌, Some}
-use Rattle.tb_value.specs.Datum.{Datum}
-use Rattle.tb_value.specs.Kind.{Kind}
-use Rattle.tb_value.specs.Typed.{HasType}
-use Rattle.tb_supertype.specs.Cast.{cast}
-use Rattle.tb_supertype.specs.Supertype.{supertype}
+use Rattle.tb_value.specs.Promise.Datum.{Datum}
+use Rattle.tb_value.specs.Promise.Kind.{Kind}
+use Rattle.tb_value.specs.Promise.Typed.{HasType}
+use Rattle.tb_supertype.specs.Promise.Cast.{cast}
+use Rattle.tb_supertype.specs.Promise.Supertype.{supertype}
 
 -- the order of two types doesn't matter
 abbrev pub Symmetric : Type 0

@@ -1,5 +1,4 @@
-pub mod Cast
 pub mod Columns
 pub mod Laws
 pub mod Lines
-pub mod Supertype
+pub mod Promise

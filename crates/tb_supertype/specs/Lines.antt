@@ -1,9 +1,9 @@
 -- The table of common types, line by line.
 use Rattle.std.specs.Prelude.{◌≡◌, ◌&&◌, Bool, true, false, List, [], ◌∷◌, Option, Some, None}
 use Rattle.std.specs.List.{list_all}
-use Rattle.tb_value.specs.Kind.{Kind, null, boolean, int8, int16, int32, int64, int128, uint8, uint16, uint32, uint64, string, binary, date, time}
-use Rattle.tb_value.specs.SameKind.{same_kind}
-use Rattle.tb_supertype.specs.Supertype.{supertype}
+use Rattle.tb_value.specs.Promise.Kind.{Kind, null, boolean, int8, int16, int32, int64, int128, uint8, uint16, uint32, uint64, string, binary, date, time}
+use Rattle.tb_value.specs.Promise.SameKind.{same_kind}
+use Rattle.tb_supertype.specs.Promise.Supertype.{supertype}
 
 abbrev pub same_answer : Option Kind → Option Kind → Bool
 same_answer None None = true

@@ -2,18 +2,19 @@
 ghost use Rattle.std.specs.Prelude.{◌≡◌, ◌<◌, ◌≤◌, ◌++◌, ◌∷◌, [], IfOk, OnOk, Some, length, map, replicate, pos};
 ghost use Rattle.std.specs.List.{All};
 ghost use Rattle.std.specs.Str.{IsUtf8};
-ghost use Rattle.tb_value.specs.Datum.{binary, null, string};
-ghost use Rattle.tb_value.specs.Kind as kind;
+ghost use Rattle.tb_value.specs.Promise.Datum.{binary, null, string};
+ghost use Rattle.tb_value.specs.Promise.Kind as kind;
 ghost use Rattle.tb_value.specs.See.{datum, lent_value, IsText};
 ghost use Rattle.tb_value.specs.SeeKind.{kind_of};
-ghost use Rattle.tb_value.specs.Typed.{HasType};
+ghost use Rattle.tb_value.specs.Promise.Typed.{HasType};
 ghost use Rattle.tb_chunk.specs.Chunk.{or_null};
-ghost use Rattle.tb_chunk.specs.Col.{physical, values, concatenation};
+ghost use Rattle.tb_chunk.specs.Promise.Col.{values, concatenation};
+ghost use Rattle.tb_chunk.specs.Col.{physical};
 ghost use Rattle.tb_chunk.specs.Fits.{Fits};
 ghost use Rattle.tb_chunk.specs.Lent.{lent_columns};
-ghost use Rattle.tb_chunk.specs.Made.{at_least_one};
+ghost use Rattle.tb_chunk.specs.Promise.Made.{at_least_one};
 ghost use Rattle.tb_chunk.specs.Seen.{chunk_lists, storage};
-ghost use Rattle.tb_supertype.specs.Cast.{cast, cast_to, truth_number};
+ghost use Rattle.tb_supertype.specs.Promise.Cast.{cast, cast_to, truth_number};
 ghost use Rattle.tb_supertype.specs.Columns.{cast_values, CastsTo, IsStacked};
 
 use crate::class::{Class, class_of};

@@ -1,7 +1,7 @@
 //! What a common type depends on.
 ghost use Rattle.std.specs.Prelude.{◌≡◌};
 ghost use Rattle.tb_value.specs.SeeKind.{kind_of};
-ghost use Rattle.tb_supertype.specs.Supertype.{class_of};
+ghost use Rattle.tb_supertype.specs.Promise.Supertype.{class_of};
 
 use tb_value::DataType;
 

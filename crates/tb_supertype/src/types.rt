@@ -1,7 +1,7 @@
 //! The type that two types have in common.
 ghost use Rattle.std.specs.Prelude.{◌≡◌, ◌≤◌, IfOk, Some, option_map};
 ghost use Rattle.tb_value.specs.SeeKind.{kind_of};
-ghost use Rattle.tb_supertype.specs.Supertype.{signed_kind, mixed_kind, wider_kind, common_by_class, class_of, supertype};
+ghost use Rattle.tb_supertype.specs.Promise.Supertype.{signed_kind, mixed_kind, wider_kind, common_by_class, class_of, supertype};
 
 use crate::class::{Class, class_of};
 use std::alloc::Global;

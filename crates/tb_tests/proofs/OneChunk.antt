@@ -2,8 +2,9 @@
 use Rattle.std.proofs.Common.{arith, ◌≡◌, ◌∙◌, ℕ, List, [], ◌∷◌, ap, get_or, length, refl, sym}
 use Rattle.std.proofs.lemmas.List.{length-map}
 use Rattle.tb_value.specs.declared.sorted.IsSorted.TheVariants.{Not}
-use Rattle.tb_chunk.specs.Col.{Col}
-use Rattle.tb_chunk.specs.ViewArrays.{AreViewed, ViewArray, view_array_at}
+use Rattle.tb_chunk.specs.Promise.Col.{Col}
+use Rattle.tb_view.specs.Promise.ViewArrays.{ViewArray}
+use Rattle.tb_chunk.specs.ViewArrays.{AreViewed, view_array_at}
 
 only : {X : Type 0} (xs : List X) (d : X) → length xs ≡ 1 → get_or xs 0 d ∷ [] ≡ xs
 only [] d one = absurd (omega (arith, one))

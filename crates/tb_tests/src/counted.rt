@@ -1,6 +1,6 @@
 //! Columns made of runs, each a value with its count, and chunks of texts and bytes to which one is pushed many times.
 ghost use Rattle.std.specs.Prelude.{◌≡◌, ◌<◌, IfOk, length};
-ghost use Rattle.tb_value.specs.Kind as kind;
+ghost use Rattle.tb_value.specs.Promise.Kind as kind;
 
 use std::alloc::Global;
 use std::process::Abort;

@@ -18,7 +18,7 @@ struct Given {
 
 impl PhysicalAggExpr for Given {
     ghost use Rattle.std.specs.Prelude.{Ok};
-    ghost use Rattle.tb_frame.specs.Table.{plain_column};
+    ghost use Rattle.tb_frame.specs.Promise.Table.{plain_column};
 
     ghost named = { λ given. Ok given.name };
 

@@ -1,8 +1,8 @@
 //! Keys of rows, byte by byte.
 ghost use Rattle.std.specs.Prelude.{◌≡◌, ◌↔◌, IfOk, IsTrue, length};
 ghost use Rattle.std.specs.List.{All};
-ghost use Rattle.tb_value.specs.SameKind.{is_key};
-ghost use Rattle.tb_chunk.specs.Col.{values};
+ghost use Rattle.tb_value.specs.Promise.SameKind.{is_key};
+ghost use Rattle.tb_chunk.specs.Promise.Col.{values};
 ghost use Rattle.tb_rowkey.specs.Columns.{lent_columns};
 
 use std::alloc::Global;

@@ -1,6 +1,6 @@
 //! Columns of texts and of bytes taken apart into views and buffers, and made of them again.
 ghost use Rattle.std.specs.Prelude.{◌≡◌, ◌⊎◌, ◌<◌, ◌∷◌, [], IfOk, length, slice_index_or};
-ghost use Rattle.tb_value.specs.Kind as kind;
+ghost use Rattle.tb_value.specs.Promise.Kind as kind;
 ghost use Rattle.tb_value.specs.SeeKind.{kind_of};
 ghost use Rattle.tb_value.specs.declared.sorted.IsSorted.TheVariants.{Not};
 ghost use Rattle.tb_chunk.specs.ViewArrays.{view_array_at};

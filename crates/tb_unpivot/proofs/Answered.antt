@@ -5,25 +5,26 @@ use Rattle.std.specs.List.{All, flat_map}
 use Rattle.std.proofs.Math.Nat.{mul-suc}
 use Rattle.std.proofs.lemmas.List.{length-map, nil_from_length}
 use Rattle.std.proofs.lemmas.List.Elements.{All-nil, All-cons, All-head, All-tail, All-map, All-append, All-weaker}
-use Rattle.tb_value.specs.Datum.{Datum, string}
-use Rattle.tb_value.specs.Kind.{Kind}
-use Rattle.tb_value.specs.Kind as kind
-use Rattle.tb_value.specs.Names.{Name}
-use Rattle.tb_value.specs.Refusals.{first_cause}
+use Rattle.tb_value.specs.Promise.Datum.{Datum, string}
+use Rattle.tb_value.specs.Promise.Kind.{Kind}
+use Rattle.tb_value.specs.Promise.Kind as kind
+use Rattle.tb_value.specs.Promise.Names.{Name}
+use Rattle.tb_value.specs.Promise.Refusals.{first_cause}
 use Rattle.tb_value.specs.SeeKind.{kind_of}
 use Rattle.tb_value.specs.declared.limits.TheConstants.{MAX_ROWS}
-use Rattle.tb_chunk.specs.Col.{Col, concatenation, values}
+use Rattle.tb_chunk.specs.Promise.Col.{Col, concatenation, values}
 use Rattle.tb_chunk.specs.Lent.{lent_columns}
-use Rattle.tb_frame.specs.Frame.{frame_refusal, selected_columns}
-use Rattle.tb_frame.specs.Refusal.{repeated_among}
-use Rattle.tb_frame.specs.Table.{TableColumn, Table, IsTable, IsTyped, height, names_of, plain_column, table_of}
+use Rattle.tb_frame.specs.Promise.Frame.{selected_columns}
+use Rattle.tb_frame.specs.Frame.{frame_refusal}
+use Rattle.tb_frame.specs.Promise.Refusal.{repeated_among}
+use Rattle.tb_frame.specs.Promise.Table.{TableColumn, Table, IsTable, IsTyped, height, names_of, plain_column, table_of}
 use Rattle.tb_frame.proofs.Causes.{selected_hold}
 use Rattle.tb_frame.proofs.Frames.{level_refusal}
 use Rattle.tb_frame.proofs.Selected.{selected-table}
-use Rattle.tb_supertype.specs.Cast.{cast}
+use Rattle.tb_supertype.specs.Promise.Cast.{cast}
 use Rattle.tb_supertype.specs.Columns.{CastsTo}
 use Rattle.tb_unpivot.specs.Asked.{IsAsked}
-use Rattle.tb_unpivot.specs.Unpivot.{Request, asked_causes, columns_named, common_kind, kind_or_null, long_table, no_supertype, on_columns, on_names, repeated, table_causes, too_many_values, unpivot_refusal, unpivot_table, value_column, value_kind, variable_column}
+use Rattle.tb_unpivot.specs.Promise.Unpivot.{Request, asked_causes, columns_named, common_kind, kind_or_null, long_table, no_supertype, on_columns, on_names, repeated, table_causes, too_many_values, unpivot_refusal, unpivot_table, value_column, value_kind, variable_column}
 use Rattle.tb_unpivot.specs.declared.lookup.RequestColumns.{RequestColumns}
 use Rattle.tb_unpivot.proofs.Causes.{goes_on}
 use Rattle.tb_unpivot.proofs.CommonKinds.{casts_all}

@@ -4,21 +4,21 @@ use Rattle.std.specs.Prelude.{◌⊎◌}
 use Rattle.std.specs.Option.{option_map}
 use Rattle.std.specs.List.{All}
 use Rattle.std.proofs.lemmas.List.Elements.{All-nil, All-cons, All-head, All-tail, All-weaker, All-map}
-use Rattle.tb_value.specs.Datum.{Datum}
-use Rattle.tb_value.specs.Kind as kind
-use Rattle.tb_value.specs.Kind.{Kind}
-use Rattle.tb_value.specs.Names.{Name}
-use Rattle.tb_value.specs.Typed.{HasType}
+use Rattle.tb_value.specs.Promise.Datum.{Datum}
+use Rattle.tb_value.specs.Promise.Kind as kind
+use Rattle.tb_value.specs.Promise.Kind.{Kind}
+use Rattle.tb_value.specs.Promise.Names.{Name}
+use Rattle.tb_value.specs.Promise.Typed.{HasType}
 use Rattle.tb_value.specs.declared.error.InvalidCause.TheVariants.{NoSupertype}
 use Rattle.tb_value.specs.declared.error.PolarsError.{PolarsError}
 use Rattle.tb_value.specs.declared.error.PolarsError.TheVariants.{InvalidOperation, OutOfMemory}
-use Rattle.tb_chunk.specs.Col.{Col, values}
-use Rattle.tb_frame.specs.Table.{TableColumn, plain_column, table_of, IsTyped}
-use Rattle.tb_supertype.specs.Cast.{cast}
+use Rattle.tb_chunk.specs.Promise.Col.{Col, values}
+use Rattle.tb_frame.specs.Promise.Table.{TableColumn, plain_column, table_of, IsTyped}
+use Rattle.tb_supertype.specs.Promise.Cast.{cast}
 use Rattle.tb_supertype.specs.Columns.{CastsTo}
-use Rattle.tb_supertype.specs.Supertype.{supertype}
+use Rattle.tb_supertype.specs.Promise.Supertype.{supertype}
 use Rattle.tb_supertype.proofs.Casts.{casts_on, cast_typed, cast-is}
-use Rattle.tb_unpivot.specs.Unpivot.{common_kind, failed_at}
+use Rattle.tb_unpivot.specs.Promise.Unpivot.{common_kind, failed_at}
 
 -- ONE COLUMN MORE
 

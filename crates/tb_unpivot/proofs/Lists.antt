@@ -6,26 +6,28 @@ use Rattle.std.specs.List.{All, flat_map}
 use Rattle.std.proofs.Math.Nat.{mul-suc}
 use Rattle.std.proofs.lemmas.List.{append-nil, map-append, map_push, length-map, length-replicate, take_more, nil_from_length}
 use Rattle.std.proofs.lemmas.List.Elements.{All-nil, All-cons, All-head, All-tail, All-replicate}
-use Rattle.tb_value.specs.Datum.{Datum, string}
-use Rattle.tb_value.specs.Kind.{Kind}
-use Rattle.tb_value.specs.Kind as kind
-use Rattle.tb_value.specs.Names.{Name}
-use Rattle.tb_value.specs.Typed.{HasType}
+use Rattle.tb_value.specs.Promise.Datum.{Datum, string}
+use Rattle.tb_value.specs.Promise.Kind.{Kind}
+use Rattle.tb_value.specs.Promise.Kind as kind
+use Rattle.tb_value.specs.Promise.Names.{Name}
+use Rattle.tb_value.specs.Promise.Typed.{HasType}
 use Rattle.tb_value.specs.declared.limits.TheConstants.{MAX_ROWS}
 use Rattle.tb_value.specs.declared.sorted.IsSorted.TheVariants.{Not}
 use Rattle.tb_chunk.specs.Chunk.{or_null}
-use Rattle.tb_chunk.specs.Col.{Col, IsColumn, concatenation, values}
+use Rattle.tb_chunk.specs.Promise.Col.{Col, concatenation, values}
+use Rattle.tb_chunk.specs.Col.{IsColumn}
 use Rattle.tb_chunk.specs.Lent.{lent_columns}
-use Rattle.tb_chunk.specs.Made.{at_least_one}
-use Rattle.tb_chunk.specs.ViewArrays.{ViewArray}
-use Rattle.tb_frame.specs.Frame.{selected_columns, without_names}
-use Rattle.tb_frame.specs.Naming.{is_among}
-use Rattle.tb_frame.specs.Table.{TableColumn, Table, names_of, plain_column, table_of}
+use Rattle.tb_chunk.specs.Promise.Made.{at_least_one}
+use Rattle.tb_view.specs.Promise.ViewArrays.{ViewArray}
+use Rattle.tb_frame.specs.Promise.Frame.{selected_columns}
+use Rattle.tb_frame.specs.Frame.{without_names}
+use Rattle.tb_frame.specs.Promise.Naming.{is_among}
+use Rattle.tb_frame.specs.Promise.Table.{TableColumn, Table, names_of, plain_column, table_of}
 use Rattle.tb_value.proofs.Kept.{filter-map}
-use Rattle.tb_supertype.specs.Cast.{cast}
+use Rattle.tb_supertype.specs.Promise.Cast.{cast}
 use Rattle.tb_supertype.specs.Columns.{CastsTo, IsStacked, cast_values}
 use Rattle.tb_supertype.proofs.Stacks.{flat-at_least_one}
-use Rattle.tb_unpivot.specs.Unpivot.{long_table, on_names, repeated, value_column, variable_column}
+use Rattle.tb_unpivot.specs.Promise.Unpivot.{long_table, on_names, repeated, value_column, variable_column}
 use Rattle.tb_unpivot.proofs.CommonKinds.{cast_same}
 
 -- LENT COLUMNS

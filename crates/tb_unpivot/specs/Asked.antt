@@ -1,14 +1,14 @@
 -- What is found of the columns that a request names.
 use Rattle.std.specs.Prelude.{◌≡◌, ◌≤◌, ◌*◌, List, length, Ok}
-use Rattle.tb_value.specs.Kind as kind
-use Rattle.tb_value.specs.Names.{Name}
+use Rattle.tb_value.specs.Promise.Kind as kind
+use Rattle.tb_value.specs.Promise.Names.{Name}
 use Rattle.tb_value.specs.SeeKind.{kind_of}
 use Rattle.tb_value.specs.declared.limits.TheConstants.{MAX_ROWS}
-use Rattle.tb_chunk.specs.Col.{Col}
+use Rattle.tb_chunk.specs.Promise.Col.{Col}
 use Rattle.tb_chunk.specs.Lent.{lent_columns}
-use Rattle.tb_frame.specs.Frame.{selected_columns}
-use Rattle.tb_frame.specs.Table.{height, table_of}
-use Rattle.tb_unpivot.specs.Unpivot.{common_kind}
+use Rattle.tb_frame.specs.Promise.Frame.{selected_columns}
+use Rattle.tb_frame.specs.Promise.Table.{height, table_of}
+use Rattle.tb_unpivot.specs.Promise.Unpivot.{common_kind}
 use Rattle.tb_unpivot.specs.declared.lookup.RequestColumns.{RequestColumns}
 
 -- the columns, and their common type

@@ -1,9 +1,9 @@
 -- Common types of several columns.
 use Rattle.std.specs.Prelude.{◌≡◌, ◌+◌, ℕ, List, [], ◌∷◌, Result, Ok, Err, codes}
-use Rattle.tb_value.specs.Kind.{Kind, null, boolean, int8, int32, int64, uint8, uint32, uint64, string, date}
-use Rattle.tb_value.specs.Names.{Name}
-use Rattle.tb_frame.specs.Table.{TableColumn}
-use Rattle.tb_unpivot.specs.Unpivot.{common_kind}
+use Rattle.tb_value.specs.Promise.Kind.{Kind, null, boolean, int8, int32, int64, uint8, uint32, uint64, string, date}
+use Rattle.tb_value.specs.Promise.Names.{Name}
+use Rattle.tb_frame.specs.Promise.Table.{TableColumn}
+use Rattle.tb_unpivot.specs.Promise.Unpivot.{common_kind}
 
 -- columns of these types under the names a, b, c and d
 abbrev pub columns_from : ℕ → List Kind → List TableColumn

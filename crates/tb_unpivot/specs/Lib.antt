@@ -1,3 +1,3 @@
 pub mod Asked
 pub mod Folds
-pub mod Unpivot
+pub mod Promise

@@ -1,16 +1,16 @@
 //! The columns of a table that is made long.
 ghost use Rattle.std.specs.Prelude.{◌≡◌, ◌≤◌, ◌*◌, IfOk, length, map, replicate};
 ghost use Rattle.std.specs.List.{All, flat_map};
-ghost use Rattle.tb_value.specs.Datum.{Datum, string};
-ghost use Rattle.tb_value.specs.Kind as kind;
+ghost use Rattle.tb_value.specs.Promise.Datum.{Datum, string};
+ghost use Rattle.tb_value.specs.Promise.Kind as kind;
 ghost use Rattle.tb_value.specs.SeeKind.{kind_of};
-ghost use Rattle.tb_value.specs.Typed.{HasType};
+ghost use Rattle.tb_value.specs.Promise.Typed.{HasType};
 ghost use Rattle.tb_chunk.specs.ChunkTexts.{texts_of};
-ghost use Rattle.tb_chunk.specs.Col.{Col, concatenation, values};
+ghost use Rattle.tb_chunk.specs.Promise.Col.{Col, concatenation, values};
 ghost use Rattle.tb_chunk.specs.Lent.{lent_columns};
-ghost use Rattle.tb_frame.specs.Table.{plain_column, table_of};
+ghost use Rattle.tb_frame.specs.Promise.Table.{plain_column, table_of};
 ghost use Rattle.tb_supertype.specs.Columns.{CastsTo};
-ghost use Rattle.tb_unpivot.specs.Unpivot.{long_table, repeated, value_column, variable_column};
+ghost use Rattle.tb_unpivot.specs.Promise.Unpivot.{long_table, repeated, value_column, variable_column};
 
 use std::alloc::Global;
 use tb_store::{Chunk, Chunks, Column, IsSorted, MAX_ROWS, Series, StringBuilder, StringChunk};

@@ -1,8 +1,8 @@
 //! The calls by which tables are made long.
 ghost use Rattle.std.specs.Prelude.{◌≡◌, IfOk, None, unwrap_or};
 ghost use Rattle.tb_value.specs.Refusals.{Settles};
-ghost use Rattle.tb_frame.specs.Table.{table_of};
-ghost use Rattle.tb_unpivot.specs.Unpivot.{unpivot_refusal, unpivot_table, value_or, variable_or};
+ghost use Rattle.tb_frame.specs.Promise.Table.{table_of};
+ghost use Rattle.tb_unpivot.specs.Promise.Unpivot.{unpivot_refusal, unpivot_table, value_or, variable_or};
 
 use crate::columns::long_columns;
 use crate::lookup::{asked, on_names};

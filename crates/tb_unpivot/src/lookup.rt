@@ -1,17 +1,19 @@
 //! The columns that a request names, and its refusals but for the last.
 ghost use Rattle.std.specs.Prelude.{◌≡◌, ◌≤◌, ◌*◌, ◌∷◌, [], IfOk, Ok, length, map};
-ghost use Rattle.tb_value.specs.Kind as kind;
-ghost use Rattle.tb_value.specs.Refusals.{Settles, first_cause};
+ghost use Rattle.tb_value.specs.Promise.Kind as kind;
+ghost use Rattle.tb_value.specs.Promise.Refusals.{first_cause};
+ghost use Rattle.tb_value.specs.Refusals.{Settles};
 ghost use Rattle.tb_value.specs.SeeKind.{kind_of};
 ghost use Rattle.tb_value.specs.declared.error.InvalidCause.TheVariants.{NoSupertype};
 ghost use Rattle.tb_value.specs.declared.error.PolarsError.TheVariants.{InvalidOperation};
-ghost use Rattle.tb_chunk.specs.Col.{Col};
+ghost use Rattle.tb_chunk.specs.Promise.Col.{Col};
 ghost use Rattle.tb_chunk.specs.Lent.{lent_columns};
-ghost use Rattle.tb_frame.specs.Frame.{selected_columns, without_names};
-ghost use Rattle.tb_frame.specs.Refusal.{unknown_key};
-ghost use Rattle.tb_frame.specs.Table.{table_of};
+ghost use Rattle.tb_frame.specs.Promise.Frame.{selected_columns};
+ghost use Rattle.tb_frame.specs.Frame.{without_names};
+ghost use Rattle.tb_frame.specs.Promise.Refusal.{unknown_key};
+ghost use Rattle.tb_frame.specs.Promise.Table.{table_of};
 ghost use Rattle.std.specs.Option.{option_map};
-ghost use Rattle.tb_unpivot.specs.Unpivot.{asked_causes, common_kind, failed_at, no_supertype, on_names, table_causes, too_many_values};
+ghost use Rattle.tb_unpivot.specs.Promise.Unpivot.{asked_causes, common_kind, failed_at, no_supertype, on_names, table_causes, too_many_values};
 ghost use Rattle.tb_unpivot.specs.Asked.{IsAsked};
 
 use std::alloc::Global;

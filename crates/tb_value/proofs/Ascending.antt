@@ -9,7 +9,7 @@ use Rattle.std.specs.Ordering.{is_lt, nat_cmp, ordering_then}
 use Rattle.std.proofs.lemmas.Cmp.{ranked}
 use Rattle.std.proofs.lemmas.List.Elements.{All-nil, All-cons, All-head, All-tail, All-append, All-map, All-weaker}
 use Rattle.tb_value.specs.declared.index.JoinPair.{JoinPair}
-use Rattle.tb_value.specs.Pairs.{row_numbers, both, left_only, right_only, matched_pairs, left_met, left_unmet, right_unmet, left_first}
+use Rattle.tb_value.specs.Promise.Pairs.{row_numbers, both, left_only, right_only, matched_pairs, left_met, left_unmet, right_unmet, left_first}
 
 -- each element stands before the later ones
 abbrev pub Ascends_by : {X : Type 0} → (X → X → Type 0) → List X → Type 0

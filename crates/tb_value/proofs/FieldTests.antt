@@ -1,8 +1,8 @@
 -- The fields of two structs, as lists.
 use Rattle.std.proofs.Common.{◌≡◌, ◌≤◌, ◌<◌, ℕ, zero, suc, false, ◌&&◌, List, [], ◌∷◌, length, get_or, refl, ap, arith}
-use Rattle.tb_value.specs.Kind.{Part, weight, weights, parts_of}
-use Rattle.tb_value.specs.Names.{same_name}
-use Rattle.tb_value.specs.SameKind.{same_kind, same_parts}
+use Rattle.tb_value.specs.Promise.Kind.{Part, weight, weights, parts_of}
+use Rattle.tb_value.specs.Promise.Names.{same_name}
+use Rattle.tb_value.specs.Promise.SameKind.{same_kind, same_parts}
 use Rattle.tb_value.proofs.Lengths.{false_and}
 
 -- no field's type is heavier than all of them

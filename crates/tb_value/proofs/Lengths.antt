@@ -1,10 +1,10 @@
-use Rattle.tb_value.specs.Same.{same, same_items}
+use Rattle.tb_value.specs.Promise.Same.{same, same_items}
 use Rattle.std.proofs.Common.{ℕ, zero, ◌<◌, ◌≤◌, get_or, arith, Bool, true, false, ◌&&◌, ◌≡◌, ◌∙◌, List, [], ◌∷◌, length, map, refl, ap, sym, suc}
-use Rattle.tb_value.specs.Datum.{Datum, items_of, data_in, weight, weights}
+use Rattle.tb_value.specs.Promise.Datum.{Datum, items_of, data_in, weight, weights}
 use Rattle.tb_value.specs.See.{datum}
 use Rattle.tb_value.specs.declared.any_value.AnyValue.{AnyValue}
-use Rattle.tb_value.specs.Kind.{Part, Parts, parts_of, end, part}
-use Rattle.tb_value.specs.Typed.{AreEachOf}
+use Rattle.tb_value.specs.Promise.Kind.{Part, Parts, parts_of, end, part}
+use Rattle.tb_value.specs.Promise.Typed.{AreEachOf}
 
 -- a struct has as many values as fields
 pub AreEachOf-length : (ps : List Part) (vs : List Datum) → AreEachOf (parts_of ps) (items_of vs) → length ps ≡ length vs

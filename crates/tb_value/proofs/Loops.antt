@@ -6,7 +6,8 @@ use Rattle.std.proofs.lemmas.List.{map-append}
 use Rattle.std.proofs.lemmas.List.Concat.{flat_map-append}
 use Rattle.std.proofs.lemmas.List.Sorted.{IsPermutation-refl, IsPermutation-trans, IsPermutation-append_comm, IsPermutation-append_left, IsPermutation-append_right}
 use Rattle.tb_value.specs.declared.index.JoinPair.{JoinPair}
-use Rattle.tb_value.specs.Pairs.{row_numbers, both, matched_pairs, turn}
+use Rattle.tb_value.specs.Promise.Pairs.{row_numbers, both, matched_pairs}
+use Rattle.tb_value.specs.Pairs.{turn}
 
 pub permuted : {X : Type 0} (xs ys zs : List X) → ys ≡ zs → IsPermutation xs ys → IsPermutation xs zs
 permuted xs ys zs e h = subst (λ (l : List _). IsPermutation xs l) e h

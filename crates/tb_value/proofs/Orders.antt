@@ -7,7 +7,7 @@ use Rattle.std.specs.Cmp.{IsTotalOrder}
 use Rattle.std.proofs.lemmas.Cmp.{nat_cmp_total, on_total, then_total, ranked}
 use Rattle.std.specs.Ordering.{MatchOrdering}
 use Rattle.tb_value.specs.declared.index.JoinPair.{JoinPair}
-use Rattle.tb_value.specs.Pairs.{row_cmp, left_first, right_first}
+use Rattle.tb_value.specs.Promise.Pairs.{row_cmp, left_first, right_first}
 
 antisymm : (x y : Option ℕ) → row_cmp x y ≡ ordering_reverse (row_cmp y x)
 antisymm None None = refl

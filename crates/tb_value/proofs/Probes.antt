@@ -9,7 +9,8 @@ use Rattle.std.proofs.lemmas.List.{append-nil, length-map, get_or-map}
 use Rattle.std.proofs.lemmas.List.Elements.{All-nil, All-cons, All-map, All-weaker}
 use Rattle.std.proofs.lemmas.List.Sorted.{IsPermutation-append_left}
 use Rattle.tb_value.specs.declared.index.JoinPair.{JoinPair}
-use Rattle.tb_value.specs.Pairs.{row_numbers, both, left_only, right_only, matched_pairs, left_unmet, right_unmet, row_cmp, left_first, right_first, turn}
+use Rattle.tb_value.specs.Promise.Pairs.{row_numbers, both, left_only, right_only, matched_pairs, left_unmet, right_unmet, row_cmp, left_first, right_first}
+use Rattle.tb_value.specs.Pairs.{turn}
 use Rattle.tb_value.proofs.Ascending.{Ascends_by, Ascends_by-append, Ascends_by-map, NotBelow, sorted_from-Ascends_by, kept_ascend, nat_cmp_above, later_right, All-flat_map}
 use Rattle.tb_value.proofs.Loops.{flat_map_agree, zipped, permuted}
 

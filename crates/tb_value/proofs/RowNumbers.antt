@@ -6,7 +6,7 @@ use Rattle.std.proofs.lemmas.List.{map-append, append-nil, append_assoc}
 use Rattle.std.proofs.lemmas.List.Elements.{filter-append}
 use Rattle.std.proofs.lemmas.List.Concat.{flat_map-append}
 use Rattle.tb_value.specs.declared.index.JoinPair.{JoinPair}
-use Rattle.tb_value.specs.Pairs.{row_numbers, both, matched_pairs}
+use Rattle.tb_value.specs.Promise.Pairs.{row_numbers, both, matched_pairs}
 use Rattle.std.proofs.lemmas.List.Folds.{list_all-append, list_all_at, list_any-append, list_any_at}
 use Rattle.std.proofs.lemmas.List.FromFn.{length-range_with_len, get_or-range_with_len}
 use Rattle.std.proofs.lemmas.Bool.{and_from, or_from}

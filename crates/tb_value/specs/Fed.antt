@@ -2,7 +2,7 @@
 use Rattle.std.specs.Prelude.{[], ◌++◌, length}
 use Rattle.std.specs.Hash.{HashWrites}
 use Rattle.std.specs.Hash as fed
-use Rattle.tb_value.specs.Datum.{Datum, Items, data_in, null, boolean, int, string, binary, list, struct, end, more}
+use Rattle.tb_value.specs.Promise.Datum.{Datum, Items, data_in, null, boolean, int, string, binary, list, struct, end, more}
 
 -- a number for the kind of value, and then what the value holds: of a list or a struct the length, and then each value
 abbrev mutual

@@ -1,15 +1,10 @@
-pub mod Datum
 pub mod See
 pub mod Fed
-pub mod Kind
 pub mod SeeKind
-pub mod Typed
-pub mod Same
-pub mod Names
 pub mod Index
 pub mod ChunkRow
 pub mod Pairs
 pub mod Refusals
-pub mod SameKind
 pub mod Proved
 pub mod Texts
+pub mod Promise

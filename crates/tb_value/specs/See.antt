@@ -1,7 +1,7 @@
 -- The value that an `AnyValue` stands for.
 use Rattle.std.specs.Prelude.{List, map}
 use Rattle.std.specs.Str.{IsUtf8}
-use Rattle.tb_value.specs.Datum.{Datum, null, boolean, int, string, binary, list, struct, items_of}
+use Rattle.tb_value.specs.Promise.Datum.{Datum, null, boolean, int, string, binary, list, struct, items_of}
 use Rattle.tb_value.specs.declared.any_value.AnyValue.{AnyValue}
 use Rattle.tb_value.specs.declared.any_value.AnyValue.TheVariants as any
 use Rattle.tb_value.specs.declared.any_value.ValueRef.{ValueRef}

@@ -1,7 +1,7 @@
 -- The type that a `DataType` stands for.
 use Rattle.std.specs.Prelude.{List}
-use Rattle.tb_value.specs.Kind as kind
-use Rattle.tb_value.specs.Kind.{Kind, Part, parts_of}
+use Rattle.tb_value.specs.Promise.Kind as kind
+use Rattle.tb_value.specs.Promise.Kind.{Kind, Part, parts_of}
 use Rattle.tb_value.specs.declared.dtype.DataType.{DataType, fold-DataType}
 use Rattle.tb_value.specs.declared.dtype.DataType.TheOpen.{DataType-F, Field-F, Fields-F}
 use Rattle.tb_value.specs.declared.dtype.Field.{Field}

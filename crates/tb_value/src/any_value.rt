@@ -31,7 +31,7 @@ pub enum AnyValue {
 
 impl Model for Values {
     ghost use Rattle.std.specs.Prelude.{List};
-    ghost use Rattle.tb_value.specs.Datum.{Datum, weights, items_of};
+    ghost use Rattle.tb_value.specs.Promise.Datum.{Datum, weights, items_of};
     ghost use Rattle.tb_value.specs.Proved.DatumCode.{coded_data};
 
     ghost Value = { List Datum };

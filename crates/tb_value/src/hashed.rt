@@ -1,6 +1,6 @@
 //! Hashes of values: equal values are fed alike.
 ghost use Rattle.std.specs.Prelude.{◌≡◌, fold};
-ghost use Rattle.tb_value.specs.Datum.{items_of};
+ghost use Rattle.tb_value.specs.Promise.Datum.{items_of};
 ghost use Rattle.tb_value.specs.Fed.{fed_datum, fed_items};
 ghost use Rattle.tb_value.specs.See.{lent_value};
 
@@ -69,7 +69,7 @@ impl Hash for AnyValue {
 
 impl Hash for Values {
     ghost use Rattle.std.specs.Hash.{same_Alike, on_Alike};
-    ghost use Rattle.tb_value.specs.Datum.{items_of};
+    ghost use Rattle.tb_value.specs.Promise.Datum.{items_of};
     ghost use Rattle.tb_value.specs.Fed.{fed_items};
     ghost use Rattle.tb_value.specs.Proved.ValueTests.{items-Decides};
 

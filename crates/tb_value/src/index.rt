@@ -1,6 +1,6 @@
 //! Row numbers, and the pairs of them that a join lists.
 ghost use Rattle.std.specs.Prelude.{◌≡◌, ◌<◌, ◌↔◌, Some, None, IsTrue, IsNone, IsSome, IfSome};
-ghost use Rattle.tb_value.specs.Pairs.{both, left_only, right_only, row_cmp, left_first, right_first};
+ghost use Rattle.tb_value.specs.Promise.Pairs.{both, left_only, right_only, row_cmp, left_first, right_first};
 
 use std::cmp::Ordering;
 use std::marker::Model;

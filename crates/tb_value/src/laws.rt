@@ -1,9 +1,9 @@
 //! What holds of the definitions, each as the contract of an empty function.
 ghost use Rattle.std.specs.Prelude.{◌≡◌, ◌<◌, ◌≤◌, ◌^◌, ◌-◌, ◌↔◌, IsTrue};
-ghost use Rattle.tb_value.specs.Datum.{Datum};
-ghost use Rattle.tb_value.specs.Kind.{Kind};
-ghost use Rattle.tb_value.specs.Same.{same};
-ghost use Rattle.tb_value.specs.SameKind.{same_kind};
+ghost use Rattle.tb_value.specs.Promise.Datum.{Datum};
+ghost use Rattle.tb_value.specs.Promise.Kind.{Kind};
+ghost use Rattle.tb_value.specs.Promise.Same.{same};
+ghost use Rattle.tb_value.specs.Promise.SameKind.{same_kind};
 
 use crate::chunk_id::ChunkId;
 use crate::index::IdxSize;

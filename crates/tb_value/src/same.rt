@@ -1,7 +1,7 @@
 //! Equality of values.
 ghost use Rattle.std.specs.Prelude.{◌≡◌};
-ghost use Rattle.tb_value.specs.Datum.{items_of};
-ghost use Rattle.tb_value.specs.Same.{same, same_items};
+ghost use Rattle.tb_value.specs.Promise.Datum.{items_of};
+ghost use Rattle.tb_value.specs.Promise.Same.{same, same_items};
 ghost use Rattle.tb_value.specs.See.{datum, lent_value};
 
 use crate::any_value::{AnyValue, ValueRef, Values};
@@ -55,7 +55,7 @@ fn same_lists(first: &Values, second: &Values) -> bool
 
 impl PartialEq for AnyValue {
     ghost use Rattle.std.specs.Cmp.{partial_equiv_from_equiv};
-    ghost use Rattle.tb_value.specs.Same.{same};
+    ghost use Rattle.tb_value.specs.Promise.Same.{same};
     ghost use Rattle.tb_value.specs.Proved.ValueTests.{same_equiv, pulled};
     ghost use Rattle.tb_value.specs.See.{datum};
 
@@ -77,8 +77,8 @@ impl Eq for AnyValue {
 
 impl PartialEq for Values {
     ghost use Rattle.std.specs.Cmp.{partial_equiv_from_equiv};
-    ghost use Rattle.tb_value.specs.Datum.{items_of};
-    ghost use Rattle.tb_value.specs.Same.{same_items};
+    ghost use Rattle.tb_value.specs.Promise.Datum.{items_of};
+    ghost use Rattle.tb_value.specs.Promise.Same.{same_items};
     ghost use Rattle.tb_value.specs.Proved.ValueTests.{items_equiv, pulled};
 
     ghost eq = { λ a b. same_items (items_of a) (items_of b) };
@@ -91,7 +91,7 @@ impl PartialEq for Values {
 }
 
 impl Eq for Values {
-    ghost use Rattle.tb_value.specs.Datum.{items_of};
+    ghost use Rattle.tb_value.specs.Promise.Datum.{items_of};
     ghost use Rattle.tb_value.specs.Proved.ValueTests.{items_equiv, pulled};
 
     ghost laws = { pulled items_of items_equiv };

@@ -1,8 +1,8 @@
 //! Equality of types.
 ghost use Rattle.std.specs.Prelude.{◌≡◌};
-ghost use Rattle.tb_value.specs.Kind as kind;
-ghost use Rattle.tb_value.specs.Kind.{parts_of};
-ghost use Rattle.tb_value.specs.SameKind.{same_unit, same_zone, same_kind, same_parts};
+ghost use Rattle.tb_value.specs.Promise.Kind as kind;
+ghost use Rattle.tb_value.specs.Promise.Kind.{parts_of};
+ghost use Rattle.tb_value.specs.Promise.SameKind.{same_unit, same_zone, same_kind, same_parts};
 ghost use Rattle.tb_value.specs.SeeKind.{kind_of, parts};
 
 use crate::dtype::{DataType, Field, Fields, TimeUnit, plain_type};
@@ -116,7 +116,7 @@ fn same_fields(first: &Fields, second: &Fields) -> bool
 impl PartialEq for DataType {
     ghost use Rattle.std.specs.Cmp.{partial_equiv_from_equiv};
     ghost use Rattle.tb_value.specs.Proved.ValueTests.{pulled};
-    ghost use Rattle.tb_value.specs.SameKind.{same_kind};
+    ghost use Rattle.tb_value.specs.Promise.SameKind.{same_kind};
     ghost use Rattle.tb_value.specs.SeeKind.{kind_of};
     ghost use Rattle.tb_value.specs.Proved.TypeTests.{same_kind_equiv};
 
@@ -140,7 +140,7 @@ impl Eq for DataType {
 impl PartialEq for Field {
     ghost use Rattle.std.specs.Cmp.{partial_equiv_from_equiv};
     ghost use Rattle.tb_value.specs.Proved.ValueTests.{pulled};
-    ghost use Rattle.tb_value.specs.SameKind.{same_part};
+    ghost use Rattle.tb_value.specs.Promise.SameKind.{same_part};
     ghost use Rattle.tb_value.specs.SeeKind.{part};
     ghost use Rattle.tb_value.specs.Proved.TypeTests.{same_part_equiv};
 
@@ -163,9 +163,9 @@ impl Eq for Field {
 
 impl PartialEq for Fields {
     ghost use Rattle.std.specs.Cmp.{partial_equiv_from_equiv};
-    ghost use Rattle.tb_value.specs.Kind.{parts_of};
+    ghost use Rattle.tb_value.specs.Promise.Kind.{parts_of};
     ghost use Rattle.tb_value.specs.Proved.ValueTests.{pulled};
-    ghost use Rattle.tb_value.specs.SameKind.{same_parts};
+    ghost use Rattle.tb_value.specs.Promise.SameKind.{same_parts};
     ghost use Rattle.tb_value.specs.SeeKind.{parts};
     ghost use Rattle.tb_value.specs.Proved.TypeTests.{same_parts_equiv};
 
@@ -179,7 +179,7 @@ impl PartialEq for Fields {
 }
 
 impl Eq for Fields {
-    ghost use Rattle.tb_value.specs.Kind.{parts_of};
+    ghost use Rattle.tb_value.specs.Promise.Kind.{parts_of};
     ghost use Rattle.tb_value.specs.Proved.ValueTests.{pulled};
     ghost use Rattle.tb_value.specs.SeeKind.{parts};
     ghost use Rattle.tb_value.specs.Proved.TypeTests.{same_parts_equiv};

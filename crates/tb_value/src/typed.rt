@@ -1,12 +1,12 @@
 //! Which values are of a type.
 ghost use Rattle.std.specs.Prelude.{◌≡◌, ◌↔◌, ◌<◌, ◌≤ℤ◌, ◌^◌, IsTrue, IsSomeAnd, length, map};
-ghost use Rattle.tb_value.specs.Datum.{items_of};
-ghost use Rattle.tb_value.specs.Kind.{boolean, string, binary};
+ghost use Rattle.tb_value.specs.Promise.Datum.{items_of};
+ghost use Rattle.tb_value.specs.Promise.Kind.{boolean, string, binary};
 ghost use Rattle.std.specs.Str.{IsUtf8};
-ghost use Rattle.tb_value.specs.SameKind.{is_key};
+ghost use Rattle.tb_value.specs.Promise.SameKind.{is_key};
 ghost use Rattle.tb_value.specs.See.{datum, data_of, lent_value};
 ghost use Rattle.tb_value.specs.SeeKind.{kind_of, part};
-ghost use Rattle.tb_value.specs.Typed.{HasType, AreOf, AreEachOf, FitsFields, IsBytes, IsListOf, IsStructOf, ends, is_whole_physical};
+ghost use Rattle.tb_value.specs.Promise.Typed.{HasType, AreOf, AreEachOf, FitsFields, IsBytes, IsListOf, IsStructOf, ends, is_whole_physical};
 
 use crate::any_value::{AnyValue, ValueRef, Values};
 use crate::dtype::{DataType, Field, plain_type};

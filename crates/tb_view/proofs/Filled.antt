@@ -5,7 +5,8 @@ use Rattle.std.specs.Option.{option_map}
 use Rattle.std.proofs.lemmas.List.{map-append, take_all}
 use Rattle.std.proofs.lemmas.List.Elements.{All-append, All-cons, All-nil, All-replicate}
 use Rattle.std.proofs.lemmas.List.Sums.{fold_push}
-use Rattle.tb_view.specs.Layout.{Filling, Building, IsPut, IsRow, with_text, buffers_of, all_of, building_of, with_nulls, with_row, with_rows, long_view, next_view, next_views}
+use Rattle.tb_view.specs.Promise.Layout.{Filling, with_text, buffers_of, long_view, next_view, next_views}
+use Rattle.tb_view.specs.Layout.{Building, IsPut, IsRow, all_of, building_of, with_nulls, with_row, with_rows}
 use Rattle.tb_view.specs.View.{buffer_of, offset_of, row_text, texts, IsViewOrNone}
 use Rattle.tb_view.specs.declared.view.View.{View}
 use Rattle.tb_view.proofs.Views.{IsView-last, Extend-further, Extend-last, rows-extend, rows-drop_last}

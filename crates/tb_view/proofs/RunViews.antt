@@ -2,9 +2,9 @@
 use Rattle.std.proofs.Common.{arith, ◌≡◌, ◌∙◌, ◌<◌, ◌+◌, ◌++◌, ◌∷◌, [], ℕ, zero, suc, List, Some, None, length, get_or, take, refl, sym, ap}
 use Rattle.std.proofs.lemmas.List.{map_more, map_push}
 use Rattle.std.proofs.lemmas.List.Sums.{fold_push}
-use Rattle.tb_value.specs.Datum.{Datum}
+use Rattle.tb_value.specs.Promise.Datum.{Datum}
 use Rattle.tb_value.specs.See.{datum}
-use Rattle.tb_value.specs.Texts.{text_of}
+use Rattle.tb_value.specs.Promise.Texts.{text_of}
 use Rattle.tb_value.specs.declared.any_value.AnyValue.{AnyValue}
 use Rattle.tb_view.specs.Layout.{Building, building_of, with_nulls, with_rows}
 use Rattle.tb_view.specs.RunViews.{data_runs, run_building, text_runs, with_run}

@@ -5,7 +5,8 @@ use Rattle.std.specs.List.{flat_map, sum}
 use Rattle.std.proofs.lemmas.List.{length-map, map-append, take_all, take-map, drop-map, take_more, get_or-drop, get_or-append-add, get_or-map, get_or_append_left, get_or_at}
 use Rattle.std.proofs.lemmas.List.Sums.{sum_by-cons}
 use Rattle.tb_view.specs.Moved.{moved_view}
-use Rattle.tb_view.specs.ViewArrays.{ViewArray, AreViewed, view_arrays_of, all_buffers, moved_views, base_of, view_array_at, joined_view_array, window_of}
+use Rattle.tb_view.specs.Promise.ViewArrays.{ViewArray}
+use Rattle.tb_view.specs.ViewArrays.{AreViewed, view_arrays_of, all_buffers, moved_views, base_of, view_array_at, joined_view_array, window_of}
 use Rattle.tb_view.specs.declared.view.View.{View}
 
 -- over the first buffers a view stays

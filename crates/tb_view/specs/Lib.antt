@@ -4,3 +4,4 @@ pub mod Moved
 pub mod RunViews
 pub mod View
 pub mod ViewArrays
+pub mod Promise

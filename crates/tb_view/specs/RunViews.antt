@@ -1,12 +1,13 @@
 -- Runs: values, each with its count, which says how often it stands. The views of a chunk of them.
 use Rattle.std.specs.Prelude.{ℕ, List, [], Option, Some, None, zero, suc, map}
 use Rattle.std.specs.List.{fold}
-use Rattle.tb_value.specs.Datum.{Datum}
+use Rattle.tb_value.specs.Promise.Datum.{Datum}
 use Rattle.tb_value.specs.See.{datum}
-use Rattle.tb_value.specs.Texts.{text_of}
+use Rattle.tb_value.specs.Promise.Texts.{text_of}
 use Rattle.tb_value.specs.declared.any_value.AnyValue.{AnyValue}
-use Rattle.tb_view.specs.Layout.{Building, buffers_of, building_of, with_nulls, with_rows}
-use Rattle.tb_view.specs.ViewArrays.{ViewArray}
+use Rattle.tb_view.specs.Promise.Layout.{buffers_of}
+use Rattle.tb_view.specs.Layout.{Building, building_of, with_nulls, with_rows}
+use Rattle.tb_view.specs.Promise.ViewArrays.{ViewArray}
 
 -- the runs of values of a column
 abbrev pub data_runs : List (AnyValue × ℕ) → List (Datum × ℕ)

@@ -3,13 +3,9 @@ use Rattle.std.specs.Prelude.{◌≡◌, ◌<◌, ◌+◌, ◌^◌, ◌++◌, �
 use Rattle.std.specs.List.{flat_map}
 use Rattle.tb_view.specs.Moved.{moved_view}
 use Rattle.tb_view.specs.declared.view.View.{View}
+use Rattle.tb_view.specs.Promise.ViewArrays.{ViewArray}
 
--- a view for each row, and the buffers
-pub record ViewArray : Type 0 where
-  pub views : List (Option View)
-  pub buffers : List (List ℕ)
-
--- those of chunks, by what the views and the buffers of a chunk are
+-- the view arrays of chunks, by what the views and the buffers of a chunk are
 abbrev pub view_arrays_of : {C : Type 0} → (C → List (Option View)) → (C → List (List ℕ)) → List C → List ViewArray
 view_arrays_of views buffers chunks = map (λ c. record { views = views c; buffers = buffers c }) chunks
 

@@ -1,6 +1,7 @@
 //! Buffers that texts are put into.
 ghost use Rattle.std.specs.Prelude.{◌≡◌, ◌<◌, ◌+◌, ◌^◌, ◌∷◌, ◌++◌, [], IfOk, OnOk, OnErr, Some, length, map};
-ghost use Rattle.tb_view.specs.Layout.{IsPut, IsRow, buffers_of};
+ghost use Rattle.tb_view.specs.Promise.Layout.{buffers_of};
+ghost use Rattle.tb_view.specs.Layout.{IsPut, IsRow};
 
 use crate::view::View;
 use std::alloc::Global;

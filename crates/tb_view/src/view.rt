@@ -1,6 +1,6 @@
 //! Texts of 16 bytes, or the place of a longer one.
 ghost use Rattle.std.specs.Prelude.{◌≡◌, ◌<◌, ◌≤◌, ◌+◌, ◌^◌, length, take};
-ghost use Rattle.tb_view.specs.Layout.{long_view, short_view};
+ghost use Rattle.tb_view.specs.Promise.Layout.{long_view, short_view};
 ghost use Rattle.tb_view.specs.Moved.{renumbered_view};
 ghost use Rattle.tb_view.specs.View.{buffer_of, offset_of, view_text, IsInline, IsView};
 

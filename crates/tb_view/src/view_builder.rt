@@ -1,9 +1,10 @@
 //! Views made of texts, one after another.
 ghost use Rattle.std.specs.Prelude.{◌≡◌, ◌<◌, ◌^◌, [], IfOk, OnOk, OnErr, None, Some, length, map};
 ghost use Rattle.tb_value.specs.See.{datum};
-ghost use Rattle.tb_view.specs.Layout.{buffers_of, building_of, text_view_array, with_nulls, with_row, with_rows};
+ghost use Rattle.tb_view.specs.Promise.Layout.{buffers_of, text_view_array};
+ghost use Rattle.tb_view.specs.Layout.{building_of, with_nulls, with_row, with_rows};
 ghost use Rattle.tb_view.specs.RunViews.{data_runs, run_building, text_runs, with_run};
-ghost use Rattle.tb_value.specs.Texts.{text_of};
+ghost use Rattle.tb_value.specs.Promise.Texts.{text_of};
 ghost use Rattle.tb_view.specs.View.{texts};
 
 use crate::filling::Filling;

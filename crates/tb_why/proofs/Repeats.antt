@@ -4,9 +4,9 @@ use Rattle.std.specs.Prelude.{option_and_then}
 use Rattle.std.specs.List.{find}
 use Rattle.std.proofs.lemmas.List.{length-map}
 use Rattle.serde_json.specs.Data.{Data}
-use Rattle.tb_value.specs.Names.{Name}
-use Rattle.tb_value.specs.Pairs.{row_numbers}
-use Rattle.tb_frame.specs.Refusal.{repeats}
+use Rattle.tb_value.specs.Promise.Names.{Name}
+use Rattle.tb_value.specs.Promise.Pairs.{row_numbers}
+use Rattle.tb_frame.specs.Promise.Refusal.{repeats}
 use Rattle.tb_why.specs.declared.spot.Expected.TheVariants.{OtherName}
 use Rattle.tb_why.specs.declared.spot.Step.TheVariants.{Member, Index}
 use Rattle.tb_why.specs.Columns.{name_at, name_spot}

@@ -5,7 +5,7 @@ use Rattle.std.specs.List.{list_all}
 use Rattle.serde_json.specs.Data.{Data}
 use Rattle.tb_tree.specs.View.{view}
 use Rattle.tb_tree.specs.declared.value.Value.{Value}
-use Rattle.tb_json.specs.Lists.{each, as_list, list_of}
+use Rattle.tb_json.specs.Promise.Lists.{each, as_list, list_of}
 
 one_more : {B : Type 0} (o : Option B) (r : Option (List B)) (b : Bool) → is_some r ≡ b → is_some (option_and_then (λ y. option_map (λ ys. y ∷ ys) r) o) ≡ is_some o && b
 one_more None r b e = refl

@@ -8,8 +8,8 @@ use Rattle.serde_json.specs.Find.{as_object}
 use Rattle.tb_tree.specs.View.{view, members_view}
 use Rattle.tb_tree.specs.declared.value.Value.{Value}
 use Rattle.tb_tree.proofs.Views.{Entry}
-use Rattle.tb_value.specs.Names.{Name}
-use Rattle.tb_json.specs.Lists.{is_among}
+use Rattle.tb_value.specs.Promise.Names.{Name}
+use Rattle.tb_json.specs.Promise.Lists.{is_among}
 use Rattle.tb_why.specs.declared.spot.Step.TheVariants.{Index}
 use Rattle.tb_why.specs.Spots.{Spot, under, or_else, first_at}
 use Rattle.tb_why.specs.Members.{unknown_in, unknown_among}

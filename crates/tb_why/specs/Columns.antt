@@ -3,23 +3,23 @@ use Rattle.std.specs.Prelude.{ℕ, ℤ, ◌==◌, List, [], ◌∷◌, length, m
 use Rattle.std.specs.List.{find}
 use Rattle.serde_json.specs.Data.{Data}
 use Rattle.serde_json.specs.Find.{get, as_str}
-use Rattle.tb_value.specs.Kind as kind
-use Rattle.tb_value.specs.Kind.{Kind}
-use Rattle.tb_value.specs.Names.{Name}
-use Rattle.tb_value.specs.Pairs.{row_numbers}
-use Rattle.tb_value.specs.Typed.{ends}
+use Rattle.tb_value.specs.Promise.Kind as kind
+use Rattle.tb_value.specs.Promise.Kind.{Kind}
+use Rattle.tb_value.specs.Promise.Names.{Name}
+use Rattle.tb_value.specs.Promise.Pairs.{row_numbers}
+use Rattle.tb_value.specs.Promise.Typed.{ends}
 use Rattle.tb_value.specs.declared.limits.TheConstants.{MAX_ROWS}
 use Rattle.tb_value.specs.declared.sorted.IsSorted.{IsSorted}
-use Rattle.tb_chunk.specs.Col.{Col, values}
-use Rattle.tb_frame.specs.Refusal.{repeats}
-use Rattle.tb_json.specs.Cells.{cell_in}
-use Rattle.tb_json.specs.Kinds.{kind_in}
-use Rattle.tb_json.specs.Lists.{◌>>=◌, as_list}
+use Rattle.tb_chunk.specs.Promise.Col.{Col, values}
+use Rattle.tb_frame.specs.Promise.Refusal.{repeats}
+use Rattle.tb_json.specs.Promise.Cells.{cell_in}
+use Rattle.tb_json.specs.Promise.Kinds.{kind_in}
+use Rattle.tb_json.specs.Promise.Lists.{◌>>=◌, as_list}
 use Rattle.tb_request.specs.declared.request.Reason.{Reason}
 use Rattle.tb_request.specs.declared.request.Reason.TheVariants as why
-use Rattle.tb_request.specs.Columns.{values_of}
-use Rattle.tb_request.specs.Flags.{flag_holds}
-use Rattle.tb_request.specs.Written.{flag_of}
+use Rattle.tb_request.specs.Promise.Columns.{values_of}
+use Rattle.tb_request.specs.Promise.Flags.{flag_holds}
+use Rattle.tb_request.specs.Promise.Written.{flag_of}
 use Rattle.tb_why.specs.declared.spot.Expected.{Expected}
 use Rattle.tb_why.specs.declared.spot.Expected.TheVariants as expected
 use Rattle.tb_why.specs.declared.spot.Step.TheVariants.{Member, Index}

@@ -2,11 +2,11 @@
 use Rattle.std.specs.Prelude.{ℕ, List, [], ◌∷◌, map, nat_le, Bool, true, false, ◌||◌, if◌then◌else◌, Option, Some, None, is_some, option_and_then, option_map, unwrap_or, codes}
 use Rattle.serde_json.specs.Data.{Data, null, boolean, number, string, array, object, Members, no_members, member}
 use Rattle.serde_json.specs.Find.{get, as_bool, as_str, as_object}
-use Rattle.tb_value.specs.Names.{Name}
-use Rattle.tb_json.specs.Kinds.{kind_in}
-use Rattle.tb_json.specs.Lists.{as_list, list_of, is_among}
-use Rattle.tb_request.specs.Reading.{may_count}
-use Rattle.tb_request.specs.Written.{how_named, validation_named, coalesce_named, order_named, flag_named, agg_named, slice_in, count_of}
+use Rattle.tb_value.specs.Promise.Names.{Name}
+use Rattle.tb_json.specs.Promise.Kinds.{kind_in}
+use Rattle.tb_json.specs.Promise.Lists.{as_list, list_of, is_among}
+use Rattle.tb_request.specs.Promise.Reading.{may_count}
+use Rattle.tb_request.specs.Promise.Written.{how_named, validation_named, coalesce_named, order_named, flag_named, agg_named, slice_in, count_of}
 use Rattle.tb_why.specs.declared.spot.Expected.TheVariants as expected
 use Rattle.tb_why.specs.declared.spot.Form.{Form}
 use Rattle.tb_why.specs.declared.spot.Form.TheVariants as form

@@ -3,7 +3,7 @@ use Rattle.std.specs.Prelude.{ℕ, List, [], Option, Some, None, unwrap_or, code
 use Rattle.serde_json.specs.Data.{Data}
 use Rattle.tb_request.specs.declared.request.Reason.{Reason}
 use Rattle.tb_request.specs.declared.request.Reason.TheVariants as why
-use Rattle.tb_request.specs.Reading.{join_request_of, unpivot_request_of, dummies_request_of, pivot_request_of, value_of}
+use Rattle.tb_request.specs.Promise.Reading.{join_request_of, unpivot_request_of, dummies_request_of, pivot_request_of, value_of}
 use Rattle.tb_why.specs.declared.spot.Command.{Command}
 use Rattle.tb_why.specs.declared.spot.Command.TheVariants as command
 use Rattle.tb_why.specs.declared.spot.Expected.TheVariants as expected

@@ -32,7 +32,7 @@ fn shape_spot(alloc: Global, column: &Tree) -> Result<Option<Spot>, OutOfMemory>
 }
 
 // Whether the column, of this type and with no name, is in the order; true where it has no such values.
-#[tactic(auto, unfolding(tb_request::specs::Columns::values_of))]
+#[tactic(auto, unfolding(tb_request::specs::Promise::Columns::values_of))]
 fn is_ordered(
     alloc: Global,
     flag: IsSorted,

@@ -3,7 +3,7 @@ ghost use Rattle.std.specs.Prelude.{◌≡◌, is_some, IfOk};
 ghost use Rattle.std.specs.List.{list_all};
 ghost use Rattle.serde_json.specs.Find.{as_str};
 ghost use Rattle.tb_tree.specs.View.{view};
-ghost use Rattle.tb_json.specs.Lists.{as_list};
+ghost use Rattle.tb_json.specs.Promise.Lists.{as_list};
 ghost use Rattle.tb_why.specs.Members.{has_form, is_word};
 
 use crate::spot::{Form, Word};

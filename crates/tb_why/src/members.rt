@@ -1,7 +1,7 @@
 //! The members that objects of a request have.
 ghost use Rattle.std.specs.Prelude.{◌≡◌, option_map};
 ghost use Rattle.tb_tree.specs.View.{view};
-ghost use Rattle.tb_json.specs.Lists.{is_among};
+ghost use Rattle.tb_json.specs.Promise.Lists.{is_among};
 ghost use Rattle.tb_why.specs.Members.{known_view, known_views, names_of, needed_member, optional_member, fault_of, each_known, unknown_spot, members_spot};
 ghost use Rattle.tb_why.specs.Spots.{spot_view, unless, Finds};
 

@@ -2,8 +2,8 @@
 ghost use Rattle.std.specs.Prelude.{◌≡◌, length, map, IfOk};
 ghost use Rattle.std.specs.List.{find};
 ghost use Rattle.tb_tree.specs.View.{view};
-ghost use Rattle.tb_value.specs.Pairs.{row_numbers};
-ghost use Rattle.tb_frame.specs.Refusal.{repeats};
+ghost use Rattle.tb_value.specs.Promise.Pairs.{row_numbers};
+ghost use Rattle.tb_frame.specs.Promise.Refusal.{repeats};
 ghost use Rattle.tb_why.specs.Columns.{name_at, name_spot};
 ghost use Rattle.tb_why.specs.Spots.{Finds};
 

@@ -5,13 +5,13 @@ ghost use Rattle.serde_json.specs.Find.{as_bool, as_object, as_str, get};
 ghost use Rattle.tb_tree.specs.View.{view};
 ghost use Rattle.tb_value.specs.See.{data_of};
 ghost use Rattle.tb_value.specs.SeeKind.{kind_of};
-ghost use Rattle.tb_value.specs.Typed.{HasType};
+ghost use Rattle.tb_value.specs.Promise.Typed.{HasType};
 ghost use Rattle.tb_chunk.specs.Made.{lists_of, IsTyped};
-ghost use Rattle.tb_json.specs.Cells.{cell_in};
-ghost use Rattle.tb_json.specs.Kinds.{kind_in};
-ghost use Rattle.tb_json.specs.Lists.{as_list, each};
+ghost use Rattle.tb_json.specs.Promise.Cells.{cell_in};
+ghost use Rattle.tb_json.specs.Promise.Kinds.{kind_in};
+ghost use Rattle.tb_json.specs.Promise.Lists.{as_list, each};
 ghost use Rattle.tb_request.specs.declared.request.Reason.TheVariants.{Json};
-ghost use Rattle.tb_request.specs.Reading.{value_of};
+ghost use Rattle.tb_request.specs.Promise.Reading.{value_of};
 ghost use Rattle.tb_why.specs.Columns.{items_of, items_at, chunks_at};
 ghost use Rattle.tb_why.specs.Members.{known_views, names_of, unknown_in};
 

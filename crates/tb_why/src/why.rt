@@ -1,7 +1,7 @@
 //! Why bytes are no request, and where.
 ghost use Rattle.std.specs.Prelude.{◌≡◌, codes, option_map, IfOk, IfSome};
 ghost use Rattle.tb_tree.specs.View.{view};
-ghost use Rattle.tb_request.specs.Reading.{dummies_request_of, join_request_of, pivot_request_of, unpivot_request_of};
+ghost use Rattle.tb_request.specs.Promise.Reading.{dummies_request_of, join_request_of, pivot_request_of, unpivot_request_of};
 ghost use Rattle.tb_why.specs.Columns.{table_spot};
 ghost use Rattle.tb_why.specs.Members.{dummies_members, exec_with, join_members, members_spot, pivot_members, unpivot_members};
 ghost use Rattle.tb_why.specs.Requests.{args_spot, exec_known, members_of, parts_spot, reason_of, refusal, request_spot, sides_spot, spot_at, IsPlaced};

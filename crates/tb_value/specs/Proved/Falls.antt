@@ -2,7 +2,7 @@
 use Rattle.std.specs.Prelude.{◌≤◌, max, List, [], ◌∷◌}
 use Rattle.std.proofs.Common.{arith}
 use denote.Param.Weighed.{most}
-use Rattle.tb_value.specs.Datum.{weight, weights, items_of}
+use Rattle.tb_value.specs.Promise.Datum.{weight, weights, items_of}
 use Rattle.tb_value.specs.See.{datum, data_of}
 use Rattle.tb_value.specs.declared.any_value.AnyValue.{AnyValue}
 use Rattle.tb_value.specs.declared.any_value.AnyValue.TheVariants as any

@@ -3,10 +3,10 @@ use Rattle.std.proofs.Common.{◌≡◌, ℕ, true, ◌&&◌, List, Option, Some
 use Rattle.std.specs.Bool.{Decides}
 use Rattle.std.specs.Cmp.{IsEquivalence, first_so, second_so}
 use Rattle.std.proofs.lemmas.Slice.Eq.{bytes_eq-Decides}
-use Rattle.tb_value.specs.Kind.{Kind, Part, Parts, null, boolean, int8, int16, int32, int64, int128, uint8, uint16, uint32, uint64, string, binary, date, time, datetime, duration, list, struct, end, part}
-use Rattle.tb_value.specs.Names.{same_name}
+use Rattle.tb_value.specs.Promise.Kind.{Kind, Part, Parts, null, boolean, int8, int16, int32, int64, int128, uint8, uint16, uint32, uint64, string, binary, date, time, datetime, duration, list, struct, end, part}
+use Rattle.tb_value.specs.Promise.Names.{same_name}
 use Rattle.tb_value.specs.Proved.ValueTests.{from_decides}
-use Rattle.tb_value.specs.SameKind.{same_unit, same_zone, same_kind, same_parts, same_part}
+use Rattle.tb_value.specs.Promise.SameKind.{same_unit, same_zone, same_kind, same_parts, same_part}
 use Rattle.tb_value.specs.declared.dtype.TimeUnit.{TimeUnit}
 use Rattle.tb_value.specs.declared.dtype.TimeUnit.TheVariants.{Nanoseconds, Microseconds, Milliseconds}
 

@@ -4,8 +4,8 @@ use Rattle.std.specs.Bool.{Decides}
 use Rattle.std.specs.Cmp.{booleans_Decides, signed_Decides, IsEquivalence, first_so, second_so}
 use Rattle.std.proofs.Common.{ap, sym}
 use Rattle.std.proofs.lemmas.Slice.Eq.{bytes_eq-Decides}
-use Rattle.tb_value.specs.Datum.{Datum, Items, null, boolean, int, string, binary, list, struct, end, more}
-use Rattle.tb_value.specs.Same.{same, same_items}
+use Rattle.tb_value.specs.Promise.Datum.{Datum, Items, null, boolean, int, string, binary, list, struct, end, more}
+use Rattle.tb_value.specs.Promise.Same.{same, same_items}
 
 mutual
   pub same-Decides : (x y : Datum) → Decides (same x y) (x ≡ y)

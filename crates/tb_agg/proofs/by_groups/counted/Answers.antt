@@ -2,13 +2,13 @@ use Rattle.std.proofs.Common.{◌∙◌, ◌≤◌, List, length, map, pos, Some
 use Rattle.std.specs.List.{All}
 use Rattle.std.proofs.lemmas.List.{length-map}
 use Rattle.std.proofs.lemmas.List.FromFn.{length-range_with_len}
-use Rattle.tb_value.specs.Datum.{Datum, int}
-use Rattle.tb_value.specs.Kind as kind
-use Rattle.tb_value.specs.Pairs.{row_numbers}
+use Rattle.tb_value.specs.Promise.Datum.{Datum, int}
+use Rattle.tb_value.specs.Promise.Kind as kind
+use Rattle.tb_value.specs.Promise.Pairs.{row_numbers}
 use Rattle.tb_value.specs.See.{datum, data_of}
 use Rattle.tb_value.specs.SeeKind.{kind_of}
-use Rattle.tb_value.specs.Typed.{HasType}
-use Rattle.tb_chunk.specs.Col.{values}
+use Rattle.tb_value.specs.Promise.Typed.{HasType}
+use Rattle.tb_chunk.specs.Promise.Col.{values}
 use Rattle.tb_agg.specs.Grouped.{rows_of}
 use Rattle.tb_agg.specs.declared.table.Aggregate.TheVariants.{Count}
 use Rattle.tb_agg.proofs.Outcomes.{counts_are, counts_typed, made_of}

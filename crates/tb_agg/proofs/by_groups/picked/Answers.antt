@@ -1,9 +1,9 @@
 use Rattle.std.proofs.Common.{◌≡◌, ◌∙◌, ◌∷◌, [], IfOk, length, List, map, arith, ap, subst}
 use Rattle.std.proofs.lemmas.Result.{IfOk-weaker}
 use Rattle.std.proofs.lemmas.List.FromFn.{length-map-range_with_len}
-use Rattle.tb_value.specs.Datum.{Datum}
-use Rattle.tb_value.specs.Pairs.{row_numbers}
-use Rattle.tb_chunk.specs.Col.{Col, values}
+use Rattle.tb_value.specs.Promise.Datum.{Datum}
+use Rattle.tb_value.specs.Promise.Pairs.{row_numbers}
+use Rattle.tb_chunk.specs.Promise.Col.{Col, values}
 use Rattle.tb_chunk.specs.Changed.{opt_taken_rows}
 use Rattle.tb_chunk.specs.Made.{IsOf}
 use Rattle.tb_chunk.specs.Rows.{value_or_null}

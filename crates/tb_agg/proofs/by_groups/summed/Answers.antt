@@ -1,11 +1,11 @@
 use Rattle.std.proofs.Common.{◌∙◌, length, map, sym, ap, arith}
 use Rattle.std.proofs.lemmas.List.{length-map}
 use Rattle.std.proofs.lemmas.List.FromFn.{length-map-range_with_len}
-use Rattle.tb_value.specs.Datum.{int}
+use Rattle.tb_value.specs.Promise.Datum.{int}
 use Rattle.tb_value.specs.See.{datum, data_of}
 use Rattle.tb_value.specs.SeeKind.{kind_of}
-use Rattle.tb_chunk.specs.Col.{values}
-use Rattle.tb_agg.specs.Aggregates.{sum_kind, total}
+use Rattle.tb_chunk.specs.Promise.Col.{values}
+use Rattle.tb_agg.specs.Promise.Aggregates.{sum_kind, total}
 use Rattle.tb_agg.specs.Grouped.{values_of}
 use Rattle.tb_agg.specs.Running.{sum_so_far}
 use Rattle.tb_agg.specs.declared.table.Aggregate.TheVariants.{Sum}

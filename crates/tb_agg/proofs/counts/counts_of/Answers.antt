@@ -1,6 +1,6 @@
 use Rattle.std.proofs.Common.{◌≡◌, ◌∙◌, ◌+◌, ℕ, [], ◌∷◌, get_or, length, map, replicate, refl, sym, ap, arith}
 use Rattle.std.proofs.lemmas.List.{length-append, map-id}
-use Rattle.tb_value.specs.Pairs.{row_numbers}
+use Rattle.tb_value.specs.Promise.Pairs.{row_numbers}
 use Rattle.tb_agg.specs.Grouped.{rows_of}
 use Rattle.tb_agg.proofs.Steps.{group_low, kept_there, none_yet, one_more, rows_few}
 use Rattle.tb_agg.proofs.counts.counts_of.Goals as goal

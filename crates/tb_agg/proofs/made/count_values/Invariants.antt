@@ -1,5 +1,5 @@
 use Rattle.std.proofs.Common.{◌≡◌, map, pos, take}
-use Rattle.tb_value.specs.Datum.{int}
+use Rattle.tb_value.specs.Promise.Datum.{int}
 use Rattle.tb_value.specs.See.{data_of}
 use Rattle.tb_agg.proofs.made.count_values.Given as goal
 

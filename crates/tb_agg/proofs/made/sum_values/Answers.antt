@@ -3,11 +3,11 @@ use Rattle.std.specs.List.{All}
 use Rattle.std.proofs.Math.Seq.{take-length}
 use Rattle.std.proofs.lemmas.List.{get_or-map, length-map}
 use Rattle.std.proofs.lemmas.List.Folds.{list_all_at}
-use Rattle.tb_value.specs.Datum.{Datum, int}
+use Rattle.tb_value.specs.Promise.Datum.{Datum, int}
 use Rattle.tb_value.specs.See.{data_of}
 use Rattle.tb_value.specs.SeeKind.{kind_of}
-use Rattle.tb_value.specs.Typed.{HasType, ends}
-use Rattle.tb_agg.specs.Outcome.{lies_within}
+use Rattle.tb_value.specs.Promise.Typed.{HasType, ends}
+use Rattle.tb_agg.specs.Promise.Outcome.{lies_within}
 use Rattle.tb_agg.specs.Running.{sum_so_far}
 use Rattle.tb_agg.proofs.Ranges.{all_within, typed_more, untyped_outside}
 use Rattle.tb_agg.proofs.Totals.{values_more}

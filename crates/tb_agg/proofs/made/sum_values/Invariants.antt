@@ -1,9 +1,9 @@
 use Rattle.std.proofs.Common.{◌≡◌, map, take}
 use Rattle.std.specs.List.{All}
-use Rattle.tb_value.specs.Datum.{int}
+use Rattle.tb_value.specs.Promise.Datum.{int}
 use Rattle.tb_value.specs.See.{data_of}
 use Rattle.tb_value.specs.SeeKind.{kind_of}
-use Rattle.tb_value.specs.Typed.{HasType}
+use Rattle.tb_value.specs.Promise.Typed.{HasType}
 use Rattle.tb_agg.specs.Running.{sum_so_far}
 use Rattle.tb_agg.proofs.made.sum_values.Given as goal
 

@@ -2,8 +2,8 @@ use Rattle.std.proofs.Common.{◌≡◌, ◌∙◌, ◌<◌, ℕ, List, Option, 
 use Rattle.std.specs.List.{All}
 use Rattle.std.proofs.lemmas.List.{map-id}
 use Rattle.std.proofs.lemmas.List.Elements.{All-replicate, All-set}
-use Rattle.tb_value.specs.Pairs.{row_numbers}
-use Rattle.tb_chunk.specs.Col.{values}
+use Rattle.tb_value.specs.Promise.Pairs.{row_numbers}
+use Rattle.tb_chunk.specs.Promise.Col.{values}
 use Rattle.tb_chunk.specs.Rows.{IsRowOf}
 use Rattle.tb_agg.specs.Grouped.{rows_of}
 use Rattle.tb_agg.specs.Picking.{picked_row}

@@ -1,7 +1,7 @@
 use Rattle.std.proofs.Common.{◌≡◌, ℕ, Option, length, map}
 use Rattle.std.specs.List.{All}
-use Rattle.tb_value.specs.Pairs.{row_numbers}
-use Rattle.tb_chunk.specs.Col.{values}
+use Rattle.tb_value.specs.Promise.Pairs.{row_numbers}
+use Rattle.tb_chunk.specs.Promise.Col.{values}
 use Rattle.tb_chunk.specs.Rows.{IsRowOf}
 use Rattle.tb_agg.specs.Grouped.{rows_of}
 use Rattle.tb_agg.specs.Picking.{picked_row}

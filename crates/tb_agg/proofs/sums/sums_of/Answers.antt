@@ -3,9 +3,9 @@ use Rattle.std.specs.List.{All}
 use Rattle.std.proofs.lemmas.Int.{ints}
 use Rattle.std.proofs.lemmas.List.Elements.{All-get_or, All-replicate, All-set}
 use Rattle.tb_value.specs.See.{lent_value}
-use Rattle.tb_chunk.specs.Col.{values}
-use Rattle.tb_rows.specs.Rows.{row_value}
-use Rattle.tb_agg.specs.Aggregates.{total}
+use Rattle.tb_chunk.specs.Promise.Col.{values}
+use Rattle.tb_rows.specs.Promise.Rows.{row_value}
+use Rattle.tb_agg.specs.Promise.Aggregates.{total}
 use Rattle.tb_agg.specs.Grouped.{rows_of}
 use Rattle.tb_agg.specs.Running.{sum_so_far}
 use Rattle.tb_agg.specs.declared.running.Running.{Running}

@@ -1,9 +1,9 @@
 use Rattle.std.proofs.Common.{◌≡◌, ◌≤ℤ◌, pos, neg_ℤ, length, map}
 use Rattle.std.specs.List.{All}
-use Rattle.tb_value.specs.Pairs.{row_numbers}
-use Rattle.tb_chunk.specs.Col.{values}
-use Rattle.tb_rows.specs.Rows.{row_value}
-use Rattle.tb_agg.specs.Aggregates.{total}
+use Rattle.tb_value.specs.Promise.Pairs.{row_numbers}
+use Rattle.tb_chunk.specs.Promise.Col.{values}
+use Rattle.tb_rows.specs.Promise.Rows.{row_value}
+use Rattle.tb_agg.specs.Promise.Aggregates.{total}
 use Rattle.tb_agg.specs.Grouped.{rows_of}
 use Rattle.tb_agg.specs.Running.{sum_so_far}
 use Rattle.tb_agg.proofs.sums.sums_of.Given as goal

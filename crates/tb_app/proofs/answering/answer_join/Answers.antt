@@ -1,5 +1,5 @@
 use Rattle.std.proofs.Common.{string_bytes}
-use Rattle.tb_app.specs.Requests.{join}
+use Rattle.tb_app.specs.Promise.Requests.{join}
 use Rattle.tb_app.proofs.Answered.{fault_is_due}
 use Rattle.tb_app.proofs.answering.answer_join.Goals as goal
 

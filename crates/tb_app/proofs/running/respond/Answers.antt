@@ -1,7 +1,7 @@
 use Rattle.std.proofs.Common.{refl, subst, sym}
 use Rattle.tb_app.specs.declared.status.Status.TheVariants as status
 use Rattle.tb_app.specs.Reading.{WasRead}
-use Rattle.tb_app.specs.Due.{IsDue}
+use Rattle.tb_app.specs.Promise.Due.{IsDue}
 use Rattle.tb_app.proofs.Frame.{whole_is_due, too_long_is_due}
 use Rattle.tb_app.proofs.running.respond.Goals as goal
 

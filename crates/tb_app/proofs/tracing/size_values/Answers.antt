@@ -1,7 +1,7 @@
 use Rattle.std.proofs.Common.{map, ap, ◌∙◌}
 use Rattle.std.proofs.lemmas.List.{take_all}
 use Rattle.serde_json.specs.View.{items_of}
-use Rattle.tb_app.specs.Traces.{count_data}
+use Rattle.tb_app.specs.Promise.Traces.{count_data}
 use Rattle.tb_app.proofs.tracing.size_values.Goals as goal
 
 pub returns : goal.returns

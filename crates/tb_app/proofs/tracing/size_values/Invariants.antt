@@ -1,6 +1,6 @@
 use Rattle.std.proofs.Common.{◌≡◌, map, take}
 use Rattle.serde_json.specs.View.{view}
-use Rattle.tb_app.specs.Traces.{count_data}
+use Rattle.tb_app.specs.Promise.Traces.{count_data}
 use Rattle.tb_app.proofs.tracing.size_values.Given as goal
 
 abbrev pub invariant-loop-size : goal.invariant-loop-size

@@ -2,9 +2,9 @@ use Rattle.std.proofs.Common.{◌≡◌, ap, ◌∙◌, subst, string_bytes}
 use Rattle.std.specs.Prelude.{IfOk}
 use Rattle.serde_json.specs.Data.{Data}
 use Rattle.serde_json.specs.Written.{has_float}
-use Rattle.tb_frame.specs.Table.{table_of}
-use Rattle.tb_json.specs.Text.{traced_text_of}
-use Rattle.tb_pairs.specs.Trace.{trace_told}
+use Rattle.tb_frame.specs.Promise.Table.{table_of}
+use Rattle.tb_json.specs.Promise.Text.{traced_text_of}
+use Rattle.tb_pairs.specs.Promise.Trace.{trace_told}
 use Rattle.tb_app.proofs.TraceTexts.{no_float}
 use Rattle.tb_app.proofs.tracing.text_with_trace.Goals as goal
 

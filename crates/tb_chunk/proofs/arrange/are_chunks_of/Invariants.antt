@@ -1,8 +1,8 @@
 use Rattle.std.proofs.Common.{◌↔◌, map, drop}
 use Rattle.std.specs.List.{All}
 use Rattle.tb_value.specs.SeeKind.{kind_of}
-use Rattle.tb_value.specs.Typed.{HasType}
-use Rattle.tb_chunk.specs.Col.{concatenation}
+use Rattle.tb_value.specs.Promise.Typed.{HasType}
+use Rattle.tb_chunk.specs.Promise.Col.{concatenation}
 use Rattle.tb_chunk.proofs.arrange.are_chunks_of.Given as goal
 
 -- the chunks that are left decide

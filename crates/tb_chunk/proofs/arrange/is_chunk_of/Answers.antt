@@ -1,6 +1,6 @@
 use Rattle.std.proofs.Common.{arith, refl}
 use Rattle.tb_value.specs.SeeKind.{kind_of}
-use Rattle.tb_value.specs.Typed.{HasType}
+use Rattle.tb_value.specs.Promise.Typed.{HasType}
 use Rattle.tb_value.specs.See.{lent_value}
 use Rattle.tb_chunk.proofs.Alls.{all_next_at, all_end}
 use Rattle.tb_chunk.proofs.arrange.is_chunk_of.Goals as goal

@@ -1,6 +1,6 @@
 use Rattle.std.proofs.Common.{◌≡◌, ◌+◌, length, map, drop}
-use Rattle.tb_chunk.specs.Col.{concatenation}
-use Rattle.tb_cell.specs.Flag.{nulls}
+use Rattle.tb_chunk.specs.Promise.Col.{concatenation}
+use Rattle.tb_cell.specs.Promise.Flag.{nulls}
 use Rattle.tb_chunk.proofs.chunks.nulls_in.Given as goal
 
 abbrev pub invariant-loop-chunk : goal.invariant-loop-chunk

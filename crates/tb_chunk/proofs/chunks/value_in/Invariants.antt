@@ -1,6 +1,6 @@
 use Rattle.std.proofs.Common.{◌≡◌, ◌<◌, length, map, drop, get_or}
-use Rattle.tb_chunk.specs.Col.{concatenation}
-use Rattle.tb_value.specs.Datum.{null}
+use Rattle.tb_chunk.specs.Promise.Col.{concatenation}
+use Rattle.tb_value.specs.Promise.Datum.{null}
 use Rattle.tb_chunk.proofs.chunks.value_in.Given as goal
 
 abbrev pub invariant-loop-chunk : goal.invariant-loop-chunk

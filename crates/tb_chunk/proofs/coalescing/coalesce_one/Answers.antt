@@ -1,8 +1,9 @@
 use Rattle.std.proofs.Common.{arith, ◌≡◌, ◌∙◌, ℕ, List, [], ◌∷◌, ◌++◌, Option, ap, sym, length, map, take, get_or}
 use Rattle.std.proofs.lemmas.List.{take_all}
-use Rattle.tb_chunk.specs.Col.{concatenation}
+use Rattle.tb_chunk.specs.Promise.Col.{concatenation}
 use Rattle.tb_chunk.specs.Coalesced.{coalesced_view_array}
-use Rattle.tb_view.specs.ViewArrays.{ViewArray, view_array_at, view_arrays_of, joined_view_array}
+use Rattle.tb_view.specs.Promise.ViewArrays.{ViewArray}
+use Rattle.tb_view.specs.ViewArrays.{view_array_at, view_arrays_of, joined_view_array}
 use Rattle.tb_view.specs.declared.view.View.{View}
 use Rattle.tb_view.proofs.ViewArrays.{length-whole, runs_viewed}
 use Rattle.tb_chunk.proofs.coalescing.coalesce_one.Goals as goal

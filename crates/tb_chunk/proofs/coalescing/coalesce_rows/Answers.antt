@@ -1,7 +1,8 @@
 use Rattle.std.proofs.Common.{◌≡◌, ◌<◌, ◌∙◌, ◌∷◌, ◌++◌, ℕ, Bool, List, [], Option, None, true, false, cond, sym, ap, refl, arith, length, map, get_or}
 use Rattle.std.proofs.lemmas.List.{get_or-map, take_all}
-use Rattle.tb_value.specs.Datum.{Datum, null, is_null}
-use Rattle.tb_chunk.specs.Coalesced.{or_else, coalesced_values, coalesced_view_array}
+use Rattle.tb_value.specs.Promise.Datum.{Datum, null, is_null}
+use Rattle.tb_chunk.specs.Promise.Coalesced.{or_else}
+use Rattle.tb_chunk.specs.Coalesced.{coalesced_values, coalesced_view_array}
 use Rattle.tb_view.specs.Moved.{moved_view}
 use Rattle.tb_view.specs.ViewArrays.{view_array_at, view_arrays_of}
 use Rattle.tb_view.specs.declared.view.View.{View}

@@ -1,6 +1,6 @@
 use Rattle.std.proofs.Common.{◌≡◌, ◌∙◌, ◌++◌, ◌-◌, ◌+◌, ◌<◌, [], ap, sym, arith, get_or, length, map, take, drop, min, length-append, length-take-le, length-drop}
 use Rattle.std.proofs.lemmas.List.{get_or-map, length-map}
-use Rattle.tb_chunk.specs.Col.{concatenation}
+use Rattle.tb_chunk.specs.Promise.Col.{concatenation}
 use Rattle.tb_view.specs.Moved.{moved_view}
 use Rattle.tb_view.specs.ViewArrays.{base_of, moved_views, view_arrays_of}
 use Rattle.tb_chunk.proofs.Lists.{flat_drop}

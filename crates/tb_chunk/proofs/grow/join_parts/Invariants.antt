@@ -1,5 +1,5 @@
 use Rattle.std.proofs.Common.{◌≡◌, ◌+◌, ◌≤◌, ◌++◌, length, take, drop, map}
-use Rattle.tb_chunk.specs.Col.{concatenation}
+use Rattle.tb_chunk.specs.Promise.Col.{concatenation}
 use Rattle.tb_view.specs.Held.{AreHeld}
 use Rattle.tb_view.specs.ViewArrays.{AreBases, all_buffers, base_of, moved_views, view_arrays_of}
 use Rattle.tb_chunk.proofs.grow.join_parts.Given as goal

@@ -1,6 +1,6 @@
 use Rattle.std.proofs.Common.{arith, ◌≡◌, ◌∙◌, ◌+◌, ◌<◌, ◌++◌, ◌∷◌, [], ℕ, List, None, ap, sym, append_assoc, get_or, length, map, take, drop, length-drop}
 use Rattle.std.proofs.lemmas.List.{take_more, get_or-drop}
-use Rattle.tb_value.specs.Datum.{null}
+use Rattle.tb_value.specs.Promise.Datum.{null}
 use Rattle.tb_view.specs.Moved.{moved_view}
 use Rattle.tb_view.proofs.ViewArrays.{lengths_at, moved_more}
 use Rattle.tb_chunk.proofs.grow.push_each.Goals as goal

@@ -1,7 +1,7 @@
 use Rattle.std.proofs.Common.{arith, refl}
 use Rattle.tb_value.specs.See.{data_of}
 use Rattle.tb_value.specs.SeeKind.{kind_of}
-use Rattle.tb_value.specs.Typed.{HasType}
+use Rattle.tb_value.specs.Promise.Typed.{HasType}
 use Rattle.tb_chunk.proofs.Alls.{all_next_list, all_none}
 use Rattle.tb_chunk.proofs.make.all_are_of.Goals as goal
 

@@ -1,7 +1,7 @@
 use Rattle.std.proofs.Common.{arith}
 use Rattle.tb_value.specs.See.{datum}
 use Rattle.tb_value.specs.SeeKind.{kind_of}
-use Rattle.tb_value.specs.Typed.{HasType}
+use Rattle.tb_value.specs.Promise.Typed.{HasType}
 use Rattle.tb_chunk.proofs.Alls.{all_next}
 use Rattle.tb_chunk.proofs.make.are_of.Goals as goal
 

@@ -6,7 +6,7 @@ use Rattle.std.proofs.lemmas.Grind.{common_steps}
 use Rattle.tb_value.specs.See.{data_of}
 use Rattle.tb_value.specs.declared.any_value.AnyValue.{AnyValue}
 use Rattle.tb_cell.specs.Fits.{Fits}
-use Rattle.tb_chunk.specs.Fresh.{fresh_view_array, fresh_view_arrays}
+use Rattle.tb_chunk.specs.Promise.Fresh.{fresh_view_array, fresh_view_arrays}
 use Rattle.tb_chunk.specs.Made.{lists_of}
 use Rattle.tb_view.specs.ViewArrays.{view_arrays_of}
 use Rattle.tb_view.specs.declared.view.View.{View}

@@ -1,8 +1,8 @@
 use Rattle.std.proofs.Common.{◌≡◌, map, take, drop}
 use Rattle.std.specs.List.{All}
-use Rattle.tb_chunk.specs.Col.{concatenation}
+use Rattle.tb_chunk.specs.Promise.Col.{concatenation}
 use Rattle.tb_cell.specs.Fits.{Fits}
-use Rattle.tb_chunk.specs.Fresh.{fresh_view_arrays}
+use Rattle.tb_chunk.specs.Promise.Fresh.{fresh_view_arrays}
 use Rattle.tb_chunk.specs.Made.{lists_of}
 use Rattle.tb_view.specs.ViewArrays.{view_arrays_of}
 use Rattle.tb_chunk.proofs.make.build.Given as goal

@@ -1,8 +1,8 @@
 use Rattle.std.proofs.Common.{arith, ◌≡◌, ◌∙◌, ◌-◌, ◌+◌, ap, sym, length, map, take, drop, min, length-append}
 use Rattle.std.specs.Prelude.{option_map, is_some}
 use Rattle.tb_value.specs.See.{lent_value}
-use Rattle.tb_cell.specs.Order.{last_in_order}
-use Rattle.tb_chunk.specs.Col.{concatenation}
+use Rattle.tb_cell.specs.Promise.Order.{last_in_order}
+use Rattle.tb_chunk.specs.Promise.Col.{concatenation}
 use Rattle.tb_cell.proofs.Follow.{followed_part, followed_on}
 use Rattle.tb_chunk.proofs.Lists.{flat_drop}
 use Rattle.tb_chunk.proofs.ordering.follow.Goals as goal

@@ -1,8 +1,8 @@
 use Rattle.std.proofs.Common.{◌≡◌, ◌+◌, ◌≤◌, length, take, drop, map}
-use Rattle.tb_value.specs.Datum.{null}
+use Rattle.tb_value.specs.Promise.Datum.{null}
 use Rattle.tb_value.specs.See.{lent_value}
-use Rattle.tb_cell.specs.Order.{last_in_order}
-use Rattle.tb_chunk.specs.Col.{concatenation}
+use Rattle.tb_cell.specs.Promise.Order.{last_in_order}
+use Rattle.tb_chunk.specs.Promise.Col.{concatenation}
 use Rattle.tb_chunk.proofs.ordering.follow.Given as goal
 
 abbrev pub invariant-loop-chunk : goal.invariant-loop-chunk

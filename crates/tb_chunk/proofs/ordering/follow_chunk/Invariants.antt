@@ -1,6 +1,6 @@
 use Rattle.std.proofs.Common.{◌≡◌, ◌-◌, ◌+◌, take, drop}
 use Rattle.tb_value.specs.See.{lent_value}
-use Rattle.tb_cell.specs.Order.{last_in_order}
+use Rattle.tb_cell.specs.Promise.Order.{last_in_order}
 use Rattle.tb_chunk.proofs.ordering.follow_chunk.Given as goal
 
 -- the rows that are left decide

@@ -1,7 +1,7 @@
 use Rattle.std.proofs.Common.{arith, ◌≡◌, ◌<◌, ◌+◌, ◌∙◌, ◌++◌, ◌∷◌, [], ℕ, List, Option, Some, None, ap, sym, append-nil, get_or, length, map, take}
 use Rattle.std.proofs.lemmas.List.{map_more}
-use Rattle.tb_value.specs.Datum.{Datum, null}
-use Rattle.tb_chunk.specs.Col.{concatenation}
+use Rattle.tb_value.specs.Promise.Datum.{Datum, null}
+use Rattle.tb_chunk.specs.Promise.Col.{concatenation}
 use Rattle.tb_chunk.specs.Rows.{value_or_null}
 use Rattle.tb_view.specs.ViewArrays.{moved_views, view_arrays_of, view_or_none}
 use Rattle.tb_view.proofs.ViewArrays.{length-runs_of, view_of_one}

@@ -1,5 +1,5 @@
 use Rattle.std.proofs.Common.{◌≡◌, map, take}
-use Rattle.tb_chunk.specs.Col.{concatenation}
+use Rattle.tb_chunk.specs.Promise.Col.{concatenation}
 use Rattle.tb_view.specs.Held.{AreHeld}
 use Rattle.tb_chunk.specs.Rows.{value_or_null}
 use Rattle.tb_view.specs.ViewArrays.{AreBases, all_buffers, moved_views, view_arrays_of, view_or_none}

@@ -1,7 +1,7 @@
 use Rattle.std.proofs.Common.{arith, ℕ, refl}
 use Rattle.tb_value.specs.See.{datum}
 use Rattle.tb_value.specs.SeeKind.{kind_of}
-use Rattle.tb_value.specs.Typed.{HasType}
+use Rattle.tb_value.specs.Promise.Typed.{HasType}
 use Rattle.tb_value.specs.declared.any_value.AnyValue.{AnyValue}
 use Rattle.tb_chunk.proofs.Alls.{all_after, all_next}
 use Rattle.tb_chunk.proofs.run_chunk.are_of.Goals as goal

@@ -2,7 +2,7 @@ use Rattle.std.proofs.Common.{◌↔◌, map, drop}
 use Rattle.std.specs.List.{All}
 use Rattle.tb_value.specs.See.{datum}
 use Rattle.tb_value.specs.SeeKind.{kind_of}
-use Rattle.tb_value.specs.Typed.{HasType}
+use Rattle.tb_value.specs.Promise.Typed.{HasType}
 use Rattle.tb_chunk.proofs.run_chunk.are_of.Given as goal
 
 -- the values that are left decide

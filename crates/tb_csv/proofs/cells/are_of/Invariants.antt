@@ -1,7 +1,7 @@
 use Rattle.std.proofs.Common.{◌≡◌, take, true}
 use Rattle.std.specs.List.{list_all}
 use Rattle.tb_csv.specs.Read.{lent_fields}
-use Rattle.tb_csv.specs.Types.{is_of}
+use Rattle.tb_csv.specs.Promise.Types.{is_of}
 use Rattle.tb_csv.proofs.cells.are_of.Given as goal
 
 abbrev pub invariant-loop-field : goal.invariant-loop-field

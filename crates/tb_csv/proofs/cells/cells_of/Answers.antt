@@ -1,10 +1,10 @@
 use Rattle.std.proofs.Common.{◌∙◌, ◌+◌, ap, sym, inr, Some}
 use Rattle.std.proofs.lemmas.List.{map_push}
 use Rattle.std.proofs.lemmas.List.Elements.{All-push}
-use Rattle.tb_value.specs.Names.{Name}
-use Rattle.tb_value.specs.Typed.{HasType}
+use Rattle.tb_value.specs.Promise.Names.{Name}
+use Rattle.tb_value.specs.Promise.Typed.{HasType}
 use Rattle.tb_chunk.specs.Chunk.{or_null}
-use Rattle.tb_csv.specs.Types.{kind_at}
+use Rattle.tb_csv.specs.Promise.Types.{kind_at}
 use Rattle.tb_csv.specs.declared.fault.CsvFault.TheVariants.{NotOfType}
 use Rattle.tb_csv.proofs.FieldWalks.{cells_more, fault_here, fault_more, read_none, read_some}
 use Rattle.tb_csv.proofs.cells.cells_of.Goals as goal

@@ -1,10 +1,10 @@
 use Rattle.std.proofs.Common.{◌≡◌, ◌+◌, map, take, drop}
 use Rattle.std.specs.List.{All}
-use Rattle.tb_value.specs.Typed.{HasType}
+use Rattle.tb_value.specs.Promise.Typed.{HasType}
 use Rattle.tb_chunk.specs.Chunk.{or_null}
-use Rattle.tb_csv.specs.Faults.{column_fault}
+use Rattle.tb_csv.specs.Promise.Faults.{column_fault}
 use Rattle.tb_csv.specs.Read.{lent_fields}
-use Rattle.tb_csv.specs.Types.{cell_of, kind_at}
+use Rattle.tb_csv.specs.Promise.Types.{cell_of, kind_at}
 use Rattle.tb_csv.proofs.cells.cells_of.Given as goal
 
 abbrev pub invariant-loop-i : goal.invariant-loop-i

@@ -1,6 +1,6 @@
 use Rattle.std.proofs.Common.{◌∙◌, ◌+◌, ap, sym, inr, Some}
-use Rattle.tb_value.specs.Datum.{string}
-use Rattle.tb_value.specs.Names.{Name}
+use Rattle.tb_value.specs.Promise.Datum.{string}
+use Rattle.tb_value.specs.Promise.Names.{Name}
 use Rattle.tb_csv.specs.declared.fault.CsvFault.TheVariants.{NotOfType}
 use Rattle.tb_csv.specs.declared.field_type.FieldType.TheVariants as field
 use Rattle.tb_csv.proofs.FieldWalks.{cells_more, fault_here, fault_more, text_held}

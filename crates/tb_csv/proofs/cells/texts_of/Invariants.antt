@@ -1,9 +1,9 @@
 use Rattle.std.proofs.Common.{◌≡◌, ◌+◌, map, take, drop}
-use Rattle.tb_value.specs.Datum.{string}
+use Rattle.tb_value.specs.Promise.Datum.{string}
 use Rattle.tb_chunk.specs.Chunk.{or_null}
-use Rattle.tb_csv.specs.Faults.{column_fault}
+use Rattle.tb_csv.specs.Promise.Faults.{column_fault}
 use Rattle.tb_csv.specs.Read.{lent_fields}
-use Rattle.tb_csv.specs.Types.{cell_of}
+use Rattle.tb_csv.specs.Promise.Types.{cell_of}
 use Rattle.tb_csv.specs.declared.field_type.FieldType.TheVariants as field
 use Rattle.tb_csv.proofs.cells.texts_of.Given as goal
 

@@ -2,8 +2,8 @@ use Rattle.std.proofs.Common.{◌≡◌, ◌<◌, ◌+◌, length, arith, refl}
 use Rattle.std.proofs.lemmas.Result.{err_from_is_err_and}
 use Rattle.std.proofs.lemmas.List.{map_push}
 use Rattle.std.proofs.lemmas.List.FromFn.{map-range_with_len_more}
-use Rattle.tb_csv.specs.Faults.{typed_fault}
-use Rattle.tb_csv.specs.Tables.{csv_column}
+use Rattle.tb_csv.specs.Promise.Faults.{typed_fault}
+use Rattle.tb_csv.specs.Promise.Tables.{csv_column}
 use Rattle.tb_csv.proofs.Causes.{fault_at, none_more}
 use Rattle.tb_csv.proofs.columns.csv_columns.Goals as goal
 

@@ -1,11 +1,11 @@
 use Rattle.std.proofs.Common.{◌≡◌, List, None, map}
-use Rattle.tb_value.specs.Pairs.{row_numbers}
-use Rattle.tb_frame.specs.Table.{table_of}
-use Rattle.tb_value.specs.Refusals.{first_cause}
-use Rattle.tb_csv.specs.Faults.{typed_fault}
+use Rattle.tb_value.specs.Promise.Pairs.{row_numbers}
+use Rattle.tb_frame.specs.Promise.Table.{table_of}
+use Rattle.tb_value.specs.Promise.Refusals.{first_cause}
+use Rattle.tb_csv.specs.Promise.Faults.{typed_fault}
 use Rattle.tb_csv.specs.Read.{AreRows}
-use Rattle.tb_csv.specs.Records.{Record}
-use Rattle.tb_csv.specs.Tables.{csv_column}
+use Rattle.tb_csv.specs.Promise.Records.{Record}
+use Rattle.tb_csv.specs.Promise.Tables.{csv_column}
 use Rattle.tb_csv.proofs.columns.csv_columns.Given as goal
 
 abbrev pub invariant-loop-column : goal.invariant-loop-column

@@ -2,11 +2,11 @@ use Rattle.std.proofs.Common.{◌≡◌, ◌∙◌, ℕ, List, arith, length, sy
 use Rattle.std.specs.Prelude.{nat_lt}
 use Rattle.std.proofs.lemmas.Result.{err_from_is_err_and}
 use Rattle.csv.specs.Records.{fields_of}
-use Rattle.tb_value.specs.Names.{Name}
+use Rattle.tb_value.specs.Promise.Names.{Name}
 use Rattle.tb_value.specs.declared.limits.TheConstants.{MAX_ROWS}
-use Rattle.tb_value.specs.Refusals.{when}
-use Rattle.tb_csv.specs.Faults.{repeated_name, rows_fault}
-use Rattle.tb_csv.specs.Records.{lines_of}
+use Rattle.tb_value.specs.Promise.Refusals.{when}
+use Rattle.tb_csv.specs.Promise.Faults.{repeated_name, rows_fault}
+use Rattle.tb_csv.specs.Promise.Records.{lines_of}
 use Rattle.tb_csv.specs.declared.fault.CsvFault.TheVariants.{TooManyRows}
 use Rattle.tb_csv.proofs.Causes.{by_first, by_later, none_later, same_fault}
 use Rattle.tb_csv.proofs.RecordWalks.{full_rows, level_rows}

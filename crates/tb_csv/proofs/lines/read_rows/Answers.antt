@@ -5,7 +5,7 @@ use Rattle.csv.specs.Records.{fields_of}
 use Rattle.csv.specs.Reading.{records_from}
 use Rattle.csv.specs.declared.reader.Reader.{Reader}
 use Rattle.tb_csv.specs.Left.{Leaves}
-use Rattle.tb_csv.specs.Records.{Line, form}
+use Rattle.tb_csv.specs.Promise.Records.{Line, form}
 use Rattle.tb_csv.proofs.RecordWalks.{all_more, row_passes, row_split, row_stops}
 use Rattle.tb_csv.proofs.lines.read_rows.Goals as goal
 

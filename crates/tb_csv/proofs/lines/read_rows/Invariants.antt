@@ -1,9 +1,9 @@
 use Rattle.std.proofs.Common.{◌≡◌, ◌-◌, ◌++◌, ℕ, List, None, length}
 use Rattle.csv.specs.Records.{fields_of}
-use Rattle.tb_csv.specs.Faults.{rows_fault}
+use Rattle.tb_csv.specs.Promise.Faults.{rows_fault}
 use Rattle.tb_csv.specs.Left.{Leaves}
 use Rattle.tb_csv.specs.Read.{all_fields}
-use Rattle.tb_csv.specs.Records.{Line, form}
+use Rattle.tb_csv.specs.Promise.Records.{Line, form}
 use Rattle.tb_csv.proofs.lines.read_rows.Given as goal
 
 abbrev pub invariant-loop-turn : goal.invariant-loop-turn

@@ -1,7 +1,7 @@
 use Rattle.std.proofs.Common.{◌∙◌, false, refl, sym, true}
 use Rattle.std.proofs.lemmas.List.{append-nil}
 use Rattle.tb_csv.specs.Places.{state_at}
-use Rattle.tb_csv.specs.Records.{form, is_quoted}
+use Rattle.tb_csv.specs.Promise.Records.{form, is_quoted}
 use Rattle.tb_csv.proofs.MarkWalks.{marks_end, marks_grow}
 use Rattle.tb_csv.proofs.marks.marks_from_start.Goals as goal
 use Rattle.tb_csv.proofs.marks.marks_from_start.Goals.{else-ends_at_end, else-ends_field, then-ends_at_end+in_ok-push-2, then-ends_field+in_ok-push}

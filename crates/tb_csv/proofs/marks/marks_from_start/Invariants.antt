@@ -1,7 +1,7 @@
 use Rattle.std.proofs.Common.{◌≡◌, ◌++◌, drop}
 use Rattle.csv.specs.declared.parser.State.TheVariants as st
 use Rattle.tb_csv.specs.Places.{state_at}
-use Rattle.tb_csv.specs.Records.{form, marks_from}
+use Rattle.tb_csv.specs.Promise.Records.{form, marks_from}
 use Rattle.tb_csv.proofs.marks.marks_from_start.Given as goal
 
 abbrev pub invariant-loop-byte : goal.invariant-loop-byte

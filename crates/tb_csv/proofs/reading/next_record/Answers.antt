@@ -1,4 +1,4 @@
-use Rattle.tb_csv.specs.Records.{form}
+use Rattle.tb_csv.specs.Promise.Records.{form}
 use Rattle.csv.specs.Records.{fields_of}
 use Rattle.tb_csv.proofs.Left.{read_left}
 use Rattle.tb_csv.proofs.reading.next_record.Goals as goal

@@ -1,6 +1,6 @@
 use Rattle.std.proofs.Common.{refl, inr}
 use Rattle.csv.specs.Reading.{strip_bom}
-use Rattle.tb_csv.specs.Records.{lines_of}
+use Rattle.tb_csv.specs.Promise.Records.{lines_of}
 use Rattle.tb_csv.proofs.reading.open_reader.Goals as goal
 
 pub returns : goal.returns

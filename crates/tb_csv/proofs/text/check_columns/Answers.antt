@@ -1,7 +1,7 @@
 use Rattle.std.proofs.Common.{◌∙◌, [], Some, ap, sym, refl, inr}
 use Rattle.std.specs.Prelude.{option_map}
-use Rattle.tb_value.specs.Names.{Name}
-use Rattle.tb_chunk.specs.Col.{Col}
+use Rattle.tb_value.specs.Promise.Names.{Name}
+use Rattle.tb_chunk.specs.Promise.Col.{Col}
 use Rattle.tb_csv.specs.declared.fault.CsvFault.TheVariants.{NoText}
 use Rattle.tb_csv.proofs.Causes.{none_later, then_fault}
 use Rattle.tb_csv.proofs.TextWalks.{columns_there, no_text_of}

@@ -1,5 +1,5 @@
 use Rattle.std.proofs.Common.{◌∙◌}
-use Rattle.tb_frame.specs.Table.{height, table_of}
+use Rattle.tb_frame.specs.Promise.Table.{height, table_of}
 use Rattle.tb_csv.proofs.TextWalks.{level_columns, text_of_columns}
 use Rattle.tb_csv.proofs.text.csv_of_table.Goals as goal
 

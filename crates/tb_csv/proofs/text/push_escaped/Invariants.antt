@@ -1,6 +1,6 @@
 use Rattle.std.proofs.Common.{◌≡◌, ◌++◌, ℕ, take}
 use Rattle.csv.specs.Writing.{escaped}
-use Rattle.tb_csv.specs.Texts.{style}
+use Rattle.tb_csv.specs.Promise.Texts.{style}
 use Rattle.tb_csv.proofs.text.push_escaped.Given as goal
 
 abbrev pub invariant-loop-byte : goal.invariant-loop-byte

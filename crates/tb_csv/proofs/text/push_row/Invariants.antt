@@ -1,5 +1,5 @@
 use Rattle.std.proofs.Common.{◌≡◌, ◌++◌, length, map, take}
-use Rattle.tb_csv.specs.Texts.{line_text}
+use Rattle.tb_csv.specs.Promise.Texts.{line_text}
 use Rattle.tb_csv.proofs.TextWalks.{field_in}
 use Rattle.tb_csv.proofs.text.push_row.Given as goal
 

@@ -1,6 +1,6 @@
 use Rattle.std.proofs.Common.{Some, map}
-use Rattle.tb_frame.specs.Table.{names_of, table_of}
-use Rattle.tb_csv.specs.Texts.{row_fields}
+use Rattle.tb_frame.specs.Promise.Table.{names_of, table_of}
+use Rattle.tb_csv.specs.Promise.Texts.{row_fields}
 use Rattle.tb_csv.proofs.TextWalks.{grown}
 use Rattle.tb_csv.proofs.text.records_text.Goals as goal
 

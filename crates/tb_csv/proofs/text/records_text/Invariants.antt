@@ -1,7 +1,7 @@
 use Rattle.std.proofs.Common.{◌≡◌, ◌∷◌, Some, map}
-use Rattle.tb_value.specs.Pairs.{row_numbers}
-use Rattle.tb_frame.specs.Table.{names_of, table_of}
-use Rattle.tb_csv.specs.Texts.{records_text, row_fields}
+use Rattle.tb_value.specs.Promise.Pairs.{row_numbers}
+use Rattle.tb_frame.specs.Promise.Table.{names_of, table_of}
+use Rattle.tb_csv.specs.Promise.Texts.{records_text, row_fields}
 use Rattle.tb_csv.proofs.text.records_text.Given as goal
 
 abbrev pub invariant-loop-index : goal.invariant-loop-index

@@ -1,6 +1,6 @@
 use Rattle.std.proofs.Common.{◌≡◌, ◌∙◌, rules, unsigned_abs, ap, refl}
 use Rattle.jiff_core.specs.Date.{epoch_day}
-use Rattle.tb_date.specs.Dates.{day_of, month_of, year_of}
+use Rattle.tb_date.specs.Promise.Dates.{day_of, month_of, year_of}
 use Rattle.tb_date.proofs.DatesBack.{parts_of}
 use Rattle.tb_date.proofs.dates.date_text.Goals as goal
 

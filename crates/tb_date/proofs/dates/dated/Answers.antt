@@ -3,7 +3,7 @@ use Rattle.std.specs.Int.{w128}
 use Rattle.jiff_core.specs.Calendar.{IsEpochDay}
 use Rattle.jiff_core.specs.Date.{epoch_day}
 use Rattle.jiff_core.proofs.SignedLemmas.{signed_arith}
-use Rattle.tb_date.specs.Dates.{has_text}
+use Rattle.tb_date.specs.Promise.Dates.{has_text}
 use Rattle.tb_date.proofs.DatesBack.{early, late, outside}
 use Rattle.tb_date.proofs.dates.dated.Goals as goal
 

@@ -1,6 +1,6 @@
 use Rattle.std.proofs.Common.{◌≡◌, ◌+◌, ◌-◌, ◌*◌, ◌^◌, ◌<◌, take, true}
 use Rattle.std.specs.List.{fold, list_all}
-use Rattle.tb_label.specs.Numerals.{is_digit}
+use Rattle.tb_label.specs.Promise.Numerals.{is_digit}
 use Rattle.tb_date.proofs.dates.number_in.Given as goal
 
 abbrev pub invariant-loop-digit : goal.invariant-loop-digit

@@ -1,10 +1,11 @@
 use Rattle.std.proofs.Common.{◌≡◌, ◌≤◌, ◌∙◌, List, length, None, ap, sym, subst}
 use Rattle.std.specs.Prelude.{All, IfOk}
 use Rattle.std.specs.Option.{ForSome}
-use Rattle.tb_chunk.specs.Col.{Col}
-use Rattle.tb_frame.specs.Frame.{frame_refusal, selected_columns}
-use Rattle.tb_frame.specs.Refusal.{unknown_key}
-use Rattle.tb_frame.specs.Table.{table_of}
+use Rattle.tb_chunk.specs.Promise.Col.{Col}
+use Rattle.tb_frame.specs.Promise.Frame.{selected_columns}
+use Rattle.tb_frame.specs.Frame.{frame_refusal}
+use Rattle.tb_frame.specs.Promise.Refusal.{unknown_key}
+use Rattle.tb_frame.specs.Promise.Table.{table_of}
 use Rattle.tb_keys.specs.Coalescing.{key_beside}
 use Rattle.tb_join.specs.AnswerColumns.{Fits, coalesced_part}
 use Rattle.tb_join.proofs.Finishing.{settled}

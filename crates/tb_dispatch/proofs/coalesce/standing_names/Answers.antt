@@ -1,10 +1,10 @@
 use Rattle.std.proofs.Common.{◌≡◌, ◌∙◌, ◌++◌, ◌∷◌, [], suc, ◌+◌, List, map, take, ap, sym, arith}
 use Rattle.std.specs.List.{zip}
 use Rattle.std.proofs.lemmas.List.{take_all}
-use Rattle.tb_value.specs.Names.{Name}
-use Rattle.tb_chunk.specs.Col.{Col}
-use Rattle.tb_frame.specs.Naming.{is_among}
-use Rattle.tb_frame.specs.Table.{names_of, table_of}
+use Rattle.tb_value.specs.Promise.Names.{Name}
+use Rattle.tb_chunk.specs.Promise.Col.{Col}
+use Rattle.tb_frame.specs.Promise.Naming.{is_among}
+use Rattle.tb_frame.specs.Promise.Table.{names_of, table_of}
 use Rattle.tb_dispatch.specs.Standing.{stands_as}
 use Rattle.tb_dispatch.proofs.Standing.{zip-more}
 use Rattle.tb_dispatch.proofs.coalesce.standing_names.Goals as goal

@@ -1,6 +1,6 @@
 use Rattle.std.proofs.Common.{◌≡◌, map, take}
 use Rattle.std.specs.List.{zip}
-use Rattle.tb_frame.specs.Table.{names_of, table_of}
+use Rattle.tb_frame.specs.Promise.Table.{names_of, table_of}
 use Rattle.tb_dispatch.specs.Standing.{stands_as}
 use Rattle.tb_dispatch.proofs.coalesce.standing_names.Given as goal
 

@@ -1,10 +1,11 @@
 use Rattle.std.proofs.Common.{◌≡◌, ◌∙◌, ◌<◌, ◌⊎◌, ◌∷◌, [], length, ap, sym, subst}
 use Rattle.std.specs.Prelude.{IfOk}
-use Rattle.tb_value.specs.Names.{Name}
-use Rattle.tb_value.specs.Refusals.{Settles, first_cause}
-use Rattle.tb_frame.specs.Join.{IsAnswer, Request, listing, out}
-use Rattle.tb_frame.specs.Refusal.{repeated_name, row_causes}
-use Rattle.tb_frame.specs.Table.{table_of}
+use Rattle.tb_value.specs.Promise.Names.{Name}
+use Rattle.tb_value.specs.Promise.Refusals.{first_cause}
+use Rattle.tb_value.specs.Refusals.{Settles}
+use Rattle.tb_frame.specs.Promise.Join.{IsAnswer, Request, listing, out}
+use Rattle.tb_frame.specs.Promise.Refusal.{repeated_name, row_causes}
+use Rattle.tb_frame.specs.Promise.Table.{table_of}
 use Rattle.tb_join.specs.Ready.{CanCoalesceKeys}
 use Rattle.tb_dispatch.proofs.KeyColumns.{alike_one, can_merge, full_wide, series_is}
 use Rattle.tb_dispatch.proofs.dispatch.full_join_by.Goals as goal

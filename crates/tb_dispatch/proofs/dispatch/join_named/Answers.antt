@@ -4,8 +4,8 @@ use Rattle.tb_value.specs.declared.error.PolarsError.TheVariants.{ComputeError}
 use Rattle.tb_value.specs.declared.index.JoinPair.{JoinPair}
 use Rattle.tb_value.specs.declared.limits.TheConstants.{MAX_ROWS}
 use Rattle.tb_frame.specs.Answer.{IsListed}
-use Rattle.tb_frame.specs.Join.{listing, out}
-use Rattle.tb_frame.specs.Refusal.{row_causes}
+use Rattle.tb_frame.specs.Promise.Join.{listing, out}
+use Rattle.tb_frame.specs.Promise.Refusal.{row_causes}
 use Rattle.tb_frame.proofs.Causes.{no_cause, when_not_above}
 use Rattle.tb_keys.specs.Asked.{asked_request}
 use Rattle.tb_dispatch.proofs.Cuts.{none_listed}

@@ -2,15 +2,15 @@ use Rattle.std.proofs.Common.{◌≡◌, ◌∙◌, ◌<◌, List, Option, None,
 use Rattle.std.specs.Borrow.{Bor}
 use Rattle.std.proofs.lemmas.List.{length-map}
 use Rattle.std.proofs.lemmas.Result.{IfOk-weaker, err_from_is_err_and}
-use Rattle.tb_value.specs.Names.{Name}
+use Rattle.tb_value.specs.Promise.Names.{Name}
 use Rattle.tb_value.specs.Refusals.{Settles}
 use Rattle.tb_value.specs.declared.error.PolarsError.{PolarsError}
-use Rattle.tb_chunk.specs.Col.{Col}
+use Rattle.tb_chunk.specs.Promise.Col.{Col}
 use Rattle.tb_chunk.specs.Lent.{lent_columns}
-use Rattle.tb_frame.specs.Join.{IsAnswer, Request, out}
-use Rattle.tb_frame.specs.Refusal.{key_types}
+use Rattle.tb_frame.specs.Promise.Join.{IsAnswer, Request, out}
+use Rattle.tb_frame.specs.Promise.Refusal.{key_types}
 use Rattle.tb_frame.specs.declared.null_flags.JoinNulls.{JoinNulls}
-use Rattle.tb_frame.specs.Table.{height, names_of, table_of}
+use Rattle.tb_frame.specs.Promise.Table.{height, names_of, table_of}
 use Rattle.tb_keys.specs.Causes.{later_refusal}
 use Rattle.tb_keys.specs.Rows.{HasRows}
 use Rattle.tb_keys.proofs.Refusing.{by_first}

@@ -1,5 +1,5 @@
 use Rattle.std.proofs.Common.{◌≡◌, take}
-use Rattle.tb_frame.specs.Table.{table_of, names_of}
+use Rattle.tb_frame.specs.Promise.Table.{table_of, names_of}
 use Rattle.tb_dispatch.proofs.given.key_names.Given as goal
 
 abbrev pub invariant-loop-key : goal.invariant-loop-key

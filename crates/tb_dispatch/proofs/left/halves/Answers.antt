@@ -5,7 +5,7 @@ use Rattle.tb_value.specs.declared.index.JoinPair.{JoinPair}
 use Rattle.tb_chunk.specs.Rows.{IsRowOf}
 use Rattle.tb_frame.specs.Answer.{IsPairOf}
 use Rattle.tb_frame.specs.Frame.{opt_taken_rows, without_names}
-use Rattle.tb_frame.specs.Table.{height, table_of}
+use Rattle.tb_frame.specs.Promise.Table.{height, table_of}
 use Rattle.tb_frame.proofs.Filled.{left_within, right_within}
 use Rattle.tb_dispatch.proofs.left.halves.Goals as goal
 

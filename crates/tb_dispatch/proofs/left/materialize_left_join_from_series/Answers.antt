@@ -7,9 +7,9 @@ use Rattle.tb_value.specs.declared.limits.TheConstants.{MAX_ROWS}
 use Rattle.tb_frame.specs.declared.args.JoinType.TheVariants.{Left}
 use Rattle.tb_frame.specs.Answer.{IsPairOf}
 use Rattle.tb_frame.specs.Frame.{opt_taken_rows, without_names}
-use Rattle.tb_frame.specs.Join.{listing}
-use Rattle.tb_frame.specs.Refusal.{row_causes}
-use Rattle.tb_frame.specs.Table.{height}
+use Rattle.tb_frame.specs.Promise.Join.{listing}
+use Rattle.tb_frame.specs.Promise.Refusal.{row_causes}
+use Rattle.tb_frame.specs.Promise.Table.{height}
 use Rattle.tb_frame.proofs.Assembled.{few_listed, pairs_in_range}
 use Rattle.tb_frame.proofs.Causes.{no_cause, when_not_above}
 use Rattle.tb_dispatch.specs.Given.{by_series}

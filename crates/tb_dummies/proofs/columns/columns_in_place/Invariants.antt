@@ -1,7 +1,7 @@
 use Rattle.std.proofs.Common.{◌≡◌, take}
 use Rattle.std.specs.List.{flat_map}
-use Rattle.tb_frame.specs.Table.{table_of}
-use Rattle.tb_dummies.specs.Dummies.{in_place_of}
+use Rattle.tb_frame.specs.Promise.Table.{table_of}
+use Rattle.tb_dummies.specs.Promise.Dummies.{in_place_of}
 use Rattle.tb_dummies.specs.Lent.{is_in}
 use Rattle.tb_dummies.proofs.columns.columns_in_place.Given as goal
 

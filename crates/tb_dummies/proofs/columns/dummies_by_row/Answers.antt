@@ -1,5 +1,5 @@
 use Rattle.std.proofs.Common.{◌∙◌, ◌<◌, ℕ, List, arith, ap, get_or, length, map, subst}
-use Rattle.tb_chunk.specs.Col.{values}
+use Rattle.tb_chunk.specs.Promise.Col.{values}
 use Rattle.tb_dummies.specs.Lent.{mark_in}
 use Rattle.tb_dummies.proofs.Marks.{first_below, group_marks, numbers_few}
 use Rattle.tb_dummies.proofs.columns.dummies_by_row.Goals as goal

@@ -1,11 +1,11 @@
 use Rattle.std.proofs.Common.{◌≡◌, ◌∙◌, ◌∷◌, [], ◌++◌, ℕ, List, Option, Some, ◌==◌, if◌then◌else◌, arith, map, ap, pos, refl}
 use Rattle.std.proofs.lemmas.List.{append-nil, length-map}
-use Rattle.tb_value.specs.Datum.{Datum, int}
-use Rattle.tb_value.specs.Kind as kind
+use Rattle.tb_value.specs.Promise.Datum.{Datum, int}
+use Rattle.tb_value.specs.Promise.Kind as kind
 use Rattle.tb_chunk.specs.Chunk.{or_null}
-use Rattle.tb_chunk.specs.Col.{concatenation}
+use Rattle.tb_chunk.specs.Promise.Col.{concatenation}
 use Rattle.tb_chunk.proofs.OneChunk.{one_chunk_is_column}
-use Rattle.tb_frame.specs.Table.{plain_column}
+use Rattle.tb_frame.specs.Promise.Table.{plain_column}
 use Rattle.tb_dummies.specs.Lent.{mark_in}
 use Rattle.tb_dummies.proofs.Made.{marks_shown, marks_typed}
 use Rattle.tb_dummies.proofs.columns.mark_column.Goals as goal

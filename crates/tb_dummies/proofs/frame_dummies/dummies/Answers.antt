@@ -2,9 +2,9 @@ use Rattle.std.proofs.Common.{◌≡◌, ◌∙◌, List, None, ap, subst, sym}
 use Rattle.std.specs.Option.{option_copied}
 use Rattle.std.proofs.lemmas.Result.{IfOk-weaker, err_from_is_err_and}
 use Rattle.tb_value.specs.Refusals.{Settles}
-use Rattle.tb_chunk.specs.Col.{Col}
-use Rattle.tb_frame.specs.Table.{table_of}
-use Rattle.tb_dummies.specs.Dummies.{Request, dummies_table, header_cause, is_replaced}
+use Rattle.tb_chunk.specs.Promise.Col.{Col}
+use Rattle.tb_frame.specs.Promise.Table.{table_of}
+use Rattle.tb_dummies.specs.Promise.Dummies.{Request, dummies_table, header_cause, is_replaced}
 use Rattle.tb_dummies.specs.Lent.{is_in, lent_request}
 use Rattle.tb_dummies.proofs.Refused.{first_stops, in_place_refusal, same_cause, same_places}
 use Rattle.tb_dummies.proofs.frame_dummies.dummies.Goals as goal

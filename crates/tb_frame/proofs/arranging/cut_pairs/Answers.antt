@@ -1,6 +1,6 @@
 use Rattle.std.proofs.Common.{List, ◌∙◌, ap}
 use Rattle.tb_value.specs.declared.index.JoinPair.{JoinPair}
-use Rattle.tb_frame.specs.Join.{cut}
+use Rattle.tb_frame.specs.Promise.Join.{cut}
 use Rattle.tb_frame.proofs.arranging.cut_pairs.Goals as goal
 
 pub returns-in_ok-from_slice-in-Some : goal.returns-in_ok-from_slice-in-Some

@@ -2,7 +2,7 @@ use Rattle.std.proofs.Common.{◌≡◌, ℕ, ◌+◌, ◌-◌, length, take, dr
 use Rattle.std.specs.Prelude.{FitsSigned}
 use Rattle.std.proofs.lemmas.Int.{to_z-of_z}
 use Rattle.tb_chunk.specs.Window.{window, part_from, part_to}
-use Rattle.tb_frame.specs.Join.{cut, slice}
+use Rattle.tb_frame.specs.Promise.Join.{cut, slice}
 use Rattle.tb_frame.proofs.Windows.{slice_window}
 use Rattle.tb_frame.proofs.arranging.kept_part.Goals as goal
 

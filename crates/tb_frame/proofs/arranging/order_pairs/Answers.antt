@@ -1,11 +1,11 @@
 use Rattle.std.proofs.Common.{◌≡◌, rules, subst, sym, ◌∙◌}
 use Rattle.std.proofs.lemmas.Result.{on_ok_weaker}
-use Rattle.tb_value.specs.Pairs.{left_first, right_first}
+use Rattle.tb_value.specs.Promise.Pairs.{left_first, right_first}
 use Rattle.tb_value.proofs.Orders.{left_first_total, right_first_total}
 use Rattle.tb_value.proofs.Sorting.{sorted_by_order}
 use Rattle.tb_frame.specs.declared.args.Direction.{Direction}
 use Rattle.tb_frame.specs.declared.args.Direction.TheVariants.{ByLeft, ByRight}
-use Rattle.tb_frame.specs.Join.{Ascends, direction}
+use Rattle.tb_frame.specs.Promise.Join.{Ascends, direction}
 use Rattle.tb_frame.proofs.arranging.order_pairs.Goals as goal
 
 pub returns-in-ByLeft : goal.returns-in-ByLeft

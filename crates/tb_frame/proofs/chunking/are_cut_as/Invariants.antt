@@ -1,6 +1,6 @@
 use Rattle.std.proofs.Common.{◌≡◌, take}
 use Rattle.std.specs.List.{All}
-use Rattle.tb_chunk.specs.Col.{Col}
+use Rattle.tb_chunk.specs.Promise.Col.{Col}
 use Rattle.tb_frame.specs.Frame.{lens}
 use Rattle.tb_frame.proofs.chunking.are_cut_as.Given as goal
 

@@ -1,6 +1,6 @@
 use Rattle.std.proofs.Common.{◌≡◌, ◌∙◌, false, sym}
-use Rattle.tb_value.specs.Names.{same_name}
-use Rattle.tb_value.specs.SameKind.{same_kind}
+use Rattle.tb_value.specs.Promise.Names.{same_name}
+use Rattle.tb_value.specs.Promise.SameKind.{same_kind}
 use Rattle.tb_frame.proofs.Equal.{plain-by_values, differ-names, differ-kinds}
 use Rattle.tb_frame.proofs.equality.same_column.Goals as goal
 use Rattle.tb_frame.proofs.equality.same_column.Goals.{then-eq, else-eq}

@@ -1,7 +1,7 @@
 use Rattle.std.proofs.Common.{◌≡◌, ◌∙◌, ℕ, ap, sym, refl, get_or, arith, below_more}
 use Rattle.std.proofs.lemmas.List.{get_or_default}
-use Rattle.tb_chunk.specs.Col.{Col}
-use Rattle.tb_frame.specs.Table.{plain_column}
+use Rattle.tb_chunk.specs.Promise.Col.{Col}
+use Rattle.tb_frame.specs.Promise.Table.{plain_column}
 use Rattle.tb_frame.proofs.Equal.{table-ext, plain-at}
 use Rattle.tb_frame.proofs.equality.same_columns.Goals as goal
 

@@ -1,6 +1,6 @@
 use Rattle.std.proofs.Common.{◌≡◌, ◌<◌, ℕ, get_or}
-use Rattle.tb_chunk.specs.Col.{Col}
-use Rattle.tb_frame.specs.Table.{plain_column}
+use Rattle.tb_chunk.specs.Promise.Col.{Col}
+use Rattle.tb_frame.specs.Promise.Table.{plain_column}
 use Rattle.tb_frame.proofs.equality.same_columns.Given as goal
 
 -- the columns so far are equal

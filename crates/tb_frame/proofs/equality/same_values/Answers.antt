@@ -1,8 +1,8 @@
 use Rattle.std.proofs.Common.{◌≡◌, ◌∙◌, ℕ, ap, sym, refl, get_or, arith, below_more}
 use Rattle.std.proofs.lemmas.List.{ext_get_or}
-use Rattle.tb_value.specs.Datum.{null}
+use Rattle.tb_value.specs.Promise.Datum.{null}
 use Rattle.tb_value.specs.See.{lent_value}
-use Rattle.tb_chunk.specs.Col.{values}
+use Rattle.tb_chunk.specs.Promise.Col.{values}
 use Rattle.tb_frame.proofs.Equal.{equal-same, differ-same}
 use Rattle.tb_frame.proofs.equality.same_values.Goals as goal
 

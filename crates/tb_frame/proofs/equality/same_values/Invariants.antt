@@ -1,6 +1,6 @@
 use Rattle.std.proofs.Common.{◌≡◌, ◌<◌, ℕ, get_or}
-use Rattle.tb_value.specs.Datum.{null}
-use Rattle.tb_chunk.specs.Col.{values}
+use Rattle.tb_value.specs.Promise.Datum.{null}
+use Rattle.tb_chunk.specs.Promise.Col.{values}
 use Rattle.tb_frame.proofs.equality.same_values.Given as goal
 
 -- the values so far are equal

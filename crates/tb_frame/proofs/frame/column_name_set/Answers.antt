@@ -1,8 +1,8 @@
 use Rattle.std.proofs.Common.{◌<◌, List, length, ap, ◌∙◌, arith}
 use Rattle.std.proofs.lemmas.List.{take_all}
-use Rattle.tb_value.specs.Names.{Name}
-use Rattle.tb_frame.specs.Table.{table_of, names_of}
-use Rattle.tb_frame.specs.Naming.{is_among}
+use Rattle.tb_value.specs.Promise.Names.{Name}
+use Rattle.tb_frame.specs.Promise.Table.{table_of, names_of}
+use Rattle.tb_frame.specs.Promise.Naming.{is_among}
 use Rattle.tb_frame.specs.NameSets.{has_name}
 use Rattle.tb_frame.proofs.Seen.{seen_more}
 use Rattle.tb_frame.proofs.Taking.{length-names, name-at}

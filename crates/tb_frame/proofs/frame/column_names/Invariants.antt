@@ -1,5 +1,5 @@
 use Rattle.std.proofs.Common.{◌≡◌, take, map}
-use Rattle.tb_frame.specs.Table.{table_of, names_of}
+use Rattle.tb_frame.specs.Promise.Table.{table_of, names_of}
 use Rattle.tb_frame.proofs.frame.column_names.Given as goal
 
 abbrev pub invariant-loop-column : goal.invariant-loop-column

@@ -4,8 +4,8 @@ use Rattle.std.proofs.lemmas.Bool.{and_from, eq-eqb}
 use Rattle.std.proofs.lemmas.List.{take_all}
 use Rattle.std.proofs.lemmas.List.Elements.{All-map, All-more}
 use Rattle.std.proofs.lemmas.List.Folds.{list_all_more}
-use Rattle.tb_chunk.specs.Col.{Col, values}
-use Rattle.tb_frame.specs.Table.{IsTyped, plain_column}
+use Rattle.tb_chunk.specs.Promise.Col.{Col, values}
+use Rattle.tb_frame.specs.Promise.Table.{IsTyped, plain_column}
 use Rattle.tb_frame.proofs.frame.have_len.Goals as goal
 
 pub loop-column-preserved : goal.loop-column-preserved

@@ -1,8 +1,8 @@
 use Rattle.std.proofs.Common.{◌≡◌, ◌==◌, ℕ, List, [], ◌∷◌, length, ap, sym, ◌∙◌, Some}
 use Rattle.std.specs.List.{list_all, slice_get}
 use Rattle.std.proofs.lemmas.List.Folds.{list_all-map}
-use Rattle.tb_chunk.specs.Col.{Col, values}
-use Rattle.tb_frame.specs.Table.{TableColumn, plain_column, table_of, height}
+use Rattle.tb_chunk.specs.Promise.Col.{Col, values}
+use Rattle.tb_frame.specs.Promise.Table.{TableColumn, plain_column, table_of, height}
 use Rattle.tb_frame.proofs.frame.is_level.Goals as goal
 
 first-height : (cs : List Col) (c : Col) → Some c ≡ slice_get cs 0 → length (values c) ≡ height (table_of cs)

@@ -1,9 +1,9 @@
 use Rattle.std.proofs.Common.{◌≡◌, List, ap, sym, ◌∙◌, inr, Option, Some, None, is_none}
 use Rattle.std.specs.List.{find}
-use Rattle.tb_value.specs.Names.{Name, same_name}
-use Rattle.tb_value.specs.Refusals.{when}
+use Rattle.tb_value.specs.Promise.Names.{Name, same_name}
+use Rattle.tb_value.specs.Promise.Refusals.{when}
 use Rattle.tb_value.specs.declared.error.PolarsError.TheVariants.{ColumnNotFound}
-use Rattle.tb_chunk.specs.Col.{Col}
+use Rattle.tb_chunk.specs.Promise.Col.{Col}
 use Rattle.tb_frame.proofs.frame.named_column.Goals as goal
 
 pub returns-in_ok-from_str-in-None-clause-settles : goal.returns-in_ok-from_str-in-None-clause-settles

@@ -1,6 +1,6 @@
 use Rattle.std.proofs.Common.{◌≡◌, Bool, not, ap, sym, ◌∙◌}
-use Rattle.tb_chunk.specs.Col.{Col}
-use Rattle.tb_frame.specs.Naming.{is_among}
+use Rattle.tb_chunk.specs.Promise.Col.{Col}
+use Rattle.tb_frame.specs.Promise.Naming.{is_among}
 use Rattle.tb_frame.proofs.Frames.{kept, passed}
 use Rattle.tb_frame.proofs.frame.other_columns.Goals as goal
 use Rattle.tb_frame.proofs.frame.other_columns.Goals.{then-not-contains+in_ok-copy+in_ok-push, else-not-contains}

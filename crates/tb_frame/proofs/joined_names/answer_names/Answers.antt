@@ -1,5 +1,5 @@
 use Rattle.std.proofs.Common.{◌≡◌, ◌∙◌, List, map, ap, sym, Bor}
-use Rattle.tb_value.specs.Names.{Name}
+use Rattle.tb_value.specs.Promise.Names.{Name}
 use Rattle.tb_frame.specs.RightColumns.{beside, right_side}
 use Rattle.tb_frame.proofs.JoinedNames.{names-answered}
 use Rattle.tb_frame.proofs.joined_names.answer_names.Goals as goal

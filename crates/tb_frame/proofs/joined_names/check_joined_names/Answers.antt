@@ -1,12 +1,12 @@
 use Rattle.std.proofs.Common.{◌≡◌, ◌∙◌, List, map, ap, sym, subst, Bor}
-use Rattle.tb_value.specs.Names.{Name}
+use Rattle.tb_value.specs.Promise.Names.{Name}
 use Rattle.tb_value.specs.Refusals.{Settles}
-use Rattle.tb_chunk.specs.Col.{Col}
-use Rattle.tb_frame.specs.Naming.{has_right, joined_names}
-use Rattle.tb_frame.specs.Refusal.{repeated_among}
+use Rattle.tb_chunk.specs.Promise.Col.{Col}
+use Rattle.tb_frame.specs.Promise.Naming.{has_right, joined_names}
+use Rattle.tb_frame.specs.Promise.Refusal.{repeated_among}
 use Rattle.tb_frame.specs.RightColumns.{beside, right_side}
 use Rattle.tb_frame.specs.Sides.{of_kind}
-use Rattle.tb_frame.specs.Table.{table_of, names_of}
+use Rattle.tb_frame.specs.Promise.Table.{table_of, names_of}
 use Rattle.tb_frame.proofs.JoinedNames.{names-joined, names-side}
 use Rattle.tb_frame.proofs.joined_names.check_joined_names.Goals as goal
 

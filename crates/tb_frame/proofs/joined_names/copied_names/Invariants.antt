@@ -1,5 +1,5 @@
 use Rattle.std.proofs.Common.{◌≡◌, take, map, Bor}
-use Rattle.tb_value.specs.Names.{Name}
+use Rattle.tb_value.specs.Promise.Names.{Name}
 use Rattle.tb_frame.proofs.joined_names.copied_names.Given as goal
 
 abbrev pub invariant-loop-name : goal.invariant-loop-name

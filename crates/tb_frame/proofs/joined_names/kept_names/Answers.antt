@@ -1,8 +1,8 @@
 use Rattle.std.proofs.Common.{◌≡◌, ◌∷◌, Bool, [], not, map, ap, sym, ◌∙◌, Bor, arith, refl}
 use Rattle.std.proofs.lemmas.List.{map-append, take_all}
-use Rattle.tb_value.specs.Names.{Name}
+use Rattle.tb_value.specs.Promise.Names.{Name}
 use Rattle.tb_value.proofs.Kept.{filter-map, made, skipped}
-use Rattle.tb_frame.specs.Naming.{is_among}
+use Rattle.tb_frame.specs.Promise.Naming.{is_among}
 use Rattle.tb_frame.specs.RightColumns.{names_without}
 use Rattle.tb_frame.proofs.joined_names.kept_names.Goals as goal
 use Rattle.tb_frame.proofs.joined_names.kept_names.Goals.{then-not-contains+in_ok-push, else-not-contains}

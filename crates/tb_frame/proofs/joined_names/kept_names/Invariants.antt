@@ -1,7 +1,7 @@
 use Rattle.std.proofs.Common.{◌≡◌, not, take, map, Bor}
 use Rattle.std.specs.Prelude.{filter}
-use Rattle.tb_value.specs.Names.{Name}
-use Rattle.tb_frame.specs.Naming.{is_among}
+use Rattle.tb_value.specs.Promise.Names.{Name}
+use Rattle.tb_frame.specs.Promise.Naming.{is_among}
 use Rattle.tb_frame.proofs.joined_names.kept_names.Given as goal
 
 abbrev pub invariant-loop-name : goal.invariant-loop-name

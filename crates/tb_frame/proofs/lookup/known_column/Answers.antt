@@ -1,10 +1,10 @@
 use Rattle.std.proofs.Common.{◌≡◌, ◌∙◌, Option, Some, None, sym, ap, inr}
 use Rattle.std.specs.Prelude.{is_none}
 use Rattle.std.specs.Option.{option_copied}
-use Rattle.tb_value.specs.Names.{Name}
-use Rattle.tb_value.specs.Refusals.{when}
+use Rattle.tb_value.specs.Promise.Names.{Name}
+use Rattle.tb_value.specs.Promise.Refusals.{when}
 use Rattle.tb_value.specs.declared.error.PolarsError.TheVariants.{ColumnNotFound}
-use Rattle.tb_chunk.specs.Col.{Col}
+use Rattle.tb_chunk.specs.Promise.Col.{Col}
 use Rattle.tb_frame.specs.NamedColumns.{column_by}
 use Rattle.tb_frame.proofs.lookup.known_column.Goals as goal
 

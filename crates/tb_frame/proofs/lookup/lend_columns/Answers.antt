@@ -2,9 +2,9 @@ use Rattle.std.proofs.Common.{◌≡◌, ◌⊎◌, [], Option, Some, get_or, sy
 use Rattle.std.specs.Prelude.{is_none}
 use Rattle.std.proofs.lemmas.List.{get_or_default}
 use Rattle.std.proofs.lemmas.Result.{err_from_is_err_and}
-use Rattle.tb_value.specs.Refusals.{when}
+use Rattle.tb_value.specs.Promise.Refusals.{when}
 use Rattle.tb_value.specs.declared.error.PolarsError.TheVariants.{ColumnNotFound, OutOfMemory}
-use Rattle.tb_chunk.specs.Col.{Col}
+use Rattle.tb_chunk.specs.Promise.Col.{Col}
 use Rattle.tb_chunk.specs.Lent.{lent_columns}
 use Rattle.tb_frame.proofs.Selected.{known_more, selected_more, unknown_here}
 use Rattle.tb_frame.proofs.lookup.lend_columns.Goals as goal

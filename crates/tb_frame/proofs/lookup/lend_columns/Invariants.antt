@@ -1,9 +1,9 @@
 use Rattle.std.proofs.Common.{◌≡◌, take, None, not}
 use Rattle.std.specs.List.{find}
 use Rattle.tb_chunk.specs.Lent.{lent_columns}
-use Rattle.tb_frame.specs.Frame.{selected_columns}
-use Rattle.tb_frame.specs.Naming.{is_among}
-use Rattle.tb_frame.specs.Table.{table_of, names_of}
+use Rattle.tb_frame.specs.Promise.Frame.{selected_columns}
+use Rattle.tb_frame.specs.Promise.Naming.{is_among}
+use Rattle.tb_frame.specs.Promise.Table.{table_of, names_of}
 use Rattle.tb_frame.proofs.lookup.lend_columns.Given as goal
 
 -- each name so far is that of a column

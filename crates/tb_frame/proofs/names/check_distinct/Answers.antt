@@ -2,11 +2,11 @@ use Rattle.std.proofs.Common.{◌≡◌, ◌<◌, List, [], length, get_or, map,
 use Rattle.std.specs.List.{find}
 use Rattle.std.specs.Option.{option_map}
 use Rattle.std.proofs.lemmas.List.{length-map, get_or-map}
-use Rattle.tb_value.specs.Names.{Name}
-use Rattle.tb_value.specs.Pairs.{row_numbers}
+use Rattle.tb_value.specs.Promise.Names.{Name}
+use Rattle.tb_value.specs.Promise.Pairs.{row_numbers}
 use Rattle.tb_value.specs.declared.error.PolarsError.TheVariants.{Duplicate}
 use Rattle.tb_frame.specs.NameSets.{has_name}
-use Rattle.tb_frame.specs.Refusal.{name_at, repeats}
+use Rattle.tb_frame.specs.Promise.Refusal.{name_at, repeats}
 use Rattle.tb_frame.proofs.Seen.{seen_more, fresh_more, repeated_here}
 use Rattle.tb_frame.proofs.names.check_distinct.Goals as goal
 

@@ -1,7 +1,7 @@
 use Rattle.std.proofs.Common.{◌∙◌, Bor, List, map, ap, subst}
-use Rattle.tb_value.specs.Names.{Name}
+use Rattle.tb_value.specs.Promise.Names.{Name}
 use Rattle.tb_value.specs.Refusals.{Settles}
-use Rattle.tb_frame.specs.Refusal.{repeated_among}
+use Rattle.tb_frame.specs.Promise.Refusal.{repeated_among}
 use Rattle.tb_frame.proofs.names.check_repeated.Goals as goal
 
 pub returns : goal.returns

@@ -1,6 +1,6 @@
 use Rattle.std.proofs.Common.{◌≡◌, take}
-use Rattle.tb_value.specs.Names.{Name}
-use Rattle.tb_frame.specs.Naming.{is_among}
+use Rattle.tb_value.specs.Promise.Names.{Name}
+use Rattle.tb_frame.specs.Promise.Naming.{is_among}
 use Rattle.tb_frame.specs.NameSets.{has_name}
 use Rattle.tb_frame.proofs.names.name_set.Given as goal
 

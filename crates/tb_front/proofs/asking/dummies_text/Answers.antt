@@ -1,5 +1,5 @@
-use Rattle.tb_dummies.specs.Dummies.{dummies_table}
-use Rattle.tb_front.specs.Asked.{dummies_faults, marked_of}
+use Rattle.tb_dummies.specs.Promise.Dummies.{dummies_table}
+use Rattle.tb_front.specs.Promise.Asked.{dummies_faults, marked_of}
 use Rattle.tb_front.proofs.OneTable.{read_answer, read_settles}
 use Rattle.tb_front.proofs.asking.dummies_text.Goals as goal
 

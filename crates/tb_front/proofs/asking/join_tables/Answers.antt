@@ -1,4 +1,4 @@
-use Rattle.tb_frame.specs.Table.{table_of}
+use Rattle.tb_frame.specs.Promise.Table.{table_of}
 use Rattle.tb_front.proofs.Joined.{lent_answer, lent_settles}
 use Rattle.tb_front.proofs.asking.join_tables.Goals as goal
 

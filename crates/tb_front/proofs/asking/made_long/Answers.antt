@@ -1,6 +1,6 @@
-use Rattle.tb_frame.specs.Table.{table_of}
-use Rattle.tb_unpivot.specs.Unpivot.{unpivot_refusal, unpivot_table}
-use Rattle.tb_front.specs.Asked.{long_of}
+use Rattle.tb_frame.specs.Promise.Table.{table_of}
+use Rattle.tb_unpivot.specs.Promise.Unpivot.{unpivot_refusal, unpivot_table}
+use Rattle.tb_front.specs.Promise.Asked.{long_of}
 use Rattle.tb_front.proofs.Outcomes.{table_settles, table_text}
 use Rattle.tb_front.proofs.asking.made_long.Goals as goal
 

@@ -1,5 +1,5 @@
-use Rattle.tb_pivot.specs.Pivot.{pivot_table}
-use Rattle.tb_front.specs.Asked.{pivot_faults, wide_of}
+use Rattle.tb_pivot.specs.Promise.Pivot.{pivot_table}
+use Rattle.tb_front.specs.Promise.Asked.{pivot_faults, wide_of}
 use Rattle.tb_front.proofs.OneTable.{read_answer, read_settles}
 use Rattle.tb_front.proofs.asking.pivot_text.Goals as goal
 

@@ -1,5 +1,5 @@
-use Rattle.tb_unpivot.specs.Unpivot.{unpivot_table}
-use Rattle.tb_front.specs.Asked.{long_of, unpivot_faults}
+use Rattle.tb_unpivot.specs.Promise.Unpivot.{unpivot_table}
+use Rattle.tb_front.specs.Promise.Asked.{long_of, unpivot_faults}
 use Rattle.tb_front.proofs.OneTable.{read_answer, read_settles}
 use Rattle.tb_front.proofs.asking.unpivot_text.Goals as goal
 

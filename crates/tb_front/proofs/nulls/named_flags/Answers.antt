@@ -1,6 +1,6 @@
 use Rattle.std.proofs.Common.{Bool, List, ◌∷◌, [], ◌++◌, map, take, ap, sym, ◌∙◌}
 use Rattle.std.proofs.lemmas.List.{map_more}
-use Rattle.tb_frame.specs.Naming.{is_among}
+use Rattle.tb_frame.specs.Promise.Naming.{is_among}
 use Rattle.tb_front.proofs.nulls.named_flags.Goals as goal
 
 pub loop-key-preserved : goal.loop-key-preserved

@@ -1,5 +1,5 @@
 use Rattle.std.proofs.Common.{◌≡◌, take, map}
-use Rattle.tb_frame.specs.Naming.{is_among}
+use Rattle.tb_frame.specs.Promise.Naming.{is_among}
 use Rattle.tb_front.proofs.nulls.named_flags.Given as goal
 
 abbrev pub invariant-loop-key : goal.invariant-loop-key

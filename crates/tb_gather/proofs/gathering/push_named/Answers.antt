@@ -1,6 +1,6 @@
 use Rattle.std.proofs.Common.{arith, ◌≡◌, ◌∙◌, ◌<◌, Some, None, [], List, length, map, ap, subst, get_or}
 use Rattle.std.proofs.lemmas.List.{get_or-map, length-map}
-use Rattle.tb_value.specs.Datum.{Datum, null}
+use Rattle.tb_value.specs.Promise.Datum.{Datum, null}
 use Rattle.tb_chunk.specs.Moved.{moved_view}
 use Rattle.tb_chunk.specs.ViewArrays.{view_arrays_of, view_or_none, joined_view_array}
 use Rattle.tb_gather.specs.Ids.{Id, NamesRow, row_or_none}

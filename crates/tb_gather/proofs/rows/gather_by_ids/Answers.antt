@@ -1,9 +1,9 @@
 use Rattle.std.proofs.Common.{◌≡◌, ◌∙◌, ℕ, List, Option, Some, sym, ap, subst, map, arith}
 use Rattle.std.specs.List.{All, slice_get}
 use Rattle.rayon.proofs.ListFacts.{IfOk-then}
-use Rattle.tb_chunk.specs.Col.{Col}
+use Rattle.tb_chunk.specs.Promise.Col.{Col}
 use Rattle.tb_frame.specs.Frame.{lens}
-use Rattle.tb_frame.specs.Table.{table_of, IsTable}
+use Rattle.tb_frame.specs.Promise.Table.{table_of, IsTable}
 use Rattle.tb_gather.specs.Ids.{Id, AreAllInOrder, row_or_none}
 use Rattle.tb_gather.specs.Gathered.{NameRows, gathered_flag, named_rows}
 use Rattle.tb_gather.specs.declared.keep.Keep.TheVariants as keep

@@ -1,6 +1,6 @@
 use Rattle.std.proofs.Common.{◌<◌, List, length, sym, subst}
 use Rattle.std.specs.List.{All}
-use Rattle.tb_chunk.specs.Col.{Col}
+use Rattle.tb_chunk.specs.Promise.Col.{Col}
 use Rattle.tb_gather.proofs.Serving.{alike-stable}
 use Rattle.tb_gather.proofs.rows.is_cut_for_ids.Goals as goal
 

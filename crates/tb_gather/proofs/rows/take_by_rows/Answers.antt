@@ -1,9 +1,9 @@
 use Rattle.std.proofs.Common.{List, length, map, ap, sym, subst, ◌∙◌}
 use Rattle.std.specs.List.{All}
 use Rattle.rayon.proofs.ListFacts.{IfOk-then}
-use Rattle.tb_chunk.specs.Col.{Col, values}
+use Rattle.tb_chunk.specs.Promise.Col.{Col, values}
 use Rattle.tb_chunk.specs.Rows.{IsRowOf}
-use Rattle.tb_frame.specs.Table.{table_of, IsTable}
+use Rattle.tb_frame.specs.Promise.Table.{table_of, IsTable}
 use Rattle.tb_frame.proofs.Taking.{rows_or_none}
 use Rattle.tb_gather.specs.Gathered.{gathered_rows}
 use Rattle.tb_gather.proofs.Frames.{IsTable-rows}

@@ -1,5 +1,5 @@
 use Rattle.std.proofs.Common.{map, append-nil, ap, ◌≡◌, ◌∙◌}
-use Rattle.tb_chunk.specs.Col.{values}
+use Rattle.tb_chunk.specs.Promise.Col.{values}
 use Rattle.tb_chunk.specs.Rows.{value_or_null}
 use Rattle.tb_gather.specs.Gathered.{gathered_flag}
 use Rattle.tb_gather.proofs.Flags.{flag-of-rows}

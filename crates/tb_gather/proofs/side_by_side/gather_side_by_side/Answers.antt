@@ -2,7 +2,7 @@ use Rattle.std.proofs.Common.{◌≡◌, ◌∙◌, sym, ap, map, subst}
 use denote.Param.Send.{sendable}
 use Rattle.std.proofs.Crossing.{crosses}
 use Rattle.std.specs.Result.{IfOk}
-use Rattle.tb_chunk.specs.Col.{Col}
+use Rattle.tb_chunk.specs.Promise.Col.{Col}
 use Rattle.tb_store.proofs.Crossing.{Column-send, Column-sync}
 use Rattle.tb_gather.specs.Gathered.{NameRows, gathered_flag, named_rows}
 use Rattle.tb_gather.proofs.Chained.{chained}

@@ -3,7 +3,7 @@ use denote.Param.Send.{sendable}
 use Rattle.std.proofs.Crossing.{crosses}
 use Rattle.std.specs.List.{All}
 use Rattle.std.specs.Result.{IfOk}
-use Rattle.tb_chunk.specs.Col.{Col, values}
+use Rattle.tb_chunk.specs.Promise.Col.{Col, values}
 use Rattle.tb_chunk.specs.Rows.{IsRowOf}
 use Rattle.tb_store.proofs.Crossing.{Column-send, Column-sync}
 use Rattle.tb_gather.specs.Gathered.{gathered_rows}

@@ -1,5 +1,5 @@
 use Rattle.std.proofs.Common.{arith, sym, subst}
-use Rattle.tb_chunk.specs.Col.{Col}
+use Rattle.tb_chunk.specs.Promise.Col.{Col}
 use Rattle.tb_gather.specs.Gathered.{NameRows}
 use Rattle.tb_gather.proofs.tables.gather_columns.Goals as goal
 

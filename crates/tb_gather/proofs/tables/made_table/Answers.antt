@@ -1,6 +1,6 @@
 use Rattle.std.proofs.Common.{subst}
 use Rattle.tb_value.specs.Refusals.{Settles}
-use Rattle.tb_frame.specs.Table.{table_of}
+use Rattle.tb_frame.specs.Promise.Table.{table_of}
 use Rattle.tb_frame.proofs.Frames.{IsTable-refusal}
 use Rattle.tb_gather.proofs.tables.made_table.Goals as goal
 

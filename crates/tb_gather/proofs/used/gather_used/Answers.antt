@@ -2,7 +2,7 @@ use Rattle.std.proofs.Common.{◌≡◌, ◌∙◌, List, ap, arith, length, len
 use Rattle.std.specs.Prelude.{IfSome}
 use Rattle.std.specs.List.{Contains}
 use Rattle.std.proofs.lemmas.List.{length-map}
-use Rattle.tb_value.specs.Datum.{Datum}
+use Rattle.tb_value.specs.Promise.Datum.{Datum}
 use Rattle.tb_chunk.specs.ViewArrays.{view_arrays_of}
 use Rattle.tb_frame.specs.Frame.{lengths}
 use Rattle.tb_gather.specs.Gathered.{value_of_id}

@@ -3,7 +3,8 @@ use Rattle.std.specs.Prelude.{IfSome}
 use Rattle.std.proofs.lemmas.List.{length-map}
 use Rattle.tb_chunk.specs.Held.{StandsAt}
 use Rattle.tb_chunk.specs.Moved.{view_at_number}
-use Rattle.tb_chunk.specs.ViewArrays.{ViewArray, view_arrays_of}
+use Rattle.tb_view.specs.Promise.ViewArrays.{ViewArray}
+use Rattle.tb_chunk.specs.ViewArrays.{view_arrays_of}
 use Rattle.tb_frame.specs.Frame.{lengths}
 use Rattle.tb_gather.specs.Gathered.{value_of_id}
 use Rattle.tb_gather.specs.Ids.{Id, NamesRow}

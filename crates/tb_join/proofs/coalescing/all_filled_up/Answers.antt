@@ -1,6 +1,6 @@
 use Rattle.std.proofs.Common.{◌∙◌, sym, ap, subst}
 use Rattle.std.specs.Option.{ForSome}
-use Rattle.tb_chunk.specs.Col.{Col}
+use Rattle.tb_chunk.specs.Promise.Col.{Col}
 use Rattle.tb_frame.specs.NamedColumns.{column_by}
 use Rattle.tb_join.specs.AnswerColumns.{Fits}
 use Rattle.tb_join.proofs.coalescing.all_filled_up.Goals as goal

@@ -1,5 +1,5 @@
 use Rattle.std.proofs.Common.{◌≡◌, map, take}
-use Rattle.tb_chunk.specs.Col.{Col}
+use Rattle.tb_chunk.specs.Promise.Col.{Col}
 use Rattle.tb_frame.specs.NamedColumns.{column_by}
 use Rattle.tb_join.specs.AnswerColumns.{filled_column}
 use Rattle.tb_join.proofs.coalescing.all_filled_up.Given as goal

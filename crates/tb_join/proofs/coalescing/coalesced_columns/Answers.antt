@@ -2,15 +2,16 @@ use Rattle.std.proofs.Common.{◌≡◌, ◌∙◌, List, Option, ℕ, None, len
 use Rattle.std.specs.Prelude.{All}
 use Rattle.std.specs.Option.{ForSome, option_map}
 use Rattle.std.proofs.lemmas.List.Elements.{All-weaker}
-use Rattle.tb_value.specs.Names.{Name}
+use Rattle.tb_value.specs.Promise.Names.{Name}
 use Rattle.tb_value.specs.declared.error.PolarsError.TheVariants.{ColumnNotFound}
 use Rattle.tb_value.specs.declared.index.JoinPair.{JoinPair}
-use Rattle.tb_chunk.specs.Col.{Col}
+use Rattle.tb_chunk.specs.Promise.Col.{Col}
 use Rattle.tb_chunk.specs.Rows.{IsRowOf}
 use Rattle.tb_frame.specs.Answer.{IsPairOf}
-use Rattle.tb_frame.specs.Frame.{opt_taken_rows, selected_columns, without_names}
-use Rattle.tb_frame.specs.Refusal.{unknown_key}
-use Rattle.tb_frame.specs.Table.{table_of, height}
+use Rattle.tb_frame.specs.Promise.Frame.{selected_columns}
+use Rattle.tb_frame.specs.Frame.{opt_taken_rows, without_names}
+use Rattle.tb_frame.specs.Promise.Refusal.{unknown_key}
+use Rattle.tb_frame.specs.Promise.Table.{table_of, height}
 use Rattle.tb_frame.proofs.Filled.{left_within, right_within}
 use Rattle.tb_frame.proofs.Selected.{selected-table}
 use Rattle.tb_keys.specs.Asked.{asked_request}

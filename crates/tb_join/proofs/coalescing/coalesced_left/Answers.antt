@@ -1,6 +1,6 @@
 use Rattle.std.proofs.Common.{◌∙◌, Bor, List, get_or, length, map, sym, ap, arith}
 use Rattle.std.proofs.lemmas.List.{length-map}
-use Rattle.tb_chunk.specs.Col.{Col}
+use Rattle.tb_chunk.specs.Promise.Col.{Col}
 use Rattle.tb_chunk.specs.Lent.{lent_columns}
 use Rattle.tb_keys.specs.Coalescing.{key_beside}
 use Rattle.tb_join.specs.AnswerColumns.{filled_column}

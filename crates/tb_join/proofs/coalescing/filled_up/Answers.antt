@@ -1,6 +1,6 @@
 use Rattle.std.proofs.Common.{◌∙◌, Option, Some, length, sym, ap}
 use Rattle.std.specs.Option.{option_copied}
-use Rattle.tb_chunk.specs.Col.{Col, values}
+use Rattle.tb_chunk.specs.Promise.Col.{Col, values}
 use Rattle.tb_join.specs.AnswerColumns.{filled_column}
 use Rattle.tb_join.proofs.coalescing.filled_up.Goals as goal
 

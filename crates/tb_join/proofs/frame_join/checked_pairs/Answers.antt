@@ -4,9 +4,9 @@ use Rattle.std.proofs.lemmas.Result.{err_from_is_err_and}
 use Rattle.std.specs.Borrow.{Bor}
 use Rattle.tb_value.specs.Refusals.{Settles}
 use Rattle.tb_value.specs.declared.error.PolarsError.{PolarsError}
-use Rattle.tb_chunk.specs.Col.{Col}
+use Rattle.tb_chunk.specs.Promise.Col.{Col}
 use Rattle.tb_chunk.specs.Lent.{lent_columns}
-use Rattle.tb_frame.specs.Refusal.{column_causes, row_causes}
+use Rattle.tb_frame.specs.Promise.Refusal.{column_causes, row_causes}
 use Rattle.tb_frame.proofs.Causes.{no_cause}
 use Rattle.tb_keys.specs.Asked.{asked_request}
 use Rattle.tb_keys.proofs.Refusing.{by_first, second_part, two_parts}

@@ -4,13 +4,13 @@ use Rattle.std.proofs.lemmas.Result.{err_from_is_err_and}
 use Rattle.tb_value.specs.Refusals.{Settles}
 use Rattle.tb_value.specs.declared.error.PolarsError.{PolarsError}
 use Rattle.tb_chunk.specs.Lent.{lent_columns}
-use Rattle.tb_frame.specs.Join.{IsAnswer, Request, out}
-use Rattle.tb_frame.specs.Refusal.{column_causes, key_causes, key_types, row_causes}
-use Rattle.tb_frame.specs.Table.{table_of}
+use Rattle.tb_frame.specs.Promise.Join.{IsAnswer, Request, out}
+use Rattle.tb_frame.specs.Promise.Refusal.{column_causes, key_causes, key_types, row_causes}
+use Rattle.tb_frame.specs.Promise.Table.{table_of}
 use Rattle.tb_keys.specs.Asked.{asked_by_names}
 use Rattle.tb_keys.specs.Causes.{later_refusal}
 use Rattle.tb_keys.proofs.Refusing.{by_first, second_part, two_causes}
-use Rattle.tb_pairs.specs.Trace.{IsTraced, Trace, trace_of}
+use Rattle.tb_pairs.specs.Promise.Trace.{IsTraced, Trace, trace_of}
 use Rattle.tb_join.specs.Ready.{CanCoalesceKeys}
 use Rattle.tb_join.proofs.NamedKeys.{keys_as_many, keys_there}
 use Rattle.tb_join.proofs.NamesStand.{can_merge, names_stand, wide_out}

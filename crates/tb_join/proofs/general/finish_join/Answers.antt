@@ -1,9 +1,9 @@
 use Rattle.std.proofs.Common.{None}
 use Rattle.tb_value.specs.declared.error.PolarsError.TheVariants.{Duplicate}
-use Rattle.tb_frame.specs.Naming.{joined_names}
-use Rattle.tb_frame.specs.Refusal.{first_repeated}
-use Rattle.tb_frame.specs.Join.{matches}
-use Rattle.tb_frame.specs.Table.{height, names_of}
+use Rattle.tb_frame.specs.Promise.Naming.{joined_names}
+use Rattle.tb_frame.specs.Promise.Refusal.{first_repeated}
+use Rattle.tb_frame.specs.Promise.Join.{matches}
+use Rattle.tb_frame.specs.Promise.Table.{height, names_of}
 use Rattle.tb_frame.proofs.Assembled.{few_listed, makes_frame, pairs_in_range, table_answers}
 use Rattle.tb_frame.proofs.Causes.{distinct_names, map_none}
 use Rattle.tb_keys.specs.Asked.{asked_request}

@@ -1,11 +1,11 @@
 use Rattle.std.proofs.Common.{◌≡◌, ◌<◌, ◌∙◌, ℕ, List, [], length, map, ap, sym, subst, arith, rules}
 use Rattle.std.specs.Prelude.{All, IfOk}
 use Rattle.std.proofs.lemmas.List.{nil_from_length}
-use Rattle.tb_value.specs.Names.{Name}
-use Rattle.tb_chunk.specs.Col.{Col}
+use Rattle.tb_value.specs.Promise.Names.{Name}
+use Rattle.tb_chunk.specs.Promise.Col.{Col}
 use Rattle.tb_chunk.specs.Rows.{IsRowOf}
 use Rattle.tb_frame.specs.Frame.{without_names}
-use Rattle.tb_frame.specs.Table.{height, table_of}
+use Rattle.tb_frame.specs.Promise.Table.{height, table_of}
 use Rattle.tb_gather.specs.Gathered.{gathered_rows}
 use Rattle.tb_join.proofs.KeptColumns.{height-without, without_names_none}
 use Rattle.tb_join.proofs.general.kept_table.Goals as goal

@@ -6,7 +6,7 @@ use Rattle.tb_frame.specs.Frame.{without_names}
 use Rattle.tb_gather.specs.Gathered.{gathered_rows}
 use Rattle.tb_keys.specs.Asked.{asked_request}
 use Rattle.tb_join.specs.AnswerColumns.{left_part, side_by_side}
-use Rattle.tb_frame.specs.Table.{table_of, height}
+use Rattle.tb_frame.specs.Promise.Table.{table_of, height}
 use Rattle.tb_frame.proofs.Filled.{left_within}
 use Rattle.tb_join.proofs.general.plain_columns.Goals as goal
 

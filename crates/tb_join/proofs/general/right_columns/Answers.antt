@@ -2,10 +2,10 @@ use Rattle.std.proofs.Common.{◌≡◌, ◌∙◌, ℕ, Bool, true, cond, [], L
 use Rattle.std.specs.Prelude.{All}
 use Rattle.tb_value.specs.declared.index.JoinPair.{JoinPair}
 use Rattle.tb_chunk.specs.Rows.{IsRowOf}
-use Rattle.tb_frame.specs.Naming.{has_right}
+use Rattle.tb_frame.specs.Promise.Naming.{has_right}
 use Rattle.tb_frame.specs.Frame.{without_names}
 use Rattle.tb_frame.specs.RightColumns.{right_side}
-use Rattle.tb_frame.specs.Table.{table_of, height}
+use Rattle.tb_frame.specs.Promise.Table.{table_of, height}
 use Rattle.tb_frame.proofs.Filled.{right_within}
 use Rattle.tb_gather.specs.Gathered.{gathered_rows}
 use Rattle.tb_join.proofs.general.right_columns.Goals as goal

@@ -1,8 +1,8 @@
 use Rattle.std.proofs.Common.{◌≡◌, ◌≤◌, length, subst, sym}
 use Rattle.tb_value.specs.Pairs.{times}
 use Rattle.tb_frame.specs.declared.args.JoinType.{JoinType}
-use Rattle.tb_frame.specs.Table.{height}
-use Rattle.tb_frame.specs.Join.{listing_of, matches}
+use Rattle.tb_frame.specs.Promise.Table.{height}
+use Rattle.tb_frame.specs.Promise.Join.{listing_of, matches}
 use Rattle.tb_frame.proofs.Listings.{kept_at}
 use Rattle.tb_join.proofs.laws.kept.Goals as goal
 

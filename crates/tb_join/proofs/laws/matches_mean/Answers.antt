@@ -1,6 +1,7 @@
 use Rattle.std.proofs.Common.{length, min}
 use Rattle.tb_value.specs.Proved.ValueTests.{same-Decides}
-use Rattle.tb_frame.specs.Join.{agrees, field, nulls_match}
+use Rattle.tb_frame.specs.Promise.Join.{field, nulls_match}
+use Rattle.tb_frame.specs.Join.{agrees}
 use Rattle.tb_frame.proofs.Meaning.{rows_all, agrees-Decides}
 use Rattle.tb_join.proofs.laws.matches_mean.Goals as goal
 

@@ -1,7 +1,7 @@
 use Rattle.std.proofs.Common.{◌≡◌, List, map, ap, sym, ◌∙◌}
 use Rattle.tb_value.specs.declared.index.JoinPair.{JoinPair}
-use Rattle.tb_frame.specs.Table.{rows_of}
-use Rattle.tb_frame.specs.Join.{cut, direction, listing, out_row}
+use Rattle.tb_frame.specs.Promise.Table.{rows_of}
+use Rattle.tb_frame.specs.Promise.Join.{cut, direction, listing, out_row}
 use Rattle.tb_frame.proofs.Tables.{same_table}
 use Rattle.tb_frame.proofs.Ordered.{one_order}
 use Rattle.tb_join.proofs.laws.one_answer.Goals as goal

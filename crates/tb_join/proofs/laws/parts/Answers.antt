@@ -1,9 +1,9 @@
 use Rattle.std.proofs.Common.{arith}
 use Rattle.std.specs.Prelude.{not}
 use Rattle.std.specs.List.{list_any}
-use Rattle.tb_value.specs.Pairs.{row_numbers}
-use Rattle.tb_frame.specs.Table.{height}
-use Rattle.tb_frame.specs.Join.{matches}
+use Rattle.tb_value.specs.Promise.Pairs.{row_numbers}
+use Rattle.tb_frame.specs.Promise.Table.{height}
+use Rattle.tb_frame.specs.Promise.Join.{matches}
 use Rattle.tb_frame.proofs.Listings.{times-alone, one_of_two}
 use Rattle.tb_join.proofs.laws.parts.Goals as goal
 

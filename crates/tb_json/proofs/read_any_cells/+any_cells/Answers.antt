@@ -2,12 +2,12 @@ use Rattle.std.proofs.Common.{◌<◌, length, map, option_map, ◌∙◌, sym, 
 use Rattle.std.proofs.lemmas.List.{map_push, get_or-map, length-map, take_all}
 use Rattle.std.proofs.lemmas.List.Elements.{All-push}
 use Rattle.tb_tree.specs.View.{view, items_view}
-use Rattle.tb_value.specs.Datum.{items_of}
-use Rattle.tb_value.specs.Kind.{Part, parts_of}
+use Rattle.tb_value.specs.Promise.Datum.{items_of}
+use Rattle.tb_value.specs.Promise.Kind.{Part, parts_of}
 use Rattle.tb_value.specs.See.{datum}
 use Rattle.tb_value.specs.SeeKind.{kind_of, part}
-use Rattle.tb_value.specs.Typed.{HasType, AreEachOf}
-use Rattle.tb_json.specs.Cells.{cell_in, items_in, row_in}
+use Rattle.tb_value.specs.Promise.Typed.{HasType, AreEachOf}
+use Rattle.tb_json.specs.Promise.Cells.{cell_in, items_in, row_in}
 use Rattle.tb_json.proofs.LentValues.{Walk-more, Walk-fails, Walk-all}
 use Rattle.tb_json.proofs.ValueWalks.{items_in-each, AreOf-All, FieldsSoFar-start, FieldsSoFar-more, FieldsSoFar-fails, FieldsSoFar-all, read_at, row-uneven, TypedSoFar-start, TypedSoFar-more}
 use Rattle.tb_json.proofs.read_any_cells.+any_cells.Goals as goal

@@ -2,11 +2,11 @@ use Rattle.std.proofs.Common.{map, option_map, ◌∙◌, sym, ap, arith}
 use Rattle.std.proofs.lemmas.List.{map_push}
 use Rattle.std.proofs.lemmas.List.Elements.{All-push}
 use Rattle.tb_tree.specs.View.{view}
-use Rattle.tb_value.specs.Typed.{HasType}
+use Rattle.tb_value.specs.Promise.Typed.{HasType}
 use Rattle.tb_chunk.specs.Chunk.{or_null}
-use Rattle.tb_json.specs.Lists.{each}
+use Rattle.tb_json.specs.Promise.Lists.{each}
 use Rattle.tb_value.specs.SeeKind.{kind_of}
-use Rattle.tb_json.specs.Cells.{cell_in}
+use Rattle.tb_json.specs.Promise.Cells.{cell_in}
 use Rattle.tb_json.proofs.LentValues.{Walk-more, Walk-fails, Walk-all}
 use Rattle.tb_json.proofs.read_arrays.cells_of.Goals as goal
 

@@ -1,9 +1,9 @@
 use Rattle.std.proofs.Common.{map}
 use Rattle.tb_tree.specs.View.{view}
 use Rattle.tb_chunk.specs.Made.{IsTyped}
-use Rattle.tb_json.specs.Lists.{each}
+use Rattle.tb_json.specs.Promise.Lists.{each}
 use Rattle.tb_value.specs.SeeKind.{kind_of}
-use Rattle.tb_json.specs.Cells.{cell_in}
+use Rattle.tb_json.specs.Promise.Cells.{cell_in}
 use Rattle.tb_json.proofs.LentValues.{Walk}
 use Rattle.tb_json.proofs.read_arrays.chunks_of.Given as goal
 

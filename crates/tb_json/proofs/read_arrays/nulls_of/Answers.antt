@@ -3,7 +3,7 @@ use Rattle.std.specs.Prelude.{is_some}
 use Rattle.std.specs.List.{list_all}
 use Rattle.serde_json.specs.Find.{as_null}
 use Rattle.tb_tree.specs.View.{view}
-use Rattle.tb_value.specs.Datum.{null}
+use Rattle.tb_value.specs.Promise.Datum.{null}
 use Rattle.tb_json.proofs.ArrayWalks.{nulls-each}
 use Rattle.tb_json.proofs.read_arrays.nulls_of.Goals as goal
 

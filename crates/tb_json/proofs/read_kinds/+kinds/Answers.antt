@@ -5,10 +5,10 @@ use Rattle.serde_json.specs.Data.{Data, Members, member, no_members}
 use Rattle.std.proofs.Common.{◌≡◌, ℕ, List, [], ◌∷◌, Option, Some, None, true, false, codes, refl, rules, tests, string_bytes, map, option_map, ◌∙◌, sym, ap, arith}
 use Rattle.std.proofs.lemmas.List.{map_push}
 use Rattle.tb_tree.specs.View.{view, items_view, members_view}
-use Rattle.tb_value.specs.Kind.{parts_of}
+use Rattle.tb_value.specs.Promise.Kind.{parts_of}
 use Rattle.tb_value.specs.SeeKind.{part}
 use Rattle.tb_tree.proofs.Views.{view-Object}
-use Rattle.tb_json.specs.Kinds.{part_in, members_part, members_kind, field_named, kind_in, each_part}
+use Rattle.tb_json.specs.Promise.Kinds.{part_in, members_part, members_kind, field_named, kind_in, each_part}
 use Rattle.tb_json.proofs.LentValues.{Walk-more, Walk-fails, Walk-all}
 use Rattle.tb_json.proofs.FieldWalks.{each_part-each}
 use Rattle.tb_json.proofs.read_kinds.+kinds.Goals as goal

@@ -1,7 +1,7 @@
 use Rattle.std.proofs.Common.{map}
 use Rattle.tb_tree.specs.View.{view}
 use Rattle.tb_value.specs.SeeKind.{part}
-use Rattle.tb_json.specs.Kinds.{part_in}
+use Rattle.tb_json.specs.Promise.Kinds.{part_in}
 use Rattle.tb_json.proofs.LentValues.{Walk}
 use Rattle.tb_json.proofs.read_kinds.+kinds.Given as goal
 

@@ -3,7 +3,7 @@ use Rattle.std.specs.List.{list_all}
 use Rattle.std.specs.Result.{result_ok}
 use Rattle.std.proofs.lemmas.List.{take_at}
 use Rattle.hex.specs.Hex.{decode_of}
-use Rattle.tb_json.specs.Cells.{is_lower_digit, bytes_in}
+use Rattle.tb_json.specs.Promise.Cells.{is_lower_digit, bytes_in}
 use Rattle.tb_json.proofs.read_plain_cells.decode_into.Goals as goal
 
 capitals : (s : List ℕ) → list_all is_lower_digit s ≡ false → None ≡ bytes_in s

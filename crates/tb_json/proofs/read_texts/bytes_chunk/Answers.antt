@@ -1,10 +1,10 @@
 use Rattle.std.proofs.Common.{◌≡◌, ◌∙◌, Bool, true, false, Option, Some, None, map, refl, ap}
 use Rattle.std.specs.Option.{MatchOption}
 use Rattle.tb_tree.specs.View.{view}
-use Rattle.tb_value.specs.Datum.{Datum, binary}
-use Rattle.tb_value.specs.Kind as kind
-use Rattle.tb_json.specs.Lists.{each}
-use Rattle.tb_json.specs.Cells.{cell_in}
+use Rattle.tb_value.specs.Promise.Datum.{Datum, binary}
+use Rattle.tb_value.specs.Promise.Kind as kind
+use Rattle.tb_json.specs.Promise.Lists.{each}
+use Rattle.tb_json.specs.Promise.Cells.{cell_in}
 use Rattle.tb_json.proofs.LentValues.{Walk-more, Walk-fails}
 use Rattle.tb_json.proofs.read_texts.bytes_chunk.Goals as goal
 

@@ -1,11 +1,11 @@
 use Rattle.std.proofs.Common.{map, option_map, ◌∙◌, sym, ap, arith, Some}
 use Rattle.std.proofs.lemmas.List.{map_push}
 use Rattle.tb_tree.specs.View.{view}
-use Rattle.tb_value.specs.Datum.{string}
-use Rattle.tb_value.specs.Kind as kind
+use Rattle.tb_value.specs.Promise.Datum.{string}
+use Rattle.tb_value.specs.Promise.Kind as kind
 use Rattle.tb_chunk.specs.Chunk.{or_null}
-use Rattle.tb_json.specs.Lists.{each}
-use Rattle.tb_json.specs.Cells.{cell_in}
+use Rattle.tb_json.specs.Promise.Lists.{each}
+use Rattle.tb_json.specs.Promise.Cells.{cell_in}
 use Rattle.tb_json.proofs.LentValues.{Walk-more, Walk-fails, Walk-all}
 use Rattle.tb_json.proofs.read_texts.text_chunk.Goals as goal
 

@@ -3,12 +3,12 @@ use Rattle.std.proofs.lemmas.List.{get_or-map, length-map, take_all, map_push}
 use Rattle.serde_json.specs.View as json
 use Rattle.serde_json.specs.View.{view}
 use Rattle.serde_json.specs.Data.{Data}
-use Rattle.tb_value.specs.Datum.{weight, weights, items_of}
-use Rattle.tb_value.specs.Kind.{parts_of}
+use Rattle.tb_value.specs.Promise.Datum.{weight, weights, items_of}
+use Rattle.tb_value.specs.Promise.Kind.{parts_of}
 use Rattle.tb_value.specs.See.{datum, lent_value}
 use Rattle.tb_value.specs.SeeKind.{kind_of, part, parts}
-use Rattle.tb_value.specs.Typed.{AreOf, AreEachOf}
-use Rattle.tb_json.specs.Text.{value_data, items_data, fields_data}
+use Rattle.tb_value.specs.Promise.Typed.{AreOf, AreEachOf}
+use Rattle.tb_json.specs.Promise.Text.{value_data, items_data, fields_data}
 use Rattle.tb_json.proofs.Nested.{as_many, placed, items_data-map, weight_in, AreOf_at, AreEachOf_at, RowSoFar, RowSoFar-more, RowSoFar-all}
 use Rattle.tb_json.proofs.write_cells.+cells.Goals as goal
 

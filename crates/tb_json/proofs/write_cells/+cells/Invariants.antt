@@ -1,9 +1,9 @@
 use Rattle.std.proofs.Common.{◌≡◌, ◌+◌, ◌*◌, map, take}
 use Rattle.serde_json.specs.View.{view}
-use Rattle.tb_value.specs.Datum.{weight, weights, items_of}
+use Rattle.tb_value.specs.Promise.Datum.{weight, weights, items_of}
 use Rattle.tb_value.specs.See.{datum, lent_value}
 use Rattle.tb_value.specs.SeeKind.{kind_of, part}
-use Rattle.tb_json.specs.Text.{value_data}
+use Rattle.tb_json.specs.Promise.Text.{value_data}
 use Rattle.tb_json.proofs.Nested.{RowSoFar}
 use Rattle.tb_json.proofs.write_cells.+cells.Given as goal
 

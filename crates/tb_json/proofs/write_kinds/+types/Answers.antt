@@ -1,9 +1,9 @@
 use Rattle.std.proofs.Common.{◌≡◌, ◌<◌, ◌≤◌, length, map, ap, sym, ◌∙◌, arith}
 use Rattle.std.proofs.lemmas.List.{get_or-map, length-map, take_all}
 use Rattle.serde_json.specs.View.{items_of}
-use Rattle.tb_value.specs.Kind.{weight, weights, parts_of}
+use Rattle.tb_value.specs.Promise.Kind.{weight, weights, parts_of}
 use Rattle.tb_value.specs.SeeKind.{kind_of, part, parts}
-use Rattle.tb_json.specs.Text.{parts_data}
+use Rattle.tb_json.specs.Promise.Text.{parts_data}
 use Rattle.tb_value.proofs.FieldTests.{weight_at}
 use Rattle.tb_json.proofs.Fields.{field_data, parts_data-map}
 use Rattle.tb_json.proofs.write_kinds.+types.Goals as goal

@@ -1,6 +1,6 @@
 use Rattle.std.proofs.Common.{◌≡◌, ◌+◌, ◌*◌, map, take}
 use Rattle.serde_json.specs.View.{view}
-use Rattle.tb_value.specs.Kind.{weight, weights, parts_of}
+use Rattle.tb_value.specs.Promise.Kind.{weight, weights, parts_of}
 use Rattle.tb_value.specs.SeeKind.{kind_of, part, parts}
 use Rattle.tb_json.proofs.Fields.{field_data}
 use Rattle.tb_json.proofs.write_kinds.+types.Given as goal

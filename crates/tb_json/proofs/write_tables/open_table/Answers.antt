@@ -1,8 +1,8 @@
 use Rattle.std.proofs.Common.{◌++◌, false, map, ap, ◌∙◌, string_bytes}
 use Rattle.serde_json.specs.Data.{number, unsigned}
 use Rattle.serde_json.specs.Written.{compact_text}
-use Rattle.tb_frame.specs.Table.{table_of}
-use Rattle.tb_json.specs.Text.{column_data}
+use Rattle.tb_frame.specs.Promise.Table.{table_of}
+use Rattle.tb_json.specs.Promise.Text.{column_data}
 use Rattle.tb_json.specs.Written.{with_items}
 use Rattle.tb_json.proofs.Runs.{open_text}
 use Rattle.tb_json.proofs.write_tables.open_table.Goals as goal

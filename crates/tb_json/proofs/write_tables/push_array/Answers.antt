@@ -1,8 +1,8 @@
 use Rattle.std.proofs.Common.{◌≡◌, false, map, refl, ap, ◌∙◌, string_bytes}
 use Rattle.tb_value.specs.SeeKind.{kind_of}
-use Rattle.tb_chunk.specs.Col.{concatenation, values}
+use Rattle.tb_chunk.specs.Promise.Col.{concatenation, values}
 use Rattle.tb_chunk.specs.Seen.{chunk_lists}
-use Rattle.tb_json.specs.Text.{value_data}
+use Rattle.tb_json.specs.Promise.Text.{value_data}
 use Rattle.tb_json.specs.Written.{with_items}
 use Rattle.tb_json.proofs.Runs.{array_text}
 use Rattle.tb_json.proofs.write_tables.push_array.Goals as goal

@@ -1,8 +1,8 @@
 use Rattle.std.proofs.Common.{◌<◌, length, map, sym, arith, get_or}
 use Rattle.std.proofs.lemmas.List.{get_or-map, length-map}
-use Rattle.tb_value.specs.Datum.{null}
+use Rattle.tb_value.specs.Promise.Datum.{null}
 use Rattle.tb_value.specs.SeeKind.{kind_of}
-use Rattle.tb_json.specs.Text.{value_data}
+use Rattle.tb_json.specs.Promise.Text.{value_data}
 use Rattle.tb_json.proofs.Runs.{item_step, items_end}
 use Rattle.tb_json.proofs.write_tables.push_chunk.Goals as goal
 

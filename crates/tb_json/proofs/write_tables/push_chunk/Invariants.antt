@@ -1,6 +1,6 @@
 use Rattle.std.proofs.Common.{◌≡◌, map, drop, string_bytes}
 use Rattle.tb_value.specs.SeeKind.{kind_of}
-use Rattle.tb_json.specs.Text.{value_data}
+use Rattle.tb_json.specs.Promise.Text.{value_data}
 use Rattle.tb_json.specs.Written.{with_items}
 use Rattle.tb_json.proofs.write_tables.push_chunk.Given as goal
 

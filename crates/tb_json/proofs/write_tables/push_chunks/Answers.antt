@@ -1,6 +1,6 @@
 use Rattle.std.proofs.Common.{ap, arith}
 use Rattle.tb_value.specs.SeeKind.{kind_of}
-use Rattle.tb_value.specs.Typed.{HasType}
+use Rattle.tb_value.specs.Promise.Typed.{HasType}
 use Rattle.tb_chunk.proofs.Alls.{all_next_list}
 use Rattle.tb_json.proofs.Runs.{chunk_step, chunks_end}
 use Rattle.tb_json.proofs.write_tables.push_chunks.Goals as goal

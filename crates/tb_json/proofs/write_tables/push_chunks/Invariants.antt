@@ -1,9 +1,9 @@
 use Rattle.std.proofs.Common.{◌≡◌, false, map, drop, string_bytes}
 use Rattle.std.specs.List.{All}
 use Rattle.tb_value.specs.SeeKind.{kind_of}
-use Rattle.tb_value.specs.Typed.{HasType}
-use Rattle.tb_chunk.specs.Col.{concatenation}
-use Rattle.tb_json.specs.Text.{value_data}
+use Rattle.tb_value.specs.Promise.Typed.{HasType}
+use Rattle.tb_chunk.specs.Promise.Col.{concatenation}
+use Rattle.tb_json.specs.Promise.Text.{value_data}
 use Rattle.tb_json.specs.Written.{with_items}
 use Rattle.tb_json.proofs.write_tables.push_chunks.Given as goal
 

@@ -1,4 +1,4 @@
-use Rattle.tb_frame.specs.Table.{plain_column}
+use Rattle.tb_frame.specs.Promise.Table.{plain_column}
 use Rattle.tb_json.proofs.Runs.{column_text}
 use Rattle.tb_json.proofs.write_tables.push_column.Goals as goal
 

@@ -1,7 +1,7 @@
 use Rattle.std.proofs.Common.{◌<◌, length, map, ap, ◌∙◌, sym, arith}
 use Rattle.std.proofs.lemmas.List.{get_or-map, length-map}
-use Rattle.tb_frame.specs.Table.{plain_column, table_of}
-use Rattle.tb_json.specs.Text.{column_data}
+use Rattle.tb_frame.specs.Promise.Table.{plain_column, table_of}
+use Rattle.tb_json.specs.Promise.Text.{column_data}
 use Rattle.tb_json.proofs.Runs.{item_step, items_end}
 use Rattle.tb_json.proofs.write_tables.push_columns.Goals as goal
 

@@ -1,6 +1,6 @@
 use Rattle.std.proofs.Common.{◌≡◌, false, map, drop, string_bytes}
-use Rattle.tb_frame.specs.Table.{table_of}
-use Rattle.tb_json.specs.Text.{column_data}
+use Rattle.tb_frame.specs.Promise.Table.{table_of}
+use Rattle.tb_json.specs.Promise.Text.{column_data}
 use Rattle.tb_json.specs.Written.{with_items}
 use Rattle.tb_json.proofs.write_tables.push_columns.Given as goal
 

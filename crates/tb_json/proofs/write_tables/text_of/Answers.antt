@@ -1,5 +1,5 @@
 use Rattle.std.proofs.Common.{◌++◌, ap, ◌∙◌, codes}
-use Rattle.tb_frame.specs.Table.{table_of}
+use Rattle.tb_frame.specs.Promise.Table.{table_of}
 use Rattle.tb_json.proofs.Runs.{table_text}
 use Rattle.tb_json.proofs.write_tables.text_of.Goals as goal
 

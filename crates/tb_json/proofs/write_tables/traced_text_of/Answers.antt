@@ -1,6 +1,6 @@
 use Rattle.std.proofs.Common.{◌++◌, ap, ◌∙◌, codes}
 use Rattle.serde_json.specs.View.{view}
-use Rattle.tb_frame.specs.Table.{table_of}
+use Rattle.tb_frame.specs.Promise.Table.{table_of}
 use Rattle.tb_json.proofs.Runs.{traced_text}
 use Rattle.tb_json.proofs.write_tables.traced_text_of.Goals as goal
 

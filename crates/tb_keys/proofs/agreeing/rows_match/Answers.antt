@@ -1,8 +1,8 @@
 use Rattle.std.proofs.Common.{◌≡◌, length, arith, sym, ◌∙◌, ap}
 use Rattle.tb_value.proofs.RowNumbers.{all_more, all_stop}
-use Rattle.tb_value.specs.Same.{agrees}
-use Rattle.tb_chunk.specs.Col.{Col, values}
-use Rattle.tb_frame.specs.Table.{table_of, height}
+use Rattle.tb_value.specs.Promise.Same.{agrees}
+use Rattle.tb_chunk.specs.Promise.Col.{Col, values}
+use Rattle.tb_frame.specs.Promise.Table.{table_of, height}
 use Rattle.tb_keys.specs.Asked.{asked_request}
 use Rattle.tb_keys.proofs.KeyFields.{place_field, place_has, agrees_at, match_to}
 use Rattle.tb_keys.proofs.agreeing.rows_match.Goals as goal

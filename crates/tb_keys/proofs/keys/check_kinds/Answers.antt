@@ -1,11 +1,11 @@
 use Rattle.std.proofs.Common.{◌≡◌, ℕ, Bool, not, arith, sym, ◌∙◌, ap}
 use Rattle.std.specs.Option.{option_map}
-use Rattle.tb_value.specs.SameKind.{is_key}
+use Rattle.tb_value.specs.Promise.SameKind.{is_key}
 use Rattle.tb_value.specs.declared.error.PolarsError.TheVariants.{InvalidOperation}
 use Rattle.tb_value.specs.declared.error.InvalidCause.TheVariants.{KeyKind}
 use Rattle.tb_value.proofs.Finds.{find_row_more, find_row_stop}
-use Rattle.tb_frame.specs.Join.{Request}
-use Rattle.tb_frame.specs.Refusal.{kind_at}
+use Rattle.tb_frame.specs.Promise.Join.{Request}
+use Rattle.tb_frame.specs.Promise.Refusal.{kind_at}
 use Rattle.tb_keys.specs.Asked.{asked_request}
 use Rattle.tb_keys.proofs.KeyFields.{place_kind}
 use Rattle.tb_keys.proofs.keys.check_kinds.Goals as goal

@@ -1,9 +1,9 @@
 use Rattle.std.proofs.Common.{◌≡◌, None, not}
 use Rattle.std.specs.List.{find}
-use Rattle.tb_value.specs.Pairs.{row_numbers}
-use Rattle.tb_value.specs.SameKind.{same_kind}
-use Rattle.tb_frame.specs.Refusal.{kind_at}
-use Rattle.tb_frame.specs.Table.{table_of}
+use Rattle.tb_value.specs.Promise.Pairs.{row_numbers}
+use Rattle.tb_value.specs.Promise.SameKind.{same_kind}
+use Rattle.tb_frame.specs.Promise.Refusal.{kind_at}
+use Rattle.tb_frame.specs.Promise.Table.{table_of}
 use Rattle.tb_chunk.specs.Lent.{lent_columns}
 use Rattle.tb_keys.proofs.keys.check_types.Given as goal
 

@@ -1,6 +1,6 @@
 use Rattle.std.proofs.Common.{arith, sym, ◌∙◌}
 use Rattle.tb_value.proofs.RowNumbers.{any_more, any_stop}
-use Rattle.tb_frame.specs.Join.{matches}
+use Rattle.tb_frame.specs.Promise.Join.{matches}
 use Rattle.tb_keys.specs.Asked.{asked_request}
 use Rattle.tb_keys.proofs.listing.is_left_met.Goals as goal
 

@@ -1,6 +1,6 @@
 use Rattle.std.proofs.Common.{◌≡◌, ◌++◌}
-use Rattle.tb_frame.specs.Join.{matches}
-use Rattle.tb_frame.specs.Table.{table_of, height}
+use Rattle.tb_frame.specs.Promise.Join.{matches}
+use Rattle.tb_frame.specs.Promise.Table.{table_of, height}
 use Rattle.tb_keys.specs.Asked.{asked_request}
 use Rattle.tb_keys.specs.Met.{left_alone}
 use Rattle.tb_keys.proofs.listing.push_left.Given as goal

@@ -1,10 +1,10 @@
 use Rattle.std.proofs.Common.{◌++◌, ℕ, Bool, List, sym, ◌∙◌, ap, map, append_assoc}
 use Rattle.std.specs.Prelude.{filter}
 use Rattle.tb_value.specs.declared.index.JoinPair.{JoinPair}
-use Rattle.tb_value.specs.Pairs.{row_numbers, both, matched_pairs}
+use Rattle.tb_value.specs.Promise.Pairs.{row_numbers, both, matched_pairs}
 use Rattle.tb_value.proofs.RowNumbers.{matched_more}
-use Rattle.tb_frame.specs.Join.{matches}
-use Rattle.tb_frame.specs.Table.{table_of, height}
+use Rattle.tb_frame.specs.Promise.Join.{matches}
+use Rattle.tb_frame.specs.Promise.Table.{table_of, height}
 use Rattle.tb_keys.specs.Asked.{asked_request}
 use Rattle.tb_keys.proofs.listing.push_matched.Goals as goal
 

@@ -1,7 +1,7 @@
 use Rattle.std.proofs.Common.{ℕ, Bool, sym, ◌∙◌}
-use Rattle.tb_value.specs.Pairs.{both}
+use Rattle.tb_value.specs.Promise.Pairs.{both}
 use Rattle.tb_value.proofs.RowNumbers.{kept_push, kept_skip}
-use Rattle.tb_frame.specs.Join.{matches}
+use Rattle.tb_frame.specs.Promise.Join.{matches}
 use Rattle.tb_keys.specs.Asked.{asked_request}
 use Rattle.tb_keys.proofs.listing.push_matches.Goals as goal
 use Rattle.tb_keys.proofs.listing.push_matches.Goals.{then-rows_match+in_ok-push, else-rows_match}

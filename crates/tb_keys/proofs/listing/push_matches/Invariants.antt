@@ -1,7 +1,7 @@
 use Rattle.std.proofs.Common.{◌≡◌, ◌++◌, map}
 use Rattle.std.specs.Prelude.{filter}
-use Rattle.tb_value.specs.Pairs.{row_numbers, both}
-use Rattle.tb_frame.specs.Join.{matches}
+use Rattle.tb_value.specs.Promise.Pairs.{row_numbers, both}
+use Rattle.tb_frame.specs.Promise.Join.{matches}
 use Rattle.tb_keys.specs.Asked.{asked_request}
 use Rattle.tb_keys.proofs.listing.push_matches.Given as goal
 

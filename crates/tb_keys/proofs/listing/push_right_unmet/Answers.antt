@@ -1,9 +1,9 @@
 use Rattle.std.proofs.Common.{ℕ, Bool, sym, ◌∙◌, ap, not}
 use Rattle.std.specs.List.{list_any}
-use Rattle.tb_value.specs.Pairs.{row_numbers, right_only}
+use Rattle.tb_value.specs.Promise.Pairs.{row_numbers, right_only}
 use Rattle.tb_value.proofs.RowNumbers.{kept_push, kept_skip}
-use Rattle.tb_frame.specs.Join.{matches}
-use Rattle.tb_frame.specs.Table.{table_of, height}
+use Rattle.tb_frame.specs.Promise.Join.{matches}
+use Rattle.tb_frame.specs.Promise.Table.{table_of, height}
 use Rattle.tb_keys.specs.Asked.{asked_request}
 use Rattle.tb_keys.proofs.listing.push_right_unmet.Goals as goal
 use Rattle.tb_keys.proofs.listing.push_right_unmet.Goals.{then-not-is_right_met+in_ok-push, else-not-is_right_met}

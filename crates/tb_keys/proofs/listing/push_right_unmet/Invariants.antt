@@ -1,7 +1,7 @@
 use Rattle.std.proofs.Common.{◌≡◌, ◌++◌}
-use Rattle.tb_value.specs.Pairs.{right_unmet}
-use Rattle.tb_frame.specs.Join.{matches}
-use Rattle.tb_frame.specs.Table.{table_of, height}
+use Rattle.tb_value.specs.Promise.Pairs.{right_unmet}
+use Rattle.tb_frame.specs.Promise.Join.{matches}
+use Rattle.tb_frame.specs.Promise.Table.{table_of, height}
 use Rattle.tb_keys.specs.Asked.{asked_request}
 use Rattle.tb_keys.proofs.listing.push_right_unmet.Given as goal
 

@@ -1,10 +1,10 @@
 use Rattle.std.proofs.Common.{Option, subst}
 use Rattle.tb_value.specs.Refusals.{Settles}
 use Rattle.tb_value.specs.declared.error.PolarsError.{PolarsError}
-use Rattle.tb_frame.specs.Join.{by_names}
-use Rattle.tb_frame.specs.Refusal.{repeated_name}
+use Rattle.tb_frame.specs.Promise.Join.{by_names}
+use Rattle.tb_frame.specs.Promise.Refusal.{repeated_name}
 use Rattle.tb_frame.specs.Sides.{of_kind}
-use Rattle.tb_frame.specs.Table.{table_of}
+use Rattle.tb_frame.specs.Promise.Table.{table_of}
 use Rattle.tb_keys.proofs.names.check_answer_names.Goals as goal
 
 pub returns : goal.returns

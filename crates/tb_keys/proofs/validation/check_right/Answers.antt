@@ -1,12 +1,13 @@
 use Rattle.std.proofs.Common.{◌≡◌, ◌∙◌, Bool, ◌&&◌, ℕ, Option, ap, subst}
-use Rattle.tb_value.specs.Refusals.{SettlesOutright, when}
+use Rattle.tb_value.specs.Promise.Refusals.{when}
+use Rattle.tb_value.specs.Refusals.{SettlesOutright}
 use Rattle.tb_value.specs.declared.error.ComputeCause.TheVariants.{Validation}
 use Rattle.tb_value.specs.declared.error.PolarsError.{PolarsError}
 use Rattle.tb_value.specs.declared.error.PolarsError.TheVariants.{ComputeError}
 use Rattle.tb_value.specs.declared.error.Side.TheVariants as side
-use Rattle.tb_frame.specs.Join.{flag_at}
-use Rattle.tb_frame.specs.Refusal.{broken_right, has_twins, is_validated}
-use Rattle.tb_frame.specs.Table.{table_of}
+use Rattle.tb_frame.specs.Promise.Join.{flag_at}
+use Rattle.tb_frame.specs.Promise.Refusal.{broken_right, has_twins, is_validated}
+use Rattle.tb_frame.specs.Promise.Table.{table_of}
 use Rattle.tb_keys.specs.Asked.{asked_request}
 use Rattle.tb_chunk.specs.Lent.{lent_columns}
 use Rattle.tb_keys.proofs.validation.check_right.Goals as goal

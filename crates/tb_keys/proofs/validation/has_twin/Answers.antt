@@ -1,8 +1,8 @@
 use Rattle.std.proofs.Common.{sym, ◌∙◌}
 use Rattle.tb_value.proofs.RowNumbers.{any_more, any_stop}
-use Rattle.tb_frame.specs.Join.{flag_at}
-use Rattle.tb_frame.specs.Refusal.{are_twins}
-use Rattle.tb_frame.specs.Table.{table_of}
+use Rattle.tb_frame.specs.Promise.Join.{flag_at}
+use Rattle.tb_frame.specs.Promise.Refusal.{are_twins}
+use Rattle.tb_frame.specs.Promise.Table.{table_of}
 use Rattle.tb_chunk.specs.Lent.{lent_columns}
 use Rattle.tb_keys.proofs.validation.has_twin.Goals as goal
 

@@ -1,10 +1,10 @@
 use Rattle.std.proofs.Common.{ℕ, Bool, List, sym, ◌∙◌}
 use Rattle.std.specs.List.{list_any}
-use Rattle.tb_value.specs.Pairs.{row_numbers}
+use Rattle.tb_value.specs.Promise.Pairs.{row_numbers}
 use Rattle.tb_value.proofs.RowNumbers.{any_more, any_stop}
-use Rattle.tb_frame.specs.Join.{flag_at}
-use Rattle.tb_frame.specs.Refusal.{are_twins}
-use Rattle.tb_frame.specs.Table.{TableColumn, table_of}
+use Rattle.tb_frame.specs.Promise.Join.{flag_at}
+use Rattle.tb_frame.specs.Promise.Refusal.{are_twins}
+use Rattle.tb_frame.specs.Promise.Table.{TableColumn, table_of}
 use Rattle.tb_chunk.specs.Lent.{lent_columns}
 use Rattle.tb_keys.proofs.validation.has_twins.Goals as goal
 

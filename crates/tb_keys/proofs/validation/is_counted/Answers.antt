@@ -1,9 +1,9 @@
 use Rattle.std.proofs.Common.{◌≡◌, length, arith, sym, ◌∙◌, ap}
 use Rattle.std.specs.Prelude.{◌||◌}
-use Rattle.tb_value.specs.Datum.{is_present}
+use Rattle.tb_value.specs.Promise.Datum.{is_present}
 use Rattle.tb_value.proofs.RowNumbers.{all_more, all_stop}
-use Rattle.tb_frame.specs.Join.{flag_at}
-use Rattle.tb_frame.specs.Table.{table_of}
+use Rattle.tb_frame.specs.Promise.Join.{flag_at}
+use Rattle.tb_frame.specs.Promise.Table.{table_of}
 use Rattle.tb_chunk.proofs.Lent.{lent_has}
 use Rattle.tb_chunk.specs.Lent.{lent_columns}
 use Rattle.tb_keys.specs.Rows.{HasRow}

@@ -1,6 +1,6 @@
 use Rattle.std.proofs.Common.{◌≡◌, true}
-use Rattle.tb_frame.specs.Join.{flag_at}
-use Rattle.tb_frame.specs.Table.{table_of}
+use Rattle.tb_frame.specs.Promise.Join.{flag_at}
+use Rattle.tb_frame.specs.Promise.Table.{table_of}
 use Rattle.tb_chunk.specs.Lent.{lent_columns}
 use Rattle.tb_keys.proofs.KeyFields.{counted_to}
 use Rattle.tb_keys.proofs.validation.is_counted.Given as goal

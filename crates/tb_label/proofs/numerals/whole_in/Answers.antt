@@ -7,7 +7,7 @@ use Rattle.std.proofs.lemmas.Slice.Eq.{bytes_eq-Decides}
 use Rattle.std.proofs.lemmas.Bool.Decides.{nat_tests}
 use Rattle.std.proofs.lemmas.Int.{ints}
 use Rattle.std.proofs.lemmas.Str.{digit_value_digit}
-use Rattle.tb_label.specs.Numerals.{is_digit, are_digits, is_counting, is_whole, fits, whole_in}
+use Rattle.tb_label.specs.Promise.Numerals.{is_digit, are_digits, is_counting, is_whole, fits, whole_in}
 use Rattle.tb_label.proofs.numerals.whole_in.Goals as goal
 
 fits_true : (z : ℤ) → fits z ≡ true → FitsSigned w128 z

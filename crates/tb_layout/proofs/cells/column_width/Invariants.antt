@@ -1,8 +1,8 @@
 use Rattle.std.proofs.Common.{◌≡◌, max, min, take}
 use Rattle.std.specs.List.{fold}
-use Rattle.tb_chunk.specs.Col.{values}
-use Rattle.tb_layout.specs.Characters.{shown_text, width_of}
-use Rattle.tb_layout.specs.Lines.{cell_of}
+use Rattle.tb_chunk.specs.Promise.Col.{values}
+use Rattle.tb_layout.specs.Promise.Characters.{shown_text, width_of}
+use Rattle.tb_layout.specs.Promise.Lines.{cell_of}
 use Rattle.tb_layout.proofs.cells.column_width.Given as goal
 
 abbrev pub invariant-loop-row : goal.invariant-loop-row

@@ -1,6 +1,6 @@
 use Rattle.std.proofs.Common.{◌≡◌, map, take}
-use Rattle.tb_frame.specs.Table.{table_of}
-use Rattle.tb_layout.specs.Lines.{column_width}
+use Rattle.tb_frame.specs.Promise.Table.{table_of}
+use Rattle.tb_layout.specs.Promise.Lines.{column_width}
 use Rattle.tb_layout.proofs.cells.column_widths.Given as goal
 
 abbrev pub invariant-loop-column : goal.invariant-loop-column

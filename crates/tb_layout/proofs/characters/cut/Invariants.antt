@@ -1,5 +1,5 @@
 use Rattle.std.proofs.Common.{◌≡◌, ◌++◌, take, drop}
-use Rattle.tb_layout.specs.Characters.{cut}
+use Rattle.tb_layout.specs.Promise.Characters.{cut}
 use Rattle.tb_layout.proofs.characters.cut.Given as goal
 
 abbrev pub invariant-loop-i : goal.invariant-loop-i

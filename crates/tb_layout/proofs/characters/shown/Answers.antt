@@ -1,7 +1,7 @@
 use Rattle.std.proofs.Common.{flat_map, sym, ap, ◌∙◌, map-id}
 use Rattle.std.proofs.lemmas.Iterator.{YieldsList-from_chars}
 use Rattle.std.proofs.lemmas.Iterator.Consumers.{YieldsList-end}
-use Rattle.tb_layout.specs.Characters.{visible_text}
+use Rattle.tb_layout.specs.Promise.Characters.{visible_text}
 use Rattle.tb_layout.proofs.characters.shown.Goals as goal
 
 pub returns : goal.returns

@@ -1,6 +1,6 @@
 use Rattle.std.proofs.Common.{◌≡◌, ◌+◌, ◌-◌, ◌≤◌, length, take}
 use Rattle.std.specs.List.{suffix_len}
-use Rattle.tb_layout.specs.Characters.{is_blank}
+use Rattle.tb_layout.specs.Promise.Characters.{is_blank}
 use Rattle.tb_layout.proofs.characters.trimmed.Given as goal
 
 abbrev pub invariant-loop-end : goal.invariant-loop-end

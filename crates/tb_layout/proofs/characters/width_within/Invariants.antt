@@ -1,5 +1,5 @@
 use Rattle.std.proofs.Common.{◌≡◌, ◌^◌, ◌-◌, min, take}
-use Rattle.tb_layout.specs.Characters.{width_of}
+use Rattle.tb_layout.specs.Promise.Characters.{width_of}
 use Rattle.tb_layout.proofs.characters.width_within.Given as goal
 
 abbrev pub invariant-loop-c : goal.invariant-loop-c

@@ -1,7 +1,7 @@
 use Rattle.std.proofs.Common.{◌≤◌, get_or}
 use Rattle.std.proofs.lemmas.List.Elements.{All-map}
-use Rattle.tb_layout.specs.Characters.{cut, trimmed_text, width_of}
-use Rattle.tb_layout.specs.Lines.{whole_lines}
+use Rattle.tb_layout.specs.Promise.Characters.{cut, trimmed_text, width_of}
+use Rattle.tb_layout.specs.Promise.Lines.{whole_lines}
 use Rattle.tb_layout.proofs.Widths.{trimmed_fits}
 use Rattle.tb_layout.proofs.laws.lines_fit.Goals as goal
 

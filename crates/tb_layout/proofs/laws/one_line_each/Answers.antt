@@ -1,10 +1,10 @@
 use Rattle.std.proofs.Common.{◌≡◌, ◌∙◌, ℕ, List, arith, length, map}
 use Rattle.std.proofs.lemmas.List.{length-map}
 use Rattle.std.proofs.lemmas.List.FromFn.{length-map-range_with_len}
-use Rattle.tb_value.specs.Pairs.{row_numbers}
-use Rattle.tb_frame.specs.Table.{height}
-use Rattle.tb_layout.specs.Characters.{cut, trimmed_text}
-use Rattle.tb_layout.specs.Lines.{cell_in, side_by_side}
+use Rattle.tb_value.specs.Promise.Pairs.{row_numbers}
+use Rattle.tb_frame.specs.Promise.Table.{height}
+use Rattle.tb_layout.specs.Promise.Characters.{cut, trimmed_text}
+use Rattle.tb_layout.specs.Promise.Lines.{cell_in, side_by_side}
 use Rattle.tb_layout.proofs.laws.one_line_each.Goals as goal
 
 pub returns : goal.returns

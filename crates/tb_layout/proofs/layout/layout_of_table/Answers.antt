@@ -1,6 +1,6 @@
 use Rattle.std.proofs.Common.{◌≡◌, ◌∙◌, ap, arith, string_bytes}
-use Rattle.tb_frame.specs.Table.{height, table_of}
-use Rattle.tb_layout.specs.Lines.{cell_in, dashes_in, name_in, side_by_side}
+use Rattle.tb_frame.specs.Promise.Table.{height, table_of}
+use Rattle.tb_layout.specs.Promise.Lines.{cell_in, dashes_in, name_in, side_by_side}
 use Rattle.tb_layout.proofs.Laid.{written_all, written_more, written_start}
 use Rattle.tb_layout.proofs.Sides.{row_in_all}
 use Rattle.tb_layout.proofs.layout.layout_of_table.Goals as goal

@@ -1,5 +1,5 @@
 use Rattle.std.proofs.Common.{◌≡◌, encode_utf8_all, string_bytes}
-use Rattle.tb_frame.specs.Table.{table_of}
+use Rattle.tb_frame.specs.Promise.Table.{table_of}
 use Rattle.tb_layout.proofs.Laid.{laid}
 use Rattle.tb_layout.proofs.layout.layout_of_table.Given as goal
 

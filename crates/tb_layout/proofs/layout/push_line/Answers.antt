@@ -1,5 +1,5 @@
 use Rattle.std.proofs.Common.{◌∙◌, ap, string_bytes}
-use Rattle.tb_layout.specs.Characters.{cut, trimmed_text}
+use Rattle.tb_layout.specs.Promise.Characters.{cut, trimmed_text}
 use Rattle.tb_layout.proofs.Laid.{line_ended}
 use Rattle.tb_layout.proofs.layout.push_line.Goals as goal
 

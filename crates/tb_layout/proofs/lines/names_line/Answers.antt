@@ -1,7 +1,7 @@
 use Rattle.std.proofs.lemmas.List.{get_or_default}
 use Rattle.std.proofs.Common.{get_or, ◌∙◌, ap, refl, false}
-use Rattle.tb_layout.specs.Characters.{shown_text}
-use Rattle.tb_layout.specs.Lines.{name_in, padded_cell}
+use Rattle.tb_layout.specs.Promise.Characters.{shown_text}
+use Rattle.tb_layout.specs.Promise.Lines.{name_in, padded_cell}
 use Rattle.tb_layout.proofs.Sides.{padded_same, side_more, width_at}
 use Rattle.tb_layout.proofs.lines.names_line.Goals as goal
 

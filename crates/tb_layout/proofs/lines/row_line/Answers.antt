@@ -1,6 +1,6 @@
 use Rattle.std.proofs.lemmas.List.{get_or_default}
 use Rattle.std.proofs.Common.{get_or, ◌∙◌, ap}
-use Rattle.tb_layout.specs.Lines.{cell_in, is_number, padded_cell}
+use Rattle.tb_layout.specs.Promise.Lines.{cell_in, is_number, padded_cell}
 use Rattle.tb_layout.proofs.Sides.{cell_same, padded_same, side_more, width_at}
 use Rattle.tb_layout.proofs.lines.row_line.Goals as goal
 

@@ -1,6 +1,6 @@
 use Rattle.std.proofs.Common.{◌≡◌, length}
 use Rattle.std.proofs.lemmas.Result.{IfOk-weaker}
-use Rattle.tb_value.specs.Pairs.{row_numbers}
+use Rattle.tb_value.specs.Promise.Pairs.{row_numbers}
 use Rattle.tb_pool.proofs.Cover.{portions_count, portions_rows}
 use Rattle.tb_merge.specs.RowPairs.{portion_rows}
 use Rattle.tb_merge.proofs.by_portion.left_portions.Goals as goal

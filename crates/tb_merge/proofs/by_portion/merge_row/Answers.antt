@@ -1,7 +1,7 @@
 use Rattle.std.proofs.Common.{◌+◌, ◌-◌, length, arith}
 use Rattle.std.specs.List.{range_with_len}
 use Rattle.std.proofs.lemmas.Result.{err_from_is_err_and}
-use Rattle.tb_value.specs.Pairs.{row_numbers}
+use Rattle.tb_value.specs.Promise.Pairs.{row_numbers}
 use Rattle.tb_merge.specs.RowPairs.{row_pairs, pairs_of}
 use Rattle.tb_merge.proofs.Rows.{one_row_more, row_fits, still_too_many}
 use Rattle.tb_merge.proofs.by_portion.merge_row.Goals as goal

@@ -2,7 +2,7 @@ use Rattle.std.proofs.Common.{◌≡◌, false, length, List, sym, subst, ◌∙
 use Rattle.std.specs.Prelude.{IsSorted}
 use Rattle.std.proofs.lemmas.Result.{IfOk-weaker}
 use Rattle.tb_value.specs.declared.index.JoinPair.{JoinPair}
-use Rattle.tb_value.specs.Pairs.{row_numbers, left_first}
+use Rattle.tb_value.specs.Promise.Pairs.{row_numbers, left_first}
 use Rattle.tb_value.proofs.Ascending.{matched-sorted}
 use Rattle.tb_merge.specs.Keys.{keys_match}
 use Rattle.tb_merge.specs.RowPairs.{pairs_of}

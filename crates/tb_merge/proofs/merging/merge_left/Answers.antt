@@ -3,7 +3,7 @@ use Rattle.std.specs.Prelude.{IsSorted, IsPermutation}
 use Rattle.std.proofs.lemmas.Result.{IfOk-weaker}
 use Rattle.std.proofs.lemmas.List.Sorted.{length_permutation}
 use Rattle.tb_value.specs.declared.index.JoinPair.{JoinPair}
-use Rattle.tb_value.specs.Pairs.{row_numbers, left_first}
+use Rattle.tb_value.specs.Promise.Pairs.{row_numbers, left_first}
 use Rattle.tb_value.proofs.Probes.{each_left, each_left-permutation, each_left-sorted}
 use Rattle.tb_merge.specs.Faults.{SettlesCount}
 use Rattle.tb_merge.specs.Keys.{keys_match, left_listing}

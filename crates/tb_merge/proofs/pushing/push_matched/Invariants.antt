@@ -1,7 +1,7 @@
 use Rattle.std.proofs.Common.{◌≡◌, ◌+◌, ◌-◌, ◌≤◌, ◌++◌, map, length}
 use Rattle.std.specs.List.{range_with_len}
 use Rattle.tb_value.specs.declared.limits.TheConstants.{MAX_ROWS}
-use Rattle.tb_value.specs.Pairs.{both}
+use Rattle.tb_value.specs.Promise.Pairs.{both}
 use Rattle.tb_merge.proofs.pushing.push_matched.Given as goal
 
 -- the pairs of the rows so far stand behind the others, and there was room for them

@@ -3,10 +3,10 @@ use Rattle.std.specs.Prelude.{All}
 use Rattle.std.proofs.lemmas.List.{take_all}
 use Rattle.std.proofs.lemmas.List.Elements.{All-nil}
 use Rattle.tb_value.proofs.Kept.{made, skipped}
-use Rattle.tb_chunk.specs.Col.{Col, values}
+use Rattle.tb_chunk.specs.Promise.Col.{Col, values}
 use Rattle.tb_chunk.specs.Rows.{IsRowOf}
-use Rattle.tb_frame.specs.Table.{table_of, names_of}
-use Rattle.tb_frame.specs.Naming.{has_right, is_among}
+use Rattle.tb_frame.specs.Promise.Table.{table_of, names_of}
+use Rattle.tb_frame.specs.Promise.Naming.{has_right, is_among}
 use Rattle.tb_frame.specs.RightColumns.{gone_right, right_column, right_columns}
 use Rattle.tb_frame.specs.Sides.{of_kind}
 use Rattle.tb_nested.proofs.beside.columns_beside.Goals as goal

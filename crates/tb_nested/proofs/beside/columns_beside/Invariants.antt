@@ -1,5 +1,5 @@
 use Rattle.std.proofs.Common.{◌≡◌, take}
-use Rattle.tb_frame.specs.Table.{table_of, names_of}
+use Rattle.tb_frame.specs.Promise.Table.{table_of, names_of}
 use Rattle.tb_frame.specs.RightColumns.{gone_right, right_columns}
 use Rattle.tb_frame.specs.Sides.{of_kind}
 use Rattle.tb_nested.proofs.beside.columns_beside.Given as goal

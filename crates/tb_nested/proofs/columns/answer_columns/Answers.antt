@@ -4,20 +4,20 @@ use Rattle.std.specs.List.{find}
 use Rattle.std.specs.Option.{ForSome}
 use Rattle.std.proofs.lemmas.List.Elements.{All-filter, All-weaker}
 use Rattle.tb_frame.specs.Answer.{IsPairOf}
-use Rattle.tb_value.specs.Names.{Name}
-use Rattle.tb_value.specs.SameKind.{same_kind}
+use Rattle.tb_value.specs.Promise.Names.{Name}
+use Rattle.tb_value.specs.Promise.SameKind.{same_kind}
 use Rattle.tb_value.specs.declared.error.ComputeCause.TheVariants.{KeyTypes}
 use Rattle.tb_value.specs.declared.error.PolarsError.TheVariants.{ComputeError}
 use Rattle.tb_value.specs.declared.index.JoinPair.{JoinPair}
-use Rattle.tb_chunk.specs.Col.{Col, values}
+use Rattle.tb_chunk.specs.Promise.Col.{Col, values}
 use Rattle.tb_chunk.specs.Lent.{lent_columns}
 use Rattle.tb_chunk.specs.Rows.{IsRowOf}
-use Rattle.tb_frame.specs.Join.{Request, places}
-use Rattle.tb_frame.specs.Naming.{coalesces, is_among, coalesces_keys}
-use Rattle.tb_frame.specs.Refusal.{join_valid, key_types, kind_at}
+use Rattle.tb_frame.specs.Promise.Join.{Request, places}
+use Rattle.tb_frame.specs.Promise.Naming.{coalesces, is_among, coalesces_keys}
+use Rattle.tb_frame.specs.Promise.Refusal.{join_valid, key_types, kind_at}
 use Rattle.tb_frame.specs.RightColumns.{gone_left}
 use Rattle.tb_nested.specs.Beside.{columns_beside}
-use Rattle.tb_frame.specs.Table.{table_of, height, names_of}
+use Rattle.tb_frame.specs.Promise.Table.{table_of, height, names_of}
 use Rattle.tb_frame.proofs.Causes.{map_none}
 use Rattle.tb_frame.proofs.Validity.{known_left, known_right, same_counts, same_types}
 use Rattle.tb_frame.proofs.Filled.{left_within, right_within}

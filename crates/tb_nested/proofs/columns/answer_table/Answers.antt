@@ -1,7 +1,7 @@
 use Rattle.std.proofs.Common.{Option, inl, subst}
 use Rattle.tb_value.specs.Refusals.{Settles}
 use Rattle.tb_value.specs.declared.error.PolarsError.{PolarsError}
-use Rattle.tb_frame.specs.Table.{table_of}
+use Rattle.tb_frame.specs.Promise.Table.{table_of}
 use Rattle.tb_frame.proofs.Assembled.{few_listed, makes_frame, pairs_in_range, table_answers}
 use Rattle.tb_frame.proofs.Validity.{few_pairs, names_apart, some_out}
 use Rattle.tb_keys.specs.Asked.{asked_request}

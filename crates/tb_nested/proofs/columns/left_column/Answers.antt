@@ -1,6 +1,6 @@
 use Rattle.std.proofs.Common.{ap, sym, ◌∙◌}
 use Rattle.std.specs.Option.{option_copied}
-use Rattle.tb_chunk.specs.Col.{Col}
+use Rattle.tb_chunk.specs.Promise.Col.{Col}
 use Rattle.tb_nested.proofs.columns.left_column.Goals as goal
 
 pub coalesce_columns-requires-clause-one_type : goal.coalesce_columns-requires-clause-one_type

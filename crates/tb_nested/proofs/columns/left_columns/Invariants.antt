@@ -1,5 +1,5 @@
 use Rattle.std.proofs.Common.{◌≡◌, take, map}
-use Rattle.tb_chunk.specs.Col.{Col}
+use Rattle.tb_chunk.specs.Promise.Col.{Col}
 use Rattle.tb_keys.specs.Coalescing.{coalescing_key, left_column}
 use Rattle.tb_nested.proofs.columns.left_columns.Given as goal
 

@@ -2,7 +2,7 @@ use Rattle.std.proofs.Common.{Option, refl, sym, subst}
 use Rattle.std.proofs.lemmas.Result.{err_from_is_err_and}
 use Rattle.tb_value.specs.Refusals.{Settles}
 use Rattle.tb_value.specs.declared.error.PolarsError.{PolarsError}
-use Rattle.tb_frame.specs.Refusal.{column_causes, row_causes}
+use Rattle.tb_frame.specs.Promise.Refusal.{column_causes, row_causes}
 use Rattle.tb_keys.specs.Asked.{asked_request}
 use Rattle.tb_keys.proofs.Refusing.{by_first, second_part, two_parts}
 use Rattle.tb_nested.proofs.nested.checked_pairs.Goals as goal

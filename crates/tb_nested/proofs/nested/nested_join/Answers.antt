@@ -6,9 +6,10 @@ use Rattle.tb_value.specs.declared.error.PolarsError.{PolarsError}
 use Rattle.tb_value.specs.declared.error.PolarsError.TheVariants.{OutOfMemory}
 use Rattle.tb_value.specs.declared.index.JoinPair.{JoinPair}
 use Rattle.tb_frame.specs.Answer.{IsListed}
-use Rattle.tb_frame.specs.Join.{IsAnswer, Request, lent_request, listing}
-use Rattle.tb_frame.specs.Refusal.{join_refusal}
-use Rattle.tb_frame.specs.Table.{table_of}
+use Rattle.tb_frame.specs.Promise.Join.{IsAnswer, Request, listing}
+use Rattle.tb_frame.specs.Join.{lent_request}
+use Rattle.tb_frame.specs.Promise.Refusal.{join_refusal}
+use Rattle.tb_frame.specs.Promise.Table.{table_of}
 use Rattle.tb_keys.specs.Asked.{asked_request}
 use Rattle.tb_keys.specs.Causes.{later_refusal}
 use Rattle.tb_keys.proofs.Refusing.{by_first, by_none, by_second, two_causes}

@@ -2,7 +2,7 @@ use Rattle.std.proofs.Common.{[], ◌∷◌, Option, inr, refl, sym, ◌∙◌, 
 use Rattle.std.proofs.lemmas.Result.{err_from_is_err_and}
 use Rattle.tb_value.specs.Refusals.{Settles}
 use Rattle.tb_value.specs.declared.error.PolarsError.{PolarsError}
-use Rattle.tb_frame.specs.Refusal.{broken_left, broken_right, too_many_rows}
+use Rattle.tb_frame.specs.Promise.Refusal.{broken_left, broken_right, too_many_rows}
 use Rattle.tb_frame.proofs.Causes.{first_cause-one}
 use Rattle.tb_keys.specs.Asked.{asked_request}
 use Rattle.tb_keys.proofs.Refusing.{by_first, second_part, two_parts}

@@ -2,7 +2,7 @@ use Rattle.std.proofs.Common.{List, subst, sym, ◌∙◌, ap}
 use Rattle.std.specs.Prelude.{IsPermutation}
 use Rattle.tb_value.specs.declared.index.JoinPair.{JoinPair}
 use Rattle.tb_frame.specs.declared.args.Direction.{Direction}
-use Rattle.tb_frame.specs.Join.{Ascends}
+use Rattle.tb_frame.specs.Promise.Join.{Ascends}
 use Rattle.tb_hash.specs.Probing.{probed_order}
 use Rattle.tb_pairs.proofs.hashed.found_by_hash.Goals as goal
 

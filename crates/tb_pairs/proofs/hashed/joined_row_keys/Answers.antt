@@ -1,8 +1,8 @@
 use Rattle.std.proofs.Common.{length, map, refl, false, arith}
 use Rattle.std.proofs.lemmas.List.{length-map}
-use Rattle.tb_value.specs.Datum.{binary}
-use Rattle.tb_value.specs.Kind as kind
-use Rattle.tb_build.specs.Codes.{fnv1a}
+use Rattle.tb_value.specs.Promise.Datum.{binary}
+use Rattle.tb_value.specs.Promise.Kind as kind
+use Rattle.tb_build.specs.Promise.Codes.{fnv1a}
 use Rattle.tb_hash.specs.KeyCells.{same_bytes}
 use Rattle.tb_hash.proofs.Hashed.{hashed-values}
 use Rattle.tb_pairs.specs.LentKeys.{lent_key, lent_list}

@@ -2,10 +2,10 @@ use Rattle.std.proofs.Common.{Option, List, ap, get_or, length, subst, sym, arit
 use Rattle.std.proofs.lemmas.Result.{err_from_is_err_and}
 use Rattle.tb_value.specs.declared.error.PolarsError.{PolarsError}
 use Rattle.tb_value.specs.declared.error.PolarsError.TheVariants.{OutOfMemory}
-use Rattle.tb_chunk.specs.Col.{Col, values}
+use Rattle.tb_chunk.specs.Promise.Col.{Col, values}
 use Rattle.tb_chunk.specs.Lent.{lent_columns}
 use Rattle.tb_sorted.proofs.OneKey.{one_column}
-use Rattle.tb_pairs.specs.Trace.{trace_of}
+use Rattle.tb_pairs.specs.Promise.Trace.{trace_of}
 use Rattle.tb_pairs.proofs.Causes.{one_key_causes}
 use Rattle.tb_pairs.proofs.Requested.{one_key_listing, one_key_types, one_right}
 use Rattle.tb_pairs.proofs.Traces.{hash_found, one_key_traced}

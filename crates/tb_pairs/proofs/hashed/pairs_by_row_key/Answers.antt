@@ -2,14 +2,14 @@ use Rattle.std.proofs.Common.{Option, List, length, map, ap, subst, sym, arith, 
 use Rattle.std.specs.Borrow.{Bor}
 use Rattle.std.proofs.lemmas.List.{length-map}
 use Rattle.std.proofs.lemmas.Result.{err_from_is_err_and}
-use Rattle.tb_value.specs.Datum.{binary}
-use Rattle.tb_value.specs.Kind as kind
+use Rattle.tb_value.specs.Promise.Datum.{binary}
+use Rattle.tb_value.specs.Promise.Kind as kind
 use Rattle.tb_value.specs.declared.error.PolarsError.{PolarsError}
 use Rattle.tb_value.specs.declared.error.PolarsError.TheVariants.{OutOfMemory}
 use Rattle.tb_chunk.specs.Chunk.{or_null}
 use Rattle.tb_chunk.specs.Lent.{lent_columns}
-use Rattle.tb_hash.specs.Hashing.{value_plan}
-use Rattle.tb_pairs.specs.Trace.{hash}
+use Rattle.tb_hash.specs.Promise.Hashing.{value_plan}
+use Rattle.tb_pairs.specs.Promise.Trace.{hash}
 use Rattle.tb_pairs.proofs.Causes.{row_keys_causes}
 use Rattle.tb_pairs.proofs.Keys.{as_many}
 use Rattle.tb_pairs.proofs.RowKeys.{row_keys_listing}

@@ -3,8 +3,8 @@ use Rattle.std.specs.Prelude.{IfSome, is_some}
 use Rattle.std.specs.Borrow.{Bor}
 use Rattle.std.proofs.lemmas.List.{length-map}
 use Rattle.std.proofs.lemmas.Result.{err_from_is_err_and}
-use Rattle.tb_chunk.specs.Col.{Col}
-use Rattle.tb_frame.specs.Join.{listing}
+use Rattle.tb_chunk.specs.Promise.Col.{Col}
+use Rattle.tb_frame.specs.Promise.Join.{listing}
 use Rattle.tb_keys.specs.Asked.{asked_request}
 use Rattle.tb_sorted.specs.Listed.{IsListedIn, IsMergeWithin, requested_sizes}
 use Rattle.tb_sorted.specs.declared.pairs.MergedPairs.{MergedPairs}

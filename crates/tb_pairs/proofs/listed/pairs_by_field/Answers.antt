@@ -1,5 +1,5 @@
 use Rattle.std.proofs.Common.{refl}
-use Rattle.tb_frame.specs.Join.{listing}
+use Rattle.tb_frame.specs.Promise.Join.{listing}
 use Rattle.tb_keys.specs.Asked.{asked_request}
 use Rattle.tb_pairs.proofs.InOrder.{found_freely}
 use Rattle.tb_pairs.proofs.listed.pairs_by_field.Goals as goal

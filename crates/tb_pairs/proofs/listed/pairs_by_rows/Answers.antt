@@ -2,11 +2,11 @@ use Rattle.std.proofs.Common.{arith, length, subst}
 use Rattle.std.specs.Prelude.{IsSome}
 use Rattle.std.specs.Borrow.{Bor}
 use Rattle.std.proofs.lemmas.List.{length-map}
-use Rattle.tb_chunk.specs.Col.{Col}
+use Rattle.tb_chunk.specs.Promise.Col.{Col}
 use Rattle.tb_pairs.proofs.Traces.{long_key}
 use Rattle.tb_pairs.proofs.listed.pairs_by_rows.Goals.{in_default-via-in-Some+in_default, in_default-via-in_default}
 use Rattle.tb_chunk.specs.Lent.{lent_columns}
-use Rattle.tb_frame.specs.Table.{height, table_of}
+use Rattle.tb_frame.specs.Promise.Table.{height, table_of}
 use Rattle.tb_pairs.proofs.Keys.{level, some_right}
 use Rattle.tb_pairs.proofs.listed.pairs_by_rows.Goals as goal
 

@@ -3,11 +3,12 @@ use Rattle.std.specs.Prelude.{IfSome}
 use Rattle.std.specs.Borrow.{Bor}
 use Rattle.std.proofs.lemmas.List.{length-map}
 use Rattle.std.proofs.lemmas.Result.{IfOk-weaker}
-use Rattle.tb_value.specs.Datum.{binary}
+use Rattle.tb_value.specs.Promise.Datum.{binary}
 use Rattle.tb_chunk.specs.Chunk.{or_null}
 use Rattle.tb_chunk.specs.Lent.{lent_columns}
-use Rattle.tb_frame.specs.Join.{flag_at}
-use Rattle.tb_rowkey.specs.Columns.{flag_of, keys_at}
+use Rattle.tb_frame.specs.Promise.Join.{flag_at}
+use Rattle.tb_rowkey.specs.Promise.Columns.{keys_at}
+use Rattle.tb_rowkey.specs.Columns.{flag_of}
 use Rattle.tb_rowkey.proofs.Written.{some_weaker}
 use Rattle.tb_pairs.proofs.RowKeys.{flagged_keys, listed_flags}
 use Rattle.tb_pairs.proofs.listed.row_keys.Goals as goal

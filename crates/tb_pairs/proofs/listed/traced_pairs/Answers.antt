@@ -1,4 +1,4 @@
-use Rattle.tb_frame.specs.Join.{listing}
+use Rattle.tb_frame.specs.Promise.Join.{listing}
 use Rattle.tb_keys.specs.Asked.{asked_request}
 use Rattle.tb_pairs.proofs.InOrder.{listed_through}
 use Rattle.tb_pairs.proofs.listed.traced_pairs.Goals as goal

@@ -1,8 +1,8 @@
 use Rattle.std.proofs.Common.{◌≡◌, ◌∙◌, List, length, sym, subst, arith}
 use Rattle.std.proofs.lemmas.List.{take_all}
-use Rattle.tb_chunk.specs.Col.{Col}
+use Rattle.tb_chunk.specs.Promise.Col.{Col}
 use Rattle.tb_chunk.specs.Lent.{lent_columns}
-use Rattle.tb_frame.specs.Table.{TableColumn, height, table_of}
+use Rattle.tb_frame.specs.Promise.Table.{TableColumn, height, table_of}
 use Rattle.tb_frame.proofs.Taking.{all_plain}
 use Rattle.tb_keys.specs.Rows.{HasRows}
 use Rattle.tb_pairs.proofs.multiple.lent_series.Goals as goal

@@ -8,7 +8,7 @@ use Rattle.tb_frame.specs.declared.args.JoinArgs.{JoinArgs}
 use Rattle.tb_frame.specs.declared.args.JoinType.TheVariants.{Left}
 use Rattle.tb_frame.specs.declared.args.MaintainOrderJoin.TheVariants as order
 use Rattle.tb_frame.specs.Answer.{IsListed}
-use Rattle.tb_frame.specs.Table.{height, table_of}
+use Rattle.tb_frame.specs.Promise.Table.{height, table_of}
 use Rattle.tb_pairs.proofs.LeftJoins.{all_causes, all_listing}
 use Rattle.tb_pairs.proofs.Requested.{keys_listing}
 use Rattle.tb_pairs.proofs.multiple.pairs_by_all_columns.Goals as goal

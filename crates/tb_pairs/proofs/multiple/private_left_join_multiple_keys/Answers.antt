@@ -1,7 +1,7 @@
 use Rattle.std.proofs.Common.{◌∙◌, List, map, ap, sym, subst}
 use Rattle.std.specs.Prelude.{All, IsSome}
 use Rattle.tb_value.specs.declared.index.JoinPair.{JoinPair}
-use Rattle.tb_frame.specs.Table.{height, table_of}
+use Rattle.tb_frame.specs.Promise.Table.{height, table_of}
 use Rattle.tb_pairs.proofs.LeftJoins.{lefts_there}
 use Rattle.tb_pairs.proofs.multiple.private_left_join_multiple_keys.Goals as goal
 

@@ -1,7 +1,7 @@
 use Rattle.std.proofs.Common.{rules}
 use Rattle.std.specs.Cmp.Lexicographic.{on_texts, slice_cmp}
 use Rattle.std.specs.Ordering.{nat_cmp}
-use Rattle.tb_value.specs.Names.{Name}
+use Rattle.tb_value.specs.Promise.Names.{Name}
 use Rattle.tb_rows.proofs.InOrder.{sorted_in_order}
 use Rattle.tb_pivot.proofs.blocks.names_by_bytes.Goals as goal
 

@@ -1,9 +1,9 @@
 use Rattle.std.proofs.Common.{of_calls, subst, sym}
 use Rattle.tb_value.specs.declared.error.PolarsError.{PolarsError}
 use Rattle.std.proofs.Common.{Result}
-use Rattle.tb_frame.specs.Table.{TableColumn, plain_column}
+use Rattle.tb_frame.specs.Promise.Table.{TableColumn, plain_column}
 use Rattle.tb_pivot.specs.Answered.{Gives}
-use Rattle.tb_pivot.specs.Pivot.{answer_of}
+use Rattle.tb_pivot.specs.Promise.Pivot.{answer_of}
 use Rattle.tb_pivot.proofs.frame_pivot.pivot_asked.Goals as goal
 
 pub pivot_by-requires : goal.pivot_by-requires

@@ -3,12 +3,12 @@ use Rattle.std.specs.Option.{option_copied}
 use Rattle.std.proofs.lemmas.Result.{err_from_is_err_and}
 use Rattle.tb_value.specs.Refusals.{Settles}
 use Rattle.tb_value.specs.declared.error.PolarsError.{PolarsError}
-use Rattle.tb_frame.specs.Table.{table_of}
+use Rattle.tb_frame.specs.Promise.Table.{table_of}
 use Rattle.tb_pivot.specs.Lent.{lent_request}
-use Rattle.tb_pivot.specs.Pivot.{wide}
-use Rattle.tb_pivot.specs.Refusal.{value_causes}
-use Rattle.tb_pivot.specs.Request.{Chosen, Request}
-use Rattle.tb_value.specs.Refusals.{first_cause}
+use Rattle.tb_pivot.specs.Promise.Pivot.{wide}
+use Rattle.tb_pivot.specs.Promise.Refusal.{value_causes}
+use Rattle.tb_pivot.specs.Promise.Request.{Chosen, Request}
+use Rattle.tb_value.specs.Promise.Refusals.{first_cause}
 use Rattle.tb_pivot.proofs.Named.{chosen_is, columns_stop, names_stop, values_decide}
 use Rattle.tb_pivot.proofs.frame_pivot.pivot_by.Goals as goal
 

@@ -1,7 +1,7 @@
 use Rattle.std.proofs.Common.{◌≡◌, ◌∙◌, ap, rules}
 use Rattle.std.specs.Option.{option_copied, option_map}
 use Rattle.tb_pivot.specs.AggWay.{agg_way, way_or_row}
-use Rattle.tb_pivot.specs.Request.{Way, asked, one_row, way_of}
+use Rattle.tb_pivot.specs.Promise.Request.{Way, asked, one_row, way_of}
 use Rattle.tb_pivot.proofs.Ways.{settles_alike, table_alike}
 use Rattle.tb_pivot.proofs.frame_pivot.pivot_stable.Goals as goal
 

@@ -1,5 +1,5 @@
 use Rattle.std.proofs.Common.{◌≡◌, ◌∙◌, ◌*◌, ℕ, eqb, length, None, map, replicate, ap, set, arith}
-use Rattle.tb_value.specs.Pairs.{row_numbers}
+use Rattle.tb_value.specs.Promise.Pairs.{row_numbers}
 use Rattle.tb_pivot.specs.Grid.{group_cell, last_below}
 use Rattle.tb_pivot.proofs.Placed.{group_more, no_group}
 use Rattle.tb_pivot.proofs.grid.grid_of.Goals as goal

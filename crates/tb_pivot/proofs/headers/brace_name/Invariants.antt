@@ -1,5 +1,5 @@
 use Rattle.std.proofs.Common.{◌≡◌, map, take}
-use Rattle.tb_pivot.specs.Headers.{quoted_text}
+use Rattle.tb_pivot.specs.Promise.Headers.{quoted_text}
 use Rattle.tb_pivot.proofs.headers.brace_name.Given as goal
 
 abbrev pub invariant-loop-name : goal.invariant-loop-name

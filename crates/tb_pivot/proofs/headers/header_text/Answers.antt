@@ -1,8 +1,8 @@
 use Rattle.std.proofs.Common.{◌≡◌, ◌∙◌, IfOk, List, ℕ, length, map, sym, ap, subst, arith}
 use Rattle.std.proofs.lemmas.List.{length-map}
-use Rattle.tb_chunk.specs.Col.{values}
-use Rattle.tb_rows.specs.Rows.{row_value}
-use Rattle.tb_pivot.specs.Headers.{field_text, in_braces}
+use Rattle.tb_chunk.specs.Promise.Col.{values}
+use Rattle.tb_rows.specs.Promise.Rows.{row_value}
+use Rattle.tb_pivot.specs.Promise.Headers.{field_text, in_braces}
 use Rattle.tb_pivot.proofs.Texts.{header_of_many, map_twice}
 use Rattle.tb_pivot.proofs.headers.header_text.Goals as goal
 

@@ -1,7 +1,7 @@
 use Rattle.std.proofs.Common.{◌≡◌, drop}
 use Rattle.tb_chunk.specs.Lent.{lent_columns}
-use Rattle.tb_frame.specs.Table.{table_of}
-use Rattle.tb_pivot.specs.Refusal.{agg_cause}
+use Rattle.tb_frame.specs.Promise.Table.{table_of}
+use Rattle.tb_pivot.specs.Promise.Refusal.{agg_cause}
 use Rattle.tb_pivot.proofs.lookup.check_values.Given as goal
 
 -- the columns that are left decide

@@ -1,11 +1,11 @@
 use Rattle.std.proofs.Common.{◌≡◌, ◌∙◌, List, None, ap, sym}
 use Rattle.std.specs.Borrow.{Bor}
 use Rattle.std.proofs.lemmas.Result.{err_from_is_err_and}
-use Rattle.tb_chunk.specs.Col.{Col}
+use Rattle.tb_chunk.specs.Promise.Col.{Col}
 use Rattle.tb_chunk.specs.Lent.{lent_columns}
-use Rattle.tb_frame.specs.Frame.{selected_columns}
-use Rattle.tb_frame.specs.Table.{table_of}
-use Rattle.tb_pivot.specs.Refusal.{agg_cause}
+use Rattle.tb_frame.specs.Promise.Frame.{selected_columns}
+use Rattle.tb_frame.specs.Promise.Table.{table_of}
+use Rattle.tb_pivot.specs.Promise.Refusal.{agg_cause}
 use Rattle.tb_pivot.proofs.Causes.{header_stops, none_holds, value_stops}
 use Rattle.tb_pivot.proofs.Named.{all_taken, are_as_high}
 use Rattle.tb_pivot.proofs.lookup.found.Goals as goal

@@ -1,7 +1,7 @@
 use Rattle.std.proofs.Common.{◌∙◌, ap, is_some}
-use Rattle.tb_value.specs.Names.{Name}
-use Rattle.tb_frame.specs.Naming.{is_among}
-use Rattle.tb_frame.specs.Table.{names_of, table_of}
+use Rattle.tb_value.specs.Promise.Names.{Name}
+use Rattle.tb_frame.specs.Promise.Naming.{is_among}
+use Rattle.tb_frame.specs.Promise.Table.{names_of, table_of}
 use Rattle.tb_pivot.proofs.Causes.{place_of_name}
 use Rattle.tb_pivot.proofs.lookup.has_column.Goals as goal
 

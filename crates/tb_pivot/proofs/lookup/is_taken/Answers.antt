@@ -1,6 +1,6 @@
 use Rattle.std.proofs.Common.{◌∙◌, ap, not}
-use Rattle.tb_value.specs.Kind.{Kind}
-use Rattle.tb_frame.specs.Table.{plain_column}
+use Rattle.tb_value.specs.Promise.Kind.{Kind}
+use Rattle.tb_frame.specs.Promise.Table.{plain_column}
 use Rattle.tb_pivot.specs.Made.{takes}
 use Rattle.tb_pivot.proofs.Causes.{not_taken}
 use Rattle.tb_pivot.proofs.lookup.is_taken.Goals as goal

@@ -1,7 +1,7 @@
 use Rattle.std.proofs.Common.{◌≡◌, ◌∙◌, ◌++◌, ◌∷◌, ◌||◌, Bool, true, false, [], List, not, ap, sym}
 use Rattle.std.proofs.lemmas.List.{append-nil}
-use Rattle.tb_value.specs.Names.{Name}
-use Rattle.tb_frame.specs.Naming.{is_among}
+use Rattle.tb_value.specs.Promise.Names.{Name}
+use Rattle.tb_frame.specs.Promise.Naming.{is_among}
 use Rattle.tb_pivot.proofs.Named.{kept_names}
 use Rattle.tb_pivot.proofs.naming.outside.Goals as goal
 use Rattle.tb_pivot.proofs.naming.outside.Goals.{then-is_in_neither+in_ok-copy+in_ok-push, else-is_in_neither}

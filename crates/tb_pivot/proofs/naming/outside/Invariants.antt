@@ -1,6 +1,6 @@
 use Rattle.std.proofs.Common.{◌≡◌, take}
-use Rattle.tb_frame.specs.Table.{table_of}
-use Rattle.tb_pivot.specs.Request.{outside}
+use Rattle.tb_frame.specs.Promise.Table.{table_of}
+use Rattle.tb_pivot.specs.Promise.Request.{outside}
 use Rattle.tb_pivot.proofs.naming.outside.Given as goal
 
 -- the names so far that are in neither list

@@ -1,11 +1,12 @@
 use Rattle.std.proofs.Common.{◌≡◌, ◌∙◌, true, IfOk, ap, subst}
-use Rattle.tb_value.specs.Refusals.{Settles, first_cause}
+use Rattle.tb_value.specs.Promise.Refusals.{first_cause}
+use Rattle.tb_value.specs.Refusals.{Settles}
 use Rattle.tb_chunk.specs.Lent.{lent_columns}
-use Rattle.tb_frame.specs.Table.{TableColumn, table_of}
+use Rattle.tb_frame.specs.Promise.Table.{TableColumn, table_of}
 use Rattle.tb_pivot.specs.Made.{takes}
-use Rattle.tb_pivot.specs.Pivot.{wide}
-use Rattle.tb_pivot.specs.Refusal.{value_causes}
-use Rattle.tb_pivot.specs.Request.{Chosen}
+use Rattle.tb_pivot.specs.Promise.Pivot.{wide}
+use Rattle.tb_pivot.specs.Promise.Refusal.{value_causes}
+use Rattle.tb_pivot.specs.Promise.Request.{Chosen}
 use Rattle.tb_pivot.proofs.SameTable.{all_plain, as_high, same_chosen, whole_table}
 use Rattle.tb_pivot.proofs.whole.wide_of_chunks.Goals as goal
 

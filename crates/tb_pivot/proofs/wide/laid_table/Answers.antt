@@ -4,7 +4,7 @@ use Rattle.std.proofs.lemmas.Result.{err_from_is_err_and, IfOk-weaker}
 use Rattle.tb_value.specs.Refusals.{Settles}
 use Rattle.tb_chunk.specs.Lent.{lent_columns}
 use Rattle.tb_frame.specs.Frame.{taken_rows}
-use Rattle.tb_frame.specs.Table.{Table, table_of}
+use Rattle.tb_frame.specs.Promise.Table.{Table, table_of}
 use Rattle.tb_pivot.specs.Layout.{index_and_blocks, laid_block, laid_out}
 use Rattle.tb_pivot.specs.declared.blocks.GroupValues.{GroupValues}
 use Rattle.tb_pivot.specs.declared.blocks.Layout.{Layout}

@@ -1,9 +1,10 @@
 use Rattle.std.proofs.Common.{◌≡◌, IfOk, subst}
-use Rattle.tb_value.specs.Refusals.{Settles, first_cause}
-use Rattle.tb_frame.specs.Table.{table_of}
-use Rattle.tb_pivot.specs.Pivot.{wide}
-use Rattle.tb_pivot.specs.Refusal.{value_causes}
-use Rattle.tb_pivot.specs.Request.{Chosen}
+use Rattle.tb_value.specs.Promise.Refusals.{first_cause}
+use Rattle.tb_value.specs.Refusals.{Settles}
+use Rattle.tb_frame.specs.Promise.Table.{table_of}
+use Rattle.tb_pivot.specs.Promise.Pivot.{wide}
+use Rattle.tb_pivot.specs.Promise.Refusal.{value_causes}
+use Rattle.tb_pivot.specs.Promise.Request.{Chosen}
 use Rattle.tb_pivot.proofs.wide.wide.Goals as goal
 
 pub returns-clause-settles : goal.returns-clause-settles

@@ -2,7 +2,7 @@ use Rattle.std.proofs.Common.{◌≡◌, None, Some, option_and_then, option_map
 use Rattle.std.proofs.lemmas.List.{length-map}
 use Rattle.serde_json.specs.Data.{Data}
 use Rattle.tb_tree.specs.View.{view}
-use Rattle.tb_request.specs.Written.{slice_from}
+use Rattle.tb_request.specs.Promise.Written.{slice_from}
 use Rattle.tb_json.proofs.LentValues.{as_list-array}
 use Rattle.tb_request.proofs.arguments.slice_in.Goals as goal
 

@@ -1,7 +1,7 @@
 use Rattle.std.proofs.Common.{◌≡◌, map, true}
-use Rattle.tb_frame.specs.Table.{table_of}
+use Rattle.tb_frame.specs.Promise.Table.{table_of}
 use Rattle.tb_request.specs.Columns.{relaid_column}
-use Rattle.tb_request.specs.Flags.{flags_hold}
+use Rattle.tb_request.specs.Promise.Flags.{flags_hold}
 use Rattle.tb_request.specs.Lent.{claimed_view}
 use Rattle.tb_request.proofs.flags.flagged.Given as goal
 

@@ -1,6 +1,6 @@
 use Rattle.std.proofs.Common.{◌≡◌, map}
 use Rattle.tb_tree.specs.View.{view}
-use Rattle.tb_json.specs.Lists.{has_only}
+use Rattle.tb_json.specs.Promise.Lists.{has_only}
 use Rattle.tb_json.proofs.LentValues.{all_known}
 use Rattle.tb_request.proofs.members.has_only.Given as goal
 

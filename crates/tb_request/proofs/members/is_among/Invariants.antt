@@ -1,5 +1,5 @@
 use Rattle.std.proofs.Common.{◌≡◌, map, drop}
-use Rattle.tb_json.specs.Lists.{is_among}
+use Rattle.tb_json.specs.Promise.Lists.{is_among}
 use Rattle.tb_request.proofs.members.is_among.Given as goal
 
 abbrev pub invariant-loop-known : goal.invariant-loop-known

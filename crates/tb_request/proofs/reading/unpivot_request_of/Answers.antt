@@ -1,5 +1,5 @@
 use Rattle.std.proofs.lemmas.Result.{err_from_is_err_and}
-use Rattle.tb_request.specs.Reading.{unpivot_in, unpivot_request_of}
+use Rattle.tb_request.specs.Promise.Reading.{unpivot_in, unpivot_request_of}
 use Rattle.tb_request.proofs.FromBytes.{fault_passes}
 use Rattle.tb_request.proofs.reading.unpivot_request_of.Goals as goal
 

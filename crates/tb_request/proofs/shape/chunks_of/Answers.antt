@@ -1,7 +1,7 @@
 use Rattle.std.proofs.Common.{◌∙◌, sym}
 use Rattle.std.proofs.lemmas.List.{map_push}
 use Rattle.tb_tree.specs.View.{view}
-use Rattle.tb_json.specs.Lists.{as_list}
+use Rattle.tb_json.specs.Promise.Lists.{as_list}
 use Rattle.tb_json.proofs.LentValues.{Taking-start, Taking-next, Taking-stops, Taking-end, each_taken}
 use Rattle.tb_request.proofs.shape.chunks_of.Goals as goal
 

@@ -1,6 +1,6 @@
 use Rattle.std.proofs.Common.{map}
 use Rattle.tb_tree.specs.View.{view}
-use Rattle.tb_json.specs.Lists.{as_list}
+use Rattle.tb_json.specs.Promise.Lists.{as_list}
 use Rattle.tb_json.proofs.LentValues.{Taking}
 use Rattle.tb_request.proofs.shape.chunks_of.Given as goal
 

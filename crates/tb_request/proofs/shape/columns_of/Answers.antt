@@ -1,7 +1,7 @@
 use Rattle.std.proofs.Common.{◌∙◌, option_map, sym, ap}
 use Rattle.std.proofs.lemmas.List.{map_push}
 use Rattle.tb_tree.specs.View.{view}
-use Rattle.tb_request.specs.Written.{column_of}
+use Rattle.tb_request.specs.Promise.Written.{column_of}
 use Rattle.tb_request.specs.Lent.{written_view}
 use Rattle.tb_json.proofs.LentValues.{Taking-start, Taking-next, Taking-stops, Taking-end, each_taken}
 use Rattle.tb_request.proofs.shape.columns_of.Goals as goal

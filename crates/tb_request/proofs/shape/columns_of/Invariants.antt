@@ -1,6 +1,6 @@
 use Rattle.std.proofs.Common.{map}
 use Rattle.tb_tree.specs.View.{view}
-use Rattle.tb_request.specs.Written.{column_of}
+use Rattle.tb_request.specs.Promise.Written.{column_of}
 use Rattle.tb_request.specs.Lent.{written_view}
 use Rattle.tb_json.proofs.LentValues.{Taking}
 use Rattle.tb_request.proofs.shape.columns_of.Given as goal

@@ -1,6 +1,6 @@
 use Rattle.std.proofs.Common.{◌∙◌, sym, subst}
 use Rattle.std.proofs.lemmas.Result.{err_from_is_err_and}
-use Rattle.tb_request.specs.Reading.{FaultIs}
+use Rattle.tb_request.specs.Promise.Reading.{FaultIs}
 use Rattle.tb_request.proofs.Refused.{left_passes}
 use Rattle.tb_request.proofs.tables.frames_of.Goals as goal
 

@@ -1,11 +1,11 @@
 use Rattle.std.proofs.Common.{◌≡◌, ◌∙◌, [], ◌∷◌, ◌++◌, map, ap, sym, subst, List, Err}
 use Rattle.std.proofs.lemmas.List.{map-append}
-use Rattle.tb_chunk.specs.Col.{Col}
+use Rattle.tb_chunk.specs.Promise.Col.{Col}
 use Rattle.tb_request.specs.declared.request.RequestFault.{RequestFault}
 use Rattle.tb_request.specs.declared.request.RequestFault.TheVariants.{NoRequest}
 use Rattle.tb_request.specs.Columns.{relaid_column}
 use Rattle.tb_request.specs.Lent.{claimed_views}
-use Rattle.tb_request.specs.Reading.{are_tables, FaultIs, IsJudged}
+use Rattle.tb_request.specs.Promise.Reading.{are_tables, FaultIs, IsJudged}
 use Rattle.tb_request.proofs.Judged.{one_more, one_more_none}
 use Rattle.tb_request.proofs.tables.tables_from.Goals as goal
 

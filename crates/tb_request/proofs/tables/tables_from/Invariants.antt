@@ -1,7 +1,7 @@
 use Rattle.std.proofs.Common.{◌≡◌, map, None}
 use Rattle.tb_request.specs.Columns.{relaid_column}
 use Rattle.tb_request.specs.Lent.{claimed_views}
-use Rattle.tb_request.specs.Reading.{IsJudged}
+use Rattle.tb_request.specs.Promise.Reading.{IsJudged}
 use Rattle.tb_request.proofs.tables.tables_from.Given as goal
 
 abbrev pub invariant-loop-columns : goal.invariant-loop-columns

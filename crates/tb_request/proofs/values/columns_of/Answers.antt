@@ -1,7 +1,7 @@
 use Rattle.std.proofs.Common.{map, option_map, ◌∙◌, sym, ap}
 use Rattle.std.proofs.lemmas.List.{map_push}
-use Rattle.tb_json.specs.Lists.{each}
-use Rattle.tb_request.specs.Columns.{values_of}
+use Rattle.tb_json.specs.Promise.Lists.{each}
+use Rattle.tb_request.specs.Promise.Columns.{values_of}
 use Rattle.tb_request.specs.Lent.{written_view, claimed_view}
 use Rattle.tb_json.proofs.LentValues.{Taking-start, Taking-next, Taking-stops, Taking-end}
 use Rattle.tb_request.proofs.values.columns_of.Goals as goal

@@ -1,5 +1,5 @@
 use Rattle.std.proofs.Common.{map}
-use Rattle.tb_request.specs.Columns.{values_of}
+use Rattle.tb_request.specs.Promise.Columns.{values_of}
 use Rattle.tb_request.specs.Lent.{written_view, claimed_view}
 use Rattle.tb_json.proofs.LentValues.{Taking}
 use Rattle.tb_request.proofs.values.columns_of.Given as goal

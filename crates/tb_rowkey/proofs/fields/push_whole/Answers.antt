@@ -1,7 +1,7 @@
 use Rattle.std.proofs.Common.{◌∙◌, ap, ◌++◌}
 use Rattle.std.specs.Int.{w128}
 use Rattle.std.proofs.lemmas.Int.{to_z-of_z}
-use Rattle.tb_rowkey.specs.Bytes.{twos_complement}
+use Rattle.tb_rowkey.specs.Promise.Bytes.{twos_complement}
 use Rattle.tb_rowkey.proofs.Pushes.{low_part, pushed}
 use Rattle.tb_rowkey.proofs.fields.push_whole.Goals as goal
 

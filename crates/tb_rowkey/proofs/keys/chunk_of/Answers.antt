@@ -2,11 +2,12 @@ use Rattle.std.proofs.Common.{◌≡◌, ◌∙◌, None, ap, arith, map, sym, t
 use Rattle.std.specs.List.{All}
 use Rattle.std.proofs.lemmas.List.{take_more, take_all}
 use Rattle.std.proofs.lemmas.Result.{IfOk-weaker}
-use Rattle.tb_value.specs.Datum.{binary}
-use Rattle.tb_value.specs.Kind as kind
-use Rattle.tb_value.specs.Typed.{HasType}
+use Rattle.tb_value.specs.Promise.Datum.{binary}
+use Rattle.tb_value.specs.Promise.Kind as kind
+use Rattle.tb_value.specs.Promise.Typed.{HasType}
 use Rattle.tb_chunk.specs.Chunk.{or_null}
-use Rattle.tb_chunk.specs.Layout.{buffers_of, building_of, text_view_array, with_row}
+use Rattle.tb_view.specs.Promise.Layout.{buffers_of, text_view_array}
+use Rattle.tb_chunk.specs.Layout.{building_of, with_row}
 use Rattle.tb_chunk.specs.View.{texts}
 use Rattle.tb_chunk.specs.declared.owned_chunks.BinaryChunk.{BinaryChunk}
 use Rattle.tb_chunk.proofs.Filled.{built-push}

@@ -1,16 +1,17 @@
 use Rattle.std.proofs.Common.{◌≡◌, ℕ, Bool, List, [], ◌∷◌, Option, map, ap, sym, ◌∙◌}
 use Rattle.std.proofs.lemmas.Result.{IfOk-weaker}
-use Rattle.tb_value.specs.Datum.{Datum, binary}
-use Rattle.tb_value.specs.Kind as kind
+use Rattle.tb_value.specs.Promise.Datum.{Datum, binary}
+use Rattle.tb_value.specs.Promise.Kind as kind
 use Rattle.tb_value.specs.declared.sorted.IsSorted.TheVariants.{Not}
 use Rattle.tb_chunk.specs.Chunk.{or_null}
-use Rattle.tb_chunk.specs.Col.{Col}
-use Rattle.tb_chunk.specs.Fresh.{fresh_view_array}
-use Rattle.tb_chunk.specs.Layout.{text_view_array}
+use Rattle.tb_chunk.specs.Promise.Col.{Col}
+use Rattle.tb_chunk.specs.Promise.Fresh.{fresh_view_array}
+use Rattle.tb_view.specs.Promise.Layout.{text_view_array}
 use Rattle.tb_chunk.specs.View.{texts}
-use Rattle.tb_chunk.specs.ViewArrays.{ViewArray}
+use Rattle.tb_view.specs.Promise.ViewArrays.{ViewArray}
 use Rattle.tb_chunk.proofs.Fresh.{fresh_binaries}
-use Rattle.tb_rowkey.specs.Columns.{lent_columns, flag_of, keys_at, key_column}
+use Rattle.tb_rowkey.specs.Promise.Columns.{keys_at}
+use Rattle.tb_rowkey.specs.Columns.{lent_columns, flag_of, key_column}
 use Rattle.tb_rowkey.proofs.keys.prepare_keys_multiple.Goals as goal
 
 pub column_of-requires-clause-few : goal.column_of-requires-clause-few

@@ -2,7 +2,8 @@ use Rattle.std.proofs.Common.{Bor, subst, arith}
 use Rattle.std.specs.List.{All}
 use Rattle.std.proofs.lemmas.List.{take_all}
 use Rattle.std.proofs.lemmas.List.Elements.{All-more, All-map}
-use Rattle.tb_chunk.specs.Col.{Col, IsColumn}
+use Rattle.tb_chunk.specs.Promise.Col.{Col}
+use Rattle.tb_chunk.specs.Col.{IsColumn}
 use Rattle.tb_rowkey.proofs.lent.know_columns.Goals as goal
 
 pub loop-column-preserved : goal.loop-column-preserved

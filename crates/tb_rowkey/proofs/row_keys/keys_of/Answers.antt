@@ -1,10 +1,11 @@
 use Rattle.std.proofs.Common.{◌≡◌, ℕ, Bool, List, [], ◌∷◌, ◌++◌, map, ap, ◌∙◌, refl, arith}
 use Rattle.std.proofs.lemmas.Bool.{false≢true}
 use Rattle.std.proofs.lemmas.List.{length-map}
-use Rattle.tb_value.specs.Datum.{binary}
-use Rattle.tb_value.specs.Pairs.{row_numbers}
-use Rattle.tb_chunk.specs.Col.{Col}
-use Rattle.tb_rowkey.specs.Columns.{lent_columns, flag_of, row_count, key_at, IsShortRow}
+use Rattle.tb_value.specs.Promise.Datum.{binary}
+use Rattle.tb_value.specs.Promise.Pairs.{row_numbers}
+use Rattle.tb_chunk.specs.Promise.Col.{Col}
+use Rattle.tb_rowkey.specs.Promise.Columns.{row_count, key_at}
+use Rattle.tb_rowkey.specs.Columns.{lent_columns, flag_of, IsShortRow}
 use Rattle.tb_rowkey.specs.Places.{places_in}
 use Rattle.tb_rowkey.specs.RowKeys.{bytes_of}
 use Rattle.tb_rowkey.proofs.KeyRows.{count_read, key_shown, rows_below, short_key}

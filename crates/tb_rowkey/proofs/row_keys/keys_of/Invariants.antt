@@ -1,5 +1,6 @@
 use Rattle.std.proofs.Common.{ℕ, ◌<◌}
-use Rattle.tb_rowkey.specs.Columns.{lent_columns, flag_of, key_at, IsShortRow}
+use Rattle.tb_rowkey.specs.Promise.Columns.{key_at}
+use Rattle.tb_rowkey.specs.Columns.{lent_columns, flag_of, IsShortRow}
 use Rattle.tb_rowkey.specs.Places.{places_in}
 use Rattle.tb_rowkey.specs.RowKeys.{bytes_of}
 use Rattle.tb_rowkey.proofs.Written.{AreWritten}

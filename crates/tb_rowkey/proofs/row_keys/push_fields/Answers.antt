@@ -1,5 +1,6 @@
 use Rattle.std.proofs.Common.{◌<◌, length, refl, ◌||◌, ◌&&◌, ◌∙◌, ap, arith}
-use Rattle.tb_chunk.specs.Col.{Col, IsColumn, values}
+use Rattle.tb_chunk.specs.Promise.Col.{Col, values}
+use Rattle.tb_chunk.specs.Col.{IsColumn}
 use Rattle.tb_chunk.proofs.Lent.{lent_has}
 use Rattle.tb_rowkey.specs.Columns.{flag_of, lent_columns}
 use Rattle.tb_rowkey.proofs.KeyRows.{from_first, bytes_read, key_read, bytes_all, key_all}

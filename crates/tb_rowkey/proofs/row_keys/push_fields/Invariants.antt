@@ -1,6 +1,7 @@
 use Rattle.std.proofs.Common.{◌≡◌, ◌++◌, ◌&&◌, drop}
-use Rattle.tb_rowkey.specs.Columns.{lent_columns, fields_at, flag_of, row_bytes}
-use Rattle.tb_rowkey.specs.RowKey.{has_key}
+use Rattle.tb_rowkey.specs.Promise.Columns.{fields_at, row_bytes}
+use Rattle.tb_rowkey.specs.Columns.{lent_columns, flag_of}
+use Rattle.tb_rowkey.specs.Promise.RowKey.{has_key}
 use Rattle.tb_rowkey.proofs.KeyRows.{has_key_from}
 use Rattle.tb_rowkey.proofs.row_keys.push_fields.Given as goal
 

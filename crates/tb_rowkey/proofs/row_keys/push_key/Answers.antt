@@ -1,6 +1,7 @@
 use Rattle.std.proofs.Common.{◌++◌, ◌∙◌, ap, sym, arith}
 use Rattle.std.proofs.lemmas.List.{append-nil}
-use Rattle.tb_rowkey.specs.Columns.{lent_columns, row_bytes}
+use Rattle.tb_rowkey.specs.Promise.Columns.{row_bytes}
+use Rattle.tb_rowkey.specs.Columns.{lent_columns}
 use Rattle.tb_rowkey.proofs.KeyRows.{grown, taken_back, no_key_written, key_written}
 use Rattle.tb_rowkey.proofs.row_keys.push_key.Goals as goal
 use Rattle.tb_rowkey.proofs.row_keys.push_key.Goals.{then-not-has_key, else-not-has_key}

@@ -1,7 +1,7 @@
 use Rattle.std.proofs.Common.{ap, not, ◌++◌, ◌∙◌}
-use Rattle.tb_value.specs.Datum.{null, is_null}
+use Rattle.tb_value.specs.Promise.Datum.{null, is_null}
 use Rattle.tb_value.specs.See.{lent_value}
-use Rattle.tb_rowkey.specs.RowKey.{field_code}
+use Rattle.tb_rowkey.specs.Promise.RowKey.{field_code}
 use Rattle.tb_rowkey.proofs.row_keys.push_value.Goals as goal
 
 pub push_field-requires : goal.push_field-requires

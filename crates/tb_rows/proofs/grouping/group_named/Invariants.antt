@@ -1,9 +1,9 @@
 use Rattle.std.proofs.Common.{◌≡◌, map}
-use Rattle.tb_value.specs.Pairs.{row_numbers}
+use Rattle.tb_value.specs.Promise.Pairs.{row_numbers}
 use Rattle.tb_rows.specs.Fields.{same_at}
 use Rattle.tb_rows.specs.InGroups.{named_rows}
 use Rattle.tb_rows.specs.Names.{name_of}
-use Rattle.tb_rows.specs.Rows.{first_rows, group_of}
+use Rattle.tb_rows.specs.Promise.Rows.{first_rows, group_of}
 use Rattle.tb_rows.proofs.grouping.group_named.Given as goal
 
 -- the rows so far

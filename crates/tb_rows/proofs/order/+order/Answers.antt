@@ -1,7 +1,7 @@
 use Rattle.std.proofs.Common.{◌≡◌, ◌≤◌, ◌<◌, ◌-◌, ◌⊎◌, ◌∙◌, get_or, length, map, drop, sym, ap, arith, inl, inr, ⊎_elim}
 use Rattle.std.proofs.lemmas.Bool.{cases_lt}
 use Rattle.std.proofs.lemmas.List.{get_or-map, length-map, length-drop}
-use Rattle.tb_value.specs.Datum.{items_of, weight, weights}
+use Rattle.tb_value.specs.Promise.Datum.{items_of, weight, weights}
 use Rattle.tb_value.specs.See.{datum, lent_value}
 use Rattle.tb_rows.proofs.Orders.{ends, light}
 use Rattle.tb_rows.proofs.order.+order.Goals as goal

@@ -1,5 +1,5 @@
 use Rattle.std.proofs.Common.{◌≡◌, ◌+◌, ◌*◌, drop, map}
-use Rattle.tb_value.specs.Datum.{items_of, weight, weights}
+use Rattle.tb_value.specs.Promise.Datum.{items_of, weight, weights}
 use Rattle.tb_value.specs.See.{datum, lent_value}
 use Rattle.tb_rows.specs.Order.{items_cmp}
 use Rattle.tb_rows.proofs.order.+order.Given as goal

@@ -1,5 +1,5 @@
 use Rattle.std.proofs.Common.{◌∷◌, [], arith, ap}
-use Rattle.tb_value.specs.Names.{Name}
+use Rattle.tb_value.specs.Promise.Names.{Name}
 use Rattle.tb_sample.proofs.Answered.{answered, is_request, unrefused}
 use Rattle.tb_sample.proofs.joining.joined.Goals as goal
 

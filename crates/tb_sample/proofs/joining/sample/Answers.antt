@@ -1,5 +1,5 @@
-use Rattle.tb_frame.specs.Table.{table_of}
-use Rattle.tb_sample.specs.Sample.{IsSummary}
+use Rattle.tb_frame.specs.Promise.Table.{table_of}
+use Rattle.tb_sample.specs.Promise.Sample.{IsSummary}
 use Rattle.tb_sample.proofs.Answered.{has_key, has_w}
 use Rattle.tb_sample.proofs.joining.sample.Goals as goal
 

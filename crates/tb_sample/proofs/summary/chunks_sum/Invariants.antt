@@ -1,8 +1,8 @@
 use Rattle.std.proofs.Common.{◌≡◌, length, map, take}
-use Rattle.tb_value.specs.Datum.{int}
+use Rattle.tb_value.specs.Promise.Datum.{int}
 use Rattle.tb_chunk.specs.Chunk.{or_null}
-use Rattle.tb_chunk.specs.Col.{concatenation}
-use Rattle.tb_agg.specs.Aggregates.{total}
+use Rattle.tb_chunk.specs.Promise.Col.{concatenation}
+use Rattle.tb_agg.specs.Promise.Aggregates.{total}
 use Rattle.tb_sample.specs.Bounds.{IsSumOf}
 use Rattle.tb_sample.proofs.summary.chunks_sum.Given as goal
 

@@ -1,7 +1,7 @@
 use Rattle.std.proofs.Common.{◌∙◌, arith, ap}
 use Rattle.std.proofs.lemmas.Int.{ints}
-use Rattle.tb_agg.specs.Aggregates.{total}
-use Rattle.tb_chunk.specs.Col.{Col, values}
+use Rattle.tb_agg.specs.Promise.Aggregates.{total}
+use Rattle.tb_chunk.specs.Promise.Col.{Col, values}
 use Rattle.tb_frame.proofs.Selected.{found}
 use Rattle.tb_sample.proofs.Answered.{kind_is, some_column, sum_is}
 use Rattle.tb_sample.proofs.summary.sum_of.Goals as goal

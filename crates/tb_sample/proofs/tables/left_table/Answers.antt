@@ -1,8 +1,8 @@
 use Rattle.std.proofs.Common.{◌≡◌, ◌∙◌, ◌∷◌, [], ◌*◌, arith, ap}
 use Rattle.std.specs.Prelude.{codes}
 use Rattle.std.proofs.lemmas.Result.{IfOk-weaker}
-use Rattle.tb_frame.specs.Table.{table_of}
-use Rattle.tb_sample.specs.Sample.{left_table}
+use Rattle.tb_frame.specs.Promise.Table.{table_of}
+use Rattle.tb_sample.specs.Promise.Sample.{left_table}
 use Rattle.tb_sample.proofs.Numbers.{are_typed, column_is, long}
 use Rattle.tb_sample.proofs.tables.left_table.Goals as goal
 

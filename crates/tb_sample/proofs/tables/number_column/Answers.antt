@@ -1,12 +1,12 @@
 use Rattle.std.proofs.Common.{◌≡◌, ◌∙◌, ◌∷◌, [], ◌++◌, ℤ, List, Option, Some, arith, map, ap, refl}
 use Rattle.std.proofs.lemmas.List.{append-nil, length-map}
-use Rattle.tb_value.specs.Datum.{Datum, int}
-use Rattle.tb_value.specs.Kind.{int64}
+use Rattle.tb_value.specs.Promise.Datum.{Datum, int}
+use Rattle.tb_value.specs.Promise.Kind.{int64}
 use Rattle.tb_value.proofs.Loops.{map-map}
 use Rattle.tb_chunk.specs.Chunk.{or_null}
-use Rattle.tb_chunk.specs.Col.{concatenation}
+use Rattle.tb_chunk.specs.Promise.Col.{concatenation}
 use Rattle.tb_chunk.proofs.OneChunk.{one_chunk_is_column}
-use Rattle.tb_frame.specs.Table.{plain_column}
+use Rattle.tb_frame.specs.Promise.Table.{plain_column}
 use Rattle.tb_sample.proofs.tables.number_column.Goals as goal
 
 -- one chunk of numbers

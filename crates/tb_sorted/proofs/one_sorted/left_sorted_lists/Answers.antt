@@ -4,7 +4,8 @@ use Rattle.std.specs.Prelude.{IsPermutation}
 use Rattle.tb_value.specs.Refusals.{Settles}
 use Rattle.tb_value.specs.declared.index.JoinPair.{JoinPair}
 use Rattle.tb_frame.specs.Answer.{AreLeftRows}
-use Rattle.tb_sorted.specs.Keys.{MergeSizes, number_listing}
+use Rattle.tb_sorted.specs.Promise.Keys.{MergeSizes}
+use Rattle.tb_sorted.specs.Keys.{number_listing}
 use Rattle.tb_sorted.specs.Listed.{IsMergeWithin}
 use Rattle.tb_sorted.specs.SortedRows.{AreSortedRows, keys_of, left_placed, numbered_keys}
 use Rattle.tb_sorted.proofs.Places.{as_many_keys, left_many, left_places, left_sizes, left_way, rows_few}

@@ -1,11 +1,12 @@
 use Rattle.std.proofs.Common.{ap, ◌≡◌, List, ℕ, arith, length, map, rules, subst, sym, ◌∙◌}
 use Rattle.std.proofs.lemmas.List.{length-map}
 use Rattle.std.specs.Prelude.{IsPermutation, IsSorted}
-use Rattle.tb_value.specs.Pairs.{left_first}
+use Rattle.tb_value.specs.Promise.Pairs.{left_first}
 use Rattle.tb_value.specs.Refusals.{Settles}
 use Rattle.tb_value.specs.declared.index.JoinPair.{JoinPair}
 use Rattle.tb_frame.specs.Answer.{AreRightRows}
-use Rattle.tb_sorted.specs.Keys.{MergeSizes, number_listing}
+use Rattle.tb_sorted.specs.Promise.Keys.{MergeSizes}
+use Rattle.tb_sorted.specs.Keys.{number_listing}
 use Rattle.tb_sorted.specs.Listed.{IsMergeWithin}
 use Rattle.tb_sorted.specs.SortedRows.{AreSortedRows, keys_of, right_placed, numbered_keys}
 use Rattle.tb_sorted.proofs.Places.{as_many_keys, right_many, right_places, right_sizes, right_way, rows_few, way_permutation, way_sorted}

@@ -1,16 +1,16 @@
 use Rattle.std.proofs.Common.{List, false, rules, sym, subst, ◌∙◌}
 use Rattle.std.specs.Prelude.{IsPermutation, IsSorted}
-use Rattle.tb_value.specs.Pairs.{right_first}
+use Rattle.tb_value.specs.Promise.Pairs.{right_first}
 use Rattle.tb_value.specs.Refusals.{Settles}
 use Rattle.tb_value.specs.declared.index.JoinPair.{JoinPair}
 use Rattle.tb_value.proofs.Probes.{turned_to_right}
-use Rattle.tb_chunk.specs.Col.{values}
+use Rattle.tb_chunk.specs.Promise.Col.{values}
 use Rattle.tb_frame.specs.declared.args.Direction.{Direction}
 use Rattle.tb_frame.specs.declared.args.JoinType.TheVariants.{Right}
-use Rattle.tb_frame.specs.Join.{Ascends}
-use Rattle.tb_sorted.specs.Columns.{value_listing}
+use Rattle.tb_frame.specs.Promise.Join.{Ascends}
+use Rattle.tb_sorted.specs.Promise.Columns.{value_listing}
 use Rattle.tb_sorted.proofs.Flagged.{by_left}
-use Rattle.tb_sorted.specs.Keys.{MergeSizes}
+use Rattle.tb_sorted.specs.Promise.Keys.{MergeSizes}
 use Rattle.tb_sorted.specs.Listed.{IsMergeWithin}
 use Rattle.tb_sorted.proofs.Turned.{sizes_turned, too_long_turned, turned_pairs}
 use Rattle.tb_sorted.proofs.requested.right_way_pairs.Goals as goal

@@ -3,10 +3,10 @@ use Rattle.std.specs.Prelude.{IfOk}
 use Rattle.tb_value.specs.Refusals.{Settles}
 use Rattle.tb_value.specs.declared.error.PolarsError.{PolarsError}
 use Rattle.tb_value.specs.declared.index.JoinPair.{JoinPair}
-use Rattle.tb_frame.specs.Join.{flag_at}
+use Rattle.tb_frame.specs.Promise.Join.{flag_at}
 use Rattle.tb_sorted.specs.Keys.{too_long}
 use Rattle.tb_sorted.specs.Listed.{IsListedIn}
-use Rattle.tb_chunk.specs.Col.{values}
+use Rattle.tb_chunk.specs.Promise.Col.{values}
 use Rattle.tb_sorted.proofs.Flagged.{no_nulls, nulls_apart}
 use Rattle.tb_sorted.proofs.OneKey.{one_column, one_each, requested_listing, size_alone, taken_keys}
 use Rattle.tb_sorted.proofs.requested.taken_pairs.Goals as goal

@@ -1,5 +1,5 @@
 use Rattle.std.proofs.Common.{◌≡◌, map}
-use Rattle.tb_value.specs.Pairs.{row_numbers}
+use Rattle.tb_value.specs.Promise.Pairs.{row_numbers}
 use Rattle.tb_merge.specs.Keys.{key_at}
 use Rattle.tb_sorted.specs.SortedRows.{numbered_keys}
 use Rattle.tb_sorted.proofs.row_sorting.keys_with_rows.Given as goal

@@ -1,6 +1,6 @@
 use Rattle.std.proofs.Common.{List, subst, sym}
-use Rattle.tb_value.specs.Datum.{Datum}
-use Rattle.tb_chunk.specs.Col.{concatenation}
+use Rattle.tb_value.specs.Promise.Datum.{Datum}
+use Rattle.tb_chunk.specs.Promise.Col.{concatenation}
 use Rattle.std.specs.Prelude.{map}
 use Rattle.tb_sorted.specs.Columns.{AreMergeKeys, MayMerge, cell_lists}
 use Rattle.tb_sorted.specs.Listed.{AreValuesMerged}

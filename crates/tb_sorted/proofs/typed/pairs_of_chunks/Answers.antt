@@ -1,5 +1,5 @@
 use Rattle.std.proofs.Common.{◌∙◌, ap, pos, sym}
-use Rattle.tb_value.specs.Datum.{int}
+use Rattle.tb_value.specs.Promise.Datum.{int}
 use Rattle.tb_chunk.specs.Seen.{chunk_lists}
 use Rattle.tb_sorted.specs.Columns.{cell_lists}
 use Rattle.tb_sorted.specs.Path.{order_after}

@@ -1,7 +1,7 @@
 use Rattle.std.proofs.Common.{arith, ◌<◌, ◌^◌, Option, length, refl, subst, sym}
-use Rattle.tb_value.specs.Datum.{binary}
-use Rattle.tb_value.specs.Kind as kind
-use Rattle.tb_value.specs.Typed.{HasType, IsBytes}
+use Rattle.tb_value.specs.Promise.Datum.{binary}
+use Rattle.tb_value.specs.Promise.Kind as kind
+use Rattle.tb_value.specs.Promise.Typed.{HasType, IsBytes}
 use Rattle.tb_chunk.specs.Chunk.{or_null}
 use Rattle.tb_chunk.specs.View.{row_text, view_text}
 use Rattle.tb_view.specs.declared.view.View.{View}

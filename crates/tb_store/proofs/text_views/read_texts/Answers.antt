@@ -2,9 +2,9 @@ use Rattle.std.proofs.Common.{arith, Option, map, subst}
 use Rattle.std.specs.List.{All}
 use Rattle.std.proofs.lemmas.List.{take_all}
 use Rattle.std.proofs.lemmas.List.Elements.{All-map, All-more}
-use Rattle.tb_value.specs.Datum.{binary}
-use Rattle.tb_value.specs.Kind as kind
-use Rattle.tb_value.specs.Typed.{HasType}
+use Rattle.tb_value.specs.Promise.Datum.{binary}
+use Rattle.tb_value.specs.Promise.Kind as kind
+use Rattle.tb_value.specs.Promise.Typed.{HasType}
 use Rattle.tb_chunk.specs.Chunk.{or_null}
 use Rattle.tb_chunk.specs.View.{row_text, texts}
 use Rattle.tb_view.specs.declared.view.View.{View}

@@ -1,9 +1,9 @@
 use Rattle.std.proofs.Common.{◌≡◌, map, take}
-use Rattle.tb_value.specs.Datum.{binary}
-use Rattle.tb_value.specs.Kind as kind
+use Rattle.tb_value.specs.Promise.Datum.{binary}
+use Rattle.tb_value.specs.Promise.Kind as kind
 use Rattle.tb_chunk.specs.Chunk.{or_null}
-use Rattle.tb_chunk.specs.Col.{values}
-use Rattle.tb_supertype.specs.Cast.{cast}
+use Rattle.tb_chunk.specs.Promise.Col.{values}
+use Rattle.tb_supertype.specs.Promise.Cast.{cast}
 use Rattle.tb_supertype.proofs.casting.cast_bytes.Given as goal
 
 abbrev pub invariant-loop-row : goal.invariant-loop-row

@@ -1,7 +1,7 @@
 use Rattle.std.proofs.Common.{arith}
-use Rattle.tb_value.specs.Kind as kind
+use Rattle.tb_value.specs.Promise.Kind as kind
 use Rattle.tb_value.specs.See.{lent_value}
-use Rattle.tb_chunk.specs.Col.{values}
+use Rattle.tb_chunk.specs.Promise.Col.{values}
 use Rattle.tb_supertype.proofs.Stacks.{fits_at}
 use Rattle.tb_supertype.proofs.casting.cast_texts.Goals as goal
 

@@ -1,10 +1,10 @@
 use Rattle.std.proofs.Common.{subst, sym, ap, ◌∙◌, List}
-use Rattle.tb_value.specs.Datum.{Datum}
+use Rattle.tb_value.specs.Promise.Datum.{Datum}
 use Rattle.tb_value.specs.SeeKind.{kind_of}
 use Rattle.tb_value.specs.declared.sorted.IsSorted.TheVariants.{Not}
 use Rattle.tb_chunk.specs.Col.{IsColumn}
 use Rattle.tb_chunk.specs.ChunkViewArrays.{chunk_view_arrays}
-use Rattle.tb_chunk.specs.Made.{at_least_one}
+use Rattle.tb_chunk.specs.Promise.Made.{at_least_one}
 use Rattle.tb_chunk.proofs.Made.{is_of}
 use Rattle.tb_supertype.proofs.Stacks.{stacked-again, stacked_column}
 use Rattle.tb_supertype.proofs.casting.stack.Goals as goal

@@ -3,8 +3,8 @@ use Rattle.std.specs.Prelude.{IsTrue}
 use Rattle.std.specs.List.{All}
 use Rattle.std.proofs.lemmas.List.{take_more, take_all}
 use Rattle.std.proofs.lemmas.List.Elements.{All-push}
-use Rattle.tb_value.specs.SameKind.{is_key}
-use Rattle.tb_chunk.specs.Col.{Col, values}
+use Rattle.tb_value.specs.Promise.SameKind.{is_key}
+use Rattle.tb_chunk.specs.Promise.Col.{Col, values}
 use Rattle.tb_tests.proofs.row_keys.are_keys.Goals as goal
 
 pub loop-column-preserved : goal.loop-column-preserved

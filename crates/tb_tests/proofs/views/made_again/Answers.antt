@@ -1,5 +1,5 @@
 use Rattle.std.proofs.Common.{IfOk, ◌≡◌, subst}
-use Rattle.tb_chunk.specs.Col.{Col}
+use Rattle.tb_chunk.specs.Promise.Col.{Col}
 use Rattle.tb_tests.proofs.OneChunk.{first_alone}
 use Rattle.tb_tests.proofs.views.made_again.Goals as goal
 

@@ -1,6 +1,6 @@
 use Rattle.std.proofs.Common.{Bor, ◌*◌, ◌≤◌, length, subst, sym}
 use Rattle.tb_value.specs.declared.limits.TheConstants.{MAX_ROWS}
-use Rattle.tb_chunk.specs.Col.{Col, values}
+use Rattle.tb_chunk.specs.Promise.Col.{Col, values}
 use Rattle.tb_unpivot.proofs.Lists.{repeats_more}
 use Rattle.tb_unpivot.proofs.columns.index_columns.Goals as goal
 

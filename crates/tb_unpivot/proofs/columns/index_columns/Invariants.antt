@@ -1,7 +1,7 @@
 use Rattle.std.proofs.Common.{◌≡◌, map, take}
 use Rattle.tb_chunk.specs.Lent.{lent_columns}
-use Rattle.tb_frame.specs.Table.{table_of}
-use Rattle.tb_unpivot.specs.Unpivot.{repeated}
+use Rattle.tb_frame.specs.Promise.Table.{table_of}
+use Rattle.tb_unpivot.specs.Promise.Unpivot.{repeated}
 use Rattle.tb_unpivot.proofs.columns.index_columns.Given as goal
 
 abbrev pub invariant-loop-column : goal.invariant-loop-column

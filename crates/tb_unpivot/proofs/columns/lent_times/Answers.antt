@@ -1,6 +1,6 @@
 use Rattle.std.proofs.Common.{◌∙◌, ◌∷◌, [], ◌++◌, List, ap, refl}
 use Rattle.std.proofs.lemmas.List.{replicate_more}
-use Rattle.tb_chunk.specs.Col.{Col}
+use Rattle.tb_chunk.specs.Promise.Col.{Col}
 use Rattle.tb_unpivot.proofs.Lists.{lent_push}
 use Rattle.tb_unpivot.proofs.columns.lent_times.Goals as goal
 

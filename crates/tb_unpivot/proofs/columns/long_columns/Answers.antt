@@ -1,11 +1,11 @@
 use Rattle.std.proofs.Common.{◌∙◌, Bor, ap, sym}
 use Rattle.std.proofs.lemmas.List.{length-map}
-use Rattle.tb_value.specs.Names.{Name}
+use Rattle.tb_value.specs.Promise.Names.{Name}
 use Rattle.tb_value.specs.SeeKind.{kind_of}
-use Rattle.tb_chunk.specs.Col.{Col}
+use Rattle.tb_chunk.specs.Promise.Col.{Col}
 use Rattle.tb_chunk.specs.Lent.{lent_columns}
-use Rattle.tb_frame.specs.Table.{plain_column, table_of}
-use Rattle.tb_unpivot.specs.Unpivot.{value_column, variable_column}
+use Rattle.tb_frame.specs.Promise.Table.{plain_column, table_of}
+use Rattle.tb_unpivot.specs.Promise.Unpivot.{value_column, variable_column}
 use Rattle.tb_unpivot.proofs.Lists.{long_made}
 use Rattle.tb_unpivot.proofs.columns.long_columns.Goals as goal
 

@@ -1,6 +1,6 @@
 use Rattle.std.proofs.Common.{◌∙◌, ◌∷◌, [], ◌++◌, arith, ap, map, refl}
 use Rattle.std.proofs.lemmas.List.{length-map}
-use Rattle.tb_value.specs.Datum.{string}
+use Rattle.tb_value.specs.Promise.Datum.{string}
 use Rattle.tb_chunk.specs.Chunk.{or_null}
 use Rattle.tb_chunk.specs.View.{texts}
 use Rattle.tb_chunk.specs.declared.chunk.StringChunk.{StringChunk}

@@ -1,7 +1,7 @@
 use Rattle.std.proofs.Common.{◌∙◌, ap}
 use Rattle.tb_value.specs.SeeKind.{kind_of}
 use Rattle.tb_chunk.specs.Lent.{lent_columns}
-use Rattle.tb_frame.specs.Table.{plain_column}
+use Rattle.tb_frame.specs.Promise.Table.{plain_column}
 use Rattle.tb_unpivot.proofs.Lists.{value_is}
 use Rattle.tb_unpivot.proofs.columns.value_column.Goals as goal
 

@@ -1,11 +1,11 @@
 use Rattle.std.proofs.Common.{◌≡◌, ◌∙◌, List, ap, sym}
 use Rattle.std.proofs.lemmas.Result.{IfOk-weaker, err_from_is_err_and}
 use Rattle.tb_value.specs.SeeKind.{kind_of}
-use Rattle.tb_chunk.specs.Col.{Col}
+use Rattle.tb_chunk.specs.Promise.Col.{Col}
 use Rattle.tb_chunk.specs.Lent.{lent_columns}
-use Rattle.tb_frame.specs.Frame.{selected_columns}
-use Rattle.tb_frame.specs.Table.{table_of}
-use Rattle.tb_unpivot.specs.Unpivot.{on_names, unpivot_table}
+use Rattle.tb_frame.specs.Promise.Frame.{selected_columns}
+use Rattle.tb_frame.specs.Promise.Table.{table_of}
+use Rattle.tb_unpivot.specs.Promise.Unpivot.{on_names, unpivot_table}
 use Rattle.tb_unpivot.proofs.Answered.{asked_for, asked_of, index_few, long_is, long_refused, on_few, on_typed}
 use Rattle.tb_unpivot.proofs.Causes.{onward, settled, stops}
 use Rattle.tb_unpivot.proofs.frame_unpivot.unpivoted.Goals as goal

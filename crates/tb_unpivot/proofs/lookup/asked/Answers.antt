@@ -1,5 +1,5 @@
 use Rattle.std.proofs.Common.{◌≡◌, ◌<◌, length, arith}
-use Rattle.tb_frame.specs.Frame.{selected_columns}
+use Rattle.tb_frame.specs.Promise.Frame.{selected_columns}
 use Rattle.tb_unpivot.proofs.Answered.{none_asked, nothing_asked, some_asked}
 use Rattle.tb_unpivot.proofs.Causes.{settled}
 use Rattle.tb_unpivot.proofs.lookup.asked.Goals as goal

@@ -1,12 +1,12 @@
 use Rattle.std.proofs.Common.{◌≡◌, ◌+◌, ◌∙◌, Bor, List, Ok, ap, arith, drop}
 use Rattle.std.proofs.lemmas.List.{drop_all}
 use Rattle.std.proofs.lemmas.Result.{err_from_is_err_and}
-use Rattle.tb_value.specs.Kind as kind
+use Rattle.tb_value.specs.Promise.Kind as kind
 use Rattle.tb_value.specs.SeeKind.{kind_of}
-use Rattle.tb_chunk.specs.Col.{Col}
+use Rattle.tb_chunk.specs.Promise.Col.{Col}
 use Rattle.tb_chunk.specs.Lent.{lent_columns}
-use Rattle.tb_frame.specs.Table.{plain_column, table_of}
-use Rattle.tb_unpivot.specs.Unpivot.{common_kind}
+use Rattle.tb_frame.specs.Promise.Table.{plain_column, table_of}
+use Rattle.tb_unpivot.specs.Promise.Unpivot.{common_kind}
 use Rattle.tb_unpivot.proofs.CommonKinds.{kind_more, refused, refused_here}
 use Rattle.tb_unpivot.proofs.Lists.{next_left}
 use Rattle.tb_unpivot.proofs.lookup.common_type.Goals as goal

@@ -1,9 +1,9 @@
 use Rattle.std.proofs.Common.{◌≡◌, drop}
-use Rattle.tb_value.specs.Kind as kind
+use Rattle.tb_value.specs.Promise.Kind as kind
 use Rattle.tb_value.specs.SeeKind.{kind_of}
 use Rattle.tb_chunk.specs.Lent.{lent_columns}
-use Rattle.tb_frame.specs.Table.{table_of}
-use Rattle.tb_unpivot.specs.Unpivot.{common_kind}
+use Rattle.tb_frame.specs.Promise.Table.{table_of}
+use Rattle.tb_unpivot.specs.Promise.Unpivot.{common_kind}
 use Rattle.tb_unpivot.proofs.lookup.common_type.Given as goal
 
 -- what is left to be taken gives the same

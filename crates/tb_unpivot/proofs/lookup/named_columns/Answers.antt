@@ -1,10 +1,10 @@
 use Rattle.std.proofs.Common.{◌≡◌, IfOk, List, subst}
 use Rattle.tb_value.specs.Refusals.{Settles}
-use Rattle.tb_chunk.specs.Col.{Col}
+use Rattle.tb_chunk.specs.Promise.Col.{Col}
 use Rattle.tb_chunk.specs.Lent.{lent_columns}
-use Rattle.tb_frame.specs.Frame.{selected_columns}
-use Rattle.tb_frame.specs.Refusal.{unknown_key}
-use Rattle.tb_frame.specs.Table.{table_of}
+use Rattle.tb_frame.specs.Promise.Frame.{selected_columns}
+use Rattle.tb_frame.specs.Promise.Refusal.{unknown_key}
+use Rattle.tb_frame.specs.Promise.Table.{table_of}
 use Rattle.tb_unpivot.proofs.lookup.named_columns.Goals as goal
 
 pub returns-clause-settles : goal.returns-clause-settles

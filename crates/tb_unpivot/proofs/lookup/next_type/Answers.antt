@@ -1,11 +1,11 @@
 use Rattle.std.proofs.Common.{◌∙◌, Option, Some, None, inr, ap, sym}
 use Rattle.std.specs.Option.{option_map}
-use Rattle.tb_value.specs.Names.{Name}
+use Rattle.tb_value.specs.Promise.Names.{Name}
 use Rattle.tb_value.specs.SeeKind.{kind_of}
 use Rattle.tb_value.specs.declared.dtype.DataType.{DataType}
 use Rattle.tb_value.specs.declared.error.InvalidCause.TheVariants.{NoSupertype}
 use Rattle.tb_value.specs.declared.error.PolarsError.TheVariants.{InvalidOperation}
-use Rattle.tb_frame.specs.Table.{plain_column}
+use Rattle.tb_frame.specs.Promise.Table.{plain_column}
 use Rattle.tb_unpivot.proofs.CommonKinds.{one_kind, refused}
 use Rattle.tb_unpivot.proofs.lookup.next_type.Goals as goal
 

@@ -1,7 +1,7 @@
 use Rattle.std.proofs.Common.{◌≡◌, ◌<◌, ◌∙◌, List, length, sym, subst, rules}
 use Rattle.std.specs.Prelude.{IfOk}
-use Rattle.tb_value.specs.Names.{Name}
-use Rattle.tb_frame.specs.Table.{table_of}
+use Rattle.tb_value.specs.Promise.Names.{Name}
+use Rattle.tb_frame.specs.Promise.Table.{table_of}
 use Rattle.tb_unpivot.proofs.Lists.{names_left, none_named, some_named}
 use Rattle.tb_unpivot.proofs.lookup.on_names.Goals as goal
 

@@ -1,8 +1,8 @@
 use Rattle.std.proofs.Common.{◌≡◌, Bool, [], not, ap, sym, ◌∙◌}
-use Rattle.tb_value.specs.Names.{Name}
+use Rattle.tb_value.specs.Promise.Names.{Name}
 use Rattle.tb_value.proofs.Kept.{made, skipped}
-use Rattle.tb_chunk.specs.Col.{Col}
-use Rattle.tb_frame.specs.Naming.{is_among}
+use Rattle.tb_chunk.specs.Promise.Col.{Col}
+use Rattle.tb_frame.specs.Promise.Naming.{is_among}
 use Rattle.tb_unpivot.proofs.lookup.other_names.Goals as goal
 use Rattle.tb_unpivot.proofs.lookup.other_names.Goals.{then-not-contains+in_ok-copy+in_ok-push, else-not-contains}
 

@@ -1,5 +1,5 @@
 use Rattle.std.proofs.Common.{◌∙◌, sym, ap}
-use Rattle.tb_value.specs.Datum.{items_of}
+use Rattle.tb_value.specs.Promise.Datum.{items_of}
 use Rattle.tb_value.specs.Proved.ValueTests.{items-Decides}
 use Rattle.tb_value.proofs.Lengths.{items_of-inj}
 use Rattle.tb_value.proofs.equality.same_lists.Goals as goal

@@ -1,5 +1,5 @@
 use Rattle.std.proofs.Common.{◌∙◌, sym, ap}
-use Rattle.tb_value.specs.Kind.{parts_of}
+use Rattle.tb_value.specs.Promise.Kind.{parts_of}
 use Rattle.tb_value.specs.SeeKind.{parts}
 use Rattle.tb_value.specs.Proved.TypeTests.{same_parts-Decides}
 use Rattle.tb_value.proofs.Lengths.{parts_of-inj}

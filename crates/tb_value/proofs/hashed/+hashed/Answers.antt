@@ -1,5 +1,5 @@
 use Rattle.std.proofs.Common.{arith, ◌≡◌, fold, length, map, ap}
-use Rattle.tb_value.specs.Datum.{items_of, data_in}
+use Rattle.tb_value.specs.Promise.Datum.{items_of, data_in}
 use Rattle.tb_value.specs.Fed.{fed_each}
 use Rattle.tb_value.specs.See.{datum}
 use Rattle.tb_value.proofs.Lengths.{length-data_in}

@@ -1,5 +1,5 @@
 use Rattle.std.proofs.Common.{◌≡◌, ◌+◌, ◌*◌, fold, map, drop}
-use Rattle.tb_value.specs.Datum.{items_of, weight, weights}
+use Rattle.tb_value.specs.Promise.Datum.{items_of, weight, weights}
 use Rattle.tb_value.specs.Fed.{fed_each, fed_items}
 use Rattle.tb_value.specs.See.{datum, lent_value}
 use Rattle.tb_value.proofs.hashed.+hashed.Given as goal

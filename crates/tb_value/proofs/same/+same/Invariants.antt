@@ -1,6 +1,6 @@
 use Rattle.std.proofs.Common.{◌≡◌, map, drop}
-use Rattle.tb_value.specs.Datum.{items_of}
-use Rattle.tb_value.specs.Same.{same_items}
+use Rattle.tb_value.specs.Promise.Datum.{items_of}
+use Rattle.tb_value.specs.Promise.Same.{same_items}
 use Rattle.tb_value.specs.See.{datum}
 use Rattle.tb_value.proofs.same.+same.Given as goal
 

@@ -1,6 +1,6 @@
 use Rattle.std.proofs.Common.{◌≡◌, ◌<◌, ◌≤◌, length, map, get_or, ap, sym, ◌∙◌, arith}
 use Rattle.std.proofs.lemmas.List.{get_or-map, length-map}
-use Rattle.tb_value.specs.Kind.{weight, weights, parts_of}
+use Rattle.tb_value.specs.Promise.Kind.{weight, weights, parts_of}
 use Rattle.tb_value.specs.SeeKind.{kind_of, part, parts}
 use Rattle.tb_value.proofs.FieldTests.{weight_at, parts_differ}
 use Rattle.tb_value.proofs.same_type.+types.Goals as goal

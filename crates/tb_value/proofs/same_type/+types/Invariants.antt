@@ -1,6 +1,6 @@
 use Rattle.std.proofs.Common.{◌≡◌, ◌+◌, ◌*◌, map, drop}
-use Rattle.tb_value.specs.Kind.{weight, weights, parts_of}
-use Rattle.tb_value.specs.SameKind.{same_parts}
+use Rattle.tb_value.specs.Promise.Kind.{weight, weights, parts_of}
+use Rattle.tb_value.specs.Promise.SameKind.{same_parts}
 use Rattle.tb_value.specs.SeeKind.{kind_of, part, parts}
 use Rattle.tb_value.proofs.same_type.+types.Given as goal
 

@@ -1,6 +1,6 @@
 use Rattle.std.proofs.Common.{List, map, arith, ap}
 use Rattle.std.proofs.lemmas.List.{length-map}
-use Rattle.tb_value.specs.Datum.{Datum, items_of, weight, weights}
+use Rattle.tb_value.specs.Promise.Datum.{Datum, items_of, weight, weights}
 use Rattle.tb_value.specs.See.{datum}
 use Rattle.tb_value.specs.SeeKind.{part}
 use Rattle.tb_value.proofs.Lengths.{AreEachOf-length, item_lighter}

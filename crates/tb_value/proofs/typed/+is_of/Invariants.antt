@@ -1,8 +1,8 @@
 use Rattle.std.proofs.Common.{◌↔◌, ◌+◌, ◌*◌, map, drop}
-use Rattle.tb_value.specs.Datum.{items_of, weight, weights}
+use Rattle.tb_value.specs.Promise.Datum.{items_of, weight, weights}
 use Rattle.tb_value.specs.See.{datum}
 use Rattle.tb_value.specs.SeeKind.{kind_of, part}
-use Rattle.tb_value.specs.Typed.{AreOf, FitsFields}
+use Rattle.tb_value.specs.Promise.Typed.{AreOf, FitsFields}
 use Rattle.tb_value.proofs.typed.+is_of.Given as goal
 
 -- the values at hand grow lighter

@@ -1,5 +1,5 @@
 use Rattle.std.proofs.Common.{◌∙◌}
-use Rattle.tb_json.specs.Lists.{as_list}
+use Rattle.tb_json.specs.Promise.Lists.{as_list}
 use Rattle.tb_tree.specs.View.{view}
 use Rattle.tb_why.proofs.Tests.{list_of_all}
 use Rattle.tb_why.proofs.forms.are_lists.Goals as goal

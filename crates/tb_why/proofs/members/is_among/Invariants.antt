@@ -1,5 +1,5 @@
 use Rattle.std.proofs.Common.{◌≡◌, drop}
-use Rattle.tb_json.specs.Lists.{is_among}
+use Rattle.tb_json.specs.Promise.Lists.{is_among}
 use Rattle.tb_why.specs.Members.{known_views, names_of}
 use Rattle.tb_why.proofs.members.is_among.Given as goal
 

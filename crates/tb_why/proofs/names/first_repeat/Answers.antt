@@ -1,8 +1,8 @@
 use Rattle.std.proofs.Common.{[], length, take, refl, sym, ap, ◌∙◌}
 use Rattle.tb_value.proofs.Finds.{find_row_stop}
-use Rattle.tb_frame.specs.Naming.{is_among}
+use Rattle.tb_frame.specs.Promise.Naming.{is_among}
 use Rattle.tb_frame.specs.NameSets.{has_name}
-use Rattle.tb_frame.specs.Refusal.{repeats}
+use Rattle.tb_frame.specs.Promise.Refusal.{repeats}
 use Rattle.tb_frame.proofs.Seen.{seen_more, fresh_more}
 use Rattle.tb_why.proofs.Repeats.{within, not_added}
 use Rattle.tb_why.proofs.names.first_repeat.Goals as goal

@@ -1,10 +1,10 @@
 use Rattle.std.proofs.Common.{◌≡◌, take, None}
 use Rattle.std.specs.List.{find}
-use Rattle.tb_value.specs.Names.{Name}
-use Rattle.tb_value.specs.Pairs.{row_numbers}
-use Rattle.tb_frame.specs.Naming.{is_among}
+use Rattle.tb_value.specs.Promise.Names.{Name}
+use Rattle.tb_value.specs.Promise.Pairs.{row_numbers}
+use Rattle.tb_frame.specs.Promise.Naming.{is_among}
 use Rattle.tb_frame.specs.NameSets.{has_name}
-use Rattle.tb_frame.specs.Refusal.{repeats}
+use Rattle.tb_frame.specs.Promise.Refusal.{repeats}
 use Rattle.tb_why.proofs.names.first_repeat.Given as goal
 
 -- no name so far is repeated, and the set has the names so far

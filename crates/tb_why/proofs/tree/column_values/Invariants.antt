@@ -1,8 +1,8 @@
 use Rattle.tb_tree.specs.View.{view}
 use Rattle.tb_value.specs.SeeKind.{kind_of}
 use Rattle.tb_chunk.specs.Made.{lists_of, IsTyped}
-use Rattle.tb_json.specs.Cells.{cell_in}
-use Rattle.tb_json.specs.Lists.{each}
+use Rattle.tb_json.specs.Promise.Cells.{cell_in}
+use Rattle.tb_json.specs.Promise.Lists.{each}
 use Rattle.tb_json.proofs.LentValues.{Walk}
 use Rattle.tb_why.specs.Columns.{items_of}
 use Rattle.tb_why.proofs.tree.column_values.Given as goal

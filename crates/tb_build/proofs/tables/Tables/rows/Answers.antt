@@ -2,7 +2,7 @@ use Rattle.std.proofs.Common.{◌<◌, ◌∙◌, ap, sym, arith, Some, None, ma
 use Rattle.std.proofs.lemmas.List.Elements.{All-same}
 use Rattle.std.proofs.lemmas.List.{length-map}
 use Rattle.tb_build.specs.KeyRows.{KeyRows}
-use Rattle.tb_build.specs.Codes.{part_of}
+use Rattle.tb_build.specs.Promise.Codes.{part_of}
 use Rattle.tb_build.specs.Packed.{key_rows}
 use Rattle.tb_build.specs.TableView.{rows_at, tables_view}
 use Rattle.tb_build.proofs.PackedParts.{rows-in_part, rows-bare}

@@ -1,5 +1,5 @@
 use Rattle.std.proofs.Common.{◌≡◌, ◌+◌, ◌++◌, length, map, take}
-use Rattle.tb_value.specs.Datum.{struct, items_of}
+use Rattle.tb_value.specs.Promise.Datum.{struct, items_of}
 use Rattle.tb_cell.proofs.cell.FieldValuesCell.append_copies.Given as goal
 
 abbrev pub invariant-loop-fields : goal.invariant-loop-fields

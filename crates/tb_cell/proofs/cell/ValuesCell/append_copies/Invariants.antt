@@ -1,5 +1,5 @@
 use Rattle.std.proofs.Common.{◌≡◌, ◌+◌, ◌++◌, length, map, take}
-use Rattle.tb_value.specs.Datum.{list, items_of}
+use Rattle.tb_value.specs.Promise.Datum.{list, items_of}
 use Rattle.tb_cell.proofs.cell.ValuesCell.append_copies.Given as goal
 
 abbrev pub invariant-loop-values : goal.invariant-loop-values

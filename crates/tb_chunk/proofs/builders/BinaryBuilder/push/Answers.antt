@@ -1,9 +1,9 @@
 use Rattle.std.proofs.Common.{Some, map, refl, rules}
 use Rattle.std.specs.List.{All}
 use Rattle.std.proofs.lemmas.Result.{on_ok_weaker}
-use Rattle.tb_value.specs.Datum.{binary}
-use Rattle.tb_value.specs.Kind as kind
-use Rattle.tb_value.specs.Typed.{HasType, IsBytes}
+use Rattle.tb_value.specs.Promise.Datum.{binary}
+use Rattle.tb_value.specs.Promise.Kind as kind
+use Rattle.tb_value.specs.Promise.Typed.{HasType, IsBytes}
 use Rattle.tb_cell.specs.Shown.{or_null}
 use Rattle.tb_view.specs.Layout.{Building, with_row}
 use Rattle.tb_chunk.proofs.TypedRows.{holds_after, typed-push}

@@ -1,12 +1,13 @@
 use Rattle.std.proofs.Common.{arith, ◌≡◌, ◌≤◌, ◌∙◌, ℕ, List, Option, None, ap, sym, length, map, take}
 use Rattle.std.proofs.lemmas.List.{take_all}
-use Rattle.tb_value.specs.Datum.{Datum}
+use Rattle.tb_value.specs.Promise.Datum.{Datum}
 use Rattle.tb_value.specs.See.{datum, data_of}
 use Rattle.tb_value.specs.declared.any_value.AnyValue.{AnyValue}
 use Rattle.tb_cell.specs.Shown.{or_null}
 use Rattle.tb_cell.specs.Fits.{Fits}
-use Rattle.tb_chunk.specs.Fresh.{fresh_view_array, no_views}
-use Rattle.tb_value.specs.Texts.{text_of}
+use Rattle.tb_chunk.specs.Promise.Fresh.{fresh_view_array}
+use Rattle.tb_chunk.specs.Fresh.{no_views}
+use Rattle.tb_value.specs.Promise.Texts.{text_of}
 use Rattle.tb_chunk.proofs.Fresh.{fresh_cells}
 use Rattle.tb_chunk.proofs.Lists.{All-map-at}
 use Rattle.tb_chunk.proofs.cells.CellsChunk.from_values.Goals as goal

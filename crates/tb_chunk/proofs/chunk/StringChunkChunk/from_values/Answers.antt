@@ -1,7 +1,7 @@
 use Rattle.std.proofs.Common.{◌∙◌, ap, map}
-use Rattle.tb_value.specs.Datum.{string}
+use Rattle.tb_value.specs.Promise.Datum.{string}
 use Rattle.tb_cell.specs.Shown.{or_null}
-use Rattle.tb_view.specs.Layout.{text_view_array}
+use Rattle.tb_view.specs.Promise.Layout.{text_view_array}
 use Rattle.tb_chunk.proofs.Fresh.{texts_among}
 use Rattle.tb_chunk.proofs.Rows.{all_strings, all_utf8}
 use Rattle.tb_chunk.proofs.chunk.StringChunkChunk.from_values.Goals as goal

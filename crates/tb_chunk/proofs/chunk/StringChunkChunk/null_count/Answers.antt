@@ -1,5 +1,5 @@
 use Rattle.std.proofs.Common.{◌∙◌, sym, refl}
-use Rattle.tb_value.specs.Datum.{string}
+use Rattle.tb_value.specs.Promise.Datum.{string}
 use Rattle.tb_chunk.proofs.Rows.{nulls_of_texts}
 use Rattle.tb_chunk.proofs.chunk.StringChunkChunk.null_count.Goals as goal
 

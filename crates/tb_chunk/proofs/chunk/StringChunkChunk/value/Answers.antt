@@ -1,7 +1,7 @@
 use Rattle.std.proofs.Common.{arith, ◌∙◌, ◌<◌, ap, sym, length}
 use Rattle.std.specs.Option.{option_map}
 use Rattle.std.proofs.lemmas.List.{length-map}
-use Rattle.tb_value.specs.Datum.{string}
+use Rattle.tb_value.specs.Promise.Datum.{string}
 use Rattle.tb_cell.specs.Shown.{or_null}
 use Rattle.tb_view.specs.View.{texts}
 use Rattle.tb_chunk.proofs.Rows.{IsUtf8-at}

@@ -1,6 +1,6 @@
 use Rattle.std.proofs.Common.{arith, ◌≡◌, ◌≤◌, ◌+◌, ◌∙◌, ◌++◌, Option, None, ap, length, replicate, sym}
 use Rattle.std.proofs.lemmas.List.{length-replicate}
-use Rattle.tb_value.specs.Datum.{null}
+use Rattle.tb_value.specs.Promise.Datum.{null}
 use Rattle.tb_view.specs.declared.view.View.{View}
 use Rattle.tb_chunk.proofs.PlainRows.{all_equal, equal_more, equal_part}
 use Rattle.tb_chunk.proofs.chunk.UsizeChunk.append_block.Goals as goal

@@ -1,13 +1,13 @@
 use Rattle.std.proofs.Common.{◌≡◌, ◌∙◌, [], List, None, ap, sym, length, replicate}
 use Rattle.std.specs.List.{All}
 use Rattle.std.proofs.lemmas.List.{length-map}
-use Rattle.tb_value.specs.Datum.{null}
+use Rattle.tb_value.specs.Promise.Datum.{null}
 use Rattle.tb_value.specs.See.{datum, data_of}
-use Rattle.tb_value.specs.Kind as kind
+use Rattle.tb_value.specs.Promise.Kind as kind
 use Rattle.std.proofs.lemmas.List.Elements.{All-weaker}
 use Rattle.tb_cell.specs.Fits.{Fits}
 use Rattle.tb_value.specs.declared.any_value.AnyValue.{AnyValue}
-use Rattle.tb_chunk.specs.Fresh.{fresh_view_array}
+use Rattle.tb_chunk.specs.Promise.Fresh.{fresh_view_array}
 use Rattle.tb_chunk.proofs.Fresh.{fresh_nulls}
 use Rattle.tb_cell.proofs.Fitting.{null-only}
 use Rattle.tb_chunk.proofs.Lists.{replicate-nulls}

@@ -1,7 +1,7 @@
 use Rattle.std.proofs.Common.{◌∙◌, ap, map}
-use Rattle.tb_value.specs.Datum.{binary}
+use Rattle.tb_value.specs.Promise.Datum.{binary}
 use Rattle.tb_cell.specs.Shown.{or_null}
-use Rattle.tb_view.specs.Layout.{text_view_array}
+use Rattle.tb_view.specs.Promise.Layout.{text_view_array}
 use Rattle.tb_chunk.proofs.Fresh.{texts_among}
 use Rattle.tb_chunk.proofs.Rows.{all_binaries}
 use Rattle.tb_chunk.proofs.owned_chunks.BinaryChunkChunk.from_values.Goals as goal

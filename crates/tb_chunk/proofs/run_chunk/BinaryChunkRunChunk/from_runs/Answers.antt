@@ -1,6 +1,6 @@
 use Rattle.std.proofs.Common.{◌∙◌, ap, map}
-use Rattle.tb_value.specs.Datum.{binary}
-use Rattle.tb_value.specs.Kind as kind
+use Rattle.tb_value.specs.Promise.Datum.{binary}
+use Rattle.tb_value.specs.Promise.Kind as kind
 use Rattle.tb_cell.specs.Shown.{or_null}
 use Rattle.tb_view.specs.RunViews.{data_runs}
 use Rattle.tb_chunk.specs.RunLayout.{expansion}

@@ -1,6 +1,6 @@
 use Rattle.std.proofs.Common.{arith, ◌≡◌, ◌≤◌, ◌++◌, ◌∙◌, ℕ, List, Option, ap, length, map, replicate, sym, take}
 use Rattle.std.proofs.lemmas.List.{take_all}
-use Rattle.tb_value.specs.Datum.{Datum}
+use Rattle.tb_value.specs.Promise.Datum.{Datum}
 use Rattle.tb_value.specs.See.{datum}
 use Rattle.tb_value.specs.declared.any_value.AnyValue.{AnyValue}
 use Rattle.tb_cell.specs.Shown.{or_null}

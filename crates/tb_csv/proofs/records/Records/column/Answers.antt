@@ -2,10 +2,10 @@ use Rattle.std.proofs.Common.{arith, ◌≡◌, ◌<◌, ◌+◌, ◌*◌, ◌�
 use Rattle.std.proofs.lemmas.Nat.{mul-add-lt}
 use Rattle.std.proofs.lemmas.List.{length-append, map_push}
 use Rattle.std.proofs.lemmas.List.FromFn.{map-range_with_len_more}
-use Rattle.tb_value.specs.Pairs.{row_numbers}
+use Rattle.tb_value.specs.Promise.Pairs.{row_numbers}
 use Rattle.csv.specs.Records.{fields_of}
 use Rattle.tb_csv.specs.Read.{fields_read}
-use Rattle.tb_csv.specs.Records.{Field}
+use Rattle.tb_csv.specs.Promise.Records.{Field}
 use Rattle.tb_csv.proofs.ReadRecords.{field_there}
 use Rattle.tb_csv.proofs.RecordWalks.{column_of, past}
 use Rattle.tb_csv.proofs.records.Records.column.Goals as goal

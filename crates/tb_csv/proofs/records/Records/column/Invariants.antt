@@ -1,5 +1,5 @@
 use Rattle.std.proofs.Common.{◌≡◌, ◌+◌, ◌*◌, None, map, get_or, length}
-use Rattle.tb_value.specs.Pairs.{row_numbers}
+use Rattle.tb_value.specs.Promise.Pairs.{row_numbers}
 use Rattle.tb_csv.specs.Read.{fields_read, lent_fields}
 use Rattle.tb_csv.proofs.records.Records.column.Given as goal
 

@@ -1,7 +1,7 @@
 use Rattle.std.proofs.Common.{◌<◌, ℕ, List, length, ap, sym, subst, arith}
 use Rattle.std.specs.Prelude.{All}
-use Rattle.tb_chunk.specs.Col.{Col}
-use Rattle.tb_frame.specs.Table.{height, table_of}
+use Rattle.tb_chunk.specs.Promise.Col.{Col}
+use Rattle.tb_frame.specs.Promise.Table.{height, table_of}
 use Rattle.tb_frame.proofs.Ranges.{All-cut}
 use Rattle.tb_dispatch.proofs.Cuts.{cut_short, few_risen}
 use Rattle.tb_dispatch.proofs.dispatch.JoinDispatch._finish_anti_semi_join.Goals as goal

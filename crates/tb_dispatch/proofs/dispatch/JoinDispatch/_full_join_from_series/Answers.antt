@@ -1,11 +1,11 @@
 use Rattle.std.proofs.Common.{◌∷◌, List, ap, sym, subst}
 use Rattle.std.specs.Prelude.{IfOk}
-use Rattle.tb_value.specs.Refusals.{first_cause}
-use Rattle.tb_chunk.specs.Col.{Col}
+use Rattle.tb_value.specs.Promise.Refusals.{first_cause}
+use Rattle.tb_chunk.specs.Promise.Col.{Col}
 use Rattle.tb_frame.specs.declared.args.JoinType.TheVariants.{Full}
-use Rattle.tb_frame.specs.Join.{IsAnswer}
-use Rattle.tb_frame.specs.Refusal.{repeated_name, row_causes}
-use Rattle.tb_frame.specs.Table.{table_of}
+use Rattle.tb_frame.specs.Promise.Join.{IsAnswer}
+use Rattle.tb_frame.specs.Promise.Refusal.{repeated_name, row_causes}
+use Rattle.tb_frame.specs.Promise.Table.{table_of}
 use Rattle.tb_join.proofs.Finishing.{settled}
 use Rattle.tb_dispatch.specs.Given.{CanCoalesce, StandBeside, by_series}
 use Rattle.tb_dispatch.proofs.dispatch.JoinDispatch._full_join_from_series.Goals as goal

@@ -1,10 +1,10 @@
 use Rattle.std.proofs.Common.{◌∙◌, ◌<◌, ℕ, List, map, sym, subst}
 use Rattle.std.specs.Prelude.{All}
 use Rattle.std.proofs.lemmas.Result.{IfOk-weaker}
-use Rattle.tb_chunk.specs.Col.{Col}
+use Rattle.tb_chunk.specs.Promise.Col.{Col}
 use Rattle.tb_frame.specs.Frame.{taken_rows}
-use Rattle.tb_frame.specs.Join.{IsAnswer, cut}
-use Rattle.tb_frame.specs.Table.{IsTable, height, table_of}
+use Rattle.tb_frame.specs.Promise.Join.{IsAnswer, cut}
+use Rattle.tb_frame.specs.Promise.Table.{IsTable, height, table_of}
 use Rattle.tb_dispatch.specs.Given.{by_match}
 use Rattle.tb_dispatch.specs.Rows.{Rise}
 use Rattle.tb_dispatch.proofs.Alone.{alone_answer, rise, within}

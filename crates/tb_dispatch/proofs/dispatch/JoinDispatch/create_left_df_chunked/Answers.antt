@@ -2,7 +2,7 @@ use Rattle.std.proofs.Common.{◌∙◌, List, map, sym, subst, arith}
 use Rattle.std.specs.Prelude.{All}
 use Rattle.std.proofs.lemmas.Result.{IfOk-weaker}
 use Rattle.tb_value.specs.declared.sorted.IsSorted.{IsSorted}
-use Rattle.tb_chunk.specs.Col.{Col}
+use Rattle.tb_chunk.specs.Promise.Col.{Col}
 use Rattle.tb_gather.specs.Gathered.{NameRows, gathered_column}
 use Rattle.tb_gather.specs.Ids.{StandInOrder}
 use Rattle.tb_dispatch.proofs.dispatch.JoinDispatch.create_left_df_chunked.Goals as goal

@@ -1,9 +1,10 @@
 use Rattle.std.proofs.Common.{List, ap, sym, subst}
 use Rattle.std.specs.Prelude.{IfOk}
-use Rattle.tb_chunk.specs.Col.{Col}
-use Rattle.tb_frame.specs.Join.{IsAnswer, CoalescesAlike}
+use Rattle.tb_chunk.specs.Promise.Col.{Col}
+use Rattle.tb_frame.specs.Promise.Join.{IsAnswer}
+use Rattle.tb_frame.specs.Join.{CoalescesAlike}
 use Rattle.tb_frame.specs.Refusal.{given_refusal}
-use Rattle.tb_frame.specs.Table.{table_of}
+use Rattle.tb_frame.specs.Promise.Table.{table_of}
 use Rattle.tb_join.proofs.Finishing.{settled}
 use Rattle.tb_dispatch.specs.Given.{given_request}
 use Rattle.tb_dispatch.proofs.given.GivenJoin._join_impl.Goals as goal

@@ -1,6 +1,6 @@
 use Rattle.std.proofs.Common.{◌≡◌, drop}
-use Rattle.tb_frame.specs.Table.{table_of}
-use Rattle.tb_dummies.specs.Dummies.{header_cause}
+use Rattle.tb_frame.specs.Promise.Table.{table_of}
+use Rattle.tb_dummies.specs.Promise.Dummies.{header_cause}
 use Rattle.tb_dummies.specs.Lent.{is_in}
 use Rattle.tb_dummies.proofs.replaced.Replaced.check_types.Given as goal
 

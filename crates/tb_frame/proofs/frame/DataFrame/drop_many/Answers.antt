@@ -1,7 +1,7 @@
 use Rattle.std.proofs.Common.{not, ap, sym, ◌∙◌, subst}
-use Rattle.tb_frame.specs.Table.{Table, table_of, IsTable}
+use Rattle.tb_frame.specs.Promise.Table.{Table, table_of, IsTable}
 use Rattle.tb_frame.specs.Frame.{without_names}
-use Rattle.tb_frame.specs.Naming.{is_among}
+use Rattle.tb_frame.specs.Promise.Naming.{is_among}
 use Rattle.tb_frame.proofs.Frames.{IsTable-where, without-table}
 use Rattle.tb_frame.proofs.frame.DataFrame.drop_many.Goals as goal
 

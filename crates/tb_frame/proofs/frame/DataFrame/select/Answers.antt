@@ -1,12 +1,12 @@
 use Rattle.std.proofs.Common.{◌≡◌, ◌∙◌, List, ap, subst, sym, Option, None}
-use Rattle.tb_value.specs.Names.{Name}
+use Rattle.tb_value.specs.Promise.Names.{Name}
 use Rattle.tb_value.specs.Refusals.{Settles}
 use Rattle.tb_value.specs.declared.error.PolarsError.{PolarsError}
 use Rattle.tb_value.specs.declared.error.PolarsError.TheVariants.{ColumnNotFound}
-use Rattle.tb_chunk.specs.Col.{Col}
-use Rattle.tb_frame.specs.Table.{table_of, IsTable}
+use Rattle.tb_chunk.specs.Promise.Col.{Col}
+use Rattle.tb_frame.specs.Promise.Table.{table_of, IsTable}
 use Rattle.tb_frame.specs.Frame.{frame_refusal, select_refusal}
-use Rattle.tb_frame.specs.Refusal.{first_unknown}
+use Rattle.tb_frame.specs.Promise.Refusal.{first_unknown}
 use Rattle.tb_frame.proofs.Causes.{map_none}
 use Rattle.tb_frame.proofs.Selected.{select_refused}
 use Rattle.tb_frame.proofs.frame.DataFrame.select.Goals as goal

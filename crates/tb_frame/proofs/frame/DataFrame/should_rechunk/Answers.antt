@@ -1,7 +1,7 @@
 use Rattle.std.proofs.Common.{◌≡◌, ◌∙◌, ◌↔◌, List, IsTrue, ap, subst}
 use Rattle.std.specs.Prelude.{All}
 use Rattle.std.specs.List.{slice_get}
-use Rattle.tb_chunk.specs.Col.{Col}
+use Rattle.tb_chunk.specs.Promise.Col.{Col}
 use Rattle.tb_frame.specs.Frame.{lens, AreCutAlike}
 use Rattle.tb_frame.proofs.Cuts.{alike-by_first, not-alike}
 use Rattle.tb_frame.proofs.frame.DataFrame.should_rechunk.Goals as goal

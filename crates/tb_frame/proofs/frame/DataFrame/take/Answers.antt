@@ -1,7 +1,7 @@
 use Rattle.std.proofs.Common.{List, ◌<◌, map, ap, sym, ◌∙◌, subst, length}
 use Rattle.std.specs.Prelude.{All}
-use Rattle.tb_chunk.specs.Col.{Col, values}
-use Rattle.tb_frame.specs.Table.{table_of, height, IsTable}
+use Rattle.tb_chunk.specs.Promise.Col.{Col, values}
+use Rattle.tb_frame.specs.Promise.Table.{table_of, height, IsTable}
 use Rattle.tb_frame.specs.Frame.{taken_rows}
 use Rattle.tb_frame.proofs.Taking.{rows_in_columns, IsTable-taken}
 use Rattle.tb_frame.proofs.frame.DataFrame.take.Goals as goal

@@ -1,8 +1,8 @@
 use Rattle.std.proofs.Common.{List, map, ap, sym, ◌∙◌, subst, length}
 use Rattle.std.specs.Prelude.{All}
-use Rattle.tb_chunk.specs.Col.{Col, values}
+use Rattle.tb_chunk.specs.Promise.Col.{Col, values}
 use Rattle.tb_chunk.specs.Rows.{IsRowOf}
-use Rattle.tb_frame.specs.Table.{table_of, height, IsTable}
+use Rattle.tb_frame.specs.Promise.Table.{table_of, height, IsTable}
 use Rattle.tb_frame.specs.Frame.{opt_taken_rows}
 use Rattle.tb_frame.proofs.Taking.{rows_or_none, IsTable-opt_taken}
 use Rattle.tb_frame.proofs.frame.DataFrame.take_opt.Goals as goal

@@ -1,6 +1,6 @@
 use Rattle.std.proofs.Common.{◌||◌, true, cond, ap, ◌∙◌}
 use Rattle.std.proofs.lemmas.Map.Text.{is_eq-slice_cmp}
-use Rattle.tb_value.specs.Names.{Name, same_name}
+use Rattle.tb_value.specs.Promise.Names.{Name, same_name}
 use Rattle.tb_frame.specs.NameSets.{has_name}
 use Rattle.tb_frame.proofs.Conds.{cond_or}
 use Rattle.tb_frame.proofs.names.NameSet.insert.Goals as goal

@@ -1,8 +1,8 @@
 use Rattle.std.proofs.Common.{[], ◌∷◌, ◌++◌, map, ap, sym, ◌∙◌}
 use Rattle.std.proofs.lemmas.List.{map-append}
-use Rattle.tb_value.specs.Pairs.{row_numbers}
+use Rattle.tb_value.specs.Promise.Pairs.{row_numbers}
 use Rattle.tb_value.proofs.RowNumbers.{row_numbers_more}
-use Rattle.tb_frame.specs.Join.{flag_at}
+use Rattle.tb_frame.specs.Promise.Join.{flag_at}
 use Rattle.tb_frame.proofs.null_flags.JoinNulls.flags.Goals as goal
 
 pub loop-place-preserved : goal.loop-place-preserved

@@ -1,6 +1,6 @@
 use Rattle.std.proofs.Common.{◌≡◌, map}
-use Rattle.tb_value.specs.Pairs.{row_numbers}
-use Rattle.tb_frame.specs.Join.{flag_at}
+use Rattle.tb_value.specs.Promise.Pairs.{row_numbers}
+use Rattle.tb_frame.specs.Promise.Join.{flag_at}
 use Rattle.tb_frame.proofs.null_flags.JoinNulls.flags.Given as goal
 
 -- the flags of the places so far

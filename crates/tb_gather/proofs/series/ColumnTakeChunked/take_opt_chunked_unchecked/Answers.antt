@@ -1,6 +1,6 @@
 use Rattle.std.proofs.Common.{◌∷◌, [], sym, subst, arith}
 use Rattle.std.specs.List.{All}
-use Rattle.tb_chunk.specs.Col.{Col}
+use Rattle.tb_chunk.specs.Promise.Col.{Col}
 use Rattle.tb_gather.specs.Gathered.{NameRows}
 use Rattle.tb_gather.proofs.series.ColumnTakeChunked.take_opt_chunked_unchecked.Goals as goal
 

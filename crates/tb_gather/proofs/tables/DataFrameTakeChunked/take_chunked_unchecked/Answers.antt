@@ -1,7 +1,7 @@
 use Rattle.std.proofs.Common.{arith, List, map, ap, sym, subst, ◌∙◌}
 use Rattle.std.specs.List.{All}
-use Rattle.tb_chunk.specs.Col.{Col}
-use Rattle.tb_frame.specs.Table.{table_of, IsTable}
+use Rattle.tb_chunk.specs.Promise.Col.{Col}
+use Rattle.tb_frame.specs.Promise.Table.{table_of, IsTable}
 use Rattle.tb_gather.specs.declared.keep.Keep.TheVariants.{Used}
 use Rattle.tb_gather.specs.Gathered.{NameRows, gathered_column}
 use Rattle.tb_gather.proofs.Flags.{are-run}

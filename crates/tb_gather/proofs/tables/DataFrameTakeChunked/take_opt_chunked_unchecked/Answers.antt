@@ -1,8 +1,8 @@
 use Rattle.std.proofs.Common.{◌≡◌, arith, List, map, ap, sym, subst, ◌∙◌}
 use Rattle.std.specs.List.{All}
 use Rattle.std.proofs.lemmas.Result.{IfOk-weaker}
-use Rattle.tb_chunk.specs.Col.{Col}
-use Rattle.tb_frame.specs.Table.{table_of, IsTable}
+use Rattle.tb_chunk.specs.Promise.Col.{Col}
+use Rattle.tb_frame.specs.Promise.Table.{table_of, IsTable}
 use Rattle.tb_value.specs.declared.sorted.IsSorted.TheVariants.{Not}
 use Rattle.tb_gather.specs.declared.keep.Keep.TheVariants.{Used}
 use Rattle.tb_gather.specs.Gathered.{NameRows, gathered_column}

@@ -1,10 +1,10 @@
 use Rattle.std.proofs.Common.{List, subst}
 use Rattle.std.specs.Prelude.{IfOk}
-use Rattle.tb_chunk.specs.Col.{Col}
-use Rattle.tb_pairs.specs.Trace.{IsTraced}
-use Rattle.tb_join.specs.Traced.{named_trace}
+use Rattle.tb_chunk.specs.Promise.Col.{Col}
+use Rattle.tb_pairs.specs.Promise.Trace.{IsTraced}
+use Rattle.tb_join.specs.Promise.Traced.{named_trace}
 use Rattle.tb_frame.specs.Join.{lent_request}
-use Rattle.tb_frame.specs.Refusal.{join_refusal}
+use Rattle.tb_frame.specs.Promise.Refusal.{join_refusal}
 use Rattle.tb_join.proofs.Finishing.{settled}
 use Rattle.tb_join.proofs.frame_join.DataFrameJoinOps.join_traced.Goals as goal
 

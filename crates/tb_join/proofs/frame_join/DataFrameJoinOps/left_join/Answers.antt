@@ -1,7 +1,7 @@
 use Rattle.std.proofs.Common.{ap}
 use Rattle.tb_frame.specs.declared.args.JoinArgs.{JoinArgs}
 use Rattle.tb_frame.specs.Join.{lent_request}
-use Rattle.tb_frame.specs.Refusal.{join_refusal}
+use Rattle.tb_frame.specs.Promise.Refusal.{join_refusal}
 use Rattle.tb_join.proofs.Finishing.{settled}
 use Rattle.tb_join.proofs.frame_join.DataFrameJoinOps.left_join.Goals as goal
 

@@ -2,7 +2,7 @@ use Rattle.std.proofs.Common.{◌≡◌, ◌∙◌, ap, sym, subst, arith, true,
 use Rattle.std.specs.Prelude.{nat_eq}
 use Rattle.std.specs.Cmp.Lexicographic.{pointwise}
 use Rattle.std.proofs.lemmas.List.{length-map, get_or-map}
-use Rattle.tb_value.specs.Datum.{binary}
+use Rattle.tb_value.specs.Promise.Datum.{binary}
 use Rattle.tb_chunk.specs.Chunk.{or_null}
 use Rattle.tb_build.specs.Keys.{keys_match}
 use Rattle.tb_build.specs.declared.keys.KeyBytes.{KeyBytes}

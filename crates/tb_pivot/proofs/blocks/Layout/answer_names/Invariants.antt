@@ -1,6 +1,6 @@
 use Rattle.std.proofs.Common.{◌≡◌, ◌++◌, Bor, map, take}
 use Rattle.std.specs.List.{flat_map}
-use Rattle.tb_chunk.specs.Col.{Col}
+use Rattle.tb_chunk.specs.Promise.Col.{Col}
 use Rattle.tb_pivot.specs.Layout.{block_names}
 use Rattle.tb_pivot.proofs.blocks.Layout.answer_names.Given as goal
 

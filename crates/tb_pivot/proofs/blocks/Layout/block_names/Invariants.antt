@@ -1,5 +1,5 @@
 use Rattle.std.proofs.Common.{◌≡◌, length, map, take}
-use Rattle.tb_pivot.specs.Headers.{block_name}
+use Rattle.tb_pivot.specs.Promise.Headers.{block_name}
 use Rattle.tb_pivot.proofs.blocks.Layout.block_names.Given as goal
 
 abbrev pub invariant-loop-text : goal.invariant-loop-text

@@ -1,5 +1,5 @@
 use Rattle.std.proofs.Common.{◌≡◌, IfOk, subst}
-use Rattle.tb_frame.specs.Table.{Table, table_of}
+use Rattle.tb_frame.specs.Promise.Table.{Table, table_of}
 use Rattle.tb_pivot.proofs.Columns.{whole_block}
 use Rattle.tb_pivot.proofs.blocks.Layout.block_of_chunks.Goals as goal
 

@@ -1,10 +1,10 @@
 use Rattle.std.proofs.Common.{◌≡◌, ◌∙◌, ◌<◌, ◌++◌, ◌∷◌, [], List, append-nil, get_or, length, ap, subst, sym, map, take, arith}
 use Rattle.std.specs.List.{flat_map}
 use Rattle.std.proofs.lemmas.List.{flat_map_more, take_all, take_more}
-use Rattle.tb_chunk.specs.Col.{values}
+use Rattle.tb_chunk.specs.Promise.Col.{values}
 use Rattle.tb_chunk.specs.Lent.{lent_columns}
 use Rattle.tb_frame.specs.Frame.{taken_rows}
-use Rattle.tb_frame.specs.Table.{Table, TableColumn, table_of}
+use Rattle.tb_frame.specs.Promise.Table.{Table, TableColumn, table_of}
 use Rattle.tb_pivot.specs.Layout.{laid_block}
 use Rattle.tb_pivot.specs.declared.blocks.GroupValues.{GroupValues}
 use Rattle.tb_pivot.proofs.blocks.Layout.columns.Goals as goal

@@ -2,7 +2,7 @@ use Rattle.std.proofs.Common.{◌≡◌, ◌++◌, take, map}
 use Rattle.std.specs.List.{flat_map}
 use Rattle.tb_chunk.specs.Lent.{lent_columns}
 use Rattle.tb_frame.specs.Frame.{taken_rows}
-use Rattle.tb_frame.specs.Table.{table_of}
+use Rattle.tb_frame.specs.Promise.Table.{table_of}
 use Rattle.tb_pivot.specs.Layout.{laid_block}
 use Rattle.tb_pivot.specs.declared.blocks.GroupValues.{GroupValues}
 use Rattle.tb_pivot.proofs.blocks.Layout.columns.Given as goal

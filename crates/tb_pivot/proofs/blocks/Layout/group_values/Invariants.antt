@@ -1,6 +1,6 @@
 use Rattle.std.proofs.Common.{◌≡◌, drop, take, map}
 use Rattle.std.specs.List.{All}
-use Rattle.tb_value.specs.Refusals.{first_cause}
+use Rattle.tb_value.specs.Promise.Refusals.{first_cause}
 use Rattle.tb_chunk.specs.Lent.{lent_columns}
 use Rattle.tb_pivot.specs.Made.{made_cause, IsMade}
 use Rattle.tb_pivot.specs.declared.blocks.GroupValues.{GroupValues}

@@ -1,4 +1,4 @@
-use Rattle.tb_frame.specs.Table.{plain_column}
+use Rattle.tb_frame.specs.Promise.Table.{plain_column}
 use Rattle.tb_pivot.specs.Layout.{header_column}
 use Rattle.tb_pivot.proofs.Columns.{number_more}
 use Rattle.tb_pivot.proofs.blocks.Layout.header_columns.Goals as goal

@@ -1,6 +1,6 @@
 use Rattle.std.proofs.Common.{◌≡◌, map}
-use Rattle.tb_value.specs.Pairs.{row_numbers}
-use Rattle.tb_frame.specs.Table.{table_of}
+use Rattle.tb_value.specs.Promise.Pairs.{row_numbers}
+use Rattle.tb_frame.specs.Promise.Table.{table_of}
 use Rattle.tb_pivot.specs.Layout.{header_column}
 use Rattle.tb_pivot.proofs.blocks.Layout.header_columns.Given as goal
 

@@ -1,5 +1,5 @@
 use Rattle.std.proofs.Common.{◌≡◌, Bor, map, take}
-use Rattle.tb_chunk.specs.Col.{Col}
+use Rattle.tb_chunk.specs.Promise.Col.{Col}
 use Rattle.tb_pivot.proofs.blocks.Layout.index_names.Given as goal
 
 abbrev pub invariant-loop-column : goal.invariant-loop-column

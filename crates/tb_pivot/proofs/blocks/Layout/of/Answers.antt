@@ -1,6 +1,6 @@
 use Rattle.std.proofs.Common.{◌<◌, Bor, List, ℕ, length, subst, sym}
 use Rattle.std.specs.List.{All}
-use Rattle.tb_chunk.specs.Col.{Col, values}
+use Rattle.tb_chunk.specs.Promise.Col.{Col, values}
 use Rattle.tb_pivot.proofs.Cell.{headers_low}
 use Rattle.tb_pivot.proofs.Columns.{each_has}
 use Rattle.tb_pivot.proofs.blocks.Layout.of.Goals as goal

@@ -1,5 +1,5 @@
 use Rattle.std.proofs.Common.{◌∙◌, ap, length}
-use Rattle.tb_chunk.specs.Col.{values}
+use Rattle.tb_chunk.specs.Promise.Col.{values}
 use Rattle.tb_pivot.proofs.Cell.{grid_long, under_within}
 use Rattle.tb_pivot.proofs.cells.Cells.column.Goals as goal
 

@@ -1,6 +1,6 @@
 use Rattle.std.proofs.Common.{◌++◌}
 use Rattle.tb_chunk.specs.Lent.{lent_columns}
-use Rattle.tb_frame.specs.Table.{table_of}
+use Rattle.tb_frame.specs.Promise.Table.{table_of}
 use Rattle.tb_pivot.proofs.Alike.{firsts_fit, groups_fit, others_fit}
 use Rattle.tb_pivot.proofs.cells.Cells.grid.Goals as goal
 

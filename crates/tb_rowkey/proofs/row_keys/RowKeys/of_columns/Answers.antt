@@ -3,11 +3,12 @@ use Rattle.std.specs.Prelude.{◌↔◌, IfSome, IsSome}
 use Rattle.std.specs.List.{All}
 use Rattle.std.proofs.lemmas.List.{length-map}
 use Rattle.std.proofs.lemmas.Result.{IfOk-weaker}
-use Rattle.tb_value.specs.Datum.{binary}
+use Rattle.tb_value.specs.Promise.Datum.{binary}
 use Rattle.tb_chunk.specs.Chunk.{or_null}
-use Rattle.tb_chunk.specs.Col.{Col, values}
+use Rattle.tb_chunk.specs.Promise.Col.{Col, values}
 use Rattle.tb_chunk.specs.Lent.{in_one_chunk}
-use Rattle.tb_rowkey.specs.Columns.{lent_columns, flag_of, row_count, AreShortRows, keys_at}
+use Rattle.tb_rowkey.specs.Promise.Columns.{row_count, keys_at}
+use Rattle.tb_rowkey.specs.Columns.{lent_columns, flag_of, AreShortRows}
 use Rattle.tb_rowkey.proofs.WholeColumns.{whole, whole_rows, whole_short, whole_short_back, whole_keys}
 use Rattle.tb_rowkey.proofs.Written.{some_weaker}
 use Rattle.tb_rowkey.proofs.row_keys.RowKeys.of_columns.Goals as goal

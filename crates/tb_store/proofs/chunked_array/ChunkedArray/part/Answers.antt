@@ -1,6 +1,7 @@
 use Rattle.std.proofs.Common.{◌∙◌, ap, append-nil, refl, map, take, drop, ◌∷◌, []}
 use Rattle.tb_value.specs.SeeKind.{kind_of}
-use Rattle.tb_chunk.specs.Col.{Col, concatenation, physical}
+use Rattle.tb_chunk.specs.Promise.Col.{Col, concatenation}
+use Rattle.tb_chunk.specs.Col.{physical}
 use Rattle.tb_chunk.specs.ViewArrays.{all_buffers, view_arrays_of}
 use Rattle.tb_store.proofs.Columns.{part_column}
 use Rattle.tb_store.proofs.chunked_array.ChunkedArray.part.Goals as goal

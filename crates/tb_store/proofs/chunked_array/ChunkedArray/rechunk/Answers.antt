@@ -1,5 +1,5 @@
 use Rattle.std.proofs.Common.{◌≡◌, IfOk, subst}
-use Rattle.tb_chunk.specs.Col.{Col}
+use Rattle.tb_chunk.specs.Promise.Col.{Col}
 use Rattle.tb_store.proofs.Columns.{part-all}
 use Rattle.tb_store.proofs.chunked_array.ChunkedArray.rechunk.Goals as goal
 

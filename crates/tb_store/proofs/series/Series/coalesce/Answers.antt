@@ -1,5 +1,5 @@
 use Rattle.std.proofs.Common.{◌∙◌, refl, ◌∷◌, []}
-use Rattle.tb_chunk.specs.Col.{concatenation}
+use Rattle.tb_chunk.specs.Promise.Col.{concatenation}
 use Rattle.tb_chunk.specs.Coalesced.{coalesced_values}
 use Rattle.tb_chunk.proofs.CoalescedLists.{merged_column}
 use Rattle.tb_store.proofs.Columns.{one_alone}

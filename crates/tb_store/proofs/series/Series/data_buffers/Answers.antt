@@ -1,5 +1,6 @@
 use Rattle.std.proofs.Common.{arith, ◌∙◌, ap, inl, inr, ℕ, List, length}
-use Rattle.tb_chunk.specs.Col.{Col, physical}
+use Rattle.tb_chunk.specs.Promise.Col.{Col}
+use Rattle.tb_chunk.specs.Col.{physical}
 use Rattle.tb_chunk.specs.ChunkViewArrays.{chunk_view_arrays}
 use Rattle.tb_store.proofs.ChunkTexts.{few_in_run}
 use Rattle.tb_store.proofs.series.Series.data_buffers.Goals as goal

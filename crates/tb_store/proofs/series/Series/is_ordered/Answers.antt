@@ -1,7 +1,7 @@
 use Rattle.std.proofs.Common.{◌∙◌, ap, sym}
-use Rattle.tb_value.specs.SameKind.{is_key}
-use Rattle.tb_chunk.specs.Order.{keeps_order}
-use Rattle.tb_chunk.specs.Col.{concatenation, values}
+use Rattle.tb_value.specs.Promise.SameKind.{is_key}
+use Rattle.tb_cell.specs.Promise.Order.{keeps_order}
+use Rattle.tb_chunk.specs.Promise.Col.{concatenation, values}
 use Rattle.tb_chunk.proofs.Follow.{keeps_order_decides}
 use Rattle.tb_store.proofs.series.Series.is_ordered.Goals as goal
 

@@ -1,5 +1,5 @@
 use Rattle.std.proofs.Common.{subst}
-use Rattle.tb_chunk.specs.Col.{Col}
+use Rattle.tb_chunk.specs.Promise.Col.{Col}
 use Rattle.tb_chunk.specs.ViewArrays.{AreViewed}
 use Rattle.tb_chunk.proofs.ChunkViewArrays.{chunks_viewed}
 use Rattle.tb_store.proofs.series.Series.len.Goals as goal

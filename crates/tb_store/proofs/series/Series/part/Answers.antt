@@ -1,6 +1,7 @@
 use Rattle.std.proofs.Common.{arith, ◌∙◌, length, ap, refl, sym}
 use Rattle.tb_value.specs.SeeKind.{kind_of}
-use Rattle.tb_chunk.specs.Col.{Col, physical}
+use Rattle.tb_chunk.specs.Promise.Col.{Col}
+use Rattle.tb_chunk.specs.Col.{physical}
 use Rattle.tb_chunk.specs.ChunkViewArrays.{chunk_view_arrays}
 use Rattle.tb_chunk.specs.Seen.{chunk_lists}
 use Rattle.tb_chunk.proofs.ChunkViewArrays.{one_chunk_few}

@@ -1,5 +1,5 @@
 use Rattle.std.proofs.Common.{◌∙◌, ap, refl, map, ◌∷◌, []}
-use Rattle.tb_chunk.specs.Col.{concatenation}
+use Rattle.tb_chunk.specs.Promise.Col.{concatenation}
 use Rattle.tb_chunk.specs.Rows.{value_or_null}
 use Rattle.tb_store.proofs.Columns.{one_alone, picked_column}
 use Rattle.tb_store.proofs.series.Series.picked.Goals as goal

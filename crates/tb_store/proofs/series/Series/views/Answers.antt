@@ -1,7 +1,8 @@
 use Rattle.std.proofs.Common.{rules, ◌≡◌, ◌∙◌, ap, inl, inr, [], length, map, subst, get_or}
-use Rattle.tb_value.specs.Datum.{string}
+use Rattle.tb_value.specs.Promise.Datum.{string}
 use Rattle.tb_chunk.specs.Chunk.{or_null}
-use Rattle.tb_chunk.specs.Col.{Col, IsColumn, physical}
+use Rattle.tb_chunk.specs.Promise.Col.{Col}
+use Rattle.tb_chunk.specs.Col.{IsColumn, physical}
 use Rattle.tb_chunk.specs.TextValues.{text_values}
 use Rattle.tb_chunk.specs.View.{texts}
 use Rattle.tb_chunk.specs.ViewArrays.{view_array_at}

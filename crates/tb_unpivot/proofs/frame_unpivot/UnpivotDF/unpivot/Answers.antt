@@ -1,8 +1,8 @@
 use Rattle.std.proofs.Common.{◌≡◌, List, ap, subst}
 use Rattle.std.specs.Prelude.{IfOk, codes}
-use Rattle.tb_chunk.specs.Col.{Col}
-use Rattle.tb_frame.specs.Table.{Table, table_of}
-use Rattle.tb_unpivot.specs.Unpivot.{unpivot_refusal, unpivot_table}
+use Rattle.tb_chunk.specs.Promise.Col.{Col}
+use Rattle.tb_frame.specs.Promise.Table.{Table, table_of}
+use Rattle.tb_unpivot.specs.Promise.Unpivot.{unpivot_refusal, unpivot_table}
 use Rattle.tb_unpivot.proofs.Answered.{asked_of}
 use Rattle.tb_unpivot.proofs.Causes.{settled}
 use Rattle.tb_unpivot.proofs.frame_unpivot.UnpivotDF.unpivot.Goals as goal

@@ -1,7 +1,7 @@
 use Rattle.std.proofs.Common.{◌≡◌, subst}
 use Rattle.std.specs.Prelude.{IfOk}
-use Rattle.tb_frame.specs.Table.{Table, table_of}
-use Rattle.tb_unpivot.specs.Unpivot.{unpivot_refusal, unpivot_table}
+use Rattle.tb_frame.specs.Promise.Table.{Table, table_of}
+use Rattle.tb_unpivot.specs.Promise.Unpivot.{unpivot_refusal, unpivot_table}
 use Rattle.tb_unpivot.proofs.Answered.{asked_of}
 use Rattle.tb_unpivot.proofs.Causes.{settled}
 use Rattle.tb_unpivot.proofs.frame_unpivot.UnpivotDF.unpivot2.Goals as goal

@@ -1,6 +1,7 @@
 use Rattle.std.proofs.Common.{arith, ◌≡◌, ◌∙◌, ℕ, List, [], length, map, ap}
 use Rattle.std.proofs.lemmas.List.{length-map}
-use Rattle.tb_view.specs.Layout.{all_of, long_view}
+use Rattle.tb_view.specs.Promise.Layout.{long_view}
+use Rattle.tb_view.specs.Layout.{all_of}
 use Rattle.tb_view.proofs.Filled.{IsBehind, put_fits, put_passes}
 use Rattle.tb_view.proofs.filling.Filling.put.Goals as goal
 

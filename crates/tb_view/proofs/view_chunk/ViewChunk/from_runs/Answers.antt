@@ -3,9 +3,10 @@ use Rattle.std.proofs.lemmas.List.{take_all}
 use Rattle.std.proofs.lemmas.Result.{IfOk-weaker}
 use Rattle.tb_value.specs.See.{datum}
 use Rattle.tb_value.specs.declared.any_value.AnyValue.{AnyValue}
-use Rattle.tb_view.specs.Layout.{Building, buffers_of}
+use Rattle.tb_view.specs.Promise.Layout.{buffers_of}
+use Rattle.tb_view.specs.Layout.{Building}
 use Rattle.tb_view.specs.RunViews.{data_runs, run_building, text_runs, with_run}
-use Rattle.tb_value.specs.Texts.{text_of}
+use Rattle.tb_value.specs.Promise.Texts.{text_of}
 use Rattle.tb_view.specs.View.{texts}
 use Rattle.tb_view.specs.declared.view_chunk.ViewChunk.{ViewChunk}
 use Rattle.tb_view.proofs.RunViews.{building_more}

@@ -3,8 +3,9 @@ use Rattle.std.proofs.lemmas.List.{map_more, take_all}
 use Rattle.std.proofs.lemmas.Result.{IfOk-weaker}
 use Rattle.tb_value.specs.See.{datum}
 use Rattle.tb_value.specs.declared.any_value.AnyValue.{AnyValue}
-use Rattle.tb_view.specs.Layout.{Building, buffers_of, building_of, text_view_array, with_row}
-use Rattle.tb_value.specs.Texts.{text_of}
+use Rattle.tb_view.specs.Promise.Layout.{buffers_of, text_view_array}
+use Rattle.tb_view.specs.Layout.{Building, building_of, with_row}
+use Rattle.tb_value.specs.Promise.Texts.{text_of}
 use Rattle.tb_view.specs.View.{texts}
 use Rattle.tb_view.specs.declared.view_chunk.ViewChunk.{ViewChunk}
 use Rattle.tb_view.proofs.Filled.{built-push}

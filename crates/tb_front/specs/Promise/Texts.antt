@@ -1,0 +1,39 @@
+-- The tables that texts are, and the texts of answers.
+use Rattle.std.specs.Prelude.{◌≡◌, ℕ, List, Result, Ok, Err, IfOk, encode_utf8_all}
+use Rattle.std.specs.declared.vec.Vec.{Vec}
+use Rattle.std.specs.declared.alloc.Global.{Global}
+use Rattle.tb_value.specs.declared.error.PolarsError.{PolarsError}
+use Rattle.tb_value.specs.declared.error.PolarsError.TheVariants as cause
+use Rattle.tb_chunk.specs.Promise.Col.{Col}
+use Rattle.tb_frame.specs.Promise.Table.{Table, table_of}
+use Rattle.tb_csv.specs.Promise.Records.{records_of}
+use Rattle.tb_csv.specs.Promise.Tables.{csv_table}
+use Rattle.tb_csv.specs.Promise.Texts.{csv_text}
+use Rattle.tb_csv.specs.declared.options.CsvOptions.{CsvOptions}
+use Rattle.tb_json.specs.Promise.Text.{text_of}
+use Rattle.tb_layout.specs.Promise.Lines.{layout}
+use Rattle.tb_front.specs.declared.arguments.TextForm.{TextForm}
+use Rattle.tb_front.specs.declared.arguments.TextForm.TheVariants.{Csv, Json, Layout}
+use Rattle.tb_front.specs.declared.fault.FrontFault.{FrontFault}
+use Rattle.tb_front.specs.declared.fault.FrontFault.TheVariants as fault
+use Rattle.tb_front.specs.Promise.Faults.{Settles, writing_fault}
+
+-- the table that a text is
+abbrev pub table_in : CsvOptions → List ℕ → Table
+table_in options text = csv_table options.types.items (records_of options.separator text)
+
+-- the text of a table in a form, with this byte between the fields of comma-separated values
+abbrev pub text_in : TextForm → ℕ → Table → List ℕ
+text_in Csv separator t = csv_text separator t
+text_in Json separator t = text_of t
+text_in (Layout width) separator t = encode_utf8_all (layout width t)
+
+abbrev pub fault_of : PolarsError → FrontFault
+fault_of cause.OutOfMemory = fault.OutOfMemory
+fault_of e = fault.Refused e
+
+-- what an operation answers is handed on: the text of its table, or its refusal
+abbrev pub IsOutcome : TextForm → ℕ → Result (List Col) PolarsError → Result (Vec ℕ Global) FrontFault → Type 0
+IsOutcome form separator (Ok t) result =
+    Settles result (writing_fault form (table_of t)) × IfOk result (λ v. v.items ≡ text_in form separator (table_of t))
+IsOutcome form separator (Err e) result = result ≡ Err (fault_of e)
