@@ -1,5 +1,5 @@
 //! Chunks that take up rows of others.
-ghost use Rattle.std.specs.Prelude.{◌≡◌, ◌<◌, ◌≤◌, ◌+◌, ◌^◌, ◌++◌, ◌∷◌, [], IfOk, OnOk, None, length, map, get_or, take, drop};
+ghost use Rattle.std.specs.Prelude.{◌≡◌, ◌<◌, ◌≤◌, ◌+◌, ◌^◌, ◌++◌, ◌∷◌, [], IfOk, OnOk, OnErr, None, length, map, get_or, take, drop};
 ghost use Rattle.tb_value.specs.Promise.Datum.{null};
 ghost use Rattle.tb_view.specs.Held.{AreHeld};
 ghost use Rattle.tb_view.specs.Moved.{moved_view, number_from};
@@ -60,7 +60,7 @@ impl<C: Chunk> Growing<C> {
         Ok(block)
     }
 
-    /// Appends a row of one of the chunks.
+    /// Appends a row of one of the chunks. After a refusal the chunk is as it was.
     pub fn push(
         &mut self,
         alloc: Global,
@@ -76,6 +76,8 @@ impl<C: Chunk> Growing<C> {
         ensures held { AreHeld (C.buffers self.new.chunk) self.new.bases.items (map C.buffers chunks.now) }
         ensures views { OnOk result (C.views self.new.chunk ≡ C.views self.old.chunk
             ++ moved_view (get_or self.old.bases.items chunk 0) (get_or (get_or (map C.views chunks.now) chunk []) row None) ∷ []) }
+        ensures err { OnErr result (C.shown self.new.chunk ≡ C.shown self.old.chunk) }
+        ensures err_views { OnErr result (C.views self.new.chunk ≡ C.views self.old.chunk) }
         ensures buffers { C.buffers self.new.chunk ≡ C.buffers self.old.chunk }
         ensures bases { self.new.bases.items ≡ self.old.bases.items }
     {
@@ -84,11 +86,13 @@ impl<C: Chunk> Growing<C> {
         self.chunk.push_from(alloc, other, number, row)
     }
 
-    /// Appends a Null.
+    /// Appends a Null. After a refusal the chunk is as it was.
     pub fn push_null(&mut self) -> Result<(), OutOfMemory>
         requires { length (C.shown self.old.chunk) < 2 ^ 63 }
         ensures shown { OnOk result (C.shown self.new.chunk ≡ C.shown self.old.chunk ++ null ∷ []) }
         ensures views { OnOk result (C.views self.new.chunk ≡ C.views self.old.chunk ++ None ∷ []) }
+        ensures err { OnErr result (C.shown self.new.chunk ≡ C.shown self.old.chunk) }
+        ensures err_views { OnErr result (C.views self.new.chunk ≡ C.views self.old.chunk) }
         ensures buffers { C.buffers self.new.chunk ≡ C.buffers self.old.chunk }
         ensures bases { self.new.bases.items ≡ self.old.bases.items }
     {

@@ -1,5 +1,5 @@
 //! Columns by names.
-ghost use Rattle.std.specs.Prelude.{◌≡◌, ◌∷◌, [], ◌++◌, IfOk, None, OnOk, Some, if◌then◌else◌, is_none, unwrap_or};
+ghost use Rattle.std.specs.Prelude.{◌≡◌, ◌∷◌, [], ◌++◌, IfOk, None, OnErr, OnOk, Some, if◌then◌else◌, is_none, unwrap_or};
 ghost use Rattle.std.specs.List.{find};
 ghost use Rattle.std.specs.Option.{option_copied};
 ghost use Rattle.tb_value.specs.Promise.Names.{Name, same_name};
@@ -34,10 +34,11 @@ impl<'a> NamedColumns<'a> {
         }
     }
 
-    /// Puts the column under the name, where no other is under it.
+    /// Puts the column under the name, where no other is under it. After a refusal the columns are as they were.
     pub fn insert(&mut self, name: &'a PlSmallStr, column: &'a Series) -> Result<(), OutOfMemory>
-        ensures { OnOk result ((n : Name) → column_by self.new n
+        ensures puts { OnOk result ((n : Name) → column_by self.new n
             ≡ (if same_name name.now n then Some (unwrap_or (column_by self.old name.now) column.now) else column_by self.old n)) }
+        ensures err { OnErr result ((n : Name) → column_by self.new n ≡ column_by self.old n) }
     {
         let name = name.as_str();
         if self.columns.contains_key(name) {

@@ -8,7 +8,7 @@ use Rattle.tb_frame.proofs.lookup.columns_by_name.Goals as goal
 pub loop-column-preserved : goal.loop-column-preserved
 loop-column-preserved c =
     kept_more c.args.columns.now c.loop-column.column-index c.column-item.result c.loop-column-test.true c.column-item.is (column_by c.loop-column.by_name) (column_by c.insert.new.self) c.loop-column.invariant
-    (inserted (column_by c.loop-column.by_name) (column_by c.insert.new.self) c.column-item.result c.name.result.now c.as_materialized_series.result.now c.name.ensures c.as_materialized_series.ensures c.in_ok-insert.ensures)
+    (inserted (column_by c.loop-column.by_name) (column_by c.insert.new.self) c.column-item.result c.name.result.now c.as_materialized_series.result.now c.name.ensures c.as_materialized_series.ensures c.in_ok-insert.ensures.puts)
 
 pub returns : goal.returns
 returns c = λ n. c.loop-column.invariant n ∙ ap (found n) (take_all c.loop-column.column-index c.args.columns.now (omega arith))
