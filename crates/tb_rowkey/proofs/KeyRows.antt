@@ -1,17 +1,16 @@
 -- The key of a row, read from the columns one after another.
-use Rattle.std.proofs.Common.{◌≡◌, ◌+◌, ◌<◌, ◌≤◌, ℕ, suc, Bool, true, false, ◌&&◌, ◌||◌, List, [], ◌∷◌, ◌++◌, ◌^◌, length, get_or, take, drop, Bor, arith, refl, ap, sym, ◌∙◌}
+use Rattle.std.proofs.Common.{◌≡◌, ◌+◌, ◌<◌, ◌≤◌, ℕ, suc, Bool, true, false, ◌&&◌, ◌||◌, List, [], ◌∷◌, ◌++◌, ◌^◌, length, get_or, take, drop, arith, refl, ap, sym, subst, ◌∙◌}
 use Rattle.std.specs.Prelude.{if◌then◌else◌}
 use Rattle.std.proofs.lemmas.Bool.{false≢true}
-use Rattle.std.proofs.lemmas.List.{append-nil, take_at, length-append, length-map, append_assoc, at_drop_more, at_drop_all}
+use Rattle.std.proofs.lemmas.List.{append-nil, take_at, length-append, append_assoc, at_drop_more, at_drop_all}
 use Rattle.tb_value.specs.Promise.Datum.{Datum, null, boolean, int, string, binary, list, struct, is_present}
 use Rattle.tb_value.specs.Promise.Kind.{Kind}
 use Rattle.tb_chunk.specs.Chunk.{or_null}
 use Rattle.std.specs.List.{All}
 use Rattle.tb_chunk.specs.Promise.Col.{Col, values}
-use Rattle.tb_chunk.proofs.Lent.{low_lent, lent_is, lent_has}
 use Rattle.tb_rowkey.specs.Promise.RowKey.{field_code, has_key}
 use Rattle.tb_rowkey.specs.Promise.Columns.{fields_at, key_at, row_bytes, row_count}
-use Rattle.tb_rowkey.specs.Columns.{lent_columns, IsShortRow}
+use Rattle.tb_rowkey.specs.Columns.{IsShortRow}
 use Rattle.tb_rowkey.specs.RowKeys.{bytes_of, key_of}
 
 -- whether the fields of row i in columns that begin at place n are present, or Nulls match there
@@ -43,9 +42,9 @@ module _ (cs : List Col) (nulls : ℕ → Bool) (i : ℕ) where
         ∙ sym (at_drop_more (λ ds. has_key_from nulls n ds i) cs n c low)
 
 -- the number of rows is the first column's
-pub count_read : (rs : List (Bor Col)) (r : Bor Col) (n : ℕ) → n ≡ length (values r.now) → 0 < length rs → r ≡ get_or rs 0 r
-    → All (λ (c : Col). length (values c) ≡ row_count (lent_columns rs)) (lent_columns rs) → n ≡ row_count (lent_columns rs)
-count_read rs r n long some is rows = long ∙ lent_has rs 0 r some is (λ (d : Col). length (values d) ≡ row_count (lent_columns rs)) rows
+pub count_read : (cs : List Col) (c : Col) (n : ℕ) → n ≡ length (values c) → 0 < length cs → c ≡ get_or cs 0 c
+    → All (λ (d : Col). length (values d) ≡ row_count cs) cs → n ≡ row_count cs
+count_read cs c n long some is rows = long ∙ subst (λ (d : Col). length (values d) ≡ row_count cs) (sym is) (rows 0 c some)
 
 -- A ROW THAT IS WRITTEN
 
@@ -57,38 +56,35 @@ and_assoc : (a b c : Bool) → ((a && b) && c) ≡ (a && (b && c))
 and_assoc true b c = refl
 and_assoc false b c = refl
 
-module _ (rs : List (Bor Col)) (nulls : ℕ → Bool) (i n : ℕ) where
+module _ (cs : List Col) (nulls : ℕ → Bool) (i n : ℕ) where
   -- one field more
-  module _ (r : Bor Col) (low : n < length rs) (is : r ≡ get_or rs n r) where
-    pub bytes_read : (bytes more all : List ℕ) → more ≡ bytes ++ field_code r.now.kind (get_or (values r.now) i null)
-        → bytes ++ row_bytes (drop n (lent_columns rs)) i ≡ all → more ++ row_bytes (drop (n + 1) (lent_columns rs)) i ≡ all
+  module _ (c : Col) (low : n < length cs) (is : c ≡ get_or cs n c) where
+    pub bytes_read : (bytes more all : List ℕ) → more ≡ bytes ++ field_code c.kind (get_or (values c) i null)
+        → bytes ++ row_bytes (drop n cs) i ≡ all → more ++ row_bytes (drop (n + 1) cs) i ≡ all
     bytes_read bytes more all e so_far =
-        let v : Datum = get_or (values r.now) i null in
-        ap (λ l. l ++ row_bytes (drop (n + 1) (lent_columns rs)) i) e
-        ∙ append_assoc bytes (field_code r.now.kind v) (row_bytes (drop (n + 1) (lent_columns rs)) i)
-        ∙ ap (λ l. bytes ++ l) (more_bytes (lent_columns rs) nulls i n r.now v (low_lent rs n r low is) (lent_is rs n r low is) refl)
+        let v : Datum = get_or (values c) i null in
+        ap (λ l. l ++ row_bytes (drop (n + 1) cs) i) e
+        ∙ append_assoc bytes (field_code c.kind v) (row_bytes (drop (n + 1) cs) i)
+        ∙ ap (λ l. bytes ++ l) (more_bytes cs nulls i n c v low is refl)
         ∙ so_far
 
-    pub key_read : (b c all : Bool) → c ≡ (b && (is_present (get_or (values r.now) i null) || nulls n))
-        → (b && has_key_from nulls n (drop n (lent_columns rs)) i) ≡ all → (c && has_key_from nulls (n + 1) (drop (n + 1) (lent_columns rs)) i) ≡ all
-    key_read b c all e so_far =
-        let v : Datum = get_or (values r.now) i null in
-        let next : Bool = has_key_from nulls (n + 1) (drop (n + 1) (lent_columns rs)) i in
+    pub key_read : (b k all : Bool) → k ≡ (b && (is_present (get_or (values c) i null) || nulls n))
+        → (b && has_key_from nulls n (drop n cs) i) ≡ all → (k && has_key_from nulls (n + 1) (drop (n + 1) cs) i) ≡ all
+    key_read b k all e so_far =
+        let v : Datum = get_or (values c) i null in
+        let next : Bool = has_key_from nulls (n + 1) (drop (n + 1) cs) i in
         ap (λ x. x && next) e
         ∙ and_assoc b (is_present v || nulls n) next
-        ∙ ap (λ x. b && x) (more_key (lent_columns rs) nulls i n r.now v (low_lent rs n r low is) (lent_is rs n r low is) refl)
+        ∙ ap (λ x. b && x) (more_key cs nulls i n c v low is refl)
         ∙ so_far
 
   -- all fields
-  module _ (past : length rs ≤ n) where
-    past_all : length (lent_columns rs) ≤ n
-    past_all = let long = length-map rs (λ (c : Bor Col). c.now) in omega (arith, long, past)
+  module _ (past : length cs ≤ n) where
+    pub bytes_all : (bytes all : List ℕ) → bytes ++ row_bytes (drop n cs) i ≡ all → bytes ≡ all
+    bytes_all bytes all e = sym (append-nil bytes) ∙ ap (λ l. bytes ++ l) (sym (at_drop_all (λ ds. row_bytes ds i) cs n past)) ∙ e
 
-    pub bytes_all : (bytes all : List ℕ) → bytes ++ row_bytes (drop n (lent_columns rs)) i ≡ all → bytes ≡ all
-    bytes_all bytes all e = sym (append-nil bytes) ∙ ap (λ l. bytes ++ l) (sym (at_drop_all (λ ds. row_bytes ds i) (lent_columns rs) n past_all)) ∙ e
-
-    pub key_all : (b all : Bool) → (b && has_key_from nulls n (drop n (lent_columns rs)) i) ≡ all → b ≡ all
-    key_all b all e = sym (and_true b) ∙ ap (λ x. b && x) (sym (at_drop_all (λ ds. has_key_from nulls n ds i) (lent_columns rs) n past_all)) ∙ e
+    pub key_all : (b all : Bool) → (b && has_key_from nulls n (drop n cs) i) ≡ all → b ≡ all
+    key_all b all e = sym (and_true b) ∙ ap (λ x. b && x) (sym (at_drop_all (λ ds. has_key_from nulls n ds i) cs n past)) ∙ e
 
 -- THE BYTES OF A KEY
 

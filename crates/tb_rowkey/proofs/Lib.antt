@@ -2,10 +2,10 @@ pub mod Numbers
 pub mod Widths
 pub mod Apart
 pub mod Rows
-pub mod Pushes
+pub mod FieldBytes
 pub mod KeyRows
 pub mod KeyColumns
 pub mod ColumnRows
-pub mod WholeColumns
+pub mod TypedValues
 pub mod Written
 pub mod Evens

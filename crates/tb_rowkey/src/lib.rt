@@ -14,7 +14,9 @@
 #![tactic(auto)]
 
 mod even_places;
+mod field_column;
 mod fields;
+mod joining;
 mod keys;
 pub mod laws;
 mod lent;
@@ -22,6 +24,7 @@ mod place_list;
 mod places;
 mod room;
 mod row_keys;
+mod stored_chunk;
 mod uneven_places;
 
 pub use keys::prepare_keys_multiple;

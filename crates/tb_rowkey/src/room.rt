@@ -1,39 +1,47 @@
 //! How much memory keys take, which is reserved before they are written. No contract rests on it.
 
-use crate::fields::width_of;
-use tb_store::{DataType, Series, ValueRef};
+use crate::field_column::FieldColumn;
+use crate::stored_chunk::StoredChunk;
+use tb_store::View;
 
-fn text_len(value: ValueRef<'_>) -> usize {
-    match value {
-        ValueRef::String(text) => text.len(),
-        ValueRef::Binary(bytes) => bytes.len(),
-        _ => 0,
-    }
-}
-
-fn texts_len(column: &Series) -> usize {
+fn texts_len(views: &[Option<View>]) -> usize {
     let mut len: usize = 0;
-    for row in 0..column.len() {
-        len = len.saturating_add(text_len(column.get(row)));
+    for view in views {
+        if let Some(view) = view {
+            len = len.saturating_add(view.length as usize);
+        }
     }
     len
 }
 
-// The bytes of the fields of a column, if none is Null.
-fn fields_len(column: &Series) -> usize {
-    let rows = column.len();
-    match column.dtype() {
-        DataType::Boolean => 2 * rows,
-        DataType::String | DataType::Binary => texts_len(column).saturating_add(5 * rows),
-        dtype => (1 + width_of(dtype)) * rows,
+// The bytes of a field that is present, but for those of a text.
+fn field_room(chunk: &StoredChunk<'_>) -> usize {
+    match chunk {
+        StoredChunk::List(_) | StoredChunk::Struct(_) | StoredChunk::Null(_) => 1,
+        StoredChunk::Boolean(_) | StoredChunk::Int8(_) | StoredChunk::UInt8(_) => 2,
+        StoredChunk::Int16(_) | StoredChunk::UInt16(_) => 3,
+        StoredChunk::Int32(_) | StoredChunk::UInt32(_) => 5,
+        StoredChunk::String(_) | StoredChunk::Binary(_) => 5,
+        StoredChunk::Int64(_) | StoredChunk::UInt64(_) => 9,
+        StoredChunk::Int128(_) => 17,
     }
 }
 
+/// The bytes of the fields of a chunk of so many rows, or a little more where some are Null.
+pub(crate) fn room_of(chunk: &StoredChunk<'_>, rows: usize) -> usize {
+    let texts = match chunk {
+        StoredChunk::String(chunk) => texts_len(chunk.views()),
+        StoredChunk::Binary(chunk) => texts_len(chunk.views()),
+        _ => 0,
+    };
+    field_room(chunk).saturating_mul(rows).saturating_add(texts)
+}
+
 /// The bytes of the fields of all rows of these columns, or a little more where some are Null.
-pub(crate) fn room_for(columns: &[&Series]) -> usize {
+pub(crate) fn room_for(columns: &[FieldColumn<'_>]) -> usize {
     let mut room: usize = 0;
     for column in columns {
-        room = room.saturating_add(fields_len(column));
+        room = room.saturating_add(column.room());
     }
     room
 }

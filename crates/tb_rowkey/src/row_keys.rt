@@ -2,23 +2,21 @@
 ghost use Rattle.std.specs.Prelude.{◌≡◌, ◌↔◌, ◌<◌, ◌≤◌, ◌^◌, ◌++◌, ◌&&◌, ◌||◌, ◌-◌, None, IfOk, IfSome, IsSome, OnOk, drop, length, map, slice_index_or, take};
 ghost use Rattle.std.specs.List.{All};
 ghost use Rattle.std.specs.Option.{option_copied};
-ghost use Rattle.tb_value.specs.Promise.Datum.{binary, is_null, is_present, null};
-ghost use Rattle.tb_value.specs.See.{lent_value};
+ghost use Rattle.tb_value.specs.Promise.Datum.{binary};
 ghost use Rattle.tb_chunk.specs.Chunk.{or_null};
 ghost use Rattle.tb_chunk.specs.Promise.Col.{values};
-ghost use Rattle.tb_chunk.specs.Col.{IsColumn};
 ghost use Rattle.tb_rowkey.specs.Promise.Columns.{fields_at, row_bytes, row_count, key_at, keys_at};
 ghost use Rattle.tb_rowkey.specs.Columns.{lent_columns, AreShortRows, flag_of};
-ghost use Rattle.tb_rowkey.specs.Promise.RowKey.{field_code, has_key};
+ghost use Rattle.tb_rowkey.specs.Promise.RowKey.{has_key};
 ghost use Rattle.tb_rowkey.specs.RowKeys.{bytes_of, key_of};
 
-use crate::fields::push_field;
-use crate::lent::know_columns;
+use crate::field_column::FieldColumn;
+use crate::joining::{field_columns, joined_columns};
 use crate::places::Places;
 use crate::room::room_for;
 use std::alloc::Global;
 use std::marker::Model;
-use tb_store::{MAX_ROWS, OutOfMemory, Series, ValueRef, are_in_one_chunk, lend, rechunked};
+use tb_store::{MAX_ROWS, OutOfMemory, Series};
 use tb_value::TOO_LONG;
 
 /// The keys of rows, one behind another in one buffer. A row without a key has no bytes there. `of_columns` alone makes
@@ -47,7 +45,7 @@ impl RowKeys {
     /// too. The key of a row has the bytes of its fields in the order of the columns; a row with a Null field whose
     /// column's flag is false has none. There is a column at least, the columns are of one length, and each has a flag.
     ///
-    /// Where a column is cut into chunks, all are put into one chunk each before they are read by rows.
+    /// A column that is cut into chunks is put into one chunk before it is read by rows; any other is lent.
     ///
     /// # Errors
     ///
@@ -63,12 +61,9 @@ impl RowKeys {
         ensures short { IfOk result (λ keys. IsSome keys ↔ AreShortRows (lent_columns columns.now)) }
         ensures keys { IfOk result (λ keys. IfSome keys (λ k. map (or_null binary) k ≡ keys_at (lent_columns columns.now) (flag_of join_nulls.now))) }
     {
-        if are_in_one_chunk(columns) {
-            return keys_of(alloc, columns, join_nulls);
-        }
-        let whole = rechunked(alloc, columns)?;
-        let lent = lend(alloc, &whole)?;
-        keys_of(alloc, &lent, join_nulls)
+        let joined = joined_columns(alloc, columns)?;
+        let fields = field_columns(alloc, columns, &joined)?;
+        keys_of(alloc, &fields, join_nulls)
     }
 
     /// The number of rows.
@@ -107,13 +102,6 @@ fn key_between(bytes: &[u8], start: usize, end: usize) -> Option<&[u8]>
     if key.is_empty() { None } else { Some(key) }
 }
 
-// Whether the value is absent.
-fn is_null(value: ValueRef<'_>) -> bool
-    ensures { result ≡ is_null (lent_value value.entry) }
-{
-    matches!(value, ValueRef::Null)
-}
-
 // Whether a row has a key that had one so far, and has this field.
 fn keeps_key(has_key: bool, is_present: bool, null_matches: bool) -> bool
     ensures { result ≡ (has_key && (is_present || null_matches)) }
@@ -121,34 +109,21 @@ fn keeps_key(has_key: bool, is_present: bool, null_matches: bool) -> bool
     has_key && (is_present || null_matches)
 }
 
-// Writes a field behind the bytes, and says whether it is present.
-fn push_value(bytes: &mut Vec<u8>, column: &Series, row: usize) -> Result<bool, OutOfMemory>
-    requires column { IsColumn column.now }
-    requires row { row < length (values column.now) }
-    ensures bytes { OnOk result (bytes.new.items ≡ bytes.old.items ++ field_code column.now.kind (slice_index_or (values column.now) row null)) }
-    ensures present { IfOk result (λ b. b ≡ is_present (slice_index_or (values column.now) row null)) }
-{
-    let value = column.get(row);
-    push_field(bytes, column.dtype(), value)?;
-    Ok(!is_null(value))
-}
-
 // Writes the fields of a row behind the bytes, and says whether the row has a key.
 fn push_fields(
     bytes: &mut Vec<u8>,
-    columns: &[&Series],
+    columns: &[FieldColumn<'_>],
     join_nulls: &[bool],
     row: usize,
 ) -> Result<bool, OutOfMemory>
-    requires columns { All IsColumn (lent_columns columns.now) }
-    requires rows { All (λ c. row < length (values c)) (lent_columns columns.now) }
+    requires rows { All (λ c. row < length (values c)) columns.now }
     requires flags { length join_nulls.now ≡ length columns.now }
-    ensures bytes { OnOk result (bytes.new.items ≡ bytes.old.items ++ row_bytes (lent_columns columns.now) row) }
-    ensures key { IfOk result (λ b. b ≡ has_key (flag_of join_nulls.now) (fields_at (lent_columns columns.now) row)) }
+    ensures bytes { OnOk result (bytes.new.items ≡ bytes.old.items ++ row_bytes columns.now row) }
+    ensures key { IfOk result (λ b. b ≡ has_key (flag_of join_nulls.now) (fields_at columns.now row)) }
 {
     let mut has_key = true;
     for place in 0..columns.len() {
-        let is_present = push_value(bytes, columns[place], row)?;
+        let is_present = columns[place].push_field(bytes, row)?;
         has_key = keeps_key(has_key, is_present, join_nulls[place]);
     }
     Ok(has_key)
@@ -157,15 +132,14 @@ fn push_fields(
 // Puts the key of a row behind the bytes, and says how many the fields have, of a row without a key too.
 fn push_key(
     bytes: &mut Vec<u8>,
-    columns: &[&Series],
+    columns: &[FieldColumn<'_>],
     join_nulls: &[bool],
     row: usize,
 ) -> Result<usize, OutOfMemory>
-    requires columns { All IsColumn (lent_columns columns.now) }
-    requires rows { All (λ c. row < length (values c)) (lent_columns columns.now) }
+    requires rows { All (λ c. row < length (values c)) columns.now }
     requires flags { length join_nulls.now ≡ length columns.now }
-    ensures len { IfOk result (λ n. n ≡ length (row_bytes (lent_columns columns.now) row)) }
-    ensures bytes { OnOk result (bytes.new.items ≡ bytes.old.items ++ bytes_of (key_at (lent_columns columns.now) (flag_of join_nulls.now) row)) }
+    ensures len { IfOk result (λ n. n ≡ length (row_bytes columns.now row)) }
+    ensures bytes { OnOk result (bytes.new.items ≡ bytes.old.items ++ bytes_of (key_at columns.now (flag_of join_nulls.now) row)) }
 {
     let start = bytes.len();
     let has_key = push_fields(bytes, columns, join_nulls, row)?;
@@ -176,19 +150,18 @@ fn push_key(
     Ok(end - start)
 }
 
-// The keys of the rows of these columns, however they are cut.
+// The keys of the rows of these columns.
 fn keys_of(
     alloc: Global,
-    columns: &[&Series],
+    columns: &[FieldColumn<'_>],
     join_nulls: &[bool],
 ) -> Result<Option<RowKeys>, OutOfMemory>
     requires some { 0 < length columns.now }
-    requires rows { All (λ c. length (values c) ≡ row_count (lent_columns columns.now)) (lent_columns columns.now) }
+    requires rows { All (λ c. length (values c) ≡ row_count columns.now) columns.now }
     requires flags { length join_nulls.now ≡ length columns.now }
-    ensures short { IfOk result (λ keys. IsSome keys ↔ AreShortRows (lent_columns columns.now)) }
-    ensures keys { IfOk result (λ keys. IfSome keys (λ k. map (or_null binary) k ≡ keys_at (lent_columns columns.now) (flag_of join_nulls.now))) }
+    ensures short { IfOk result (λ keys. IsSome keys ↔ AreShortRows columns.now) }
+    ensures keys { IfOk result (λ keys. IfSome keys (λ k. map (or_null binary) k ≡ keys_at columns.now (flag_of join_nulls.now))) }
 {
-    know_columns(columns);
     let rows = columns[0].len();
     let mut bytes = Vec::with_capacity(alloc, room_for(columns))?;
     let mut places = Places::from_zero(rows + 1);

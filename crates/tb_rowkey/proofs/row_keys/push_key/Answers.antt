@@ -1,7 +1,6 @@
 use Rattle.std.proofs.Common.{◌++◌, ◌∙◌, ap, sym, arith}
 use Rattle.std.proofs.lemmas.List.{append-nil}
 use Rattle.tb_rowkey.specs.Promise.Columns.{row_bytes}
-use Rattle.tb_rowkey.specs.Columns.{lent_columns}
 use Rattle.tb_rowkey.proofs.KeyRows.{grown, taken_back, no_key_written, key_written}
 use Rattle.tb_rowkey.proofs.row_keys.push_key.Goals as goal
 use Rattle.tb_rowkey.proofs.row_keys.push_key.Goals.{then-not-has_key, else-not-has_key}
@@ -19,7 +18,7 @@ returns-clause-len c =
 pub returns-clause-bytes : goal.returns-clause-bytes
 returns-clause-bytes c =
     let before = c.args.bytes.now.items in
-    let row = row_bytes (lent_columns c.args.columns.now) c.args.row in
+    let row = row_bytes c.args.columns.now c.args.row in
     let written = c.in_ok-has_key.ensures in
     elim c.if-not-has_key.branch [
       | then-not-has_key w ↦
