@@ -9,7 +9,7 @@ ghost use Rattle.tb_dispatch.specs.Standing.{AreCoalescable, coalesced_columns, 
 use crate::names::{_join_suffix_name, suffix_text};
 use std::alloc::Global;
 use tb_frame::{DataFrame, NameSet, column_name_set};
-use tb_join::coalesced_left;
+use tb_join::{coalesced_left, parted};
 use tb_value::{OutOfMemory, PlSmallStr, PolarsResult, only_memory};
 
 // The name of a right key beside the left key at its place, where left columns have the names that are taken.
@@ -52,22 +52,17 @@ fn standing_names(
 // The table with these right keys coalesced into the left ones. Only memory may be wanting.
 fn coalesced_table(
     alloc: Global,
-    df: &DataFrame,
+    df: DataFrame,
     keys_left: &[PlSmallStr],
     rights: &[PlSmallStr],
 ) -> PolarsResult<DataFrame>
-    requires { AreCoalescable keys_left.now rights.now df.now }
+    requires { AreCoalescable keys_left.now rights.now df }
     ensures settles { Settles result None }
-    ensures columns { IfOk result (λ t. t ≡ coalesced_columns keys_left.now rights.now df.now) }
+    ensures columns { IfOk result (λ t. t ≡ coalesced_columns keys_left.now rights.now df) }
 {
-    let rest = df.drop_many(alloc, rights)?;
-    let columns = coalesced_left(
-        alloc,
-        rest.get_columns(),
-        df.get_columns(),
-        keys_left,
-        rights,
-    )?;
+    let _columns = df.get_columns();
+    let (keys, rest) = parted(alloc, df.into_columns(), rights)?;
+    let columns = coalesced_left(alloc, rest, &keys, keys_left, rights)?;
     DataFrame::new(alloc, columns)
 }
 
@@ -90,5 +85,5 @@ pub fn _coalesce_full_join(
 {
     let suffix = suffix_text(&suffix);
     let rights = standing_names(alloc, df_left, suffix, keys_left, keys_right)?;
-    only_memory(coalesced_table(alloc, &df, keys_left, &rights))
+    only_memory(coalesced_table(alloc, df, keys_left, &rights))
 }

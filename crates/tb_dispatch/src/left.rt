@@ -1,9 +1,10 @@
 //! The two sides of a Left join, each by itself.
-ghost use Rattle.std.specs.Prelude.{◌≡◌, ◌≤◌, All, IfOk, None, length};
+ghost use Rattle.std.specs.Prelude.{◌≡◌, ◌≤◌, All, IfOk, None, length, map};
 ghost use Rattle.tb_value.specs.Promise.Refusals.{first_cause};
 ghost use Rattle.tb_value.specs.Refusals.{Settles};
+ghost use Rattle.tb_chunk.specs.Rows.{IsRowOf};
 ghost use Rattle.tb_frame.specs.Answer.{IsPairOf};
-ghost use Rattle.tb_frame.specs.Frame.{without_names};
+ghost use Rattle.tb_frame.specs.Frame.{opt_taken_rows, without_names};
 ghost use Rattle.tb_frame.specs.Promise.Refusal.{null_flags, row_causes};
 ghost use Rattle.tb_frame.specs.Promise.Table.{height, table_of};
 ghost use Rattle.tb_dispatch.specs.Given.{StandBeside, by_series};
@@ -12,14 +13,32 @@ ghost use Rattle.tb_dispatch.specs.Halves.{AreHalves, AreOver, dropped_names};
 use std::alloc::Global;
 use std::slice;
 use std::thread::Threads;
-use tb_frame::{DataFrame, JoinArgs, JoinType, left_rows, right_rows};
-use tb_gather::gather_rows;
-use tb_join::kept_table;
+use tb_frame::{DataFrame, JoinArgs, JoinType};
+use tb_gather::{LeftRow, RightRow, RowOf, made_table};
+use tb_join::side_rows;
 use tb_keys::LentRequest;
 use tb_pairs::listed_pairs;
 use tb_pool::Exec;
 use tb_store::Series;
 use tb_value::{IsSorted, JoinPair, MAX_ROWS, OutOfMemory, PlSmallStr, PolarsResult};
+
+// The table of a side over the pairs, but for the columns of the names that go.
+fn half<S: RowOf<JoinPair>>(
+    rt: &(impl Threads + Sync),
+    alloc: Global,
+    table: &DataFrame,
+    gone: &[PlSmallStr],
+    pairs: &[JoinPair],
+) -> Result<DataFrame, OutOfMemory>
+    requires rows { All (IsRowOf (height (table_of table.now))) (map S.number pairs.now) }
+    requires few { length pairs.now ≤ MAX_ROWS }
+    ensures { IfOk result (λ t. t ≡ map (opt_taken_rows (map S.number pairs.now)) (without_names gone.now table.now)) }
+{
+    let _columns = table.get_columns();
+    let not = IsSorted::Not;
+    let columns = side_rows::<S>(rt, alloc, table, gone, pairs, not)?;
+    made_table(alloc, columns)
+}
 
 // The left columns over the pairs, and the right ones but for those of the names that go.
 fn halves(
@@ -34,10 +53,8 @@ fn halves(
     requires few { length pairs.now ≤ MAX_ROWS }
     ensures { IfOk result (AreOver pairs.now left.now (without_names gone.now right.now)) }
 {
-    let rows = left_rows(alloc, pairs)?;
-    let left = gather_rows(rt, alloc, left, &rows, IsSorted::Not)?;
-    let rows = right_rows(alloc, pairs)?;
-    let right = kept_table(rt, alloc, right, gone, &rows, IsSorted::Not)?;
+    let left = half::<LeftRow>(rt, alloc, left, &[], pairs)?;
+    let right = half::<RightRow>(rt, alloc, right, gone, pairs)?;
     Ok((left, right))
 }
 

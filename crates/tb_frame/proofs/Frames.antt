@@ -1,5 +1,5 @@
 -- Lists of columns that make tables.
-use Rattle.std.proofs.Common.{◌≡◌, ◌==◌, ℕ, ◌<◌, Bool, true, false, cond, not, ◌&&◌, List, [], ◌∷◌, ◌++◌, length, get_or, map, take, refl, ap, sym, ◌∙◌, ◌+◌, append-nil, Option, None, arith}
+use Rattle.std.proofs.Common.{◌≡◌, ◌==◌, ℕ, ◌<◌, Bool, true, false, cond, not, ◌&&◌, List, [], ◌∷◌, ◌++◌, length, get_or, take, refl, ap, sym, ◌∙◌, ◌+◌, append-nil, Option, None, arith}
 use Rattle.std.specs.Prelude.{All, ◌≢◌, filter}
 use Rattle.std.specs.Option.{option_map}
 use Rattle.std.specs.List.{list_all}

@@ -1,5 +1,5 @@
 -- The pairs of a listing, ordered and cut, are pairs of rows that there are.
-use Rattle.std.proofs.Common.{◌≡◌, ℕ, ◌+◌, ◌<◌, Bool, List, [], ◌∷◌, ◌++◌, length, map, arith, sym, subst, Option, Some, None}
+use Rattle.std.proofs.Common.{◌≡◌, ℕ, ◌+◌, ◌<◌, Bool, List, [], ◌∷◌, ◌++◌, length, map, sym, subst, Option, Some, None}
 use Rattle.std.specs.Prelude.{All, filter, not, ℤ}
 use Rattle.std.specs.List.{flat_map, list_any, enumerate_from}
 use Rattle.std.proofs.lemmas.List.Elements.{All-nil, All-cons, All-head, All-tail, All-append, All-weaker, All-filter, All-map}

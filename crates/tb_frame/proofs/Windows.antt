@@ -1,5 +1,5 @@
 -- A slice is a window of a list.
-use Rattle.std.proofs.Common.{◌≡◌, ℕ, zero, suc, ◌+◌, ◌<◌, Bool, true, false, cond, List, [], ◌∷◌, length, map, take, drop, refl, ap, arith, ◌∙◌, leb, ltb}
+use Rattle.std.proofs.Common.{◌≡◌, ℕ, zero, suc, ◌+◌, ◌<◌, Bool, true, false, cond, List, [], ◌∷◌, length, map, take, drop, refl, ap, sym, arith, ◌∙◌, leb, ltb}
 use Rattle.std.specs.Prelude.{filter, ◌&&◌, ◌-◌, ℤ}
 use Rattle.std.specs.List.{enumerate_from}
 use Rattle.std.proofs.lemmas.Bool.Decides.{nat_tests}
@@ -36,3 +36,7 @@ slice_is xs offset len a c h = kept_places 0 a c xs (in_slice (length xs) offset
 -- by the places that the offset and the length name
 pub slice_window : {X : Type 0} (xs : List X) (offset : ℤ) (len : ℕ) → slice xs offset len ≡ window (length xs) offset len xs
 slice_window xs offset len = let n = length xs in slice_is xs offset len (part_from n offset) (part_to n offset len - part_from n offset) (λ p low. in_part n len p (place_of n offset) low)
+
+-- the part that begins so far on and has so many items
+pub slice_part : {X : Type 0} (xs : List X) (offset : ℤ) (len : ℕ) (part : ℕ × ℕ) → part ≡ (part_from (length xs) offset, part_to (length xs) offset len - part_from (length xs) offset) → take part.1 (drop part.0 xs) ≡ slice xs offset len
+slice_part xs offset len part is = ap (λ (p : ℕ × ℕ). take p.1 (drop p.0 xs)) is ∙ sym (slice_window xs offset len)

@@ -5,7 +5,7 @@ use Rattle.tb_chunk.specs.Rows.{IsRowOf}
 use Rattle.tb_frame.specs.declared.args.JoinType.{JoinType}
 use Rattle.tb_frame.specs.declared.args.MaintainOrderJoin.{MaintainOrderJoin}
 use Rattle.tb_frame.specs.Promise.Table.{TableColumn}
-use Rattle.tb_frame.specs.Promise.Join.{Out, IsOrdered, cut}
+use Rattle.tb_frame.specs.Promise.Join.{Out, IsOrdered, Request, cut, listing}
 
 -- a column of the answer over the pairs
 abbrev pub fill : List JoinPair → Out → TableColumn
@@ -26,3 +26,7 @@ pub record IsListed (how : JoinType) (o : MaintainOrderJoin) (s : Option (ℤ ×
   pub pairs : List JoinPair
   pub ordered : IsOrdered how o pairs list
   pub is : items ≡ cut s pairs
+
+-- the items are the pairs of the answer
+abbrev pub ArePairsOf : Request → List JoinPair → Type 0
+ArePairsOf q = IsListed q.args.how q.args.maintain_order q.args.slice (listing q)

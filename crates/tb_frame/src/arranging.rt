@@ -5,7 +5,7 @@ ghost use Rattle.tb_frame.specs.Promise.Join.{IsOrdered, cut};
 
 use crate::args::{Direction, JoinArgs, JoinType, MaintainOrderJoin};
 use crate::order::direction_of;
-use std::alloc::{AllocError, Global};
+use std::alloc::AllocError;
 use tb_store::slice_offsets;
 use tb_value::{JoinPair, OutOfMemory};
 
@@ -38,23 +38,24 @@ pub fn kept_part<T>(items: &[T], slice: Option<(i64, usize)>) -> &[T]
 }
 
 /// The pairs that a slice keeps, in their order; all of them where there is none.
-pub fn cut_pairs(
-    alloc: Global,
-    pairs: Vec<JoinPair>,
-    slice: Option<(i64, usize)>,
-) -> Result<Vec<JoinPair>, OutOfMemory>
-    ensures { IfOk result (λ v. v.items ≡ cut slice pairs.items) }
+pub fn cut_pairs(mut pairs: Vec<JoinPair>, slice: Option<(i64, usize)>) -> Vec<JoinPair>
+    ensures { result.items ≡ cut slice pairs.items }
 {
-    match slice {
-        None => Ok(pairs),
-        Some(_) => Ok(Vec::from_slice(alloc, kept_part(&pairs, slice))?),
+    if let Some((offset, len)) = slice {
+        let (start, count) = slice_offsets(offset, len, pairs.len());
+        pairs.copy_within(start..start + count, 0);
+        pairs.truncate(count);
     }
+    pairs
 }
 
 /// The pairs of a listing in the order that the arguments ask of a join of this kind, and of them those that the
 /// slice keeps. The kind that the arguments name is not read.
+///
+/// # Errors
+///
+/// `OutOfMemory` where memory is wanting.
 pub fn arrange(
-    alloc: Global,
     mut pairs: Vec<JoinPair>,
     how: JoinType,
     args: &JoinArgs,
@@ -62,5 +63,5 @@ pub fn arrange(
     ensures { IfOk result (λ v. IsListed how args.now.maintain_order args.now.slice pairs.items v.items) }
 {
     order_pairs(&mut pairs, how, args.maintain_order)?;
-    cut_pairs(alloc, pairs, args.slice)
+    Ok(cut_pairs(pairs, args.slice))
 }

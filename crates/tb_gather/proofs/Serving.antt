@@ -1,12 +1,14 @@
 -- One list of ids serves columns that are cut alike.
-use Rattle.std.proofs.Common.{◌≡◌, ◌∙◌, ℕ, List, [], ◌∷◌, length, map, get_or, ap, sym, subst, refl, Some, Option, Bool, true, false}
+use Rattle.std.proofs.Common.{◌≡◌, ◌∙◌, ℕ, List, [], ◌∷◌, length, map, get_or, ap, sym, subst, refl, Bor, Some, Option}
+use Rattle.std.specs.Prelude.{unwrap_or}
 use Rattle.std.specs.List.{All, slice_get}
-use Rattle.std.specs.Str.{bytes_eq}
-use Rattle.std.proofs.lemmas.Slice.Eq.{bytes_eq-Decides}
+use Rattle.std.specs.Option.{option_map}
+use Rattle.std.proofs.lemmas.Option.{slice_get-map}
 use Rattle.std.proofs.lemmas.List.{length-map}
 use Rattle.std.proofs.lemmas.List.Elements.{All-head, All-tail}
 use Rattle.tb_value.specs.declared.sorted.IsSorted.{IsSorted}
 use Rattle.tb_chunk.specs.Promise.Col.{Col, values}
+use Rattle.tb_chunk.specs.Lent.{lent_columns}
 use Rattle.tb_chunk.specs.Rows.{value_or_null}
 use Rattle.tb_chunk.specs.ViewArrays.{view_or_none, joined_view_array}
 use Rattle.tb_frame.specs.Frame.{lens, AreCutAlike}
@@ -17,16 +19,14 @@ use Rattle.tb_gather.specs.declared.keep.Keep.TheVariants as keep
 use Rattle.tb_gather.proofs.Cuts.{gathered-pick, picked-numbers}
 use Rattle.tb_gather.proofs.Flags.{flags-turned}
 
-same_if_not_apart : (a b : List ℕ) (t : Bool) → bytes_eq a b ≡ t → ((a ≡ b → ⊥) → ⊥) → a ≡ b
-same_if_not_apart a b true e h = (bytes_eq-Decides a b).0 e
-same_if_not_apart a b false e h = absurd (h (λ is. let f : true ≡ false = sym ((bytes_eq-Decides a b).1 is) ∙ e in cc))
+-- the first of columns that are lent is the first of the columns
+pub first_lent : (bs : List (Bor Col)) (b : Bor Col) → Some b ≡ slice_get bs 0 → Some b.now ≡ slice_get (lent_columns bs) 0
+first_lent bs b is = ap (option_map (λ (x : Bor Col). x.now)) is ∙ sym (slice_get-map (λ (x : Bor Col). x.now) bs 0)
 
--- columns that are not cut differently are cut alike
-pub alike-stable : (cs : List Col) → ((AreCutAlike cs → ⊥) → ⊥) → AreCutAlike cs
-alike-stable cs h = λ i j d low high.
-    let a = lens (get_or cs i d) in
-    let b = lens (get_or cs j d) in
-    same_if_not_apart a b (bytes_eq a b) refl (λ apart. h (λ alike. apart (alike i j d low high)))
+-- what holds of each item holds of the first
+pub first-of : {X : Type 0} (P : X → Type 0) (xs : List X) (x : X) → Some x ≡ slice_get xs 0 → All P xs → P x
+first-of P [] x is h = absurd (cc)
+first-of {X} P (y ∷ xs) x is h = subst P (sym (ap (λ (o : Option X). unwrap_or o x) is)) (All-head P y xs h)
 
 -- functions that agree on each item of a list
 map-agreed : {X Y : Type 0} (f g : X → Y) (xs : List X) → All (λ x. f x ≡ g x) xs → map f xs ≡ map g xs

@@ -8,6 +8,7 @@ ghost use Rattle.tb_frame.specs.Frame.{lens};
 ghost use Rattle.tb_gather.specs.Ids.{AreStarts, NamesRow, RowsStandInOrder, StandInOrder, row_or_none};
 ghost use Rattle.tb_gather.specs.Gathered.{NameRows};
 
+use crate::row_of::{OwnRow, RowOf};
 use std::alloc::Global;
 use tb_store::Series;
 use tb_value::{ChunkId, IdxSize, NullableIdxSize, OutOfMemory};
@@ -57,23 +58,45 @@ fn id_of<const B: u64>(column: &Series, starts: &[usize], row: IdxSize) -> Chunk
     ChunkId::store(chunk as u32, (row as usize - starts[chunk]) as u32)
 }
 
-fn id_or_null<const B: u64>(column: &Series, starts: &[usize], row: &NullableIdxSize) -> ChunkId<B>
+fn id_or_null<const B: u64>(column: &Series, starts: &[usize], row: Option<IdxSize>) -> ChunkId<B>
     requires bits { (0 < B) × (B ≤ 32) }
     requires column { IsColumn column.now }
     requires few { length column.now.chunks < 2 ^ B - 1 }
     requires starts { AreStarts (lens column.now) starts.now }
-    requires row { IsRowOf (length (values column.now)) row.now }
+    requires row { IsRowOf (length (values column.now)) row }
     ensures named { NamesRow (lens column.now) result }
-    ensures row { row_or_none (lens column.now) result ≡ row.now }
+    ensures row { row_or_none (lens column.now) result ≡ row }
 {
-    match row.row() {
+    match row {
         None => ChunkId::null(),
         Some(row) => id_of(column, starts, row),
     }
 }
 
-/// The ids that name these rows in a column, and in each column that is cut into chunks alike; null for none. It takes
-/// steps in the number of chunks, and for each row in the number of digits of that number.
+/// The ids that name the rows of these items in a column, and in each column that is cut into chunks alike; null for none. It
+/// takes steps in the number of chunks, and for each item in the number of digits of that number.
+pub fn ids_by<R: RowOf<T>, T, const B: u64>(
+    alloc: Global,
+    column: &Series,
+    items: &[T],
+) -> Result<Vec<ChunkId<B>>, OutOfMemory>
+    requires bits { (0 < B) × (B ≤ 32) }
+    requires few { length column.now.chunks < 2 ^ B - 1 }
+    requires rows { All (IsRowOf (length (values column.now))) (map R.number items.now) }
+    ensures named { IfOk result (λ v. NameRows v.items column.now) }
+    ensures rows { IfOk result (λ v. map (row_or_none (lens column.now)) v.items ≡ map R.number items.now) }
+    ensures in_order { IfOk result (λ v. (sorted : IsSorted) → RowsStandInOrder sorted (map R.number items.now) → StandInOrder sorted v.items) }
+{
+    let _len = column.len();
+    let starts = starts_of(alloc, column)?;
+    let mut ids = Vec::with_capacity(alloc, items.len())?;
+    for item in items {
+        ids.push(id_or_null(column, &starts, R::number(item)))?;
+    }
+    Ok(ids)
+}
+
+/// The ids that name these rows, as `ids_by`.
 pub fn ids_of<const B: u64>(
     alloc: Global,
     column: &Series,
@@ -86,11 +109,5 @@ pub fn ids_of<const B: u64>(
     ensures rows { IfOk result (λ v. map (row_or_none (lens column.now)) v.items ≡ rows.now) }
     ensures in_order { IfOk result (λ v. (sorted : IsSorted) → RowsStandInOrder sorted rows.now → StandInOrder sorted v.items) }
 {
-    let _len = column.len();
-    let starts = starts_of(alloc, column)?;
-    let mut ids = Vec::with_capacity(alloc, rows.len())?;
-    for row in rows {
-        ids.push(id_or_null(column, &starts, row))?;
-    }
-    Ok(ids)
+    ids_by::<OwnRow, NullableIdxSize, B>(alloc, column, rows)
 }

@@ -1,10 +1,8 @@
 //! Rows of a series and of a column, gathered by ids.
 ghost use Rattle.std.specs.Prelude.{◌≡◌, ◌≤◌, All, IfOk, length, map};
-ghost use Rattle.tb_chunk.specs.Promise.Col.{values};
 ghost use Rattle.tb_chunk.specs.Flag.{FlagHolds};
-ghost use Rattle.tb_chunk.specs.Rows.{IsRowOf};
-ghost use Rattle.tb_gather.specs.Ids.{AreAllInOrder, AreAllRowsInOrder};
-ghost use Rattle.tb_gather.specs.Gathered.{NameRows, gathered_flag, named_rows, gathered_rows, value_of_id};
+ghost use Rattle.tb_gather.specs.Ids.{AreAllInOrder};
+ghost use Rattle.tb_gather.specs.Gathered.{NameRows, gathered_flag, named_rows, value_of_id};
 
 use crate::directions::gathered_flag;
 use crate::gathering::gather_chunks;
@@ -12,7 +10,7 @@ use crate::keep::Keep;
 use crate::take_chunked::TakeChunked;
 use std::alloc::Global;
 use tb_store::{Column, Series};
-use tb_value::{ChunkId, IsSorted, MAX_ROWS, NullableIdxSize, OutOfMemory};
+use tb_value::{ChunkId, IsSorted, MAX_ROWS, OutOfMemory};
 
 // The rows that the ids name, in one chunk, with this flag.
 fn gather_series<const B: u64>(
@@ -51,25 +49,6 @@ pub(crate) fn gather_column<const B: u64>(
     let _len = column.len();
     let flag = gathered_flag(column.is_sorted_flag(), sorted);
     Ok(gather_series(alloc, column.as_materialized_series(), by, flag, keep)?.into_column())
-}
-
-/// The rows of a column that the numbers name, in one chunk, with the flag that the column's and `sorted` make.
-pub(crate) fn take_column(
-    alloc: Global,
-    column: &Column,
-    rows: &[NullableIdxSize],
-    sorted: IsSorted,
-) -> Result<Column, OutOfMemory>
-    requires rows { All (IsRowOf (length (values column.now))) rows.now }
-    requires in_order { AreAllRowsInOrder sorted rows.now }
-    requires few { length rows.now ≤ MAX_ROWS }
-    ensures { IfOk result (λ c. c ≡ gathered_rows rows.now sorted column.now) }
-{
-    let _len = column.len();
-    let flag = gathered_flag(sorted, column.is_sorted_flag());
-    let mut taken = column.take_opt(alloc, rows)?;
-    taken.set_sorted_flag(flag);
-    Ok(taken)
 }
 
 impl<const B: u64> TakeChunked<B> for Series {

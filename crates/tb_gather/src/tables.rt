@@ -31,8 +31,8 @@ fn gather_columns<const B: u64>(
     Ok(gathered)
 }
 
-// The table of columns that make one.
-pub(crate) fn made_table(alloc: Global, columns: Vec<Column>) -> Result<DataFrame, OutOfMemory>
+/// The table of columns that make one.
+pub fn made_table(alloc: Global, columns: Vec<Column>) -> Result<DataFrame, OutOfMemory>
     requires { IsTable (table_of columns.items) }
     ensures { IfOk result (λ t. t ≡ columns.items) }
 {

@@ -6,7 +6,7 @@ use Rattle.std.proofs.lemmas.List.{get_or-replicate}
 use Rattle.tb_value.specs.Promise.Datum.{Datum}
 use Rattle.tb_value.specs.Promise.Pairs.{row_numbers}
 use Rattle.tb_value.specs.Promise.Same.{agrees}
-use Rattle.tb_frame.specs.Promise.Join.{Request, field}
+use Rattle.tb_frame.specs.Promise.Join.{field}
 use Rattle.tb_frame.specs.Promise.Table.{height}
 use Rattle.tb_frame.proofs.Listings.{listing-same}
 use Rattle.tb_frame.proofs.Meaning.{rows_all}

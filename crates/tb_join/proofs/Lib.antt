@@ -8,3 +8,4 @@ pub mod NamesStand
 pub mod Beside
 pub mod Running
 pub mod EqualFlags
+pub mod Apart

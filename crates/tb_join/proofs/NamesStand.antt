@@ -1,5 +1,5 @@
 -- What a request has whose names are not refused.
-use Rattle.std.proofs.Common.{◌≡◌, ◌==◌, ◌<◌, ◌++◌, List, [], length, get_or, min, ap, sym, ◌∙◌, subst, arith, Option, Some, None}
+use Rattle.std.proofs.Common.{◌≡◌, ◌==◌, ◌<◌, ◌++◌, List, length, get_or, min, ap, sym, ◌∙◌, subst, arith, Option, Some, None}
 use Rattle.std.specs.Prelude.{All, not, slice_get}
 use Rattle.std.specs.List.{filter_map, find}
 use Rattle.std.specs.Option.{ForSome, option_and_then, option_map}

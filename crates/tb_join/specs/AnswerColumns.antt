@@ -1,11 +1,11 @@
 -- The columns of an answer, as they are gathered over its pairs.
-use Rattle.std.specs.Prelude.{◌≡◌, List, ◌++◌, length, map, Option, None, Some, unwrap_or}
+use Rattle.std.specs.Prelude.{◌≡◌, List, ◌++◌, length, map, filter, Option, None, Some, unwrap_or}
 use Rattle.tb_value.specs.Promise.Names.{Name}
 use Rattle.tb_value.specs.declared.index.JoinPair.{JoinPair}
 use Rattle.tb_chunk.specs.Promise.Col.{Col, values}
 use Rattle.tb_frame.specs.declared.args.JoinArgs.{JoinArgs}
 use Rattle.tb_frame.specs.Frame.{coalesced_column, without_names}
-use Rattle.tb_frame.specs.Promise.Naming.{default_suffix, right_name}
+use Rattle.tb_frame.specs.Promise.Naming.{default_suffix, is_among, right_name}
 use Rattle.tb_frame.specs.RightColumns.{gone_left, gone_right, right_side}
 use Rattle.tb_frame.specs.Promise.Table.{names_of, table_of}
 use Rattle.tb_gather.specs.Gathered.{gathered_rows}
@@ -18,6 +18,10 @@ suffix_in a = unwrap_or a.suffix default_suffix
 -- a column under its name beside columns of the names that are taken
 abbrev pub column_called : List Name → Name → Col → Col
 column_called taken suffix c = record c { name = right_name taken (Some suffix) c.name }
+
+-- the columns whose names are among these
+abbrev pub with_names : List Name → List Col → List Col
+with_names names cs = filter (λ (c : Col). is_among names c.name) cs
 
 -- the left columns over the pairs, which keep their flags where the left rows ascend
 abbrev pub left_part : JoinArgs → List Name → List JoinPair → List Col → List Col

@@ -17,11 +17,12 @@ ghost use Rattle.tb_keys.specs.Coalescing.{key_beside};
 ghost use Rattle.tb_join.specs.AnswerColumns.{Fits, filled_column, coalesced_part};
 ghost use Rattle.tb_join.specs.Ready.{CanCoalesceKeys};
 
+use crate::kept::{parted, side_rows};
 use crate::names::side_by_side;
 use std::alloc::Global;
 use std::thread::Threads;
-use tb_frame::{NamedColumns, left_rows, lend_columns, right_rows, suffix_of};
-use tb_gather::gather_rows;
+use tb_frame::{NamedColumns, lend_columns, suffix_of};
+use tb_gather::{LeftRow, RightRow};
 use tb_keys::LentRequest;
 use tb_store::{Column, Series};
 use tb_value::{IsSorted, JoinPair, MAX_ROWS, OutOfMemory, PlSmallStr, PolarsResult};
@@ -42,13 +43,13 @@ fn columns_beside<'a>(
     Ok(beside)
 }
 
-// A column, with the values of another where it has none.
-fn filled_up(alloc: Global, column: &Column, other: Option<&Series>) -> Result<Column, OutOfMemory>
-    requires { ForSome (option_copied other) (Fits column.now) }
-    ensures { IfOk result (λ c. c ≡ filled_column (option_copied other.entry) column.now) }
+// A column, with the values of another where it has none. Where there is no other it is handed back as it is.
+fn filled_up(alloc: Global, column: Column, other: Option<&Series>) -> Result<Column, OutOfMemory>
+    requires { ForSome (option_copied other) (Fits column) }
+    ensures { IfOk result (λ c. c ≡ filled_column (option_copied other.entry) column) }
 {
     match other {
-        None => column.copy(alloc),
+        None => Ok(column),
         Some(other) => {
             let coalesced = column.as_materialized_series().coalesce(alloc, other)?;
             Ok(coalesced.into_column())
@@ -59,11 +60,11 @@ fn filled_up(alloc: Global, column: &Column, other: Option<&Series>) -> Result<C
 // Each column, with the values of the one that is under its name where it has none.
 fn all_filled_up(
     alloc: Global,
-    columns: &[Column],
+    columns: Vec<Column>,
     others: &NamedColumns<'_>,
 ) -> Result<Vec<Column>, OutOfMemory>
-    requires { All (λ (c : Col). ForSome (column_by others.now c.name) (Fits c)) columns.now }
-    ensures { IfOk result (λ v. v.items ≡ map (λ (c : Col). filled_column (column_by others.now c.name) c) columns.now) }
+    requires { All (λ (c : Col). ForSome (column_by others.now c.name) (Fits c)) columns.items }
+    ensures { IfOk result (λ v. v.items ≡ map (λ (c : Col). filled_column (column_by others.now c.name) c) columns.items) }
 {
     let mut filled = Vec::with_capacity(alloc, columns.len())?;
     for column in columns {
@@ -74,19 +75,19 @@ fn all_filled_up(
 }
 
 /// The left columns, those of the names on the left with the values of the right column at the same place where they
-/// have none. All right names are those of columns.
+/// have none, and the others as they are. All right names are those of columns.
 pub fn coalesced_left(
     alloc: Global,
-    left: &[Column],
+    left: Vec<Column>,
     right: &[Column],
     left_on: &[PlSmallStr],
     right_on: &[PlSmallStr],
 ) -> PolarsResult<Vec<Column>>
     requires known { unknown_key (table_of right.now) right_on.now ≡ None }
     requires many { length left_on.now ≤ length (selected_columns right_on.now right.now) }
-    requires fit { All (λ (c : Col). ForSome (key_beside left_on.now (selected_columns right_on.now right.now) c.name) (Fits c)) left.now }
+    requires fit { All (λ (c : Col). ForSome (key_beside left_on.now (selected_columns right_on.now right.now) c.name) (Fits c)) left.items }
     ensures settles { Settles result None }
-    ensures columns { IfOk result (λ v. v.items ≡ coalesced_part left_on.now (selected_columns right_on.now right.now) left.now) }
+    ensures columns { IfOk result (λ v. v.items ≡ coalesced_part left_on.now (selected_columns right_on.now right.now) left.items) }
 {
     let keys = lend_columns(alloc, right, right_on)?;
     let beside = columns_beside(alloc, left_on, &keys)?;
@@ -108,17 +109,10 @@ pub(crate) fn coalesced_columns(
     ensures settles { Settles result None }
     ensures columns { IfOk result (λ v. table_of v.items ≡ map (fill pairs.now) (out (asked_request request.now))) }
 {
-    let rows = left_rows(alloc, pairs)?;
-    let left = gather_rows(rt, alloc, request.left, &rows, IsSorted::Not)?;
-    let rows = right_rows(alloc, pairs)?;
-    let right = gather_rows(rt, alloc, request.right, &rows, IsSorted::Not)?;
-    let columns = coalesced_left(
-        alloc,
-        left.get_columns(),
-        right.get_columns(),
-        request.left_on,
-        request.right_on,
-    )?;
-    let rest = right.drop_many(alloc, request.right_on)?.into_columns();
+    let not = IsSorted::Not;
+    let left = side_rows::<LeftRow>(rt, alloc, request.left, &[], pairs, not)?;
+    let right = side_rows::<RightRow>(rt, alloc, request.right, &[], pairs, not)?;
+    let (keys, rest) = parted(alloc, right, request.right_on)?;
+    let columns = coalesced_left(alloc, left, &keys, request.left_on, request.right_on)?;
     Ok(side_by_side(alloc, columns, rest, suffix_of(request.args))?)
 }

@@ -1,15 +1,15 @@
 //! The join of two tables.
 ghost use Rattle.std.specs.Prelude.{◌≡◌, ◌<◌, IfOk, None, length};
 ghost use Rattle.tb_value.specs.Refusals.{Settles};
-ghost use Rattle.tb_frame.specs.Answer.{IsListed};
-ghost use Rattle.tb_frame.specs.Promise.Join.{IsAnswer, listing, out};
+ghost use Rattle.tb_frame.specs.Answer.{ArePairsOf};
+ghost use Rattle.tb_frame.specs.Promise.Join.{IsAnswer, out};
 ghost use Rattle.tb_frame.specs.Join.{lent_request};
 ghost use Rattle.tb_frame.specs.Promise.Refusal.{join_refusal, key_types};
 ghost use Rattle.tb_frame.specs.Promise.Table.{table_of};
 ghost use Rattle.tb_keys.specs.Asked.{asked_request, asked_by_names};
 ghost use Rattle.tb_keys.specs.Causes.{later_refusal};
 ghost use Rattle.tb_join.specs.Promise.Asked.{plain_args};
-ghost use Rattle.tb_pairs.specs.Promise.Trace.{IsTraced, requested_trace};
+ghost use Rattle.tb_pairs.specs.Promise.Trace.{ArePartsLetIn, IsTraced, requested_trace};
 ghost use Rattle.tb_join.specs.Ready.{CanCoalesceKeys};
 ghost use Rattle.tb_join.specs.Promise.Traced.{named_trace};
 
@@ -64,8 +64,8 @@ pub trait DataFrameJoinOps: IntoDf {
         Ok(table)
     }
 
-    /// The same, and how the join went: what was hashed, or how much was merged. The gate lets in each part of the work
-    /// that hashes.
+    /// The same, and how the join went: what was hashed, or how much was merged. Where keys were hashed, the gate has let in
+    /// each part that the trace tells.
     ///
     /// # Errors
     ///
@@ -84,6 +84,7 @@ pub trait DataFrameJoinOps: IntoDf {
         ensures settles { Settles result (join_refusal (lent_request (Self.frame self.now) other.now left_on.now right_on.now args)) }
         ensures answer { IfOk result (λ r. IsAnswer (lent_request (Self.frame self.now) other.now left_on.now right_on.now args) (table_of r.0)) }
         ensures traced { IfOk result (λ r. IsTraced exec.now (named_trace (Self.frame self.now) other.now left_on.now right_on.now args exec.now) r.1) }
+        ensures let_in { IfOk result (λ r. ArePartsLetIn (G.lets_in gate.now) r.1) }
     {
         let request = NamedRequest {
             left: self.to_df(),
@@ -172,9 +173,9 @@ fn checked_pairs<G: Gate>(
     requires some { 0 < length request.now.left_keys.now }
     requires as_many { length request.now.left_keys.now ≡ length request.now.right_keys.now }
     ensures settles { Settles result (later_refusal (asked_request request.now)) }
-    ensures listed { IfOk result (λ l. IsListed request.now.how request.now.args.now.maintain_order request.now.args.now.slice
-        (listing (asked_request request.now)) l.pairs.items) }
+    ensures listed { IfOk result (λ l. ArePairsOf (asked_request request.now) l.pairs.items) }
     ensures traced { IfOk result (λ l. IsTraced exec.now (requested_trace request.now exec.now) l.trace) }
+    ensures let_in { IfOk result (λ l. ArePartsLetIn (G.lets_in gate.now) l.trace) }
 {
     check_columns(alloc, request)?;
     traced_pairs(rt, alloc, request, exec, gate)
@@ -195,6 +196,7 @@ fn traced_columns<G: Gate>(
     ensures settles { Settles result (later_refusal (asked_request request.now)) }
     ensures answer { IfOk result (λ r. IsAnswer (asked_request request.now) (table_of r.0)) }
     ensures traced { IfOk result (λ r. IsTraced exec.now (requested_trace request.now exec.now) r.1) }
+    ensures let_in { IfOk result (λ r. ArePartsLetIn (G.lets_in gate.now) r.1) }
 {
     let ListedPairs { pairs, trace } = checked_pairs(rt, alloc, request, exec, gate)?;
     let table = finish_join(rt, alloc, request, &pairs)?;
@@ -230,6 +232,7 @@ fn join_tables<G: Gate>(
     ensures answer { IfOk result (λ r. IsAnswer (asked_by_names request.now) (table_of r.0)) }
     ensures traced { IfOk result (λ r. IsTraced exec.now
         (named_trace request.now.left.now request.now.right.now request.now.left_on.now request.now.right_on.now request.now.args.now exec.now) r.1) }
+    ensures let_in { IfOk result (λ r. ArePartsLetIn (G.lets_in gate.now) r.1) }
 {
     let _columns = request.left.get_columns();
     let keys = request.key_columns(alloc)?;

@@ -2,13 +2,11 @@
 ghost use Rattle.std.specs.Prelude.{◌≡◌, ◌<◌, ◌≤◌, ◌⊎◌, ◌++◌, [], All, IfOk, None, false, length, map, true};
 ghost use Rattle.tb_value.specs.Refusals.{Settles};
 ghost use Rattle.tb_chunk.specs.Rows.{IsRowOf};
-ghost use Rattle.tb_frame.specs.Answer.{IsListed, IsPairOf, fill};
-ghost use Rattle.tb_frame.specs.Frame.{without_names};
+ghost use Rattle.tb_frame.specs.Answer.{ArePairsOf, IsPairOf, fill};
 ghost use Rattle.tb_frame.specs.Promise.Join.{IsAnswer, listing, out};
 ghost use Rattle.tb_frame.specs.Promise.Naming.{coalesces, coalesces_keys};
 ghost use Rattle.tb_frame.specs.Promise.Refusal.{repeated_name};
 ghost use Rattle.tb_frame.specs.Promise.Table.{height, table_of};
-ghost use Rattle.tb_gather.specs.Gathered.{gathered_rows};
 ghost use Rattle.tb_gather.specs.Ids.{AreAllRowsInOrder};
 ghost use Rattle.tb_keys.specs.Asked.{asked_request};
 ghost use Rattle.tb_join.specs.AnswerColumns.{answer_columns, right_part, side_by_side};
@@ -16,43 +14,16 @@ ghost use Rattle.tb_join.specs.Ready.{CanCoalesceKeys};
 ghost use Rattle.tb_join.specs.RowOrder.{AscendAsAsked, right_order_asked};
 
 use crate::coalescing::coalesced_columns;
+use crate::kept::side_rows;
 use crate::names::side_by_side;
 use crate::row_order::{left_order, right_order};
 use std::alloc::Global;
 use std::thread::Threads;
-use tb_frame::{DataFrame, gone_left, gone_right, has_right, left_rows, right_rows, suffix_of};
-use tb_gather::gather_rows;
+use tb_frame::{DataFrame, gone_left, gone_right, has_right, suffix_of};
+use tb_gather::{LeftRow, RightRow};
 use tb_keys::LentRequest;
 use tb_store::Column;
-use tb_value::{
-    IsSorted, JoinPair, MAX_ROWS, NullableIdxSize, OutOfMemory, PlSmallStr, PolarsResult,
-};
-
-/// The columns of a table over these rows, but for those of the names that go, which are left out before the rest is
-/// gathered. `sorted` says how the rows run, as in `gather_rows`.
-pub fn kept_table(
-    rt: &(impl Threads + Sync),
-    alloc: Global,
-    table: &DataFrame,
-    gone: &[PlSmallStr],
-    rows: &[NullableIdxSize],
-    sorted: IsSorted,
-) -> Result<DataFrame, OutOfMemory>
-    requires rows { All (IsRowOf (height (table_of table.now))) rows.now }
-    requires in_order { AreAllRowsInOrder sorted rows.now }
-    requires few { length rows.now ≤ MAX_ROWS }
-    ensures { IfOk result (λ t. t ≡ map (gathered_rows rows.now sorted) (without_names gone.now table.now)) }
-{
-    if gone.is_empty() {
-        return gather_rows(rt, alloc, table, rows, sorted);
-    }
-    let _columns = table.get_columns();
-    let kept = table.drop_many(alloc, gone)?;
-    if kept.width() == 0 {
-        return Ok(kept);
-    }
-    gather_rows(rt, alloc, &kept, rows, sorted)
-}
+use tb_value::{JoinPair, MAX_ROWS, OutOfMemory, PolarsResult};
 
 // The right columns over the pairs, but for those that go.
 fn right_columns(
@@ -69,10 +40,9 @@ fn right_columns(
     if !has_right(request.how) {
         return Ok(Vec::new(alloc));
     }
-    let rows = right_rows(alloc, pairs)?;
     let gone = gone_right(request.how, request.args, request.right_on);
     let sorted = right_order(request.how, request.args);
-    Ok(kept_table(rt, alloc, request.right, gone, &rows, sorted)?.into_columns())
+    side_rows::<RightRow>(rt, alloc, request.right, gone, pairs, sorted)
 }
 
 // The left columns over the pairs, and then the right ones, of which none are coalesced.
@@ -88,10 +58,9 @@ fn plain_columns(
     ensures { IfOk result (λ v. v.items ≡ answer_columns
         (asked_request request.now).args request.now.left_on.now request.now.right_on.now pairs.now request.now.left.now request.now.right.now) }
 {
-    let rows = left_rows(alloc, pairs)?;
     let gone = gone_left(request.how, request.args, request.left_on);
     let sorted = left_order(request.how, request.args);
-    let left = kept_table(rt, alloc, request.left, gone, &rows, sorted)?.into_columns();
+    let left = side_rows::<LeftRow>(rt, alloc, request.left, gone, pairs, sorted)?;
     let right = right_columns(rt, alloc, request, pairs)?;
     side_by_side(alloc, left, right, suffix_of(request.args))
 }
@@ -128,7 +97,7 @@ pub fn finish_join(
     requires few { length (listing (asked_request request.now)) ≤ MAX_ROWS }
     requires coalescing { CanCoalesceKeys (asked_request request.now) }
     requires some { (0 < length (out (asked_request request.now))) ⊎ (pairs.now ≡ []) }
-    requires listed { IsListed request.now.how request.now.args.now.maintain_order request.now.args.now.slice (listing (asked_request request.now)) pairs.now }
+    requires listed { ArePairsOf (asked_request request.now) pairs.now }
     ensures settles { Settles result None }
     ensures answer { IfOk result (λ t. IsAnswer (asked_request request.now) (table_of t)) }
 {

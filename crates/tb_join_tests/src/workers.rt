@@ -8,15 +8,13 @@ use tb_join::{DataFrameJoinOps, JoinTrace};
 use tb_pool::Gate;
 use tb_request::{JoinRequest, join_request_of};
 
-// Eight keys on each side, two workers and two partitions.
-const BY_TWO_WORKERS: &str =
-    r#""left":{"columns":[{"name":"k","type":"i64","chunks":[[1,2,3,4,5,6,7,8]]}]},"right":{"columns":[{"name":"k","type":"i64","chunks":[[8,7,6,5,4,3,2,1]]}]},"left_on":["k"],"right_on":["k"],"exec":{"workers":2,"partitions":2,"small":0,"num":1,"den":1}"#;
-
 const TURNS: u64 = 100_000_000;
 
-// Holds each entry of part 0 and of part 1 until the other part has entered as often, and notes where it doesn't.
+// Holds each entry of part 0 and of part 1 until the other part has entered as often, and notes where it doesn't. With no
+// turns it holds none.
 #[derive(Drop)]
 struct Meeting {
+    turns: u64,
     first: AtomicU64,
     second: AtomicU64,
     late: AtomicU64,
@@ -32,7 +30,7 @@ impl Gate for Meeting {
             (&self.second, &self.first)
         };
         let before = own.fetch_add(1, Ordering::SeqCst);
-        for _ in 0..TURNS {
+        for _ in 0..self.turns {
             if other.load(Ordering::SeqCst) > before {
                 return;
             }
@@ -41,18 +39,57 @@ impl Gate for Meeting {
     }
 }
 
-// Both parts entered as often, in the scatter, the build and the probe, and none waited in vain.
-fn check_meeting(rt: &impl Abort, gate: &Meeting) {
-    let entered = gate.first.load(Ordering::SeqCst);
-    assert_eq!(rt; gate.second.load(Ordering::SeqCst), entered);
-    assert!(rt; entered >= 3);
-    assert_eq!(rt; gate.late.load(Ordering::SeqCst), 0);
+impl Meeting {
+    fn new(turns: u64) -> Meeting {
+        Meeting {
+            turns,
+            first: AtomicU64::new(0),
+            second: AtomicU64::new(0),
+            late: AtomicU64::new(0),
+        }
+    }
 }
 
-fn meet(
+// The numbers below `rows`, with commas between them.
+fn numbers(alloc: Global, rows: u32) -> Result<String, Fail> {
+    let mut text = String::new(alloc);
+    for row in 0..rows {
+        let comma = if row == 0 { "" } else { "," };
+        text.push_str(&format!(in alloc; "{comma}{row}")?)?;
+    }
+    Ok(text)
+}
+
+// A join by these keys of two tables of so many rows, by two workers and two partitions.
+fn request_of(
+    alloc: Global,
+    how: &str,
+    keys: &str,
+    rows: u32,
+    small: u32,
+) -> Result<JoinRequest, Fail> {
+    let rows = numbers(alloc, rows)?;
+    let table = format!(in alloc;
+        r#"{{"columns":[{{"name":"a","type":"i64","chunks":[[{rows}]]}},{{"name":"b","type":"i64","chunks":[[{rows}]]}}]}}"#
+    )?;
+    let exec = format!(in alloc;
+        r#"{{"workers":2,"partitions":2,"small":{small},"num":1,"den":1}}"#
+    )?;
+    let text = format!(in alloc;
+        r#"{{"left":{table},"right":{table},"left_on":{keys},"right_on":{keys},"args":{{"how":"{how}"}},"exec":{exec}}}"#
+    )?;
+    Ok(
+        join_request_of(alloc, text.into_bytes())
+            .ok()
+            .ok_or("no request")?,
+    )
+}
+
+fn join_behind(
     rt: &(impl Threads + Sync + Abort),
     alloc: Global,
     request: JoinRequest,
+    gate: &Meeting,
 ) -> Result<(), Fail> {
     let JoinRequest {
         left,
@@ -63,27 +100,65 @@ fn meet(
         exec,
         trace: _,
     } = request;
-    let gate = Meeting {
-        first: AtomicU64::new(0),
-        second: AtomicU64::new(0),
-        late: AtomicU64::new(0),
-    };
-    let joined = left.join_traced(rt, alloc, &right, &left_on, &right_on, args, &exec, &gate);
+    let joined = left.join_traced(rt, alloc, &right, &left_on, &right_on, args, &exec, gate);
     let (_table, trace) = joined.ok().ok_or("no answer")?;
     assert!(rt; matches!(trace, JoinTrace::Hash(_)));
-    check_meeting(rt, &gate);
     Ok(())
 }
+
+// Both parts enter as often, in the scatter, the build and the probe, and none waits in vain.
+fn meet(
+    rt: &(impl Threads + Sync + Abort),
+    alloc: Global,
+    request: JoinRequest,
+) -> Result<(), Fail> {
+    let gate = Meeting::new(TURNS);
+    join_behind(rt, alloc, request, &gate)?;
+    let entered = gate.first.load(Ordering::SeqCst);
+    assert_eq!(rt; gate.second.load(Ordering::SeqCst), entered);
+    assert!(rt; entered >= 3);
+    assert_eq!(rt; gate.late.load(Ordering::SeqCst), 0);
+    Ok(())
+}
+
+const ONE_KEY: &str = r#"["a"]"#;
+
+const TWO_KEYS: &str = r#"["a","b"]"#;
 
 #[test]
 fn both_workers_enter_each_phase(rt: HostRuntime) -> Result<(), Fail> {
     let alloc = rt.alloc();
     for how in ["inner", "left", "right", "full", "semi", "anti"] {
-        let text = format!(in alloc; r#"{{"args":{{"how":"{how}"}},{BY_TWO_WORKERS}}}"#)?;
-        let Ok(request) = join_request_of(alloc, text.into_bytes()) else {
-            return Err("no request".into());
-        };
-        meet(&rt, alloc, request)?;
+        for keys in [ONE_KEY, TWO_KEYS] {
+            meet(&rt, alloc, request_of(alloc, how, keys, 8, 0)?)?;
+        }
+    }
+    Ok(())
+}
+
+#[test]
+fn both_enter_where_rows_are_not_few(rt: HostRuntime) -> Result<(), Fail> {
+    let alloc = rt.alloc();
+    for keys in [ONE_KEY, TWO_KEYS] {
+        meet(&rt, alloc, request_of(alloc, "inner", keys, 256, 256)?)?;
+    }
+    Ok(())
+}
+
+// Of few rows one part is built and one is probed.
+#[test]
+fn few_rows_enter_as_one_part(rt: HostRuntime) -> Result<(), Fail> {
+    let alloc = rt.alloc();
+    for keys in [ONE_KEY, TWO_KEYS] {
+        let gate = Meeting::new(0);
+        join_behind(
+            &rt,
+            alloc,
+            request_of(alloc, "inner", keys, 255, 256)?,
+            &gate,
+        )?;
+        assert_eq!(rt; gate.first.load(Ordering::SeqCst), 2);
+        assert_eq!(rt; gate.second.load(Ordering::SeqCst), 0);
     }
     Ok(())
 }

@@ -5,9 +5,9 @@ ghost use Rattle.tb_value.specs.Promise.Names.{same_name};
 ghost use Rattle.tb_value.specs.Refusals.{Settles};
 ghost use Rattle.tb_chunk.specs.Promise.Col.{Col, values};
 ghost use Rattle.tb_chunk.specs.Rows.{IsRowOf};
-ghost use Rattle.tb_frame.specs.Answer.{IsListed, IsPairOf, fill};
+ghost use Rattle.tb_frame.specs.Answer.{ArePairsOf, IsPairOf, fill};
 ghost use Rattle.tb_frame.specs.Frame.{without_names};
-ghost use Rattle.tb_frame.specs.Promise.Join.{IsAnswer, listing, out};
+ghost use Rattle.tb_frame.specs.Promise.Join.{IsAnswer, out};
 ghost use Rattle.tb_frame.specs.Promise.Refusal.{join_valid};
 ghost use Rattle.tb_frame.specs.RightColumns.{gone_left};
 ghost use Rattle.tb_frame.specs.Promise.Table.{table_of, height};
@@ -132,7 +132,7 @@ pub(crate) fn answer_table(
 ) -> PolarsResult<DataFrame>
     requires named { IsByNames request.now }
     requires valid { join_valid (asked_request request.now) }
-    requires listed { IsListed request.now.how request.now.args.now.maintain_order request.now.args.now.slice (listing (asked_request request.now)) pairs.now }
+    requires listed { ArePairsOf (asked_request request.now) pairs.now }
     ensures settles { Settles result None }
     ensures answer { IfOk result (λ t. IsAnswer (asked_request request.now) (table_of t)) }
 {

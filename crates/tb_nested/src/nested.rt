@@ -2,8 +2,8 @@
 ghost use Rattle.std.specs.Prelude.{◌≡◌, IfOk};
 ghost use Rattle.tb_value.specs.Promise.Refusals.{first_cause};
 ghost use Rattle.tb_value.specs.Refusals.{Settles};
-ghost use Rattle.tb_frame.specs.Answer.{IsListed};
-ghost use Rattle.tb_frame.specs.Promise.Join.{IsAnswer, listing};
+ghost use Rattle.tb_frame.specs.Answer.{ArePairsOf};
+ghost use Rattle.tb_frame.specs.Promise.Join.{IsAnswer};
 ghost use Rattle.tb_frame.specs.Join.{lent_request};
 ghost use Rattle.tb_frame.specs.Promise.Refusal.{join_refusal, row_causes, too_many_rows};
 ghost use Rattle.tb_frame.specs.Promise.Table.{table_of};
@@ -19,17 +19,17 @@ use tb_value::{JoinPair, PlSmallStr, PolarsResult};
 // The pairs of the answer. Refuses too many of them before they are cut.
 fn listed_pairs(alloc: Global, request: &LentRequest<'_>) -> PolarsResult<Vec<JoinPair>>
     ensures settles { Settles result (too_many_rows (asked_request request.now)) }
-    ensures listed { IfOk result (λ v. IsListed request.now.how request.now.args.now.maintain_order request.now.args.now.slice (listing (asked_request request.now)) v.items) }
+    ensures listed { IfOk result (λ v. ArePairsOf (asked_request request.now) v.items) }
 {
     let pairs = list_pairs(alloc, request)?;
     check_size(&pairs)?;
-    Ok(arrange(alloc, pairs, request.how, request.args)?)
+    Ok(arrange(pairs, request.how, request.args)?)
 }
 
 // The pairs of the answer, where no cause refuses the sides or the size.
 fn validated_pairs(alloc: Global, request: &LentRequest<'_>) -> PolarsResult<Vec<JoinPair>>
     ensures settles { Settles result (first_cause (row_causes (asked_request request.now))) }
-    ensures listed { IfOk result (λ v. IsListed request.now.how request.now.args.now.maintain_order request.now.args.now.slice (listing (asked_request request.now)) v.items) }
+    ensures listed { IfOk result (λ v. ArePairsOf (asked_request request.now) v.items) }
 {
     check_sides(request)?;
     listed_pairs(alloc, request)
@@ -38,7 +38,7 @@ fn validated_pairs(alloc: Global, request: &LentRequest<'_>) -> PolarsResult<Vec
 // The pairs of the answer, where no cause refuses the key columns, the names, the sides or the size.
 fn checked_pairs(alloc: Global, request: &LentRequest<'_>) -> PolarsResult<Vec<JoinPair>>
     ensures settles { Settles result (later_refusal (asked_request request.now)) }
-    ensures listed { IfOk result (λ v. IsListed request.now.how request.now.args.now.maintain_order request.now.args.now.slice (listing (asked_request request.now)) v.items) }
+    ensures listed { IfOk result (λ v. ArePairsOf (asked_request request.now) v.items) }
 {
     check_columns(alloc, request)?;
     validated_pairs(alloc, request)

@@ -2,7 +2,7 @@
 use Rattle.std.proofs.Common.{◌≡◌, ℕ, true, List, [], ◌∷◌, map, refl, Option, Some, None}
 use Rattle.std.specs.Prelude.{nat_eq}
 use Rattle.std.specs.Cmp.Lexicographic.{pointwise, bytes_decides}
-use Rattle.tb_value.specs.Promise.Datum.{Datum, binary}
+use Rattle.tb_value.specs.Promise.Datum.{binary}
 use Rattle.tb_chunk.specs.Chunk.{or_null}
 use Rattle.tb_build.specs.Keys.{keys_match}
 use Rattle.tb_build.specs.declared.keys.KeyBytes.{KeyBytes}

@@ -1,10 +1,8 @@
 -- The trace of a request.
-use Rattle.std.proofs.Common.{◌≡◌, ◌<◌, ◌∙◌, ℕ, Bool, true, false, cond, not, ◌&&◌, ◌||◌, List, [], ◌∷◌, length, map, refl, ap, sym, subst, arith}
-use Rattle.std.specs.Prelude.{IsPermutation, nat_lt, ◌+◌, ◌*◌, ◌^◌, ◌≤◌}
+use Rattle.std.proofs.Common.{◌≡◌, ◌<◌, ◌∙◌, Bool, true, false, cond, not, ◌&&◌, ◌||◌, List, [], ◌∷◌, length, refl, ap, sym, subst, arith}
+use Rattle.std.specs.Prelude.{nat_lt, ◌+◌, ◌*◌, ◌^◌, ◌≤◌}
 use Rattle.std.proofs.lemmas.Bool.{ltb-true, lt-ltb, not-false}
 use Rattle.std.proofs.lemmas.List.{length-map}
-use Rattle.std.proofs.lemmas.List.Sorted.{IsPermutation-refl}
-use Rattle.std.specs.Borrow.{Bor}
 use Rattle.tb_value.specs.Promise.Datum.{Datum}
 use Rattle.tb_value.specs.Promise.Kind.{Kind}
 use Rattle.tb_value.specs.Promise.Kind as kind
@@ -30,7 +28,6 @@ use Rattle.tb_rowkey.specs.Promise.Columns.{keys_at, row_bytes, row_count}
 use Rattle.tb_rowkey.specs.Columns.{AreShortRows}
 use Rattle.tb_pairs.specs.Promise.Trace.{IsFound, IsTraced, Trace, hash, has_long_row, hashed_kind, hashed_values, lacks_keys, merge, plain, requested_trace, trace_of}
 use Rattle.tb_pairs.specs.declared.trace.FoundPairs.{FoundPairs}
-use Rattle.tb_pairs.specs.declared.trace.JoinTrace.{JoinTrace}
 use Rattle.tb_pairs.specs.declared.trace.JoinTrace.TheVariants.{Hash, Merge, Plain}
 use Rattle.tb_pairs.proofs.Twins.{any_false, any_none}
 

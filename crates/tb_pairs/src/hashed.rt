@@ -1,5 +1,5 @@
 //! Pairs by hash tables.
-ghost use Rattle.std.specs.Prelude.{◌≡◌, ◌<◌, ◌≤◌, false, IfOk, List, length, map};
+ghost use Rattle.std.specs.Prelude.{◌≡◌, ℕ, ◌<◌, ◌≤◌, false, IfOk, List, length, map};
 ghost use Rattle.std.specs.Option.{option_copied};
 ghost use Rattle.tb_value.specs.Promise.Datum.{binary};
 ghost use Rattle.tb_value.specs.Promise.Refusals.{first_cause};
@@ -18,7 +18,7 @@ ghost use Rattle.tb_keys.specs.Asked.{asked_request};
 ghost use Rattle.tb_sorted.specs.Listed.{IsListedIn};
 ghost use Rattle.tb_sorted.specs.Path.{takes_merge_path};
 ghost use Rattle.tb_pairs.specs.KeyColumns.{AreAlike};
-ghost use Rattle.tb_pairs.specs.Promise.Trace.{IsFound};
+ghost use Rattle.tb_pairs.specs.Promise.Trace.{ArePartsLetIn, IsFound};
 
 use crate::trace::{FoundPairs, JoinTrace};
 use std::alloc::Global;
@@ -58,6 +58,7 @@ pub(crate) fn pairs_by_key<G: Gate>(
     requires hashed { takes_merge_path request.now exec.now ≡ false }
     ensures settles { Settles result (first_cause (row_causes (asked_request request.now))) }
     ensures found { IfOk result (IsFound request.now exec.now) }
+    ensures let_in { IfOk result (λ f. ArePartsLetIn (G.lets_in gate.now) f.trace) }
 {
     let left = request.left_keys[0];
     let right = request.right_keys[0];
@@ -110,7 +111,8 @@ fn joined_row_keys<G: Gate>(
     exec: &Exec,
     gate: &G,
 ) -> PolarsResult<(Probed, Built)>
-    ensures { AreValuesHashed exec.now validate false how kind.binary (map (or_null binary) left.now) (map (or_null binary) right.now) result }
+    ensures hashed { AreValuesHashed exec.now validate false how kind.binary (map (or_null binary) left.now) (map (or_null binary) right.now) result }
+    ensures let_in { IfOk result (λ r. (part : ℕ) → part < r.1.parts → G.lets_in gate.now part) }
 {
     left.know_rows();
     right.know_rows();
@@ -138,6 +140,7 @@ pub(crate) fn pairs_by_row_key<G: Gate>(
     requires right_short { AreShortRows (lent_columns request.now.right_keys.now) }
     ensures settles { Settles result (first_cause (row_causes (asked_request request.now))) }
     ensures found { IfOk result (IsFound request.now exec.now) }
+    ensures let_in { IfOk result (λ f. ArePartsLetIn (G.lets_in gate.now) f.trace) }
 {
     know_columns(request.left_keys);
     know_columns(request.right_keys);

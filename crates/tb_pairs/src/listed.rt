@@ -7,7 +7,7 @@ ghost use Rattle.tb_value.specs.Refusals.{Settles};
 ghost use Rattle.tb_chunk.specs.Chunk.{or_null};
 ghost use Rattle.tb_chunk.specs.Promise.Col.{values};
 ghost use Rattle.tb_chunk.specs.Lent.{lent_columns};
-ghost use Rattle.tb_frame.specs.Answer.{IsListed};
+ghost use Rattle.tb_frame.specs.Answer.{ArePairsOf};
 ghost use Rattle.tb_frame.specs.Promise.Join.{flag_at, listing};
 ghost use Rattle.tb_frame.specs.Promise.Refusal.{row_causes};
 ghost use Rattle.tb_rowkey.specs.Promise.Columns.{keys_at, row_count};
@@ -15,7 +15,7 @@ ghost use Rattle.tb_rowkey.specs.Columns.{AreShortRows};
 ghost use Rattle.tb_sorted.specs.Listed.{IsListedIn};
 ghost use Rattle.tb_keys.specs.Asked.{asked_request};
 ghost use Rattle.tb_pairs.specs.KeyColumns.{AreAlike};
-ghost use Rattle.tb_pairs.specs.Promise.Trace.{IsFound, IsTraced, lacks_keys, requested_trace};
+ghost use Rattle.tb_pairs.specs.Promise.Trace.{ArePartsLetIn, IsFound, IsTraced, lacks_keys, requested_trace};
 
 use crate::arranged::arranged;
 use crate::hashed::{pairs_by_key, pairs_by_row_key};
@@ -47,6 +47,7 @@ fn plain_pairs(alloc: Global, request: &LentRequest<'_>, exec: &Exec) -> PolarsR
     requires long { lacks_keys (lent_columns request.now.left_keys.now) (lent_columns request.now.right_keys.now) ≡ true }
     ensures settles { Settles result (first_cause (row_causes (asked_request request.now))) }
     ensures found { IfOk result (IsFound request.now exec.now) }
+    ensures plain { IfOk result (λ f. f.trace ≡ JoinTrace.Plain) }
 {
     let listed = pairs_by_field(alloc, request)?;
     let trace = JoinTrace::Plain;
@@ -80,6 +81,7 @@ fn pairs_by_rows<G: Gate>(
     requires alike { AreAlike (lent_columns request.now.left_keys.now) (lent_columns request.now.right_keys.now) }
     ensures settles { Settles result (first_cause (row_causes (asked_request request.now))) }
     ensures found { IfOk result (IsFound request.now exec.now) }
+    ensures let_in { IfOk result (λ f. ArePartsLetIn (G.lets_in gate.now) f.trace) }
 {
     let nulls = &request.args.join_nulls;
     let left = row_keys(alloc, nulls, request.left_keys)?;
@@ -103,6 +105,7 @@ fn found_pairs<G: Gate>(
     requires alike { AreAlike (lent_columns request.now.left_keys.now) (lent_columns request.now.right_keys.now) }
     ensures settles { Settles result (first_cause (row_causes (asked_request request.now))) }
     ensures found { IfOk result (IsFound request.now exec.now) }
+    ensures let_in { IfOk result (λ f. ArePartsLetIn (G.lets_in gate.now) f.trace) }
 {
     if let Some(merged) = merged_pairs(alloc, request, exec)? {
         return Ok(FoundPairs {
@@ -123,7 +126,7 @@ fn found_pairs<G: Gate>(
 ///
 /// One key on each side is merged where `tb_sorted` says so, and else hashed as it is; of several each row's key is
 /// hashed. Where a row of either side is too long for a key, which takes 2^32 bytes, each left row is compared with each
-/// right one, field by field.
+/// right one, field by field. Of what is hashed the gate has let in each part.
 ///
 /// # Errors
 ///
@@ -138,12 +141,12 @@ pub fn traced_pairs<G: Gate>(
 ) -> PolarsResult<ListedPairs>
     requires alike { AreAlike (lent_columns request.now.left_keys.now) (lent_columns request.now.right_keys.now) }
     ensures settles { Settles result (first_cause (row_causes (asked_request request.now))) }
-    ensures listed { IfOk result (λ l. IsListed request.now.how request.now.args.now.maintain_order request.now.args.now.slice
-        (listing (asked_request request.now)) l.pairs.items) }
+    ensures listed { IfOk result (λ l. ArePairsOf (asked_request request.now) l.pairs.items) }
     ensures traced { IfOk result (λ l. IsTraced exec.now (requested_trace request.now exec.now) l.trace) }
+    ensures let_in { IfOk result (λ l. ArePartsLetIn (G.lets_in gate.now) l.trace) }
 {
     let found = found_pairs(rt, alloc, request, exec, gate)?;
-    let pairs = arranged(alloc, found.listed, request.how, request.args)?;
+    let pairs = arranged(alloc, found.listed, request)?;
     Ok(ListedPairs {
         pairs,
         trace: found.trace,
@@ -163,7 +166,7 @@ pub fn listed_pairs(
 ) -> PolarsResult<Vec<JoinPair>>
     requires alike { AreAlike (lent_columns request.now.left_keys.now) (lent_columns request.now.right_keys.now) }
     ensures settles { Settles result (first_cause (row_causes (asked_request request.now))) }
-    ensures listed { IfOk result (λ v. IsListed request.now.how request.now.args.now.maintain_order request.now.args.now.slice (listing (asked_request request.now)) v.items) }
+    ensures listed { IfOk result (λ v. ArePairsOf (asked_request request.now) v.items) }
 {
     Ok(traced_pairs(rt, alloc, request, exec, &OpenGate)?.pairs)
 }

@@ -1,5 +1,5 @@
 -- How a join goes: which path its keys take, and what is built or merged of them.
-use Rattle.std.specs.Prelude.{◌≡◌, ◌+◌, ◌*◌, ◌^◌, ◌≤◌, ⊤, ℕ, Bool, ◌&&◌, ◌||◌, not, nat_lt, if◌then◌else◌, List, [], ◌∷◌, length}
+use Rattle.std.specs.Prelude.{◌≡◌, ◌+◌, ◌*◌, ◌^◌, ◌<◌, ◌≤◌, ⊤, ℕ, Bool, ◌&&◌, ◌||◌, not, nat_lt, if◌then◌else◌, List, [], ◌∷◌, length}
 use Rattle.std.specs.List.{list_any}
 use Rattle.tb_value.specs.Promise.Datum.{Datum}
 use Rattle.tb_value.specs.Promise.Kind.{Kind}
@@ -65,6 +65,12 @@ trace_told rust.Plain = plain
 abbrev pub IsCheap : JoinTrace → Type 0
 IsCheap (rust.Merge merged) = merged.comparisons ≤ 2 * merged.left_len + merged.right_len
 IsCheap _ = ⊤
+
+-- each part that a trace tells, if it is of hash tables, has been let in
+abbrev pub ArePartsLetIn : (ℕ → Type 0) → JoinTrace → Type 0
+ArePartsLetIn lets_in (rust.Hash built) = (part : ℕ) → part < built.parts → lets_in part
+ArePartsLetIn lets_in (rust.Merge merged) = ⊤
+ArePartsLetIn lets_in rust.Plain = ⊤
 
 -- a trace tells this, and is of a cheap merge, if of one
 pub record IsTraced (exec : ExecView) (due : Trace) (trace : JoinTrace) : Type 0 where

@@ -1,12 +1,13 @@
-use Rattle.std.proofs.Common.{◌∙◌, List, Option, ℕ, sym, subst, arith}
-use Rattle.std.proofs.lemmas.List.{take_all}
+use Rattle.std.proofs.Common.{◌≡◌, List, Option, ℕ, map, subst}
+use Rattle.std.specs.Prelude.{IfOk}
+use Rattle.std.proofs.lemmas.List.{map-id}
+use Rattle.tb_value.specs.declared.sorted.IsSorted.{IsSorted}
 use Rattle.tb_frame.specs.Frame.{lens}
-use Rattle.tb_gather.specs.Ids.{RowsStandInOrder}
-use Rattle.tb_gather.proofs.Running.{ids-run}
+use Rattle.tb_gather.specs.Ids.{RowsStandInOrder, StandInOrder, row_or_none}
 use Rattle.tb_gather.proofs.ids.ids_of.Goals as goal
 
+pub returns-clause-rows : goal.returns-clause-rows
+returns-clause-rows g c = subst (λ (rows : List (Option ℕ)). IfOk c.ids_by.result (λ v. map (row_or_none (lens c.args.column.now)) v.items ≡ rows)) (map-id c.args.rows.now) c.ids_by.ensures.rows
+
 pub returns-clause-in_order : goal.returns-clause-in_order
-returns-clause-in_order g c = λ sorted runs.
-    let l = c.loop-row in
-    let rows = l.invariant.rows ∙ take_all l.row-index c.args.rows.now (omega arith) in
-    ids-run (lens c.args.column.now) l.ids.items l.invariant.named sorted (subst (λ (ns : List (Option ℕ)). RowsStandInOrder sorted ns) (sym rows) runs)
+returns-clause-in_order g c = subst (λ (rows : List (Option ℕ)). IfOk c.ids_by.result (λ v. (sorted : IsSorted) → RowsStandInOrder sorted rows → StandInOrder sorted v.items)) (map-id c.args.rows.now) c.ids_by.ensures.in_order

@@ -17,9 +17,9 @@ columns_beside-requires c =
 pub all_filled_up-requires : goal.all_filled_up-requires
 all_filled_up-requires c =
     let is = ap lent_columns c.deref.ensures.value ∙ c.in_ok-keys.ensures.columns in
-    λ i d low k e. c.requires.fit i d low k (sym (c.in_ok-beside.ensures (get_or c.args.left.now i d).name ∙ ap (λ (ks : List Col). key_beside c.args.left_on.now ks (get_or c.args.left.now i d).name) is) ∙ e)
+    λ i d low k e. c.requires.fit i d low k (sym (c.in_ok-beside.ensures (get_or c.args.left.items i d).name ∙ ap (λ (ks : List Col). key_beside c.args.left_on.now ks (get_or c.args.left.items i d).name) is) ∙ e)
 
 pub returns-clause-columns : goal.returns-clause-columns
 returns-clause-columns c =
     let is = ap lent_columns c.deref.ensures.value ∙ c.in_ok-keys.ensures.columns in
-    c.in_ok-all_filled_up.ensures ∙ (λ t. map (λ (k : Col). filled_column ((c.in_ok-beside.ensures k.name ∙ ap (λ (ks : List Col). key_beside c.args.left_on.now ks k.name) is) t) k) c.args.left.now)
+    c.in_ok-all_filled_up.ensures ∙ (λ t. map (λ (k : Col). filled_column ((c.in_ok-beside.ensures k.name ∙ ap (λ (ks : List Col). key_beside c.args.left_on.now ks k.name) is) t) k) c.args.left.items)

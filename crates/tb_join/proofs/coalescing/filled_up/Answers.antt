@@ -12,4 +12,4 @@ coalesce-requires-clause-len c = ap (λ (k : Col). length (values k)) c.as_mater
 
 pub returns-in_ok-coalesced-in-Some : goal.returns-in_ok-coalesced-in-Some
 returns-in_ok-coalesced-in-Some c =
-    c.into_column.ensures ∙ c.in_ok-coalesced-in-Some.ensures ∙ (λ t. filled_column (Some c.in-Some.other.now) (c.as_materialized_series.ensures t)) ∙ ap (λ (o : Option Col). filled_column o c.args.column.now) (sym (ap option_copied c.in-Some.is))
+    c.into_column.ensures ∙ c.in_ok-coalesced-in-Some.ensures ∙ (λ t. filled_column (Some c.in-Some.other.now) (c.as_materialized_series.ensures t)) ∙ ap (λ (o : Option Col). filled_column o c.args.column) (sym (ap option_copied c.in-Some.is))

@@ -11,7 +11,6 @@ use Rattle.tb_frame.specs.Promise.Refusal.{column_causes, row_causes}
 use Rattle.tb_frame.proofs.Causes.{no_cause, when_not_above}
 use Rattle.tb_keys.specs.Asked.{asked_request}
 use Rattle.tb_keys.specs.Causes.{later_refusal}
-use Rattle.tb_join.proofs.Finishing.{settled}
 use Rattle.tb_join.proofs.frame_join.traced_columns.Goals as goal
 
 each : (q : Request) → later_refusal q ≡ None → All (λ (o : Option PolarsError). o ≡ None) (column_causes q ++ row_causes q)

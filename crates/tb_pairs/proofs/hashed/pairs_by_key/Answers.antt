@@ -1,11 +1,10 @@
-use Rattle.std.proofs.Common.{Option, List, ap, get_or, length, subst, sym, arith, ◌∙◌, ◌≡◌, ◌⊎◌, Some}
+use Rattle.std.proofs.Common.{Option, get_or, subst, sym, arith, ◌∙◌, ◌≡◌, ◌⊎◌, Some}
 use Rattle.std.proofs.lemmas.Result.{err_from_is_err_and}
 use Rattle.tb_value.specs.declared.error.PolarsError.{PolarsError}
 use Rattle.tb_value.specs.declared.error.PolarsError.TheVariants.{OutOfMemory}
-use Rattle.tb_chunk.specs.Promise.Col.{Col, values}
-use Rattle.tb_chunk.specs.Lent.{lent_columns}
+use Rattle.tb_chunk.specs.Promise.Col.{values}
 use Rattle.tb_sorted.proofs.OneKey.{one_column}
-use Rattle.tb_pairs.specs.Promise.Trace.{trace_of}
+use Rattle.tb_pairs.specs.Promise.Trace.{ArePartsLetIn}
 use Rattle.tb_pairs.proofs.Causes.{one_key_causes}
 use Rattle.tb_pairs.proofs.Requested.{one_key_listing, one_key_types, one_right}
 use Rattle.tb_pairs.proofs.Traces.{hash_found, one_key_traced}
@@ -42,3 +41,6 @@ returns-clause-found g c =
     (one_key_listing r c.requires.alike d e c.requires.one c.flag_at-join_nulls.result c.flag_at-join_nulls.ensures)
     (one_key_traced r c.args.exec.now left right (one_column r.left_keys.now d c.requires.one) (one_column r.right_keys.now e (one_right r c.requires.alike c.requires.one)) c.requires.hashed)
     h.listed h.built c.found_by_hash.ensures.listed c.found_by_hash.ensures.trace
+
+pub returns-clause-let_in : goal.returns-clause-let_in
+returns-clause-let_in g c = subst (ArePartsLetIn (g.G.Gate.lets_in c.args.gate.now)) (sym c.found_by_hash.ensures.trace) c.in_ok-probed.ensures.let_in

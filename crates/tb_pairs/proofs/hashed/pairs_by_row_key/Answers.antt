@@ -1,4 +1,4 @@
-use Rattle.std.proofs.Common.{Option, List, length, map, ap, subst, sym, arith, ◌∙◌, ◌≡◌, ◌⊎◌, Some}
+use Rattle.std.proofs.Common.{Option, map, subst, sym, arith, ◌∙◌, ◌≡◌, ◌⊎◌, Some}
 use Rattle.std.specs.Borrow.{Bor}
 use Rattle.std.proofs.lemmas.List.{length-map}
 use Rattle.std.proofs.lemmas.Result.{err_from_is_err_and}
@@ -9,7 +9,7 @@ use Rattle.tb_value.specs.declared.error.PolarsError.TheVariants.{OutOfMemory}
 use Rattle.tb_chunk.specs.Chunk.{or_null}
 use Rattle.tb_chunk.specs.Lent.{lent_columns}
 use Rattle.tb_hash.specs.Promise.Hashing.{value_plan}
-use Rattle.tb_pairs.specs.Promise.Trace.{hash}
+use Rattle.tb_pairs.specs.Promise.Trace.{ArePartsLetIn, hash}
 use Rattle.tb_pairs.proofs.Causes.{row_keys_causes}
 use Rattle.tb_pairs.proofs.Keys.{as_many}
 use Rattle.tb_pairs.proofs.RowKeys.{row_keys_listing}
@@ -20,11 +20,11 @@ pub returns-in_err-probed-clause-settles : goal.returns-in_err-probed-clause-set
 returns-in_err-probed-clause-settles g c =
     let p = err_from_is_err_and c.from_residual.result c.from_residual.ensures.1 in
     let same = row_keys_causes c.args.request.now c.requires.alike (map (or_null binary) c.args.left.now) (map (or_null binary) c.args.right.now) c.know_columns.ensures c.know_columns-2.ensures c.requires.left c.requires.right in
-    rw (p.1, p.2) (subst (λ (cause : Option PolarsError). (c.in_err-probed.field-0.0 ≡ OutOfMemory) ⊎ (cause ≡ Some c.in_err-probed.field-0.0)) same c.in_err-probed.ensures.settles)
+    rw (p.1, p.2) (subst (λ (cause : Option PolarsError). (c.in_err-probed.field-0.0 ≡ OutOfMemory) ⊎ (cause ≡ Some c.in_err-probed.field-0.0)) same c.in_err-probed.ensures.hashed.settles)
 
 pub returns-clause-settles : goal.returns-clause-settles
 returns-clause-settles g c =
-    sym (row_keys_causes c.args.request.now c.requires.alike (map (or_null binary) c.args.left.now) (map (or_null binary) c.args.right.now) c.know_columns.ensures c.know_columns-2.ensures c.requires.left c.requires.right) ∙ c.in_ok-probed.ensures.settles
+    sym (row_keys_causes c.args.request.now c.requires.alike (map (or_null binary) c.args.left.now) (map (or_null binary) c.args.right.now) c.know_columns.ensures c.know_columns-2.ensures c.requires.left c.requires.right) ∙ c.in_ok-probed.ensures.hashed.settles
 
 pub returns-clause-found : goal.returns-clause-found
 returns-clause-found g c =
@@ -34,10 +34,13 @@ returns-clause-found g c =
     let rs = lent_columns r.right_keys.now in
     let us = map (or_null binary) c.args.left.now in
     let vs = map (or_null binary) c.args.right.now in
-    let h = c.in_ok-probed.ensures in
+    let h = c.in_ok-probed.ensures.hashed in
     let many = length-map r.left_keys.now (λ (b : Bor _). b.now) in
     let due = row_key_trace r.how r.args.now exec ls rs (omega (arith, many, c.requires.several)) (as_many ls rs c.requires.alike) c.requires.left_short c.requires.right_short
     ∙ λ t. hash (value_plan exec r.how kind.binary (sym c.requires.left t) (sym c.requires.right t)) in
     hash_found r exec _ kind.binary us vs c.in_ok-probed.probed c.in_ok-probed.built c.found_by_hash.result
     (row_keys_listing r us vs c.requires.alike c.know_columns.ensures c.know_columns-2.ensures c.requires.left c.requires.right)
     due h.listed h.built c.found_by_hash.ensures.listed c.found_by_hash.ensures.trace
+
+pub returns-clause-let_in : goal.returns-clause-let_in
+returns-clause-let_in g c = subst (ArePartsLetIn (g.G.Gate.lets_in c.args.gate.now)) (sym c.found_by_hash.ensures.trace) c.in_ok-probed.ensures.let_in

@@ -1,8 +1,11 @@
-use Rattle.std.proofs.Common.{arith, length, subst}
+use Rattle.std.proofs.Common.{◌≡◌, arith, subst, sym}
 use Rattle.std.specs.Prelude.{IsSome}
 use Rattle.std.specs.Borrow.{Bor}
 use Rattle.std.proofs.lemmas.List.{length-map}
+use Rattle.std.proofs.lemmas.Result.{IfOk-weaker}
 use Rattle.tb_chunk.specs.Promise.Col.{Col}
+use Rattle.tb_pairs.specs.Promise.Trace.{ArePartsLetIn}
+use Rattle.tb_pairs.specs.declared.trace.JoinTrace.TheVariants.{Plain}
 use Rattle.tb_pairs.proofs.Traces.{long_key}
 use Rattle.tb_pairs.proofs.listed.pairs_by_rows.Goals.{in_default-via-in-Some+in_default, in_default-via-in_default}
 use Rattle.tb_chunk.specs.Lent.{lent_columns}
@@ -30,3 +33,8 @@ plain_pairs-requires g c =
       long = long_key ls rs (omega (arith, left, c.requires.several))
           (λ a b. elim c.in_default.branch [ in_default-via-in-Some+in_default w ↦ absurd (let bad = subst IsSome w.in_default.is-1 (c.in_ok-right.ensures.short.1 b) in cc) | in_default-via-in_default w ↦ absurd (let bad = subst IsSome w.in_default.is-0 (c.in_ok-left.ensures.short.1 a) in cc) ]);
     }
+
+pub returns-clause-let_in : goal.returns-clause-let_in
+returns-clause-let_in g c =
+    let are_let_in = ArePartsLetIn (g.G.Gate.lets_in c.args.gate.now) in
+    IfOk-weaker c.plain_pairs.result (λ f. f.trace ≡ Plain) (λ f. are_let_in f.trace) (λ f is. subst are_let_in (sym is) tt) c.plain_pairs.ensures.plain
