@@ -8,3 +8,4 @@ mod TraceTexts
 mod Unlaid
 mod Answered
 mod SampleRows
+mod TwoForms

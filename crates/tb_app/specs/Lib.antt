@@ -1,4 +1,5 @@
 pub mod Ends
+pub mod Forms
 pub mod Memory
 pub mod Reading
 pub mod Words

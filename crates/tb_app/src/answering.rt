@@ -259,6 +259,7 @@ fn reason_word(reason: Reason) -> &'static str
         Reason::Json => "Json",
         Reason::Shape => "Shape",
         Reason::Value => "Value",
+        Reason::Rows => "Rows",
         Reason::Exec => "Exec",
         Reason::Heights => "Heights",
         Reason::Name => "Name",

@@ -6,6 +6,7 @@ ghost use Rattle.tb_app.specs.declared.words.Command.TheVariants.{Join, Unpivot,
 ghost use Rattle.tb_app.specs.declared.words.Form.{Form};
 ghost use Rattle.tb_app.specs.Promise.Due.{due, IsDue};
 ghost use Rattle.tb_app.specs.Due.{DoneFor, IsValid};
+ghost use Rattle.tb_app.specs.Forms.{TwoForms};
 ghost use Rattle.tb_app.specs.Promise.Headline.{JoinDone, UnpivotDone, DummiesDone, PivotDone};
 
 pub use tb_json::laws::text_one_to_one;
@@ -20,6 +21,11 @@ pub fn one_status(words: &[PlSmallStr], bytes: &[u8])
 pub fn valid_is_done()
     ensures { (asked : Form) (left left' : Option (List ℕ)) (s : Status) (text : List ℕ)
         → IsValid asked left → IsDue asked left left' s text → s ≡ Done }
+{}
+
+/// A request in runs is that with its values written out in one chunk, or none for the same reason, where no reason up to `Rows` holds.
+pub fn two_forms()
+    ensures { TwoForms }
 {}
 
 /// What `run` says of 0 under the word `join`, in the words of a join.

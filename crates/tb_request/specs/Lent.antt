@@ -1,13 +1,16 @@
 -- What the program's values stand for.
-use Rattle.std.specs.Prelude.{List, map, option_map}
+use Rattle.std.specs.Prelude.{ℕ, List, map, option_map}
 use Rattle.std.specs.declared.alloc.Global.{Global}
 use Rattle.std.specs.declared.vec.Vec.{Vec}
 use Rattle.tb_tree.specs.View.{view}
+use Rattle.tb_tree.specs.declared.value.Value.{Value}
 use Rattle.tb_value.specs.SeeKind.{kind_of}
 use Rattle.tb_pool.specs.Promise.ExecView.{ExecView}
 use Rattle.tb_chunk.specs.Promise.Col.{Col}
 use Rattle.tb_request.specs.declared.shape.ExecNumbers.{ExecNumbers}
 use Rattle.tb_request.specs.declared.shape.WrittenColumn.{WrittenColumn}
+use Rattle.tb_request.specs.declared.shape.WrittenValues.{WrittenValues}
+use Rattle.tb_request.specs.declared.shape.WrittenValues.TheVariants.{Chunks, Runs}
 use Rattle.tb_request.specs.declared.shape.WrittenJoin.{WrittenJoin}
 use Rattle.tb_request.specs.declared.one_table.WrittenUnpivot.{WrittenUnpivot}
 use Rattle.tb_request.specs.declared.one_table.WrittenDummies.{WrittenDummies}
@@ -16,8 +19,15 @@ use Rattle.tb_request.specs.declared.values.ClaimedColumn.{ClaimedColumn}
 use Rattle.tb_request.specs.Columns.{relaid_column}
 use Rattle.tb_request.specs.Promise.Written as written
 
+abbrev pub run_view : Value × ℕ → written.WrittenRun
+run_view r = (view r.0, r.1)
+
+abbrev pub values_view : WrittenValues → written.WrittenValues
+values_view (Chunks cs) = written.in_chunks (map (λ v. map view v.items) cs.items)
+values_view (Runs rs) = written.in_runs (map run_view rs.items)
+
 abbrev pub written_view : WrittenColumn → written.Written
-written_view c = record { name = c.name; kind = kind_of c.dtype; chunks = map (λ v. map view v.items) c.chunks.items; flag = c.flag }
+written_view c = record { name = c.name; kind = kind_of c.dtype; values = values_view c.values; flag = c.flag }
 
 abbrev pub exec_view : ExecNumbers → ExecView
 exec_view e = record { workers = e.workers; partitions = e.partitions; small = e.small; num = e.num; den = e.den }

@@ -8,6 +8,7 @@ mod members;
 mod one_table;
 mod reading;
 mod request;
+mod runs;
 mod shape;
 mod tables;
 mod values;
@@ -25,8 +26,10 @@ pub use reading::{
 pub use request::{
     DummiesRequest, JoinRequest, PivotRequest, Reason, RequestFault, UnpivotRequest,
 };
+pub use runs::{MAX_RUN_VALUES, rows_fit, times_of};
 pub use shape::{
-    ExecNumbers, WrittenColumn, count_of, exec_of, flag_named, flag_of, table_at, table_in,
+    ExecNumbers, Format, WrittenColumn, WrittenValues, count_of, exec_of, flag_named, flag_of,
+    format_of, table_at, table_in,
 };
 pub use tables::tables_from;
-pub use values::{ClaimedColumn, columns_of};
+pub use values::{ClaimedColumn, are_columns, columns_of};

@@ -5,7 +5,7 @@ ghost use Rattle.tb_request.specs.Promise.Written.{agg_named, agg_of, dummies_of
 ghost use Rattle.tb_request.specs.Lent.{written_dummies, written_pivot, written_unpivot};
 
 use crate::members::{has_only, text_at, texts_at, texts_if_at, truth_at};
-use crate::shape::{WrittenColumn, table_at};
+use crate::shape::{WrittenColumn, format_of, table_at};
 use std::alloc::Global;
 use tb_agg::Aggregate;
 use tb_tree::Value;
@@ -28,7 +28,14 @@ pub(crate) fn unpivot_of(alloc: Global, value: Value) -> Result<Option<WrittenUn
 {
     if !has_only(
         &value,
-        &["index", "on", "table", "value_name", "variable_name"],
+        &[
+            "format",
+            "index",
+            "on",
+            "table",
+            "value_name",
+            "variable_name",
+        ],
     ) {
         return Ok(None);
     }
@@ -36,7 +43,10 @@ pub(crate) fn unpivot_of(alloc: Global, value: Value) -> Result<Option<WrittenUn
     let index = texts_at(alloc, &value, "index")?;
     let variable_name = text_at(alloc, &value, "variable_name")?;
     let value_name = text_at(alloc, &value, "value_name")?;
-    let table = table_at(alloc, value, "table")?;
+    let Some(format) = format_of(&value) else {
+        return Ok(None);
+    };
+    let table = table_at(alloc, format, value, "table")?;
     let (Some(table), Some(on), Some(index)) = (table, on, index) else {
         return Ok(None);
     };
@@ -66,13 +76,19 @@ pub(crate) struct WrittenDummies {
 pub(crate) fn dummies_of(alloc: Global, value: Value) -> Result<Option<WrittenDummies>, OutOfMemory>
     ensures { IfOk result (λ o. option_map written_dummies o ≡ dummies_of (view value)) }
 {
-    if !has_only(&value, &["columns", "drop_first", "separator", "table"]) {
+    if !has_only(
+        &value,
+        &["columns", "drop_first", "format", "separator", "table"],
+    ) {
         return Ok(None);
     }
     let columns = texts_if_at(alloc, &value, "columns")?;
     let separator = text_at(alloc, &value, "separator")?;
     let drop_first = truth_at(&value, "drop_first");
-    let table = table_at(alloc, value, "table")?;
+    let Some(format) = format_of(&value) else {
+        return Ok(None);
+    };
+    let table = table_at(alloc, format, value, "table")?;
     let (Some(table), Some(columns), Some(separator), Some(drop_first)) = (
         table, columns, separator, drop_first,
     ) else {
@@ -132,6 +148,7 @@ pub(crate) fn pivot_of(alloc: Global, value: Value) -> Result<Option<WrittenPivo
         &value,
         &[
             "agg",
+            "format",
             "index",
             "on",
             "separator",
@@ -148,7 +165,10 @@ pub(crate) fn pivot_of(alloc: Global, value: Value) -> Result<Option<WrittenPivo
     let sort_columns = truth_at(&value, "sort_columns");
     let agg = agg_of(&value);
     let separator = text_at(alloc, &value, "separator")?;
-    let table = table_at(alloc, value, "table")?;
+    let Some(format) = format_of(&value) else {
+        return Ok(None);
+    };
+    let table = table_at(alloc, format, value, "table")?;
     let Some(table) = table else {
         return Ok(None);
     };

@@ -8,9 +8,10 @@ use crate::one_table::{dummies_of, pivot_of, unpivot_of};
 use crate::request::{
     DummiesRequest, JoinRequest, PivotRequest, Reason, RequestFault, UnpivotRequest,
 };
+use crate::runs::sides_fit;
 use crate::shape::{ExecNumbers, join_of};
-use crate::tables::{table_from, tables_of};
-use crate::values::columns_of;
+use crate::tables::{table_from, tables_of, unfit_reason};
+use crate::values::{are_columns, columns_of};
 use std::alloc::Global;
 use tb_pool::Exec;
 use tb_tree::{Fault, Value};
@@ -45,6 +46,10 @@ pub fn join_in(alloc: Global, value: Value) -> Result<JoinRequest, RequestFault>
     let Some(written) = join_of(alloc, value)? else {
         return Err(RequestFault::NoRequest(Reason::Shape));
     };
+    if !sides_fit(&written.left, &written.right) {
+        let typed = are_columns(alloc, written.left)? && are_columns(alloc, written.right)?;
+        return Err(RequestFault::NoRequest(unfit_reason(typed)));
+    }
     let Some(left) = columns_of(alloc, written.left)? else {
         return Err(RequestFault::NoRequest(Reason::Value));
     };
@@ -161,9 +166,11 @@ pub fn pivot_in(alloc: Global, value: Value) -> Result<PivotRequest, RequestFaul
 /// The request to join that the bytes are.
 ///
 /// They are a JSON object with the members `left`, `right`, `left_on`, `right_on` and `args`, and
-/// perhaps `exec` and `trace`, a truth value. A table is an object with exactly `columns`, a list of
-/// objects with `name`, a text, `type`, `chunks`, lists of values of the type, and perhaps `sorted`,
-/// `"ascending"` or `"descending"`. The keys are lists of texts.
+/// perhaps `exec`, `trace`, a truth value, and `format`, 1 or 2. A table is an object with exactly
+/// `columns`, a list of objects with `name`, a text, `type`, `chunks`, lists of values of the type, and
+/// perhaps `sorted`, `"ascending"` or `"descending"`. In format 2 a column has `runs` in the place of
+/// `chunks`: lists of a value and its count, from 1 to 2^64 - 1, and 1 alone of a list or a struct. The
+/// keys are lists of texts.
 ///
 /// The arguments are an object with `how`, `"inner"`, `"left"`, `"right"`, `"full"`, `"semi"` or
 /// `"anti"`, and perhaps `validation`, `"m:m"`, `"m:1"`, `"1:m"` or `"1:1"`; `suffix`, a text;
@@ -179,11 +186,12 @@ pub fn pivot_in(alloc: Global, value: Value) -> Result<PivotRequest, RequestFaul
 ///
 /// 1. `Json`: the bytes are no JSON text.
 /// 2. `Shape`: the value has not this form.
-/// 3. `Value`: a value is not of its column's type, or a column has more than `MAX_ROWS` values.
-/// 4. `Exec`: `Exec::new` refuses the numbers of `exec`.
-/// 5. `Heights`: two columns of a table differ in length.
-/// 6. `Name`: two columns of a table have one name.
-/// 7. `Flag`: a column is not in the order that `sorted` claims.
+/// 3. `Value`: a value is not of its column's type, or the chunks of a column have more than `MAX_ROWS` values.
+/// 4. `Rows`: the counts of all runs, of both tables, add up to more than `MAX_RUN_VALUES`.
+/// 5. `Exec`: `Exec::new` refuses the numbers of `exec`.
+/// 6. `Heights`: two columns of a table differ in length.
+/// 7. `Name`: two columns of a table have one name.
+/// 8. `Flag`: a column is not in the order that `sorted` claims.
 #[tactic(auto, unfolding(crate::specs::Promise::Reading::join_request_of))]
 pub fn join_request_of(alloc: Global, bytes: Vec<u8>) -> Result<JoinRequest, RequestFault>
     ensures { MatchResult result (λ q. join_request_of bytes.items ≡ Ok (request_view q))
@@ -196,12 +204,12 @@ pub fn join_request_of(alloc: Global, bytes: Vec<u8>) -> Result<JoinRequest, Req
 /// The request to make a table long that the bytes are.
 ///
 /// They are a JSON object with the members `table`, a table as in a request to join, `on` and `index`,
-/// lists of texts, and perhaps `variable_name` and `value_name`, texts.
+/// lists of texts, and perhaps `variable_name` and `value_name`, texts, and `format` as there.
 ///
 /// # Errors
 ///
 /// `OutOfMemory` may come at any time. Else the first of these reasons of `join_request_of` that holds
-/// of the whole input: `Json`, `Shape`, `Value`, `Heights`, `Name`, `Flag`.
+/// of the whole input: `Json`, `Shape`, `Value`, `Rows`, `Heights`, `Name`, `Flag`.
 #[tactic(auto, unfolding(crate::specs::Promise::Reading::unpivot_request_of))]
 pub fn unpivot_request_of(alloc: Global, bytes: Vec<u8>) -> Result<UnpivotRequest, RequestFault>
     ensures { MatchResult result (λ q. unpivot_request_of bytes.items ≡ Ok (unpivot_view q))
@@ -214,7 +222,7 @@ pub fn unpivot_request_of(alloc: Global, bytes: Vec<u8>) -> Result<UnpivotReques
 /// The request for dummies that the bytes are.
 ///
 /// They are a JSON object with the member `table`, a table as in a request to join, and perhaps `columns`,
-/// a list of texts, `separator`, a text, and `drop_first`, a truth value.
+/// a list of texts, `separator`, a text, `drop_first`, a truth value, and `format` as there.
 ///
 /// # Errors
 ///
@@ -232,7 +240,7 @@ pub fn dummies_request_of(alloc: Global, bytes: Vec<u8>) -> Result<DummiesReques
 ///
 /// They are a JSON object with the members `table`, a table as in a request to join, and `on`, a list of texts,
 /// and perhaps `index` and `values`, lists of texts, `sort_columns`, a truth value, `agg`, `"first"`, `"sum"`,
-/// `"min"`, `"max"`, `"count"` or `"last"`, and `separator`, a text.
+/// `"min"`, `"max"`, `"count"` or `"last"`, `separator`, a text, and `format` as there.
 ///
 /// # Errors
 ///

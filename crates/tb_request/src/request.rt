@@ -75,6 +75,8 @@ pub enum Reason {
     Shape,
     /// A value is not of its column's type.
     Value,
+    /// The counts of all runs add up to more than `MAX_RUN_VALUES`.
+    Rows,
     /// The numbers of `exec` make no `Exec`.
     Exec,
     /// Two columns of a table differ in length.

@@ -5,23 +5,41 @@ ghost use Rattle.tb_tree.specs.View.{view};
 ghost use Rattle.tb_json.specs.Promise.Kinds.{kind_in};
 ghost use Rattle.tb_json.specs.Promise.Lists.{as_list, list_of};
 ghost use Rattle.tb_value.specs.SeeKind.{kind_of};
-ghost use Rattle.tb_request.specs.Promise.Written.{flag_named, flag_of, count_of, plan_of, exec_of, join_of, column_of, table_of, table_at};
-ghost use Rattle.tb_request.specs.Lent.{written_view, exec_view, written_join};
+ghost use Rattle.tb_request.specs.Promise.Written.{format_numbered, format_of, flag_named, flag_of, count_of, plan_of, exec_of, join_of, column_names, column_of, table_of, table_at, values_in};
+ghost use Rattle.tb_request.specs.Lent.{values_view, written_view, exec_view, written_join};
 
 use crate::arguments::args_of;
 use crate::members::{has_only, into_array, into_member, into_sides, texts_at, truth_at};
+use crate::runs::runs_in;
 use std::alloc::Global;
 use tb_frame::JoinArgs;
 use tb_json::type_of;
 use tb_tree::Value;
 use tb_value::{DataType, IsSorted, OutOfMemory, PlSmallStr};
 
+/// How the columns of a request are written.
+#[derive(Clone, Copy, PartialEq, Eq, Debug)]
+pub enum Format {
+    /// 1: with chunks, lists of values.
+    Chunks,
+    /// 2: with runs, values and how often each stands.
+    Runs,
+}
+
+/// The values of a column, which are not read yet.
+#[derive(Drop)]
+pub enum WrittenValues {
+    Chunks(Vec<Vec<Value>>),
+    /// Each value, with its count.
+    Runs(Vec<(Value, u64)>),
+}
+
 /// A column whose values are not read yet, and the flag that is claimed of them.
 #[derive(Drop)]
 pub struct WrittenColumn {
     pub name: PlSmallStr,
     pub dtype: DataType,
-    pub chunks: Vec<Vec<Value>>,
+    pub values: WrittenValues,
     pub flag: IsSorted,
 }
 
@@ -45,6 +63,26 @@ pub(crate) struct WrittenJoin {
     pub right: Vec<WrittenColumn>,
     pub right_on: Vec<PlSmallStr>,
     pub trace: bool,
+}
+
+fn format_numbered(number: u64) -> Option<Format>
+    ensures { result ≡ format_numbered number }
+{
+    match number {
+        1 => Some(Format::Chunks),
+        2 => Some(Format::Runs),
+        _ => None,
+    }
+}
+
+/// How the columns of a request are written, or None where its member `format` is neither 1 nor 2.
+pub fn format_of(request: &Value) -> Option<Format>
+    ensures { result ≡ format_of (view request.now) }
+{
+    match request.get("format") {
+        Some(member) => format_numbered(member.as_u64()?),
+        None => Some(Format::Chunks),
+    }
 }
 
 /// The order of the values of a column that a word names.
@@ -114,38 +152,73 @@ fn chunks_in(alloc: Global, column: Value) -> Result<Option<Vec<Vec<Value>>>, Ou
     }
 }
 
-#[tactic(auto, unfolding(crate::specs::Promise::Written::column_of))]
-fn column_of(alloc: Global, value: Value) -> Result<Option<WrittenColumn>, OutOfMemory>
-    ensures { IfOk result (λ o. option_map written_view o ≡ column_of (view value)) }
+// The values of a column of this type, from the member of each format that has them.
+fn values_in(
+    alloc: Global,
+    format: Format,
+    dtype: &DataType,
+    column: Value,
+) -> Result<Option<WrittenValues>, OutOfMemory>
+    ensures { IfOk result (λ o. option_map values_view o
+        ≡ values_in format (kind_of dtype.now) (view column)) }
 {
-    if !has_only(&value, &["chunks", "name", "sorted", "type"]) {
+    let values = match format {
+        Format::Chunks => chunks_in(alloc, column)?.map(WrittenValues::Chunks),
+        Format::Runs => runs_in(alloc, dtype, column)?.map(WrittenValues::Runs),
+    };
+    Ok(values)
+}
+
+fn column_members(format: Format) -> &'static [&'static str]
+    ensures { map (λ n. n.now) result.now ≡ column_names format }
+{
+    match format {
+        Format::Chunks => &["chunks", "name", "sorted", "type"],
+        Format::Runs => &["name", "runs", "sorted", "type"],
+    }
+}
+
+#[tactic(auto, unfolding(crate::specs::Promise::Written::column_of))]
+fn column_of(
+    alloc: Global,
+    format: Format,
+    value: Value,
+) -> Result<Option<WrittenColumn>, OutOfMemory>
+    ensures { IfOk result (λ o. option_map written_view o ≡ column_of format (view value)) }
+{
+    if !has_only(&value, column_members(format)) {
         return Ok(None);
     }
     let name = name_of(alloc, &value)?;
     let flag = flag_of(&value);
-    let dtype = dtype_of(alloc, &value)?;
-    let chunks = chunks_in(alloc, value)?;
-    let (Some(chunks), Some(name), Some(flag), Some(dtype)) = (chunks, name, flag, dtype) else {
+    let (Some(name), Some(flag), Some(dtype)) = (name, flag, dtype_of(alloc, &value)?) else {
+        return Ok(None);
+    };
+    let Some(values) = values_in(alloc, format, &dtype, value)? else {
         return Ok(None);
     };
     Ok(Some(WrittenColumn {
         name,
         dtype,
-        chunks,
+        values,
         flag,
     }))
 }
 
-fn columns_of(alloc: Global, value: Value) -> Result<Option<Vec<WrittenColumn>>, OutOfMemory>
+fn columns_of(
+    alloc: Global,
+    format: Format,
+    value: Value,
+) -> Result<Option<Vec<WrittenColumn>>, OutOfMemory>
     ensures { IfOk result (λ o. option_map (λ v. map written_view v.items) o
-        ≡ list_of column_of (view value)) }
+        ≡ list_of (column_of format) (view value)) }
 {
     let Some(items) = into_array(value) else {
         return Ok(None);
     };
     let mut columns = Vec::with_capacity(alloc, items.len())?;
     for item in items {
-        let Some(column) = column_of(alloc, item)? else {
+        let Some(column) = column_of(alloc, format, item)? else {
             return Ok(None);
         };
         columns.push(column)?;
@@ -154,43 +227,50 @@ fn columns_of(alloc: Global, value: Value) -> Result<Option<Vec<WrittenColumn>>,
 }
 
 #[tactic(auto, unfolding(crate::specs::Promise::Written::table_of))]
-fn table_of(alloc: Global, value: Value) -> Result<Option<Vec<WrittenColumn>>, OutOfMemory>
+fn table_of(
+    alloc: Global,
+    format: Format,
+    value: Value,
+) -> Result<Option<Vec<WrittenColumn>>, OutOfMemory>
     ensures { IfOk result (λ o. option_map (λ v. map written_view v.items) o
-        ≡ table_of (view value)) }
+        ≡ table_of format (view value)) }
 {
     if !has_only(&value, &["columns"]) {
         return Ok(None);
     }
     match into_member(value, "columns") {
-        Some(columns) => columns_of(alloc, columns),
+        Some(columns) => columns_of(alloc, format, columns),
         None => Ok(None),
     }
 }
 
-/// The columns of a table, if there is one; None where there is none or it has not the form of a table.
+/// The columns of a table, if there is one, whose request is of this format; None where there is none or it has not the
+/// form of a table.
 pub fn table_in(
     alloc: Global,
+    format: Format,
     member: Option<Value>,
 ) -> Result<Option<Vec<WrittenColumn>>, OutOfMemory>
     ensures { IfOk result (λ o. option_map (λ v. map written_view v.items) o
-        ≡ option_and_then table_of (option_map view member)) }
+        ≡ option_and_then (table_of format) (option_map view member)) }
 {
     match member {
-        Some(member) => table_of(alloc, member),
+        Some(member) => table_of(alloc, format, member),
         None => Ok(None),
     }
 }
 
-/// The columns of a member that is a table.
+/// The columns of a member that is a table, in a request of this format.
 pub fn table_at(
     alloc: Global,
+    format: Format,
     object: Value,
     name: &str,
 ) -> Result<Option<Vec<WrittenColumn>>, OutOfMemory>
     ensures { IfOk result (λ o. option_map (λ v. map written_view v.items) o
-        ≡ table_at name.now (view object)) }
+        ≡ table_at format name.now (view object)) }
 {
-    table_in(alloc, into_member(object, name))
+    table_in(alloc, format, into_member(object, name))
 }
 
 /// A whole number below 2^32, or None where the value is none.
@@ -251,7 +331,7 @@ pub(crate) fn join_of(alloc: Global, value: Value) -> Result<Option<WrittenJoin>
     if !has_only(
         &value,
         &[
-            "args", "exec", "left", "left_on", "right", "right_on", "trace",
+            "args", "exec", "format", "left", "left_on", "right", "right_on", "trace",
         ],
     ) {
         return Ok(None);
@@ -265,11 +345,14 @@ pub(crate) fn join_of(alloc: Global, value: Value) -> Result<Option<WrittenJoin>
     let (Some(exec), Some(trace)) = (exec_of(&value), truth_at(&value, "trace")) else {
         return Ok(None);
     };
+    let Some(format) = format_of(&value) else {
+        return Ok(None);
+    };
     let left_on = texts_at(alloc, &value, "left_on")?;
     let right_on = texts_at(alloc, &value, "right_on")?;
     let (left, right) = into_sides(value);
-    let left = table_in(alloc, left)?;
-    let right = table_in(alloc, right)?;
+    let left = table_in(alloc, format, left)?;
+    let right = table_in(alloc, format, right)?;
     let (Some(left), Some(left_on), Some(right), Some(right_on)) = (left, left_on, right, right_on)
     else {
         return Ok(None);

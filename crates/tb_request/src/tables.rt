@@ -1,5 +1,5 @@
 //! The tables of a request.
-ghost use Rattle.std.specs.Prelude.{◌≡◌, [], ◌∷◌, map, IfOk, MatchResult, Ok, Err};
+ghost use Rattle.std.specs.Prelude.{◌≡◌, [], ◌∷◌, if◌then◌else◌, map, IfOk, MatchResult, Ok, Err};
 ghost use Rattle.tb_frame.specs.Promise.Table.{Table, table_of};
 ghost use Rattle.tb_request.specs.Columns.{relaid_column};
 ghost use Rattle.tb_request.specs.Promise.Reading.{are_frames, are_tables, fault_of, table_from, earlier_reason, earliest_reason, FaultIs};
@@ -7,8 +7,9 @@ ghost use Rattle.tb_request.specs.Lent.{claimed_view, claimed_views, written_vie
 
 use crate::flags::flagged;
 use crate::request::{Reason, RequestFault};
+use crate::runs::rows_fit;
 use crate::shape::WrittenColumn;
-use crate::values::{ClaimedColumn, columns_of};
+use crate::values::{ClaimedColumn, are_columns, columns_of};
 use std::alloc::Global;
 use tb_frame::DataFrame;
 use tb_store::Column;
@@ -99,6 +100,13 @@ fn table_of(alloc: Global, claimed: Vec<ClaimedColumn>) -> Result<DataFrame, Req
     }
 }
 
+/// Why columns whose runs have too many rows make no request. Their values are judged first.
+pub(crate) fn unfit_reason(typed: bool) -> Reason
+    ensures { result ≡ (if typed then Reason.Rows else Reason.Value) }
+{
+    if typed { Reason::Rows } else { Reason::Value }
+}
+
 /// The one table of a request, whose columns are written so.
 #[tactic(auto, unfolding(crate::specs::Promise::Reading::table_from))]
 pub(crate) fn table_from(
@@ -108,6 +116,10 @@ pub(crate) fn table_from(
     ensures { MatchResult result (λ t. table_from (map written_view written.items) ≡ Ok (map relaid_column t))
         (λ e. FaultIs e (table_from (map written_view written.items))) }
 {
+    if !rows_fit(&written) {
+        let typed = are_columns(alloc, written)?;
+        return Err(RequestFault::NoRequest(unfit_reason(typed)));
+    }
     match columns_of(alloc, written)? {
         Some(columns) => table_of(alloc, columns),
         None => Err(RequestFault::NoRequest(Reason::Value)),

@@ -1,13 +1,25 @@
 //! The values of a request.
-ghost use Rattle.std.specs.Prelude.{◌≡◌, map, option_map, IfOk};
-ghost use Rattle.tb_request.specs.Promise.Columns.{values_of, columns_from};
-ghost use Rattle.tb_request.specs.Lent.{written_view, claimed_view};
+ghost use Rattle.std.specs.Prelude.{◌≡◌, ◌≤◌, is_some, map, option_map, IfOk, IfSome, IsTrue};
+ghost use Rattle.tb_value.specs.See.{datum};
+ghost use Rattle.tb_value.specs.SeeKind.{kind_of};
+ghost use Rattle.tb_value.specs.Promise.Typed.{HasType};
+ghost use Rattle.tb_value.specs.declared.sorted.IsSorted.TheVariants.{Not};
+ghost use Rattle.tb_tree.specs.View.{view};
+ghost use Rattle.tb_chunk.specs.Promise.Made.{fresh_column};
+ghost use Rattle.tb_json.specs.Promise.Lists.{each};
+ghost use Rattle.tb_request.specs.Columns.{relaid_column};
+ghost use Rattle.tb_request.specs.Promise.Columns.{chunks_in, columns_from, rows_fit, rows_of_runs, run_in, values_of};
+ghost use Rattle.tb_request.specs.Promise.Written.{in_chunks, in_runs};
+ghost use Rattle.tb_request.specs.declared.runs.TheConstants.{MAX_RUN_VALUES};
+ghost use Rattle.tb_chunk.specs.RunLayout.{AreRunsOf, data_runs};
+ghost use Rattle.tb_request.specs.Lent.{claimed_view, run_view, values_view, written_view};
 
-use crate::shape::WrittenColumn;
+use crate::shape::{WrittenColumn, WrittenValues};
 use std::alloc::Global;
-use tb_json::arrays_in;
+use tb_json::{arrays_in, value_of};
 use tb_store::{Column, Series};
-use tb_value::{IsSorted, OutOfMemory, PolarsError};
+use tb_tree::Value;
+use tb_value::{AnyValue, DataType, IsSorted, OutOfMemory, PlSmallStr, PolarsError};
 
 /// A column, and the flag that is claimed of its values.
 #[derive(Drop)]
@@ -16,34 +28,110 @@ pub struct ClaimedColumn {
     pub flag: IsSorted,
 }
 
-#[tactic(auto, unfolding(crate::specs::Promise::Columns::values_of))]
-fn column_of(alloc: Global, written: WrittenColumn) -> Result<Option<ClaimedColumn>, OutOfMemory>
-    ensures { IfOk result (λ o. option_map claimed_view o ≡ values_of (written_view written)) }
+fn series_of_chunks(
+    alloc: Global,
+    name: PlSmallStr,
+    dtype: DataType,
+    chunks: Vec<Vec<Value>>,
+) -> Result<Option<Series>, OutOfMemory>
+    ensures { IfOk result (λ o. option_map relaid_column o
+        ≡ option_map (λ cs. fresh_column name (kind_of dtype) cs Not) (chunks_in (kind_of dtype) (in_chunks (map (λ v. map view v.items) chunks.items)))) }
 {
-    let WrittenColumn {
-        name,
-        dtype,
-        chunks,
-        flag,
-    } = written;
     let Some(arrays) = arrays_in(alloc, &dtype, &chunks)? else {
         return Ok(None);
     };
     match Series::from_typed(alloc, name, dtype, arrays) {
-        Ok(series) => Ok(Some(ClaimedColumn {
-            column: series.into_column(),
-            flag,
-        })),
+        Ok(series) => Ok(Some(series)),
         Err(PolarsError::OutOfMemory) => Err(OutOfMemory),
         Err(_) => Ok(None),
     }
 }
 
-/// The columns of a table, or None where a value is not of its column's type or a column is too long.
+fn run_in(
+    alloc: Global,
+    dtype: &DataType,
+    run: (Value, u64),
+) -> Result<Option<(AnyValue, u64)>, OutOfMemory>
+    ensures run { IfOk result (λ o. option_map (λ r. (datum r.0, r.1)) o
+        ≡ run_in (kind_of dtype.now) (run_view run)) }
+    ensures typed { IfOk result (λ o. IfSome o (λ r. HasType (kind_of dtype.now) (datum r.0))) }
+{
+    match value_of(alloc, &run.0, dtype)? {
+        Some(value) => Ok(Some((value, run.1))),
+        None => Ok(None),
+    }
+}
+
+// The values of runs with their counts, or None where a value is not of the type.
+fn runs_of(
+    alloc: Global,
+    dtype: &DataType,
+    written: Vec<(Value, u64)>,
+) -> Result<Option<Vec<(AnyValue, u64)>>, OutOfMemory>
+    ensures runs { IfOk result (λ o. option_map (λ v. data_runs v.items) o
+        ≡ each (run_in (kind_of dtype.now)) (map run_view written.items)) }
+    ensures typed { IfOk result (λ o. IfSome o (λ v. AreRunsOf (kind_of dtype.now) (data_runs v.items))) }
+{
+    let mut runs = Vec::with_capacity(alloc, written.len())?;
+    for item in written {
+        let Some(run) = run_in(alloc, dtype, item)? else {
+            return Ok(None);
+        };
+        runs.push(run)?;
+    }
+    Ok(Some(runs))
+}
+
+fn series_of_runs(
+    alloc: Global,
+    name: PlSmallStr,
+    dtype: DataType,
+    runs: Vec<(Value, u64)>,
+) -> Result<Option<Series>, OutOfMemory>
+    requires { rows_of_runs (in_runs (map run_view runs.items)) ≤ MAX_RUN_VALUES }
+    ensures { IfOk result (λ o. option_map relaid_column o
+        ≡ option_map (λ cs. fresh_column name (kind_of dtype) cs Not) (chunks_in (kind_of dtype) (in_runs (map run_view runs.items)))) }
+{
+    let Some(runs) = runs_of(alloc, &dtype, runs)? else {
+        return Ok(None);
+    };
+    match Series::from_runs(alloc, name.as_str(), dtype, runs) {
+        Ok(series) => Ok(Some(series)),
+        Err(_) => Err(OutOfMemory),
+    }
+}
+
+#[tactic(auto, unfolding(crate::specs::Promise::Columns::values_of))]
+fn column_of(alloc: Global, written: WrittenColumn) -> Result<Option<ClaimedColumn>, OutOfMemory>
+    requires { rows_of_runs (values_view written.values) ≤ MAX_RUN_VALUES }
+    ensures { IfOk result (λ o. option_map claimed_view o ≡ values_of (written_view written)) }
+{
+    let WrittenColumn {
+        name,
+        dtype,
+        values,
+        flag,
+    } = written;
+    let series = match values {
+        WrittenValues::Chunks(chunks) => series_of_chunks(alloc, name, dtype, chunks)?,
+        WrittenValues::Runs(runs) => series_of_runs(alloc, name, dtype, runs)?,
+    };
+    match series {
+        Some(series) => Ok(Some(ClaimedColumn {
+            column: series.into_column(),
+            flag,
+        })),
+        None => Ok(None),
+    }
+}
+
+/// The columns of a table whose runs have no more rows than a request may have, or None where a value is not of its
+/// column's type or a column of chunks is too long.
 pub fn columns_of(
     alloc: Global,
     written: Vec<WrittenColumn>,
 ) -> Result<Option<Vec<ClaimedColumn>>, OutOfMemory>
+    requires { IsTrue (rows_fit (map written_view written.items)) }
     ensures { IfOk result (λ o. option_map (λ v. map claimed_view v.items) o
         ≡ columns_from (map written_view written.items)) }
 {
@@ -55,4 +143,47 @@ pub fn columns_of(
         columns.push(column)?;
     }
     Ok(Some(columns))
+}
+
+// Whether the value of each run is of the type.
+fn are_of(alloc: Global, dtype: &DataType, runs: &[(Value, u64)]) -> Result<bool, OutOfMemory>
+    ensures { IfOk result (λ b. b ≡ is_some (each (run_in (kind_of dtype.now)) (map run_view runs.now))) }
+{
+    for (value, _) in runs {
+        if value_of(alloc, value, dtype)?.is_none() {
+            return Ok(false);
+        }
+    }
+    Ok(true)
+}
+
+#[tactic(auto, unfolding(crate::specs::Promise::Columns::values_of))]
+fn is_column(alloc: Global, written: WrittenColumn) -> Result<bool, OutOfMemory>
+    ensures { IfOk result (λ b. b ≡ is_some (values_of (written_view written))) }
+{
+    let WrittenColumn {
+        name,
+        dtype,
+        values,
+        ..
+    } = written;
+    match values {
+        WrittenValues::Chunks(chunks) => {
+            Ok(series_of_chunks(alloc, name, dtype, chunks)?.is_some())
+        }
+        WrittenValues::Runs(runs) => are_of(alloc, &dtype, &runs),
+    }
+}
+
+/// Whether `columns_of` would give columns, however many rows the runs have: nothing is written out, and the value of a run
+/// is made and let go.
+pub fn are_columns(alloc: Global, written: Vec<WrittenColumn>) -> Result<bool, OutOfMemory>
+    ensures { IfOk result (λ b. b ≡ is_some (columns_from (map written_view written.items))) }
+{
+    for item in written {
+        if !is_column(alloc, item)? {
+            return Ok(false);
+        }
+    }
+    Ok(true)
 }

@@ -1,5 +1,5 @@
 -- The requests that bytes are, or the first reason why they are none.
-use Rattle.std.specs.Prelude.{◌≡◌, ℕ, List, [], ◌∷◌, map, nat_le, Bool, ◌&&◌, if◌then◌else◌, Option, Some, None, is_none, option_map, Result, Ok, Err, ok_or, ⊤}
+use Rattle.std.specs.Prelude.{◌≡◌, ℕ, List, [], ◌∷◌, ◌++◌, map, nat_le, Bool, ◌&&◌, if◌then◌else◌, Option, Some, None, is_none, option_map, Result, Ok, Err, ok_or, ⊤}
 use Rattle.std.specs.List.{list_all}
 use Rattle.std.specs.Str.{is_utf8}
 use Rattle.serde_json.specs.Data.{Data}
@@ -24,7 +24,7 @@ use Rattle.tb_request.specs.declared.request.Reason.TheVariants as why
 use Rattle.tb_request.specs.declared.request.RequestFault.{RequestFault}
 use Rattle.tb_request.specs.declared.request.RequestFault.TheVariants.{OutOfMemory, NoRequest}
 use Rattle.tb_request.specs.Promise.Written.{Written, join_of, unpivot_of, dummies_of, pivot_of}
-use Rattle.tb_request.specs.Promise.Columns.{tables_of, columns_from}
+use Rattle.tb_request.specs.Promise.Columns.{tables_of, columns_from, rows_fit}
 use Rattle.tb_request.specs.Columns.{relaid_column}
 use Rattle.tb_request.specs.Promise.Flags.{flags_hold}
 
@@ -109,6 +109,7 @@ unfoldable pub join_in : Data → Result JoinRequest Reason
 join_in d = do
   written ← ok_or (join_of d) why.Shape
   tables ← ok_or (tables_of written) why.Value
+  fit ← only_if (rows_fit (written.left ++ written.right)) why.Rows
   standing ← only_if (may_stand written.exec) why.Exec
   valid ← are_tables (tables.0 ∷ tables.1 ∷ [])
   Ok (record {
@@ -125,6 +126,7 @@ join_in d = do
 unfoldable pub table_from : List Written → Result (List Col) Reason
 table_from columns = do
   table ← ok_or (columns_from columns) why.Value
+  fit ← only_if (rows_fit columns) why.Rows
   valid ← are_tables (table ∷ [])
   Ok table
 

@@ -8,6 +8,7 @@ abbrev pub reason_word : Reason → List ℕ
 reason_word why.Json = codes "Json"
 reason_word why.Shape = codes "Shape"
 reason_word why.Value = codes "Value"
+reason_word why.Rows = codes "Rows"
 reason_word why.Exec = codes "Exec"
 reason_word why.Heights = codes "Heights"
 reason_word why.Name = codes "Name"

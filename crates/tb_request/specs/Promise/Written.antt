@@ -1,8 +1,9 @@
 -- The members of a request, whose values aren't read yet.
-use Rattle.std.specs.Prelude.{ℕ, ℤ, ◌^◌, List, [], ◌∷◌, if◌then◌else◌, Bool, Option, Some, None, option_map, codes, false, nat_lt}
+use Rattle.std.specs.Prelude.{ℕ, ℤ, ◌^◌, ◌==◌, ◌&&◌, ◌||◌, List, [], ◌∷◌, if◌then◌else◌, Bool, Option, Some, None, option_map, codes, false, not, true, nat_le, nat_lt}
 use Rattle.std.specs.Str.{bytes_eq}
 use Rattle.serde_json.specs.Data.{Data}
 use Rattle.serde_json.specs.Find.{get, as_bool, as_i64, as_number, as_str, as_u64}
+use Rattle.tb_value.specs.Promise.Kind as kind
 use Rattle.tb_value.specs.Promise.Kind.{Kind}
 use Rattle.tb_value.specs.Promise.Names.{Name}
 use Rattle.tb_value.specs.declared.sorted.IsSorted.{IsSorted}
@@ -23,6 +24,8 @@ use Rattle.tb_frame.specs.declared.args.MaintainOrderJoin.{MaintainOrderJoin}
 use Rattle.tb_frame.specs.declared.args.MaintainOrderJoin.TheVariants as order
 use Rattle.tb_json.specs.Promise.Kinds.{kind_in}
 use Rattle.tb_json.specs.Promise.Lists.{◌>>=◌, check, as_list, list_of, has_only}
+use Rattle.tb_request.specs.declared.shape.Format.{Format}
+use Rattle.tb_request.specs.declared.shape.Format.TheVariants.{Chunks, Runs}
 
 -- a member that may be absent, which then means `absent`, and else is what f reads of it
 abbrev pub optional_member : {A : Type 0} → A → (Data → Option A) → Option Data → Option A
@@ -49,13 +52,35 @@ texts_at name d = get name d >>= list_of as_str
 abbrev pub texts_if_at : List ℕ → Data → Option (Option (List Name))
 texts_if_at name d = optional_member None (λ m. option_map Some (list_of as_str m)) (get name d)
 
+-- ---- how the columns of a request are written
+
+-- a whole number of 64 bits that isn't negative
+abbrev pub whole_of : Data → Option ℕ
+whole_of d = as_number d >>= as_u64
+
+abbrev pub format_numbered : ℕ → Option Format
+format_numbered n = if n == 1 then Some Chunks else if n == 2 then Some Runs else None
+
+-- with chunks where nothing is said
+abbrev pub format_of : Data → Option Format
+format_of d = optional_member Chunks (λ m. whole_of m >>= format_numbered) (get (codes "format") d)
+
 -- ---- tables
 
--- a column with its values as they stand in the text, and the flag that is claimed of them
+-- a value as it stands in the text, with its count, which says how often it stands in the column
+abbrev pub WrittenRun : Type 0
+WrittenRun = Data × ℕ
+
+-- the values of a column as they stand in the text
+pub data WrittenValues : Type 0 where
+  in_chunks : List (List Data) → WrittenValues
+  in_runs : List WrittenRun → WrittenValues
+
+-- a column with its values as they stand in the text, and the flag that is claimed of it
 pub record Written : Type 0 where
   pub name : Name
   pub kind : Kind
-  pub chunks : List (List Data)
+  pub values : WrittenValues
   pub flag : IsSorted
 
 abbrev pub flag_named : List ℕ → Option IsSorted
@@ -64,22 +89,52 @@ flag_named s = if bytes_eq s (codes "ascending") then Some Ascending else if byt
 abbrev pub flag_of : Data → Option IsSorted
 flag_of d = text_or Not flag_named (get (codes "sorted") d)
 
-unfoldable pub column_of : Data → Option Written
-column_of d = do
-  known ← check (has_only (codes "chunks" ∷ codes "name" ∷ codes "sorted" ∷ codes "type" ∷ []) d)
-  chunks ← get (codes "chunks") d >>= list_of as_list
+-- the values of the type are lists, or rows of fields
+abbrev pub holds_values : Kind → Bool
+holds_values (kind.list t) = true
+holds_values (kind.struct ps) = true
+holds_values _ = false
+
+-- the count of a run: at least 1, and 1 alone of a list or of a row of fields
+abbrev pub times_of : Kind → ℕ → Option ℕ
+times_of t n = if nat_le 1 n && (not (holds_values t) || (n == 1)) then Some n else None
+
+-- exactly two values, the second of which is a count
+abbrev pub run_from : Kind → List Data → Option WrittenRun
+run_from t [] = None
+run_from t (v ∷ []) = None
+run_from t (v ∷ n ∷ []) = option_map (λ times. (v, times)) (whole_of n >>= times_of t)
+run_from t (v ∷ n ∷ m ∷ more) = None
+
+abbrev pub run_of : Kind → Data → Option WrittenRun
+run_of t d = as_list d >>= run_from t
+
+-- the values of a column of the type, from the member of each format that has them
+abbrev pub values_in : Format → Kind → Data → Option WrittenValues
+values_in Chunks t d = option_map in_chunks (get (codes "chunks") d >>= list_of as_list)
+values_in Runs t d = option_map in_runs (get (codes "runs") d >>= list_of (run_of t))
+
+-- the names that the members of a column may have
+abbrev pub column_names : Format → List Name
+column_names Chunks = codes "chunks" ∷ codes "name" ∷ codes "sorted" ∷ codes "type" ∷ []
+column_names Runs = codes "name" ∷ codes "runs" ∷ codes "sorted" ∷ codes "type" ∷ []
+
+unfoldable pub column_of : Format → Data → Option Written
+column_of f d = do
+  known ← check (has_only (column_names f) d)
   name ← get (codes "name") d >>= as_str
   flag ← flag_of d
   kind ← get (codes "type") d >>= kind_in
-  Some (record { name = name; kind = kind; chunks = chunks; flag = flag })
+  values ← values_in f kind d
+  Some (record { name = name; kind = kind; values = values; flag = flag })
 
-unfoldable pub table_of : Data → Option (List Written)
-table_of d = do
+unfoldable pub table_of : Format → Data → Option (List Written)
+table_of f d = do
   known ← check (has_only (codes "columns" ∷ []) d)
-  get (codes "columns") d >>= list_of column_of
+  get (codes "columns") d >>= list_of (column_of f)
 
-abbrev pub table_at : List ℕ → Data → Option (List Written)
-table_at name d = get name d >>= table_of
+abbrev pub table_at : Format → List ℕ → Data → Option (List Written)
+table_at f name d = get name d >>= table_of f
 
 -- ---- the arguments, each by its word
 
@@ -124,7 +179,7 @@ slice_from [] = None
 slice_from (a ∷ []) = None
 slice_from (a ∷ b ∷ []) = do
   offset ← as_number a >>= as_i64
-  len ← as_number b >>= as_u64
+  len ← whole_of b
   Some (offset, len)
 slice_from (a ∷ b ∷ c ∷ more) = None
 
@@ -174,7 +229,7 @@ args_of d = do
 -- a whole number below 2^32
 abbrev pub count_of : Data → Option ℕ
 count_of d = do
-  n ← as_number d >>= as_u64
+  n ← whole_of d
   small ← check (nat_lt n (2 ^ 32))
   Some n
 
@@ -211,13 +266,14 @@ pub record WrittenJoin : Type 0 where
 
 unfoldable pub join_of : Data → Option WrittenJoin
 join_of d = do
-  known ← check (has_only (codes "args" ∷ codes "exec" ∷ codes "left" ∷ codes "left_on" ∷ codes "right" ∷ codes "right_on" ∷ codes "trace" ∷ []) d)
+  known ← check (has_only (codes "args" ∷ codes "exec" ∷ codes "format" ∷ codes "left" ∷ codes "left_on" ∷ codes "right" ∷ codes "right_on" ∷ codes "trace" ∷ []) d)
   args ← get (codes "args") d >>= args_of
   exec ← exec_of d
   trace ← truth_at (codes "trace") d
-  left ← table_at (codes "left") d
+  format ← format_of d
+  left ← table_at format (codes "left") d
   left_on ← texts_at (codes "left_on") d
-  right ← table_at (codes "right") d
+  right ← table_at format (codes "right") d
   right_on ← texts_at (codes "right_on") d
   Some (record { args = args; exec = exec; left = left; left_on = left_on; right = right; right_on = right_on; trace = trace })
 
@@ -232,8 +288,9 @@ pub record WrittenUnpivot : Type 0 where
 
 unfoldable pub unpivot_of : Data → Option WrittenUnpivot
 unpivot_of d = do
-  known ← check (has_only (codes "index" ∷ codes "on" ∷ codes "table" ∷ codes "value_name" ∷ codes "variable_name" ∷ []) d)
-  table ← table_at (codes "table") d
+  known ← check (has_only (codes "format" ∷ codes "index" ∷ codes "on" ∷ codes "table" ∷ codes "value_name" ∷ codes "variable_name" ∷ []) d)
+  format ← format_of d
+  table ← table_at format (codes "table") d
   on ← texts_at (codes "on") d
   index ← texts_at (codes "index") d
   variable_name ← text_at (codes "variable_name") d
@@ -250,8 +307,9 @@ pub record WrittenDummies : Type 0 where
 
 unfoldable pub dummies_of : Data → Option WrittenDummies
 dummies_of d = do
-  known ← check (has_only (codes "columns" ∷ codes "drop_first" ∷ codes "separator" ∷ codes "table" ∷ []) d)
-  table ← table_at (codes "table") d
+  known ← check (has_only (codes "columns" ∷ codes "drop_first" ∷ codes "format" ∷ codes "separator" ∷ codes "table" ∷ []) d)
+  format ← format_of d
+  table ← table_at format (codes "table") d
   columns ← texts_if_at (codes "columns") d
   separator ← text_at (codes "separator") d
   drop_first ← truth_at (codes "drop_first") d
@@ -283,8 +341,9 @@ pub record WrittenPivot : Type 0 where
 
 unfoldable pub pivot_of : Data → Option WrittenPivot
 pivot_of d = do
-  known ← check (has_only (codes "agg" ∷ codes "index" ∷ codes "on" ∷ codes "separator" ∷ codes "sort_columns" ∷ codes "table" ∷ codes "values" ∷ []) d)
-  table ← table_at (codes "table") d
+  known ← check (has_only (codes "agg" ∷ codes "format" ∷ codes "index" ∷ codes "on" ∷ codes "separator" ∷ codes "sort_columns" ∷ codes "table" ∷ codes "values" ∷ []) d)
+  format ← format_of d
+  table ← table_at format (codes "table") d
   on ← texts_at (codes "on") d
   index ← texts_if_at (codes "index") d
   values ← texts_if_at (codes "values") d

@@ -7,19 +7,19 @@ use Rattle.tb_json.proofs.LentValues.{Taking-start, Taking-next, Taking-stops, T
 use Rattle.tb_request.proofs.shape.columns_of.Goals as goal
 
 pub loop-item-init : goal.loop-item-init
-loop-item-init c = rw c.in_ok-columns.ensures.items (Taking-start view column_of _)
+loop-item-init c = rw c.in_ok-columns.ensures.items (Taking-start view (column_of c.args.format) _)
 
 pub returns-in_default-2 : goal.returns-in_default-2
 returns-in_default-2 c =
-    Taking-stops view column_of _ _ _ _ _ c.in-Some-item.ensures.steps.0 (sym c.in_ok-column.ensures ∙ ap (option_map written_view) c.in_default-2.is) c.loop-item.invariant
-    ∙ sym (each_taken column_of _ _ _ c.in-Some.ensures c.into_iter-item-iterator.ensures.into_iter_gives.0)
+    Taking-stops view (column_of c.args.format) _ _ _ _ _ c.in-Some-item.ensures.steps.0 (sym c.in_ok-column.ensures ∙ ap (option_map written_view) c.in_default-2.is) c.loop-item.invariant
+    ∙ sym (each_taken (column_of c.args.format) _ _ _ c.in-Some.ensures c.into_iter-item-iterator.ensures.into_iter_gives.0)
 
 pub loop-item-preserved : goal.loop-item-preserved
 loop-item-preserved c =
     rw (c.in_ok-push.ensures.items, map_push)
-    (Taking-next view column_of _ _ _ _ _ _ c.in-Some-item.ensures.steps.0 (sym c.in_ok-column.ensures ∙ ap (option_map written_view) c.in-Some-2.is) c.loop-item.invariant)
+    (Taking-next view (column_of c.args.format) _ _ _ _ _ _ c.in-Some-item.ensures.steps.0 (sym c.in_ok-column.ensures ∙ ap (option_map written_view) c.in-Some-2.is) c.loop-item.invariant)
 
 pub returns : goal.returns
 returns c =
-    Taking-end view column_of _ _ _ (sym c.loop-item.item-iterator.rest.ok.0 ∙ c.in-None.ensures.steps.0) c.loop-item.invariant
-    ∙ sym (each_taken column_of _ _ _ c.in-Some.ensures c.into_iter-item-iterator.ensures.into_iter_gives.0)
+    Taking-end view (column_of c.args.format) _ _ _ (sym c.loop-item.item-iterator.rest.ok.0 ∙ c.in-None.ensures.steps.0) c.loop-item.invariant
+    ∙ sym (each_taken (column_of c.args.format) _ _ _ c.in-Some.ensures c.into_iter-item-iterator.ensures.into_iter_gives.0)

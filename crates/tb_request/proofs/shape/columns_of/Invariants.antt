@@ -6,4 +6,4 @@ use Rattle.tb_json.proofs.LentValues.{Taking}
 use Rattle.tb_request.proofs.shape.columns_of.Given as goal
 
 abbrev pub invariant-loop-item : goal.invariant-loop-item
-invariant-loop-item l = Taking view column_of l.initial.item-iterator.rest.items (map written_view l.columns.items) l.item-iterator.rest.items
+invariant-loop-item l = Taking view (column_of l.format) l.initial.item-iterator.rest.items (map written_view l.columns.items) l.item-iterator.rest.items

@@ -1,0 +1,34 @@
+-- The rows of runs, column by column.
+use Rattle.std.proofs.Common.{◌≡◌, ◌∙◌, ◌+◌, ◌<◌, ℕ, List, ◌∷◌, ◌++◌, map, length, get_or, drop, sym}
+use Rattle.std.specs.Prelude.{sum_by}
+use Rattle.std.proofs.lemmas.List.Sums.{sum_by-append, sum_by-cons, sum_by-drop_more}
+use Rattle.tb_value.proofs.Counts.{sum_by-map}
+use Rattle.tb_tree.specs.declared.value.Value.{Value}
+use Rattle.tb_chunk.specs.RunLayout.{total_of}
+use Rattle.tb_request.specs.declared.shape.WrittenColumn.{WrittenColumn}
+use Rattle.tb_request.specs.Promise.Columns.{rows_in, rows_of_runs}
+use Rattle.tb_request.specs.Promise.Written.{Written}
+use Rattle.tb_request.specs.Lent.{run_view, values_view, written_view}
+
+abbrev pub column_rows : WrittenColumn → ℕ
+column_rows c = rows_of_runs (values_view c.values)
+
+by_columns : (cs : List WrittenColumn) → rows_in (map written_view cs) ≡ sum_by column_rows cs
+by_columns cs = sum_by-map (λ (w : Written). rows_of_runs w.values) written_view cs
+
+-- the rows that are left are those of the next column and those after it
+pub rows_drop : (cs : List WrittenColumn) (i : ℕ) (c : WrittenColumn) → i < length cs → c ≡ get_or cs i c → rows_in (map written_view (drop i cs)) ≡ column_rows c + rows_in (map written_view (drop (i + 1) cs))
+rows_drop cs i c low is =
+    by_columns (drop i cs)
+    ∙ sum_by-drop_more column_rows cs i c low
+    ∙ (λ j. column_rows (sym is j) + sym (by_columns (drop (i + 1) cs)) j)
+
+pub runs_rows : (rs : List (Value × ℕ)) → total_of (map run_view rs) ≡ total_of rs
+runs_rows rs = sum_by-map (λ s. s.1) run_view rs
+
+-- the rows of two tables
+pub rows_append : (ws vs : List Written) → rows_in (ws ++ vs) ≡ rows_in ws + rows_in vs
+rows_append ws vs = sum_by-append (λ (w : Written). rows_of_runs w.values) ws vs
+
+pub rows_more : (w : Written) (ws : List Written) → rows_in (w ∷ ws) ≡ rows_of_runs w.values + rows_in ws
+rows_more w ws = sum_by-cons (λ (v : Written). rows_of_runs v.values) w ws
