@@ -242,11 +242,18 @@ const WHY: Form = Form {
 const REQUEST: Form = Form {
     name: "request",
     about: "Makes an answer of the JSON program a table of a request",
-    words: &[Word(
-        "ANSWER",
-        Takes::File,
-        "The answer in JSON, or - for standard input",
-    )],
+    words: &[
+        Word(
+            "ANSWER",
+            Takes::File,
+            "The answer in JSON, or - for standard input",
+        ),
+        Word(
+            "runs",
+            Takes::Nothing,
+            "Write runs of equal values where that is shorter",
+        ),
+    ],
     shared: &[OUTPUT],
 };
 

@@ -1,7 +1,7 @@
 //! A sentence on why bytes are no request.
 
 use std::fmt;
-use tb_request::Reason;
+use tb_request::{MAX_RUN_VALUES, Reason};
 use tb_value::IsSorted;
 use tb_why::{Expected, Fault, Form, Place, Step, Word};
 
@@ -10,6 +10,7 @@ fn reason_word(reason: Reason) -> &'static str {
         Reason::Json => "Json",
         Reason::Shape => "Shape",
         Reason::Value => "Value",
+        Reason::Rows => "Rows",
         Reason::Exec => "Exec",
         Reason::Heights => "Heights",
         Reason::Name => "Name",
@@ -33,11 +34,13 @@ fn form_words(form: Form) -> &'static str {
         Form::Object => "an object",
         Form::Values => "a list",
         Form::Chunks => "a list of lists",
+        Form::Runs => "a list of runs, each [value, count]",
         Form::Text => "a text",
         Form::Texts => "a list of texts",
         Form::Truth => "true or false",
         Form::Nulls => "true, false or a list of these",
         Form::Type => "a type, such as \"i64\"",
+        Form::Format => "1 or 2",
         Form::Slice => "[offset, length], two whole numbers, the second not negative",
         Form::Count => "a whole number from 0 to 4294967295",
         Form::Workers => "a whole number from 1 to 1024",
@@ -63,6 +66,15 @@ fn write_expected<W: fmt::Write>(expected: Expected, f: &mut fmt::Formatter<W>) 
         ),
         Expected::List => f.write_str("a list of values of the type"),
         Expected::Row => f.write_str("a list of one value of each field"),
+        Expected::Run => f.write_str("a run, [value, count]"),
+        Expected::Times => write!(f, "a whole number from 1 to {}", u64::MAX),
+        Expected::Once => f.write_str("1, the only count of a list or of a row of fields"),
+        Expected::FewRunValues => {
+            write!(
+                f,
+                "at most {MAX_RUN_VALUES} values in all runs up to this one"
+            )
+        }
         Expected::FewValues => f.write_str("at most 4294967294 values"),
         Expected::Height(height) => write!(f, "as many values as the first column has, {height}"),
         Expected::OtherName => f.write_str("a name that no column before it has"),

@@ -4,9 +4,11 @@ use Rattle.serde_json.specs.Data.{Data, null, boolean, number, string, array, ob
 use Rattle.serde_json.specs.Find.{get, as_bool, as_str, as_object}
 use Rattle.tb_value.specs.Promise.Names.{Name}
 use Rattle.tb_json.specs.Promise.Kinds.{kind_in}
-use Rattle.tb_json.specs.Promise.Lists.{as_list, list_of, is_among}
+use Rattle.tb_json.specs.Promise.Lists.{◌>>=◌, as_list, list_of, is_among}
 use Rattle.tb_request.specs.Promise.Reading.{may_count}
-use Rattle.tb_request.specs.Promise.Written.{how_named, validation_named, coalesce_named, order_named, flag_named, agg_named, slice_in, count_of}
+use Rattle.tb_request.specs.declared.shape.Format.{Format}
+use Rattle.tb_request.specs.declared.shape.Format.TheVariants.{Chunks, Runs}
+use Rattle.tb_request.specs.Promise.Written.{how_named, validation_named, coalesce_named, order_named, flag_named, format_numbered, agg_named, slice_in, count_of, whole_of}
 use Rattle.tb_why.specs.declared.spot.Expected.TheVariants as expected
 use Rattle.tb_why.specs.declared.spot.Form.{Form}
 use Rattle.tb_why.specs.declared.spot.Form.TheVariants as form
@@ -29,11 +31,13 @@ abbrev pub has_form : Form → Data → Bool
 has_form form.Object d = is_some (as_object d)
 has_form form.Values d = is_some (as_list d)
 has_form form.Chunks d = is_some (list_of as_list d)
+has_form form.Runs d = is_some (as_list d)
 has_form form.Text d = is_some (as_str d)
 has_form form.Texts d = is_some (list_of as_str d)
 has_form form.Truth d = is_some (as_bool d)
 has_form form.Nulls d = is_some (as_bool d) || is_some (as_list d)
 has_form form.Type d = is_some (kind_in d)
+has_form form.Format d = is_some (whole_of d >>= format_numbered)
 has_form form.Slice d = is_some (slice_in d)
 has_form form.Count d = is_some (count_of d)
 has_form form.Workers d = unwrap_or (option_map may_count (count_of d)) false
@@ -91,10 +95,16 @@ members_spot ks d = or_else (unless (has_form form.Object d) (expected.Form form
 
 -- ---- the objects of a request
 
-abbrev pub column_members : List Known
-column_members =
+abbrev pub column_members : Format → List Known
+column_members Chunks =
     needed_member (codes "chunks") form.Chunks
     ∷ needed_member (codes "name") form.Text
+    ∷ optional_member (codes "sorted") (form.Word word.Sorted)
+    ∷ needed_member (codes "type") form.Type
+    ∷ []
+column_members Runs =
+    needed_member (codes "name") form.Text
+    ∷ needed_member (codes "runs") form.Runs
     ∷ optional_member (codes "sorted") (form.Word word.Sorted)
     ∷ needed_member (codes "type") form.Type
     ∷ []
@@ -127,6 +137,7 @@ abbrev pub join_members : List Known
 join_members =
     needed_member (codes "args") form.Object
     ∷ optional_member (codes "exec") form.Object
+    ∷ optional_member (codes "format") form.Format
     ∷ needed_member (codes "left") form.Object
     ∷ needed_member (codes "left_on") form.Texts
     ∷ needed_member (codes "right") form.Object
@@ -136,7 +147,8 @@ join_members =
 
 abbrev pub unpivot_members : List Known
 unpivot_members =
-    needed_member (codes "index") form.Texts
+    optional_member (codes "format") form.Format
+    ∷ needed_member (codes "index") form.Texts
     ∷ needed_member (codes "on") form.Texts
     ∷ needed_member (codes "table") form.Object
     ∷ optional_member (codes "value_name") form.Text
@@ -147,6 +159,7 @@ abbrev pub dummies_members : List Known
 dummies_members =
     optional_member (codes "columns") form.Texts
     ∷ optional_member (codes "drop_first") form.Truth
+    ∷ optional_member (codes "format") form.Format
     ∷ optional_member (codes "separator") form.Text
     ∷ needed_member (codes "table") form.Object
     ∷ []
@@ -154,6 +167,7 @@ dummies_members =
 abbrev pub pivot_members : List Known
 pivot_members =
     optional_member (codes "agg") (form.Word word.Aggregate)
+    ∷ optional_member (codes "format") form.Format
     ∷ optional_member (codes "index") form.Texts
     ∷ needed_member (codes "on") form.Texts
     ∷ optional_member (codes "separator") form.Text

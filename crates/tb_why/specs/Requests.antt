@@ -1,8 +1,13 @@
 -- Why bytes are no request of a command, and where.
-use Rattle.std.specs.Prelude.{ℕ, List, [], Option, Some, None, unwrap_or, codes, Result, Ok, Err, ◌≡◌}
+use Rattle.std.specs.Prelude.{ℕ, List, [], Option, Some, None, option_map, unwrap_or, codes, Result, Ok, Err, ◌≡◌}
 use Rattle.serde_json.specs.Data.{Data}
+use Rattle.serde_json.specs.Find.{get}
 use Rattle.tb_request.specs.declared.request.Reason.{Reason}
 use Rattle.tb_request.specs.declared.request.Reason.TheVariants as why
+use Rattle.tb_request.specs.declared.runs.TheConstants.{MAX_RUN_VALUES}
+use Rattle.tb_request.specs.declared.shape.Format.{Format}
+use Rattle.tb_request.specs.declared.shape.Format.TheVariants.{Chunks}
+use Rattle.tb_request.specs.Promise.Written.{format_of}
 use Rattle.tb_request.specs.Promise.Reading.{join_request_of, unpivot_request_of, dummies_request_of, pivot_request_of, value_of}
 use Rattle.tb_why.specs.declared.spot.Command.{Command}
 use Rattle.tb_why.specs.declared.spot.Command.TheVariants as command
@@ -13,7 +18,7 @@ use Rattle.tb_why.specs.declared.spot.Place.{Place}
 use Rattle.tb_why.specs.declared.spot.Place.TheVariants as place
 use Rattle.tb_why.specs.Spots.{Spot, unless, or_else, inside, first_at}
 use Rattle.tb_why.specs.Members.{Known, has_form, members_spot, join_members, unpivot_members, dummies_members, pivot_members, args_members, exec_with}
-use Rattle.tb_why.specs.Columns.{items_of, table_spot}
+use Rattle.tb_why.specs.Columns.{items_of, table_spot, table_room_spot, room_after}
 
 abbrev pub refusal : {A : Type 0} → Result A Reason → Option Reason
 refusal (Ok a) = None
@@ -47,20 +52,35 @@ flags_spot d = first_at flag_spot 0 (items_of d)
 abbrev pub args_spot : Data → Option Spot
 args_spot d = or_else (members_spot args_members d) (inside (codes "join_nulls") flags_spot d)
 
+-- the values that all runs may have, and what those of the left table leave of them
+abbrev pub right_room : Data → ℕ
+right_room d = unwrap_or (option_map (room_after MAX_RUN_VALUES) (get (codes "left") d)) MAX_RUN_VALUES
+
 -- the first of both tables
-abbrev pub sides_spot : Reason → Data → Option Spot
-sides_spot reason d = or_else (inside (codes "left") (table_spot reason) d) (inside (codes "right") (table_spot reason) d)
+abbrev pub sides_spot : Format → Reason → Data → Option Spot
+sides_spot f why.Rows d =
+    or_else (inside (codes "left") (table_room_spot MAX_RUN_VALUES) d) (inside (codes "right") (table_room_spot (right_room d)) d)
+sides_spot f reason d = or_else (inside (codes "left") (table_spot f reason) d) (inside (codes "right") (table_spot f reason) d)
+
+-- the first of the only table
+abbrev pub only_spot : Format → Reason → Data → Option Spot
+only_spot f why.Rows d = inside (codes "table") (table_room_spot MAX_RUN_VALUES) d
+only_spot f reason d = inside (codes "table") (table_spot f reason) d
 
 -- the first that is at fault for the reason inside the members of a request
-abbrev pub parts_spot : Command → Reason → Data → Option Spot
-parts_spot command.Join reason d =
+abbrev pub parts_spot : Command → Format → Reason → Data → Option Spot
+parts_spot command.Join f reason d =
     or_else (inside (codes "args") args_spot d)
-    (or_else (inside (codes "exec") (members_spot (exec_known reason)) d) (sides_spot reason d))
-parts_spot _ reason d = inside (codes "table") (table_spot reason) d
+    (or_else (inside (codes "exec") (members_spot (exec_known reason)) d) (sides_spot f reason d))
+parts_spot _ f reason d = only_spot f reason d
+
+-- how the columns are written
+abbrev pub format_at : Data → Format
+format_at d = unwrap_or (format_of d) Chunks
 
 -- the first member, or part of one, that is at fault for the reason
 abbrev pub request_spot : Command → Reason → Data → Option Spot
-request_spot command reason d = or_else (members_spot (members_of command) d) (parts_spot command reason d)
+request_spot command reason d = or_else (members_spot (members_of command) d) (parts_spot command (format_at d) reason d)
 
 -- the same, and the whole where there is none
 abbrev pub spot_at : Command → Reason → Data → Spot

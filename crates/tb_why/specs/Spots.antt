@@ -1,5 +1,5 @@
 -- Places in a JSON value, and what is expected there.
-use Rattle.std.specs.Prelude.{ℕ, ◌+◌, List, [], ◌∷◌, ◌++◌, Bool, if◌then◌else◌, Option, Some, None, option_map, option_and_then, Result, IfOk, ◌≡◌}
+use Rattle.std.specs.Prelude.{ℕ, ◌+◌, ◌-◌, List, [], ◌∷◌, ◌++◌, Bool, if◌then◌else◌, Option, Some, None, option_map, option_and_then, Result, IfOk, ◌≡◌}
 use Rattle.tb_value.specs.declared.error.OutOfMemory.{OutOfMemory}
 use Rattle.serde_json.specs.Data.{Data}
 use Rattle.serde_json.specs.Find.{get}
@@ -35,6 +35,11 @@ inside name f d = under (Member name) (option_and_then f (get name d))
 abbrev pub first_at : (Data → Option Spot) → ℕ → List Data → Option Spot
 first_at f i [] = None
 first_at f i (d ∷ ds) = or_else (under (Index i) (f d)) (first_at f (i + 1) ds)
+
+-- the same where f looks at the room that the values before have left, each of which takes its size of it
+abbrev pub first_in_room : (Data → ℕ) → (ℕ → Data → Option Spot) → ℕ → ℕ → List Data → Option Spot
+first_in_room size f room i [] = None
+first_in_room size f room i (d ∷ ds) = or_else (under (Index i) (f room d)) (first_in_room size f (room - size d) (i + 1) ds)
 
 abbrev pub spot_view : rust.Spot → Spot
 spot_view s = record { path = s.path.items; expected = s.expected }

@@ -2,13 +2,15 @@
 ghost use Rattle.std.specs.Prelude.{◌≡◌};
 ghost use Rattle.tb_tree.specs.View.{view};
 ghost use Rattle.tb_value.specs.SeeKind.{kind_of};
-ghost use Rattle.tb_why.specs.Columns.{value_expected, cell_spot, chunk_spot, chunks_spot, count_at, typed_spot, values_spot};
+ghost use Rattle.tb_request.specs.declared.shape.Format.TheVariants.{Chunks, Runs};
+ghost use Rattle.tb_why.specs.Columns.{value_expected, cell_spot, chunk_spot, chunks_spot, count_at, run_value_spot, run_values_spot, typed_spot, values_spot};
 ghost use Rattle.tb_why.specs.Spots.{Finds};
 
 use crate::members::unless;
 use crate::spot::{Expected, Spot, under_index, under_member};
-use crate::tree::{Tree, dtype, is_cell, items, items_at, member};
+use crate::tree::{Tree, dtype, is_cell, items, items_at, member, parts, times_at};
 use std::alloc::Global;
+use tb_request::Format;
 use tb_value::{DataType, MAX_ROWS, OutOfMemory};
 
 fn value_expected(dtype: &DataType) -> Expected
@@ -67,9 +69,34 @@ fn chunks_spot(alloc: Global, dtype: &DataType, chunks: &Tree) -> Result<Option<
     Ok(None)
 }
 
-/// The number of values of a column.
-pub(crate) fn count_at(column: &Tree) -> u128
-    ensures { result ≡ count_at (view column.now) }
+fn run_value_spot(alloc: Global, dtype: &DataType, run: &Tree) -> Result<Option<Spot>, OutOfMemory>
+    ensures { Finds result (run_value_spot (kind_of dtype.now) (view run.now)) }
+{
+    match parts(run) {
+        Some((value, _)) => under_index(0, cell_spot(alloc, dtype, value)?),
+        None => Ok(None),
+    }
+}
+
+// The first value of runs that is none of the type.
+fn run_values_spot(
+    alloc: Global,
+    dtype: &DataType,
+    runs: &Tree,
+) -> Result<Option<Spot>, OutOfMemory>
+    ensures { Finds result (run_values_spot (kind_of dtype.now) (view runs.now)) }
+{
+    let runs = items(runs);
+    for (i, run) in runs.iter().enumerate() {
+        if let Some(spot) = run_value_spot(alloc, dtype, run)? {
+            return under_index(i, Some(spot));
+        }
+    }
+    Ok(None)
+}
+
+fn chunks_count(column: &Tree) -> u128
+    ensures { result ≡ count_at Chunks (view column.now) }
 {
     let mut count = 0u128;
     let chunks = items_at(column, "chunks");
@@ -79,27 +106,83 @@ pub(crate) fn count_at(column: &Tree) -> u128
     count
 }
 
-fn typed_spot(alloc: Global, dtype: &DataType, column: &Tree) -> Result<Option<Spot>, OutOfMemory>
-    ensures { Finds result (typed_spot (kind_of dtype.now) (view column.now)) }
+fn runs_count(column: &Tree) -> u128
+    ensures { result ≡ count_at Runs (view column.now) }
+{
+    let mut count = 0u128;
+    let runs = items_at(column, "runs");
+    for run in runs {
+        count += times_at(run) as u128;
+    }
+    count
+}
+
+/// The number of values of a column.
+pub(crate) fn count_at(format: Format, column: &Tree) -> u128
+    ensures { result ≡ count_at format (view column.now) }
+{
+    match format {
+        Format::Chunks => chunks_count(column),
+        Format::Runs => runs_count(column),
+    }
+}
+
+fn chunks_typed_spot(
+    alloc: Global,
+    dtype: &DataType,
+    column: &Tree,
+) -> Result<Option<Spot>, OutOfMemory>
+    ensures { Finds result (typed_spot Chunks (kind_of dtype.now) (view column.now)) }
 {
     if let Some(chunks) = member(column, "chunks") {
         if let Some(spot) = chunks_spot(alloc, dtype, chunks)? {
             return under_member(alloc, "chunks", Some(spot));
         }
     }
-    let few = count_at(column) <= MAX_ROWS as u128;
+    let few = chunks_count(column) <= MAX_ROWS as u128;
     Ok(unless(alloc, few, Expected::FewValues))
 }
 
-/// The first value of a column that is none of its type, or the column where it has too many.
-pub(crate) fn values_spot(alloc: Global, column: &Tree) -> Result<Option<Spot>, OutOfMemory>
-    ensures { Finds result (values_spot (view column.now)) }
+fn runs_typed_spot(
+    alloc: Global,
+    dtype: &DataType,
+    column: &Tree,
+) -> Result<Option<Spot>, OutOfMemory>
+    ensures { Finds result (typed_spot Runs (kind_of dtype.now) (view column.now)) }
+{
+    match member(column, "runs") {
+        Some(runs) => under_member(alloc, "runs", run_values_spot(alloc, dtype, runs)?),
+        None => Ok(None),
+    }
+}
+
+fn typed_spot(
+    alloc: Global,
+    format: Format,
+    dtype: &DataType,
+    column: &Tree,
+) -> Result<Option<Spot>, OutOfMemory>
+    ensures { Finds result (typed_spot format (kind_of dtype.now) (view column.now)) }
+{
+    match format {
+        Format::Chunks => chunks_typed_spot(alloc, dtype, column),
+        Format::Runs => runs_typed_spot(alloc, dtype, column),
+    }
+}
+
+/// The first value of a column that is none of its type, or the column where its chunks have too many.
+pub(crate) fn values_spot(
+    alloc: Global,
+    format: Format,
+    column: &Tree,
+) -> Result<Option<Spot>, OutOfMemory>
+    ensures { Finds result (values_spot format (view column.now)) }
 {
     let Some(kind) = member(column, "type") else {
         return Ok(None);
     };
     match dtype(alloc, kind)? {
-        Some(dtype) => typed_spot(alloc, &dtype, column),
+        Some(dtype) => typed_spot(alloc, format, &dtype, column),
         None => Ok(None),
     }
 }

@@ -2,22 +2,24 @@
 ghost use Rattle.std.specs.Prelude.{◌≡◌, map, IfOk};
 ghost use Rattle.tb_tree.specs.View.{view};
 ghost use Rattle.tb_value.specs.SeeKind.{kind_of};
-ghost use Rattle.tb_why.specs.Columns.{column_spot, columns_spot, flag_is_true, flag_spot, height, is_ordered, table_spot};
+ghost use Rattle.tb_request.specs.declared.shape.Format.TheVariants.{Chunks, Runs};
+ghost use Rattle.tb_why.specs.Columns.{column_spot, columns_spot, flag_is_true, flag_spot, height, is_ordered, shape_spot, table_spot};
 ghost use Rattle.tb_why.specs.Members.{column_members, members_spot};
 ghost use Rattle.tb_why.specs.Spots.{first_at, Finds};
 
 use crate::cells::{count_at, values_spot};
 use crate::members::{members_spot, needed, optional, unless};
 use crate::names::name_spot;
+use crate::runs::counted_spot;
 use crate::spot::{Expected, Form, Spot, Word, under_index, under_member};
-use crate::tree::{Tree, column_values, dtype, items_at, member};
+use crate::tree::{Tree, chunk_lists, dtype, items_at, member, run_values};
 use std::alloc::Global;
-use tb_request::{Reason, flag_holds, flag_of};
+use tb_request::{Format, Reason, flag_holds, flag_of};
 use tb_store::Series;
 use tb_value::{DataType, IsSorted, OutOfMemory, PolarsError};
 
-fn shape_spot(alloc: Global, column: &Tree) -> Result<Option<Spot>, OutOfMemory>
-    ensures { Finds result (members_spot column_members (view column.now)) }
+fn chunk_members_spot(alloc: Global, column: &Tree) -> Result<Option<Spot>, OutOfMemory>
+    ensures { Finds result (members_spot (column_members Chunks) (view column.now)) }
 {
     members_spot(
         alloc,
@@ -31,17 +33,49 @@ fn shape_spot(alloc: Global, column: &Tree) -> Result<Option<Spot>, OutOfMemory>
     )
 }
 
-// Whether the column, of this type and with no name, is in the order; true where it has no such values.
-#[tactic(auto, unfolding(tb_request::specs::Promise::Columns::values_of))]
-fn is_ordered(
+fn run_members_spot(alloc: Global, column: &Tree) -> Result<Option<Spot>, OutOfMemory>
+    ensures { Finds result (members_spot (column_members Runs) (view column.now)) }
+{
+    members_spot(
+        alloc,
+        &[
+            needed("name", Form::Text),
+            needed("runs", Form::Runs),
+            optional("sorted", Form::Word(Word::Sorted)),
+            needed("type", Form::Type),
+        ],
+        column,
+    )
+}
+
+fn runs_shape_spot(alloc: Global, column: &Tree) -> Result<Option<Spot>, OutOfMemory>
+    ensures { Finds result (shape_spot Runs (view column.now)) }
+{
+    match run_members_spot(alloc, column)? {
+        Some(spot) => Ok(Some(spot)),
+        None => counted_spot(alloc, column),
+    }
+}
+
+fn shape_spot(alloc: Global, format: Format, column: &Tree) -> Result<Option<Spot>, OutOfMemory>
+    ensures { Finds result (shape_spot format (view column.now)) }
+{
+    match format {
+        Format::Chunks => chunk_members_spot(alloc, column),
+        Format::Runs => runs_shape_spot(alloc, column),
+    }
+}
+
+// Whether the values of these chunks are in the order; true where they are none of a column of the type.
+fn are_chunks_ordered(
     alloc: Global,
     flag: IsSorted,
     dtype: DataType,
     column: &Tree,
 ) -> Result<bool, OutOfMemory>
-    ensures { IfOk result (λ b. b ≡ is_ordered flag (view column.now) (kind_of dtype)) }
+    ensures { IfOk result (λ b. b ≡ is_ordered Chunks flag (view column.now) (kind_of dtype)) }
 {
-    let Some(chunks) = column_values(alloc, &dtype, column)? else {
+    let Some(chunks) = chunk_lists(alloc, &dtype, column)? else {
         return Ok(true);
     };
     match Series::from_chunks(alloc, "", dtype, chunks) {
@@ -51,24 +85,64 @@ fn is_ordered(
     }
 }
 
-fn flag_is_true(alloc: Global, flag: IsSorted, column: &Tree) -> Result<bool, OutOfMemory>
-    ensures { IfOk result (λ b. b ≡ flag_is_true flag (view column.now)) }
+// The same of runs.
+#[tactic(auto, using(tb_chunk::proofs::RunLayout::expansion_length))]
+fn are_runs_ordered(
+    alloc: Global,
+    flag: IsSorted,
+    dtype: DataType,
+    column: &Tree,
+) -> Result<bool, OutOfMemory>
+    ensures { IfOk result (λ b. b ≡ is_ordered Runs flag (view column.now) (kind_of dtype)) }
+{
+    let Some(runs) = run_values(alloc, &dtype, column)? else {
+        return Ok(true);
+    };
+    match Series::from_runs(alloc, "", dtype, runs) {
+        Ok(made) => Ok(flag_holds(&made.into_column(), flag)),
+        Err(PolarsError::OutOfMemory) => Err(OutOfMemory),
+        Err(_) => Ok(true),
+    }
+}
+
+fn is_ordered(
+    alloc: Global,
+    format: Format,
+    flag: IsSorted,
+    dtype: DataType,
+    column: &Tree,
+) -> Result<bool, OutOfMemory>
+    ensures { IfOk result (λ b. b ≡ is_ordered format flag (view column.now) (kind_of dtype)) }
+{
+    match format {
+        Format::Chunks => are_chunks_ordered(alloc, flag, dtype, column),
+        Format::Runs => are_runs_ordered(alloc, flag, dtype, column),
+    }
+}
+
+fn flag_is_true(
+    alloc: Global,
+    format: Format,
+    flag: IsSorted,
+    column: &Tree,
+) -> Result<bool, OutOfMemory>
+    ensures { IfOk result (λ b. b ≡ flag_is_true format flag (view column.now)) }
 {
     let Some(kind) = member(column, "type") else {
         return Ok(true);
     };
     match dtype(alloc, kind)? {
-        Some(dtype) => is_ordered(alloc, flag, dtype, column),
+        Some(dtype) => is_ordered(alloc, format, flag, dtype, column),
         None => Ok(true),
     }
 }
 
-fn flag_spot(alloc: Global, column: &Tree) -> Result<Option<Spot>, OutOfMemory>
-    ensures { Finds result (flag_spot (view column.now)) }
+fn flag_spot(alloc: Global, format: Format, column: &Tree) -> Result<Option<Spot>, OutOfMemory>
+    ensures { Finds result (flag_spot format (view column.now)) }
 {
     match flag_of(column) {
         Some(flag) => {
-            let holds = flag_is_true(alloc, flag, column)?;
+            let holds = flag_is_true(alloc, format, flag, column)?;
             Ok(unless(alloc, holds, Expected::Ordered(flag)))
         }
         None => Ok(None),
@@ -77,40 +151,46 @@ fn flag_spot(alloc: Global, column: &Tree) -> Result<Option<Spot>, OutOfMemory>
 
 fn column_spot(
     alloc: Global,
+    format: Format,
     reason: Reason,
     height: u128,
     column: &Tree,
 ) -> Result<Option<Spot>, OutOfMemory>
-    ensures { Finds result (column_spot reason height (view column.now)) }
+    ensures { Finds result (column_spot format reason height (view column.now)) }
 {
     match reason {
-        Reason::Shape => shape_spot(alloc, column),
-        Reason::Value => values_spot(alloc, column),
+        Reason::Shape => shape_spot(alloc, format, column),
+        Reason::Value => values_spot(alloc, format, column),
         Reason::Heights => {
-            let level = count_at(column) == height;
+            let level = count_at(format, column) == height;
             Ok(unless(alloc, level, Expected::Height(height)))
         }
-        Reason::Flag => flag_spot(alloc, column),
-        Reason::Json | Reason::Exec | Reason::Name => Ok(None),
+        Reason::Flag => flag_spot(alloc, format, column),
+        Reason::Json | Reason::Rows | Reason::Exec | Reason::Name => Ok(None),
     }
 }
 
-fn height(columns: &[Tree]) -> u128
-    ensures { result ≡ height (map view columns.now) }
+fn height(format: Format, columns: &[Tree]) -> u128
+    ensures { result ≡ height format (map view columns.now) }
 {
     match columns.first() {
-        Some(column) => count_at(column),
+        Some(column) => count_at(format, column),
         None => 0,
     }
 }
 
 // The first column that is at fault by itself, or beside the first one.
-fn single_spot(alloc: Global, reason: Reason, columns: &[Tree]) -> Result<Option<Spot>, OutOfMemory>
-    ensures { Finds result (first_at (column_spot reason (height (map view columns.now))) 0 (map view columns.now)) }
+fn single_spot(
+    alloc: Global,
+    format: Format,
+    reason: Reason,
+    columns: &[Tree],
+) -> Result<Option<Spot>, OutOfMemory>
+    ensures { Finds result (first_at (column_spot format reason (height format (map view columns.now))) 0 (map view columns.now)) }
 {
-    let height = height(columns);
+    let height = height(format, columns);
     for (i, column) in columns.iter().enumerate() {
-        if let Some(spot) = column_spot(alloc, reason, height, column)? {
+        if let Some(spot) = column_spot(alloc, format, reason, height, column)? {
             return under_index(i, Some(spot));
         }
     }
@@ -119,28 +199,30 @@ fn single_spot(alloc: Global, reason: Reason, columns: &[Tree]) -> Result<Option
 
 fn columns_spot(
     alloc: Global,
+    format: Format,
     reason: Reason,
     columns: &[Tree],
 ) -> Result<Option<Spot>, OutOfMemory>
-    ensures { Finds result (columns_spot reason (map view columns.now)) }
+    ensures { Finds result (columns_spot format reason (map view columns.now)) }
 {
     match reason {
         Reason::Name => name_spot(alloc, columns),
-        _ => single_spot(alloc, reason, columns),
+        _ => single_spot(alloc, format, reason, columns),
     }
 }
 
 /// The first member or column of a table that is at fault for the reason.
 pub(crate) fn table_spot(
     alloc: Global,
+    format: Format,
     reason: Reason,
     table: &Tree,
 ) -> Result<Option<Spot>, OutOfMemory>
-    ensures { Finds result (table_spot reason (view table.now)) }
+    ensures { Finds result (table_spot format reason (view table.now)) }
 {
     if let Some(spot) = members_spot(alloc, &[needed("columns", Form::Values)], table)? {
         return Ok(Some(spot));
     }
-    let found = columns_spot(alloc, reason, items_at(table, "columns"))?;
+    let found = columns_spot(alloc, format, reason, items_at(table, "columns"))?;
     under_member(alloc, "columns", found)
 }

@@ -7,7 +7,7 @@ ghost use Rattle.tb_json.specs.Promise.Lists.{as_list};
 ghost use Rattle.tb_why.specs.Members.{has_form, is_word};
 
 use crate::spot::{Form, Word};
-use crate::tree::{Tree, dtype, is_object, is_truth, list, text};
+use crate::tree::{Tree, dtype, is_object, is_truth, list, text, whole};
 use std::alloc::Global;
 use tb_request::{
     agg_named, coalesce_named, count_of, flag_named, how_named, order_named, slice_in,
@@ -67,6 +67,12 @@ fn are_lists(value: &Tree) -> bool
     }
 }
 
+fn is_format(value: &Tree) -> bool
+    ensures { result ≡ has_form Form.Format (view value.now) }
+{
+    matches!(whole(value), Some(1 | 2))
+}
+
 fn is_worker_count(value: &Tree) -> bool
     ensures { result ≡ has_form Form.Workers (view value.now) }
 {
@@ -93,11 +99,13 @@ pub(crate) fn has_form(alloc: Global, form: Form, value: &Tree) -> Result<bool, 
         Form::Object => Ok(is_object(value)),
         Form::Values => Ok(list(value).is_some()),
         Form::Chunks => Ok(are_lists(value)),
+        Form::Runs => Ok(list(value).is_some()),
         Form::Text => Ok(text(value).is_some()),
         Form::Texts => Ok(are_texts(value)),
         Form::Truth => Ok(is_truth(value)),
         Form::Nulls => Ok(is_truth(value) || list(value).is_some()),
         Form::Type => Ok(dtype(alloc, value)?.is_some()),
+        Form::Format => Ok(is_format(value)),
         Form::Slice => Ok(slice_in(value).is_some()),
         Form::Count => Ok(count_of(value).is_some()),
         Form::Workers => Ok(is_worker_count(value)),

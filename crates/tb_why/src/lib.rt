@@ -7,6 +7,8 @@ mod columns;
 mod forms;
 mod members;
 mod names;
+mod room;
+mod runs;
 mod spot;
 mod tree;
 mod why;

@@ -41,6 +41,8 @@ pub enum Form {
     Values,
     /// A list of lists.
     Chunks,
+    /// A list of runs, each of which is looked at by itself.
+    Runs,
     Text,
     /// A list of texts.
     Texts,
@@ -49,6 +51,8 @@ pub enum Form {
     Nulls,
     /// A type of columns.
     Type,
+    /// The number of a format in which columns are written.
+    Format,
     /// An offset of 64 bits and a length of 64 bits without sign.
     Slice,
     /// A whole number below 2^32.
@@ -86,6 +90,14 @@ pub enum Expected {
     List,
     /// A list of one value of each field.
     Row,
+    /// A list of two, a value and its count.
+    Run,
+    /// A count from 1 to 2^64 - 1.
+    Times,
+    /// The count 1.
+    Once,
+    /// A count by which the runs of a request have at most `MAX_RUN_VALUES` values up to it.
+    FewRunValues,
     /// A column of at most `MAX_ROWS` values.
     FewValues,
     /// A column of as many values as the first one has, which are so many.

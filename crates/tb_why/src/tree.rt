@@ -3,22 +3,24 @@ ghost use Rattle.std.specs.Prelude.{◌≡◌, map, is_some, option_map, IfOk, I
 ghost use Rattle.std.specs.List.{All};
 ghost use Rattle.serde_json.specs.Find.{as_bool, as_object, as_str, get};
 ghost use Rattle.tb_tree.specs.View.{view};
-ghost use Rattle.tb_value.specs.See.{data_of};
+ghost use Rattle.tb_value.specs.See.{data_of, datum};
 ghost use Rattle.tb_value.specs.SeeKind.{kind_of};
 ghost use Rattle.tb_value.specs.Promise.Typed.{HasType};
 ghost use Rattle.tb_chunk.specs.Made.{lists_of, IsTyped};
+ghost use Rattle.tb_chunk.specs.RunLayout.{data_runs, AreRunsOf};
 ghost use Rattle.tb_json.specs.Promise.Cells.{cell_in};
 ghost use Rattle.tb_json.specs.Promise.Kinds.{kind_in};
 ghost use Rattle.tb_json.specs.Promise.Lists.{as_list, each};
 ghost use Rattle.tb_request.specs.declared.request.Reason.TheVariants.{Json};
 ghost use Rattle.tb_request.specs.Promise.Reading.{value_of};
-ghost use Rattle.tb_why.specs.Columns.{items_of, items_at, chunks_at};
+ghost use Rattle.tb_request.specs.Promise.Written.{whole_of};
+ghost use Rattle.tb_why.specs.Columns.{items_of, items_at, chunks_at, parts_of, runs_at, run_at, times_at};
 ghost use Rattle.tb_why.specs.Members.{known_views, names_of, unknown_in};
 
 use crate::members::{Known, is_among};
 use std::alloc::Global;
 use tb_json::{type_of, value_of};
-use tb_request::RequestFault;
+use tb_request::{RequestFault, times_of};
 use tb_tree::Value;
 use tb_value::{AnyValue, DataType, OutOfMemory};
 
@@ -73,6 +75,13 @@ pub(crate) fn text(value: &Tree) -> Option<&str>
     value.as_str()
 }
 
+/// The whole number of 64 bits without sign that the value is.
+pub(crate) fn whole(value: &Tree) -> Option<u64>
+    ensures { result ≡ whole_of (view value.now) }
+{
+    value.as_u64()
+}
+
 /// The values of an array.
 pub(crate) fn list(value: &Tree) -> Option<&[Tree]>
     ensures { option_map (λ s. map view s.now) result ≡ as_list (view value.now) }
@@ -97,6 +106,26 @@ pub(crate) fn items_at<'a>(object: &'a Tree, name: &str) -> &'a [Tree]
     match member(object, name) {
         Some(value) => items(value),
         None => &[],
+    }
+}
+
+/// The value and the count of a run, where it is a list of two.
+pub(crate) fn parts(run: &Tree) -> Option<(&Tree, &Tree)>
+    ensures { option_map (λ p. (view p.0.now, view p.1.now)) result ≡ parts_of (view run.now) }
+{
+    match items(run) {
+        [value, times] => Some((value, times)),
+        _ => None,
+    }
+}
+
+/// How often the value of a run stands.
+pub(crate) fn times_at(run: &Tree) -> u64
+    ensures { result ≡ times_at (view run.now) }
+{
+    match parts(run) {
+        Some((_, times)) => whole(times).unwrap_or(0),
+        None => 0,
     }
 }
 
@@ -163,7 +192,7 @@ fn chunk_values(
 }
 
 /// The values of a column, chunk by chunk, or None where one is none of the type.
-pub(crate) fn column_values(
+pub(crate) fn chunk_lists(
     alloc: Global,
     dtype: &DataType,
     column: &Tree,
@@ -181,4 +210,47 @@ pub(crate) fn column_values(
         lists.push(values)?;
     }
     Ok(Some(lists))
+}
+
+// The value of a run with its count, or None where it is none of a column of the type.
+fn run_at(
+    alloc: Global,
+    dtype: &DataType,
+    run: &Tree,
+) -> Result<Option<(AnyValue, u64)>, OutOfMemory>
+    ensures run { IfOk result (λ o. option_map (λ r. (datum r.0, r.1)) o
+        ≡ run_at (kind_of dtype.now) (view run.now)) }
+    ensures typed { IfOk result (λ o. IfSome o (λ r. HasType (kind_of dtype.now) (datum r.0))) }
+{
+    let Some((value, times)) = parts(run) else {
+        return Ok(None);
+    };
+    let Some(times) = whole(times).and_then(|n| times_of(dtype, n)) else {
+        return Ok(None);
+    };
+    match value_of(alloc, value, dtype)? {
+        Some(value) => Ok(Some((value, times))),
+        None => Ok(None),
+    }
+}
+
+/// The values of the runs of a column with their counts, or None where one is none of a column of the type.
+pub(crate) fn run_values(
+    alloc: Global,
+    dtype: &DataType,
+    column: &Tree,
+) -> Result<Option<Vec<(AnyValue, u64)>>, OutOfMemory>
+    ensures runs { IfOk result (λ o. option_map (λ v. data_runs v.items) o
+        ≡ each (run_at (kind_of dtype.now)) (runs_at (view column.now))) }
+    ensures typed { IfOk result (λ o. IfSome o (λ v. AreRunsOf (kind_of dtype.now) (data_runs v.items))) }
+{
+    let runs = items_at(column, "runs");
+    let mut values = Vec::with_capacity(alloc, runs.len())?;
+    for run in runs {
+        let Some(value) = run_at(alloc, dtype, run)? else {
+            return Ok(None);
+        };
+        values.push(value)?;
+    }
+    Ok(Some(values))
 }

@@ -2,19 +2,22 @@
 ghost use Rattle.std.specs.Prelude.{◌≡◌, codes, option_map, IfOk, IfSome};
 ghost use Rattle.tb_tree.specs.View.{view};
 ghost use Rattle.tb_request.specs.Promise.Reading.{dummies_request_of, join_request_of, pivot_request_of, unpivot_request_of};
-ghost use Rattle.tb_why.specs.Columns.{table_spot};
+ghost use Rattle.tb_request.specs.declared.runs.TheConstants.{MAX_RUN_VALUES};
+ghost use Rattle.tb_why.specs.Columns.{table_room_spot, table_spot};
 ghost use Rattle.tb_why.specs.Members.{dummies_members, exec_with, join_members, members_spot, pivot_members, unpivot_members};
-ghost use Rattle.tb_why.specs.Requests.{args_spot, exec_known, members_of, parts_spot, reason_of, refusal, request_spot, sides_spot, spot_at, IsPlaced};
-ghost use Rattle.tb_why.specs.Spots.{inside, spot_view, Finds};
+ghost use Rattle.tb_why.specs.Requests.{args_spot, exec_known, format_at, members_of, only_spot, parts_spot, reason_of, refusal, request_spot, right_room, sides_spot, spot_at, IsPlaced};
+ghost use Rattle.tb_why.specs.Spots.{inside, or_else, spot_view, Finds};
 
 use crate::args::args_spot;
 use crate::columns::table_spot;
 use crate::members::{members_spot, needed, optional};
+use crate::room::{room_after, table_room_spot};
 use crate::spot::{Command, Expected, Fault, Form, Place, Spot, Word, here, under_member};
 use crate::tree::{Tree, member, tree_of};
 use std::alloc::Global;
 use tb_request::{
-    Reason, RequestFault, dummies_request_of, join_request_of, pivot_request_of, unpivot_request_of,
+    Format, MAX_RUN_VALUES, Reason, RequestFault, dummies_request_of, format_of, join_request_of,
+    pivot_request_of, unpivot_request_of,
 };
 use tb_value::OutOfMemory;
 
@@ -56,6 +59,7 @@ fn join_members_spot(alloc: Global, request: &Tree) -> Result<Option<Spot>, OutO
         &[
             needed("args", Form::Object),
             optional("exec", Form::Object),
+            optional("format", Form::Format),
             needed("left", Form::Object),
             needed("left_on", Form::Texts),
             needed("right", Form::Object),
@@ -72,6 +76,7 @@ fn unpivot_members_spot(alloc: Global, request: &Tree) -> Result<Option<Spot>, O
     members_spot(
         alloc,
         &[
+            optional("format", Form::Format),
             needed("index", Form::Texts),
             needed("on", Form::Texts),
             needed("table", Form::Object),
@@ -90,6 +95,7 @@ fn dummies_members_spot(alloc: Global, request: &Tree) -> Result<Option<Spot>, O
         &[
             optional("columns", Form::Texts),
             optional("drop_first", Form::Truth),
+            optional("format", Form::Format),
             optional("separator", Form::Text),
             needed("table", Form::Object),
         ],
@@ -104,6 +110,7 @@ fn pivot_members_spot(alloc: Global, request: &Tree) -> Result<Option<Spot>, Out
         alloc,
         &[
             optional("agg", Form::Word(Word::Aggregate)),
+            optional("format", Form::Format),
             optional("index", Form::Texts),
             needed("on", Form::Texts),
             optional("separator", Form::Text),
@@ -128,15 +135,39 @@ fn outer_spot(alloc: Global, command: Command, request: &Tree) -> Result<Option<
 
 fn table_at(
     alloc: Global,
+    format: Format,
     reason: Reason,
     request: &Tree,
     name: &str,
 ) -> Result<Option<Spot>, OutOfMemory>
-    ensures { Finds result (inside name.now (table_spot reason) (view request.now)) }
+    ensures { Finds result (inside name.now (table_spot format reason) (view request.now)) }
 {
     match member(request, name) {
-        Some(table) => under_member(alloc, name, table_spot(alloc, reason, table)?),
+        Some(table) => under_member(alloc, name, table_spot(alloc, format, reason, table)?),
         None => Ok(None),
+    }
+}
+
+fn table_room_at(
+    alloc: Global,
+    room: u128,
+    request: &Tree,
+    name: &str,
+) -> Result<Option<Spot>, OutOfMemory>
+    ensures { Finds result (inside name.now (table_room_spot room) (view request.now)) }
+{
+    match member(request, name) {
+        Some(table) => under_member(alloc, name, table_room_spot(alloc, room, table)?),
+        None => Ok(None),
+    }
+}
+
+fn right_room(request: &Tree) -> u128
+    ensures { result ≡ right_room (view request.now) }
+{
+    match member(request, "left") {
+        Some(left) => room_after(MAX_RUN_VALUES as u128, left),
+        None => MAX_RUN_VALUES as u128,
     }
 }
 
@@ -158,43 +189,95 @@ fn exec_at(alloc: Global, reason: Reason, request: &Tree) -> Result<Option<Spot>
     }
 }
 
-fn sides_spot(alloc: Global, reason: Reason, request: &Tree) -> Result<Option<Spot>, OutOfMemory>
-    ensures { Finds result (sides_spot reason (view request.now)) }
+fn sides_room_spot(alloc: Global, request: &Tree) -> Result<Option<Spot>, OutOfMemory>
+    ensures { Finds result (or_else (inside (codes "left") (table_room_spot MAX_RUN_VALUES) (view request.now))
+        (inside (codes "right") (table_room_spot (right_room (view request.now))) (view request.now))) }
 {
-    match table_at(alloc, reason, request, "left")? {
+    match table_room_at(alloc, MAX_RUN_VALUES as u128, request, "left")? {
         Some(spot) => Ok(Some(spot)),
-        None => table_at(alloc, reason, request, "right"),
+        None => table_room_at(alloc, right_room(request), request, "right"),
+    }
+}
+
+fn sides_table_spot(
+    alloc: Global,
+    format: Format,
+    reason: Reason,
+    request: &Tree,
+) -> Result<Option<Spot>, OutOfMemory>
+    ensures { Finds result (or_else (inside (codes "left") (table_spot format reason) (view request.now))
+        (inside (codes "right") (table_spot format reason) (view request.now))) }
+{
+    match table_at(alloc, format, reason, request, "left")? {
+        Some(spot) => Ok(Some(spot)),
+        None => table_at(alloc, format, reason, request, "right"),
+    }
+}
+
+fn sides_spot(
+    alloc: Global,
+    format: Format,
+    reason: Reason,
+    request: &Tree,
+) -> Result<Option<Spot>, OutOfMemory>
+    ensures { Finds result (sides_spot format reason (view request.now)) }
+{
+    match reason {
+        Reason::Rows => sides_room_spot(alloc, request),
+        _ => sides_table_spot(alloc, format, reason, request),
+    }
+}
+
+fn only_spot(
+    alloc: Global,
+    format: Format,
+    reason: Reason,
+    request: &Tree,
+) -> Result<Option<Spot>, OutOfMemory>
+    ensures { Finds result (only_spot format reason (view request.now)) }
+{
+    match reason {
+        Reason::Rows => table_room_at(alloc, MAX_RUN_VALUES as u128, request, "table"),
+        _ => table_at(alloc, format, reason, request, "table"),
     }
 }
 
 fn join_parts_spot(
     alloc: Global,
+    format: Format,
     reason: Reason,
     request: &Tree,
 ) -> Result<Option<Spot>, OutOfMemory>
-    ensures { Finds result (parts_spot Command.Join reason (view request.now)) }
+    ensures { Finds result (parts_spot Command.Join format reason (view request.now)) }
 {
     if let Some(spot) = args_at(alloc, request)? {
         return Ok(Some(spot));
     }
     match exec_at(alloc, reason, request)? {
         Some(spot) => Ok(Some(spot)),
-        None => sides_spot(alloc, reason, request),
+        None => sides_spot(alloc, format, reason, request),
     }
 }
 
 fn parts_spot(
     alloc: Global,
     command: Command,
+    format: Format,
     reason: Reason,
     request: &Tree,
 ) -> Result<Option<Spot>, OutOfMemory>
-    ensures { Finds result (parts_spot command reason (view request.now)) }
+    ensures { Finds result (parts_spot command format reason (view request.now)) }
 {
     match command {
-        Command::Join => join_parts_spot(alloc, reason, request),
-        _ => table_at(alloc, reason, request, "table"),
+        Command::Join => join_parts_spot(alloc, format, reason, request),
+        _ => only_spot(alloc, format, reason, request),
     }
+}
+
+fn format_at(request: &Tree) -> Format
+    ensures { result ≡ format_at (view request.now) }
+{
+    format_of(request).unwrap_or(Format::Chunks)
 }
 
 fn request_spot(
@@ -207,7 +290,7 @@ fn request_spot(
 {
     match outer_spot(alloc, command, request)? {
         Some(spot) => Ok(Some(spot)),
-        None => parts_spot(alloc, command, reason, request),
+        None => parts_spot(alloc, command, format_at(request), reason, request),
     }
 }
 
@@ -310,10 +393,11 @@ fn fault_of(
 /// The reason is the one that the reader of the command gives. The place of `Json` is the line and the
 /// column at which the bytes stop being the text of a JSON value. Else it is the first value of the
 /// request that is at fault for the reason: of `Shape` a member that is wanting, unknown or of another
-/// form, those of the whole before those inside them; of `Value` a value that is none of its column's
-/// type, or a column with too many; of `Exec` a number; of `Heights` a column that has not as many values
-/// as the first one; of `Name` the name of a column that one before it has; and of `Flag` a column that is
-/// not in the order that is claimed. The left table comes before the right one.
+/// form, those of the whole before those inside them, or a run or its count; of `Value` a value that is none
+/// of its column's type, or a column whose chunks have too many; of `Rows` the first run at which the counts of
+/// all runs up to it add up to more than `MAX_RUN_VALUES`; of `Exec` a number; of `Heights` a column that has
+/// not as many values as the first one; of `Name` the name of a column that one before it has; and of `Flag` a
+/// column that is not in the order that is claimed. The left table comes before the right one.
 ///
 /// # Errors
 ///

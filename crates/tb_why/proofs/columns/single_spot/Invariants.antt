@@ -3,4 +3,4 @@ use Rattle.tb_why.proofs.Walks.{Walk}
 use Rattle.tb_why.proofs.columns.single_spot.Given as goal
 
 abbrev pub invariant-loop-i : goal.invariant-loop-i
-invariant-loop-i l = Walk (column_spot l.reason l.height) l.columns l.i
+invariant-loop-i l = Walk (column_spot l.format l.reason l.height) l.columns l.i

@@ -1,4 +1,4 @@
-use Rattle.std.proofs.Common.{map, option_map, ◌∙◌, sym, ap, arith}
+use Rattle.std.proofs.Common.{option_map, ◌∙◌, sym, ap, arith}
 use Rattle.std.proofs.lemmas.List.{map_push}
 use Rattle.std.proofs.lemmas.List.Elements.{All-push}
 use Rattle.tb_tree.specs.View.{view}

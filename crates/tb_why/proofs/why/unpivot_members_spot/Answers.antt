@@ -7,5 +7,5 @@ use Rattle.tb_why.proofs.why.unpivot_members_spot.Goals as goal
 
 pub returns : goal.returns
 returns c =
-    let same : known_view c.needed.result ∷ known_view c.needed-2.result ∷ known_view c.needed-3.result ∷ known_view c.optional.result ∷ known_view c.optional-2.result ∷ [] ≡ unpivot_members = cons_is c.needed.ensures (cons_is c.needed-2.ensures (cons_is c.needed-3.ensures (cons_is c.optional.ensures (cons_is c.optional-2.ensures refl)))) in
+    let same : known_view c.optional.result ∷ known_view c.needed.result ∷ known_view c.needed-2.result ∷ known_view c.needed-3.result ∷ known_view c.optional-2.result ∷ known_view c.optional-3.result ∷ [] ≡ unpivot_members = cons_is c.optional.ensures (cons_is c.needed.ensures (cons_is c.needed-2.ensures (cons_is c.needed-3.ensures (cons_is c.optional-2.ensures (cons_is c.optional-3.ensures refl))))) in
     subst (λ (ks : List Known). Finds c.members_spot.result (members_spot ks (view c.args.request.now))) same c.members_spot.ensures

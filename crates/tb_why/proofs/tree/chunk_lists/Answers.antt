@@ -11,7 +11,7 @@ use Rattle.tb_json.proofs.Flat.{flat-push}
 use Rattle.tb_json.proofs.LentValues.{Walk-more, Walk-fails, Walk-all}
 use Rattle.tb_why.specs.Columns.{items_of}
 use Rattle.tb_why.proofs.Walks.{chunks-view}
-use Rattle.tb_why.proofs.tree.column_values.Goals as goal
+use Rattle.tb_why.proofs.tree.chunk_lists.Goals as goal
 
 pub returns-in_default-clause-chunks : goal.returns-in_default-clause-chunks
 returns-in_default-clause-chunks c =

@@ -5,7 +5,7 @@ use Rattle.tb_json.specs.Promise.Cells.{cell_in}
 use Rattle.tb_json.specs.Promise.Lists.{each}
 use Rattle.tb_json.proofs.LentValues.{Walk}
 use Rattle.tb_why.specs.Columns.{items_of}
-use Rattle.tb_why.proofs.tree.column_values.Given as goal
+use Rattle.tb_why.proofs.tree.chunk_lists.Given as goal
 
 abbrev pub invariant-loop-chunk : goal.invariant-loop-chunk
 invariant-loop-chunk l = record {

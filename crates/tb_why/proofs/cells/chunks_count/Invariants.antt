@@ -2,7 +2,7 @@ use Rattle.std.proofs.Common.{◌≡◌, ◌*◌, ◌≤◌, List, length, map, 
 use Rattle.serde_json.specs.Data.{Data}
 use Rattle.tb_tree.specs.View.{view}
 use Rattle.tb_why.specs.Columns.{items_of}
-use Rattle.tb_why.proofs.cells.count_at.Given as goal
+use Rattle.tb_why.proofs.cells.chunks_count.Given as goal
 
 abbrev pub invariant-loop-chunk : goal.invariant-loop-chunk
 invariant-loop-chunk l = record {
