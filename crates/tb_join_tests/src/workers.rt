@@ -8,7 +8,8 @@ use tb_join::{DataFrameJoinOps, JoinTrace};
 use tb_pool::Gate;
 use tb_request::{JoinRequest, join_request_of};
 
-const TURNS: u64 = 100_000_000;
+// Some seconds: on a busy machine a worker may come late, and only one that never comes is to be told.
+const TURNS: u64 = 4_000_000_000;
 
 // Holds each entry of part 0 and of part 1 until the other part has entered as often, and notes where it doesn't. With no
 // turns it holds none.

@@ -35,7 +35,8 @@ struct Holding {
     late: AtomicU64,
 }
 
-const TURNS: u64 = 100_000_000;
+// Some seconds: on a busy machine a worker may come late, and only one that never comes is to be told.
+const TURNS: u64 = 4_000_000_000;
 
 impl Gate for Holding {
     ghost lets_in = { λ _ _. Unit {0} };
