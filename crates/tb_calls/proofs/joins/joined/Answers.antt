@@ -1,0 +1,9 @@
+use Rattle.tb_frame.specs.Promise.Table.{table_of}
+use Rattle.tb_calls.proofs.Lent.{join_answers, join_settles}
+use Rattle.tb_calls.proofs.joins.joined.Goals as goal
+
+pub returns-clause-settles : goal.returns-clause-settles
+returns-clause-settles g c = join_settles c.args.call _ _ _ _ c.deref.ensures.value c.deref-2.ensures.value _ c.join.ensures.settles
+
+pub returns-clause-answer : goal.returns-clause-answer
+returns-clause-answer g c = join_answers c.args.call _ _ _ _ c.deref.ensures.value c.deref-2.ensures.value (λ t. table_of t) _ c.join.ensures.answer
