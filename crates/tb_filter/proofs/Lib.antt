@@ -1,0 +1,2 @@
+pub mod KeyValues
+pub mod Rows
