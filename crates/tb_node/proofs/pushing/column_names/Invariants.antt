@@ -1,0 +1,6 @@
+use Rattle.std.proofs.Common.{◌≡◌, take}
+use Rattle.tb_frame.specs.Promise.Table.{names_of, table_of}
+use Rattle.tb_node.proofs.pushing.column_names.Given as goal
+
+abbrev pub invariant-loop-column : goal.invariant-loop-column
+invariant-loop-column l = l.names.items ≡ names_of (table_of (take l.column-index l.columns))
