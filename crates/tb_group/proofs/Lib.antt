@@ -1,0 +1,4 @@
+pub mod Alike
+pub mod Counts
+pub mod PartRows
+pub mod RowsByKeys
