@@ -1,30 +1,24 @@
 //! Pairs by hash tables.
-ghost use Rattle.std.specs.Prelude.{◌≡◌, ℕ, ◌<◌, ◌≤◌, false, IfOk, List, length, map};
+ghost use Rattle.std.specs.Prelude.{◌≡◌, ◌<◌, false, IfOk, List, length, map};
 ghost use Rattle.std.specs.Option.{option_copied};
 ghost use Rattle.tb_value.specs.Promise.Datum.{binary};
-ghost use Rattle.tb_value.specs.Promise.Refusals.{first_cause};
-ghost use Rattle.tb_value.specs.Refusals.{Settles};
 ghost use Rattle.tb_value.specs.Promise.Kind as kind;
 ghost use Rattle.tb_value.specs.declared.index.JoinPair.{JoinPair};
 ghost use Rattle.tb_chunk.specs.Chunk.{or_null};
-ghost use Rattle.tb_chunk.specs.Lent.{lent_columns};
-ghost use Rattle.tb_frame.specs.Promise.Join.{nulls_match};
-ghost use Rattle.tb_frame.specs.Promise.Refusal.{row_causes};
-ghost use Rattle.tb_hash.specs.Hashed.{AreValuesHashed};
+ghost use Rattle.tb_hash.specs.Hashed.{AreValuesJoined};
 ghost use Rattle.tb_hash.specs.Probing.{IsProbed};
-ghost use Rattle.tb_rowkey.specs.Promise.Columns.{keys_at};
-ghost use Rattle.tb_rowkey.specs.Columns.{AreShortRows};
-ghost use Rattle.tb_keys.specs.Asked.{asked_request};
+ghost use Rattle.tb_hash.specs.Promise.Hashing.{IsLetIn};
 ghost use Rattle.tb_sorted.specs.Listed.{IsListedIn};
 ghost use Rattle.tb_sorted.specs.Path.{takes_merge_path};
-ghost use Rattle.tb_pairs.specs.KeyColumns.{AreAlike};
-ghost use Rattle.tb_pairs.specs.Promise.Trace.{ArePartsLetIn, IsFound};
+ghost use Rattle.tb_pairs.specs.KeyColumns.{AreKeysAlike};
+ghost use Rattle.tb_pairs.specs.RowKeys.{AreRowKeysOf};
+ghost use Rattle.tb_pairs.specs.Traced.{ArePairsFound};
 
 use crate::trace::{FoundPairs, JoinTrace};
 use std::alloc::Global;
 use std::thread::Threads;
-use tb_frame::{JoinType, JoinValidation};
-use tb_hash::{Built, KeyBytes, KeyList, Probed, hash_keys, hash_pairs, probed_order};
+use tb_frame::JoinType;
+use tb_hash::{Built, KeyBytes, KeyJoin, KeyList, Probed, hash_keys, hash_pairs, probed_order};
 use tb_keys::LentRequest;
 use tb_pool::{Exec, Gate};
 use tb_rowkey::{RowKeys, know_columns};
@@ -54,21 +48,22 @@ pub(crate) fn pairs_by_key<G: Gate>(
     gate: &G,
 ) -> PolarsResult<FoundPairs>
     requires one { length request.now.left_keys.now ≡ 1 }
-    requires alike { AreAlike (lent_columns request.now.left_keys.now) (lent_columns request.now.right_keys.now) }
+    requires alike { AreKeysAlike request.now }
     requires hashed { takes_merge_path request.now exec.now ≡ false }
-    ensures settles { Settles result (first_cause (row_causes (asked_request request.now))) }
-    ensures found { IfOk result (IsFound request.now exec.now) }
-    ensures let_in { IfOk result (λ f. ArePartsLetIn (G.lets_in gate.now) f.trace) }
+    ensures { ArePairsFound request.now exec.now (G.lets_in gate.now) result }
 {
     let left = request.left_keys[0];
     let right = request.right_keys[0];
-    let how = request.how;
-    let validate = request.args.validation;
     let join_nulls = request.args.join_nulls.flag_at(0);
-    let (probed, built) = hash_pairs(
-        rt, alloc, how, left, right, validate, join_nulls, exec, gate,
-    )?;
-    Ok(found_by_hash(how, probed, built))
+    let join = KeyJoin {
+        alloc,
+        how: request.how,
+        validate: request.args.validation,
+        join_nulls,
+        exec,
+    };
+    let (probed, built) = hash_pairs(rt, gate, &join, left, right)?;
+    Ok(found_by_hash(request.how, probed, built))
 }
 
 fn as_key(key: Option<&[u8]>) -> Option<KeyBytes<'_>>
@@ -100,25 +95,22 @@ impl<'a> KeyList<KeyBytes<'a>> for LentRowKeys<'a> {
     }
 }
 
-// What the keys of two sides give, of which absent ones never match.
+// What the keys of the rows of two sides give.
 fn joined_row_keys<G: Gate>(
     rt: &(impl Threads + Sync),
-    alloc: Global,
-    how: JoinType,
+    gate: &G,
+    join: &KeyJoin<'_>,
     left: &RowKeys,
     right: &RowKeys,
-    validate: JoinValidation,
-    exec: &Exec,
-    gate: &G,
 ) -> PolarsResult<(Probed, Built)>
-    ensures hashed { AreValuesHashed exec.now validate false how kind.binary (map (or_null binary) left.now) (map (or_null binary) right.now) result }
-    ensures let_in { IfOk result (λ r. (part : ℕ) → part < r.1.parts → G.lets_in gate.now part) }
+    ensures hashed { AreValuesJoined join.now kind.binary (map (or_null binary) left.now) (map (or_null binary) right.now) result }
+    ensures let_in { IfOk result (λ r. IsLetIn (G.lets_in gate.now) r.1) }
 {
     left.know_rows();
     right.know_rows();
     let left = LentRowKeys { keys: left };
     let right = LentRowKeys { keys: right };
-    hash_keys(rt, alloc, how, &left, &right, validate, false, exec, gate)
+    hash_keys(rt, gate, join, &left, &right)
 }
 
 /// The pairs of a request by the keys of its rows. A row with an absent field that matches none has no key, and so no
@@ -133,19 +125,19 @@ pub(crate) fn pairs_by_row_key<G: Gate>(
     gate: &G,
 ) -> PolarsResult<FoundPairs>
     requires several { 1 < length request.now.left_keys.now }
-    requires alike { AreAlike (lent_columns request.now.left_keys.now) (lent_columns request.now.right_keys.now) }
-    requires left { map (or_null binary) left.now ≡ keys_at (lent_columns request.now.left_keys.now) (nulls_match (asked_request request.now)) }
-    requires right { map (or_null binary) right.now ≡ keys_at (lent_columns request.now.right_keys.now) (nulls_match (asked_request request.now)) }
-    requires left_short { AreShortRows (lent_columns request.now.left_keys.now) }
-    requires right_short { AreShortRows (lent_columns request.now.right_keys.now) }
-    ensures settles { Settles result (first_cause (row_causes (asked_request request.now))) }
-    ensures found { IfOk result (IsFound request.now exec.now) }
-    ensures let_in { IfOk result (λ f. ArePartsLetIn (G.lets_in gate.now) f.trace) }
+    requires alike { AreKeysAlike request.now }
+    requires keys { AreRowKeysOf request.now left.now right.now }
+    ensures { ArePairsFound request.now exec.now (G.lets_in gate.now) result }
 {
     know_columns(request.left_keys);
     know_columns(request.right_keys);
-    let how = request.how;
-    let validate = request.args.validation;
-    let (probed, built) = joined_row_keys(rt, alloc, how, left, right, validate, exec, gate)?;
-    Ok(found_by_hash(how, probed, built))
+    let join = KeyJoin {
+        alloc,
+        how: request.how,
+        validate: request.args.validation,
+        join_nulls: false,
+        exec,
+    };
+    let (probed, built) = joined_row_keys(rt, gate, &join, left, right)?;
+    Ok(found_by_hash(request.how, probed, built))
 }

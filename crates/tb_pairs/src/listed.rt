@@ -2,20 +2,18 @@
 ghost use Rattle.std.specs.Prelude.{◌≡◌, ◌↔◌, ◌<◌, IfOk, IfSome, IsSome, length, map, true};
 ghost use Rattle.std.specs.List.{All};
 ghost use Rattle.tb_value.specs.Promise.Datum.{binary};
-ghost use Rattle.tb_value.specs.Promise.Refusals.{first_cause};
 ghost use Rattle.tb_value.specs.Refusals.{Settles};
 ghost use Rattle.tb_chunk.specs.Chunk.{or_null};
 ghost use Rattle.tb_chunk.specs.Promise.Col.{values};
 ghost use Rattle.tb_chunk.specs.Lent.{lent_columns};
-ghost use Rattle.tb_frame.specs.Answer.{ArePairsOf};
 ghost use Rattle.tb_frame.specs.Promise.Join.{flag_at, listing};
-ghost use Rattle.tb_frame.specs.Promise.Refusal.{row_causes};
 ghost use Rattle.tb_rowkey.specs.Promise.Columns.{keys_at, row_count};
 ghost use Rattle.tb_rowkey.specs.Columns.{AreShortRows};
 ghost use Rattle.tb_sorted.specs.Listed.{IsListedIn};
 ghost use Rattle.tb_keys.specs.Asked.{asked_request};
-ghost use Rattle.tb_pairs.specs.KeyColumns.{AreAlike};
-ghost use Rattle.tb_pairs.specs.Promise.Trace.{ArePartsLetIn, IsFound, IsTraced, lacks_keys, requested_trace};
+ghost use Rattle.tb_pairs.specs.KeyColumns.{AreKeysAlike};
+ghost use Rattle.tb_pairs.specs.Promise.Trace.{IsFound, lacks_keys};
+ghost use Rattle.tb_pairs.specs.Traced.{ArePairsFound, ArePairsTraced, ArePairsUnless, row_refusal};
 
 use crate::arranged::arranged;
 use crate::hashed::{pairs_by_key, pairs_by_row_key};
@@ -32,7 +30,7 @@ use tb_value::{JoinPair, OutOfMemory, PolarsResult};
 
 // The pairs of a request, whose fields are compared one by one.
 fn pairs_by_field(alloc: Global, request: &LentRequest<'_>) -> PolarsResult<DirectedPairs>
-    ensures settles { Settles result (first_cause (row_causes (asked_request request.now))) }
+    ensures settles { Settles result (row_refusal request.now) }
     ensures found { IfOk result (IsListedIn (listing (asked_request request.now))) }
 {
     check_sides(request)?;
@@ -45,7 +43,7 @@ fn pairs_by_field(alloc: Global, request: &LentRequest<'_>) -> PolarsResult<Dire
 // The same, where a row is too long for a key, with their trace.
 fn plain_pairs(alloc: Global, request: &LentRequest<'_>, exec: &Exec) -> PolarsResult<FoundPairs>
     requires long { lacks_keys (lent_columns request.now.left_keys.now) (lent_columns request.now.right_keys.now) ≡ true }
-    ensures settles { Settles result (first_cause (row_causes (asked_request request.now))) }
+    ensures settles { Settles result (row_refusal request.now) }
     ensures found { IfOk result (IsFound request.now exec.now) }
     ensures plain { IfOk result (λ f. f.trace ≡ JoinTrace.Plain) }
 {
@@ -78,10 +76,8 @@ fn pairs_by_rows<G: Gate>(
     gate: &G,
 ) -> PolarsResult<FoundPairs>
     requires several { 1 < length request.now.left_keys.now }
-    requires alike { AreAlike (lent_columns request.now.left_keys.now) (lent_columns request.now.right_keys.now) }
-    ensures settles { Settles result (first_cause (row_causes (asked_request request.now))) }
-    ensures found { IfOk result (IsFound request.now exec.now) }
-    ensures let_in { IfOk result (λ f. ArePartsLetIn (G.lets_in gate.now) f.trace) }
+    requires alike { AreKeysAlike request.now }
+    ensures { ArePairsFound request.now exec.now (G.lets_in gate.now) result }
 {
     let nulls = &request.args.join_nulls;
     let left = row_keys(alloc, nulls, request.left_keys)?;
@@ -102,10 +98,8 @@ fn found_pairs<G: Gate>(
     exec: &Exec,
     gate: &G,
 ) -> PolarsResult<FoundPairs>
-    requires alike { AreAlike (lent_columns request.now.left_keys.now) (lent_columns request.now.right_keys.now) }
-    ensures settles { Settles result (first_cause (row_causes (asked_request request.now))) }
-    ensures found { IfOk result (IsFound request.now exec.now) }
-    ensures let_in { IfOk result (λ f. ArePartsLetIn (G.lets_in gate.now) f.trace) }
+    requires alike { AreKeysAlike request.now }
+    ensures { ArePairsFound request.now exec.now (G.lets_in gate.now) result }
 {
     if let Some(merged) = merged_pairs(alloc, request, exec)? {
         return Ok(FoundPairs {
@@ -139,11 +133,8 @@ pub fn traced_pairs<G: Gate>(
     exec: &Exec,
     gate: &G,
 ) -> PolarsResult<ListedPairs>
-    requires alike { AreAlike (lent_columns request.now.left_keys.now) (lent_columns request.now.right_keys.now) }
-    ensures settles { Settles result (first_cause (row_causes (asked_request request.now))) }
-    ensures listed { IfOk result (λ l. ArePairsOf (asked_request request.now) l.pairs.items) }
-    ensures traced { IfOk result (λ l. IsTraced exec.now (requested_trace request.now exec.now) l.trace) }
-    ensures let_in { IfOk result (λ l. ArePartsLetIn (G.lets_in gate.now) l.trace) }
+    requires alike { AreKeysAlike request.now }
+    ensures { ArePairsTraced (row_refusal request.now) request.now exec.now (G.lets_in gate.now) result }
 {
     let found = found_pairs(rt, alloc, request, exec, gate)?;
     let pairs = arranged(alloc, found.listed, request)?;
@@ -164,9 +155,8 @@ pub fn listed_pairs(
     request: &LentRequest<'_>,
     exec: &Exec,
 ) -> PolarsResult<Vec<JoinPair>>
-    requires alike { AreAlike (lent_columns request.now.left_keys.now) (lent_columns request.now.right_keys.now) }
-    ensures settles { Settles result (first_cause (row_causes (asked_request request.now))) }
-    ensures listed { IfOk result (λ v. ArePairsOf (asked_request request.now) v.items) }
+    requires alike { AreKeysAlike request.now }
+    ensures { ArePairsUnless (row_refusal request.now) (asked_request request.now) result }
 {
     Ok(traced_pairs(rt, alloc, request, exec, &OpenGate)?.pairs)
 }

@@ -1,5 +1,5 @@
 -- What hashing the keys of two sides gives, by their values.
-use Rattle.std.specs.Prelude.{ℕ, ℤ, Bool, true, false, nat_le, if◌then◌else◌, List, length, map}
+use Rattle.std.specs.Prelude.{ℕ, ℤ, ◌<◌, Bool, true, false, nat_le, if◌then◌else◌, List, length, map}
 use Rattle.tb_value.specs.Promise.Datum.{Datum, null, boolean, int, string, binary, list, struct}
 use Rattle.tb_value.specs.Promise.Kind.{Kind, int128}
 use Rattle.tb_frame.specs.declared.args.JoinType.{JoinType}
@@ -40,3 +40,10 @@ built_of exec how left right =
 
 abbrev pub value_plan : ExecView → JoinType → Kind → List Datum → List Datum → BuiltView
 value_plan exec how t us vs = built_of exec how (map (value_code t) us) (map (value_code t) vs)
+
+-- each of so many parts has been let in, and each part that was built
+abbrev pub AreLetIn : (ℕ → Type 0) → ℕ → Type 0
+AreLetIn lets_in parts = (part : ℕ) → part < parts → lets_in part
+
+abbrev pub IsLetIn : (ℕ → Type 0) → BuiltView → Type 0
+IsLetIn lets_in built = AreLetIn lets_in built.parts

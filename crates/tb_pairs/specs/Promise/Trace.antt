@@ -1,5 +1,5 @@
 -- How a join goes: which path its keys take, and what is built or merged of them.
-use Rattle.std.specs.Prelude.{◌≡◌, ◌+◌, ◌*◌, ◌^◌, ◌<◌, ◌≤◌, ⊤, ℕ, Bool, ◌&&◌, ◌||◌, not, nat_lt, if◌then◌else◌, List, [], ◌∷◌, length}
+use Rattle.std.specs.Prelude.{◌≡◌, ◌+◌, ◌*◌, ◌^◌, ◌≤◌, ⊤, ℕ, Bool, ◌&&◌, ◌||◌, not, nat_lt, if◌then◌else◌, List, [], ◌∷◌, length}
 use Rattle.std.specs.List.{list_any}
 use Rattle.tb_value.specs.Promise.Datum.{Datum}
 use Rattle.tb_value.specs.Promise.Kind.{Kind}
@@ -19,7 +19,7 @@ use Rattle.tb_sorted.specs.Promise.Listed.{sizes_of}
 use Rattle.tb_sorted.specs.Listed.{IsListedIn}
 use Rattle.tb_sorted.specs.Promise.Path.{takes_path_by}
 use Rattle.tb_build.specs.Promise.Plan.{BuiltView}
-use Rattle.tb_hash.specs.Promise.Hashing.{value_plan}
+use Rattle.tb_hash.specs.Promise.Hashing.{IsLetIn, value_plan}
 use Rattle.tb_rowkey.specs.Promise.Columns.{keys_at, row_bytes, row_count}
 use Rattle.tb_pairs.specs.declared.trace.JoinTrace.{JoinTrace}
 use Rattle.tb_pairs.specs.declared.trace.JoinTrace.TheVariants as rust
@@ -68,7 +68,7 @@ IsCheap _ = ⊤
 
 -- each part that a trace tells, if it is of hash tables, has been let in
 abbrev pub ArePartsLetIn : (ℕ → Type 0) → JoinTrace → Type 0
-ArePartsLetIn lets_in (rust.Hash built) = (part : ℕ) → part < built.parts → lets_in part
+ArePartsLetIn lets_in (rust.Hash built) = IsLetIn lets_in built
 ArePartsLetIn lets_in (rust.Merge merged) = ⊤
 ArePartsLetIn lets_in rust.Plain = ⊤
 

@@ -1,4 +1,4 @@
-use Rattle.std.proofs.Common.{refl, false, arith}
+use Rattle.std.proofs.Common.{refl, arith}
 use Rattle.std.proofs.lemmas.List.{length-map}
 use Rattle.tb_value.specs.Promise.Datum.{binary}
 use Rattle.tb_value.specs.Promise.Kind as kind
@@ -17,5 +17,6 @@ hash_keys-requires-clause-right g c κs within = omega (arith, length-map c.args
 
 pub returns-clause-hashed : goal.returns-clause-hashed
 returns-clause-hashed g c =
-    hashed-values (λ k. binary k.bytes.now) _ (λ x. refl) (λ x y. same_bytes x.bytes.now y.bytes.now) false (lent_list c.args.left.now) (lent_list c.args.right.now) _ _ (lent_values c.args.left.now) (lent_values c.args.right.now)
-    (λ k. fnv1a k.bytes.now) kind.binary (λ x. refl) c.args.exec.now c.args.validate c.args.how c.hash_keys.result c.hash_keys.ensures.hashed
+    let join = c.args.join.now in
+    hashed-values (λ k. binary k.bytes.now) _ (λ x. refl) (λ x y. same_bytes x.bytes.now y.bytes.now) join.join_nulls (lent_list c.args.left.now) (lent_list c.args.right.now) _ _ (lent_values c.args.left.now) (lent_values c.args.right.now)
+    (λ k. fnv1a k.bytes.now) kind.binary (λ x. refl) join.exec.now join.validate join.how c.hash_keys.result c.hash_keys.ensures.hashed

@@ -19,28 +19,29 @@ hash_pairs-requires-clause-key g c κs within = (one_key_types c.args.request.no
 pub hash_pairs-requires-clause-same : goal.hash_pairs-requires-clause-same
 hash_pairs-requires-clause-same g c κs within = (one_key_types c.args.request.now c.requires.alike c.index-request-0.result c.index-request-0-2.result c.requires.one).1
 
-pub returns-in_err-probed-clause-settles : goal.returns-in_err-probed-clause-settles
-returns-in_err-probed-clause-settles g c =
+pub returns-in_err-probed : goal.returns-in_err-probed
+returns-in_err-probed g c =
     let p = err_from_is_err_and c.from_residual.result c.from_residual.ensures.1 in
     let same = one_key_causes c.args.request.now c.requires.alike c.index-request-0.result c.index-request-0-2.result c.requires.one c.flag_at-join_nulls.result c.flag_at-join_nulls.ensures in
-    rw (p.1, p.2) (subst (λ (cause : Option PolarsError). (c.in_err-probed.field-0.0 ≡ OutOfMemory) ⊎ (cause ≡ Some c.in_err-probed.field-0.0)) same c.in_err-probed.ensures.settles)
+    rw (p.1, p.2) (record {
+      settles = subst (λ (cause : Option PolarsError). (c.in_err-probed.field-0.0 ≡ OutOfMemory) ⊎ (cause ≡ Some c.in_err-probed.field-0.0)) same c.in_err-probed.ensures.hashed.settles;
+      found = tt;
+      let_in = tt;
+    })
 
-pub returns-clause-settles : goal.returns-clause-settles
-returns-clause-settles g c =
-    sym (one_key_causes c.args.request.now c.requires.alike c.index-request-0.result c.index-request-0-2.result c.requires.one c.flag_at-join_nulls.result c.flag_at-join_nulls.ensures) ∙ c.in_ok-probed.ensures.settles
-
-pub returns-clause-found : goal.returns-clause-found
-returns-clause-found g c =
+pub returns : goal.returns
+returns g c =
     let r = c.args.request.now in
     let d = c.index-request-0.result in
     let e = c.index-request-0-2.result in
-    let h = c.in_ok-probed.ensures in
+    let h = c.in_ok-probed.ensures.hashed in
     let left = (get_or r.left_keys.now 0 d).now in
     let right = (get_or r.right_keys.now 0 e).now in
-    hash_found r c.args.exec.now _ left.kind (values left) (values right) c.in_ok-probed.probed c.in_ok-probed.built c.found_by_hash.result
-    (one_key_listing r c.requires.alike d e c.requires.one c.flag_at-join_nulls.result c.flag_at-join_nulls.ensures)
-    (one_key_traced r c.args.exec.now left right (one_column r.left_keys.now d c.requires.one) (one_column r.right_keys.now e (one_right r c.requires.alike c.requires.one)) c.requires.hashed)
-    h.listed h.built c.found_by_hash.ensures.listed c.found_by_hash.ensures.trace
-
-pub returns-clause-let_in : goal.returns-clause-let_in
-returns-clause-let_in g c = subst (ArePartsLetIn (g.G.Gate.lets_in c.args.gate.now)) (sym c.found_by_hash.ensures.trace) c.in_ok-probed.ensures.let_in
+    record {
+      settles = sym (one_key_causes r c.requires.alike d e c.requires.one c.flag_at-join_nulls.result c.flag_at-join_nulls.ensures) ∙ h.settles;
+      found = hash_found r c.args.exec.now _ left.kind (values left) (values right) c.in_ok-probed.probed c.in_ok-probed.built c.found_by_hash.result
+          (one_key_listing r c.requires.alike d e c.requires.one c.flag_at-join_nulls.result c.flag_at-join_nulls.ensures)
+          (one_key_traced r c.args.exec.now left right (one_column r.left_keys.now d c.requires.one) (one_column r.right_keys.now e (one_right r c.requires.alike c.requires.one)) c.requires.hashed)
+          h.listed h.built c.found_by_hash.ensures.listed c.found_by_hash.ensures.trace;
+      let_in = subst (ArePartsLetIn (g.G.Gate.lets_in c.args.gate.now)) (sym c.found_by_hash.ensures.trace) c.in_ok-probed.ensures.let_in;
+    }

@@ -8,23 +8,28 @@ use Rattle.tb_frame.specs.Promise.Join.{listing}
 use Rattle.tb_keys.specs.Asked.{asked_request}
 use Rattle.tb_sorted.specs.Listed.{IsListedIn, IsMergeWithin, requested_sizes}
 use Rattle.tb_sorted.specs.declared.pairs.MergedPairs.{MergedPairs}
-use Rattle.tb_pairs.proofs.Merged.{merge_refuses}
+use Rattle.tb_pairs.proofs.Merged.{merge_allows, merge_refuses}
 use Rattle.tb_pairs.proofs.Traces.{merge_traced}
 use Rattle.tb_pairs.proofs.listed.found_pairs.Goals as goal
 
-pub returns-in_err-merged-clause-settles : goal.returns-in_err-merged-clause-settles
-returns-in_err-merged-clause-settles g c =
+pub returns-in_err-merged : goal.returns-in_err-merged
+returns-in_err-merged g c =
     let p = err_from_is_err_and c.from_residual.result c.from_residual.ensures.1 in
-    rw (p.1, p.2) (merge_refuses c.args.request.now c.args.exec.now c.in_err-merged.field-0.0 c.in_err-merged.ensures.settles)
+    rw (p.1, p.2) (record { settles = merge_refuses c.args.request.now c.args.exec.now c.in_err-merged.field-0.0 c.in_err-merged.ensures.settles; found = tt; let_in = tt })
 
-pub returns-in-Some-clause-found : goal.returns-in-Some-clause-found
-returns-in-Some-clause-found g c =
+pub returns-in-Some : goal.returns-in-Some
+returns-in-Some g c =
     let r = c.args.request.now in
     let exec = c.args.exec.now in
     let h = c.in_ok-merged.ensures in
+    let taken = sym h.taken ∙ ap is_some c.in-Some.is in
     record {
-      listed = subst (λ (o : Option MergedPairs). IfSome o (λ m. IsListedIn (listing (asked_request r)) m.listed)) c.in-Some.is h.found;
-      traced = merge_traced r exec c.in-Some.merged.merged (sym h.taken ∙ ap is_some c.in-Some.is) (subst (λ (o : Option MergedPairs). IfSome o (λ m. IsMergeWithin (requested_sizes r) m.merged)) c.in-Some.is h.merged);
+      settles = merge_allows r exec taken h.settles;
+      found = record {
+        listed = subst (λ (o : Option MergedPairs). IfSome o (λ m. IsListedIn (listing (asked_request r)) m.listed)) c.in-Some.is h.found;
+        traced = merge_traced r exec c.in-Some.merged.merged taken (subst (λ (o : Option MergedPairs). IfSome o (λ m. IsMergeWithin (requested_sizes r) m.merged)) c.in-Some.is h.merged);
+      };
+      let_in = tt;
     }
 
 pub pairs_by_key-requires-clause-hashed : goal.pairs_by_key-requires-clause-hashed

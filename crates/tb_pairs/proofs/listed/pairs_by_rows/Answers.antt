@@ -34,7 +34,11 @@ plain_pairs-requires g c =
           (λ a b. elim c.in_default.branch [ in_default-via-in-Some+in_default w ↦ absurd (let bad = subst IsSome w.in_default.is-1 (c.in_ok-right.ensures.short.1 b) in cc) | in_default-via-in_default w ↦ absurd (let bad = subst IsSome w.in_default.is-0 (c.in_ok-left.ensures.short.1 a) in cc) ]);
     }
 
-pub returns-clause-let_in : goal.returns-clause-let_in
-returns-clause-let_in g c =
+pub returns : goal.returns
+returns g c =
     let are_let_in = ArePartsLetIn (g.G.Gate.lets_in c.args.gate.now) in
-    IfOk-weaker c.plain_pairs.result (λ f. f.trace ≡ Plain) (λ f. are_let_in f.trace) (λ f is. subst are_let_in (sym is) tt) c.plain_pairs.ensures.plain
+    record {
+      settles = c.plain_pairs.ensures.settles;
+      found = c.plain_pairs.ensures.found;
+      let_in = IfOk-weaker c.plain_pairs.result (λ f. f.trace ≡ Plain) (λ f. are_let_in f.trace) (λ f is. subst are_let_in (sym is) tt) c.plain_pairs.ensures.plain;
+    }

@@ -1,3 +1,4 @@
+use Rattle.std.proofs.Common.{rules}
 use Rattle.std.proofs.lemmas.List.Sorted.{All-permutation}
 use Rattle.tb_frame.specs.Answer.{IsPairOf}
 use Rattle.tb_frame.specs.Promise.Join.{listing, matches}
@@ -15,13 +16,19 @@ arranged-requires-clause-pairs g c =
     let q = asked_request c.args.request.now in
     All-permutation (IsPairOf (height q.left) (height q.right)) (listing q) c.in_ok-found.found.listed.pairs.items c.in_ok-found.ensures.found.listed.permutation (listing_rows q.args.how (height q.left) (height q.right) (matches q))
 
-pub returns-clause-listed : goal.returns-clause-listed
-returns-clause-listed g c =
+pub returns : goal.returns
+returns g c =
     let r = c.args.request.now in
-    listed_through r.how r.args.now.maintain_order r.args.now.slice (listing (asked_request r)) c.in_ok-found.found.listed.pairs.items c.in_ok-pairs.pairs.items c.in_ok-found.ensures.found.listed.permutation c.in_ok-pairs.ensures
+    let found = c.in_ok-found.ensures in
+    record {
+      settles = found.settles;
+      listed = listed_through r.how r.args.now.maintain_order r.args.now.slice (listing (asked_request r)) c.in_ok-found.found.listed.pairs.items c.in_ok-pairs.pairs.items found.found.listed.permutation c.in_ok-pairs.ensures;
+      traced = found.found.traced;
+      let_in = found.let_in;
+    }
 
-pub returns-clause-traced : goal.returns-clause-traced
-returns-clause-traced g c = c.in_ok-found.ensures.found.traced
+pub returns-in_err-found : goal.returns-in_err-found
+returns-in_err-found g c = record { settles = search rules; listed = search rules; traced = search rules; let_in = search rules }
 
-pub returns-clause-let_in : goal.returns-clause-let_in
-returns-clause-let_in g c = c.in_ok-found.ensures.let_in
+pub returns-in_err-pairs : goal.returns-in_err-pairs
+returns-in_err-pairs g c = record { settles = search rules; listed = search rules; traced = search rules; let_in = search rules }
