@@ -1,5 +1,5 @@
 -- Requests whose key columns are given beside the tables.
-use Rattle.std.specs.Prelude.{◌≡◌, ◌==◌, ◌&&◌, not, ℕ, Bool, true, if◌then◌else◌, List, [], ◌∷◌, map, length, Option, None, ℤ}
+use Rattle.std.specs.Prelude.{◌≡◌, ◌==◌, ◌&&◌, not, ℕ, Bool, true, if◌then◌else◌, List, [], ◌∷◌, map, length, Option, None, Result, ℤ}
 use Rattle.std.specs.List.{list_all}
 use Rattle.tb_value.specs.Promise.Names.{Name}
 use Rattle.tb_value.specs.Promise.Refusals.{first_cause, when}
@@ -10,16 +10,17 @@ use Rattle.tb_chunk.specs.Changed.{part_of}
 use Rattle.tb_chunk.specs.Promise.Col.{Col, values}
 use Rattle.tb_frame.specs.declared.args.JoinArgs.{JoinArgs}
 use Rattle.tb_frame.specs.declared.args.JoinType.{JoinType}
-use Rattle.tb_frame.specs.declared.args.JoinType.TheVariants.{Semi, Anti}
+use Rattle.tb_frame.specs.declared.args.JoinType.TheVariants.{Full, Semi, Anti}
 use Rattle.tb_frame.specs.declared.null_flags.JoinNulls.{JoinNulls}
 use Rattle.tb_frame.specs.declared.null_flags.JoinNulls.TheVariants.{All}
 use Rattle.tb_frame.specs.Promise.Join.{Request}
 use Rattle.tb_frame.specs.Join.{CoalescesAlike}
 use Rattle.tb_frame.specs.Promise.Naming.{coalesces, coalesces_keys}
-use Rattle.tb_frame.specs.Promise.Refusal.{first_unknown, list_causes, name_causes}
-use Rattle.tb_frame.specs.Refusal.{fits}
+use Rattle.tb_frame.specs.Promise.Refusal.{first_unknown, list_causes, name_causes, repeated_name, row_causes}
+use Rattle.tb_frame.specs.Refusal.{fits, given_refusal}
 use Rattle.tb_frame.specs.Sides.{asking}
 use Rattle.tb_frame.specs.Promise.Table.{height, names_of, plain_column, table_of}
+use Rattle.tb_join.specs.Promise.Answers.{IsJoinUnless}
 use Rattle.tb_join.specs.Promise.Asked.{plain_args}
 
 -- the request by columns that are given, under their names
@@ -82,3 +83,14 @@ abbrev pub early_refusal : List Col → List Col → List Col → List Col → J
 early_refusal left right left_keys right_keys nulls left_on right_on =
     first_cause (first_cause (name_causes (table_of left) (table_of right) left_on right_on) ∷ misfit left right left_keys right_keys
     ∷ first_cause (list_causes nulls left_on right_on) ∷ [])
+
+-- the causes once the keys' columns stand: a name of the answer is repeated, a side has twins and may not, or there are too many pairs
+abbrev pub paired_refusal : Request → Option PolarsError
+paired_refusal q = first_cause (repeated_name q ∷ row_causes q)
+
+-- what the join of two tables by given columns answers, and the Full join by one column of each side
+abbrev pub IsGivenJoin : List Col → List Col → List Col → List Col → JoinArgs → Result (List Col) PolarsError → Type 0
+IsGivenJoin left right left_keys right_keys args = let q = given_request left right left_keys right_keys args in IsJoinUnless (given_refusal q) q
+
+abbrev pub IsFullJoin : List Col → List Col → Col → Col → JoinArgs → Result (List Col) PolarsError → Type 0
+IsFullJoin left right l r args = let q = by_series Full left right l r args in IsJoinUnless (paired_refusal q) q

@@ -1,21 +1,19 @@
 //! Tables by rows that were found before, and by one key column of each side.
-ghost use Rattle.std.specs.Prelude.{◌≡◌, ◌<◌, ◌≤◌, ◌⊎◌, ◌∷◌, [], All, IfOk, IsSome, None, length, map};
+ghost use Rattle.std.specs.Prelude.{◌≡◌, ◌<◌, ◌≤◌, ◌⊎◌, [], All, IfOk, IsSome, None, length, map};
 ghost use Rattle.tb_value.specs.Promise.Pairs.{left_only};
-ghost use Rattle.tb_value.specs.Promise.Refusals.{first_cause};
-ghost use Rattle.tb_value.specs.Refusals.{Settles};
 ghost use Rattle.tb_chunk.specs.Promise.Col.{values};
-ghost use Rattle.tb_chunk.specs.Lent.{lent_columns};
 ghost use Rattle.tb_frame.specs.Frame.{taken_rows};
 ghost use Rattle.tb_frame.specs.Promise.Join.{IsAnswer, cut, listing, out};
-ghost use Rattle.tb_frame.specs.Promise.Refusal.{null_flags, repeated_name, row_causes};
+ghost use Rattle.tb_frame.specs.Promise.Refusal.{null_flags};
 ghost use Rattle.tb_frame.specs.Promise.Table.{height, table_of};
 ghost use Rattle.tb_gather.specs.Gathered.{NameRows, gathered_column};
 ghost use Rattle.tb_gather.specs.Ids.{Id, StandInOrder};
 ghost use Rattle.tb_hash.specs.Hashing.{value_listing};
 ghost use Rattle.tb_keys.specs.Asked.{asked_request};
+ghost use Rattle.tb_join.specs.Promise.Answers.{IsJoinUnless};
 ghost use Rattle.tb_join.specs.Ready.{CanCoalesceKeys};
-ghost use Rattle.tb_pairs.specs.KeyColumns.{AreAlike};
-ghost use Rattle.tb_dispatch.specs.Given.{AreKeys, CanCoalesce, StandBeside, by_match, by_series, semi_or_anti};
+ghost use Rattle.tb_pairs.specs.KeyColumns.{AreKeysAlike};
+ghost use Rattle.tb_dispatch.specs.Given.{AreKeys, CanCoalesce, IsFullJoin, StandBeside, by_match, by_series, paired_refusal, semi_or_anti};
 ghost use Rattle.tb_dispatch.specs.Rows.{Rise, row_order};
 
 use std::alloc::Global;
@@ -149,10 +147,7 @@ pub trait JoinDispatch: IntoDf {
         requires keys { StandBeside (Self.frame self.now) other.now s_left.now s_right.now }
         requires coalescing { CanCoalesce (by_series JoinType.Full (Self.frame self.now) other.now s_left.now s_right.now args) }
         requires flags { null_flags args.join_nulls 1 ≡ None }
-        ensures settles { Settles result (first_cause
-            (repeated_name (by_series JoinType.Full (Self.frame self.now) other.now s_left.now s_right.now args)
-            ∷ row_causes (by_series JoinType.Full (Self.frame self.now) other.now s_left.now s_right.now args))) }
-        ensures answer { IfOk result (λ t. IsAnswer (by_series JoinType.Full (Self.frame self.now) other.now s_left.now s_right.now args) (table_of t)) }
+        ensures { IsFullJoin (Self.frame self.now) other.now s_left.now s_right.now args result }
     {
         full_join_by(rt, alloc, self.to_df(), other, s_left, s_right, &args, exec)
     }
@@ -190,10 +185,7 @@ fn full_join_by(
 ) -> PolarsResult<DataFrame>
     requires keys { StandBeside left.now right.now s_left.now s_right.now }
     requires coalescing { CanCoalesce (by_series JoinType.Full left.now right.now s_left.now s_right.now args.now) }
-    ensures settles { Settles result (first_cause
-        (repeated_name (by_series JoinType.Full left.now right.now s_left.now s_right.now args.now)
-        ∷ row_causes (by_series JoinType.Full left.now right.now s_left.now s_right.now args.now))) }
-    ensures answer { IfOk result (λ t. IsAnswer (by_series JoinType.Full left.now right.now s_left.now s_right.now args.now) (table_of t)) }
+    ensures { IsFullJoin left.now right.now s_left.now s_right.now args.now result }
 {
     let request = LentRequest {
         left,
@@ -215,11 +207,10 @@ fn join_named(
     request: &LentRequest<'_>,
     exec: &Exec,
 ) -> PolarsResult<DataFrame>
-    requires alike { AreAlike (lent_columns request.now.left_keys.now) (lent_columns request.now.right_keys.now) }
+    requires alike { AreKeysAlike request.now }
     requires wide { (0 < length (out (asked_request request.now))) ⊎ (listing (asked_request request.now) ≡ []) }
     requires coalescing { CanCoalesceKeys (asked_request request.now) }
-    ensures settles { Settles result (first_cause (repeated_name (asked_request request.now) ∷ row_causes (asked_request request.now))) }
-    ensures answer { IfOk result (λ t. IsAnswer (asked_request request.now) (table_of t)) }
+    ensures { IsJoinUnless (paired_refusal (asked_request request.now)) (asked_request request.now) result }
 {
     check_answer_names(alloc, request)?;
     let pairs = listed_pairs(rt, alloc, request, exec)?;

@@ -3,13 +3,12 @@ ghost use Rattle.std.specs.Prelude.{◌≡◌, IfOk};
 ghost use Rattle.tb_value.specs.Promise.Refusals.{first_cause};
 ghost use Rattle.tb_value.specs.Refusals.{Settles, SettlesOutright};
 ghost use Rattle.tb_chunk.specs.Lent.{lent_columns};
-ghost use Rattle.tb_frame.specs.Promise.Join.{IsAnswer};
 ghost use Rattle.tb_frame.specs.Join.{CoalescesAlike};
 ghost use Rattle.tb_frame.specs.Promise.Refusal.{name_causes};
-ghost use Rattle.tb_frame.specs.Refusal.{fits, given_refusal};
+ghost use Rattle.tb_frame.specs.Refusal.{fits};
 ghost use Rattle.tb_frame.specs.Promise.Table.{height, names_of, plain_column, table_of};
 ghost use Rattle.tb_keys.specs.Rows.{HasRows};
-ghost use Rattle.tb_dispatch.specs.Given.{all_fit, cleared_columns, early_refusal, given_request, misfit};
+ghost use Rattle.tb_dispatch.specs.Given.{IsGivenJoin, all_fit, cleared_columns, early_refusal, given_request, misfit};
 
 use std::alloc::Global;
 use std::thread::Threads;
@@ -44,8 +43,7 @@ pub trait GivenJoin: IntoDf {
         exec: &Exec,
     ) -> PolarsResult<DataFrame>
         requires { CoalescesAlike (given_request (Self.frame self.now) other.now selected_left.items selected_right.items args) }
-        ensures settles { Settles result (given_refusal (given_request (Self.frame self.now) other.now selected_left.items selected_right.items args)) }
-        ensures answer { IfOk result (λ t. IsAnswer (given_request (Self.frame self.now) other.now selected_left.items selected_right.items args) (table_of t)) }
+        ensures { IsGivenJoin (Self.frame self.now) other.now selected_left.items selected_right.items args result }
     {
         let left = self.to_df();
         join_given(
@@ -184,8 +182,7 @@ fn join_given(
     exec: &Exec,
 ) -> PolarsResult<DataFrame>
     requires coalescing { CoalescesAlike (given_request left.now right.now left_keys.items right_keys.items args.now) }
-    ensures settles { Settles result (given_refusal (given_request left.now right.now left_keys.items right_keys.items args.now)) }
-    ensures answer { IfOk result (λ t. IsAnswer (given_request left.now right.now left_keys.items right_keys.items args.now) (table_of t)) }
+    ensures { IsGivenJoin left.now right.now left_keys.items right_keys.items args.now result }
 {
     let left_on = key_names(alloc, &left_keys)?;
     let right_on = key_names(alloc, &right_keys)?;

@@ -1,17 +1,13 @@
 //! The join of two tables.
-ghost use Rattle.std.specs.Prelude.{◌≡◌, ◌<◌, IfOk, None, length};
-ghost use Rattle.tb_value.specs.Refusals.{Settles};
-ghost use Rattle.tb_frame.specs.Answer.{ArePairsOf};
-ghost use Rattle.tb_frame.specs.Promise.Join.{IsAnswer, out};
 ghost use Rattle.tb_frame.specs.Join.{lent_request};
-ghost use Rattle.tb_frame.specs.Promise.Refusal.{join_refusal, key_types};
-ghost use Rattle.tb_frame.specs.Promise.Table.{table_of};
-ghost use Rattle.tb_keys.specs.Asked.{asked_request, asked_by_names};
+ghost use Rattle.tb_keys.specs.Asked.{asked_request};
 ghost use Rattle.tb_keys.specs.Causes.{later_refusal};
+ghost use Rattle.tb_join.specs.Promise.Answers.{IsJoinOf, IsJoinUnless};
 ghost use Rattle.tb_join.specs.Promise.Asked.{plain_args};
-ghost use Rattle.tb_pairs.specs.Promise.Trace.{ArePartsLetIn, IsTraced, requested_trace};
-ghost use Rattle.tb_join.specs.Ready.{CanCoalesceKeys};
-ghost use Rattle.tb_join.specs.Promise.Traced.{named_trace};
+ghost use Rattle.tb_join.specs.Promise.Traced.{IsTracedJoinOf, IsTracedJoinUnless};
+ghost use Rattle.tb_join.specs.Ready.{CanBeJoined, HaveKeys};
+ghost use Rattle.tb_pairs.specs.Promise.Trace.{requested_trace};
+ghost use Rattle.tb_pairs.specs.Traced.{ArePairsTraced};
 
 use crate::general::finish_join;
 use std::alloc::Global;
@@ -54,8 +50,7 @@ pub trait DataFrameJoinOps: IntoDf {
         args: JoinArgs,
         exec: &Exec,
     ) -> PolarsResult<DataFrame>
-        ensures settles { Settles result (join_refusal (lent_request (Self.frame self.now) other.now left_on.now right_on.now args)) }
-        ensures answer { IfOk result (λ t. IsAnswer (lent_request (Self.frame self.now) other.now left_on.now right_on.now args) (table_of t)) }
+        ensures { IsJoinOf (lent_request (Self.frame self.now) other.now left_on.now right_on.now args) result }
     {
         let gate = &OpenGate;
         let (table, _trace) = self.join_traced(
@@ -81,10 +76,7 @@ pub trait DataFrameJoinOps: IntoDf {
         exec: &Exec,
         gate: &G,
     ) -> PolarsResult<(DataFrame, JoinTrace)>
-        ensures settles { Settles result (join_refusal (lent_request (Self.frame self.now) other.now left_on.now right_on.now args)) }
-        ensures answer { IfOk result (λ r. IsAnswer (lent_request (Self.frame self.now) other.now left_on.now right_on.now args) (table_of r.0)) }
-        ensures traced { IfOk result (λ r. IsTraced exec.now (named_trace (Self.frame self.now) other.now left_on.now right_on.now args exec.now) r.1) }
-        ensures let_in { IfOk result (λ r. ArePartsLetIn (G.lets_in gate.now) r.1) }
+        ensures { IsTracedJoinOf (Self.frame self.now) other.now left_on.now right_on.now args exec.now (G.lets_in gate.now) result }
     {
         let request = NamedRequest {
             left: self.to_df(),
@@ -110,8 +102,7 @@ pub trait DataFrameJoinOps: IntoDf {
         right_on: &[PlSmallStr],
         exec: &Exec,
     ) -> PolarsResult<DataFrame>
-        ensures settles { Settles result (join_refusal (lent_request (Self.frame self.now) other.now left_on.now right_on.now (plain_args JoinType.Inner))) }
-        ensures answer { IfOk result (λ t. IsAnswer (lent_request (Self.frame self.now) other.now left_on.now right_on.now (plain_args JoinType.Inner)) (table_of t)) }
+        ensures { IsJoinOf (lent_request (Self.frame self.now) other.now left_on.now right_on.now (plain_args JoinType.Inner)) result }
     {
         let args = JoinArgs::new(JoinType::Inner);
         self.join(rt, alloc, other, left_on, right_on, args, exec)
@@ -131,8 +122,7 @@ pub trait DataFrameJoinOps: IntoDf {
         right_on: &[PlSmallStr],
         exec: &Exec,
     ) -> PolarsResult<DataFrame>
-        ensures settles { Settles result (join_refusal (lent_request (Self.frame self.now) other.now left_on.now right_on.now (plain_args JoinType.Left))) }
-        ensures answer { IfOk result (λ t. IsAnswer (lent_request (Self.frame self.now) other.now left_on.now right_on.now (plain_args JoinType.Left)) (table_of t)) }
+        ensures { IsJoinOf (lent_request (Self.frame self.now) other.now left_on.now right_on.now (plain_args JoinType.Left)) result }
     {
         let args = JoinArgs::new(JoinType::Left);
         self.join(rt, alloc, other, left_on, right_on, args, exec)
@@ -152,8 +142,7 @@ pub trait DataFrameJoinOps: IntoDf {
         right_on: &[PlSmallStr],
         exec: &Exec,
     ) -> PolarsResult<DataFrame>
-        ensures settles { Settles result (join_refusal (lent_request (Self.frame self.now) other.now left_on.now right_on.now (plain_args JoinType.Full))) }
-        ensures answer { IfOk result (λ t. IsAnswer (lent_request (Self.frame self.now) other.now left_on.now right_on.now (plain_args JoinType.Full)) (table_of t)) }
+        ensures { IsJoinOf (lent_request (Self.frame self.now) other.now left_on.now right_on.now (plain_args JoinType.Full)) result }
     {
         let args = JoinArgs::new(JoinType::Full);
         self.join(rt, alloc, other, left_on, right_on, args, exec)
@@ -170,12 +159,8 @@ fn checked_pairs<G: Gate>(
     exec: &Exec,
     gate: &G,
 ) -> PolarsResult<ListedPairs>
-    requires some { 0 < length request.now.left_keys.now }
-    requires as_many { length request.now.left_keys.now ≡ length request.now.right_keys.now }
-    ensures settles { Settles result (later_refusal (asked_request request.now)) }
-    ensures listed { IfOk result (λ l. ArePairsOf (asked_request request.now) l.pairs.items) }
-    ensures traced { IfOk result (λ l. IsTraced exec.now (requested_trace request.now exec.now) l.trace) }
-    ensures let_in { IfOk result (λ l. ArePartsLetIn (G.lets_in gate.now) l.trace) }
+    requires { HaveKeys request.now }
+    ensures { ArePairsTraced (later_refusal (asked_request request.now)) request.now exec.now (G.lets_in gate.now) result }
 {
     check_columns(alloc, request)?;
     traced_pairs(rt, alloc, request, exec, gate)
@@ -189,14 +174,8 @@ fn traced_columns<G: Gate>(
     exec: &Exec,
     gate: &G,
 ) -> PolarsResult<(DataFrame, JoinTrace)>
-    requires some { 0 < length request.now.left_keys.now }
-    requires as_many { length request.now.left_keys.now ≡ length request.now.right_keys.now }
-    requires wide { 0 < length (out (asked_request request.now)) }
-    requires coalescing { key_types (asked_request request.now) ≡ None → CanCoalesceKeys (asked_request request.now) }
-    ensures settles { Settles result (later_refusal (asked_request request.now)) }
-    ensures answer { IfOk result (λ r. IsAnswer (asked_request request.now) (table_of r.0)) }
-    ensures traced { IfOk result (λ r. IsTraced exec.now (requested_trace request.now exec.now) r.1) }
-    ensures let_in { IfOk result (λ r. ArePartsLetIn (G.lets_in gate.now) r.1) }
+    requires ready { CanBeJoined request.now }
+    ensures { IsTracedJoinUnless (later_refusal (asked_request request.now)) (asked_request request.now) exec.now (requested_trace request.now exec.now) (G.lets_in gate.now) result }
 {
     let ListedPairs { pairs, trace } = checked_pairs(rt, alloc, request, exec, gate)?;
     let table = finish_join(rt, alloc, request, &pairs)?;
@@ -210,12 +189,8 @@ pub fn join_columns(
     request: &LentRequest<'_>,
     exec: &Exec,
 ) -> PolarsResult<DataFrame>
-    requires some { 0 < length request.now.left_keys.now }
-    requires as_many { length request.now.left_keys.now ≡ length request.now.right_keys.now }
-    requires wide { 0 < length (out (asked_request request.now)) }
-    requires coalescing { key_types (asked_request request.now) ≡ None → CanCoalesceKeys (asked_request request.now) }
-    ensures settles { Settles result (later_refusal (asked_request request.now)) }
-    ensures answer { IfOk result (λ t. IsAnswer (asked_request request.now) (table_of t)) }
+    requires ready { CanBeJoined request.now }
+    ensures { IsJoinUnless (later_refusal (asked_request request.now)) (asked_request request.now) result }
 {
     let (table, _trace) = traced_columns(rt, alloc, request, exec, &OpenGate)?;
     Ok(table)
@@ -228,11 +203,7 @@ fn join_tables<G: Gate>(
     exec: &Exec,
     gate: &G,
 ) -> PolarsResult<(DataFrame, JoinTrace)>
-    ensures settles { Settles result (join_refusal (asked_by_names request.now)) }
-    ensures answer { IfOk result (λ r. IsAnswer (asked_by_names request.now) (table_of r.0)) }
-    ensures traced { IfOk result (λ r. IsTraced exec.now
-        (named_trace request.now.left.now request.now.right.now request.now.left_on.now request.now.right_on.now request.now.args.now exec.now) r.1) }
-    ensures let_in { IfOk result (λ r. ArePartsLetIn (G.lets_in gate.now) r.1) }
+    ensures { IsTracedJoinOf request.now.left.now request.now.right.now request.now.left_on.now request.now.right_on.now request.now.args.now exec.now (G.lets_in gate.now) result }
 {
     let _columns = request.left.get_columns();
     let keys = request.key_columns(alloc)?;

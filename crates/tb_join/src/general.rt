@@ -3,12 +3,13 @@ ghost use Rattle.std.specs.Prelude.{◌≡◌, ◌<◌, ◌≤◌, ◌⊎◌, �
 ghost use Rattle.tb_value.specs.Refusals.{Settles};
 ghost use Rattle.tb_chunk.specs.Rows.{IsRowOf};
 ghost use Rattle.tb_frame.specs.Answer.{ArePairsOf, IsPairOf, fill};
-ghost use Rattle.tb_frame.specs.Promise.Join.{IsAnswer, listing, out};
+ghost use Rattle.tb_frame.specs.Promise.Join.{listing, out};
 ghost use Rattle.tb_frame.specs.Promise.Naming.{coalesces, coalesces_keys};
 ghost use Rattle.tb_frame.specs.Promise.Refusal.{repeated_name};
 ghost use Rattle.tb_frame.specs.Promise.Table.{height, table_of};
 ghost use Rattle.tb_gather.specs.Ids.{AreAllRowsInOrder};
 ghost use Rattle.tb_keys.specs.Asked.{asked_request};
+ghost use Rattle.tb_join.specs.Promise.Answers.{IsJoinUnless};
 ghost use Rattle.tb_join.specs.AnswerColumns.{answer_columns, right_part, side_by_side};
 ghost use Rattle.tb_join.specs.Ready.{CanCoalesceKeys};
 ghost use Rattle.tb_join.specs.RowOrder.{AscendAsAsked, right_order_asked};
@@ -98,8 +99,7 @@ pub fn finish_join(
     requires coalescing { CanCoalesceKeys (asked_request request.now) }
     requires some { (0 < length (out (asked_request request.now))) ⊎ (pairs.now ≡ []) }
     requires listed { ArePairsOf (asked_request request.now) pairs.now }
-    ensures settles { Settles result None }
-    ensures answer { IfOk result (λ t. IsAnswer (asked_request request.now) (table_of t)) }
+    ensures { IsJoinUnless None (asked_request request.now) result }
 {
     let columns = answer_columns(rt, alloc, request, pairs)?;
     DataFrame::new(alloc, columns)

@@ -1,12 +1,9 @@
 use Rattle.std.proofs.Common.{◌≡◌, ◌∙◌, ◌<◌, ◌⊎◌, ◌∷◌, [], length, ap, sym, subst}
-use Rattle.std.specs.Prelude.{IfOk}
 use Rattle.tb_value.specs.Promise.Names.{Name}
-use Rattle.tb_value.specs.Promise.Refusals.{first_cause}
-use Rattle.tb_value.specs.Refusals.{Settles}
-use Rattle.tb_frame.specs.Promise.Join.{IsAnswer, Request, listing, out}
-use Rattle.tb_frame.specs.Promise.Refusal.{repeated_name, row_causes}
-use Rattle.tb_frame.specs.Promise.Table.{table_of}
+use Rattle.tb_frame.specs.Promise.Join.{Request, listing, out}
+use Rattle.tb_join.specs.Promise.Answers.{IsJoinUnless}
 use Rattle.tb_join.specs.Ready.{CanCoalesceKeys}
+use Rattle.tb_dispatch.specs.Given.{paired_refusal}
 use Rattle.tb_dispatch.proofs.KeyColumns.{alike_one, can_merge, full_wide, series_is}
 use Rattle.tb_dispatch.proofs.dispatch.full_join_by.Goals as goal
 
@@ -21,10 +18,6 @@ pub join_named-requires-clause-coalescing : goal.join_named-requires-clause-coal
 join_named-requires-clause-coalescing g c κs within =
     subst CanCoalesceKeys (sym (series_is c.args.left.now c.args.right.now c.args.s_left.now c.args.s_right.now c.args.args.now c.from_ref.result.now c.from_ref-2.result.now (c.from_ref.ensures.value ∙ ap (λ (n : Name). n ∷ []) c.name.ensures) (c.from_ref-2.ensures.value ∙ ap (λ (n : Name). n ∷ []) c.name-2.ensures))) (can_merge c.args.left.now c.args.right.now c.args.s_left.now c.args.s_right.now c.args.args.now c.requires.coalescing)
 
-pub returns-clause-settles : goal.returns-clause-settles
-returns-clause-settles g c =
-    subst (λ (q : Request). Settles c.join_named.result (first_cause (repeated_name q ∷ row_causes q))) (series_is c.args.left.now c.args.right.now c.args.s_left.now c.args.s_right.now c.args.args.now c.from_ref.result.now c.from_ref-2.result.now (c.from_ref.ensures.value ∙ ap (λ (n : Name). n ∷ []) c.name.ensures) (c.from_ref-2.ensures.value ∙ ap (λ (n : Name). n ∷ []) c.name-2.ensures)) c.join_named.ensures.settles
-
-pub returns-clause-answer : goal.returns-clause-answer
-returns-clause-answer g c =
-    subst (λ (q : Request). IfOk c.join_named.result (λ t. IsAnswer q (table_of t))) (series_is c.args.left.now c.args.right.now c.args.s_left.now c.args.s_right.now c.args.args.now c.from_ref.result.now c.from_ref-2.result.now (c.from_ref.ensures.value ∙ ap (λ (n : Name). n ∷ []) c.name.ensures) (c.from_ref-2.ensures.value ∙ ap (λ (n : Name). n ∷ []) c.name-2.ensures)) c.join_named.ensures.answer
+pub returns : goal.returns
+returns g c =
+    subst (λ (q : Request). IsJoinUnless (paired_refusal q) q c.join_named.result) (series_is c.args.left.now c.args.right.now c.args.s_left.now c.args.s_right.now c.args.args.now c.from_ref.result.now c.from_ref-2.result.now (c.from_ref.ensures.value ∙ ap (λ (n : Name). n ∷ []) c.name.ensures) (c.from_ref-2.ensures.value ∙ ap (λ (n : Name). n ∷ []) c.name-2.ensures)) c.join_named.ensures

@@ -1,4 +1,4 @@
-use Rattle.std.proofs.Common.{◌≡◌, ◌∙◌, ◌<◌, ◌⊎◌, inl, inr, List, [], None, length, sym, subst, arith}
+use Rattle.std.proofs.Common.{◌≡◌, ◌∙◌, ◌<◌, ◌⊎◌, inl, inr, rules, List, [], None, length, sym, subst, arith}
 use Rattle.tb_value.specs.declared.error.ComputeCause.TheVariants.{TooManyRows}
 use Rattle.tb_value.specs.declared.error.PolarsError.TheVariants.{ComputeError}
 use Rattle.tb_value.specs.declared.index.JoinPair.{JoinPair}
@@ -27,3 +27,12 @@ pub finish_join-requires-clause-listed : goal.finish_join-requires-clause-listed
 finish_join-requires-clause-listed g c κs within =
     let r = c.args.request.now in
     subst (λ (ps : List JoinPair). IsListed r.how r.args.now.maintain_order r.args.now.slice (listing (asked_request r)) ps) (sym c.deref.ensures.value) c.in_ok-pairs.ensures.listed
+
+pub returns-in_err-check_answer_names : goal.returns-in_err-check_answer_names
+returns-in_err-check_answer_names g c = record { settles = search rules; answer = search rules }
+
+pub returns-in_err-pairs : goal.returns-in_err-pairs
+returns-in_err-pairs g c = record { settles = search rules; answer = search rules }
+
+pub returns : goal.returns
+returns g c = record { settles = search rules; answer = search rules }

@@ -25,16 +25,19 @@ abbrev none_of : (left right lk rk : List Col) (lks rks : List Col) (nulls : Joi
     → early_refusal left right lks rks nulls lo ro ≡ early_refusal left right lk rk nulls (names_of (table_of lk)) (names_of (table_of rk))
 none_of left right lk rk lks rks nulls lo ro a b x y = λ t. early_refusal left right (a t) (b t) nulls (x t) (y t)
 
-pub returns-in_err-check_given-clause-settles : goal.returns-in_err-check_given-clause-settles
-returns-in_err-check_given-clause-settles g c =
+pub returns-in_err-check_given : goal.returns-in_err-check_given
+returns-in_err-check_given g c =
     let left = c.args.left.now in
     let right = c.args.right.now in
     let lk = c.args.left_keys.items in
     let rk = c.args.right_keys.items in
     let args = c.args.args.now in
     let p = err_from_is_err_and c.from_residual-in_err-check_given.result c.from_residual-in_err-check_given.ensures.1 in
-    rw (p.1, p.2) (by_first _ _ _ _ _ (in_parts left right lk rk args)
-    (none_of left right lk rk c.deref-3.result.now c.deref-4.result.now args.join_nulls c.deref-5.result.now c.deref-6.result.now c.deref-3.ensures.value c.deref-4.ensures.value (c.deref-5.ensures.value ∙ c.in_ok-left_on.ensures ∙ ap (λ (cs : List Col). names_of (table_of cs)) c.deref.ensures.value) (c.deref-6.ensures.value ∙ c.in_ok-right_on.ensures ∙ ap (λ (cs : List Col). names_of (table_of cs)) c.deref-2.ensures.value)) c.in_err-check_given.ensures)
+    rw (p.1, p.2) (record {
+      settles = by_first _ _ _ _ _ (in_parts left right lk rk args)
+          (none_of left right lk rk c.deref-3.result.now c.deref-4.result.now args.join_nulls c.deref-5.result.now c.deref-6.result.now c.deref-3.ensures.value c.deref-4.ensures.value (c.deref-5.ensures.value ∙ c.in_ok-left_on.ensures ∙ ap (λ (cs : List Col). names_of (table_of cs)) c.deref.ensures.value) (c.deref-6.ensures.value ∙ c.in_ok-right_on.ensures ∙ ap (λ (cs : List Col). names_of (table_of cs)) c.deref-2.ensures.value)) c.in_err-check_given.ensures;
+      answer = tt;
+    })
 
 pub lent_keys-requires : goal.lent_keys-requires
 lent_keys-requires g c =
@@ -60,63 +63,42 @@ invariant_of-request-clause-left_rows g c = subst (λ (rs : List (Bor Col)). Has
 pub invariant_of-request-clause-right_rows : goal.invariant_of-request-clause-right_rows
 invariant_of-request-clause-right_rows g c = subst (λ (rs : List (Bor Col)). HasRows (height (table_of c.args.right.now)) (lent_columns rs)) (sym c.deref-12.ensures.value) c.in_ok-right_lent.ensures.rows
 
-pub join_columns-requires-clause-some : goal.join_columns-requires-clause-some
-join_columns-requires-clause-some g c κs within =
+pub join_columns-requires-clause-ready : goal.join_columns-requires-clause-ready
+join_columns-requires-clause-ready g c κs within =
     let left = c.args.left.now in
     let right = c.args.right.now in
     let lk = c.args.left_keys.items in
     let rk = c.args.right_keys.items in
     let args = c.args.args.now in
-    let is = (ap lent_columns c.deref-11.ensures.value ∙ c.in_ok-left_lent.ensures.lent ∙ (c.deref-7.ensures.value ∙ c.in_ok-left_keys.ensures ∙ (λ t. cleared_columns (c.height.ensures.height t) lk))) in
-    let there = some left right lk rk args (sym (none_of left right lk rk c.deref-3.result.now c.deref-4.result.now args.join_nulls c.deref-5.result.now c.deref-6.result.now c.deref-3.ensures.value c.deref-4.ensures.value (c.deref-5.ensures.value ∙ c.in_ok-left_on.ensures ∙ ap (λ (cs : List Col). names_of (table_of cs)) c.deref.ensures.value) (c.deref-6.ensures.value ∙ c.in_ok-right_on.ensures ∙ ap (λ (cs : List Col). names_of (table_of cs)) c.deref-2.ensures.value)) ∙ c.in_ok-check_given.ensures) in
-    let long = ap (λ (cs : List Col). length cs) is in
-    let many = length-map c.deref-11.result.now (λ (b : Bor Col). b.now) in
-    omega (arith, there, long, many)
+    let none = sym (none_of left right lk rk c.deref-3.result.now c.deref-4.result.now args.join_nulls c.deref-5.result.now c.deref-6.result.now c.deref-3.ensures.value c.deref-4.ensures.value (c.deref-5.ensures.value ∙ c.in_ok-left_on.ensures ∙ ap (λ (cs : List Col). names_of (table_of cs)) c.deref.ensures.value) (c.deref-6.ensures.value ∙ c.in_ok-right_on.ensures ∙ ap (λ (cs : List Col). names_of (table_of cs)) c.deref-2.ensures.value)) ∙ c.in_ok-check_given.ensures in
+    let lefts = ap lent_columns c.deref-11.ensures.value ∙ c.in_ok-left_lent.ensures.lent ∙ (c.deref-7.ensures.value ∙ c.in_ok-left_keys.ensures ∙ (λ t. cleared_columns (c.height.ensures.height t) lk)) in
+    let rights = ap lent_columns c.deref-12.ensures.value ∙ c.in_ok-right_lent.ensures.lent ∙ (c.deref-8.ensures.value ∙ c.in_ok-right_keys.ensures ∙ (λ t. cleared_columns (c.height-2.ensures.height t) rk)) in
+    let is = fitted_is left right lk rk args c.deref-9.result.now c.deref-10.result.now (lent_columns c.deref-11.result.now) (lent_columns c.deref-12.result.now) (c.deref-9.ensures.value ∙ c.in_ok-left_on.ensures ∙ ap (λ (cs : List Col). names_of (table_of cs)) c.deref.ensures.value) (c.deref-10.ensures.value ∙ c.in_ok-right_on.ensures ∙ ap (λ (cs : List Col). names_of (table_of cs)) c.deref-2.ensures.value) lefts rights in
+    let there = some left right lk rk args none in
+    let same = as_many left right lk rk args none in
+    let long = ap (λ (cs : List Col). length cs) lefts in
+    let wide = ap (λ (cs : List Col). length cs) rights in
+    let left_many = length-map c.deref-11.result.now (λ (b : Bor Col). b.now) in
+    let right_many = length-map c.deref-12.result.now (λ (b : Bor Col). b.now) in
+    record {
+      keys = record { some = omega (arith, there, long, left_many); as_many = sym left_many ∙ long ∙ same ∙ sym wide ∙ right_many };
+      wide = subst (λ (q : Request). 0 < length (out q)) (sym is) (wide_out (fitted left right lk rk args) (stand left right lk rk args none));
+      coalescing = subst (λ (q : Request). key_types q ≡ None → CanCoalesceKeys q) (sym is) (λ types. mergeable left right lk rk args none c.requires.coalescing);
+    }
 
-pub join_columns-requires-clause-as_many : goal.join_columns-requires-clause-as_many
-join_columns-requires-clause-as_many g c κs within =
+pub returns : goal.returns
+returns g c =
     let left = c.args.left.now in
     let right = c.args.right.now in
     let lk = c.args.left_keys.items in
     let rk = c.args.right_keys.items in
     let args = c.args.args.now in
-    let same = as_many left right lk rk args (sym (none_of left right lk rk c.deref-3.result.now c.deref-4.result.now args.join_nulls c.deref-5.result.now c.deref-6.result.now c.deref-3.ensures.value c.deref-4.ensures.value (c.deref-5.ensures.value ∙ c.in_ok-left_on.ensures ∙ ap (λ (cs : List Col). names_of (table_of cs)) c.deref.ensures.value) (c.deref-6.ensures.value ∙ c.in_ok-right_on.ensures ∙ ap (λ (cs : List Col). names_of (table_of cs)) c.deref-2.ensures.value)) ∙ c.in_ok-check_given.ensures) in
-    let long = ap (λ (cs : List Col). length cs) (ap lent_columns c.deref-11.ensures.value ∙ c.in_ok-left_lent.ensures.lent ∙ (c.deref-7.ensures.value ∙ c.in_ok-left_keys.ensures ∙ (λ t. cleared_columns (c.height.ensures.height t) lk))) in
-    let wide = ap (λ (cs : List Col). length cs) (ap lent_columns c.deref-12.ensures.value ∙ c.in_ok-right_lent.ensures.lent ∙ (c.deref-8.ensures.value ∙ c.in_ok-right_keys.ensures ∙ (λ t. cleared_columns (c.height-2.ensures.height t) rk))) in
-    sym (length-map c.deref-11.result.now (λ (b : Bor Col). b.now)) ∙ long ∙ same ∙ sym wide ∙ length-map c.deref-12.result.now (λ (b : Bor Col). b.now)
-
-pub join_columns-requires-clause-wide : goal.join_columns-requires-clause-wide
-join_columns-requires-clause-wide g c κs within =
-    let left = c.args.left.now in
-    let right = c.args.right.now in
-    let lk = c.args.left_keys.items in
-    let rk = c.args.right_keys.items in
-    let args = c.args.args.now in
-    subst (λ (q : Request). 0 < length (out q)) (sym (fitted_is left right lk rk args c.deref-9.result.now c.deref-10.result.now (lent_columns c.deref-11.result.now) (lent_columns c.deref-12.result.now) (c.deref-9.ensures.value ∙ c.in_ok-left_on.ensures ∙ ap (λ (cs : List Col). names_of (table_of cs)) c.deref.ensures.value) (c.deref-10.ensures.value ∙ c.in_ok-right_on.ensures ∙ ap (λ (cs : List Col). names_of (table_of cs)) c.deref-2.ensures.value) (ap lent_columns c.deref-11.ensures.value ∙ c.in_ok-left_lent.ensures.lent ∙ (c.deref-7.ensures.value ∙ c.in_ok-left_keys.ensures ∙ (λ t. cleared_columns (c.height.ensures.height t) lk))) (ap lent_columns c.deref-12.ensures.value ∙ c.in_ok-right_lent.ensures.lent ∙ (c.deref-8.ensures.value ∙ c.in_ok-right_keys.ensures ∙ (λ t. cleared_columns (c.height-2.ensures.height t) rk))))) (wide_out (fitted left right lk rk args) (stand left right lk rk args (sym (none_of left right lk rk c.deref-3.result.now c.deref-4.result.now args.join_nulls c.deref-5.result.now c.deref-6.result.now c.deref-3.ensures.value c.deref-4.ensures.value (c.deref-5.ensures.value ∙ c.in_ok-left_on.ensures ∙ ap (λ (cs : List Col). names_of (table_of cs)) c.deref.ensures.value) (c.deref-6.ensures.value ∙ c.in_ok-right_on.ensures ∙ ap (λ (cs : List Col). names_of (table_of cs)) c.deref-2.ensures.value)) ∙ c.in_ok-check_given.ensures)))
-
-pub join_columns-requires-clause-coalescing : goal.join_columns-requires-clause-coalescing
-join_columns-requires-clause-coalescing g c κs within =
-    let left = c.args.left.now in
-    let right = c.args.right.now in
-    let lk = c.args.left_keys.items in
-    let rk = c.args.right_keys.items in
-    let args = c.args.args.now in
-    subst (λ (q : Request). key_types q ≡ None → CanCoalesceKeys q) (sym (fitted_is left right lk rk args c.deref-9.result.now c.deref-10.result.now (lent_columns c.deref-11.result.now) (lent_columns c.deref-12.result.now) (c.deref-9.ensures.value ∙ c.in_ok-left_on.ensures ∙ ap (λ (cs : List Col). names_of (table_of cs)) c.deref.ensures.value) (c.deref-10.ensures.value ∙ c.in_ok-right_on.ensures ∙ ap (λ (cs : List Col). names_of (table_of cs)) c.deref-2.ensures.value) (ap lent_columns c.deref-11.ensures.value ∙ c.in_ok-left_lent.ensures.lent ∙ (c.deref-7.ensures.value ∙ c.in_ok-left_keys.ensures ∙ (λ t. cleared_columns (c.height.ensures.height t) lk))) (ap lent_columns c.deref-12.ensures.value ∙ c.in_ok-right_lent.ensures.lent ∙ (c.deref-8.ensures.value ∙ c.in_ok-right_keys.ensures ∙ (λ t. cleared_columns (c.height-2.ensures.height t) rk))))) (λ types. mergeable left right lk rk args (sym (none_of left right lk rk c.deref-3.result.now c.deref-4.result.now args.join_nulls c.deref-5.result.now c.deref-6.result.now c.deref-3.ensures.value c.deref-4.ensures.value (c.deref-5.ensures.value ∙ c.in_ok-left_on.ensures ∙ ap (λ (cs : List Col). names_of (table_of cs)) c.deref.ensures.value) (c.deref-6.ensures.value ∙ c.in_ok-right_on.ensures ∙ ap (λ (cs : List Col). names_of (table_of cs)) c.deref-2.ensures.value)) ∙ c.in_ok-check_given.ensures) c.requires.coalescing)
-
-pub returns-clause-settles : goal.returns-clause-settles
-returns-clause-settles g c =
-    let left = c.args.left.now in
-    let right = c.args.right.now in
-    let lk = c.args.left_keys.items in
-    let rk = c.args.right_keys.items in
-    let args = c.args.args.now in
-    subst (λ (o : Option PolarsError). Settles c.join_columns.result o) (ap later_refusal (fitted_is left right lk rk args c.deref-9.result.now c.deref-10.result.now (lent_columns c.deref-11.result.now) (lent_columns c.deref-12.result.now) (c.deref-9.ensures.value ∙ c.in_ok-left_on.ensures ∙ ap (λ (cs : List Col). names_of (table_of cs)) c.deref.ensures.value) (c.deref-10.ensures.value ∙ c.in_ok-right_on.ensures ∙ ap (λ (cs : List Col). names_of (table_of cs)) c.deref-2.ensures.value) (ap lent_columns c.deref-11.ensures.value ∙ c.in_ok-left_lent.ensures.lent ∙ (c.deref-7.ensures.value ∙ c.in_ok-left_keys.ensures ∙ (λ t. cleared_columns (c.height.ensures.height t) lk))) (ap lent_columns c.deref-12.ensures.value ∙ c.in_ok-right_lent.ensures.lent ∙ (c.deref-8.ensures.value ∙ c.in_ok-right_keys.ensures ∙ (λ t. cleared_columns (c.height-2.ensures.height t) rk)))) ∙ later left right lk rk args ∙ sym (all_later left right lk rk args (sym (none_of left right lk rk c.deref-3.result.now c.deref-4.result.now args.join_nulls c.deref-5.result.now c.deref-6.result.now c.deref-3.ensures.value c.deref-4.ensures.value (c.deref-5.ensures.value ∙ c.in_ok-left_on.ensures ∙ ap (λ (cs : List Col). names_of (table_of cs)) c.deref.ensures.value) (c.deref-6.ensures.value ∙ c.in_ok-right_on.ensures ∙ ap (λ (cs : List Col). names_of (table_of cs)) c.deref-2.ensures.value)) ∙ c.in_ok-check_given.ensures))) c.join_columns.ensures.settles
-
-pub returns-clause-answer : goal.returns-clause-answer
-returns-clause-answer g c =
-    let left = c.args.left.now in
-    let right = c.args.right.now in
-    let lk = c.args.left_keys.items in
-    let rk = c.args.right_keys.items in
-    let args = c.args.args.now in
-    IfOk-weaker c.join_columns.result _ _ (λ t h. answers left right lk rk args (table_of t) (subst (λ (q : Request). IsAnswer q (table_of t)) (fitted_is left right lk rk args c.deref-9.result.now c.deref-10.result.now (lent_columns c.deref-11.result.now) (lent_columns c.deref-12.result.now) (c.deref-9.ensures.value ∙ c.in_ok-left_on.ensures ∙ ap (λ (cs : List Col). names_of (table_of cs)) c.deref.ensures.value) (c.deref-10.ensures.value ∙ c.in_ok-right_on.ensures ∙ ap (λ (cs : List Col). names_of (table_of cs)) c.deref-2.ensures.value) (ap lent_columns c.deref-11.ensures.value ∙ c.in_ok-left_lent.ensures.lent ∙ (c.deref-7.ensures.value ∙ c.in_ok-left_keys.ensures ∙ (λ t. cleared_columns (c.height.ensures.height t) lk))) (ap lent_columns c.deref-12.ensures.value ∙ c.in_ok-right_lent.ensures.lent ∙ (c.deref-8.ensures.value ∙ c.in_ok-right_keys.ensures ∙ (λ t. cleared_columns (c.height-2.ensures.height t) rk)))) h)) c.join_columns.ensures.answer
+    let none = sym (none_of left right lk rk c.deref-3.result.now c.deref-4.result.now args.join_nulls c.deref-5.result.now c.deref-6.result.now c.deref-3.ensures.value c.deref-4.ensures.value (c.deref-5.ensures.value ∙ c.in_ok-left_on.ensures ∙ ap (λ (cs : List Col). names_of (table_of cs)) c.deref.ensures.value) (c.deref-6.ensures.value ∙ c.in_ok-right_on.ensures ∙ ap (λ (cs : List Col). names_of (table_of cs)) c.deref-2.ensures.value)) ∙ c.in_ok-check_given.ensures in
+    let lefts = ap lent_columns c.deref-11.ensures.value ∙ c.in_ok-left_lent.ensures.lent ∙ (c.deref-7.ensures.value ∙ c.in_ok-left_keys.ensures ∙ (λ t. cleared_columns (c.height.ensures.height t) lk)) in
+    let rights = ap lent_columns c.deref-12.ensures.value ∙ c.in_ok-right_lent.ensures.lent ∙ (c.deref-8.ensures.value ∙ c.in_ok-right_keys.ensures ∙ (λ t. cleared_columns (c.height-2.ensures.height t) rk)) in
+    let is = fitted_is left right lk rk args c.deref-9.result.now c.deref-10.result.now (lent_columns c.deref-11.result.now) (lent_columns c.deref-12.result.now) (c.deref-9.ensures.value ∙ c.in_ok-left_on.ensures ∙ ap (λ (cs : List Col). names_of (table_of cs)) c.deref.ensures.value) (c.deref-10.ensures.value ∙ c.in_ok-right_on.ensures ∙ ap (λ (cs : List Col). names_of (table_of cs)) c.deref-2.ensures.value) lefts rights in
+    let h = c.join_columns.ensures in
+    record {
+      settles = subst (λ (o : Option PolarsError). Settles c.join_columns.result o) (ap later_refusal is ∙ later left right lk rk args ∙ sym (all_later left right lk rk args none)) h.settles;
+      answer = IfOk-weaker c.join_columns.result _ _ (λ t h. answers left right lk rk args (table_of t) (subst (λ (q : Request). IsAnswer q (table_of t)) is h)) h.answer;
+    }

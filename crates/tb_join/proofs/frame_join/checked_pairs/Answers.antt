@@ -13,11 +13,11 @@ use Rattle.tb_keys.proofs.Refusing.{by_first, second_part, two_parts}
 use Rattle.tb_pairs.proofs.Checked.{checked_alike}
 use Rattle.tb_join.proofs.frame_join.checked_pairs.Goals as goal
 
-pub returns-in_err-check_columns-clause-settles : goal.returns-in_err-check_columns-clause-settles
-returns-in_err-check_columns-clause-settles g c =
+pub returns-in_err-check_columns : goal.returns-in_err-check_columns
+returns-in_err-check_columns g c =
     let q = asked_request c.args.request.now in
     let p = err_from_is_err_and c.from_residual.result c.from_residual.ensures.1 in
-    rw (p.1, p.2) (by_first _ _ _ _ _ (two_parts (column_causes q) (row_causes q)) refl c.in_err-check_columns.ensures)
+    rw (p.1, p.2) (record { settles = by_first _ _ _ _ _ (two_parts (column_causes q) (row_causes q)) refl c.in_err-check_columns.ensures; listed = tt; traced = tt; let_in = tt })
 
 pub traced_pairs-requires-clause-alike : goal.traced_pairs-requires-clause-alike
 traced_pairs-requires-clause-alike g c κs within =
@@ -29,7 +29,13 @@ traced_pairs-requires-clause-alike g c κs within =
     let none = no_cause (column_causes (asked_request r)) c.in_ok-check_columns.ensures in
     checked_alike (asked_request r) (lent_columns r.left_keys.now) (lent_columns r.right_keys.now) refl refl (omega (arith, left, some)) (omega (arith, left, right, many)) (none 0 None (omega arith)) (none 1 None (omega arith))
 
-pub returns-clause-settles : goal.returns-clause-settles
-returns-clause-settles g c =
+pub returns : goal.returns
+returns g c =
     let q = asked_request c.args.request.now in
-    subst (λ (o : Option PolarsError). Settles c.traced_pairs.result o) (sym (second_part (column_causes q) (row_causes q) c.in_ok-check_columns.ensures)) c.traced_pairs.ensures.settles
+    let h = c.traced_pairs.ensures in
+    record {
+      settles = subst (λ (o : Option PolarsError). Settles c.traced_pairs.result o) (sym (second_part (column_causes q) (row_causes q) c.in_ok-check_columns.ensures)) h.settles;
+      listed = h.listed;
+      traced = h.traced;
+      let_in = h.let_in;
+    }

@@ -1,4 +1,5 @@
 use Rattle.std.proofs.Common.{None}
+use Rattle.std.proofs.lemmas.Result.{err_from_is_err_and}
 use Rattle.tb_value.specs.declared.error.PolarsError.TheVariants.{Duplicate}
 use Rattle.tb_frame.specs.Promise.Naming.{joined_names}
 use Rattle.tb_frame.specs.Promise.Refusal.{first_repeated}
@@ -22,13 +23,18 @@ answer_columns-requires-clause-in_order g c κs within =
     let q = asked_request c.args.request.now in
     run-as-asked q.args (height q.left) (height q.right) (matches q) c.args.pairs.now c.requires.listed
 
-pub returns-clause-settles : goal.returns-clause-settles
-returns-clause-settles g c =
+pub returns-in_err-columns : goal.returns-in_err-columns
+returns-in_err-columns g c =
+    let p = err_from_is_err_and c.from_residual.result c.from_residual.ensures.1 in
+    rw (p.1, p.2) (record { settles = c.in_err-columns.ensures.settles; answer = tt })
+
+pub returns : goal.returns
+returns g c =
     let q = asked_request c.args.request.now in
     let names = joined_names q.args q.left_on q.right_on (names_of q.left) (names_of q.right) in
     let apart = distinct_names names (map_none (λ n. Duplicate n) (first_repeated names) c.requires.named) in
-    settled c.new.result _ None (makes_frame q c.args.pairs.now _ c.in_ok-columns.ensures.columns apart) c.new.ensures.settles
-
-pub returns-clause-answer : goal.returns-clause-answer
-returns-clause-answer g c =
-    table_answers (asked_request c.args.request.now) c.args.pairs.now _ c.new.result c.in_ok-columns.ensures.columns c.requires.some c.requires.listed c.new.ensures.columns c.new.ensures.table
+    let columns = c.in_ok-columns.ensures.columns in
+    record {
+      settles = settled c.new.result _ None (makes_frame q c.args.pairs.now _ columns apart) c.new.ensures.settles;
+      answer = table_answers q c.args.pairs.now _ c.new.result columns c.requires.some c.requires.listed c.new.ensures.columns c.new.ensures.table;
+    }
