@@ -36,6 +36,8 @@ struct Word(&'static str, Takes, &'static str);
 struct Form {
     name: &'static str,
     about: &'static str,
+    usage: &'static str,
+    after: &'static str,
     words: &'static [Word],
     shared: &'static [Word],
 }
@@ -74,7 +76,7 @@ const SHARED: &[Word] = &[
     Word(
         "width",
         Takes::Text("COLUMNS"),
-        "Columns of the lines of a table [default: 80]",
+        "Columns of a table's lines [default: the screen's]",
     ),
     OUTPUT,
 ];
@@ -82,6 +84,8 @@ const SHARED: &[Word] = &[
 const JOIN: Form = Form {
     name: "join",
     about: "Joins two tables",
+    usage: "muigratu join <LEFT> <RIGHT> --on <KEY[=KEY]>... [OPTIONS]",
+    after: "Example:{n}  muigratu join orders.csv customers.csv --on customer=id --how left{n}{n}Files come first, since --on takes all words up to the next option. A key is{n}LEFT_NAME=RIGHT_NAME, or one name for both.{n}Without --order the rows of an inner or a full join come in the order of the{n}left rows, and for one left row in that of the right rows.{n}A full join keeps both columns of a key; --coalesce coalesce makes them one.{n}Both columns of a key are to be of one type: --types NAME=str reads texts.",
     words: &[
         Word(
             "LEFT",
@@ -105,8 +109,16 @@ const JOIN: Form = Form {
         ),
         Word(
             "order",
-            Takes::Choice(&["none", "left", "right", "left-right", "right-left"]),
-            "left, right, left-right, right-left, else none",
+            Takes::Choice(&[
+                "none",
+                "left",
+                "right",
+                "left_right",
+                "right_left",
+                "left-right",
+                "right-left",
+            ]),
+            "none, left, right, left_right or right_left",
         ),
         Word(
             "validate",
@@ -140,6 +152,8 @@ const JOIN: Form = Form {
 const PIVOT: Form = Form {
     name: "pivot",
     about: "Makes a table wide",
+    usage: "muigratu pivot <TABLE> --on <NAME>... [OPTIONS]",
+    after: "Example:{n}  muigratu pivot orders.csv --on day --index customer --values cents --agg sum{n}{n}The file comes first, since --on takes all words up to the next option.{n}Dates make no columns unless --types NAME=str reads them as texts.{n}Decimal numbers are texts: --agg min and max compare their bytes.",
     words: &[
         TABLE,
         Word(
@@ -175,6 +189,8 @@ const PIVOT: Form = Form {
 const UNPIVOT: Form = Form {
     name: "unpivot",
     about: "Makes a table long",
+    usage: "muigratu unpivot <TABLE> [OPTIONS]",
+    after: "Example:{n}  muigratu unpivot orders.csv --on cents --index order{n}{n}The file comes first, since --on takes all words up to the next option.",
     words: &[
         TABLE,
         Word(
@@ -204,6 +220,8 @@ const UNPIVOT: Form = Form {
 const DUMMIES: Form = Form {
     name: "dummies",
     about: "Marks the values of columns with 1 and 0",
+    usage: "muigratu dummies <TABLE> [OPTIONS]",
+    after: "Example:{n}  muigratu dummies orders.csv --columns day{n}{n}The file comes first, since --columns takes all words up to the next option.",
     words: &[
         TABLE,
         Word(
@@ -224,6 +242,8 @@ const DUMMIES: Form = Form {
 const WHY: Form = Form {
     name: "why",
     about: "Tells whether a text is a request, or why not and where",
+    usage: "muigratu why <COMMAND> <REQUEST>",
+    after: "Example:{n}  muigratu why join request.json",
     words: &[
         Word(
             "COMMAND",
@@ -242,6 +262,8 @@ const WHY: Form = Form {
 const REQUEST: Form = Form {
     name: "request",
     about: "Makes an answer of the JSON program a table of a request",
+    usage: "muigratu request <ANSWER> [OPTIONS]",
+    after: "Example:{n}  muigratu request answer.json --output table.json",
     words: &[
         Word(
             "ANSWER",
@@ -305,7 +327,10 @@ fn with_words<'a>(
 }
 
 fn command_of<'a>(alloc: Global, form: Form) -> Result<Command<'a>, AllocError> {
-    let command = Command::new(alloc, form.name).about(form.about);
+    let command = Command::new(alloc, form.name)
+        .about(form.about)
+        .override_usage(form.usage)
+        .after_help(form.after);
     let command = with_words(alloc, command, form.words)?;
     with_words(alloc, command, form.shared)
 }

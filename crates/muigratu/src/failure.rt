@@ -1,10 +1,10 @@
 //! Why there is no answer: a sentence and a status.
 
-use crate::sentences::{CsvSentence, RefusalSentence};
+use crate::sentences::{CsvSentence, RefusalSentence, shown};
 use std::alloc::{AllocError, AllocFailed};
 use std::{fmt, io};
 use tb_csv::CsvFault;
-use tb_value::{MAX_INPUT, OutOfMemory, PolarsError};
+use tb_value::{MAX_INPUT, OutOfMemory, PlSmallStr, PolarsError};
 
 /// Why there is no answer.
 #[derive(Drop)]
@@ -13,6 +13,14 @@ pub(crate) enum Failure<'a> {
     Refused(PolarsError),
     /// The answer has no text.
     NoText(CsvFault),
+    /// This name is given a type twice.
+    TypedTwice(PlSmallStr),
+    /// The word is none that the option takes.
+    NoWord(&'static str, &'a str),
+    /// A word of --on is empty.
+    EmptyOn,
+    /// This word is wanting.
+    Wanting(&'static str),
     /// The word is no type of a column.
     NoType(&'a str),
     /// The word is no slice.
@@ -45,13 +53,18 @@ impl Failure<'_> {
     pub(crate) fn status(&self) -> u8 {
         match self {
             Failure::Refused(_) | Failure::NoText(_) => 1,
-            Failure::NoType(_)
+            Failure::TypedTwice(_)
+            | Failure::NoWord(_, _)
+            | Failure::EmptyOn
+            | Failure::Wanting(_)
+            | Failure::NoType(_)
             | Failure::NoSlice(_)
             | Failure::NoKey(_)
             | Failure::NoSeparator(_)
             | Failure::NoWidth(_)
             | Failure::OneInput
             | Failure::NotWords => 2,
+            Failure::NoTable(_, CsvFault::TooManyRows) => 6,
             Failure::NoTable(_, _) | Failure::NoAnswer(_) => 3,
             Failure::Reading(_, _) => 4,
             Failure::Writing(_, _) => 5,
@@ -97,39 +110,67 @@ impl fmt::Display for Failure<'_> {
                 "the answer is not written: {}",
                 CsvSentence(fault)
             ),
-            Failure::NoType(word) => write!(f, "--types takes NAME=TYPE, and not \"{word}\""),
-            Failure::NoSlice(word) => {
-                write!(
-                    f,
-                    "--slice takes OFFSET,LENGTH, two whole numbers, and not \"{word}\""
-                )
+            Failure::NoTable(file, fault) => {
+                write!(f, "{}: {}", shown(title(file)), CsvSentence(fault))
             }
-            Failure::NoKey(word) => {
-                write!(
-                    f,
-                    "--join-nulls takes a left key of --on, and not \"{word}\""
-                )
+            Failure::NoAnswer(file) => {
+                write!(f, "{}: no answer of the JSON program", shown(title(file)))
             }
-            Failure::NoSeparator(word) => {
-                write!(
-                    f,
-                    "--separator takes one ASCII character, and not \"{word}\""
-                )
+            Failure::Reading(file, error) => write!(f, "{}: {error}", shown(title(file))),
+            Failure::Writing(file, error) => write!(f, "{}: {error}", shown(output_title(file))),
+            Failure::OutOfMemory => f.write_str("memory is wanting"),
+            Failure::TooLong(file) => {
+                write!(f, "{}: more than {MAX_INPUT} bytes", shown(title(file)))
             }
-            Failure::NoWidth(word) => write!(
+            words => write_words_sentence(words, f),
+        }
+    }
+}
+
+// A sentence on words that are no command.
+fn write_words_sentence<W: fmt::Write>(
+    failure: &Failure<'_>,
+    f: &mut fmt::Formatter<W>,
+) -> fmt::Result {
+    match failure {
+        Failure::TypedTwice(name) => {
+            write!(f, "--types names \"{}\" twice", shown(name.as_str()))
+        }
+        Failure::NoWord(option, word) => { write!(f, "{option} doesn't take \"{}\"", shown(word)) }
+        Failure::EmptyOn => f.write_str("--on takes names of columns, and not an empty word"),
+        Failure::Wanting(word) => write!(f, "{word} is wanting"),
+        Failure::NoType(word) => {
+            write!(f, "--types takes NAME=TYPE, and not \"{}\"", shown(word))
+        }
+        Failure::NoSlice(word) => {
+            let word = shown(word);
+            write!(
+                f,
+                "--slice takes OFFSET,LENGTH, two whole numbers, and not \"{word}\""
+            )
+        }
+        Failure::NoKey(word) => {
+            let word = shown(word);
+            write!(
+                f,
+                "--join-nulls takes a left key of --on, and not \"{word}\""
+            )
+        }
+        Failure::NoSeparator(word) => {
+            let word = shown(word);
+            write!(
+                f,
+                "--separator takes one ASCII character, and not \"{word}\""
+            )
+        }
+        Failure::NoWidth(word) => {
+            let word = shown(word);
+            write!(
                 f,
                 "--width takes a whole number from 1 on, and not \"{word}\""
-            ),
-            Failure::OneInput => f.write_str("standard input can be one table only"),
-            Failure::NotWords => f.write_str("a word is not UTF-8"),
-            Failure::NoTable(file, fault) => write!(f, "{}: {}", title(file), CsvSentence(fault)),
-            Failure::NoAnswer(file) => {
-                write!(f, "{}: no answer of the JSON program", title(file))
-            }
-            Failure::Reading(file, error) => write!(f, "{}: {error}", title(file)),
-            Failure::Writing(file, error) => write!(f, "{}: {error}", output_title(file)),
-            Failure::OutOfMemory => f.write_str("memory is wanting"),
-            Failure::TooLong(file) => write!(f, "{}: more than {MAX_INPUT} bytes", title(file)),
+            )
         }
+        Failure::OneInput => f.write_str("standard input can be one table only"),
+        _ => f.write_str("a word is not UTF-8"),
     }
 }

@@ -1,5 +1,6 @@
 //! A sentence on why bytes are no request.
 
+use crate::sentences::shown;
 use std::fmt;
 use tb_request::{MAX_RUN_VALUES, Reason};
 use tb_value::IsSorted;
@@ -88,8 +89,8 @@ fn write_path<W: fmt::Write>(steps: &[Step], f: &mut fmt::Formatter<W>) -> fmt::
     let mut first = true;
     for step in steps.iter().rev() {
         match step {
-            Step::Member(name) if first => f.write_str(name.as_str())?,
-            Step::Member(name) => write!(f, ".{}", name.as_str())?,
+            Step::Member(name) if first => write!(f, "{}", shown(name.as_str()))?,
+            Step::Member(name) => write!(f, ".{}", shown(name.as_str()))?,
             Step::Index(index) => write!(f, "[{index}]")?,
         }
         first = false;

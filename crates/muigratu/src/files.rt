@@ -18,33 +18,56 @@ fn read_failure<'a>(file: &'a str, error: io::Error) -> Failure<'a> {
     }
 }
 
+// The bytes of a file, or its first ones, one more than are asked.
 fn read_whole<'a, R: Read + Drop>(
     alloc: Global,
     file: &'a str,
     reader: R,
+    most: u64,
 ) -> Result<Vec<u8>, Failure<'a>> {
     let mut bytes = Vec::new(alloc);
-    let mut front = reader.take(MAX_INPUT as u64 + 1);
+    let mut front = reader.take(most.saturating_add(1));
     match front.read_to_end(&mut bytes) {
-        Ok(_) if bytes.len() > MAX_INPUT => Err(Failure::TooLong(file)),
         Ok(_) => Ok(bytes),
         Err(error) => Err(read_failure(file, error)),
     }
 }
 
-/// The bytes of the file of this name, or of standard input for `-`.
+fn read_up_to<'a>(
+    rt: &(impl Files + Input),
+    alloc: Global,
+    file: &'a str,
+    most: u64,
+) -> Result<Vec<u8>, Failure<'a>> {
+    if file == "-" {
+        return read_whole(alloc, file, rt.reader(), most);
+    }
+    match fs::open(rt, file) {
+        Ok(opened) => read_whole(alloc, file, opened, most),
+        Err(error) => Err(read_failure(file, error)),
+    }
+}
+
+/// The bytes of the file of this name, or of standard input for `-`. Memory alone limits them.
 pub(crate) fn read_text<'a>(
     rt: &(impl Files + Input),
     alloc: Global,
     file: &'a str,
 ) -> Result<Vec<u8>, Failure<'a>> {
-    if file == "-" {
-        return read_whole(alloc, file, rt.reader());
+    read_up_to(rt, alloc, file, u64::MAX)
+}
+
+/// The same of a text in JSON, which has the limit that the JSON program's requests have.
+pub(crate) fn read_json<'a>(
+    rt: &(impl Files + Input),
+    alloc: Global,
+    file: &'a str,
+) -> Result<Vec<u8>, Failure<'a>> {
+    let bytes = read_up_to(rt, alloc, file, MAX_INPUT as u64)?;
+    if bytes.len() > MAX_INPUT {
+        return Err(Failure::TooLong(file));
     }
-    match fs::open(rt, file) {
-        Ok(opened) => read_whole(alloc, file, opened),
-        Err(error) => Err(read_failure(file, error)),
-    }
+    Ok(bytes)
 }
 
 // A file that nothing had the name of, open for writing.

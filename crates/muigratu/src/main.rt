@@ -8,6 +8,7 @@ mod files;
 mod request;
 mod running;
 mod sentences;
+mod visible;
 mod why;
 mod words;
 
@@ -15,9 +16,9 @@ use clap::error::ErrorKind;
 use commands::program;
 use failure::Failure;
 use request::make_request;
-use running::run_command;
+use running::{TableCommand, run_command};
 use std::env::{self, Env};
-use std::io::{self, Input};
+use std::io::{self, Input, IsTerminal};
 use std::process::ExitCode;
 use std::rt::Files;
 use std::thread::Threads;
@@ -57,9 +58,22 @@ fn shown(rt: &(impl Print + Eprint), error: &clap::Error) -> u8 {
     }
 }
 
+// How wide the screen is that standard output goes to, or 80 columns where that isn't told.
+fn screen_width(rt: &(impl Env + AllocGlobal), is_screen: bool) -> usize {
+    if !is_screen {
+        return 80;
+    }
+    let columns = match env::var(rt, "COLUMNS") {
+        Ok(columns) => columns.as_str().parse::<usize>().unwrap_or(0),
+        Err(_) => 0,
+    };
+    if columns == 0 { 80 } else { columns }
+}
+
 // Does what the words ask, and gives the status.
 fn run(
     rt: &(impl Files + Input + Print + Eprint + AllocGlobal + Threads + Sync),
+    screen: usize,
     words: &[String],
 ) -> u8 {
     let Ok(command) = program(rt.alloc()) else {
@@ -73,9 +87,17 @@ fn run(
         return 2;
     };
     let done = match name {
+        "join" => run_command(rt, rt.alloc(), screen, TableCommand::Join, matches).map(|_| 0),
+        "pivot" => run_command(rt, rt.alloc(), screen, TableCommand::Pivot, matches).map(|_| 0),
+        "unpivot" => {
+            run_command(rt, rt.alloc(), screen, TableCommand::Unpivot, matches).map(|_| 0)
+        }
+        "dummies" => {
+            run_command(rt, rt.alloc(), screen, TableCommand::Dummies, matches).map(|_| 0)
+        }
         "why" => tell_why(rt, rt.alloc(), matches),
         "request" => make_request(rt, rt.alloc(), matches).map(|_| 0),
-        _ => run_command(rt, rt.alloc(), name, matches).map(|_| 0),
+        _ => return 2,
     };
     match done {
         Ok(status) => status,
@@ -85,7 +107,10 @@ fn run(
 
 fn main(rt: HostRuntime) -> ExitCode {
     match words_given(&rt) {
-        Ok(words) => ExitCode::from(run(&rt, &words)),
+        Ok(words) => {
+            let screen = screen_width(&rt, rt.stdout().is_terminal());
+            ExitCode::from(run(&rt, screen, &words))
+        }
         Err(failure) => ExitCode::from(told(&rt, &failure)),
     }
 }

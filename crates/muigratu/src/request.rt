@@ -1,7 +1,8 @@
 //! The command that makes an answer of the JSON program a table of a request.
 
 use crate::failure::Failure;
-use crate::files::{read_text, write_text};
+use crate::files::{read_json, write_text};
+use crate::words::needed;
 use clap::ArgMatches;
 use serde_json::{Map, Value};
 use std::alloc::Global;
@@ -136,8 +137,8 @@ pub(crate) fn make_request<'a>(
     alloc: Global,
     matches: &ArgMatches<'a>,
 ) -> Result<(), Failure<'a>> {
-    let file = matches.get_str("ANSWER").unwrap_or("-");
-    let text = read_text(rt, alloc, file)?;
+    let file = needed(matches, "ANSWER")?;
+    let text = read_json(rt, alloc, file)?;
     let mut written = table_text(alloc, file, Format::Chunks, &text)?;
     if matches.get_flag("runs") {
         // The answer is read again, so that its values stand in memory once.

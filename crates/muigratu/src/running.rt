@@ -2,7 +2,7 @@
 
 use crate::failure::Failure;
 use crate::files::{read_text, write_text};
-use crate::words::{dummies_arguments, join_arguments, pivot_arguments, unpivot_arguments};
+use crate::words::{dummies_arguments, join_arguments, needed, pivot_arguments, unpivot_arguments};
 use clap::ArgMatches;
 use std::alloc::Global;
 use std::io::Input;
@@ -12,6 +12,15 @@ use tb_front::{
     DummiesArguments, FrontFault, PivotArguments, Place, UnpivotArguments, dummies_text,
     join_texts, pivot_text, unpivot_text,
 };
+
+/// A command over tables.
+#[derive(Clone, Copy)]
+pub(crate) enum TableCommand {
+    Join,
+    Pivot,
+    Unpivot,
+    Dummies,
+}
 
 // The fault of texts that come from these files.
 fn failure<'a>(first: &'a str, second: &'a str, fault: FrontFault) -> Failure<'a> {
@@ -27,14 +36,15 @@ fn failure<'a>(first: &'a str, second: &'a str, fault: FrontFault) -> Failure<'a
 fn joined<'a>(
     rt: &(impl Files + Input + Threads + Sync),
     alloc: Global,
+    screen: usize,
     matches: &ArgMatches<'a>,
 ) -> Result<Vec<u8>, Failure<'a>> {
-    let first = matches.get_str("LEFT").unwrap_or("-");
-    let second = matches.get_str("RIGHT").unwrap_or("-");
+    let first = needed(matches, "LEFT")?;
+    let second = needed(matches, "RIGHT")?;
     if first == "-" && second == "-" {
         return Err(Failure::OneInput);
     }
-    let arguments = join_arguments(alloc, matches)?;
+    let arguments = join_arguments(alloc, screen, matches)?;
     let left = read_text(rt, alloc, first)?;
     let right = read_text(rt, alloc, second)?;
     join_texts(rt, alloc, left, right, arguments).map_err(|fault| failure(first, second, fault))
@@ -43,7 +53,11 @@ fn joined<'a>(
 // What is asked of one table.
 trait Asked: Drop + Sized {
     // What the words ask.
-    fn of_words<'a>(alloc: Global, matches: &ArgMatches<'a>) -> Result<Self, Failure<'a>>;
+    fn of_words<'a>(
+        alloc: Global,
+        screen: usize,
+        matches: &ArgMatches<'a>,
+    ) -> Result<Self, Failure<'a>>;
 
     // The text of the answer.
     fn answered(self, alloc: Global, text: Vec<u8>) -> Result<Vec<u8>, FrontFault>;
@@ -52,9 +66,10 @@ trait Asked: Drop + Sized {
 impl Asked for UnpivotArguments {
     fn of_words<'a>(
         alloc: Global,
+        screen: usize,
         matches: &ArgMatches<'a>,
     ) -> Result<UnpivotArguments, Failure<'a>> {
-        unpivot_arguments(alloc, matches)
+        unpivot_arguments(alloc, screen, matches)
     }
 
     fn answered(self, alloc: Global, text: Vec<u8>) -> Result<Vec<u8>, FrontFault> {
@@ -65,9 +80,10 @@ impl Asked for UnpivotArguments {
 impl Asked for DummiesArguments {
     fn of_words<'a>(
         alloc: Global,
+        screen: usize,
         matches: &ArgMatches<'a>,
     ) -> Result<DummiesArguments, Failure<'a>> {
-        dummies_arguments(alloc, matches)
+        dummies_arguments(alloc, screen, matches)
     }
 
     fn answered(self, alloc: Global, text: Vec<u8>) -> Result<Vec<u8>, FrontFault> {
@@ -78,9 +94,10 @@ impl Asked for DummiesArguments {
 impl Asked for PivotArguments {
     fn of_words<'a>(
         alloc: Global,
+        screen: usize,
         matches: &ArgMatches<'a>,
     ) -> Result<PivotArguments, Failure<'a>> {
-        pivot_arguments(alloc, matches)
+        pivot_arguments(alloc, screen, matches)
     }
 
     fn answered(self, alloc: Global, text: Vec<u8>) -> Result<Vec<u8>, FrontFault> {
@@ -91,10 +108,11 @@ impl Asked for PivotArguments {
 fn reshaped<'a, A: Asked>(
     rt: &(impl Files + Input),
     alloc: Global,
+    screen: usize,
     matches: &ArgMatches<'a>,
 ) -> Result<Vec<u8>, Failure<'a>> {
-    let file = matches.get_str("TABLE").unwrap_or("-");
-    let arguments = A::of_words(alloc, matches)?;
+    let file = needed(matches, "TABLE")?;
+    let arguments = A::of_words(alloc, screen, matches)?;
     let text = read_text(rt, alloc, file)?;
     arguments
         .answered(alloc, text)
@@ -104,24 +122,26 @@ fn reshaped<'a, A: Asked>(
 fn answer<'a>(
     rt: &(impl Files + Input + Threads + Sync),
     alloc: Global,
-    name: &str,
+    screen: usize,
+    command: TableCommand,
     matches: &ArgMatches<'a>,
 ) -> Result<Vec<u8>, Failure<'a>> {
-    match name {
-        "join" => joined(rt, alloc, matches),
-        "pivot" => reshaped::<PivotArguments>(rt, alloc, matches),
-        "dummies" => reshaped::<DummiesArguments>(rt, alloc, matches),
-        _ => reshaped::<UnpivotArguments>(rt, alloc, matches),
+    match command {
+        TableCommand::Join => joined(rt, alloc, screen, matches),
+        TableCommand::Pivot => reshaped::<PivotArguments>(rt, alloc, screen, matches),
+        TableCommand::Dummies => reshaped::<DummiesArguments>(rt, alloc, screen, matches),
+        TableCommand::Unpivot => reshaped::<UnpivotArguments>(rt, alloc, screen, matches),
     }
 }
 
-/// Does what the command of this name is asked: the text is made whole before any of it is written.
+/// Does what the command is asked: the text is made whole before any of it is written. Tables for people are as wide as the screen.
 pub(crate) fn run_command<'a>(
     rt: &(impl Files + Input + Print + Threads + Sync),
     alloc: Global,
-    name: &str,
+    screen: usize,
+    command: TableCommand,
     matches: &ArgMatches<'a>,
 ) -> Result<(), Failure<'a>> {
-    let text = answer(rt, alloc, name, matches)?;
+    let text = answer(rt, alloc, screen, command, matches)?;
     write_text(rt, alloc, matches.get_str("output"), &text)
 }

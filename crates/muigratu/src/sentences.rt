@@ -1,8 +1,14 @@
 //! Sentences on why a text is no table, and why an operation refuses.
 
+use crate::visible::Shown;
 use std::fmt;
 use tb_csv::{CsvFault, FieldType};
 use tb_value::{ComputeCause, InvalidCause, PolarsError, Side};
+
+/// A name or a word as sentences have it: in one line, and without a character that could steer a terminal.
+pub(crate) fn shown(text: &str) -> Shown<'_> {
+    Shown(text)
+}
 
 fn type_word(field_type: FieldType) -> &'static str {
     match field_type {
@@ -28,7 +34,7 @@ fn side_word(side: Side) -> &'static str {
     }
 }
 
-/// Why a text is no table, or a table has no text.
+/// Why a text is no table, or a table has no text. Records are counted from 0, which is that of names.
 #[derive(Drop)]
 pub(crate) struct CsvSentence<'a>(pub(crate) &'a CsvFault);
 
@@ -38,7 +44,7 @@ impl fmt::Display for CsvSentence<'_> {
             CsvFault::Empty => f.write_str("there is no record of names"),
             CsvFault::NotUtf8 { record } => write!(f, "record {record} is not UTF-8"),
             CsvFault::RepeatedName(name) => {
-                write!(f, "two columns are called \"{}\"", name.as_str())
+                write!(f, "two columns are called \"{}\"", shown(name.as_str()))
             }
             CsvFault::FieldCount {
                 record,
@@ -48,7 +54,9 @@ impl fmt::Display for CsvSentence<'_> {
                 f,
                 "record {record} has {found} fields, and there are {expected} names"
             ),
-            CsvFault::TooManyRows => f.write_str("there are too many rows"),
+            CsvFault::TooManyRows => {
+                f.write_str("there are too many rows, and at most 4294967294 can be")
+            }
             CsvFault::NotOfType {
                 record,
                 column,
@@ -56,11 +64,15 @@ impl fmt::Display for CsvSentence<'_> {
             } => write!(
                 f,
                 "the field of column \"{}\" in record {record} is no {}",
-                column.as_str(),
+                shown(column.as_str()),
                 type_word(*expected)
             ),
             CsvFault::NoText(name) => {
-                write!(f, "the values of column \"{}\" have no text", name.as_str())
+                write!(
+                    f,
+                    "the values of column \"{}\" have no text",
+                    shown(name.as_str())
+                )
             }
             CsvFault::OutOfMemory => f.write_str("memory is wanting"),
         }
@@ -77,28 +89,32 @@ fn invalid_sentence<W: fmt::Write>(cause: &InvalidCause, f: &mut fmt::Formatter<
             write!(f, "there are {flags} flags of absent keys and {keys} keys")
         }
         InvalidCause::KeyKind { place } => {
-            write!(f, "rows can't be joined by the type of key {place}")
+            write!(
+                f,
+                "rows can't be joined by the type of key {} of --on",
+                place.saturating_add(1)
+            )
         }
         InvalidCause::BothNone => f.write_str("neither --index nor --values is given"),
         InvalidCause::HeaderType(name) => {
             write!(
                 f,
-                "the values of column \"{}\" make no names",
-                name.as_str()
+                "the values of column \"{}\" make no names: give --types NAME=str to read them as texts",
+                shown(name.as_str())
             )
         }
         InvalidCause::AggType(name) => {
             write!(
                 f,
                 "--agg doesn't take the type of column \"{}\"",
-                name.as_str()
+                shown(name.as_str())
             )
         }
         InvalidCause::NoSupertype(name) => {
             write!(
                 f,
                 "column \"{}\" has no type in common with those before it",
-                name.as_str()
+                shown(name.as_str())
             )
         }
     }
@@ -106,7 +122,11 @@ fn invalid_sentence<W: fmt::Write>(cause: &InvalidCause, f: &mut fmt::Formatter<
 
 fn compute_sentence<W: fmt::Write>(cause: &ComputeCause, f: &mut fmt::Formatter<W>) -> fmt::Result {
     match cause {
-        ComputeCause::KeyTypes { place } => write!(f, "the types of the two keys {place} differ"),
+        ComputeCause::KeyTypes { place } => write!(
+            f,
+            "the two columns of key {} of --on are of different types: give --types for both",
+            place.saturating_add(1)
+        ),
         ComputeCause::Validation(side) => {
             write!(f, "two {} rows have equal keys", side_word(*side))
         }
@@ -114,7 +134,7 @@ fn compute_sentence<W: fmt::Write>(cause: &ComputeCause, f: &mut fmt::Formatter<
         ComputeCause::EmptyIndex => f.write_str("no column is left for the rows"),
         ComputeCause::EmptyOn => f.write_str("no column is named whose values become columns"),
         ComputeCause::BraceName(name) => {
-            write!(f, "a column is called \"{}\" already", name.as_str())
+            write!(f, "a column is called \"{}\" already", shown(name.as_str()))
         }
         ComputeCause::ManyInGroup => {
             f.write_str("a cell would have several values, and --agg is not given")
@@ -123,7 +143,7 @@ fn compute_sentence<W: fmt::Write>(cause: &ComputeCause, f: &mut fmt::Formatter<
             write!(
                 f,
                 "a sum of column \"{}\" is out of the range of its type",
-                name.as_str()
+                shown(name.as_str())
             )
         }
         ComputeCause::EvaluateLength { .. } | ComputeCause::Evaluate(_) => {
@@ -132,7 +152,7 @@ fn compute_sentence<W: fmt::Write>(cause: &ComputeCause, f: &mut fmt::Formatter<
     }
 }
 
-/// Why an operation refuses its tables or its arguments. Keys are counted from 0.
+/// Why an operation refuses its tables or its arguments.
 #[derive(Drop)]
 pub(crate) struct RefusalSentence<'a>(pub(crate) &'a PolarsError);
 
@@ -140,12 +160,16 @@ impl fmt::Display for RefusalSentence<'_> {
     fn fmt<W: fmt::Write>(&self, f: &mut fmt::Formatter<W>) -> fmt::Result {
         match self.0 {
             PolarsError::ColumnNotFound(name) => {
-                write!(f, "no column is called \"{}\"", name.as_str())
+                write!(f, "no column is called \"{}\"", shown(name.as_str()))
             }
             PolarsError::InvalidOperation(cause) => invalid_sentence(cause, f),
             PolarsError::ComputeError(cause) => compute_sentence(cause, f),
             PolarsError::Duplicate(name) => {
-                write!(f, "two columns would be called \"{}\"", name.as_str())
+                write!(
+                    f,
+                    "two columns would be called \"{}\"",
+                    shown(name.as_str())
+                )
             }
             PolarsError::ShapeMismatch => f.write_str("two lengths differ that must be the same"),
             PolarsError::SchemaMismatch => f.write_str("a column is of another type"),

@@ -2,19 +2,21 @@
 
 use crate::failure::Failure;
 use crate::fault_sentence::FaultSentence;
-use crate::files::{read_text, write_text};
+use crate::files::{read_json, write_text};
+use crate::words::needed;
 use clap::ArgMatches;
 use std::alloc::Global;
 use std::io::Input;
 use std::rt::Files;
 use tb_why::{Command, why_not};
 
-fn command_of(word: &str) -> Command {
+fn command_of(word: &str) -> Option<Command> {
     match word {
-        "unpivot" => Command::Unpivot,
-        "dummies" => Command::Dummies,
-        "pivot" => Command::Pivot,
-        _ => Command::Join,
+        "join" => Some(Command::Join),
+        "unpivot" => Some(Command::Unpivot),
+        "dummies" => Some(Command::Dummies),
+        "pivot" => Some(Command::Pivot),
+        _ => None,
     }
 }
 
@@ -24,10 +26,13 @@ pub(crate) fn tell_why<'a>(
     alloc: Global,
     matches: &ArgMatches<'a>,
 ) -> Result<u8, Failure<'a>> {
-    let word = matches.get_str("COMMAND").unwrap_or("join");
-    let file = matches.get_str("REQUEST").unwrap_or("-");
-    let text = read_text(rt, alloc, file)?;
-    match why_not(alloc, command_of(word), &text)? {
+    let word = needed(matches, "COMMAND")?;
+    let Some(command) = command_of(word) else {
+        return Err(Failure::NoWord("COMMAND", word));
+    };
+    let file = needed(matches, "REQUEST")?;
+    let text = read_json(rt, alloc, file)?;
+    match why_not(alloc, command, &text)? {
         Some(fault) => {
             let sentence = format!(in alloc; "not a request: {}\n", FaultSentence(&fault))?;
             write_text(rt, alloc, None, sentence.as_bytes())?;

@@ -6,12 +6,36 @@ use std::alloc::Global;
 use tb_agg::Aggregate;
 use tb_csv::{CsvOptions, FieldType, TypeOf};
 use tb_frame::{
-    JoinArgs, JoinCoalesce, JoinNulls, JoinType, JoinValidation, MaintainOrderJoin, name_set,
+    JoinArgs, JoinCoalesce, JoinNulls, JoinType, JoinValidation, MaintainOrderJoin, check_repeated,
+    name_set,
 };
 use tb_front::{
     DummiesArguments, JoinArguments, PivotArguments, TextForm, UnpivotArguments, named_flags,
 };
-use tb_value::{OutOfMemory, PlSmallStr};
+use tb_request::{agg_named, coalesce_named, how_named, order_named, validation_named};
+use tb_value::{OutOfMemory, PlSmallStr, PolarsError};
+
+/// A word that the command can't do without.
+pub(crate) fn needed<'a>(
+    matches: &ArgMatches<'a>,
+    name: &'static str,
+) -> Result<&'a str, Failure<'a>> {
+    matches.get_str(name).ok_or(Failure::Wanting(name))
+}
+
+// What an option's word stands for, or `absent` where the option isn't used.
+fn meant<'a, T: Copy>(
+    option: &'static str,
+    word: Option<&'a str>,
+    named: Option<T>,
+    absent: T,
+) -> Result<T, Failure<'a>> {
+    match (word, named) {
+        (None, _) => Ok(absent),
+        (Some(_), Some(meaning)) => Ok(meaning),
+        (Some(word), None) => Err(Failure::NoWord(option, word)),
+    }
+}
 
 // The part of a word that is a name. A word without `=` is a name as a whole.
 #[derive(Clone, Copy)]
@@ -41,6 +65,15 @@ fn names_of(
     Ok(names)
 }
 
+// The words of --on, of which none is empty.
+fn on_words<'a, 'm>(matches: &'m ArgMatches<'a>) -> Result<Option<&'m [&'a str]>, Failure<'a>> {
+    let words = matches.get_strs("on");
+    match words {
+        Some(words) if words.iter().any(|word| word.is_empty()) => Err(Failure::EmptyOn),
+        _ => Ok(words),
+    }
+}
+
 fn names_given(
     alloc: Global,
     words: Option<&[&str]>,
@@ -58,7 +91,7 @@ fn text_given(alloc: Global, word: Option<&str>) -> Result<Option<PlSmallStr>, O
     }
 }
 
-fn field_type(word: &str) -> Option<FieldType> {
+fn field_type_named(word: &str) -> Option<FieldType> {
     match word {
         "bool" => Some(FieldType::Boolean),
         "i8" => Some(FieldType::Int8),
@@ -81,7 +114,7 @@ fn type_given<'a>(alloc: Global, word: &'a str) -> Result<TypeOf, Failure<'a>> {
     let Some((name, type_name)) = word.rsplit_once('=') else {
         return Err(Failure::NoType(word));
     };
-    match field_type(type_name) {
+    match field_type_named(type_name) {
         Some(field_type) => Ok(TypeOf {
             name: PlSmallStr::from_str(alloc, name)?,
             field_type,
@@ -92,10 +125,17 @@ fn type_given<'a>(alloc: Global, word: &'a str) -> Result<TypeOf, Failure<'a>> {
 
 fn types_given<'a>(alloc: Global, words: Option<&[&'a str]>) -> Result<Vec<TypeOf>, Failure<'a>> {
     let mut types = Vec::new(alloc);
+    let mut names = Vec::new(alloc);
     for word in words.unwrap_or(&[]) {
-        types.push(type_given(alloc, word)?)?;
+        let given = type_given(alloc, word)?;
+        names.push(given.name.copy(alloc)?)?;
+        types.push(given)?;
     }
-    Ok(types)
+    match check_repeated(alloc, &names) {
+        Ok(()) => Ok(types),
+        Err(PolarsError::Duplicate(name)) => Err(Failure::TypedTwice(name)),
+        Err(_) => Err(Failure::OutOfMemory),
+    }
 }
 
 // A character of one byte that is neither a quote nor ends a line; `\t` stands for a tab.
@@ -117,9 +157,10 @@ fn options<'a>(alloc: Global, matches: &ArgMatches<'a>) -> Result<CsvOptions, Fa
     })
 }
 
-fn width_given<'a>(word: Option<&'a str>) -> Result<usize, Failure<'a>> {
+// The width that is given, or that of the screen.
+fn width_given<'a>(screen: usize, word: Option<&'a str>) -> Result<usize, Failure<'a>> {
     let Some(word) = word else {
-        return Ok(80);
+        return Ok(screen);
     };
     match word.parse::<usize>() {
         Ok(width) if width > 0 => Ok(width),
@@ -127,51 +168,32 @@ fn width_given<'a>(word: Option<&'a str>) -> Result<usize, Failure<'a>> {
     }
 }
 
-fn form<'a>(matches: &ArgMatches<'a>) -> Result<TextForm, Failure<'a>> {
-    let width = width_given(matches.get_str("width"))?;
-    match matches.get_str("as").unwrap_or("csv") {
-        "json" => Ok(TextForm::Json),
-        "table" => Ok(TextForm::Layout(width)),
-        _ => Ok(TextForm::Csv),
+fn form<'a>(screen: usize, matches: &ArgMatches<'a>) -> Result<TextForm, Failure<'a>> {
+    let width = width_given(screen, matches.get_str("width"))?;
+    match matches.get_str("as") {
+        None | Some("csv") => Ok(TextForm::Csv),
+        Some("json") => Ok(TextForm::Json),
+        Some("table") => Ok(TextForm::Layout(width)),
+        Some(word) => Err(Failure::NoWord("--as", word)),
     }
 }
 
-fn kind(word: &str) -> JoinType {
+// The order of the rows of an answer that a word names; a hyphen may stand for the line between two words.
+fn order_of(word: &str) -> Option<MaintainOrderJoin> {
     match word {
-        "left" => JoinType::Left,
-        "right" => JoinType::Right,
-        "full" => JoinType::Full,
-        "semi" => JoinType::Semi,
-        "anti" => JoinType::Anti,
-        _ => JoinType::Inner,
+        "left-right" => Some(MaintainOrderJoin::LeftRight),
+        "right-left" => Some(MaintainOrderJoin::RightLeft),
+        _ => order_named(word),
     }
 }
 
-fn order(word: &str) -> MaintainOrderJoin {
-    match word {
-        "left" => MaintainOrderJoin::Left,
-        "right" => MaintainOrderJoin::Right,
-        "left-right" => MaintainOrderJoin::LeftRight,
-        "right-left" => MaintainOrderJoin::RightLeft,
+// Where no order is asked, the rows of an Inner or a Full join come in the order of the left rows, and for equal ones of the right.
+fn order_given<'a>(how: JoinType, word: Option<&'a str>) -> Result<MaintainOrderJoin, Failure<'a>> {
+    let absent = match how {
+        JoinType::Inner | JoinType::Full => MaintainOrderJoin::LeftRight,
         _ => MaintainOrderJoin::None,
-    }
-}
-
-fn validation(word: &str) -> JoinValidation {
-    match word {
-        "m:1" => JoinValidation::ManyToOne,
-        "1:m" => JoinValidation::OneToMany,
-        "1:1" => JoinValidation::OneToOne,
-        _ => JoinValidation::ManyToMany,
-    }
-}
-
-fn coalesce(word: &str) -> JoinCoalesce {
-    match word {
-        "coalesce" => JoinCoalesce::CoalesceColumns,
-        "keep" => JoinCoalesce::KeepColumns,
-        _ => JoinCoalesce::JoinSpecific,
-    }
+    };
+    meant("--order", word, word.and_then(order_of), absent)
 }
 
 fn slice_in(word: &str) -> Option<(i64, usize)> {
@@ -233,22 +255,37 @@ fn join_args<'a>(
     keys: &[PlSmallStr],
     matches: &ArgMatches<'a>,
 ) -> Result<JoinArgs, Failure<'a>> {
+    let how = matches.get_str("how");
+    let how = meant("--how", how, how.and_then(how_named), JoinType::Inner)?;
+    let unique = matches.get_str("validate");
+    let both = matches.get_str("coalesce");
     Ok(JoinArgs {
-        how: kind(matches.get_str("how").unwrap_or("inner")),
-        validation: validation(matches.get_str("validate").unwrap_or("m:m")),
+        how,
+        validation: meant(
+            "--validate",
+            unique,
+            unique.and_then(validation_named),
+            JoinValidation::ManyToMany,
+        )?,
         suffix: text_given(alloc, matches.get_str("suffix"))?,
         slice: slice_given(matches.get_str("slice"))?,
         join_nulls: nulls_given(alloc, keys, matches)?,
-        coalesce: coalesce(matches.get_str("coalesce").unwrap_or("specific")),
-        maintain_order: order(matches.get_str("order").unwrap_or("none")),
+        coalesce: meant(
+            "--coalesce",
+            both,
+            both.and_then(coalesce_named),
+            JoinCoalesce::JoinSpecific,
+        )?,
+        maintain_order: order_given(how, matches.get_str("order"))?,
     })
 }
 
 pub(crate) fn join_arguments<'a>(
     alloc: Global,
+    screen: usize,
     matches: &ArgMatches<'a>,
 ) -> Result<JoinArguments, Failure<'a>> {
-    let keys = matches.get_strs("on");
+    let keys = on_words(matches)?;
     let left_on = names_of(alloc, Part::BeforeSign, keys)?;
     let args = join_args(alloc, &left_on, matches)?;
     Ok(JoinArguments {
@@ -256,26 +293,28 @@ pub(crate) fn join_arguments<'a>(
         left_on,
         right_on: names_of(alloc, Part::BehindSign, keys)?,
         args,
-        form: form(matches)?,
+        form: form(screen, matches)?,
     })
 }
 
 pub(crate) fn unpivot_arguments<'a>(
     alloc: Global,
+    screen: usize,
     matches: &ArgMatches<'a>,
 ) -> Result<UnpivotArguments, Failure<'a>> {
     Ok(UnpivotArguments {
         options: options(alloc, matches)?,
-        on: names_of(alloc, Part::Whole, matches.get_strs("on"))?,
+        on: names_of(alloc, Part::Whole, on_words(matches)?)?,
         index: names_of(alloc, Part::Whole, matches.get_strs("index"))?,
         variable_name: text_given(alloc, matches.get_str("variable-name"))?,
         value_name: text_given(alloc, matches.get_str("value-name"))?,
-        form: form(matches)?,
+        form: form(screen, matches)?,
     })
 }
 
 pub(crate) fn dummies_arguments<'a>(
     alloc: Global,
+    screen: usize,
     matches: &ArgMatches<'a>,
 ) -> Result<DummiesArguments, Failure<'a>> {
     Ok(DummiesArguments {
@@ -283,34 +322,33 @@ pub(crate) fn dummies_arguments<'a>(
         columns: names_given(alloc, matches.get_strs("columns"))?,
         separator: text_given(alloc, matches.get_str("name-separator"))?,
         drop_first: matches.get_flag("drop-first"),
-        form: form(matches)?,
+        form: form(screen, matches)?,
     })
 }
 
-fn aggregate(word: &str) -> Option<Aggregate> {
+fn aggregate_given<'a>(word: Option<&'a str>) -> Result<Option<Aggregate>, Failure<'a>> {
     match word {
-        "first" => Some(Aggregate::First),
-        "last" => Some(Aggregate::Last),
-        "sum" => Some(Aggregate::Sum),
-        "min" => Some(Aggregate::Min),
-        "max" => Some(Aggregate::Max),
-        "count" => Some(Aggregate::Count),
-        _ => None,
+        Some(word) => match agg_named(word) {
+            Some(aggregate) => Ok(Some(aggregate)),
+            None => Err(Failure::NoWord("--agg", word)),
+        },
+        None => Ok(None),
     }
 }
 
 pub(crate) fn pivot_arguments<'a>(
     alloc: Global,
+    screen: usize,
     matches: &ArgMatches<'a>,
 ) -> Result<PivotArguments, Failure<'a>> {
     Ok(PivotArguments {
         options: options(alloc, matches)?,
-        on: names_of(alloc, Part::Whole, matches.get_strs("on"))?,
+        on: names_of(alloc, Part::Whole, on_words(matches)?)?,
         index: names_given(alloc, matches.get_strs("index"))?,
         values: names_given(alloc, matches.get_strs("values"))?,
         sort_columns: matches.get_flag("sort-columns"),
-        agg: aggregate(matches.get_str("agg").unwrap_or("")),
+        agg: aggregate_given(matches.get_str("agg"))?,
         separator: text_given(alloc, matches.get_str("name-separator"))?,
-        form: form(matches)?,
+        form: form(screen, matches)?,
     })
 }
