@@ -1,11 +1,1 @@
-mod Counting
-mod Moving
 mod WordTexts
-mod Frame
-mod OneStatus
-mod Commands
-mod TraceTexts
-mod Unlaid
-mod Answered
-mod SampleRows
-mod TwoForms

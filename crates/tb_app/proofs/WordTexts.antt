@@ -2,7 +2,7 @@
 use Rattle.std.proofs.Common.{◌≡◌, List, [], ℕ, Bool, true, false, refl, ap}
 use Rattle.std.specs.Str.{IsUtf8, is_utf8}
 use Rattle.std.proofs.lemmas.Str.{IsUtf8-from_is_utf8, is_utf8-from_IsUtf8}
-use Rattle.tb_app.specs.Words.{word_from}
+use Rattle.tb_app.specs.Promise.Words.{word_from}
 use mathlib.Core.Bool.{cond}
 
 pub word_of_text : (bytes : List ℕ) → IsUtf8 bytes → word_from bytes ≡ bytes

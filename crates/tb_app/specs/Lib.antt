@@ -1,8 +1,1 @@
-pub mod Ends
-pub mod Forms
-pub mod Memory
-pub mod Reading
-pub mod Words
-pub mod Due
-pub mod Run
 pub mod Promise

@@ -3,33 +3,13 @@
 
 ghost use Rattle.std.specs.Prelude.{◌≡◌, IfOk};
 ghost use Rattle.std.specs.Process.{exit_status};
-ghost use Rattle.tb_app.specs.Due.{code_of};
-ghost use Rattle.tb_app.specs.Words.{word_from};
+ghost use Rattle.tb_run.specs.Promise.Statuses.{code_of};
+ghost use Rattle.tb_app.specs.Promise.Words.{word_from};
 
-mod answering;
-mod ends;
-pub mod laws;
-mod memory;
-mod never;
-mod reading;
-mod running;
-mod status;
-mod std_ends;
-#[cfg(test)]
-mod tests;
-mod tracing;
-mod words;
-mod writing;
-
-pub use ends::{Failed, Sink, Source};
-pub use memory::{MemorySink, MemorySource};
-pub use never::{NeverSink, NeverSource};
-pub use running::{run, run_calm};
-pub use status::Status;
 use std::alloc::Global;
 use std::env::{Env, FillError};
 use std::process::ExitCode;
-pub use std_ends::{StdSink, StdSource};
+use tb_run::{Status, StdSink, StdSource, run};
 use tb_value::{OutOfMemory, PlSmallStr};
 
 // A longer word is none that the program knows.
@@ -50,7 +30,7 @@ fn main(rt: HostRuntime) -> ExitCode {
 fn exit_code(status: Status) -> ExitCode
     ensures { exit_status result ≡ code_of status }
 {
-    ExitCode::from(status as u8)
+    ExitCode::from(status.code())
 }
 
 // The words after the program's name. The empty text stands for one that is not UTF-8.

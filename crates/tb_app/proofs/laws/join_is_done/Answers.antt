@@ -1,5 +1,0 @@
-use Rattle.tb_app.proofs.Commands.{join_is_done}
-use Rattle.tb_app.proofs.laws.join_is_done.Goals as goal
-
-pub returns : goal.returns
-returns c = join_is_done

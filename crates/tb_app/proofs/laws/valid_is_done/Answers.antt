@@ -1,5 +1,0 @@
-use Rattle.tb_app.proofs.Frame.{valid_is_done}
-use Rattle.tb_app.proofs.laws.valid_is_done.Goals as goal
-
-pub returns : goal.returns
-returns c = valid_is_done

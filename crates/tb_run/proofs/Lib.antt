@@ -1,0 +1,11 @@
+mod Counting
+mod Moving
+mod Frame
+mod OneStatus
+mod Exactly
+mod Commands
+mod TraceTexts
+mod Unlaid
+mod Answered
+mod SampleRows
+mod TwoForms

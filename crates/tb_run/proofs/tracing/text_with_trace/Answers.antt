@@ -1,0 +1,16 @@
+use Rattle.std.proofs.Common.{◌≡◌, ap, ◌∙◌, subst, string_bytes}
+use Rattle.std.specs.Prelude.{IfOk}
+use Rattle.serde_json.specs.Data.{Data}
+use Rattle.serde_json.specs.Written.{has_float}
+use Rattle.tb_frame.specs.Promise.Table.{table_of}
+use Rattle.tb_json.specs.Promise.Text.{traced_text_of}
+use Rattle.tb_pairs.specs.Promise.Trace.{trace_told}
+use Rattle.tb_run.proofs.TraceTexts.{no_float}
+use Rattle.tb_run.proofs.tracing.text_with_trace.Goals as goal
+
+pub traced_text_of-requires : goal.traced_text_of-requires
+traced_text_of-requires c = ap has_float c.in_ok-trace.ensures ∙ no_float (trace_told c.args.trace.now)
+
+pub returns : goal.returns
+returns c =
+    subst (λ (d : Data). IfOk c.traced_text_of.result (λ s. string_bytes s ≡ traced_text_of (table_of c.args.table.now) d)) c.in_ok-trace.ensures c.traced_text_of.ensures
