@@ -12,6 +12,8 @@ mod pairs;
 #[cfg(test)]
 mod program;
 #[cfg(test)]
+mod samples;
+#[cfg(test)]
 mod text_gathers;
 #[cfg(test)]
 mod workers;

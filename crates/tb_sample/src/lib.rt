@@ -8,3 +8,4 @@ mod tables;
 
 pub use joining::sample;
 pub use summary::{Summary, text_of_summary};
+pub use tables::{left_table, right_table};

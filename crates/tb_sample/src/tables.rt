@@ -83,7 +83,7 @@ fn table_of_two(alloc: Global, first: Column, second: Column) -> Result<DataFram
 }
 
 /// The left table of this many rows: row i has the key i and v = 3 i.
-pub(crate) fn left_table(alloc: Global, rows: u32) -> Result<DataFrame, OutOfMemory>
+pub fn left_table(alloc: Global, rows: u32) -> Result<DataFrame, OutOfMemory>
     requires { rows ≤ 2000000 }
     ensures { IfOk result (λ t. table_of t ≡ left_table rows) }
 {
@@ -93,7 +93,7 @@ pub(crate) fn left_table(alloc: Global, rows: u32) -> Result<DataFrame, OutOfMem
 }
 
 /// The right table of this many rows, at least one: row j has the key 7 j modulo the number of rows, and w = j.
-pub(crate) fn right_table(alloc: Global, rows: u32) -> Result<DataFrame, OutOfMemory>
+pub fn right_table(alloc: Global, rows: u32) -> Result<DataFrame, OutOfMemory>
     requires some { 0 < rows }
     requires few { rows ≤ 2000000 }
     ensures { IfOk result (λ t. table_of t ≡ right_table rows) }
