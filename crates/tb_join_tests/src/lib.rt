@@ -6,6 +6,8 @@ mod calls;
 #[cfg(test)]
 mod gathers;
 #[cfg(test)]
+mod hashing;
+#[cfg(test)]
 mod names;
 #[cfg(test)]
 mod pairs;

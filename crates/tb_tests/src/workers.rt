@@ -9,7 +9,7 @@ use tb_value::OutOfMemory;
 
 // The square of each part's number.
 #[derive(Drop)]
-struct Squares;
+pub(crate) struct Squares;
 
 impl Parts for Squares {
     ghost use Rattle.std.specs.Prelude.{◌≡◌, ◌*◌};
