@@ -1,0 +1,12 @@
+mod Agreeing
+mod Given
+mod Grouped
+mod KeptViews
+mod Partners
+mod Placed
+mod PulledViews
+mod RowLists
+mod Runs
+mod Schemas
+mod TablesNow
+mod Without

@@ -1,0 +1,33 @@
+use Rattle.std.proofs.Common.{rules, ◌≡◌, ◌∙◌, ◌++◌, ◌∷◌, [], ap, sym, subst, refl, Some, None, cond, if◌then◌else◌}
+use Rattle.std.specs.Prelude.{IsSome}
+use Rattle.std.proofs.lemmas.Result.{on_ok_weaker, on_err_weaker}
+use Rattle.std.specs.BTreeMap.{get_by}
+use Rattle.tb_value.specs.See.{datum}
+use Rattle.tb_delta.specs.Keys.{ties}
+use Rattle.tb_delta.specs.Groups.{ids_in, is_side, key_cmp}
+use Rattle.tb_delta.proofs.Grouped.{changed, rewritten}
+use Rattle.tb_delta.proofs.groups.Groups.add.Goals as goal
+
+pub returns-in-Some-clause-ok : goal.returns-in-Some-clause-ok
+returns-in-Some-clause-ok c = on_ok_weaker c.push.result (λ pushed s k.
+    let found : get_by (key_cmp c.args.key.now) c.args.self.now.groups ≡ Some c.in-Some.group.now = search rules in
+    let there : IsSome (get_by (key_cmp c.args.key.now) c.args.self.now.groups) = subst IsSome (sym found) refl in
+    changed c.args.self.now (record { groups = c.get_mut.follows.lender c.push.new.self }) c.args.key.now k c.push.new.self s c.args.side (λ ids. ids ++ c.args.id ∷ [])
+    (((c.get_mut.follows.holds c.push.new.self).3 there).0 k)
+    (pushed s ∙ ap (λ o. if is_side c.args.side s then ids_in s o ++ c.args.id ∷ [] else ids_in s o) (sym found))) c.push.ensures.ok
+
+pub returns-in-Some-clause-err : goal.returns-in-Some-clause-err
+returns-in-Some-clause-err c = on_err_weaker c.push.result (λ kept s k.
+    let found : get_by (key_cmp c.args.key.now) c.args.self.now.groups ≡ Some c.in-Some.group.now = search rules in
+    let there : IsSome (get_by (key_cmp c.args.key.now) c.args.self.now.groups) = subst IsSome (sym found) refl in
+    rewritten c.args.self.now (record { groups = c.get_mut.follows.lender c.push.new.self }) c.args.key.now k c.push.new.self s
+    (((c.get_mut.follows.holds c.push.new.self).3 there).0 k)
+    (kept s ∙ ap (ids_in s) (sym found))) c.push.ensures.err
+
+pub returns-in_ok-insert-in-None-clause-ok : goal.returns-in_ok-insert-in-None-clause-ok
+returns-in_ok-insert-in-None-clause-ok c = λ s k.
+    let none : get_by (key_cmp c.args.key.now) c.args.self.now.groups ≡ None = search rules in
+    let copied : datum c.in_ok-key-in-None.key.value ≡ datum c.args.key.now.value = c.in_ok-key-in-None.ensures in
+    changed c.args.self.now (record { groups = c.insert.new.self }) c.args.key.now k c.in_ok-group-in-None.group s c.args.side (λ ids. ids ++ c.args.id ∷ [])
+    (c.in_ok-insert-in-None.ensures.updates.0 k ∙ (λ i. cond (ties (copied i) (datum k.value)) (Some c.in_ok-group-in-None.group) (get_by (key_cmp k) (c.get_mut.follows.holds-at-none i))))
+    (c.in_ok-group-in-None.ensures s ∙ ap (λ o. if is_side c.args.side s then ids_in s o ++ c.args.id ∷ [] else ids_in s o) (sym none))

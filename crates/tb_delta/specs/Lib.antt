@@ -1,0 +1,9 @@
+pub mod Keys
+pub mod Groups
+pub mod Inside
+pub mod Stepped
+pub mod Running
+pub mod Laws
+pub mod StateCode
+pub mod Promise
+pub mod Proved

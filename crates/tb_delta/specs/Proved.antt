@@ -1,0 +1,2 @@
+-- Facts that code cites.
+pub mod KeyOrder

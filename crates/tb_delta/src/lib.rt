@@ -1,0 +1,20 @@
+//! An Inner join of two tables that is kept while rows are put in and taken out: for each key the ids of the rows of both
+//! sides that have it.
+#![tactic(auto)]
+
+mod checking;
+mod fault;
+mod groups;
+mod key;
+pub mod laws;
+mod making;
+mod order;
+mod running;
+mod side_rows;
+mod steps;
+mod tables;
+mod view;
+
+pub use fault::DeltaFault;
+pub use running::{Step, StepFault, do_steps};
+pub use view::JoinView;
