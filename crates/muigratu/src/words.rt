@@ -178,6 +178,19 @@ fn form<'a>(screen: usize, matches: &ArgMatches<'a>) -> Result<TextForm, Failure
     }
 }
 
+// What words of joins mean, as in requests. A function of another crate that is passed by its name brings no contract along; these do.
+fn how_of(word: &str) -> Option<JoinType> {
+    how_named(word)
+}
+
+fn validation_of(word: &str) -> Option<JoinValidation> {
+    validation_named(word)
+}
+
+fn coalesce_of(word: &str) -> Option<JoinCoalesce> {
+    coalesce_named(word)
+}
+
 // The order of the rows of an answer that a word names; a hyphen may stand for the line between two words.
 fn order_of(word: &str) -> Option<MaintainOrderJoin> {
     match word {
@@ -256,7 +269,7 @@ fn join_args<'a>(
     matches: &ArgMatches<'a>,
 ) -> Result<JoinArgs, Failure<'a>> {
     let how = matches.get_str("how");
-    let how = meant("--how", how, how.and_then(how_named), JoinType::Inner)?;
+    let how = meant("--how", how, how.and_then(how_of), JoinType::Inner)?;
     let unique = matches.get_str("validate");
     let both = matches.get_str("coalesce");
     Ok(JoinArgs {
@@ -264,7 +277,7 @@ fn join_args<'a>(
         validation: meant(
             "--validate",
             unique,
-            unique.and_then(validation_named),
+            unique.and_then(validation_of),
             JoinValidation::ManyToMany,
         )?,
         suffix: text_given(alloc, matches.get_str("suffix"))?,
@@ -273,7 +286,7 @@ fn join_args<'a>(
         coalesce: meant(
             "--coalesce",
             both,
-            both.and_then(coalesce_named),
+            both.and_then(coalesce_of),
             JoinCoalesce::JoinSpecific,
         )?,
         maintain_order: order_given(how, matches.get_str("order"))?,

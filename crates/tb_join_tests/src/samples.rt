@@ -7,7 +7,6 @@ use tb_frame::{DataFrame, JoinArgs, JoinType};
 use tb_join::{DataFrameJoinOps, JoinTrace};
 use tb_pool::{Exec, OpenGate};
 use tb_sample::{left_table, right_table};
-use tb_store::IsSorted;
 use tb_value::PlSmallStr;
 
 const ROWS: u32 = 1_000_000;
@@ -41,33 +40,6 @@ fn check_hashed(
     Ok(())
 }
 
-// The left table, whose columns say that they ascend.
-fn ascending_table(alloc: Global) -> Result<DataFrame, Fail> {
-    let table = left_table(alloc, ROWS)?;
-    let mut columns = Vec::new(alloc);
-    for column in table.get_columns() {
-        let mut column = column.copy(alloc)?;
-        if column.is_ascending() {
-            column.set_sorted_flag(IsSorted::Ascending);
-        }
-        columns.push(column)?;
-    }
-    Ok(DataFrame::new(alloc, columns)?)
-}
-
-// The keys of the left table and of itself are merged, and the answer has as many rows.
-fn check_merged(
-    rt: &(impl Threads + Sync + Abort),
-    alloc: Global,
-    how: JoinType,
-) -> Result<(), Fail> {
-    let table = ascending_table(alloc)?;
-    let (rows, trace) = height_of(rt, alloc, &table, &table, how)?;
-    assert_eq!(rt; rows, 1_000_000);
-    assert!(rt; matches!(trace, JoinTrace::Merge(_)));
-    Ok(())
-}
-
 #[test]
 fn a_million_rows_in_an_inner_join(rt: HostRuntime) -> Result<(), Fail> {
     check_hashed(&rt, rt.alloc(), JoinType::Inner, 1_000_000)
@@ -96,19 +68,4 @@ fn a_million_rows_in_a_semi_join(rt: HostRuntime) -> Result<(), Fail> {
 #[test]
 fn a_million_rows_in_an_anti_join(rt: HostRuntime) -> Result<(), Fail> {
     check_hashed(&rt, rt.alloc(), JoinType::Anti, 0)
-}
-
-#[test]
-fn a_million_ascending_rows_in_an_inner_join(rt: HostRuntime) -> Result<(), Fail> {
-    check_merged(&rt, rt.alloc(), JoinType::Inner)
-}
-
-#[test]
-fn a_million_ascending_rows_in_a_left_join(rt: HostRuntime) -> Result<(), Fail> {
-    check_merged(&rt, rt.alloc(), JoinType::Left)
-}
-
-#[test]
-fn a_million_ascending_rows_in_a_right_join(rt: HostRuntime) -> Result<(), Fail> {
-    check_merged(&rt, rt.alloc(), JoinType::Right)
 }
