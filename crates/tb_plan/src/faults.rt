@@ -17,7 +17,7 @@ pub enum PlanFault {
     At { node: usize, error: PolarsError },
     /// The filter of this node compares the values of a column with a value that is none of theirs, or that has no order
     /// among them.
-    #[error("a test does not fit the type of its column")]
+    #[error("what a filter asks does not fit the type of its column")]
     TestType { node: usize },
     /// Want of memory.
     #[error("out of memory")]
