@@ -76,7 +76,7 @@ const SHARED: &[Word] = &[
     Word(
         "width",
         Takes::Text("COLUMNS"),
-        "Columns of a table's lines [default: the screen's]",
+        "Columns of table lines [default: the screen's]",
     ),
     OUTPUT,
 ];
