@@ -2,9 +2,9 @@
 ghost use Rattle.std.specs.Prelude.{◌≡◌, IfOk};
 ghost use Rattle.tb_value.specs.See.{datum};
 
-use crate::order::order_of_values;
 use std::alloc::Global;
 use std::cmp::Ordering;
+use tb_rows::order_of_values;
 use tb_value::{AnyValue, OutOfMemory};
 
 /// The value of a key. Maps of keys are ordered, so that no choice of keys makes them slow.

@@ -8,7 +8,6 @@ mod groups;
 mod key;
 pub mod laws;
 mod making;
-mod order;
 mod running;
 mod side_rows;
 mod steps;

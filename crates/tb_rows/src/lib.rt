@@ -13,3 +13,4 @@ mod order;
 pub use grouping::{group_listed, group_rows};
 pub use groups::Groups;
 pub use names::RowNames;
+pub use order::order_of_values;
