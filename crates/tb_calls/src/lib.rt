@@ -7,6 +7,6 @@ mod reshaping;
 
 pub use arguments::{DummiesCall, JoinCall, PivotCall};
 pub use joins::{joined, joined_traced};
-pub use reshaping::{made_long, made_wide, with_dummies};
+pub use reshaping::{made_long, made_wide, names_given, text_given, with_dummies};
 pub use tb_join::JoinTrace;
 pub use tb_unpivot::UnpivotArgsIR;

@@ -17,7 +17,8 @@ use tb_pivot::pivot_by;
 use tb_unpivot::{UnpivotArgsIR, UnpivotDF};
 use tb_value::{PlSmallStr, PolarsResult};
 
-fn names_given(names: &Option<Vec<PlSmallStr>>) -> Option<&[PlSmallStr]>
+/// Names that may be given, lent.
+pub fn names_given(names: &Option<Vec<PlSmallStr>>) -> Option<&[PlSmallStr]>
     ensures { option_copied result ≡ names_in names.now }
 {
     match names {
@@ -26,7 +27,8 @@ fn names_given(names: &Option<Vec<PlSmallStr>>) -> Option<&[PlSmallStr]>
     }
 }
 
-fn text_given(text: &Option<PlSmallStr>) -> Option<&str>
+/// A text that may be given, lent.
+pub fn text_given(text: &Option<PlSmallStr>) -> Option<&str>
     ensures { option_copied result ≡ text.now }
 {
     match text {

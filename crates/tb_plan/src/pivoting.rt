@@ -1,6 +1,6 @@
 //! A pivot of what a plan's nodes make.
 ghost use Rattle.std.specs.Prelude.{◌≡◌, IfOk};
-ghost use Rattle.std.specs.Option.{option_copied, option_map};
+ghost use Rattle.std.specs.Option.{option_map};
 ghost use Rattle.tb_frame.specs.Promise.Table.{table_of};
 ghost use Rattle.tb_plan.specs.Asked.{pivot_asked};
 ghost use Rattle.tb_plan.specs.Gives.{Gives};
@@ -10,6 +10,7 @@ ghost use Rattle.tb_plan.specs.Seen.{columns_made, table_made};
 use crate::faults::PlanFault;
 use crate::made::{Made, fault_at};
 use std::alloc::Global;
+use tb_calls::{names_given, text_given};
 use tb_frame::DataFrame;
 use tb_pivot::{PhysicalAggExpr, PivotAgg, pivot_stable};
 use tb_value::{OutOfMemory, PlSmallStr};
@@ -29,24 +30,6 @@ pub struct PivotArgs {
     pub agg: Option<PivotAgg>,
     /// What stands between the name of a value column and a header; `_` where there is none.
     pub separator: Option<PlSmallStr>,
-}
-
-fn names_given(names: &Option<Vec<PlSmallStr>>) -> Option<&[PlSmallStr]>
-    ensures { option_copied result ≡ option_map (λ v. v.items) names.now }
-{
-    match names {
-        Some(names) => Some(names.as_slice()),
-        None => None,
-    }
-}
-
-fn text_given(text: &Option<PlSmallStr>) -> Option<&str>
-    ensures { option_copied result ≡ text.now }
-{
-    match text {
-        Some(text) => Some(text.as_str()),
-        None => None,
-    }
 }
 
 fn owned(alloc: Global, made: Made<'_>) -> Result<DataFrame, OutOfMemory>
