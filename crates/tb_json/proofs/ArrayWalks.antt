@@ -4,8 +4,6 @@ use Rattle.std.specs.Prelude.{is_some}
 use Rattle.std.specs.List.{list_all}
 use Rattle.serde_json.specs.Data.{Data, null, boolean, number, string, array, object}
 use Rattle.serde_json.specs.Find.{as_null, as_integer}
-use Rattle.tb_tree.specs.View.{view}
-use Rattle.tb_tree.specs.declared.value.Value.{Value}
 use Rattle.tb_value.specs.Promise.Datum as value
 use Rattle.tb_value.specs.Promise.Datum.{Datum}
 use Rattle.tb_value.specs.Promise.Kind as kind
@@ -33,7 +31,7 @@ one_more true all n o r e rest = more all rest ∙ sym (ap (option_and_then (λ 
 one_more false all n o r e rest = sym (ap (option_and_then (λ v. option_map (λ vs. v ∷ vs) r)) e)
 
 -- as many nulls as there are values, where each is null
-pub nulls-each : (vs : List Value) → cond (list_all (λ v. is_some (as_null (view v))) vs) (Some (replicate (length vs) value.null)) None ≡ each (cell_in kind.null) (map view vs)
+pub nulls-each : (ds : List Data) → cond (list_all (λ d. is_some (as_null d)) ds) (Some (replicate (length ds) value.null)) None ≡ each (cell_in kind.null) ds
 nulls-each [] = refl
-nulls-each (v ∷ vs) =
-    one_more (is_some (as_null (view v))) (list_all (λ u. is_some (as_null (view u))) vs) (length vs) (cell_in kind.null (view v)) (each (cell_in kind.null) (map view vs)) (only_null (view v)) (nulls-each vs)
+nulls-each (d ∷ ds) =
+    one_more (is_some (as_null d)) (list_all (λ e. is_some (as_null e)) ds) (length ds) (cell_in kind.null d) (each (cell_in kind.null) ds) (only_null d) (nulls-each ds)

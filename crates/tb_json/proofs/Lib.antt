@@ -1,6 +1,8 @@
 pub mod Walks
 pub mod LentValues
 pub mod Flat
+pub mod Depths
+pub mod CellForms
 pub mod Plain
 pub mod Fields
 pub mod Narrow

@@ -48,12 +48,11 @@ same (Some x) = refl
 pub FieldsSoFar-start : (ps : List Part) (ds : List Data) → FieldsSoFar ps ds [] 0
 FieldsSoFar-start ps ds = same (row ps ds)
 
--- what is read at a place is read of the item there by the field there, where both are seen so
-pub read_at : {F V : Type 0} (f : F → Part) (g : V → Data) (fields : List F) (items : List V) (i : ℕ) (x : F) (y : V) → i < length fields → i < length items → x ≡ get_or fields i x → y ≡ get_or items i y
-    → cell_in (get_or (map f fields) i (f x)).1 (get_or (map g items) i (g y)) ≡ cell_in (f x).1 (g y)
-read_at f g fields items i x y h k is_x is_y =
-    ap (λ p. cell_in p.1 (get_or (map g items) i (g y))) (get_or-map f fields i x (f x) h ∙ ap f (sym is_x))
-    ∙ ap (cell_in (f x).1) (get_or-map g items i y (g y) k ∙ ap g (sym is_y))
+-- what is read at a place is read of the item there by the field there, where fields are seen so
+pub read_at : {F : Type 0} (f : F → Part) (fields : List F) (ds : List Data) (i : ℕ) (x : F) (d : Data) → i < length fields → x ≡ get_or fields i x → d ≡ get_or ds i d
+    → cell_in (get_or (map f fields) i (f x)).1 (get_or ds i d) ≡ cell_in (f x).1 d
+read_at f fields ds i x d h is_x is_d =
+    ap (λ p. cell_in p.1 (get_or ds i d)) (get_or-map f fields i x (f x) h ∙ ap f (sym is_x)) ∙ ap (cell_in (f x).1) (sym is_d)
 
 before-push : (done : List Datum) (v : Datum) (r : value.Items) → before done (value.more v r) ≡ before (done ++ v ∷ []) r
 before-push [] v r = refl

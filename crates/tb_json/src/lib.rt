@@ -14,7 +14,7 @@ mod write_kinds;
 mod write_refusals;
 mod write_tables;
 
-pub use read_any_cells::value_of;
+pub use read_any_cells::{item_of, value_of};
 pub use read_arrays::arrays_in;
 pub use read_kinds::type_of;
 pub use write_refusals::{error_value, text_of_refusal};

@@ -2,7 +2,7 @@
 ghost use Rattle.std.specs.Prelude.{◌≡◌, map, replicate, option_map, IfOk, IfSome, is_some};
 ghost use Rattle.std.specs.List.{All, list_all};
 ghost use Rattle.serde_json.specs.Find.{as_null};
-ghost use Rattle.tb_tree.specs.View.{view};
+ghost use Rattle.tb_tree.specs.View.{view, item_view, listed};
 ghost use Rattle.tb_value.specs.Promise.Datum.{null};
 ghost use Rattle.tb_value.specs.Promise.Kind.{Kind};
 ghost use Rattle.tb_value.specs.Promise.Kind as kind;
@@ -12,7 +12,7 @@ ghost use Rattle.tb_chunk.specs.Chunk.{or_null};
 ghost use Rattle.tb_chunk.specs.Col.{physical};
 ghost use Rattle.tb_chunk.specs.Made.{IsTyped};
 ghost use Rattle.tb_chunk.specs.Seen.{chunk_lists, storage};
-ghost use Rattle.tb_json.specs.Promise.Lists.{each};
+ghost use Rattle.tb_json.specs.Promise.Lists.{each, list_in};
 ghost use Rattle.tb_json.specs.Promise.Cells.{cell_in};
 
 use crate::read_cell::ReadCell;
@@ -22,23 +22,23 @@ use tb_store::{
     BinaryChunk, Cells, Chunk, Chunks, ListChunk, Physical, Stored, StringChunk, StructChunk,
     physical_of,
 };
-use tb_tree::Value;
+use tb_tree::{Item, Items, Value};
 use tb_value::{DataType, OutOfMemory};
 
 // A value that may be null.
 fn cell_of<N: ReadCell>(
     alloc: Global,
     dtype: &DataType,
-    value: &Value,
+    item: Item<'_>,
 ) -> Result<Option<Option<N>>, OutOfMemory>
     requires { physical (kind_of dtype.now) ≡ N.stored }
-    ensures value { IfOk result (λ o. option_map (or_null N.shows) o ≡ cell_in (kind_of dtype.now) (view value.now)) }
+    ensures value { IfOk result (λ o. option_map (or_null N.shows) o ≡ cell_in (kind_of dtype.now) (item_view item.entry)) }
     ensures typed { IfOk result (λ o. IfSome o (λ c. HasType (kind_of dtype.now) (or_null N.shows c))) }
 {
-    if value.is_null() {
+    if item.is_null() {
         return Ok(Some(None));
     }
-    match N::read(alloc, dtype, value)? {
+    match N::read(alloc, dtype, item)? {
         Some(cell) => Ok(Some(Some(cell))),
         None => Ok(None),
     }
@@ -47,17 +47,18 @@ fn cell_of<N: ReadCell>(
 fn cells_of<N: ReadCell>(
     alloc: Global,
     dtype: &DataType,
-    items: &Vec<Value>,
+    items: Items<'_>,
 ) -> Result<Option<Cells<N>>, OutOfMemory>
     requires { physical (kind_of dtype.now) ≡ N.stored }
     ensures cells { IfOk result (λ o. option_map (λ c. map (or_null N.shows) c) o
-        ≡ each (cell_in (kind_of dtype.now)) (map view items.now.items)) }
+        ≡ each (cell_in (kind_of dtype.now)) (listed items.entry)) }
     ensures typed { IfOk result (λ o. IfSome o
         (λ c. All (HasType (kind_of dtype.now)) (map (or_null N.shows) c))) }
 {
-    let mut cells = Cells::with_capacity(alloc, items.len())?;
-    for item in items {
-        let Some(cell) = cell_of(alloc, dtype, item)? else {
+    let len = items.len();
+    let mut cells = Cells::with_capacity(alloc, len)?;
+    for i in 0..len {
+        let Some(cell) = cell_of(alloc, dtype, items.at(i))? else {
             return Ok(None);
         };
         cells.push(cell)?;
@@ -65,15 +66,20 @@ fn cells_of<N: ReadCell>(
     Ok(Some(cells))
 }
 
-fn are_null(items: &[Value]) -> bool
-    ensures { result ≡ list_all (λ v. is_some (as_null (view v))) items.now }
+fn are_null(items: Items<'_>) -> bool
+    ensures { result ≡ list_all (λ d. is_some (as_null d)) (listed items.entry) }
 {
-    items.iter().all(|value| value.is_null())
+    for i in 0..items.len() {
+        if !items.at(i).is_null() {
+            return false;
+        }
+    }
+    true
 }
 
 // The number of nulls, where all values are null.
-fn nulls_of(items: &Vec<Value>) -> Option<usize>
-    ensures { option_map (λ n. replicate n null) result ≡ each (cell_in kind.null) (map view items.now.items) }
+fn nulls_of(items: Items<'_>) -> Option<usize>
+    ensures { option_map (λ n. replicate n null) result ≡ each (cell_in kind.null) (listed items.entry) }
 {
     if are_null(items) {
         Some(items.len())
@@ -87,14 +93,10 @@ trait ReadChunk: Chunk {
     ghost stored: { Kind };
 
     /// The chunk of these values, or None where one of them is none of the type.
-    fn read(
-        alloc: Global,
-        dtype: &DataType,
-        items: &Vec<Value>,
-    ) -> Result<Option<Self>, OutOfMemory>
+    fn read(alloc: Global, dtype: &DataType, items: Items<'_>) -> Result<Option<Self>, OutOfMemory>
         requires { physical (kind_of dtype.now) ≡ stored }
         ensures values { IfOk result (λ o. option_map Self.shown o
-            ≡ each (cell_in (kind_of dtype.now)) (map view items.now.items)) }
+            ≡ each (cell_in (kind_of dtype.now)) (listed items.entry)) }
         ensures typed { IfOk result (λ o. IfSome o (λ c. All (HasType (kind_of dtype.now)) (Self.shown c))) };
 }
 
@@ -104,7 +106,7 @@ impl<N: ReadCell> ReadChunk for Cells<N> {
     fn read(
         alloc: Global,
         dtype: &DataType,
-        items: &Vec<Value>,
+        items: Items<'_>,
     ) -> Result<Option<Cells<N>>, OutOfMemory> {
         cells_of(alloc, dtype, items)
     }
@@ -116,7 +118,7 @@ impl ReadChunk for StringChunk {
     fn read(
         alloc: Global,
         dtype: &DataType,
-        items: &Vec<Value>,
+        items: Items<'_>,
     ) -> Result<Option<StringChunk>, OutOfMemory> {
         text_chunk(alloc, items)
     }
@@ -128,7 +130,7 @@ impl ReadChunk for BinaryChunk {
     fn read(
         alloc: Global,
         dtype: &DataType,
-        items: &Vec<Value>,
+        items: Items<'_>,
     ) -> Result<Option<BinaryChunk>, OutOfMemory> {
         bytes_chunk(alloc, items)
     }
@@ -140,7 +142,7 @@ impl ReadChunk for ListChunk {
     fn read(
         alloc: Global,
         dtype: &DataType,
-        items: &Vec<Value>,
+        items: Items<'_>,
     ) -> Result<Option<ListChunk>, OutOfMemory> {
         match cells_of(alloc, dtype, items)? {
             Some(inner) => Ok(Some(ListChunk { inner })),
@@ -155,7 +157,7 @@ impl ReadChunk for StructChunk {
     fn read(
         alloc: Global,
         dtype: &DataType,
-        items: &Vec<Value>,
+        items: Items<'_>,
     ) -> Result<Option<StructChunk>, OutOfMemory> {
         match cells_of(alloc, dtype, items)? {
             Some(inner) => Ok(Some(StructChunk { inner })),
@@ -170,25 +172,35 @@ impl ReadChunk for usize {
     fn read(
         alloc: Global,
         dtype: &DataType,
-        items: &Vec<Value>,
+        items: Items<'_>,
     ) -> Result<Option<usize>, OutOfMemory> {
         Ok(nulls_of(items))
+    }
+}
+
+// The values of an array, and none of any other value.
+fn items_of(value: &Value) -> Items<'_>
+    ensures { listed result ≡ list_in (view value.now) }
+{
+    match value.as_array() {
+        Some(items) => items,
+        None => Items::Values(&[]),
     }
 }
 
 fn chunks_of<C: ReadChunk>(
     alloc: Global,
     dtype: &DataType,
-    written: &Vec<Vec<Value>>,
+    written: &[Value],
 ) -> Result<Option<Vec<C>>, OutOfMemory>
     requires { physical (kind_of dtype.now) ≡ C.stored }
     ensures chunks { IfOk result (λ o. option_map (λ v. map C.shown v.items) o
-        ≡ each (each (cell_in (kind_of dtype.now))) (map (λ v. map view v.items) written.now.items)) }
+        ≡ each (each (cell_in (kind_of dtype.now))) (map (λ v. list_in (view v)) written.now)) }
     ensures typed { IfOk result (λ o. IfSome o (λ v. IsTyped (kind_of dtype.now) (map C.shown v.items))) }
 {
     let mut chunks = Vec::with_capacity(alloc, written.len())?;
-    for items in written {
-        let Some(chunk) = C::read(alloc, dtype, items)? else {
+    for value in written {
+        let Some(chunk) = C::read(alloc, dtype, items_of(value))? else {
             return Ok(None);
         };
         chunks.push(chunk)?;
@@ -200,11 +212,11 @@ fn chunks_of<C: ReadChunk>(
 fn read_stored<C: ReadChunk + Stored>(
     alloc: Global,
     dtype: &DataType,
-    written: &Vec<Vec<Value>>,
+    written: &[Value],
 ) -> Result<Option<Chunks>, OutOfMemory>
     requires { physical (kind_of dtype.now) ≡ C.stored }
     ensures chunks { IfOk result (λ o. option_map chunk_lists o
-        ≡ each (each (cell_in (kind_of dtype.now))) (map (λ v. map view v.items) written.now.items)) }
+        ≡ each (each (cell_in (kind_of dtype.now))) (map (λ v. list_in (view v)) written.now)) }
     ensures typed { IfOk result (λ o. IfSome o (λ c. IsTyped (kind_of dtype.now) (chunk_lists c))) }
     ensures stored { IfOk result (λ o. IfSome o (λ c. storage c ≡ C.kind)) }
 {
@@ -214,14 +226,14 @@ fn read_stored<C: ReadChunk + Stored>(
     }
 }
 
-/// The chunks of a column, or None where a value is none of the type.
+/// The chunks of a column, each of which is an array, or None where a value is none of the type.
 pub fn arrays_in(
     alloc: Global,
     dtype: &DataType,
-    written: &Vec<Vec<Value>>,
+    written: &[Value],
 ) -> Result<Option<Chunks>, OutOfMemory>
     ensures chunks { IfOk result (λ o. option_map chunk_lists o
-        ≡ each (each (cell_in (kind_of dtype.now))) (map (λ v. map view v.items) written.now.items)) }
+        ≡ each (each (cell_in (kind_of dtype.now))) (map (λ v. list_in (view v)) written.now)) }
     ensures typed { IfOk result (λ o. IfSome o (λ c. IsTyped (kind_of dtype.now) (chunk_lists c))) }
     ensures stored { IfOk result (λ o. IfSome o (λ c. storage c ≡ physical (kind_of dtype.now))) }
 {

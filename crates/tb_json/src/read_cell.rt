@@ -2,7 +2,7 @@
 ghost use Rattle.std.specs.Prelude.{◌≡◌, ◌≢◌, option_map, option_and_then, IfOk, IfSome};
 ghost use Rattle.serde_json.specs.Data.{null};
 ghost use Rattle.serde_json.specs.Find.{as_number, as_integer};
-ghost use Rattle.tb_tree.specs.View.{view};
+ghost use Rattle.tb_tree.specs.View.{item_view};
 ghost use Rattle.tb_value.specs.Promise.Datum.{list, struct, items_of};
 ghost use Rattle.tb_value.specs.Promise.Kind as kind;
 ghost use Rattle.tb_value.specs.Promise.Kind.{Kind, parts_of};
@@ -16,7 +16,7 @@ use crate::scalar::scalar_type;
 use std::alloc::Global;
 use tb_label::whole_in;
 use tb_store::{Cell, FieldValues};
-use tb_tree::Value;
+use tb_tree::Item;
 use tb_value::{AnyValue, DataType, Fields, OutOfMemory, Values};
 
 /// A value as a typed column stores it, read from JSON. `stored` is the type that it is stored as.
@@ -24,17 +24,17 @@ pub(crate) trait ReadCell: Cell {
     ghost stored: { Kind };
 
     /// The value, which is not Null, or None where it is none of the type.
-    fn read(alloc: Global, dtype: &DataType, value: &Value) -> Result<Option<Self>, OutOfMemory>
+    fn read(alloc: Global, dtype: &DataType, value: Item<'_>) -> Result<Option<Self>, OutOfMemory>
         requires stored { physical (kind_of dtype.now) ≡ stored }
-        requires present { view value.now ≢ null }
-        ensures value { IfOk result (λ o. option_map Self.shows o ≡ cell_in (kind_of dtype.now) (view value.now)) }
+        requires present { item_view value ≢ null }
+        ensures value { IfOk result (λ o. option_map Self.shows o ≡ cell_in (kind_of dtype.now) (item_view value.entry)) }
         ensures typed { IfOk result (λ o. IfSome o (λ c. HasType (kind_of dtype.now) (Self.shows c))) };
 }
 
 impl ReadCell for bool {
     ghost stored = { kind.boolean };
 
-    fn read(alloc: Global, dtype: &DataType, value: &Value) -> Result<Option<bool>, OutOfMemory> {
+    fn read(alloc: Global, dtype: &DataType, value: Item<'_>) -> Result<Option<bool>, OutOfMemory> {
         Ok(value.as_bool())
     }
 }
@@ -42,7 +42,7 @@ impl ReadCell for bool {
 impl ReadCell for i8 {
     ghost stored = { kind.int8 };
 
-    fn read(alloc: Global, dtype: &DataType, value: &Value) -> Result<Option<i8>, OutOfMemory> {
+    fn read(alloc: Global, dtype: &DataType, value: Item<'_>) -> Result<Option<i8>, OutOfMemory> {
         Ok(value.as_i128().and_then(|whole| i8::try_from(whole).ok()))
     }
 }
@@ -50,7 +50,7 @@ impl ReadCell for i8 {
 impl ReadCell for i16 {
     ghost stored = { kind.int16 };
 
-    fn read(alloc: Global, dtype: &DataType, value: &Value) -> Result<Option<i16>, OutOfMemory> {
+    fn read(alloc: Global, dtype: &DataType, value: Item<'_>) -> Result<Option<i16>, OutOfMemory> {
         Ok(value.as_i128().and_then(|whole| i16::try_from(whole).ok()))
     }
 }
@@ -58,7 +58,7 @@ impl ReadCell for i16 {
 impl ReadCell for i32 {
     ghost stored = { kind.int32 };
 
-    fn read(alloc: Global, dtype: &DataType, value: &Value) -> Result<Option<i32>, OutOfMemory> {
+    fn read(alloc: Global, dtype: &DataType, value: Item<'_>) -> Result<Option<i32>, OutOfMemory> {
         Ok(value.as_i128().and_then(|whole| i32::try_from(whole).ok()))
     }
 }
@@ -66,7 +66,7 @@ impl ReadCell for i32 {
 impl ReadCell for i64 {
     ghost stored = { kind.int64 };
 
-    fn read(alloc: Global, dtype: &DataType, value: &Value) -> Result<Option<i64>, OutOfMemory> {
+    fn read(alloc: Global, dtype: &DataType, value: Item<'_>) -> Result<Option<i64>, OutOfMemory> {
         Ok(value.as_i128().and_then(|whole| i64::try_from(whole).ok()))
     }
 }
@@ -74,7 +74,7 @@ impl ReadCell for i64 {
 impl ReadCell for u8 {
     ghost stored = { kind.uint8 };
 
-    fn read(alloc: Global, dtype: &DataType, value: &Value) -> Result<Option<u8>, OutOfMemory> {
+    fn read(alloc: Global, dtype: &DataType, value: Item<'_>) -> Result<Option<u8>, OutOfMemory> {
         Ok(value.as_i128().and_then(|whole| u8::try_from(whole).ok()))
     }
 }
@@ -82,7 +82,7 @@ impl ReadCell for u8 {
 impl ReadCell for u16 {
     ghost stored = { kind.uint16 };
 
-    fn read(alloc: Global, dtype: &DataType, value: &Value) -> Result<Option<u16>, OutOfMemory> {
+    fn read(alloc: Global, dtype: &DataType, value: Item<'_>) -> Result<Option<u16>, OutOfMemory> {
         Ok(value.as_i128().and_then(|whole| u16::try_from(whole).ok()))
     }
 }
@@ -90,7 +90,7 @@ impl ReadCell for u16 {
 impl ReadCell for u32 {
     ghost stored = { kind.uint32 };
 
-    fn read(alloc: Global, dtype: &DataType, value: &Value) -> Result<Option<u32>, OutOfMemory> {
+    fn read(alloc: Global, dtype: &DataType, value: Item<'_>) -> Result<Option<u32>, OutOfMemory> {
         Ok(value.as_i128().and_then(|whole| u32::try_from(whole).ok()))
     }
 }
@@ -98,7 +98,7 @@ impl ReadCell for u32 {
 impl ReadCell for u64 {
     ghost stored = { kind.uint64 };
 
-    fn read(alloc: Global, dtype: &DataType, value: &Value) -> Result<Option<u64>, OutOfMemory> {
+    fn read(alloc: Global, dtype: &DataType, value: Item<'_>) -> Result<Option<u64>, OutOfMemory> {
         Ok(value.as_i128().and_then(|whole| u64::try_from(whole).ok()))
     }
 }
@@ -106,15 +106,15 @@ impl ReadCell for u64 {
 impl ReadCell for i128 {
     ghost stored = { kind.int128 };
 
-    fn read(alloc: Global, dtype: &DataType, value: &Value) -> Result<Option<i128>, OutOfMemory> {
+    fn read(alloc: Global, dtype: &DataType, value: Item<'_>) -> Result<Option<i128>, OutOfMemory> {
         Ok(value.as_str().and_then(|text| whole_in(text)))
     }
 }
 
-fn list_of(alloc: Global, value: &Value, inner: &DataType) -> Result<Option<Values>, OutOfMemory>
-    requires { view value.now ≢ null }
+fn list_of(alloc: Global, value: Item<'_>, inner: &DataType) -> Result<Option<Values>, OutOfMemory>
+    requires { item_view value ≢ null }
     ensures value { IfOk result (λ o. option_map (λ vs. list (items_of vs)) o
-        ≡ cell_in (kind.list (kind_of inner.now)) (view value.now)) }
+        ≡ cell_in (kind.list (kind_of inner.now)) (item_view value.entry)) }
     ensures typed { IfOk result (λ o. IfSome o (λ vs. AreOf (kind_of inner.now) (items_of vs))) }
 {
     let Some(items) = value.as_array() else {
@@ -128,12 +128,12 @@ fn list_of(alloc: Global, value: &Value, inner: &DataType) -> Result<Option<Valu
 
 fn struct_of(
     alloc: Global,
-    value: &Value,
+    value: Item<'_>,
     fields: &Fields,
 ) -> Result<Option<FieldValues>, OutOfMemory>
-    requires { view value.now ≢ null }
+    requires { item_view value ≢ null }
     ensures value { IfOk result (λ o. option_map (λ s. struct (items_of s.values)) o
-        ≡ cell_in (kind.struct (parts_of (parts fields.now))) (view value.now)) }
+        ≡ cell_in (kind.struct (parts_of (parts fields.now))) (item_view value.entry)) }
     ensures typed { IfOk result (λ o. IfSome o
         (λ s. AreEachOf (parts_of (parts fields.now)) (items_of s.values))) }
 {
@@ -152,7 +152,11 @@ fn struct_of(
 impl ReadCell for Values {
     ghost stored = { kind.list kind.null };
 
-    fn read(alloc: Global, dtype: &DataType, value: &Value) -> Result<Option<Values>, OutOfMemory> {
+    fn read(
+        alloc: Global,
+        dtype: &DataType,
+        value: Item<'_>,
+    ) -> Result<Option<Values>, OutOfMemory> {
         match dtype {
             DataType::List(inner) => list_of(alloc, value, inner),
             scalar_type!() | DataType::Struct(_) => unreachable!(),
@@ -166,7 +170,7 @@ impl ReadCell for FieldValues {
     fn read(
         alloc: Global,
         dtype: &DataType,
-        value: &Value,
+        value: Item<'_>,
     ) -> Result<Option<FieldValues>, OutOfMemory> {
         match dtype {
             DataType::Struct(fields) => struct_of(alloc, value, fields),

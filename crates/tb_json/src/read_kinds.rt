@@ -2,13 +2,14 @@
 ghost use Rattle.std.specs.Prelude.{◌≡◌, map, option_map, option_and_then, IfOk};
 ghost use Rattle.serde_json.specs.Data.{member, no_members};
 ghost use Rattle.serde_json.specs.Find.{as_str};
-ghost use Rattle.tb_tree.specs.View.{view, items_view, members_view};
+ghost use Rattle.serde_json.specs.View.{items_of};
+ghost use Rattle.tb_tree.specs.View.{view, item_view, listed, members_view};
 ghost use Rattle.tb_value.specs.Promise.Kind.{list, struct, parts_of};
 ghost use Rattle.tb_value.specs.SeeKind.{kind_of, part, parts};
 ghost use Rattle.tb_json.specs.Promise.Kinds.{number_kind, word_kind, unit_named, zone_in, datetime_in, duration_in, field_named, kind_in, members_kind, parts_in, each_part, part_in, members_part};
 
 use std::alloc::Global;
-use tb_tree::{Map, Value};
+use tb_tree::{Item, Items, Map, Value};
 use tb_value::{DataType, Field, Fields, OutOfMemory, PlSmallStr, TimeUnit};
 
 fn number_type(word: &str) -> Option<DataType>
@@ -177,20 +178,20 @@ fn members_type(
 fn fields_of(alloc: Global, value: &Value) -> Result<Option<Vec<Field>>, OutOfMemory>
     ensures { IfOk result (λ o. option_map (λ v. parts_of (map part v.items)) o ≡ parts_in (view value.now)) }
 {
-    match value {
-        Value::Array(items) => each_field(alloc, items),
-        _ => Ok(None),
+    match value.as_array() {
+        Some(items) => each_field(alloc, items),
+        None => Ok(None),
     }
 }
 
 #[cycle(kinds)]
-fn each_field(alloc: Global, items: &Vec<Value>) -> Result<Option<Vec<Field>>, OutOfMemory>
+fn each_field(alloc: Global, items: Items<'_>) -> Result<Option<Vec<Field>>, OutOfMemory>
     ensures { IfOk result (λ o. option_map (λ v. parts_of (map part v.items)) o
-        ≡ each_part (items_view items.now.items)) }
+        ≡ each_part (items_of (listed items.entry))) }
 {
     let mut fields = Vec::new(alloc);
-    for item in items {
-        let Some(field) = field_of(alloc, item)? else {
+    for i in 0..items.len() {
+        let Some(field) = field_of(alloc, items.at(i))? else {
             return Ok(None);
         };
         fields.push(field)?;
@@ -199,12 +200,12 @@ fn each_field(alloc: Global, items: &Vec<Value>) -> Result<Option<Vec<Field>>, O
 }
 
 #[cycle(kinds)]
-fn field_of(alloc: Global, value: &Value) -> Result<Option<Field>, OutOfMemory>
-    ensures { IfOk result (λ o. option_map part o ≡ part_in (view value.now)) }
+fn field_of(alloc: Global, item: Item<'_>) -> Result<Option<Field>, OutOfMemory>
+    ensures { IfOk result (λ o. option_map part o ≡ part_in (item_view item.entry)) }
 {
-    match value {
-        Value::Object(members) => members_field(alloc, members),
-        _ => Ok(None),
+    match item.as_object() {
+        Some(members) => members_field(alloc, members),
+        None => Ok(None),
     }
 }
 

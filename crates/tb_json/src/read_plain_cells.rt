@@ -3,8 +3,8 @@ ghost use Rattle.std.specs.Prelude.{◌≡◌, ◌/◌, if◌then◌else◌, len
 ghost use Rattle.std.specs.Result.{result_ok};
 ghost use Rattle.hex.specs.Hex.{decode_of};
 ghost use Rattle.std.specs.List.{list_all};
-ghost use Rattle.serde_json.specs.Find.{as_number, as_str};
-ghost use Rattle.tb_tree.specs.View.{view};
+ghost use Rattle.serde_json.specs.Find.{as_number};
+ghost use Rattle.tb_tree.specs.View.{view, item_view, whole};
 ghost use Rattle.tb_value.specs.Promise.Datum.{int, string, binary};
 ghost use Rattle.tb_value.specs.Promise.Kind as kind;
 ghost use Rattle.tb_value.specs.See.{datum};
@@ -17,13 +17,13 @@ ghost use Rattle.tb_label.specs.Promise.Numerals.{whole_in};
 use crate::write_cells::is_wide;
 use std::alloc::Global;
 use tb_label::whole_in;
-use tb_tree::Value;
+use tb_tree::{Item, Value};
 use tb_value::{AnyValue, Bytes, DataType, OutOfMemory, PlSmallStr, TOO_LONG};
 
 /// The text that a value is, lent: no text inside where it is Null, and None where it is no text or one too long to be a
 /// value.
-pub(crate) fn lent_text(value: &Value) -> Option<Option<&str>>
-    ensures { option_map (λ o. or_null string (option_map (λ t. t.now) o)) result ≡ cell_in kind.string (view value.now) }
+pub(crate) fn lent_text(value: Item<'_>) -> Option<Option<&str>>
+    ensures { option_map (λ o. or_null string (option_map (λ t. t.now) o)) result ≡ cell_in kind.string (item_view value.entry) }
 {
     if value.is_null() {
         return Some(None);
@@ -133,6 +133,17 @@ fn ranged(integer: i128, dtype: &DataType) -> Option<AnyValue>
     }
 }
 
+/// The value that a whole number is, or None where it is none of the type.
+pub(crate) fn whole_of(number: i64, dtype: &DataType) -> Option<AnyValue>
+    ensures value { option_map datum result ≡ cell_in (kind_of dtype.now) (whole number) }
+    ensures typed { IfSome result (λ v. HasType (kind_of dtype.now) (datum v)) }
+{
+    if is_wide(dtype) {
+        return None;
+    }
+    ranged(number as i128, dtype)
+}
+
 /// The value that a number is, or None where it is none of the type.
 pub(crate) fn number_of(number: &Value, dtype: &DataType) -> Option<AnyValue>
     ensures value { option_map datum result ≡ option_and_then (number_in (kind_of dtype.now)) (as_number (view number.now)) }
@@ -181,15 +192,12 @@ fn binary_of(alloc: Global, text: &str) -> Result<Option<AnyValue>, OutOfMemory>
 /// The value that a text is, or None where it is none of the type.
 pub(crate) fn text_of(
     alloc: Global,
-    text: &Value,
+    text: &str,
     dtype: &DataType,
 ) -> Result<Option<AnyValue>, OutOfMemory>
-    ensures value { IfOk result (λ o. option_map datum o ≡ option_and_then (text_in (kind_of dtype.now)) (as_str (view text.now))) }
+    ensures value { IfOk result (λ o. option_map datum o ≡ text_in (kind_of dtype.now) text.now) }
     ensures typed { IfOk result (λ o. IfSome o (λ v. HasType (kind_of dtype.now) (datum v))) }
 {
-    let Some(text) = text.as_str() else {
-        return Ok(None);
-    };
     match dtype {
         DataType::Int128 => Ok(wide_of(text)),
         DataType::String => string_of(alloc, text),

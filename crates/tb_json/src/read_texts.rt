@@ -2,7 +2,7 @@
 ghost use Rattle.std.specs.Prelude.{◌≡◌, ◌++◌, ◌∷◌, [], false, map, option_map, true, IfOk, IfSome};
 ghost use Rattle.std.specs.List.{All};
 ghost use Rattle.std.specs.Option.{MatchOption};
-ghost use Rattle.tb_tree.specs.View.{view};
+ghost use Rattle.tb_tree.specs.View.{item_view, listed};
 ghost use Rattle.tb_value.specs.Promise.Datum.{binary, string};
 ghost use Rattle.tb_value.specs.Promise.Kind as kind;
 ghost use Rattle.tb_value.specs.Promise.Typed.{HasType};
@@ -13,22 +13,23 @@ ghost use Rattle.tb_json.specs.Promise.Cells.{cell_in};
 use crate::read_plain_cells::{decode_short, lent_text};
 use std::alloc::Global;
 use tb_store::{BinaryBuilder, BinaryChunk, Chunk, StringBuilder, StringChunk};
-use tb_tree::Value;
+use tb_tree::{Item, Items};
 use tb_value::OutOfMemory;
 
 /// The String chunk of these values, or None where one of them is no text.
 pub(crate) fn text_chunk(
     alloc: Global,
-    items: &Vec<Value>,
+    items: Items<'_>,
 ) -> Result<Option<StringChunk>, OutOfMemory>
     ensures values { IfOk result (λ o. option_map ⟦<StringChunk as Chunk>⟧.shown o
-        ≡ each (cell_in kind.string) (map view items.now.items)) }
+        ≡ each (cell_in kind.string) (listed items.entry)) }
     ensures typed { IfOk result (λ o. IfSome o
         (λ c. All (HasType kind.string) (⟦<StringChunk as Chunk>⟧.shown c))) }
 {
-    let mut builder = StringBuilder::with_capacity(alloc, items.len())?;
-    for item in items {
-        let Some(text) = lent_text(item) else {
+    let len = items.len();
+    let mut builder = StringBuilder::with_capacity(alloc, len)?;
+    for i in 0..len {
+        let Some(text) = lent_text(items.at(i)) else {
             return Ok(None);
         };
         builder.push_option(alloc, text)?;
@@ -41,9 +42,9 @@ fn push_bytes(
     alloc: Global,
     builder: &mut BinaryBuilder,
     buffer: &mut Vec<u8>,
-    value: &Value,
+    value: Item<'_>,
 ) -> Result<bool, OutOfMemory>
-    ensures { IfOk result (λ pushed. MatchOption (cell_in kind.binary (view value.now)) (pushed ≡ false)
+    ensures { IfOk result (λ pushed. MatchOption (cell_in kind.binary (item_view value.entry)) (pushed ≡ false)
         (λ cell. (pushed ≡ true) × (map (or_null binary) builder.new.rows ≡ map (or_null binary) builder.old.rows ++ cell ∷ []))) }
 {
     if value.is_null() {
@@ -63,17 +64,18 @@ fn push_bytes(
 /// The Binary chunk of these values, or None where one of them is no bytes.
 pub(crate) fn bytes_chunk(
     alloc: Global,
-    items: &Vec<Value>,
+    items: Items<'_>,
 ) -> Result<Option<BinaryChunk>, OutOfMemory>
     ensures values { IfOk result (λ o. option_map ⟦<BinaryChunk as Chunk>⟧.shown o
-        ≡ each (cell_in kind.binary) (map view items.now.items)) }
+        ≡ each (cell_in kind.binary) (listed items.entry)) }
     ensures typed { IfOk result (λ o. IfSome o
         (λ c. All (HasType kind.binary) (⟦<BinaryChunk as Chunk>⟧.shown c))) }
 {
-    let mut builder = BinaryBuilder::with_capacity(alloc, items.len())?;
+    let len = items.len();
+    let mut builder = BinaryBuilder::with_capacity(alloc, len)?;
     let mut buffer = Vec::new(alloc);
-    for item in items {
-        if !push_bytes(alloc, &mut builder, &mut buffer, item)? {
+    for i in 0..len {
+        if !push_bytes(alloc, &mut builder, &mut buffer, items.at(i))? {
             return Ok(None);
         }
     }

@@ -9,3 +9,4 @@ pub mod RoomLeft
 pub mod Expanded
 pub mod SameShape
 pub mod TwoForms
+pub mod Parts

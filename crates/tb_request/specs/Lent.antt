@@ -2,11 +2,13 @@
 use Rattle.std.specs.Prelude.{ℕ, List, map, option_map}
 use Rattle.std.specs.declared.alloc.Global.{Global}
 use Rattle.std.specs.declared.vec.Vec.{Vec}
+use Rattle.serde_json.specs.Data.{Data}
 use Rattle.tb_tree.specs.View.{view}
 use Rattle.tb_tree.specs.declared.value.Value.{Value}
 use Rattle.tb_value.specs.SeeKind.{kind_of}
 use Rattle.tb_pool.specs.Promise.ExecView.{ExecView}
 use Rattle.tb_chunk.specs.Promise.Col.{Col}
+use Rattle.tb_json.specs.Promise.Lists.{list_in}
 use Rattle.tb_request.specs.declared.shape.ExecNumbers.{ExecNumbers}
 use Rattle.tb_request.specs.declared.shape.WrittenColumn.{WrittenColumn}
 use Rattle.tb_request.specs.declared.shape.WrittenValues.{WrittenValues}
@@ -22,8 +24,12 @@ use Rattle.tb_request.specs.Promise.Written as written
 abbrev pub run_view : Value × ℕ → written.WrittenRun
 run_view r = (view r.0, r.1)
 
+-- the values of a chunk
+abbrev pub chunk_view : Value → List Data
+chunk_view v = list_in (view v)
+
 abbrev pub values_view : WrittenValues → written.WrittenValues
-values_view (Chunks cs) = written.in_chunks (map (λ v. map view v.items) cs.items)
+values_view (Chunks cs) = written.in_chunks (map chunk_view cs.items)
 values_view (Runs rs) = written.in_runs (map run_view rs.items)
 
 abbrev pub written_view : WrittenColumn → written.Written

@@ -1,14 +1,14 @@
 //! The arguments of a join.
-ghost use Rattle.std.specs.Prelude.{◌≡◌, IfOk};
-ghost use Rattle.tb_tree.specs.View.{view};
-ghost use Rattle.tb_request.specs.Promise.Written.{how_named, validation_named, coalesce_named, order_named, how_of, validation_of, slice_in, slice_of, nulls_in, nulls_of, coalesce_of, order_of, args_of};
+ghost use Rattle.std.specs.Prelude.{◌≡◌, ◌∷◌, [], IfOk};
+ghost use Rattle.tb_tree.specs.View.{view, item_view};
+ghost use Rattle.tb_request.specs.Promise.Written.{how_named, validation_named, coalesce_named, order_named, how_of, validation_of, slice_from, slice_in, slice_of, nulls_in, nulls_of, coalesce_of, order_of, args_of};
 
 use crate::members::{has_only, text_at, truths_of};
 use std::alloc::Global;
 use tb_frame::{
     Flags, JoinArgs, JoinCoalesce, JoinNulls, JoinType, JoinValidation, MaintainOrderJoin,
 };
-use tb_tree::Value;
+use tb_tree::{Item, Value};
 use tb_value::OutOfMemory;
 
 /// The kind of join that a word names.
@@ -98,6 +98,14 @@ fn order_of(args: &Value) -> Option<MaintainOrderJoin>
     }
 }
 
+fn slice_from(offset: Item<'_>, len: Item<'_>) -> Option<(i64, usize)>
+    ensures { result ≡ slice_from (item_view offset.entry ∷ item_view len.entry ∷ []) }
+{
+    let offset = offset.as_i64()?;
+    let len = len.as_u64()?;
+    Some((offset, len as usize))
+}
+
 /// The offset and the length of a slice, or None where the value is no list of these two.
 pub fn slice_in(value: &Value) -> Option<Option<(i64, usize)>>
     ensures { result ≡ slice_in (view value.now) }
@@ -106,9 +114,10 @@ pub fn slice_in(value: &Value) -> Option<Option<(i64, usize)>>
     if items.len() != 2 {
         return None;
     }
-    let offset = items[0].as_i64()?;
-    let len = items[1].as_u64()?;
-    Some(Some((offset, len as usize)))
+    match slice_from(items.at(0), items.at(1)) {
+        Some(slice) => Some(Some(slice)),
+        None => None,
+    }
 }
 
 // No slice where the member is absent.

@@ -69,9 +69,10 @@ fn texts_of(alloc: Global, value: &Value) -> Result<Option<Vec<PlSmallStr>>, Out
     let Some(items) = value.as_array() else {
         return Ok(None);
     };
-    let mut texts = Vec::with_capacity(alloc, items.len())?;
-    for item in items {
-        let Some(text) = item.as_str() else {
+    let len = items.len();
+    let mut texts = Vec::with_capacity(alloc, len)?;
+    for i in 0..len {
+        let Some(text) = items.at(i).as_str() else {
             return Ok(None);
         };
         texts.push(PlSmallStr::from_str(alloc, text)?)?;
@@ -86,9 +87,10 @@ pub fn truths_of(alloc: Global, value: &Value) -> Result<Option<Vec<bool>>, OutO
     let Some(items) = value.as_array() else {
         return Ok(None);
     };
-    let mut truths = Vec::with_capacity(alloc, items.len())?;
-    for item in items {
-        let Some(truth) = item.as_bool() else {
+    let len = items.len();
+    let mut truths = Vec::with_capacity(alloc, len)?;
+    for i in 0..len {
+        let Some(truth) = items.at(i).as_bool() else {
             return Ok(None);
         };
         truths.push(truth)?;
@@ -127,11 +129,12 @@ pub fn texts_if_at(
     }
 }
 
-/// The values of an array.
-pub fn into_array(value: Value) -> Option<Vec<Value>>
-    ensures { option_map (λ v. map view v.items) result ≡ as_list (view value) }
+/// The values of an array, or None where the value is none.
+pub fn into_array(alloc: Global, value: Value) -> Result<Option<Vec<Value>>, OutOfMemory>
+    ensures { IfOk result (λ o. option_map (λ v. map view v.items) o ≡ as_list (view value)) }
 {
-    value.into_array()
+    let values = value.into_array(alloc)?;
+    Ok(values)
 }
 
 /// The member of an object.

@@ -35,12 +35,9 @@ pub fn times_of(dtype: &DataType, times: u64) -> Option<u64>
 fn run_of(dtype: &DataType, run: Value) -> Option<(Value, u64)>
     ensures { option_map run_view result ≡ run_of (kind_of dtype.now) (view run) }
 {
-    let mut parts = into_array(run)?;
-    if parts.len() != 2 {
-        return None;
-    }
-    let times = times_of(dtype, parts[1].as_u64()?)?;
-    Some((parts.swap_remove(0), times))
+    let (value, times) = run.into_pair()?;
+    let times = times_of(dtype, times.as_u64()?)?;
+    Some((value, times))
 }
 
 fn runs_of(
@@ -51,7 +48,7 @@ fn runs_of(
     ensures { IfOk result (λ o. option_map (λ v. map run_view v.items) o
         ≡ list_of (run_of (kind_of dtype.now)) (view value)) }
 {
-    let Some(items) = into_array(value) else {
+    let Some(items) = into_array(alloc, value)? else {
         return Ok(None);
     };
     let mut runs = Vec::with_capacity(alloc, items.len())?;

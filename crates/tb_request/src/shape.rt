@@ -1,12 +1,12 @@
 //! The members of a request, before its values are read.
-ghost use Rattle.std.specs.Prelude.{◌≡◌, codes, map, option_and_then, option_map, IfOk};
+ghost use Rattle.std.specs.Prelude.{◌≡◌, codes, is_some, map, option_and_then, option_map, IfOk};
 ghost use Rattle.serde_json.specs.Find.{as_str, get};
 ghost use Rattle.tb_tree.specs.View.{view};
 ghost use Rattle.tb_json.specs.Promise.Kinds.{kind_in};
-ghost use Rattle.tb_json.specs.Promise.Lists.{as_list, list_of};
+ghost use Rattle.tb_json.specs.Promise.Lists.{as_list, each, list_of};
 ghost use Rattle.tb_value.specs.SeeKind.{kind_of};
 ghost use Rattle.tb_request.specs.Promise.Written.{format_numbered, format_of, flag_named, flag_of, count_of, plan_of, exec_of, join_of, column_names, column_of, table_of, table_at, values_in};
-ghost use Rattle.tb_request.specs.Lent.{values_view, written_view, exec_view, written_join};
+ghost use Rattle.tb_request.specs.Lent.{chunk_view, values_view, written_view, exec_view, written_join};
 
 use crate::arguments::args_of;
 use crate::members::{has_only, into_array, into_member, into_sides, texts_at, truth_at};
@@ -29,7 +29,8 @@ pub enum Format {
 /// The values of a column, which are not read yet.
 #[derive(Drop)]
 pub enum WrittenValues {
-    Chunks(Vec<Vec<Value>>),
+    /// The chunks, each of which is an array.
+    Chunks(Vec<Value>),
     /// Each value, with its count.
     Runs(Vec<(Value, u64)>),
 }
@@ -125,25 +126,38 @@ fn dtype_of(alloc: Global, column: &Value) -> Result<Option<DataType>, OutOfMemo
     }
 }
 
-fn chunks_of(alloc: Global, value: Value) -> Result<Option<Vec<Vec<Value>>>, OutOfMemory>
-    ensures { IfOk result (λ o. option_map (λ v. map (λ c. map view c.items) v.items) o
+fn is_array(value: &Value) -> bool
+    ensures { result ≡ is_some (as_list (view value.now)) }
+{
+    value.as_array().is_some()
+}
+
+fn are_arrays(values: &[Value]) -> bool
+    ensures { result ≡ is_some (each as_list (map view values.now)) }
+{
+    for value in values {
+        if !is_array(value) {
+            return false;
+        }
+    }
+    true
+}
+
+fn chunks_of(alloc: Global, value: Value) -> Result<Option<Vec<Value>>, OutOfMemory>
+    ensures { IfOk result (λ o. option_map (λ v. map chunk_view v.items) o
         ≡ list_of as_list (view value)) }
 {
-    let Some(items) = into_array(value) else {
+    let Some(chunks) = into_array(alloc, value)? else {
         return Ok(None);
     };
-    let mut chunks = Vec::with_capacity(alloc, items.len())?;
-    for item in items {
-        let Some(chunk) = into_array(item) else {
-            return Ok(None);
-        };
-        chunks.push(chunk)?;
+    if !are_arrays(&chunks) {
+        return Ok(None);
     }
     Ok(Some(chunks))
 }
 
-fn chunks_in(alloc: Global, column: Value) -> Result<Option<Vec<Vec<Value>>>, OutOfMemory>
-    ensures { IfOk result (λ o. option_map (λ v. map (λ c. map view c.items) v.items) o
+fn chunks_in(alloc: Global, column: Value) -> Result<Option<Vec<Value>>, OutOfMemory>
+    ensures { IfOk result (λ o. option_map (λ v. map chunk_view v.items) o
         ≡ option_and_then (list_of as_list) (get (codes "chunks") (view column))) }
 {
     match into_member(column, "chunks") {
@@ -213,7 +227,7 @@ fn columns_of(
     ensures { IfOk result (λ o. option_map (λ v. map written_view v.items) o
         ≡ list_of (column_of format) (view value)) }
 {
-    let Some(items) = into_array(value) else {
+    let Some(items) = into_array(alloc, value)? else {
         return Ok(None);
     };
     let mut columns = Vec::with_capacity(alloc, items.len())?;

@@ -4,7 +4,6 @@ ghost use Rattle.tb_value.specs.See.{datum};
 ghost use Rattle.tb_value.specs.SeeKind.{kind_of};
 ghost use Rattle.tb_value.specs.Promise.Typed.{HasType};
 ghost use Rattle.tb_value.specs.declared.sorted.IsSorted.TheVariants.{Not};
-ghost use Rattle.tb_tree.specs.View.{view};
 ghost use Rattle.tb_chunk.specs.Promise.Made.{fresh_column};
 ghost use Rattle.tb_json.specs.Promise.Lists.{each};
 ghost use Rattle.tb_request.specs.Columns.{relaid_column};
@@ -12,7 +11,7 @@ ghost use Rattle.tb_request.specs.Promise.Columns.{chunks_in, columns_from, rows
 ghost use Rattle.tb_request.specs.Promise.Written.{in_chunks, in_runs};
 ghost use Rattle.tb_request.specs.declared.runs.TheConstants.{MAX_RUN_VALUES};
 ghost use Rattle.tb_chunk.specs.RunLayout.{AreRunsOf, data_runs};
-ghost use Rattle.tb_request.specs.Lent.{claimed_view, run_view, values_view, written_view};
+ghost use Rattle.tb_request.specs.Lent.{chunk_view, claimed_view, run_view, values_view, written_view};
 
 use crate::shape::{WrittenColumn, WrittenValues};
 use std::alloc::Global;
@@ -32,10 +31,10 @@ fn series_of_chunks(
     alloc: Global,
     name: PlSmallStr,
     dtype: DataType,
-    chunks: Vec<Vec<Value>>,
+    chunks: Vec<Value>,
 ) -> Result<Option<Series>, OutOfMemory>
     ensures { IfOk result (λ o. option_map relaid_column o
-        ≡ option_map (λ cs. fresh_column name (kind_of dtype) cs Not) (chunks_in (kind_of dtype) (in_chunks (map (λ v. map view v.items) chunks.items)))) }
+        ≡ option_map (λ cs. fresh_column name (kind_of dtype) cs Not) (chunks_in (kind_of dtype) (in_chunks (map chunk_view chunks.items)))) }
 {
     let Some(arrays) = arrays_in(alloc, &dtype, &chunks)? else {
         return Ok(None);

@@ -2,12 +2,12 @@
 use Rattle.std.proofs.Common.{◌≡◌, ℕ, zero, suc, ◌-◌, ◌<◌, ◌≤◌, List, [], ◌∷◌, ◌++◌, length, Option, Some, None, option_map, option_and_then, refl, ap, ◌∙◌}
 use Rattle.json.specs.Token.{Token}
 use Rattle.json.specs.Json as json
-use Rattle.json.specs.Json.{Parse, parse_map, after_end_array, read_key, items_step, items, members, if_last}
+use Rattle.json.specs.Json.{Parse, parse_map, after_end_array, read_key, items_step, items, members, if_last, value}
 use Rattle.json.proofs.Grammar.{items_end, items_more, members_end, members_no_key, members_more}
 use Rattle.serde_json.specs.Data.{Data, array, object, Items, no_items, item, Members, no_members, put}
 use Rattle.serde_json.specs.Read.{of_json, of_items, of_members, converted}
-use Rattle.tb_tree.specs.View.{view, items_view}
-use Rattle.tb_tree.specs.declared.value.Value.{Value}
+use Rattle.serde_json.specs.View.{items_of}
+use Rattle.tb_tree.specs.Arrays.{items_after, array_after}
 
 abbrev pick : {A : Type 0} → A → Option A → A
 pick d None = d
@@ -94,27 +94,38 @@ module _ (p : Parse json.Json) where
     pub members_over : (n : ℕ) (ts r : List Token) → length ts ≤ n → read_key ts ≡ Some (None, r) → converted (λ ms. of_members ms old) (members p n ts) ≡ Some (old, r)
     members_over n ts r enough e = ap (converted (λ ms. of_members ms old)) (members_end p n ts r enough e)
 
--- ---- a list that grows at its end
+-- ---- an array whose first values were read
 
-abbrev pub items_before : List Value → Items → Items
-items_before [] rest = rest
-items_before (v ∷ vs) rest = item (view v) (items_before vs rest)
+pub items_after-no_items : (ds : List Data) → items_after ds no_items ≡ items_of ds
+items_after-no_items [] = refl
+items_after-no_items (d ∷ ds) = ap (item d) (items_after-no_items ds)
 
-pub items_before-no_items : (vs : List Value) → items_before vs no_items ≡ items_view vs
-items_before-no_items [] = refl
-items_before-no_items (v ∷ vs) = ap (item (view v)) (items_before-no_items vs)
+items_push : (ds : List Data) (d : Data) (rest : Items) → items_after ds (item d rest) ≡ items_after (ds ++ d ∷ []) rest
+items_push [] d rest = refl
+items_push (e ∷ ds) d rest = ap (item e) (items_push ds d rest)
 
-items_push : (vs : List Value) (v : Value) (rest : Items) → items_before vs (item (view v) rest) ≡ items_before (vs ++ v ∷ []) rest
-items_push [] v rest = refl
-items_push (w ∷ vs) v rest = ap (item (view w)) (items_push vs v rest)
+one_more : (ds : List Data) (d : Data) (r : Option (Items × List Token)) → parse_map (λ rest. array (items_after ds rest)) (parse_map (item d) r) ≡ parse_map (λ rest. array (items_after (ds ++ d ∷ []) rest)) r
+one_more ds d None = refl
+one_more ds d (Some p) = ap (λ is. Some (array is, p.1)) (items_push ds d p.0)
 
-pub one_more_item : (vs : List Value) (v : Value) (r : Option (Items × List Token)) → parse_map (items_before vs) (parse_map (item (view v)) r) ≡ parse_map (items_before (vs ++ v ∷ [])) r
-one_more_item vs v None = refl
-one_more_item vs v (Some p) = ap (λ ds. Some (ds, p.1)) (items_push vs v p.0)
+-- one value further
+pub array_after-more : (ds : List Data) (depth n : ℕ) (ts r : List Token) (d : Data) → 0 < n → after_end_array ts ≡ None → converted of_json (value depth ts) ≡ Some (d, r)
+    → array_after ds depth n ts ≡ array_after (ds ++ d ∷ []) depth (n - 1) r
+array_after-more ds depth n ts r d some going e = ap (parse_map (λ rest. array (items_after ds rest))) (item_read (value depth) n ts r d some going e) ∙ one_more ds d _
 
-pub none_before : (r : Option (Items × List Token)) → r ≡ parse_map (λ a. a) r
-none_before None = refl
-none_before (Some p) = refl
+pub array_after-refused : (ds : List Data) (depth n : ℕ) (ts : List Token) → after_end_array ts ≡ None → converted of_json (value depth ts) ≡ None → array_after ds depth n ts ≡ None
+array_after-refused ds depth n ts going e = ap (parse_map (λ rest. array (items_after ds rest))) (item_refused (value depth) n ts going e)
+
+-- at its end
+pub array_after-end : (ds : List Data) (depth n : ℕ) (ts r : List Token) → length ts ≤ n → after_end_array ts ≡ Some r → array_after ds depth n ts ≡ Some (array (items_of ds), r)
+array_after-end ds depth n ts r enough e = ap (parse_map (λ rest. array (items_after ds rest))) (items_over (value depth) n ts r enough e) ∙ ap (λ is. Some (array is, r)) (items_after-no_items ds)
+
+same_array : (o : Option (Items × List Token)) → parse_map array o ≡ parse_map (λ rest. array rest) o
+same_array None = refl
+same_array (Some p) = refl
+
+pub array_after-none : (depth n : ℕ) (ts : List Token) → parse_map array (converted of_items (items (value depth) n ts)) ≡ array_after [] depth n ts
+array_after-none depth n ts = same_array (converted of_items (items (value depth) n ts))
 
 -- ---- the whole text
 

@@ -1,19 +1,23 @@
 -- A value, level by level, and a `BTreeMap` beside the members that it stands for.
-use Rattle.std.proofs.Common.{◌≡◌, ℕ, List, [], ◌∷◌, Option, Some, None, option_map, String, Vec, BTreeMap, Global, Box, Ordering, Less, Equal, Greater, string_bytes, string_cmp, nat_cmp, is_eq, cond, Bor, refl, ◌∙◌, rules}
+use Rattle.std.proofs.Common.{◌≡◌, ℕ, ℤ, List, map, length, [], ◌∷◌, Option, Some, None, option_map, String, Vec, BTreeMap, Global, Box, Ordering, Less, Equal, Greater, string_bytes, string_cmp, nat_cmp, is_eq, cond, Bor, refl, ◌∙◌, rules}
 use Rattle.std.specs.Cmp.Lexicographic.{slice_cmp}
 use Rattle.std.specs.Map.{lookup}
 use Rattle.std.specs.Ordering.{match_ordering}
 use Rattle.std.specs.BTreeMap.{insert_entry, is_at}
 use Rattle.serde_json.specs.Data.{Data, array, object, put}
 use Rattle.serde_json.specs.Find.{get_member}
-use Rattle.tb_tree.specs.View.{view, items_view, members_view}
-use Rattle.tb_tree.specs.declared.value.Value.{Value, Array, Object, the_lemmas}
+use Rattle.serde_json.specs.View.{items_of}
+use Rattle.tb_tree.specs.View.{view, items_view, members_view, two_of, whole}
+use Rattle.tb_tree.specs.declared.value.Value.{Value, Array, Object, Wholes, the_lemmas}
 
 abbrev pub Entry : Type 0
 Entry = String Global × Value
 
 pub view-Array : (v : Box (Vec Value Global) Global) → view (Array v) ≡ array (items_view v.value.items)
 view-Array v = search (rules, the_lemmas)
+
+pub view-Wholes : (v : Box (Vec ℤ Global) Global) → view (Wholes v) ≡ array (items_of (map whole v.value.items))
+view-Wholes v = search (rules, the_lemmas)
 
 pub view-Object : (m : Box (BTreeMap (String Global) Value) Global) → view (Object m) ≡ object (members_view m.value.entries)
 view-Object m = search (rules, the_lemmas)
@@ -35,6 +39,13 @@ found_or Greater v rest d e = e
 pub view-lookup : (name : List ℕ) (es : List Entry) → option_map view (lookup (is_at (λ k. slice_cmp nat_cmp name (string_bytes k))) es) ≡ get_member name (members_view es)
 view-lookup name [] = refl
 view-lookup name (e ∷ es) = found_or (slice_cmp nat_cmp name (string_bytes e.0)) e.1 _ _ (view-lookup name es)
+
+-- only two values are a pair
+pub no_pair : (ds : List Data) → (length ds ≡ 2 → ⊥) → None ≡ two_of (items_of ds)
+no_pair [] h = refl
+no_pair (d ∷ []) h = refl
+no_pair (d ∷ e ∷ []) h = absurd (h refl)
+no_pair (d ∷ e ∷ f ∷ ds) h = refl
 
 pub view_of_ref : (r : Option (Bor Value)) → option_map (λ x. view x.now) r ≡ option_map view (option_map (λ x. x.now) r)
 view_of_ref None = refl

@@ -1,13 +1,16 @@
 //! Values, read from a text in one pass over its tokens.
-ghost use Rattle.std.specs.Prelude.{◌≡◌, ◌<◌, length, Some, None, Err, IfOk, OnOk, IsUtf8};
-ghost use Rattle.json.specs.Json.{value, items, members};
-ghost use Rattle.serde_json.specs.Data.{string, no_members};
-ghost use Rattle.serde_json.specs.Read.{of_json, of_items, of_members, converted, read as read_text};
-ghost use Rattle.tb_tree.specs.View.{view, items_view, members_view};
+ghost use Rattle.std.specs.Prelude.{◌≡◌, ◌<◌, ◌≤◌, ℕ, [], ◌∷◌, length, map, Some, None, Err, IfOk, OnOk, IsUtf8};
+ghost use Rattle.json.specs.Json.{value, members};
+ghost use Rattle.serde_json.specs.Data.{array, string, no_members};
+ghost use Rattle.serde_json.specs.Read.{of_json, of_members, converted, read as read_text};
+ghost use Rattle.serde_json.specs.View.{items_of};
+ghost use Rattle.tb_tree.specs.Arrays.{array_after};
+ghost use Rattle.tb_tree.specs.Begun.{begun_view};
+ghost use Rattle.tb_tree.specs.View.{view, members_view, whole};
 ghost use Rattle.tb_tree.specs.declared.read.Fault.TheVariants.{NoJson, OutOfMemory};
 
 use crate::number::number_of;
-use crate::value::{Map, Value};
+use crate::value::{Map, Value, list_of_two, spread_before};
 use arrayvec::ArrayString;
 use json::{Invalid, Reader, Scratch, Token};
 use std::alloc::{AllocError, AllocFailed, Global};
@@ -86,6 +89,42 @@ fn text_of(alloc: Global, text: &str) -> Result<Value, AllocError>
     }
 }
 
+// An array of one value.
+fn one(alloc: Global, value: Value) -> Result<Value, AllocError>
+    ensures { IfOk result (λ v. view v ≡ array (items_of (view value ∷ []))) }
+{
+    match value.as_whole() {
+        Some(number) => Ok(Value::OneWhole(number)),
+        None => Ok(Value::One(Box::new(alloc, value)?)),
+    }
+}
+
+// An array of two values.
+fn two(alloc: Global, first: Value, second: Value) -> Result<Value, AllocError>
+    ensures { IfOk result (λ v. view v ≡ array (items_of (view first ∷ view second ∷ []))) }
+{
+    match (first.as_short(), second.as_short()) {
+        (Some(a), Some(b)) => Ok(Value::TwoShort(a, b)),
+        _ => Ok(Value::Two(Box::new(alloc, (first, second))?)),
+    }
+}
+
+// The first values of an array that has more than two.
+#[derive(Drop)]
+enum Begun {
+    Wholes(Vec<i64>),
+    Values(Vec<Value>),
+}
+
+fn first_two(alloc: Global, first: Value, second: Value) -> Result<Begun, AllocError>
+    ensures { IfOk result (λ b. begun_view b ≡ view first ∷ view second ∷ []) }
+{
+    match (first.as_whole(), second.as_whole()) {
+        (Some(a), Some(b)) => Ok(Begun::Wholes(vec![in alloc; a, b]?)),
+        _ => Ok(Begun::Values(list_of_two(alloc, (first, second))?)),
+    }
+}
+
 // The next value of the reader. Arrays and objects may nest `depth` deep.
 #[cycle(read)]
 fn read(alloc: Global, reader: &mut Reader<'_>, depth: usize) -> Result<Value, Fault>
@@ -108,8 +147,7 @@ fn read(alloc: Global, reader: &mut Reader<'_>, depth: usize) -> Result<Value, F
             if depth == 0 {
                 return Err(Fault::NoJson);
             }
-            let items = read_items(alloc, reader, depth - 1)?;
-            Ok(Value::Array(Box::new(alloc, items)?))
+            read_array(alloc, reader, depth - 1)
         }
         Token::BeginObject => {
             if depth == 0 {
@@ -121,21 +159,131 @@ fn read(alloc: Global, reader: &mut Reader<'_>, depth: usize) -> Result<Value, F
     }
 }
 
+// What is left of an array behind its bracket.
 #[cycle(read)]
-fn read_items(alloc: Global, reader: &mut Reader<'_>, depth: usize) -> Result<Vec<Value>, Fault>
+fn read_array(alloc: Global, reader: &mut Reader<'_>, depth: usize) -> Result<Value, Fault>
     ensures ok { IfOk result
-        (λ v. converted of_items (items (value depth) (length reader.old) reader.old)
-        ≡ Some (items_view v.items, reader.new)) }
+        (λ v. array_after [] depth (length reader.old) reader.old ≡ Some (view v, reader.new)) }
     ensures shorter { OnOk result (length reader.new < length reader.old) }
     ensures err { result ≡ Err Fault.NoJson
-        → converted of_items (items (value depth) (length reader.old) reader.old) ≡ None }
+        → array_after [] depth (length reader.old) reader.old ≡ None }
 {
-    let mut found = Vec::new(alloc);
-    'items: while !reader.take_end_array() {
+    if reader.take_end_array() {
+        return Ok(Value::Empty);
+    }
+    let first = read(alloc, reader, depth)?;
+    read_second(alloc, reader, depth, first)
+}
+
+// The same behind the first value.
+#[cycle(read)]
+fn read_second(
+    alloc: Global,
+    reader: &mut Reader<'_>,
+    depth: usize,
+    first: Value,
+) -> Result<Value, Fault>
+    ensures ok { (most : ℕ) → length reader.old ≤ most → IfOk result
+        (λ v. array_after (view first ∷ []) depth most reader.old ≡ Some (view v, reader.new)) }
+    ensures shorter { OnOk result (length reader.new < length reader.old) }
+    ensures err { (most : ℕ) → length reader.old ≤ most → result ≡ Err Fault.NoJson
+        → array_after (view first ∷ []) depth most reader.old ≡ None }
+{
+    if reader.take_end_array() {
+        return Ok(one(alloc, first)?);
+    }
+    let second = read(alloc, reader, depth)?;
+    read_third(alloc, reader, depth, first, second)
+}
+
+// The same behind the first two values.
+#[cycle(read)]
+fn read_third(
+    alloc: Global,
+    reader: &mut Reader<'_>,
+    depth: usize,
+    first: Value,
+    second: Value,
+) -> Result<Value, Fault>
+    ensures ok { (most : ℕ) → length reader.old ≤ most → IfOk result
+        (λ v. array_after (view first ∷ view second ∷ []) depth most reader.old ≡ Some (view v, reader.new)) }
+    ensures shorter { OnOk result (length reader.new < length reader.old) }
+    ensures err { (most : ℕ) → length reader.old ≤ most → result ≡ Err Fault.NoJson
+        → array_after (view first ∷ view second ∷ []) depth most reader.old ≡ None }
+{
+    if reader.take_end_array() {
+        return Ok(two(alloc, first, second)?);
+    }
+    let begun = first_two(alloc, first, second)?;
+    read_more(alloc, reader, depth, begun)
+}
+
+// The same behind the values of a list that grows.
+#[cycle(read)]
+fn read_more(
+    alloc: Global,
+    reader: &mut Reader<'_>,
+    depth: usize,
+    begun: Begun,
+) -> Result<Value, Fault>
+    ensures ok { (most : ℕ) → length reader.old ≤ most → IfOk result
+        (λ v. array_after (begun_view begun) depth most reader.old ≡ Some (view v, reader.new)) }
+    ensures shorter { OnOk result (length reader.new < length reader.old) }
+    ensures err { (most : ℕ) → length reader.old ≤ most → result ≡ Err Fault.NoJson
+        → array_after (begun_view begun) depth most reader.old ≡ None }
+{
+    match begun {
+        Begun::Wholes(found) => read_wholes(alloc, reader, depth, found),
+        Begun::Values(found) => read_values(alloc, reader, depth, found),
+    }
+}
+
+// The same behind whole numbers.
+#[cycle(read)]
+fn read_wholes(
+    alloc: Global,
+    reader: &mut Reader<'_>,
+    depth: usize,
+    mut found: Vec<i64>,
+) -> Result<Value, Fault>
+    ensures ok { (most : ℕ) → length reader.old ≤ most → IfOk result
+        (λ v. array_after (map whole found.items) depth most reader.old ≡ Some (view v, reader.new)) }
+    ensures shorter { OnOk result (length reader.new < length reader.old) }
+    ensures err { (most : ℕ) → length reader.old ≤ most → result ≡ Err Fault.NoJson
+        → array_after (map whole found.items) depth most reader.old ≡ None }
+{
+    'wholes: while !reader.take_end_array() {
+        let item = read(alloc, reader, depth)?;
+        match item.into_whole() {
+            Ok(number) => found.push(number)?,
+            Err(item) => {
+                let values = spread_before(alloc, found, item)?;
+                return read_values(alloc, reader, depth, values);
+            }
+        }
+    }
+    Ok(Value::Wholes(Box::new(alloc, found)?))
+}
+
+// The same behind any values.
+#[cycle(read)]
+fn read_values(
+    alloc: Global,
+    reader: &mut Reader<'_>,
+    depth: usize,
+    mut found: Vec<Value>,
+) -> Result<Value, Fault>
+    ensures ok { (most : ℕ) → length reader.old ≤ most → IfOk result
+        (λ v. array_after (map view found.items) depth most reader.old ≡ Some (view v, reader.new)) }
+    ensures shorter { OnOk result (length reader.new < length reader.old) }
+    ensures err { (most : ℕ) → length reader.old ≤ most → result ≡ Err Fault.NoJson
+        → array_after (map view found.items) depth most reader.old ≡ None }
+{
+    'values: while !reader.take_end_array() {
         let item = read(alloc, reader, depth)?;
         found.push(item)?;
     }
-    Ok(found)
+    Ok(Value::Array(Box::new(alloc, found)?))
 }
 
 // The members go in one after another, so the last value of a name stays.

@@ -1,12 +1,10 @@
 -- Walks over values, up to the first that is at fault.
-use Rattle.std.proofs.Common.{◌≡◌, ℕ, ◌+◌, ◌-◌, ◌<◌, List, [], ◌∷◌, map, length, get_or, drop, Option, Some, None, String, Global, string_bytes, refl, sym, ap, ◌∙◌, add-one, cond}
+use Rattle.std.proofs.Common.{◌≡◌, ℕ, ◌+◌, ◌-◌, ◌<◌, List, [], ◌∷◌, length, get_or, drop, Option, Some, None, String, Global, string_bytes, refl, sym, ap, ◌∙◌, add-one, cond}
 use Rattle.std.proofs.Math.Seq.{drop-cons}
-use Rattle.std.proofs.lemmas.List.{get_or-map, length-map}
 use Rattle.std.specs.Map.{keys_of}
 use Rattle.serde_json.specs.Data.{Data, null, boolean, number, string, array, object, Members}
 use Rattle.serde_json.specs.Find.{as_object}
-use Rattle.tb_tree.specs.View.{view, members_view}
-use Rattle.tb_tree.specs.declared.value.Value.{Value}
+use Rattle.tb_tree.specs.View.{members_view}
 use Rattle.tb_tree.proofs.Views.{Entry}
 use Rattle.tb_value.specs.Promise.Names.{Name}
 use Rattle.tb_json.specs.Promise.Lists.{is_among}
@@ -16,46 +14,44 @@ use Rattle.tb_why.specs.Members.{unknown_in, unknown_among}
 use Rattle.tb_request.specs.declared.request.Reason.{Reason}
 use Rattle.tb_request.specs.declared.request.Reason.TheVariants as why
 use Rattle.tb_request.specs.declared.shape.Format.{Format}
-use Rattle.tb_why.specs.Columns.{items_of, column_spot, columns_spot, height}
+use Rattle.tb_why.specs.Columns.{column_spot, columns_spot, height}
 
 -- the first i values are not at fault
-abbrev pub Walk : (Data → Option Spot) → List Value → ℕ → Type 0
-Walk f vs i = first_at f 0 (map view vs) ≡ first_at f i (drop i (map view vs))
+abbrev pub Walk : (Data → Option Spot) → List Data → ℕ → Type 0
+Walk f ds i = first_at f 0 ds ≡ first_at f i (drop i ds)
 
 -- the walk at the value in place i
-at_value : (f : Data → Option Spot) (vs : List Value) (i : ℕ) (v : Value) → i < length vs → v ≡ get_or vs i v → Walk f vs i
-    → first_at f 0 (map view vs) ≡ or_else (under (Index i) (f (view v))) (first_at f (i + 1) (drop (i + 1) (map view vs)))
-at_value f vs i v low is so_far =
-    let within : i < length (map view vs) = rw length-map low in
-    let same : get_or (map view vs) i (view v) ≡ view v = get_or-map view vs i v (view v) low ∙ ap view (sym is) in
-    so_far ∙ ap (first_at f i) (drop-cons (map view vs) i (view v) within) ∙ rw (same, add-one)
+at_value : (f : Data → Option Spot) (ds : List Data) (i : ℕ) (d : Data) → i < length ds → d ≡ get_or ds i d → Walk f ds i
+    → first_at f 0 ds ≡ or_else (under (Index i) (f d)) (first_at f (i + 1) (drop (i + 1) ds))
+at_value f ds i d low is so_far =
+    let same : get_or ds i d ≡ d = sym is in
+    so_far ∙ ap (first_at f i) (drop-cons ds i d low) ∙ rw (same, add-one)
 
-pub Walk-next : (f : Data → Option Spot) (vs : List Value) (i : ℕ) (v : Value) → i < length vs → v ≡ get_or vs i v → f (view v) ≡ None → Walk f vs i → Walk f vs (i + 1)
-Walk-next f vs i v low is none so_far = at_value f vs i v low is so_far ∙ rw none
+pub Walk-next : (f : Data → Option Spot) (ds : List Data) (i : ℕ) (d : Data) → i < length ds → d ≡ get_or ds i d → f d ≡ None → Walk f ds i → Walk f ds (i + 1)
+Walk-next f ds i d low is none so_far = at_value f ds i d low is so_far ∙ rw none
 
-pub Walk-found : (f : Data → Option Spot) (vs : List Value) (i : ℕ) (v : Value) (s : Spot) → i < length vs → v ≡ get_or vs i v → f (view v) ≡ Some s → Walk f vs i → under (Index i) (Some s) ≡ first_at f 0 (map view vs)
-Walk-found f vs i v s low is found so_far = sym (at_value f vs i v low is so_far ∙ rw found)
+pub Walk-found : (f : Data → Option Spot) (ds : List Data) (i : ℕ) (d : Data) (s : Spot) → i < length ds → d ≡ get_or ds i d → f d ≡ Some s → Walk f ds i → under (Index i) (Some s) ≡ first_at f 0 ds
+Walk-found f ds i d s low is found so_far = sym (at_value f ds i d low is so_far ∙ rw found)
 
 -- ---- the same with a room
 
 -- the first i values are not at fault, and of this room they leave so much
-abbrev pub RoomWalk : (Data → ℕ) → (ℕ → Data → Option Spot) → ℕ → List Value → ℕ → ℕ → Type 0
-RoomWalk size f room vs i left = first_in_room size f room 0 (map view vs) ≡ first_in_room size f left i (drop i (map view vs))
+abbrev pub RoomWalk : (Data → ℕ) → (ℕ → Data → Option Spot) → ℕ → List Data → ℕ → ℕ → Type 0
+RoomWalk size f room ds i left = first_in_room size f room 0 ds ≡ first_in_room size f left i (drop i ds)
 
-room_at_value : (size : Data → ℕ) (f : ℕ → Data → Option Spot) (room : ℕ) (vs : List Value) (i left : ℕ) (v : Value) → i < length vs → v ≡ get_or vs i v → RoomWalk size f room vs i left
-    → first_in_room size f room 0 (map view vs) ≡ or_else (under (Index i) (f left (view v))) (first_in_room size f (left - size (view v)) (i + 1) (drop (i + 1) (map view vs)))
-room_at_value size f room vs i left v low is so_far =
-    let within : i < length (map view vs) = rw length-map low in
-    let same : get_or (map view vs) i (view v) ≡ view v = get_or-map view vs i v (view v) low ∙ ap view (sym is) in
-    so_far ∙ ap (first_in_room size f left i) (drop-cons (map view vs) i (view v) within) ∙ rw (same, add-one)
+room_at_value : (size : Data → ℕ) (f : ℕ → Data → Option Spot) (room : ℕ) (ds : List Data) (i left : ℕ) (d : Data) → i < length ds → d ≡ get_or ds i d → RoomWalk size f room ds i left
+    → first_in_room size f room 0 ds ≡ or_else (under (Index i) (f left d)) (first_in_room size f (left - size d) (i + 1) (drop (i + 1) ds))
+room_at_value size f room ds i left d low is so_far =
+    let same : get_or ds i d ≡ d = sym is in
+    so_far ∙ ap (first_in_room size f left i) (drop-cons ds i d low) ∙ rw (same, add-one)
 
-pub RoomWalk-next : (size : Data → ℕ) (f : ℕ → Data → Option Spot) (room : ℕ) (vs : List Value) (i left : ℕ) (v : Value) → i < length vs → v ≡ get_or vs i v → f left (view v) ≡ None
-    → RoomWalk size f room vs i left → RoomWalk size f room vs (i + 1) (left - size (view v))
-RoomWalk-next size f room vs i left v low is none so_far = room_at_value size f room vs i left v low is so_far ∙ rw none
+pub RoomWalk-next : (size : Data → ℕ) (f : ℕ → Data → Option Spot) (room : ℕ) (ds : List Data) (i left : ℕ) (d : Data) → i < length ds → d ≡ get_or ds i d → f left d ≡ None
+    → RoomWalk size f room ds i left → RoomWalk size f room ds (i + 1) (left - size d)
+RoomWalk-next size f room ds i left d low is none so_far = room_at_value size f room ds i left d low is so_far ∙ rw none
 
-pub RoomWalk-found : (size : Data → ℕ) (f : ℕ → Data → Option Spot) (room : ℕ) (vs : List Value) (i left : ℕ) (v : Value) (s : Spot) → i < length vs → v ≡ get_or vs i v → f left (view v) ≡ Some s
-    → RoomWalk size f room vs i left → under (Index i) (Some s) ≡ first_in_room size f room 0 (map view vs)
-RoomWalk-found size f room vs i left v s low is found so_far = sym (room_at_value size f room vs i left v low is so_far ∙ rw found)
+pub RoomWalk-found : (size : Data → ℕ) (f : ℕ → Data → Option Spot) (room : ℕ) (ds : List Data) (i left : ℕ) (d : Data) (s : Spot) → i < length ds → d ≡ get_or ds i d → f left d ≡ Some s
+    → RoomWalk size f room ds i left → under (Index i) (Some s) ≡ first_in_room size f room 0 ds
+RoomWalk-found size f room ds i left d s low is found so_far = sym (room_at_value size f room ds i left d low is so_far ∙ rw found)
 
 -- ---- members of other names
 
@@ -80,12 +76,6 @@ unknown_in_members names (object ns) ms e = some_parts (unknown_among names) ns 
 
 pub unknown_in-object : (names : List Name) (d : Data) (es : List Entry) → Some (members_view es) ≡ as_object d → unknown_in names d ≡ unknown_from names (keys_of es)
 unknown_in-object names d es e = unknown_in_members names d (members_view es) e ∙ unknown_among-members_view names es
-
--- ---- chunks
-
-pub chunks-view : (vs : List Value) → map (λ v. items_of (view v)) vs ≡ map items_of (map view vs)
-chunks-view [] = refl
-chunks-view (v ∷ vs) = ap (λ chunks. items_of (view v) ∷ chunks) (chunks-view vs)
 
 -- ---- columns
 

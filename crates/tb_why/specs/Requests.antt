@@ -1,5 +1,5 @@
 -- Why bytes are no request of a command, and where.
-use Rattle.std.specs.Prelude.{ℕ, List, [], Option, Some, None, option_map, unwrap_or, codes, Result, Ok, Err, ◌≡◌}
+use Rattle.std.specs.Prelude.{ℕ, List, [], Option, Some, None, option_map, unwrap_or, codes, Result, Ok, Err, ◌≡◌, ⊤}
 use Rattle.serde_json.specs.Data.{Data}
 use Rattle.serde_json.specs.Find.{get}
 use Rattle.tb_request.specs.declared.request.Reason.{Reason}
@@ -94,3 +94,11 @@ IsAt (place.Text line column) s = ⊥
 -- where the bytes are the text of a JSON value, the fault is at the place in it
 abbrev pub IsPlaced : Command → List ℕ → rust.Fault → Type 0
 IsPlaced command bytes f = (d : Data) → value_of bytes ≡ Ok d → IsAt f.place (spot_at command f.reason d) × (f.expected ≡ (spot_at command f.reason d).expected)
+
+abbrev pub IsInText : Place → Type 0
+IsInText (place.Path steps) = ⊥
+IsInText (place.Text line column) = ⊤
+
+-- where they are no such text, the fault is at a place in them, and that text is expected
+abbrev pub IsPlacedInText : List ℕ → rust.Fault → Type 0
+IsPlacedInText bytes f = value_of bytes ≡ Err why.Json → IsInText f.place × (f.expected ≡ expected.Json)

@@ -1,6 +1,6 @@
 //! The arguments of a join that are at fault.
 ghost use Rattle.std.specs.Prelude.{◌≡◌, option_map};
-ghost use Rattle.tb_tree.specs.View.{view};
+ghost use Rattle.tb_tree.specs.View.{item_view};
 ghost use Rattle.tb_why.specs.Members.{args_members, members_spot};
 ghost use Rattle.tb_why.specs.Requests.{args_spot, flag_spot, flags_spot};
 ghost use Rattle.tb_why.specs.Spots.{spot_view, Finds};
@@ -11,8 +11,8 @@ use crate::tree::{Tree, is_truth, items, member};
 use std::alloc::Global;
 use tb_value::OutOfMemory;
 
-fn args_members_spot(alloc: Global, args: &Tree) -> Result<Option<Spot>, OutOfMemory>
-    ensures { Finds result (members_spot args_members (view args.now)) }
+fn args_members_spot(alloc: Global, args: Tree<'_>) -> Result<Option<Spot>, OutOfMemory>
+    ensures { Finds result (members_spot args_members (item_view args.entry)) }
 {
     members_spot(
         alloc,
@@ -29,18 +29,19 @@ fn args_members_spot(alloc: Global, args: &Tree) -> Result<Option<Spot>, OutOfMe
     )
 }
 
-fn flag_spot(alloc: Global, flag: &Tree) -> Option<Spot>
-    ensures { option_map spot_view result ≡ flag_spot (view flag.now) }
+fn flag_spot(alloc: Global, flag: Tree<'_>) -> Option<Spot>
+    ensures { option_map spot_view result ≡ flag_spot (item_view flag.entry) }
 {
     unless(alloc, is_truth(flag), Expected::Form(Form::Truth))
 }
 
 // The first of a list of flags that is none.
-fn flags_spot(alloc: Global, flags: &Tree) -> Result<Option<Spot>, OutOfMemory>
-    ensures { Finds result (flags_spot (view flags.now)) }
+fn flags_spot(alloc: Global, flags: Tree<'_>) -> Result<Option<Spot>, OutOfMemory>
+    ensures { Finds result (flags_spot (item_view flags.entry)) }
 {
     let flags = items(flags);
-    for (i, flag) in flags.iter().enumerate() {
+    for i in 0..flags.len() {
+        let flag = flags.at(i);
         if let Some(spot) = flag_spot(alloc, flag) {
             return under_index(i, Some(spot));
         }
@@ -49,8 +50,8 @@ fn flags_spot(alloc: Global, flags: &Tree) -> Result<Option<Spot>, OutOfMemory>
 }
 
 /// The first argument, or part of one, that is at fault.
-pub(crate) fn args_spot(alloc: Global, args: &Tree) -> Result<Option<Spot>, OutOfMemory>
-    ensures { Finds result (args_spot (view args.now)) }
+pub(crate) fn args_spot(alloc: Global, args: Tree<'_>) -> Result<Option<Spot>, OutOfMemory>
+    ensures { Finds result (args_spot (item_view args.entry)) }
 {
     if let Some(spot) = args_members_spot(alloc, args)? {
         return Ok(Some(spot));

@@ -1,6 +1,6 @@
 //! Values of columns that are none of the type.
 ghost use Rattle.std.specs.Prelude.{◌≡◌};
-ghost use Rattle.tb_tree.specs.View.{view};
+ghost use Rattle.tb_tree.specs.View.{item_view};
 ghost use Rattle.tb_value.specs.SeeKind.{kind_of};
 ghost use Rattle.tb_request.specs.declared.shape.Format.TheVariants.{Chunks, Runs};
 ghost use Rattle.tb_why.specs.Columns.{value_expected, cell_spot, chunk_spot, chunks_spot, count_at, run_value_spot, run_values_spot, typed_spot, values_spot};
@@ -37,19 +37,20 @@ fn value_expected(dtype: &DataType) -> Expected
     }
 }
 
-fn cell_spot(alloc: Global, dtype: &DataType, value: &Tree) -> Result<Option<Spot>, OutOfMemory>
-    ensures { Finds result (cell_spot (kind_of dtype.now) (view value.now)) }
+fn cell_spot(alloc: Global, dtype: &DataType, value: Tree<'_>) -> Result<Option<Spot>, OutOfMemory>
+    ensures { Finds result (cell_spot (kind_of dtype.now) (item_view value.entry)) }
 {
     let holds = is_cell(alloc, dtype, value)?;
     Ok(unless(alloc, holds, value_expected(dtype)))
 }
 
 // The first value of a chunk that is none of the type.
-fn chunk_spot(alloc: Global, dtype: &DataType, chunk: &Tree) -> Result<Option<Spot>, OutOfMemory>
-    ensures { Finds result (chunk_spot (kind_of dtype.now) (view chunk.now)) }
+fn chunk_spot(alloc: Global, dtype: &DataType, chunk: Tree<'_>) -> Result<Option<Spot>, OutOfMemory>
+    ensures { Finds result (chunk_spot (kind_of dtype.now) (item_view chunk.entry)) }
 {
     let values = items(chunk);
-    for (i, value) in values.iter().enumerate() {
+    for i in 0..values.len() {
+        let value = values.at(i);
         if let Some(spot) = cell_spot(alloc, dtype, value)? {
             return under_index(i, Some(spot));
         }
@@ -57,11 +58,16 @@ fn chunk_spot(alloc: Global, dtype: &DataType, chunk: &Tree) -> Result<Option<Sp
     Ok(None)
 }
 
-fn chunks_spot(alloc: Global, dtype: &DataType, chunks: &Tree) -> Result<Option<Spot>, OutOfMemory>
-    ensures { Finds result (chunks_spot (kind_of dtype.now) (view chunks.now)) }
+fn chunks_spot(
+    alloc: Global,
+    dtype: &DataType,
+    chunks: Tree<'_>,
+) -> Result<Option<Spot>, OutOfMemory>
+    ensures { Finds result (chunks_spot (kind_of dtype.now) (item_view chunks.entry)) }
 {
     let chunks = items(chunks);
-    for (i, chunk) in chunks.iter().enumerate() {
+    for i in 0..chunks.len() {
+        let chunk = chunks.at(i);
         if let Some(spot) = chunk_spot(alloc, dtype, chunk)? {
             return under_index(i, Some(spot));
         }
@@ -69,8 +75,12 @@ fn chunks_spot(alloc: Global, dtype: &DataType, chunks: &Tree) -> Result<Option<
     Ok(None)
 }
 
-fn run_value_spot(alloc: Global, dtype: &DataType, run: &Tree) -> Result<Option<Spot>, OutOfMemory>
-    ensures { Finds result (run_value_spot (kind_of dtype.now) (view run.now)) }
+fn run_value_spot(
+    alloc: Global,
+    dtype: &DataType,
+    run: Tree<'_>,
+) -> Result<Option<Spot>, OutOfMemory>
+    ensures { Finds result (run_value_spot (kind_of dtype.now) (item_view run.entry)) }
 {
     match parts(run) {
         Some((value, _)) => under_index(0, cell_spot(alloc, dtype, value)?),
@@ -82,12 +92,13 @@ fn run_value_spot(alloc: Global, dtype: &DataType, run: &Tree) -> Result<Option<
 fn run_values_spot(
     alloc: Global,
     dtype: &DataType,
-    runs: &Tree,
+    runs: Tree<'_>,
 ) -> Result<Option<Spot>, OutOfMemory>
-    ensures { Finds result (run_values_spot (kind_of dtype.now) (view runs.now)) }
+    ensures { Finds result (run_values_spot (kind_of dtype.now) (item_view runs.entry)) }
 {
     let runs = items(runs);
-    for (i, run) in runs.iter().enumerate() {
+    for i in 0..runs.len() {
+        let run = runs.at(i);
         if let Some(spot) = run_value_spot(alloc, dtype, run)? {
             return under_index(i, Some(spot));
         }
@@ -95,31 +106,31 @@ fn run_values_spot(
     Ok(None)
 }
 
-fn chunks_count(column: &Tree) -> u128
-    ensures { result ≡ count_at Chunks (view column.now) }
+fn chunks_count(column: Tree<'_>) -> u128
+    ensures { result ≡ count_at Chunks (item_view column.entry) }
 {
     let mut count = 0u128;
     let chunks = items_at(column, "chunks");
-    for chunk in chunks {
-        count += items(chunk).len() as u128;
+    for i in 0..chunks.len() {
+        count += items(chunks.at(i)).len() as u128;
     }
     count
 }
 
-fn runs_count(column: &Tree) -> u128
-    ensures { result ≡ count_at Runs (view column.now) }
+fn runs_count(column: Tree<'_>) -> u128
+    ensures { result ≡ count_at Runs (item_view column.entry) }
 {
     let mut count = 0u128;
     let runs = items_at(column, "runs");
-    for run in runs {
-        count += times_at(run) as u128;
+    for i in 0..runs.len() {
+        count += times_at(runs.at(i)) as u128;
     }
     count
 }
 
 /// The number of values of a column.
-pub(crate) fn count_at(format: Format, column: &Tree) -> u128
-    ensures { result ≡ count_at format (view column.now) }
+pub(crate) fn count_at(format: Format, column: Tree<'_>) -> u128
+    ensures { result ≡ count_at format (item_view column.entry) }
 {
     match format {
         Format::Chunks => chunks_count(column),
@@ -130,9 +141,9 @@ pub(crate) fn count_at(format: Format, column: &Tree) -> u128
 fn chunks_typed_spot(
     alloc: Global,
     dtype: &DataType,
-    column: &Tree,
+    column: Tree<'_>,
 ) -> Result<Option<Spot>, OutOfMemory>
-    ensures { Finds result (typed_spot Chunks (kind_of dtype.now) (view column.now)) }
+    ensures { Finds result (typed_spot Chunks (kind_of dtype.now) (item_view column.entry)) }
 {
     if let Some(chunks) = member(column, "chunks") {
         if let Some(spot) = chunks_spot(alloc, dtype, chunks)? {
@@ -146,9 +157,9 @@ fn chunks_typed_spot(
 fn runs_typed_spot(
     alloc: Global,
     dtype: &DataType,
-    column: &Tree,
+    column: Tree<'_>,
 ) -> Result<Option<Spot>, OutOfMemory>
-    ensures { Finds result (typed_spot Runs (kind_of dtype.now) (view column.now)) }
+    ensures { Finds result (typed_spot Runs (kind_of dtype.now) (item_view column.entry)) }
 {
     match member(column, "runs") {
         Some(runs) => under_member(alloc, "runs", run_values_spot(alloc, dtype, runs)?),
@@ -160,9 +171,9 @@ fn typed_spot(
     alloc: Global,
     format: Format,
     dtype: &DataType,
-    column: &Tree,
+    column: Tree<'_>,
 ) -> Result<Option<Spot>, OutOfMemory>
-    ensures { Finds result (typed_spot format (kind_of dtype.now) (view column.now)) }
+    ensures { Finds result (typed_spot format (kind_of dtype.now) (item_view column.entry)) }
 {
     match format {
         Format::Chunks => chunks_typed_spot(alloc, dtype, column),
@@ -174,9 +185,9 @@ fn typed_spot(
 pub(crate) fn values_spot(
     alloc: Global,
     format: Format,
-    column: &Tree,
+    column: Tree<'_>,
 ) -> Result<Option<Spot>, OutOfMemory>
-    ensures { Finds result (values_spot format (view column.now)) }
+    ensures { Finds result (values_spot format (item_view column.entry)) }
 {
     let Some(kind) = member(column, "type") else {
         return Ok(None);

@@ -1,6 +1,6 @@
 //! Columns and tables that are at fault.
 ghost use Rattle.std.specs.Prelude.{◌≡◌, map, IfOk};
-ghost use Rattle.tb_tree.specs.View.{view};
+ghost use Rattle.tb_tree.specs.View.{item_view, listed};
 ghost use Rattle.tb_value.specs.SeeKind.{kind_of};
 ghost use Rattle.tb_request.specs.declared.shape.Format.TheVariants.{Chunks, Runs};
 ghost use Rattle.tb_why.specs.Columns.{column_spot, columns_spot, flag_is_true, flag_spot, height, is_ordered, shape_spot, table_spot};
@@ -12,14 +12,14 @@ use crate::members::{members_spot, needed, optional, unless};
 use crate::names::name_spot;
 use crate::runs::counted_spot;
 use crate::spot::{Expected, Form, Spot, Word, under_index, under_member};
-use crate::tree::{Tree, chunk_lists, dtype, items_at, member, run_values};
+use crate::tree::{Tree, Trees, chunk_lists, dtype, flag, items_at, member, run_values};
 use std::alloc::Global;
-use tb_request::{Format, Reason, flag_holds, flag_of};
+use tb_request::{Format, Reason, flag_holds};
 use tb_store::Series;
 use tb_value::{DataType, IsSorted, OutOfMemory, PolarsError};
 
-fn chunk_members_spot(alloc: Global, column: &Tree) -> Result<Option<Spot>, OutOfMemory>
-    ensures { Finds result (members_spot (column_members Chunks) (view column.now)) }
+fn chunk_members_spot(alloc: Global, column: Tree<'_>) -> Result<Option<Spot>, OutOfMemory>
+    ensures { Finds result (members_spot (column_members Chunks) (item_view column.entry)) }
 {
     members_spot(
         alloc,
@@ -33,8 +33,8 @@ fn chunk_members_spot(alloc: Global, column: &Tree) -> Result<Option<Spot>, OutO
     )
 }
 
-fn run_members_spot(alloc: Global, column: &Tree) -> Result<Option<Spot>, OutOfMemory>
-    ensures { Finds result (members_spot (column_members Runs) (view column.now)) }
+fn run_members_spot(alloc: Global, column: Tree<'_>) -> Result<Option<Spot>, OutOfMemory>
+    ensures { Finds result (members_spot (column_members Runs) (item_view column.entry)) }
 {
     members_spot(
         alloc,
@@ -48,8 +48,8 @@ fn run_members_spot(alloc: Global, column: &Tree) -> Result<Option<Spot>, OutOfM
     )
 }
 
-fn runs_shape_spot(alloc: Global, column: &Tree) -> Result<Option<Spot>, OutOfMemory>
-    ensures { Finds result (shape_spot Runs (view column.now)) }
+fn runs_shape_spot(alloc: Global, column: Tree<'_>) -> Result<Option<Spot>, OutOfMemory>
+    ensures { Finds result (shape_spot Runs (item_view column.entry)) }
 {
     match run_members_spot(alloc, column)? {
         Some(spot) => Ok(Some(spot)),
@@ -57,8 +57,8 @@ fn runs_shape_spot(alloc: Global, column: &Tree) -> Result<Option<Spot>, OutOfMe
     }
 }
 
-fn shape_spot(alloc: Global, format: Format, column: &Tree) -> Result<Option<Spot>, OutOfMemory>
-    ensures { Finds result (shape_spot format (view column.now)) }
+fn shape_spot(alloc: Global, format: Format, column: Tree<'_>) -> Result<Option<Spot>, OutOfMemory>
+    ensures { Finds result (shape_spot format (item_view column.entry)) }
 {
     match format {
         Format::Chunks => chunk_members_spot(alloc, column),
@@ -71,9 +71,9 @@ fn are_chunks_ordered(
     alloc: Global,
     flag: IsSorted,
     dtype: DataType,
-    column: &Tree,
+    column: Tree<'_>,
 ) -> Result<bool, OutOfMemory>
-    ensures { IfOk result (λ b. b ≡ is_ordered Chunks flag (view column.now) (kind_of dtype)) }
+    ensures { IfOk result (λ b. b ≡ is_ordered Chunks flag (item_view column.entry) (kind_of dtype)) }
 {
     let Some(chunks) = chunk_lists(alloc, &dtype, column)? else {
         return Ok(true);
@@ -91,9 +91,9 @@ fn are_runs_ordered(
     alloc: Global,
     flag: IsSorted,
     dtype: DataType,
-    column: &Tree,
+    column: Tree<'_>,
 ) -> Result<bool, OutOfMemory>
-    ensures { IfOk result (λ b. b ≡ is_ordered Runs flag (view column.now) (kind_of dtype)) }
+    ensures { IfOk result (λ b. b ≡ is_ordered Runs flag (item_view column.entry) (kind_of dtype)) }
 {
     let Some(runs) = run_values(alloc, &dtype, column)? else {
         return Ok(true);
@@ -110,9 +110,9 @@ fn is_ordered(
     format: Format,
     flag: IsSorted,
     dtype: DataType,
-    column: &Tree,
+    column: Tree<'_>,
 ) -> Result<bool, OutOfMemory>
-    ensures { IfOk result (λ b. b ≡ is_ordered format flag (view column.now) (kind_of dtype)) }
+    ensures { IfOk result (λ b. b ≡ is_ordered format flag (item_view column.entry) (kind_of dtype)) }
 {
     match format {
         Format::Chunks => are_chunks_ordered(alloc, flag, dtype, column),
@@ -124,9 +124,9 @@ fn flag_is_true(
     alloc: Global,
     format: Format,
     flag: IsSorted,
-    column: &Tree,
+    column: Tree<'_>,
 ) -> Result<bool, OutOfMemory>
-    ensures { IfOk result (λ b. b ≡ flag_is_true format flag (view column.now)) }
+    ensures { IfOk result (λ b. b ≡ flag_is_true format flag (item_view column.entry)) }
 {
     let Some(kind) = member(column, "type") else {
         return Ok(true);
@@ -137,10 +137,10 @@ fn flag_is_true(
     }
 }
 
-fn flag_spot(alloc: Global, format: Format, column: &Tree) -> Result<Option<Spot>, OutOfMemory>
-    ensures { Finds result (flag_spot format (view column.now)) }
+fn flag_spot(alloc: Global, format: Format, column: Tree<'_>) -> Result<Option<Spot>, OutOfMemory>
+    ensures { Finds result (flag_spot format (item_view column.entry)) }
 {
-    match flag_of(column) {
+    match flag(column) {
         Some(flag) => {
             let holds = flag_is_true(alloc, format, flag, column)?;
             Ok(unless(alloc, holds, Expected::Ordered(flag)))
@@ -154,9 +154,9 @@ fn column_spot(
     format: Format,
     reason: Reason,
     height: u128,
-    column: &Tree,
+    column: Tree<'_>,
 ) -> Result<Option<Spot>, OutOfMemory>
-    ensures { Finds result (column_spot format reason height (view column.now)) }
+    ensures { Finds result (column_spot format reason height (item_view column.entry)) }
 {
     match reason {
         Reason::Shape => shape_spot(alloc, format, column),
@@ -170,13 +170,13 @@ fn column_spot(
     }
 }
 
-fn height(format: Format, columns: &[Tree]) -> u128
-    ensures { result ≡ height format (map view columns.now) }
+fn height(format: Format, columns: Trees<'_>) -> u128
+    ensures { result ≡ height format (listed columns.entry) }
 {
-    match columns.first() {
-        Some(column) => count_at(format, column),
-        None => 0,
+    if columns.len() == 0 {
+        return 0;
     }
+    count_at(format, columns.at(0))
 }
 
 // The first column that is at fault by itself, or beside the first one.
@@ -184,12 +184,13 @@ fn single_spot(
     alloc: Global,
     format: Format,
     reason: Reason,
-    columns: &[Tree],
+    columns: Trees<'_>,
 ) -> Result<Option<Spot>, OutOfMemory>
-    ensures { Finds result (first_at (column_spot format reason (height format (map view columns.now))) 0 (map view columns.now)) }
+    ensures { Finds result (first_at (column_spot format reason (height format (listed columns.entry))) 0 (listed columns.entry)) }
 {
     let height = height(format, columns);
-    for (i, column) in columns.iter().enumerate() {
+    for i in 0..columns.len() {
+        let column = columns.at(i);
         if let Some(spot) = column_spot(alloc, format, reason, height, column)? {
             return under_index(i, Some(spot));
         }
@@ -201,9 +202,9 @@ fn columns_spot(
     alloc: Global,
     format: Format,
     reason: Reason,
-    columns: &[Tree],
+    columns: Trees<'_>,
 ) -> Result<Option<Spot>, OutOfMemory>
-    ensures { Finds result (columns_spot format reason (map view columns.now)) }
+    ensures { Finds result (columns_spot format reason (listed columns.entry)) }
 {
     match reason {
         Reason::Name => name_spot(alloc, columns),
@@ -216,9 +217,9 @@ pub(crate) fn table_spot(
     alloc: Global,
     format: Format,
     reason: Reason,
-    table: &Tree,
+    table: Tree<'_>,
 ) -> Result<Option<Spot>, OutOfMemory>
-    ensures { Finds result (table_spot format reason (view table.now)) }
+    ensures { Finds result (table_spot format reason (item_view table.entry)) }
 {
     if let Some(spot) = members_spot(alloc, &[needed("columns", Form::Values)], table)? {
         return Ok(Some(spot));

@@ -2,17 +2,14 @@
 ghost use Rattle.std.specs.Prelude.{◌≡◌, is_some, IfOk};
 ghost use Rattle.std.specs.List.{list_all};
 ghost use Rattle.serde_json.specs.Find.{as_str};
-ghost use Rattle.tb_tree.specs.View.{view};
+ghost use Rattle.tb_tree.specs.View.{item_view, listed};
 ghost use Rattle.tb_json.specs.Promise.Lists.{as_list};
 ghost use Rattle.tb_why.specs.Members.{has_form, is_word};
 
 use crate::spot::{Form, Word};
-use crate::tree::{Tree, dtype, is_object, is_truth, list, text, whole};
+use crate::tree::{Tree, Trees, count, dtype, is_object, is_truth, list, slice, text, whole};
 use std::alloc::Global;
-use tb_request::{
-    agg_named, coalesce_named, count_of, flag_named, how_named, order_named, slice_in,
-    validation_named,
-};
+use tb_request::{agg_named, coalesce_named, flag_named, how_named, order_named, validation_named};
 use tb_value::OutOfMemory;
 
 fn is_word(word: Word, text: &str) -> bool
@@ -28,8 +25,8 @@ fn is_word(word: Word, text: &str) -> bool
     }
 }
 
-fn is_text_among(word: Word, value: &Tree) -> bool
-    ensures { result ≡ has_form (Form.Word word) (view value.now) }
+fn is_text_among(word: Word, value: Tree<'_>) -> bool
+    ensures { result ≡ has_form (Form.Word word) (item_view value.entry) }
 {
     match text(value) {
         Some(text) => is_word(word, text),
@@ -37,14 +34,19 @@ fn is_text_among(word: Word, value: &Tree) -> bool
     }
 }
 
-fn all_texts(items: &[Tree]) -> bool
-    ensures { result ≡ list_all (λ v. is_some (as_str (view v))) items.now }
+fn all_texts(items: Trees<'_>) -> bool
+    ensures { result ≡ list_all (λ d. is_some (as_str d)) (listed items.entry) }
 {
-    items.iter().all(|item| text(item).is_some())
+    for i in 0..items.len() {
+        if text(items.at(i)).is_none() {
+            return false;
+        }
+    }
+    true
 }
 
-fn are_texts(value: &Tree) -> bool
-    ensures { result ≡ has_form Form.Texts (view value.now) }
+fn are_texts(value: Tree<'_>) -> bool
+    ensures { result ≡ has_form Form.Texts (item_view value.entry) }
 {
     match list(value) {
         Some(items) => all_texts(items),
@@ -52,14 +54,19 @@ fn are_texts(value: &Tree) -> bool
     }
 }
 
-fn all_lists(items: &[Tree]) -> bool
-    ensures { result ≡ list_all (λ v. is_some (as_list (view v))) items.now }
+fn all_lists(items: Trees<'_>) -> bool
+    ensures { result ≡ list_all (λ d. is_some (as_list d)) (listed items.entry) }
 {
-    items.iter().all(|item| list(item).is_some())
+    for i in 0..items.len() {
+        if list(items.at(i)).is_none() {
+            return false;
+        }
+    }
+    true
 }
 
-fn are_lists(value: &Tree) -> bool
-    ensures { result ≡ has_form Form.Chunks (view value.now) }
+fn are_lists(value: Tree<'_>) -> bool
+    ensures { result ≡ has_form Form.Chunks (item_view value.entry) }
 {
     match list(value) {
         Some(items) => all_lists(items),
@@ -67,33 +74,33 @@ fn are_lists(value: &Tree) -> bool
     }
 }
 
-fn is_format(value: &Tree) -> bool
-    ensures { result ≡ has_form Form.Format (view value.now) }
+fn is_format(value: Tree<'_>) -> bool
+    ensures { result ≡ has_form Form.Format (item_view value.entry) }
 {
     matches!(whole(value), Some(1 | 2))
 }
 
-fn is_worker_count(value: &Tree) -> bool
-    ensures { result ≡ has_form Form.Workers (view value.now) }
+fn is_worker_count(value: Tree<'_>) -> bool
+    ensures { result ≡ has_form Form.Workers (item_view value.entry) }
 {
-    match count_of(value) {
+    match count(value) {
         Some(count) => 1 <= count && count <= 1024,
         None => false,
     }
 }
 
-fn is_divisor(value: &Tree) -> bool
-    ensures { result ≡ has_form Form.Divisor (view value.now) }
+fn is_divisor(value: Tree<'_>) -> bool
+    ensures { result ≡ has_form Form.Divisor (item_view value.entry) }
 {
-    match count_of(value) {
+    match count(value) {
         Some(count) => 1 <= count,
         None => false,
     }
 }
 
 /// Whether the value has the form.
-pub(crate) fn has_form(alloc: Global, form: Form, value: &Tree) -> Result<bool, OutOfMemory>
-    ensures { IfOk result (λ b. b ≡ has_form form (view value.now)) }
+pub(crate) fn has_form(alloc: Global, form: Form, value: Tree<'_>) -> Result<bool, OutOfMemory>
+    ensures { IfOk result (λ b. b ≡ has_form form (item_view value.entry)) }
 {
     match form {
         Form::Object => Ok(is_object(value)),
@@ -106,8 +113,8 @@ pub(crate) fn has_form(alloc: Global, form: Form, value: &Tree) -> Result<bool, 
         Form::Nulls => Ok(is_truth(value) || list(value).is_some()),
         Form::Type => Ok(dtype(alloc, value)?.is_some()),
         Form::Format => Ok(is_format(value)),
-        Form::Slice => Ok(slice_in(value).is_some()),
-        Form::Count => Ok(count_of(value).is_some()),
+        Form::Slice => Ok(slice(value).is_some()),
+        Form::Count => Ok(count(value).is_some()),
         Form::Workers => Ok(is_worker_count(value)),
         Form::Divisor => Ok(is_divisor(value)),
         Form::Word(word) => Ok(is_text_among(word, value)),

@@ -5,6 +5,7 @@ mod args;
 mod cells;
 mod columns;
 mod forms;
+pub mod laws;
 mod members;
 mod names;
 mod room;

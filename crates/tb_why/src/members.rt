@@ -1,6 +1,6 @@
 //! The members that objects of a request have.
 ghost use Rattle.std.specs.Prelude.{◌≡◌, option_map};
-ghost use Rattle.tb_tree.specs.View.{view};
+ghost use Rattle.tb_tree.specs.View.{item_view};
 ghost use Rattle.tb_json.specs.Promise.Lists.{is_among};
 ghost use Rattle.tb_why.specs.Members.{known_view, known_views, names_of, needed_member, optional_member, fault_of, each_known, unknown_spot, members_spot};
 ghost use Rattle.tb_why.specs.Spots.{spot_view, unless, Finds};
@@ -64,8 +64,12 @@ pub(crate) fn unless(alloc: Global, holds: bool, expected: Expected) -> Option<S
     }
 }
 
-fn fault_of(alloc: Global, known: &Known, value: Option<&Tree>) -> Result<Option<Spot>, OutOfMemory>
-    ensures { Finds result (fault_of (known_view known.now) (option_map (λ v. view v.now) value.entry)) }
+fn fault_of(
+    alloc: Global,
+    known: &Known,
+    value: Option<Tree<'_>>,
+) -> Result<Option<Spot>, OutOfMemory>
+    ensures { Finds result (fault_of (known_view known.now) (option_map item_view value.entry)) }
 {
     match value {
         Some(value) => {
@@ -76,8 +80,8 @@ fn fault_of(alloc: Global, known: &Known, value: Option<&Tree>) -> Result<Option
     }
 }
 
-fn each_known(alloc: Global, known: &[Known], object: &Tree) -> Result<Option<Spot>, OutOfMemory>
-    ensures { Finds result (each_known (known_views known.now) (view object.now)) }
+fn each_known(alloc: Global, known: &[Known], object: Tree<'_>) -> Result<Option<Spot>, OutOfMemory>
+    ensures { Finds result (each_known (known_views known.now) (item_view object.entry)) }
 {
     for one in known {
         if let Some(spot) = fault_of(alloc, one, member(object, one.name))? {
@@ -87,8 +91,12 @@ fn each_known(alloc: Global, known: &[Known], object: &Tree) -> Result<Option<Sp
     Ok(None)
 }
 
-fn unknown_spot(alloc: Global, known: &[Known], object: &Tree) -> Result<Option<Spot>, OutOfMemory>
-    ensures { Finds result (unknown_spot (names_of (known_views known.now)) (view object.now)) }
+fn unknown_spot(
+    alloc: Global,
+    known: &[Known],
+    object: Tree<'_>,
+) -> Result<Option<Spot>, OutOfMemory>
+    ensures { Finds result (unknown_spot (names_of (known_views known.now)) (item_view object.entry)) }
 {
     match unknown_in(object, known) {
         Some(name) => under_member(alloc, name, Some(here(alloc, Expected::NoMember))),
@@ -100,9 +108,9 @@ fn unknown_spot(alloc: Global, known: &[Known], object: &Tree) -> Result<Option<
 pub(crate) fn members_spot(
     alloc: Global,
     known: &[Known],
-    object: &Tree,
+    object: Tree<'_>,
 ) -> Result<Option<Spot>, OutOfMemory>
-    ensures { Finds result (members_spot (known_views known.now) (view object.now)) }
+    ensures { Finds result (members_spot (known_views known.now) (item_view object.entry)) }
 {
     if !is_object(object) {
         return Ok(Some(here(alloc, Expected::Form(Form::Object))));

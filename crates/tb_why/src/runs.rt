@@ -1,6 +1,6 @@
 //! Runs that are none of a column of the type.
 ghost use Rattle.std.specs.Prelude.{◌≡◌, codes, option_map};
-ghost use Rattle.tb_tree.specs.View.{view};
+ghost use Rattle.tb_tree.specs.View.{item_view};
 ghost use Rattle.tb_value.specs.SeeKind.{kind_of};
 ghost use Rattle.tb_request.specs.declared.shape.Format.TheVariants.{Runs};
 ghost use Rattle.tb_why.specs.Columns.{counted_spot, run_spot, runs_spot, times_expected, times_spot};
@@ -22,8 +22,8 @@ fn times_expected(dtype: &DataType) -> Expected
     }
 }
 
-fn times_spot(alloc: Global, dtype: &DataType, times: &Tree) -> Option<Spot>
-    ensures { option_map spot_view result ≡ times_spot (kind_of dtype.now) (view times.now) }
+fn times_spot(alloc: Global, dtype: &DataType, times: Tree<'_>) -> Option<Spot>
+    ensures { option_map spot_view result ≡ times_spot (kind_of dtype.now) (item_view times.entry) }
 {
     let holds = match whole(times) {
         Some(times) => times_of(dtype, times).is_some(),
@@ -32,8 +32,8 @@ fn times_spot(alloc: Global, dtype: &DataType, times: &Tree) -> Option<Spot>
     unless(alloc, holds, times_expected(dtype))
 }
 
-fn run_spot(alloc: Global, dtype: &DataType, run: &Tree) -> Result<Option<Spot>, OutOfMemory>
-    ensures { Finds result (run_spot (kind_of dtype.now) (view run.now)) }
+fn run_spot(alloc: Global, dtype: &DataType, run: Tree<'_>) -> Result<Option<Spot>, OutOfMemory>
+    ensures { Finds result (run_spot (kind_of dtype.now) (item_view run.entry)) }
 {
     match parts(run) {
         Some((_, times)) => under_index(1, times_spot(alloc, dtype, times)),
@@ -41,11 +41,12 @@ fn run_spot(alloc: Global, dtype: &DataType, run: &Tree) -> Result<Option<Spot>,
     }
 }
 
-fn runs_spot(alloc: Global, dtype: &DataType, runs: &Tree) -> Result<Option<Spot>, OutOfMemory>
-    ensures { Finds result (runs_spot (kind_of dtype.now) (view runs.now)) }
+fn runs_spot(alloc: Global, dtype: &DataType, runs: Tree<'_>) -> Result<Option<Spot>, OutOfMemory>
+    ensures { Finds result (runs_spot (kind_of dtype.now) (item_view runs.entry)) }
 {
     let runs = items(runs);
-    for (i, run) in runs.iter().enumerate() {
+    for i in 0..runs.len() {
+        let run = runs.at(i);
         if let Some(spot) = run_spot(alloc, dtype, run)? {
             return under_index(i, Some(spot));
         }
@@ -56,9 +57,9 @@ fn runs_spot(alloc: Global, dtype: &DataType, runs: &Tree) -> Result<Option<Spot
 fn counted_spot_of(
     alloc: Global,
     dtype: &DataType,
-    column: &Tree,
+    column: Tree<'_>,
 ) -> Result<Option<Spot>, OutOfMemory>
-    ensures { Finds result (inside (codes "runs") (runs_spot (kind_of dtype.now)) (view column.now)) }
+    ensures { Finds result (inside (codes "runs") (runs_spot (kind_of dtype.now)) (item_view column.entry)) }
 {
     match member(column, "runs") {
         Some(runs) => under_member(alloc, "runs", runs_spot(alloc, dtype, runs)?),
@@ -67,8 +68,8 @@ fn counted_spot_of(
 }
 
 /// The first run of a column that is none of its type.
-pub(crate) fn counted_spot(alloc: Global, column: &Tree) -> Result<Option<Spot>, OutOfMemory>
-    ensures { Finds result (counted_spot Runs (view column.now)) }
+pub(crate) fn counted_spot(alloc: Global, column: Tree<'_>) -> Result<Option<Spot>, OutOfMemory>
+    ensures { Finds result (counted_spot Runs (item_view column.entry)) }
 {
     let Some(kind) = member(column, "type") else {
         return Ok(None);

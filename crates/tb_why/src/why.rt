@@ -1,11 +1,11 @@
 //! Why bytes are no request, and where.
 ghost use Rattle.std.specs.Prelude.{◌≡◌, codes, option_map, IfOk, IfSome};
-ghost use Rattle.tb_tree.specs.View.{view};
+ghost use Rattle.tb_tree.specs.View.{item_view};
 ghost use Rattle.tb_request.specs.Promise.Reading.{dummies_request_of, join_request_of, pivot_request_of, unpivot_request_of};
 ghost use Rattle.tb_request.specs.declared.runs.TheConstants.{MAX_RUN_VALUES};
 ghost use Rattle.tb_why.specs.Columns.{table_room_spot, table_spot};
 ghost use Rattle.tb_why.specs.Members.{dummies_members, exec_with, join_members, members_spot, pivot_members, unpivot_members};
-ghost use Rattle.tb_why.specs.Requests.{args_spot, exec_known, format_at, members_of, only_spot, parts_spot, reason_of, refusal, request_spot, right_room, sides_spot, spot_at, IsPlaced};
+ghost use Rattle.tb_why.specs.Requests.{args_spot, exec_known, format_at, members_of, only_spot, parts_spot, reason_of, refusal, request_spot, right_room, sides_spot, spot_at, IsPlaced, IsPlacedInText};
 ghost use Rattle.tb_why.specs.Spots.{inside, or_else, spot_view, Finds};
 
 use crate::args::args_spot;
@@ -13,21 +13,22 @@ use crate::columns::table_spot;
 use crate::members::{members_spot, needed, optional};
 use crate::room::{room_after, table_room_spot};
 use crate::spot::{Command, Expected, Fault, Form, Place, Spot, Word, here, under_member};
-use crate::tree::{Tree, member, tree_of};
+use crate::tree::{Tree, format, member, tree_of};
 use std::alloc::Global;
 use tb_request::{
-    Format, MAX_RUN_VALUES, Reason, RequestFault, dummies_request_of, format_of, join_request_of,
+    Format, MAX_RUN_VALUES, Reason, RequestFault, dummies_request_of, join_request_of,
     pivot_request_of, unpivot_request_of,
 };
+use tb_tree::Item;
 use tb_value::OutOfMemory;
 
 fn exec_spot(
     alloc: Global,
     workers: Form,
     divisor: Form,
-    exec: &Tree,
+    exec: Tree<'_>,
 ) -> Result<Option<Spot>, OutOfMemory>
-    ensures { Finds result (members_spot (exec_with workers divisor) (view exec.now)) }
+    ensures { Finds result (members_spot (exec_with workers divisor) (item_view exec.entry)) }
 {
     members_spot(
         alloc,
@@ -42,8 +43,8 @@ fn exec_spot(
     )
 }
 
-fn exec_spot_for(alloc: Global, reason: Reason, exec: &Tree) -> Result<Option<Spot>, OutOfMemory>
-    ensures { Finds result (members_spot (exec_known reason) (view exec.now)) }
+fn exec_spot_for(alloc: Global, reason: Reason, exec: Tree<'_>) -> Result<Option<Spot>, OutOfMemory>
+    ensures { Finds result (members_spot (exec_known reason) (item_view exec.entry)) }
 {
     match reason {
         Reason::Exec => exec_spot(alloc, Form::Workers, Form::Divisor, exec),
@@ -51,8 +52,8 @@ fn exec_spot_for(alloc: Global, reason: Reason, exec: &Tree) -> Result<Option<Sp
     }
 }
 
-fn join_members_spot(alloc: Global, request: &Tree) -> Result<Option<Spot>, OutOfMemory>
-    ensures { Finds result (members_spot join_members (view request.now)) }
+fn join_members_spot(alloc: Global, request: Tree<'_>) -> Result<Option<Spot>, OutOfMemory>
+    ensures { Finds result (members_spot join_members (item_view request.entry)) }
 {
     members_spot(
         alloc,
@@ -70,8 +71,8 @@ fn join_members_spot(alloc: Global, request: &Tree) -> Result<Option<Spot>, OutO
     )
 }
 
-fn unpivot_members_spot(alloc: Global, request: &Tree) -> Result<Option<Spot>, OutOfMemory>
-    ensures { Finds result (members_spot unpivot_members (view request.now)) }
+fn unpivot_members_spot(alloc: Global, request: Tree<'_>) -> Result<Option<Spot>, OutOfMemory>
+    ensures { Finds result (members_spot unpivot_members (item_view request.entry)) }
 {
     members_spot(
         alloc,
@@ -87,8 +88,8 @@ fn unpivot_members_spot(alloc: Global, request: &Tree) -> Result<Option<Spot>, O
     )
 }
 
-fn dummies_members_spot(alloc: Global, request: &Tree) -> Result<Option<Spot>, OutOfMemory>
-    ensures { Finds result (members_spot dummies_members (view request.now)) }
+fn dummies_members_spot(alloc: Global, request: Tree<'_>) -> Result<Option<Spot>, OutOfMemory>
+    ensures { Finds result (members_spot dummies_members (item_view request.entry)) }
 {
     members_spot(
         alloc,
@@ -103,8 +104,8 @@ fn dummies_members_spot(alloc: Global, request: &Tree) -> Result<Option<Spot>, O
     )
 }
 
-fn pivot_members_spot(alloc: Global, request: &Tree) -> Result<Option<Spot>, OutOfMemory>
-    ensures { Finds result (members_spot pivot_members (view request.now)) }
+fn pivot_members_spot(alloc: Global, request: Tree<'_>) -> Result<Option<Spot>, OutOfMemory>
+    ensures { Finds result (members_spot pivot_members (item_view request.entry)) }
 {
     members_spot(
         alloc,
@@ -122,8 +123,12 @@ fn pivot_members_spot(alloc: Global, request: &Tree) -> Result<Option<Spot>, Out
     )
 }
 
-fn outer_spot(alloc: Global, command: Command, request: &Tree) -> Result<Option<Spot>, OutOfMemory>
-    ensures { Finds result (members_spot (members_of command) (view request.now)) }
+fn outer_spot(
+    alloc: Global,
+    command: Command,
+    request: Tree<'_>,
+) -> Result<Option<Spot>, OutOfMemory>
+    ensures { Finds result (members_spot (members_of command) (item_view request.entry)) }
 {
     match command {
         Command::Join => join_members_spot(alloc, request),
@@ -137,10 +142,10 @@ fn table_at(
     alloc: Global,
     format: Format,
     reason: Reason,
-    request: &Tree,
+    request: Tree<'_>,
     name: &str,
 ) -> Result<Option<Spot>, OutOfMemory>
-    ensures { Finds result (inside name.now (table_spot format reason) (view request.now)) }
+    ensures { Finds result (inside name.now (table_spot format reason) (item_view request.entry)) }
 {
     match member(request, name) {
         Some(table) => under_member(alloc, name, table_spot(alloc, format, reason, table)?),
@@ -151,10 +156,10 @@ fn table_at(
 fn table_room_at(
     alloc: Global,
     room: u128,
-    request: &Tree,
+    request: Tree<'_>,
     name: &str,
 ) -> Result<Option<Spot>, OutOfMemory>
-    ensures { Finds result (inside name.now (table_room_spot room) (view request.now)) }
+    ensures { Finds result (inside name.now (table_room_spot room) (item_view request.entry)) }
 {
     match member(request, name) {
         Some(table) => under_member(alloc, name, table_room_spot(alloc, room, table)?),
@@ -162,8 +167,8 @@ fn table_room_at(
     }
 }
 
-fn right_room(request: &Tree) -> u128
-    ensures { result ≡ right_room (view request.now) }
+fn right_room(request: Tree<'_>) -> u128
+    ensures { result ≡ right_room (item_view request.entry) }
 {
     match member(request, "left") {
         Some(left) => room_after(MAX_RUN_VALUES as u128, left),
@@ -171,8 +176,8 @@ fn right_room(request: &Tree) -> u128
     }
 }
 
-fn args_at(alloc: Global, request: &Tree) -> Result<Option<Spot>, OutOfMemory>
-    ensures { Finds result (inside (codes "args") args_spot (view request.now)) }
+fn args_at(alloc: Global, request: Tree<'_>) -> Result<Option<Spot>, OutOfMemory>
+    ensures { Finds result (inside (codes "args") args_spot (item_view request.entry)) }
 {
     match member(request, "args") {
         Some(args) => under_member(alloc, "args", args_spot(alloc, args)?),
@@ -180,8 +185,8 @@ fn args_at(alloc: Global, request: &Tree) -> Result<Option<Spot>, OutOfMemory>
     }
 }
 
-fn exec_at(alloc: Global, reason: Reason, request: &Tree) -> Result<Option<Spot>, OutOfMemory>
-    ensures { Finds result (inside (codes "exec") (members_spot (exec_known reason)) (view request.now)) }
+fn exec_at(alloc: Global, reason: Reason, request: Tree<'_>) -> Result<Option<Spot>, OutOfMemory>
+    ensures { Finds result (inside (codes "exec") (members_spot (exec_known reason)) (item_view request.entry)) }
 {
     match member(request, "exec") {
         Some(exec) => under_member(alloc, "exec", exec_spot_for(alloc, reason, exec)?),
@@ -189,9 +194,9 @@ fn exec_at(alloc: Global, reason: Reason, request: &Tree) -> Result<Option<Spot>
     }
 }
 
-fn sides_room_spot(alloc: Global, request: &Tree) -> Result<Option<Spot>, OutOfMemory>
-    ensures { Finds result (or_else (inside (codes "left") (table_room_spot MAX_RUN_VALUES) (view request.now))
-        (inside (codes "right") (table_room_spot (right_room (view request.now))) (view request.now))) }
+fn sides_room_spot(alloc: Global, request: Tree<'_>) -> Result<Option<Spot>, OutOfMemory>
+    ensures { Finds result (or_else (inside (codes "left") (table_room_spot MAX_RUN_VALUES) (item_view request.entry))
+        (inside (codes "right") (table_room_spot (right_room (item_view request.entry))) (item_view request.entry))) }
 {
     match table_room_at(alloc, MAX_RUN_VALUES as u128, request, "left")? {
         Some(spot) => Ok(Some(spot)),
@@ -203,10 +208,10 @@ fn sides_table_spot(
     alloc: Global,
     format: Format,
     reason: Reason,
-    request: &Tree,
+    request: Tree<'_>,
 ) -> Result<Option<Spot>, OutOfMemory>
-    ensures { Finds result (or_else (inside (codes "left") (table_spot format reason) (view request.now))
-        (inside (codes "right") (table_spot format reason) (view request.now))) }
+    ensures { Finds result (or_else (inside (codes "left") (table_spot format reason) (item_view request.entry))
+        (inside (codes "right") (table_spot format reason) (item_view request.entry))) }
 {
     match table_at(alloc, format, reason, request, "left")? {
         Some(spot) => Ok(Some(spot)),
@@ -218,9 +223,9 @@ fn sides_spot(
     alloc: Global,
     format: Format,
     reason: Reason,
-    request: &Tree,
+    request: Tree<'_>,
 ) -> Result<Option<Spot>, OutOfMemory>
-    ensures { Finds result (sides_spot format reason (view request.now)) }
+    ensures { Finds result (sides_spot format reason (item_view request.entry)) }
 {
     match reason {
         Reason::Rows => sides_room_spot(alloc, request),
@@ -232,9 +237,9 @@ fn only_spot(
     alloc: Global,
     format: Format,
     reason: Reason,
-    request: &Tree,
+    request: Tree<'_>,
 ) -> Result<Option<Spot>, OutOfMemory>
-    ensures { Finds result (only_spot format reason (view request.now)) }
+    ensures { Finds result (only_spot format reason (item_view request.entry)) }
 {
     match reason {
         Reason::Rows => table_room_at(alloc, MAX_RUN_VALUES as u128, request, "table"),
@@ -246,9 +251,9 @@ fn join_parts_spot(
     alloc: Global,
     format: Format,
     reason: Reason,
-    request: &Tree,
+    request: Tree<'_>,
 ) -> Result<Option<Spot>, OutOfMemory>
-    ensures { Finds result (parts_spot Command.Join format reason (view request.now)) }
+    ensures { Finds result (parts_spot Command.Join format reason (item_view request.entry)) }
 {
     if let Some(spot) = args_at(alloc, request)? {
         return Ok(Some(spot));
@@ -264,9 +269,9 @@ fn parts_spot(
     command: Command,
     format: Format,
     reason: Reason,
-    request: &Tree,
+    request: Tree<'_>,
 ) -> Result<Option<Spot>, OutOfMemory>
-    ensures { Finds result (parts_spot command format reason (view request.now)) }
+    ensures { Finds result (parts_spot command format reason (item_view request.entry)) }
 {
     match command {
         Command::Join => join_parts_spot(alloc, format, reason, request),
@@ -274,19 +279,19 @@ fn parts_spot(
     }
 }
 
-fn format_at(request: &Tree) -> Format
-    ensures { result ≡ format_at (view request.now) }
+fn format_at(request: Tree<'_>) -> Format
+    ensures { result ≡ format_at (item_view request.entry) }
 {
-    format_of(request).unwrap_or(Format::Chunks)
+    format(request).unwrap_or(Format::Chunks)
 }
 
 fn request_spot(
     alloc: Global,
     command: Command,
     reason: Reason,
-    request: &Tree,
+    request: Tree<'_>,
 ) -> Result<Option<Spot>, OutOfMemory>
-    ensures { Finds result (request_spot command reason (view request.now)) }
+    ensures { Finds result (request_spot command reason (item_view request.entry)) }
 {
     match outer_spot(alloc, command, request)? {
         Some(spot) => Ok(Some(spot)),
@@ -298,9 +303,9 @@ fn spot_at(
     alloc: Global,
     command: Command,
     reason: Reason,
-    request: &Tree,
+    request: Tree<'_>,
 ) -> Result<Spot, OutOfMemory>
-    ensures { IfOk result (λ s. spot_view s ≡ spot_at command reason (view request.now)) }
+    ensures { IfOk result (λ s. spot_view s ≡ spot_at command reason (item_view request.entry)) }
 {
     match request_spot(alloc, command, reason, request)? {
         Some(spot) => Ok(spot),
@@ -367,10 +372,11 @@ fn fault_of(
 ) -> Result<Fault, OutOfMemory>
     ensures reason { IfOk result (λ f. f.reason ≡ reason) }
     ensures place { IfOk result (λ f. IsPlaced command bytes.now f) }
+    ensures text { IfOk result (λ f. IsPlacedInText bytes.now f) }
 {
     match tree_of(alloc, bytes)? {
         Ok(request) => {
-            let Spot { path, expected } = spot_at(alloc, command, reason, &request)?;
+            let Spot { path, expected } = spot_at(alloc, command, reason, Item::Lent(&request))?;
             Ok(Fault {
                 reason,
                 place: Place::Path(path),
@@ -405,6 +411,7 @@ fn fault_of(
 pub fn why_not(alloc: Global, command: Command, bytes: &[u8]) -> Result<Option<Fault>, OutOfMemory>
     ensures reason { IfOk result (λ o. option_map (λ f. f.reason) o ≡ reason_of command bytes.now) }
     ensures place { IfOk result (λ o. IfSome o (λ f. IsPlaced command bytes.now f)) }
+    ensures text { IfOk result (λ o. IfSome o (λ f. IsPlacedInText bytes.now f)) }
 {
     match reason_of(alloc, command, bytes.to_vec(alloc)?)? {
         Some(reason) => Ok(Some(fault_of(alloc, command, reason, bytes)?)),

@@ -1,5 +1,5 @@
 -- Lists of values inside a JSON value, and steps that may fail.
-use Rattle.std.specs.Prelude.{ℕ, List, [], ◌∷◌, Bool, true, false, if◌then◌else◌, Option, Some, None, option_map, option_and_then, ⊤}
+use Rattle.std.specs.Prelude.{ℕ, List, [], ◌∷◌, Bool, true, false, if◌then◌else◌, Option, Some, None, option_map, option_and_then, unwrap_or, ⊤}
 use Rattle.std.specs.Str.{bytes_eq}
 use Rattle.serde_json.specs.Data.{Data, null, boolean, number, string, array, object, Items, no_items, item, Members, no_members, member}
 
@@ -28,6 +28,10 @@ as_list (number n) = None
 as_list (string s) = None
 as_list (array ds) = Some (list_from ds)
 as_list (object ms) = None
+
+-- the same, and none of any other value
+abbrev pub list_in : Data → List Data
+list_in d = unwrap_or (as_list d) []
 
 -- an array, each of whose values f gives
 abbrev pub list_of : {A : Type 0} → (Data → Option A) → Data → Option (List A)

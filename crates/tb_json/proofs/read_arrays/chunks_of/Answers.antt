@@ -3,7 +3,7 @@ use Rattle.std.proofs.lemmas.List.{map_push}
 use Rattle.std.proofs.lemmas.List.Elements.{All-append}
 use Rattle.tb_tree.specs.View.{view}
 use Rattle.tb_value.specs.Promise.Typed.{HasType}
-use Rattle.tb_json.specs.Promise.Lists.{each}
+use Rattle.tb_json.specs.Promise.Lists.{each, list_in}
 use Rattle.tb_json.proofs.Flat.{flat-push}
 use Rattle.tb_value.specs.SeeKind.{kind_of}
 use Rattle.tb_json.specs.Promise.Cells.{cell_in}
@@ -12,13 +12,12 @@ use Rattle.tb_json.proofs.read_arrays.chunks_of.Goals as goal
 
 pub returns-in_default-clause-chunks : goal.returns-in_default-clause-chunks
 returns-in_default-clause-chunks g c =
-    Walk-fails (λ v. map view v.items) (each (cell_in (kind_of c.args.dtype.now))) _ _ _ _ c.loop-items-test.true c.items-item.is (sym c.in_ok-chunk.ensures.values ∙ ap (option_map g.C.Chunk.shown) c.in_default.is) c.loop-items.invariant.walked
-    ∙ ap (λ vs. each (each (cell_in (kind_of c.args.dtype.now))) (map (λ v. map view v.items) vs)) c.deref-items-items.ensures.value
+    Walk-fails (λ v. list_in (view v)) (each (cell_in (kind_of c.args.dtype.now))) _ _ _ _ c.loop-value-test.true c.value-item.is (ap (each (cell_in (kind_of c.args.dtype.now))) (sym c.items_of.ensures) ∙ sym c.in_ok-chunk.ensures.values ∙ ap (option_map g.C.Chunk.shown) c.in_default.is) c.loop-value.invariant.walked
 
-pub loop-items-preserved : goal.loop-items-preserved
-loop-items-preserved g c = record {
+pub loop-value-preserved : goal.loop-value-preserved
+loop-value-preserved g c = record {
   walked =
       rw (c.in_ok-push.ensures.items, map_push)
-      (Walk-more (λ v. map view v.items) (each (cell_in (kind_of c.args.dtype.now))) _ _ _ _ _ c.loop-items-test.true c.items-item.is (sym c.in_ok-chunk.ensures.values ∙ ap (option_map g.C.Chunk.shown) c.in-Some.is) c.loop-items.invariant.walked);
-  typed = rw (c.in_ok-push.ensures.items, map_push, flat-push) (All-append (HasType (kind_of c.args.dtype.now)) _ _ c.loop-items.invariant.typed (rw c.in-Some.is at c.in_ok-chunk.ensures.typed));
+      (Walk-more (λ v. list_in (view v)) (each (cell_in (kind_of c.args.dtype.now))) _ _ _ _ _ c.loop-value-test.true c.value-item.is (ap (each (cell_in (kind_of c.args.dtype.now))) (sym c.items_of.ensures) ∙ sym c.in_ok-chunk.ensures.values ∙ ap (option_map g.C.Chunk.shown) c.in-Some.is) c.loop-value.invariant.walked);
+  typed = rw (c.in_ok-push.ensures.items, map_push, flat-push) (All-append (HasType (kind_of c.args.dtype.now)) _ _ c.loop-value.invariant.typed (rw c.in-Some.is at c.in_ok-chunk.ensures.typed));
 }

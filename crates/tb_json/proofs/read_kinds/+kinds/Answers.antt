@@ -1,32 +1,34 @@
 use Rattle.std.specs.Prelude.{is_some}
 use Rattle.std.specs.Str.{bytes_eq}
 use Rattle.std.specs.Map.Iter.{TakesFirst}
-use Rattle.serde_json.specs.Data.{Data, Members, member, no_members}
-use Rattle.std.proofs.Common.{◌≡◌, ℕ, List, [], ◌∷◌, Option, Some, None, true, false, codes, refl, rules, tests, string_bytes, map, option_map, ◌∙◌, sym, ap, arith}
+use Rattle.serde_json.specs.Data.{Data, Members, member, no_members, depth, members_depth}
+use Rattle.serde_json.specs.View.{items_of}
+use Rattle.std.proofs.Common.{◌≡◌, ℕ, suc, List, [], ◌∷◌, Option, Some, None, true, false, codes, refl, rules, tests, string_bytes, map, option_map, ◌∙◌, sym, ap, arith}
 use Rattle.std.proofs.lemmas.List.{map_push}
-use Rattle.tb_tree.specs.View.{view, items_view, members_view}
+use Rattle.tb_tree.specs.View.{view, item_view, listed, members_view}
 use Rattle.tb_value.specs.Promise.Kind.{parts_of}
 use Rattle.tb_value.specs.SeeKind.{part}
 use Rattle.tb_tree.proofs.Views.{view-Object}
 use Rattle.tb_json.specs.Promise.Kinds.{part_in, members_part, members_kind, field_named, kind_in, each_part}
-use Rattle.tb_json.proofs.LentValues.{Walk-more, Walk-fails, Walk-all}
+use Rattle.tb_json.proofs.LentValues.{ItemsWalk-more, ItemsWalk-fails, ItemsWalk-all}
+use Rattle.tb_json.proofs.Depths.{array_depth, depth_at, first_depth, object_depth, second_depth}
 use Rattle.tb_json.proofs.FieldWalks.{each_part-each}
 use Rattle.tb_json.proofs.read_kinds.+kinds.Goals as goal
 
 pub each_field-returns-in_default : goal.each_field-returns-in_default
 each_field-returns-in_default t c =
-    ap (option_map parts_of) (Walk-fails view part_in _ _ _ _ c.loop-item-test.true c.item-item.is (sym c.in_ok-field.ensures ∙ ap (option_map part) c.in_default.is) c.loop-item.invariant)
-    ∙ sym (each_part-each (map view c.deref-item-items.result.now)) ∙ ap (λ vs. each_part (items_view vs)) c.deref-item-items.ensures.value
+    ap (option_map parts_of) (ItemsWalk-fails part_in _ _ _ _ (omega arith) c.at.ensures (sym c.in_ok-field.ensures ∙ ap (option_map part) c.in_default.is) c.loop-i.invariant)
+    ∙ sym (each_part-each (listed c.args.items))
 
-pub each_field-loop-item-preserved : goal.each_field-loop-item-preserved
-each_field-loop-item-preserved t c =
+pub each_field-loop-i-preserved : goal.each_field-loop-i-preserved
+each_field-loop-i-preserved t c =
     rw (c.in_ok-push.ensures.items, map_push)
-    (Walk-more view part_in _ _ _ _ _ c.loop-item-test.true c.item-item.is (sym c.in_ok-field.ensures ∙ ap (option_map part) c.in-Some.is) c.loop-item.invariant)
+    (ItemsWalk-more part_in _ _ _ _ _ (omega arith) c.at.ensures (sym c.in_ok-field.ensures ∙ ap (option_map part) c.in-Some.is) c.loop-i.invariant)
 
 pub each_field-returns : goal.each_field-returns
 each_field-returns t c =
-    ap (option_map parts_of) (Walk-all view part_in _ _ _ (omega arith) c.loop-item.invariant)
-    ∙ sym (each_part-each (map view c.deref-item-items.result.now)) ∙ ap (λ vs. each_part (items_view vs)) c.deref-item-items.ensures.value
+    ap (option_map parts_of) (ItemsWalk-all part_in _ _ _ (omega arith) c.loop-i.invariant)
+    ∙ sym (each_part-each (listed c.args.items))
 
 none_left : {A X : Type 0} (shows : A → X) (s t : List X) (r : Option A) → is_some r ≡ false → TakesFirst shows s r t → s ≡ []
 none_left shows s t None e h = h.0
@@ -50,7 +52,40 @@ type_of-returns-in-Object t c =
     let seen = ap (λ v. kind_in (view v)) c.in-Object.is ∙ ap kind_in (view-Object c.in-Object.members) ∙ ap (λ m. members_kind (members_view m.entries)) (sym c.deref.ensures) in
     rw seen c.members_type.ensures
 
-pub field_of-returns-in-Object : goal.field_of-returns-in-Object
-field_of-returns-in-Object t c =
-    let seen = ap (λ v. part_in (view v)) c.in-Object.is ∙ ap part_in (view-Object c.in-Object.members) ∙ ap (λ m. members_part (members_view m.entries)) (sym c.deref.ensures) in
-    rw seen c.members_field.ensures
+pub type_of-members_type-requires : goal.type_of-members_type-requires
+type_of-members_type-requires t c =
+    let level = ap (λ v. depth (view v)) c.in-Object.is ∙ ap depth (view-Object c.in-Object.members) ∙ ap (λ m. suc (members_depth (members_view m.entries))) (sym c.deref.ensures) in
+    omega (arith, level, c.decreases)
+
+pub members_type-type_of-requires : goal.members_type-type_of-requires
+members_type-type_of-requires t c =
+    let seen = ap members_view (sym c.iter-iter.ensures.rest ∙ c.in-Some.ensures.steps) in
+    let below = first_depth _ _ _ _ seen in
+    omega (arith, below, c.decreases)
+
+pub members_type-fields_of-requires : goal.members_type-fields_of-requires
+members_type-fields_of-requires t c =
+    let seen = ap members_view (sym c.iter-iter.ensures.rest ∙ c.in-Some.ensures.steps) in
+    let below = first_depth _ _ _ _ seen in
+    omega (arith, below, c.decreases)
+
+pub fields_of-each_field-requires : goal.fields_of-each_field-requires
+fields_of-each_field-requires t c =
+    let level = array_depth (view c.args.value.now) (items_of (listed c.in-Some.items)) c.in-Some.ensures in
+    omega (arith, level, c.decreases)
+
+pub each_field-field_of-requires : goal.each_field-field_of-requires
+each_field-field_of-requires t c =
+    let below = depth_at (listed c.args.items) c.loop-i.i (item_view c.at.result) (omega arith) c.at.ensures in
+    omega (arith, below, c.decreases)
+
+pub field_of-members_field-requires : goal.field_of-members_field-requires
+field_of-members_field-requires t c =
+    let level = object_depth (item_view c.args.item) (members_view c.in-Some.members.now.entries) c.in-Some.ensures in
+    omega (arith, level, c.decreases)
+
+pub members_field-type_of-requires : goal.members_field-type_of-requires
+members_field-type_of-requires t c =
+    let seen = ap members_view (sym c.iter-iter.ensures.rest ∙ c.in-Some.ensures.steps ∙ ap (λ es. (c.in-Some.first.now, c.in-Some.name.now) ∷ es) c.in-Some-next.ensures.steps) in
+    let below = second_depth _ _ _ _ _ _ seen in
+    omega (arith, below, c.decreases)

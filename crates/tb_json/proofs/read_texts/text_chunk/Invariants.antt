@@ -4,8 +4,8 @@ use Rattle.tb_value.specs.Promise.Datum.{string}
 use Rattle.tb_value.specs.Promise.Kind as kind
 use Rattle.tb_chunk.specs.Chunk.{or_null}
 use Rattle.tb_json.specs.Promise.Cells.{cell_in}
-use Rattle.tb_json.proofs.LentValues.{Walk}
+use Rattle.tb_json.proofs.LentValues.{ItemsWalk}
 use Rattle.tb_json.proofs.read_texts.text_chunk.Given as goal
 
-abbrev pub invariant-loop-item : goal.invariant-loop-item
-invariant-loop-item l = Walk view (cell_in kind.string) l.item-items (map (or_null string) l.builder.rows) l.item-index
+abbrev pub invariant-loop-i : goal.invariant-loop-i
+invariant-loop-i l = ItemsWalk (cell_in kind.string) l.items (map (or_null string) l.builder.rows) l.i

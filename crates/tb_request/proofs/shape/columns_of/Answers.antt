@@ -1,4 +1,4 @@
-use Rattle.std.proofs.Common.{◌∙◌, option_map, sym, ap}
+use Rattle.std.proofs.Common.{◌∙◌, option_map, sym, ap, map}
 use Rattle.std.proofs.lemmas.List.{map_push}
 use Rattle.tb_tree.specs.View.{view}
 use Rattle.tb_request.specs.Promise.Written.{column_of}
@@ -12,7 +12,7 @@ loop-item-init c = rw c.in_ok-columns.ensures.items (Taking-start view (column_o
 pub returns-in_default-2 : goal.returns-in_default-2
 returns-in_default-2 c =
     Taking-stops view (column_of c.args.format) _ _ _ _ _ c.in-Some-item.ensures.steps.0 (sym c.in_ok-column.ensures ∙ ap (option_map written_view) c.in_default-2.is) c.loop-item.invariant
-    ∙ sym (each_taken (column_of c.args.format) _ _ _ c.in-Some.ensures c.into_iter-item-iterator.ensures.into_iter_gives.0)
+    ∙ sym (each_taken (column_of c.args.format) _ _ _ (ap (option_map (λ v. map view v.items)) (sym c.in-Some.is) ∙ c.in_ok-items.ensures) c.into_iter-item-iterator.ensures.into_iter_gives.0)
 
 pub loop-item-preserved : goal.loop-item-preserved
 loop-item-preserved c =
@@ -22,4 +22,4 @@ loop-item-preserved c =
 pub returns : goal.returns
 returns c =
     Taking-end view (column_of c.args.format) _ _ _ (sym c.loop-item.item-iterator.rest.ok.0 ∙ c.in-None.ensures.steps.0) c.loop-item.invariant
-    ∙ sym (each_taken (column_of c.args.format) _ _ _ c.in-Some.ensures c.into_iter-item-iterator.ensures.into_iter_gives.0)
+    ∙ sym (each_taken (column_of c.args.format) _ _ _ (ap (option_map (λ v. map view v.items)) (sym c.in-Some.is) ∙ c.in_ok-items.ensures) c.into_iter-item-iterator.ensures.into_iter_gives.0)

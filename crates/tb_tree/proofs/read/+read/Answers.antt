@@ -1,14 +1,18 @@
-use Rattle.std.proofs.Common.{option_map, ◌≡◌, ◌-◌, ◌<◌, [], ◌∷◌, length, Some, None, string_bytes, sym, ap, ap₂, ◌∙◌, arith, rules}
+use Rattle.std.proofs.Common.{option_map, ◌≡◌, ◌-◌, ◌<◌, [], ◌∷◌, ◌++◌, map, length, Some, None, refl, to_z, of_z, w64, string_bytes, sym, ap, ap₂, ◌∙◌, arith, rules}
+use Rattle.std.proofs.lemmas.List.{map_push}
 use Rattle.json.specs.Token.{Token}
 use Rattle.json.specs.Json.{parse_map, after_end_array, read_key, items, members, value}
 use Rattle.json.specs.Reads.{token_of}
 use Rattle.json.proofs.Grammar.{value_is, value-begin_array, value-begin_object, read_key-shorter}
 use Rattle.serde_json.specs.Data.{null, boolean, number, string, array, object, put}
 use Rattle.serde_json.specs.Read.{of_json, of_items, of_members, converted}
-use Rattle.tb_tree.specs.View.{view, items_view, members_view}
-use Rattle.tb_tree.specs.declared.value.Value.{Bool, Null, the_lemmas}
-use Rattle.tb_tree.proofs.Views.{view-Array, view-Object, members_view-insert_entry}
-use Rattle.tb_tree.proofs.Reading.{converted-array, converted-object, item_read, item_refused, items_over, member_read, member_refused, key_refused, members_over, items_before, items_before-no_items, one_more_item, none_before}
+use Rattle.serde_json.specs.View.{items_of}
+use Rattle.tb_tree.specs.Arrays.{array_after}
+use Rattle.tb_tree.specs.Begun.{begun_view}
+use Rattle.tb_tree.specs.View.{view, items_view, members_view, whole}
+use Rattle.tb_tree.specs.declared.value.Value.{Bool, Null, Empty, the_lemmas}
+use Rattle.tb_tree.proofs.Views.{view-Array, view-Object, view-Wholes, members_view-insert_entry}
+use Rattle.tb_tree.proofs.Reading.{converted-array, converted-object, member_read, member_refused, key_refused, members_over, array_after-more, array_after-refused, array_after-end, array_after-none}
 use Rattle.tb_tree.proofs.read.+read.Goals as goal
 
 pub read-returns-in_err-token-clause-err : goal.read-returns-in_err-token-clause-err
@@ -29,12 +33,6 @@ read-returns-then-depth-eq0-2-clause-err t c never =
     let first : c.args.reader.now ≡ token_of c.in_ok-token.token ∷ c.next.new.self = grind arith in
     let none : c.args.depth ≡ 0 = omega arith in
     ap (converted of_json) (ap₂ value none (first ∙ ap (λ k. token_of k ∷ c.next.new.self) c.in-BeginObject.is))
-
-pub read-returns-in_err-items-in-BeginArray-clause-err : goal.read-returns-in_err-items-in-BeginArray-clause-err
-read-returns-in_err-items-in-BeginArray-clause-err t c refused =
-    let first : c.args.reader.now ≡ token_of c.in_ok-token.token ∷ c.next.new.self = grind arith in
-    let opened = ap (converted of_json) (ap (value c.args.depth) (first ∙ ap (λ k. token_of k ∷ c.next.new.self) c.in-BeginArray.is) ∙ value-begin_array c.args.depth c.next.new.self (omega arith)) ∙ converted-array (items (value (c.args.depth - 1)) (length c.next.new.self) c.next.new.self) in
-    opened ∙ ap (parse_map array) (c.read_items.ensures.err (grind arith))
 
 pub read-returns-in_err-members-in-BeginObject-clause-err : goal.read-returns-in_err-members-in-BeginObject-clause-err
 read-returns-in_err-members-in-BeginObject-clause-err t c refused =
@@ -81,58 +79,12 @@ read-returns-in-EndObject-clause-err t c refused =
     let none : value c.args.depth c.args.reader.now ≡ None = rw (value_is c.args.depth c.args.reader.now, first) (grind arith) in
     ap (converted of_json) none
 
-pub read-returns-in_ok-new-in-BeginArray-clause-ok : goal.read-returns-in_ok-new-in-BeginArray-clause-ok
-read-returns-in_ok-new-in-BeginArray-clause-ok t c =
-    let first : c.args.reader.now ≡ token_of c.in_ok-token.token ∷ c.next.new.self = grind arith in
-    let opened = ap (converted of_json) (ap (value c.args.depth) (first ∙ ap (λ k. token_of k ∷ c.next.new.self) c.in-BeginArray.is) ∙ value-begin_array c.args.depth c.next.new.self (omega arith)) ∙ converted-array (items (value (c.args.depth - 1)) (length c.next.new.self) c.next.new.self) in
-    let found = c.in_ok-items-in-BeginArray in
-    opened ∙ ap (parse_map array) found.ensures.ok ∙ ap (λ d. Some (d, c.read_items.new.reader)) (ap (λ v. array (items_view v.items)) (sym c.in_ok-new-in-BeginArray.ensures.ok) ∙ sym (view-Array c.in_ok-new-in-BeginArray.field-0))
-
 pub read-returns-in_ok-new-in-BeginObject-clause-ok : goal.read-returns-in_ok-new-in-BeginObject-clause-ok
 read-returns-in_ok-new-in-BeginObject-clause-ok t c =
     let first : c.args.reader.now ≡ token_of c.in_ok-token.token ∷ c.next.new.self = grind arith in
     let opened = ap (converted of_json) (ap (value c.args.depth) (first ∙ ap (λ k. token_of k ∷ c.next.new.self) c.in-BeginObject.is) ∙ value-begin_object c.args.depth c.next.new.self (omega arith)) ∙ converted-object (members (value (c.args.depth - 1)) (length c.next.new.self) c.next.new.self) in
     let found = c.in_ok-members-in-BeginObject in
     opened ∙ ap (parse_map object) found.ensures.ok ∙ ap (λ d. Some (d, c.read_members.new.reader)) (ap (λ m. object (members_view m.entries)) (sym c.in_ok-new-in-BeginObject.ensures.ok) ∙ sym (view-Object c.in_ok-new-in-BeginObject.field-0))
-
-pub read_items-items-init : goal.read_items-items-init
-read_items-items-init t c =
-    let all = converted of_items (items (value c.args.depth) (length c.args.reader.now) c.args.reader.now) in
-    (length c.args.reader.now, omega arith, none_before all ∙ ap (λ vs. parse_map (items_before vs) all) (sym c.new-found.ensures.items), omega arith)
-
-pub read_items-returns-in_err-item-clause-err : goal.read_items-returns-in_err-item-clause-err
-read_items-returns-in_err-item-clause-err t c refused =
-    let p = value c.args.depth in
-    let l = c.items in
-    let n = l.invariant.0 in
-    let going : (after_end_array l.reader ≡ None) × (c.take_end_array.new.self ≡ l.reader) = grind arith in
-    l.invariant.2 ∙ ap (parse_map (items_before l.found.items)) (item_refused p n l.reader going.0 (rw (← going.1) (c.read.ensures.err (grind arith))))
-
-pub read_items-items-preserved : goal.read_items-items-preserved
-read_items-items-preserved t c =
-    let p = value c.args.depth in
-    let l = c.items in
-    let n = l.invariant.0 in
-    let going : (after_end_array l.reader ≡ None) × (c.take_end_array.new.self ≡ l.reader) = grind arith in
-    let done = c.in_ok-item.ensures in
-    let v = c.in_ok-item.item in
-    let r = c.read.new.reader in
-    let less : length r < length l.reader = rw (← going.1) done.shorter in
-    let turn = item_read p n l.reader r (view v) (omega (arith, l.invariant.1)) going.0 (rw (← going.1) done.ok) in (
-      n - 1,
-      omega (arith, l.invariant.1),
-      l.invariant.2 ∙ ap (parse_map (items_before l.found.items)) turn ∙ one_more_item l.found.items v _
-          ∙ ap (λ vs. parse_map (items_before vs) (converted of_items (items p (n - 1) r))) (sym c.in_ok-push.ensures.items),
-      omega (arith, l.invariant.3),
-    )
-
-pub read_items-returns-clause-ok : goal.read_items-returns-clause-ok
-read_items-returns-clause-ok t c =
-    let p = value c.args.depth in
-    let l = c.items in
-    let n = l.invariant.0 in
-    let r = c.take_end_array.new.self in
-    l.invariant.2 ∙ ap (parse_map (items_before l.found.items)) (items_over p n l.reader r l.invariant.1 (grind arith)) ∙ ap (λ ds. Some (ds, r)) (items_before-no_items l.found.items)
 
 pub read_members-members-init : goal.read_members-members-init
 read_members-members-init t c =
@@ -189,3 +141,191 @@ read_members-returns-clause-ok t c =
     let n = l.invariant.0 in
     let old = members_view l.found.entries in
     l.invariant.2 ∙ members_over p old n l.reader c.next_key.new.self l.invariant.1 (grind arith)
+
+-- ---- arrays
+
+pub read-returns-else-depth-eq0-clause-ok : goal.read-returns-else-depth-eq0-clause-ok
+read-returns-else-depth-eq0-clause-ok t c =
+    let first : c.args.reader.now ≡ token_of c.in_ok-token.token ∷ c.next.new.self = grind arith in
+    let opened = ap (converted of_json) (ap (value c.args.depth) (first ∙ ap (λ k. token_of k ∷ c.next.new.self) c.in-BeginArray.is) ∙ value-begin_array c.args.depth c.next.new.self (omega arith)) ∙ converted-array (items (value (c.args.depth - 1)) (length c.next.new.self) c.next.new.self) ∙ array_after-none (c.args.depth - 1) (length c.next.new.self) c.next.new.self in
+    rw opened c.read_array.ensures.ok
+
+pub read-returns-else-depth-eq0-clause-err : goal.read-returns-else-depth-eq0-clause-err
+read-returns-else-depth-eq0-clause-err t c refused =
+    let first : c.args.reader.now ≡ token_of c.in_ok-token.token ∷ c.next.new.self = grind arith in
+    let opened = ap (converted of_json) (ap (value c.args.depth) (first ∙ ap (λ k. token_of k ∷ c.next.new.self) c.in-BeginArray.is) ∙ value-begin_array c.args.depth c.next.new.self (omega arith)) ∙ converted-array (items (value (c.args.depth - 1)) (length c.next.new.self) c.next.new.self) ∙ array_after-none (c.args.depth - 1) (length c.next.new.self) c.next.new.self in
+    opened ∙ c.read_array.ensures.err refused
+
+pub read_array-returns-then-take_end_array-clause-ok : goal.read_array-returns-then-take_end_array-clause-ok
+read_array-returns-then-take_end_array-clause-ok t c =
+    let seen : view Empty ≡ array (items_of []) = search (rules, the_lemmas) in
+    array_after-end [] c.args.depth (length c.args.reader.now) c.args.reader.now c.take_end_array.new.self (omega arith) (grind arith) ∙ ap (λ d. Some (d, c.take_end_array.new.self)) (sym seen)
+
+pub read_array-returns-in_err-first-clause-err : goal.read_array-returns-in_err-first-clause-err
+read_array-returns-in_err-first-clause-err t c refused =
+    let going : (after_end_array c.args.reader.now ≡ None) × (c.take_end_array.new.self ≡ c.args.reader.now) = grind arith in
+    array_after-refused [] c.args.depth (length c.args.reader.now) c.args.reader.now going.0 (rw (← going.1) (c.read.ensures.err (grind arith)))
+
+pub read_array-returns-clause-ok : goal.read_array-returns-clause-ok
+read_array-returns-clause-ok t c =
+    let going : (after_end_array c.args.reader.now ≡ None) × (c.take_end_array.new.self ≡ c.args.reader.now) = grind arith in
+    let n = length c.args.reader.now in
+    let r = c.read.new.reader in
+    let less : length r < n = rw (← going.1) c.in_ok-first.ensures.shorter in
+    let turn = array_after-more [] c.args.depth n c.args.reader.now r (view c.in_ok-first.first) (omega arith) going.0 (rw (← going.1) c.in_ok-first.ensures.ok) in
+    rw turn (c.read_second.ensures.ok (n - 1) (omega arith))
+
+pub read_array-returns-clause-err : goal.read_array-returns-clause-err
+read_array-returns-clause-err t c refused =
+    let going : (after_end_array c.args.reader.now ≡ None) × (c.take_end_array.new.self ≡ c.args.reader.now) = grind arith in
+    let n = length c.args.reader.now in
+    let r = c.read.new.reader in
+    let less : length r < n = rw (← going.1) c.in_ok-first.ensures.shorter in
+    let turn = array_after-more [] c.args.depth n c.args.reader.now r (view c.in_ok-first.first) (omega arith) going.0 (rw (← going.1) c.in_ok-first.ensures.ok) in
+    turn ∙ c.read_second.ensures.err (n - 1) (omega arith) refused
+
+pub read_second-returns-then-take_end_array-clause-ok : goal.read_second-returns-then-take_end_array-clause-ok
+read_second-returns-then-take_end_array-clause-ok t c most enough =
+    array_after-end (view c.args.first ∷ []) c.args.depth most c.args.reader.now c.take_end_array.new.self enough (grind arith) ∙ ap (λ d. Some (d, c.take_end_array.new.self)) (sym c.in_ok-one.ensures)
+
+pub read_second-returns-in_err-second-clause-err : goal.read_second-returns-in_err-second-clause-err
+read_second-returns-in_err-second-clause-err t c most enough refused =
+    let going : (after_end_array c.args.reader.now ≡ None) × (c.take_end_array.new.self ≡ c.args.reader.now) = grind arith in
+    array_after-refused (view c.args.first ∷ []) c.args.depth most c.args.reader.now going.0 (rw (← going.1) (c.read.ensures.err (grind arith)))
+
+pub read_second-returns-clause-ok : goal.read_second-returns-clause-ok
+read_second-returns-clause-ok t c most enough =
+    let going : (after_end_array c.args.reader.now ≡ None) × (c.take_end_array.new.self ≡ c.args.reader.now) = grind arith in
+    let r = c.read.new.reader in
+    let less : length r < length c.args.reader.now = rw (← going.1) c.in_ok-second.ensures.shorter in
+    let turn = array_after-more (view c.args.first ∷ []) c.args.depth most c.args.reader.now r (view c.in_ok-second.second) (omega (arith, enough)) going.0 (rw (← going.1) c.in_ok-second.ensures.ok) in
+    rw turn (c.read_third.ensures.ok (most - 1) (omega (arith, enough)))
+
+pub read_second-returns-clause-err : goal.read_second-returns-clause-err
+read_second-returns-clause-err t c most enough refused =
+    let going : (after_end_array c.args.reader.now ≡ None) × (c.take_end_array.new.self ≡ c.args.reader.now) = grind arith in
+    let r = c.read.new.reader in
+    let less : length r < length c.args.reader.now = rw (← going.1) c.in_ok-second.ensures.shorter in
+    let turn = array_after-more (view c.args.first ∷ []) c.args.depth most c.args.reader.now r (view c.in_ok-second.second) (omega (arith, enough)) going.0 (rw (← going.1) c.in_ok-second.ensures.ok) in
+    turn ∙ c.read_third.ensures.err (most - 1) (omega (arith, enough)) refused
+
+pub read_third-returns-then-take_end_array-clause-ok : goal.read_third-returns-then-take_end_array-clause-ok
+read_third-returns-then-take_end_array-clause-ok t c most enough =
+    array_after-end (view c.args.first ∷ view c.args.second ∷ []) c.args.depth most c.args.reader.now c.take_end_array.new.self enough (grind arith) ∙ ap (λ d. Some (d, c.take_end_array.new.self)) (sym c.in_ok-two.ensures)
+
+pub read_third-returns-clause-ok : goal.read_third-returns-clause-ok
+read_third-returns-clause-ok t c most enough =
+    let same : c.take_end_array.new.self ≡ c.args.reader.now = grind arith in
+    let on = ap₂ (λ ds ts. array_after ds c.args.depth most ts) (sym c.in_ok-begun.ensures) (sym same) in
+    rw on (c.read_more.ensures.ok most (rw same enough))
+
+pub read_third-returns-clause-err : goal.read_third-returns-clause-err
+read_third-returns-clause-err t c most enough refused =
+    let same : c.take_end_array.new.self ≡ c.args.reader.now = grind arith in
+    let on = ap₂ (λ ds ts. array_after ds c.args.depth most ts) (sym c.in_ok-begun.ensures) (sym same) in
+    on ∙ c.read_more.ensures.err most (rw same enough) refused
+
+pub read_more-returns-in-Wholes-clause-ok : goal.read_more-returns-in-Wholes-clause-ok
+read_more-returns-in-Wholes-clause-ok t c most enough = rw (ap (λ b. array_after (begun_view b) c.args.depth most c.args.reader.now) c.in-Wholes.is) (c.read_wholes.ensures.ok most enough)
+
+pub read_more-returns-in-Values-clause-ok : goal.read_more-returns-in-Values-clause-ok
+read_more-returns-in-Values-clause-ok t c most enough = rw (ap (λ b. array_after (begun_view b) c.args.depth most c.args.reader.now) c.in-Values.is) (c.read_values.ensures.ok most enough)
+
+pub read_values-values-init : goal.read_values-values-init
+read_values-values-init t c = record { read = λ most enough. (most, enough, refl); shorter = omega arith }
+
+pub read_values-returns-in_err-item-clause-err : goal.read_values-returns-in_err-item-clause-err
+read_values-returns-in_err-item-clause-err t c most enough refused =
+    let l = c.values in
+    let so_far = l.invariant.read most enough in
+    let going : (after_end_array l.reader ≡ None) × (c.take_end_array.new.self ≡ l.reader) = grind arith in
+    so_far.2 ∙ array_after-refused (map view l.found.items) c.args.depth so_far.0 l.reader going.0 (rw (← going.1) (c.read.ensures.err (grind arith)))
+
+pub read_values-values-preserved : goal.read_values-values-preserved
+read_values-values-preserved t c =
+    let l = c.values in
+    let going : (after_end_array l.reader ≡ None) × (c.take_end_array.new.self ≡ l.reader) = grind arith in
+    let done = c.in_ok-item.ensures in
+    let v = c.in_ok-item.item in
+    let r = c.read.new.reader in
+    let less : length r < length l.reader = rw (← going.1) done.shorter in
+    let pushed : map view c.push.new.self.items ≡ map view l.found.items ++ view v ∷ [] = rw (c.in_ok-push.ensures.items, map_push) refl in
+    let within = l.invariant.shorter in
+    record {
+      read = λ most enough.
+          let so_far = l.invariant.read most enough in
+          let turn = array_after-more (map view l.found.items) c.args.depth so_far.0 l.reader r (view v) (omega (arith, so_far.1)) going.0 (rw (← going.1) done.ok) in
+          (so_far.0 - 1, omega (arith, so_far.1), so_far.2 ∙ turn ∙ ap (λ ds. array_after ds c.args.depth (so_far.0 - 1) r) (sym pushed));
+      shorter = omega arith;
+    }
+
+pub read_values-returns-clause-ok : goal.read_values-returns-clause-ok
+read_values-returns-clause-ok t c most enough =
+    let l = c.values in
+    let so_far = l.invariant.read most enough in
+    let r = c.take_end_array.new.self in
+    so_far.2 ∙ array_after-end (map view l.found.items) c.args.depth so_far.0 l.reader r so_far.1 (grind arith)
+    ∙ ap (λ d. Some (d, r)) (ap (λ v. array (items_view v.items)) (sym c.in_ok-new.ensures.ok) ∙ sym (view-Array c.in_ok-new.field-0))
+
+pub read_wholes-wholes-init : goal.read_wholes-wholes-init
+read_wholes-wholes-init t c = record { read = λ most enough. (most, enough, refl); shorter = omega arith }
+
+pub read_wholes-returns-in_err-item-clause-err : goal.read_wholes-returns-in_err-item-clause-err
+read_wholes-returns-in_err-item-clause-err t c most enough refused =
+    let l = c.wholes in
+    let so_far = l.invariant.read most enough in
+    let going : (after_end_array l.reader ≡ None) × (c.take_end_array.new.self ≡ l.reader) = grind arith in
+    so_far.2 ∙ array_after-refused (map whole l.found.items) c.args.depth so_far.0 l.reader going.0 (rw (← going.1) (c.read.ensures.err (grind arith)))
+
+pub read_wholes-wholes-preserved : goal.read_wholes-wholes-preserved
+read_wholes-wholes-preserved t c =
+    let l = c.wholes in
+    let going : (after_end_array l.reader ≡ None) × (c.take_end_array.new.self ≡ l.reader) = grind arith in
+    let done = c.in_ok-item.ensures in
+    let v = c.in_ok-item.item in
+    let r = c.read.new.reader in
+    let less : length r < length l.reader = rw (← going.1) done.shorter in
+    let back : to_z w64 (of_z w64 c.in-Ok.number) ≡ c.in-Ok.number = search rules in
+    let pushed : map whole c.push.new.self.items ≡ map whole l.found.items ++ view v ∷ [] = rw (c.in_ok-push-in-Ok.ensures.items, map_push, back, c.in-Ok.ensures) refl in
+    let within = l.invariant.shorter in
+    record {
+      read = λ most enough.
+          let so_far = l.invariant.read most enough in
+          let turn = array_after-more (map whole l.found.items) c.args.depth so_far.0 l.reader r (view v) (omega (arith, so_far.1)) going.0 (rw (← going.1) done.ok) in
+          (so_far.0 - 1, omega (arith, so_far.1), so_far.2 ∙ turn ∙ ap (λ ds. array_after ds c.args.depth (so_far.0 - 1) r) (sym pushed));
+      shorter = omega arith;
+    }
+
+pub read_wholes-returns-in-Err-clause-ok : goal.read_wholes-returns-in-Err-clause-ok
+read_wholes-returns-in-Err-clause-ok t c most enough =
+    let l = c.wholes in
+    let so_far = l.invariant.read most enough in
+    let going : (after_end_array l.reader ≡ None) × (c.take_end_array.new.self ≡ l.reader) = grind arith in
+    let done = c.in_ok-item.ensures in
+    let v = c.in_ok-item.item in
+    let r = c.read.new.reader in
+    let less : length r < length l.reader = rw (← going.1) done.shorter in
+    let turn = array_after-more (map whole l.found.items) c.args.depth so_far.0 l.reader r (view v) (omega (arith, so_far.1)) going.0 (rw (← going.1) done.ok) in
+    let values = c.in_ok-values-in-Err.ensures ∙ ap (λ w. map whole l.found.items ++ view w ∷ []) c.in-Err.ensures in
+    rw (so_far.2 ∙ turn ∙ ap (λ ds. array_after ds c.args.depth (so_far.0 - 1) r) (sym values)) (c.read_values.ensures.ok (so_far.0 - 1) (omega (arith, so_far.1)))
+
+pub read_wholes-returns-in-Err-clause-err : goal.read_wholes-returns-in-Err-clause-err
+read_wholes-returns-in-Err-clause-err t c most enough refused =
+    let l = c.wholes in
+    let so_far = l.invariant.read most enough in
+    let going : (after_end_array l.reader ≡ None) × (c.take_end_array.new.self ≡ l.reader) = grind arith in
+    let done = c.in_ok-item.ensures in
+    let v = c.in_ok-item.item in
+    let r = c.read.new.reader in
+    let less : length r < length l.reader = rw (← going.1) done.shorter in
+    let turn = array_after-more (map whole l.found.items) c.args.depth so_far.0 l.reader r (view v) (omega (arith, so_far.1)) going.0 (rw (← going.1) done.ok) in
+    let values = c.in_ok-values-in-Err.ensures ∙ ap (λ w. map whole l.found.items ++ view w ∷ []) c.in-Err.ensures in
+    so_far.2 ∙ turn ∙ ap (λ ds. array_after ds c.args.depth (so_far.0 - 1) r) (sym values) ∙ c.read_values.ensures.err (so_far.0 - 1) (omega (arith, so_far.1)) refused
+
+pub read_wholes-returns-clause-ok : goal.read_wholes-returns-clause-ok
+read_wholes-returns-clause-ok t c most enough =
+    let l = c.wholes in
+    let so_far = l.invariant.read most enough in
+    let r = c.take_end_array.new.self in
+    so_far.2 ∙ array_after-end (map whole l.found.items) c.args.depth so_far.0 l.reader r so_far.1 (grind arith)
+    ∙ ap (λ d. Some (d, r)) (ap (λ v. array (items_of (map whole v.items))) (sym c.in_ok-new.ensures.ok) ∙ sym (view-Wholes c.in_ok-new.field-0))

@@ -1,28 +1,53 @@
-use Rattle.std.proofs.Common.{◌≡◌, ℕ, ◌+◌, ◌*◌, ◌≤◌, length}
-use Rattle.json.specs.Json.{items, members, value, parse_map}
+use Rattle.std.proofs.Common.{◌≡◌, ℕ, ◌+◌, ◌-◌, ◌*◌, ◌≤◌, length, map}
+use Rattle.json.specs.Json.{members, value}
 use Rattle.serde_json.specs.Data.{no_members}
-use Rattle.serde_json.specs.Read.{of_items, of_members, converted}
-use Rattle.tb_tree.specs.View.{members_view}
-use Rattle.tb_tree.proofs.Reading.{items_before}
+use Rattle.serde_json.specs.Read.{of_members, converted}
+use Rattle.tb_tree.specs.Arrays.{array_after}
+use Rattle.tb_tree.specs.View.{view, members_view, whole}
 use Rattle.tb_tree.proofs.read.+read.Given as goal
 
 abbrev pub decreases-read : goal.decreases-read
-decreases-read l = 2 * l.depth
+decreases-read l = 7 * l.depth
 
-abbrev pub decreases-read_items : goal.decreases-read_items
-decreases-read_items l = 2 * l.depth + 1
+abbrev pub decreases-read_array : goal.decreases-read_array
+decreases-read_array l = 7 * l.depth + 6
+
+abbrev pub decreases-read_second : goal.decreases-read_second
+decreases-read_second l = 7 * l.depth + 5
+
+abbrev pub decreases-read_third : goal.decreases-read_third
+decreases-read_third l = 7 * l.depth + 4
+
+abbrev pub decreases-read_more : goal.decreases-read_more
+decreases-read_more l = 7 * l.depth + 3
+
+abbrev pub decreases-read_wholes : goal.decreases-read_wholes
+decreases-read_wholes l = 7 * l.depth + 2
+
+abbrev pub decreases-read_values : goal.decreases-read_values
+decreases-read_values l = 7 * l.depth + 1
 
 abbrev pub decreases-read_members : goal.decreases-read_members
-decreases-read_members l = 2 * l.depth + 1
+decreases-read_members l = 7 * l.depth + 1
 
-abbrev pub invariant-read_items-items : goal.invariant-read_items-items
-invariant-read_items-items l =
-    (n : ℕ) × (length l.reader ≤ n)
-    × (converted of_items (items (value l.depth) (length l.initial.reader) l.initial.reader) ≡ parse_map (items_before l.found.items) (converted of_items (items (value l.depth) n l.reader)))
-    × (length l.reader ≤ length l.initial.reader)
+-- what was found and is left of the array, of whatever fuel was enough at the start
+abbrev pub invariant-read_wholes-wholes : goal.invariant-read_wholes-wholes
+invariant-read_wholes-wholes l = record {
+  read : (most : ℕ) → length l.initial.reader ≤ most → (n : ℕ) × (length l.reader ≤ n) × (array_after (map whole l.initial.found.items) l.depth most l.initial.reader ≡ array_after (map whole l.found.items) l.depth n l.reader);
+  shorter : length l.reader ≤ length l.initial.reader;
+}
 
-abbrev pub decreases-read_items-items : goal.decreases-read_items-items
-decreases-read_items-items l = length l.reader
+abbrev pub decreases-read_wholes-wholes : goal.decreases-read_wholes-wholes
+decreases-read_wholes-wholes l = length l.reader
+
+abbrev pub invariant-read_values-values : goal.invariant-read_values-values
+invariant-read_values-values l = record {
+  read : (most : ℕ) → length l.initial.reader ≤ most → (n : ℕ) × (length l.reader ≤ n) × (array_after (map view l.initial.found.items) l.depth most l.initial.reader ≡ array_after (map view l.found.items) l.depth n l.reader);
+  shorter : length l.reader ≤ length l.initial.reader;
+}
+
+abbrev pub decreases-read_values-values : goal.decreases-read_values-values
+decreases-read_values-values l = length l.reader
 
 abbrev pub invariant-read_members-members : goal.invariant-read_members-members
 invariant-read_members-members l =

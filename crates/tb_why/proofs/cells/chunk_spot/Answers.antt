@@ -1,4 +1,5 @@
-use Rattle.std.proofs.Common.{option_map, ap, sym, subst, ◌∙◌}
+use Rattle.std.proofs.Common.{arith, option_map, ap, sym, subst, ◌∙◌}
+use Rattle.tb_tree.specs.View.{item_view, listed}
 use Rattle.tb_value.specs.SeeKind.{kind_of}
 use Rattle.tb_why.specs.Columns.{cell_spot}
 use Rattle.tb_why.specs.Spots.{first_at, spot_view, Finds}
@@ -9,11 +10,11 @@ pub returns-in-Some : goal.returns-in-Some
 returns-in-Some c =
     let f = cell_spot (kind_of c.args.dtype.now) in
     let found = sym c.in_ok-spot.ensures ∙ ap (option_map spot_view) c.in-Some.is in
-    let first = Walk-found f c.items-values.result.now c.loop-i.i c.index-values-i.result (spot_view c.in-Some.spot) c.loop-i-test.true c.index-values-i.is found c.loop-i.invariant in
+    let first = Walk-found f (listed c.items-values.result) c.loop-i.i (item_view c.at-value.result) (spot_view c.in-Some.spot) (omega arith) c.at-value.ensures found c.loop-i.invariant in
     subst (Finds c.under_index.result) (first ∙ ap (first_at f 0) c.items-values.ensures) c.under_index.ensures
 
 pub loop-i-preserved : goal.loop-i-preserved
 loop-i-preserved c =
     let f = cell_spot (kind_of c.args.dtype.now) in
     let none = sym c.in_ok-spot.ensures ∙ ap (option_map spot_view) c.in_default.is in
-    Walk-next f c.items-values.result.now c.loop-i.i c.index-values-i.result c.loop-i-test.true c.index-values-i.is none c.loop-i.invariant
+    Walk-next f (listed c.items-values.result) c.loop-i.i (item_view c.at-value.result) (omega arith) c.at-value.ensures none c.loop-i.invariant

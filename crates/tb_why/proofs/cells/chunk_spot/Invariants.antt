@@ -1,7 +1,8 @@
+use Rattle.tb_tree.specs.View.{listed}
 use Rattle.tb_value.specs.SeeKind.{kind_of}
 use Rattle.tb_why.specs.Columns.{cell_spot}
 use Rattle.tb_why.proofs.Walks.{Walk}
 use Rattle.tb_why.proofs.cells.chunk_spot.Given as goal
 
 abbrev pub invariant-loop-i : goal.invariant-loop-i
-invariant-loop-i l = Walk (cell_spot (kind_of l.dtype)) l.values l.i
+invariant-loop-i l = Walk (cell_spot (kind_of l.dtype)) (listed l.values) l.i

@@ -1,7 +1,8 @@
+use Rattle.tb_tree.specs.View.{listed}
 use Rattle.tb_value.specs.SeeKind.{kind_of}
 use Rattle.tb_why.specs.Columns.{chunk_spot}
 use Rattle.tb_why.proofs.Walks.{Walk}
 use Rattle.tb_why.proofs.cells.chunks_spot.Given as goal
 
 abbrev pub invariant-loop-i : goal.invariant-loop-i
-invariant-loop-i l = Walk (chunk_spot (kind_of l.dtype)) l.chunks l.i
+invariant-loop-i l = Walk (chunk_spot (kind_of l.dtype)) (listed l.chunks) l.i
