@@ -65,14 +65,14 @@ fn check_sides(
     check_text(rt, alloc, &left, line)
 }
 
-// How many left rows have a match.
-fn met_rows(
-    rt: &(impl Threads + Sync),
+// The left rows that have a match.
+fn check_met(
+    rt: &(impl Threads + Sync + Abort),
     alloc: Global,
     left: &DataFrame,
     left_key: &Series,
     right_key: &Series,
-) -> Result<usize, Fail>
+) -> Result<(), Fail>
     requires keys { AreKeys left_key.now right_key.now }
     requires rows { left.now ≡ left_key.now ∷ [] }
 {
@@ -80,10 +80,11 @@ fn met_rows(
     let met = left._semi_anti_join_from_series(
         rt, alloc, left_key, right_key, None, false, false, &exec,
     )?;
-    Ok(met.height())
+    let line = r#"{"columns":[{"name":"k","type":"i64","values":[1]}],"height":1}"#;
+    check_text(rt, alloc, &met, line)
 }
 
-// How many rows a Full join has.
+// How many rows a Full join has, whose order is free.
 fn full_rows(
     rt: &(impl Threads + Sync),
     alloc: Global,
@@ -105,21 +106,49 @@ fn joins_by_one_column_of_each_side(rt: HostRuntime) -> Result<(), Fail> {
     let alloc = rt.alloc();
     let (left, left_key) = with_table(alloc, left_keys(alloc)?)?;
     let (right, right_key) = with_table(alloc, right_keys(alloc)?)?;
-    assert!(rt; met_rows(&rt, alloc, &left, &left_key, &right_key)? == 1);
+    check_met(&rt, alloc, &left, &left_key, &right_key)?;
     assert!(rt; full_rows(&rt, alloc, &left, &right, &left_key, &right_key)? == 4);
     check_sides(&rt, alloc, left, &right, &left_key, &right_key)
+}
+
+// The Inner join of two tables by a column that is given beside each.
+fn joined_by(
+    rt: &(impl Threads + Sync),
+    alloc: Global,
+    left: &DataFrame,
+    right: &DataFrame,
+    left_key: Series,
+    right_key: Series,
+) -> Result<PolarsResult<DataFrame>, Fail> {
+    let left_keys = one_key(alloc, left_key)?;
+    let right_keys = one_key(alloc, right_key)?;
+    let (args, exec) = (JoinArgs::new(JoinType::Inner), Exec::standard());
+    Ok(left._join_impl(rt, alloc, right, left_keys, right_keys, args, &exec))
 }
 
 #[test]
 fn a_join_by_given_columns(rt: HostRuntime) -> Result<(), Fail> {
     let alloc = rt.alloc();
     let (left, left_key) = with_table(alloc, left_keys(alloc)?)?;
-    let left_keys = one_key(alloc, left_key)?;
     let (right, right_key) = with_table(alloc, right_keys(alloc)?)?;
-    let right_keys = one_key(alloc, right_key)?;
-    let (args, exec) = (JoinArgs::new(JoinType::Inner), Exec::standard());
-    let joined = left._join_impl(&rt, alloc, &right, left_keys, right_keys, args, &exec)?;
-    assert!(rt; joined.height() == 2);
+    let joined = joined_by(&rt, alloc, &left, &right, left_key, right_key)??;
+    let line = r#"{"columns":[{"name":"k","type":"i64","values":[1,1]}],"height":2}"#;
+    check_text(&rt, alloc, &joined, line)
+}
+
+// A given column of another length than its table is refused, but one value beside a table without rows stands for none.
+#[test]
+fn given_columns_of_other_lengths(rt: HostRuntime) -> Result<(), Fail> {
+    let alloc = rt.alloc();
+    let (left, _left_key) = with_table(alloc, left_keys(alloc)?)?;
+    let short = column(alloc, "k", &[Some(1), Some(2)], &[])?;
+    let refused = joined_by(&rt, alloc, &left, &left, short, left_keys(alloc)?)?;
+    assert!(rt; matches!(refused, Err(PolarsError::ShapeMismatch)));
+    let (empty, _no_key) = with_table(alloc, column(alloc, "k", &[], &[])?)?;
+    let one = column(alloc, "k", &[Some(1)], &[])?;
+    let other = column(alloc, "k", &[Some(1)], &[])?;
+    let joined = joined_by(&rt, alloc, &empty, &empty, one, other)??;
+    assert!(rt; joined.height() == 0);
     Ok(())
 }
 
@@ -148,8 +177,12 @@ fn rows_that_were_found_before(rt: HostRuntime) -> Result<(), Fail> {
     let named = named_rows(&rt, alloc, &table, &ids)?;
     let whole = table._create_left_df_from_slice(&rt, alloc, &[0, 1, 2], true, false, true)?;
     let kept = table._finish_anti_semi_join(&rt, alloc, &[0, 2], Some((1, 1)))?;
-    assert!(rt; named.height() == 2 && whole.height() == 3 && kept.height() == 1);
-    Ok(())
+    let named_line = r#"{"columns":[{"name":"k","type":"i64","values":[2,1]}],"height":2}"#;
+    check_text(&rt, alloc, &named, named_line)?;
+    let whole_line = r#"{"columns":[{"name":"k","type":"i64","values":[1,null,2]}],"height":3}"#;
+    check_text(&rt, alloc, &whole, whole_line)?;
+    let kept_line = r#"{"columns":[{"name":"k","type":"i64","values":[2]}],"height":1}"#;
+    check_text(&rt, alloc, &kept, kept_line)
 }
 
 // A table of two columns, of which the first is called x.

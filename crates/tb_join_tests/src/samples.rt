@@ -1,4 +1,5 @@
-// The two tables of a sample of a million rows, joined in each way. Of nothing smaller is it shown that such a join has its memory.
+//! The two tables of a sample of a million rows, joined in each way. A body that tells of hashing or merging and runs nested loops
+//! would not end.
 use std::alloc::Global;
 use std::process::Abort;
 use std::test::Fail;
@@ -7,7 +8,8 @@ use tb_frame::{DataFrame, JoinArgs, JoinType};
 use tb_join::{DataFrameJoinOps, JoinTrace};
 use tb_pool::{Exec, OpenGate};
 use tb_sample::{left_table, right_table};
-use tb_value::PlSmallStr;
+use tb_store::Column;
+use tb_value::{IsSorted, PlSmallStr};
 
 const ROWS: u32 = 1_000_000;
 
@@ -40,6 +42,36 @@ fn check_hashed(
     Ok(())
 }
 
+// The column, told to ascend where it does.
+fn told_ascending(mut column: Column) -> Column {
+    if column.is_ascending() {
+        column.set_sorted_flag(IsSorted::Ascending);
+    }
+    column
+}
+
+// The table with each of its columns told to ascend where it does.
+fn told_table(alloc: Global, table: DataFrame) -> Result<DataFrame, Fail> {
+    let mut columns = Vec::new(alloc);
+    for column in table.into_columns() {
+        columns.push(told_ascending(column))?;
+    }
+    Ok(DataFrame::new(alloc, columns)?)
+}
+
+// The left table is joined to itself by keys that are told to ascend: they are merged, and each row stands beside itself alone.
+fn check_merged(
+    rt: &(impl Threads + Sync + Abort),
+    alloc: Global,
+    how: JoinType,
+) -> Result<(), Fail> {
+    let left = told_table(alloc, left_table(alloc, ROWS)?)?;
+    let (rows, trace) = height_of(rt, alloc, &left, &left, how)?;
+    assert_eq!(rt; rows, 1_000_000);
+    assert!(rt; matches!(trace, JoinTrace::Merge(_)));
+    Ok(())
+}
+
 #[test]
 fn a_million_rows_in_an_inner_join(rt: HostRuntime) -> Result<(), Fail> {
     check_hashed(&rt, rt.alloc(), JoinType::Inner, 1_000_000)
@@ -68,4 +100,19 @@ fn a_million_rows_in_a_semi_join(rt: HostRuntime) -> Result<(), Fail> {
 #[test]
 fn a_million_rows_in_an_anti_join(rt: HostRuntime) -> Result<(), Fail> {
     check_hashed(&rt, rt.alloc(), JoinType::Anti, 0)
+}
+
+#[test]
+fn a_million_ascending_rows_in_an_inner_join(rt: HostRuntime) -> Result<(), Fail> {
+    check_merged(&rt, rt.alloc(), JoinType::Inner)
+}
+
+#[test]
+fn a_million_ascending_rows_in_a_left_join(rt: HostRuntime) -> Result<(), Fail> {
+    check_merged(&rt, rt.alloc(), JoinType::Left)
+}
+
+#[test]
+fn a_million_ascending_rows_in_a_right_join(rt: HostRuntime) -> Result<(), Fail> {
+    check_merged(&rt, rt.alloc(), JoinType::Right)
 }

@@ -99,27 +99,34 @@ fn merged(
 
 #[test]
 fn each_left_row_stands_beside_its_right_rows_or_alone(rt: HostRuntime) -> Result<(), Fail> {
-    let left = [-7i64, 1, 1, 4, 9];
-    let right = [-7i64, 1, 1, 5, 9, 9];
-    let (pairs, _) = merged(&rt, rt.alloc(), left.as_slice(), right.as_slice(), true, 4)?;
+    let left = [1i64, 2, 2, 4];
+    let right = [2i64, 2, 3];
     let wanted = [
-        JoinPair::both(0, 0),
+        JoinPair::left_only(0),
+        JoinPair::both(1, 0),
         JoinPair::both(1, 1),
-        JoinPair::both(1, 2),
+        JoinPair::both(2, 0),
         JoinPair::both(2, 1),
-        JoinPair::both(2, 2),
         JoinPair::left_only(3),
-        JoinPair::both(4, 4),
-        JoinPair::both(4, 5),
     ];
+    let (pairs, merge) = merged(&rt, rt.alloc(), left.as_slice(), right.as_slice(), true, 1)?;
     assert_eq!(rt; pairs.as_slice(), wanted.as_slice());
+    assert!(rt; merge.comparisons() <= 11);
+    let matched = [
+        JoinPair::both(1, 0),
+        JoinPair::both(1, 1),
+        JoinPair::both(2, 0),
+        JoinPair::both(2, 1),
+    ];
+    let (pairs, _) = merged(&rt, rt.alloc(), left.as_slice(), right.as_slice(), false, 1)?;
+    assert_eq!(rt; pairs.as_slice(), matched.as_slice());
     Ok(())
 }
 
 #[test]
 fn lists_without_keys_take_no_comparison(rt: HostRuntime) -> Result<(), Fail> {
     let none: [i64; 0] = [];
-    let (pairs, merge) = merged(&rt, rt.alloc(), none.as_slice(), none.as_slice(), false, 4)?;
+    let (pairs, merge) = merged(&rt, rt.alloc(), none.as_slice(), none.as_slice(), true, 4)?;
     assert_eq!(rt; pairs.len(), 0);
     assert_eq!(rt; merge.comparisons(), 0);
     Ok(())
