@@ -76,7 +76,7 @@ const SHARED: &[Word] = &[
     Word(
         "width",
         Takes::Text("COLUMNS"),
-        "Columns of table lines [default: the screen's]",
+        "Of a table; what fits no line is named below it",
     ),
     OUTPUT,
 ];
@@ -85,7 +85,7 @@ const JOIN: Form = Form {
     name: "join",
     about: "Joins two tables",
     usage: "muigratu join <LEFT> <RIGHT> --on <KEY[=KEY]>... [OPTIONS]",
-    after: "Example:{n}  muigratu join orders.csv customers.csv --on customer=id --how left{n}{n}Files come first, since --on takes all words up to the next option. A key is{n}LEFT_NAME=RIGHT_NAME, or one name for both.{n}Without --order the rows of an inner or a full join come in the order of the{n}left rows, and for one left row in that of the right rows.{n}A full join keeps both columns of a key; --coalesce coalesce makes them one.{n}Both columns of a key are to be of one type: --types NAME=str reads texts.",
+    after: "Example:{n}  muigratu join orders.csv customers.csv --on customer=id --how left{n}{n}Files come first, since --on takes all words up to the next option. A key is{n}LEFT_NAME=RIGHT_NAME, or one name for both.{n}Without --order the rows of an inner or a full join come in the order of the{n}left rows, and for one left row in that of the right rows.{n}A full join keeps both columns of a key; --coalesce coalesce makes them one.{n}The type of a key is told from both files; --types NAME=str reads texts.",
     words: &[
         Word(
             "LEFT",
@@ -153,7 +153,7 @@ const PIVOT: Form = Form {
     name: "pivot",
     about: "Makes a table wide",
     usage: "muigratu pivot <TABLE> --on <NAME>... [OPTIONS]",
-    after: "Example:{n}  muigratu pivot orders.csv --on day --index customer --values cents --agg sum{n}{n}The file comes first, since --on takes all words up to the next option.{n}Dates make no columns unless --types NAME=str reads them as texts.{n}Decimal numbers are texts: --agg min and max compare their bytes.",
+    after: "Example:{n}  muigratu pivot orders.csv --on day --index customer --values cents --agg sum{n}{n}The file comes first, since --on takes all words up to the next option.{n}Dates make no columns unless --types NAME=str reads them as texts.{n}Decimal numbers are texts, which --agg min and max don't compare unless{n}--types NAME=str says that they are texts.",
     words: &[
         TABLE,
         Word(
@@ -227,7 +227,7 @@ const DUMMIES: Form = Form {
         Word(
             "columns",
             Takes::Names("NAME"),
-            "Columns that are replaced [default: all]",
+            "Replaced [default: all texts and truth values]",
         ),
         NAME_SEPARATOR,
         Word(

@@ -1,9 +1,10 @@
 //! Why there is no answer: a sentence and a status.
 
-use crate::sentences::{CsvSentence, RefusalSentence, shown};
+use crate::sentences::{CsvSentence, RefusalSentence, shown, type_word};
 use std::alloc::{AllocError, AllocFailed};
 use std::{fmt, io};
-use tb_csv::CsvFault;
+use tb_csv::{CsvFault, FieldType};
+use tb_front::Comparison;
 use tb_value::{MAX_INPUT, OutOfMemory, PlSmallStr, PolarsError};
 
 /// Why there is no answer.
@@ -11,10 +12,21 @@ use tb_value::{MAX_INPUT, OutOfMemory, PlSmallStr, PolarsError};
 pub(crate) enum Failure<'a> {
     /// The operation refuses the tables.
     Refused(PolarsError),
+    /// The two columns of a key are of different types.
+    KeyTypes {
+        left: PlSmallStr,
+        left_type: FieldType,
+        right: PlSmallStr,
+        right_type: FieldType,
+    },
+    /// The decimal numbers of this column would be compared by their bytes.
+    Decimals(Comparison, PlSmallStr),
     /// The answer has no text.
     NoText(CsvFault),
     /// This name is given a type twice.
     TypedTwice(PlSmallStr),
+    /// This name is given a type, and no column has it.
+    TypedUnknown(PlSmallStr),
     /// The word is none that the option takes.
     NoWord(&'static str, &'a str),
     /// A word of --on is empty.
@@ -35,8 +47,8 @@ pub(crate) enum Failure<'a> {
     OneInput,
     /// A word is not UTF-8.
     NotWords,
-    /// The text of this file is no table.
-    NoTable(&'a str, CsvFault),
+    /// The text of this file is no table, by a fault that may stand on a line.
+    NoTable(&'a str, CsvFault, Option<u64>),
     /// The text of this file is no answer of the JSON program.
     NoAnswer(&'a str),
     /// This file was not read.
@@ -52,8 +64,12 @@ impl Failure<'_> {
     /// The exit status.
     pub(crate) fn status(&self) -> u8 {
         match self {
-            Failure::Refused(_) | Failure::NoText(_) => 1,
+            Failure::Refused(_)
+            | Failure::KeyTypes { .. }
+            | Failure::Decimals(_, _)
+            | Failure::NoText(_) => 1,
             Failure::TypedTwice(_)
+            | Failure::TypedUnknown(_)
             | Failure::NoWord(_, _)
             | Failure::EmptyOn
             | Failure::Wanting(_)
@@ -64,8 +80,8 @@ impl Failure<'_> {
             | Failure::NoWidth(_)
             | Failure::OneInput
             | Failure::NotWords => 2,
-            Failure::NoTable(_, CsvFault::TooManyRows) => 6,
-            Failure::NoTable(_, _) | Failure::NoAnswer(_) => 3,
+            Failure::NoTable(_, CsvFault::TooManyRows, _) => 6,
+            Failure::NoTable(_, _, _) | Failure::NoAnswer(_) => 3,
             Failure::Reading(_, _) => 4,
             Failure::Writing(_, _) => 5,
             Failure::OutOfMemory => 6,
@@ -110,8 +126,26 @@ impl fmt::Display for Failure<'_> {
                 "the answer is not written: {}",
                 CsvSentence(fault)
             ),
-            Failure::NoTable(file, fault) => {
-                write!(f, "{}: {}", shown(title(file)), CsvSentence(fault))
+            Failure::KeyTypes {
+                left,
+                left_type,
+                right,
+                right_type,
+            } => write!(
+                f,
+                "the keys \"{}\" ({}) and \"{}\" ({}) are of different types: give --types for both",
+                shown(left.as_str()),
+                type_word(*left_type),
+                shown(right.as_str()),
+                type_word(*right_type)
+            ),
+            Failure::Decimals(comparison, name) => write_decimals_sentence(*comparison, name, f),
+            Failure::NoTable(file, fault, line) => {
+                write!(f, "{}: ", shown(title(file)))?;
+                if let Some(line) = line {
+                    write!(f, "line {line}: ")?;
+                }
+                write!(f, "{}", CsvSentence(fault))
             }
             Failure::NoAnswer(file) => {
                 write!(f, "{}: no answer of the JSON program", shown(title(file)))
@@ -127,6 +161,23 @@ impl fmt::Display for Failure<'_> {
     }
 }
 
+// A sentence on decimal numbers, which are texts.
+fn write_decimals_sentence<W: fmt::Write>(
+    comparison: Comparison,
+    name: &PlSmallStr,
+    f: &mut fmt::Formatter<W>,
+) -> fmt::Result {
+    let uses = match comparison {
+        Comparison::LeastOrGreatest => "--agg min and max don't compare",
+        Comparison::Order => "--sort-columns doesn't order",
+    };
+    write!(
+        f,
+        "{uses} the decimal numbers of column \"{}\": --types NAME=str takes them as texts",
+        shown(name.as_str())
+    )
+}
+
 // A sentence on words that are no command.
 fn write_words_sentence<W: fmt::Write>(
     failure: &Failure<'_>,
@@ -135,6 +186,13 @@ fn write_words_sentence<W: fmt::Write>(
     match failure {
         Failure::TypedTwice(name) => {
             write!(f, "--types names \"{}\" twice", shown(name.as_str()))
+        }
+        Failure::TypedUnknown(name) => {
+            write!(
+                f,
+                "--types names \"{}\", and no column is called so",
+                shown(name.as_str())
+            )
         }
         Failure::NoWord(option, word) => { write!(f, "{option} doesn't take \"{}\"", shown(word)) }
         Failure::EmptyOn => f.write_str("--on takes names of columns, and not an empty word"),

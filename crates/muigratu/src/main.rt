@@ -12,11 +12,13 @@ mod visible;
 mod why;
 mod words;
 
+use clap::ArgMatches;
 use clap::error::ErrorKind;
 use commands::program;
 use failure::Failure;
 use request::make_request;
 use running::{TableCommand, run_command};
+use std::alloc::Global;
 use std::env::{self, Env};
 use std::io::{self, Input, IsTerminal};
 use std::process::ExitCode;
@@ -58,22 +60,44 @@ fn shown(rt: &(impl Print + Eprint), error: &clap::Error) -> u8 {
     }
 }
 
-// How wide the screen is that standard output goes to, or 80 columns where that isn't told.
-fn screen_width(rt: &(impl Env + AllocGlobal), is_screen: bool) -> usize {
+// How many columns the screen has that standard output goes to, or 80 where that isn't told. Where it goes elsewhere, there is none.
+fn screen_width(rt: &(impl Env + AllocGlobal), is_screen: bool) -> Option<usize> {
     if !is_screen {
-        return 80;
+        return None;
     }
     let columns = match env::var(rt, "COLUMNS") {
         Ok(columns) => columns.as_str().parse::<usize>().unwrap_or(0),
         Err(_) => 0,
     };
-    if columns == 0 { 80 } else { columns }
+    Some(if columns == 0 { 80 } else { columns })
+}
+
+// Does what the command of this name is asked, and gives the status.
+fn done<'a>(
+    rt: &(impl Files + Input + Print + Threads + Sync),
+    alloc: Global,
+    screen: Option<usize>,
+    name: &str,
+    matches: &ArgMatches<'a>,
+) -> Result<u8, Failure<'a>> {
+    if let Some(command) = TableCommand::named(name) {
+        run_command(rt, alloc, screen, command, matches)?;
+        return Ok(0);
+    }
+    match name {
+        "why" => tell_why(rt, alloc, matches),
+        "request" => {
+            make_request(rt, alloc, matches)?;
+            Ok(0)
+        }
+        _ => Ok(2),
+    }
 }
 
 // Does what the words ask, and gives the status.
 fn run(
     rt: &(impl Files + Input + Print + Eprint + AllocGlobal + Threads + Sync),
-    screen: usize,
+    screen: Option<usize>,
     words: &[String],
 ) -> u8 {
     let Ok(command) = program(rt.alloc()) else {
@@ -86,20 +110,7 @@ fn run(
     let Some((name, matches)) = matches.subcommand() else {
         return 2;
     };
-    let done = match name {
-        "join" => run_command(rt, rt.alloc(), screen, TableCommand::Join, matches).map(|_| 0),
-        "pivot" => run_command(rt, rt.alloc(), screen, TableCommand::Pivot, matches).map(|_| 0),
-        "unpivot" => {
-            run_command(rt, rt.alloc(), screen, TableCommand::Unpivot, matches).map(|_| 0)
-        }
-        "dummies" => {
-            run_command(rt, rt.alloc(), screen, TableCommand::Dummies, matches).map(|_| 0)
-        }
-        "why" => tell_why(rt, rt.alloc(), matches),
-        "request" => make_request(rt, rt.alloc(), matches).map(|_| 0),
-        _ => return 2,
-    };
-    match done {
+    match done(rt, rt.alloc(), screen, name, matches) {
         Ok(status) => status,
         Err(failure) => told(rt, &failure),
     }

@@ -10,7 +10,8 @@ pub(crate) fn shown(text: &str) -> Shown<'_> {
     Shown(text)
 }
 
-fn type_word(field_type: FieldType) -> &'static str {
+/// The word of a type, as `--types` takes it.
+pub(crate) fn type_word(field_type: FieldType) -> &'static str {
     match field_type {
         FieldType::Boolean => "bool",
         FieldType::Int8 => "i8",
@@ -41,6 +42,7 @@ pub(crate) struct CsvSentence<'a>(pub(crate) &'a CsvFault);
 impl fmt::Display for CsvSentence<'_> {
     fn fmt<W: fmt::Write>(&self, f: &mut fmt::Formatter<W>) -> fmt::Result {
         match self.0 {
+            CsvFault::OpenQuote => f.write_str("the quote that opens here is never closed"),
             CsvFault::Empty => f.write_str("there is no record of names"),
             CsvFault::NotUtf8 { record } => write!(f, "record {record} is not UTF-8"),
             CsvFault::RepeatedName(name) => {
@@ -124,7 +126,7 @@ fn compute_sentence<W: fmt::Write>(cause: &ComputeCause, f: &mut fmt::Formatter<
     match cause {
         ComputeCause::KeyTypes { place } => write!(
             f,
-            "the two columns of key {} of --on are of different types: give --types for both",
+            "the columns of key {} of --on are of different types: give --types for both",
             place.saturating_add(1)
         ),
         ComputeCause::Validation(side) => {

@@ -4,14 +4,13 @@ use crate::failure::Failure;
 use clap::ArgMatches;
 use std::alloc::Global;
 use tb_agg::Aggregate;
+use tb_calls::{DummiesCall, JoinCall, PivotCall, UnpivotArgsIR};
 use tb_csv::{CsvOptions, FieldType, TypeOf};
 use tb_frame::{
     JoinArgs, JoinCoalesce, JoinNulls, JoinType, JoinValidation, MaintainOrderJoin, check_repeated,
     name_set,
 };
-use tb_front::{
-    DummiesArguments, JoinArguments, PivotArguments, TextForm, UnpivotArguments, named_flags,
-};
+use tb_front::{TextForm, TextOptions, named_flags};
 use tb_request::{agg_named, coalesce_named, how_named, order_named, validation_named};
 use tb_value::{OutOfMemory, PlSmallStr, PolarsError};
 
@@ -150,17 +149,17 @@ fn separator_given<'a>(word: Option<&'a str>) -> Result<u8, Failure<'a>> {
     }
 }
 
-fn options<'a>(alloc: Global, matches: &ArgMatches<'a>) -> Result<CsvOptions, Failure<'a>> {
+fn csv_options<'a>(alloc: Global, matches: &ArgMatches<'a>) -> Result<CsvOptions, Failure<'a>> {
     Ok(CsvOptions {
         separator: separator_given(matches.get_str("separator"))?,
         types: types_given(alloc, matches.get_strs("types"))?,
     })
 }
 
-// The width that is given, or that of the screen.
-fn width_given<'a>(screen: usize, word: Option<&'a str>) -> Result<usize, Failure<'a>> {
+// The width that is given, or that of the screen, or one that cuts nothing.
+fn width_given<'a>(screen: Option<usize>, word: Option<&'a str>) -> Result<usize, Failure<'a>> {
     let Some(word) = word else {
-        return Ok(screen);
+        return Ok(screen.unwrap_or(usize::MAX));
     };
     match word.parse::<usize>() {
         Ok(width) if width > 0 => Ok(width),
@@ -168,7 +167,7 @@ fn width_given<'a>(screen: usize, word: Option<&'a str>) -> Result<usize, Failur
     }
 }
 
-fn form<'a>(screen: usize, matches: &ArgMatches<'a>) -> Result<TextForm, Failure<'a>> {
+fn form<'a>(screen: Option<usize>, matches: &ArgMatches<'a>) -> Result<TextForm, Failure<'a>> {
     let width = width_given(screen, matches.get_str("width"))?;
     match matches.get_str("as") {
         None | Some("csv") => Ok(TextForm::Csv),
@@ -176,6 +175,18 @@ fn form<'a>(screen: usize, matches: &ArgMatches<'a>) -> Result<TextForm, Failure
         Some("table") => Ok(TextForm::Layout(width)),
         Some(word) => Err(Failure::NoWord("--as", word)),
     }
+}
+
+/// How files are read, and the form of the answer.
+pub(crate) fn text_options<'a>(
+    alloc: Global,
+    screen: Option<usize>,
+    matches: &ArgMatches<'a>,
+) -> Result<TextOptions, Failure<'a>> {
+    Ok(TextOptions {
+        csv: csv_options(alloc, matches)?,
+        form: form(screen, matches)?,
+    })
 }
 
 // What words of joins mean, as in requests. A function of another crate that is passed by its name brings no contract along; these do.
@@ -293,49 +304,40 @@ fn join_args<'a>(
     })
 }
 
-pub(crate) fn join_arguments<'a>(
+pub(crate) fn join_call<'a>(
     alloc: Global,
-    screen: usize,
     matches: &ArgMatches<'a>,
-) -> Result<JoinArguments, Failure<'a>> {
+) -> Result<JoinCall, Failure<'a>> {
     let keys = on_words(matches)?;
     let left_on = names_of(alloc, Part::BeforeSign, keys)?;
     let args = join_args(alloc, &left_on, matches)?;
-    Ok(JoinArguments {
-        options: options(alloc, matches)?,
+    Ok(JoinCall {
         left_on,
         right_on: names_of(alloc, Part::BehindSign, keys)?,
         args,
-        form: form(screen, matches)?,
     })
 }
 
-pub(crate) fn unpivot_arguments<'a>(
+pub(crate) fn unpivot_call<'a>(
     alloc: Global,
-    screen: usize,
     matches: &ArgMatches<'a>,
-) -> Result<UnpivotArguments, Failure<'a>> {
-    Ok(UnpivotArguments {
-        options: options(alloc, matches)?,
+) -> Result<UnpivotArgsIR, Failure<'a>> {
+    Ok(UnpivotArgsIR {
         on: names_of(alloc, Part::Whole, on_words(matches)?)?,
         index: names_of(alloc, Part::Whole, matches.get_strs("index"))?,
         variable_name: text_given(alloc, matches.get_str("variable-name"))?,
         value_name: text_given(alloc, matches.get_str("value-name"))?,
-        form: form(screen, matches)?,
     })
 }
 
-pub(crate) fn dummies_arguments<'a>(
+pub(crate) fn dummies_call<'a>(
     alloc: Global,
-    screen: usize,
     matches: &ArgMatches<'a>,
-) -> Result<DummiesArguments, Failure<'a>> {
-    Ok(DummiesArguments {
-        options: options(alloc, matches)?,
+) -> Result<DummiesCall, Failure<'a>> {
+    Ok(DummiesCall {
         columns: names_given(alloc, matches.get_strs("columns"))?,
         separator: text_given(alloc, matches.get_str("name-separator"))?,
         drop_first: matches.get_flag("drop-first"),
-        form: form(screen, matches)?,
     })
 }
 
@@ -349,19 +351,16 @@ fn aggregate_given<'a>(word: Option<&'a str>) -> Result<Option<Aggregate>, Failu
     }
 }
 
-pub(crate) fn pivot_arguments<'a>(
+pub(crate) fn pivot_call<'a>(
     alloc: Global,
-    screen: usize,
     matches: &ArgMatches<'a>,
-) -> Result<PivotArguments, Failure<'a>> {
-    Ok(PivotArguments {
-        options: options(alloc, matches)?,
+) -> Result<PivotCall, Failure<'a>> {
+    Ok(PivotCall {
         on: names_of(alloc, Part::Whole, on_words(matches)?)?,
         index: names_given(alloc, matches.get_strs("index"))?,
         values: names_given(alloc, matches.get_strs("values"))?,
         sort_columns: matches.get_flag("sort-columns"),
         agg: aggregate_given(matches.get_str("agg"))?,
         separator: text_given(alloc, matches.get_str("name-separator"))?,
-        form: form(screen, matches)?,
     })
 }

@@ -2,6 +2,8 @@ pub mod Causes
 pub mod FieldWalks
 pub mod Left
 pub mod EscapeWalks
+pub mod LineWalks
+pub mod KeyWalks
 pub mod MarkWalks
 pub mod MarkedFields
 pub mod Unquoted
@@ -10,6 +12,7 @@ pub mod ReadRecords
 pub mod MarksFit
 pub mod TextWalks
 pub mod LinesBack
+pub mod ClosedQuotes
 pub mod RecordsBack
 pub mod CellsBack
 pub mod TableBack

@@ -22,7 +22,7 @@ Shows (f ∷ g ∷ fs) = Unit {0}
 
 -- THE START OF A RECORD
 
-or_parts : (a b : Bool) → (a || b) ≡ false → (a ≡ false) × (b ≡ false)
+pub or_parts : (a b : Bool) → (a || b) ≡ false → (a ≡ false) × (b ≡ false)
 or_parts true b h = cc h
 or_parts false b h = (refl, h)
 
@@ -31,7 +31,7 @@ not_true true n = absurd (n refl)
 not_true false n = refl
 
 -- a byte that calls for no quotes is no mark of the format
-plain_byte : (b : ℕ) → needs_byte default_writer b ≡ false → ((b == 44) ≡ false) × ((b == 34) ≡ false) × ((b == 13) ≡ false) × ((b == 10) ≡ false)
+pub plain_byte : (b : ℕ) → needs_byte default_writer b ≡ false → ((b == 44) ≡ false) × ((b == 34) ≡ false) × ((b == 13) ≡ false) × ((b == 10) ≡ false)
 plain_byte b e =
     let a = not_true (b == 44) (λ t. cc (rw t at e)) in
     let q = not_true (b == 34) (λ t. cc (rw (a, t) at e)) in
@@ -40,7 +40,7 @@ plain_byte b e =
     (a, q, r, n)
 
 -- a text whose first byte ends no line
-abbrev Begins : List ℕ → Type 0
+abbrev pub Begins : List ℕ → Type 0
 Begins [] = ⊥
 Begins (b ∷ bs) = ((b == 13) ≡ false) × ((b == 10) ≡ false)
 
@@ -50,7 +50,7 @@ field_begins b bs tail = elim (cases_Bool (list_any (needs_byte default_writer) 
   | inr plain ↦ let p = plain_byte b (or_parts (needs_byte default_writer b) _ plain).0 in rw plain (p.2, p.3)
 ]
 
-begins : (r : Record) (tail : List ℕ) → Shows r → Begins (line_text 44 r ++ tail)
+pub begins : (r : Record) (tail : List ℕ) → Shows r → Begins (line_text 44 r ++ tail)
 begins [] tail h = absurd h
 begins (None ∷ []) tail h = absurd h
 begins (None ∷ g ∷ fs) tail h = (refl, refl)
@@ -79,15 +79,15 @@ field_run fields None c tail n = start-same fields [] c tail n
 field_run fields (Some []) c tail n = after-quote-same fields [] c tail n
 field_run fields (Some (b ∷ bs)) c tail n = field-run fields (b ∷ bs) c tail n
 
-abbrev separated : Record → List ℕ
+abbrev pub separated : Record → List ℕ
 separated fs = flat_map (λ (g : Field). 44 ∷ field_text 44 g) fs
 
 -- what comes behind a field
-abbrev head_of : Record → ℕ
+abbrev pub head_of : Record → ℕ
 head_of [] = 10
 head_of (g ∷ fs) = 44
 
-abbrev tail_of : Record → List ℕ → List ℕ
+abbrev pub tail_of : Record → List ℕ → List ℕ
 tail_of [] tail = tail
 tail_of (g ∷ fs) tail = line_text 44 (g ∷ fs) ++ 10 ∷ tail
 
@@ -95,7 +95,7 @@ behind : (fs : Record) (tail : List ℕ) → separated fs ++ 10 ∷ tail ≡ hea
 behind [] tail = refl
 behind (g ∷ fs) tail = refl
 
-split_line : (f : Field) (fs : Record) (tail : List ℕ) → line_text 44 (f ∷ fs) ++ 10 ∷ tail ≡ field_text 44 f ++ (head_of fs ∷ tail_of fs tail)
+pub split_line : (f : Field) (fs : Record) (tail : List ℕ) → line_text 44 (f ∷ fs) ++ 10 ∷ tail ≡ field_text 44 f ++ (head_of fs ∷ tail_of fs tail)
 split_line f fs tail = append_assoc (field_text 44 f) (separated fs) (10 ∷ tail) ∙ ap (λ (t : List ℕ). field_text 44 f ++ t) (behind fs tail)
 
 -- the fields from one on
@@ -147,11 +147,11 @@ quoted_marks (b ∷ rest) tail = elim (cases_Bool (b == 34)) [
 ]
 
 -- the byte behind a field, which is the last of its record or not
-abbrev end_byte : Bool → ℕ
+abbrev pub end_byte : Bool → ℕ
 end_byte true = 10
 end_byte false = 44
 
-abbrev end_state : Bool → State
+abbrev pub end_state : Bool → State
 end_state true = st.StartRecord
 end_state false = st.StartField
 

@@ -1,5 +1,5 @@
 -- The marks of the fields of a text.
-use Rattle.std.proofs.Common.{◌≡◌, ◌<◌, ◌≤◌, ◌+◌, ◌++◌, ◌∷◌, ◌∙◌, [], ℕ, List, Bool, true, false, cond, length, drop, get_or, refl, sym, ap, append_assoc, Result, Ok, Err, Vec, Global}
+use Rattle.std.proofs.Common.{◌≡◌, ◌<◌, ◌≤◌, ◌+◌, ◌++◌, ◌∷◌, ◌∙◌, [], ℕ, List, Bool, true, false, cond, length, drop, get_or, refl, sym, ap, append_assoc, Result, Ok, Err}
 use Rattle.std.specs.Prelude.{IfOk}
 use Rattle.std.proofs.lemmas.List.{drop_all, drop_more}
 use Rattle.csv.specs.Machine.{ends_at_end, step}
@@ -8,6 +8,8 @@ use Rattle.csv.specs.declared.parser.State.{State}
 use Rattle.csv.specs.Reading.{strip_bom}
 use Rattle.csv.specs.declared.parser.State.TheVariants as st
 use Rattle.tb_csv.specs.Places.{MarkAlike}
+use Rattle.tb_csv.specs.Promise.LineNumbers.{has_open_quote, is_open, state_behind}
+use Rattle.tb_csv.specs.declared.marks.Marks.{Marks}
 use Rattle.tb_csv.specs.Promise.Records.{ends_field, form, is_quoted, marks_from, marks_of}
 
 one_step : (cfg : Config) (s : State) (c : ℕ) (rest : List ℕ) (e : Bool) → e ≡ ends_field (step cfg s c).1
@@ -34,8 +36,24 @@ marks_end cfg s e q ms new all xs i past ends quoted push so_far =
     push ∙ rw (ends, quoted) last
 
 -- the marks that were found are those of the text
-pub alike : {E : Type 0} (separator : ℕ) (xs ys : List ℕ) (r : Result (Vec Bool Global) E) → ys ≡ strip_bom xs → IfOk r (λ v. v.items ≡ marks_from (form separator) st.StartRecord ys)
-    → IfOk r (λ v. MarkAlike v.items (marks_of separator xs))
+pub alike : {E : Type 0} (separator : ℕ) (xs ys : List ℕ) (r : Result Marks E) → ys ≡ strip_bom xs → IfOk r (λ m. m.marks.items ≡ marks_from (form separator) st.StartRecord ys)
+    → IfOk r (λ m. MarkAlike m.marks.items (marks_of separator xs))
 unfolding marks_of
-alike separator xs ys (Ok v) is h = λ n l. rw (h, is) refl
+alike separator xs ys (Ok m) is h = λ n l. rw (h, is) refl
 alike separator xs ys (Err e) is h = tt
+
+-- the state behind one more byte
+pub behind_more : (cfg : Config) (s t end : State) (xs : List ℕ) (i : ℕ) → i < length xs → t ≡ (step cfg s (get_or xs i 0)).0
+    → state_behind cfg s (drop i xs) ≡ end → state_behind cfg t (drop (i + 1) xs) ≡ end
+unfolding state_behind
+behind_more cfg s t end xs i low next so_far = rw next (rw (drop_more xs i 0 low) at so_far)
+
+pub behind_end : (cfg : Config) (s end : State) (xs : List ℕ) (i : ℕ) → length xs ≤ i → state_behind cfg s (drop i xs) ≡ end → s ≡ end
+unfolding state_behind
+behind_end cfg s end xs i past so_far = rw (drop_all i xs past) at so_far
+
+pub open_alike : {E : Type 0} (separator : ℕ) (xs ys : List ℕ) (r : Result Marks E) → ys ≡ strip_bom xs → IfOk r (λ m. m.is_open ≡ is_open (state_behind (form separator) st.StartRecord ys))
+    → IfOk r (λ m. m.is_open ≡ has_open_quote separator xs)
+unfolding has_open_quote
+open_alike separator xs ys (Ok m) is h = h ∙ ap (λ (zs : List ℕ). is_open (state_behind (form separator) st.StartRecord zs)) is
+open_alike separator xs ys (Err e) is h = tt

@@ -1,10 +1,15 @@
 -- What was read of a text, with its marks.
-use Rattle.std.proofs.Common.{◌≡◌, ◌≤◌, ◌∷◌, ◌∙◌, [], ℕ, List, Bool, drop, length, map, get_or, Some, None, Option, Bor, false, sym, ap, subst}
+use Rattle.std.proofs.Common.{◌≡◌, ◌≤◌, ◌∷◌, ◌∙◌, [], ℕ, List, Bool, drop, length, map, get_or, Some, None, Option, Bor, false, true, refl, sym, ap, subst}
 use Rattle.std.specs.List.{All}
 use Rattle.csv.specs.Records.{field_at, fields_of}
 use Rattle.tb_value.specs.declared.limits.TheConstants.{MAX_ROWS}
 use Rattle.tb_csv.specs.Places.{MarkAlike}
 use Rattle.tb_csv.specs.Read.{AreLines, IsRead, lent_field}
+use Rattle.tb_value.specs.Promise.Refusals.{first_cause}
+use Rattle.tb_csv.specs.Promise.Faults.{records_fault, text_fault}
+use Rattle.tb_csv.specs.Promise.LineNumbers.{has_open_quote}
+use Rattle.tb_csv.specs.declared.fault.CsvFault.{CsvFault}
+use Rattle.tb_csv.specs.declared.fault.CsvFault.TheVariants.{OpenQuote}
 use Rattle.tb_csv.specs.Promise.Records.{Line, field, line_of, lines_of, marked_fields, marked_records, marks_of, records_of}
 use Rattle.tb_csv.specs.declared.records.Records.{Records}
 use Rattle.tb_csv.proofs.MarkedFields.{line_back, lines_back, marked_all, marked_at, marked_height, marked_level}
@@ -38,3 +43,15 @@ pub field_there : (qs : List Bool) (l : Line) (i : ℕ) (q : Bool) (s : List ℕ
     → lent_field f ≡ field q s → lent_field f ≡ get_or (marked_fields qs l) i None
 field_there qs l i q s f ms there marks mark is =
     is ∙ ap (λ (b : Bool). field b s) (mark ∙ ap (λ (ns : List Bool). get_or ns i false) marks) ∙ ap (field (get_or qs i false)) (sym (found l i s [] there)) ∙ sym (marked_at qs l i (place l i s there))
+
+only_one : (f : Option CsvFault) → first_cause (f ∷ []) ≡ f
+only_one None = refl
+only_one (Some e) = refl
+
+-- an open quote is the first fault
+pub open_fault : (separator : ℕ) (text : List ℕ) → has_open_quote separator text ≡ true → text_fault separator text ≡ Some OpenQuote
+open_fault separator text is = rw is refl
+
+-- without one the fault is that of the lines
+pub lines_fault : (separator : ℕ) (text : List ℕ) → has_open_quote separator text ≡ false → records_fault (lines_of separator text) ≡ text_fault separator text
+lines_fault separator text is = rw (is, lines_read separator text) (sym (only_one (records_fault (lines_of separator text))))

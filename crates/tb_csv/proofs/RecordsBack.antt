@@ -1,5 +1,5 @@
 -- The records of the text of a table.
-use Rattle.std.proofs.Common.{◌≡◌, ◌≤◌, ◌+◌, ◌∷◌, [], ℕ, List, Some, None, length, map, refl, arith}
+use Rattle.std.proofs.Common.{◌≡◌, ◌≤◌, ◌+◌, ◌∷◌, [], ℕ, List, Some, None, false, length, map, refl, arith}
 use Rattle.std.specs.List.{All}
 use Rattle.std.proofs.lemmas.List.{length-append}
 use Rattle.std.proofs.lemmas.List.Elements.{All-cons, All-nil}
@@ -9,6 +9,8 @@ use Rattle.tb_frame.specs.Promise.Table.{Table, height, names_of}
 use Rattle.tb_csv.specs.Laws.{comma}
 use Rattle.tb_csv.specs.Promise.Records.{Record, lines_of, marks_of, records_of}
 use Rattle.tb_csv.specs.Promise.Texts.{csv_text, line_text, no_column, record_text, records_text, row_fields, table_records}
+use Rattle.tb_csv.specs.Promise.LineNumbers.{has_open_quote}
+use Rattle.tb_csv.proofs.ClosedQuotes.{closed_text}
 use Rattle.tb_csv.proofs.LinesBack.{Shows, lines_run, records_run}
 
 -- a record takes a byte at least
@@ -42,3 +44,8 @@ from_text rs x all is front = rw (front, is, lines_run rs (length (records_text 
 pub records_back : (t : Table) → no_column t ≡ None → strip_bom (csv_text comma t) ≡ csv_text comma t → records_of comma (csv_text comma t) ≡ table_records t
 unfolding csv_text
 records_back t some front = from_text (table_records t) (csv_text comma t) (records_show t some) refl front
+
+-- and its quotes are closed
+pub closed : (t : Table) → no_column t ≡ None → strip_bom (csv_text comma t) ≡ csv_text comma t → has_open_quote comma (csv_text comma t) ≡ false
+unfolding csv_text
+closed t some front = closed_text (table_records t) (csv_text comma t) (records_show t some) refl front

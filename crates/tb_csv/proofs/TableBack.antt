@@ -31,7 +31,7 @@ use Rattle.tb_csv.specs.declared.fault.CsvFault.TheVariants.{NoText, NotUtf8, Re
 use Rattle.tb_csv.specs.declared.field_type.FieldType.{FieldType}
 use Rattle.tb_csv.proofs.Causes.{first_parts, none_later}
 use Rattle.tb_csv.proofs.CellsBack.{field_is_text, kind_back, value_back}
-use Rattle.tb_csv.proofs.RecordsBack.{records_back}
+use Rattle.tb_csv.proofs.RecordsBack.{closed, records_back}
 
 -- LISTS BY THEIR PLACES
 
@@ -213,8 +213,10 @@ columns_same t told =
     let at : 0 + i ≡ i = omega arith in rw at (column_back t told i (get_or t i d) low (get_in t i (get_or t i d) d low)).0)
 
 pub round_trip : (t : Table) → IsTold t
-    → (csv_refusal (types_of t) (records_of comma (csv_text comma t)) ≡ None) × (csv_table (types_of t) (records_of comma (csv_text comma t)) ≡ t)
+    → (csv_refusal (types_of t) comma (csv_text comma t) ≡ None) × (csv_table (types_of t) (records_of comma (csv_text comma t)) ≡ t)
 round_trip t told =
     let written = first_parts (no_column t) (no_text t ∷ []) told.written in
-    rw (records_back t written.0 told.front, names_back (names_of t))
-    (none_later _ _ (records_sound t told) (none_later _ [] (columns_sound t told) refl), columns_same t told)
+    let back = records_back t written.0 told.front in
+    let shut = closed t written.0 told.front in
+    rw (shut, back, names_back (names_of t))
+    (none_later _ _ (none_later _ [] (records_sound t told) refl) (none_later _ [] (columns_sound t told) refl), columns_same t told)

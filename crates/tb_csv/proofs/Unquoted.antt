@@ -11,6 +11,7 @@ use Rattle.csv.specs.declared.parser.Action.{Action}
 use Rattle.csv.specs.declared.parser.State.{State}
 use Rattle.csv.specs.declared.parser.State.TheVariants as st
 use Rattle.tb_csv.specs.Places.{MarkAlike, has_mark, has_quote}
+use Rattle.tb_csv.specs.Promise.LineNumbers.{has_open_quote, is_open, state_behind}
 use Rattle.tb_csv.specs.Promise.Records.{Line, ends_field, form, is_quoted, marked_fields, marks_from, marks_of}
 
 -- states outside quotes
@@ -134,3 +135,21 @@ mark_of [] long = absurd (omega (arith, long))
 mark_of (x ∷ []) long = absurd (omega (arith, long))
 mark_of (x ∷ y ∷ []) long = absurd (omega (arith, long))
 mark_of (x ∷ y ∷ z ∷ rest) long = refl
+
+-- OPEN QUOTES
+
+bare_behind : (separator : ℕ) (s : State) (xs : List ℕ) → outside s ≡ true → list_any (λ y. y == 34) xs ≡ false → outside (state_behind (form separator) s xs) ≡ true
+unfolding state_behind
+bare_behind separator s [] h none = h
+bare_behind separator s (c ∷ xs) h none =
+    let p = or_parts (c == 34) (list_any (λ y. y == 34) xs) none in
+    bare_behind separator (step (form separator) s c).0 xs (stays_outside separator s c p.0 h) p.1
+
+not_open : (s : State) → outside s ≡ true → is_open s ≡ false
+not_open st.InQuoted h = cc h
+not_open _ h = refl
+
+-- a text without a quote has no open one
+pub no_open_quote : (separator : ℕ) (xs : List ℕ) → has_quote xs ≡ false → has_open_quote separator xs ≡ false
+unfolding has_open_quote
+no_open_quote separator xs none = not_open _ (bare_behind separator st.StartRecord (strip_bom xs) refl (none_stripped xs none))

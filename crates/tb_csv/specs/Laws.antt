@@ -56,4 +56,4 @@ pub record IsTold (t : Table) : Type 0 where
 -- such a table, written with commas and read back with its types given, is the same table
 abbrev pub RoundTrip : Type 0
 RoundTrip = (t : Table) → IsTold t
-    → (csv_refusal (types_of t) (records_of comma (csv_text comma t)) ≡ None) × (csv_table (types_of t) (records_of comma (csv_text comma t)) ≡ t)
+    → (csv_refusal (types_of t) comma (csv_text comma t) ≡ None) × (csv_table (types_of t) (records_of comma (csv_text comma t)) ≡ t)

@@ -1,5 +1,5 @@
 -- What was read of a text.
-use Rattle.std.specs.Prelude.{◌≡◌, ◌≤◌, ℕ, List, [], ◌∷◌, drop, length, map, Option, option_map}
+use Rattle.std.specs.Prelude.{◌≡◌, ◌≤◌, ◌*◌, ℕ, List, [], ◌∷◌, drop, length, map, Option, option_map}
 use Rattle.std.specs.Borrow.{Bor}
 use Rattle.std.specs.List.{All, flat_map}
 use Rattle.csv.specs.Records.{fields_of}
@@ -33,6 +33,11 @@ pub record AreRows (r : Records) (rows : List Record) : Type 0 where
 abbrev pub IsRead : Records → List Record → Type 0
 IsRead r [] = ⊥
 IsRead r (names ∷ rows) = (r.lines.names.items ≡ line_of names) × AreRows r rows
+
+-- as many fields as the rows and the names make, and no more rows than a table may have
+pub record IsLevel (r : Records) : Type 0 where
+  pub full : length (fields_of r.lines.fields) ≡ r.lines.height * length r.lines.names.items
+  pub few : r.lines.height ≤ MAX_ROWS
 
 -- fields that are lent
 abbrev pub lent_field : Option (Bor (List ℕ)) → Field

@@ -45,6 +45,38 @@ pub(crate) fn are_of<N: ReadField>(field_type: FieldType, fields: &[Option<&str>
     true
 }
 
+// Whether all fields are texts that are not too long to be values, or absent.
+fn are_short(fields: &[Option<&str>]) -> bool
+    ensures { result ≡ list_all (is_of FieldType.String) (lent_fields fields.now) }
+{
+    for field in fields {
+        if !is_short(*field) {
+            return false;
+        }
+    }
+    true
+}
+
+/// Whether all fields are values of this type, or have no byte.
+pub(crate) fn are_all(field_type: FieldType, fields: &[Option<&str>]) -> bool
+    ensures { result ≡ list_all (is_of field_type) (lent_fields fields.now) }
+{
+    match field_type {
+        FieldType::Boolean => are_of::<bool>(field_type, fields),
+        FieldType::Int8 => are_of::<i8>(field_type, fields),
+        FieldType::Int16 => are_of::<i16>(field_type, fields),
+        FieldType::Int32 => are_of::<i32>(field_type, fields),
+        FieldType::Int64 => are_of::<i64>(field_type, fields),
+        FieldType::Int128 => are_of::<i128>(field_type, fields),
+        FieldType::UInt8 => are_of::<u8>(field_type, fields),
+        FieldType::UInt16 => are_of::<u16>(field_type, fields),
+        FieldType::UInt32 => are_of::<u32>(field_type, fields),
+        FieldType::UInt64 => are_of::<u64>(field_type, fields),
+        FieldType::String => are_short(fields),
+        FieldType::Date => are_of::<i32>(field_type, fields),
+    }
+}
+
 // The cells of the fields of a column, or the first field that is none of the type.
 fn cells_of<N: ReadField>(
     alloc: Global,

@@ -1,11 +1,10 @@
 //! The columns of what was read.
-ghost use Rattle.std.specs.Prelude.{◌≡◌, ◌≤◌, ◌<◌, ◌*◌, List, length, IfOk};
-ghost use Rattle.csv.specs.Records.{fields_of};
+ghost use Rattle.std.specs.Prelude.{◌≡◌, ◌≤◌, ◌<◌, List, length, IfOk};
 ghost use Rattle.tb_value.specs.declared.limits.TheConstants.{MAX_ROWS};
 ghost use Rattle.tb_frame.specs.Promise.Table.{plain_column, table_of};
 ghost use Rattle.tb_csv.specs.Promise.Faults.{column_fault, columns_fault, typed_fault};
 ghost use Rattle.tb_csv.specs.Faults.{Settles};
-ghost use Rattle.tb_csv.specs.Read.{AreRows, lent_fields};
+ghost use Rattle.tb_csv.specs.Read.{AreRows, IsLevel, lent_fields};
 ghost use Rattle.tb_csv.specs.Promise.Records.{Record};
 ghost use Rattle.tb_csv.specs.Promise.Tables.{csv_column, csv_columns, typed_column};
 ghost use Rattle.tb_csv.specs.Promise.Types.{column_type, given_type, told_type};
@@ -19,7 +18,8 @@ use std::alloc::Global;
 use tb_store::{Column, IsSorted, Series};
 use tb_value::PlSmallStr;
 
-fn given_type(types: &[TypeOf], name: &PlSmallStr) -> Option<FieldType>
+/// The type that is given for the name, if one is.
+pub(crate) fn given_type(types: &[TypeOf], name: &PlSmallStr) -> Option<FieldType>
     ensures { result ≡ given_type types.now name.now }
 {
     types
@@ -28,7 +28,8 @@ fn given_type(types: &[TypeOf], name: &PlSmallStr) -> Option<FieldType>
         .map(|given| given.field_type)
 }
 
-fn told_type(fields: &[Option<&str>]) -> FieldType
+/// The type that the fields tell.
+pub(crate) fn told_type(fields: &[Option<&str>]) -> FieldType
     ensures { result ≡ told_type (lent_fields fields.now) }
 {
     if are_of::<i64>(FieldType::Int64, fields) {
@@ -77,8 +78,7 @@ fn csv_column(
     column: usize,
 ) -> Result<Column, CsvFault>
     requires column { column < length records.now.lines.names.items }
-    requires full { length (fields_of records.now.lines.fields) ≡ records.now.lines.height * length records.now.lines.names.items }
-    requires few { records.now.lines.height ≤ MAX_ROWS }
+    requires level { IsLevel records.now }
     ensures settles { (rows : List Record) → AreRows records.now rows
         → Settles result (typed_fault types.now records.now.lines.names.items rows column) }
     ensures column { (rows : List Record) → AreRows records.now rows
@@ -96,8 +96,7 @@ pub(crate) fn csv_columns(
     records: &Records,
     types: &[TypeOf],
 ) -> Result<Vec<Column>, CsvFault>
-    requires full { length (fields_of records.now.lines.fields) ≡ records.now.lines.height * length records.now.lines.names.items }
-    requires few { records.now.lines.height ≤ MAX_ROWS }
+    requires level { IsLevel records.now }
     ensures settles { (rows : List Record) → AreRows records.now rows
         → Settles result (columns_fault types.now records.now.lines.names.items rows) }
     ensures columns { (rows : List Record) → AreRows records.now rows

@@ -8,6 +8,9 @@ use thiserror::Error;
 /// Why a text is no table, and why a table has no text. Records are counted from 0, which is the record of names.
 #[derive(PartialEq, Eq, Debug, Drop, Error)]
 pub enum CsvFault {
+    /// The text ends inside quotes that nothing closes.
+    #[error("a quote is open where the text ends")]
+    OpenQuote,
     /// The text has no record, or the table no column.
     #[error("there are no columns")]
     Empty,

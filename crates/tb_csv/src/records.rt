@@ -1,36 +1,46 @@
 //! The names and the fields of a text.
-ghost use Rattle.std.specs.Prelude.{◌≡◌, ◌≤◌, ◌<◌, ◌*◌, List, drop, length, map, slice_index_or, false, IfOk};
-ghost use Rattle.csv.specs.Records.{fields_of};
-ghost use Rattle.tb_csv.specs.Promise.Faults.{records_fault};
+ghost use Rattle.std.specs.Prelude.{◌≡◌, ◌<◌, ◌∷◌, List, drop, length, slice_index_or, false, IfOk};
+ghost use Rattle.tb_csv.specs.Promise.Faults.{text_fault};
 ghost use Rattle.tb_csv.specs.Faults.{Settles};
-ghost use Rattle.tb_csv.specs.Read.{AreRows, IsRead, lent_field, lent_fields};
+ghost use Rattle.tb_csv.specs.Read.{AreRows, IsLevel, IsRead, lent_field, lent_fields};
 ghost use Rattle.tb_csv.specs.Promise.Records.{Record, column_fields, field, line_of, records_of};
-ghost use Rattle.tb_value.specs.declared.limits.TheConstants.{MAX_ROWS};
 
 use crate::fault::CsvFault;
 use crate::lines::{Lines, read_lines};
 use crate::marks::marks_of;
 use std::alloc::Global;
-use tb_value::OutOfMemory;
+use tb_value::{OutOfMemory, PlSmallStr};
 
-/// The bytes of the records of a text, and which of their fields stand in quotes.
+/// The records of a text, of which the first has the names. Their fields are not read as values yet.
 #[derive(Drop)]
-pub(crate) struct Records {
+pub struct Records {
     pub(crate) lines: Lines,
     // Whether each field stands in quotes, those of the names first. A field without a mark doesn't.
     marks: Vec<bool>,
 }
 
-/// The records of a text, or why they are no names and rows.
-pub(crate) fn read_records(alloc: Global, text: &[u8], separator: u8) -> Result<Records, CsvFault>
-    ensures settles { Settles result (records_fault (map line_of (records_of separator text.now))) }
+/// The records of a text of comma-separated values, as RFC 4180 has them. The first record has the names of the columns,
+/// and each other one the fields of a row. A byte-order mark before them is passed over, records end at a line feed, a
+/// carriage return or both, and lines without a byte are none.
+///
+/// # Errors
+///
+/// 1 OpenQuote where the text ends inside quotes, 2 Empty where it has no record, 3 NotUtf8 where a name isn't UTF-8, 4 RepeatedName,
+/// 5 FieldCount or NotUtf8 of the first row that has the one or the other, 6 TooManyRows, and OutOfMemory.
+pub fn records_of_csv(alloc: Global, text: &[u8], separator: u8) -> Result<Records, CsvFault>
+    ensures settles { Settles result (text_fault separator text.now) }
     ensures read { IfOk result (λ r. IsRead r (records_of separator text.now)) }
-    ensures full { IfOk result (λ r. length (fields_of r.lines.fields) ≡ r.lines.height * length r.lines.names.items) }
-    ensures few { IfOk result (λ r. r.lines.height ≤ MAX_ROWS) }
+    ensures level { IfOk result (λ r. IsLevel r) }
 {
-    let lines = read_lines(alloc, text, separator)?;
     let marks = marks_of(alloc, text, separator)?;
-    Ok(Records { lines, marks })
+    if marks.is_open {
+        return Err(CsvFault::OpenQuote);
+    }
+    let lines = read_lines(alloc, text, separator)?;
+    Ok(Records {
+        lines,
+        marks: marks.marks,
+    })
 }
 
 // A field without a byte is absent, unless it stands in quotes.
@@ -51,6 +61,13 @@ fn mark_at(marks: &[bool], place: usize) -> bool
 }
 
 impl Records {
+    /// The names of the columns, from the left.
+    pub fn names(&self) -> &[PlSmallStr]
+        ensures { (names : Record) (rows : List Record) → IsRead self.now (names ∷ rows) → result.now ≡ line_of names }
+    {
+        &self.lines.names
+    }
+
     // The marks of the fields of the rows.
     fn row_marks(&self) -> &[bool]
         ensures { result.now ≡ drop (length self.now.lines.names.items) self.now.marks.items }
@@ -70,7 +87,7 @@ impl Records {
         column: usize,
     ) -> Result<Vec<Option<&str>>, OutOfMemory>
         requires column { column < length self.now.lines.names.items }
-        requires full { length (fields_of self.now.lines.fields) ≡ self.now.lines.height * length self.now.lines.names.items }
+        requires level { IsLevel self.now }
         ensures height { IfOk result (λ v. length v.items ≡ self.now.lines.height) }
         ensures fields { (rows : List Record) → AreRows self.now rows
             → IfOk result (λ v. lent_fields v.items ≡ column_fields rows column) }

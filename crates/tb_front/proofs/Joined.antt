@@ -8,25 +8,26 @@ use Rattle.tb_value.specs.Promise.Names.{Name}
 use Rattle.tb_value.specs.Refusals as causes
 use Rattle.tb_value.specs.declared.error.PolarsError.{PolarsError}
 use Rattle.tb_chunk.specs.Promise.Col.{Col}
-use Rattle.tb_frame.specs.Promise.Join.{IsAnswer, Request, by_names, out_columns}
+use Rattle.tb_frame.specs.Promise.Join.{IsAnswer, Request, out_columns}
 use Rattle.tb_frame.specs.Promise.Refusal.{join_refusal}
 use Rattle.tb_frame.specs.Promise.Table.{Table, TableColumn, schema_of, table_of}
 use Rattle.tb_csv.specs.Promise.Faults as csv
 use Rattle.tb_csv.specs.Promise.Texts.{field_type, no_column, no_text, text_refusal}
 use Rattle.tb_csv.specs.declared.fault.CsvFault.{CsvFault}
 use Rattle.tb_csv.specs.declared.fault.CsvFault.TheVariants.{NoText}
-use Rattle.tb_front.specs.declared.arguments.JoinArguments.{JoinArguments}
-use Rattle.tb_front.specs.declared.arguments.TextForm.{TextForm}
-use Rattle.tb_front.specs.declared.arguments.TextForm.TheVariants.{Csv, Json, Layout}
+use Rattle.tb_calls.specs.Promise.Asked.{joined_of}
+use Rattle.tb_calls.specs.declared.arguments.JoinCall.{JoinCall}
+use Rattle.tb_front.specs.declared.options.TextForm.{TextForm}
+use Rattle.tb_front.specs.declared.options.TextForm.TheVariants.{Csv, Json, Layout}
+use Rattle.tb_front.specs.declared.options.TextOptions.{TextOptions}
 use Rattle.tb_front.specs.declared.fault.FrontFault.{FrontFault}
 use Rattle.tb_front.specs.declared.fault.FrontFault.TheVariants as fault
-use Rattle.tb_front.specs.declared.fault.Place.TheVariants.{First, Second}
-use Rattle.tb_front.specs.Promise.Asked.{IsAnswerText, answer_faults, asked_join, asked_of, join_fault}
+use Rattle.tb_front.specs.Promise.Asked.{IsAnswerText, answer_faults, asked_join, join_fault, joining_fault, left_table, right_table, tables_faults}
 use Rattle.tb_value.specs.Promise.Refusals.{first_cause}
-use Rattle.tb_front.specs.Promise.Faults.{Settles, empty_table, no_table, writing_fault}
-use Rattle.tb_front.specs.Promise.Texts.{IsOutcome, table_in}
-use Rattle.tb_front.proofs.Outcomes.{outcome_answers, outcome_settles}
-use Rattle.tb_front.proofs.Steps.{passes}
+use Rattle.tb_front.specs.Promise.Faults.{Settles, empty_table, writing_fault}
+use Rattle.tb_front.specs.Promise.Texts.{IsOutcome, joined_table}
+use Rattle.tb_front.proofs.Outcomes.{outcome_settles}
+use Rattle.tb_front.proofs.Steps.{first_of_one, passes}
 
 -- ---- whether a table has a text is told by its names and types
 
@@ -74,44 +75,36 @@ module _ (form : TextForm) (separator : ℕ) (q : Request) where
   answer_settles outcome result settles answer is =
       outcome_settles form separator outcome result (join_refusal q) (writing_fault form (empty_table (out_columns q))) settles (answers_written outcome answer) is
 
--- ---- the names that are lent
-
-module _ (a : JoinArguments) (left right : Table) (left_on right_on : List Name) (l : left_on ≡ a.left_on.items) (r : right_on ≡ a.right_on.items) where
-  lent_is : by_names left right left_on right_on a.args ≡ asked_of a left right
-  lent_is = λ t. by_names left right (l t) (r t) a.args
-
-  pub lent_settles : (outcome : Result (List Col) PolarsError) (result : Result (Vec ℕ Global) FrontFault)
-      → causes.Settles outcome (join_refusal (by_names left right left_on right_on a.args))
-      → IfOk outcome (λ t. IsAnswer (by_names left right left_on right_on a.args) (table_of t))
-      → IsOutcome a.form a.options.separator outcome result
-      → Settles result (first_cause (answer_faults a.form (asked_of a left right)))
-  lent_settles outcome result settles answer is =
-      subst (λ (q : Request). Settles result (first_cause (answer_faults a.form q))) lent_is
-      (answer_settles a.form a.options.separator (by_names left right left_on right_on a.args) outcome result settles answer is)
-
-  pub lent_answer : (outcome : Result (List Col) PolarsError) (result : Result (Vec ℕ Global) FrontFault)
-      → IfOk outcome (λ t. IsAnswer (by_names left right left_on right_on a.args) (table_of t))
-      → IsOutcome a.form a.options.separator outcome result
-      → IfOk result (λ v. IsAnswerText a.form a.options.separator (asked_of a left right) v.items)
-  lent_answer outcome result answer is =
-      subst (λ (q : Request). IfOk result (λ v. IsAnswerText a.form a.options.separator q v.items)) lent_is
-      (outcome_answers a.form a.options.separator (IsAnswer (by_names left right left_on right_on a.args)) outcome result answer is)
+  pub joining_settles : (clash : Option FrontFault) (outcome : Result (List Col) PolarsError) (result : Result (Vec ℕ Global) FrontFault)
+      → clash ≡ None → causes.Settles outcome (join_refusal q) → IfOk outcome (λ t. IsAnswer q (table_of t))
+      → IsOutcome form separator outcome result → Settles result (first_cause (clash ∷ answer_faults form q))
+  joining_settles clash outcome result none settles answer is = passes result clash (answer_faults form q) none (answer_settles outcome result settles answer is)
 
 -- ---- the tables that texts are
 
-module _ (a : JoinArguments) (left right : Table) (l r : List ℕ) (first : left ≡ table_in a.options l) (second : right ≡ table_in a.options r) where
-  asked_is : asked_of a left right ≡ asked_join a l r
-  asked_is = λ t. asked_of a (first t) (second t)
+module _ (o : TextOptions) (c : JoinCall) (l r : List ℕ) (left_on right_on : List Name) (lefts : left_on ≡ c.left_on.items) (rights : right_on ≡ c.right_on.items) where
+  abbrev faults : List (Option FrontFault)
+  faults = tables_faults o.csv c.left_on.items c.right_on.items l r
 
-  pub texts_settle : {T : Type 0} (result : Result T FrontFault) → no_table a.options First l ≡ None → no_table a.options Second r ≡ None
-      → Settles result (first_cause (answer_faults a.form (asked_of a left right))) → Settles result (join_fault a l r)
-  texts_settle result none none' settles =
-      passes result (no_table a.options First l) (no_table a.options Second r ∷ answer_faults a.form (asked_join a l r)) none
-      (passes result (no_table a.options Second r) (answer_faults a.form (asked_join a l r)) none'
-      (subst (λ (q : Request). Settles result (first_cause (answer_faults a.form q))) asked_is settles))
+  same_faults : first_cause (tables_faults o.csv left_on right_on l r) ≡ first_cause faults
+  same_faults = λ t. first_cause (tables_faults o.csv (lefts t) (rights t) l r)
 
-  pub texts_answer : {E : Type 0} (result : Result (Vec ℕ Global) E)
-      → IfOk result (λ v. IsAnswerText a.form a.options.separator (asked_of a left right) v.items)
-      → IfOk result (λ v. IsAnswerText a.form a.options.separator (asked_join a l r) v.items)
-  texts_answer result answer =
-      subst (λ (q : Request). IfOk result (λ v. IsAnswerText a.form a.options.separator q v.items)) asked_is answer
+  abbrev joining : Option FrontFault
+  joining = joining_fault o.form c (left_table o.csv c l r) (right_table o.csv c l r)
+
+  module _ (left right : Table) (first : left ≡ joined_table o.csv l r left_on right_on) (second : right ≡ joined_table o.csv r l right_on left_on) where
+    left_is : left ≡ left_table o.csv c l r
+    left_is = first ∙ (λ t. joined_table o.csv l r (lefts t) (rights t))
+
+    right_is : right ≡ right_table o.csv c l r
+    right_is = second ∙ (λ t. joined_table o.csv r l (rights t) (lefts t))
+
+    pub texts_settle : {T : Type 0} (result : Result T FrontFault) → first_cause (tables_faults o.csv left_on right_on l r) ≡ None
+        → Settles result (joining_fault o.form c left right) → Settles result (join_fault o c l r)
+    texts_settle result none settles =
+        passes result (first_cause faults) (joining ∷ []) (sym same_faults ∙ none)
+        (subst (λ f. Settles result f) ((λ t. joining_fault o.form c (left_is t) (right_is t)) ∙ sym (first_of_one joining)) settles)
+
+    pub texts_answer : {E : Type 0} (result : Result (Vec ℕ Global) E)
+        → IfOk result (λ v. IsAnswerText o (joined_of c left right) v.items) → IfOk result (λ v. IsAnswerText o (asked_join o.csv c l r) v.items)
+    texts_answer result answer = subst (λ (q : Request). IfOk result (λ v. IsAnswerText o q v.items)) (λ t. joined_of c (left_is t) (right_is t)) answer

@@ -8,7 +8,7 @@ use Rattle.tb_value.specs.declared.error.PolarsError.{PolarsError}
 use Rattle.tb_value.specs.declared.error.PolarsError.TheVariants as cause
 use Rattle.tb_chunk.specs.Promise.Col.{Col}
 use Rattle.tb_frame.specs.Promise.Table.{Table, table_of}
-use Rattle.tb_front.specs.declared.arguments.TextForm.{TextForm}
+use Rattle.tb_front.specs.declared.options.TextForm.{TextForm}
 use Rattle.tb_front.specs.declared.fault.FrontFault.{FrontFault}
 use Rattle.tb_front.specs.declared.fault.FrontFault.TheVariants as fault
 use Rattle.tb_value.specs.Promise.Refusals.{first_cause}

@@ -1,1 +1,3 @@
+pub mod Columns
 pub mod Promise
+pub mod Texts

@@ -1,3 +1,4 @@
 pub mod Laid
+pub mod Noted
 pub mod Sides
 pub mod Widths

@@ -2,6 +2,7 @@
 use Rattle.std.proofs.Common.{◌≡◌, ◌<◌, ◌+◌, ◌∷◌, ◌++◌, ◌∙◌, [], ℕ, Bool, List, length, map, take, get_or, sym, ap, arith, subst, append-nil, append_assoc, replicate}
 use Rattle.std.specs.List.{All}
 use Rattle.std.proofs.Math.ListN as listn
+use Rattle.std.proofs.lemmas.List.Elements.{All-take}
 use Rattle.std.proofs.lemmas.List.{get_or-map, get_or_default, length-map, take_more}
 use Rattle.tb_value.specs.Promise.Datum.{Datum}
 use Rattle.tb_value.specs.Promise.Kind as kind
@@ -52,8 +53,12 @@ dashes_more line cs ws k w old mid new are low at dashes gap so_far =
     (ap (λ n. replicate n 45) (width_at line cs ws k c w are low is at))
     (gap ∙ ap (λ s. s ++ blanks 2) dashes ∙ append_assoc old (replicate w 45) (blanks 2)) so_far
 
--- a row of the table is one of each column
-pub row_in_all : (cs ks : List Col) (i h : ℕ) → ks ≡ cs → h ≡ height (table_of cs) → i < h → All (λ (c : TableColumn). length c.values ≡ height (table_of cs)) (table_of cs) → All (λ (c : Col). i < length (values c)) ks
-row_in_all cs ks i h same high low all = rw same (λ k d within.
-    let level : length (values (get_or cs k d)) ≡ height (table_of cs) = subst (λ (c : TableColumn). length c.values ≡ height (table_of cs)) (listn.get_or-map plain_column cs k d) (all k (plain_column d) (rw (length-map cs plain_column) within)) in
-    omega arith)
+-- a row below the height of columns is one of each
+pub row_below : (cs : List Col) (i h : ℕ) → i < h → All (λ (c : Col). length (values c) ≡ h) cs → All (λ (c : Col). i < length (values c)) cs
+row_below cs i h low all = λ k d within. let high = all k d within in omega (arith, low, high)
+
+-- the columns that are shown are as high as the table
+pub shown_high : (cs ks : List Col) (n h : ℕ) → ks ≡ take n cs → h ≡ height (table_of cs)
+    → All (λ (c : TableColumn). length c.values ≡ height (table_of cs)) (table_of cs) → All (λ (c : Col). length (values c) ≡ h) ks
+shown_high cs ks n h same high all = rw (same, high) (All-take (λ (c : Col). length (values c) ≡ height (table_of cs)) n cs (λ k d within.
+    subst (λ (c : TableColumn). length c.values ≡ height (table_of cs)) (listn.get_or-map plain_column cs k d) (all k (plain_column d) (rw (length-map cs plain_column) within))))

@@ -1,2 +1,4 @@
+pub mod Laid
 pub mod Laws
+pub mod Notes
 pub mod Promise

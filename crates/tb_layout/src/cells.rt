@@ -3,9 +3,9 @@ ghost use Rattle.std.specs.Prelude.{◌≡◌, ◌++◌, IfOk, OnOk, map};
 ghost use Rattle.tb_value.specs.See.{lent_value, IsText};
 ghost use Rattle.tb_value.specs.SeeKind.{kind_of};
 ghost use Rattle.tb_frame.specs.Promise.Table.{plain_column, table_of};
-ghost use Rattle.tb_layout.specs.Promise.Lines.{blanks, cell_of, cell_text, column_width, is_number, padded_cell};
+ghost use Rattle.tb_layout.specs.Promise.Lines.{blanks, cell_of, cell_text, column_width, is_cut, is_number, padded_cell};
 
-use crate::characters::{push_repeated, shown, width_within};
+use crate::characters::{is_wide, push_repeated, shown, width_within};
 use std::alloc::Global;
 use tb_date::{is_date, number_text};
 use tb_label::value_text;
@@ -95,4 +95,19 @@ pub(crate) fn column_widths(
         widths.push(column_width(alloc, column, line)?)?;
     }
     Ok(widths)
+}
+
+/// Whether the name of the column or a cell of it is wider than the line.
+pub(crate) fn is_cut(alloc: Global, column: &Column, line: usize) -> Result<bool, OutOfMemory>
+    ensures { IfOk result (λ is. is ≡ is_cut line (plain_column column.now)) }
+{
+    if is_wide(line, &shown(alloc, column.name().as_str())?) {
+        return Ok(true);
+    }
+    for row in 0..column.len() {
+        if is_wide(line, &cell_of(alloc, column.dtype(), column.get(row))?) {
+            return Ok(true);
+        }
+    }
+    Ok(false)
 }

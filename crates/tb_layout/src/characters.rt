@@ -1,5 +1,6 @@
 //! Characters as a line of a terminal shows them.
 ghost use Rattle.std.specs.Prelude.{◌≡◌, ◌++◌, IfOk, OnOk, min, replicate};
+ghost use Rattle.tb_layout.specs.Promise.Lines.{is_wide};
 ghost use Rattle.tb_layout.specs.Promise.Characters.{columns_of, cut, shown_text, trimmed_text, visible_text, width_of};
 
 use std::alloc::Global;
@@ -21,6 +22,21 @@ pub(crate) fn width_within(limit: usize, characters: &[char]) -> usize
         total = total.saturating_add(columns_of(*c));
     }
     total.min(limit)
+}
+
+/// Whether the characters take more columns than these.
+pub(crate) fn is_wide(columns: usize, characters: &[char]) -> bool
+    ensures { result ≡ is_wide columns characters.now }
+{
+    let mut room = columns;
+    for c in characters {
+        let taken = columns_of(*c);
+        if room < taken {
+            return true;
+        }
+        room -= taken;
+    }
+    false
 }
 
 fn push_visible(line: &mut Vec<char>, c: char) -> Result<(), OutOfMemory>

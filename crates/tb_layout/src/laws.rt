@@ -1,7 +1,7 @@
 //! What holds of the lines of a table, as the contracts of empty functions.
-ghost use Rattle.tb_layout.specs.Laws.{LinesFit, OneLineEach};
+ghost use Rattle.tb_layout.specs.Laws.{LinesFit, OneLineEach, ShownOrNamed};
 
-/// No line is wider than the terminal.
+/// No line of the table is wider than the terminal.
 pub fn lines_fit()
     ensures { LinesFit }
 {}
@@ -9,4 +9,9 @@ pub fn lines_fit()
 /// The names and the dashes have a line each, and each row has one.
 pub fn one_line_each()
     ensures { OneLineEach }
+{}
+
+/// Each column is shown, or is named among those that are left out.
+pub fn shown_or_named()
+    ensures { ShownOrNamed }
 {}

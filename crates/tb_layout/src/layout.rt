@@ -1,15 +1,19 @@
 //! The text of a table.
-ghost use Rattle.std.specs.Prelude.{◌≡◌, ◌++◌, ◌∷◌, [], ℕ, IfOk, OnOk, encode_utf8_all, string_bytes};
-ghost use Rattle.tb_frame.specs.Promise.Table.{table_of};
+ghost use Rattle.std.specs.Prelude.{◌≡◌, ◌++◌, ◌∷◌, [], IfOk, OnOk, encode_utf8_all, length, string_bytes};
+ghost use Rattle.std.specs.List.{All};
+ghost use Rattle.tb_chunk.specs.Promise.Col.{Col, values};
+ghost use Rattle.tb_frame.specs.Promise.Table.{names_of, table_of};
+ghost use Rattle.tb_layout.specs.Laid.{ended, laid};
 ghost use Rattle.tb_layout.specs.Promise.Characters.{cut, trimmed_text};
-ghost use Rattle.tb_layout.specs.Promise.Lines.{layout};
+ghost use Rattle.tb_layout.specs.Promise.Lines.{layout, note};
 
-use crate::cells::column_widths;
-use crate::characters::{cut, trimmed};
-use crate::grid::Grid;
+use crate::characters::{cut, shown, trimmed};
+use crate::grid::{Grid, columns_behind, shown_grid};
 use crate::lines::{dashes_line, names_line, row_line};
+use crate::notes::{cut_columns, note_text};
 use std::alloc::Global;
 use tb_frame::DataFrame;
+use tb_store::Column;
 use tb_value::OutOfMemory;
 
 fn push_characters(text: &mut String, characters: &[char]) -> Result<(), OutOfMemory>
@@ -30,13 +34,50 @@ fn push_line(text: &mut String, line: &[char], width: usize) -> Result<(), OutOf
     Ok(())
 }
 
+// The lines of the columns that are shown, with so many rows.
+fn table_text(alloc: Global, grid: &Grid<'_>, rows: usize) -> Result<String, OutOfMemory>
+    requires { All (λ (c : Col). length (values c) ≡ rows) grid.now.columns.now }
+    ensures { IfOk result (λ s. string_bytes s ≡ encode_utf8_all (laid grid.now.line (table_of grid.now.columns.now) rows)) }
+{
+    let mut text = String::new(alloc);
+    push_line(&mut text, &names_line(alloc, grid)?, grid.line)?;
+    push_line(&mut text, &dashes_line(alloc, grid)?, grid.line)?;
+    for row in 0..rows {
+        push_line(&mut text, &row_line(alloc, grid, row)?, grid.line)?;
+    }
+    Ok(text)
+}
+
+// Appends a line on what became of the columns, if there is one.
+fn push_note(
+    alloc: Global,
+    text: &mut String,
+    what: &str,
+    columns: &[Column],
+) -> Result<(), OutOfMemory>
+    ensures { OnOk result (string_bytes text.new ≡ string_bytes text.old ++ encode_utf8_all (ended (note what.now (names_of (table_of columns.now))))) }
+{
+    if columns.is_empty() {
+        return Ok(());
+    }
+    let said = note_text(alloc, what, columns)?;
+    push_characters(text, &shown(alloc, said.as_str())?)?;
+    text.push('\n')?;
+    Ok(())
+}
+
 /// The text of a table for a terminal that is `width` columns wide: a line of the names, a line of dashes, and a line for each
 /// row, each ended by a line feed.
 ///
 /// Columns are two blanks apart. Whole numbers, dates and times stand at the right of their column, all else at the left. A day of
-/// the years 0 to 9999 is shown as its date, `YYYY-MM-DD`. A column is as wide as the widest of its name and values. A line that is wider than the terminal is cut between two
-/// characters; those of no width, such as combining ones, stay with the character before them. Blanks at the end of a line are
-/// left out. The width of a line is the sum of those of its characters, as the crate `unicode_width` tells them one by one.
+/// the years 0 to 9999 is shown as its date, `YYYY-MM-DD`. A column is as wide as the widest of its name and values. Blanks at the
+/// end of a line are left out. The width of a line is the sum of those of its characters, as the crate `unicode_width` tells them
+/// one by one.
+///
+/// The columns are shown that stand whole beside each other in a line of the terminal, from the left. The others are named in a line
+/// below the table, as in `(2 columns left out: a, b)`. A first column that is wider than the terminal is shown all the same, each
+/// line cut between two characters; those of no width, such as combining ones, stay with the character before them. Then
+/// `(1 column cut: a)` stands below the table. These lines may be wider than the terminal.
 ///
 /// Null is shown as `null`, since an empty cell is what the empty text looks like; the text `null` looks the same. Of bytes,
 /// lists and structs `..` is shown. Line feeds, tabs and carriage returns in texts are shown as `\n`, `\t` and `\r`, and other
@@ -53,16 +94,11 @@ pub fn layout_of_table(
     ensures { IfOk result (λ s. string_bytes s ≡ encode_utf8_all (layout width (table_of table.now))) }
 {
     let columns = table.get_columns();
-    let grid = Grid {
-        columns,
-        line: width,
-        widths: column_widths(alloc, columns, width)?,
-    };
-    let mut text = String::new(alloc);
-    push_line(&mut text, &names_line(alloc, &grid)?, width)?;
-    push_line(&mut text, &dashes_line(alloc, &grid)?, width)?;
-    for row in 0..table.height() {
-        push_line(&mut text, &row_line(alloc, &grid, row)?, width)?;
-    }
+    let grid = shown_grid(alloc, columns, width)?;
+    let mut text = table_text(alloc, &grid, table.height())?;
+    let cut = cut_columns(alloc, columns, width)?;
+    push_note(alloc, &mut text, "cut", cut)?;
+    let others = columns_behind(columns, grid.columns.len());
+    push_note(alloc, &mut text, "left out", others)?;
     Ok(text)
 }

@@ -1,7 +1,7 @@
 //! Tables as texts that people read on a terminal.
 //!
 //! A line of the names, a line of dashes and a line for each row, with two blanks between the columns. Whole numbers stand at
-//! the right of their column, and all else at the left.
+//! the right of their column, and all else at the left. Columns that don't fit are left out, and named in a line below the table.
 #![tactic(auto)]
 
 mod cells;
@@ -10,5 +10,6 @@ mod grid;
 pub mod laws;
 mod layout;
 mod lines;
+mod notes;
 
 pub use layout::layout_of_table;

@@ -6,10 +6,11 @@ use Rattle.tb_value.specs.Promise.Pairs.{row_numbers}
 use Rattle.tb_value.specs.Promise.Refusals.{first_cause, when}
 use Rattle.tb_value.specs.declared.limits.TheConstants.{MAX_ROWS}
 use Rattle.tb_frame.specs.Promise.Refusal.{first_repeated, name_at}
-use Rattle.tb_csv.specs.Promise.Records.{Field, Line, Record, column_fields, is_text, line_of}
+use Rattle.tb_csv.specs.Promise.LineNumbers.{has_open_quote}
+use Rattle.tb_csv.specs.Promise.Records.{Field, Line, Record, column_fields, is_text, line_of, records_of}
 use Rattle.tb_csv.specs.Promise.Types.{column_type, is_of}
 use Rattle.tb_csv.specs.declared.fault.CsvFault.{CsvFault}
-use Rattle.tb_csv.specs.declared.fault.CsvFault.TheVariants.{Empty, NotUtf8, RepeatedName, FieldCount, TooManyRows, NotOfType}
+use Rattle.tb_csv.specs.declared.fault.CsvFault.TheVariants.{OpenQuote, Empty, NotUtf8, RepeatedName, FieldCount, TooManyRows, NotOfType}
 use Rattle.tb_csv.specs.declared.field_type.FieldType.{FieldType}
 use Rattle.tb_csv.specs.declared.options.TypeOf.{TypeOf}
 
@@ -48,7 +49,15 @@ typed_fault types names rows j =
 abbrev pub columns_fault : List TypeOf → List Name → List Record → Option CsvFault
 columns_fault types names rows = first_cause (map (typed_fault types names rows) (row_numbers (length names)))
 
--- why records are no table
-abbrev pub csv_refusal : List TypeOf → List Record → Option CsvFault
-csv_refusal types [] = Some Empty
-csv_refusal types (names ∷ rows) = first_cause (records_fault (map line_of (names ∷ rows)) ∷ columns_fault types (line_of names) rows ∷ [])
+-- why the fields of records are not of the types of their columns. The first record has the names
+abbrev pub types_fault : List TypeOf → List Record → Option CsvFault
+types_fault types [] = None
+types_fault types (names ∷ rows) = columns_fault types (line_of names) rows
+
+-- why a text is no names and rows
+abbrev pub text_fault : ℕ → List ℕ → Option CsvFault
+text_fault separator text = first_cause (when (has_open_quote separator text) OpenQuote ∷ records_fault (map line_of (records_of separator text)) ∷ [])
+
+-- why a text is no table
+abbrev pub csv_refusal : List TypeOf → ℕ → List ℕ → Option CsvFault
+csv_refusal types separator text = first_cause (text_fault separator text ∷ types_fault types (records_of separator text) ∷ [])

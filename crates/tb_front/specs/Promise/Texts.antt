@@ -2,18 +2,21 @@
 use Rattle.std.specs.Prelude.{◌≡◌, ℕ, List, Result, Ok, Err, IfOk, encode_utf8_all}
 use Rattle.std.specs.declared.vec.Vec.{Vec}
 use Rattle.std.specs.declared.alloc.Global.{Global}
+use Rattle.tb_value.specs.Promise.Names.{Name}
 use Rattle.tb_value.specs.declared.error.PolarsError.{PolarsError}
 use Rattle.tb_value.specs.declared.error.PolarsError.TheVariants as cause
 use Rattle.tb_chunk.specs.Promise.Col.{Col}
 use Rattle.tb_frame.specs.Promise.Table.{Table, table_of}
+use Rattle.tb_csv.specs.Promise.Keys.{types_with_keys}
 use Rattle.tb_csv.specs.Promise.Records.{records_of}
 use Rattle.tb_csv.specs.Promise.Tables.{csv_table}
 use Rattle.tb_csv.specs.Promise.Texts.{csv_text}
 use Rattle.tb_csv.specs.declared.options.CsvOptions.{CsvOptions}
+use Rattle.tb_csv.specs.declared.options.TypeOf.{TypeOf}
 use Rattle.tb_json.specs.Promise.Text.{text_of}
 use Rattle.tb_layout.specs.Promise.Lines.{layout}
-use Rattle.tb_front.specs.declared.arguments.TextForm.{TextForm}
-use Rattle.tb_front.specs.declared.arguments.TextForm.TheVariants.{Csv, Json, Layout}
+use Rattle.tb_front.specs.declared.options.TextForm.{TextForm}
+use Rattle.tb_front.specs.declared.options.TextForm.TheVariants.{Csv, Json, Layout}
 use Rattle.tb_front.specs.declared.fault.FrontFault.{FrontFault}
 use Rattle.tb_front.specs.declared.fault.FrontFault.TheVariants as fault
 use Rattle.tb_front.specs.Promise.Faults.{Settles, writing_fault}
@@ -21,6 +24,15 @@ use Rattle.tb_front.specs.Promise.Faults.{Settles, writing_fault}
 -- the table that a text is
 abbrev pub table_in : CsvOptions → List ℕ → Table
 table_in options text = csv_table options.types.items (records_of options.separator text)
+
+-- the types of the columns of a text that is joined with another by these names, told from both
+abbrev pub joined_types : CsvOptions → List ℕ → List ℕ → List Name → List Name → List TypeOf
+joined_types options text other on other_on =
+    types_with_keys options.types.items (records_of options.separator text) (records_of options.separator other) on other_on
+
+-- the table that such a text is
+abbrev pub joined_table : CsvOptions → List ℕ → List ℕ → List Name → List Name → Table
+joined_table options text other on other_on = csv_table (joined_types options text other on other_on) (records_of options.separator text)
 
 -- the text of a table in a form, with this byte between the fields of comma-separated values
 abbrev pub text_in : TextForm → ℕ → Table → List ℕ

@@ -1,31 +1,32 @@
-use Rattle.std.proofs.Common.{◌≡◌, ◌∙◌, ap, arith, string_bytes}
-use Rattle.tb_frame.specs.Promise.Table.{height, table_of}
-use Rattle.tb_layout.specs.Promise.Lines.{cell_in, dashes_in, name_in, side_by_side}
-use Rattle.tb_layout.proofs.Laid.{written_all, written_more, written_start}
-use Rattle.tb_layout.proofs.Sides.{row_in_all}
+use Rattle.std.proofs.Common.{◌≡◌, ◌++◌, ◌∙◌, List, ap, codes, encode_utf8_all, length, string_bytes, take}
+use Rattle.tb_chunk.specs.Promise.Col.{Col}
+use Rattle.tb_frame.specs.Promise.Table.{Table, names_of, table_of}
+use Rattle.tb_layout.specs.Laid.{ended, laid}
+use Rattle.tb_layout.specs.Promise.Lines.{cut_columns, fitting_columns, left_out, note, shown}
+use Rattle.tb_layout.proofs.Laid.{other_columns, shown_columns, written_whole}
+use Rattle.tb_layout.proofs.Sides.{shown_high}
 use Rattle.tb_layout.proofs.layout.layout_of_table.Goals as goal
 
-pub loop-row-init : goal.loop-row-init
-loop-row-init c =
-    let t = table_of c.args.table.now in
-    let columns = c.get_columns-columns.ensures.columns in
-    written_start c.args.width t (string_bytes c.new-text.result) (string_bytes c.push_line.new.text) (string_bytes c.push_line-2.new.text) c.deref.result.now c.deref-2.result.now
-    c.new-text.ensures.bytes
-    (c.deref.ensures.value ∙ c.in_ok-names_line.ensures ∙ ap (λ cs. side_by_side (name_in c.args.width) (table_of cs)) columns)
-    (c.deref-2.ensures.value ∙ c.in_ok-dashes_line.ensures ∙ ap (λ cs. side_by_side (dashes_in c.args.width) (table_of cs)) columns)
-    c.in_ok-push_line.ensures c.in_ok-push_line-2.ensures
-
-pub row_line-requires : goal.row_line-requires
-row_line-requires c =
-    row_in_all c.args.table.now c.get_columns-columns.result.now c.loop-row.row c.height-row-end.result c.get_columns-columns.ensures.columns c.height-row-end.ensures.height c.loop-row-test.true c.get_columns-columns.ensures.table.one_height
-
-pub loop-row-preserved : goal.loop-row-preserved
-loop-row-preserved c =
-    written_more c.args.width (table_of c.args.table.now) c.loop-row.row (string_bytes c.loop-row.text) (string_bytes c.push_line-in-loop-row.new.text) c.deref-in-loop-row.result.now
-    (c.deref-in-loop-row.ensures.value ∙ c.in_ok-row_line.ensures ∙ ap (λ cs. side_by_side (cell_in c.args.width c.loop-row.row) (table_of cs)) c.get_columns-columns.ensures.columns)
-    c.in_ok-push_line-3.ensures c.loop-row.invariant
+pub table_text-requires : goal.table_text-requires
+table_text-requires c =
+    let n = fitting_columns c.args.width (table_of c.get_columns-columns.result.now) in
+    shown_high c.args.table.now c.in_ok-grid.grid.columns.now n c.height.result (c.in_ok-grid.ensures.columns ∙ ap (take n) c.get_columns-columns.ensures.columns)
+    c.height.ensures.height c.get_columns-columns.ensures.table.one_height
 
 pub returns : goal.returns
 returns c =
-    let high : c.loop-row.row ≡ height (table_of c.args.table.now) = omega (arith, c.height-row-end.ensures.height) in
-    written_all c.args.width (table_of c.args.table.now) (string_bytes c.loop-row.text) c.loop-row.row high c.loop-row.invariant
+    let width = c.args.width in
+    let cs = c.get_columns-columns.result.now in
+    let ks = c.in_ok-grid.grid.columns.now in
+    let t = table_of c.args.table.now in
+    let same = c.get_columns-columns.ensures.columns in
+    let columns : table_of ks ≡ shown width t = shown_columns width cs ks c.in_ok-grid.ensures.columns ∙ ap (λ (ds : List Col). shown width (table_of ds)) same in
+    let others : table_of c.columns_behind-others.result.now ≡ left_out width t = other_columns width (length ks) cs c.columns_behind-others.result.now c.in_ok-grid.ensures.count c.columns_behind-others.ensures ∙ ap (λ (ds : List Col). left_out width (table_of ds)) same in
+    let cut = c.in_ok-cut.ensures ∙ ap (λ (ds : List Col). cut_columns width (table_of ds)) same in
+    let line = c.in_ok-grid.ensures.line in
+    let high = c.height.ensures.height in
+    let said = λ (old what : List _) (u : Table). old ++ encode_utf8_all (ended (note what (names_of u))) in
+    written_whole width t (string_bytes c.in_ok-text.text) (string_bytes c.push_note.new.text) (string_bytes c.push_note-2.new.text)
+    (c.in_ok-text.ensures ∙ (λ i. encode_utf8_all (laid (line i) (columns i) (high i))))
+    (c.in_ok-push_note.ensures ∙ ap (said (string_bytes c.in_ok-text.text) (codes "cut")) cut)
+    (c.in_ok-push_note-2.ensures ∙ ap (said (string_bytes c.push_note.new.text) (codes "left out")) others)

@@ -17,21 +17,21 @@ pub overflow_mul-place : goal.overflow_mul-place
 overflow_mul-place c =
     let names = c.args.self.now.lines.names in
     let width : c.len-width.result ≡ length names.items = omega (arith, c.len-width.ensures, names.ok.0) in
-    let h = place c.loop-row.row c.args.self.now.lines.height c.len-width.result c.args.column c.len-count.result c.loop-row-test.true (rw width c.requires.column) (rw width (c.len-count.ensures ∙ c.requires.full)) in
+    let h = place c.loop-row.row c.args.self.now.lines.height c.len-width.result c.args.column c.len-count.result c.loop-row-test.true (rw width c.requires.column) (rw width (c.len-count.ensures ∙ c.requires.level.full)) in
     omega (arith, h)
 
 pub overflow_add-place : goal.overflow_add-place
 overflow_add-place c =
     let names = c.args.self.now.lines.names in
     let width : c.len-width.result ≡ length names.items = omega (arith, c.len-width.ensures, names.ok.0) in
-    let h = place c.loop-row.row c.args.self.now.lines.height c.len-width.result c.args.column c.len-count.result c.loop-row-test.true (rw width c.requires.column) (rw width (c.len-count.ensures ∙ c.requires.full)) in
+    let h = place c.loop-row.row c.args.self.now.lines.height c.len-width.result c.args.column c.len-count.result c.loop-row-test.true (rw width c.requires.column) (rw width (c.len-count.ensures ∙ c.requires.level.full)) in
     omega (arith, h)
 
 pub unreachable-requires : goal.unreachable-requires
 unreachable-requires c =
     let names = c.args.self.now.lines.names in
     let width : c.len-width.result ≡ length names.items = omega (arith, c.len-width.ensures, names.ok.0) in
-    let h = place c.loop-row.row c.args.self.now.lines.height c.len-width.result c.args.column c.len-count.result c.loop-row-test.true (rw width c.requires.column) (rw width (c.len-count.ensures ∙ c.requires.full)) in
+    let h = place c.loop-row.row c.args.self.now.lines.height c.len-width.result c.args.column c.len-count.result c.loop-row-test.true (rw width c.requires.column) (rw width (c.len-count.ensures ∙ c.requires.level.full)) in
     let end = past (fields_of c.args.self.now.lines.fields) _ (rw c.in_default.is at c.get.ensures.value) in
     omega (arith, h, end, c.len-count.ensures)
 

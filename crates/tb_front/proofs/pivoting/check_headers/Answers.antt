@@ -1,0 +1,13 @@
+use Rattle.std.proofs.Common.{ap}
+use Rattle.std.specs.Prelude.{◌&&◌}
+use Rattle.tb_frame.specs.Promise.Naming.{is_among}
+use Rattle.tb_frame.specs.Promise.Table.{table_of}
+use Rattle.tb_front.specs.declared.fault.Comparison.TheVariants.{Order}
+use Rattle.tb_front.proofs.Undecimal.{first_none}
+use Rattle.tb_front.proofs.pivoting.check_headers.Goals as goal
+
+pub returns-then-not-call : goal.returns-then-not-call
+returns-then-not-call c =
+    let call = c.args.call.now in
+    first_none c.args.types.now Order (λ n. call.sort_columns && is_among call.on.items n) (table_of c.args.table.now)
+    (λ n. ap (λ b. b && is_among call.on.items n) c.if-not-call.true)

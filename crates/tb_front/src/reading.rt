@@ -1,0 +1,156 @@
+//! The tables that texts are.
+ghost use Rattle.std.specs.Prelude.{◌≡◌, List, IfOk};
+ghost use Rattle.tb_value.specs.Promise.Names.{Name};
+ghost use Rattle.tb_value.specs.Promise.Refusals.{first_cause};
+ghost use Rattle.tb_frame.specs.Promise.Naming.{is_among};
+ghost use Rattle.tb_frame.specs.Promise.Table.{table_of};
+ghost use Rattle.tb_csv.specs.Promise.Faults.{types_fault};
+ghost use Rattle.tb_csv.specs.Promise.Records.{Record, records_of};
+ghost use Rattle.tb_csv.specs.Promise.Tables.{csv_table};
+ghost use Rattle.tb_csv.specs.Read.{IsLevel, IsRead};
+ghost use Rattle.tb_front.specs.Promise.Asked.{table_fault, tables_faults};
+ghost use Rattle.tb_front.specs.Promise.Faults.{Settles, names_in, no_records, no_table, unknown_type};
+ghost use Rattle.tb_front.specs.Promise.Texts.{joined_table, table_in};
+ghost use Rattle.tb_front.specs.Texts.{fault_in};
+
+use crate::fault::{FrontFault, Place};
+use std::alloc::Global;
+use tb_csv::{
+    CsvFault, CsvOptions, Records, TypeOf, fault_line, records_of_csv, table_of_records,
+    types_with_keys,
+};
+use tb_frame::{DataFrame, name_set};
+use tb_value::PlSmallStr;
+
+// The fault of the text at this place, with its line.
+fn fault_in(separator: u8, place: Place, text: &[u8], fault: CsvFault) -> FrontFault
+    ensures { result ≡ fault_in separator place text.now fault }
+{
+    match fault {
+        CsvFault::OutOfMemory => FrontFault::OutOfMemory,
+        fault => {
+            let line = fault_line(text, separator, &fault);
+            FrontFault::NoTable { place, fault, line }
+        }
+    }
+}
+
+fn read_records(
+    alloc: Global,
+    options: &CsvOptions,
+    place: Place,
+    text: &[u8],
+) -> Result<Records, FrontFault>
+    ensures settles { Settles result (no_records options.now place text.now) }
+    ensures read { IfOk result (λ r. IsRead r (records_of options.now.separator text.now)) }
+    ensures level { IfOk result (λ r. IsLevel r) }
+{
+    match records_of_csv(alloc, text, options.separator) {
+        Ok(records) => Ok(records),
+        Err(fault) => Err(fault_in(options.separator, place, text, fault)),
+    }
+}
+
+// The table of the records of the text at this place.
+fn make_table(
+    alloc: Global,
+    separator: u8,
+    place: Place,
+    text: &[u8],
+    records: &Records,
+    types: &[TypeOf],
+) -> Result<DataFrame, FrontFault>
+    requires level { IsLevel records.now }
+    ensures settles { (rs : List Record) → IsRead records.now rs → Settles result (no_table separator place text.now (types_fault types.now rs)) }
+    ensures table { (rs : List Record) → IsRead records.now rs → IfOk result (λ t. table_of t ≡ csv_table types.now rs) }
+{
+    match table_of_records(alloc, records, types) {
+        Ok(table) => Ok(table),
+        Err(fault) => Err(fault_in(separator, place, text, fault)),
+    }
+}
+
+fn names_of(records: &Records) -> &[PlSmallStr]
+    ensures { (rs : List Record) → IsRead records.now rs → result.now ≡ names_in rs }
+{
+    records.names()
+}
+
+// Refuses the first type of a name that no column has.
+fn check_types(
+    alloc: Global,
+    types: &[TypeOf],
+    names: &[PlSmallStr],
+    others: &[PlSmallStr],
+) -> Result<(), FrontFault>
+    ensures { Settles result (unknown_type types.now names.now others.now) }
+{
+    let known = name_set(alloc, names)?;
+    let also = name_set(alloc, others)?;
+    for given in types {
+        if !known.contains(&given.name) && !also.contains(&given.name) {
+            return Err(FrontFault::UnknownType(given.name.copy(alloc)?));
+        }
+    }
+    Ok(())
+}
+
+/// The table of a text, which is let go.
+pub(crate) fn read_table(
+    alloc: Global,
+    options: &CsvOptions,
+    text: Vec<u8>,
+) -> Result<DataFrame, FrontFault>
+    ensures settles { Settles result (table_fault options.now text.items) }
+    ensures table { IfOk result (λ t. table_of t ≡ table_in options.now text.items) }
+{
+    let records = read_records(alloc, options, Place::First, &text)?;
+    check_types(alloc, &options.types, names_of(&records), &[])?;
+    make_table(
+        alloc,
+        options.separator,
+        Place::First,
+        &text,
+        &records,
+        &options.types,
+    )
+}
+
+/// Two tables, the left one first.
+#[derive(Drop)]
+pub(crate) struct TwoTables {
+    pub(crate) left: DataFrame,
+    pub(crate) right: DataFrame,
+}
+
+/// The tables of two texts that are joined by the keys of these names, whose types are told from both texts. The texts are let go.
+pub(crate) fn read_tables(
+    alloc: Global,
+    options: &CsvOptions,
+    left: Vec<u8>,
+    right: Vec<u8>,
+    left_on: &[PlSmallStr],
+    right_on: &[PlSmallStr],
+) -> Result<TwoTables, FrontFault>
+    ensures settles { Settles result (first_cause (tables_faults options.now left_on.now right_on.now left.items right.items)) }
+    ensures left { IfOk result (λ t. table_of t.left ≡ joined_table options.now left.items right.items left_on.now right_on.now) }
+    ensures right { IfOk result (λ t. table_of t.right ≡ joined_table options.now right.items left.items right_on.now left_on.now) }
+{
+    let first = read_records(alloc, options, Place::First, &left)?;
+    let second = read_records(alloc, options, Place::Second, &right)?;
+    let given = options.types.as_slice();
+    check_types(alloc, given, names_of(&first), names_of(&second))?;
+    let left_types = types_with_keys(alloc, &first, &second, given, left_on, right_on)?;
+    let right_types = types_with_keys(alloc, &second, &first, given, right_on, left_on)?;
+    let separator = options.separator;
+    let left = make_table(alloc, separator, Place::First, &left, &first, &left_types)?;
+    let right = make_table(
+        alloc,
+        separator,
+        Place::Second,
+        &right,
+        &second,
+        &right_types,
+    )?;
+    Ok(TwoTables { left, right })
+}

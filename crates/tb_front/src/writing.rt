@@ -1,0 +1,99 @@
+//! The texts of tables.
+ghost use Rattle.std.specs.Prelude.{◌≡◌, IfOk};
+ghost use Rattle.tb_frame.specs.Promise.Table.{table_of};
+ghost use Rattle.tb_front.specs.Promise.Faults.{Settles, writing_fault};
+ghost use Rattle.tb_front.specs.Promise.Texts.{IsOutcome, text_in};
+
+use crate::fault::FrontFault;
+use crate::options::TextForm;
+use std::alloc::Global;
+use tb_csv::{CsvFault, csv_of_table};
+use tb_frame::DataFrame;
+use tb_json::text_of;
+use tb_layout::layout_of_table;
+use tb_value::{OutOfMemory, PolarsError, PolarsResult};
+
+fn has_many_chunks(table: &DataFrame) -> bool {
+    table
+        .get_columns()
+        .iter()
+        .any(|column| column.n_chunks() > 1)
+}
+
+// The same table, each column in one chunk, since a row of several chunks is found in as many steps.
+fn in_single_chunks(alloc: Global, table: DataFrame) -> Result<DataFrame, OutOfMemory>
+    ensures { IfOk result (λ t. table_of t ≡ table_of table) }
+{
+    if !has_many_chunks(&table) {
+        return Ok(table);
+    }
+    let mut single = table;
+    single.as_single_chunk_par(alloc)?;
+    Ok(single)
+}
+
+fn write_csv(alloc: Global, separator: u8, table: DataFrame) -> Result<Vec<u8>, FrontFault>
+    ensures settles { Settles result (writing_fault TextForm.Csv (table_of table)) }
+    ensures text { IfOk result (λ v. v.items ≡ text_in TextForm.Csv separator (table_of table)) }
+{
+    let table = in_single_chunks(alloc, table)?;
+    match csv_of_table(alloc, &table, separator) {
+        Ok(text) => Ok(text),
+        Err(CsvFault::OutOfMemory) => Err(FrontFault::OutOfMemory),
+        Err(fault) => Err(FrontFault::NoText(fault)),
+    }
+}
+
+// This writer goes over the chunks itself.
+fn write_json(alloc: Global, table: DataFrame) -> Result<Vec<u8>, FrontFault>
+    ensures settles { Settles result (writing_fault TextForm.Json (table_of table)) }
+    ensures text { IfOk result (λ v. v.items ≡ text_in TextForm.Json 0 (table_of table)) }
+{
+    match text_of(alloc, &table) {
+        Ok(text) => Ok(text.into_bytes()),
+        Err(OutOfMemory) => Err(FrontFault::OutOfMemory),
+    }
+}
+
+fn write_lines(alloc: Global, width: usize, table: DataFrame) -> Result<Vec<u8>, FrontFault>
+    ensures settles { Settles result (writing_fault (TextForm.Layout width) (table_of table)) }
+    ensures text { IfOk result (λ v. v.items ≡ text_in (TextForm.Layout width) 0 (table_of table)) }
+{
+    let table = in_single_chunks(alloc, table)?;
+    match layout_of_table(alloc, &table, width) {
+        Ok(text) => Ok(text.into_bytes()),
+        Err(OutOfMemory) => Err(FrontFault::OutOfMemory),
+    }
+}
+
+fn write_table(
+    alloc: Global,
+    form: TextForm,
+    separator: u8,
+    table: DataFrame,
+) -> Result<Vec<u8>, FrontFault>
+    ensures settles { Settles result (writing_fault form (table_of table)) }
+    ensures text { IfOk result (λ v. v.items ≡ text_in form separator (table_of table)) }
+{
+    match form {
+        TextForm::Csv => write_csv(alloc, separator, table),
+        TextForm::Json => write_json(alloc, table),
+        TextForm::Layout(width) => write_lines(alloc, width, table),
+    }
+}
+
+/// The text of the table that an operation gave, or why it gave none.
+pub(crate) fn written(
+    alloc: Global,
+    form: TextForm,
+    separator: u8,
+    outcome: PolarsResult<DataFrame>,
+) -> Result<Vec<u8>, FrontFault>
+    ensures { IsOutcome form separator outcome result }
+{
+    match outcome {
+        Ok(table) => write_table(alloc, form, separator, table),
+        Err(PolarsError::OutOfMemory) => Err(FrontFault::OutOfMemory),
+        Err(error) => Err(FrontFault::Refused(error)),
+    }
+}

@@ -1,0 +1,11 @@
+use Rattle.std.proofs.Common.{◌∙◌, ap, string_bytes, sym}
+use Rattle.tb_layout.specs.Promise.Characters.{shown_text}
+use Rattle.tb_layout.proofs.Laid.{note_ended}
+use Rattle.tb_layout.proofs.layout.push_note.Goals as goal
+
+pub returns : goal.returns
+returns c =
+    note_ended c.args.what.now c.args.columns.now (string_bytes c.args.text.now) (string_bytes c.push_characters.new.text) (string_bytes c.push.new.self) c.deref.result.now
+    (sym c.is_empty.ensures ∙ c.if-is_empty.false)
+    (c.deref.ensures.value ∙ c.in_ok-shown.ensures ∙ ap shown_text (c.as_str.ensures.value ∙ c.in_ok-said.ensures))
+    c.in_ok-push_characters.ensures c.in_ok-push.ensures.bytes
