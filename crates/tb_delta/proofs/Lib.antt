@@ -1,4 +1,5 @@
 mod Agreeing
+mod Counted
 mod Given
 mod Grouped
 mod KeptViews

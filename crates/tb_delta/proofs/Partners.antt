@@ -129,7 +129,7 @@ module _ (s : State) (p q : ℕ) (left : place_of s.left.columns s.left.key ≡ 
       (column_now s.left.rows (p, get_or s.left.columns p ([], kind.null))) (column_now s.right.rows (q, get_or s.right.columns q ([], kind.null))) i j
       (named_now s.left p left) (named_now s.right q right)
 
-  of_left : (i : ℕ) (d : Row) → i < length s.left.rows → agreeing s.join_nulls s.right (key_of s.left (get_or s.left.rows i d).1) ≡ partners_at s side.Left i
+  pub of_left : (i : ℕ) (d : Row) → i < length s.left.rows → agreeing s.join_nulls s.right (key_of s.left (get_or s.left.rows i d).1) ≡ partners_at s side.Left i
   of_left i d low =
       let nulls : Bool = s.join_nulls in
       let k : Datum = get_or (map in_left s.left.rows) i null in

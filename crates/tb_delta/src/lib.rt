@@ -3,6 +3,7 @@
 #![tactic(auto)]
 
 mod checking;
+mod counting;
 mod fault;
 mod groups;
 mod key;

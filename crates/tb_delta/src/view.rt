@@ -14,6 +14,7 @@ ghost use Rattle.tb_delta.specs.Promise.State.{appended, given, of_side, on_side
 ghost use Rattle.tb_delta.specs.Stepped.{IsInserted, IsRemoved};
 
 use crate::checking::{check_tables, kept_args};
+use crate::counting::are_too_many;
 use crate::fault::{DeltaFault, only_memory};
 use crate::groups::Groups;
 use crate::making::{row_at, side_without_rows};
@@ -27,7 +28,7 @@ use tb_frame::DataFrame;
 use tb_join::DataFrameJoinOps;
 use tb_pool::Exec;
 use tb_store::Column;
-use tb_value::{AnyValue, OutOfMemory, PlSmallStr, PolarsResult, Side};
+use tb_value::{AnyValue, ComputeCause, OutOfMemory, PlSmallStr, PolarsError, PolarsResult, Side};
 
 /// The rows of two tables under ids, kept for the Inner join by one key of each: for each key the ids of the rows of both
 /// sides that have it.
@@ -164,7 +165,7 @@ impl JoinView {
     ///
     /// # Errors
     ///
-    /// TooManyRows, where more than `MAX_ROWS` pairs of rows match, or OutOfMemory.
+    /// TooManyRows, where more than `MAX_ROWS` pairs of rows match, or OutOfMemory. The pairs are counted before any is listed.
     pub fn table(
         &self,
         rt: &(impl Threads + Sync),
@@ -174,6 +175,9 @@ impl JoinView {
         ensures settles { Settles result (too_many_rows (now self.now)) }
         ensures answer { IfOk result (λ t. IsAnswer (now self.now) (table_of t)) }
     {
+        if are_too_many(&self.left, &self.groups) {
+            return Err(PolarsError::ComputeError(ComputeCause::TooManyRows));
+        }
         let left = table_now(alloc, &self.left)?;
         let right = table_now(alloc, &self.right)?;
         let left_on = [self.left.on.copy(alloc)?];

@@ -1,0 +1,160 @@
+//! The requests that bytes are.
+ghost use Rattle.std.specs.Prelude.{◌≡◌, ◌++◌, [], ◌∷◌, if◌then◌else◌, map, IfOk, OnOk, MatchResult, Ok};
+ghost use Rattle.tb_tree.specs.View.{view};
+ghost use Rattle.tb_request.specs.Columns.{relaid_column};
+ghost use Rattle.tb_request.specs.Lent.{claimed_views, claimed_view, written_view};
+ghost use Rattle.tb_request.specs.Promise.Columns.{rows_fit};
+ghost use Rattle.tb_request.specs.Promise.Reading.{are_tables, value_of, FaultIs};
+ghost use Rattle.tb_delta_request.specs.Lent.{sides_in};
+ghost use Rattle.tb_delta_request.specs.Promise.Reading.{delta_in, delta_request_of, delta_view, AreFitting};
+
+use crate::request::DeltaRequest;
+use crate::rows::steps_from;
+use crate::shape::{WrittenDelta, delta_of};
+use std::alloc::Global;
+use tb_frame::DataFrame;
+use tb_request::{
+    ClaimedColumn, Reason, RequestFault, WrittenColumn, are_columns, columns_of, rows_fit,
+    tables_from, value_of,
+};
+use tb_tree::Value;
+use tb_value::OutOfMemory;
+
+// Whether the runs of both tables together have no more rows than a request may have. The columns stay as they are.
+fn sides_fit(
+    left: &mut Vec<WrittenColumn>,
+    right: &mut Vec<WrittenColumn>,
+) -> Result<bool, OutOfMemory>
+    ensures fit { IfOk result (λ b. b ≡ rows_fit (map written_view left.old.items ++ map written_view right.old.items)) }
+    ensures left { OnOk result (left.new.items ≡ left.old.items) }
+    ensures right { OnOk result (right.new.items ≡ right.old.items) }
+{
+    let width = left.len();
+    left.append(right)?;
+    let fit = rows_fit(left);
+    *right = left.split_off(width)?;
+    Ok(fit)
+}
+
+// Why columns whose runs have too many rows make no request. Their values are judged first.
+fn unfit_reason(typed: bool) -> Reason
+    ensures { result ≡ (if typed then Reason.Rows else Reason.Value) }
+{
+    if typed { Reason::Rows } else { Reason::Value }
+}
+
+// The two tables of these columns with the flags that are claimed.
+fn tables_of(
+    alloc: Global,
+    left: Vec<ClaimedColumn>,
+    right: Vec<ClaimedColumn>,
+) -> Result<(DataFrame, DataFrame), RequestFault>
+    ensures columns { IfOk result (λ p. (map relaid_column p.0 ≡ map claimed_view left.items)
+        × (map relaid_column p.1 ≡ map claimed_view right.items)) }
+    ensures tables { MatchResult result
+        (λ p. are_tables (map claimed_view left.items ∷ map claimed_view right.items ∷ []) ≡ Ok tt)
+        (λ e. FaultIs e (are_tables (map claimed_view left.items ∷ map claimed_view right.items ∷ []))) }
+{
+    let mut tables = tables_from(alloc, vec![in alloc; left, right]?)?;
+    match (tables.pop(), tables.pop()) {
+        (Some(right), Some(left)) => Ok((left, right)),
+        _ => unreachable!(),
+    }
+}
+
+// The tables of these columns.
+#[tactic(auto, unfolding(crate::specs::Lent::sides_in))]
+fn sides_of(
+    alloc: Global,
+    mut left: Vec<WrittenColumn>,
+    mut right: Vec<WrittenColumn>,
+) -> Result<(DataFrame, DataFrame), RequestFault>
+    ensures { MatchResult result
+        (λ p. sides_in (map written_view left.items) (map written_view right.items) ≡ Ok (map relaid_column p.0, map relaid_column p.1))
+        (λ e. FaultIs e (sides_in (map written_view left.items) (map written_view right.items))) }
+{
+    if !sides_fit(&mut left, &mut right)? {
+        let typed = are_columns(alloc, left)? && are_columns(alloc, right)?;
+        return Err(RequestFault::NoRequest(unfit_reason(typed)));
+    }
+    let Some(left) = columns_of(alloc, left)? else {
+        return Err(RequestFault::NoRequest(Reason::Value));
+    };
+    let Some(right) = columns_of(alloc, right)? else {
+        return Err(RequestFault::NoRequest(Reason::Value));
+    };
+    tables_of(alloc, left, right)
+}
+
+// The JSON value that the bytes are, which are let go as soon as it is made.
+fn value_in(alloc: Global, bytes: Vec<u8>) -> Result<Value, RequestFault>
+    ensures { MatchResult result (λ v. value_of bytes.items ≡ Ok (view v)) (λ e. FaultIs e (value_of bytes.items)) }
+{
+    value_of(alloc, &bytes)
+}
+
+/// The request to keep a join that a JSON value is.
+///
+/// # Errors
+///
+/// Those of `delta_request_of`, of the value.
+#[tactic(auto, unfolding(crate::specs::Promise::Reading::delta_in))]
+pub fn delta_in(alloc: Global, value: Value) -> Result<DeltaRequest, RequestFault>
+    ensures request { MatchResult result (λ q. delta_in (view value) ≡ Ok (delta_view q))
+        (λ e. FaultIs e (delta_in (view value))) }
+    ensures fitting { IfOk result (λ q. AreFitting (delta_view q)) }
+{
+    let Some(written) = delta_of(alloc, value)? else {
+        return Err(RequestFault::NoRequest(Reason::Shape));
+    };
+    let WrittenDelta {
+        left,
+        left_on,
+        right,
+        right_on,
+        join_nulls,
+        steps,
+    } = written;
+    let Some(steps) = steps_from(alloc, &left, &right, steps)? else {
+        return Err(RequestFault::NoRequest(Reason::Value));
+    };
+    let (left, right) = sides_of(alloc, left, right)?;
+    Ok(DeltaRequest {
+        left,
+        right,
+        left_on,
+        right_on,
+        join_nulls,
+        steps,
+    })
+}
+
+/// The request to keep a join that the bytes are.
+///
+/// They are a JSON object with the members `left` and `right`, tables as in a request to join, `left_on` and `right_on`,
+/// texts, and `steps`, and perhaps `join_nulls`, a truth value, and `format`, 1 or 2. `steps` is a list of objects. One
+/// with exactly `insert`, `"left"` or `"right"`, and `row` puts a row last on that side: `row` is a list with a value
+/// for each column of its table. One with exactly `remove`, `"left"` or `"right"`, and `id`, a whole number below 2^32,
+/// takes out the row of that side which has the id. No object has other members.
+///
+/// # Errors
+///
+/// `OutOfMemory` may come at any time. Else the first of these reasons that holds of the whole input:
+///
+/// 1. `Json`: the bytes are no JSON text.
+/// 2. `Shape`: the value has not this form.
+/// 3. `Value`: a value of a table or of a row is not of its column's type, or the chunks of a column have more than
+///    `MAX_ROWS` values.
+/// 4. `Rows`: the counts of all runs, of both tables, add up to more than `MAX_RUN_VALUES`.
+/// 5. `Heights`: two columns of a table differ in length.
+/// 6. `Name`: two columns of a table have one name.
+/// 7. `Flag`: a column is not in the order that `sorted` claims.
+#[tactic(auto, unfolding(crate::specs::Promise::Reading::delta_request_of))]
+pub fn delta_request_of(alloc: Global, bytes: Vec<u8>) -> Result<DeltaRequest, RequestFault>
+    ensures request { MatchResult result (λ q. delta_request_of bytes.items ≡ Ok (delta_view q))
+        (λ e. FaultIs e (delta_request_of bytes.items)) }
+    ensures fitting { IfOk result (λ q. AreFitting (delta_view q)) }
+{
+    let value = value_in(alloc, bytes)?;
+    delta_in(alloc, value)
+}

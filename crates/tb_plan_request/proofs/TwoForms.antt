@@ -1,0 +1,221 @@
+-- Requests of a plan in both formats are read alike.
+use Rattle.std.proofs.Common.{◌≡◌, ◌∙◌, ◌+◌, ◌≤◌, ℕ, List, [], ◌∷◌, map, Bool, true, false, Option, Some, None, option_and_then, option_map, codes, refl, sym, ap, arith}
+use Rattle.std.specs.Prelude.{ok_or, Result, Ok, Err}
+use Rattle.std.proofs.lemmas.Bool.{le-leb, leb-true}
+use Rattle.std.proofs.lemmas.List.Sums.{sum_by-cons}
+use Rattle.serde_json.specs.Data.{array, boolean, Data, item, Items, Members, no_items, null, number, object, string}
+use Rattle.serde_json.specs.Find.{as_bool, as_str, get_member}
+use Rattle.tb_value.specs.Promise.Names.{Name}
+use Rattle.tb_pool.specs.Promise.ExecView.{ExecView}
+use Rattle.tb_chunk.specs.Promise.Col.{Col}
+use Rattle.tb_node.specs.Promise.Trees.{Tree}
+use Rattle.tb_plan.specs.Promise.Outcome.{Pivot}
+use Rattle.tb_json.specs.Promise.Lists.{◌>>=◌, are_among, check, each, list_from, list_of}
+use Rattle.tb_request.specs.declared.request.Reason.{Reason}
+use Rattle.tb_request.specs.declared.request.Reason.TheVariants as why
+use Rattle.tb_request.specs.declared.runs.TheConstants.{MAX_RUN_VALUES}
+use Rattle.tb_request.specs.declared.shape.Format.{Format}
+use Rattle.tb_request.specs.declared.shape.Format.TheVariants.{Chunks, Runs}
+use Rattle.tb_request.specs.Forms.{each_item, each_member, IsPastRows}
+use Rattle.tb_request.specs.Promise.Columns.{columns_from, rows_in}
+use Rattle.tb_request.specs.Promise.Reading.{are_tables, may_stand, only_if}
+use Rattle.tb_request.specs.Promise.Reading as reading
+use Rattle.tb_request.specs.Promise.Written.{format_numbered, format_of, optional_member, plan_of, standard_exec, table_at, table_of, whole_of, Written}
+use Rattle.tb_request.proofs.EachRun.{each_goes, each_more, parts}
+use Rattle.tb_request.proofs.Expanded.{columns_out, member_out, names_out, rows_out, table_out, written_out}
+use Rattle.tb_plan_request.specs.Forms.{expand_entry, expand_named, expand_plan, expand_plan_member, expand_tables}
+use Rattle.tb_plan_request.specs.Laws.{TwoForms}
+use Rattle.tb_plan_request.specs.Promise.Reading.{PlanRequest, columns_under, plan_in, rows_in_tables, tables_fit}
+use Rattle.tb_plan_request.specs.Promise.Written.{WrittenPlan, pivot_in, table_in, tree_in, written_of}
+
+-- a member that is the same in both
+same_member : (f : List ℕ → Data → Data) (name : List ℕ) (ms : Members) → ((d : Data) → f name d ≡ d) → get_member name (each_member f ms) ≡ get_member name ms
+same_member f name ms same = member_out f name ms ∙ all_same (get_member name ms) where
+  all_same : (o : Option Data) → option_map (f name) o ≡ o
+  all_same None = refl
+  all_same (Some d) = ap Some (same d)
+
+some_is : {A : Type 0} (x y : A) → Some x ≡ Some y → x ≡ y
+some_is x y e = cc
+
+-- ---- a table under its name
+
+abbrev Named : Type 0
+Named = Name × List Written
+
+abbrev named_out : Named → Named
+named_out t = (t.0, map written_out t.1)
+
+abbrev entry_with : Bool → Option Name → Option (List Written) → Option Named
+entry_with known name columns = do
+  k ← check known
+  n ← name
+  cs ← columns
+  Some (n, cs)
+
+entry_goes : (known : Bool) (name : Option Name) (columns columns' : Option (List Written)) (t : Named) → ((ws : List Written) → columns ≡ Some ws → columns' ≡ Some (map written_out ws)) → entry_with known name columns ≡ Some t → entry_with known name columns' ≡ Some (named_out t)
+entry_goes false name columns columns' t h e = absurd (cc)
+entry_goes true None columns columns' t h e = absurd (cc)
+entry_goes true (Some n) None columns' t h e = absurd (cc)
+entry_goes true (Some n) (Some ws) columns' t h e =
+    ap (entry_with true (Some n)) (h ws refl)
+    ∙ ap (λ (u : Named). Some (named_out u)) (some_is (n, ws) t e)
+
+columns_at_out : (ms : Members) (ws : List Written) → table_at Runs (codes "table") (object ms) ≡ Some ws → table_at Chunks (codes "table") (expand_entry (object ms)) ≡ Some (map written_out ws)
+columns_at_out ms ws e = ap (option_and_then (table_of Chunks)) (member_out expand_named (codes "table") ms) ∙ at (get_member (codes "table") ms) e where
+  at : (o : Option Data) → (o >>= table_of Runs) ≡ Some ws → (option_map (expand_named (codes "table")) o >>= table_of Chunks) ≡ Some (map written_out ws)
+  at None e = cc
+  at (Some d) e = table_out d ws e
+
+abbrev entry_names : List Name
+entry_names = codes "name" ∷ codes "table" ∷ []
+
+entry_out : (d : Data) (t : Named) → table_in Runs d ≡ Some t → table_in Chunks (expand_entry d) ≡ Some (named_out t)
+unfolding table_in
+entry_out null t e = absurd (cc)
+entry_out (boolean b) t e = absurd (cc)
+entry_out (number n) t e = absurd (cc)
+entry_out (string s) t e = absurd (cc)
+entry_out (array ds) t e = absurd (cc)
+entry_out (object ms) t e =
+    (λ i. entry_with (names_out expand_named entry_names ms i) (same_member expand_named (codes "name") ms (λ d. refl) i >>= as_str) (table_at Chunks (codes "table") (expand_entry (object ms))))
+    ∙ entry_goes (are_among entry_names ms) (get_member (codes "name") ms >>= as_str) (table_at Runs (codes "table") (object ms)) (table_at Chunks (codes "table") (expand_entry (object ms))) t (columns_at_out ms) e
+
+entries_out : (ds : Items) → list_from (each_item expand_entry ds) ≡ map expand_entry (list_from ds)
+entries_out no_items = refl
+entries_out (item d ds) = ap (λ es. expand_entry d ∷ es) (entries_out ds)
+
+tables_out : (d : Data) (ts : List Named) → list_of (table_in Runs) d ≡ Some ts → list_of (table_in Chunks) (expand_tables d) ≡ Some (map named_out ts)
+tables_out null ts e = absurd (cc)
+tables_out (boolean b) ts e = absurd (cc)
+tables_out (number n) ts e = absurd (cc)
+tables_out (string s) ts e = absurd (cc)
+tables_out (array ds) ts e = ap (each (table_in Chunks)) (entries_out ds) ∙ each_goes expand_entry named_out (table_in Runs) (table_in Chunks) entry_out (list_from ds) ts e
+tables_out (object ms) ts e = absurd (cc)
+
+-- ---- the members of a request
+
+abbrev plan_out : WrittenPlan → WrittenPlan
+plan_out w = record w { tables = map named_out w.tables }
+
+abbrev plan_with : Bool → Option Format → Option ExecView → Option Bool → Option (Option Pivot) → Option Tree → (Format → Option (List Named)) → Option WrittenPlan
+plan_with known format exec push pivot root tables = do
+  k ← check known
+  f ← format
+  e ← exec
+  p ← push
+  v ← pivot
+  r ← root
+  ts ← tables f
+  Some (record { tables = ts; root = r; pivot = v; push = p; exec = e })
+
+plan_goes : (known : Bool) (exec : Option ExecView) (push : Option Bool) (pivot : Option (Option Pivot)) (root : Option Tree) (tables tables' : Format → Option (List Named)) (w : WrittenPlan) → ((ts : List Named) → tables Runs ≡ Some ts → tables' Chunks ≡ Some (map named_out ts)) → plan_with known (Some Runs) exec push pivot root tables ≡ Some w → plan_with known (Some Chunks) exec push pivot root tables' ≡ Some (plan_out w)
+plan_goes false exec push pivot root tables tables' w h x = absurd (cc)
+plan_goes true None push pivot root tables tables' w h x = absurd (cc)
+plan_goes true (Some e) None pivot root tables tables' w h x = absurd (cc)
+plan_goes true (Some e) (Some p) None root tables tables' w h x = absurd (cc)
+plan_goes true (Some e) (Some p) (Some v) None tables tables' w h x = absurd (cc)
+plan_goes true (Some e) (Some p) (Some v) (Some r) tables tables' w h x = made (tables Runs) refl x where
+  with_tables : Option (List Named) → Option WrittenPlan
+  with_tables o = o >>= λ ts. Some (record { tables = ts; root = r; pivot = v; push = p; exec = e })
+
+  made : (o : Option (List Named)) → tables Runs ≡ o → with_tables o ≡ Some w → with_tables (tables' Chunks) ≡ Some (plan_out w)
+  made None is y = absurd (cc)
+  made (Some ts) is y = ap with_tables (h ts is) ∙ ap (λ (u : WrittenPlan). Some (plan_out u)) (some_is (record { tables = ts; root = r; pivot = v; push = p; exec = e }) w y)
+
+format_out : (ms : Members) → format_of (object ms) ≡ Some Runs → format_of (expand_plan (object ms)) ≡ Some Chunks
+format_out ms e = ap (optional_member Chunks (λ m. whole_of m >>= format_numbered)) (member_out expand_plan_member (codes "format") ms) ∙ numbered (get_member (codes "format") ms) e where
+  numbered : (o : Option Data) → optional_member Chunks (λ m. whole_of m >>= format_numbered) o ≡ Some Runs → optional_member Chunks (λ m. whole_of m >>= format_numbered) (option_map (expand_plan_member (codes "format")) o) ≡ Some Chunks
+  numbered None e = cc
+  numbered (Some d) e = refl
+
+abbrev tables_at : Format → Data → Option (List Named)
+tables_at f (object ms) = get_member (codes "tables") ms >>= list_of (table_in f)
+tables_at f _ = None
+
+tables_at_out : (ms : Members) (ts : List Named) → tables_at Runs (object ms) ≡ Some ts → tables_at Chunks (expand_plan (object ms)) ≡ Some (map named_out ts)
+tables_at_out ms ts e = ap (option_and_then (list_of (table_in Chunks))) (member_out expand_plan_member (codes "tables") ms) ∙ at (get_member (codes "tables") ms) e where
+  at : (o : Option Data) → (o >>= list_of (table_in Runs)) ≡ Some ts → (option_map (expand_plan_member (codes "tables")) o >>= list_of (table_in Chunks)) ≡ Some (map named_out ts)
+  at None e = cc
+  at (Some d) e = tables_out d ts e
+
+abbrev plan_names : List Name
+plan_names = codes "exec" ∷ codes "format" ∷ codes "pivot" ∷ codes "push" ∷ codes "root" ∷ codes "tables" ∷ []
+
+-- by the values of the members
+abbrev plan_by : Members → Option Format → Option WrittenPlan
+plan_by ms format =
+    plan_with (are_among plan_names ms) format (optional_member standard_exec plan_of (get_member (codes "exec") ms)) (optional_member false as_bool (get_member (codes "push") ms))
+    (optional_member None (λ m. option_map Some (pivot_in m)) (get_member (codes "pivot") ms)) (get_member (codes "root") ms >>= tree_in) (λ f. tables_at f (object ms))
+
+plan_of_out : (d : Data) (w : WrittenPlan) → format_of d ≡ Some Runs → written_of d ≡ Some w → written_of (expand_plan d) ≡ Some (plan_out w)
+unfolding written_of
+plan_of_out null w e x = absurd (cc)
+plan_of_out (boolean b) w e x = absurd (cc)
+plan_of_out (number n) w e x = absurd (cc)
+plan_of_out (string s) w e x = absurd (cc)
+plan_of_out (array ds) w e x = absurd (cc)
+plan_of_out (object ms) w e x =
+    (λ i. plan_with (names_out expand_plan_member plan_names ms i)
+    (format_out ms e i)
+    (optional_member standard_exec plan_of (same_member expand_plan_member (codes "exec") ms (λ d. refl) i))
+    (optional_member false as_bool (same_member expand_plan_member (codes "push") ms (λ d. refl) i))
+    (optional_member None (λ m. option_map Some (pivot_in m)) (same_member expand_plan_member (codes "pivot") ms (λ d. refl) i))
+    (same_member expand_plan_member (codes "root") ms (λ d. refl) i >>= tree_in)
+    (λ f. tables_at f (expand_plan (object ms))))
+    ∙ plan_goes (are_among plan_names ms) (optional_member standard_exec plan_of (get_member (codes "exec") ms)) (optional_member false as_bool (get_member (codes "push") ms))
+    (optional_member None (λ m. option_map Some (pivot_in m)) (get_member (codes "pivot") ms)) (get_member (codes "root") ms >>= tree_in)
+    (λ f. tables_at f (object ms)) (λ f. tables_at f (expand_plan (object ms))) w (tables_at_out ms)
+    (ap (plan_by ms) (sym e) ∙ x)
+
+-- ---- their values
+
+under_goes : (n : Name) (o o' : Option (List Col)) (t : Name × List Col) → ((cs : List Col) → o ≡ Some cs → o' ≡ Some cs) → option_map (λ cs. (n, cs)) o ≡ Some t → option_map (λ cs. (n, cs)) o' ≡ Some t
+under_goes n None o' t h e = absurd (cc)
+under_goes n (Some cs) o' t h e = ap (option_map (λ cs. (n, cs))) (h cs refl) ∙ e
+
+rows_more : (t : Named) (ts : List Named) → rows_in_tables (t ∷ ts) ≡ rows_in t.1 + rows_in_tables ts
+rows_more t ts = sum_by-cons (λ (u : Named). rows_in u.1) t ts
+
+all_out : (ts : List Named) (us : List (Name × List Col)) → rows_in_tables ts ≤ MAX_RUN_VALUES → each columns_under ts ≡ Some us → each columns_under (map named_out ts) ≡ Some us
+all_out [] us few e = e
+all_out (t ∷ ts) us few e =
+    let s = parts (columns_under t) (each columns_under ts) us e in
+    let sum = rows_more t ts in
+    each_more columns_under (named_out t) (map named_out ts) s.0 s.1
+    (under_goes t.0 (columns_from t.1) (columns_from (map written_out t.1)) s.0 (λ cs. columns_out t.1 cs (omega (arith, few, sum))) s.2)
+    (all_out ts s.1 (omega (arith, few, sum)) s.3)
+    ∙ ap Some (sym s.4)
+
+no_rows_out : (ts : List Named) → rows_in_tables (map named_out ts) ≡ 0
+no_rows_out [] = refl
+no_rows_out (t ∷ ts) = rows_more (named_out t) (map named_out ts) ∙ (λ i. rows_out t.1 i + no_rows_out ts i)
+
+fit_out : (ts : List Named) → tables_fit (map named_out ts) ≡ true
+fit_out ts = le-leb (rows_in_tables (map named_out ts)) MAX_RUN_VALUES (omega (arith, no_rows_out ts))
+
+-- ---- a request
+
+abbrev plan_after : WrittenPlan → Option (List (Name × List Col)) → Bool → Result PlanRequest Reason
+plan_after w tables fit =
+    reading.◌>>=◌ (ok_or tables why.Value) λ ts.
+    reading.◌>>=◌ (only_if fit why.Rows) λ _.
+    reading.◌>>=◌ (only_if (may_stand w.exec) why.Exec) λ _.
+    reading.◌>>=◌ (are_tables (map (λ (t : Name × List Col). t.1) ts)) λ _.
+    Ok (record { tables = ts; root = w.root; pivot = w.pivot; push = w.push; exec = w.exec })
+
+abbrev plan_from : Option WrittenPlan → Result PlanRequest Reason
+plan_from o = reading.◌>>=◌ (ok_or o why.Shape) λ (w : WrittenPlan). plan_after w (each columns_under w.tables) (tables_fit w.tables)
+
+plan_after_same : (w : WrittenPlan) (o : Option (List (Name × List Col))) (fit : Bool) → each columns_under w.tables ≡ o → tables_fit w.tables ≡ fit → IsPastRows (plan_after w o fit) → plan_after (plan_out w) (each columns_under (map named_out w.tables)) (tables_fit (map named_out w.tables)) ≡ plan_after w o fit
+plan_after_same w None fit a b p = absurd p
+plan_after_same w (Some ts) false a b p = absurd p
+plan_after_same w (Some ts) true a b p = λ i. plan_after (plan_out w) (all_out w.tables ts (leb-true (rows_in_tables w.tables) MAX_RUN_VALUES b) a i) (fit_out w.tables i)
+
+plan_from_same : (o o' : Option WrittenPlan) → ((w : WrittenPlan) → o ≡ Some w → o' ≡ Some (plan_out w)) → IsPastRows (plan_from o) → plan_from o' ≡ plan_from o
+plan_from_same None o' h p = absurd p
+plan_from_same (Some w) o' h p = ap plan_from (h w refl) ∙ plan_after_same w (each columns_under w.tables) (tables_fit w.tables) refl refl p
+
+pub plan_same : TwoForms
+unfolding plan_in
+plan_same d e p = plan_from_same (written_of d) (written_of (expand_plan d)) (λ w. plan_of_out d w e) p

@@ -1,0 +1,88 @@
+//! The plan that bytes ask for.
+ghost use Rattle.std.specs.Prelude.{◌≡◌, if◌then◌else◌, MatchResult, Ok};
+ghost use Rattle.tb_tree.specs.View.{view};
+ghost use Rattle.tb_request.specs.declared.request.Reason.{Reason};
+ghost use Rattle.tb_request.specs.Promise.Reading.{FaultIs, value_of};
+ghost use Rattle.tb_plan_request.specs.Lent.{plan_view};
+ghost use Rattle.tb_plan_request.specs.Promise.Reading.{plan_in, plan_request_of};
+
+use crate::members::{WrittenPlan, written_of};
+use crate::request::PlanRequest;
+use crate::rows::tables_fit;
+use crate::tables::{are_typed, claimed_of, named_tables};
+use std::alloc::Global;
+use tb_request::{Reason, RequestFault, exec_from, tables_from, value_of};
+use tb_tree::Value;
+
+// Why tables whose runs have too many rows make no request. Their values are judged first.
+fn unfit_reason(typed: bool) -> Reason
+    ensures { result ≡ (if typed then Reason.Rows else Reason.Value) }
+{
+    if typed { Reason::Rows } else { Reason::Value }
+}
+
+/// The plan that a JSON value asks for.
+///
+/// # Errors
+///
+/// Those of `plan_request_of`, of the value.
+#[tactic(auto, unfolding(crate::specs::Promise::Reading::plan_in))]
+pub fn plan_in(alloc: Global, value: Value) -> Result<PlanRequest, RequestFault>
+    ensures { MatchResult result (λ q. plan_in (view value) ≡ Ok (plan_view q))
+        (λ e. FaultIs e (plan_in (view value))) }
+{
+    let Some(written) = written_of(alloc, value)? else {
+        return Err(RequestFault::NoRequest(Reason::Shape));
+    };
+    let WrittenPlan {
+        tables,
+        root,
+        pivot,
+        push,
+        exec,
+    } = written;
+    if !tables_fit(&tables) {
+        let typed = are_typed(alloc, tables)?;
+        return Err(RequestFault::NoRequest(unfit_reason(typed)));
+    }
+    let Some(claimed) = claimed_of(alloc, tables)? else {
+        return Err(RequestFault::NoRequest(Reason::Value));
+    };
+    let Some(exec) = exec_from(exec) else {
+        return Err(RequestFault::NoRequest(Reason::Exec));
+    };
+    let frames = tables_from(alloc, claimed.columns)?;
+    Ok(PlanRequest {
+        tables: named_tables(alloc, claimed.names, frames)?,
+        root,
+        pivot,
+        push,
+        exec,
+    })
+}
+
+/// The plan that the bytes ask for.
+///
+/// They are a JSON object with the members `tables`, a list of objects with exactly `name`, a text, and `table`, a table as in
+/// a request to join, and `root`, a tree as `tree_of` has it, and perhaps `pivot`, as `pivot_of` has it, `push`, a truth
+/// value, and `exec` and `format` as in a request to join.
+///
+/// # Errors
+///
+/// `OutOfMemory` may come at any time. Else the first of these reasons of `join_request_of` that holds of the whole input, of
+/// any of its tables: `Json`, `Shape`, `Value`, `Rows`, `Exec`, `Heights`, `Name`, `Flag`.
+#[tactic(auto, unfolding(crate::specs::Promise::Reading::plan_request_of))]
+pub fn plan_request_of(alloc: Global, bytes: Vec<u8>) -> Result<PlanRequest, RequestFault>
+    ensures { MatchResult result (λ q. plan_request_of bytes.items ≡ Ok (plan_view q))
+        (λ e. FaultIs e (plan_request_of bytes.items)) }
+{
+    let value = value_in(alloc, bytes)?;
+    plan_in(alloc, value)
+}
+
+// The JSON value that the bytes are. They are let go as soon as it is made.
+fn value_in(alloc: Global, bytes: Vec<u8>) -> Result<Value, RequestFault>
+    ensures { MatchResult result (λ v. value_of bytes.items ≡ Ok (view v)) (λ e. FaultIs e (value_of bytes.items)) }
+{
+    value_of(alloc, &bytes)
+}
