@@ -5,12 +5,16 @@ use Rattle.tb_frame.specs.Promise.Refusal.{join_refusal}
 use Rattle.tb_unpivot.specs.Promise.Unpivot.{unpivot_refusal}
 use Rattle.tb_dummies.specs.Promise.Dummies.{dummies_refusal}
 use Rattle.tb_pivot.specs.Promise.Refusal.{pivot_refusal}
+use Rattle.tb_delta_request.specs.Promise.Answers.{delta_refusal}
+use Rattle.tb_delta_request.specs.Promise.Answers as kept
+use Rattle.tb_delta_request.specs.Promise.Reading.{delta_request_of}
+use Rattle.tb_plan_request.specs.Promise.Reading.{plan_request_of}
 use Rattle.tb_request.specs.declared.request.Reason.{Reason}
 use Rattle.tb_request.specs.Promise.Reading.{asked_request, join_request_of, unpivot_request_of, dummies_request_of, pivot_request_of}
-use Rattle.tb_run.specs.declared.words.Command.TheVariants.{Join, Unpivot, Dummies, Pivot}
+use Rattle.tb_run.specs.declared.words.Command.TheVariants.{Join, Unpivot, Dummies, Pivot, Plan, Delta}
 use Rattle.tb_run.specs.Due.{DoneFor}
-use Rattle.tb_run.specs.Promise.Headline.{JoinDone, UnpivotDone, DummiesDone, PivotDone}
-use Rattle.tb_run.specs.Promise.Requests.{Request, join, unpivot, dummies, pivot, as_request, by_operation, asked_dummies, asked_long, asked_wide, request_of, refusal_of, IsAnswerText}
+use Rattle.tb_run.specs.Promise.Headline.{JoinDone, UnpivotDone, DummiesDone, PivotDone, PlanDone, DeltaDone}
+use Rattle.tb_run.specs.Promise.Requests.{Request, join, unpivot, dummies, pivot, plan, delta, as_request, by_delta, by_operation, asked_dummies, asked_long, asked_wide, request_of, refusal_of, IsAnswerText}
 use Rattle.std.specs.Io.KnownBytes.{Appends}
 
 -- nothing refuses where no operation does
@@ -84,4 +88,43 @@ pivot_is_done left left' written written' d =
       is_request = is_read;
       valid = none_refuses (pivot_refusal (asked_wide r)) (subst (λ q. refusal_of q ≡ None) is d.valid);
       wrote = subst (Appends written written') (subst (λ q. IsAnswerText q d.text) is d.is_answer) d.wrote;
+    }
+
+pub plan_is_done : (left left' written written' : Option (List ℕ)) → DoneFor Plan left left' written written' → PlanDone left left' written written'
+unfolding request_of IsAnswerText
+plan_is_done left left' written written' d =
+    let (r, is_read, is) = read_as plan (plan_request_of d.bytes) d.request d.is_request in
+    let answer = subst (λ q. IsAnswerText q d.text) is d.is_answer in
+    record {
+      bytes = d.bytes;
+      told = d.told;
+      short = d.short;
+      read = d.read;
+      request = r;
+      is_request = is_read;
+      table = answer.0;
+      is_answer = answer.1;
+      wrote = subst (Appends written written') answer.2 d.wrote;
+    }
+
+none_kept : (cause : Option kept.Refusal) → option_map by_delta cause ≡ None → cause ≡ None
+none_kept None e = refl
+none_kept (Some why) e = absurd (cc)
+
+pub delta_is_done : (left left' written written' : Option (List ℕ)) → DoneFor Delta left left' written written' → DeltaDone left left' written written'
+unfolding request_of refusal_of IsAnswerText
+delta_is_done left left' written written' d =
+    let (r, is_read, is) = read_as delta (delta_request_of d.bytes) d.request d.is_request in
+    let answer = subst (λ q. IsAnswerText q d.text) is d.is_answer in
+    record {
+      bytes = d.bytes;
+      told = d.told;
+      short = d.short;
+      read = d.read;
+      request = r;
+      is_request = is_read;
+      valid = none_kept (delta_refusal r) (subst (λ q. refusal_of q ≡ None) is d.valid);
+      table = answer.0;
+      is_answer = answer.1;
+      wrote = subst (Appends written written') answer.2 d.wrote;
     }

@@ -9,3 +9,5 @@ mod Unlaid
 mod Answered
 mod SampleRows
 mod TwoForms
+mod Planned
+mod Kept

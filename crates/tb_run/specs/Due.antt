@@ -1,5 +1,5 @@
 -- What is due for the words and the bytes, and what one run has done of it.
-use Rattle.std.specs.Prelude.{◌≡◌, ◌≢◌, ℕ, Bool, List, length, Option, None, Result, Ok, Err, IsSomeAnd, ◌≤◌, ⊤}
+use Rattle.std.specs.Prelude.{◌≡◌, ◌≢◌, ℕ, Bool, List, length, Option, Some, None, Result, Ok, Err, IsSomeAnd, ◌≤◌, ⊤}
 use Rattle.std.specs.Io.KnownBytes.{Consumes, Appends}
 use Rattle.tb_value.specs.declared.error.PolarsError.{PolarsError}
 use Rattle.tb_value.specs.declared.error.PolarsError.TheVariants.{OutOfMemory}
@@ -9,6 +9,12 @@ use Rattle.tb_frame.specs.Promise.Table.{table_of}
 use Rattle.tb_json.specs.Promise.Text.{text_of}
 use Rattle.tb_pairs.specs.Promise.Trace.{trace_told}
 use Rattle.tb_pairs.specs.declared.trace.JoinTrace.{JoinTrace}
+use Rattle.tb_plan.specs.declared.faults.PlanFault.{PlanFault}
+use Rattle.tb_plan.specs.declared.faults.PlanFault.TheVariants as plan_fault
+use Rattle.tb_delta_request.specs.declared.keeping.KeptFault.{KeptFault}
+use Rattle.tb_delta_request.specs.Lent.{refusal_view}
+use Rattle.tb_delta_request.specs.Promise.Answers as kept
+use Rattle.tb_delta_request.specs.Promise.Texts as kept_texts
 use Rattle.tb_run.specs.Promise.Traces.{joined_text}
 use Rattle.tb_run.specs.declared.words.Command.{Command}
 use Rattle.tb_run.specs.declared.words.Form.{Form}
@@ -16,7 +22,7 @@ use Rattle.tb_run.specs.declared.words.Form.TheVariants.{Reads, Sample, Unknown}
 use Rattle.tb_run.specs.declared.status.Status.{Status}
 use Rattle.tb_run.specs.declared.status.Status.TheVariants as status
 use Rattle.tb_run.specs.Promise.Words.{form}
-use Rattle.tb_run.specs.Promise.Requests.{Request, by_operation, request_of, refusal_of, IsAnswerText, text_of_refusal}
+use Rattle.tb_run.specs.Promise.Requests.{Request, by_operation, by_plan, request_of, refusal_of, IsAnswerText, text_of_refusal}
 use Rattle.tb_run.specs.Promise.Due.{due, Tells}
 
 -- a refusal that is not want of memory, with its text
@@ -32,6 +38,19 @@ IsOutcome (Err e) s text = IsRefusal e s text
 abbrev pub IsJoinOutcome : Bool → Result (List Col × JoinTrace) PolarsError → Status → List ℕ → Type 0
 IsJoinOutcome asks (Ok joined) s text = (s ≡ status.Done) × (text ≡ joined_text asks (table_of joined.0) (trace_told joined.1))
 IsJoinOutcome asks (Err e) s text = IsRefusal e s text
+
+-- a fault of a plan that is not want of memory, with its text
+abbrev pub IsPlanRefusal : PlanFault → Status → List ℕ → Type 0
+IsPlanRefusal e s text = (e ≢ plan_fault.OutOfMemory) × (s ≡ status.Refused) × (text ≡ text_of_refusal (by_plan e))
+
+-- what a plan answers was written
+abbrev pub IsPlanOutcome : Result (List Col) PlanFault → Status → List ℕ → Type 0
+IsPlanOutcome (Ok table) s text = (s ≡ status.Done) × (text ≡ text_of (table_of table))
+IsPlanOutcome (Err e) s text = IsPlanRefusal e s text
+
+-- a refusal to keep a join, with its text
+abbrev pub IsKeptRefusal : KeptFault → Status → List ℕ → Type 0
+IsKeptRefusal fault s text = (s ≡ status.Refused) × ((r : kept.Refusal) × (refusal_view fault ≡ Some r) × (text ≡ kept_texts.text_of_refusal r))
 
 -- the status of a text that is due
 abbrev pub HasText : Status → Type 0

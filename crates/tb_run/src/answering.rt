@@ -6,6 +6,8 @@ ghost use Rattle.tb_run.specs.Promise.Due.{DueOfReading, DueOfRequest, bad_reque
 ghost use Rattle.tb_run.specs.Due.{IsJoinOutcome, IsOutcome, IsRefusal};
 ghost use Rattle.tb_run.specs.Promise.Requests.{request_of, as_request, join, unpivot, dummies, pivot};
 
+use crate::keeping::answer_delta;
+use crate::planning::answer_plan;
 use crate::status::Status;
 use crate::tracing::text_with_trace;
 use crate::words::Command;
@@ -44,6 +46,8 @@ pub(crate) fn answer_request(
         Command::Unpivot => answer_unpivot(alloc, bytes),
         Command::Dummies => answer_dummies(alloc, bytes),
         Command::Pivot => answer_pivot(alloc, bytes),
+        Command::Plan => answer_plan(rt, alloc, bytes),
+        Command::Delta => answer_delta(rt, alloc, bytes),
     }
 }
 
@@ -219,8 +223,8 @@ fn refused(alloc: Global, error: PolarsError) -> Result<Answer, OutOfMemory>
     }
 }
 
-// Want of memory is handed on, and a reason has a text.
-fn no_request(alloc: Global, fault: RequestFault) -> Result<Answer, OutOfMemory>
+/// Want of memory is handed on, and a reason has a text.
+pub(crate) fn no_request(alloc: Global, fault: RequestFault) -> Result<Answer, OutOfMemory>
     ensures { IfOk result (λ a. (reason : Reason) × (fault ≡ RequestFault.NoRequest reason)
         × DueOfReading (Err reason) a.status (string_bytes a.text)) }
 {

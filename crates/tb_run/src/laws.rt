@@ -2,12 +2,12 @@
 ghost use Rattle.std.specs.Prelude.{◌≡◌, List, ℕ, Option};
 ghost use Rattle.tb_run.specs.declared.status.Status.{Status};
 ghost use Rattle.tb_run.specs.declared.status.Status.TheVariants.{Done};
-ghost use Rattle.tb_run.specs.declared.words.Command.TheVariants.{Join, Unpivot, Dummies, Pivot};
+ghost use Rattle.tb_run.specs.declared.words.Command.TheVariants.{Join, Unpivot, Dummies, Pivot, Plan, Delta};
 ghost use Rattle.tb_run.specs.declared.words.Form.{Form};
 ghost use Rattle.tb_run.specs.Promise.Due.{due, IsDue};
 ghost use Rattle.tb_run.specs.Due.{DoneFor, IsValid};
 ghost use Rattle.tb_run.specs.Forms.{TwoForms};
-ghost use Rattle.tb_run.specs.Promise.Headline.{JoinDone, UnpivotDone, DummiesDone, PivotDone};
+ghost use Rattle.tb_run.specs.Promise.Headline.{JoinDone, UnpivotDone, DummiesDone, PivotDone, PlanDone, DeltaDone};
 
 pub use tb_json::laws::text_one_to_one;
 use tb_value::PlSmallStr;
@@ -50,4 +50,16 @@ pub fn dummies_is_done()
 pub fn pivot_is_done()
     ensures { (left left' written written' : Option (List ℕ))
         → DoneFor Pivot left left' written written' → PivotDone left left' written written' }
+{}
+
+/// What `run` says of 0 under the word `plan`, in the words of a plan.
+pub fn plan_is_done()
+    ensures { (left left' written written' : Option (List ℕ))
+        → DoneFor Plan left left' written written' → PlanDone left left' written written' }
+{}
+
+/// What `run` says of 0 under the word `delta`, in the words of a join that is kept.
+pub fn delta_is_done()
+    ensures { (left left' written written' : Option (List ℕ))
+        → DoneFor Delta left left' written written' → DeltaDone left left' written written' }
 {}

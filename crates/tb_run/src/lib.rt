@@ -3,9 +3,11 @@
 
 mod answering;
 mod ends;
+mod keeping;
 pub mod laws;
 mod memory;
 mod never;
+mod planning;
 mod reading;
 mod running;
 mod status;

@@ -14,6 +14,8 @@ pub enum Command {
     Unpivot,
     Dummies,
     Pivot,
+    Plan,
+    Delta,
 }
 
 /// What the words ask for.
@@ -81,6 +83,8 @@ fn command_of(word: &str) -> Option<Command>
         "unpivot" => Some(Command::Unpivot),
         "dummies" => Some(Command::Dummies),
         "pivot" => Some(Command::Pivot),
+        "plan" => Some(Command::Plan),
+        "delta" => Some(Command::Delta),
         _ => None,
     }
 }

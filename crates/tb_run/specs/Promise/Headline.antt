@@ -10,6 +10,10 @@ use Rattle.tb_dummies.specs.Promise.Dummies.{dummies_refusal, dummies_table}
 use Rattle.tb_pivot.specs.Promise.Pivot.{pivot_table}
 use Rattle.tb_pivot.specs.Promise.Refusal.{pivot_refusal}
 use Rattle.tb_request.specs.Promise.Reading.{JoinRequest, UnpivotRequest, DummiesRequest, PivotRequest, asked_request, join_request_of, unpivot_request_of, dummies_request_of, pivot_request_of}
+use Rattle.tb_plan_request.specs.Promise.Reading.{PlanRequest, plan_request_of, plan_answer}
+use Rattle.tb_delta_request.specs.Promise.Answers.{IsEndOf, delta_refusal, told_by}
+use Rattle.tb_delta_request.specs.Promise.Reading.{DeltaRequest, delta_request_of}
+use Rattle.tb_delta_request.specs.Promise.Texts.{kept_text}
 use Rattle.tb_json.specs.Promise.Text.{text_of}
 use Rattle.tb_run.specs.Promise.Due.{Tells}
 use Rattle.tb_run.specs.Promise.Requests.{asked_dummies, asked_long, asked_wide}
@@ -61,3 +65,28 @@ pub record PivotDone (left left' written written' : Option (List ℕ)) : Type 0 
   pub is_request : pivot_request_of bytes ≡ Ok request
   pub valid : pivot_refusal (asked_wide request) ≡ None
   pub wrote : Appends written written' (text_of (pivot_table (asked_wide request)))
+
+-- The same for a plan: the text of the table that it answers was written.
+pub record PlanDone (left left' written written' : Option (List ℕ)) : Type 0 where
+  pub bytes : List ℕ
+  pub told : Tells left bytes
+  pub short : length bytes ≤ MAX_INPUT
+  pub read : Consumes left left' bytes
+  pub request : PlanRequest
+  pub is_request : plan_request_of bytes ≡ Ok request
+  pub table : Table
+  pub is_answer : plan_answer request ≡ Ok table
+  pub wrote : Appends written written' (text_of table)
+
+-- The same for a join that is kept: the text of the join behind all steps, with what each step told, was written.
+pub record DeltaDone (left left' written written' : Option (List ℕ)) : Type 0 where
+  pub bytes : List ℕ
+  pub told : Tells left bytes
+  pub short : length bytes ≤ MAX_INPUT
+  pub read : Consumes left left' bytes
+  pub request : DeltaRequest
+  pub is_request : delta_request_of bytes ≡ Ok request
+  pub valid : delta_refusal request ≡ None
+  pub table : Table
+  pub is_answer : IsEndOf request table
+  pub wrote : Appends written written' (kept_text table (told_by request))

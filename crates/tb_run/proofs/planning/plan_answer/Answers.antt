@@ -1,0 +1,6 @@
+use Rattle.std.proofs.Common.{string_bytes}
+use Rattle.tb_run.proofs.Planned.{plans_are_due}
+use Rattle.tb_run.proofs.planning.plan_answer.Goals as goal
+
+pub returns : goal.returns
+returns g c = plans_are_due _ c.planned.value (λ a. a.status) (λ a. string_bytes a.text) _ c.planned.ensures c.plan_answered.ensures
