@@ -1,3 +1,4 @@
+pub mod Extremes
 pub mod Outcomes
 pub mod Picked
 pub mod Ranges

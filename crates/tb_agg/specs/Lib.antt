@@ -1,4 +1,5 @@
 pub mod Grouped
+pub mod Laws
 pub mod Outcome
 pub mod Picking
 pub mod Running

@@ -3,6 +3,7 @@
 
 mod by_groups;
 mod counts;
+pub mod laws;
 mod made;
 mod picks;
 mod running;

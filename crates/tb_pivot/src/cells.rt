@@ -1,5 +1,5 @@
 //! The cells of the answer.
-ghost use Rattle.std.specs.Prelude.{◌≡◌, ◌≤◌, ◌<◌, ◌*◌, ◌++◌, IfOk, OnOk, length};
+ghost use Rattle.std.specs.Prelude.{◌≡◌, ◌≤◌, ◌<◌, ◌*◌, IfOk, length};
 ghost use Rattle.tb_chunk.specs.Changed.{opt_taken_rows};
 ghost use Rattle.tb_chunk.specs.Promise.Col.{values};
 ghost use Rattle.tb_chunk.specs.Lent.{lent_columns};
@@ -9,7 +9,7 @@ ghost use Rattle.tb_pivot.specs.Cells.{AreCells, cell_grid, cells_under};
 use crate::grid::grid_of;
 use crate::lookup::RequestColumns;
 use std::alloc::Global;
-use tb_rows::{Groups, group_rows};
+use tb_rows::{Groups, group_both, group_rows};
 use tb_store::Series;
 use tb_value::{IdxSize, MAX_ROWS, NullableIdxSize, OutOfMemory};
 
@@ -19,29 +19,6 @@ pub(crate) struct Cells {
     groups: Groups,
     rows: Groups,
     headers: Groups,
-}
-
-// Puts the columns behind the others.
-fn push_columns<'a>(columns: &mut Vec<&'a Series>, more: &[&'a Series]) -> Result<(), OutOfMemory>
-    ensures { OnOk result (lent_columns columns.new.items ≡ lent_columns columns.old.items ++ lent_columns more.now) }
-{
-    for column in more {
-        columns.push(*column)?;
-    }
-    Ok(())
-}
-
-// The columns of the index, and then those whose rows become headers.
-fn key_columns<'a>(
-    alloc: Global,
-    columns: &RequestColumns<'a>,
-) -> Result<Vec<&'a Series>, OutOfMemory>
-    ensures { IfOk result (λ v. lent_columns v.items ≡ lent_columns columns.now.index.items ++ lent_columns columns.now.on.items) }
-{
-    let mut keys = Vec::with_capacity(alloc, columns.index.len())?;
-    push_columns(&mut keys, &columns.index)?;
-    push_columns(&mut keys, &columns.on)?;
-    Ok(keys)
 }
 
 impl Cells {
@@ -54,10 +31,9 @@ impl Cells {
         requires { height ≤ MAX_ROWS }
         ensures { IfOk result (AreCells height (table_of (lent_columns columns.now.index.items)) (table_of (lent_columns columns.now.on.items))) }
     {
-        let keys = key_columns(alloc, columns)?;
-        let groups = group_rows(alloc, &keys, height)?;
         let rows = group_rows(alloc, &columns.index, height)?;
         let headers = group_rows(alloc, &columns.on, height)?;
+        let groups = group_both(alloc, &rows, &headers)?;
         Ok(Cells {
             groups,
             rows,

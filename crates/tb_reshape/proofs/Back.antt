@@ -24,25 +24,25 @@ use Rattle.tb_reshape.proofs.Places.{first_ones, first_of_each, one_row_each, sm
 use Rattle.tb_reshape.proofs.Stacked.{IsHigh, one_kind_is, one_row_alike, repeated_alike, repeated_at, repeated_long, value_is, variable_alike, variable_at, variable_long}
 
 module _ (index on : List TableColumn) (h : ℕ) (some : 0 < h) (k : Kind) (variable value separator : Name) (index_high : All (IsHigh h) index) (on_high : All (IsHigh h) on) (o : TableColumn) (columns : 0 < length on) (distinct : AllPairs (λ (x y : TableColumn). x.name ≢ y.name) on) (apart : (i j : ℕ) → i < h → j < h → are_alike index i j ≡ true → i ≡ j) (one : All (λ (c : TableColumn). c.kind ≡ k) on) (typed : All IsTyped on) where
-  abbrev copies : List TableColumn
+  abbrev pub copies : List TableColumn
   copies = map (repeated (length on)) index
 
-  abbrev names_column : TableColumn
+  abbrev pub names_column : TableColumn
   names_column = variable_column variable on
 
-  abbrev values_column : TableColumn
+  abbrev pub values_column : TableColumn
   values_column = value_column value k on
 
-  abbrev q : Chosen
+  abbrev pub q : Chosen
   q = record { height = length on * h; on = names_column ∷ []; index = copies; values = values_column ∷ []; sorts = false; way = one_row; separator = separator }
 
   fits : h ≤ length on * h
   fits = let up : 1 * h ≤ length on * h = mul-le 1 h (length on) h (omega (arith, columns)) (omega arith) in omega (arith, up)
 
-  by_row : (i j : ℕ) → i < length on * h → j < length on * h → are_alike copies i j ≡ eqb (i % h) (j % h)
+  pub by_row : (i j : ℕ) → i < length on * h → j < length on * h → are_alike copies i j ≡ eqb (i % h) (j % h)
   by_row i j low under = repeated_alike h some (length on) index index_high i j low under ∙ one_row_alike index h apart (i % h) (j % h) (mod_below i h some) (mod_below j h some)
 
-  by_column : (i j : ℕ) → i < length on * h → j < length on * h → are_alike (names_column ∷ []) i j ≡ eqb (i / h) (j / h)
+  pub by_column : (i j : ℕ) → i < length on * h → j < length on * h → are_alike (names_column ∷ []) i j ≡ eqb (i / h) (j / h)
   by_column i j low under = variable_alike on h some on_high o distinct variable i j low under
 
   answers : answer_rows q ≡ row_numbers h
@@ -93,14 +93,14 @@ module _ (index on : List TableColumn) (h : ℕ) (some : 0 < h) (k : Kind) (vari
 
   -- THE REQUEST
 
-  abbrev long : Table
+  abbrev pub long : Table
   long = long_table k on index variable value
 
-  height_is : (cs : List TableColumn) → All (IsHigh h) cs → height (map (repeated (length on)) cs ++ names_column ∷ values_column ∷ []) ≡ length on * h
+  pub height_is : (cs : List TableColumn) → All (IsHigh h) cs → height (map (repeated (length on)) cs ++ names_column ∷ values_column ∷ []) ≡ length on * h
   height_is [] high = variable_long on h some on_high o variable
   height_is (c ∷ cs) high = repeated_long h some (length on) c (All-head (IsHigh h) c cs high)
 
-  names_kept : (cs : List TableColumn) → names_of cs ≡ names_of (map (repeated (length on)) cs)
+  pub names_kept : (cs : List TableColumn) → names_of cs ≡ names_of (map (repeated (length on)) cs)
   names_kept [] = refl
   names_kept (c ∷ cs) = ap (λ (ns : List Name). c.name ∷ ns) (names_kept cs)
 
@@ -111,15 +111,15 @@ module _ (index on : List TableColumn) (h : ℕ) (some : 0 < h) (k : Kind) (vari
       All-cons (Differ n) (repeated (length on) c) (map (repeated (length on)) cs) (All-head P c.name (names_of cs) differ) (copies_differ n cs (All-tail P c.name (names_of cs) differ))
 
   module _ (of_index : AllPairs (λ (a b : Name). a ≢ b) (names_of index)) (other : variable ≢ value) (no_variable : All (λ (n : Name). n ≢ variable) (names_of index)) (no_value : All (λ (n : Name). n ≢ value) (names_of index)) where
-    index_found : columns_named long (names_of index) ≡ copies
+    pub index_found : columns_named long (names_of index) ≡ copies
     index_found =
         ap (columns_named long) (names_kept index)
         ∙ first_found copies (names_column ∷ values_column ∷ []) (subst (λ (ns : List Name). AllPairs (λ (a b : Name). a ≢ b) ns) (names_kept index) of_index)
 
-    names_found : columns_named long (variable ∷ []) ≡ names_column ∷ []
+    pub names_found : columns_named long (variable ∷ []) ≡ names_column ∷ []
     names_found = ap (λ (c : Option TableColumn). cons_option c []) (past variable copies (names_column ∷ values_column ∷ []) (copies_differ variable index no_variable) ∙ at_front names_column (values_column ∷ []))
 
-    values_found : columns_named long (value ∷ []) ≡ values_column ∷ []
+    pub values_found : columns_named long (value ∷ []) ≡ values_column ∷ []
     values_found =
         ap (λ (c : Option TableColumn). cons_option c [])
         (past value copies (names_column ∷ values_column ∷ []) (copies_differ value index no_value)
@@ -132,7 +132,7 @@ module _ (index on : List TableColumn) (h : ℕ) (some : 0 < h) (k : Kind) (vari
         ∙ wide_back
 
 -- what holds of the table's columns holds of some of them
-some_hold : (P : TableColumn → Type 0) (t : Table) (cs : List TableColumn) → AreOf t cs → All P t → All P cs
+pub some_hold : (P : TableColumn → Type 0) (t : Table) (cs : List TableColumn) → AreOf t cs → All P t → All P cs
 some_hold P t cs are all = subst (λ (ds : List TableColumn). All P ds) are.found (selected_hold P t all (names_of cs))
 
 pub undone : (t : Table) (index on : List TableColumn) (k : Kind) (variable value separator : Name) → AreUndone t index on k variable value → made_wide (made_long t index on variable value) index variable value separator ≡ index ++ on

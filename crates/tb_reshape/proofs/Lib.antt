@@ -1,3 +1,4 @@
+pub mod Accepted
 pub mod Back
 pub mod Lookups
 pub mod Places

@@ -20,7 +20,7 @@ each_from P a n holds = λ k d low.
     let under : k < n = omega (arith, low, length-range_with_len a n) in
     subst P (sym (get_or-range_with_len a n k d under)) (holds (a + k) (omega arith) (omega (arith, under)))
 
-all_pass : (p : ℕ → Bool) (xs : List ℕ) → All (λ x. p x ≡ true) xs → filter p xs ≡ xs
+pub all_pass : (p : ℕ → Bool) (xs : List ℕ) → All (λ x. p x ≡ true) xs → filter p xs ≡ xs
 all_pass p [] pass = refl
 all_pass p (x ∷ xs) pass =
     let P : ℕ → Type 0 = λ y. p y ≡ true in

@@ -1,3 +1,4 @@
+pub mod Agreeing
 pub mod ByCode
 pub mod FirstRows
 pub mod FirstsIn
@@ -7,4 +8,5 @@ pub mod Listed
 pub mod Numbered
 pub mod Orders
 pub mod OwnRows
+pub mod Pairs
 pub mod Sorts

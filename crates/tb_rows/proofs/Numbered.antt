@@ -78,6 +78,29 @@ module _ (test : ℕ → ℕ → Bool) (same : IsEquivalence test) (n m : ℕ) (
       → firsts ≡ first_rows test m → old ≡ map (group_of test m) (row_numbers m) → new ≡ map (group_of test (m + 1)) (row_numbers (m + 1))
   numbers-step firsts old new b number e is put f g = put ∙ (λ t. g t ++ (is ∙ number_is firsts old b e f g) t ∷ []) ∙ sym (groups_more test same m)
 
+-- each row has the number of a group, and there are no more groups than rows
+module _ (test : ℕ → ℕ → Bool) (same : IsEquivalence test) (n : ℕ) (firsts numbers : List ℕ) (firsts_are : firsts ≡ first_rows test n)
+    (numbers_are : numbers ≡ map (group_of test n) (row_numbers n)) where
+  pub numbers_fit : All (λ k. k < length firsts) numbers
+  numbers_fit =
+      subst (λ (ns : List ℕ). All (λ k. k < length firsts) ns) (sym numbers_are)
+      (subst (λ (fs : List ℕ). All (λ k. k < length fs) (map (group_of test n) (row_numbers n))) (sym firsts_are) (numbers_below test same n))
+
+  pub numbers_long : length numbers ≡ n
+  numbers_long = ap length numbers_are ∙ length-map-range_with_len (group_of test n) 0 n
+
+  pub firsts_few : length firsts ≤ n
+  firsts_few = omega (arith, ap length firsts_are, few_firsts test n)
+
+  -- they are what a call makes of such firsts and numbers
+  pub groups_made : {E : Type 0} (made : Result Groups E) (h : ℕ) → n ≡ h → IfOk made (λ g. g.firsts.items ≡ firsts) → IfOk made (λ g. g.numbers.items ≡ numbers)
+      → IfOk made (AreGroups test h)
+  groups_made (Ok g) h done f k = record {
+    firsts = f ∙ firsts_are ∙ ap (first_rows test) done;
+    numbers = k ∙ numbers_are ∙ (λ t. map (group_of test (done t)) (row_numbers (done t)));
+  }
+  groups_made (Err e) h done f k = tt
+
 -- THE ROWS OF COLUMNS
 
 fields_same : (i j : ℕ) (cs : List (Bor Col)) → same_at cs i j ≡ same_rows (map (λ (c : Bor Col). values c.now) cs) i j
@@ -88,39 +111,12 @@ pub rows_test : (cs : List (Bor Col)) → same_at cs ≡ same_rows (map (λ (c :
 rows_test cs = λ t i j. fields_same i j cs t
 
 -- rows that are called so are groups by the lists of the columns where they are by the fields
-pub groups_are : (cs : List (Bor Col)) (name : ℕ → ℕ) (g : Groups) (n h : ℕ) → n ≡ h → g.firsts.items ≡ first_rows (named_rows name (same_at cs)) n
-    → g.numbers.items ≡ map (group_of (named_rows name (same_at cs)) n) (row_numbers n)
-    → AreGroups (named_rows name (same_rows (map (λ (c : Bor Col). values c.now) cs))) h g
-groups_are cs name g n h done firsts numbers = record {
-  firsts = firsts ∙ (λ t. first_rows (named_rows name (rows_test cs t)) (done t));
-  numbers = numbers ∙ (λ t. map (group_of (named_rows name (rows_test cs t)) (done t)) (row_numbers (done t)));
-}
-
--- and so are what a call made of such firsts and numbers
-pub groups_made : {E : Type 0} (cs : List (Bor Col)) (name : ℕ → ℕ) (made : Result Groups E) (firsts numbers : List ℕ) (n h : ℕ) → n ≡ h
-    → firsts ≡ first_rows (named_rows name (same_at cs)) n → numbers ≡ map (group_of (named_rows name (same_at cs)) n) (row_numbers n)
-    → IfOk made (λ g. g.firsts.items ≡ firsts) → IfOk made (λ g. g.numbers.items ≡ numbers)
-    → IfOk made (AreGroups (named_rows name (same_rows (map (λ (c : Bor Col). values c.now) cs))) h)
-groups_made cs name (Ok g) firsts numbers n h done firsts_are numbers_are f k = groups_are cs name g n h done (f ∙ firsts_are) (k ∙ numbers_are)
-groups_made cs name (Err e) firsts numbers n h done firsts_are numbers_are f k = tt
+pub groups_named : {E : Type 0} (cs : List (Bor Col)) (name : ℕ → ℕ) (made : Result Groups E) (n : ℕ) → IfOk made (AreGroups (named_rows name (same_at cs)) n)
+    → IfOk made (AreGroups (named_rows name (same_rows (map (λ (c : Bor Col). values c.now) cs))) n)
+groups_named cs name made n groups = subst (λ (test : ℕ → ℕ → Bool). IfOk made (AreGroups (named_rows name test) n)) (rows_test cs) groups
 
 pub same_named : (cs : List (Bor Col)) (name : ℕ → ℕ) → IsEquivalence (named_rows name (same_at cs))
 same_named cs name = pulled (λ i. fields_at cs (name i)) fields_equiv
-
--- each row has the number of a group, and there are no more groups than rows
-module _ (cs : List (Bor Col)) (name : ℕ → ℕ) (n : ℕ) (firsts numbers : List ℕ)
-    (firsts_are : firsts ≡ first_rows (named_rows name (same_at cs)) n) (numbers_are : numbers ≡ map (group_of (named_rows name (same_at cs)) n) (row_numbers n)) where
-  pub numbers_fit : All (λ k. k < length firsts) numbers
-  numbers_fit =
-      let test : ℕ → ℕ → Bool = named_rows name (same_at cs) in
-      subst (λ (ns : List ℕ). All (λ k. k < length firsts) ns) (sym numbers_are)
-      (subst (λ (fs : List ℕ). All (λ k. k < length fs) (map (group_of test n) (row_numbers n))) (sym firsts_are) (numbers_below test (same_named cs name) n))
-
-  pub numbers_long : length numbers ≡ n
-  numbers_long = ap length numbers_are ∙ length-map-range_with_len (group_of (named_rows name (same_at cs)) n) 0 n
-
-  pub firsts_few : length firsts ≤ n
-  firsts_few = omega (arith, ap length firsts_are, few_firsts (named_rows name (same_at cs)) n)
 
 pub named_few : (names : RowNames) (n : ℕ) → AreNamed names n → n ≤ 4294967294
 named_few (From first) n h = omega (arith, h)

@@ -73,6 +73,10 @@ pub record AreLeaders (test : ℕ → ℕ → Bool) (n : ℕ) (leaders : List �
   pub count : length leaders ≡ n
   pub each : (j : ℕ) → j < n → slice_index_or leaders j 0 ≡ leader test n j
 
+-- whether two rows have one leader
+abbrev pub led_alike : List ℕ → ℕ → ℕ → Bool
+led_alike leaders i j = slice_index_or leaders i 0 == slice_index_or leaders j 0
+
 -- whether two of the rows have one code
 abbrev pub same_code : List CodedRow → ℕ → ℕ → Bool
 same_code rows i j = (slice_index_or rows i no_row).code == (slice_index_or rows j no_row).code

@@ -1,3 +1,4 @@
+pub mod Both
 pub mod Coded
 pub mod Fields
 pub mod Grouped

@@ -1,6 +1,7 @@
 //! Rows in groups.
 ghost use Rattle.std.specs.Prelude.{◌≡◌, ◌<◌, ◌≤◌, ◌∷◌, [], ◌++◌, false, if◌then◌else◌, IfOk, OnOk, cond, length, map, slice_index_or};
 ghost use Rattle.tb_chunk.specs.Promise.Col.{values};
+ghost use Rattle.tb_rows.specs.Coded.{led_alike, AreLeaders};
 ghost use Rattle.tb_rows.specs.Grouped.{AreGroups};
 ghost use Rattle.tb_rows.specs.InGroups.{listed_test, named_rows};
 ghost use Rattle.tb_rows.specs.Names.{name_of, AreNamed};
@@ -36,6 +37,24 @@ fn number_of(firsts: &[IdxSize], numbers: &[IdxSize], leader: usize, is_first: b
     numbers[leader]
 }
 
+// Rows of one leader in groups.
+pub(crate) fn led_groups(alloc: Global, leaders: &[IdxSize]) -> Result<Groups, OutOfMemory>
+    requires leaders { AreLeaders (led_alike leaders.now) (length leaders.now) leaders.now }
+    requires few { length leaders.now ≤ MAX_ROWS }
+    ensures { IfOk result (AreGroups (led_alike leaders.now) (length leaders.now)) }
+{
+    let mut firsts = Vec::new(alloc);
+    let mut numbers = Vec::with_capacity(alloc, leaders.len())?;
+    for place in 0..leaders.len() {
+        let leader = leaders[place] as usize;
+        let is_first = leader == place;
+        let number = number_of(firsts.as_slice(), numbers.as_slice(), leader, is_first);
+        push_first(&mut firsts, place as IdxSize, is_first)?;
+        numbers.push(number)?;
+    }
+    Groups::of_numbers(alloc, firsts, numbers)
+}
+
 // The places of rows that are called so in groups.
 fn group_named(
     alloc: Global,
@@ -47,16 +66,7 @@ fn group_named(
     ensures { IfOk result (AreGroups (named_rows (name_of names.entry) (same_rows (map (λ c. values c.now) columns.now))) len) }
 {
     let leaders = leaders(alloc, columns, names, len)?;
-    let mut firsts = Vec::new(alloc);
-    let mut numbers = Vec::with_capacity(alloc, len)?;
-    for place in 0..len {
-        let leader = leaders[place] as usize;
-        let is_first = leader == place;
-        let number = number_of(firsts.as_slice(), numbers.as_slice(), leader, is_first);
-        push_first(&mut firsts, place as IdxSize, is_first)?;
-        numbers.push(number)?;
-    }
-    Groups::of_numbers(alloc, firsts, numbers)
+    led_groups(alloc, leaders.as_slice())
 }
 
 /// Rows `0..height` in groups of the same values of the columns, Null the same as Null; past the end of a column its

@@ -1,6 +1,7 @@
 //! Rows that have the same values in some columns, in groups, and lists put in an order.
 #![tactic(auto)]
 
+mod both;
 mod by_code;
 mod coded;
 mod fields;
@@ -10,6 +11,7 @@ pub mod laws;
 mod names;
 mod order;
 
+pub use both::group_both;
 pub use grouping::{group_listed, group_rows};
 pub use groups::Groups;
 pub use names::RowNames;
