@@ -1,14 +1,12 @@
 -- The text of a kept join, part by part.
-use Rattle.std.proofs.Common.{◌≡◌, ◌∙◌, ℕ, ◌+◌, ◌-◌, List, [], ◌∷◌, ◌++◌, length, get_or, take, map, false, ap, arith, sym, append_assoc, codes}
-use Rattle.std.proofs.lemmas.List.{get_or_push, length-append, take_at}
+use Rattle.std.proofs.Common.{◌≡◌, ◌∙◌, ℕ, List, [], ◌∷◌, ◌++◌, map, false, ap, sym, append_assoc, codes}
 use Rattle.json.specs.Print.{escape_byte}
 use Rattle.serde_json.specs.Data.{Data, number, unsigned}
 use Rattle.serde_json.specs.View.{items_of}
 use Rattle.serde_json.specs.Written.{compact_text, has_float, items_text}
 use Rattle.tb_frame.specs.Promise.Table.{Table, height}
-use Rattle.tb_json.specs.Promise.Text.{column_data, text_of}
+use Rattle.tb_json.specs.Promise.Text.{column_data}
 use Rattle.tb_json.specs.Written.{open_table}
-use Rattle.tb_json.proofs.Runs.{table_text}
 use Rattle.tb_delta.specs.declared.fault.DeltaFault.{DeltaFault}
 use Rattle.tb_delta_request.specs.Promise.Texts.{kept_text, lists_data, step_data, step_text}
 
@@ -31,21 +29,6 @@ kept_parts t lists named told text n w e =
     ∙ sym (append_assoc start (columns ++ (behind_columns ++ (count ++ (key ++ (ids ++ codes "}"))))) (10 ∷ [])
     ∙ ap (λ x. start ++ x) (behind columns behind_columns count (key ++ (ids ++ codes "}")) (10 ∷ [])
     ∙ ap (λ x. columns ++ (behind_columns ++ (count ++ x))) (append_assoc key (ids ++ codes "}") (10 ∷ []) ∙ ap (λ x. key ++ x) (append_assoc ids (codes "}") (10 ∷ [])))))
-
--- the table's text is that of its members and two characters more
-pub closing : (t : Table) (text : List ℕ) → text ≡ text_of t → text ≡ (open_table t ++ 125 ∷ []) ++ 10 ∷ []
-closing t text e = e ∙ sym (table_text t) ∙ sym (append_assoc (open_table t) (125 ∷ []) (10 ∷ []))
-
--- THE LAST OF A LIST
-
-long : (xs : List ℕ) (x : ℕ) → length xs ≡ length (xs ++ x ∷ []) - 1
-long xs x = let all : length (xs ++ x ∷ []) ≡ length xs + 1 = length-append xs (x ∷ []) in omega (arith, all)
-
-pub last_is : (xs : List ℕ) (x : ℕ) → get_or (xs ++ x ∷ []) (length (xs ++ x ∷ []) - 1) 0 ≡ x
-last_is xs x = get_or_push xs x 0 (length (xs ++ x ∷ []) - 1) (long xs x)
-
-pub without_last : (xs : List ℕ) (x : ℕ) → take (length (xs ++ x ∷ []) - 1) (xs ++ x ∷ []) ≡ xs
-without_last xs x = take_at xs (x ∷ []) (length (xs ++ x ∷ []) - 1) (long xs x)
 
 -- THE TEXT OF A STEP
 

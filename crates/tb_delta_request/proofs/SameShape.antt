@@ -10,33 +10,11 @@ use Rattle.tb_value.specs.declared.error.Side.TheVariants as side
 use Rattle.tb_json.specs.Promise.Lists.{◌>>=◌, are_among, as_list, check, has_only, list_of}
 use Rattle.tb_request.specs.declared.shape.Format.{Format}
 use Rattle.tb_request.specs.declared.shape.Format.TheVariants.{Chunks, Runs}
-use Rattle.tb_request.specs.Forms.{each_member, expand, expand_member, expand_table}
-use Rattle.tb_request.specs.Promise.Written.{format_numbered, format_of, optional_member, table_at, table_of, whole_of, Written}
-use Rattle.tb_request.proofs.Expanded.{member_out, names_out, table_out, written_out}
-use Rattle.tb_request.proofs.SameShape.{GoOut}
+use Rattle.tb_request.specs.Forms.{expand, expand_member}
+use Rattle.tb_request.specs.Promise.Written.{format_of, optional_member, table_at, Written}
+use Rattle.tb_request.proofs.Expanded.{names_out, written_out}
+use Rattle.tb_request.proofs.SameShape.{format_out, GoOut, same_member, side_out, some_is}
 use Rattle.tb_delta_request.specs.Promise.Written.{WrittenDelta, WrittenStep, delta_of, insert, insert_of, of_two, remove_of, side_at, step_of}
-
--- a member that is the same in both
-kept : (name : List ℕ) (ms : Members) → ((d : Data) → expand_member name d ≡ d) → get_member name (each_member expand_member ms) ≡ get_member name ms
-kept name ms same = member_out expand_member name ms ∙ all_same (get_member name ms) where
-  all_same : (o : Option Data) → option_map (expand_member name) o ≡ o
-  all_same None = refl
-  all_same (Some d) = ap Some (same d)
-
-format_out : (ms : Members) → format_of (object ms) ≡ Some Runs → format_of (expand (object ms)) ≡ Some Chunks
-format_out ms e = ap (optional_member Chunks (λ m. whole_of m >>= format_numbered)) (member_out expand_member (codes "format") ms) ∙ numbered (get_member (codes "format") ms) e where
-  numbered : (o : Option Data) → optional_member Chunks (λ m. whole_of m >>= format_numbered) o ≡ Some Runs → optional_member Chunks (λ m. whole_of m >>= format_numbered) (option_map (expand_member (codes "format")) o) ≡ Some Chunks
-  numbered None e = cc
-  numbered (Some d) e = refl
-
-side_out : (name : List ℕ) (ms : Members) → ((d : Data) → expand_member name d ≡ expand_table d) → GoOut (table_at Runs name (object ms)) (table_at Chunks name (expand (object ms)))
-side_out name ms same ws e = ap (option_and_then (table_of Chunks)) (member_out expand_member name ms) ∙ side (get_member name ms) e where
-  side : (o : Option Data) → (o >>= table_of Runs) ≡ Some ws → (option_map (expand_member name) o >>= table_of Chunks) ≡ Some (map written_out ws)
-  side None e = cc
-  side (Some d) e = ap (table_of Chunks) (same d) ∙ table_out d ws e
-
-some_is : {A : Type 0} (x y : A) → Some x ≡ Some y → x ≡ y
-some_is x y e = cc
 
 -- ---- steps, which ask for the number of columns alone
 
@@ -117,17 +95,17 @@ delta_of_out (string s) w e x = absurd (cc)
 delta_of_out (array ds) w e x = absurd (cc)
 delta_of_out (object ms) w e x =
     (λ i. delta_with (names_out expand_member delta_names ms i)
-    (format_out ms e i)
-    (optional_member false as_bool (kept (codes "join_nulls") ms (λ d. refl) i))
-    (kept (codes "left_on") ms (λ d. refl) i >>= as_str)
-    (kept (codes "right_on") ms (λ d. refl) i >>= as_str)
+    (format_out expand_member ms (λ d. refl) e i)
+    (optional_member false as_bool (same_member expand_member (codes "join_nulls") ms (λ d. refl) i))
+    (same_member expand_member (codes "left_on") ms (λ d. refl) i >>= as_str)
+    (same_member expand_member (codes "right_on") ms (λ d. refl) i >>= as_str)
     (λ f. table_at f (codes "left") (expand (object ms)))
     (λ f. table_at f (codes "right") (expand (object ms)))
-    (λ l r. kept (codes "steps") ms (λ d. refl) i >>= list_of (step_of l r)))
+    (λ l r. same_member expand_member (codes "steps") ms (λ d. refl) i >>= list_of (step_of l r)))
     ∙ delta_goes (are_among delta_names ms) (optional_member false as_bool (get_member (codes "join_nulls") ms)) (get_member (codes "left_on") ms >>= as_str) (get_member (codes "right_on") ms >>= as_str)
     (λ f. table_at f (codes "left") (object ms)) (λ f. table_at f (codes "left") (expand (object ms)))
     (λ f. table_at f (codes "right") (object ms)) (λ f. table_at f (codes "right") (expand (object ms)))
     (λ l r. get_member (codes "steps") ms >>= list_of (step_of l r))
-    w (side_out (codes "left") ms (λ d. refl)) (side_out (codes "right") ms (λ d. refl))
+    w (side_out expand_member (codes "left") ms (λ d. refl)) (side_out expand_member (codes "right") ms (λ d. refl))
     (λ ls rs. ap (λ (f : Data → Option WrittenStep). get_member (codes "steps") ms >>= list_of f) (λ i d. step_same ls rs d i))
     (ap (λ o. delta_by (are_among delta_names ms) o (λ name. get_member name ms) (λ f name. table_at f name (object ms))) (sym e) ∙ x)

@@ -1,8 +1,6 @@
 -- Requests of both formats are read alike.
 use Rattle.std.proofs.Common.{◌≡◌, ◌∙◌, ◌≤◌, List, [], ◌∷◌, ◌++◌, map, Bool, true, false, Option, Some, None, option_map, refl, sym, ap, arith}
 use Rattle.std.specs.Prelude.{ok_or, Result, Ok, Err}
-use Rattle.std.proofs.lemmas.Bool.{le-leb, leb-true}
-use Rattle.std.proofs.lemmas.List.{map-append}
 use Rattle.serde_json.specs.Data.{Data}
 use Rattle.serde_json.specs.View.{items_of}
 use Rattle.tb_value.specs.Promise.Datum.{data_in}
@@ -17,28 +15,19 @@ use Rattle.tb_json.specs.Promise.Cells as cells
 use Rattle.tb_json.specs.Promise.Lists.{each}
 use Rattle.tb_request.specs.declared.request.Reason.{Reason}
 use Rattle.tb_request.specs.declared.request.Reason.TheVariants as why
-use Rattle.tb_request.specs.declared.runs.TheConstants.{MAX_RUN_VALUES}
 use Rattle.tb_request.specs.Forms.{expand, IsPastRows}
-use Rattle.tb_request.specs.Promise.Columns.{columns_from, rows_fit, rows_in}
+use Rattle.tb_request.specs.Promise.Columns.{columns_from, rows_fit}
 use Rattle.tb_request.specs.Promise.Reading.{◌>>=◌, are_tables}
 use Rattle.tb_request.specs.Promise.Written.{Written}
-use Rattle.tb_request.proofs.Expanded.{columns_out, rows_out, written_out}
+use Rattle.tb_request.proofs.Expanded.{columns_out, written_out}
 use Rattle.tb_request.proofs.RoomLeft.{rows_append}
+use Rattle.tb_request.proofs.TwoForms.{both_fit_out, fit_from}
 use Rattle.tb_delta_request.specs.Laws.{TwoForms}
 use Rattle.tb_delta_request.specs.Promise.Reading.{DeltaRequest, delta_in, part_of, step_in, steps_in}
 use Rattle.tb_delta_request.specs.Promise.Written as written
 use Rattle.tb_delta_request.specs.Promise.Written.{WrittenDelta, WrittenStep, delta_of, of_two}
 use Rattle.tb_delta_request.proofs.SameShape.{delta_of_out, delta_out}
 use Rattle.tb_delta_request.proofs.Stages.{all_stages, made, stages}
-
-fit_from : (ws : List Written) → rows_fit ws ≡ true → rows_in ws ≤ MAX_RUN_VALUES
-fit_from ws e = leb-true (rows_in ws) MAX_RUN_VALUES e
-
-fit_out : (ws : List Written) → rows_fit (map written_out ws) ≡ true
-fit_out ws = le-leb (rows_in (map written_out ws)) MAX_RUN_VALUES (omega (arith, rows_out ws))
-
-both_fit_out : (ls rs : List Written) → rows_fit (map written_out ls ++ map written_out rs) ≡ true
-both_fit_out ls rs = ap rows_fit (sym (map-append written_out ls rs)) ∙ fit_out (ls ++ rs)
 
 -- the values of steps hang on names and types of columns alone
 parts_out : (d : Side) (l r : List Written) → map part_of (of_two d (map written_out l) (map written_out r)) ≡ map part_of (of_two d l r)

@@ -1,10 +1,9 @@
 //! The requests that bytes are.
-ghost use Rattle.std.specs.Prelude.{◌≡◌, ◌++◌, [], ◌∷◌, if◌then◌else◌, map, IfOk, OnOk, MatchResult, Ok};
+ghost use Rattle.std.specs.Prelude.{◌≡◌, map, IfOk, MatchResult, Ok};
 ghost use Rattle.tb_tree.specs.View.{view};
 ghost use Rattle.tb_request.specs.Columns.{relaid_column};
-ghost use Rattle.tb_request.specs.Lent.{claimed_views, claimed_view, written_view};
-ghost use Rattle.tb_request.specs.Promise.Columns.{rows_fit};
-ghost use Rattle.tb_request.specs.Promise.Reading.{are_tables, value_of, FaultIs};
+ghost use Rattle.tb_request.specs.Lent.{written_view};
+ghost use Rattle.tb_request.specs.Promise.Reading.{FaultIs};
 ghost use Rattle.tb_delta_request.specs.Lent.{sides_in};
 ghost use Rattle.tb_delta_request.specs.Promise.Reading.{delta_in, delta_request_of, delta_view, AreFitting};
 
@@ -14,66 +13,23 @@ use crate::shape::{WrittenDelta, delta_of};
 use std::alloc::Global;
 use tb_frame::DataFrame;
 use tb_request::{
-    ClaimedColumn, Reason, RequestFault, WrittenColumn, are_columns, columns_of, rows_fit,
-    tables_from, value_of,
+    Reason, RequestFault, WrittenColumn, are_columns, columns_of, sides_fit, tables_of,
+    unfit_reason, value_in,
 };
 use tb_tree::Value;
-use tb_value::OutOfMemory;
-
-// Whether the runs of both tables together have no more rows than a request may have. The columns stay as they are.
-fn sides_fit(
-    left: &mut Vec<WrittenColumn>,
-    right: &mut Vec<WrittenColumn>,
-) -> Result<bool, OutOfMemory>
-    ensures fit { IfOk result (λ b. b ≡ rows_fit (map written_view left.old.items ++ map written_view right.old.items)) }
-    ensures left { OnOk result (left.new.items ≡ left.old.items) }
-    ensures right { OnOk result (right.new.items ≡ right.old.items) }
-{
-    let width = left.len();
-    left.append(right)?;
-    let fit = rows_fit(left);
-    *right = left.split_off(width)?;
-    Ok(fit)
-}
-
-// Why columns whose runs have too many rows make no request. Their values are judged first.
-fn unfit_reason(typed: bool) -> Reason
-    ensures { result ≡ (if typed then Reason.Rows else Reason.Value) }
-{
-    if typed { Reason::Rows } else { Reason::Value }
-}
-
-// The two tables of these columns with the flags that are claimed.
-fn tables_of(
-    alloc: Global,
-    left: Vec<ClaimedColumn>,
-    right: Vec<ClaimedColumn>,
-) -> Result<(DataFrame, DataFrame), RequestFault>
-    ensures columns { IfOk result (λ p. (map relaid_column p.0 ≡ map claimed_view left.items)
-        × (map relaid_column p.1 ≡ map claimed_view right.items)) }
-    ensures tables { MatchResult result
-        (λ p. are_tables (map claimed_view left.items ∷ map claimed_view right.items ∷ []) ≡ Ok tt)
-        (λ e. FaultIs e (are_tables (map claimed_view left.items ∷ map claimed_view right.items ∷ []))) }
-{
-    let mut tables = tables_from(alloc, vec![in alloc; left, right]?)?;
-    match (tables.pop(), tables.pop()) {
-        (Some(right), Some(left)) => Ok((left, right)),
-        _ => unreachable!(),
-    }
-}
 
 // The tables of these columns.
 #[tactic(auto, unfolding(crate::specs::Lent::sides_in))]
 fn sides_of(
     alloc: Global,
-    mut left: Vec<WrittenColumn>,
-    mut right: Vec<WrittenColumn>,
+    left: Vec<WrittenColumn>,
+    right: Vec<WrittenColumn>,
 ) -> Result<(DataFrame, DataFrame), RequestFault>
     ensures { MatchResult result
         (λ p. sides_in (map written_view left.items) (map written_view right.items) ≡ Ok (map relaid_column p.0, map relaid_column p.1))
         (λ e. FaultIs e (sides_in (map written_view left.items) (map written_view right.items))) }
 {
-    if !sides_fit(&mut left, &mut right)? {
+    if !sides_fit(&left, &right) {
         let typed = are_columns(alloc, left)? && are_columns(alloc, right)?;
         return Err(RequestFault::NoRequest(unfit_reason(typed)));
     }
@@ -84,13 +40,6 @@ fn sides_of(
         return Err(RequestFault::NoRequest(Reason::Value));
     };
     tables_of(alloc, left, right)
-}
-
-// The JSON value that the bytes are, which are let go as soon as it is made.
-fn value_in(alloc: Global, bytes: Vec<u8>) -> Result<Value, RequestFault>
-    ensures { MatchResult result (λ v. value_of bytes.items ≡ Ok (view v)) (λ e. FaultIs e (value_of bytes.items)) }
-{
-    value_of(alloc, &bytes)
 }
 
 /// The request to keep a join that a JSON value is.

@@ -4,13 +4,13 @@ ghost use Rattle.serde_json.specs.Find.{get};
 ghost use Rattle.tb_tree.specs.View.{view};
 ghost use Rattle.tb_json.specs.Promise.Lists.{as_list, each, list_of};
 ghost use Rattle.tb_request.specs.Lent.{written_view};
-ghost use Rattle.tb_delta_request.specs.Promise.Written.{of_two, delta_of, insert_of, name_at, remove_of, side_at, side_named, step_of};
+ghost use Rattle.tb_delta_request.specs.Promise.Written.{of_two, delta_of, insert_of, remove_of, side_at, side_named, step_of};
 ghost use Rattle.tb_delta_request.specs.Lent.{step_view, written_delta};
 
 use std::alloc::Global;
 use tb_request::{
-    Format, WrittenColumn, count_of, format_of, has_only, into_array, into_member, table_in,
-    truth_at,
+    Format, WrittenColumn, count_of, format_of, has_only, into_array, into_member, name_at,
+    table_in, truth_at,
 };
 use tb_tree::Value;
 use tb_value::{OutOfMemory, PlSmallStr, Side};
@@ -47,15 +47,6 @@ fn side_at(object: &Value, name: &str) -> Option<Side>
     ensures { result ≡ side_at name.now (view object.now) }
 {
     side_named(object.get(name)?.as_str()?)
-}
-
-fn name_at(alloc: Global, object: &Value, name: &str) -> Result<Option<PlSmallStr>, OutOfMemory>
-    ensures { IfOk result (λ o. o ≡ name_at name.now (view object.now)) }
-{
-    match object.get(name).and_then(Value::as_str) {
-        Some(text) => Ok(Some(PlSmallStr::from_str(alloc, text)?)),
-        None => Ok(None),
-    }
 }
 
 /// The columns of a side.

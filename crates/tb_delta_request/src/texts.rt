@@ -1,11 +1,10 @@
 //! The texts of answers and refusals.
-ghost use Rattle.std.specs.Prelude.{◌≡◌, ◌<◌, ◌++◌, ◌∷◌, [], ℕ, List, false, IfOk, OnOk, Some, map, string_bytes};
+ghost use Rattle.std.specs.Prelude.{◌≡◌, ◌++◌, false, IfOk, OnOk, Some, map, string_bytes};
 ghost use Rattle.serde_json.specs.Data.{number, unsigned};
 ghost use Rattle.serde_json.specs.View.{view};
-ghost use Rattle.serde_json.specs.Written.{comma_if, compact_text};
+ghost use Rattle.serde_json.specs.Written.{compact_text};
 ghost use Rattle.tb_frame.specs.Promise.Table.{table_of};
-ghost use Rattle.tb_json.specs.Promise.Text.{text_of};
-ghost use Rattle.tb_json.specs.Written.{open_table, with_items};
+ghost use Rattle.tb_json.specs.Written.{with_items};
 ghost use Rattle.tb_delta.specs.Running.{lists_of};
 ghost use Rattle.tb_delta_request.specs.Lent.{refusal_view};
 ghost use Rattle.tb_delta_request.specs.Promise.Answers.{Refusal};
@@ -16,35 +15,8 @@ use serde_json::{Value, json};
 use std::alloc::Global;
 use tb_delta::{DeltaFault, StepFault};
 use tb_frame::DataFrame;
-use tb_json::{text_of, text_of_refusal};
+use tb_json::{open_table, push_comma, text_of_refusal};
 use tb_value::OutOfMemory;
-
-// Takes off the last character, which is of one byte.
-fn take_off(text: &mut String)
-    ensures { (front : List ℕ) → (last : ℕ) → last < 128 → string_bytes text.old ≡ front ++ last ∷ [] → string_bytes text.new ≡ front }
-{
-    text.pop();
-}
-
-// The members of a table, in an object that is left open.
-fn open_text(alloc: Global, table: &DataFrame) -> Result<String, OutOfMemory>
-    ensures { IfOk result (λ s. string_bytes s ≡ open_table (table_of table.now)) }
-{
-    let mut text = text_of(alloc, table)?;
-    take_off(&mut text);
-    take_off(&mut text);
-    Ok(text)
-}
-
-// A comma, where an item stands before.
-fn push_comma(text: &mut String, later: bool) -> Result<(), OutOfMemory>
-    ensures { OnOk result (string_bytes text.new ≡ string_bytes text.old ++ comma_if later) }
-{
-    if later {
-        text.push_str(",")?;
-    }
-    Ok(())
-}
 
 fn push_id(text: &mut String, id: u32) -> Result<(), OutOfMemory>
     ensures { OnOk result (string_bytes text.new ≡ string_bytes text.old ++ compact_text (id_data id)) }
@@ -110,7 +82,7 @@ pub fn text_of_kept(
 ) -> Result<String, OutOfMemory>
     ensures { IfOk result (λ s. string_bytes s ≡ kept_text (table_of table.now) (lists_of partners.now)) }
 {
-    let mut text = open_text(alloc, table)?;
+    let mut text = open_table(alloc, table)?;
     text.push_str(",\"partners\":")?;
     push_partners(&mut text, partners)?;
     text.push_str("}\n")?;

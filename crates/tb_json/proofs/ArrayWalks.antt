@@ -14,7 +14,7 @@ no_number : (o : Option ℤ) → option_and_then (ranged_number kind.null) o ≡
 no_number None = refl
 no_number (Some z) = refl
 
-only_null : (d : Data) → cell_in kind.null d ≡ cond (is_some (as_null d)) (Some value.null) None
+pub only_null : (d : Data) → cell_in kind.null d ≡ cond (is_some (as_null d)) (Some value.null) None
 only_null null = refl
 only_null (boolean b) = refl
 only_null (number n) = no_number (as_integer n)

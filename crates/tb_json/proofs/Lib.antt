@@ -12,9 +12,12 @@ pub mod Runs
 pub mod FieldWalks
 pub mod ValueWalks
 pub mod ArrayWalks
+mod RunWalks
+mod Pushed
 pub mod KindsBack
 pub mod ReadBack
 pub mod TextPlain
 pub mod ValuesBack
 pub mod OneToOne
 mod StoredTexts
+mod StandsForItself

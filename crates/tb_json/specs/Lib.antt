@@ -1,3 +1,4 @@
 pub mod Written
 pub mod Writable
 pub mod Promise
+pub mod Runs

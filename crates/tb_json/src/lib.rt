@@ -7,6 +7,7 @@ mod read_arrays;
 mod read_cell;
 mod read_kinds;
 mod read_plain_cells;
+mod read_runs;
 mod read_texts;
 mod scalar;
 mod write_cells;
@@ -15,7 +16,8 @@ mod write_refusals;
 mod write_tables;
 
 pub use read_any_cells::{item_of, value_of};
-pub use read_arrays::arrays_in;
+pub use read_arrays::{arrays_in, run_array_in};
 pub use read_kinds::type_of;
+pub use read_runs::lent_run;
 pub use write_refusals::{error_value, text_of_refusal};
-pub use write_tables::{text_of, traced_text_of};
+pub use write_tables::{open_table, push_comma, text_of, traced_text_of};

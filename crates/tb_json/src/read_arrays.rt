@@ -1,5 +1,5 @@
 //! Typed chunks, read from JSON.
-ghost use Rattle.std.specs.Prelude.{◌≡◌, map, replicate, option_map, IfOk, IfSome, is_some};
+ghost use Rattle.std.specs.Prelude.{◌≡◌, [], ◌∷◌, map, replicate, option_map, IfOk, IfSome, is_some};
 ghost use Rattle.std.specs.List.{All, list_all};
 ghost use Rattle.serde_json.specs.Find.{as_null};
 ghost use Rattle.tb_tree.specs.View.{view, item_view, listed};
@@ -11,11 +11,14 @@ ghost use Rattle.tb_value.specs.Promise.Typed.{HasType};
 ghost use Rattle.tb_chunk.specs.Chunk.{or_null};
 ghost use Rattle.tb_chunk.specs.Col.{physical};
 ghost use Rattle.tb_chunk.specs.Made.{IsTyped};
+ghost use Rattle.tb_chunk.specs.RunLayout.{expansion, total_of};
 ghost use Rattle.tb_chunk.specs.Seen.{chunk_lists, storage};
 ghost use Rattle.tb_json.specs.Promise.Lists.{each, list_in};
-ghost use Rattle.tb_json.specs.Promise.Cells.{cell_in};
+ghost use Rattle.tb_json.specs.Promise.Cells.{cell_in, run_in};
+ghost use Rattle.tb_json.specs.Runs.{lists_in, run_view, values_in_runs, AreCounted};
 
 use crate::read_cell::ReadCell;
+use crate::read_runs::{run_bytes, run_cells, run_nulls, run_texts};
 use crate::read_texts::{bytes_chunk, text_chunk};
 use std::alloc::Global;
 use tb_store::{
@@ -25,8 +28,8 @@ use tb_store::{
 use tb_tree::{Item, Items, Value};
 use tb_value::{DataType, OutOfMemory};
 
-// A value that may be null.
-fn cell_of<N: ReadCell>(
+/// A value that may be null, or None where it is none of the type.
+pub(crate) fn cell_of<N: ReadCell>(
     alloc: Global,
     dtype: &DataType,
     item: Item<'_>,
@@ -98,6 +101,19 @@ trait ReadChunk: Chunk {
         ensures values { IfOk result (λ o. option_map Self.shown o
             ≡ each (cell_in (kind_of dtype.now)) (listed items.entry)) }
         ensures typed { IfOk result (λ o. IfSome o (λ c. All (HasType (kind_of dtype.now)) (Self.shown c))) };
+
+    /// The chunk of these runs, which have so many rows, or None where one of their values is none of the type.
+    fn read_runs(
+        alloc: Global,
+        dtype: &DataType,
+        runs: &[Value],
+        rows: usize,
+    ) -> Result<Option<Self>, OutOfMemory>
+        requires stored { physical (kind_of dtype.now) ≡ stored }
+        requires rows { rows ≡ total_of (map run_view runs.now) }
+        ensures values { IfOk result (λ o. option_map Self.shown o
+            ≡ values_in_runs (kind_of dtype.now) (map run_view runs.now)) }
+        ensures typed { IfOk result (λ o. IfSome o (λ c. All (HasType (kind_of dtype.now)) (Self.shown c))) };
 }
 
 impl<N: ReadCell> ReadChunk for Cells<N> {
@@ -109,6 +125,15 @@ impl<N: ReadCell> ReadChunk for Cells<N> {
         items: Items<'_>,
     ) -> Result<Option<Cells<N>>, OutOfMemory> {
         cells_of(alloc, dtype, items)
+    }
+
+    fn read_runs(
+        alloc: Global,
+        dtype: &DataType,
+        runs: &[Value],
+        rows: usize,
+    ) -> Result<Option<Cells<N>>, OutOfMemory> {
+        run_cells(alloc, dtype, runs, rows)
     }
 }
 
@@ -122,6 +147,15 @@ impl ReadChunk for StringChunk {
     ) -> Result<Option<StringChunk>, OutOfMemory> {
         text_chunk(alloc, items)
     }
+
+    fn read_runs(
+        alloc: Global,
+        dtype: &DataType,
+        runs: &[Value],
+        rows: usize,
+    ) -> Result<Option<StringChunk>, OutOfMemory> {
+        run_texts(alloc, runs, rows)
+    }
 }
 
 impl ReadChunk for BinaryChunk {
@@ -134,6 +168,15 @@ impl ReadChunk for BinaryChunk {
     ) -> Result<Option<BinaryChunk>, OutOfMemory> {
         bytes_chunk(alloc, items)
     }
+
+    fn read_runs(
+        alloc: Global,
+        dtype: &DataType,
+        runs: &[Value],
+        rows: usize,
+    ) -> Result<Option<BinaryChunk>, OutOfMemory> {
+        run_bytes(alloc, runs, rows)
+    }
 }
 
 impl ReadChunk for ListChunk {
@@ -145,6 +188,18 @@ impl ReadChunk for ListChunk {
         items: Items<'_>,
     ) -> Result<Option<ListChunk>, OutOfMemory> {
         match cells_of(alloc, dtype, items)? {
+            Some(inner) => Ok(Some(ListChunk { inner })),
+            None => Ok(None),
+        }
+    }
+
+    fn read_runs(
+        alloc: Global,
+        dtype: &DataType,
+        runs: &[Value],
+        rows: usize,
+    ) -> Result<Option<ListChunk>, OutOfMemory> {
+        match run_cells(alloc, dtype, runs, rows)? {
             Some(inner) => Ok(Some(ListChunk { inner })),
             None => Ok(None),
         }
@@ -164,6 +219,18 @@ impl ReadChunk for StructChunk {
             None => Ok(None),
         }
     }
+
+    fn read_runs(
+        alloc: Global,
+        dtype: &DataType,
+        runs: &[Value],
+        rows: usize,
+    ) -> Result<Option<StructChunk>, OutOfMemory> {
+        match run_cells(alloc, dtype, runs, rows)? {
+            Some(inner) => Ok(Some(StructChunk { inner })),
+            None => Ok(None),
+        }
+    }
 }
 
 impl ReadChunk for usize {
@@ -175,6 +242,15 @@ impl ReadChunk for usize {
         items: Items<'_>,
     ) -> Result<Option<usize>, OutOfMemory> {
         Ok(nulls_of(items))
+    }
+
+    fn read_runs(
+        alloc: Global,
+        dtype: &DataType,
+        runs: &[Value],
+        rows: usize,
+    ) -> Result<Option<usize>, OutOfMemory> {
+        Ok(run_nulls(runs, rows))
     }
 }
 
@@ -208,32 +284,77 @@ fn chunks_of<C: ReadChunk>(
     Ok(Some(chunks))
 }
 
+// The only chunk, of these runs.
+fn chunk_of_runs<C: ReadChunk>(
+    alloc: Global,
+    dtype: &DataType,
+    runs: &[Value],
+    rows: usize,
+) -> Result<Option<Vec<C>>, OutOfMemory>
+    requires stored { physical (kind_of dtype.now) ≡ C.stored }
+    requires rows { rows ≡ total_of (map run_view runs.now) }
+    ensures chunks { IfOk result (λ o. option_map (λ v. map C.shown v.items) o
+        ≡ option_map (λ vs. expansion vs ∷ []) (each (run_in (kind_of dtype.now)) (map run_view runs.now))) }
+    ensures typed { IfOk result (λ o. IfSome o (λ v. IsTyped (kind_of dtype.now) (map C.shown v.items))) }
+{
+    let Some(chunk) = C::read_runs(alloc, dtype, runs, rows)? else {
+        return Ok(None);
+    };
+    let mut chunks = Vec::with_capacity(alloc, 1)?;
+    chunks.push(chunk)?;
+    Ok(Some(chunks))
+}
+
+/// The values of a column, as they are written.
+#[derive(Clone, Copy)]
+enum LentLists<'v> {
+    /// Chunks, each of which is an array.
+    Chunks(&'v [Value]),
+    /// The runs of one chunk, and how many rows they have.
+    Runs(&'v [Value], usize),
+}
+
+fn read_lists<C: ReadChunk>(
+    alloc: Global,
+    dtype: &DataType,
+    written: LentLists<'_>,
+) -> Result<Option<Vec<C>>, OutOfMemory>
+    requires stored { physical (kind_of dtype.now) ≡ C.stored }
+    requires counted { AreCounted written }
+    ensures chunks { IfOk result (λ o. option_map (λ v. map C.shown v.items) o ≡ lists_in (kind_of dtype.now) written.entry) }
+    ensures typed { IfOk result (λ o. IfSome o (λ v. IsTyped (kind_of dtype.now) (map C.shown v.items))) }
+{
+    match written {
+        LentLists::Chunks(chunks) => chunks_of(alloc, dtype, chunks),
+        LentLists::Runs(runs, rows) => chunk_of_runs(alloc, dtype, runs, rows),
+    }
+}
+
 // The same, as those of a column.
 fn read_stored<C: ReadChunk + Stored>(
     alloc: Global,
     dtype: &DataType,
-    written: &[Value],
+    written: LentLists<'_>,
 ) -> Result<Option<Chunks>, OutOfMemory>
-    requires { physical (kind_of dtype.now) ≡ C.stored }
-    ensures chunks { IfOk result (λ o. option_map chunk_lists o
-        ≡ each (each (cell_in (kind_of dtype.now))) (map (λ v. list_in (view v)) written.now)) }
+    requires stored { physical (kind_of dtype.now) ≡ C.stored }
+    requires counted { AreCounted written }
+    ensures chunks { IfOk result (λ o. option_map chunk_lists o ≡ lists_in (kind_of dtype.now) written.entry) }
     ensures typed { IfOk result (λ o. IfSome o (λ c. IsTyped (kind_of dtype.now) (chunk_lists c))) }
     ensures stored { IfOk result (λ o. IfSome o (λ c. storage c ≡ C.kind)) }
 {
-    match chunks_of::<C>(alloc, dtype, written)? {
+    match read_lists::<C>(alloc, dtype, written)? {
         Some(chunks) => Ok(Some(C::wrap(chunks))),
         None => Ok(None),
     }
 }
 
-/// The chunks of a column, each of which is an array, or None where a value is none of the type.
-pub fn arrays_in(
+fn stored_in(
     alloc: Global,
     dtype: &DataType,
-    written: &[Value],
+    written: LentLists<'_>,
 ) -> Result<Option<Chunks>, OutOfMemory>
-    ensures chunks { IfOk result (λ o. option_map chunk_lists o
-        ≡ each (each (cell_in (kind_of dtype.now))) (map (λ v. list_in (view v)) written.now)) }
+    requires { AreCounted written }
+    ensures chunks { IfOk result (λ o. option_map chunk_lists o ≡ lists_in (kind_of dtype.now) written.entry) }
     ensures typed { IfOk result (λ o. IfSome o (λ c. IsTyped (kind_of dtype.now) (chunk_lists c))) }
     ensures stored { IfOk result (λ o. IfSome o (λ c. storage c ≡ physical (kind_of dtype.now))) }
 {
@@ -254,4 +375,35 @@ pub fn arrays_in(
         Physical::List => read_stored::<ListChunk>(alloc, dtype, written),
         Physical::Struct => read_stored::<StructChunk>(alloc, dtype, written),
     }
+}
+
+/// The chunks of a column, each of which is an array, or None where a value is none of the type.
+pub fn arrays_in(
+    alloc: Global,
+    dtype: &DataType,
+    written: &[Value],
+) -> Result<Option<Chunks>, OutOfMemory>
+    ensures chunks { IfOk result (λ o. option_map chunk_lists o
+        ≡ each (each (cell_in (kind_of dtype.now))) (map (λ v. list_in (view v)) written.now)) }
+    ensures typed { IfOk result (λ o. IfSome o (λ c. IsTyped (kind_of dtype.now) (chunk_lists c))) }
+    ensures stored { IfOk result (λ o. IfSome o (λ c. storage c ≡ physical (kind_of dtype.now))) }
+{
+    stored_in(alloc, dtype, LentLists::Chunks(written))
+}
+
+/// The only chunk of a column whose values stand in runs, arrays of a value and its count, which have so many rows together;
+/// or None where a value is none of the type. A text stands in the chunk once for each run.
+pub fn run_array_in(
+    alloc: Global,
+    dtype: &DataType,
+    runs: &[Value],
+    rows: usize,
+) -> Result<Option<Chunks>, OutOfMemory>
+    requires { rows ≡ total_of (map run_view runs.now) }
+    ensures chunks { IfOk result (λ o. option_map chunk_lists o
+        ≡ option_map (λ vs. expansion vs ∷ []) (each (run_in (kind_of dtype.now)) (map run_view runs.now))) }
+    ensures typed { IfOk result (λ o. IfSome o (λ c. IsTyped (kind_of dtype.now) (chunk_lists c))) }
+    ensures stored { IfOk result (λ o. IfSome o (λ c. storage c ≡ physical (kind_of dtype.now))) }
+{
+    stored_in(alloc, dtype, LentLists::Runs(runs, rows))
 }

@@ -1,5 +1,5 @@
 //! String and Binary chunks, read from JSON.
-ghost use Rattle.std.specs.Prelude.{◌≡◌, ◌++◌, ◌∷◌, [], false, map, option_map, true, IfOk, IfSome};
+ghost use Rattle.std.specs.Prelude.{◌≡◌, ◌++◌, false, map, option_map, replicate, true, IfOk, IfSome};
 ghost use Rattle.std.specs.List.{All};
 ghost use Rattle.std.specs.Option.{MatchOption};
 ghost use Rattle.tb_tree.specs.View.{item_view, listed};
@@ -37,18 +37,19 @@ pub(crate) fn text_chunk(
     Ok(Some(builder.finish(alloc)?))
 }
 
-// Appends the bytes that a value is, by way of the buffer, and says whether it is such a value.
-fn push_bytes(
+/// Appends the bytes that a value is so many times, by way of the buffer, and says whether it is such a value.
+pub(crate) fn push_bytes(
     alloc: Global,
     builder: &mut BinaryBuilder,
     buffer: &mut Vec<u8>,
     value: Item<'_>,
+    times: usize,
 ) -> Result<bool, OutOfMemory>
     ensures { IfOk result (λ pushed. MatchOption (cell_in kind.binary (item_view value.entry)) (pushed ≡ false)
-        (λ cell. (pushed ≡ true) × (map (or_null binary) builder.new.rows ≡ map (or_null binary) builder.old.rows ++ cell ∷ []))) }
+        (λ cell. (pushed ≡ true) × (map (or_null binary) builder.new.rows ≡ map (or_null binary) builder.old.rows ++ replicate times cell))) }
 {
     if value.is_null() {
-        builder.push_null()?;
+        builder.push_nulls(times)?;
         return Ok(true);
     }
     let Some(digits) = value.as_str() else {
@@ -56,7 +57,7 @@ fn push_bytes(
     };
     let pushed = decode_short(buffer, digits)?;
     if pushed {
-        builder.push(alloc, buffer)?;
+        builder.push_times(alloc, buffer, times)?;
     }
     Ok(pushed)
 }
@@ -75,7 +76,7 @@ pub(crate) fn bytes_chunk(
     let mut builder = BinaryBuilder::with_capacity(alloc, len)?;
     let mut buffer = Vec::new(alloc);
     for i in 0..len {
-        if !push_bytes(alloc, &mut builder, &mut buffer, items.at(i))? {
+        if !push_bytes(alloc, &mut builder, &mut buffer, items.at(i), 1)? {
             return Ok(None);
         }
     }

@@ -1,6 +1,9 @@
 //! The texts of tables, written item by item behind one another.
 ghost use Rattle.std.specs.Prelude.{◌≡◌, ◌≤ℤ◌, ◌++◌, false, IfOk, OnOk, codes, map, negsuc, pos, string_bytes};
-ghost use Rattle.std.specs.List.{All};
+ghost use Rattle.std.specs.List.{All, list_all};
+ghost use Rattle.std.specs.Str.{IsUtf8};
+ghost use Rattle.json.specs.Print.{quoted};
+ghost use Rattle.json.specs.Run.{is_plain};
 ghost use Rattle.serde_json.specs.View.{view, items_of};
 ghost use Rattle.serde_json.specs.Data.{array, number};
 ghost use Rattle.serde_json.specs.Find.{of_integer};
@@ -16,14 +19,15 @@ ghost use Rattle.tb_json.specs.Written.{heading, open_table, with_items};
 
 use crate::write_cells::{cell_value, is_wide};
 use crate::write_kinds::type_value;
+use itoa::Buffer;
 use serde_json::Value;
 use std::alloc::Global;
 use tb_frame::DataFrame;
 use tb_store::{Chunk, Chunks, Column};
 use tb_value::{DataType, OutOfMemory, ValueRef};
 
-// A comma, where an item stands before.
-fn push_comma(text: &mut String, later: bool) -> Result<(), OutOfMemory>
+/// Appends a comma, where an item stands before.
+pub fn push_comma(text: &mut String, later: bool) -> Result<(), OutOfMemory>
     ensures { OnOk result (string_bytes text.new ≡ string_bytes text.old ++ comma_if later) }
 {
     if later {
@@ -48,15 +52,52 @@ fn push_number(text: &mut String, integer: i128) -> Result<(), OutOfMemory>
     requires high { integer ≤ℤ pos 18446744073709551615 }
     ensures { OnOk result (string_bytes text.new ≡ string_bytes text.old ++ compact_text (number (of_integer integer))) }
 {
+    let mut buffer = Buffer::new();
     if integer < 0 {
-        write!(text, "{}", integer as i64)?;
+        text.push_str(buffer.format(integer as i64))?;
     } else {
-        write!(text, "{}", integer as u64)?;
+        text.push_str(buffer.format(integer as u64))?;
     }
     Ok(())
 }
 
-// Numbers, truth values and Nulls, which are most of the cells, are written without a JSON value.
+// Whether a byte of a text stands for itself between quotes.
+fn is_plain(byte: u8) -> bool
+    ensures { result ≡ is_plain byte }
+{
+    byte >= b' ' && byte != b'"' && byte != b'\\'
+}
+
+fn are_plain(bytes: &[u8]) -> bool
+    ensures { result ≡ list_all is_plain bytes.now }
+{
+    bytes.iter().all(|byte| is_plain(*byte))
+}
+
+// A text between quotes. One that has no escape takes no memory of its own.
+fn push_quoted(alloc: Global, text: &mut String, shown: &str) -> Result<(), OutOfMemory>
+    ensures { OnOk result (string_bytes text.new ≡ string_bytes text.old ++ quoted shown.now) }
+{
+    if are_plain(shown.as_bytes()) {
+        text.push_str("\"")?;
+        text.push_str(shown)?;
+        text.push_str("\"")?;
+        return Ok(());
+    }
+    push_value(alloc, text, &Value::try_from_str(alloc, shown)?)
+}
+
+fn push_text(alloc: Global, text: &mut String, bytes: &[u8]) -> Result<(), OutOfMemory>
+    requires { IsUtf8 bytes.now }
+    ensures { OnOk result (string_bytes text.new ≡ string_bytes text.old ++ quoted bytes.now) }
+{
+    match str::from_utf8(bytes) {
+        Ok(shown) => push_quoted(alloc, text, shown),
+        Err(_) => unreachable!(),
+    }
+}
+
+// Numbers, texts, truth values and Nulls, which are most of the cells, are written without a JSON value.
 #[tactic(auto, using(crate::proofs::Narrow::narrow))]
 fn push_cell(
     alloc: Global,
@@ -73,6 +114,7 @@ fn push_cell(
         ValueRef::Boolean(true) => Ok(text.push_str("true")?),
         ValueRef::Boolean(false) => Ok(text.push_str("false")?),
         ValueRef::Int(integer) if !is_wide(dtype) => push_number(text, integer),
+        ValueRef::String(bytes) => push_text(alloc, text, bytes),
         _ => push_value(alloc, text, &cell_value(alloc, value, dtype)?),
     }
 }
@@ -164,8 +206,7 @@ fn push_heading(alloc: Global, text: &mut String, column: &Column) -> Result<(),
     ensures { OnOk result (string_bytes text.new ≡ string_bytes text.old ++ heading (plain_column column.now)) }
 {
     text.push_str("{\"name\":")?;
-    let name = Value::try_from_str(alloc, column.name().as_str())?;
-    push_value(alloc, text, &name)?;
+    push_quoted(alloc, text, column.name().as_str())?;
     text.push_str(",\"type\":")?;
     let dtype = type_value(alloc, column.dtype())?;
     push_value(alloc, text, &dtype)
@@ -195,8 +236,8 @@ fn push_columns(alloc: Global, text: &mut String, columns: &[Column]) -> Result<
     Ok(())
 }
 
-// The members of a table, in an object that is left open.
-fn open_table(alloc: Global, table: &DataFrame) -> Result<String, OutOfMemory>
+/// The members of a table, in an object that is left open for further ones.
+pub fn open_table(alloc: Global, table: &DataFrame) -> Result<String, OutOfMemory>
     ensures { IfOk result (λ s. string_bytes s ≡ open_table (table_of table.now)) }
 {
     let mut text = String::new(alloc);

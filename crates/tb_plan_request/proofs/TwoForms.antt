@@ -20,23 +20,14 @@ use Rattle.tb_request.specs.Forms.{each_item, each_member, IsPastRows}
 use Rattle.tb_request.specs.Promise.Columns.{columns_from, rows_in}
 use Rattle.tb_request.specs.Promise.Reading.{are_tables, may_stand, only_if}
 use Rattle.tb_request.specs.Promise.Reading as reading
-use Rattle.tb_request.specs.Promise.Written.{format_numbered, format_of, optional_member, plan_of, standard_exec, table_at, table_of, whole_of, Written}
+use Rattle.tb_request.specs.Promise.Written.{format_of, optional_member, plan_of, standard_exec, table_at, Written}
 use Rattle.tb_request.proofs.EachRun.{each_goes, each_more, parts}
-use Rattle.tb_request.proofs.Expanded.{columns_out, member_out, names_out, rows_out, table_out, written_out}
+use Rattle.tb_request.proofs.Expanded.{columns_out, member_out, names_out, rows_out, written_out}
+use Rattle.tb_request.proofs.SameShape.{format_out, same_member, side_out, some_is}
 use Rattle.tb_plan_request.specs.Forms.{expand_entry, expand_named, expand_plan, expand_plan_member, expand_tables}
 use Rattle.tb_plan_request.specs.Laws.{TwoForms}
 use Rattle.tb_plan_request.specs.Promise.Reading.{PlanRequest, columns_under, plan_in, rows_in_tables, tables_fit}
 use Rattle.tb_plan_request.specs.Promise.Written.{WrittenPlan, pivot_in, table_in, tree_in, written_of}
-
--- a member that is the same in both
-same_member : (f : List ℕ → Data → Data) (name : List ℕ) (ms : Members) → ((d : Data) → f name d ≡ d) → get_member name (each_member f ms) ≡ get_member name ms
-same_member f name ms same = member_out f name ms ∙ all_same (get_member name ms) where
-  all_same : (o : Option Data) → option_map (f name) o ≡ o
-  all_same None = refl
-  all_same (Some d) = ap Some (same d)
-
-some_is : {A : Type 0} (x y : A) → Some x ≡ Some y → x ≡ y
-some_is x y e = cc
 
 -- ---- a table under its name
 
@@ -61,12 +52,6 @@ entry_goes true (Some n) (Some ws) columns' t h e =
     ap (entry_with true (Some n)) (h ws refl)
     ∙ ap (λ (u : Named). Some (named_out u)) (some_is (n, ws) t e)
 
-columns_at_out : (ms : Members) (ws : List Written) → table_at Runs (codes "table") (object ms) ≡ Some ws → table_at Chunks (codes "table") (expand_entry (object ms)) ≡ Some (map written_out ws)
-columns_at_out ms ws e = ap (option_and_then (table_of Chunks)) (member_out expand_named (codes "table") ms) ∙ at (get_member (codes "table") ms) e where
-  at : (o : Option Data) → (o >>= table_of Runs) ≡ Some ws → (option_map (expand_named (codes "table")) o >>= table_of Chunks) ≡ Some (map written_out ws)
-  at None e = cc
-  at (Some d) e = table_out d ws e
-
 abbrev entry_names : List Name
 entry_names = codes "name" ∷ codes "table" ∷ []
 
@@ -79,7 +64,7 @@ entry_out (string s) t e = absurd (cc)
 entry_out (array ds) t e = absurd (cc)
 entry_out (object ms) t e =
     (λ i. entry_with (names_out expand_named entry_names ms i) (same_member expand_named (codes "name") ms (λ d. refl) i >>= as_str) (table_at Chunks (codes "table") (expand_entry (object ms))))
-    ∙ entry_goes (are_among entry_names ms) (get_member (codes "name") ms >>= as_str) (table_at Runs (codes "table") (object ms)) (table_at Chunks (codes "table") (expand_entry (object ms))) t (columns_at_out ms) e
+    ∙ entry_goes (are_among entry_names ms) (get_member (codes "name") ms >>= as_str) (table_at Runs (codes "table") (object ms)) (table_at Chunks (codes "table") (expand_entry (object ms))) t (side_out expand_named (codes "table") ms (λ d. refl)) e
 
 entries_out : (ds : Items) → list_from (each_item expand_entry ds) ≡ map expand_entry (list_from ds)
 entries_out no_items = refl
@@ -123,12 +108,6 @@ plan_goes true (Some e) (Some p) (Some v) (Some r) tables tables' w h x = made (
   made None is y = absurd (cc)
   made (Some ts) is y = ap with_tables (h ts is) ∙ ap (λ (u : WrittenPlan). Some (plan_out u)) (some_is (record { tables = ts; root = r; pivot = v; push = p; exec = e }) w y)
 
-format_out : (ms : Members) → format_of (object ms) ≡ Some Runs → format_of (expand_plan (object ms)) ≡ Some Chunks
-format_out ms e = ap (optional_member Chunks (λ m. whole_of m >>= format_numbered)) (member_out expand_plan_member (codes "format") ms) ∙ numbered (get_member (codes "format") ms) e where
-  numbered : (o : Option Data) → optional_member Chunks (λ m. whole_of m >>= format_numbered) o ≡ Some Runs → optional_member Chunks (λ m. whole_of m >>= format_numbered) (option_map (expand_plan_member (codes "format")) o) ≡ Some Chunks
-  numbered None e = cc
-  numbered (Some d) e = refl
-
 abbrev tables_at : Format → Data → Option (List Named)
 tables_at f (object ms) = get_member (codes "tables") ms >>= list_of (table_in f)
 tables_at f _ = None
@@ -157,7 +136,7 @@ plan_of_out (string s) w e x = absurd (cc)
 plan_of_out (array ds) w e x = absurd (cc)
 plan_of_out (object ms) w e x =
     (λ i. plan_with (names_out expand_plan_member plan_names ms i)
-    (format_out ms e i)
+    (format_out expand_plan_member ms (λ d. refl) e i)
     (optional_member standard_exec plan_of (same_member expand_plan_member (codes "exec") ms (λ d. refl) i))
     (optional_member false as_bool (same_member expand_plan_member (codes "push") ms (λ d. refl) i))
     (optional_member None (λ m. option_map Some (pivot_in m)) (same_member expand_plan_member (codes "pivot") ms (λ d. refl) i))

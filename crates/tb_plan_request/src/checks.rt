@@ -16,29 +16,13 @@ use tb_value::{AnyValue, OutOfMemory, PlSmallStr};
 fn compared_in(alloc: Global, value: &Value) -> Result<Option<AnyValue>, OutOfMemory>
     ensures { IfOk result (λ o. option_map datum o ≡ compared_in (view value.now)) }
 {
-    match value {
-        Value::Bool(truth) => Ok(Some(AnyValue::Boolean(*truth))),
-        Value::Unsigned(number) => Ok(Some(AnyValue::Int(*number as i128))),
-        Value::Negative(number) => Ok(Some(AnyValue::Int(*number as i128))),
-        Value::Short(text) => {
-            let text = PlSmallStr::from_str(alloc, text.as_str())?;
-            Ok(Some(AnyValue::String(text)))
-        }
-        Value::Long(text) => {
-            let text = PlSmallStr::from_str(alloc, text.as_str())?;
-            Ok(Some(AnyValue::String(text)))
-        }
-        Value::Null
-        | Value::Float(_)
-        | Value::Empty
-        | Value::OneWhole(_)
-        | Value::TwoShort(_, _)
-        | Value::Wholes(_)
-        | Value::One(_)
-        | Value::Two(_)
-        | Value::Array(_)
-        | Value::Object(_) => Ok(None),
+    if let Some(truth) = value.as_bool() {
+        return Ok(Some(AnyValue::Boolean(truth)));
     }
+    if let Some(text) = value.as_str() {
+        return Ok(Some(AnyValue::String(PlSmallStr::from_str(alloc, text)?)));
+    }
+    Ok(value.as_i128().map(AnyValue::Int))
 }
 
 fn compared_at(alloc: Global, object: &Value, name: &str) -> Result<Option<AnyValue>, OutOfMemory>

@@ -8,13 +8,13 @@ ghost use Rattle.tb_plan_request.specs.Lent.{written_plan, written_table};
 ghost use Rattle.tb_plan_request.specs.Promise.Written.{table_in, tree_in, written_of};
 
 use crate::pivots::pivot_of;
-use crate::trees::{name_at, tree_of};
+use crate::trees::tree_of;
 use std::alloc::Global;
 use tb_calls::PivotCall;
 use tb_node::Node;
 use tb_request::{
     ExecNumbers, Format, WrittenColumn, exec_of, format_of, has_only, into_array, into_member,
-    table_at, truth_at,
+    name_at, table_at, truth_at,
 };
 use tb_tree::Value;
 use tb_value::{OutOfMemory, PlSmallStr};

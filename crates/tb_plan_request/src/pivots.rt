@@ -4,7 +4,6 @@ ghost use Rattle.tb_tree.specs.View.{view};
 ghost use Rattle.tb_pivot.specs.AggWay.{agg_way};
 ghost use Rattle.tb_pivot.specs.Promise.Request.{aggregated};
 ghost use Rattle.tb_plan.specs.Asked.{pivot_asked};
-ghost use Rattle.tb_request.specs.Promise.Written.{agg_of};
 ghost use Rattle.tb_plan_request.specs.Lent.{pivot_view};
 ghost use Rattle.tb_plan_request.specs.Promise.Written.{pivot_in, pivot_of};
 
@@ -13,19 +12,9 @@ use tb_agg::Aggregate;
 use tb_calls::PivotCall;
 use tb_pivot::{PhysicalAggExpr, PivotAgg};
 use tb_plan::PivotArgs;
-use tb_request::{agg_named, has_only, text_at, texts_at, texts_if_at, truth_at};
+use tb_request::{agg_of, has_only, text_at, texts_at, texts_if_at, truth_at};
 use tb_tree::Value;
 use tb_value::OutOfMemory;
-
-// No aggregate where the member is absent.
-fn agg_of(object: &Value) -> Option<Option<Aggregate>>
-    ensures { result ≡ agg_of (view object.now) }
-{
-    match object.get("agg") {
-        Some(member) => Some(Some(agg_named(member.as_str()?)?)),
-        None => Some(None),
-    }
-}
 
 #[tactic(auto, unfolding(crate::specs::Promise::Written::pivot_in))]
 fn pivot_in(alloc: Global, value: &Value) -> Result<Option<PivotCall>, OutOfMemory>
@@ -71,10 +60,7 @@ pub fn pivot_of(alloc: Global, request: &Value) -> Result<Option<Option<PivotCal
     let Some(member) = request.get("pivot") else {
         return Ok(Some(None));
     };
-    match pivot_in(alloc, member)? {
-        Some(pivot) => Ok(Some(Some(pivot))),
-        None => Ok(None),
-    }
+    Ok(pivot_in(alloc, member)?.map(Some))
 }
 
 fn pivot_agg(agg: Aggregate) -> PivotAgg

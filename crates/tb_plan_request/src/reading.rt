@@ -1,8 +1,7 @@
 //! The plan that bytes ask for.
-ghost use Rattle.std.specs.Prelude.{◌≡◌, if◌then◌else◌, MatchResult, Ok};
+ghost use Rattle.std.specs.Prelude.{◌≡◌, MatchResult, Ok};
 ghost use Rattle.tb_tree.specs.View.{view};
-ghost use Rattle.tb_request.specs.declared.request.Reason.{Reason};
-ghost use Rattle.tb_request.specs.Promise.Reading.{FaultIs, value_of};
+ghost use Rattle.tb_request.specs.Promise.Reading.{FaultIs};
 ghost use Rattle.tb_plan_request.specs.Lent.{plan_view};
 ghost use Rattle.tb_plan_request.specs.Promise.Reading.{plan_in, plan_request_of};
 
@@ -11,15 +10,8 @@ use crate::request::PlanRequest;
 use crate::rows::tables_fit;
 use crate::tables::{are_typed, claimed_of, named_tables};
 use std::alloc::Global;
-use tb_request::{Reason, RequestFault, exec_from, tables_from, value_of};
+use tb_request::{Reason, RequestFault, exec_from, tables_from, unfit_reason, value_in};
 use tb_tree::Value;
-
-// Why tables whose runs have too many rows make no request. Their values are judged first.
-fn unfit_reason(typed: bool) -> Reason
-    ensures { result ≡ (if typed then Reason.Rows else Reason.Value) }
-{
-    if typed { Reason::Rows } else { Reason::Value }
-}
 
 /// The plan that a JSON value asks for.
 ///
@@ -78,11 +70,4 @@ pub fn plan_request_of(alloc: Global, bytes: Vec<u8>) -> Result<PlanRequest, Req
 {
     let value = value_in(alloc, bytes)?;
     plan_in(alloc, value)
-}
-
-// The JSON value that the bytes are. They are let go as soon as it is made.
-fn value_in(alloc: Global, bytes: Vec<u8>) -> Result<Value, RequestFault>
-    ensures { MatchResult result (λ v. value_of bytes.items ≡ Ok (view v)) (λ e. FaultIs e (value_of bytes.items)) }
-{
-    value_of(alloc, &bytes)
 }

@@ -14,26 +14,9 @@ use std::alloc::Global;
 use tb_filter::Test;
 use tb_frame::JoinArgs;
 use tb_node::{Names, Node};
-use tb_request::{args_of, has_only, texts_at};
+use tb_request::{args_of, has_only, name_at, texts_at};
 use tb_tree::Value;
-use tb_value::{OutOfMemory, PlSmallStr};
-
-/// The text of a member.
-pub(crate) fn name_at(
-    alloc: Global,
-    object: &Value,
-    name: &str,
-) -> Result<Option<PlSmallStr>, OutOfMemory>
-    ensures { IfOk result (λ o. o ≡ option_and_then as_str (get name.now (view object.now))) }
-{
-    let Some(member) = object.get(name) else {
-        return Ok(None);
-    };
-    match member.as_str() {
-        Some(text) => Ok(Some(PlSmallStr::from_str(alloc, text)?)),
-        None => Ok(None),
-    }
-}
+use tb_value::OutOfMemory;
 
 fn test_at(alloc: Global, object: &Value, name: &str) -> Result<Option<Test>, OutOfMemory>
     ensures { IfOk result (λ o. option_map check_of o ≡ option_and_then test_in (get name.now (view object.now))) }
@@ -56,10 +39,7 @@ fn args_at(alloc: Global, object: &Value, name: &str) -> Result<Option<JoinArgs>
 fn table_from(alloc: Global, object: &Value) -> Result<Option<Node>, OutOfMemory>
     ensures { IfOk result (λ o. option_map tree_of o ≡ option_map table (option_and_then as_str (get (codes "table") (view object.now)))) }
 {
-    match name_at(alloc, object, "table")? {
-        Some(name) => Ok(Some(Node::Table(name))),
-        None => Ok(None),
-    }
+    Ok(name_at(alloc, object, "table")?.map(Node::Table))
 }
 
 // A filter of an input that is read.

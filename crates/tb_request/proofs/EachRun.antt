@@ -1,17 +1,16 @@
 -- Lists whose items are read one by one, and runs of them.
-use Rattle.std.proofs.Common.{◌≡◌, ◌∙◌, ℕ, zero, suc, ◌+◌, List, [], ◌∷◌, ◌++◌, map, replicate, Option, Some, None, option_map, option_and_then, refl, subst, sym, ap}
-use Rattle.std.specs.List.{All}
-use Rattle.std.proofs.lemmas.List.{map-append}
-use Rattle.std.proofs.lemmas.List.Elements.{All-push}
+use Rattle.std.proofs.Common.{◌≡◌, ◌∙◌, ℕ, zero, suc, ◌+◌, ◌<◌, Bool, ◌&&◌, get_or, drop, length, List, [], ◌∷◌, ◌++◌, map, replicate, Option, Some, None, option_map, option_and_then, refl, sym, ap}
+use Rattle.std.specs.Prelude.{is_some}
+use Rattle.std.proofs.lemmas.List.{at_drop_more}
 use Rattle.std.proofs.lemmas.List.Sums.{sum_by-cons}
+use Rattle.tb_tree.specs.declared.value.Value.{Value}
 use Rattle.tb_value.specs.Promise.Datum.{Datum}
 use Rattle.tb_value.specs.Promise.Kind.{Kind}
-use Rattle.tb_value.specs.See.{datum}
-use Rattle.tb_value.specs.Promise.Typed.{HasType}
-use Rattle.tb_value.specs.declared.any_value.AnyValue.{AnyValue}
-use Rattle.tb_chunk.specs.RunLayout.{AreRunsOf, data_runs, expansion, total_of}
+use Rattle.tb_chunk.specs.Promise.Made.{at_least_one}
+use Rattle.tb_chunk.specs.RunLayout.{expansion, total_of}
 use Rattle.tb_json.specs.Promise.Cells.{cell_in}
 use Rattle.tb_json.specs.Promise.Lists.{each}
+use Rattle.tb_request.specs.Lent.{run_view}
 use Rattle.tb_request.specs.Promise.Columns.{run_in}
 use Rattle.tb_request.specs.Promise.Written.{WrittenRun}
 
@@ -74,9 +73,23 @@ each_total t (r ∷ rs) vs p =
     ∙ (λ i. v.1 i + each_total t rs s.1 s.3 i)
     ∙ sym (sum_by-cons (λ w. w.1) r rs)
 
-pub typed_more : (t : Kind) (rs : List (AnyValue × ℕ)) (r : AnyValue × ℕ) → AreRunsOf t (data_runs rs) → HasType t (datum r.0) → AreRunsOf t (data_runs (rs ++ r ∷ []))
-typed_more t rs r all one =
-    let shown : AnyValue × ℕ → Datum × ℕ = λ s. (datum s.0, s.1) in
-    let value : Datum × ℕ → Datum = λ s. s.0 in
-    let is : map value (map shown (rs ++ r ∷ [])) ≡ map value (map shown rs) ++ datum r.0 ∷ [] = ap (map value) (map-append shown rs (r ∷ [])) ∙ map-append value (map shown rs) (shown r ∷ []) in
-    subst (All (HasType t)) (sym is) (All-push (HasType t) (map value (map shown rs)) (datum r.0) all one)
+-- ---- tests of runs
+
+both_some : (n : ℕ) (o : Option Datum) (rest : Option (List (Datum × ℕ))) → is_some (option_and_then (λ y. option_map (λ ys. y ∷ ys) rest) (option_map (λ v. (v, n)) o)) ≡ is_some o && is_some rest
+both_some n None rest = refl
+both_some n (Some v) None = refl
+both_some n (Some v) (Some ys) = refl
+
+-- whether the values of the runs that are left are of the type, by whether that of the next one is
+pub typed_next : (t : Kind) (runs : List Value) (i : ℕ) (run : Value) (b : Bool) → i < length runs → run ≡ get_or runs i run → b ≡ is_some (cell_in t (run_view run).0) → is_some (each (run_in t) (map run_view (drop i runs))) ≡ b && is_some (each (run_in t) (map run_view (drop (i + 1) runs)))
+typed_next t runs i run b within is e =
+    let rest = each (run_in t) (map run_view (drop (i + 1) runs)) in
+    at_drop_more (λ vs. is_some (each (run_in t) (map run_view vs))) runs i run within
+    ∙ ap (λ v. is_some (each (run_in t) (run_view v ∷ map run_view (drop (i + 1) runs)))) (sym is)
+    ∙ both_some (run_view run).1 (cell_in t (run_view run).0) rest
+    ∙ ap (λ c. c && is_some rest) (sym e)
+
+-- the only chunk, where there is one
+pub only_chunk : (o : Option (List (Datum × ℕ))) (cs : List (List Datum)) → Some cs ≡ option_map (λ vs. expansion vs ∷ []) o → at_least_one cs ≡ cs
+only_chunk None cs e = absurd (cc)
+only_chunk (Some vs) cs e = let is : cs ≡ expansion vs ∷ [] = cc in ap at_least_one is ∙ sym is

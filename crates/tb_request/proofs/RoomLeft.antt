@@ -2,6 +2,7 @@
 use Rattle.std.proofs.Common.{◌≡◌, ◌∙◌, ◌+◌, ◌<◌, ℕ, List, ◌∷◌, ◌++◌, map, length, get_or, drop, sym}
 use Rattle.std.specs.Prelude.{sum_by}
 use Rattle.std.proofs.lemmas.List.Sums.{sum_by-append, sum_by-cons, sum_by-drop_more}
+use Rattle.serde_json.specs.Data.{Data}
 use Rattle.tb_value.proofs.Counts.{sum_by-map}
 use Rattle.tb_tree.specs.declared.value.Value.{Value}
 use Rattle.tb_chunk.specs.RunLayout.{total_of}
@@ -23,8 +24,15 @@ rows_drop cs i c low is =
     ∙ sum_by-drop_more column_rows cs i c low
     ∙ (λ j. column_rows (sym is j) + sym (by_columns (drop (i + 1) cs)) j)
 
-pub runs_rows : (rs : List (Value × ℕ)) → total_of (map run_view rs) ≡ total_of rs
-runs_rows rs = sum_by-map (λ s. s.1) run_view rs
+by_runs : (vs : List Value) → total_of (map run_view vs) ≡ sum_by (λ v. (run_view v).1) vs
+by_runs vs = sum_by-map (λ (r : Data × ℕ). r.1) run_view vs
+
+-- the rows that are left are those of the next run and those after it
+pub total_drop : (vs : List Value) (i : ℕ) (v : Value) → i < length vs → v ≡ get_or vs i v → total_of (map run_view (drop i vs)) ≡ (run_view v).1 + total_of (map run_view (drop (i + 1) vs))
+total_drop vs i v low is =
+    by_runs (drop i vs)
+    ∙ sum_by-drop_more (λ w. (run_view w).1) vs i v low
+    ∙ (λ j. (run_view (sym is j)).1 + sym (by_runs (drop (i + 1) vs)) j)
 
 -- the rows of two tables
 pub rows_append : (ws vs : List Written) → rows_in (ws ++ vs) ≡ rows_in ws + rows_in vs

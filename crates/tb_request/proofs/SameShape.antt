@@ -1,6 +1,6 @@
 -- The members of a request of format 2, and of the same one in format 1.
 use Rattle.std.proofs.Common.{◌≡◌, ◌∙◌, ℕ, List, [], ◌∷◌, map, Bool, true, false, Option, Some, None, option_and_then, option_map, codes, refl, sym, ap}
-use Rattle.serde_json.specs.Data.{array, boolean, Data, Members, null, number, object, string}
+use Rattle.serde_json.specs.Data.{array, boolean, Data, Members, null, number, object, string, unsigned}
 use Rattle.serde_json.specs.Find.{as_bool, as_str, get_member}
 use Rattle.tb_value.specs.Promise.Names.{Name}
 use Rattle.tb_agg.specs.declared.table.Aggregate.{Aggregate}
@@ -13,30 +13,37 @@ use Rattle.tb_request.specs.Forms.{each_member, expand, expand_member, expand_ta
 use Rattle.tb_request.specs.Promise.Written.{agg_named, args_of, dummies_of, format_numbered, format_of, join_of, optional_member, pivot_of, plan_of, standard_exec, table_at, table_of, text_or, unpivot_of, whole_of, Written, WrittenDummies, WrittenJoin, WrittenPivot, WrittenUnpivot}
 use Rattle.tb_request.proofs.Expanded.{member_out, names_out, table_out, written_out}
 
+-- WHAT f MAKES OF EACH MEMBER
+
 -- a member that is the same in both
-kept : (name : List ℕ) (ms : Members) → ((d : Data) → expand_member name d ≡ d) → get_member name (each_member expand_member ms) ≡ get_member name ms
-kept name ms same = member_out expand_member name ms ∙ all_same (get_member name ms) where
-  all_same : (o : Option Data) → option_map (expand_member name) o ≡ o
+pub same_member : (f : List ℕ → Data → Data) (name : List ℕ) (ms : Members) → ((d : Data) → f name d ≡ d) → get_member name (each_member f ms) ≡ get_member name ms
+same_member f name ms same = member_out f name ms ∙ all_same (get_member name ms) where
+  all_same : (o : Option Data) → option_map (f name) o ≡ o
   all_same None = refl
   all_same (Some d) = ap Some (same d)
 
-format_out : (ms : Members) → format_of (object ms) ≡ Some Runs → format_of (expand (object ms)) ≡ Some Chunks
-format_out ms e = ap (optional_member Chunks (λ m. whole_of m >>= format_numbered)) (member_out expand_member (codes "format") ms) ∙ numbered (get_member (codes "format") ms) e where
-  numbered : (o : Option Data) → optional_member Chunks (λ m. whole_of m >>= format_numbered) o ≡ Some Runs → optional_member Chunks (λ m. whole_of m >>= format_numbered) (option_map (expand_member (codes "format")) o) ≡ Some Chunks
+abbrev format_in : Option Data → Option Format
+format_in o = optional_member Chunks (λ m. whole_of m >>= format_numbered) o
+
+-- the format, of which f makes 1
+pub format_out : (f : List ℕ → Data → Data) (ms : Members) → ((d : Data) → f (codes "format") d ≡ number (unsigned 1)) → format_of (object ms) ≡ Some Runs → format_of (object (each_member f ms)) ≡ Some Chunks
+format_out f ms one e = ap format_in (member_out f (codes "format") ms) ∙ numbered (get_member (codes "format") ms) e where
+  numbered : (o : Option Data) → format_in o ≡ Some Runs → format_in (option_map (f (codes "format")) o) ≡ Some Chunks
   numbered None e = cc
-  numbered (Some d) e = refl
+  numbered (Some d) e = ap (λ m. whole_of m >>= format_numbered) (one d)
 
 -- where there are columns, those of the other request
 abbrev pub GoOut : Option (List Written) → Option (List Written) → Type 0
 GoOut o o' = (ws : List Written) → o ≡ Some ws → o' ≡ Some (map written_out ws)
 
-side_out : (name : List ℕ) (ms : Members) → ((d : Data) → expand_member name d ≡ expand_table d) → GoOut (table_at Runs name (object ms)) (table_at Chunks name (expand (object ms)))
-side_out name ms same ws e = ap (option_and_then (table_of Chunks)) (member_out expand_member name ms) ∙ side (get_member name ms) e where
-  side : (o : Option Data) → (o >>= table_of Runs) ≡ Some ws → (option_map (expand_member name) o >>= table_of Chunks) ≡ Some (map written_out ws)
+-- a table, which f writes with chunks
+pub side_out : (f : List ℕ → Data → Data) (name : List ℕ) (ms : Members) → ((d : Data) → f name d ≡ expand_table d) → GoOut (table_at Runs name (object ms)) (table_at Chunks name (object (each_member f ms)))
+side_out f name ms same ws e = ap (option_and_then (table_of Chunks)) (member_out f name ms) ∙ side (get_member name ms) e where
+  side : (o : Option Data) → (o >>= table_of Runs) ≡ Some ws → (option_map (f name) o >>= table_of Chunks) ≡ Some (map written_out ws)
   side None e = cc
   side (Some d) e = ap (table_of Chunks) (same d) ∙ table_out d ws e
 
-some_is : {A : Type 0} (x y : A) → Some x ≡ Some y → x ≡ y
+pub some_is : {A : Type 0} (x y : A) → Some x ≡ Some y → x ≡ y
 some_is x y e = cc
 
 -- ---- a request to join
@@ -95,31 +102,31 @@ join_of_out (string s) w e x = absurd (cc)
 join_of_out (array ds) w e x = absurd (cc)
 join_of_out (object ms) w e x =
     (λ i. join_with (names_out expand_member join_names ms i)
-    (kept (codes "args") ms (λ d. refl) i >>= args_of)
-    (optional_member standard_exec plan_of (kept (codes "exec") ms (λ d. refl) i))
-    (optional_member false as_bool (kept (codes "trace") ms (λ d. refl) i))
-    (format_out ms e i)
+    (same_member expand_member (codes "args") ms (λ d. refl) i >>= args_of)
+    (optional_member standard_exec plan_of (same_member expand_member (codes "exec") ms (λ d. refl) i))
+    (optional_member false as_bool (same_member expand_member (codes "trace") ms (λ d. refl) i))
+    (format_out expand_member ms (λ d. refl) e i)
     (λ f. table_at f (codes "left") (expand (object ms)))
-    (kept (codes "left_on") ms (λ d. refl) i >>= list_of as_str)
+    (same_member expand_member (codes "left_on") ms (λ d. refl) i >>= list_of as_str)
     (λ f. table_at f (codes "right") (expand (object ms)))
-    (kept (codes "right_on") ms (λ d. refl) i >>= list_of as_str))
+    (same_member expand_member (codes "right_on") ms (λ d. refl) i >>= list_of as_str))
     ∙ join_goes (are_among join_names ms) (get_member (codes "args") ms >>= args_of) (optional_member standard_exec plan_of (get_member (codes "exec") ms)) (optional_member false as_bool (get_member (codes "trace") ms))
     (λ f. table_at f (codes "left") (object ms)) (λ f. table_at f (codes "left") (expand (object ms))) (get_member (codes "left_on") ms >>= list_of as_str)
     (λ f. table_at f (codes "right") (object ms)) (λ f. table_at f (codes "right") (expand (object ms))) (get_member (codes "right_on") ms >>= list_of as_str)
-    w (side_out (codes "left") ms (λ d. refl)) (side_out (codes "right") ms (λ d. refl))
+    w (side_out expand_member (codes "left") ms (λ d. refl)) (side_out expand_member (codes "right") ms (λ d. refl))
     (ap (λ o. join_by (are_among join_names ms) (λ name. get_member name ms) o (λ f name. table_at f name (object ms))) (sym e) ∙ x)
 
 -- ---- a request with one table, to which other members are added
 
 -- the rest of the request, by its table
-abbrev table_first : {W : Type 0} → Bool → Option Format → (Format → Option (List Written)) → (List Written → Option W) → Option W
+abbrev pub table_first : {W : Type 0} → Bool → Option Format → (Format → Option (List Written)) → (List Written → Option W) → Option W
 table_first known format table rest = do
   k ← check known
   f ← format
   t ← table f
   rest t
 
-table_goes : {W : Type 0} (out : W → W) (known : Bool) (t t' : Format → Option (List Written)) (rest : List Written → Option W) (w : W) → GoOut (t Runs) (t' Chunks) → ((ws : List Written) → rest ws ≡ Some w → rest (map written_out ws) ≡ Some (out w)) → table_first known (Some Runs) t rest ≡ Some w → table_first known (Some Chunks) t' rest ≡ Some (out w)
+pub table_goes : {W : Type 0} (out : W → W) (known : Bool) (t t' : Format → Option (List Written)) (rest : List Written → Option W) (w : W) → GoOut (t Runs) (t' Chunks) → ((ws : List Written) → rest ws ≡ Some w → rest (map written_out ws) ≡ Some (out w)) → table_first known (Some Runs) t rest ≡ Some w → table_first known (Some Chunks) t' rest ≡ Some (out w)
 table_goes out false t t' rest w h k x = absurd (cc)
 table_goes out true t t' rest w h k x = one (t Runs) (t' Chunks) h x where
   one : (o o' : Option (List Written)) → GoOut o o' → (o >>= rest) ≡ Some w → (o' >>= rest) ≡ Some (out w)
@@ -163,14 +170,14 @@ unpivot_of_out (number n) w e x = absurd (cc)
 unpivot_of_out (string s) w e x = absurd (cc)
 unpivot_of_out (array ds) w e x = absurd (cc)
 unpivot_of_out (object ms) w e x =
-    (λ i. table_first (names_out expand_member unpivot_names ms i) (format_out ms e i) (λ f. table_at f (codes "table") (expand (object ms)))
+    (λ i. table_first (names_out expand_member unpivot_names ms i) (format_out expand_member ms (λ d. refl) e i) (λ f. table_at f (codes "table") (expand (object ms)))
     (unpivot_rest
-    (kept (codes "on") ms (λ d. refl) i >>= list_of as_str)
-    (kept (codes "index") ms (λ d. refl) i >>= list_of as_str)
-    (text_or None (λ s. Some (Some s)) (kept (codes "variable_name") ms (λ d. refl) i))
-    (text_or None (λ s. Some (Some s)) (kept (codes "value_name") ms (λ d. refl) i))))
+    (same_member expand_member (codes "on") ms (λ d. refl) i >>= list_of as_str)
+    (same_member expand_member (codes "index") ms (λ d. refl) i >>= list_of as_str)
+    (text_or None (λ s. Some (Some s)) (same_member expand_member (codes "variable_name") ms (λ d. refl) i))
+    (text_or None (λ s. Some (Some s)) (same_member expand_member (codes "value_name") ms (λ d. refl) i))))
     ∙ table_goes unpivot_out (are_among unpivot_names ms) (λ f. table_at f (codes "table") (object ms)) (λ f. table_at f (codes "table") (expand (object ms))) (unpivot_by (λ name. get_member name ms)) w
-    (side_out (codes "table") ms (λ d. refl)) (unpivot_by_goes (λ name. get_member name ms) w)
+    (side_out expand_member (codes "table") ms (λ d. refl)) (unpivot_by_goes (λ name. get_member name ms) w)
     (ap (λ o. table_first (are_among unpivot_names ms) o (λ f. table_at f (codes "table") (object ms)) (unpivot_by (λ name. get_member name ms))) (sym e) ∙ x)
 
 -- the texts of a member that is a list of them, where it is there
@@ -212,13 +219,13 @@ dummies_of_out (number n) w e x = absurd (cc)
 dummies_of_out (string s) w e x = absurd (cc)
 dummies_of_out (array ds) w e x = absurd (cc)
 dummies_of_out (object ms) w e x =
-    (λ i. table_first (names_out expand_member dummies_names ms i) (format_out ms e i) (λ f. table_at f (codes "table") (expand (object ms)))
+    (λ i. table_first (names_out expand_member dummies_names ms i) (format_out expand_member ms (λ d. refl) e i) (λ f. table_at f (codes "table") (expand (object ms)))
     (dummies_rest
-    (texts_if (kept (codes "columns") ms (λ d. refl) i))
-    (text_or None (λ s. Some (Some s)) (kept (codes "separator") ms (λ d. refl) i))
-    (optional_member false as_bool (kept (codes "drop_first") ms (λ d. refl) i))))
+    (texts_if (same_member expand_member (codes "columns") ms (λ d. refl) i))
+    (text_or None (λ s. Some (Some s)) (same_member expand_member (codes "separator") ms (λ d. refl) i))
+    (optional_member false as_bool (same_member expand_member (codes "drop_first") ms (λ d. refl) i))))
     ∙ table_goes dummies_out (are_among dummies_names ms) (λ f. table_at f (codes "table") (object ms)) (λ f. table_at f (codes "table") (expand (object ms))) (dummies_by (λ name. get_member name ms)) w
-    (side_out (codes "table") ms (λ d. refl)) (dummies_by_goes (λ name. get_member name ms) w)
+    (side_out expand_member (codes "table") ms (λ d. refl)) (dummies_by_goes (λ name. get_member name ms) w)
     (ap (λ o. table_first (are_among dummies_names ms) o (λ f. table_at f (codes "table") (object ms)) (dummies_by (λ name. get_member name ms))) (sym e) ∙ x)
 
 -- ---- a request to make a table wide
@@ -266,14 +273,14 @@ pivot_of_out (number n) w e x = absurd (cc)
 pivot_of_out (string s) w e x = absurd (cc)
 pivot_of_out (array ds) w e x = absurd (cc)
 pivot_of_out (object ms) w e x =
-    (λ i. table_first (names_out expand_member pivot_names ms i) (format_out ms e i) (λ f. table_at f (codes "table") (expand (object ms)))
+    (λ i. table_first (names_out expand_member pivot_names ms i) (format_out expand_member ms (λ d. refl) e i) (λ f. table_at f (codes "table") (expand (object ms)))
     (pivot_rest
-    (kept (codes "on") ms (λ d. refl) i >>= list_of as_str)
-    (texts_if (kept (codes "index") ms (λ d. refl) i))
-    (texts_if (kept (codes "values") ms (λ d. refl) i))
-    (optional_member false as_bool (kept (codes "sort_columns") ms (λ d. refl) i))
-    (agg_in (kept (codes "agg") ms (λ d. refl) i))
-    (text_or None (λ s. Some (Some s)) (kept (codes "separator") ms (λ d. refl) i))))
+    (same_member expand_member (codes "on") ms (λ d. refl) i >>= list_of as_str)
+    (texts_if (same_member expand_member (codes "index") ms (λ d. refl) i))
+    (texts_if (same_member expand_member (codes "values") ms (λ d. refl) i))
+    (optional_member false as_bool (same_member expand_member (codes "sort_columns") ms (λ d. refl) i))
+    (agg_in (same_member expand_member (codes "agg") ms (λ d. refl) i))
+    (text_or None (λ s. Some (Some s)) (same_member expand_member (codes "separator") ms (λ d. refl) i))))
     ∙ table_goes pivot_out (are_among pivot_names ms) (λ f. table_at f (codes "table") (object ms)) (λ f. table_at f (codes "table") (expand (object ms))) (pivot_by (λ name. get_member name ms)) w
-    (side_out (codes "table") ms (λ d. refl)) (pivot_by_goes (λ name. get_member name ms) w)
+    (side_out expand_member (codes "table") ms (λ d. refl)) (pivot_by_goes (λ name. get_member name ms) w)
     (ap (λ o. table_first (are_among pivot_names ms) o (λ f. table_at f (codes "table") (object ms)) (pivot_by (λ name. get_member name ms))) (sym e) ∙ x)

@@ -19,13 +19,13 @@ use Rattle.tb_request.proofs.SameShape.{dummies_of_out, dummies_out, join_of_out
 
 -- ---- rows
 
-fit_from : (ws : List Written) → rows_fit ws ≡ true → rows_in ws ≤ MAX_RUN_VALUES
+pub fit_from : (ws : List Written) → rows_fit ws ≡ true → rows_in ws ≤ MAX_RUN_VALUES
 fit_from ws e = leb-true (rows_in ws) MAX_RUN_VALUES e
 
-fit_out : (ws : List Written) → rows_fit (map written_out ws) ≡ true
+pub fit_out : (ws : List Written) → rows_fit (map written_out ws) ≡ true
 fit_out ws = le-leb (rows_in (map written_out ws)) MAX_RUN_VALUES (omega (arith, rows_out ws))
 
-both_fit_out : (ls rs : List Written) → rows_fit (map written_out ls ++ map written_out rs) ≡ true
+pub both_fit_out : (ls rs : List Written) → rows_fit (map written_out ls ++ map written_out rs) ≡ true
 both_fit_out ls rs = ap rows_fit (sym (map-append written_out ls rs)) ∙ fit_out (ls ++ rs)
 
 -- ---- a request to join

@@ -1,5 +1,5 @@
 -- What the program's values stand for.
-use Rattle.std.specs.Prelude.{ℕ, List, map, option_map}
+use Rattle.std.specs.Prelude.{List, map, option_map}
 use Rattle.std.specs.declared.alloc.Global.{Global}
 use Rattle.std.specs.declared.vec.Vec.{Vec}
 use Rattle.serde_json.specs.Data.{Data}
@@ -9,6 +9,7 @@ use Rattle.tb_value.specs.SeeKind.{kind_of}
 use Rattle.tb_pool.specs.Promise.ExecView.{ExecView}
 use Rattle.tb_chunk.specs.Promise.Col.{Col}
 use Rattle.tb_json.specs.Promise.Lists.{list_in}
+pub use Rattle.tb_json.specs.Runs.{run_view}
 use Rattle.tb_request.specs.declared.shape.ExecNumbers.{ExecNumbers}
 use Rattle.tb_request.specs.declared.shape.WrittenColumn.{WrittenColumn}
 use Rattle.tb_request.specs.declared.shape.WrittenValues.{WrittenValues}
@@ -20,9 +21,6 @@ use Rattle.tb_request.specs.declared.one_table.WrittenPivot.{WrittenPivot}
 use Rattle.tb_request.specs.declared.values.ClaimedColumn.{ClaimedColumn}
 use Rattle.tb_request.specs.Columns.{relaid_column}
 use Rattle.tb_request.specs.Promise.Written as written
-
-abbrev pub run_view : Value × ℕ → written.WrittenRun
-run_view r = (view r.0, r.1)
 
 -- the values of a chunk
 abbrev pub chunk_view : Value → List Data

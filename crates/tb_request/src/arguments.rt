@@ -114,10 +114,7 @@ pub fn slice_in(value: &Value) -> Option<Option<(i64, usize)>>
     if items.len() != 2 {
         return None;
     }
-    match slice_from(items.at(0), items.at(1)) {
-        Some(slice) => Some(Some(slice)),
-        None => None,
-    }
+    slice_from(items.at(0), items.at(1)).map(Some)
 }
 
 // No slice where the member is absent.

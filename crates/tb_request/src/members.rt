@@ -3,7 +3,7 @@ ghost use Rattle.std.specs.Prelude.{◌≡◌, codes, map, option_map, IfOk};
 ghost use Rattle.tb_tree.specs.View.{view};
 ghost use Rattle.serde_json.specs.Find.{as_bool, as_str, get};
 ghost use Rattle.tb_json.specs.Promise.Lists.{as_list, is_among, has_only, list_of};
-ghost use Rattle.tb_request.specs.Promise.Written.{text_at, texts_at, texts_if_at, truth_at};
+ghost use Rattle.tb_request.specs.Promise.Written.{name_at, text_at, texts_at, texts_if_at, truth_at};
 
 use std::alloc::Global;
 use tb_tree::Value;
@@ -42,6 +42,16 @@ pub fn truth_at(object: &Value, name: &str) -> Option<bool>
     match object.get(name) {
         Some(member) => member.as_bool(),
         None => Some(false),
+    }
+}
+
+/// The text of a member, or None where it is absent or no text.
+pub fn name_at(alloc: Global, object: &Value, name: &str) -> Result<Option<PlSmallStr>, OutOfMemory>
+    ensures { IfOk result (λ o. o ≡ name_at name.now (view object.now)) }
+{
+    match object.get(name).and_then(Value::as_str) {
+        Some(text) => Ok(Some(PlSmallStr::from_str(alloc, text)?)),
+        None => Ok(None),
     }
 }
 
@@ -123,10 +133,7 @@ pub fn texts_if_at(
     let Some(member) = object.get(name) else {
         return Ok(Some(None));
     };
-    match texts_of(alloc, member)? {
-        Some(texts) => Ok(Some(Some(texts))),
-        None => Ok(None),
-    }
+    Ok(texts_of(alloc, member)?.map(Some))
 }
 
 /// The values of an array, or None where the value is none.

@@ -129,8 +129,8 @@ pub fn agg_named(text: &str) -> Option<Aggregate>
     }
 }
 
-// No aggregate where the member is absent.
-fn agg_of(object: &Value) -> Option<Option<Aggregate>>
+/// The aggregate that the member `agg` names, or no aggregate where it is absent; None where it names none.
+pub fn agg_of(object: &Value) -> Option<Option<Aggregate>>
     ensures { result ≡ agg_of (view object.now) }
 {
     match object.get("agg") {

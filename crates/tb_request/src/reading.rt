@@ -89,8 +89,8 @@ pub fn value_of(alloc: Global, bytes: &[u8]) -> Result<Value, RequestFault>
     }
 }
 
-// The same. The bytes are let go as soon as the value is made.
-fn value_in(alloc: Global, bytes: Vec<u8>) -> Result<Value, RequestFault>
+/// The same. The bytes are let go as soon as the value is made.
+pub fn value_in(alloc: Global, bytes: Vec<u8>) -> Result<Value, RequestFault>
     ensures { MatchResult result (λ v. value_of bytes.items ≡ Ok (view v)) (λ e. FaultIs e (value_of bytes.items)) }
 {
     value_of(alloc, &bytes)

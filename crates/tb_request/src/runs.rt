@@ -1,18 +1,20 @@
 //! Runs, as they are written: values, each with its count, which says how often it stands.
-ghost use Rattle.std.specs.Prelude.{◌≡◌, ◌<◌, ◌+◌, ◌++◌, codes, map, option_and_then, option_map, IfOk, MatchOption};
+ghost use Rattle.std.specs.Prelude.{◌≡◌, ◌<◌, ◌≤◌, ◌+◌, ◌++◌, codes, is_some, map, option_and_then, option_map, IfOk, MatchOption};
 ghost use Rattle.serde_json.specs.Find.{get};
-ghost use Rattle.tb_tree.specs.View.{view};
+ghost use Rattle.tb_tree.specs.View.{item_view, view};
 ghost use Rattle.tb_chunk.specs.RunLayout.{total_of};
-ghost use Rattle.tb_json.specs.Promise.Lists.{list_of};
+ghost use Rattle.tb_json.specs.Promise.Lists.{each, list_of};
 ghost use Rattle.tb_value.specs.SeeKind.{kind_of};
 ghost use Rattle.tb_request.specs.Promise.Columns.{rows_fit, rows_in};
-ghost use Rattle.tb_request.specs.Promise.Written.{run_of, times_of};
+ghost use Rattle.tb_request.specs.Promise.Written.{run_of, times_of, whole_of};
+ghost use Rattle.tb_request.specs.declared.runs.TheConstants.{MAX_RUN_VALUES};
 ghost use Rattle.tb_request.specs.Lent.{run_view, written_view};
 
 use crate::members::{into_array, into_member};
 use crate::shape::{WrittenColumn, WrittenValues};
 use std::alloc::Global;
-use tb_tree::Value;
+use tb_json::lent_run;
+use tb_tree::{Item, Value};
 use tb_value::{DataType, OutOfMemory};
 
 /// The most values that the runs of a request may stand for, by their counts.
@@ -31,32 +33,45 @@ pub fn times_of(dtype: &DataType, times: u64) -> Option<u64>
     }
 }
 
-// A value and its count.
-fn run_of(dtype: &DataType, run: Value) -> Option<(Value, u64)>
-    ensures { option_map run_view result ≡ run_of (kind_of dtype.now) (view run) }
+// Whether a value is a run of a column of this type.
+fn is_run(dtype: &DataType, value: &Value) -> bool
+    ensures { result ≡ is_some (run_of (kind_of dtype.now) (view value.now)) }
 {
-    let (value, times) = run.into_pair()?;
-    let times = times_of(dtype, times.as_u64()?)?;
-    Some((value, times))
+    match value.as_pair() {
+        Some((_, times)) => is_count(dtype, times),
+        None => false,
+    }
 }
 
-fn runs_of(
-    alloc: Global,
-    dtype: &DataType,
-    value: Value,
-) -> Result<Option<Vec<(Value, u64)>>, OutOfMemory>
+fn is_count(dtype: &DataType, times: Item<'_>) -> bool
+    ensures { result ≡ is_some (option_and_then (times_of (kind_of dtype.now)) (whole_of (item_view times.entry))) }
+{
+    match times.as_u64() {
+        Some(times) => times_of(dtype, times).is_some(),
+        None => false,
+    }
+}
+
+fn are_runs(dtype: &DataType, values: &[Value]) -> bool
+    ensures { result ≡ is_some (each (run_of (kind_of dtype.now)) (map view values.now)) }
+{
+    for value in values {
+        if !is_run(dtype, value) {
+            return false;
+        }
+    }
+    true
+}
+
+fn runs_of(alloc: Global, dtype: &DataType, value: Value) -> Result<Option<Vec<Value>>, OutOfMemory>
     ensures { IfOk result (λ o. option_map (λ v. map run_view v.items) o
         ≡ list_of (run_of (kind_of dtype.now)) (view value)) }
 {
-    let Some(items) = into_array(alloc, value)? else {
+    let Some(runs) = into_array(alloc, value)? else {
         return Ok(None);
     };
-    let mut runs = Vec::with_capacity(alloc, items.len())?;
-    for item in items {
-        let Some(run) = run_of(dtype, item) else {
-            return Ok(None);
-        };
-        runs.push(run)?;
+    if !are_runs(dtype, &runs) {
+        return Ok(None);
     }
     Ok(Some(runs))
 }
@@ -66,7 +81,7 @@ pub(crate) fn runs_in(
     alloc: Global,
     dtype: &DataType,
     column: Value,
-) -> Result<Option<Vec<(Value, u64)>>, OutOfMemory>
+) -> Result<Option<Vec<Value>>, OutOfMemory>
     ensures { IfOk result (λ o. option_map (λ v. map run_view v.items) o
         ≡ option_and_then (list_of (run_of (kind_of dtype.now))) (get (codes "runs") (view column))) }
 {
@@ -76,20 +91,22 @@ pub(crate) fn runs_in(
     }
 }
 
-// What is left of the room after these runs, if they fit. The counts are never added: they are taken from the room.
-#[tactic(auto, using(tb_chunk::proofs::RunLayout::total_drop))]
-fn room_after_runs(mut room: u64, runs: &[(Value, u64)]) -> Option<u64>
-    ensures { MatchOption result (room < total_of runs.now) (λ left. left + total_of runs.now ≡ room) }
+/// What is left of the room after these runs, if they fit. The counts are never added: they are taken from the room.
+#[tactic(auto, using(crate::proofs::RoomLeft::total_drop))]
+pub fn room_after_runs(mut room: u64, runs: &[Value]) -> Option<u64>
+    ensures { MatchOption result (room < total_of (map run_view runs.now))
+        (λ left. left + total_of (map run_view runs.now) ≡ room) }
 {
-    for (_, times) in runs {
-        room = room.checked_sub(*times)?;
+    for run in runs {
+        let (_, times) = lent_run(run);
+        room = room.checked_sub(times)?;
     }
     Some(room)
 }
 
-// The same of the runs of these columns.
-#[tactic(auto, using(crate::proofs::RoomLeft::rows_drop, crate::proofs::RoomLeft::runs_rows))]
-fn room_after(mut room: u64, columns: &[WrittenColumn]) -> Option<u64>
+/// The same of the runs of these columns.
+#[tactic(auto, using(crate::proofs::RoomLeft::rows_drop))]
+pub fn room_after(mut room: u64, columns: &[WrittenColumn]) -> Option<u64>
     ensures { MatchOption result (room < rows_in (map written_view columns.now))
         (λ left. left + rows_in (map written_view columns.now) ≡ room) }
 {
@@ -101,6 +118,17 @@ fn room_after(mut room: u64, columns: &[WrittenColumn]) -> Option<u64>
     Some(room)
 }
 
+/// How many rows these runs have, which are no more than a request may have.
+pub(crate) fn rows_of(runs: &[Value]) -> usize
+    requires { total_of (map run_view runs.now) ≤ MAX_RUN_VALUES }
+    ensures { result ≡ total_of (map run_view runs.now) }
+{
+    match room_after_runs(MAX_RUN_VALUES, runs) {
+        Some(room) => (MAX_RUN_VALUES - room) as usize,
+        None => unreachable!(),
+    }
+}
+
 /// Whether the counts of all runs of these columns add up to no more than `MAX_RUN_VALUES`.
 pub fn rows_fit(columns: &[WrittenColumn]) -> bool
     ensures { result ≡ rows_fit (map written_view columns.now) }
@@ -109,7 +137,7 @@ pub fn rows_fit(columns: &[WrittenColumn]) -> bool
 }
 
 /// The same, of the columns of two tables together.
-pub(crate) fn sides_fit(left: &[WrittenColumn], right: &[WrittenColumn]) -> bool
+pub fn sides_fit(left: &[WrittenColumn], right: &[WrittenColumn]) -> bool
     ensures { result ≡ rows_fit (map written_view left.now ++ map written_view right.now) }
 {
     match room_after(MAX_RUN_VALUES, left) {

@@ -1,6 +1,6 @@
 //! The members of a request, before its values are read.
 ghost use Rattle.std.specs.Prelude.{◌≡◌, codes, is_some, map, option_and_then, option_map, IfOk};
-ghost use Rattle.serde_json.specs.Find.{as_str, get};
+ghost use Rattle.serde_json.specs.Find.{get};
 ghost use Rattle.tb_tree.specs.View.{view};
 ghost use Rattle.tb_json.specs.Promise.Kinds.{kind_in};
 ghost use Rattle.tb_json.specs.Promise.Lists.{as_list, each, list_of};
@@ -9,7 +9,7 @@ ghost use Rattle.tb_request.specs.Promise.Written.{format_numbered, format_of, f
 ghost use Rattle.tb_request.specs.Lent.{chunk_view, values_view, written_view, exec_view, written_join};
 
 use crate::arguments::args_of;
-use crate::members::{has_only, into_array, into_member, into_sides, texts_at, truth_at};
+use crate::members::{has_only, into_array, into_member, into_sides, name_at, texts_at, truth_at};
 use crate::runs::runs_in;
 use std::alloc::Global;
 use tb_frame::JoinArgs;
@@ -31,8 +31,8 @@ pub enum Format {
 pub enum WrittenValues {
     /// The chunks, each of which is an array.
     Chunks(Vec<Value>),
-    /// Each value, with its count.
-    Runs(Vec<(Value, u64)>),
+    /// The runs, each of which is an array of a value and its count.
+    Runs(Vec<Value>),
 }
 
 /// A column whose values are not read yet, and the flag that is claimed of them.
@@ -104,15 +104,6 @@ pub fn flag_of(column: &Value) -> Option<IsSorted>
     match column.get("sorted") {
         Some(member) => flag_named(member.as_str()?),
         None => Some(IsSorted::Not),
-    }
-}
-
-fn name_of(alloc: Global, column: &Value) -> Result<Option<PlSmallStr>, OutOfMemory>
-    ensures { IfOk result (λ o. o ≡ option_and_then as_str (get (codes "name") (view column.now))) }
-{
-    match column.get("name").and_then(Value::as_str) {
-        Some(name) => Ok(Some(PlSmallStr::from_str(alloc, name)?)),
-        None => Ok(None),
     }
 }
 
@@ -203,7 +194,7 @@ fn column_of(
     if !has_only(&value, column_members(format)) {
         return Ok(None);
     }
-    let name = name_of(alloc, &value)?;
+    let name = name_at(alloc, &value, "name")?;
     let flag = flag_of(&value);
     let (Some(name), Some(flag), Some(dtype)) = (name, flag, dtype_of(alloc, &value)?) else {
         return Ok(None);

@@ -83,9 +83,13 @@ fn frames_of(
     }
 }
 
-// The table of these columns with the flags that are claimed.
+/// The table of these columns with the flags that are claimed.
+///
+/// # Errors
+///
+/// Those of `tables_from`, of the one table.
 #[tactic(auto, unfolding(crate::specs::Promise::Reading::are_tables))]
-fn table_of(alloc: Global, claimed: Vec<ClaimedColumn>) -> Result<DataFrame, RequestFault>
+pub fn table_of(alloc: Global, claimed: Vec<ClaimedColumn>) -> Result<DataFrame, RequestFault>
     ensures columns { IfOk result (λ t. map relaid_column t ≡ map claimed_view claimed.items) }
     ensures tables { MatchResult result
         (λ t. are_tables (map claimed_view claimed.items ∷ []) ≡ Ok tt)
@@ -101,7 +105,7 @@ fn table_of(alloc: Global, claimed: Vec<ClaimedColumn>) -> Result<DataFrame, Req
 }
 
 /// Why columns whose runs have too many rows make no request. Their values are judged first.
-pub(crate) fn unfit_reason(typed: bool) -> Reason
+pub fn unfit_reason(typed: bool) -> Reason
     ensures { result ≡ (if typed then Reason.Rows else Reason.Value) }
 {
     if typed { Reason::Rows } else { Reason::Value }
@@ -127,8 +131,12 @@ pub(crate) fn table_from(
 }
 
 /// The two tables of these columns with the flags that are claimed.
+///
+/// # Errors
+///
+/// Those of `tables_from`, of both.
 #[tactic(auto, unfolding(crate::specs::Promise::Reading::are_tables))]
-pub(crate) fn tables_of(
+pub fn tables_of(
     alloc: Global,
     left: Vec<ClaimedColumn>,
     right: Vec<ClaimedColumn>,

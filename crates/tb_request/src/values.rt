@@ -1,24 +1,23 @@
 //! The values of a request.
-ghost use Rattle.std.specs.Prelude.{◌≡◌, ◌≤◌, is_some, map, option_map, IfOk, IfSome, IsTrue};
-ghost use Rattle.tb_value.specs.See.{datum};
+ghost use Rattle.std.specs.Prelude.{◌≡◌, ◌≤◌, is_some, map, option_map, IfOk, IsTrue};
 ghost use Rattle.tb_value.specs.SeeKind.{kind_of};
-ghost use Rattle.tb_value.specs.Promise.Typed.{HasType};
 ghost use Rattle.tb_value.specs.declared.sorted.IsSorted.TheVariants.{Not};
 ghost use Rattle.tb_chunk.specs.Promise.Made.{fresh_column};
+ghost use Rattle.tb_json.specs.Promise.Cells.{cell_in};
 ghost use Rattle.tb_json.specs.Promise.Lists.{each};
 ghost use Rattle.tb_request.specs.Columns.{relaid_column};
 ghost use Rattle.tb_request.specs.Promise.Columns.{chunks_in, columns_from, rows_fit, rows_of_runs, run_in, values_of};
 ghost use Rattle.tb_request.specs.Promise.Written.{in_chunks, in_runs};
 ghost use Rattle.tb_request.specs.declared.runs.TheConstants.{MAX_RUN_VALUES};
-ghost use Rattle.tb_chunk.specs.RunLayout.{AreRunsOf, data_runs};
 ghost use Rattle.tb_request.specs.Lent.{chunk_view, claimed_view, run_view, values_view, written_view};
 
+use crate::runs::rows_of;
 use crate::shape::{WrittenColumn, WrittenValues};
 use std::alloc::Global;
-use tb_json::{arrays_in, value_of};
+use tb_json::{arrays_in, item_of, lent_run, run_array_in};
 use tb_store::{Column, Series};
 use tb_tree::Value;
-use tb_value::{AnyValue, DataType, IsSorted, OutOfMemory, PlSmallStr, PolarsError};
+use tb_value::{DataType, IsSorted, OutOfMemory, PlSmallStr, PolarsError};
 
 /// A column, and the flag that is claimed of its values.
 #[derive(Drop)]
@@ -46,55 +45,20 @@ fn series_of_chunks(
     }
 }
 
-fn run_in(
-    alloc: Global,
-    dtype: &DataType,
-    run: (Value, u64),
-) -> Result<Option<(AnyValue, u64)>, OutOfMemory>
-    ensures run { IfOk result (λ o. option_map (λ r. (datum r.0, r.1)) o
-        ≡ run_in (kind_of dtype.now) (run_view run)) }
-    ensures typed { IfOk result (λ o. IfSome o (λ r. HasType (kind_of dtype.now) (datum r.0))) }
-{
-    match value_of(alloc, &run.0, dtype)? {
-        Some(value) => Ok(Some((value, run.1))),
-        None => Ok(None),
-    }
-}
-
-// The values of runs with their counts, or None where a value is not of the type.
-fn runs_of(
-    alloc: Global,
-    dtype: &DataType,
-    written: Vec<(Value, u64)>,
-) -> Result<Option<Vec<(AnyValue, u64)>>, OutOfMemory>
-    ensures runs { IfOk result (λ o. option_map (λ v. data_runs v.items) o
-        ≡ each (run_in (kind_of dtype.now)) (map run_view written.items)) }
-    ensures typed { IfOk result (λ o. IfSome o (λ v. AreRunsOf (kind_of dtype.now) (data_runs v.items))) }
-{
-    let mut runs = Vec::with_capacity(alloc, written.len())?;
-    for item in written {
-        let Some(run) = run_in(alloc, dtype, item)? else {
-            return Ok(None);
-        };
-        runs.push(run)?;
-    }
-    Ok(Some(runs))
-}
-
 fn series_of_runs(
     alloc: Global,
     name: PlSmallStr,
     dtype: DataType,
-    runs: Vec<(Value, u64)>,
+    runs: Vec<Value>,
 ) -> Result<Option<Series>, OutOfMemory>
     requires { rows_of_runs (in_runs (map run_view runs.items)) ≤ MAX_RUN_VALUES }
     ensures { IfOk result (λ o. option_map relaid_column o
         ≡ option_map (λ cs. fresh_column name (kind_of dtype) cs Not) (chunks_in (kind_of dtype) (in_runs (map run_view runs.items)))) }
 {
-    let Some(runs) = runs_of(alloc, &dtype, runs)? else {
+    let Some(array) = run_array_in(alloc, &dtype, &runs, rows_of(&runs))? else {
         return Ok(None);
     };
-    match Series::from_runs(alloc, name.as_str(), dtype, runs) {
+    match Series::from_typed(alloc, name, dtype, array) {
         Ok(series) => Ok(Some(series)),
         Err(_) => Err(OutOfMemory),
     }
@@ -144,12 +108,20 @@ pub fn columns_of(
     Ok(Some(columns))
 }
 
+// Whether the value of a run is of the type.
+fn is_of(alloc: Global, dtype: &DataType, run: &Value) -> Result<bool, OutOfMemory>
+    ensures { IfOk result (λ b. b ≡ is_some (cell_in (kind_of dtype.now) (run_view run.now).0)) }
+{
+    let (value, _) = lent_run(run);
+    Ok(item_of(alloc, value, dtype)?.is_some())
+}
+
 // Whether the value of each run is of the type.
-fn are_of(alloc: Global, dtype: &DataType, runs: &[(Value, u64)]) -> Result<bool, OutOfMemory>
+fn are_of(alloc: Global, dtype: &DataType, runs: &[Value]) -> Result<bool, OutOfMemory>
     ensures { IfOk result (λ b. b ≡ is_some (each (run_in (kind_of dtype.now)) (map run_view runs.now))) }
 {
-    for (value, _) in runs {
-        if value_of(alloc, value, dtype)?.is_none() {
+    for run in runs {
+        if !is_of(alloc, dtype, run)? {
             return Ok(false);
         }
     }

@@ -1,2 +1,3 @@
 pub mod Views
 mod Reading
+mod Numbers

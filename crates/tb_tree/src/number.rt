@@ -1,5 +1,7 @@
 //! Numbers, read from their texts.
-ghost use Rattle.std.specs.Prelude.{◌≡◌, ◌<◌, ◌==◌, option_map, length, slice_index, IsTrue, true, false};
+ghost use Rattle.std.specs.Prelude.{◌≡◌, ◌<◌, ◌^◌, ◌==◌, option_map, length, slice_index, IfSome, IsTrue, true, false};
+ghost use Rattle.std.specs.Char.{digit_value};
+ghost use Rattle.std.specs.Str.Parse.{digits_value, AllDigits};
 ghost use Rattle.serde_json.specs.Data.{number};
 ghost use Rattle.serde_json.specs.Read.{number_of, number_from, float_of};
 ghost use Rattle.tb_tree.specs.View.{view};
@@ -14,8 +16,47 @@ fn has_minus(text: &[u8]) -> bool
     !text.is_empty() && text[0] == b'-'
 }
 
+/// A number up to this one has room for a further digit.
+const HAS_ROOM: u64 = 1_000_000_000_000_000_000;
+
+fn digit_of(byte: u8) -> Option<u64>
+    ensures { IfSome result (λ n. (digit_value byte ≡ n) × (n < 10)) }
+{
+    match byte {
+        b'0'..=b'9' => Some((byte - b'0') as u64),
+        _ => None,
+    }
+}
+
+// The number of a text of digits and nothing else, which most numbers are. None where the number may be too large too.
+fn plain_number(text: &[u8]) -> Option<u64>
+    ensures { IfSome result (λ n. (0 < length text.now) × AllDigits 10 text.now × (digits_value 10 text.now ≡ n) × (n < 2 ^ 64)) }
+{
+    if text.is_empty() {
+        return None;
+    }
+    let mut number = 0;
+    for byte in text {
+        let digit = digit_of(*byte)?;
+        if number > HAS_ROOM {
+            return None;
+        }
+        number = number * 10 + digit;
+    }
+    Some(number)
+}
+
 /// The value that a JSON number is, or None where it is too large for a float.
 pub(crate) fn number_of(text: &str) -> Option<Value>
+    ensures { option_map view result ≡ option_map number (number_of text.now) }
+{
+    match plain_number(text.as_bytes()) {
+        Some(number) => Some(Value::Unsigned(number)),
+        None => any_number(text),
+    }
+}
+
+fn any_number(text: &str) -> Option<Value>
     ensures { option_map view result ≡ option_map number (number_of text.now) }
 {
     let bytes = text.as_bytes();

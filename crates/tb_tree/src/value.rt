@@ -2,9 +2,9 @@
 ghost use Rattle.std.specs.Prelude.{◌≡◌, ◌++◌, ◌∷◌, [], is_some, map, option_map, option_and_then, IfOk, IfSome, MatchResult};
 ghost use Rattle.serde_json.specs.Find.{as_null, as_bool, as_number, as_str, as_array, as_object, as_i64, as_u64, as_integer, get, get_member};
 ghost use Rattle.serde_json.specs.View.{items_of};
-ghost use Rattle.tb_tree.specs.View.{view, items_view, listed, members_view, pair_of, two_of, whole};
+ghost use Rattle.tb_tree.specs.View.{view, item_view, items_view, listed, members_view, pair_of, two_of, whole};
 
-use crate::items::Items;
+use crate::items::{Item, Items};
 use arrayvec::ArrayString;
 use std::alloc::{AllocError, Global};
 use std::collections::BTreeMap;
@@ -162,6 +162,21 @@ impl Value {
         }
     }
 
+    /// The values of an array of two, lent.
+    pub fn as_pair(&self) -> Option<(Item<'_>, Item<'_>)>
+        ensures { option_map (λ p. (item_view p.0, item_view p.1)) result ≡ pair_of (view self.now) }
+    {
+        match self {
+            Value::TwoShort(first, second) => {
+                Some((Item::Whole(*first as i64), Item::Whole(*second as i64)))
+            }
+            Value::Two(pair) => Some((Item::Lent(&pair.0), Item::Lent(&pair.1))),
+            Value::Wholes(numbers) => pair_of_wholes(numbers.as_slice()),
+            Value::Array(values) => pair_of_values(values.as_slice()),
+            _ => None,
+        }
+    }
+
     pub fn as_object(&self) -> Option<&Map<String, Value>>
         ensures { option_map (λ m. members_view m.now.entries) result ≡ as_object (view self.now) }
     {
@@ -196,21 +211,6 @@ impl Value {
             Value::Two(pair) => Ok(Some(list_of_two(alloc, Box::into_inner(pair))?)),
             Value::Array(values) => Ok(Some(Box::into_inner(values))),
             _ => Ok(None),
-        }
-    }
-
-    /// The values of an array of two.
-    pub fn into_pair(self) -> Option<(Value, Value)>
-        ensures { option_map (λ p. (view p.0, view p.1)) result ≡ pair_of (view self) }
-    {
-        match self {
-            Value::TwoShort(first, second) => {
-                Some((Value::whole(first as i64), Value::whole(second as i64)))
-            }
-            Value::Wholes(numbers) => pair_of_wholes(numbers.as_slice()),
-            Value::Two(pair) => Some(Box::into_inner(pair)),
-            Value::Array(values) => pair_of_values(Box::into_inner(values)),
-            _ => None,
         }
     }
 
@@ -262,22 +262,20 @@ pub(crate) fn list_of_two(alloc: Global, pair: (Value, Value)) -> Result<Vec<Val
     Ok(vec![in alloc; first, second]?)
 }
 
-fn pair_of_wholes(numbers: &[i64]) -> Option<(Value, Value)>
-    ensures { option_map (λ p. (view p.0, view p.1)) result ≡ two_of (items_of (map whole numbers.now)) }
+fn pair_of_wholes<'v>(numbers: &'v [i64]) -> Option<(Item<'v>, Item<'v>)>
+    ensures { option_map (λ p. (item_view p.0, item_view p.1)) result ≡ two_of (items_of (map whole numbers.now)) }
 {
     match numbers {
-        [first, second] => Some((Value::whole(*first), Value::whole(*second))),
+        [first, second] => Some((Item::Whole(*first), Item::Whole(*second))),
         _ => None,
     }
 }
 
-fn pair_of_values(mut values: Vec<Value>) -> Option<(Value, Value)>
-    ensures { option_map (λ p. (view p.0, view p.1)) result ≡ two_of (items_view values.items) }
+fn pair_of_values<'v>(values: &'v [Value]) -> Option<(Item<'v>, Item<'v>)>
+    ensures { option_map (λ p. (item_view p.0, item_view p.1)) result ≡ two_of (items_view values.now) }
 {
-    if values.len() != 2 {
-        return None;
+    match values {
+        [first, second] => Some((Item::Lent(first), Item::Lent(second))),
+        _ => None,
     }
-    let second = values.pop()?;
-    let first = values.pop()?;
-    Some((first, second))
 }

@@ -103,7 +103,9 @@ abbrev pub run_values_spot : Kind → Data → Option Spot
 run_values_spot t d = first_at (run_value_spot t) 0 (items_of d)
 
 abbrev pub typed_spot : Format → Kind → Data → Option Spot
-typed_spot Chunks t column = or_else (inside (codes "chunks") (chunks_spot t) column) (unless (nat_le (count_at Chunks column) MAX_ROWS) expected.FewValues)
+typed_spot Chunks t column =
+    or_else (inside (codes "chunks") (chunks_spot t) column)
+    (unless (nat_le (count_at Chunks column) MAX_ROWS) expected.FewValues)
 typed_spot Runs t column = inside (codes "runs") (run_values_spot t) column
 
 -- the first value that is none of the column's type, or else the column where its chunks have too many
@@ -170,7 +172,8 @@ flag_is_true f flag column = unwrap_or (option_map (is_ordered f flag column) (k
 
 -- the column where it is not in the order that is claimed
 abbrev pub flag_spot : Format → Data → Option Spot
-flag_spot f column = flag_of column >>= λ flag. unless (flag_is_true f flag column) (expected.Ordered flag)
+flag_spot f column =
+    flag_of column >>= λ flag. unless (flag_is_true f flag column) (expected.Ordered flag)
 
 abbrev pub column_spot : Format → Reason → ℕ → Data → Option Spot
 column_spot f why.Shape n column = shape_spot f column
@@ -197,7 +200,9 @@ abbrev pub columns_of : Data → List Data
 columns_of table = items_at (codes "columns") table
 
 abbrev pub table_spot : Format → Reason → Data → Option Spot
-table_spot f reason table = or_else (members_spot table_members table) (under (Member (codes "columns")) (columns_spot f reason (columns_of table)))
+table_spot f reason table =
+    or_else (members_spot table_members table)
+    (under (Member (codes "columns")) (columns_spot f reason (columns_of table)))
 
 -- ---- runs of too many values
 
@@ -213,7 +218,9 @@ column_room_spot room column = inside (codes "runs") (runs_room_spot room) colum
 
 -- the first run of a table for which there is no room
 abbrev pub table_room_spot : ℕ → Data → Option Spot
-table_room_spot room table = under (Member (codes "columns")) (first_in_room (count_at Runs) column_room_spot room 0 (columns_of table))
+table_room_spot room table =
+    under (Member (codes "columns"))
+    (first_in_room (count_at Runs) column_room_spot room 0 (columns_of table))
 
 -- what the runs of a table leave of the room
 abbrev pub room_after : ℕ → Data → ℕ

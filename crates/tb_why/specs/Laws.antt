@@ -9,8 +9,10 @@ use Rattle.tb_why.specs.Requests.{reason_of, request_spot}
 
 -- a place is found, which is the whole exactly where the whole is no object
 abbrev pub HasPlace : Command → Reason → Data → Type 0
-HasPlace command reason d = IsSomeAnd (request_spot command reason d) (λ s. (s.path ≡ []) ↔ (as_object d ≡ None))
+HasPlace command reason d =
+    IsSomeAnd (request_spot command reason d) (λ s. (s.path ≡ []) ↔ (as_object d ≡ None))
 
 -- so it is for each reason why the text of a value is no request
 abbrev pub EachReasonHasAPlace : Type 0
-EachReasonHasAPlace = (command : Command) (bytes : List ℕ) (d : Data) (reason : Reason) → value_of bytes ≡ Ok d → reason_of command bytes ≡ Some reason → HasPlace command reason d
+EachReasonHasAPlace = (command : Command) (bytes : List ℕ) (d : Data) (reason : Reason) → value_of bytes ≡ Ok d
+    → reason_of command bytes ≡ Some reason → HasPlace command reason d

@@ -68,7 +68,8 @@ fault_of k (Some d) = unless (has_form k.form d) (expected.Form k.form)
 
 abbrev pub each_known : List Known → Data → Option Spot
 each_known [] d = None
-each_known (k ∷ ks) d = or_else (under (Member k.name) (fault_of k (get k.name d))) (each_known ks d)
+each_known (k ∷ ks) d =
+    or_else (under (Member k.name) (fault_of k (get k.name d))) (each_known ks d)
 
 -- the first member of another name, in the order of their names
 abbrev pub unknown_among : List Name → Members → Option Name
@@ -87,11 +88,14 @@ abbrev pub names_of : List Known → List Name
 names_of ks = map (λ (k : Known). k.name) ks
 
 abbrev pub unknown_spot : List Name → Data → Option Spot
-unknown_spot names d = option_and_then (λ k. under (Member k) (spot_here expected.NoMember)) (unknown_in names d)
+unknown_spot names d =
+    option_and_then (λ k. under (Member k) (spot_here expected.NoMember)) (unknown_in names d)
 
 -- the value where it is no object, or an unknown member, or the first of the known ones that is wanting or of another form
 abbrev pub members_spot : List Known → Data → Option Spot
-members_spot ks d = or_else (unless (has_form form.Object d) (expected.Form form.Object)) (or_else (unknown_spot (names_of ks) d) (each_known ks d))
+members_spot ks d =
+    or_else (unless (has_form form.Object d) (expected.Form form.Object))
+    (or_else (unknown_spot (names_of ks) d) (each_known ks d))
 
 -- ---- the objects of a request
 

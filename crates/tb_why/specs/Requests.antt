@@ -54,13 +54,17 @@ args_spot d = or_else (members_spot args_members d) (inside (codes "join_nulls")
 
 -- the values that all runs may have, and what those of the left table leave of them
 abbrev pub right_room : Data → ℕ
-right_room d = unwrap_or (option_map (room_after MAX_RUN_VALUES) (get (codes "left") d)) MAX_RUN_VALUES
+right_room d =
+    unwrap_or (option_map (room_after MAX_RUN_VALUES) (get (codes "left") d)) MAX_RUN_VALUES
 
 -- the first of both tables
 abbrev pub sides_spot : Format → Reason → Data → Option Spot
 sides_spot f why.Rows d =
-    or_else (inside (codes "left") (table_room_spot MAX_RUN_VALUES) d) (inside (codes "right") (table_room_spot (right_room d)) d)
-sides_spot f reason d = or_else (inside (codes "left") (table_spot f reason) d) (inside (codes "right") (table_spot f reason) d)
+    or_else (inside (codes "left") (table_room_spot MAX_RUN_VALUES) d)
+    (inside (codes "right") (table_room_spot (right_room d)) d)
+sides_spot f reason d =
+    or_else (inside (codes "left") (table_spot f reason) d)
+    (inside (codes "right") (table_spot f reason) d)
 
 -- the first of the only table
 abbrev pub only_spot : Format → Reason → Data → Option Spot
@@ -80,7 +84,8 @@ format_at d = unwrap_or (format_of d) Chunks
 
 -- the first member, or part of one, that is at fault for the reason
 abbrev pub request_spot : Command → Reason → Data → Option Spot
-request_spot command reason d = or_else (members_spot (members_of command) d) (parts_spot command (format_at d) reason d)
+request_spot command reason d =
+    or_else (members_spot (members_of command) d) (parts_spot command (format_at d) reason d)
 
 -- the same, and the whole where there is none
 abbrev pub spot_at : Command → Reason → Data → Spot
@@ -93,7 +98,8 @@ IsAt (place.Text line column) s = ⊥
 
 -- where the bytes are the text of a JSON value, the fault is at the place in it
 abbrev pub IsPlaced : Command → List ℕ → rust.Fault → Type 0
-IsPlaced command bytes f = (d : Data) → value_of bytes ≡ Ok d → IsAt f.place (spot_at command f.reason d) × (f.expected ≡ (spot_at command f.reason d).expected)
+IsPlaced command bytes f = (d : Data) → value_of bytes ≡ Ok d
+    → IsAt f.place (spot_at command f.reason d) × (f.expected ≡ (spot_at command f.reason d).expected)
 
 abbrev pub IsInText : Place → Type 0
 IsInText (place.Path steps) = ⊥
@@ -101,4 +107,5 @@ IsInText (place.Text line column) = ⊤
 
 -- where they are no such text, the fault is at a place in them, and that text is expected
 abbrev pub IsPlacedInText : List ℕ → rust.Fault → Type 0
-IsPlacedInText bytes f = value_of bytes ≡ Err why.Json → IsInText f.place × (f.expected ≡ expected.Json)
+IsPlacedInText bytes f =
+    value_of bytes ≡ Err why.Json → IsInText f.place × (f.expected ≡ expected.Json)

@@ -39,7 +39,8 @@ first_at f i (d ∷ ds) = or_else (under (Index i) (f d)) (first_at f (i + 1) ds
 -- the same where f looks at the room that the values before have left, each of which takes its size of it
 abbrev pub first_in_room : (Data → ℕ) → (ℕ → Data → Option Spot) → ℕ → ℕ → List Data → Option Spot
 first_in_room size f room i [] = None
-first_in_room size f room i (d ∷ ds) = or_else (under (Index i) (f room d)) (first_in_room size f (room - size d) (i + 1) ds)
+first_in_room size f room i (d ∷ ds) =
+    or_else (under (Index i) (f room d)) (first_in_room size f (room - size d) (i + 1) ds)
 
 abbrev pub spot_view : rust.Spot → Spot
 spot_view s = record { path = s.path.items; expected = s.expected }

@@ -73,7 +73,8 @@ fn are_chunks_ordered(
     dtype: DataType,
     column: Tree<'_>,
 ) -> Result<bool, OutOfMemory>
-    ensures { IfOk result (λ b. b ≡ is_ordered Chunks flag (item_view column.entry) (kind_of dtype)) }
+    ensures { IfOk result (λ b. b
+        ≡ is_ordered Chunks flag (item_view column.entry) (kind_of dtype)) }
 {
     let Some(chunks) = chunk_lists(alloc, &dtype, column)? else {
         return Ok(true);
@@ -112,7 +113,8 @@ fn is_ordered(
     dtype: DataType,
     column: Tree<'_>,
 ) -> Result<bool, OutOfMemory>
-    ensures { IfOk result (λ b. b ≡ is_ordered format flag (item_view column.entry) (kind_of dtype)) }
+    ensures { IfOk result (λ b. b
+        ≡ is_ordered format flag (item_view column.entry) (kind_of dtype)) }
 {
     match format {
         Format::Chunks => are_chunks_ordered(alloc, flag, dtype, column),

@@ -96,7 +96,8 @@ fn unknown_spot(
     known: &[Known],
     object: Tree<'_>,
 ) -> Result<Option<Spot>, OutOfMemory>
-    ensures { Finds result (unknown_spot (names_of (known_views known.now)) (item_view object.entry)) }
+    ensures { Finds result
+        (unknown_spot (names_of (known_views known.now)) (item_view object.entry)) }
 {
     match unknown_in(object, known) {
         Some(name) => under_member(alloc, name, Some(here(alloc, Expected::NoMember))),

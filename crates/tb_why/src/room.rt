@@ -53,7 +53,8 @@ fn columns_room_spot(
     room: u128,
     columns: Trees<'_>,
 ) -> Result<Option<Spot>, OutOfMemory>
-    ensures { Finds result (first_in_room (count_at Runs) column_room_spot room 0 (listed columns.entry)) }
+    ensures { Finds result
+        (first_in_room (count_at Runs) column_room_spot room 0 (listed columns.entry)) }
 {
     let mut left = room;
     for i in 0..columns.len() {

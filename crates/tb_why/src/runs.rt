@@ -59,7 +59,8 @@ fn counted_spot_of(
     dtype: &DataType,
     column: Tree<'_>,
 ) -> Result<Option<Spot>, OutOfMemory>
-    ensures { Finds result (inside (codes "runs") (runs_spot (kind_of dtype.now)) (item_view column.entry)) }
+    ensures { Finds result
+        (inside (codes "runs") (runs_spot (kind_of dtype.now)) (item_view column.entry)) }
 {
     match member(column, "runs") {
         Some(runs) => under_member(alloc, "runs", runs_spot(alloc, dtype, runs)?),

@@ -111,7 +111,8 @@ pub(crate) fn items_at<'v>(object: Tree<'v>, name: &str) -> Trees<'v>
 
 /// The value and the count of a run, where it is a list of two.
 pub(crate) fn parts<'v>(run: Tree<'v>) -> Option<(Tree<'v>, Tree<'v>)>
-    ensures { option_map (λ p. (item_view p.0, item_view p.1)) result ≡ parts_of (item_view run.entry) }
+    ensures { option_map (λ p. (item_view p.0, item_view p.1)) result
+        ≡ parts_of (item_view run.entry) }
 {
     let parts = items(run);
     if parts.len() != 2 {
@@ -139,7 +140,8 @@ pub(crate) fn is_object(value: Tree<'_>) -> bool
 
 /// The first member of an object that is not of these names, in the order of the names.
 pub(crate) fn unknown_in<'v>(object: Tree<'v>, known: &[Known]) -> Option<&'v str>
-    ensures { option_map (λ s. s.now) result ≡ unknown_in (names_of (known_views known.now)) (item_view object.entry) }
+    ensures { option_map (λ s. s.now) result
+        ≡ unknown_in (names_of (known_views known.now)) (item_view object.entry) }
 {
     let members = object.as_object()?;
     for name in members.keys() {
@@ -222,7 +224,8 @@ fn chunk_values(
 ) -> Result<Option<Vec<AnyValue>>, OutOfMemory>
     ensures values { IfOk result (λ o. option_map (λ v. data_of v.items) o
         ≡ each (cell_in (kind_of dtype.now)) (items_of (item_view chunk.entry))) }
-    ensures typed { IfOk result (λ o. IfSome o (λ v. All (HasType (kind_of dtype.now)) (data_of v.items))) }
+    ensures typed { IfOk result (λ o. IfSome o
+        (λ v. All (HasType (kind_of dtype.now)) (data_of v.items))) }
 {
     let items = items(chunk);
     let len = items.len();
@@ -244,7 +247,8 @@ pub(crate) fn chunk_lists(
 ) -> Result<Option<Vec<Vec<AnyValue>>>, OutOfMemory>
     ensures chunks { IfOk result (λ o. option_map (λ v. lists_of v.items) o
         ≡ each (each (cell_in (kind_of dtype.now))) (chunks_at (item_view column.entry))) }
-    ensures typed { IfOk result (λ o. IfSome o (λ v. IsTyped (kind_of dtype.now) (lists_of v.items))) }
+    ensures typed { IfOk result (λ o. IfSome o
+        (λ v. IsTyped (kind_of dtype.now) (lists_of v.items))) }
 {
     let chunks = items_at(column, "chunks");
     let len = chunks.len();
@@ -288,7 +292,8 @@ pub(crate) fn run_values(
 ) -> Result<Option<Vec<(AnyValue, u64)>>, OutOfMemory>
     ensures runs { IfOk result (λ o. option_map (λ v. data_runs v.items) o
         ≡ each (run_at (kind_of dtype.now)) (runs_at (item_view column.entry))) }
-    ensures typed { IfOk result (λ o. IfSome o (λ v. AreRunsOf (kind_of dtype.now) (data_runs v.items))) }
+    ensures typed { IfOk result (λ o. IfSome o
+        (λ v. AreRunsOf (kind_of dtype.now) (data_runs v.items))) }
 {
     let runs = items_at(column, "runs");
     let len = runs.len();

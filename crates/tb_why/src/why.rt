@@ -186,7 +186,8 @@ fn args_at(alloc: Global, request: Tree<'_>) -> Result<Option<Spot>, OutOfMemory
 }
 
 fn exec_at(alloc: Global, reason: Reason, request: Tree<'_>) -> Result<Option<Spot>, OutOfMemory>
-    ensures { Finds result (inside (codes "exec") (members_spot (exec_known reason)) (item_view request.entry)) }
+    ensures { Finds result
+        (inside (codes "exec") (members_spot (exec_known reason)) (item_view request.entry)) }
 {
     match member(request, "exec") {
         Some(exec) => under_member(alloc, "exec", exec_spot_for(alloc, reason, exec)?),

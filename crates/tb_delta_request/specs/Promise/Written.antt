@@ -2,12 +2,12 @@
 use Rattle.std.specs.Prelude.{ℕ, ◌==◌, List, [], ◌∷◌, length, if◌then◌else◌, Bool, is_some, Option, Some, None, codes}
 use Rattle.std.specs.Str.{bytes_eq}
 use Rattle.serde_json.specs.Data.{Data}
-use Rattle.serde_json.specs.Find.{get, as_str}
+use Rattle.serde_json.specs.Find.{get}
 use Rattle.tb_value.specs.Promise.Names.{Name}
 use Rattle.tb_value.specs.declared.error.Side.{Side}
 use Rattle.tb_value.specs.declared.error.Side.TheVariants as side
 use Rattle.tb_json.specs.Promise.Lists.{◌>>=◌, check, as_list, list_of, has_only}
-use Rattle.tb_request.specs.Promise.Written.{Written, count_of, format_of, table_at, truth_at}
+use Rattle.tb_request.specs.Promise.Written.{Written, count_of, format_of, name_at, table_at, truth_at}
 
 -- a row that is put last on a side, with its values as they stand in the text, or the row of an id that is taken out
 pub data WrittenStep : Type 0 where
@@ -24,10 +24,6 @@ pub record WrittenDelta : Type 0 where
 
 abbrev pub side_named : List ℕ → Option Side
 side_named s = if bytes_eq s (codes "left") then Some side.Left else if bytes_eq s (codes "right") then Some side.Right else None
-
--- a text
-abbrev pub name_at : List ℕ → Data → Option Name
-name_at name d = get name d >>= as_str
 
 abbrev pub side_at : List ℕ → Data → Option Side
 side_at name d = name_at name d >>= side_named

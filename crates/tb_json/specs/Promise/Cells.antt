@@ -69,3 +69,7 @@ abbrev mutual
   row_in kind.end (item d ds) = None
   row_in (kind.part n t ps) no_items = None
   row_in (kind.part n t ps) (item d ds) = option_and_then (λ v. option_map (value.more v) (row_in ps ds)) (cell_in t d)
+
+-- the value of a run, which stands in the text with its count
+abbrev pub run_in : Kind → Data × ℕ → Option (Datum × ℕ)
+run_in t r = option_map (λ v. (v, r.1)) (cell_in t r.0)

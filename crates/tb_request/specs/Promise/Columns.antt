@@ -7,13 +7,11 @@ use Rattle.tb_value.specs.Promise.Datum.{Datum}
 use Rattle.tb_value.specs.Promise.Kind.{Kind}
 use Rattle.tb_value.specs.declared.limits.TheConstants.{MAX_ROWS}
 use Rattle.tb_json.specs.Promise.Cells.{cell_in}
+-- the value of a run, with its count
+pub use Rattle.tb_json.specs.Promise.Cells.{run_in}
 use Rattle.tb_json.specs.Promise.Lists.{◌>>=◌, check, each}
 use Rattle.tb_request.specs.declared.runs.TheConstants.{MAX_RUN_VALUES}
-use Rattle.tb_request.specs.Promise.Written.{Written, WrittenJoin, WrittenRun, WrittenValues, in_chunks, in_runs}
-
--- the value of a run, with its count
-abbrev pub run_in : Kind → WrittenRun → Option (Datum × ℕ)
-run_in t r = option_map (λ v. (v, r.1)) (cell_in t r.0)
+use Rattle.tb_request.specs.Promise.Written.{Written, WrittenJoin, WrittenValues, in_chunks, in_runs}
 
 -- the values of the chunks, where there are few enough of them, or of the one chunk of the runs
 abbrev pub chunks_in : Kind → WrittenValues → Option (List (List Datum))

@@ -44,6 +44,10 @@ truth_at name d = optional_member false as_bool (get name d)
 abbrev pub text_at : List ℕ → Data → Option (Option Name)
 text_at name d = text_or None (λ s. Some (Some s)) (get name d)
 
+-- the text of a member
+abbrev pub name_at : List ℕ → Data → Option Name
+name_at name d = get name d >>= as_str
+
 -- the texts of a member that is a list of them
 abbrev pub texts_at : List ℕ → Data → Option (List Name)
 texts_at name d = get name d >>= list_of as_str

@@ -1,25 +1,21 @@
-use Rattle.std.proofs.Common.{◌∙◌, sym, map, option_map, ap}
-use Rattle.std.proofs.lemmas.List.{map_push}
+use Rattle.std.proofs.Common.{option_map, map, ◌∙◌, sym, ap}
+use Rattle.std.specs.Prelude.{is_some}
 use Rattle.tb_tree.specs.View.{view}
 use Rattle.tb_value.specs.SeeKind.{kind_of}
+use Rattle.tb_json.specs.Promise.Lists.{each}
+use Rattle.tb_request.specs.Lent.{run_view}
 use Rattle.tb_request.specs.Promise.Written.{run_of}
-use Rattle.tb_json.proofs.LentValues.{Taking-start, Taking-next, Taking-stops, Taking-end, each_taken}
+use Rattle.tb_request.proofs.Parts.{all_seen, none_seen, run_seen}
 use Rattle.tb_request.proofs.runs.runs_of.Goals as goal
 
-pub loop-item-init : goal.loop-item-init
-loop-item-init c = rw c.in_ok-runs.ensures.items (Taking-start view (run_of (kind_of c.args.dtype.now)) _)
-
-pub returns-in_default-run_of : goal.returns-in_default-run_of
-returns-in_default-run_of c =
-    Taking-stops view (run_of (kind_of c.args.dtype.now)) _ _ _ _ _ c.in-Some-item.ensures.steps.0 (sym c.in_default-run_of.ensures) c.loop-item.invariant
-    ∙ sym (each_taken (run_of (kind_of c.args.dtype.now)) _ _ _ (ap (option_map (λ v. map view v.items)) (sym c.in-Some.is) ∙ c.in_ok-items.ensures) c.into_iter-item-iterator.ensures.into_iter_gives.0)
-
-pub loop-item-preserved : goal.loop-item-preserved
-loop-item-preserved c =
-    rw (c.in_ok-push.ensures.items, map_push)
-    (Taking-next view (run_of (kind_of c.args.dtype.now)) _ _ _ _ _ _ c.in-Some-item.ensures.steps.0 (sym c.in-Some-run_of.ensures) c.loop-item.invariant)
+pub returns-then-not-are_runs : goal.returns-then-not-are_runs
+returns-then-not-are_runs c =
+    let t = kind_of c.args.dtype.now in
+    let tested = ap (λ vs. is_some (each (run_of t) (map view vs))) (sym c.deref.ensures.value) ∙ sym c.are_runs.ensures ∙ c.if-not-are_runs.true in
+    none_seen (run_of t) (view c.args.value) c.in-Some.runs.items (ap (option_map (λ v. map view v.items)) (sym c.in-Some.is) ∙ c.in_ok-runs.ensures) tested
 
 pub returns : goal.returns
 returns c =
-    Taking-end view (run_of (kind_of c.args.dtype.now)) _ _ _ (sym c.loop-item.item-iterator.rest.ok.0 ∙ c.in-None.ensures.steps.0) c.loop-item.invariant
-    ∙ sym (each_taken (run_of (kind_of c.args.dtype.now)) _ _ _ (ap (option_map (λ v. map view v.items)) (sym c.in-Some.is) ∙ c.in_ok-items.ensures) c.into_iter-item-iterator.ensures.into_iter_gives.0)
+    let t = kind_of c.args.dtype.now in
+    let tested = ap (λ vs. is_some (each (run_of t) (map view vs))) (sym c.deref.ensures.value) ∙ sym c.are_runs.ensures ∙ c.if-not-are_runs.false in
+    all_seen (run_of t) run_view (run_seen t) (view c.args.value) c.in-Some.runs.items (ap (option_map (λ v. map view v.items)) (sym c.in-Some.is) ∙ c.in_ok-runs.ensures) tested

@@ -6,5 +6,5 @@ use Rattle.tb_request.specs.Lent.{run_view}
 use Rattle.tb_request.proofs.values.are_of.Given as goal
 
 -- the runs that are left decide
-abbrev pub invariant-loop-value : goal.invariant-loop-value
-invariant-loop-value l = is_some (each (run_in (kind_of l.dtype)) (map run_view l.runs)) ≡ is_some (each (run_in (kind_of l.dtype)) (map run_view (drop l.value-index l.runs)))
+abbrev pub invariant-loop-run : goal.invariant-loop-run
+invariant-loop-run l = is_some (each (run_in (kind_of l.dtype)) (map run_view l.runs)) ≡ is_some (each (run_in (kind_of l.dtype)) (map run_view (drop l.run-index l.runs)))

@@ -1,7 +1,7 @@
 use Rattle.std.proofs.Common.{◌≡◌, get_or, pos, rules, arith, to_z, of_z, w64, ◌∷◌, [], ◌++◌, map, take, sym, ap, ◌∙◌}
 use Rattle.std.proofs.lemmas.Int.{ints}
 use Rattle.std.proofs.lemmas.List.{map_push, map_more}
-use Rattle.tb_tree.specs.View.{view, whole}
+use Rattle.tb_tree.specs.View.{whole}
 use Rattle.tb_tree.proofs.value.spread.Goals as goal
 
 pub loop-number-preserved : goal.loop-number-preserved

@@ -1,0 +1,9 @@
+use Rattle.tb_value.specs.SeeKind.{kind_of}
+use Rattle.tb_json.proofs.StoredTexts.{string_alone}
+use Rattle.tb_json.proofs.read_arrays.StringChunkReadChunk.read_runs.Goals as goal
+
+pub returns-clause-values : goal.returns-clause-values
+returns-clause-values c = rw (string_alone (kind_of c.args.dtype.now) c.requires.stored) c.run_texts.ensures.values
+
+pub returns-clause-typed : goal.returns-clause-typed
+returns-clause-typed c = rw (string_alone (kind_of c.args.dtype.now) c.requires.stored) c.run_texts.ensures.typed
