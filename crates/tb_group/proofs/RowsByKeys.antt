@@ -26,7 +26,7 @@ either false true f g = g refl
 either false false f g = refl
 
 -- where Nulls match, each row has a key
-has_each : (fs : List Datum) → has_key (λ _. true) fs ≡ true
+pub has_each : (fs : List Datum) → has_key (λ _. true) fs ≡ true
 has_each [] = refl
 has_each (null ∷ fs) = has_each fs
 has_each (f ∷ fs) = has_each fs

@@ -1,5 +1,5 @@
 -- What holds of groupings.
-use Rattle.std.specs.Prelude.{◌≡◌, ◌<◌, ℕ, pos, true}
+use Rattle.std.specs.Prelude.{◌≡◌, ℕ, pos, true}
 use Rattle.std.specs.List.{All}
 use Rattle.tb_value.specs.Promise.SameKind.{is_key}
 use Rattle.tb_frame.specs.Promise.Table.{TableColumn, IsTable, height}

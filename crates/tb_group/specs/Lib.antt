@@ -1,3 +1,12 @@
+pub mod Asked
+pub mod Codes
+pub mod CodeLaws
 pub mod Laws
+pub mod Once
+pub mod Order
+pub mod Parts
 pub mod Promise
+pub mod Served
+pub mod Trace
+pub mod Whole
 pub mod Worked
