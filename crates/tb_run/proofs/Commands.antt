@@ -8,13 +8,16 @@ use Rattle.tb_pivot.specs.Promise.Refusal.{pivot_refusal}
 use Rattle.tb_delta_request.specs.Promise.Answers.{delta_refusal}
 use Rattle.tb_delta_request.specs.Promise.Answers as kept
 use Rattle.tb_delta_request.specs.Promise.Reading.{delta_request_of}
+use Rattle.tb_group.specs.Promise.Refusal.{group_refusal}
+use Rattle.tb_group_request.specs.Promise.Answers.{asked_groups}
+use Rattle.tb_group_request.specs.Promise.Reading.{group_request_of}
 use Rattle.tb_plan_request.specs.Promise.Reading.{plan_request_of}
 use Rattle.tb_request.specs.declared.request.Reason.{Reason}
 use Rattle.tb_request.specs.Promise.Reading.{asked_request, join_request_of, unpivot_request_of, dummies_request_of, pivot_request_of}
-use Rattle.tb_run.specs.declared.words.Command.TheVariants.{Join, Unpivot, Dummies, Pivot, Plan, Delta}
+use Rattle.tb_run.specs.declared.words.Command.TheVariants.{Join, Unpivot, Dummies, Pivot, Plan, Delta, Group}
 use Rattle.tb_run.specs.Due.{DoneFor}
-use Rattle.tb_run.specs.Promise.Headline.{JoinDone, UnpivotDone, DummiesDone, PivotDone, PlanDone, DeltaDone}
-use Rattle.tb_run.specs.Promise.Requests.{Request, join, unpivot, dummies, pivot, plan, delta, as_request, by_delta, by_operation, asked_dummies, asked_long, asked_wide, request_of, refusal_of, IsAnswerText}
+use Rattle.tb_run.specs.Promise.Headline.{JoinDone, UnpivotDone, DummiesDone, PivotDone, PlanDone, DeltaDone, GroupDone}
+use Rattle.tb_run.specs.Promise.Requests.{Request, join, unpivot, dummies, pivot, plan, delta, group, as_request, by_delta, by_operation, asked_dummies, asked_long, asked_wide, request_of, refusal_of, IsAnswerText}
 use Rattle.std.specs.Io.KnownBytes.{Appends}
 
 -- nothing refuses where no operation does
@@ -127,4 +130,19 @@ delta_is_done left left' written written' d =
       table = answer.0;
       is_answer = answer.1;
       wrote = subst (Appends written written') answer.2 d.wrote;
+    }
+
+pub group_is_done : (left left' written written' : Option (List ℕ)) → DoneFor Group left left' written written' → GroupDone left left' written written'
+unfolding request_of refusal_of IsAnswerText
+group_is_done left left' written written' d =
+    let (r, is_read, is) = read_as group (group_request_of d.bytes) d.request d.is_request in
+    record {
+      bytes = d.bytes;
+      told = d.told;
+      short = d.short;
+      read = d.read;
+      request = r;
+      is_request = is_read;
+      valid = none_refuses (group_refusal (asked_groups r)) (subst (λ q. refusal_of q ≡ None) is d.valid);
+      wrote = subst (Appends written written') (subst (λ q. IsAnswerText q d.text) is d.is_answer) d.wrote;
     }

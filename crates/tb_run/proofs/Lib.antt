@@ -11,3 +11,4 @@ mod SampleRows
 mod TwoForms
 mod Planned
 mod Kept
+mod GroupedTables

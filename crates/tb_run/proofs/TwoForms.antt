@@ -6,8 +6,9 @@ use Rattle.tb_request.specs.Forms.{IsPastRows}
 use Rattle.tb_request.proofs.TwoForms.{join_same, unpivot_same, dummies_same, pivot_same}
 use Rattle.tb_plan_request.proofs.TwoForms.{plan_same}
 use Rattle.tb_delta_request.proofs.TwoForms.{delta_same}
-use Rattle.tb_run.specs.Promise.Requests.{Request, as_request, join, unpivot, dummies, pivot, plan, delta}
-use Rattle.tb_run.specs.declared.words.Command.TheVariants.{Join, Unpivot, Dummies, Pivot, Plan, Delta}
+use Rattle.tb_group_request.proofs.TwoForms.{group_same}
+use Rattle.tb_run.specs.Promise.Requests.{Request, as_request, join, unpivot, dummies, pivot, plan, delta, group}
+use Rattle.tb_run.specs.declared.words.Command.TheVariants.{Join, Unpivot, Dummies, Pivot, Plan, Delta, Group}
 use Rattle.tb_run.specs.Forms.{TwoForms}
 
 past : {A : Type 0} (f : A → Request) (r : Result A Reason) → IsPastRows (as_request f r) → IsPastRows r
@@ -21,3 +22,4 @@ two_forms Dummies d e p = ap (as_request dummies) (dummies_same d e (past dummie
 two_forms Pivot d e p = ap (as_request pivot) (pivot_same d e (past pivot _ p))
 two_forms Plan d e p = ap (as_request plan) (plan_same d e (past plan _ p))
 two_forms Delta d e p = ap (as_request delta) (delta_same d e (past delta _ p))
+two_forms Group d e p = ap (as_request group) (group_same d e (past group _ p))

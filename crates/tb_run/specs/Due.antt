@@ -11,6 +11,8 @@ use Rattle.tb_pairs.specs.Promise.Trace.{trace_told}
 use Rattle.tb_pairs.specs.declared.trace.JoinTrace.{JoinTrace}
 use Rattle.tb_plan.specs.declared.faults.PlanFault.{PlanFault}
 use Rattle.tb_plan.specs.declared.faults.PlanFault.TheVariants as plan_fault
+use Rattle.tb_group_request.specs.Promise.Texts.{grouped_text}
+use Rattle.tb_group_request.specs.declared.grouping.GroupedTable.{GroupedTable}
 use Rattle.tb_delta_request.specs.declared.keeping.KeptFault.{KeptFault}
 use Rattle.tb_delta_request.specs.Lent.{refusal_view}
 use Rattle.tb_delta_request.specs.Promise.Answers as kept
@@ -38,6 +40,12 @@ IsOutcome (Err e) s text = IsRefusal e s text
 abbrev pub IsJoinOutcome : Bool → Result (List Col × JoinTrace) PolarsError → Status → List ℕ → Type 0
 IsJoinOutcome asks (Ok joined) s text = (s ≡ status.Done) × (text ≡ joined_text asks (table_of joined.0) (trace_told joined.1))
 IsJoinOutcome asks (Err e) s text = IsRefusal e s text
+
+-- and of a table that was grouped, with its trace where that is told
+abbrev pub IsGroupOutcome : Result GroupedTable PolarsError → Status → List ℕ → Type 0
+IsGroupOutcome (Ok made) s text =
+    (s ≡ status.Done) × (text ≡ grouped_text (table_of made.table) made.trace)
+IsGroupOutcome (Err e) s text = IsRefusal e s text
 
 -- a fault of a plan that is not want of memory, with its text
 abbrev pub IsPlanRefusal : PlanFault → Status → List ℕ → Type 0

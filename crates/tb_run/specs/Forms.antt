@@ -7,11 +7,12 @@ use Rattle.tb_request.specs.Forms.{expand, IsPastRows}
 use Rattle.tb_request.specs.Promise.Reading.{join_in, unpivot_in, dummies_in, pivot_in}
 use Rattle.tb_request.specs.Promise.Written.{format_of}
 use Rattle.tb_delta_request.specs.Promise.Reading.{delta_in}
+use Rattle.tb_group_request.specs.Promise.Reading.{group_in}
 use Rattle.tb_plan_request.specs.Forms.{expand_plan}
 use Rattle.tb_plan_request.specs.Promise.Reading.{plan_in}
-use Rattle.tb_run.specs.Promise.Requests.{Request, as_request, join, unpivot, dummies, pivot, plan, delta}
+use Rattle.tb_run.specs.Promise.Requests.{Request, as_request, join, unpivot, dummies, pivot, plan, delta, group}
 use Rattle.tb_run.specs.declared.words.Command.{Command}
-use Rattle.tb_run.specs.declared.words.Command.TheVariants.{Join, Unpivot, Dummies, Pivot, Plan, Delta}
+use Rattle.tb_run.specs.declared.words.Command.TheVariants.{Join, Unpivot, Dummies, Pivot, Plan, Delta, Group}
 
 -- the request of the command that a JSON value is, or the first reason why it is none
 abbrev pub value_request : Command → Data → Result Request Reason
@@ -21,6 +22,7 @@ value_request Dummies d = as_request dummies (dummies_in d)
 value_request Pivot d = as_request pivot (pivot_in d)
 value_request Plan d = as_request plan (plan_in d)
 value_request Delta d = as_request delta (delta_in d)
+value_request Group d = as_request group (group_in d)
 
 -- a request of the command in format 1, by where its tables stand
 abbrev pub expand_for : Command → Data → Data

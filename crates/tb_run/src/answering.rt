@@ -6,6 +6,7 @@ ghost use Rattle.tb_run.specs.Promise.Due.{DueOfReading, DueOfRequest, bad_reque
 ghost use Rattle.tb_run.specs.Due.{IsJoinOutcome, IsOutcome, IsRefusal};
 ghost use Rattle.tb_run.specs.Promise.Requests.{request_of, as_request, join, unpivot, dummies, pivot};
 
+use crate::grouping::answer_group;
 use crate::keeping::answer_delta;
 use crate::planning::answer_plan;
 use crate::status::Status;
@@ -48,6 +49,7 @@ pub(crate) fn answer_request(
         Command::Pivot => answer_pivot(alloc, bytes),
         Command::Plan => answer_plan(rt, alloc, bytes),
         Command::Delta => answer_delta(rt, alloc, bytes),
+        Command::Group => answer_group(rt, alloc, bytes),
     }
 }
 
@@ -209,9 +211,9 @@ fn answered(alloc: Global, outcome: PolarsResult<DataFrame>) -> Result<Answer, O
     }
 }
 
-// Want of memory is handed on, and any other refusal has a text.
+/// Want of memory is handed on, and any other refusal has a text.
 #[tactic(auto, unfolding(crate::specs::Promise::Requests::text_of_refusal))]
-fn refused(alloc: Global, error: PolarsError) -> Result<Answer, OutOfMemory>
+pub(crate) fn refused(alloc: Global, error: PolarsError) -> Result<Answer, OutOfMemory>
     ensures { IfOk result (λ a. IsRefusal error a.status (string_bytes a.text)) }
 {
     match error {

@@ -2,12 +2,12 @@
 ghost use Rattle.std.specs.Prelude.{◌≡◌, List, ℕ, Option};
 ghost use Rattle.tb_run.specs.declared.status.Status.{Status};
 ghost use Rattle.tb_run.specs.declared.status.Status.TheVariants.{Done};
-ghost use Rattle.tb_run.specs.declared.words.Command.TheVariants.{Join, Unpivot, Dummies, Pivot, Plan, Delta};
+ghost use Rattle.tb_run.specs.declared.words.Command.TheVariants.{Join, Unpivot, Dummies, Pivot, Plan, Delta, Group};
 ghost use Rattle.tb_run.specs.declared.words.Form.{Form};
 ghost use Rattle.tb_run.specs.Promise.Due.{due, IsDue};
 ghost use Rattle.tb_run.specs.Due.{DoneFor, IsValid};
 ghost use Rattle.tb_run.specs.Forms.{TwoForms};
-ghost use Rattle.tb_run.specs.Promise.Headline.{JoinDone, UnpivotDone, DummiesDone, PivotDone, PlanDone, DeltaDone};
+ghost use Rattle.tb_run.specs.Promise.Headline.{JoinDone, UnpivotDone, DummiesDone, PivotDone, PlanDone, DeltaDone, GroupDone};
 
 pub use tb_json::laws::text_one_to_one;
 use tb_value::PlSmallStr;
@@ -62,4 +62,10 @@ pub fn plan_is_done()
 pub fn delta_is_done()
     ensures { (left left' written written' : Option (List ℕ))
         → DoneFor Delta left left' written written' → DeltaDone left left' written written' }
+{}
+
+/// What `run` says of 0 under the word `group`, in the words of a table that is grouped.
+pub fn group_is_done()
+    ensures { (left left' written written' : Option (List ℕ))
+        → DoneFor Group left left' written written' → GroupDone left left' written written' }
 {}

@@ -3,6 +3,7 @@
 
 mod answering;
 mod ends;
+mod grouping;
 mod keeping;
 pub mod laws;
 mod memory;

@@ -1,43 +1,27 @@
 //! The text of a joined table, with how the join went.
-ghost use Rattle.std.specs.Prelude.{◌≡◌, false, IfOk, map, string_bytes};
-ghost use Rattle.serde_json.specs.Data.{array};
-ghost use Rattle.serde_json.specs.View.{items_of, items_view, view};
+ghost use Rattle.std.specs.Prelude.{◌≡◌, false, IfOk, string_bytes};
+ghost use Rattle.serde_json.specs.View.{view};
 ghost use Rattle.serde_json.specs.Written.{has_float};
 ghost use Rattle.tb_frame.specs.Promise.Table.{table_of};
 ghost use Rattle.tb_json.specs.Promise.Text.{traced_text_of};
 ghost use Rattle.tb_sorted.specs.Promise.Listed.{sizes_of};
 ghost use Rattle.tb_pairs.specs.Promise.Trace.{hash, merge, trace_told};
-ghost use Rattle.tb_run.specs.Promise.Traces.{count_data, trace_data};
+ghost use Rattle.tb_run.specs.Promise.Traces.{trace_data};
 
 use serde_json::{Value, json};
 use std::alloc::Global;
 use tb_build::Built;
 use tb_frame::DataFrame;
+use tb_group_request::counts_value;
 use tb_join::JoinTrace;
 use tb_json::traced_text_of;
 use tb_merge::Merged;
 use tb_value::OutOfMemory;
 
-fn size_values(alloc: Global, sizes: &[usize]) -> Result<Vec<Value>, OutOfMemory>
-    ensures { IfOk result (λ v. items_view v.items ≡ items_of (map count_data sizes.now)) }
-{
-    let mut values = Vec::with_capacity(alloc, sizes.len())?;
-    for size in sizes {
-        values.push(Value::from(*size))?;
-    }
-    Ok(values)
-}
-
-fn sizes_value(alloc: Global, sizes: &[usize]) -> Result<Value, OutOfMemory>
-    ensures { IfOk result (λ v. view v ≡ array (items_of (map count_data sizes.now))) }
-{
-    Ok(Value::Array(size_values(alloc, sizes)?))
-}
-
 fn built_value(alloc: Global, built: &Built) -> Result<Value, OutOfMemory>
     ensures { IfOk result (λ v. view v ≡ trace_data (hash built.now)) }
 {
-    let sizes = sizes_value(alloc, built.sizes())?;
+    let sizes = counts_value(alloc, built.sizes())?;
     Ok(json!(in alloc; {
         "left_built": built.left_built(),
         "parts": built.parts(),

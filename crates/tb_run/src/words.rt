@@ -16,6 +16,7 @@ pub enum Command {
     Pivot,
     Plan,
     Delta,
+    Group,
 }
 
 /// What the words ask for.
@@ -85,6 +86,7 @@ fn command_of(word: &str) -> Option<Command>
         "pivot" => Some(Command::Pivot),
         "plan" => Some(Command::Plan),
         "delta" => Some(Command::Delta),
+        "group" => Some(Command::Group),
         _ => None,
     }
 }

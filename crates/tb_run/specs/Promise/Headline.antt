@@ -14,6 +14,11 @@ use Rattle.tb_plan_request.specs.Promise.Reading.{PlanRequest, plan_request_of, 
 use Rattle.tb_delta_request.specs.Promise.Answers.{IsEndOf, delta_refusal, told_by}
 use Rattle.tb_delta_request.specs.Promise.Reading.{DeltaRequest, delta_request_of}
 use Rattle.tb_delta_request.specs.Promise.Texts.{kept_text}
+use Rattle.tb_group.specs.Promise.Group.{group_table}
+use Rattle.tb_group.specs.Promise.Refusal.{group_refusal}
+use Rattle.tb_group_request.specs.Promise.Answers.{asked_groups, trace_told}
+use Rattle.tb_group_request.specs.Promise.Reading.{GroupRequest, group_request_of}
+use Rattle.tb_group_request.specs.Promise.Texts.{grouped_text}
 use Rattle.tb_json.specs.Promise.Text.{text_of}
 use Rattle.tb_run.specs.Promise.Due.{Tells}
 use Rattle.tb_run.specs.Promise.Requests.{asked_dummies, asked_long, asked_wide}
@@ -90,3 +95,16 @@ pub record DeltaDone (left left' written written' : Option (List ℕ)) : Type 0 
   pub table : Table
   pub is_answer : IsEndOf request table
   pub wrote : Appends written written' (kept_text table (told_by request))
+
+-- The same for a table that is grouped: the text of the grouped table was written, with its trace where that
+-- is asked.
+pub record GroupDone (left left' written written' : Option (List ℕ)) : Type 0 where
+  pub bytes : List ℕ
+  pub told : Tells left bytes
+  pub short : length bytes ≤ MAX_INPUT
+  pub read : Consumes left left' bytes
+  pub request : GroupRequest
+  pub is_request : group_request_of bytes ≡ Ok request
+  pub valid : group_refusal (asked_groups request) ≡ None
+  pub wrote : Appends written written'
+      (grouped_text (group_table (asked_groups request)) (trace_told request))

@@ -22,11 +22,15 @@ use Rattle.tb_delta_request.specs.Promise.Answers as kept
 use Rattle.tb_delta_request.specs.Promise.Reading.{DeltaRequest, delta_request_of}
 use Rattle.tb_delta_request.specs.Promise.Texts.{IsKeptText}
 use Rattle.tb_delta_request.specs.Promise.Texts as kept_texts
+use Rattle.tb_group.specs.Promise.Refusal.{group_refusal}
+use Rattle.tb_group_request.specs.Promise.Answers.{asked_groups}
+use Rattle.tb_group_request.specs.Promise.Reading.{GroupRequest, group_request_of}
+use Rattle.tb_group_request.specs.Promise.Texts.{answer_text}
 use Rattle.tb_json.specs.Promise.Text.{text_of}
 use Rattle.tb_json.specs.Promise.Text as texts
 use Rattle.tb_run.specs.Promise.Traces.{due_trace, joined_text}
 use Rattle.tb_run.specs.declared.words.Command.{Command}
-use Rattle.tb_run.specs.declared.words.Command.TheVariants.{Join, Unpivot, Dummies, Pivot, Plan, Delta}
+use Rattle.tb_run.specs.declared.words.Command.TheVariants.{Join, Unpivot, Dummies, Pivot, Plan, Delta, Group}
 
 -- a request of each command
 pub data Request : Type 0 where
@@ -36,6 +40,7 @@ pub data Request : Type 0 where
   pivot : PivotRequest → Request
   plan : PlanRequest → Request
   delta : DeltaRequest → Request
+  group : GroupRequest → Request
 
 -- what is read is a request of one command
 abbrev pub as_request : {A : Type 0} → (A → Request) → Result A Reason → Result Request Reason
@@ -50,6 +55,7 @@ request_of Dummies bytes = as_request dummies (dummies_request_of bytes)
 request_of Pivot bytes = as_request pivot (pivot_request_of bytes)
 request_of Plan bytes = as_request plan (plan_request_of bytes)
 request_of Delta bytes = as_request delta (delta_request_of bytes)
+request_of Group bytes = as_request group (group_request_of bytes)
 
 -- what is asked of the table that is made long
 abbrev pub asked_long : UnpivotRequest → long.Request
@@ -82,6 +88,7 @@ refusal_of (dummies r) = option_map by_operation (dummies_refusal (asked_dummies
 refusal_of (pivot r) = option_map by_operation (pivot_refusal (asked_wide r))
 refusal_of (plan r) = option_map by_plan (error_of (plan_answer r))
 refusal_of (delta r) = option_map by_delta (delta_refusal r)
+refusal_of (group r) = option_map by_operation (group_refusal (asked_groups r))
 
 -- the text is that of some answer to the request
 unfoldable pub IsAnswerText : Request → List ℕ → Type 0
@@ -91,6 +98,7 @@ IsAnswerText (dummies r) text = text ≡ text_of (dummies_table (asked_dummies r
 IsAnswerText (pivot r) text = text ≡ text_of (pivot_table (asked_wide r))
 IsAnswerText (plan r) text = (t : Table) × (plan_answer r ≡ Ok t) × (text ≡ text_of t)
 IsAnswerText (delta r) text = IsKeptText r text
+IsAnswerText (group r) text = text ≡ answer_text r
 
 unfoldable pub text_of_refusal : Refusal → List ℕ
 text_of_refusal (by_operation error) = texts.text_of_refusal error

@@ -5,7 +5,7 @@ use Rattle.std.specs.List.{list_all}
 use Rattle.std.specs.Str.{bytes_eq}
 use Rattle.std.specs.Str.Parse.{digits_value}
 use Rattle.tb_run.specs.declared.words.Command.{Command}
-use Rattle.tb_run.specs.declared.words.Command.TheVariants.{Join, Unpivot, Dummies, Pivot, Plan, Delta}
+use Rattle.tb_run.specs.declared.words.Command.TheVariants.{Join, Unpivot, Dummies, Pivot, Plan, Delta, Group}
 use Rattle.tb_run.specs.declared.words.Form.{Form}
 use Rattle.tb_run.specs.declared.words.Form.TheVariants.{Reads, Sample, Unknown}
 
@@ -18,6 +18,7 @@ command word =
     else if bytes_eq word (codes "pivot") then Some Pivot
     else if bytes_eq word (codes "plan") then Some Plan
     else if bytes_eq word (codes "delta") then Some Delta
+    else if bytes_eq word (codes "group") then Some Group
     else None
 
 abbrev pub form_of_one : Option Command → Form

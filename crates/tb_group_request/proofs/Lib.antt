@@ -1,0 +1,4 @@
+mod Asked
+mod SameShape
+pub mod CountTexts
+pub mod TwoForms
