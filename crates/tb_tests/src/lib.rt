@@ -8,11 +8,15 @@ mod columns;
 #[cfg(test)]
 mod counted;
 #[cfg(test)]
+mod group_parts;
+#[cfg(test)]
 mod grouping;
 #[cfg(test)]
 mod merging;
 #[cfg(test)]
 mod pivoting;
+#[cfg(test)]
+mod reshaping;
 #[cfg(test)]
 mod row_keys;
 #[cfg(test)]

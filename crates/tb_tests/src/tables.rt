@@ -5,14 +5,36 @@ use std::test::Fail;
 use tb_frame::{DataFrame, Flags, JoinArgs, JoinNulls, JoinType, coalesce_columns};
 use tb_store::{AnyValue, Column, DataType, NullableIdxSize, PlSmallStr};
 
-pub(crate) fn column(alloc: Global, name: &str, ints: &[i128]) -> Result<Column, Fail> {
-    let mut chunk = Vec::new(alloc);
-    for int in ints {
-        chunk.push(AnyValue::Int(*int))?;
-    }
+// A column of one chunk.
+pub(crate) fn column_of(
+    alloc: Global,
+    name: &str,
+    dtype: DataType,
+    chunk: Vec<AnyValue>,
+) -> Result<Column, Fail> {
     let mut chunks = Vec::new(alloc);
     chunks.push(chunk)?;
-    Ok(Column::from_chunks(alloc, name, DataType::Int64, chunks)?)
+    Ok(Column::from_chunks(alloc, name, dtype, chunks)?)
+}
+
+pub(crate) fn values(alloc: Global, ints: &[i128]) -> Result<Vec<AnyValue>, Fail> {
+    let mut values = Vec::new(alloc);
+    for int in ints {
+        values.push(AnyValue::Int(*int))?;
+    }
+    Ok(values)
+}
+
+pub(crate) fn column(alloc: Global, name: &str, ints: &[i128]) -> Result<Column, Fail> {
+    column_of(alloc, name, DataType::Int64, values(alloc, ints)?)
+}
+
+pub(crate) fn texts(alloc: Global, name: &str, texts: &[&str]) -> Result<Column, Fail> {
+    let mut chunk = Vec::new(alloc);
+    for text in texts {
+        chunk.push(AnyValue::String(PlSmallStr::from_str(alloc, text)?))?;
+    }
+    column_of(alloc, name, DataType::String, chunk)
 }
 
 // A table of a column `k` and another.
@@ -23,10 +45,16 @@ fn keyed(alloc: Global, name: &str, keys: &[i128], ints: &[i128]) -> Result<Data
     Ok(DataFrame::new(alloc, columns)?)
 }
 
-pub(crate) fn name(alloc: Global, text: &str) -> Result<Vec<PlSmallStr>, Fail> {
+pub(crate) fn names(alloc: Global, texts: &[&str]) -> Result<Vec<PlSmallStr>, Fail> {
     let mut names = Vec::new(alloc);
-    names.push(PlSmallStr::from_str(alloc, text)?)?;
+    for text in texts {
+        names.push(PlSmallStr::from_str(alloc, text)?)?;
+    }
     Ok(names)
+}
+
+pub(crate) fn name(alloc: Global, text: &str) -> Result<Vec<PlSmallStr>, Fail> {
+    names(alloc, &[text])
 }
 
 // Whether a table is its column `k` beside its others.
