@@ -1,0 +1,23 @@
+"""Verified joins and reshaping for tables of Python, by the programs of Muigratu.
+
+    import muigratu
+    orders = [{"order": 1, "customer": 20, "price": 12.5}, {"order": 2, "customer": 10, "price": 4.0}]
+    names = [{"id": 10, "name": "Ada"}, {"id": 20, "name": "Grace"}]
+    print(muigratu.join(orders, names, left_on="customer", right_on="id", how="left"))
+
+Tables are lists of dicts, dicts of lists, and frames of pandas or polars; an answer has the form of the (left) table that it is made of. The program
+`tb_app` does the work: its place is given by `program`, by the environment variable MUIGRATU (the file, or a folder with it), or by the path.
+"""
+from . import errors
+from .errors import CannotCross, MuigratuError, Refused
+from .grouping import group_by
+from .joining import join
+from .keeping import Insert, Kept, KeptJoin, Remove, delta
+from .planning import plan, table
+from .program import Program, find_program
+from .reshaping import get_dummies, pivot, to_dummies, unpivot
+
+__all__ = [
+    "CannotCross", "Insert", "Kept", "KeptJoin", "MuigratuError", "Program", "Refused", "Remove", "delta", "errors", "find_program",
+    "get_dummies", "group_by", "join", "pivot", "plan", "table", "to_dummies", "unpivot",
+]
