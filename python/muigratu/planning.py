@@ -10,8 +10,8 @@ from .crossing import Column, Crossing, column
 from .errors import CannotCross
 from .joining import Names, arguments, check_word, keys_of
 from .program import Place, Program, program_of
-from .reshaping import AGGREGATES
-from .tables import Table, listed, table_of
+from .reshaping import pivot_arguments
+from .tables import Table, table_of
 from .values import KINDS, Values, can_cross, values_of, widened
 
 _UNSET = object()
@@ -60,17 +60,7 @@ class Node:
         separator: Optional[str] = None,
     ) -> Pivoted:
         """What a plan may end in; see `muigratu.pivot`."""
-        if aggregate_function is not None:
-            check_word("aggregate_function", aggregate_function, list(AGGREGATES))
-        said = {
-            "on": listed(on),
-            "index": None if index is None else listed(index),
-            "values": None if values is None else listed(values),
-            "agg": None if aggregate_function is None else AGGREGATES[aggregate_function],
-            "sort_columns": sort_columns or None,
-            "separator": separator,
-        }
-        return Pivoted(self, {member: value for member, value in said.items() if value is not None})
+        return Pivoted(self, pivot_arguments(on, index, values, aggregate_function, sort_columns, separator))
 
     def written(self) -> dict[str, Any]:
         """The node as a request has it."""

@@ -1,7 +1,7 @@
 """Tables made long and wide, and values marked."""
 from __future__ import annotations
 
-from typing import Any, Optional, TypeVar, Union
+from typing import Any, Container, Optional, TypeVar, Union
 
 from .crossing import Column, Crossing, column
 from .errors import CannotCross
@@ -20,6 +20,35 @@ BLIND = ("first", "last", "count")
 
 def _members(**members: Any) -> dict[str, Any]:
     return {name: value for name, value in members.items() if value is not None}
+
+
+def pivot_arguments(
+    on: Names,
+    index: Optional[Names],
+    values: Optional[Names],
+    aggregate_function: Optional[str],
+    sort_columns: bool,
+    separator: Optional[str],
+) -> dict[str, Any]:
+    """The arguments of a pivot, as a request has them."""
+    if aggregate_function is not None:
+        check_word("aggregate_function", aggregate_function, list(AGGREGATES))
+    return _members(
+        on=listed(on),
+        index=None if index is None else listed(index),
+        values=None if values is None else listed(values),
+        agg=None if aggregate_function is None else AGGREGATES[aggregate_function],
+        separator=separator,
+        sort_columns=sort_columns or None,
+    )
+
+
+def _columns(crossing: Crossing, table: Table, seen: Container[str]) -> list[Column]:
+    """All columns; those of these names cross by their values."""
+    return [
+        crossing.by_values(table, place, values_of(f"column {name!r}", table.cells(place))) if name in seen else crossing.by_rows(table, place)
+        for place, name in enumerate(table.names)
+    ]
 
 
 def unpivot(
@@ -74,17 +103,8 @@ def pivot(
     aggregate_function: "first", "last", "sum", "min", "max" or "count" ("len"); None raises `ManyInGroup` where a cell has several rows.
         With None, "first" and "last" the cells of `values` may be anything.
     """
-    if aggregate_function is not None:
-        check_word("aggregate_function", aggregate_function, list(AGGREGATES))
+    request = pivot_arguments(on, index, values, aggregate_function, sort_columns, separator)
     read = table_of(table, "the table")
-    request = _members(
-        on=listed(on),
-        index=None if index is None else listed(index),
-        values=None if values is None else listed(values),
-        agg=None if aggregate_function is None else AGGREGATES[aggregate_function],
-        separator=separator,
-        sort_columns=sort_columns or None,
-    )
     crossing = Crossing(read)
     request["table"] = {"columns": _pivot_columns(crossing, read, request)}
     return crossing.table(program_of(program).ask("pivot", request), kept=_index_of(read, request))
@@ -103,10 +123,7 @@ def _pivot_columns(crossing: Crossing, table: Table, request: dict[str, Any]) ->
     seen = {*request["on"], *_index_of(table, request)}
     if request.get("agg", "first") not in BLIND:
         seen.update(request.get("values", table.names))
-    return [
-        crossing.by_values(table, place, values_of(f"column {name!r}", table.cells(place))) if name in seen else crossing.by_rows(table, place)
-        for place, name in enumerate(table.names)
-    ]
+    return _columns(crossing, table, seen)
 
 
 def to_dummies(
@@ -124,10 +141,7 @@ def to_dummies(
     read = table_of(table, "the table")
     replaced = read.names if columns is None else listed(columns)
     crossing = Crossing(read)
-    crossed = [
-        crossing.by_values(read, place, values_of(f"column {name!r}", read.cells(place))) if name in replaced else crossing.by_rows(read, place)
-        for place, name in enumerate(read.names)
-    ]
+    crossed = _columns(crossing, read, replaced)
     request = _members(columns=None if columns is None else listed(columns), separator=separator, drop_first=drop_first or None)
     return crossing.table(program_of(program).ask("dummies", {"table": {"columns": crossed}} | request))
 
