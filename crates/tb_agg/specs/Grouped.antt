@@ -19,7 +19,8 @@ values_of numbers vs k = map (row_value vs) (rows_of numbers (length vs) k)
 
 -- one value for each group
 abbrev pub aggregates : Aggregate → Groups → List Datum → List Datum
-aggregates agg g vs = map (λ k. aggregate agg (values_of g.numbers.items vs k)) (row_numbers (length g.firsts.items))
+aggregates agg g vs =
+    map (λ k. aggregate agg (values_of g.numbers.items vs k)) (row_numbers (length g.firsts.items))
 
 -- each of n rows has the number of a group
 pub record AreGroupsOf (n : ℕ) (g : Groups) : Type 0 where

@@ -13,7 +13,8 @@ use Rattle.tb_agg.specs.declared.table.Aggregate.{Aggregate}
 use Rattle.tb_agg.specs.declared.table.Aggregate.TheVariants.{Min, Max}
 
 -- one of the values, present, and none that is present comes before it in the order
-pub record IsFirstPresent (order : Datum → Datum → Ordering) (vs : List Datum) (v : Datum) : Type 0 where
+pub record IsFirstPresent (order : Datum → Datum → Ordering) (vs : List Datum)
+    (v : Datum) : Type 0 where
   pub one : Contains vs v
   pub present : is_present v ≡ true
   pub none_before : All (λ w. is_present w ≡ true → is_lt (order w v) ≡ false) vs

@@ -20,14 +20,16 @@ use Rattle.tb_agg.specs.Promise.Outcome.{are_in_range}
 
 -- the exact sum of each group
 abbrev pub totals : Groups → List Datum → List ℤ
-totals g vs = map (λ k. total (values_of g.numbers.items vs k)) (row_numbers (length g.firsts.items))
+totals g vs =
+    map (λ k. total (values_of g.numbers.items vs k)) (row_numbers (length g.firsts.items))
 
 -- why there is no column of the aggregate: it does not take the type, or a sum is outside the range of its type
 abbrev pub type_cause : Aggregate → Col → Option PolarsError
 type_cause agg c = when (is_none (result_kind agg c.kind)) (InvalidOperation (AggType c.name))
 
 abbrev pub range_cause : Aggregate → Groups → Col → Option PolarsError
-range_cause Sum g c = when (not (are_in_range (sum_kind c.kind) (totals g (values c)))) (ComputeError (SumRange c.name))
+range_cause Sum g c = when (not (are_in_range (sum_kind c.kind) (totals g (values c))))
+    (ComputeError (SumRange c.name))
 range_cause _ g c = None
 
 abbrev pub agg_refusal : Aggregate → Groups → Col → Option PolarsError

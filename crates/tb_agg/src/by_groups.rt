@@ -28,7 +28,9 @@ fn picked(
     pick: Pick,
 ) -> Result<Series, OutOfMemory>
     requires { AreGroupsOf (length (values column.now)) groups.now }
-    ensures { IfOk result (IsOf column.now.name column.now.kind (aggregates (aggregate_of pick) groups.now (values column.now) ∷ []) Not) }
+    ensures { IfOk result
+        (IsOf column.now.name column.now.kind
+        (aggregates (aggregate_of pick) groups.now (values column.now) ∷ []) Not) }
 {
     let rows = picked_rows(alloc, column, groups, pick)?;
     column.take_opt(alloc, &rows)

@@ -15,7 +15,10 @@ pub(crate) fn counts_of(
 ) -> Result<Vec<IdxSize>, OutOfMemory>
     requires groups { AreGroupsOf rows groups.now }
     requires few { rows ≤ MAX_ROWS }
-    ensures { IfOk result (λ v. v.items ≡ map (λ k. length (rows_of groups.now.numbers.items rows k)) (row_numbers (length groups.now.firsts.items))) }
+    ensures { IfOk result (λ v.
+        v.items
+        ≡ map (λ k. length (rows_of groups.now.numbers.items rows k))
+        (row_numbers (length groups.now.firsts.items))) }
 {
     let mut counts = vec![in alloc; 0; groups.firsts().len()]?;
     for row in 0..rows {

@@ -30,7 +30,8 @@ pub(crate) fn count_values(alloc: Global, counts: &[IdxSize]) -> Result<Vec<AnyV
 
 // The sum, where it is a number of the type.
 fn sum_value(dtype: &DataType, sum: Running) -> Option<AnyValue>
-    ensures { MatchOption result (¬ HasType (kind_of dtype.now) (int (sum_so_far sum))) (λ v. (datum v ≡ int (sum_so_far sum)) × HasType (kind_of dtype.now) (datum v)) }
+    ensures { MatchOption result (¬ HasType (kind_of dtype.now) (int (sum_so_far sum))) (λ v.
+        (datum v ≡ int (sum_so_far sum)) × HasType (kind_of dtype.now) (datum v)) }
 {
     match exact(sum) {
         Some(sum) if dtype.is_of_ref(ValueRef::Int(sum)) => Some(AnyValue::Int(sum)),

@@ -12,7 +12,9 @@ pub record KeyRows (K : Type 0) : Type 0 where
 module _ {K : Type 0} (eq : K → K → Bool) where
   -- the table has an entry at just the keys that stand in the list: the names of their rows, ascending by row
   pub record AreKeyRows (name : ℕ → ℕ) (keys : List (Option K)) (t : KeyRows K) : Type 0 where
-    pub entries : (k : K) → lookup (eq k) t.entries ≡ entry_unless_empty (map name (rows_with eq true keys (Some k) (length keys)))
+    pub entries : (k : K)
+        → lookup (eq k) t.entries
+        ≡ entry_unless_empty (map name (rows_with eq true keys (Some k) (length keys)))
     pub bare : t.bare ≡ map name (rows_with eq true keys None (length keys))
 
   -- a key has two rows

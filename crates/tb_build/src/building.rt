@@ -22,8 +22,10 @@ fn one_table<K: KeyCode, L: KeyList<K>>(
     list: &L,
 ) -> Result<(Vec<PackedTable<K>>, Vec<usize>), OutOfMemory>
     requires { length (L.list list.now) ≤ MAX_ROWS }
-    ensures tables { IfOk result (λ r. ArePartTables K.eq K.code (L.list list.now) 1 (map (key_rows K.eq) r.0.items)) }
-    ensures sizes { IfOk result (λ r. r.1.items ≡ part_sizes (codes_of K.code (L.list list.now)) 1) }
+    ensures tables { IfOk result (λ r.
+        ArePartTables K.eq K.code (L.list list.now) 1 (map (key_rows K.eq) r.0.items)) }
+    ensures sizes { IfOk result (λ r.
+        r.1.items ≡ part_sizes (codes_of K.code (L.list list.now)) 1) }
 {
     let len = list.len();
     let table = packed_table(alloc, list, len)?;
@@ -78,7 +80,8 @@ fn part_table<K: KeyCode>(
 ) -> Result<PackedTable<K>, OutOfMemory>
     requires within { All (λ (v : PiecesView K). part < length v.pieces) portions.now }
     requires few { length (items_of_part portions.now part) ≤ MAX_ROWS }
-    ensures { IfOk result (λ t. IsTableOfItems K.eq (items_of_part portions.now part) (bare_of_part portions.now part) t) }
+    ensures { IfOk result (λ t.
+        IsTableOfItems K.eq (items_of_part portions.now part) (bare_of_part portions.now part) t) }
 {
     let items = part_items(alloc, portions, part, room)?;
     let bare = part_bare_rows(alloc, portions, part)?;
@@ -112,7 +115,8 @@ impl<K: JoinKey> Parts for Building<'_, K> {
 // How many rows each table has.
 fn sizes<K: KeyCode>(alloc: Global, tables: &[PackedTable<K>]) -> Result<Vec<usize>, OutOfMemory>
     requires { All (λ (t : PackedView K). length t.keys + length t.bare ≤ MAX_ROWS) tables.now }
-    ensures { IfOk result (λ v. v.items ≡ map (λ (t : PackedView K). length t.keys + length t.bare) tables.now) }
+    ensures { IfOk result (λ v.
+        v.items ≡ map (λ (t : PackedView K). length t.keys + length t.bare) tables.now) }
 {
     let mut sizes = Vec::with_capacity(alloc, tables.len())?;
     for table in tables {
@@ -130,9 +134,13 @@ fn part_tables<K: JoinKey, L: JoinList<K>, G: Gate>(
     gate: &G,
 ) -> Result<(Vec<PackedTable<K>>, Vec<usize>), OutOfMemory>
     requires { length (L.list list.now) ≤ MAX_ROWS }
-    ensures tables { IfOk result (λ r. ArePartTables K.eq K.code (L.list list.now) exec.now.partitions (map (key_rows K.eq) r.0.items)) }
-    ensures sizes { IfOk result (λ r. r.1.items ≡ part_sizes (codes_of K.code (L.list list.now)) exec.now.partitions) }
-    ensures let_in { IfOk result (λ _. (part : ℕ) → part < exec.now.partitions → G.lets_in gate.now part) }
+    ensures tables { IfOk result (λ r.
+        ArePartTables K.eq K.code (L.list list.now) exec.now.partitions
+        (map (key_rows K.eq) r.0.items)) }
+    ensures sizes { IfOk result (λ r.
+        r.1.items ≡ part_sizes (codes_of K.code (L.list list.now)) exec.now.partitions) }
+    ensures let_in { IfOk result (λ _.
+        (part : ℕ) → part < exec.now.partitions → G.lets_in gate.now part) }
 {
     let parts = exec.partitions();
     let portions = scattered_pieces(rt, alloc, list, exec, gate)?;
@@ -157,9 +165,16 @@ pub fn planned_tables<K: JoinKey, L: JoinList<K>, G: Gate>(
 ) -> Result<(Vec<PackedTable<K>>, Vec<usize>), OutOfMemory>
     requires { length (L.list list.now) ≤ MAX_ROWS }
     ensures count { IfOk result (λ r. (1 ≤ length r.0.items) × (length r.0.items ≤ 1024)) }
-    ensures tables { IfOk result (λ r. ArePartTables K.eq K.code (L.list list.now) (part_count exec.now (length (L.list list.now))) (map (key_rows K.eq) r.0.items)) }
-    ensures sizes { IfOk result (λ r. r.1.items ≡ part_sizes (codes_of K.code (L.list list.now)) (part_count exec.now (length (L.list list.now)))) }
-    ensures let_in { IfOk result (λ _. (part : ℕ) → part < part_count exec.now (length (L.list list.now)) → G.lets_in gate.now part) }
+    ensures tables { IfOk result (λ r.
+        ArePartTables K.eq K.code (L.list list.now) (part_count exec.now (length (L.list list.now)))
+        (map (key_rows K.eq) r.0.items)) }
+    ensures sizes { IfOk result (λ r.
+        r.1.items
+        ≡ part_sizes (codes_of K.code (L.list list.now))
+        (part_count exec.now (length (L.list list.now)))) }
+    ensures let_in { IfOk result (λ _.
+        (part : ℕ) → part < part_count exec.now (length (L.list list.now))
+        → G.lets_in gate.now part) }
 {
     if list.len() < exec.small() as usize || exec.partitions() == 1 {
         gate.enter(0);

@@ -58,7 +58,8 @@ impl<K: KeyCode> Tables<K> {
     /// The rows of the keys that are equal to that of a row in a list, as `rows` gives them.
     pub fn rows_of<L: KeyList<K>>(&self, list: &L, row: usize) -> &[IdxSize]
         requires { row < length (L.list list.now) }
-        ensures value { result.now ≡ rows_at K.eq K.code self.now (slice_index_or (L.list list.now) row None) }
+        ensures value { result.now
+            ≡ rows_at K.eq K.code self.now (slice_index_or (L.list list.now) row None) }
         ensures below { All (λ row. row < self.now.built_len) result.now }
     {
         self.rows(list.key(row))
@@ -93,7 +94,8 @@ impl<K: KeyCode> Tables<K> {
     pub fn built_len(&self) -> usize
         ensures value { result ≡ self.now.built_len }
         ensures small { result ≤ MAX_ROWS }
-        ensures rows { (key : Option K) → All (λ row. row < result) (rows_at K.eq K.code self.now key) }
+        ensures rows { (key : Option K)
+            → All (λ row. row < result) (rows_at K.eq K.code self.now key) }
     {
         self.built_len
     }
@@ -130,7 +132,8 @@ fn asked<K: KeyCode, L: KeyList<K>>(
     requires few { length parts.now < 2 ^ 32 }
     requires within { first + len ≤ length (L.list list.now) }
     requires small { length (L.list list.now) ≤ MAX_ROWS }
-    ensures { IfOk result (λ v. AreAsked K.eq K.code parts.now (L.list list.now) first len v.items) }
+    ensures { IfOk result (λ v.
+        AreAsked K.eq K.code parts.now (L.list list.now) first len v.items) }
 {
     let many = parts.len() as u32;
     let mut asked = Vec::with_capacity(alloc, len)?;
@@ -151,8 +154,10 @@ fn bounds<K: KeyCode>(
     asked: &[(Option<K>, u32, u32)],
 ) -> Result<Vec<(u32, u32)>, OutOfMemory>
     requires low { All (λ (a : Option K × ℕ × ℕ). a.1 < length parts.now) asked.now }
-    requires within { All (λ (a : Option K × ℕ × ℕ). a.2 + 1 < length (starts_at parts.now a.1)) asked.now }
-    ensures { IfOk result (λ v. v.items ≡ map (λ (a : Option K × ℕ × ℕ). cut_of (starts_at parts.now a.1) a.2) asked.now) }
+    requires within { All (λ (a : Option K × ℕ × ℕ). a.2 + 1 < length (starts_at parts.now a.1))
+        asked.now }
+    ensures { IfOk result (λ v.
+        v.items ≡ map (λ (a : Option K × ℕ × ℕ). cut_of (starts_at parts.now a.1) a.2) asked.now) }
 {
     let mut bounds = Vec::with_capacity(alloc, asked.len())?;
     for ask in asked {
@@ -171,7 +176,10 @@ fn rows_asked<'a, K: KeyCode>(
     requires some { 1 ≤ length parts.now }
     requires asked { (listed : Option K) × IsAsked K.eq K.code parts.now listed asked }
     requires bounds { bounds ≡ cut_of (starts_at parts.now asked.1) asked.2 }
-    ensures { (len : ℕ) (side : Bool) → result.now ≡ rows_at K.eq K.code (tables_view (map (key_rows K.eq) parts.now) len join_nulls side) asked.0 }
+    ensures { (len : ℕ) (side : Bool)
+        → result.now
+        ≡ rows_at K.eq K.code (tables_view (map (key_rows K.eq) parts.now) len join_nulls side)
+        asked.0 }
 {
     match asked.0 {
         Some(key) => parts[asked.1 as usize].rows_between(bounds, &key),
@@ -235,7 +243,8 @@ pub fn listed_tables<K: JoinKey, L: JoinList<K>, G: Gate>(
     ensures parted { IfOk result (λ r. IsParted K.eq K.code (L.list list.now) r.1.parts r.0) }
     ensures nulls { IfOk result (λ r. r.0.join_nulls ≡ join_nulls) }
     ensures side { IfOk result (λ r. r.0.left_built ≡ left_built) }
-    ensures built { IfOk result (λ r. r.1 ≡ plan_of exec.now left_built (codes_of K.code (L.list list.now))) }
+    ensures built { IfOk result (λ r.
+        r.1 ≡ plan_of exec.now left_built (codes_of K.code (L.list list.now))) }
     ensures let_in { IfOk result (λ r. (part : ℕ) → part < r.1.parts → G.lets_in gate.now part) }
 {
     let (parts, sizes) = planned_tables(rt, alloc, list, exec, gate)?;
@@ -269,7 +278,8 @@ pub fn build_tables<K: JoinKey, G: Gate>(
     ensures parted { IfOk result (λ r. IsParted K.eq K.code keys.now r.1.parts r.0) }
     ensures nulls { IfOk result (λ r. r.0.join_nulls ≡ join_nulls) }
     ensures side { IfOk result (λ r. r.0.left_built ≡ left_built) }
-    ensures built { IfOk result (λ r. r.1 ≡ plan_of exec.now left_built (codes_of K.code keys.now)) }
+    ensures built { IfOk result (λ r.
+        r.1 ≡ plan_of exec.now left_built (codes_of K.code keys.now)) }
     ensures let_in { IfOk result (λ r. (part : ℕ) → part < r.1.parts → G.lets_in gate.now part) }
 {
     let list = SliceKeys { keys };

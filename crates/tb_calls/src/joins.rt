@@ -29,9 +29,14 @@ pub fn joined_traced(
     call: JoinCall,
     exec: &Exec,
 ) -> PolarsResult<(DataFrame, JoinTrace)>
-    ensures settles { Settles result (join_refusal (joined_of call (table_of left) (table_of right))) }
-    ensures answer { IfOk result (λ r. IsAnswer (joined_of call (table_of left) (table_of right)) (table_of r.0)) }
-    ensures traced { IfOk result (λ r. IsTraced exec.now (named_trace left right call.left_on.items call.right_on.items call.args exec.now) r.1) }
+    ensures settles { Settles result
+        (join_refusal (joined_of call (table_of left) (table_of right))) }
+    ensures answer { IfOk result (λ r.
+        IsAnswer (joined_of call (table_of left) (table_of right)) (table_of r.0)) }
+    ensures traced { IfOk result (λ r.
+        IsTraced exec.now
+        (named_trace left right call.left_on.items call.right_on.items call.args exec.now)
+        r.1) }
 {
     let JoinCall {
         left_on,
@@ -56,8 +61,10 @@ pub fn joined(
     call: JoinCall,
     exec: &Exec,
 ) -> PolarsResult<DataFrame>
-    ensures settles { Settles result (join_refusal (joined_of call (table_of left) (table_of right))) }
-    ensures answer { IfOk result (λ t. IsAnswer (joined_of call (table_of left) (table_of right)) (table_of t)) }
+    ensures settles { Settles result
+        (join_refusal (joined_of call (table_of left) (table_of right))) }
+    ensures answer { IfOk result (λ t.
+        IsAnswer (joined_of call (table_of left) (table_of right)) (table_of t)) }
 {
     let JoinCall {
         left_on,

@@ -56,7 +56,8 @@ pub fn made_long(alloc: Global, table: DataFrame, call: UnpivotArgsIR) -> Polars
 /// Those of `_to_dummies`.
 pub fn with_dummies(alloc: Global, table: DataFrame, call: DummiesCall) -> PolarsResult<DataFrame>
     ensures settles { Settles result (dummies_refusal (marked_of call (table_of table))) }
-    ensures table { IfOk result (λ t. table_of t ≡ dummies_table (marked_of call (table_of table))) }
+    ensures table { IfOk result (λ t.
+        table_of t ≡ dummies_table (marked_of call (table_of table))) }
 {
     let columns = names_given(&call.columns);
     let separator = text_given(&call.separator);

@@ -19,4 +19,5 @@ part_to n offset len = clamped_place n (place_of n offset +ℤ pos len)
 
 -- that part of a list of n
 abbrev pub window : {X : Type 0} → ℕ → ℤ → ℕ → List X → List X
-window n offset len xs = take (part_to n offset len - part_from n offset) (drop (part_from n offset) xs)
+window n offset len xs =
+    take (part_to n offset len - part_from n offset) (drop (part_from n offset) xs)

@@ -38,7 +38,8 @@ pub trait Cell: Drop {
 
     /// Appends cells of the same values. After a refusal some of them may stand there.
     fn append_copies(alloc: Global, to: &mut Vec<Self>, from: &[Self]) -> Result<(), OutOfMemory>
-        ensures ok { OnOk result (map shows to.new.items ≡ map shows to.old.items ++ map shows from.now) }
+        ensures ok { OnOk result
+            (map shows to.new.items ≡ map shows to.old.items ++ map shows from.now) }
         ensures few { length to.new.items ≤ length to.old.items + length from.now };
 }
 

@@ -136,7 +136,8 @@ impl<N: Cell> Cells<N> {
         requires room { length self.old + count < 2 ^ 64 }
         requires within { from + count ≤ length other.now }
         ensures count { IfOk result (λ n. n ≤ count) }
-        ensures exact { IfOk result (λ n. n ≡ (if list_any is_none self.old then 0 else block_len other.now from count)) }
+        ensures exact { IfOk result (λ n.
+            n ≡ (if list_any is_none self.old then 0 else block_len other.now from count)) }
         ensures shown { IfOk result (λ n. map (or_null N.shows) self.new
             ≡ map (or_null N.shows) self.old ++ take n (drop from (map (or_null N.shows) other.now))) }
     {
@@ -180,7 +181,8 @@ pub fn cell_of<N: Cell>(alloc: Global, value: &AnyValue) -> Result<Option<N>, Ou
 
 /// A cell of the same value, none where there is none.
 pub fn copy_cell<N: Cell>(alloc: Global, cell: Option<&N>) -> Result<Option<N>, OutOfMemory>
-    ensures { IfOk result (λ c. or_null N.shows c ≡ or_null N.shows (option_map (λ x. x.now) cell.entry)) }
+    ensures { IfOk result (λ c.
+        or_null N.shows c ≡ or_null N.shows (option_map (λ x. x.now) cell.entry)) }
 {
     match cell {
         None => Ok(None),

@@ -15,7 +15,8 @@ fn clamped(place: i128, len: usize) -> usize
 /// Where the part of `array_len` values starts that an offset and a length name, and how many values
 /// it has. A negative offset counts from the end. Places outside the values are left out.
 pub fn slice_offsets(offset: i64, len: usize, array_len: usize) -> (usize, usize)
-    ensures exact { result ≡ (part_from array_len offset, part_to array_len offset len - part_from array_len offset) }
+    ensures exact { result
+        ≡ (part_from array_len offset, part_to array_len offset len - part_from array_len offset) }
     ensures within { result.0 + result.1 ≤ array_len }
 {
     let start = if offset < 0 {

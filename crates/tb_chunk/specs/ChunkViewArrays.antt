@@ -17,8 +17,10 @@ chunk_view_arrays (UInt8Type v) = map (λ c. no_views c) v.items
 chunk_view_arrays (UInt16Type v) = map (λ c. no_views c) v.items
 chunk_view_arrays (UInt32Type v) = map (λ c. no_views c) v.items
 chunk_view_arrays (UInt64Type v) = map (λ c. no_views c) v.items
-chunk_view_arrays (StringType v) = map (λ c. record { views = c.inner.views.items; buffers = c.inner.buffers.items }) v.items
-chunk_view_arrays (BinaryType v) = map (λ c. record { views = c.inner.views.items; buffers = c.inner.buffers.items }) v.items
+chunk_view_arrays (StringType v) =
+    map (λ c. record { views = c.inner.views.items; buffers = c.inner.buffers.items }) v.items
+chunk_view_arrays (BinaryType v) =
+    map (λ c. record { views = c.inner.views.items; buffers = c.inner.buffers.items }) v.items
 chunk_view_arrays (ListType v) = map (λ c. no_views c.inner) v.items
 chunk_view_arrays (StructType v) = map (λ c. no_views c.inner) v.items
 chunk_view_arrays (Null v) = map (λ n. record { views = replicate n None; buffers = [] }) v.items

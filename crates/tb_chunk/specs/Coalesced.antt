@@ -14,6 +14,9 @@ coalesced_values xs ys = map (λ (p : Datum × Datum). or_else p.0 p.1) (zip xs 
 -- their views, over the buffers of both: that of the second where the first value is Null
 abbrev pub coalesced_view_array : List Datum → ViewArray → ViewArray → ViewArray
 coalesced_view_array vs a b = record {
-  views = map (λ (p : Datum × (Option View × Option View)). if is_null p.0 then moved_view (length a.buffers) p.1.1 else p.1.0) (zip vs (zip a.views b.views));
+  views = map
+      (λ (p : Datum × (Option View × Option View)).
+      if is_null p.0 then moved_view (length a.buffers) p.1.1 else p.1.0)
+      (zip vs (zip a.views b.views));
   buffers = a.buffers ++ b.buffers;
 }

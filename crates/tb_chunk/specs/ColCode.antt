@@ -12,16 +12,22 @@ use Rattle.tb_view.specs.Promise.ViewArrays.{ViewArray}
 use Rattle.tb_view.specs.declared.view.View.{View}
 
 abbrev pub coded_view : Coded View
-coded_view = code_by (ℕ × List ℕ) (coded× coded_ℕ (coded_list coded_ℕ)) (λ v. (v.length, v.rest)) (λ p. record { length = p.0; rest = p.1 }) (λ _. refl)
+coded_view = code_by (ℕ × List ℕ) (coded× coded_ℕ (coded_list coded_ℕ)) (λ v. (v.length, v.rest))
+    (λ p. record { length = p.0; rest = p.1 }) (λ _. refl)
 
 abbrev pub coded_view_array : Coded ViewArray
 coded_view_array =
-    code_by (List (Option View) × List (List ℕ)) (coded× (coded_list (coded_option coded_view)) (coded_list (coded_list coded_ℕ)))
+    code_by (List (Option View) × List (List ℕ))
+    (coded× (coded_list (coded_option coded_view)) (coded_list (coded_list coded_ℕ)))
     (λ r. (r.views, r.buffers)) (λ p. record { views = p.0; buffers = p.1 }) (λ _. refl)
 
 abbrev pub coded_col : Coded Col
 coded_col =
     code_by (List ℕ × (Kind × (List (List Datum) × (IsSorted × List ViewArray))))
-    (coded× (coded_list coded_ℕ) (coded× coded_kind (coded× (coded_list coded_data) (coded× sorted.the_row.coded (coded_list coded_view_array)))))
+    (coded× (coded_list coded_ℕ)
+    (coded× coded_kind
+    (coded× (coded_list coded_data)
+    (coded× sorted.the_row.coded (coded_list coded_view_array)))))
     (λ c. (c.name, (c.kind, (c.chunks, (c.flag, c.view_arrays)))))
-    (λ p. record { name = p.0; kind = p.1.0; chunks = p.1.1.0; flag = p.1.1.1.0; view_arrays = p.1.1.1.1 }) (λ _. refl)
+    (λ p. record { name = p.0; kind = p.1.0; chunks = p.1.1.0; flag = p.1.1.1.0; view_arrays = p.1.1.1.1 })
+    (λ _. refl)

@@ -9,4 +9,5 @@ lent_columns rs = map (λ (r : Bor Col). r.now) rs
 
 -- the same values in one chunk, with the buffers of all
 abbrev pub in_one_chunk : Col → Col
-in_one_chunk c = record c { chunks = values c ∷ []; view_arrays = joined_view_array c.view_arrays ∷ [] }
+in_one_chunk c =
+    record c { chunks = values c ∷ []; view_arrays = joined_view_array c.view_arrays ∷ [] }

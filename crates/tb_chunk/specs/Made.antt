@@ -26,7 +26,8 @@ lists_of vs = map (λ v. data_of v.items) vs
 
 -- a column of this name, type, chunks and flag, wherever its texts stand
 abbrev pub IsOf : List ℕ → Kind → List (List Datum) → IsSorted → Col → Type 0
-IsOf n t cs f c = c ≡ record { name = n; kind = t; chunks = cs; flag = f; view_arrays = c.view_arrays }
+IsOf n t cs f c =
+    c ≡ record { name = n; kind = t; chunks = cs; flag = f; view_arrays = c.view_arrays }
 
 abbrev pub IsTyped : Kind → List (List Datum) → Type 0
 IsTyped t cs = All (HasType t) (concatenation cs)
@@ -47,7 +48,10 @@ IsMade n t cs (Ok c) = IsTyped t cs × IsShort cs × (c ≡ fresh_column n t (at
 IsMade n t cs (Err e) = IsRefused (IsTyped t cs) (IsShort cs) e
 
 -- the same of typed chunks, which are stored by the type s, with their runs
-abbrev pub IsArranged : List ℕ → Kind → Kind → List (List Datum) → List ViewArray → Result Col PolarsError → Type 0
+abbrev pub IsArranged : List ℕ → Kind → Kind → List (List Datum) → List ViewArray
+    → Result Col PolarsError → Type 0
 IsArranged n t s cs rs (Ok c) = (s ≡ physical t) × IsTyped t cs × IsShort cs
-    × (c ≡ record { name = n; kind = t; chunks = at_least_one cs; flag = Not; view_arrays = or_one_view_array rs })
+    × (c
+    ≡ record
+    { name = n; kind = t; chunks = at_least_one cs; flag = Not; view_arrays = or_one_view_array rs })
 IsArranged n t s cs rs (Err e) = IsRefused ((s ≡ physical t) × IsTyped t cs) (IsShort cs) e

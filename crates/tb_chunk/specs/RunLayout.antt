@@ -39,7 +39,9 @@ AreFewRows rs = total_of rs ≤ MAX_ROWS
 -- the chunk of these runs for a column of type t, stored by the type s, or why there is none
 abbrev pub IsChunkOfRuns : Kind → Kind → List (Datum × ℕ) → Result Chunks PolarsError → Type 0
 IsChunkOfRuns t s rs (Ok c) = AreRunsOf t rs × AreFewRows rs
-    × (chunk_lists c ≡ expansion rs ∷ []) × (storage c ≡ s) × (chunk_view_arrays c ≡ laid_runs (text_runs rs) ∷ [])
+    × (chunk_lists c ≡ expansion rs ∷ [])
+    × (storage c ≡ s)
+    × (chunk_view_arrays c ≡ laid_runs (text_runs rs) ∷ [])
 IsChunkOfRuns t s rs (Err e) = IsRefused (AreRunsOf t rs) (AreFewRows rs) e
 
 -- the column of this name and type and these runs, in one chunk, or why there is none

@@ -23,7 +23,8 @@ chunk_lists (UInt64Type v) = map (λ c. map (or_null (λ n. int (pos n))) c) v.i
 chunk_lists (StringType v) = map (λ c. map (or_null string) (texts_of c)) v.items
 chunk_lists (BinaryType v) = map (λ c. map (or_null binary) (bytes_of c)) v.items
 chunk_lists (ListType v) = map (λ c. map (or_null (λ vs. list (items_of vs))) c.inner) v.items
-chunk_lists (StructType v) = map (λ c. map (or_null (λ s. struct (items_of s.values))) c.inner) v.items
+chunk_lists (StructType v) =
+    map (λ c. map (or_null (λ s. struct (items_of s.values))) c.inner) v.items
 chunk_lists (Null v) = map (λ n. replicate n null) v.items
 
 -- the physical type that the variant is for

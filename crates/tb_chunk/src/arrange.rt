@@ -77,8 +77,11 @@ fn have_few_buffers<C: Chunk>(chunks: &[C]) -> bool
 
 // No chunk at all makes one empty chunk.
 fn or_empty<C: Chunk>(alloc: Global, chunks: Vec<C>) -> Result<Vec<C>, OutOfMemory>
-    ensures shown { IfOk result (λ v. map C.shown v.items ≡ at_least_one (map C.shown chunks.items)) }
-    ensures view_arrays { IfOk result (λ v. view_arrays_of C.views C.buffers v.items ≡ or_one_view_array (view_arrays_of C.views C.buffers chunks.items)) }
+    ensures shown { IfOk result (λ v.
+        map C.shown v.items ≡ at_least_one (map C.shown chunks.items)) }
+    ensures view_arrays { IfOk result (λ v.
+        view_arrays_of C.views C.buffers v.items
+        ≡ or_one_view_array (view_arrays_of C.views C.buffers chunks.items)) }
 {
     if !chunks.is_empty() {
         return Ok(chunks);
@@ -95,7 +98,8 @@ fn within_limits<C: Stored>(
     chunks: Vec<C>,
 ) -> PolarsResult<Chunks>
     requires typed { IsTyped (kind_of _dtype.now) (map C.shown chunks.items) }
-    ensures made { AreMade (kind_of _dtype.now) C.kind (map C.shown chunks.items) (view_arrays_of C.views C.buffers chunks.items) result }
+    ensures made { AreMade (kind_of _dtype.now) C.kind (map C.shown chunks.items)
+        (view_arrays_of C.views C.buffers chunks.items) result }
     ensures few { IfOk result (λ c. HaveFewBuffers (chunk_view_arrays c)) }
 {
     if !are_few(&chunks) {
@@ -109,7 +113,8 @@ fn within_limits<C: Stored>(
 
 // The same of values that may be of another type.
 fn checked<C: Stored>(alloc: Global, dtype: &DataType, chunks: Vec<C>) -> PolarsResult<Chunks>
-    ensures made { AreMade (kind_of dtype.now) C.kind (map C.shown chunks.items) (view_arrays_of C.views C.buffers chunks.items) result }
+    ensures made { AreMade (kind_of dtype.now) C.kind (map C.shown chunks.items)
+        (view_arrays_of C.views C.buffers chunks.items) result }
     ensures few { IfOk result (λ c. HaveFewBuffers (chunk_view_arrays c)) }
 {
     if !are_chunks_of(dtype, &chunks) {
@@ -157,7 +162,8 @@ impl Chunks {
     /// than `MAX_ROWS`, and OutOfMemory, which stands for 2^32 buffers or more too.
     pub fn checked(self, alloc: Global, dtype: &DataType) -> PolarsResult<Chunks>
         ensures few { IfOk result (λ c. HaveFewBuffers (chunk_view_arrays c)) }
-        ensures made { AreMade (kind_of dtype.now) (storage self) (chunk_lists self) (chunk_view_arrays self) result }
+        ensures made { AreMade (kind_of dtype.now) (storage self) (chunk_lists self)
+            (chunk_view_arrays self) result }
     {
         for_chunks!(self, arrays => checked(alloc, dtype, arrays))
     }
@@ -170,7 +176,8 @@ impl Chunks {
     pub fn within_limits(self, alloc: Global, dtype: &DataType) -> PolarsResult<Chunks>
         requires typed { IsTyped (kind_of dtype.now) (chunk_lists self) }
         ensures few { IfOk result (λ c. HaveFewBuffers (chunk_view_arrays c)) }
-        ensures made { AreMade (kind_of dtype.now) (storage self) (chunk_lists self) (chunk_view_arrays self) result }
+        ensures made { AreMade (kind_of dtype.now) (storage self) (chunk_lists self)
+            (chunk_view_arrays self) result }
     {
         for_chunks!(self, arrays => within_limits(alloc, dtype, arrays))
     }

@@ -86,7 +86,8 @@ impl StringBuilder {
 
     /// Appends a text, or a Null where there is none.
     pub fn push_option(&mut self, alloc: Global, text: Option<&str>) -> Result<(), OutOfMemory>
-        ensures ok { OnOk result (self.new ≡ with_row self.old (option_map (λ t. t.now) text.entry)) }
+        ensures ok { OnOk result
+            (self.new ≡ with_row self.old (option_map (λ t. t.now) text.entry)) }
         ensures err { OnErr result (self.new ≡ self.old) }
     {
         match text {
@@ -99,7 +100,8 @@ impl StringBuilder {
     pub fn finish(self, alloc: Global) -> Result<StringChunk, OutOfMemory>
         ensures texts { IfOk result (λ c. texts_of c ≡ self.rows) }
         ensures views { IfOk result (λ c. ⟦<StringChunk as Chunk>⟧.views c ≡ self.views) }
-        ensures buffers { IfOk result (λ c. ⟦<StringChunk as Chunk>⟧.buffers c ≡ buffers_of self.laid) }
+        ensures buffers { IfOk result (λ c.
+            ⟦<StringChunk as Chunk>⟧.buffers c ≡ buffers_of self.laid) }
         ensures typed { All (HasType kind.string) (map (or_null string) self.rows) }
     {
         let StringBuilder { inner } = self;
@@ -182,7 +184,8 @@ impl BinaryBuilder {
 
     /// Appends bytes, or a Null where there is none.
     pub fn push_option(&mut self, alloc: Global, bytes: Option<&[u8]>) -> Result<(), OutOfMemory>
-        ensures ok { OnOk result (self.new ≡ with_row self.old (option_map (λ t. t.now) bytes.entry)) }
+        ensures ok { OnOk result
+            (self.new ≡ with_row self.old (option_map (λ t. t.now) bytes.entry)) }
         ensures err { OnErr result (self.new ≡ self.old) }
     {
         match bytes {
@@ -195,7 +198,8 @@ impl BinaryBuilder {
     pub fn finish(self, alloc: Global) -> Result<BinaryChunk, OutOfMemory>
         ensures bytes { IfOk result (λ c. bytes_of c ≡ self.rows) }
         ensures views { IfOk result (λ c. ⟦<BinaryChunk as Chunk>⟧.views c ≡ self.views) }
-        ensures buffers { IfOk result (λ c. ⟦<BinaryChunk as Chunk>⟧.buffers c ≡ buffers_of self.laid) }
+        ensures buffers { IfOk result (λ c.
+            ⟦<BinaryChunk as Chunk>⟧.buffers c ≡ buffers_of self.laid) }
         ensures typed { All (HasType kind.binary) (map (or_null binary) self.rows) }
     {
         let BinaryBuilder { inner } = self;

@@ -92,7 +92,8 @@ pub trait Chunk: Drop {
         requires none { shown self.old ≡ [] }
         ensures shown { shown self.new ≡ [] }
         ensures views { views self.new ≡ views self.old }
-        ensures buffers { OnOk result (buffers self.new ≡ buffers self.old ++ take 1 (drop number (buffers other.now))) }
+        ensures buffers { OnOk result
+            (buffers self.new ≡ buffers self.old ++ take 1 (drop number (buffers other.now))) }
         ensures err { OnErr result (buffers self.new ≡ buffers self.old) };
 
     /// Appends rows of another chunk from `from` on, as many of so many as can be taken as one block, and tells how many these
@@ -107,9 +108,12 @@ pub trait Chunk: Drop {
         requires room { length (shown self.old) + count < 2 ^ 63 }
         requires within { from + count ≤ length (shown other.now) }
         ensures count { IfOk result (λ n. n ≤ count) }
-        ensures shown { IfOk result (λ n. shown self.new ≡ shown self.old ++ take n (drop from (shown other.now))) }
-        ensures views { IfOk result (λ n. views self.new ≡ views self.old ++ take n (drop from (views other.now))) }
-        ensures none { IfOk result (λ n. All (λ v. v ≡ None) (take n (drop from (views other.now)))) }
+        ensures shown { IfOk result (λ n.
+            shown self.new ≡ shown self.old ++ take n (drop from (shown other.now))) }
+        ensures views { IfOk result (λ n.
+            views self.new ≡ views self.old ++ take n (drop from (views other.now))) }
+        ensures none { IfOk result (λ n.
+            All (λ v. v ≡ None) (take n (drop from (views other.now)))) }
         ensures buffers { buffers self.new ≡ buffers self.old };
 
     /// Appends a row of another chunk. The buffer of its long text stands in this one under `number`, and under its own
@@ -123,9 +127,14 @@ pub trait Chunk: Drop {
     ) -> Result<(), OutOfMemory>
         requires room { length (shown self.old) < 2 ^ 63 }
         requires row { row < length (shown other.now) }
-        requires held { StandsAt (buffers self.old) number (buffers other.now) (get_or (views other.now) row None) }
-        ensures ok { OnOk result (shown self.new ≡ shown self.old ++ get_or (shown other.now) row null ∷ []) }
-        ensures views { OnOk result (views self.new ≡ views self.old ++ view_at_number number (get_or (views other.now) row None) ∷ []) }
+        requires held { StandsAt (buffers self.old) number (buffers other.now)
+            (get_or (views other.now) row None) }
+        ensures ok { OnOk result
+            (shown self.new ≡ shown self.old ++ get_or (shown other.now) row null ∷ []) }
+        ensures views { OnOk result
+            (views self.new
+            ≡ views self.old ++ view_at_number number (get_or (views other.now) row None)
+            ∷ []) }
         ensures err { OnErr result (shown self.new ≡ shown self.old) }
         ensures err_views { OnErr result (views self.new ≡ views self.old) }
         ensures buffers { buffers self.new ≡ buffers self.old };

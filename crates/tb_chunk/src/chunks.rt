@@ -84,7 +84,8 @@ pub fn value_in<C: Chunk>(chunks: &[C], row: usize) -> ValueRef<'_>
 /// Equal chunks.
 pub fn copy_chunks<C: Chunk>(alloc: Global, chunks: &[C]) -> Result<Vec<C>, OutOfMemory>
     ensures shown { IfOk result (λ v. map C.shown v.items ≡ map C.shown chunks.now) }
-    ensures view_arrays { IfOk result (λ v. view_arrays_of C.views C.buffers v.items ≡ view_arrays_of C.views C.buffers chunks.now) }
+    ensures view_arrays { IfOk result (λ v.
+        view_arrays_of C.views C.buffers v.items ≡ view_arrays_of C.views C.buffers chunks.now) }
 {
     let mut copies = Vec::with_capacity(alloc, chunks.len())?;
     for chunk in chunks {
@@ -97,7 +98,8 @@ pub fn copy_chunks<C: Chunk>(alloc: Global, chunks: &[C]) -> Result<Vec<C>, OutO
 fn copied<C: Stored>(alloc: Global, chunks: &[C]) -> Result<Chunks, OutOfMemory>
     ensures lists { IfOk result (λ c. chunk_lists c ≡ map C.shown chunks.now) }
     ensures storage { IfOk result (λ c. storage c ≡ C.kind) }
-    ensures view_arrays { IfOk result (λ c. chunk_view_arrays c ≡ view_arrays_of C.views C.buffers chunks.now) }
+    ensures view_arrays { IfOk result (λ c.
+        chunk_view_arrays c ≡ view_arrays_of C.views C.buffers chunks.now) }
 {
     Ok(C::wrap(copy_chunks(alloc, chunks)?))
 }

@@ -18,9 +18,13 @@ use tb_value::{OutOfMemory, ValueRef};
 // The values of the first of two chunks, and those of the second where they are Null.
 fn coalesce_rows<C: Chunk>(alloc: Global, pair: &[C]) -> Result<C, OutOfMemory>
     requires pair { length pair.now ≡ 2 }
-    requires same_len { length (get_or (map C.shown pair.now) 0 []) ≡ length (get_or (map C.shown pair.now) 1 []) }
+    requires same_len { length (get_or (map C.shown pair.now) 0 [])
+        ≡ length (get_or (map C.shown pair.now) 1 []) }
     requires short { length (get_or (map C.shown pair.now) 0 []) < 2 ^ 32 }
-    ensures shown { IfOk result (λ c. C.shown c ≡ coalesced_values (get_or (map C.shown pair.now) 0 []) (get_or (map C.shown pair.now) 1 [])) }
+    ensures shown { IfOk result (λ c.
+        C.shown c
+        ≡ coalesced_values (get_or (map C.shown pair.now) 0 [])
+        (get_or (map C.shown pair.now) 1 [])) }
     ensures views { IfOk result (λ c. C.views c
         ≡ (coalesced_view_array (get_or (map C.shown pair.now) 0 []) (view_array_at (view_arrays_of C.views C.buffers pair.now) 0) (view_array_at (view_arrays_of C.views C.buffers pair.now) 1)).views) }
     ensures buffers { IfOk result (λ c. C.buffers c
@@ -39,9 +43,14 @@ fn coalesce_rows<C: Chunk>(alloc: Global, pair: &[C]) -> Result<C, OutOfMemory>
 
 // The values of all chunks, and those of others where they are Null, as the only chunk.
 fn coalesce_one<C: Stored>(alloc: Global, first: &[C], second: &[C]) -> Result<Chunks, OutOfMemory>
-    requires same_len { length (concatenation (map C.shown first.now)) ≡ length (concatenation (map C.shown second.now)) }
+    requires same_len { length (concatenation (map C.shown first.now))
+        ≡ length (concatenation (map C.shown second.now)) }
     requires short { length (concatenation (map C.shown first.now)) < 2 ^ 32 }
-    ensures lists { IfOk result (λ c. chunk_lists c ≡ coalesced_values (concatenation (map C.shown first.now)) (concatenation (map C.shown second.now)) ∷ []) }
+    ensures lists { IfOk result (λ c.
+        chunk_lists c
+        ≡ coalesced_values (concatenation (map C.shown first.now))
+        (concatenation (map C.shown second.now))
+        ∷ []) }
     ensures storage { IfOk result (λ c. storage c ≡ C.kind) }
     ensures view_arrays { IfOk result (λ c. chunk_view_arrays c
         ≡ coalesced_view_array (concatenation (map C.shown first.now)) (joined_view_array (view_arrays_of C.views C.buffers first.now)) (joined_view_array (view_arrays_of C.views C.buffers second.now)) ∷ []) }
@@ -62,9 +71,14 @@ fn coalesce_stored<C: Stored>(
     other: &Chunks,
 ) -> Result<Chunks, OutOfMemory>
     requires same_storage { C.kind ≡ storage other.now }
-    requires same_len { length (concatenation (map C.shown first.now)) ≡ length (concatenation (chunk_lists other.now)) }
+    requires same_len { length (concatenation (map C.shown first.now))
+        ≡ length (concatenation (chunk_lists other.now)) }
     requires short { length (concatenation (map C.shown first.now)) < 2 ^ 32 }
-    ensures lists { IfOk result (λ c. chunk_lists c ≡ coalesced_values (concatenation (map C.shown first.now)) (concatenation (chunk_lists other.now)) ∷ []) }
+    ensures lists { IfOk result (λ c.
+        chunk_lists c
+        ≡ coalesced_values (concatenation (map C.shown first.now))
+        (concatenation (chunk_lists other.now))
+        ∷ []) }
     ensures storage { IfOk result (λ c. storage c ≡ C.kind) }
     ensures view_arrays { IfOk result (λ c. chunk_view_arrays c
         ≡ coalesced_view_array (concatenation (map C.shown first.now)) (joined_view_array (view_arrays_of C.views C.buffers first.now)) (joined_view_array (chunk_view_arrays other.now)) ∷ []) }
@@ -79,11 +93,21 @@ impl Chunks {
     /// The values, and those of chunks of the same storage where they are Null, in one chunk.
     pub fn coalesce(&self, alloc: Global, other: &Chunks) -> Result<Chunks, OutOfMemory>
         requires same_storage { storage self.now ≡ storage other.now }
-        requires same_len { length (concatenation (chunk_lists self.now)) ≡ length (concatenation (chunk_lists other.now)) }
+        requires same_len { length (concatenation (chunk_lists self.now))
+            ≡ length (concatenation (chunk_lists other.now)) }
         requires short { length (concatenation (chunk_lists self.now)) < 2 ^ 32 }
-        ensures lists { IfOk result (λ c. chunk_lists c ≡ coalesced_values (concatenation (chunk_lists self.now)) (concatenation (chunk_lists other.now)) ∷ []) }
+        ensures lists { IfOk result (λ c.
+            chunk_lists c
+            ≡ coalesced_values (concatenation (chunk_lists self.now))
+            (concatenation (chunk_lists other.now))
+            ∷ []) }
         ensures storage { IfOk result (λ c. storage c ≡ storage self.now) }
-        ensures view_arrays { IfOk result (λ c. chunk_view_arrays c ≡ coalesced_view_array (concatenation (chunk_lists self.now)) (joined_view_array (chunk_view_arrays self.now)) (joined_view_array (chunk_view_arrays other.now)) ∷ []) }
+        ensures view_arrays { IfOk result (λ c.
+            chunk_view_arrays c
+            ≡ coalesced_view_array (concatenation (chunk_lists self.now))
+            (joined_view_array (chunk_view_arrays self.now))
+            (joined_view_array (chunk_view_arrays other.now))
+            ∷ []) }
     {
         for_chunks!(self, chunks => coalesce_stored(alloc, chunks, other))
     }

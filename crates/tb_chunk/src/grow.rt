@@ -24,12 +24,17 @@ fn push_each<C: Chunk>(
     from: usize,
     count: usize,
 ) -> Result<(), OutOfMemory>
-    requires held { AreHeld (C.buffers out.old.chunk) out.old.bases.items (map C.buffers chunks.now) }
+    requires held { AreHeld (C.buffers out.old.chunk) out.old.bases.items
+        (map C.buffers chunks.now) }
     requires room { length (C.shown out.old.chunk) + count < 2 ^ 63 }
     requires chunk { chunk < length chunks.now }
     requires within { from + count ≤ length (get_or (map C.shown chunks.now) chunk []) }
-    ensures shown { OnOk result (C.shown out.new.chunk ≡ C.shown out.old.chunk ++ take count (drop from (get_or (map C.shown chunks.now) chunk []))) }
-    ensures held { AreHeld (C.buffers out.new.chunk) out.new.bases.items (map C.buffers chunks.now) }
+    ensures shown { OnOk result
+        (C.shown out.new.chunk
+        ≡ C.shown out.old.chunk
+        ++ take count (drop from (get_or (map C.shown chunks.now) chunk []))) }
+    ensures held { AreHeld (C.buffers out.new.chunk) out.new.bases.items
+        (map C.buffers chunks.now) }
     ensures views { OnOk result (C.views out.new.chunk ≡ C.views out.old.chunk
         ++ map (moved_view (get_or out.old.bases.items chunk 0)) (take count (drop from (get_or (map C.views chunks.now) chunk [])))) }
     ensures buffers { C.buffers out.new.chunk ≡ C.buffers out.old.chunk }
@@ -51,12 +56,17 @@ fn push_rows<C: Chunk>(
     from: usize,
     count: usize,
 ) -> Result<(), OutOfMemory>
-    requires held { AreHeld (C.buffers out.old.chunk) out.old.bases.items (map C.buffers chunks.now) }
+    requires held { AreHeld (C.buffers out.old.chunk) out.old.bases.items
+        (map C.buffers chunks.now) }
     requires room { length (C.shown out.old.chunk) + count < 2 ^ 63 }
     requires chunk { chunk < length chunks.now }
     requires within { from + count ≤ length (get_or (map C.shown chunks.now) chunk []) }
-    ensures shown { OnOk result (C.shown out.new.chunk ≡ C.shown out.old.chunk ++ take count (drop from (get_or (map C.shown chunks.now) chunk []))) }
-    ensures held { AreHeld (C.buffers out.new.chunk) out.new.bases.items (map C.buffers chunks.now) }
+    ensures shown { OnOk result
+        (C.shown out.new.chunk
+        ≡ C.shown out.old.chunk
+        ++ take count (drop from (get_or (map C.shown chunks.now) chunk []))) }
+    ensures held { AreHeld (C.buffers out.new.chunk) out.new.bases.items
+        (map C.buffers chunks.now) }
     ensures views { OnOk result (C.views out.new.chunk ≡ C.views out.old.chunk
         ++ map (moved_view (get_or out.old.bases.items chunk 0)) (take count (drop from (get_or (map C.views chunks.now) chunk [])))) }
     ensures buffers { C.buffers out.new.chunk ≡ C.buffers out.old.chunk }
@@ -77,9 +87,13 @@ fn join_parts<C: Chunk>(
 ) -> Result<C, OutOfMemory>
     requires within { start + len ≤ length (concatenation (map C.shown chunks.now)) }
     requires short { length (concatenation (map C.shown chunks.now)) < 2 ^ 32 }
-    ensures shown { IfOk result (λ c. C.shown c ≡ take len (drop start (concatenation (map C.shown chunks.now)))) }
-    ensures views { IfOk result (λ c. C.views c ≡ (window_of start len (joined_view_array (view_arrays_of C.views C.buffers chunks.now))).views) }
-    ensures buffers { IfOk result (λ c. C.buffers c ≡ (joined_view_array (view_arrays_of C.views C.buffers chunks.now)).buffers) }
+    ensures shown { IfOk result (λ c.
+        C.shown c ≡ take len (drop start (concatenation (map C.shown chunks.now)))) }
+    ensures views { IfOk result (λ c.
+        C.views c
+        ≡ (window_of start len (joined_view_array (view_arrays_of C.views C.buffers chunks.now))).views) }
+    ensures buffers { IfOk result (λ c.
+        C.buffers c ≡ (joined_view_array (view_arrays_of C.views C.buffers chunks.now)).buffers) }
 {
     let mut out = Growing::over(alloc, chunks, len)?;
     let mut skip = start;
@@ -104,9 +118,13 @@ pub fn join_rows<C: Chunk>(
 ) -> Result<C, OutOfMemory>
     requires within { start + len ≤ length (concatenation (map C.shown chunks.now)) }
     requires short { length (concatenation (map C.shown chunks.now)) < 2 ^ 32 }
-    ensures shown { IfOk result (λ c. C.shown c ≡ take len (drop start (concatenation (map C.shown chunks.now)))) }
-    ensures views { IfOk result (λ c. C.views c ≡ (window_of start len (joined_view_array (view_arrays_of C.views C.buffers chunks.now))).views) }
-    ensures buffers { IfOk result (λ c. C.buffers c ≡ (joined_view_array (view_arrays_of C.views C.buffers chunks.now)).buffers) }
+    ensures shown { IfOk result (λ c.
+        C.shown c ≡ take len (drop start (concatenation (map C.shown chunks.now)))) }
+    ensures views { IfOk result (λ c.
+        C.views c
+        ≡ (window_of start len (joined_view_array (view_arrays_of C.views C.buffers chunks.now))).views) }
+    ensures buffers { IfOk result (λ c.
+        C.buffers c ≡ (joined_view_array (view_arrays_of C.views C.buffers chunks.now)).buffers) }
 {
     if chunks.len() == 1 {
         let only = &chunks[0];
@@ -128,8 +146,13 @@ pub fn join_one<C: Chunk>(
 ) -> Result<Vec<C>, OutOfMemory>
     requires within { start + len ≤ length (concatenation (map C.shown chunks.now)) }
     requires short { length (concatenation (map C.shown chunks.now)) < 2 ^ 32 }
-    ensures shown { IfOk result (λ v. map C.shown v.items ≡ take len (drop start (concatenation (map C.shown chunks.now))) ∷ []) }
-    ensures view_arrays { IfOk result (λ v. view_arrays_of C.views C.buffers v.items ≡ window_of start len (joined_view_array (view_arrays_of C.views C.buffers chunks.now)) ∷ []) }
+    ensures shown { IfOk result (λ v.
+        map C.shown v.items ≡ take len (drop start (concatenation (map C.shown chunks.now))) ∷ []) }
+    ensures view_arrays { IfOk result (λ v.
+        view_arrays_of C.views C.buffers v.items
+        ≡ window_of start len
+        (joined_view_array (view_arrays_of C.views C.buffers chunks.now))
+        ∷ []) }
 {
     let chunk = join_rows(alloc, chunks, start, len)?;
     let mut one = Vec::new(alloc);
@@ -146,9 +169,14 @@ fn join_stored<C: Stored>(
 ) -> Result<Chunks, OutOfMemory>
     requires within { start + len ≤ length (concatenation (map C.shown chunks.now)) }
     requires short { length (concatenation (map C.shown chunks.now)) < 2 ^ 32 }
-    ensures lists { IfOk result (λ c. chunk_lists c ≡ take len (drop start (concatenation (map C.shown chunks.now))) ∷ []) }
+    ensures lists { IfOk result (λ c.
+        chunk_lists c ≡ take len (drop start (concatenation (map C.shown chunks.now))) ∷ []) }
     ensures storage { IfOk result (λ c. storage c ≡ C.kind) }
-    ensures view_arrays { IfOk result (λ c. chunk_view_arrays c ≡ window_of start len (joined_view_array (view_arrays_of C.views C.buffers chunks.now)) ∷ []) }
+    ensures view_arrays { IfOk result (λ c.
+        chunk_view_arrays c
+        ≡ window_of start len
+        (joined_view_array (view_arrays_of C.views C.buffers chunks.now))
+        ∷ []) }
 {
     Ok(C::wrap(join_one(alloc, chunks, start, len)?))
 }
@@ -158,9 +186,13 @@ impl Chunks {
     pub fn joined(&self, alloc: Global, start: usize, len: usize) -> Result<Chunks, OutOfMemory>
         requires within { start + len ≤ length (concatenation (chunk_lists self.now)) }
         requires short { length (concatenation (chunk_lists self.now)) < 2 ^ 32 }
-        ensures lists { IfOk result (λ c. chunk_lists c ≡ take len (drop start (concatenation (chunk_lists self.now))) ∷ []) }
+        ensures lists { IfOk result (λ c.
+            chunk_lists c ≡ take len (drop start (concatenation (chunk_lists self.now))) ∷ []) }
         ensures storage { IfOk result (λ c. storage c ≡ storage self.now) }
-        ensures view_arrays { IfOk result (λ c. chunk_view_arrays c ≡ window_of start len (joined_view_array (chunk_view_arrays self.now)) ∷ []) }
+        ensures view_arrays { IfOk result (λ c.
+            chunk_view_arrays c
+            ≡ window_of start len (joined_view_array (chunk_view_arrays self.now))
+            ∷ []) }
     {
         for_chunks!(self, chunks => join_stored(alloc, chunks, start, len))
     }

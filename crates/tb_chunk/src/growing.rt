@@ -20,10 +20,13 @@ impl<C: Chunk> Growing<C> {
     /// The chunk of no value that rows of these can be put into, with room for as many as are given.
     pub fn over(alloc: Global, chunks: &[C], rows: usize) -> Result<Growing<C>, OutOfMemory>
         ensures none { IfOk result (λ g. C.shown g.chunk ≡ []) }
-        ensures held { IfOk result (λ g. AreHeld (C.buffers g.chunk) g.bases.items (map C.buffers chunks.now)) }
+        ensures held { IfOk result (λ g.
+            AreHeld (C.buffers g.chunk) g.bases.items (map C.buffers chunks.now)) }
         ensures views { IfOk result (λ g. C.views g.chunk ≡ []) }
-        ensures buffers { IfOk result (λ g. C.buffers g.chunk ≡ all_buffers (view_arrays_of C.views C.buffers chunks.now)) }
-        ensures bases { IfOk result (λ g. AreBases g.bases.items (view_arrays_of C.views C.buffers chunks.now)) }
+        ensures buffers { IfOk result (λ g.
+            C.buffers g.chunk ≡ all_buffers (view_arrays_of C.views C.buffers chunks.now)) }
+        ensures bases { IfOk result (λ g.
+            AreBases g.bases.items (view_arrays_of C.views C.buffers chunks.now)) }
     {
         let mut chunk = C::with_capacity(alloc, rows)?;
         let mut bases = Vec::with_capacity(alloc, chunks.len())?;
@@ -44,13 +47,18 @@ impl<C: Chunk> Growing<C> {
         from: usize,
         count: usize,
     ) -> Result<usize, OutOfMemory>
-        requires held { AreHeld (C.buffers self.old.chunk) self.old.bases.items (map C.buffers chunks.now) }
+        requires held { AreHeld (C.buffers self.old.chunk) self.old.bases.items
+            (map C.buffers chunks.now) }
         requires room { length (C.shown self.old.chunk) + count < 2 ^ 63 }
         requires chunk { chunk < length chunks.now }
         requires within { from + count ≤ length (get_or (map C.shown chunks.now) chunk []) }
         ensures count { IfOk result (λ n. n ≤ count) }
-        ensures shown { IfOk result (λ n. C.shown self.new.chunk ≡ C.shown self.old.chunk ++ take n (drop from (get_or (map C.shown chunks.now) chunk []))) }
-        ensures held { AreHeld (C.buffers self.new.chunk) self.new.bases.items (map C.buffers chunks.now) }
+        ensures shown { IfOk result (λ n.
+            C.shown self.new.chunk
+            ≡ C.shown self.old.chunk
+            ++ take n (drop from (get_or (map C.shown chunks.now) chunk []))) }
+        ensures held { AreHeld (C.buffers self.new.chunk) self.new.bases.items
+            (map C.buffers chunks.now) }
         ensures views { IfOk result (λ n. C.views self.new.chunk ≡ C.views self.old.chunk
             ++ map (moved_view (get_or self.old.bases.items chunk 0)) (take n (drop from (get_or (map C.views chunks.now) chunk [])))) }
         ensures buffers { C.buffers self.new.chunk ≡ C.buffers self.old.chunk }
@@ -68,12 +76,18 @@ impl<C: Chunk> Growing<C> {
         chunk: usize,
         row: usize,
     ) -> Result<(), OutOfMemory>
-        requires held { AreHeld (C.buffers self.old.chunk) self.old.bases.items (map C.buffers chunks.now) }
+        requires held { AreHeld (C.buffers self.old.chunk) self.old.bases.items
+            (map C.buffers chunks.now) }
         requires room { length (C.shown self.old.chunk) < 2 ^ 63 }
         requires chunk { chunk < length chunks.now }
         requires row { row < length (get_or (map C.shown chunks.now) chunk []) }
-        ensures shown { OnOk result (C.shown self.new.chunk ≡ C.shown self.old.chunk ++ get_or (get_or (map C.shown chunks.now) chunk []) row null ∷ []) }
-        ensures held { AreHeld (C.buffers self.new.chunk) self.new.bases.items (map C.buffers chunks.now) }
+        ensures shown { OnOk result
+            (C.shown self.new.chunk
+            ≡ C.shown self.old.chunk
+            ++ get_or (get_or (map C.shown chunks.now) chunk []) row null
+            ∷ []) }
+        ensures held { AreHeld (C.buffers self.new.chunk) self.new.bases.items
+            (map C.buffers chunks.now) }
         ensures views { OnOk result (C.views self.new.chunk ≡ C.views self.old.chunk
             ++ moved_view (get_or self.old.bases.items chunk 0) (get_or (get_or (map C.views chunks.now) chunk []) row None) ∷ []) }
         ensures err { OnErr result (C.shown self.new.chunk ≡ C.shown self.old.chunk) }
@@ -113,7 +127,8 @@ fn add_buffers<C: Chunk>(alloc: Global, chunk: &mut C, other: &C) -> Result<(), 
     requires none { C.shown chunk.old ≡ [] }
     ensures shown { C.shown chunk.new ≡ [] }
     ensures views { C.views chunk.new ≡ C.views chunk.old }
-    ensures buffers { OnOk result (C.buffers chunk.new ≡ C.buffers chunk.old ++ C.buffers other.now) }
+    ensures buffers { OnOk result
+        (C.buffers chunk.new ≡ C.buffers chunk.old ++ C.buffers other.now) }
 {
     for number in 0..other.buffer_count() {
         chunk.add_buffer(alloc, other, number as u32)?;

@@ -39,7 +39,8 @@ fn are_of(dtype: &DataType, values: &[AnyValue]) -> bool
 
 #[tactic(auto, using(crate::proofs::Alls::all_next_list))]
 fn all_are_of(dtype: &DataType, chunks: &[Vec<AnyValue>]) -> bool
-    ensures { IsTrue result ↔ All (HasType (kind_of dtype.now)) (concatenation (lists_of chunks.now)) }
+    ensures { IsTrue result ↔ All (HasType (kind_of dtype.now))
+        (concatenation (lists_of chunks.now)) }
 {
     for chunk in chunks {
         if !are_of(dtype, chunk) {
@@ -68,7 +69,8 @@ fn is_short(chunks: &[Vec<AnyValue>]) -> bool
 fn build<C: Chunk>(alloc: Global, lists: &[Vec<AnyValue>]) -> Result<Vec<C>, OutOfMemory>
     requires { All (Fits C.kind) (concatenation (lists_of lists.now)) }
     ensures shown { IfOk result (λ v. map C.shown v.items ≡ lists_of lists.now) }
-    ensures view_arrays { IfOk result (λ v. view_arrays_of C.views C.buffers v.items ≡ fresh_view_arrays (lists_of lists.now)) }
+    ensures view_arrays { IfOk result (λ v.
+        view_arrays_of C.views C.buffers v.items ≡ fresh_view_arrays (lists_of lists.now)) }
 {
     let mut chunks = Vec::with_capacity(alloc, lists.len())?;
     for list in lists {
@@ -82,7 +84,8 @@ fn build_stored<C: Stored>(alloc: Global, lists: &[Vec<AnyValue>]) -> Result<Chu
     requires { All (Fits C.kind) (concatenation (lists_of lists.now)) }
     ensures lists { IfOk result (λ c. chunk_lists c ≡ lists_of lists.now) }
     ensures storage { IfOk result (λ c. storage c ≡ C.kind) }
-    ensures view_arrays { IfOk result (λ c. chunk_view_arrays c ≡ fresh_view_arrays (lists_of lists.now)) }
+    ensures view_arrays { IfOk result (λ c.
+        chunk_view_arrays c ≡ fresh_view_arrays (lists_of lists.now)) }
 {
     Ok(C::wrap(build(alloc, lists)?))
 }
@@ -95,7 +98,8 @@ fn build_chunks(
     requires { All (Fits (physical (kind_of dtype.now))) (concatenation (lists_of lists.now)) }
     ensures lists { IfOk result (λ c. chunk_lists c ≡ lists_of lists.now) }
     ensures storage { IfOk result (λ c. storage c ≡ physical (kind_of dtype.now)) }
-    ensures view_arrays { IfOk result (λ c. chunk_view_arrays c ≡ fresh_view_arrays (lists_of lists.now)) }
+    ensures view_arrays { IfOk result (λ c.
+        chunk_view_arrays c ≡ fresh_view_arrays (lists_of lists.now)) }
 {
     match dtype {
         DataType::Null => build_stored::<usize>(alloc, lists),
@@ -147,7 +151,8 @@ impl Chunks {
         lists: Vec<Vec<AnyValue>>,
     ) -> PolarsResult<Chunks>
         ensures few { IfOk result (λ c. HaveFewBuffers (chunk_view_arrays c)) }
-        ensures made { AreMade (kind_of dtype.now) (physical (kind_of dtype.now)) (lists_of lists.items) (fresh_view_arrays (lists_of lists.items)) result }
+        ensures made { AreMade (kind_of dtype.now) (physical (kind_of dtype.now))
+            (lists_of lists.items) (fresh_view_arrays (lists_of lists.items)) result }
     {
         if !all_are_of(dtype, &lists) {
             return Err(PolarsError::SchemaMismatch);

@@ -22,7 +22,9 @@ fn follow_chunk<'a, C: Chunk>(
     descending: bool,
 ) -> Option<ValueRef<'a>>
     requires { from + count ≤ length (C.shown chunk.now) }
-    ensures { option_map lent_value result ≡ last_in_order descending (lent_value before.entry) (take count (drop from (C.shown chunk.now))) }
+    ensures { option_map lent_value result
+        ≡ last_in_order descending (lent_value before.entry)
+        (take count (drop from (C.shown chunk.now))) }
 {
     let _rows = chunk.len();
     let mut last = before;
@@ -39,7 +41,10 @@ fn follow_chunk<'a, C: Chunk>(
 // Whether the `len` rows from `start` on are in order.
 fn follow<C: Chunk>(chunks: &[C], start: usize, len: usize, descending: bool) -> bool
     requires { start + len ≤ length (concatenation (map C.shown chunks.now)) }
-    ensures { result ≡ is_some (last_in_order descending null (take len (drop start (concatenation (map C.shown chunks.now))))) }
+    ensures { result
+        ≡ is_some
+        (last_in_order descending null
+        (take len (drop start (concatenation (map C.shown chunks.now))))) }
 {
     let mut skip = start;
     let mut left = len;
@@ -74,7 +79,8 @@ fn starts_with_null<C: Chunk>(chunks: &[C]) -> bool
 // Where the values start that are present, if the nulls stand at one end.
 fn present_from<C: Chunk>(chunks: &[C], nulls: usize) -> usize
     requires { length (concatenation (map C.shown chunks.now)) < 2 ^ 64 }
-    ensures exact { result ≡ (if is_null (get_or (concatenation (map C.shown chunks.now)) 0 null) then nulls else 0) }
+    ensures exact { result
+        ≡ (if is_null (get_or (concatenation (map C.shown chunks.now)) 0 null) then nulls else 0) }
     ensures within { result ≤ nulls }
 {
     if starts_with_null(chunks) { nulls } else { 0 }

@@ -24,11 +24,18 @@ fn pick_rows<C: Chunk, R: RowNumber>(
     rows: &[R],
 ) -> Result<C, OutOfMemory>
     requires one { length chunks.now ≡ 1 }
-    requires rows { All (λ r. IsRowOf (length (concatenation (map C.shown chunks.now))) (R.number r)) rows.now }
+    requires rows { All
+        (λ r. IsRowOf (length (concatenation (map C.shown chunks.now))) (R.number r)) rows.now }
     requires few { length rows.now < 2 ^ 32 }
-    ensures shown { IfOk result (λ c. C.shown c ≡ map (λ r. value_or_null (concatenation (map C.shown chunks.now)) (R.number r)) rows.now) }
-    ensures views { IfOk result (λ c. C.views c ≡ (picked_of R.number rows.now (joined_view_array (view_arrays_of C.views C.buffers chunks.now))).views) }
-    ensures buffers { IfOk result (λ c. C.buffers c ≡ (joined_view_array (view_arrays_of C.views C.buffers chunks.now)).buffers) }
+    ensures shown { IfOk result (λ c.
+        C.shown c
+        ≡ map (λ r. value_or_null (concatenation (map C.shown chunks.now)) (R.number r))
+        rows.now) }
+    ensures views { IfOk result (λ c.
+        C.views c
+        ≡ (picked_of R.number rows.now (joined_view_array (view_arrays_of C.views C.buffers chunks.now))).views) }
+    ensures buffers { IfOk result (λ c.
+        C.buffers c ≡ (joined_view_array (view_arrays_of C.views C.buffers chunks.now)).buffers) }
 {
     let mut out = Growing::over(alloc, chunks, rows.len())?;
     for row in rows {
@@ -42,12 +49,19 @@ fn pick_rows<C: Chunk, R: RowNumber>(
 
 // The values of these rows of all chunks. One chunk is picked from as it is, and more are joined first.
 fn pick<C: Chunk, R: RowNumber>(alloc: Global, chunks: &[C], rows: &[R]) -> Result<C, OutOfMemory>
-    requires rows { All (λ r. IsRowOf (length (concatenation (map C.shown chunks.now))) (R.number r)) rows.now }
+    requires rows { All
+        (λ r. IsRowOf (length (concatenation (map C.shown chunks.now))) (R.number r)) rows.now }
     requires few { length rows.now < 2 ^ 32 }
     requires short { length (concatenation (map C.shown chunks.now)) < 2 ^ 32 }
-    ensures shown { IfOk result (λ c. C.shown c ≡ map (λ r. value_or_null (concatenation (map C.shown chunks.now)) (R.number r)) rows.now) }
-    ensures views { IfOk result (λ c. C.views c ≡ (picked_of R.number rows.now (joined_view_array (view_arrays_of C.views C.buffers chunks.now))).views) }
-    ensures buffers { IfOk result (λ c. C.buffers c ≡ (joined_view_array (view_arrays_of C.views C.buffers chunks.now)).buffers) }
+    ensures shown { IfOk result (λ c.
+        C.shown c
+        ≡ map (λ r. value_or_null (concatenation (map C.shown chunks.now)) (R.number r))
+        rows.now) }
+    ensures views { IfOk result (λ c.
+        C.views c
+        ≡ (picked_of R.number rows.now (joined_view_array (view_arrays_of C.views C.buffers chunks.now))).views) }
+    ensures buffers { IfOk result (λ c.
+        C.buffers c ≡ (joined_view_array (view_arrays_of C.views C.buffers chunks.now)).buffers) }
 {
     if chunks.len() == 1 {
         return pick_rows(alloc, chunks, rows);
@@ -62,12 +76,21 @@ fn pick_stored<C: Stored, R: RowNumber>(
     chunks: &[C],
     rows: &[R],
 ) -> Result<Chunks, OutOfMemory>
-    requires rows { All (λ r. IsRowOf (length (concatenation (map C.shown chunks.now))) (R.number r)) rows.now }
+    requires rows { All
+        (λ r. IsRowOf (length (concatenation (map C.shown chunks.now))) (R.number r)) rows.now }
     requires few { length rows.now < 2 ^ 32 }
     requires short { length (concatenation (map C.shown chunks.now)) < 2 ^ 32 }
-    ensures lists { IfOk result (λ c. chunk_lists c ≡ map (λ r. value_or_null (concatenation (map C.shown chunks.now)) (R.number r)) rows.now ∷ []) }
+    ensures lists { IfOk result (λ c.
+        chunk_lists c
+        ≡ map (λ r. value_or_null (concatenation (map C.shown chunks.now)) (R.number r))
+        rows.now
+        ∷ []) }
     ensures storage { IfOk result (λ c. storage c ≡ C.kind) }
-    ensures view_arrays { IfOk result (λ c. chunk_view_arrays c ≡ picked_of R.number rows.now (joined_view_array (view_arrays_of C.views C.buffers chunks.now)) ∷ []) }
+    ensures view_arrays { IfOk result (λ c.
+        chunk_view_arrays c
+        ≡ picked_of R.number rows.now
+        (joined_view_array (view_arrays_of C.views C.buffers chunks.now))
+        ∷ []) }
 {
     let mut one = Vec::new(alloc);
     one.push(pick(alloc, chunks, rows)?)?;
@@ -78,12 +101,20 @@ impl Chunks {
     /// The values of these rows, in one chunk. It takes steps in the number of rows, and where there
     /// are more chunks than one, in the number of values too.
     pub fn picked<R: RowNumber>(&self, alloc: Global, rows: &[R]) -> Result<Chunks, OutOfMemory>
-        requires rows { All (λ r. IsRowOf (length (concatenation (chunk_lists self.now))) (R.number r)) rows.now }
+        requires rows { All
+            (λ r. IsRowOf (length (concatenation (chunk_lists self.now))) (R.number r)) rows.now }
         requires few { length rows.now < 2 ^ 32 }
         requires short { length (concatenation (chunk_lists self.now)) < 2 ^ 32 }
-        ensures lists { IfOk result (λ c. chunk_lists c ≡ map (λ r. value_or_null (concatenation (chunk_lists self.now)) (R.number r)) rows.now ∷ []) }
+        ensures lists { IfOk result (λ c.
+            chunk_lists c
+            ≡ map (λ r. value_or_null (concatenation (chunk_lists self.now)) (R.number r))
+            rows.now
+            ∷ []) }
         ensures storage { IfOk result (λ c. storage c ≡ storage self.now) }
-        ensures view_arrays { IfOk result (λ c. chunk_view_arrays c ≡ picked_of R.number rows.now (joined_view_array (chunk_view_arrays self.now)) ∷ []) }
+        ensures view_arrays { IfOk result (λ c.
+            chunk_view_arrays c
+            ≡ picked_of R.number rows.now (joined_view_array (chunk_view_arrays self.now))
+            ∷ []) }
     {
         for_chunks!(self, chunks => pick_stored(alloc, chunks, rows))
     }

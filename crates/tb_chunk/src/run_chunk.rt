@@ -32,7 +32,8 @@ trait RunChunk: Chunk {
         requires fits { All (Fits Self.kind) (map (λ r. datum r.0) runs.now) }
         requires rows { rows ≡ total_of runs.now }
         ensures shown { IfOk result (λ c. Self.shown c ≡ expansion (data_runs runs.now)) }
-        ensures views { IfOk result (λ c. Self.views c ≡ (laid_runs (text_runs (data_runs runs.now))).views) }
+        ensures views { IfOk result (λ c.
+            Self.views c ≡ (laid_runs (text_runs (data_runs runs.now))).views) }
         ensures buffers { IfOk result (λ c. Self.buffers c ≡ (laid_runs (text_runs (data_runs runs.now))).buffers) };
 }
 
@@ -43,7 +44,9 @@ fn push_cells<N: Cell>(
     cell: &Option<N>,
     times: u64,
 ) -> Result<(), OutOfMemory>
-    ensures { OnOk result (map (or_null N.shows) cells.new ≡ map (or_null N.shows) cells.old ++ replicate times (or_null N.shows cell.now)) }
+    ensures { OnOk result
+        (map (or_null N.shows) cells.new
+        ≡ map (or_null N.shows) cells.old ++ replicate times (or_null N.shows cell.now)) }
 {
     for _ in 0..times {
         cells.push(copy_cell(alloc, cell.as_ref())?)?;
@@ -139,7 +142,8 @@ fn are_of(dtype: &DataType, runs: &[(AnyValue, u64)]) -> bool
 // The rows of all, none where they are more than a column can have. The counts are never added: they are taken from the room.
 #[tactic(auto, using(crate::proofs::RunLayout::total_drop))]
 fn rows_of_all(runs: &[(AnyValue, u64)]) -> Option<usize>
-    ensures { MatchOption result (¬ AreFewRows runs.now) (λ n. (n ≡ total_of runs.now) × AreFewRows runs.now) }
+    ensures { MatchOption result (¬ AreFewRows runs.now) (λ n.
+        (n ≡ total_of runs.now) × AreFewRows runs.now) }
 {
     let mut room = MAX_ROWS as u64;
     for (_, times) in runs {
@@ -158,7 +162,8 @@ fn build_run<C: RunChunk + Stored>(
     requires rows { rows ≡ total_of runs.now }
     ensures lists { IfOk result (λ c. chunk_lists c ≡ expansion (data_runs runs.now) ∷ []) }
     ensures storage { IfOk result (λ c. storage c ≡ C.kind) }
-    ensures view_arrays { IfOk result (λ c. chunk_view_arrays c ≡ laid_runs (text_runs (data_runs runs.now)) ∷ []) }
+    ensures view_arrays { IfOk result (λ c.
+        chunk_view_arrays c ≡ laid_runs (text_runs (data_runs runs.now)) ∷ []) }
 {
     let mut chunks = Vec::with_capacity(alloc, 1)?;
     chunks.push(C::from_runs(alloc, runs, rows)?)?;
@@ -175,7 +180,8 @@ fn build_runs(
     requires rows { rows ≡ total_of runs.now }
     ensures lists { IfOk result (λ c. chunk_lists c ≡ expansion (data_runs runs.now) ∷ []) }
     ensures storage { IfOk result (λ c. storage c ≡ physical (kind_of dtype.now)) }
-    ensures view_arrays { IfOk result (λ c. chunk_view_arrays c ≡ laid_runs (text_runs (data_runs runs.now)) ∷ []) }
+    ensures view_arrays { IfOk result (λ c.
+        chunk_view_arrays c ≡ laid_runs (text_runs (data_runs runs.now)) ∷ []) }
 {
     match dtype {
         DataType::Null => build_run::<usize>(alloc, runs, rows),
@@ -212,7 +218,8 @@ impl Chunks {
     ) -> PolarsResult<Chunks>
         ensures typed { IfOk result (λ c. IsTyped (kind_of dtype.now) (chunk_lists c)) }
         ensures short { IfOk result (λ c. IsShort (chunk_lists c)) }
-        ensures made { IsChunkOfRuns (kind_of dtype.now) (physical (kind_of dtype.now)) (data_runs runs.now) result }
+        ensures made { IsChunkOfRuns (kind_of dtype.now) (physical (kind_of dtype.now))
+            (data_runs runs.now) result }
     {
         if !are_of(dtype, runs) {
             return Err(PolarsError::SchemaMismatch);

@@ -27,7 +27,9 @@ impl Stored for Cells<bool> {
     fn wrap(chunks: Vec<Cells<bool>>) -> Chunks
         ensures lists { chunk_lists result ≡ map ⟦<Cells<bool> as Chunk>⟧.shown chunks.items }
         ensures storage { storage result ≡ ⟦<Cells<bool> as Chunk>⟧.kind }
-        ensures view_arrays { chunk_view_arrays result ≡ view_arrays_of ⟦<Cells<bool> as Chunk>⟧.views ⟦<Cells<bool> as Chunk>⟧.buffers chunks.items }
+        ensures view_arrays { chunk_view_arrays result
+            ≡ view_arrays_of ⟦<Cells<bool> as Chunk>⟧.views ⟦<Cells<bool> as Chunk>⟧.buffers
+            chunks.items }
     {
         Chunks::BooleanType(chunks)
     }
@@ -44,7 +46,9 @@ impl Stored for Cells<i8> {
     fn wrap(chunks: Vec<Cells<i8>>) -> Chunks
         ensures lists { chunk_lists result ≡ map ⟦<Cells<i8> as Chunk>⟧.shown chunks.items }
         ensures storage { storage result ≡ ⟦<Cells<i8> as Chunk>⟧.kind }
-        ensures view_arrays { chunk_view_arrays result ≡ view_arrays_of ⟦<Cells<i8> as Chunk>⟧.views ⟦<Cells<i8> as Chunk>⟧.buffers chunks.items }
+        ensures view_arrays { chunk_view_arrays result
+            ≡ view_arrays_of ⟦<Cells<i8> as Chunk>⟧.views ⟦<Cells<i8> as Chunk>⟧.buffers
+            chunks.items }
     {
         Chunks::Int8Type(chunks)
     }
@@ -61,7 +65,9 @@ impl Stored for Cells<i16> {
     fn wrap(chunks: Vec<Cells<i16>>) -> Chunks
         ensures lists { chunk_lists result ≡ map ⟦<Cells<i16> as Chunk>⟧.shown chunks.items }
         ensures storage { storage result ≡ ⟦<Cells<i16> as Chunk>⟧.kind }
-        ensures view_arrays { chunk_view_arrays result ≡ view_arrays_of ⟦<Cells<i16> as Chunk>⟧.views ⟦<Cells<i16> as Chunk>⟧.buffers chunks.items }
+        ensures view_arrays { chunk_view_arrays result
+            ≡ view_arrays_of ⟦<Cells<i16> as Chunk>⟧.views ⟦<Cells<i16> as Chunk>⟧.buffers
+            chunks.items }
     {
         Chunks::Int16Type(chunks)
     }
@@ -78,7 +84,9 @@ impl Stored for Cells<i32> {
     fn wrap(chunks: Vec<Cells<i32>>) -> Chunks
         ensures lists { chunk_lists result ≡ map ⟦<Cells<i32> as Chunk>⟧.shown chunks.items }
         ensures storage { storage result ≡ ⟦<Cells<i32> as Chunk>⟧.kind }
-        ensures view_arrays { chunk_view_arrays result ≡ view_arrays_of ⟦<Cells<i32> as Chunk>⟧.views ⟦<Cells<i32> as Chunk>⟧.buffers chunks.items }
+        ensures view_arrays { chunk_view_arrays result
+            ≡ view_arrays_of ⟦<Cells<i32> as Chunk>⟧.views ⟦<Cells<i32> as Chunk>⟧.buffers
+            chunks.items }
     {
         Chunks::Int32Type(chunks)
     }
@@ -95,7 +103,9 @@ impl Stored for Cells<i64> {
     fn wrap(chunks: Vec<Cells<i64>>) -> Chunks
         ensures lists { chunk_lists result ≡ map ⟦<Cells<i64> as Chunk>⟧.shown chunks.items }
         ensures storage { storage result ≡ ⟦<Cells<i64> as Chunk>⟧.kind }
-        ensures view_arrays { chunk_view_arrays result ≡ view_arrays_of ⟦<Cells<i64> as Chunk>⟧.views ⟦<Cells<i64> as Chunk>⟧.buffers chunks.items }
+        ensures view_arrays { chunk_view_arrays result
+            ≡ view_arrays_of ⟦<Cells<i64> as Chunk>⟧.views ⟦<Cells<i64> as Chunk>⟧.buffers
+            chunks.items }
     {
         Chunks::Int64Type(chunks)
     }
@@ -112,7 +122,9 @@ impl Stored for Cells<i128> {
     fn wrap(chunks: Vec<Cells<i128>>) -> Chunks
         ensures lists { chunk_lists result ≡ map ⟦<Cells<i128> as Chunk>⟧.shown chunks.items }
         ensures storage { storage result ≡ ⟦<Cells<i128> as Chunk>⟧.kind }
-        ensures view_arrays { chunk_view_arrays result ≡ view_arrays_of ⟦<Cells<i128> as Chunk>⟧.views ⟦<Cells<i128> as Chunk>⟧.buffers chunks.items }
+        ensures view_arrays { chunk_view_arrays result
+            ≡ view_arrays_of ⟦<Cells<i128> as Chunk>⟧.views ⟦<Cells<i128> as Chunk>⟧.buffers
+            chunks.items }
     {
         Chunks::Int128Type(chunks)
     }
@@ -129,7 +141,9 @@ impl Stored for Cells<u8> {
     fn wrap(chunks: Vec<Cells<u8>>) -> Chunks
         ensures lists { chunk_lists result ≡ map ⟦<Cells<u8> as Chunk>⟧.shown chunks.items }
         ensures storage { storage result ≡ ⟦<Cells<u8> as Chunk>⟧.kind }
-        ensures view_arrays { chunk_view_arrays result ≡ view_arrays_of ⟦<Cells<u8> as Chunk>⟧.views ⟦<Cells<u8> as Chunk>⟧.buffers chunks.items }
+        ensures view_arrays { chunk_view_arrays result
+            ≡ view_arrays_of ⟦<Cells<u8> as Chunk>⟧.views ⟦<Cells<u8> as Chunk>⟧.buffers
+            chunks.items }
     {
         Chunks::UInt8Type(chunks)
     }
@@ -146,7 +160,9 @@ impl Stored for Cells<u16> {
     fn wrap(chunks: Vec<Cells<u16>>) -> Chunks
         ensures lists { chunk_lists result ≡ map ⟦<Cells<u16> as Chunk>⟧.shown chunks.items }
         ensures storage { storage result ≡ ⟦<Cells<u16> as Chunk>⟧.kind }
-        ensures view_arrays { chunk_view_arrays result ≡ view_arrays_of ⟦<Cells<u16> as Chunk>⟧.views ⟦<Cells<u16> as Chunk>⟧.buffers chunks.items }
+        ensures view_arrays { chunk_view_arrays result
+            ≡ view_arrays_of ⟦<Cells<u16> as Chunk>⟧.views ⟦<Cells<u16> as Chunk>⟧.buffers
+            chunks.items }
     {
         Chunks::UInt16Type(chunks)
     }
@@ -163,7 +179,9 @@ impl Stored for Cells<u32> {
     fn wrap(chunks: Vec<Cells<u32>>) -> Chunks
         ensures lists { chunk_lists result ≡ map ⟦<Cells<u32> as Chunk>⟧.shown chunks.items }
         ensures storage { storage result ≡ ⟦<Cells<u32> as Chunk>⟧.kind }
-        ensures view_arrays { chunk_view_arrays result ≡ view_arrays_of ⟦<Cells<u32> as Chunk>⟧.views ⟦<Cells<u32> as Chunk>⟧.buffers chunks.items }
+        ensures view_arrays { chunk_view_arrays result
+            ≡ view_arrays_of ⟦<Cells<u32> as Chunk>⟧.views ⟦<Cells<u32> as Chunk>⟧.buffers
+            chunks.items }
     {
         Chunks::UInt32Type(chunks)
     }
@@ -180,7 +198,9 @@ impl Stored for Cells<u64> {
     fn wrap(chunks: Vec<Cells<u64>>) -> Chunks
         ensures lists { chunk_lists result ≡ map ⟦<Cells<u64> as Chunk>⟧.shown chunks.items }
         ensures storage { storage result ≡ ⟦<Cells<u64> as Chunk>⟧.kind }
-        ensures view_arrays { chunk_view_arrays result ≡ view_arrays_of ⟦<Cells<u64> as Chunk>⟧.views ⟦<Cells<u64> as Chunk>⟧.buffers chunks.items }
+        ensures view_arrays { chunk_view_arrays result
+            ≡ view_arrays_of ⟦<Cells<u64> as Chunk>⟧.views ⟦<Cells<u64> as Chunk>⟧.buffers
+            chunks.items }
     {
         Chunks::UInt64Type(chunks)
     }
@@ -197,7 +217,9 @@ impl Stored for StringChunk {
     fn wrap(chunks: Vec<StringChunk>) -> Chunks
         ensures lists { chunk_lists result ≡ map ⟦<StringChunk as Chunk>⟧.shown chunks.items }
         ensures storage { storage result ≡ ⟦<StringChunk as Chunk>⟧.kind }
-        ensures view_arrays { chunk_view_arrays result ≡ view_arrays_of ⟦<StringChunk as Chunk>⟧.views ⟦<StringChunk as Chunk>⟧.buffers chunks.items }
+        ensures view_arrays { chunk_view_arrays result
+            ≡ view_arrays_of ⟦<StringChunk as Chunk>⟧.views ⟦<StringChunk as Chunk>⟧.buffers
+            chunks.items }
     {
         Chunks::StringType(chunks)
     }
@@ -214,7 +236,9 @@ impl Stored for BinaryChunk {
     fn wrap(chunks: Vec<BinaryChunk>) -> Chunks
         ensures lists { chunk_lists result ≡ map ⟦<BinaryChunk as Chunk>⟧.shown chunks.items }
         ensures storage { storage result ≡ ⟦<BinaryChunk as Chunk>⟧.kind }
-        ensures view_arrays { chunk_view_arrays result ≡ view_arrays_of ⟦<BinaryChunk as Chunk>⟧.views ⟦<BinaryChunk as Chunk>⟧.buffers chunks.items }
+        ensures view_arrays { chunk_view_arrays result
+            ≡ view_arrays_of ⟦<BinaryChunk as Chunk>⟧.views ⟦<BinaryChunk as Chunk>⟧.buffers
+            chunks.items }
     {
         Chunks::BinaryType(chunks)
     }
@@ -231,7 +255,9 @@ impl Stored for ListChunk {
     fn wrap(chunks: Vec<ListChunk>) -> Chunks
         ensures lists { chunk_lists result ≡ map ⟦<ListChunk as Chunk>⟧.shown chunks.items }
         ensures storage { storage result ≡ ⟦<ListChunk as Chunk>⟧.kind }
-        ensures view_arrays { chunk_view_arrays result ≡ view_arrays_of ⟦<ListChunk as Chunk>⟧.views ⟦<ListChunk as Chunk>⟧.buffers chunks.items }
+        ensures view_arrays { chunk_view_arrays result
+            ≡ view_arrays_of ⟦<ListChunk as Chunk>⟧.views ⟦<ListChunk as Chunk>⟧.buffers
+            chunks.items }
     {
         Chunks::ListType(chunks)
     }
@@ -248,7 +274,9 @@ impl Stored for StructChunk {
     fn wrap(chunks: Vec<StructChunk>) -> Chunks
         ensures lists { chunk_lists result ≡ map ⟦<StructChunk as Chunk>⟧.shown chunks.items }
         ensures storage { storage result ≡ ⟦<StructChunk as Chunk>⟧.kind }
-        ensures view_arrays { chunk_view_arrays result ≡ view_arrays_of ⟦<StructChunk as Chunk>⟧.views ⟦<StructChunk as Chunk>⟧.buffers chunks.items }
+        ensures view_arrays { chunk_view_arrays result
+            ≡ view_arrays_of ⟦<StructChunk as Chunk>⟧.views ⟦<StructChunk as Chunk>⟧.buffers
+            chunks.items }
     {
         Chunks::StructType(chunks)
     }
@@ -265,7 +293,8 @@ impl Stored for usize {
     fn wrap(chunks: Vec<usize>) -> Chunks
         ensures lists { chunk_lists result ≡ map ⟦<usize as Chunk>⟧.shown chunks.items }
         ensures storage { storage result ≡ ⟦<usize as Chunk>⟧.kind }
-        ensures view_arrays { chunk_view_arrays result ≡ view_arrays_of ⟦<usize as Chunk>⟧.views ⟦<usize as Chunk>⟧.buffers chunks.items }
+        ensures view_arrays { chunk_view_arrays result
+            ≡ view_arrays_of ⟦<usize as Chunk>⟧.views ⟦<usize as Chunk>⟧.buffers chunks.items }
     {
         Chunks::Null(chunks)
     }

@@ -95,9 +95,12 @@ impl BinaryChunk {
 fn texts_in(chunks: &Chunks, chunk: usize) -> &ViewChunk
     requires text { storage chunks.now ≡ kind.string ⊎ storage chunks.now ≡ kind.binary }
     requires chunk { chunk < length (chunk_lists chunks.now) }
-    ensures views { result.now.views.items ≡ (view_array_at (chunk_view_arrays chunks.now) chunk).views }
-    ensures buffers { result.now.buffers.items ≡ (view_array_at (chunk_view_arrays chunks.now) chunk).buffers }
-    ensures texts { slice_index_or (chunk_lists chunks.now) chunk [] ≡ text_values (storage chunks.now) (texts result.now.buffers.items result.now.views.items) }
+    ensures views { result.now.views.items
+        ≡ (view_array_at (chunk_view_arrays chunks.now) chunk).views }
+    ensures buffers { result.now.buffers.items
+        ≡ (view_array_at (chunk_view_arrays chunks.now) chunk).buffers }
+    ensures texts { slice_index_or (chunk_lists chunks.now) chunk []
+        ≡ text_values (storage chunks.now) (texts result.now.buffers.items result.now.views.items) }
 {
     match chunks {
         Chunks::StringType(chunks) => &chunks[chunk].inner,
@@ -113,8 +116,11 @@ impl Chunks {
         requires text { storage self.now ≡ kind.string ⊎ storage self.now ≡ kind.binary }
         requires chunk { chunk < length (chunk_lists self.now) }
         ensures views { result.now ≡ (view_array_at (chunk_view_arrays self.now) chunk).views }
-        ensures formed { All (IsViewOrNone (view_array_at (chunk_view_arrays self.now) chunk).buffers) result.now }
-        ensures texts { slice_index_or (chunk_lists self.now) chunk [] ≡ text_values (storage self.now) (texts (view_array_at (chunk_view_arrays self.now) chunk).buffers result.now) }
+        ensures formed { All
+            (IsViewOrNone (view_array_at (chunk_view_arrays self.now) chunk).buffers) result.now }
+        ensures texts { slice_index_or (chunk_lists self.now) chunk []
+            ≡ text_values (storage self.now)
+            (texts (view_array_at (chunk_view_arrays self.now) chunk).buffers result.now) }
     {
         texts_in(self, chunk).views()
     }

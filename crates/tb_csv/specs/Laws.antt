@@ -23,11 +23,13 @@ comma = 44
 -- the bytes of the records of a text are those that the toolchain's reader reads, and each of their fields has a mark
 abbrev pub MarksFit : Type 0
 MarksFit = (separator : ℕ) (text : List ℕ)
-    → (map line_of (records_of separator text) ≡ lines_of separator text) × (length (marks_of separator text) ≡ length (all_fields (lines_of separator text)))
+    → (map line_of (records_of separator text) ≡ lines_of separator text)
+    × (length (marks_of separator text) ≡ length (all_fields (lines_of separator text)))
 
 -- the records of the text of a table with columns, written with commas and with no byte-order mark at its front, are those of the table
 abbrev pub RecordsBack : Type 0
-RecordsBack = (t : Table) → no_column t ≡ None → strip_bom (csv_text comma t) ≡ csv_text comma t → records_of comma (csv_text comma t) ≡ table_records t
+RecordsBack = (t : Table) → no_column t ≡ None → strip_bom (csv_text comma t) ≡ csv_text comma t
+    → records_of comma (csv_text comma t) ≡ table_records t
 
 -- a value that reads back in a record of so many fields: no Null where a text stands alone, and no day outside the years 0 to 9999
 abbrev pub IsPlain : ℕ → Kind → Datum → Type 0
@@ -37,12 +39,14 @@ IsPlain n k _ = ⊤
 
 -- a value of a type with a text form that reads back is what its field is at the type
 abbrev pub CellsBack : Type 0
-CellsBack = (n : ℕ) (k : Kind) → is_none (field_type k) ≡ false → (v : Datum) → HasType k v → IsPlain n k v
+CellsBack =
+    (n : ℕ) (k : Kind) → is_none (field_type k) ≡ false → (v : Datum) → HasType k v → IsPlain n k v
     → cell_value (or_string (field_type k)) (field_among n k v) ≡ Some v
 
 -- the types of the columns by their names
 abbrev pub types_of : Table → List TypeOf
-types_of t = map (λ (c : TableColumn). record { name = c.name; field_type = or_string (field_type c.kind) }) t
+types_of t = map
+    (λ (c : TableColumn). record { name = c.name; field_type = or_string (field_type c.kind) }) t
 
 -- a table that has a text, whose values read back, with names of UTF-8 and with no byte-order mark at the front of its text
 pub record IsTold (t : Table) : Type 0 where
@@ -56,4 +60,5 @@ pub record IsTold (t : Table) : Type 0 where
 -- such a table, written with commas and read back with its types given, is the same table
 abbrev pub RoundTrip : Type 0
 RoundTrip = (t : Table) → IsTold t
-    → (csv_refusal (types_of t) comma (csv_text comma t) ≡ None) × (csv_table (types_of t) (records_of comma (csv_text comma t)) ≡ t)
+    → (csv_refusal (types_of t) comma (csv_text comma t) ≡ None)
+    × (csv_table (types_of t) (records_of comma (csv_text comma t)) ≡ t)

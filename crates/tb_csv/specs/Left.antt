@@ -15,9 +15,12 @@ bytes_left s = Some s.now
 -- in at most so many turns the reader reads these records
 abbrev pub Leaves : Config → ℕ → List Line → Reader (Bor (List ℕ)) → Type 0
 Leaves form turns records r = (reader_trim r ≡ trim.None) × Ready r × (reader_config r ≡ form)
-    × (rest : List ℕ) × (source_of bytes_left r ≡ Some rest) × (records_from form turns (reader_state r) rest ≡ records)
+    × (rest : List ℕ)
+    × (source_of bytes_left r ≡ Some rest)
+    × (records_from form turns (reader_state r) rest ≡ records)
 
 -- the next of the records was found, and the reader has the others left, or there is none
 abbrev pub IsNext : Config → ℕ → List Line → Bool → Line → Reader (Bor (List ℕ)) → Type 0
 IsNext form turns records found row r =
-    MatchBool found ((others : List Line) × (records ≡ row ∷ others) × Leaves form turns others r) (records ≡ [])
+    MatchBool found ((others : List Line) × (records ≡ row ∷ others) × Leaves form turns others r)
+    (records ≡ [])

@@ -15,12 +15,14 @@ all_fields rows = flat_map (λ r. r) rows
 -- the bytes of the fields of the names, and those of the rows
 abbrev pub AreLines : Lines → List Line → Type 0
 AreLines r [] = ⊥
-AreLines r (names ∷ lines) = (r.names.items ≡ names) × (fields_of r.fields ≡ all_fields lines) × (r.height ≡ length lines)
+AreLines r (names ∷ lines) =
+    (r.names.items ≡ names) × (fields_of r.fields ≡ all_fields lines) × (r.height ≡ length lines)
     × (length lines ≤ MAX_ROWS) × All (λ (l : Line). length l ≡ length names) lines
 
 -- the fields that were read, by the marks behind those of the names
 abbrev pub fields_read : Records → List Field
-fields_read r = marked_fields (drop (length r.lines.names.items) r.marks.items) (fields_of r.lines.fields)
+fields_read r =
+    marked_fields (drop (length r.lines.names.items) r.marks.items) (fields_of r.lines.fields)
 
 -- the rows, each with as many fields as there are names
 pub record AreRows (r : Records) (rows : List Record) : Type 0 where

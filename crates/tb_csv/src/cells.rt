@@ -23,7 +23,8 @@ use tb_value::{PlSmallStr, TOO_LONG};
 // The cell of a field, or None where it is none of the type.
 fn cell_in<N: ReadField>(field_type: FieldType, field: Option<&str>) -> Option<Option<N>>
     requires { physical (kind_at field_type) ≡ N.stored }
-    ensures value { option_map (or_null N.shows) result ≡ cell_value field_type (lent_field field.entry) }
+    ensures value { option_map (or_null N.shows) result
+        ≡ cell_value field_type (lent_field field.entry) }
     ensures typed { IfSome result (λ c. HasType (kind_at field_type) (or_null N.shows c)) }
 {
     match field {
@@ -86,8 +87,10 @@ fn cells_of<N: ReadField>(
 ) -> Result<Cells<N>, CsvFault>
     requires { physical (kind_at field_type) ≡ N.stored }
     ensures settles { Settles result (column_fault name.now field_type 1 (lent_fields fields.now)) }
-    ensures cells { IfOk result (λ c. map (or_null N.shows) c ≡ map (cell_of field_type) (lent_fields fields.now)) }
-    ensures typed { IfOk result (λ c. All (HasType (kind_at field_type)) (map (or_null N.shows) c)) }
+    ensures cells { IfOk result (λ c.
+        map (or_null N.shows) c ≡ map (cell_of field_type) (lent_fields fields.now)) }
+    ensures typed { IfOk result (λ c.
+        All (HasType (kind_at field_type)) (map (or_null N.shows) c)) }
 {
     let mut cells = Cells::with_capacity(alloc, fields.len())?;
     for i in 0..fields.len() {
@@ -119,10 +122,12 @@ fn texts_of(
     name: &PlSmallStr,
     fields: &[Option<&str>],
 ) -> Result<StringChunk, CsvFault>
-    ensures settles { Settles result (column_fault name.now FieldType.String 1 (lent_fields fields.now)) }
+    ensures settles { Settles result
+        (column_fault name.now FieldType.String 1 (lent_fields fields.now)) }
     ensures texts { IfOk result (λ c. ⟦<StringChunk as Chunk>⟧.shown c
         ≡ map (cell_of FieldType.String) (lent_fields fields.now)) }
-    ensures typed { IfOk result (λ c. All (HasType kind.string) (⟦<StringChunk as Chunk>⟧.shown c)) }
+    ensures typed { IfOk result (λ c.
+        All (HasType kind.string) (⟦<StringChunk as Chunk>⟧.shown c)) }
 {
     let mut builder = StringBuilder::with_capacity(alloc, fields.len())?;
     for i in 0..fields.len() {
@@ -151,8 +156,10 @@ trait ReadChunk: Chunk {
         fields: &[Option<&str>],
     ) -> Result<Self, CsvFault>
         requires { physical (kind_at field_type) ≡ stored }
-        ensures settles { Settles result (column_fault name.now field_type 1 (lent_fields fields.now)) }
-        ensures values { IfOk result (λ c. Self.shown c ≡ map (cell_of field_type) (lent_fields fields.now)) }
+        ensures settles { Settles result
+            (column_fault name.now field_type 1 (lent_fields fields.now)) }
+        ensures values { IfOk result (λ c.
+            Self.shown c ≡ map (cell_of field_type) (lent_fields fields.now)) }
         ensures typed { IfOk result (λ c. All (HasType (kind_at field_type)) (Self.shown c)) };
 }
 
@@ -191,8 +198,10 @@ fn read_stored<C: ReadChunk + Stored>(
 ) -> Result<Chunks, CsvFault>
     requires { physical (kind_at field_type) ≡ C.stored }
     ensures settles { Settles result (column_fault name.now field_type 1 (lent_fields fields.now)) }
-    ensures lists { IfOk result (λ c. chunk_lists c ≡ map (cell_of field_type) (lent_fields fields.now) ∷ []) }
-    ensures typed { IfOk result (λ c. All (HasType (kind_at field_type)) (map (cell_of field_type) (lent_fields fields.now))) }
+    ensures lists { IfOk result (λ c.
+        chunk_lists c ≡ map (cell_of field_type) (lent_fields fields.now) ∷ []) }
+    ensures typed { IfOk result (λ c.
+        All (HasType (kind_at field_type)) (map (cell_of field_type) (lent_fields fields.now))) }
     ensures stored { IfOk result (λ c. storage c ≡ C.kind) }
 {
     let chunk = C::read(alloc, name, field_type, fields)?;
@@ -209,8 +218,10 @@ pub(crate) fn read_chunk(
     fields: &[Option<&str>],
 ) -> Result<Chunks, CsvFault>
     ensures settles { Settles result (column_fault name.now field_type 1 (lent_fields fields.now)) }
-    ensures lists { IfOk result (λ c. chunk_lists c ≡ map (cell_of field_type) (lent_fields fields.now) ∷ []) }
-    ensures typed { IfOk result (λ c. All (HasType (kind_at field_type)) (map (cell_of field_type) (lent_fields fields.now))) }
+    ensures lists { IfOk result (λ c.
+        chunk_lists c ≡ map (cell_of field_type) (lent_fields fields.now) ∷ []) }
+    ensures typed { IfOk result (λ c.
+        All (HasType (kind_at field_type)) (map (cell_of field_type) (lent_fields fields.now))) }
     ensures stored { IfOk result (λ c. storage c ≡ physical (kind_at field_type)) }
 {
     match field_type {

@@ -62,7 +62,8 @@ fn read_column(
 ) -> Result<Column, CsvFault>
     requires { length fields.now ≤ MAX_ROWS }
     ensures settles { Settles result (column_fault name.now field_type 1 (lent_fields fields.now)) }
-    ensures column { IfOk result (λ c. plain_column c ≡ typed_column name.now field_type (lent_fields fields.now)) }
+    ensures column { IfOk result (λ c.
+        plain_column c ≡ typed_column name.now field_type (lent_fields fields.now)) }
 {
     let chunks = read_chunk(alloc, name, field_type, fields)?;
     let name = name.copy(alloc)?;

@@ -63,7 +63,8 @@ fn check_names(alloc: Global, names: &[PlSmallStr]) -> Result<(), CsvFault>
 // Appends the fields of a record, and says whether all are UTF-8. If not, some may have been appended.
 fn push_texts(fields: &mut StringRecord, row: &ByteRecord) -> Result<bool, OutOfMemory>
     ensures text { IfOk result (λ b. b ≡ is_text (fields_of row.now)) }
-    ensures fields { IfOk result (λ b. b ≡ true → fields_of fields.new ≡ fields_of fields.old ++ fields_of row.now) }
+    ensures fields { IfOk result (λ b.
+        b ≡ true → fields_of fields.new ≡ fields_of fields.old ++ fields_of row.now) }
 {
     for field in row {
         let Some(text) = utf8_text(field) else {
@@ -82,7 +83,8 @@ fn push_line(
     place: u64,
 ) -> Result<(), CsvFault>
     ensures settles { Settles result (row_fault width place (fields_of row.now)) }
-    ensures fields { OnOk result (fields_of fields.new ≡ fields_of fields.old ++ fields_of row.now) }
+    ensures fields { OnOk result
+        (fields_of fields.new ≡ fields_of fields.old ++ fields_of row.now) }
 {
     if row.len() != width {
         return Err(CsvFault::FieldCount {
@@ -136,7 +138,8 @@ fn check_height(height: usize) -> Result<(), CsvFault>
 pub(crate) fn read_lines(alloc: Global, text: &[u8], separator: u8) -> Result<Lines, CsvFault>
     ensures settles { Settles result (records_fault (lines_of separator text.now)) }
     ensures read { IfOk result (λ r. AreLines r (lines_of separator text.now)) }
-    ensures full { IfOk result (λ r. length (fields_of r.fields) ≡ r.height * length r.names.items) }
+    ensures full { IfOk result (λ r.
+        length (fields_of r.fields) ≡ r.height * length r.names.items) }
     ensures few { IfOk result (λ r. r.height ≤ MAX_ROWS) }
 {
     let mut reader = open_reader(alloc, text, separator);

@@ -125,8 +125,10 @@ pub(crate) struct Marks {
 
 // Whether each field of the text stands in quotes.
 fn marks_from_start(alloc: Global, text: &[u8], separator: u8) -> Result<Marks, OutOfMemory>
-    ensures marks { IfOk result (λ m. m.marks.items ≡ marks_from (form separator) st.StartRecord text.now) }
-    ensures open { IfOk result (λ m. m.is_open ≡ is_open (state_behind (form separator) st.StartRecord text.now)) }
+    ensures marks { IfOk result (λ m.
+        m.marks.items ≡ marks_from (form separator) st.StartRecord text.now) }
+    ensures open { IfOk result (λ m.
+        m.is_open ≡ is_open (state_behind (form separator) st.StartRecord text.now)) }
 {
     let mut marks = Vec::new(alloc);
     let mut place = Place::StartRecord;

@@ -63,7 +63,8 @@ fn mark_at(marks: &[bool], place: usize) -> bool
 impl Records {
     /// The names of the columns, from the left.
     pub fn names(&self) -> &[PlSmallStr]
-        ensures { (names : Record) (rows : List Record) → IsRead self.now (names ∷ rows) → result.now ≡ line_of names }
+        ensures { (names : Record) (rows : List Record) → IsRead self.now (names ∷ rows)
+            → result.now ≡ line_of names }
     {
         &self.lines.names
     }

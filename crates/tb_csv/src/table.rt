@@ -27,8 +27,10 @@ pub fn table_of_records(
     types: &[TypeOf],
 ) -> Result<DataFrame, CsvFault>
     requires level { IsLevel records.now }
-    ensures settles { (rs : List Record) → IsRead records.now rs → Settles result (types_fault types.now rs) }
-    ensures table { (rs : List Record) → IsRead records.now rs → IfOk result (λ t. table_of t ≡ csv_table types.now rs) }
+    ensures settles { (rs : List Record) → IsRead records.now rs
+        → Settles result (types_fault types.now rs) }
+    ensures table { (rs : List Record) → IsRead records.now rs
+        → IfOk result (λ t. table_of t ≡ csv_table types.now rs) }
 {
     let columns = csv_columns(alloc, records, types)?;
     // The names are distinct and the columns of one height, so that want of memory alone is left.
@@ -41,8 +43,11 @@ pub fn table_of_records(
 ///
 /// Those of `records_of_csv`, then those of `table_of_records`, and OutOfMemory.
 pub fn table_of_csv(alloc: Global, text: &[u8], options: &CsvOptions) -> Result<DataFrame, CsvFault>
-    ensures settles { Settles result (csv_refusal options.now.types.items options.now.separator text.now) }
-    ensures table { IfOk result (λ t. table_of t ≡ csv_table options.now.types.items (records_of options.now.separator text.now)) }
+    ensures settles { Settles result
+        (csv_refusal options.now.types.items options.now.separator text.now) }
+    ensures table { IfOk result (λ t.
+        table_of t
+        ≡ csv_table options.now.types.items (records_of options.now.separator text.now)) }
 {
     let records = records_of_csv(alloc, text, options.separator)?;
     table_of_records(alloc, &records, &options.types)

@@ -53,7 +53,8 @@ fn needs_quotes(separator: u8, field: &[u8]) -> bool
 
 // Appends the bytes, with each quote among them twice.
 fn push_escaped(text: &mut Vec<u8>, field: &[u8]) -> Result<(), OutOfMemory>
-    ensures { (separator : ℕ) → OnOk result (text.new.items ≡ text.old.items ++ escaped (style separator) field.now) }
+    ensures { (separator : ℕ)
+        → OnOk result (text.new.items ≡ text.old.items ++ escaped (style separator) field.now) }
 {
     for byte in field {
         if *byte == b'"' {
@@ -65,7 +66,8 @@ fn push_escaped(text: &mut Vec<u8>, field: &[u8]) -> Result<(), OutOfMemory>
 }
 
 fn push_quoted(text: &mut Vec<u8>, field: &[u8]) -> Result<(), OutOfMemory>
-    ensures { (separator : ℕ) → OnOk result (text.new.items ≡ text.old.items ++ quoted (style separator) field.now) }
+    ensures { (separator : ℕ)
+        → OnOk result (text.new.items ≡ text.old.items ++ quoted (style separator) field.now) }
 {
     text.push(b'"')?;
     push_escaped(text, field)?;
@@ -74,7 +76,8 @@ fn push_quoted(text: &mut Vec<u8>, field: &[u8]) -> Result<(), OutOfMemory>
 
 // Appends a field that is a text of these bytes.
 fn push_field(text: &mut Vec<u8>, separator: u8, field: &[u8]) -> Result<(), OutOfMemory>
-    ensures { OnOk result (text.new.items ≡ text.old.items ++ field_text separator (Some field.now)) }
+    ensures { OnOk result
+        (text.new.items ≡ text.old.items ++ field_text separator (Some field.now)) }
 {
     if field.is_empty() || needs_quotes(separator, field) {
         push_quoted(text, field)
@@ -90,7 +93,9 @@ fn push_number(
     is_day: bool,
     number: i128,
 ) -> Result<(), OutOfMemory>
-    ensures { OnOk result (text.new.items ≡ text.old.items ++ field_text separator (Some (number_text is_day number))) }
+    ensures { OnOk result
+        (text.new.items
+        ≡ text.old.items ++ field_text separator (Some (number_text is_day number))) }
 {
     if is_day && let Some(date) = dated(number) {
         return push_field(text, separator, &date_text(date));
@@ -106,7 +111,11 @@ fn push_value(
     dtype: &DataType,
     value: ValueRef<'_>,
 ) -> Result<(), OutOfMemory>
-    ensures { OnOk result (text.new.items ≡ text.old.items ++ field_text separator (field_among width (kind_of dtype.now) (lent_value value.entry))) }
+    ensures { OnOk result
+        (text.new.items
+        ≡ text.old.items
+        ++ field_text separator
+        (field_among width (kind_of dtype.now) (lent_value value.entry))) }
 {
     match value {
         ValueRef::Boolean(b) => push_field(text, separator, truth_text(b).as_bytes()),
@@ -141,7 +150,9 @@ fn push_row(
     index: usize,
 ) -> Result<(), OutOfMemory>
     requires { All (λ (c : Col). index < length (values c)) columns.now }
-    ensures { OnOk result (text.new.items ≡ text.old.items ++ record_text separator (row_fields (table_of columns.now) index)) }
+    ensures { OnOk result
+        (text.new.items
+        ≡ text.old.items ++ record_text separator (row_fields (table_of columns.now) index)) }
 {
     for place in 0..columns.len() {
         push_gap(text, separator, place)?;
@@ -159,7 +170,10 @@ fn push_row(
 
 // Appends the record of the names of the columns.
 fn push_names(text: &mut Vec<u8>, separator: u8, columns: &[Column]) -> Result<(), OutOfMemory>
-    ensures { OnOk result (text.new.items ≡ text.old.items ++ record_text separator (map (λ n. Some n) (names_of (table_of columns.now)))) }
+    ensures { OnOk result
+        (text.new.items
+        ≡ text.old.items
+        ++ record_text separator (map (λ n. Some n) (names_of (table_of columns.now)))) }
 {
     for place in 0..columns.len() {
         push_gap(text, separator, place)?;

@@ -59,7 +59,8 @@ pub fn date_in(text: &str) -> Option<i32>
 
 /// The date of a day that is written as its date, if it is one.
 pub fn dated(number: i128) -> Option<Date>
-    ensures { MatchOption result (has_text number ≡ false) (λ d. (has_text number ≡ true) × (epoch_day d ≡ number)) }
+    ensures { MatchOption result (has_text number ≡ false) (λ d.
+        (has_text number ≡ true) × (epoch_day d ≡ number)) }
 {
     let Ok(day) = i64::try_from(number) else {
         return None;

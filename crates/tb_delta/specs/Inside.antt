@@ -35,7 +35,8 @@ is_grouped nulls v = nulls || is_present v
 
 -- the ids of the rows whose key agrees with a value
 abbrev pub agreeing : Bool → SideState → Datum → List ℕ
-agreeing nulls s k = map (λ (r : Row). r.0) (filter (λ (r : Row). agrees nulls (key_of s r.1) k) s.rows)
+agreeing nulls s k =
+    map (λ (r : Row). r.0) (filter (λ (r : Row). agrees nulls (key_of s r.1) k) s.rows)
 
 -- whether the key of a row that is taken out agrees with a value
 abbrev pub pulled_agrees : Bool → SideState → Option (List Datum) → Datum → Bool
@@ -48,7 +49,8 @@ abbrev pub stored : ℕ × StoredRow → Row
 stored e = (e.0, data_of e.1.values.items)
 
 abbrev pub side_state : SideRows → SideState
-side_state s = record { columns = map part s.columns.items; key = s.on; rows = map stored s.rows.entries; ever = s.ever }
+side_state s = record
+    { columns = map part s.columns.items; key = s.on; rows = map stored s.rows.entries; ever = s.ever }
 
 -- the same sides without rows
 abbrev pub no_rows : SideState → SideState
@@ -78,7 +80,8 @@ pub record IsPlaced (rows : SideRows) : Type 0 where
 
 -- the ids under each key are those of the rows whose key agrees
 abbrev pub AreGrouped : State → Groups → Type 0
-AreGrouped s gs = (side : Side) (k : RowKey) → ids_at gs side k ≡ agreeing s.join_nulls (of_side side s) (datum k.value)
+AreGrouped s gs = (side : Side) (k : RowKey)
+    → ids_at gs side k ≡ agreeing s.join_nulls (of_side side s) (datum k.value)
 
 pub record IsKept (s : State) (gs : Groups) : Type 0 where
   pub left : AreRows s.left
@@ -88,7 +91,8 @@ pub record IsKept (s : State) (gs : Groups) : Type 0 where
 
 -- the state of a view's parts
 abbrev pub state_of : SideRows → SideRows → Bool → State
-state_of left right join_nulls = record { left = side_state left; right = side_state right; join_nulls = join_nulls }
+state_of left right join_nulls =
+    record { left = side_state left; right = side_state right; join_nulls = join_nulls }
 
 pub record IsView (left right : SideRows) (join_nulls : Bool) (gs : Groups) : Type 0 where
   pub kept : IsKept (state_of left right join_nulls) gs

@@ -5,4 +5,5 @@ use Rattle.tb_delta.specs.Promise.State.{State, given}
 
 -- the join of what is given anew is that of the rows that there are
 abbrev pub MadeAnew : Type 0
-MadeAnew = (s : State) → now (given (table_now s.left) (table_now s.right) s.left.key s.right.key s.join_nulls) ≡ now s
+MadeAnew = (s : State)
+    → now (given (table_now s.left) (table_now s.right) s.left.key s.right.key s.join_nulls) ≡ now s

@@ -23,7 +23,8 @@ steps_of xs = map step_of xs
 -- a step is done, or it isn't; only where memory is wanting for telling, it is done for all that
 abbrev pub IsDone : State → Step → State → Result (Vec ℕ Global) DeltaFault → Type 0
 IsDone s x n (Ok ids) = IsAccepted s x × (n ≡ stepped s x) × (ids.items ≡ told s x)
-IsDone s x n (Err f) = IsRefusedFor s x f × ((n ≡ s) ⊎ ((f ≡ fault.OutOfMemory) × IsAccepted s x × (n ≡ stepped s x)))
+IsDone s x n (Err f) =
+    IsRefusedFor s x f × ((n ≡ s) ⊎ ((f ≡ fault.OutOfMemory) × IsAccepted s x × (n ≡ stepped s x)))
 
 -- the lists of ids
 abbrev pub lists_of : List (Vec ℕ Global) → List (List ℕ)
@@ -39,8 +40,10 @@ pub record IsBehind (s : State) (xs : List Step) (k : ℕ) (n : State) : Type 0 
 pub record IsStopped (s : State) (xs : List Step) (n : State) (f : StepFault) : Type 0 where
   pub there : f.step < length xs
   pub before : IsBehind s xs f.step (after s (take f.step xs))
-  pub refused : (d : Step) → IsRefusedFor (after s (take f.step xs)) (slice_index_or xs f.step d) f.fault
-  pub left : (IsBehind s xs f.step n) ⊎ ((f.fault ≡ fault.OutOfMemory) × IsBehind s xs (f.step + 1) n)
+  pub refused : (d : Step)
+      → IsRefusedFor (after s (take f.step xs)) (slice_index_or xs f.step d) f.fault
+  pub left : (IsBehind s xs f.step n)
+      ⊎ ((f.fault ≡ fault.OutOfMemory) × IsBehind s xs (f.step + 1) n)
 
 abbrev pub IsRun : State → List Step → State → Result (Vec (Vec ℕ Global) Global) StepFault → Type 0
 IsRun s xs n (Ok v) = AreAccepted s xs × (n ≡ after s xs) × (lists_of v.items ≡ told_each s xs)

@@ -25,12 +25,18 @@ IsChecked s row (Err fault.NoRow) = ⊥
 IsChecked s row (Err fault.OutOfMemory) = ⊥
 
 abbrev pub IsInserted : State → Side → List Datum → State → Result ℕ DeltaFault → Type 0
-IsInserted s side row n (Ok id) = FitsFields (of_side side s).columns row × IsRoom (of_side side s) × (id ≡ (of_side side s).ever) × (n ≡ on_side side (appended row) s)
+IsInserted s side row n (Ok id) = FitsFields (of_side side s).columns row
+    × IsRoom (of_side side s)
+    × (id ≡ (of_side side s).ever)
+    × (n ≡ on_side side (appended row) s)
 IsInserted s side row n (Err fault.Schema) = (¬ FitsFields (of_side side s).columns row) × (n ≡ s)
-IsInserted s side row n (Err fault.Full) = FitsFields (of_side side s).columns row × (MAX_ROWS ≤ (of_side side s).ever) × (n ≡ s)
+IsInserted s side row n (Err fault.Full) =
+    FitsFields (of_side side s).columns row × (MAX_ROWS ≤ (of_side side s).ever) × (n ≡ s)
 IsInserted s side row n (Err fault.NoRow) = ⊥
-IsInserted s side row n (Err fault.OutOfMemory) = FitsFields (of_side side s).columns row × IsRoom (of_side side s) × (n ≡ s)
+IsInserted s side row n (Err fault.OutOfMemory) =
+    FitsFields (of_side side s).columns row × IsRoom (of_side side s) × (n ≡ s)
 
 abbrev pub IsRemoved : State → Side → ℕ → State → Result (Vec AnyValue Global) DeltaFault → Type 0
-IsRemoved s side id n (Ok row) = (row_of (of_side side s) id ≡ Some (data_of row.items)) × (n ≡ on_side side (taken_out id) s)
+IsRemoved s side id n (Ok row) =
+    (row_of (of_side side s) id ≡ Some (data_of row.items)) × (n ≡ on_side side (taken_out id) s)
 IsRemoved s side id n (Err e) = (e ≡ fault.NoRow) × (row_of (of_side side s) id ≡ None) × (n ≡ s)

@@ -37,7 +37,10 @@ pub(crate) fn check_tables(
     right_on: &PlSmallStr,
     join_nulls: bool,
 ) -> PolarsResult<()>
-    ensures { Settles result (columns_refusal (lent_request left.now right.now (left_on.now ∷ []) (right_on.now ∷ []) (kept_args join_nulls))) }
+    ensures { Settles result
+        (columns_refusal
+        (lent_request left.now right.now (left_on.now ∷ []) (right_on.now ∷ [])
+        (kept_args join_nulls))) }
 {
     let left_on = [left_on.copy(alloc)?];
     let right_on = [right_on.copy(alloc)?];

@@ -12,7 +12,10 @@ use tb_value::{MAX_ROWS, Side};
 
 /// Whether more ids of right rows stand under the keys of the left rows than a table may have rows. It takes no memory.
 pub(crate) fn are_too_many(left: &SideRows, groups: &Groups) -> bool
-    ensures { result ≡ nat_lt MAX_ROWS (sum_by (λ (s : StoredRow). length (ids_at groups.now Side.Right s.key)) (values left.now.rows)) }
+    ensures { result
+        ≡ nat_lt MAX_ROWS
+        (sum_by (λ (s : StoredRow). length (ids_at groups.now Side.Right s.key))
+        (values left.now.rows)) }
 {
     let mut pairs = 0;
     for row in left.rows.values() {

@@ -35,7 +35,8 @@ fn take_out(ids: &mut Vec<u32>, id: u32)
 
 impl Group {
     fn of(alloc: Global, side: Side, id: u32) -> Result<Group, OutOfMemory>
-        ensures { IfOk result (λ g. (s : Side) → side_ids s g ≡ (if is_side side s then id ∷ [] else [])) }
+        ensures { IfOk result (λ g.
+            (s : Side) → side_ids s g ≡ (if is_side side s then id ∷ [] else [])) }
     {
         let mut group = Group {
             left: Vec::new(alloc),
@@ -55,7 +56,12 @@ impl Group {
     }
 
     fn push(&mut self, side: Side, id: u32) -> Result<(), OutOfMemory>
-        ensures ok { OnOk result ((s : Side) → side_ids s self.new ≡ (if is_side side s then side_ids s self.old ++ id ∷ [] else side_ids s self.old)) }
+        ensures ok { OnOk result
+            ((s : Side)
+            → side_ids s self.new
+            ≡ (if is_side side s
+            then side_ids s self.old ++ id ∷ []
+            else side_ids s self.old)) }
         ensures err { OnErr result ((s : Side) → side_ids s self.new ≡ side_ids s self.old) }
     {
         match side {
@@ -74,7 +80,11 @@ impl Group {
 
     fn take_out(&mut self, side: Side, id: u32)
         requires { IsAscending (side_ids side self.old) }
-        ensures { (s : Side) → side_ids s self.new ≡ (if is_side side s then without id (side_ids s self.old) else side_ids s self.old) }
+        ensures { (s : Side)
+            → side_ids s self.new
+            ≡ (if is_side side s
+            then without id (side_ids s self.old)
+            else side_ids s self.old) }
     {
         match side {
             Side::Left => take_out(&mut self.left, id),
@@ -112,7 +122,8 @@ impl Groups {
     ) -> Result<(), OutOfMemory>
         ensures ok { OnOk result ((s : Side) → (k : RowKey) → ids_at self.new s k
             ≡ (if is_side side s && ties (datum key.now.value) (datum k.value) then ids_at self.old s k ++ id ∷ [] else ids_at self.old s k)) }
-        ensures err { OnErr result ((s : Side) → (k : RowKey) → ids_at self.new s k ≡ ids_at self.old s k) }
+        ensures err { OnErr result
+            ((s : Side) → (k : RowKey) → ids_at self.new s k ≡ ids_at self.old s k) }
     {
         match self.groups.get_mut(key) {
             Some(group) => group.push(side, id),

@@ -63,7 +63,9 @@ pub(crate) fn side_without_rows(
     on: PlSmallStr,
 ) -> Result<SideRows, OutOfMemory>
     requires { unknown_key (table_of frame.now) (on ∷ []) ≡ None }
-    ensures state { IfOk result (λ s. side_state s ≡ record { columns = schema_of (table_of frame.now); key = on; rows = []; ever = 0 }) }
+    ensures state { IfOk result (λ s.
+        side_state s
+        ≡ record { columns = schema_of (table_of frame.now); key = on; rows = []; ever = 0 }) }
     ensures placed { IfOk result (λ s. IsPlaced s) }
 {
     let columns = fields_of(alloc, frame.get_columns())?;

@@ -57,11 +57,13 @@ pub(crate) fn push_row(
     requires below { (k : RowKey) → All (λ i. i < rows.old.ever) (ids_at groups.old side k) }
     ensures id { IfOk result (λ id. id ≡ rows.old.ever) }
     ensures placed { IsPlaced rows.new }
-    ensures rows { OnOk result (side_state rows.new ≡ appended (data_of row.items) (side_state rows.old)) }
+    ensures rows { OnOk result
+        (side_state rows.new ≡ appended (data_of row.items) (side_state rows.old)) }
     ensures groups { OnOk result ((s : Side) → (k : RowKey) → ids_at groups.new s k
         ≡ (if is_side side s && agrees join_nulls (key_of (side_state rows.old) (data_of row.items)) (datum k.value) then ids_at groups.old s k ++ rows.old.ever ∷ [] else ids_at groups.old s k)) }
     ensures rows_stay { OnErr result (side_state rows.new ≡ side_state rows.old) }
-    ensures groups_stay { OnErr result ((s : Side) → (k : RowKey) → ids_at groups.new s k ≡ ids_at groups.old s k) }
+    ensures groups_stay { OnErr result
+        ((s : Side) → (k : RowKey) → ids_at groups.new s k ≡ ids_at groups.old s k) }
 {
     let id = rows.ever;
     let key = RowKey::of(alloc, &row[rows.key])?;

@@ -28,7 +28,10 @@ fn fields_at(
     place: usize,
 ) -> Result<Vec<AnyValue>, OutOfMemory>
     requires { All (λ (s : StoredRow). place < vec_len s.values) (values rows.now) }
-    ensures { IfOk result (λ v. data_of v.items ≡ map (λ (s : StoredRow). slice_index_or (data_of s.values.items) place null) (values rows.now)) }
+    ensures { IfOk result (λ v.
+        data_of v.items
+        ≡ map (λ (s : StoredRow). slice_index_or (data_of s.values.items) place null)
+        (values rows.now)) }
 {
     let mut fields = Vec::with_capacity(alloc, rows.len())?;
     for row in rows.values() {
@@ -49,7 +52,10 @@ fn column_of(alloc: Global, field: &Field, values: Vec<AnyValue>) -> PolarsResul
     requires typed { All (HasType (kind_of field.now.dtype)) (data_of values.items) }
     requires few { length (data_of values.items) ≤ MAX_ROWS }
     ensures settles { Settles result None }
-    ensures column { IfOk result (λ c. plain_column c ≡ record { name = field.now.name; kind = kind_of field.now.dtype; values = data_of values.items }) }
+    ensures column { IfOk result (λ c.
+        plain_column c
+        ≡ record
+        { name = field.now.name; kind = kind_of field.now.dtype; values = data_of values.items }) }
 {
     let dtype = field.dtype.copy(alloc)?;
     let chunks = one_list(alloc, values)?;
@@ -65,8 +71,12 @@ fn column_now(
 ) -> Result<Column, OutOfMemory>
     requires kept { AreRows (side_state rows.now) }
     requires long { All (λ (s : StoredRow). place < vec_len s.values) (values rows.now.rows) }
-    requires typed { All (λ (s : StoredRow). HasType (kind_of field.now.dtype) (slice_index_or (data_of s.values.items) place null)) (values rows.now.rows) }
-    ensures { IfOk result (λ c. plain_column c ≡ column_now (side_state rows.now).rows (place, part field.now)) }
+    requires typed { All
+        (λ (s : StoredRow).
+        HasType (kind_of field.now.dtype) (slice_index_or (data_of s.values.items) place null))
+        (values rows.now.rows) }
+    ensures { IfOk result (λ c.
+        plain_column c ≡ column_now (side_state rows.now).rows (place, part field.now)) }
 {
     let fields = fields_at(alloc, &rows.rows, place)?;
     only_memory(column_of(alloc, field, fields))

@@ -65,8 +65,11 @@ fn without_rows(
 ) -> Result<JoinView, OutOfMemory>
     requires left { IsTable (table_of left.now) }
     requires right { IsTable (table_of right.now) }
-    requires valid { columns_refusal (lent_request left.now right.now (left_on ∷ []) (right_on ∷ []) (kept_args join_nulls)) ≡ None }
-    ensures { IfOk result (λ v. v ≡ given_columns (table_of left.now) (table_of right.now) left_on right_on join_nulls) }
+    requires valid { columns_refusal
+        (lent_request left.now right.now (left_on ∷ []) (right_on ∷ []) (kept_args join_nulls))
+        ≡ None }
+    ensures { IfOk result (λ v.
+        v ≡ given_columns (table_of left.now) (table_of right.now) left_on right_on join_nulls) }
 {
     let left = side_without_rows(alloc, left, left_on)?;
     let right = side_without_rows(alloc, right, right_on)?;
@@ -90,7 +93,8 @@ fn take_up_row(
     requires columns { (of_side side view.old).columns ≡ schema_of (table_of columns.now) }
     requires row { row < height (table_of columns.now) }
     requires few { (of_side side view.old).ever < MAX_ROWS }
-    ensures { OnOk result (view.new ≡ on_side side (appended (row_at (table_of columns.now) row)) view.old) }
+    ensures { OnOk result
+        (view.new ≡ on_side side (appended (row_at (table_of columns.now) row)) view.old) }
 {
     let row = row_at(alloc, columns, row)?;
     match view.insert(alloc, side, row) {
@@ -108,7 +112,10 @@ fn take_up(
 ) -> Result<(), OutOfMemory>
     requires columns { (of_side side view.old).columns ≡ schema_of (table_of frame.now) }
     requires no_rows { on_side side (with_first (table_of frame.now) 0) view.old ≡ view.old }
-    ensures { OnOk result (view.new ≡ on_side side (with_first (table_of frame.now) (height (table_of frame.now))) view.old) }
+    ensures { OnOk result
+        (view.new
+        ≡ on_side side (with_first (table_of frame.now) (height (table_of frame.now)))
+        view.old) }
 {
     let columns = frame.get_columns();
     for row in 0..frame.height() {
@@ -136,8 +143,14 @@ impl JoinView {
         right_on: &str,
         join_nulls: bool,
     ) -> PolarsResult<JoinView>
-        ensures settles { Settles result (view_refusal (given (table_of left.now) (table_of right.now) left_on.now right_on.now join_nulls)) }
-        ensures given { IfOk result (λ v. v ≡ given (table_of left.now) (table_of right.now) left_on.now right_on.now join_nulls) }
+        ensures settles { Settles result
+            (view_refusal
+            (given (table_of left.now) (table_of right.now) left_on.now right_on.now
+            join_nulls)) }
+        ensures given { IfOk result (λ v.
+            v
+            ≡ given (table_of left.now) (table_of right.now) left_on.now right_on.now
+            join_nulls) }
     {
         let _columns = left.get_columns();
         let _others = right.get_columns();

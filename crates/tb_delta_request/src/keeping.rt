@@ -73,8 +73,11 @@ fn view_of(
     right_on: &PlSmallStr,
     join_nulls: bool,
 ) -> PolarsResult<JoinView>
-    ensures settles { Settles result (view_refusal (given (table_of left) (table_of right) left_on.now right_on.now join_nulls)) }
-    ensures given { IfOk result (λ v. v ≡ given (table_of left) (table_of right) left_on.now right_on.now join_nulls) }
+    ensures settles { Settles result
+        (view_refusal
+        (given (table_of left) (table_of right) left_on.now right_on.now join_nulls)) }
+    ensures given { IfOk result (λ v.
+        v ≡ given (table_of left) (table_of right) left_on.now right_on.now join_nulls) }
 {
     JoinView::from_tables(
         alloc,

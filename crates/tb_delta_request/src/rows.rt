@@ -24,7 +24,8 @@ fn row_of(
 ) -> Result<Option<Vec<AnyValue>>, OutOfMemory>
     ensures value { IfOk result (λ o. option_map (λ v. data_of v.items) o
         ≡ row_in (map written_view columns.now) (map view row.now)) }
-    ensures typed { IfOk result (λ o. IfSome o (λ v. FitsFields (map column_part columns.now) (data_of v.items))) }
+    ensures typed { IfOk result (λ o.
+        IfSome o (λ v. FitsFields (map column_part columns.now) (data_of v.items))) }
 {
     if row.len() != columns.len() {
         return Ok(None);
@@ -49,7 +50,8 @@ fn step_from(
 ) -> Result<Option<Step>, OutOfMemory>
     ensures value { IfOk result (λ o. option_map step_of o
         ≡ step_in (map written_view left.now) (map written_view right.now) (step_view written)) }
-    ensures fits { IfOk result (λ o. IfSome o (λ s. Fits (map column_part left.now) (map column_part right.now) (step_of s))) }
+    ensures fits { IfOk result (λ o.
+        IfSome o (λ s. Fits (map column_part left.now) (map column_part right.now) (step_of s))) }
 {
     match written {
         WrittenStep::Insert { side, row } => {
@@ -71,7 +73,9 @@ pub(crate) fn steps_from(
 ) -> Result<Option<Vec<Step>>, OutOfMemory>
     ensures value { IfOk result (λ o. option_map (λ v. steps_of v.items) o
         ≡ steps_in (map written_view left.now) (map written_view right.now) (map step_view written.items)) }
-    ensures fits { IfOk result (λ o. IfSome o (λ v. All (Fits (map column_part left.now) (map column_part right.now)) (steps_of v.items))) }
+    ensures fits { IfOk result (λ o.
+        IfSome o (λ v.
+        All (Fits (map column_part left.now) (map column_part right.now)) (steps_of v.items))) }
 {
     let mut steps = Vec::with_capacity(alloc, written.len())?;
     for item in written {

@@ -65,7 +65,8 @@ pub(crate) fn columns_on<'a>(
 
 // The values of an array, if there is one.
 fn array_in(alloc: Global, value: Option<Value>) -> Result<Option<Vec<Value>>, OutOfMemory>
-    ensures { IfOk result (λ o. option_map (λ v. map view v.items) o ≡ option_and_then as_list (option_map view value)) }
+    ensures { IfOk result (λ o.
+        option_map (λ v. map view v.items) o ≡ option_and_then as_list (option_map view value)) }
 {
     match value {
         Some(value) => into_array(alloc, value),
@@ -75,7 +76,9 @@ fn array_in(alloc: Global, value: Option<Value>) -> Result<Option<Vec<Value>>, O
 
 // The values of a member that is an array.
 fn array_at(alloc: Global, object: Value, name: &str) -> Result<Option<Vec<Value>>, OutOfMemory>
-    ensures { IfOk result (λ o. option_map (λ v. map view v.items) o ≡ option_and_then as_list (get name.now (view object))) }
+    ensures { IfOk result (λ o.
+        option_map (λ v. map view v.items) o
+        ≡ option_and_then as_list (get name.now (view object))) }
 {
     array_in(alloc, into_member(object, name))
 }

@@ -19,7 +19,8 @@ use tb_json::{open_table, push_comma, text_of_refusal};
 use tb_value::OutOfMemory;
 
 fn push_id(text: &mut String, id: u32) -> Result<(), OutOfMemory>
-    ensures { OnOk result (string_bytes text.new ≡ string_bytes text.old ++ compact_text (id_data id)) }
+    ensures { OnOk result
+        (string_bytes text.new ≡ string_bytes text.old ++ compact_text (id_data id)) }
 {
     write!(text, "{}", id)?;
     Ok(())
@@ -41,7 +42,8 @@ fn push_ids(text: &mut String, ids: &[u32]) -> Result<(), OutOfMemory>
 
 // Ids, as an array.
 fn push_list(text: &mut String, ids: &[u32]) -> Result<(), OutOfMemory>
-    ensures { OnOk result (string_bytes text.new ≡ string_bytes text.old ++ compact_text (ids_data ids.now)) }
+    ensures { OnOk result
+        (string_bytes text.new ≡ string_bytes text.old ++ compact_text (ids_data ids.now)) }
 {
     text.push_str("[")?;
     push_ids(text, ids)?;
@@ -65,7 +67,9 @@ fn push_lists(text: &mut String, lists: &[Vec<u32>]) -> Result<(), OutOfMemory>
 
 // Lists of ids, as an array.
 fn push_partners(text: &mut String, lists: &[Vec<u32>]) -> Result<(), OutOfMemory>
-    ensures { OnOk result (string_bytes text.new ≡ string_bytes text.old ++ compact_text (lists_data (lists_of lists.now))) }
+    ensures { OnOk result
+        (string_bytes text.new
+        ≡ string_bytes text.old ++ compact_text (lists_data (lists_of lists.now))) }
 {
     text.push_str("[")?;
     push_lists(text, lists)?;
@@ -80,7 +84,8 @@ pub fn text_of_kept(
     table: &DataFrame,
     partners: &[Vec<u32>],
 ) -> Result<String, OutOfMemory>
-    ensures { IfOk result (λ s. string_bytes s ≡ kept_text (table_of table.now) (lists_of partners.now)) }
+    ensures { IfOk result (λ s.
+        string_bytes s ≡ kept_text (table_of table.now) (lists_of partners.now)) }
 {
     let mut text = open_table(alloc, table)?;
     text.push_str(",\"partners\":")?;
@@ -121,7 +126,8 @@ fn text_of_step(alloc: Global, fault: StepFault) -> Result<String, OutOfMemory>
 ///
 /// `OutOfMemory`, and always where that is the fault.
 pub fn text_of_fault(alloc: Global, fault: &KeptFault) -> Result<String, OutOfMemory>
-    ensures { IfOk result (λ s. (r : Refusal) × (refusal_view fault.now ≡ Some r) × (string_bytes s ≡ text_of_refusal r)) }
+    ensures { IfOk result (λ s.
+        (r : Refusal) × (refusal_view fault.now ≡ Some r) × (string_bytes s ≡ text_of_refusal r)) }
 {
     match fault {
         KeptFault::OutOfMemory => Err(OutOfMemory),

@@ -44,7 +44,8 @@ abbrev pub semi_or_anti : Bool → JoinType
 semi_or_anti anti = (if anti then Anti else Semi)
 
 abbrev pub by_match : Bool → Bool → Option (ℤ × ℕ) → List Col → Col → Col → Request
-by_match anti nulls slice left l r = given_request left (r ∷ []) (l ∷ []) (r ∷ []) (record (plain_args (semi_or_anti anti)) { slice = slice; join_nulls = All nulls })
+by_match anti nulls slice left l r = given_request left (r ∷ []) (l ∷ []) (r ∷ [])
+    (record (plain_args (semi_or_anti anti)) { slice = slice; join_nulls = All nulls })
 
 -- both have one key type
 pub record AreKeys (l r : Col) : Type 0 where
@@ -59,8 +60,10 @@ pub record StandBeside (left right : List Col) (l r : Col) : Type 0 where
 
 -- where keys are coalesced, their names are columns of their tables, and two columns that are coalesced have one type
 pub record CanCoalesce (q : Request) : Type 0 where
-  pub known_left : coalesces_keys q.args.how (coalesces q.args) ≡ true → first_unknown q.left q.left_on ≡ None
-  pub known_right : coalesces_keys q.args.how (coalesces q.args) ≡ true → first_unknown q.right q.right_on ≡ None
+  pub known_left : coalesces_keys q.args.how (coalesces q.args) ≡ true
+      → first_unknown q.left q.left_on ≡ None
+  pub known_right : coalesces_keys q.args.how (coalesces q.args) ≡ true
+      → first_unknown q.right q.right_on ≡ None
   pub alike : CoalescesAlike q
 
 -- keys beside a table of that height, without their values where it has no rows
@@ -76,12 +79,18 @@ all_fit n keys = list_all (λ (c : Col). fits n (plain_column c)) keys
 
 -- a key of a side is not
 abbrev pub misfit : List Col → List Col → List Col → List Col → Option PolarsError
-misfit left right left_keys right_keys = when (not (all_fit (height (table_of left)) left_keys && all_fit (height (table_of right)) right_keys)) ShapeMismatch
+misfit left right left_keys right_keys = when
+    (not
+    (all_fit (height (table_of left)) left_keys
+    && all_fit (height (table_of right)) right_keys))
+    ShapeMismatch
 
 -- the causes before the keys' types: unknown names, misfit keys, and then what the lists of names and flags are refused for
-abbrev pub early_refusal : List Col → List Col → List Col → List Col → JoinNulls → List Name → List Name → Option PolarsError
+abbrev pub early_refusal : List Col → List Col → List Col → List Col → JoinNulls → List Name
+    → List Name → Option PolarsError
 early_refusal left right left_keys right_keys nulls left_on right_on =
-    first_cause (first_cause (name_causes (table_of left) (table_of right) left_on right_on) ∷ misfit left right left_keys right_keys
+    first_cause
+    (first_cause (name_causes (table_of left) (table_of right) left_on right_on) ∷ misfit left right left_keys right_keys
     ∷ first_cause (list_causes nulls left_on right_on) ∷ [])
 
 -- the causes once the keys' columns stand: a name of the answer is repeated, a side has twins and may not, or there are too many pairs
@@ -89,8 +98,11 @@ abbrev pub paired_refusal : Request → Option PolarsError
 paired_refusal q = first_cause (repeated_name q ∷ row_causes q)
 
 -- what the join of two tables by given columns answers, and the Full join by one column of each side
-abbrev pub IsGivenJoin : List Col → List Col → List Col → List Col → JoinArgs → Result (List Col) PolarsError → Type 0
+abbrev pub IsGivenJoin : List Col → List Col → List Col → List Col → JoinArgs
+    → Result (List Col) PolarsError → Type 0
 IsGivenJoin left right left_keys right_keys args = let q = given_request left right left_keys right_keys args in IsJoinUnless (given_refusal q) q
 
-abbrev pub IsFullJoin : List Col → List Col → Col → Col → JoinArgs → Result (List Col) PolarsError → Type 0
-IsFullJoin left right l r args = let q = by_series Full left right l r args in IsJoinUnless (paired_refusal q) q
+abbrev pub IsFullJoin : List Col → List Col → Col → Col → JoinArgs → Result (List Col) PolarsError
+    → Type 0
+IsFullJoin left right l r args = let q = by_series Full left right l r args in
+    IsJoinUnless (paired_refusal q) q

@@ -10,11 +10,13 @@ use Rattle.tb_frame.specs.Promise.Join.{Request}
 
 -- left columns over the left rows of pairs, and right ones over the right rows
 abbrev pub AreOver : List JoinPair → List Col → List Col → List Col × List Col → Type 0
-AreOver ps left right halves = (halves.0 ≡ map (opt_taken_rows (map (λ (p : JoinPair). p.left) ps)) left)
+AreOver ps left right halves =
+    (halves.0 ≡ map (opt_taken_rows (map (λ (p : JoinPair). p.left) ps)) left)
     × (halves.1 ≡ map (opt_taken_rows (map (λ (p : JoinPair). p.right) ps)) right)
 
 -- the same over the listing of a request, ordered and then cut
-pub record AreHalves (q : Request) (left right : List Col) (halves : List Col × List Col) : Type 0 where
+pub record AreHalves (q : Request) (left right : List Col)
+    (halves : List Col × List Col) : Type 0 where
   pub pairs : List JoinPair
   pub listed : ArePairsOf q pairs
   pub over : AreOver pairs left right halves

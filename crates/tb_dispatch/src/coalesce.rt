@@ -20,7 +20,9 @@ fn standing_name(
     left: &PlSmallStr,
     right: &PlSmallStr,
 ) -> Result<PlSmallStr, OutOfMemory>
-    ensures { IfOk result (λ s. (ns : List Name) → ((n : Name) → has_name taken.now n ≡ is_among ns n) → s ≡ stands_as ns suffix.now (left.now, right.now)) }
+    ensures { IfOk result (λ s.
+        (ns : List Name) → ((n : Name) → has_name taken.now n ≡ is_among ns n)
+        → s ≡ stands_as ns suffix.now (left.now, right.now)) }
 {
     if left == right || taken.contains(right) {
         _join_suffix_name(alloc, right.as_str(), suffix)
@@ -38,7 +40,8 @@ fn standing_names(
     keys_right: &[PlSmallStr],
 ) -> Result<Vec<PlSmallStr>, OutOfMemory>
     requires { length keys_left.now ≡ length keys_right.now }
-    ensures { IfOk result (λ v. v.items ≡ names_standing df_left.now suffix.now keys_left.now keys_right.now) }
+    ensures { IfOk result (λ v.
+        v.items ≡ names_standing df_left.now suffix.now keys_left.now keys_right.now) }
 {
     let taken = column_name_set(alloc, df_left.get_columns())?;
     let mut names = Vec::with_capacity(alloc, keys_left.len())?;
@@ -80,8 +83,12 @@ pub fn _coalesce_full_join(
     df_left: &DataFrame,
 ) -> Result<DataFrame, OutOfMemory>
     requires many { length keys_left.now ≡ length keys_right.now }
-    requires coalescing { AreCoalescable keys_left.now (names_standing df_left.now (suffix_or suffix) keys_left.now keys_right.now) df }
-    ensures { IfOk result (λ t. t ≡ coalesced_columns keys_left.now (names_standing df_left.now (suffix_or suffix) keys_left.now keys_right.now) df) }
+    requires coalescing { AreCoalescable keys_left.now
+        (names_standing df_left.now (suffix_or suffix) keys_left.now keys_right.now) df }
+    ensures { IfOk result (λ t.
+        t
+        ≡ coalesced_columns keys_left.now
+        (names_standing df_left.now (suffix_or suffix) keys_left.now keys_right.now) df) }
 {
     let suffix = suffix_text(&suffix);
     let rights = standing_names(alloc, df_left, suffix, keys_left, keys_right)?;

@@ -58,7 +58,8 @@ pub trait JoinDispatch: IntoDf {
         requires named { All (NameRows chunk_ids.now) (Self.frame self.now) }
         requires in_order { StandInOrder (row_order left_join) chunk_ids.now }
         requires few { length chunk_ids.now ≤ MAX_ROWS }
-        ensures { IfOk result (λ t. t ≡ map (gathered_column chunk_ids.now (row_order left_join)) (Self.frame self.now)) }
+        ensures { IfOk result (λ t.
+            t ≡ map (gathered_column chunk_ids.now (row_order left_join)) (Self.frame self.now)) }
     {
         let sorted = runs(left_join);
         self.to_df()
@@ -92,7 +93,8 @@ pub trait JoinDispatch: IntoDf {
     ) -> Result<DataFrame, OutOfMemory>
         requires rows { All (λ r. r < height (table_of (Self.frame self.now))) idx.now }
         requires rise { Rise idx.now }
-        ensures { IfOk result (λ t. t ≡ map (taken_rows (cut slice idx.now)) (Self.frame self.now)) }
+        ensures { IfOk result (λ t.
+            t ≡ map (taken_rows (cut slice idx.now)) (Self.frame self.now)) }
     {
         let table = self.to_df();
         let _height = table.height();
@@ -114,7 +116,9 @@ pub trait JoinDispatch: IntoDf {
     ) -> Result<DataFrame, OutOfMemory>
         requires types { AreKeys s_left.now s_right.now }
         requires rows { length (values s_left.now) ≡ height (table_of (Self.frame self.now)) }
-        ensures { IfOk result (λ t. IsAnswer (by_match anti join_nulls slice (Self.frame self.now) s_left.now s_right.now) (table_of t)) }
+        ensures { IfOk result (λ t.
+            IsAnswer (by_match anti join_nulls slice (Self.frame self.now) s_left.now s_right.now)
+            (table_of t)) }
     {
         let _columns = self.to_df().get_columns();
         let rows = rows_alone(rt, alloc, s_left, s_right, anti, join_nulls, exec)?;
@@ -145,7 +149,8 @@ pub trait JoinDispatch: IntoDf {
         exec: &Exec,
     ) -> PolarsResult<DataFrame>
         requires keys { StandBeside (Self.frame self.now) other.now s_left.now s_right.now }
-        requires coalescing { CanCoalesce (by_series JoinType.Full (Self.frame self.now) other.now s_left.now s_right.now args) }
+        requires coalescing { CanCoalesce
+            (by_series JoinType.Full (Self.frame self.now) other.now s_left.now s_right.now args) }
         requires flags { null_flags args.join_nulls 1 ≡ None }
         ensures { IsFullJoin (Self.frame self.now) other.now s_left.now s_right.now args result }
     {
@@ -166,7 +171,10 @@ fn rows_alone(
     exec: &Exec,
 ) -> Result<Vec<IdxSize>, OutOfMemory>
     requires { AreKeys s_left.now s_right.now }
-    ensures { IfOk result (λ v. map left_only v.items ≡ value_listing join_nulls (semi_or_anti anti) (values s_left.now) (values s_right.now)) }
+    ensures { IfOk result (λ v.
+        map left_only v.items
+        ≡ value_listing join_nulls (semi_or_anti anti) (values s_left.now)
+        (values s_right.now)) }
 {
     let answer = s_left.hash_join_semi_anti(rt, alloc, s_right, anti, join_nulls, exec);
     only_memory(answer)
@@ -184,7 +192,8 @@ fn full_join_by(
     exec: &Exec,
 ) -> PolarsResult<DataFrame>
     requires keys { StandBeside left.now right.now s_left.now s_right.now }
-    requires coalescing { CanCoalesce (by_series JoinType.Full left.now right.now s_left.now s_right.now args.now) }
+    requires coalescing { CanCoalesce
+        (by_series JoinType.Full left.now right.now s_left.now s_right.now args.now) }
     ensures { IsFullJoin left.now right.now s_left.now s_right.now args.now result }
 {
     let request = LentRequest {
@@ -208,9 +217,11 @@ fn join_named(
     exec: &Exec,
 ) -> PolarsResult<DataFrame>
     requires alike { AreKeysAlike request.now }
-    requires wide { (0 < length (out (asked_request request.now))) ⊎ (listing (asked_request request.now) ≡ []) }
+    requires wide { (0 < length (out (asked_request request.now)))
+        ⊎ (listing (asked_request request.now) ≡ []) }
     requires coalescing { CanCoalesceKeys (asked_request request.now) }
-    ensures { IsJoinUnless (paired_refusal (asked_request request.now)) (asked_request request.now) result }
+    ensures { IsJoinUnless (paired_refusal (asked_request request.now)) (asked_request request.now)
+        result }
 {
     check_answer_names(alloc, request)?;
     let pairs = listed_pairs(rt, alloc, request, exec)?;

@@ -42,8 +42,11 @@ pub trait GivenJoin: IntoDf {
         args: JoinArgs,
         exec: &Exec,
     ) -> PolarsResult<DataFrame>
-        requires { CoalescesAlike (given_request (Self.frame self.now) other.now selected_left.items selected_right.items args) }
-        ensures { IsGivenJoin (Self.frame self.now) other.now selected_left.items selected_right.items args result }
+        requires { CoalescesAlike
+            (given_request (Self.frame self.now) other.now selected_left.items selected_right.items
+            args) }
+        ensures { IsGivenJoin (Self.frame self.now) other.now selected_left.items
+            selected_right.items args result }
     {
         let left = self.to_df();
         join_given(
@@ -80,7 +83,8 @@ fn lent_keys<'a>(
 ) -> Result<Vec<&'a Series>, OutOfMemory>
     requires { HasRows (height (table_of _table.now)) keys.now }
     ensures lent { IfOk result (λ v. lent_columns v.items ≡ keys.now) }
-    ensures rows { IfOk result (λ v. HasRows (height (table_of _table.now)) (lent_columns v.items)) }
+    ensures rows { IfOk result (λ v.
+        HasRows (height (table_of _table.now)) (lent_columns v.items)) }
 {
     let mut lent = Vec::with_capacity(alloc, keys.len())?;
     for key in keys {
@@ -97,7 +101,9 @@ fn check_names(
     left_on: &[PlSmallStr],
     right_on: &[PlSmallStr],
 ) -> PolarsResult<()>
-    ensures { Settles result (first_cause (name_causes (table_of left.now) (table_of right.now) left_on.now right_on.now)) }
+    ensures { Settles result
+        (first_cause
+        (name_causes (table_of left.now) (table_of right.now) left_on.now right_on.now)) }
 {
     lend_columns(alloc, left.get_columns(), left_on)?;
     lend_columns(alloc, right.get_columns(), right_on)?;
@@ -164,7 +170,9 @@ fn check_given(
     left_on: &[PlSmallStr],
     right_on: &[PlSmallStr],
 ) -> PolarsResult<()>
-    ensures { Settles result (early_refusal left.now right.now left_keys.now right_keys.now nulls.now left_on.now right_on.now) }
+    ensures { Settles result
+        (early_refusal left.now right.now left_keys.now right_keys.now nulls.now left_on.now
+        right_on.now) }
 {
     check_names(alloc, left, right, left_on, right_on)?;
     check_shapes(left, right, left_keys, right_keys)?;
@@ -181,7 +189,8 @@ fn join_given(
     args: &JoinArgs,
     exec: &Exec,
 ) -> PolarsResult<DataFrame>
-    requires coalescing { CoalescesAlike (given_request left.now right.now left_keys.items right_keys.items args.now) }
+    requires coalescing { CoalescesAlike
+        (given_request left.now right.now left_keys.items right_keys.items args.now) }
     ensures { IsGivenJoin left.now right.now left_keys.items right_keys.items args.now result }
 {
     let left_on = key_names(alloc, &left_keys)?;

@@ -32,7 +32,8 @@ fn half<S: RowOf<JoinPair>>(
 ) -> Result<DataFrame, OutOfMemory>
     requires rows { All (IsRowOf (height (table_of table.now))) (map S.number pairs.now) }
     requires few { length pairs.now ≤ MAX_ROWS }
-    ensures { IfOk result (λ t. t ≡ map (opt_taken_rows (map S.number pairs.now)) (without_names gone.now table.now)) }
+    ensures { IfOk result (λ t.
+        t ≡ map (opt_taken_rows (map S.number pairs.now)) (without_names gone.now table.now)) }
 {
     let _columns = table.get_columns();
     let not = IsSorted::Not;
@@ -49,7 +50,8 @@ fn halves(
     gone: &[PlSmallStr],
     pairs: &[JoinPair],
 ) -> Result<(DataFrame, DataFrame), OutOfMemory>
-    requires pairs { All (IsPairOf (height (table_of left.now)) (height (table_of right.now))) pairs.now }
+    requires pairs { All (IsPairOf (height (table_of left.now)) (height (table_of right.now)))
+        pairs.now }
     requires few { length pairs.now ≤ MAX_ROWS }
     ensures { IfOk result (AreOver pairs.now left.now (without_names gone.now right.now)) }
 {
@@ -92,7 +94,10 @@ pub fn materialize_left_join_from_series(
 ) -> PolarsResult<(DataFrame, DataFrame)>
     requires keys { StandBeside left right_.now s_left.now s_right.now }
     requires flags { null_flags args.now.join_nulls 1 ≡ None }
-    ensures settles { Settles result (first_cause (row_causes (by_series JoinType.Left left right_.now s_left.now s_right.now args.now))) }
+    ensures settles { Settles result
+        (first_cause
+        (row_causes
+        (by_series JoinType.Left left right_.now s_left.now s_right.now args.now))) }
     ensures halves { IfOk result (AreHalves (by_series JoinType.Left left right_.now s_left.now s_right.now args.now) left
         (without_names (dropped_names s_right.now.name drop_names) right_.now)) }
 {

@@ -41,7 +41,8 @@ pub fn _finish_join(
     suffix: Option<PlSmallStr>,
 ) -> PolarsResult<DataFrame>
     requires { AreLevel df_left df_right }
-    ensures settles { Settles result (repeated_among (names_of (table_of (side_by_side (suffix_or suffix) df_left df_right)))) }
+    ensures settles { Settles result
+        (repeated_among (names_of (table_of (side_by_side (suffix_or suffix) df_left df_right)))) }
     ensures columns { IfOk result (λ t. t ≡ side_by_side (suffix_or suffix) df_left df_right) }
 {
     let _left = df_left.get_columns();

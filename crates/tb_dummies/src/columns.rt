@@ -22,7 +22,8 @@ use tb_value::{DataType, IdxSize, MAX_ROWS, OutOfMemory, PlSmallStr, ValueRef};
 // The rows of a column in groups of one value. Columns of several chunks are joined first, since a row of theirs is
 // found in as many steps.
 fn groups_of(alloc: Global, column: &Series) -> Result<Groups, OutOfMemory>
-    ensures { IfOk result (AreGroups (same_rows (values column.now ∷ [])) (length (values column.now))) }
+    ensures { IfOk result
+        (AreGroups (same_rows (values column.now ∷ [])) (length (values column.now))) }
 {
     if column.n_chunks() == 1 {
         return group_rows(alloc, &[column], column.len());
@@ -50,7 +51,8 @@ fn dummy_name(
     value: ValueRef<'_>,
 ) -> Result<PlSmallStr, OutOfMemory>
     requires { IsText value }
-    ensures { IfOk result (λ n. n ≡ name.now ++ separator.now ++ value_text (lent_value value.entry)) }
+    ensures { IfOk result (λ n.
+        n ≡ name.now ++ separator.now ++ value_text (lent_value value.entry)) }
 {
     let text = value_text(alloc, value)?;
     name.followed_by(alloc, separator)?
@@ -71,7 +73,9 @@ fn mark_column(
     group: usize,
 ) -> Result<Column, OutOfMemory>
     requires { length numbers.now ≤ MAX_ROWS }
-    ensures { IfOk result (λ c. plain_column c ≡ record { name = name; kind = kind.uint8; values = map (mark_in group) numbers.now }) }
+    ensures { IfOk result (λ c.
+        plain_column c
+        ≡ record { name = name; kind = kind.uint8; values = map (mark_in group) numbers.now }) }
 {
     let marks = marks(alloc, numbers, group)?;
     let mut chunks = Vec::with_capacity(alloc, 1)?;
@@ -91,8 +95,11 @@ fn dummy(
 ) -> Result<Column, OutOfMemory>
     requires row { row < length (values column.now) }
     requires few { length numbers.now ≤ MAX_ROWS }
-    requires marked { map (mark_in group) numbers.now ≡ map (mark (row_value (values column.now) row)) (values column.now) }
-    ensures { IfOk result (λ c. plain_column c ≡ dummy separator.now (plain_column column.now) (row_value (values column.now) row)) }
+    requires marked { map (mark_in group) numbers.now
+        ≡ map (mark (row_value (values column.now) row)) (values column.now) }
+    ensures { IfOk result (λ c.
+        plain_column c
+        ≡ dummy separator.now (plain_column column.now) (row_value (values column.now) row)) }
 {
     let name = dummy_name(alloc, column.name(), separator, column.get(row))?;
     mark_column(alloc, name, numbers, group)
@@ -134,7 +141,8 @@ fn dummies_of(
     separator: &str,
     drop_first: bool,
 ) -> Result<Vec<Column>, OutOfMemory>
-    ensures { IfOk result (λ v. table_of v.items ≡ dummies_of separator.now drop_first (plain_column column.now)) }
+    ensures { IfOk result (λ v.
+        table_of v.items ≡ dummies_of separator.now drop_first (plain_column column.now)) }
 {
     let mut made = dummies_by_row(alloc, column, separator, drop_first)?;
     made.sort_by(|a, b| a.name().cmp(b.name()))?;
@@ -157,7 +165,10 @@ fn in_place_of(
     separator: &str,
     drop_first: bool,
 ) -> Result<Vec<Column>, OutOfMemory>
-    ensures { IfOk result (λ v. table_of v.items ≡ in_place_of (is_in replaced.now.names) separator.now drop_first (plain_column column.now)) }
+    ensures { IfOk result (λ v.
+        table_of v.items
+        ≡ in_place_of (is_in replaced.now.names) separator.now drop_first
+        (plain_column column.now)) }
 {
     if replaced.contains(column.name()) {
         dummies_of(
@@ -179,7 +190,10 @@ pub(crate) fn columns_in_place(
     separator: &str,
     drop_first: bool,
 ) -> Result<Vec<Column>, OutOfMemory>
-    ensures { IfOk result (λ v. table_of v.items ≡ flat_map (in_place_of (is_in replaced.now.names) separator.now drop_first) (table_of columns.now)) }
+    ensures { IfOk result (λ v.
+        table_of v.items
+        ≡ flat_map (in_place_of (is_in replaced.now.names) separator.now drop_first)
+        (table_of columns.now)) }
 {
     let mut all = Vec::new(alloc);
     for column in columns {

@@ -30,8 +30,12 @@ pub trait DataFrameOps: IntoDf {
         separator: Option<&str>,
         drop_first: bool,
     ) -> PolarsResult<DataFrame>
-        ensures settles { Settles result (dummies_refusal (lent_request (Self.frame self.now) None separator.entry drop_first)) }
-        ensures table { IfOk result (λ t. table_of t ≡ dummies_table (lent_request (Self.frame self.now) None separator.entry drop_first)) }
+        ensures settles { Settles result
+            (dummies_refusal (lent_request (Self.frame self.now) None separator.entry drop_first)) }
+        ensures table { IfOk result (λ t.
+            table_of t
+            ≡ dummies_table
+            (lent_request (Self.frame self.now) None separator.entry drop_first)) }
     {
         self._to_dummies(alloc, None, separator, drop_first)
     }
@@ -49,8 +53,15 @@ pub trait DataFrameOps: IntoDf {
         separator: Option<&str>,
         drop_first: bool,
     ) -> PolarsResult<DataFrame>
-        ensures settles { Settles result (dummies_refusal (lent_request (Self.frame self.now) (Some columns.now) separator.entry drop_first)) }
-        ensures table { IfOk result (λ t. table_of t ≡ dummies_table (lent_request (Self.frame self.now) (Some columns.now) separator.entry drop_first)) }
+        ensures settles { Settles result
+            (dummies_refusal
+            (lent_request (Self.frame self.now) (Some columns.now) separator.entry
+            drop_first)) }
+        ensures table { IfOk result (λ t.
+            table_of t
+            ≡ dummies_table
+            (lent_request (Self.frame self.now) (Some columns.now) separator.entry
+            drop_first)) }
     {
         self._to_dummies(alloc, Some(columns), separator, drop_first)
     }
@@ -67,8 +78,15 @@ pub trait DataFrameOps: IntoDf {
         separator: Option<&str>,
         drop_first: bool,
     ) -> PolarsResult<DataFrame>
-        ensures settles { Settles result (dummies_refusal (lent_request (Self.frame self.now) (option_copied columns.entry) separator.entry drop_first)) }
-        ensures table { IfOk result (λ t. table_of t ≡ dummies_table (lent_request (Self.frame self.now) (option_copied columns.entry) separator.entry drop_first)) }
+        ensures settles { Settles result
+            (dummies_refusal
+            (lent_request (Self.frame self.now) (option_copied columns.entry) separator.entry
+            drop_first)) }
+        ensures table { IfOk result (λ t.
+            table_of t
+            ≡ dummies_table
+            (lent_request (Self.frame self.now) (option_copied columns.entry)
+            separator.entry drop_first)) }
     {
         dummies(alloc, self.to_df(), columns, separator, drop_first)
     }
@@ -93,8 +111,13 @@ fn dummies(
     separator: Option<&str>,
     drop_first: bool,
 ) -> PolarsResult<DataFrame>
-    ensures settles { Settles result (dummies_refusal (lent_request table.now (option_copied columns.entry) separator.entry drop_first)) }
-    ensures table { IfOk result (λ t. table_of t ≡ dummies_table (lent_request table.now (option_copied columns.entry) separator.entry drop_first)) }
+    ensures settles { Settles result
+        (dummies_refusal
+        (lent_request table.now (option_copied columns.entry) separator.entry drop_first)) }
+    ensures table { IfOk result (λ t.
+        table_of t
+        ≡ dummies_table
+        (lent_request table.now (option_copied columns.entry) separator.entry drop_first)) }
 {
     let replaced = Replaced::new(alloc, columns)?;
     replaced.check_types(alloc, table.get_columns())?;

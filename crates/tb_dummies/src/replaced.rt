@@ -25,7 +25,8 @@ impl<'a> Replaced<'a> {
         alloc: Global,
         columns: Option<&'a [PlSmallStr]>,
     ) -> Result<Replaced<'a>, OutOfMemory>
-        ensures { IfOk result (λ r. (n : Name) → is_in r.names n ≡ is_replaced (option_copied columns.entry) n) }
+        ensures { IfOk result (λ r.
+            (n : Name) → is_in r.names n ≡ is_replaced (option_copied columns.entry) n) }
     {
         match columns {
             None => Ok(Replaced { names: None }),
@@ -47,7 +48,8 @@ impl<'a> Replaced<'a> {
 
     // Whether the column is replaced and its values name no columns.
     fn is_refused(&self, column: &Column) -> bool
-        ensures { result ≡ (is_in self.now.names column.now.name && not (is_header column.now.kind)) }
+        ensures { result
+            ≡ (is_in self.now.names column.now.name && not (is_header column.now.kind)) }
     {
         self.contains(column.name()) && !is_header_type(column.dtype())
     }

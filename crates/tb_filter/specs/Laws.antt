@@ -9,4 +9,5 @@ use Rattle.tb_filter.specs.Promise.Filtered.{is_key_value}
 
 -- A value is a key value of a type exactly where it is there, is of the type, and the type has keys.
 abbrev pub KeyValues : Type 0
-KeyValues = (t : Kind) (v : Datum) → Decides (is_key_value t v) ((is_key t ≡ true) × (v ≢ null) × HasType t v)
+KeyValues = (t : Kind) (v : Datum)
+    → Decides (is_key_value t v) ((is_key t ≡ true) × (v ≢ null) × HasType t v)

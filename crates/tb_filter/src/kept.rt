@@ -12,7 +12,8 @@ use tb_value::{IdxSize, JoinPair, OutOfMemory};
 
 // The rows that pass, each as a pair of a left row alone. No step goes over the chunks where there is one.
 fn passing_rows(alloc: Global, column: &Series, test: &Test) -> Result<Vec<JoinPair>, OutOfMemory>
-    ensures { IfOk result (λ v. v.items ≡ map left_only (rows_kept (check_of test.now) (plain_column column.now))) }
+    ensures { IfOk result (λ v.
+        v.items ≡ map left_only (rows_kept (check_of test.now) (plain_column column.now))) }
 {
     let mut rows = Vec::new(alloc);
     for row in 0..column.len() {
@@ -29,7 +30,8 @@ pub(crate) fn kept_rows(
     column: &Series,
     test: &Test,
 ) -> Result<Vec<JoinPair>, OutOfMemory>
-    ensures { IfOk result (λ v. v.items ≡ map left_only (rows_kept (check_of test.now) (plain_column column.now))) }
+    ensures { IfOk result (λ v.
+        v.items ≡ map left_only (rows_kept (check_of test.now) (plain_column column.now))) }
 {
     if column.n_chunks() == 1 {
         passing_rows(alloc, column, test)

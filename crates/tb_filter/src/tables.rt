@@ -37,10 +37,18 @@ pub fn filter_rows(
     test: &Test,
 ) -> Result<Option<DataFrame>, OutOfMemory>
     requires { length (values column.now) ≡ height (table_of table.now) }
-    ensures rows { IfOk result (λ o. IfSome o (λ t. table_of t ≡ with_rows (rows_kept (check_of test.now) (plain_column column.now)) (table_of table.now))) }
+    ensures rows { IfOk result (λ o.
+        IfSome o (λ t.
+        table_of t
+        ≡ with_rows (rows_kept (check_of test.now) (plain_column column.now))
+        (table_of table.now))) }
     ensures flags { IfOk result (λ o. IfSome o (λ t. t
         ≡ map (gathered_rows (map (λ i. Some i) (rows_kept (check_of test.now) (plain_column column.now))) Ascending) table.now)) }
-    ensures all { IfOk result (λ o. IfNone o (with_rows (rows_kept (check_of test.now) (plain_column column.now)) (table_of table.now) ≡ table_of table.now)) }
+    ensures all { IfOk result (λ o.
+        IfNone o
+        (with_rows (rows_kept (check_of test.now) (plain_column column.now))
+        (table_of table.now)
+        ≡ table_of table.now)) }
 {
     let columns = table.get_columns();
     let rows = kept_rows(alloc, column, test)?;

@@ -22,7 +22,8 @@ abbrev pub AreRightRows : ℕ → List JoinPair → Type 0
 AreRightRows n = All (λ (p : JoinPair). IsRowOf n p.right)
 
 -- the items are the listing, ordered and then cut
-pub record IsListed (how : JoinType) (o : MaintainOrderJoin) (s : Option (ℤ × ℕ)) (list items : List JoinPair) : Type 0 where
+pub record IsListed (how : JoinType) (o : MaintainOrderJoin) (s : Option (ℤ × ℕ))
+    (list items : List JoinPair) : Type 0 where
   pub pairs : List JoinPair
   pub ordered : IsOrdered how o pairs list
   pub is : items ≡ cut s pairs

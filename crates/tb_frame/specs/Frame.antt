@@ -15,7 +15,8 @@ use Rattle.tb_frame.specs.Promise.Frame.{are_level}
 
 -- two lengths differ, or a name is repeated
 abbrev pub frame_refusal : Table → Option PolarsError
-frame_refusal t = first_cause (when (not (are_level t)) ShapeMismatch ∷ repeated_among (names_of t) ∷ [])
+frame_refusal t =
+    first_cause (when (not (are_level t)) ShapeMismatch ∷ repeated_among (names_of t) ∷ [])
 
 -- a name is of no column, or is repeated
 abbrev pub select_refusal : List Name → Table → Option PolarsError

@@ -12,8 +12,10 @@ use Rattle.tb_frame.specs.Promise.Join.{Request, by_names, partner}
 
 -- the request of `join` of two tables that are lent
 abbrev pub lent_request : List Col → List Col → List Name → List Name → JoinArgs → Request
-lent_request left right left_on right_on args = by_names (table_of left) (table_of right) left_on right_on args
+lent_request left right left_on right_on args =
+    by_names (table_of left) (table_of right) left_on right_on args
 
 -- where columns are coalesced, they have one type
 abbrev pub CoalescesAlike : Request → Type 0
-CoalescesAlike q = All (λ (c : TableColumn). ForSome (partner q c.name) (λ k. c.kind ≡ k.kind)) q.left
+CoalescesAlike q =
+    All (λ (c : TableColumn). ForSome (partner q c.name) (λ k. c.kind ≡ k.kind)) q.left

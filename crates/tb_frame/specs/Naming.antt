@@ -6,4 +6,5 @@ use Rattle.tb_frame.specs.Promise.Naming.{shows_right, right_name, left_names}
 
 -- the names of the answer's columns, by those of the tables
 abbrev pub answer_names : JoinArgs → List Name → List Name → List Name → List Name → List Name
-answer_names a left_on right_on left right = left_names a left_on left ++ map (right_name (left_names a left_on left) a.suffix) (filter (shows_right a right_on) right)
+answer_names a left_on right_on left right = left_names a left_on left
+    ++ map (right_name (left_names a left_on left) a.suffix) (filter (shows_right a right_on) right)

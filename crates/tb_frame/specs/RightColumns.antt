@@ -12,7 +12,9 @@ abbrev pub gone_left : JoinArgs → List Name → List Name
 gone_left a left_on = (if drops_left_keys a.how (coalesces a) then left_on else [])
 
 abbrev pub gone_right : JoinArgs → List Name → List Name
-gone_right a right_on = (if drops_right_keys a.how (coalesces a) || coalesces_keys a.how (coalesces a) then right_on else [])
+gone_right a right_on = (if drops_right_keys a.how (coalesces a) || coalesces_keys a.how (coalesces a)
+    then right_on
+    else [])
 
 -- the right names that are not put beside the left ones: a Full join's keys go later
 abbrev pub gone_beside : JoinArgs → List Name → List Name
@@ -28,16 +30,20 @@ names_without gone names = filter (λ n. not (is_among gone n)) names
 
 -- the names of right columns beside left ones, those that go left out
 abbrev pub right_names : List Name → Name → List Name → List Name → List Name
-right_names taken suffix gone names = map (right_name taken (Some suffix)) (names_without gone names)
+right_names taken suffix gone names =
+    map (right_name taken (Some suffix)) (names_without gone names)
 
 -- the names of left columns, and behind them those of right ones, where some of each go
 abbrev pub beside : List Name → List Name → List Name → List Name → Name → List Name
-beside left gone_of_left right gone_of_right suffix = names_without gone_of_left left ++ right_names (names_without gone_of_left left) suffix gone_of_right right
+beside left gone_of_left right gone_of_right suffix = names_without gone_of_left left
+    ++ right_names (names_without gone_of_left left) suffix gone_of_right right
 
 -- a right column in the answer, with these rows
 abbrev pub right_column : List Name → Name → List (Option ℕ) → Col → Col
-right_column taken suffix rows c = record (opt_taken_rows rows c) { name = right_name taken (Some suffix) c.name }
+right_column taken suffix rows c =
+    record (opt_taken_rows rows c) { name = right_name taken (Some suffix) c.name }
 
 -- the right columns in the answer, with these rows, those that go left out
 abbrev pub right_columns : List Name → Name → List Name → List (Option ℕ) → List Col → List Col
-right_columns taken suffix gone rows cs = map (right_column taken suffix rows) (without_names gone cs)
+right_columns taken suffix gone rows cs =
+    map (right_column taken suffix rows) (without_names gone cs)

@@ -15,7 +15,8 @@ asking how q = record q { args = of_kind how q.args }
 
 -- the request with its sides exchanged
 abbrev pub exchanged_request : Request → Request
-exchanged_request q = record { left = q.right; right = q.left; left_on = q.right_on; right_on = q.left_on; left_keys = q.right_keys; right_keys = q.left_keys; args = q.args }
+exchanged_request q = record
+    { left = q.right; right = q.left; left_on = q.right_on; right_on = q.left_on; left_keys = q.right_keys; right_keys = q.left_keys; args = q.args }
 
 -- the same order, of the other side
 abbrev pub flip : MaintainOrderJoin → MaintainOrderJoin

@@ -60,7 +60,8 @@ pub fn arrange(
     how: JoinType,
     args: &JoinArgs,
 ) -> Result<Vec<JoinPair>, OutOfMemory>
-    ensures { IfOk result (λ v. IsListed how args.now.maintain_order args.now.slice pairs.items v.items) }
+    ensures { IfOk result (λ v.
+        IsListed how args.now.maintain_order args.now.slice pairs.items v.items) }
 {
     order_pairs(&mut pairs, how, args.maintain_order)?;
     Ok(cut_pairs(pairs, args.slice))

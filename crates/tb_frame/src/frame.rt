@@ -97,8 +97,11 @@ fn find_column<'a>(columns: &'a [Column], name: &str) -> Option<&'a Column>
 }
 
 fn named_column<'a>(alloc: Global, columns: &'a [Column], name: &str) -> PolarsResult<&'a Column>
-    ensures found { IfOk result (λ c. find (λ (c : Col). same_name c.name name.now) columns.now ≡ Some c.now) }
-    ensures settles { Settles result (when (is_none (find (λ (c : Col). same_name c.name name.now) columns.now)) (ColumnNotFound name.now)) }
+    ensures found { IfOk result (λ c.
+        find (λ (c : Col). same_name c.name name.now) columns.now ≡ Some c.now) }
+    ensures settles { Settles result
+        (when (is_none (find (λ (c : Col). same_name c.name name.now) columns.now))
+        (ColumnNotFound name.now)) }
 {
     match find_column(columns, name) {
         Some(column) => Ok(column),
@@ -108,7 +111,8 @@ fn named_column<'a>(alloc: Global, columns: &'a [Column], name: &str) -> PolarsR
 
 /// The set of the columns' names.
 pub fn column_name_set(alloc: Global, columns: &[Column]) -> Result<NameSet<'_>, OutOfMemory>
-    ensures { IfOk result (λ s. (n : Name) → has_name s n ≡ is_among (names_of (table_of columns.now)) n) }
+    ensures { IfOk result (λ s.
+        (n : Name) → has_name s n ≡ is_among (names_of (table_of columns.now)) n) }
 {
     let mut set = NameSet::new(alloc);
     for column in columns {
@@ -198,8 +202,11 @@ impl DataFrame {
 
     /// The column of this name. Refuses a name that no column has (ColumnNotFound).
     pub fn column(&self, alloc: Global, name: &str) -> PolarsResult<&Column>
-        ensures found { IfOk result (λ c. find (λ (c : Col). same_name c.name name.now) self.now ≡ Some c.now) }
-        ensures settles { Settles result (when (is_none (find (λ (c : Col). same_name c.name name.now) self.now)) (ColumnNotFound name.now)) }
+        ensures found { IfOk result (λ c.
+            find (λ (c : Col). same_name c.name name.now) self.now ≡ Some c.now) }
+        ensures settles { Settles result
+            (when (is_none (find (λ (c : Col). same_name c.name name.now) self.now))
+            (ColumnNotFound name.now)) }
     {
         named_column(alloc, &self.columns, name)
     }

@@ -24,7 +24,8 @@ fn kept_names<'a>(
     names: &[&'a PlSmallStr],
     gone: &[PlSmallStr],
 ) -> Result<Vec<&'a PlSmallStr>, OutOfMemory>
-    ensures { IfOk result (λ v. map (λ n. n.now) v.items ≡ names_without gone.now (map (λ n. n.now) names.now)) }
+    ensures { IfOk result (λ v.
+        map (λ n. n.now) v.items ≡ names_without gone.now (map (λ n. n.now) names.now)) }
 {
     let gone = name_set(alloc, gone)?;
     let mut kept = Vec::with_capacity(alloc, names.len())?;
@@ -48,7 +49,8 @@ fn copied_names(alloc: Global, names: &[&PlSmallStr]) -> Result<Vec<PlSmallStr>,
 
 // The set of these names.
 fn lent_name_set<'a>(alloc: Global, names: &[&'a PlSmallStr]) -> Result<NameSet<'a>, OutOfMemory>
-    ensures { IfOk result (λ s. (n : Name) → has_name s n ≡ is_among (map (λ n. n.now) names.now) n) }
+    ensures { IfOk result (λ s.
+        (n : Name) → has_name s n ≡ is_among (map (λ n. n.now) names.now) n) }
 {
     let mut set = NameSet::new(alloc);
     for name in names {
@@ -83,7 +85,10 @@ fn side_by_side(
     gone_right: &[PlSmallStr],
     suffix: &str,
 ) -> Result<Vec<PlSmallStr>, OutOfMemory>
-    ensures { IfOk result (λ v. v.items ≡ beside (map (λ n. n.now) left.now) gone_left.now (map (λ n. n.now) right.now) gone_right.now suffix.now) }
+    ensures { IfOk result (λ v.
+        v.items
+        ≡ beside (map (λ n. n.now) left.now) gone_left.now (map (λ n. n.now) right.now)
+        gone_right.now suffix.now) }
 {
     let kept = kept_names(alloc, left, gone_left)?;
     let taken = lent_name_set(alloc, &kept)?;
@@ -113,7 +118,8 @@ pub fn answer_names(
     left: &[PlSmallStr],
     right: &[PlSmallStr],
 ) -> Result<Vec<PlSmallStr>, OutOfMemory>
-    ensures { IfOk result (λ v. v.items ≡ answer_names args.now left_on.now right_on.now left.now right.now) }
+    ensures { IfOk result (λ v.
+        v.items ≡ answer_names args.now left_on.now right_on.now left.now right.now) }
 {
     let left = lend_names(alloc, left)?;
     let right = lend_names(alloc, right_side(args.how, right))?;
@@ -140,7 +146,9 @@ pub fn check_joined_names(
     how: JoinType,
     args: &JoinArgs,
 ) -> PolarsResult<()>
-    ensures { Settles result (repeated_name (asking how (lent_request left.now right.now left_on.now right_on.now args.now))) }
+    ensures { Settles result
+        (repeated_name
+        (asking how (lent_request left.now right.now left_on.now right_on.now args.now))) }
 {
     let left = column_names(alloc, left)?;
     let right = column_names(alloc, right_side(how, right))?;

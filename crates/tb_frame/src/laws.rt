@@ -11,7 +11,8 @@ use crate::args::{JoinCoalesce, JoinType, JoinValidation, MaintainOrderJoin};
 
 /// The rows that a slice keeps are those from one place up to another.
 pub fn slice_is_window<T>()
-    ensures { (xs : List T) (offset : ℤ) (len : ℕ) → slice xs offset len ≡ window (length xs) offset len xs }
+    ensures { (xs : List T) (offset : ℤ) (len : ℕ)
+        → slice xs offset len ≡ window (length xs) offset len xs }
 {}
 
 /// The names of an answer's columns are those that its names and types have first.

@@ -61,7 +61,8 @@ fn columns_by_name<'a>(
     alloc: Global,
     columns: &'a [Column],
 ) -> Result<NamedColumns<'a>, OutOfMemory>
-    ensures { IfOk result (λ m. (n : Name) → column_by m n ≡ find (λ (c : Col). same_name c.name n) columns.now) }
+    ensures { IfOk result (λ m.
+        (n : Name) → column_by m n ≡ find (λ (c : Col). same_name c.name n) columns.now) }
 {
     let mut by_name = NamedColumns::new(alloc);
     for column in columns {
@@ -77,7 +78,8 @@ fn known_column<'a>(
     name: &PlSmallStr,
 ) -> PolarsResult<&'a Series>
     ensures found { IfOk result (λ c. column_by by_name.now name.now ≡ Some c.now) }
-    ensures settles { Settles result (when (is_none (column_by by_name.now name.now)) (ColumnNotFound name.now)) }
+    ensures settles { Settles result
+        (when (is_none (column_by by_name.now name.now)) (ColumnNotFound name.now)) }
 {
     match by_name.get(name) {
         Some(column) => Ok(column),
@@ -86,7 +88,8 @@ fn known_column<'a>(
 }
 
 fn push_lent<'a>(lent: &mut Vec<&'a Series>, column: &'a Series) -> Result<(), OutOfMemory>
-    ensures { OnOk result (lent_columns lent.new.items ≡ lent_columns lent.old.items ++ column.now ∷ []) }
+    ensures { OnOk result
+        (lent_columns lent.new.items ≡ lent_columns lent.old.items ++ column.now ∷ []) }
 {
     lent.push(column)?;
     Ok(())
@@ -100,7 +103,8 @@ pub fn lend_columns<'a>(
     names: &[PlSmallStr],
 ) -> PolarsResult<Vec<&'a Series>>
     ensures settles { Settles result (unknown_key (table_of columns.now) names.now) }
-    ensures columns { IfOk result (λ v. lent_columns v.items ≡ selected_columns names.now columns.now) }
+    ensures columns { IfOk result (λ v.
+        lent_columns v.items ≡ selected_columns names.now columns.now) }
 {
     let by_name = columns_by_name(alloc, columns)?;
     let mut lent = Vec::new(alloc);

@@ -29,7 +29,8 @@ impl<'a> NameSet<'a> {
     /// Adds the name, and says whether it was new.
     pub fn insert(&mut self, name: &'a PlSmallStr) -> Result<bool, OutOfMemory>
         ensures added { IfOk result (λ added. added ≡ not (has_name self.old name.now)) }
-        ensures names { OnOk result ((n : Name) → has_name self.new n ≡ (same_name name.now n || has_name self.old n)) }
+        ensures names { OnOk result
+            ((n : Name) → has_name self.new n ≡ (same_name name.now n || has_name self.old n)) }
         ensures err { OnErr result ((n : Name) → has_name self.new n ≡ has_name self.old n) }
     {
         Ok(self.names.insert(name.as_str())?)
@@ -72,7 +73,8 @@ pub(crate) fn push_names<'a>(
     names: &mut Vec<&'a PlSmallStr>,
     more: &'a [PlSmallStr],
 ) -> Result<(), OutOfMemory>
-    ensures { OnOk result (map (λ n. n.now) names.new.items ≡ map (λ n. n.now) names.old.items ++ more.now) }
+    ensures { OnOk result
+        (map (λ n. n.now) names.new.items ≡ map (λ n. n.now) names.old.items ++ more.now) }
 {
     for name in more {
         names.push(name)?;

@@ -78,7 +78,9 @@ pub fn right_name(
     suffix: &str,
     name: &PlSmallStr,
 ) -> Result<PlSmallStr, OutOfMemory>
-    ensures { IfOk result (λ s. (ns : List Name) → ((n : Name) → has_name taken.now n ≡ is_among ns n) → s ≡ right_name ns (Some suffix.now) name.now) }
+    ensures { IfOk result (λ s.
+        (ns : List Name) → ((n : Name) → has_name taken.now n ≡ is_among ns n)
+        → s ≡ right_name ns (Some suffix.now) name.now) }
 {
     if taken.contains(name) {
         name.followed_by(alloc, suffix)

@@ -32,8 +32,11 @@ fn join_tables(
     call: JoinCall,
     options: &TextOptions,
 ) -> Result<Vec<u8>, FrontFault>
-    ensures settles { Settles result (joining_fault options.now.form call (table_of tables.left) (table_of tables.right)) }
-    ensures answer { IfOk result (λ v. IsAnswerText options.now (joined_of call (table_of tables.left) (table_of tables.right)) v.items) }
+    ensures settles { Settles result
+        (joining_fault options.now.form call (table_of tables.left) (table_of tables.right)) }
+    ensures answer { IfOk result (λ v.
+        IsAnswerText options.now (joined_of call (table_of tables.left) (table_of tables.right))
+        v.items) }
 {
     let TwoTables { left, right } = tables;
     check_keys(alloc, &left, &right, &call.left_on, &call.right_on)?;
@@ -60,7 +63,8 @@ pub fn join_texts(
     options: &TextOptions,
 ) -> Result<Vec<u8>, FrontFault>
     ensures settles { Settles result (join_fault options.now call left.items right.items) }
-    ensures answer { IfOk result (λ v. IsAnswerText options.now (asked_join options.now.csv call left.items right.items) v.items) }
+    ensures answer { IfOk result (λ v.
+        IsAnswerText options.now (asked_join options.now.csv call left.items right.items) v.items) }
 {
     let tables = read_tables(
         alloc,
@@ -79,8 +83,12 @@ fn long_text(
     call: UnpivotArgsIR,
     options: &TextOptions,
 ) -> Result<Vec<u8>, FrontFault>
-    ensures settles { Settles result (first_cause (unpivot_faults options.now.form call (table_of table))) }
-    ensures answer { IfOk result (λ v. v.items ≡ text_in options.now.form options.now.csv.separator (unpivot_table (long_of call (table_of table)))) }
+    ensures settles { Settles result
+        (first_cause (unpivot_faults options.now.form call (table_of table))) }
+    ensures answer { IfOk result (λ v.
+        v.items
+        ≡ text_in options.now.form options.now.csv.separator
+        (unpivot_table (long_of call (table_of table)))) }
 {
     let outcome = made_long(alloc, table, call);
     written(alloc, options.form, options.csv.separator, outcome)
@@ -99,7 +107,10 @@ pub fn unpivot_text(
     options: &TextOptions,
 ) -> Result<Vec<u8>, FrontFault>
     ensures settles { Settles result (unpivot_fault options.now call text.items) }
-    ensures answer { IfOk result (λ v. v.items ≡ text_in options.now.form options.now.csv.separator (unpivot_table (long_of call (table_in options.now.csv text.items)))) }
+    ensures answer { IfOk result (λ v.
+        v.items
+        ≡ text_in options.now.form options.now.csv.separator
+        (unpivot_table (long_of call (table_in options.now.csv text.items)))) }
 {
     let table = read_table(alloc, &options.csv, text)?;
     long_text(alloc, table, call, options)
@@ -111,8 +122,12 @@ fn marked_text(
     call: DummiesCall,
     options: &TextOptions,
 ) -> Result<Vec<u8>, FrontFault>
-    ensures settles { Settles result (first_cause (dummies_faults options.now.form call (table_of table))) }
-    ensures answer { IfOk result (λ v. v.items ≡ text_in options.now.form options.now.csv.separator (dummies_table (marked_of call (table_of table)))) }
+    ensures settles { Settles result
+        (first_cause (dummies_faults options.now.form call (table_of table))) }
+    ensures answer { IfOk result (λ v.
+        v.items
+        ≡ text_in options.now.form options.now.csv.separator
+        (dummies_table (marked_of call (table_of table)))) }
 {
     let call = with_names(alloc, &table, call)?;
     let outcome = with_dummies(alloc, table, call);
@@ -133,7 +148,10 @@ pub fn dummies_text(
     options: &TextOptions,
 ) -> Result<Vec<u8>, FrontFault>
     ensures settles { Settles result (dummies_fault options.now call text.items) }
-    ensures answer { IfOk result (λ v. v.items ≡ text_in options.now.form options.now.csv.separator (dummies_table (marked_of call (table_in options.now.csv text.items)))) }
+    ensures answer { IfOk result (λ v.
+        v.items
+        ≡ text_in options.now.form options.now.csv.separator
+        (dummies_table (marked_of call (table_in options.now.csv text.items)))) }
 {
     let table = read_table(alloc, &options.csv, text)?;
     marked_text(alloc, table, call, options)
@@ -145,8 +163,12 @@ fn wide_text(
     call: PivotCall,
     options: &TextOptions,
 ) -> Result<Vec<u8>, FrontFault>
-    ensures settles { Settles result (first_cause (pivot_faults options.now call (table_of table))) }
-    ensures answer { IfOk result (λ v. v.items ≡ text_in options.now.form options.now.csv.separator (pivot_table (wide_of call (table_of table)))) }
+    ensures settles { Settles result
+        (first_cause (pivot_faults options.now call (table_of table))) }
+    ensures answer { IfOk result (λ v.
+        v.items
+        ≡ text_in options.now.form options.now.csv.separator
+        (pivot_table (wide_of call (table_of table)))) }
 {
     check_decimals(alloc, &options.csv.types, &call, &table)?;
     let outcome = made_wide(alloc, table, call);
@@ -170,7 +192,10 @@ pub fn pivot_text(
     options: &TextOptions,
 ) -> Result<Vec<u8>, FrontFault>
     ensures settles { Settles result (pivot_fault options.now call text.items) }
-    ensures answer { IfOk result (λ v. v.items ≡ text_in options.now.form options.now.csv.separator (pivot_table (wide_of call (table_in options.now.csv text.items)))) }
+    ensures answer { IfOk result (λ v.
+        v.items
+        ≡ text_in options.now.form options.now.csv.separator
+        (pivot_table (wide_of call (table_in options.now.csv text.items)))) }
 {
     let table = read_table(alloc, &options.csv, text)?;
     wide_text(alloc, table, call, options)

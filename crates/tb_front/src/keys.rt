@@ -36,7 +36,8 @@ fn column_named<'a>(table: &'a DataFrame, name: &PlSmallStr) -> Option<&'a Colum
 
 // Refuses two columns of different types, if both are there.
 fn check_key(alloc: Global, left: Option<&Column>, right: Option<&Column>) -> Result<(), FrontFault>
-    ensures { Settles result (clash (option_map lent_column left.entry) (option_map lent_column right.entry)) }
+    ensures { Settles result
+        (clash (option_map lent_column left.entry) (option_map lent_column right.entry)) }
 {
     let (Some(left), Some(right)) = (left, right) else {
         return Ok(());
@@ -60,7 +61,8 @@ pub(crate) fn check_keys(
     left_on: &[PlSmallStr],
     right_on: &[PlSmallStr],
 ) -> Result<(), FrontFault>
-    ensures { Settles result (key_clash (table_of left.now) (table_of right.now) left_on.now right_on.now) }
+    ensures { Settles result
+        (key_clash (table_of left.now) (table_of right.now) left_on.now right_on.now) }
 {
     for i in 0..left_on.len().min(right_on.len()) {
         check_key(

@@ -35,7 +35,8 @@ pub(crate) fn with_names(
     table: &DataFrame,
     call: DummiesCall,
 ) -> Result<DummiesCall, OutOfMemory>
-    ensures { IfOk result (λ c. calls.marked_of c (table_of table.now) ≡ marked_of call (table_of table.now)) }
+    ensures { IfOk result (λ c.
+        calls.marked_of c (table_of table.now) ≡ marked_of call (table_of table.now)) }
 {
     if call.columns.is_some() {
         return Ok(call);

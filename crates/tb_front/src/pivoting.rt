@@ -42,8 +42,10 @@ fn makes_cells(
     name: &PlSmallStr,
 ) -> bool
     requires on { (n : Name) → has_name on.now n ≡ is_among call.now.on.items n }
-    requires index { (n : Name) → has_name index.now n ≡ is_among (unwrap_or (names_in call.now.index) []) n }
-    requires values { (n : Name) → has_name values.now n ≡ is_among (unwrap_or (names_in call.now.values) []) n }
+    requires index { (n : Name)
+        → has_name index.now n ≡ is_among (unwrap_or (names_in call.now.index) []) n }
+    requires values { (n : Name)
+        → has_name values.now n ≡ is_among (unwrap_or (names_in call.now.values) []) n }
     ensures { result ≡ makes_cells call.now name.now }
 {
     match call.values {
@@ -59,7 +61,9 @@ fn check_cells(
     call: &PivotCall,
     table: &DataFrame,
 ) -> Result<(), FrontFault>
-    ensures { Settles result (first_decimals types.now Comparison.LeastOrGreatest (λ n. compares call.now.agg && makes_cells call.now n) (table_of table.now)) }
+    ensures { Settles result
+        (first_decimals types.now Comparison.LeastOrGreatest
+        (λ n. compares call.now.agg && makes_cells call.now n) (table_of table.now)) }
 {
     if !compares(&call.agg) {
         return Ok(());
@@ -85,7 +89,9 @@ fn check_headers(
     call: &PivotCall,
     table: &DataFrame,
 ) -> Result<(), FrontFault>
-    ensures { Settles result (first_decimals types.now Comparison.Order (λ n. call.now.sort_columns && is_among call.now.on.items n) (table_of table.now)) }
+    ensures { Settles result
+        (first_decimals types.now Comparison.Order
+        (λ n. call.now.sort_columns && is_among call.now.on.items n) (table_of table.now)) }
 {
     if !call.sort_columns {
         return Ok(());
@@ -107,7 +113,8 @@ pub(crate) fn check_decimals(
     call: &PivotCall,
     table: &DataFrame,
 ) -> Result<(), FrontFault>
-    ensures { Settles result (first_cause (decimal_faults types.now call.now (table_of table.now))) }
+    ensures { Settles result
+        (first_cause (decimal_faults types.now call.now (table_of table.now))) }
 {
     check_cells(alloc, types, call, table)?;
     check_headers(alloc, types, call, table)

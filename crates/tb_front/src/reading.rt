@@ -61,8 +61,10 @@ fn make_table(
     types: &[TypeOf],
 ) -> Result<DataFrame, FrontFault>
     requires level { IsLevel records.now }
-    ensures settles { (rs : List Record) → IsRead records.now rs → Settles result (no_table separator place text.now (types_fault types.now rs)) }
-    ensures table { (rs : List Record) → IsRead records.now rs → IfOk result (λ t. table_of t ≡ csv_table types.now rs) }
+    ensures settles { (rs : List Record) → IsRead records.now rs
+        → Settles result (no_table separator place text.now (types_fault types.now rs)) }
+    ensures table { (rs : List Record) → IsRead records.now rs
+        → IfOk result (λ t. table_of t ≡ csv_table types.now rs) }
 {
     match table_of_records(alloc, records, types) {
         Ok(table) => Ok(table),
@@ -132,9 +134,14 @@ pub(crate) fn read_tables(
     left_on: &[PlSmallStr],
     right_on: &[PlSmallStr],
 ) -> Result<TwoTables, FrontFault>
-    ensures settles { Settles result (first_cause (tables_faults options.now left_on.now right_on.now left.items right.items)) }
-    ensures left { IfOk result (λ t. table_of t.left ≡ joined_table options.now left.items right.items left_on.now right_on.now) }
-    ensures right { IfOk result (λ t. table_of t.right ≡ joined_table options.now right.items left.items right_on.now left_on.now) }
+    ensures settles { Settles result
+        (first_cause (tables_faults options.now left_on.now right_on.now left.items right.items)) }
+    ensures left { IfOk result (λ t.
+        table_of t.left
+        ≡ joined_table options.now left.items right.items left_on.now right_on.now) }
+    ensures right { IfOk result (λ t.
+        table_of t.right
+        ≡ joined_table options.now right.items left.items right_on.now left_on.now) }
 {
     let first = read_records(alloc, options, Place::First, &left)?;
     let second = read_records(alloc, options, Place::Second, &right)?;

@@ -29,7 +29,8 @@ gathered_flag _ _ = Not
 
 -- the rows of a column that ids name, in one chunk over the buffers that are kept, with this flag
 abbrev pub named_rows : Keep → List Id → IsSorted → Col → Col
-named_rows keep ids flag c = record c { chunks = map (value_of_id c.chunks) ids ∷ []; flag = flag; view_arrays = kept_view_array keep (lens c) ids c.view_arrays ∷ [] }
+named_rows keep ids flag c = record c
+    { chunks = map (value_of_id c.chunks) ids ∷ []; flag = flag; view_arrays = kept_view_array keep (lens c) ids c.view_arrays ∷ [] }
 
 -- the rows that ids name which run so, over the buffers of the only chunk, or those in use, or those of all
 abbrev pub gathered_column : List Id → IsSorted → Col → Col

@@ -53,8 +53,10 @@ RowsStandInOrder Not rows = Unit {0}
 
 -- row numbers of which a direction is said are all there and run so
 abbrev pub AreAllRowsInOrder : IsSorted → List (Option ℕ) → Type 0
-AreAllRowsInOrder Ascending rows = All (λ (row : Option ℕ). IsSome row) rows × RowsStandInOrder Ascending rows
-AreAllRowsInOrder Descending rows = All (λ (row : Option ℕ). IsSome row) rows × RowsStandInOrder Descending rows
+AreAllRowsInOrder Ascending rows =
+    All (λ (row : Option ℕ). IsSome row) rows × RowsStandInOrder Ascending rows
+AreAllRowsInOrder Descending rows =
+    All (λ (row : Option ℕ). IsSome row) rows × RowsStandInOrder Descending rows
 AreAllRowsInOrder Not rows = Unit {0}
 
 -- where each chunk of these lengths starts, as a row number

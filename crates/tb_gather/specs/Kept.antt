@@ -54,7 +54,8 @@ view_among rs ps id = view_at_number (number_in ps (place_of rs id)) (named_view
 
 -- the rows that ids name, over the buffers that their texts lie in
 abbrev pub used_view_array : List ViewArray → List Id → ViewArray
-used_view_array rs ids = record { views = map (view_among rs (used_places rs ids)) ids; buffers = map (buffer_at rs) (used_places rs ids) }
+used_view_array rs ids = record
+    { views = map (view_among rs (used_places rs ids)) ids; buffers = map (buffer_at rs) (used_places rs ids) }
 
 -- whether only buffers in use are kept, of so many chunks and for so many ids
 abbrev pub keeps_used : Keep → ℕ → ℕ → Bool
@@ -63,9 +64,13 @@ keeps_used Used chunks ids = nat_lt 1 chunks && nat_lt ids chunks
 
 -- the rows that ids name, of chunks of these lengths
 abbrev pub kept_view_array : Keep → List ℕ → List Id → List ViewArray → ViewArray
-kept_view_array keep lens ids rs = (if keeps_used keep (length rs) (length ids) then used_view_array rs ids else picked_of (row_or_none lens) ids (joined_view_array rs))
+kept_view_array keep lens ids rs = (if keeps_used keep (length rs) (length ids)
+    then used_view_array rs ids
+    else picked_of (row_or_none lens) ids (joined_view_array rs))
 
 -- the buffers that a gather keeps: those of the only chunk; where there are more chunks than ids, those in use; else those of all
 abbrev pub kept_buffers : List ViewArray → List Id → List (List ℕ)
 kept_buffers (r ∷ []) ids = r.buffers
-kept_buffers rs ids = (if nat_lt (length ids) (length rs) then map (buffer_at rs) (used_places rs ids) else all_buffers rs)
+kept_buffers rs ids = (if nat_lt (length ids) (length rs)
+    then map (buffer_at rs) (used_places rs ids)
+    else all_buffers rs)

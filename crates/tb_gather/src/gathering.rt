@@ -22,12 +22,17 @@ fn push_named<C: Chunk, const B: u64>(
     chunks: &[C],
     id: &ChunkId<B>,
 ) -> Result<(), OutOfMemory>
-    requires held { AreHeld (C.buffers out.old.chunk) out.old.bases.items (map C.buffers chunks.now) }
+    requires held { AreHeld (C.buffers out.old.chunk) out.old.bases.items
+        (map C.buffers chunks.now) }
     requires room { length (C.shown out.old.chunk) < 2 ^ 63 }
     requires bases { AreBases out.old.bases.items (view_arrays_of C.views C.buffers chunks.now) }
     requires named { NamesRow (lengths (map C.shown chunks.now)) id.now }
-    ensures shown { OnOk result (C.shown out.new.chunk ≡ C.shown out.old.chunk ++ value_of_id (map C.shown chunks.now) id.now ∷ []) }
-    ensures held { AreHeld (C.buffers out.new.chunk) out.new.bases.items (map C.buffers chunks.now) }
+    ensures shown { OnOk result
+        (C.shown out.new.chunk
+        ≡ C.shown out.old.chunk ++ value_of_id (map C.shown chunks.now) id.now
+        ∷ []) }
+    ensures held { AreHeld (C.buffers out.new.chunk) out.new.bases.items
+        (map C.buffers chunks.now) }
     ensures views { OnOk result (C.views out.new.chunk ≡ C.views out.old.chunk
         ++ view_or_none (joined_view_array (view_arrays_of C.views C.buffers chunks.now)).views (row_or_none (lengths (map C.shown chunks.now)) id.now) ∷ []) }
     ensures buffers { C.buffers out.new.chunk ≡ C.buffers out.old.chunk }
@@ -48,9 +53,13 @@ fn gather_all<C: Chunk, const B: u64>(
 ) -> Result<C, OutOfMemory>
     requires named { All (NamesRow (lengths (map C.shown chunks.now))) ids.now }
     requires few { length ids.now < 2 ^ 32 }
-    ensures shown { IfOk result (λ c. C.shown c ≡ map (value_of_id (map C.shown chunks.now)) ids.now) }
-    ensures views { IfOk result (λ c. C.views c ≡ (picked_of (row_or_none (lengths (map C.shown chunks.now))) ids.now (joined_view_array (view_arrays_of C.views C.buffers chunks.now))).views) }
-    ensures buffers { IfOk result (λ c. C.buffers c ≡ (joined_view_array (view_arrays_of C.views C.buffers chunks.now)).buffers) }
+    ensures shown { IfOk result (λ c.
+        C.shown c ≡ map (value_of_id (map C.shown chunks.now)) ids.now) }
+    ensures views { IfOk result (λ c.
+        C.views c
+        ≡ (picked_of (row_or_none (lengths (map C.shown chunks.now))) ids.now (joined_view_array (view_arrays_of C.views C.buffers chunks.now))).views) }
+    ensures buffers { IfOk result (λ c.
+        C.buffers c ≡ (joined_view_array (view_arrays_of C.views C.buffers chunks.now)).buffers) }
 {
     let mut out = Growing::over(alloc, chunks, ids.len())?;
     for id in ids {
@@ -78,9 +87,14 @@ fn gather<C: Chunk, const B: u64>(
 ) -> Result<C, OutOfMemory>
     requires named { All (NamesRow (lengths (map C.shown chunks.now))) ids.now }
     requires few { length ids.now < 2 ^ 32 }
-    ensures shown { IfOk result (λ c. C.shown c ≡ map (value_of_id (map C.shown chunks.now)) ids.now) }
-    ensures views { IfOk result (λ c. C.views c ≡ (kept_view_array keep (lengths (map C.shown chunks.now)) ids.now (view_arrays_of C.views C.buffers chunks.now)).views) }
-    ensures buffers { IfOk result (λ c. C.buffers c ≡ (kept_view_array keep (lengths (map C.shown chunks.now)) ids.now (view_arrays_of C.views C.buffers chunks.now)).buffers) }
+    ensures shown { IfOk result (λ c.
+        C.shown c ≡ map (value_of_id (map C.shown chunks.now)) ids.now) }
+    ensures views { IfOk result (λ c.
+        C.views c
+        ≡ (kept_view_array keep (lengths (map C.shown chunks.now)) ids.now (view_arrays_of C.views C.buffers chunks.now)).views) }
+    ensures buffers { IfOk result (λ c.
+        C.buffers c
+        ≡ (kept_view_array keep (lengths (map C.shown chunks.now)) ids.now (view_arrays_of C.views C.buffers chunks.now)).buffers) }
 {
     if keeps_used(keep, chunks.len(), ids.len()) {
         gather_used(alloc, chunks, ids)
@@ -98,8 +112,13 @@ pub(crate) fn gather_one<C: Chunk, const B: u64>(
 ) -> Result<Vec<C>, OutOfMemory>
     requires named { All (NamesRow (lengths (map C.shown chunks.now))) ids.now }
     requires few { length ids.now < 2 ^ 32 }
-    ensures shown { IfOk result (λ v. map C.shown v.items ≡ map (value_of_id (map C.shown chunks.now)) ids.now ∷ []) }
-    ensures view_arrays { IfOk result (λ v. view_arrays_of C.views C.buffers v.items ≡ kept_view_array keep (lengths (map C.shown chunks.now)) ids.now (view_arrays_of C.views C.buffers chunks.now) ∷ []) }
+    ensures shown { IfOk result (λ v.
+        map C.shown v.items ≡ map (value_of_id (map C.shown chunks.now)) ids.now ∷ []) }
+    ensures view_arrays { IfOk result (λ v.
+        view_arrays_of C.views C.buffers v.items
+        ≡ kept_view_array keep (lengths (map C.shown chunks.now)) ids.now
+        (view_arrays_of C.views C.buffers chunks.now)
+        ∷ []) }
 {
     let chunk = gather(alloc, chunks, ids, keep)?;
     let mut one = Vec::new(alloc);
@@ -116,9 +135,14 @@ fn gather_stored<C: Stored, const B: u64>(
 ) -> Result<Chunks, OutOfMemory>
     requires named { All (NamesRow (lengths (map C.shown chunks.now))) ids.now }
     requires few { length ids.now < 2 ^ 32 }
-    ensures lists { IfOk result (λ c. chunk_lists c ≡ map (value_of_id (map C.shown chunks.now)) ids.now ∷ []) }
+    ensures lists { IfOk result (λ c.
+        chunk_lists c ≡ map (value_of_id (map C.shown chunks.now)) ids.now ∷ []) }
     ensures storage { IfOk result (λ c. storage c ≡ C.kind) }
-    ensures view_arrays { IfOk result (λ c. chunk_view_arrays c ≡ kept_view_array keep (lengths (map C.shown chunks.now)) ids.now (view_arrays_of C.views C.buffers chunks.now) ∷ []) }
+    ensures view_arrays { IfOk result (λ c.
+        chunk_view_arrays c
+        ≡ kept_view_array keep (lengths (map C.shown chunks.now)) ids.now
+        (view_arrays_of C.views C.buffers chunks.now)
+        ∷ []) }
 {
     Ok(C::wrap(gather_one(alloc, chunks, ids, keep)?))
 }
@@ -132,9 +156,14 @@ pub(crate) fn gather_chunks<const B: u64>(
 ) -> Result<Chunks, OutOfMemory>
     requires named { All (NamesRow (lengths (chunk_lists chunks.now))) ids.now }
     requires few { length ids.now < 2 ^ 32 }
-    ensures lists { IfOk result (λ c. chunk_lists c ≡ map (value_of_id (chunk_lists chunks.now)) ids.now ∷ []) }
+    ensures lists { IfOk result (λ c.
+        chunk_lists c ≡ map (value_of_id (chunk_lists chunks.now)) ids.now ∷ []) }
     ensures storage { IfOk result (λ c. storage c ≡ storage chunks.now) }
-    ensures view_arrays { IfOk result (λ c. chunk_view_arrays c ≡ kept_view_array keep (lengths (chunk_lists chunks.now)) ids.now (chunk_view_arrays chunks.now) ∷ []) }
+    ensures view_arrays { IfOk result (λ c.
+        chunk_view_arrays c
+        ≡ kept_view_array keep (lengths (chunk_lists chunks.now)) ids.now
+        (chunk_view_arrays chunks.now)
+        ∷ []) }
 {
     match chunks {
         Chunks::BooleanType(chunks) => gather_stored(alloc, chunks, ids, keep),

@@ -34,7 +34,8 @@ fn chunk_of(column: &Series, starts: &[usize], row: usize) -> usize
     requires starts { AreStarts (lens column.now) starts.now }
     requires row { row < length (values column.now) }
     ensures start { slice_index_or starts.now result 0 ≤ row }
-    ensures named { NamesRow (lens column.now) (Some (result, row - slice_index_or starts.now result 0)) }
+    ensures named { NamesRow (lens column.now)
+        (Some (result, row - slice_index_or starts.now result 0)) }
 {
     let after = starts.partition_point(
         |start: &usize| -> bool
@@ -84,8 +85,11 @@ pub fn ids_by<R: RowOf<T>, T, const B: u64>(
     requires few { length column.now.chunks < 2 ^ B - 1 }
     requires rows { All (IsRowOf (length (values column.now))) (map R.number items.now) }
     ensures named { IfOk result (λ v. NameRows v.items column.now) }
-    ensures rows { IfOk result (λ v. map (row_or_none (lens column.now)) v.items ≡ map R.number items.now) }
-    ensures in_order { IfOk result (λ v. (sorted : IsSorted) → RowsStandInOrder sorted (map R.number items.now) → StandInOrder sorted v.items) }
+    ensures rows { IfOk result (λ v.
+        map (row_or_none (lens column.now)) v.items ≡ map R.number items.now) }
+    ensures in_order { IfOk result (λ v.
+        (sorted : IsSorted) → RowsStandInOrder sorted (map R.number items.now)
+        → StandInOrder sorted v.items) }
 {
     let _len = column.len();
     let starts = starts_of(alloc, column)?;
@@ -107,7 +111,8 @@ pub fn ids_of<const B: u64>(
     requires rows { All (IsRowOf (length (values column.now))) rows.now }
     ensures named { IfOk result (λ v. NameRows v.items column.now) }
     ensures rows { IfOk result (λ v. map (row_or_none (lens column.now)) v.items ≡ rows.now) }
-    ensures in_order { IfOk result (λ v. (sorted : IsSorted) → RowsStandInOrder sorted rows.now → StandInOrder sorted v.items) }
+    ensures in_order { IfOk result (λ v.
+        (sorted : IsSorted) → RowsStandInOrder sorted rows.now → StandInOrder sorted v.items) }
 {
     ids_by::<OwnRow, NullableIdxSize, B>(alloc, column, rows)
 }

@@ -31,7 +31,10 @@ pub fn rechunked()
 /// A gather keeps the buffers of the only chunk; where there are more chunks than ids, those that its texts lie in; else those of
 /// all chunks.
 pub fn keeps_buffers()
-    ensures { (c : Col) (ids : List Id) (sorted : IsSorted) → map (λ r. r.buffers) (gathered_column ids sorted c).view_arrays ≡ kept_buffers c.view_arrays ids ∷ [] }
+    ensures { (c : Col) (ids : List Id) (sorted : IsSorted)
+        → map (λ r. r.buffers) (gathered_column ids sorted c).view_arrays
+        ≡ kept_buffers c.view_arrays ids
+        ∷ [] }
 {}
 
 /// However as many rows are cut anew, each id can be mapped along: an id that names a row of one cut has one that

@@ -45,7 +45,8 @@ fn are_all_cut_alike(columns: &[&Column]) -> bool
 }
 
 fn are_cut_as(columns: &[&Column], first: &Column) -> bool
-    ensures { IsTrue result ↔ All (λ (c : Col). lens c ≡ lens first.now) (lent_columns columns.now) }
+    ensures { IsTrue result ↔ All (λ (c : Col). lens c ≡ lens first.now)
+        (lent_columns columns.now) }
 {
     let first = first.as_materialized_series();
     for column in columns {

@@ -23,11 +23,18 @@ fn pick_rows<S: RowOf<JoinPair>, C: Chunk>(
     pairs: &[JoinPair],
 ) -> Result<C, OutOfMemory>
     requires one { length chunks.now ≡ 1 }
-    requires rows { All (λ p. IsRowOf (length (concatenation (map C.shown chunks.now))) (S.number p)) pairs.now }
+    requires rows { All
+        (λ p. IsRowOf (length (concatenation (map C.shown chunks.now))) (S.number p)) pairs.now }
     requires few { length pairs.now < 2 ^ 32 }
-    ensures shown { IfOk result (λ c. C.shown c ≡ map (λ p. value_or_null (concatenation (map C.shown chunks.now)) (S.number p)) pairs.now) }
-    ensures views { IfOk result (λ c. C.views c ≡ (picked_of S.number pairs.now (joined_view_array (view_arrays_of C.views C.buffers chunks.now))).views) }
-    ensures buffers { IfOk result (λ c. C.buffers c ≡ (joined_view_array (view_arrays_of C.views C.buffers chunks.now)).buffers) }
+    ensures shown { IfOk result (λ c.
+        C.shown c
+        ≡ map (λ p. value_or_null (concatenation (map C.shown chunks.now)) (S.number p))
+        pairs.now) }
+    ensures views { IfOk result (λ c.
+        C.views c
+        ≡ (picked_of S.number pairs.now (joined_view_array (view_arrays_of C.views C.buffers chunks.now))).views) }
+    ensures buffers { IfOk result (λ c.
+        C.buffers c ≡ (joined_view_array (view_arrays_of C.views C.buffers chunks.now)).buffers) }
 {
     let mut out = Growing::over(alloc, chunks, pairs.len())?;
     for pair in pairs {
@@ -46,11 +53,20 @@ fn pick_stored<S: RowOf<JoinPair>, C: Stored>(
     pairs: &[JoinPair],
 ) -> Result<Chunks, OutOfMemory>
     requires one { length (map C.shown chunks.now) ≡ 1 }
-    requires rows { All (λ p. IsRowOf (length (concatenation (map C.shown chunks.now))) (S.number p)) pairs.now }
+    requires rows { All
+        (λ p. IsRowOf (length (concatenation (map C.shown chunks.now))) (S.number p)) pairs.now }
     requires few { length pairs.now < 2 ^ 32 }
-    ensures lists { IfOk result (λ c. chunk_lists c ≡ map (λ p. value_or_null (concatenation (map C.shown chunks.now)) (S.number p)) pairs.now ∷ []) }
+    ensures lists { IfOk result (λ c.
+        chunk_lists c
+        ≡ map (λ p. value_or_null (concatenation (map C.shown chunks.now)) (S.number p))
+        pairs.now
+        ∷ []) }
     ensures storage { IfOk result (λ c. storage c ≡ C.kind) }
-    ensures view_arrays { IfOk result (λ c. chunk_view_arrays c ≡ picked_of S.number pairs.now (joined_view_array (view_arrays_of C.views C.buffers chunks.now)) ∷ []) }
+    ensures view_arrays { IfOk result (λ c.
+        chunk_view_arrays c
+        ≡ picked_of S.number pairs.now
+        (joined_view_array (view_arrays_of C.views C.buffers chunks.now))
+        ∷ []) }
 {
     let mut one = Vec::new(alloc);
     one.push(pick_rows::<S, C>(alloc, chunks, pairs)?)?;
@@ -64,11 +80,19 @@ fn pick_chunk<S: RowOf<JoinPair>>(
     pairs: &[JoinPair],
 ) -> Result<Chunks, OutOfMemory>
     requires one { length (chunk_lists chunks.now) ≡ 1 }
-    requires rows { All (λ p. IsRowOf (length (concatenation (chunk_lists chunks.now))) (S.number p)) pairs.now }
+    requires rows { All
+        (λ p. IsRowOf (length (concatenation (chunk_lists chunks.now))) (S.number p)) pairs.now }
     requires few { length pairs.now < 2 ^ 32 }
-    ensures lists { IfOk result (λ c. chunk_lists c ≡ map (λ p. value_or_null (concatenation (chunk_lists chunks.now)) (S.number p)) pairs.now ∷ []) }
+    ensures lists { IfOk result (λ c.
+        chunk_lists c
+        ≡ map (λ p. value_or_null (concatenation (chunk_lists chunks.now)) (S.number p))
+        pairs.now
+        ∷ []) }
     ensures storage { IfOk result (λ c. storage c ≡ storage chunks.now) }
-    ensures view_arrays { IfOk result (λ c. chunk_view_arrays c ≡ picked_of S.number pairs.now (joined_view_array (chunk_view_arrays chunks.now)) ∷ []) }
+    ensures view_arrays { IfOk result (λ c.
+        chunk_view_arrays c
+        ≡ picked_of S.number pairs.now (joined_view_array (chunk_view_arrays chunks.now))
+        ∷ []) }
 {
     match chunks {
         Chunks::BooleanType(chunks) => pick_stored::<S, _>(alloc, chunks, pairs),
@@ -99,8 +123,10 @@ fn pick_series<S: RowOf<JoinPair>>(
     requires one { length series.now.chunks ≡ 1 }
     requires rows { All (IsRowOf (length (values series.now))) (map S.number pairs.now) }
     requires few { length pairs.now ≤ MAX_ROWS }
-    requires flag { FlagHolds flag series.now.kind (map (value_or_null (values series.now)) (map S.number pairs.now)) }
-    ensures { IfOk result (λ s. s ≡ record (opt_taken_rows (map S.number pairs.now) series.now) { flag = flag }) }
+    requires flag { FlagHolds flag series.now.kind
+        (map (value_or_null (values series.now)) (map S.number pairs.now)) }
+    ensures { IfOk result (λ s.
+        s ≡ record (opt_taken_rows (map S.number pairs.now) series.now) { flag = flag }) }
 {
     let _len = series.len();
     let name = series.name().copy(alloc)?;

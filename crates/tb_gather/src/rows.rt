@@ -29,10 +29,12 @@ pub fn gather_rows<S: RowOf<JoinPair>>(
     pairs: &[JoinPair],
     sorted: IsSorted,
 ) -> Result<Vec<Column>, OutOfMemory>
-    requires rows { All (λ (c : Col). All (IsRowOf (length (values c))) (map S.number pairs.now)) (lent_columns columns.now) }
+    requires rows { All (λ (c : Col). All (IsRowOf (length (values c))) (map S.number pairs.now))
+        (lent_columns columns.now) }
     requires in_order { AreAllRowsInOrder sorted (map S.number pairs.now) }
     requires few { length pairs.now ≤ MAX_ROWS }
-    ensures { IfOk result (λ v. v.items ≡ map (gathered_rows (map S.number pairs.now) sorted) (lent_columns columns.now)) }
+    ensures { IfOk result (λ v.
+        v.items ≡ map (gathered_rows (map S.number pairs.now) sorted) (lent_columns columns.now)) }
 {
     if are_in_one_chunk(columns) || !are_cut_for_ids(columns) {
         pick_side_by_side::<S>(rt, alloc, columns, pairs, sorted)
@@ -50,10 +52,12 @@ fn gather_by_ids<S: RowOf<JoinPair>>(
     sorted: IsSorted,
 ) -> Result<Vec<Column>, OutOfMemory>
     requires cut { AreCutForIds (lent_columns columns.now) }
-    requires rows { All (λ (c : Col). All (IsRowOf (length (values c))) (map S.number pairs.now)) (lent_columns columns.now) }
+    requires rows { All (λ (c : Col). All (IsRowOf (length (values c))) (map S.number pairs.now))
+        (lent_columns columns.now) }
     requires in_order { AreAllRowsInOrder sorted (map S.number pairs.now) }
     requires few { length pairs.now ≤ MAX_ROWS }
-    ensures { IfOk result (λ v. v.items ≡ map (gathered_rows (map S.number pairs.now) sorted) (lent_columns columns.now)) }
+    ensures { IfOk result (λ v.
+        v.items ≡ map (gathered_rows (map S.number pairs.now) sorted) (lent_columns columns.now)) }
 {
     match columns.first() {
         None => Ok(Vec::new(alloc)),

@@ -44,7 +44,8 @@ pub(crate) fn gather_column<const B: u64>(
     requires named { NameRows by.now column.now }
     requires in_order { AreAllInOrder sorted by.now }
     requires few { length by.now ≤ MAX_ROWS }
-    ensures { IfOk result (λ c. c ≡ named_rows keep by.now (gathered_flag column.now.flag sorted) column.now) }
+    ensures { IfOk result (λ c.
+        c ≡ named_rows keep by.now (gathered_flag column.now.flag sorted) column.now) }
 {
     let _len = column.len();
     let flag = gathered_flag(column.is_sorted_flag(), sorted);

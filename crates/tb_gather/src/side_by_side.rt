@@ -36,7 +36,8 @@ pub trait TakeChunkedHorPar<const B: u64>: IntoDf {
         requires named { All (NameRows idx.now) (Self.frame self.now) }
         requires in_order { StandInOrder sorted idx.now }
         requires few { length idx.now ≤ MAX_ROWS }
-        ensures { IfOk result (λ t. t ≡ map (gathered_column idx.now sorted) (Self.frame self.now)) }
+        ensures { IfOk result (λ t.
+            t ≡ map (gathered_column idx.now sorted) (Self.frame self.now)) }
     {
         let lent = lend(alloc, self.to_df().get_columns())?;
         let columns = gather_side_by_side(rt, alloc, &lent, idx, sorted, Keep::Used)?;
@@ -80,7 +81,10 @@ pub(crate) fn gather_side_by_side<const B: u64>(
     requires named { All (NameRows by.now) (lent_columns columns.now) }
     requires in_order { AreAllInOrder sorted by.now }
     requires few { length by.now ≤ MAX_ROWS }
-    ensures { IfOk result (λ v. v.items ≡ map (λ c. named_rows keep by.now (gathered_flag c.flag sorted) c) (lent_columns columns.now)) }
+    ensures { IfOk result (λ v.
+        v.items
+        ≡ map (λ c. named_rows keep by.now (gathered_flag c.flag sorted) c)
+        (lent_columns columns.now)) }
 {
     columns
         .par_iter()
@@ -90,7 +94,10 @@ pub(crate) fn gather_side_by_side<const B: u64>(
                 requires named { NameRows by.now column.now.now }
                 requires in_order { AreAllInOrder sorted by.now }
                 requires few { length by.now ≤ MAX_ROWS }
-                ensures { IfOk result (λ c. c ≡ named_rows keep by.entry.now (gathered_flag column.now.now.flag sorted) column.now.now) }
+                ensures { IfOk result (λ c.
+                    c
+                    ≡ named_rows keep by.entry.now (gathered_flag column.now.now.flag sorted)
+                    column.now.now) }
             { gather_column(alloc, column, by, sorted, keep) },
         )
         .collect(rt, alloc)?
@@ -104,20 +111,24 @@ pub(crate) fn pick_side_by_side<S: RowOf<JoinPair>>(
     pairs: &[JoinPair],
     sorted: IsSorted,
 ) -> Result<Vec<Column>, OutOfMemory>
-    requires rows { All (λ (c : Col). All (IsRowOf (length (values c))) (map S.number pairs.now)) (lent_columns columns.now) }
+    requires rows { All (λ (c : Col). All (IsRowOf (length (values c))) (map S.number pairs.now))
+        (lent_columns columns.now) }
     requires in_order { AreAllRowsInOrder sorted (map S.number pairs.now) }
     requires few { length pairs.now ≤ MAX_ROWS }
-    ensures { IfOk result (λ v. v.items ≡ map (gathered_rows (map S.number pairs.now) sorted) (lent_columns columns.now)) }
+    ensures { IfOk result (λ v.
+        v.items ≡ map (gathered_rows (map S.number pairs.now) sorted) (lent_columns columns.now)) }
 {
     columns
         .par_iter()
         .with_min_len(columns_a_thread(columns.len(), pairs.len()))
         .map(
             |column: &&Column| -> Result<Column, OutOfMemory>
-                requires rows { All (IsRowOf (length (values column.now.now))) (map S.number pairs.now) }
+                requires rows { All (IsRowOf (length (values column.now.now)))
+                    (map S.number pairs.now) }
                 requires in_order { AreAllRowsInOrder sorted (map S.number pairs.now) }
                 requires few { length pairs.now ≤ MAX_ROWS }
-                ensures { IfOk result (λ c. c ≡ gathered_rows (map S.number pairs.entry.now) sorted column.now.now) }
+                ensures { IfOk result (λ c.
+                    c ≡ gathered_rows (map S.number pairs.entry.now) sorted column.now.now) }
             { pick_column::<S>(alloc, column, pairs, sorted) },
         )
         .collect(rt, alloc)?

@@ -36,8 +36,10 @@ fn places_in_use<C: Chunk, const B: u64>(
     ids: &[ChunkId<B>],
 ) -> Result<IndexSet<Place>, OutOfMemory>
     requires named { All (NamesRow (lengths (map C.shown chunks.now))) ids.now }
-    ensures places { IfOk result (λ s. s.keys ≡ used_places (view_arrays_of C.views C.buffers chunks.now) ids.now) }
-    ensures within { IfOk result (λ s. All (IsPlace (view_arrays_of C.views C.buffers chunks.now)) s.keys) }
+    ensures places { IfOk result (λ s.
+        s.keys ≡ used_places (view_arrays_of C.views C.buffers chunks.now) ids.now) }
+    ensures within { IfOk result (λ s.
+        All (IsPlace (view_arrays_of C.views C.buffers chunks.now)) s.keys) }
 {
     let mut places = IndexSet::new(alloc);
     for id in ids {
@@ -58,7 +60,8 @@ fn over_places<C: Chunk>(
     requires { All (IsPlace (view_arrays_of C.views C.buffers chunks.now)) places.now }
     ensures shown { IfOk result (λ c. C.shown c ≡ []) }
     ensures views { IfOk result (λ c. C.views c ≡ []) }
-    ensures buffers { IfOk result (λ c. C.buffers c ≡ map (buffer_at (view_arrays_of C.views C.buffers chunks.now)) places.now) }
+    ensures buffers { IfOk result (λ c.
+        C.buffers c ≡ map (buffer_at (view_arrays_of C.views C.buffers chunks.now)) places.now) }
 {
     let mut out = C::with_capacity(alloc, rows)?;
     for (chunk, buffer) in places {
@@ -75,7 +78,9 @@ fn number_of<C: Chunk, const B: u64>(
 ) -> Option<u32>
     requires named { NamesRow (lengths (map C.shown chunks.now)) id.now }
     requires few { length places.now.keys < 2 ^ 32 }
-    ensures { result ≡ number_in places.now.keys (place_of (view_arrays_of C.views C.buffers chunks.now) id.now) }
+    ensures { result
+        ≡ number_in places.now.keys
+        (place_of (view_arrays_of C.views C.buffers chunks.now) id.now) }
 {
     let place = place_of(chunks, id)?;
     let number = places.get_index_of(&place)?;
@@ -92,10 +97,18 @@ fn push_used<C: Chunk, const B: u64>(
 ) -> Result<(), OutOfMemory>
     requires room { length (C.shown out.old) < 2 ^ 63 }
     requires named { NamesRow (lengths (map C.shown chunks.now)) id.now }
-    requires held { C.buffers out.old ≡ map (buffer_at (view_arrays_of C.views C.buffers chunks.now)) places.now.keys }
-    requires used { IfSome (place_of (view_arrays_of C.views C.buffers chunks.now) id.now) (Contains places.now.keys) }
-    ensures shown { OnOk result (C.shown out.new ≡ C.shown out.old ++ value_of_id (map C.shown chunks.now) id.now ∷ []) }
-    ensures views { OnOk result (C.views out.new ≡ C.views out.old ++ view_among (view_arrays_of C.views C.buffers chunks.now) places.now.keys id.now ∷ []) }
+    requires held { C.buffers out.old
+        ≡ map (buffer_at (view_arrays_of C.views C.buffers chunks.now)) places.now.keys }
+    requires used { IfSome (place_of (view_arrays_of C.views C.buffers chunks.now) id.now)
+        (Contains places.now.keys) }
+    ensures shown { OnOk result
+        (C.shown out.new ≡ C.shown out.old ++ value_of_id (map C.shown chunks.now) id.now ∷ []) }
+    ensures views { OnOk result
+        (C.views out.new
+        ≡ C.views out.old
+        ++ view_among (view_arrays_of C.views C.buffers chunks.now) places.now.keys
+        id.now
+        ∷ []) }
     ensures buffers { C.buffers out.new ≡ C.buffers out.old }
 {
     if id.is_null() {
@@ -114,9 +127,13 @@ pub(crate) fn gather_used<C: Chunk, const B: u64>(
 ) -> Result<C, OutOfMemory>
     requires named { All (NamesRow (lengths (map C.shown chunks.now))) ids.now }
     requires few { length ids.now < 2 ^ 32 }
-    ensures shown { IfOk result (λ c. C.shown c ≡ map (value_of_id (map C.shown chunks.now)) ids.now) }
-    ensures views { IfOk result (λ c. C.views c ≡ (used_view_array (view_arrays_of C.views C.buffers chunks.now) ids.now).views) }
-    ensures buffers { IfOk result (λ c. C.buffers c ≡ (used_view_array (view_arrays_of C.views C.buffers chunks.now) ids.now).buffers) }
+    ensures shown { IfOk result (λ c.
+        C.shown c ≡ map (value_of_id (map C.shown chunks.now)) ids.now) }
+    ensures views { IfOk result (λ c.
+        C.views c ≡ (used_view_array (view_arrays_of C.views C.buffers chunks.now) ids.now).views) }
+    ensures buffers { IfOk result (λ c.
+        C.buffers c
+        ≡ (used_view_array (view_arrays_of C.views C.buffers chunks.now) ids.now).buffers) }
 {
     let places = places_in_use(alloc, chunks, ids)?;
     let mut out = over_places(alloc, chunks, places.as_slice(), ids.len())?;

@@ -35,7 +35,8 @@ abbrev pub asked_of : Table → List GroupAgg → List Asked
 asked_of t aggs = filter_map (beside t) aggs
 
 -- the columns of a table were found by their names
-pub record AreFound (cs : List Col) (names : List Name) (aggs : List GroupAgg) (f : GroupColumns) : Type 0 where
+pub record AreFound (cs : List Col) (names : List Name) (aggs : List GroupAgg)
+    (f : GroupColumns) : Type 0 where
   pub table : IsTable (table_of cs)
   pub by : lent_columns f.by.items ≡ selected_columns names cs
   pub sources : lent_columns f.sources.items ≡ selected_columns (agg_sources aggs) cs

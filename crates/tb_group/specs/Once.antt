@@ -15,13 +15,16 @@ IsAlikeAt made seat a = (seat < length made) × AreAlike (slice_index_or made se
 
 -- an aggregate has its place among those that are made: one that is alike stands there, or it was put behind them
 abbrev pub IsSeated : List AskedColumn → List AskedColumn → AskedColumn → ℕ → Type 0
-IsSeated old new a seat = ((new ≡ old) × IsAlikeAt old seat a) ⊎ ((new ≡ old ++ a ∷ []) × (seat ≡ length old))
+IsSeated old new a seat =
+    ((new ≡ old) × IsAlikeAt old seat a) ⊎ ((new ≡ old ++ a ∷ []) × (seat ≡ length old))
 
 -- of so many that are asked for: those that are made are asked for, and each of them has the place of one that is alike
-pub record AreOnceTo (asked : List AskedColumn) (n : ℕ) (made : List AskedColumn) (seats : List ℕ) : Type 0 where
+pub record AreOnceTo (asked : List AskedColumn) (n : ℕ) (made : List AskedColumn)
+    (seats : List ℕ) : Type 0 where
   pub from : All (Contains asked) made
   pub many : length seats ≡ n
-  pub each : (k : ℕ) (a : AskedColumn) → k < n → a ≡ slice_index_or asked k a → IsAlikeAt made (slice_index_or seats k 0) a
+  pub each : (k : ℕ) (a : AskedColumn) → k < n → a ≡ slice_index_or asked k a
+      → IsAlikeAt made (slice_index_or seats k 0) a
 
 -- of all that are asked for
 abbrev pub AreOnce : List AskedColumn → Once → Type 0

@@ -29,7 +29,8 @@ unnamed_rows rows c = record (taken_rows rows c) { name = [] }
 
 -- whether the sums of groups of rows, where they are what is asked for, are in the range of their type
 abbrev pub groups_fit : Aggregate → TableColumn → List (List ℕ) → Bool
-groups_fit agg v groups = sums_fit agg (sum_kind v.kind) (map (λ rows. total (map (row_value v.values) rows)) groups)
+groups_fit agg v groups =
+    sums_fit agg (sum_kind v.kind) (map (λ rows. total (map (row_value v.values) rows)) groups)
 
 -- one value for each group of rows
 abbrev pub group_values : Aggregate → TableColumn → List (List ℕ) → List Datum
@@ -38,12 +39,15 @@ group_values agg v groups = map (λ rows. aggregate agg (map (row_value v.values
 -- the column of these values, without a name, and none where a sum is out of range
 abbrev pub groups_column : Aggregate → TableColumn → List (List ℕ) → Option TableColumn
 groups_column agg v groups = (if groups_fit agg v groups
-    then Some (record { name = []; kind = unwrap_or (result_kind agg v.kind) kind.null; values = group_values agg v groups })
+    then Some
+    (record
+    { name = []; kind = unwrap_or (result_kind agg v.kind) kind.null; values = group_values agg v groups })
     else None)
 
 -- of listed rows, those of each group of their places
 abbrev pub rows_in_groups : List ℕ → Groups → List (List ℕ)
-rows_in_groups rows g = map (λ k. map (row_in rows) (rows_of g.numbers.items (length rows) k)) (row_numbers (length g.firsts.items))
+rows_in_groups rows g = map (λ k. map (row_in rows) (rows_of g.numbers.items (length rows) k))
+    (row_numbers (length g.firsts.items))
 
 -- what a part gives
 pub record PartView : Type 0 where
@@ -51,7 +55,8 @@ pub record PartView : Type 0 where
   pub columns : List (Option TableColumn)
 
 abbrev pub shown_part : PartGroups → PartView
-shown_part p = record { firsts = p.firsts.items; columns = map (option_map plain_column) p.columns.items }
+shown_part p =
+    record { firsts = p.firsts.items; columns = map (option_map plain_column) p.columns.items }
 
 -- what there is to give of these rows
 abbrev pub part_view : (ℕ → ℕ → Bool) → List Asked → List ℕ → PartView
@@ -75,7 +80,8 @@ group_count (Some p) = length p.firsts.items
 
 -- the rows of a part, of which the places are given
 abbrev pub rows_of_part : List ℕ → List ℕ → ℕ → List ℕ
-rows_of_part idxs starts p = take (slice_index_or starts (p + 1) 0 - slice_index_or starts p 0) (drop (slice_index_or starts p 0) idxs)
+rows_of_part idxs starts p = take (slice_index_or starts (p + 1) 0 - slice_index_or starts p 0)
+    (drop (slice_index_or starts p 0) idxs)
 
 -- a part has a start and an end within the rows
 pub record IsPart (starts idxs : List ℕ) (p : ℕ) : Type 0 where

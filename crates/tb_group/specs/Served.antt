@@ -20,7 +20,8 @@ pub record IsSeat (made : List Asked) (seat : ℕ) (a : Asked) : Type 0 where
 -- each aggregate that is asked for has such a place among those that are made
 pub record AreSeated (asked made : List Asked) (seats : List ℕ) : Type 0 where
   pub many : length seats ≡ length asked
-  pub each : (k : ℕ) (a : Asked) → k < length asked → a ≡ slice_index_or asked k a → IsSeat made (slice_index_or seats k 0) a
+  pub each : (k : ℕ) (a : Asked) → k < length asked → a ≡ slice_index_or asked k a
+      → IsSeat made (slice_index_or seats k 0) a
 
 -- the height of a table, the columns by which its rows are grouped, the aggregates that are asked for, those that are made, and for each that is asked for the place of the one that is made for it
 pub record Wanted : Type 0 where
@@ -31,7 +32,8 @@ pub record Wanted : Type 0 where
   pub seats : List ℕ
 
 abbrev pub wanted : ℕ → List (Bor Col) → List AskedColumn → List AskedColumn → List ℕ → Wanted
-wanted height by asked made seats = record { height = height; by = by; asked = asked; made = made; seats = seats }
+wanted height by asked made seats =
+    record { height = height; by = by; asked = asked; made = made; seats = seats }
 
 -- these columns and aggregates are what the request names, and of types that it may
 pub record AreServed (q : Request) (w : Wanted) : Type 0 where

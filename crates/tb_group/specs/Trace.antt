@@ -9,7 +9,8 @@ use Rattle.tb_group.specs.Promise.Keys.{GroupedView}
 
 -- how long the pieces are that begin at these places
 abbrev pub lengths_between : List ℕ → List ℕ
-lengths_between starts = map (λ p. slice_index_or starts (p + 1) 0 - slice_index_or starts p 0) (row_numbers (length starts - 1))
+lengths_between starts = map (λ p. slice_index_or starts (p + 1) 0 - slice_index_or starts p 0)
+    (row_numbers (length starts - 1))
 
 -- the parts of rows with these codes that have work
 abbrev pub work_parts : List ℕ → ℕ → List ℕ
@@ -17,7 +18,8 @@ work_parts codes n = filter (λ p. has_work p (part_rows codes n p)) (row_number
 
 -- what is made of each of these
 abbrev pub part_views : (ℕ → ℕ → Bool) → List Asked → List ℕ → ℕ → List PartView
-part_views test asked codes n = map (λ p. part_view test asked (part_rows codes n p)) (work_parts codes n)
+part_views test asked codes n =
+    map (λ p. part_view test asked (part_rows codes n p)) (work_parts codes n)
 
 -- how many rows the parts have, and how many groups by a test
 abbrev pub trace_by : (ℕ → ℕ → Bool) → List ℕ → ℕ → GroupedView

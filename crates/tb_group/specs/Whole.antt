@@ -65,10 +65,14 @@ pub record AreStacked (places : List ℕ) (os : List (Option TableColumn)) : Typ
 
 -- of each aggregate that is asked for, by its place: why there is no column of the one that is made for it, and else that column
 abbrev pub cause_at : List Asked → List ℕ → List PartView → ℕ → Option PolarsError
-cause_at asked seats parts k = stack_cause (slice_index_or (map (λ (a : Asked). a.0.column) asked) k []) (columns_at (slice_index_or seats k 0) parts)
+cause_at asked seats parts k = stack_cause
+    (slice_index_or (map (λ (a : Asked). a.0.column) asked) k [])
+    (columns_at (slice_index_or seats k 0) parts)
 
 abbrev pub placed_at : List Asked → List ℕ → List PartView → List ℕ → ℕ → TableColumn
-placed_at asked seats parts places k = placed_column (slice_index_or (map (λ (a : Asked). a.0.name) asked) k []) places (columns_at (slice_index_or seats k 0) parts)
+placed_at asked seats parts places k = placed_column
+    (slice_index_or (map (λ (a : Asked). a.0.name) asked) k []) places
+    (columns_at (slice_index_or seats k 0) parts)
 
 -- what parts give for so many aggregates can be put together
 pub record AreWhole (n : ℕ) (parts : List PartView) (places : List ℕ) : Type 0 where

@@ -82,7 +82,9 @@ fn column_code(column: &Series, row: usize) -> Code
 
 // The codes of the values of a column.
 fn column_codes(alloc: Global, column: &Series) -> Result<Vec<Option<Code>>, OutOfMemory>
-    ensures { IfOk result (λ v. codes_of own_code v.items ≡ codes_by (plain_column column.now ∷ []) (length (values column.now))) }
+    ensures { IfOk result (λ v.
+        codes_of own_code v.items
+        ≡ codes_by (plain_column column.now ∷ []) (length (values column.now))) }
 {
     let rows = column.len();
     let mut codes = Vec::with_capacity(alloc, rows)?;
@@ -95,7 +97,8 @@ fn column_codes(alloc: Global, column: &Series) -> Result<Vec<Option<Code>>, Out
 // The code of a row's key, which each row has.
 fn row_code(keys: &RowKeys, row: usize) -> Code
     requires { row < length keys.now }
-    ensures { own_code result ≡ value_code kind.binary (or_null binary (slice_index_or keys.now row None)) }
+    ensures { own_code result
+        ≡ value_code kind.binary (or_null binary (slice_index_or keys.now row None)) }
 {
     let code = match keys.get(row) {
         Some(bytes) => KeyBytes { bytes }.code(),
@@ -106,7 +109,8 @@ fn row_code(keys: &RowKeys, row: usize) -> Code
 
 // The codes of the keys of rows.
 fn row_codes(alloc: Global, keys: &RowKeys) -> Result<Vec<Option<Code>>, OutOfMemory>
-    ensures { IfOk result (λ v. codes_of own_code v.items ≡ map (λ o. value_code kind.binary (or_null binary o)) keys.now) }
+    ensures { IfOk result (λ v.
+        codes_of own_code v.items ≡ map (λ o. value_code kind.binary (or_null binary o)) keys.now) }
 {
     let rows = keys.len();
     let mut codes = Vec::with_capacity(alloc, rows)?;
@@ -119,8 +123,11 @@ fn row_codes(alloc: Global, keys: &RowKeys) -> Result<Vec<Option<Code>>, OutOfMe
 // The keys of rows, in which Nulls match. A row of 2^32 bytes or more is want of memory.
 fn row_keys(alloc: Global, by: &[&Series]) -> Result<RowKeys, OutOfMemory>
     requires some { 1 < length by.now }
-    requires rows { All (λ c. length (values c) ≡ row_count (lent_columns by.now)) (lent_columns by.now) }
-    ensures { IfOk result (λ k. map (λ o. value_code kind.binary (or_null binary o)) k ≡ codes_by (table_of (lent_columns by.now)) (row_count (lent_columns by.now))) }
+    requires rows { All (λ c. length (values c) ≡ row_count (lent_columns by.now))
+        (lent_columns by.now) }
+    ensures { IfOk result (λ k.
+        map (λ o. value_code kind.binary (or_null binary o)) k
+        ≡ codes_by (table_of (lent_columns by.now)) (row_count (lent_columns by.now))) }
 {
     let nulls = vec![in alloc; true; by.len()]?;
     match RowKeys::of_columns(alloc, by, &nulls)? {
@@ -132,8 +139,11 @@ fn row_keys(alloc: Global, by: &[&Series]) -> Result<RowKeys, OutOfMemory>
 /// The code of each row's key: of its value in the one column, and else of the key of the row.
 pub(crate) fn key_codes(alloc: Global, by: &[&Series]) -> Result<Vec<Option<Code>>, OutOfMemory>
     requires some { 0 < length by.now }
-    requires rows { All (λ c. length (values c) ≡ row_count (lent_columns by.now)) (lent_columns by.now) }
-    ensures { IfOk result (λ v. codes_of own_code v.items ≡ codes_by (table_of (lent_columns by.now)) (row_count (lent_columns by.now))) }
+    requires rows { All (λ c. length (values c) ≡ row_count (lent_columns by.now))
+        (lent_columns by.now) }
+    ensures { IfOk result (λ v.
+        codes_of own_code v.items
+        ≡ codes_by (table_of (lent_columns by.now)) (row_count (lent_columns by.now))) }
 {
     if by.len() == 1 {
         return column_codes(alloc, by[0]);

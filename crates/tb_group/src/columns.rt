@@ -60,7 +60,8 @@ pub(crate) fn answer_columns(
 ) -> Result<Vec<Column>, OutOfMemory>
     requires rows { All (λ c. All (λ r. r < length (values c.now)) rows.now) by.now }
     requires few { length rows.now ≤ MAX_ROWS }
-    ensures { IfOk result (λ v. v.items ≡ map (taken_rows rows.now) (lent_columns by.now) ++ made.items) }
+    ensures { IfOk result (λ v.
+        v.items ≡ map (taken_rows rows.now) (lent_columns by.now) ++ made.items) }
 {
     let mut made = made;
     let mut columns = columns_at(alloc, by, rows)?;
@@ -85,7 +86,8 @@ fn are_there(parts: &[PartGroups], place: usize) -> bool
 fn piece(part: &PartGroups, place: usize) -> &Series
     requires low { place < length part.now.columns.items }
     requires there { IsSome (slice_index_or part.now.columns.items place None) }
-    ensures { Some (plain_column result.now) ≡ slice_index_or (shown_part part.now).columns place None }
+    ensures { Some (plain_column result.now)
+        ≡ slice_index_or (shown_part part.now).columns place None }
 {
     match &part.columns()[place] {
         Some(column) => column,
@@ -97,7 +99,8 @@ fn piece(part: &PartGroups, place: usize) -> &Series
 fn pieces(alloc: Global, parts: &[PartGroups], place: usize) -> Result<Vec<&Series>, OutOfMemory>
     requires low { All (λ p. place < length p.columns.items) parts.now }
     requires there { All (λ p. IsSome (slice_index_or p.columns.items place None)) parts.now }
-    ensures { IfOk result (λ v. table_of (lent_columns v.items) ≡ there_of (columns_at place (map shown_part parts.now))) }
+    ensures { IfOk result (λ v.
+        table_of (lent_columns v.items) ≡ there_of (columns_at place (map shown_part parts.now))) }
 {
     let mut pieces = Vec::with_capacity(alloc, parts.len())?;
     for part in parts {
@@ -109,9 +112,11 @@ fn pieces(alloc: Global, parts: &[PartGroups], place: usize) -> Result<Vec<&Seri
 // Columns of one type, one after another, under this name.
 fn stacked(alloc: Global, name: &PlSmallStr, pieces: &[&Series]) -> Result<Series, OutOfMemory>
     requires some { 0 < length pieces.now }
-    requires kinds { All (λ c. c.kind ≡ first_kind (table_of (lent_columns pieces.now))) (table_of (lent_columns pieces.now)) }
+    requires kinds { All (λ c. c.kind ≡ first_kind (table_of (lent_columns pieces.now)))
+        (table_of (lent_columns pieces.now)) }
     requires few { length (all_values (table_of (lent_columns pieces.now))) ≤ MAX_ROWS }
-    ensures { IfOk result (λ s. plain_column s ≡ stacked_column name.now (table_of (lent_columns pieces.now))) }
+    ensures { IfOk result (λ s.
+        plain_column s ≡ stacked_column name.now (table_of (lent_columns pieces.now))) }
 {
     know_columns(pieces);
     let dtype = pieces[0].dtype().copy(alloc)?;
@@ -130,8 +135,12 @@ fn agg_column(
     requires low { All (λ p. place < length p.columns.items) parts.now }
     requires stacked { AreStacked places.now (columns_at place (map shown_part parts.now)) }
     requires few { length places.now ≤ MAX_ROWS }
-    ensures settles { Settles result (stack_cause asked.now.asked.now.column (columns_at place (map shown_part parts.now))) }
-    ensures column { IfOk result (λ c. plain_column c ≡ placed_column asked.now.asked.now.name places.now (columns_at place (map shown_part parts.now))) }
+    ensures settles { Settles result
+        (stack_cause asked.now.asked.now.column (columns_at place (map shown_part parts.now))) }
+    ensures column { IfOk result (λ c.
+        plain_column c
+        ≡ placed_column asked.now.asked.now.name places.now
+        (columns_at place (map shown_part parts.now))) }
 {
     if !are_there(parts, place) {
         return Err(PolarsError::ComputeError(ComputeCause::SumRange(
@@ -162,8 +171,14 @@ pub(crate) fn agg_columns(
 ) -> PolarsResult<Vec<Column>>
     requires long { length seats.now ≡ length asked.now }
     requires whole { AreWholeAt seats.now (map shown_part parts.now) places.now }
-    ensures settles { Settles result (first_cause (map (cause_at (asked_list asked.now) seats.now (map shown_part parts.now)) (row_numbers (length asked.now)))) }
-    ensures columns { IfOk result (λ v. table_of v.items ≡ map (placed_at (asked_list asked.now) seats.now (map shown_part parts.now) places.now) (row_numbers (length asked.now))) }
+    ensures settles { Settles result
+        (first_cause
+        (map (cause_at (asked_list asked.now) seats.now (map shown_part parts.now))
+        (row_numbers (length asked.now)))) }
+    ensures columns { IfOk result (λ v.
+        table_of v.items
+        ≡ map (placed_at (asked_list asked.now) seats.now (map shown_part parts.now) places.now)
+        (row_numbers (length asked.now))) }
 {
     let mut columns = Vec::new(alloc);
     for place in 0..asked.len() {

@@ -37,11 +37,17 @@ fn grouped<G: Gate>(
     gate: &G,
 ) -> PolarsResult<(Vec<Column>, Grouped)>
     requires few { height ≤ MAX_ROWS }
-    requires served { (q : Request) × AreServed q (wanted height by.now asked.now made.now seats.now) }
-    ensures settles { (q : Request) → AreServed q (wanted height by.now asked.now made.now seats.now) → Settles result (first_agg_cause q (range_cause q)) }
-    ensures table { (q : Request) → AreServed q (wanted height by.now asked.now made.now seats.now) → IfOk result (λ r. table_of r.0.items ≡ group_table q) }
-    ensures traced { (q : Request) → AreServed q (wanted height by.now asked.now made.now seats.now) → IfOk result (λ r. r.1 ≡ group_trace exec.now q) }
-    ensures let_in { IfOk result (λ _. (part : ℕ) → part < exec.now.partitions → G.lets_in gate.now part) }
+    requires served { (q : Request)
+        × AreServed q (wanted height by.now asked.now made.now seats.now) }
+    ensures settles { (q : Request)
+        → AreServed q (wanted height by.now asked.now made.now seats.now)
+        → Settles result (first_agg_cause q (range_cause q)) }
+    ensures table { (q : Request) → AreServed q (wanted height by.now asked.now made.now seats.now)
+        → IfOk result (λ r. table_of r.0.items ≡ group_table q) }
+    ensures traced { (q : Request) → AreServed q (wanted height by.now asked.now made.now seats.now)
+        → IfOk result (λ r. r.1 ≡ group_trace exec.now q) }
+    ensures let_in { IfOk result (λ _.
+        (part : ℕ) → part < exec.now.partitions → G.lets_in gate.now part) }
 {
     let (parts, trace) = grouped_parts(rt, alloc, by, made, exec, gate)?;
     let firsts = all_firsts(alloc, &parts)?;
@@ -80,9 +86,12 @@ pub fn group_by<'a, G: Gate>(
     gate: &G,
 ) -> PolarsResult<(DataFrame, Grouped)>
     ensures settles { Settles result (group_refusal (lent_request table.now by.now aggs.now)) }
-    ensures table { IfOk result (λ r. table_of r.0 ≡ group_table (lent_request table.now by.now aggs.now)) }
-    ensures traced { IfOk result (λ r. r.1 ≡ group_trace exec.now (lent_request table.now by.now aggs.now)) }
-    ensures let_in { IfOk result (λ _. (part : ℕ) → part < exec.now.partitions → G.lets_in gate.now part) }
+    ensures table { IfOk result (λ r.
+        table_of r.0 ≡ group_table (lent_request table.now by.now aggs.now)) }
+    ensures traced { IfOk result (λ r.
+        r.1 ≡ group_trace exec.now (lent_request table.now by.now aggs.now)) }
+    ensures let_in { IfOk result (λ _.
+        (part : ℕ) → part < exec.now.partitions → G.lets_in gate.now part) }
 {
     let columns = found(alloc, table, by, aggs)?;
     let asked = asked_columns(alloc, aggs, &columns.sources)?;

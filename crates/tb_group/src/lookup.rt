@@ -80,7 +80,8 @@ pub(crate) fn asked_columns<'a>(
     sources: &[&'a Series],
 ) -> Result<Vec<AskedColumn<'a>>, OutOfMemory>
     requires { length sources.now ≡ length aggs.now }
-    ensures { IfOk result (λ v. asked_list v.items ≡ zip aggs.now (table_of (lent_columns sources.now))) }
+    ensures { IfOk result (λ v.
+        asked_list v.items ≡ zip aggs.now (table_of (lent_columns sources.now))) }
 {
     let mut asked = Vec::with_capacity(alloc, aggs.len())?;
     for place in 0..aggs.len() {
@@ -91,7 +92,8 @@ pub(crate) fn asked_columns<'a>(
 
 // Refuses the first aggregate that doesn't take the type of its column (AggType).
 fn check_types(alloc: Global, asked: &[AskedColumn<'_>]) -> PolarsResult<()>
-    ensures { Settles result (first_cause (map (λ (a : Asked). type_cause a.0 a.1) (asked_list asked.now))) }
+    ensures { Settles result
+        (first_cause (map (λ (a : Asked). type_cause a.0 a.1) (asked_list asked.now))) }
 {
     for one in asked {
         if !one.asked.agg.takes(one.column.dtype()) {
@@ -108,7 +110,8 @@ fn push_names<'a>(
     names: &mut Vec<&'a PlSmallStr>,
     more: &'a [PlSmallStr],
 ) -> Result<(), OutOfMemory>
-    ensures { OnOk result (map (λ n. n.now) names.new.items ≡ map (λ n. n.now) names.old.items ++ more.now) }
+    ensures { OnOk result
+        (map (λ n. n.now) names.new.items ≡ map (λ n. n.now) names.old.items ++ more.now) }
 {
     for name in more {
         names.push(name)?;
@@ -121,7 +124,9 @@ fn push_made_names<'a>(
     names: &mut Vec<&'a PlSmallStr>,
     aggs: &'a [GroupAgg],
 ) -> Result<(), OutOfMemory>
-    ensures { OnOk result (map (λ n. n.now) names.new.items ≡ map (λ n. n.now) names.old.items ++ agg_names aggs.now) }
+    ensures { OnOk result
+        (map (λ n. n.now) names.new.items
+        ≡ map (λ n. n.now) names.old.items ++ agg_names aggs.now) }
 {
     for agg in aggs {
         names.push(&agg.name)?;
@@ -167,7 +172,8 @@ pub(crate) fn found<'a>(
     by: &[PlSmallStr],
     aggs: &'a [GroupAgg],
 ) -> PolarsResult<GroupColumns<'a>>
-    ensures settles { Settles result (first_cause (name_causes (lent_request table.now by.now aggs.now))) }
+    ensures settles { Settles result
+        (first_cause (name_causes (lent_request table.now by.now aggs.now))) }
     ensures found { IfOk result (AreFound table.now by.now aggs.now) }
 {
     check_some(by)?;

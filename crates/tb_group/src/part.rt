@@ -59,7 +59,9 @@ fn unnamed_rows(alloc: Global, column: &Series, rows: &[IdxSize]) -> Result<Seri
 
 // The column that was made, and none where it was refused.
 fn if_made(made: PolarsResult<Series>) -> Result<Option<Series>, OutOfMemory>
-    ensures { IfOk result (λ o. IfSome o (λ s. made ≡ Ok s) × ((cause : Option PolarsError) → Settles made cause → is_none o ≡ is_some cause)) }
+    ensures { IfOk result (λ o.
+        IfSome o (λ s. made ≡ Ok s)
+        × ((cause : Option PolarsError) → Settles made cause → is_none o ≡ is_some cause)) }
 {
     match made {
         Ok(column) => Ok(Some(column)),
@@ -80,7 +82,9 @@ fn part_column(
     requires few { length rows.now ≤ MAX_ROWS }
     requires groups { AreGroupsOf (length rows.now) groups.now }
     requires taken { IsSome (result_kind agg column.now.kind) }
-    ensures { IfOk result (λ o. option_map plain_column o ≡ groups_column agg (plain_column column.now) (rows_in_groups rows.now groups.now)) }
+    ensures { IfOk result (λ o.
+        option_map plain_column o
+        ≡ groups_column agg (plain_column column.now) (rows_in_groups rows.now groups.now)) }
 {
     let listed = unnamed_rows(alloc, column, rows)?;
     if_made(aggregated(alloc, &listed, groups, agg))
@@ -97,7 +101,10 @@ fn part_columns(
     requires few { length rows.now ≤ MAX_ROWS }
     requires groups { AreGroupsOf (length rows.now) groups.now }
     requires taken { All (λ a. IsSome (result_kind a.asked.now.agg a.column.now.kind)) asked.now }
-    ensures { IfOk result (λ v. map (option_map plain_column) v.items ≡ map (λ (a : Asked). groups_column a.0.agg a.1 (rows_in_groups rows.now groups.now)) (asked_list asked.now)) }
+    ensures { IfOk result (λ v.
+        map (option_map plain_column) v.items
+        ≡ map (λ (a : Asked). groups_column a.0.agg a.1 (rows_in_groups rows.now groups.now))
+        (asked_list asked.now)) }
 {
     let mut columns = Vec::with_capacity(alloc, asked.len())?;
     for one in asked {
@@ -116,7 +123,8 @@ fn grouped_part(
     requires rows { All (λ a. All (λ r. r < length (values a.column.now)) rows.now) asked.now }
     requires few { length rows.now ≤ MAX_ROWS }
     requires taken { All (λ a. IsSome (result_kind a.asked.now.agg a.column.now.kind)) asked.now }
-    ensures { IfOk result (λ p. shown_part p ≡ part_view (lent_test by.now) (asked_list asked.now) rows.now) }
+    ensures { IfOk result (λ p.
+        shown_part p ≡ part_view (lent_test by.now) (asked_list asked.now) rows.now) }
 {
     let groups = group_listed(alloc, by, rows)?;
     let firsts = rows_at(alloc, rows, groups.firsts())?;

@@ -68,7 +68,8 @@ impl Grouped {
 // How long the pieces are that begin at these places, with the end of the last.
 fn lengths_between(alloc: Global, starts: &[usize]) -> Result<Vec<usize>, OutOfMemory>
     requires some { 1 ≤ length starts.now }
-    requires ordered { (p : ℕ) → p + 1 < length starts.now → slice_index_or starts.now p 0 ≤ slice_index_or starts.now (p + 1) 0 }
+    requires ordered { (p : ℕ) → p + 1 < length starts.now
+        → slice_index_or starts.now p 0 ≤ slice_index_or starts.now (p + 1) 0 }
     ensures { IfOk result (λ v. v.items ≡ lengths_between starts.now) }
 {
     let mut lengths = Vec::with_capacity(alloc, starts.len())?;
@@ -121,10 +122,21 @@ fn scattered<G: Gate>(
     gate: &G,
 ) -> Result<(Vec<IdxSize>, Vec<usize>), OutOfMemory>
     requires some { 0 < length by.now }
-    requires rows { All (λ c. length (values c) ≡ row_count (lent_columns by.now)) (lent_columns by.now) }
+    requires rows { All (λ c. length (values c) ≡ row_count (lent_columns by.now))
+        (lent_columns by.now) }
     requires few { row_count (lent_columns by.now) ≤ MAX_ROWS }
-    ensures idxs { IfOk result (λ r. r.0.items ≡ scattered_rows (codes_by (table_of (lent_columns by.now)) (row_count (lent_columns by.now))) exec.now.partitions) }
-    ensures starts { IfOk result (λ r. r.1.items ≡ map (part_start (codes_by (table_of (lent_columns by.now)) (row_count (lent_columns by.now))) exec.now.partitions) (row_numbers (exec.now.partitions + 1))) }
+    ensures idxs { IfOk result (λ r.
+        r.0.items
+        ≡ scattered_rows
+        (codes_by (table_of (lent_columns by.now)) (row_count (lent_columns by.now)))
+        exec.now.partitions) }
+    ensures starts { IfOk result (λ r.
+        r.1.items
+        ≡ map
+        (part_start
+        (codes_by (table_of (lent_columns by.now)) (row_count (lent_columns by.now)))
+        exec.now.partitions)
+        (row_numbers (exec.now.partitions + 1))) }
 {
     let codes = key_codes(alloc, by)?;
     let scatter = scatter(rt, alloc, &codes, exec, gate)?;
@@ -142,14 +154,25 @@ pub(crate) fn grouped_parts<G: Gate>(
     gate: &G,
 ) -> Result<(Vec<PartGroups>, Grouped), OutOfMemory>
     requires some { 0 < length by.now }
-    requires rows { All (λ c. length (values c) ≡ row_count (lent_columns by.now)) (lent_columns by.now) }
+    requires rows { All (λ c. length (values c) ≡ row_count (lent_columns by.now))
+        (lent_columns by.now) }
     requires few { row_count (lent_columns by.now) ≤ MAX_ROWS }
-    requires sources { All (λ a. length (values a.column.now) ≡ row_count (lent_columns by.now)) asked.now }
+    requires sources { All (λ a. length (values a.column.now) ≡ row_count (lent_columns by.now))
+        asked.now }
     requires taken { All (λ a. IsSome (result_kind a.asked.now.agg a.column.now.kind)) asked.now }
-    ensures parts { IfOk result (λ r. map shown_part r.0.items ≡ part_views (lent_test by.now) (asked_list asked.now) (codes_by (table_of (lent_columns by.now)) (row_count (lent_columns by.now))) exec.now.partitions) }
-    ensures traced { IfOk result (λ r. r.1 ≡ trace_by (lent_test by.now) (codes_by (table_of (lent_columns by.now)) (row_count (lent_columns by.now))) exec.now.partitions) }
+    ensures parts { IfOk result (λ r.
+        map shown_part r.0.items
+        ≡ part_views (lent_test by.now) (asked_list asked.now)
+        (codes_by (table_of (lent_columns by.now)) (row_count (lent_columns by.now)))
+        exec.now.partitions) }
+    ensures traced { IfOk result (λ r.
+        r.1
+        ≡ trace_by (lent_test by.now)
+        (codes_by (table_of (lent_columns by.now)) (row_count (lent_columns by.now)))
+        exec.now.partitions) }
     ensures some { IfOk result (λ _. 1 ≤ exec.now.partitions) }
-    ensures let_in { IfOk result (λ _. (part : ℕ) → part < exec.now.partitions → G.lets_in gate.now part) }
+    ensures let_in { IfOk result (λ _.
+        (part : ℕ) → part < exec.now.partitions → G.lets_in gate.now part) }
 {
     let (idxs, starts) = scattered(rt, alloc, by, exec, gate)?;
     let parts = exec.partitions();

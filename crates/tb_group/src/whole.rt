@@ -52,7 +52,8 @@ pub(crate) fn whole_columns<'a>(
     joined: &'a [Option<Series>],
 ) -> Result<Vec<&'a Series>, OutOfMemory>
     requires { joined.now ≡ map joined_if_cut (lent_columns columns.now) }
-    ensures { IfOk result (λ v. table_of (lent_columns v.items) ≡ table_of (lent_columns columns.now)) }
+    ensures { IfOk result (λ v.
+        table_of (lent_columns v.items) ≡ table_of (lent_columns columns.now)) }
 {
     let mut whole = Vec::with_capacity(alloc, columns.len())?;
     for place in 0..columns.len() {

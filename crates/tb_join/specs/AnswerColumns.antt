@@ -25,19 +25,25 @@ with_names names cs = filter (λ (c : Col). is_among names c.name) cs
 
 -- the left columns over the pairs, which keep their flags where the left rows ascend
 abbrev pub left_part : JoinArgs → List Name → List JoinPair → List Col → List Col
-left_part a left_on ps cs = map (gathered_rows (map (λ (p : JoinPair). p.left) ps) (left_order_asked a)) (without_names (gone_left a left_on) cs)
+left_part a left_on ps cs = map
+    (gathered_rows (map (λ (p : JoinPair). p.left) ps) (left_order_asked a))
+    (without_names (gone_left a left_on) cs)
 
 -- the right columns over the pairs
 abbrev pub right_part : JoinArgs → List Name → List JoinPair → List Col → List Col
-right_part a right_on ps cs = map (gathered_rows (map (λ (p : JoinPair). p.right) ps) (right_order_asked a)) (without_names (gone_right a right_on) (right_side a.how cs))
+right_part a right_on ps cs = map
+    (gathered_rows (map (λ (p : JoinPair). p.right) ps) (right_order_asked a))
+    (without_names (gone_right a right_on) (right_side a.how cs))
 
 -- columns, and others beside them
 abbrev pub side_by_side : Name → List Col → List Col → List Col
 side_by_side suffix left right = left ++ map (column_called (names_of (table_of left)) suffix) right
 
 -- both sides' columns over the pairs
-abbrev pub answer_columns : JoinArgs → List Name → List Name → List JoinPair → List Col → List Col → List Col
-answer_columns a left_on right_on ps left right = side_by_side (suffix_in a) (left_part a left_on ps left) (right_part a right_on ps right)
+abbrev pub answer_columns : JoinArgs → List Name → List Name → List JoinPair → List Col → List Col
+    → List Col
+answer_columns a left_on right_on ps left right =
+    side_by_side (suffix_in a) (left_part a left_on ps left) (right_part a right_on ps right)
 
 -- a column, with the values of another where it has none
 abbrev pub filled_column : Option Col → Col → Col
@@ -50,4 +56,5 @@ Fits c k = (c.kind ≡ k.kind) × (length (values c) ≡ length (values k))
 
 -- left columns, those of the names on the left with the values of the key at the same place where they have none
 abbrev pub coalesced_part : List Name → List Col → List Col → List Col
-coalesced_part left_on keys cs = map (λ (c : Col). filled_column (key_beside left_on keys c.name) c) cs
+coalesced_part left_on keys cs =
+    map (λ (c : Col). filled_column (key_beside left_on keys c.name) c) cs

@@ -9,8 +9,10 @@ use Rattle.tb_keys.specs.declared.request.LentRequest.{LentRequest}
 
 -- where keys are merged, there is a right one for each left one, they are columns of their tables, and two that are merged have one type
 pub record CanCoalesceKeys (q : Request) : Type 0 where
-  pub known : coalesces_keys q.args.how (coalesces q.args) ≡ true → first_unknown q.right q.right_on ≡ None
-  pub many : coalesces_keys q.args.how (coalesces q.args) ≡ true → length q.left_on ≤ length q.right_on
+  pub known : coalesces_keys q.args.how (coalesces q.args) ≡ true
+      → first_unknown q.right q.right_on ≡ None
+  pub many : coalesces_keys q.args.how (coalesces q.args) ≡ true
+      → length q.left_on ≤ length q.right_on
   pub alike : CoalescesAlike q
 
 -- as many keys on each side, one at least

@@ -43,15 +43,18 @@ null_keys nulls = on_k (number 1 ∷ null ∷ number 2 ∷ []) (null ∷ number 
 
 -- Full in the order of the right table, [1, 3] and [2, 1]
 abbrev pub full_right_left : JoinCoalesce → Request
-full_right_left c = on_k (number 1 ∷ number 3 ∷ []) (number 2 ∷ number 1 ∷ []) (record (plain_args Full) { coalesce = c; maintain_order = order.RightLeft })
+full_right_left c = on_k (number 1 ∷ number 3 ∷ []) (number 2 ∷ number 1 ∷ [])
+    (record (plain_args Full) { coalesce = c; maintain_order = order.RightLeft })
 
 -- Inner in the order of the left table, [1, 2, 3] on both sides, cut
 abbrev pub cut_thrice : Option (ℤ × ℕ) → Request
-cut_thrice s = on_k (number 1 ∷ number 2 ∷ number 3 ∷ []) (number 1 ∷ number 2 ∷ number 3 ∷ []) (record (plain_args Inner) { slice = s; maintain_order = order.LeftRight })
+cut_thrice s = on_k (number 1 ∷ number 2 ∷ number 3 ∷ []) (number 1 ∷ number 2 ∷ number 3 ∷ [])
+    (record (plain_args Inner) { slice = s; maintain_order = order.LeftRight })
 
 -- Left in the order of the right table, [7, 5, 6] and [6, 5]
 abbrev pub left_by_right : Request
-left_by_right = on_k (number 7 ∷ number 5 ∷ number 6 ∷ []) (number 6 ∷ number 5 ∷ []) (record (plain_args Left) { maintain_order = order.Right })
+left_by_right = on_k (number 7 ∷ number 5 ∷ number 6 ∷ []) (number 6 ∷ number 5 ∷ [])
+    (record (plain_args Left) { maintain_order = order.Right })
 
 -- Right on two keys of different names
 abbrev pub two_keys : Request
@@ -81,11 +84,13 @@ split_texts how =
 
 -- [3, 1, 3, Null] and [3, 3]
 abbrev pub repeated_keys : JoinType → Request
-repeated_keys how = on_k (number 3 ∷ number 1 ∷ number 3 ∷ null ∷ []) (number 3 ∷ number 3 ∷ []) (plain_args how)
+repeated_keys how =
+    on_k (number 3 ∷ number 1 ∷ number 3 ∷ null ∷ []) (number 3 ∷ number 3 ∷ []) (plain_args how)
 
 -- Right with keys that are to be single on some side
 abbrev pub validated : List Datum → JoinValidation → Bool → Request
-validated left v nulls = on_k left (number 1 ∷ []) (record (plain_args Right) { validation = v; join_nulls = All nulls })
+validated left v nulls =
+    on_k left (number 1 ∷ []) (record (plain_args Right) { validation = v; join_nulls = All nulls })
 
 -- two tables with two keys each, called `a` and `b`
 abbrev pub on_a_b : List Datum → List Datum → List Datum → List Datum → JoinArgs → Request
@@ -97,7 +102,8 @@ on_a_b left_a left_b right_a right_b args =
 -- Inner in the order of the left table, (Null, 1) and (1, Null) on both sides
 abbrev pub absent_by_turns : List Bool → Request
 absent_by_turns flags =
-    on_a_b (null ∷ number 1 ∷ []) (number 1 ∷ null ∷ []) (null ∷ number 1 ∷ []) (number 1 ∷ null ∷ [])
+    on_a_b (null ∷ number 1 ∷ []) (number 1 ∷ null ∷ []) (null ∷ number 1 ∷ [])
+    (number 1 ∷ null ∷ [])
     (record (plain_args Inner) { join_nulls = Each flags; maintain_order = order.LeftRight })
 
 -- Left with left keys that are to be single, (Null, 1) twice
@@ -109,15 +115,18 @@ absent_twice flags =
 -- Inner of one table with itself, by names of keys, with a flag for each of so many
 abbrev pub by_flagged_keys : List Bool → List Name → List Name → Request
 by_flagged_keys flags left_on right_on =
-    by_names (keys (number 1 ∷ [])) (keys (number 1 ∷ [])) left_on right_on (record (plain_args Inner) { join_nulls = Each flags })
+    by_names (keys (number 1 ∷ [])) (keys (number 1 ∷ [])) left_on right_on
+    (record (plain_args Inner) { join_nulls = Each flags })
 
 -- Inner of one table with itself, by names of keys
 abbrev pub by_keys : List Name → List Name → Request
-by_keys left_on right_on = by_names (keys (number 1 ∷ [])) (keys (number 1 ∷ [])) left_on right_on (plain_args Inner)
+by_keys left_on right_on =
+    by_names (keys (number 1 ∷ [])) (keys (number 1 ∷ [])) left_on right_on (plain_args Inner)
 
 -- Inner of two columns `k` of these types
 abbrev pub of_kinds : Kind → Kind → Request
-of_kinds t u = by_names (record { name = k_name; kind = t; values = [] } ∷ []) (record { name = k_name; kind = u; values = [] } ∷ []) (k_name ∷ [])
+of_kinds t u = by_names (record { name = k_name; kind = t; values = [] } ∷ [])
+    (record { name = k_name; kind = u; values = [] } ∷ []) (k_name ∷ [])
     (k_name ∷ []) (plain_args Inner)
 
 -- Inner where the right `x` would be called as a left column is

@@ -34,7 +34,8 @@ fn columns_beside<'a>(
     columns: &[&'a Series],
 ) -> Result<NamedColumns<'a>, OutOfMemory>
     requires { length names.now ≤ length columns.now }
-    ensures { IfOk result (λ m. (n : Name) → column_by m n ≡ key_beside names.now (lent_columns columns.now) n) }
+    ensures { IfOk result (λ m.
+        (n : Name) → column_by m n ≡ key_beside names.now (lent_columns columns.now) n) }
 {
     let mut beside = NamedColumns::new(alloc);
     for place in 0..names.len() {
@@ -64,7 +65,8 @@ fn all_filled_up(
     others: &NamedColumns<'_>,
 ) -> Result<Vec<Column>, OutOfMemory>
     requires { All (λ (c : Col). ForSome (column_by others.now c.name) (Fits c)) columns.items }
-    ensures { IfOk result (λ v. v.items ≡ map (λ (c : Col). filled_column (column_by others.now c.name) c) columns.items) }
+    ensures { IfOk result (λ v.
+        v.items ≡ map (λ (c : Col). filled_column (column_by others.now c.name) c) columns.items) }
 {
     let mut filled = Vec::with_capacity(alloc, columns.len())?;
     for column in columns {
@@ -85,9 +87,14 @@ pub fn coalesced_left(
 ) -> PolarsResult<Vec<Column>>
     requires known { unknown_key (table_of right.now) right_on.now ≡ None }
     requires many { length left_on.now ≤ length (selected_columns right_on.now right.now) }
-    requires fit { All (λ (c : Col). ForSome (key_beside left_on.now (selected_columns right_on.now right.now) c.name) (Fits c)) left.items }
+    requires fit { All
+        (λ (c : Col).
+        ForSome (key_beside left_on.now (selected_columns right_on.now right.now) c.name)
+        (Fits c))
+        left.items }
     ensures settles { Settles result None }
-    ensures columns { IfOk result (λ v. v.items ≡ coalesced_part left_on.now (selected_columns right_on.now right.now) left.items) }
+    ensures columns { IfOk result (λ v.
+        v.items ≡ coalesced_part left_on.now (selected_columns right_on.now right.now) left.items) }
 {
     let keys = lend_columns(alloc, right, right_on)?;
     let beside = columns_beside(alloc, left_on, &keys)?;
@@ -102,12 +109,17 @@ pub(crate) fn coalesced_columns(
     request: &LentRequest<'_>,
     pairs: &[JoinPair],
 ) -> PolarsResult<Vec<Column>>
-    requires coalesces { coalesces_keys request.now.how (coalesces (asked_request request.now).args) ≡ true }
-    requires pairs { All (IsPairOf (height (table_of request.now.left.now)) (height (table_of request.now.right.now))) pairs.now }
+    requires coalesces { coalesces_keys request.now.how (coalesces (asked_request request.now).args)
+        ≡ true }
+    requires pairs { All
+        (IsPairOf (height (table_of request.now.left.now))
+        (height (table_of request.now.right.now)))
+        pairs.now }
     requires few { length pairs.now ≤ MAX_ROWS }
     requires coalescing { CanCoalesceKeys (asked_request request.now) }
     ensures settles { Settles result None }
-    ensures columns { IfOk result (λ v. table_of v.items ≡ map (fill pairs.now) (out (asked_request request.now))) }
+    ensures columns { IfOk result (λ v.
+        table_of v.items ≡ map (fill pairs.now) (out (asked_request request.now))) }
 {
     let not = IsSorted::Not;
     let left = side_rows::<LeftRow>(rt, alloc, request.left, &[], pairs, not)?;

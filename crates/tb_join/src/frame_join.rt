@@ -50,7 +50,8 @@ pub trait DataFrameJoinOps: IntoDf {
         args: JoinArgs,
         exec: &Exec,
     ) -> PolarsResult<DataFrame>
-        ensures { IsJoinOf (lent_request (Self.frame self.now) other.now left_on.now right_on.now args) result }
+        ensures { IsJoinOf
+            (lent_request (Self.frame self.now) other.now left_on.now right_on.now args) result }
     {
         let gate = &OpenGate;
         let (table, _trace) = self.join_traced(
@@ -76,7 +77,8 @@ pub trait DataFrameJoinOps: IntoDf {
         exec: &Exec,
         gate: &G,
     ) -> PolarsResult<(DataFrame, JoinTrace)>
-        ensures { IsTracedJoinOf (Self.frame self.now) other.now left_on.now right_on.now args exec.now (G.lets_in gate.now) result }
+        ensures { IsTracedJoinOf (Self.frame self.now) other.now left_on.now right_on.now args
+            exec.now (G.lets_in gate.now) result }
     {
         let request = NamedRequest {
             left: self.to_df(),
@@ -102,7 +104,10 @@ pub trait DataFrameJoinOps: IntoDf {
         right_on: &[PlSmallStr],
         exec: &Exec,
     ) -> PolarsResult<DataFrame>
-        ensures { IsJoinOf (lent_request (Self.frame self.now) other.now left_on.now right_on.now (plain_args JoinType.Inner)) result }
+        ensures { IsJoinOf
+            (lent_request (Self.frame self.now) other.now left_on.now right_on.now
+            (plain_args JoinType.Inner))
+            result }
     {
         let args = JoinArgs::new(JoinType::Inner);
         self.join(rt, alloc, other, left_on, right_on, args, exec)
@@ -122,7 +127,10 @@ pub trait DataFrameJoinOps: IntoDf {
         right_on: &[PlSmallStr],
         exec: &Exec,
     ) -> PolarsResult<DataFrame>
-        ensures { IsJoinOf (lent_request (Self.frame self.now) other.now left_on.now right_on.now (plain_args JoinType.Left)) result }
+        ensures { IsJoinOf
+            (lent_request (Self.frame self.now) other.now left_on.now right_on.now
+            (plain_args JoinType.Left))
+            result }
     {
         let args = JoinArgs::new(JoinType::Left);
         self.join(rt, alloc, other, left_on, right_on, args, exec)
@@ -142,7 +150,10 @@ pub trait DataFrameJoinOps: IntoDf {
         right_on: &[PlSmallStr],
         exec: &Exec,
     ) -> PolarsResult<DataFrame>
-        ensures { IsJoinOf (lent_request (Self.frame self.now) other.now left_on.now right_on.now (plain_args JoinType.Full)) result }
+        ensures { IsJoinOf
+            (lent_request (Self.frame self.now) other.now left_on.now right_on.now
+            (plain_args JoinType.Full))
+            result }
     {
         let args = JoinArgs::new(JoinType::Full);
         self.join(rt, alloc, other, left_on, right_on, args, exec)
@@ -160,7 +171,8 @@ fn checked_pairs<G: Gate>(
     gate: &G,
 ) -> PolarsResult<ListedPairs>
     requires { HaveKeys request.now }
-    ensures { ArePairsTraced (later_refusal (asked_request request.now)) request.now exec.now (G.lets_in gate.now) result }
+    ensures { ArePairsTraced (later_refusal (asked_request request.now)) request.now exec.now
+        (G.lets_in gate.now) result }
 {
     check_columns(alloc, request)?;
     traced_pairs(rt, alloc, request, exec, gate)
@@ -175,7 +187,9 @@ fn traced_columns<G: Gate>(
     gate: &G,
 ) -> PolarsResult<(DataFrame, JoinTrace)>
     requires ready { CanBeJoined request.now }
-    ensures { IsTracedJoinUnless (later_refusal (asked_request request.now)) (asked_request request.now) exec.now (requested_trace request.now exec.now) (G.lets_in gate.now) result }
+    ensures { IsTracedJoinUnless (later_refusal (asked_request request.now))
+        (asked_request request.now) exec.now (requested_trace request.now exec.now)
+        (G.lets_in gate.now) result }
 {
     let ListedPairs { pairs, trace } = checked_pairs(rt, alloc, request, exec, gate)?;
     let table = finish_join(rt, alloc, request, &pairs)?;
@@ -190,7 +204,8 @@ pub fn join_columns(
     exec: &Exec,
 ) -> PolarsResult<DataFrame>
     requires ready { CanBeJoined request.now }
-    ensures { IsJoinUnless (later_refusal (asked_request request.now)) (asked_request request.now) result }
+    ensures { IsJoinUnless (later_refusal (asked_request request.now)) (asked_request request.now)
+        result }
 {
     let (table, _trace) = traced_columns(rt, alloc, request, exec, &OpenGate)?;
     Ok(table)
@@ -203,7 +218,8 @@ fn join_tables<G: Gate>(
     exec: &Exec,
     gate: &G,
 ) -> PolarsResult<(DataFrame, JoinTrace)>
-    ensures { IsTracedJoinOf request.now.left.now request.now.right.now request.now.left_on.now request.now.right_on.now request.now.args.now exec.now (G.lets_in gate.now) result }
+    ensures { IsTracedJoinOf request.now.left.now request.now.right.now request.now.left_on.now
+        request.now.right_on.now request.now.args.now exec.now (G.lets_in gate.now) result }
 {
     let _columns = request.left.get_columns();
     let keys = request.key_columns(alloc)?;

@@ -33,10 +33,15 @@ fn right_columns(
     request: &LentRequest<'_>,
     pairs: &[JoinPair],
 ) -> Result<Vec<Column>, OutOfMemory>
-    requires pairs { All (λ p. IsRowOf (height (table_of request.now.right.now)) p.right) pairs.now }
-    requires in_order { AreAllRowsInOrder (right_order_asked (asked_request request.now).args) (map (λ p. p.right) pairs.now) }
+    requires pairs { All (λ p. IsRowOf (height (table_of request.now.right.now)) p.right)
+        pairs.now }
+    requires in_order { AreAllRowsInOrder (right_order_asked (asked_request request.now).args)
+        (map (λ p. p.right) pairs.now) }
     requires few { length pairs.now ≤ MAX_ROWS }
-    ensures { IfOk result (λ v. v.items ≡ right_part (asked_request request.now).args request.now.right_on.now pairs.now request.now.right.now) }
+    ensures { IfOk result (λ v.
+        v.items
+        ≡ right_part (asked_request request.now).args request.now.right_on.now pairs.now
+        request.now.right.now) }
 {
     if !has_right(request.how) {
         return Ok(Vec::new(alloc));
@@ -53,7 +58,10 @@ fn plain_columns(
     request: &LentRequest<'_>,
     pairs: &[JoinPair],
 ) -> Result<Vec<Column>, OutOfMemory>
-    requires pairs { All (IsPairOf (height (table_of request.now.left.now)) (height (table_of request.now.right.now))) pairs.now }
+    requires pairs { All
+        (IsPairOf (height (table_of request.now.left.now))
+        (height (table_of request.now.right.now)))
+        pairs.now }
     requires in_order { AscendAsAsked (asked_request request.now).args pairs.now }
     requires few { length pairs.now ≤ MAX_ROWS }
     ensures { IfOk result (λ v. v.items ≡ answer_columns
@@ -73,12 +81,16 @@ fn answer_columns(
     request: &LentRequest<'_>,
     pairs: &[JoinPair],
 ) -> PolarsResult<Vec<Column>>
-    requires pairs { All (IsPairOf (height (table_of request.now.left.now)) (height (table_of request.now.right.now))) pairs.now }
+    requires pairs { All
+        (IsPairOf (height (table_of request.now.left.now))
+        (height (table_of request.now.right.now)))
+        pairs.now }
     requires in_order { AscendAsAsked (asked_request request.now).args pairs.now }
     requires few { length pairs.now ≤ MAX_ROWS }
     requires coalescing { CanCoalesceKeys (asked_request request.now) }
     ensures settles { Settles result None }
-    ensures columns { IfOk result (λ v. table_of v.items ≡ map (fill pairs.now) (out (asked_request request.now))) }
+    ensures columns { IfOk result (λ v.
+        table_of v.items ≡ map (fill pairs.now) (out (asked_request request.now))) }
 {
     if request.coalesces_keys() {
         coalesced_columns(rt, alloc, request, pairs)

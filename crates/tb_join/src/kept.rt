@@ -46,7 +46,10 @@ pub fn side_rows<S: RowOf<JoinPair>>(
     requires rows { All (IsRowOf (height (table_of table.now))) (map S.number pairs.now) }
     requires in_order { AreAllRowsInOrder sorted (map S.number pairs.now) }
     requires few { length pairs.now ≤ MAX_ROWS }
-    ensures { IfOk result (λ v. v.items ≡ map (gathered_rows (map S.number pairs.now) sorted) (without_names gone.now table.now)) }
+    ensures { IfOk result (λ v.
+        v.items
+        ≡ map (gathered_rows (map S.number pairs.now) sorted)
+        (without_names gone.now table.now)) }
 {
     let kept = kept_columns(alloc, table.get_columns(), gone)?;
     gather_rows::<S>(rt, alloc, &kept, pairs, sorted)

@@ -15,7 +15,8 @@ fn named_right(
     right: Vec<Column>,
     suffix: &str,
 ) -> Result<Vec<Column>, OutOfMemory>
-    ensures { IfOk result (λ v. v.items ≡ map (column_called (names_of (table_of left.now)) suffix.now) right.items) }
+    ensures { IfOk result (λ v.
+        v.items ≡ map (column_called (names_of (table_of left.now)) suffix.now) right.items) }
 {
     let taken = column_name_set(alloc, left)?;
     let mut named = Vec::with_capacity(alloc, right.len())?;

@@ -46,7 +46,8 @@ fn gathered<T: TakeChunked<24> + Drop>(
     requires named { All (NameRows by.now) (T.columns from.now) }
     requires present { All (λ (id : Id). IsSome id) by.now }
     requires few { length by.now ≤ MAX_ROWS }
-    ensures { IfOk result (λ r. T.columns r ≡ map (opt_gathered_column by.now) (T.columns from.now)) }
+    ensures { IfOk result (λ r.
+        T.columns r ≡ map (opt_gathered_column by.now) (T.columns from.now)) }
 {
     from.take_chunked_unchecked(alloc, by, IsSorted::Not)?;
     from.take_opt_chunked_unchecked(alloc, by)

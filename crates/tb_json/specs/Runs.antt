@@ -27,7 +27,8 @@ values_in_runs t rs = option_map expansion (each (run_in t) rs)
 -- the values of the chunks, or of the one chunk of the runs, where they are of the type
 abbrev pub lists_in : Kind → LentLists → Option (List (List Datum))
 lists_in t (Chunks cs) = each (each (cell_in t)) (map (λ v. list_in (view v)) cs.now)
-lists_in t (Runs rs rows) = option_map (λ vs. expansion vs ∷ []) (each (run_in t) (map run_view rs.now))
+lists_in t (Runs rs rows) =
+    option_map (λ vs. expansion vs ∷ []) (each (run_in t) (map run_view rs.now))
 
 -- the rows of runs are those that their counts say
 abbrev pub AreCounted : LentLists → Type 0

@@ -9,6 +9,7 @@ ghost use Rattle.tb_json.specs.Writable.{IsWritable};
 /// Two tables with one text are equal, in their names, types and values. Nesting has no limit. Every table of columns
 /// is such a table.
 pub fn text_one_to_one()
-    ensures one_to_one { (s t : Table) → IsWritable s → IsWritable t → text_of s ≡ text_of t → s ≡ t }
+    ensures one_to_one { (s t : Table) → IsWritable s → IsWritable t → text_of s ≡ text_of t
+        → s ≡ t }
     ensures columns { (cs : List Col) → All IsColumn cs → IsWritable (table_of cs) }
 {}

@@ -23,7 +23,8 @@ pub fn value_of(
     value: &Value,
     dtype: &DataType,
 ) -> Result<Option<AnyValue>, OutOfMemory>
-    ensures value { IfOk result (λ o. option_map datum o ≡ cell_in (kind_of dtype.now) (view value.now)) }
+    ensures value { IfOk result (λ o.
+        option_map datum o ≡ cell_in (kind_of dtype.now) (view value.now)) }
     ensures typed { IfOk result (λ o. IfSome o (λ v. HasType (kind_of dtype.now) (datum v))) }
 {
     if value.is_null() {
@@ -48,7 +49,8 @@ pub fn item_of(
     item: Item<'_>,
     dtype: &DataType,
 ) -> Result<Option<AnyValue>, OutOfMemory>
-    ensures value { IfOk result (λ o. option_map datum o ≡ cell_in (kind_of dtype.now) (item_view item.entry)) }
+    ensures value { IfOk result (λ o.
+        option_map datum o ≡ cell_in (kind_of dtype.now) (item_view item.entry)) }
     ensures typed { IfOk result (λ o. IfSome o (λ v. HasType (kind_of dtype.now) (datum v))) }
 {
     match item {

@@ -35,8 +35,10 @@ pub(crate) fn cell_of<N: ReadCell>(
     item: Item<'_>,
 ) -> Result<Option<Option<N>>, OutOfMemory>
     requires { physical (kind_of dtype.now) ≡ N.stored }
-    ensures value { IfOk result (λ o. option_map (or_null N.shows) o ≡ cell_in (kind_of dtype.now) (item_view item.entry)) }
-    ensures typed { IfOk result (λ o. IfSome o (λ c. HasType (kind_of dtype.now) (or_null N.shows c))) }
+    ensures value { IfOk result (λ o.
+        option_map (or_null N.shows) o ≡ cell_in (kind_of dtype.now) (item_view item.entry)) }
+    ensures typed { IfOk result (λ o.
+        IfSome o (λ c. HasType (kind_of dtype.now) (or_null N.shows c))) }
 {
     if item.is_null() {
         return Ok(Some(None));
@@ -82,7 +84,8 @@ fn are_null(items: Items<'_>) -> bool
 
 // The number of nulls, where all values are null.
 fn nulls_of(items: Items<'_>) -> Option<usize>
-    ensures { option_map (λ n. replicate n null) result ≡ each (cell_in kind.null) (listed items.entry) }
+    ensures { option_map (λ n. replicate n null) result
+        ≡ each (cell_in kind.null) (listed items.entry) }
 {
     if are_null(items) {
         Some(items.len())
@@ -272,7 +275,8 @@ fn chunks_of<C: ReadChunk>(
     requires { physical (kind_of dtype.now) ≡ C.stored }
     ensures chunks { IfOk result (λ o. option_map (λ v. map C.shown v.items) o
         ≡ each (each (cell_in (kind_of dtype.now))) (map (λ v. list_in (view v)) written.now)) }
-    ensures typed { IfOk result (λ o. IfSome o (λ v. IsTyped (kind_of dtype.now) (map C.shown v.items))) }
+    ensures typed { IfOk result (λ o.
+        IfSome o (λ v. IsTyped (kind_of dtype.now) (map C.shown v.items))) }
 {
     let mut chunks = Vec::with_capacity(alloc, written.len())?;
     for value in written {
@@ -295,7 +299,8 @@ fn chunk_of_runs<C: ReadChunk>(
     requires rows { rows ≡ total_of (map run_view runs.now) }
     ensures chunks { IfOk result (λ o. option_map (λ v. map C.shown v.items) o
         ≡ option_map (λ vs. expansion vs ∷ []) (each (run_in (kind_of dtype.now)) (map run_view runs.now))) }
-    ensures typed { IfOk result (λ o. IfSome o (λ v. IsTyped (kind_of dtype.now) (map C.shown v.items))) }
+    ensures typed { IfOk result (λ o.
+        IfSome o (λ v. IsTyped (kind_of dtype.now) (map C.shown v.items))) }
 {
     let Some(chunk) = C::read_runs(alloc, dtype, runs, rows)? else {
         return Ok(None);
@@ -321,8 +326,10 @@ fn read_lists<C: ReadChunk>(
 ) -> Result<Option<Vec<C>>, OutOfMemory>
     requires stored { physical (kind_of dtype.now) ≡ C.stored }
     requires counted { AreCounted written }
-    ensures chunks { IfOk result (λ o. option_map (λ v. map C.shown v.items) o ≡ lists_in (kind_of dtype.now) written.entry) }
-    ensures typed { IfOk result (λ o. IfSome o (λ v. IsTyped (kind_of dtype.now) (map C.shown v.items))) }
+    ensures chunks { IfOk result (λ o.
+        option_map (λ v. map C.shown v.items) o ≡ lists_in (kind_of dtype.now) written.entry) }
+    ensures typed { IfOk result (λ o.
+        IfSome o (λ v. IsTyped (kind_of dtype.now) (map C.shown v.items))) }
 {
     match written {
         LentLists::Chunks(chunks) => chunks_of(alloc, dtype, chunks),
@@ -338,7 +345,8 @@ fn read_stored<C: ReadChunk + Stored>(
 ) -> Result<Option<Chunks>, OutOfMemory>
     requires stored { physical (kind_of dtype.now) ≡ C.stored }
     requires counted { AreCounted written }
-    ensures chunks { IfOk result (λ o. option_map chunk_lists o ≡ lists_in (kind_of dtype.now) written.entry) }
+    ensures chunks { IfOk result (λ o.
+        option_map chunk_lists o ≡ lists_in (kind_of dtype.now) written.entry) }
     ensures typed { IfOk result (λ o. IfSome o (λ c. IsTyped (kind_of dtype.now) (chunk_lists c))) }
     ensures stored { IfOk result (λ o. IfSome o (λ c. storage c ≡ C.kind)) }
 {
@@ -354,7 +362,8 @@ fn stored_in(
     written: LentLists<'_>,
 ) -> Result<Option<Chunks>, OutOfMemory>
     requires { AreCounted written }
-    ensures chunks { IfOk result (λ o. option_map chunk_lists o ≡ lists_in (kind_of dtype.now) written.entry) }
+    ensures chunks { IfOk result (λ o.
+        option_map chunk_lists o ≡ lists_in (kind_of dtype.now) written.entry) }
     ensures typed { IfOk result (λ o. IfSome o (λ c. IsTyped (kind_of dtype.now) (chunk_lists c))) }
     ensures stored { IfOk result (λ o. IfSome o (λ c. storage c ≡ physical (kind_of dtype.now))) }
 {

@@ -27,7 +27,8 @@ pub(crate) trait ReadCell: Cell {
     fn read(alloc: Global, dtype: &DataType, value: Item<'_>) -> Result<Option<Self>, OutOfMemory>
         requires stored { physical (kind_of dtype.now) ≡ stored }
         requires present { item_view value ≢ null }
-        ensures value { IfOk result (λ o. option_map Self.shows o ≡ cell_in (kind_of dtype.now) (item_view value.entry)) }
+        ensures value { IfOk result (λ o.
+            option_map Self.shows o ≡ cell_in (kind_of dtype.now) (item_view value.entry)) }
         ensures typed { IfOk result (λ o. IfSome o (λ c. HasType (kind_of dtype.now) (Self.shows c))) };
 }
 

@@ -79,7 +79,8 @@ fn unit_of(value: &Value) -> Option<TimeUnit>
 }
 
 fn datetime_of(alloc: Global, unit: &Value, zone: &Value) -> Result<Option<DataType>, OutOfMemory>
-    ensures { IfOk result (λ o. option_map kind_of o ≡ datetime_in (view unit.now) (view zone.now)) }
+    ensures { IfOk result (λ o.
+        option_map kind_of o ≡ datetime_in (view unit.now) (view zone.now)) }
 {
     let Some(unit) = unit_of(unit) else {
         return Ok(None);
@@ -154,7 +155,8 @@ fn members_type(
     alloc: Global,
     members: &Map<String, Value>,
 ) -> Result<Option<DataType>, OutOfMemory>
-    ensures { IfOk result (λ o. option_map kind_of o ≡ members_kind (members_view members.now.entries)) }
+    ensures { IfOk result (λ o.
+        option_map kind_of o ≡ members_kind (members_view members.now.entries)) }
 {
     let mut iter = members.iter();
     let Some((name, value)) = iter.next() else {
@@ -176,7 +178,8 @@ fn members_type(
 
 #[cycle(kinds)]
 fn fields_of(alloc: Global, value: &Value) -> Result<Option<Vec<Field>>, OutOfMemory>
-    ensures { IfOk result (λ o. option_map (λ v. parts_of (map part v.items)) o ≡ parts_in (view value.now)) }
+    ensures { IfOk result (λ o.
+        option_map (λ v. parts_of (map part v.items)) o ≡ parts_in (view value.now)) }
 {
     match value.as_array() {
         Some(items) => each_field(alloc, items),
@@ -211,7 +214,8 @@ fn field_of(alloc: Global, item: Item<'_>) -> Result<Option<Field>, OutOfMemory>
 
 #[cycle(kinds)]
 fn members_field(alloc: Global, members: &Map<String, Value>) -> Result<Option<Field>, OutOfMemory>
-    ensures { IfOk result (λ o. option_map part o ≡ members_part (members_view members.now.entries)) }
+    ensures { IfOk result (λ o.
+        option_map part o ≡ members_part (members_view members.now.entries)) }
 {
     let mut iter = members.iter();
     let Some((first, name)) = iter.next() else {
@@ -228,7 +232,8 @@ fn members_field(alloc: Global, members: &Map<String, Value>) -> Result<Option<F
 }
 
 fn named(alloc: Global, dtype: Option<DataType>, name: &Value) -> Result<Option<Field>, OutOfMemory>
-    ensures { IfOk result (λ o. option_map part o ≡ field_named (option_map kind_of dtype) (view name.now)) }
+    ensures { IfOk result (λ o.
+        option_map part o ≡ field_named (option_map kind_of dtype) (view name.now)) }
 {
     let Some(dtype) = dtype else {
         return Ok(None);

@@ -23,7 +23,8 @@ use tb_value::{AnyValue, Bytes, DataType, OutOfMemory, PlSmallStr, TOO_LONG};
 /// The text that a value is, lent: no text inside where it is Null, and None where it is no text or one too long to be a
 /// value.
 pub(crate) fn lent_text(value: Item<'_>) -> Option<Option<&str>>
-    ensures { option_map (λ o. or_null string (option_map (λ t. t.now) o)) result ≡ cell_in kind.string (item_view value.entry) }
+    ensures { option_map (λ o. or_null string (option_map (λ t. t.now) o)) result
+        ≡ cell_in kind.string (item_view value.entry) }
 {
     if value.is_null() {
         return Some(None);
@@ -80,7 +81,8 @@ fn decode_into(buffer: &mut Vec<u8>, digits: &str) -> Result<bool, OutOfMemory>
 /// Puts the bytes that lower-case hexadecimal digits stand for into the buffer. Says whether the text is of such digits and
 /// there are not too many bytes for a value.
 pub(crate) fn decode_short(buffer: &mut Vec<u8>, digits: &str) -> Result<bool, OutOfMemory>
-    ensures { IfOk result (λ b. (if b then Some buffer.new.items else None) ≡ option_and_then short (bytes_in digits.now)) }
+    ensures { IfOk result (λ b.
+        (if b then Some buffer.new.items else None) ≡ option_and_then short (bytes_in digits.now)) }
 {
     Ok(decode_into(buffer, digits)? && buffer.len() < TOO_LONG)
 }
@@ -146,7 +148,8 @@ pub(crate) fn whole_of(number: i64, dtype: &DataType) -> Option<AnyValue>
 
 /// The value that a number is, or None where it is none of the type.
 pub(crate) fn number_of(number: &Value, dtype: &DataType) -> Option<AnyValue>
-    ensures value { option_map datum result ≡ option_and_then (number_in (kind_of dtype.now)) (as_number (view number.now)) }
+    ensures value { option_map datum result
+        ≡ option_and_then (number_in (kind_of dtype.now)) (as_number (view number.now)) }
     ensures typed { IfSome result (λ v. HasType (kind_of dtype.now) (datum v)) }
 {
     if is_wide(dtype) {

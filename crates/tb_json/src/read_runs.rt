@@ -98,7 +98,9 @@ fn push_text(
     text: Option<&str>,
     times: u64,
 ) -> Result<(), OutOfMemory>
-    ensures { OnOk result (builder.new.rows ≡ builder.old.rows ++ replicate times (option_map (λ t. t.now) text.entry)) }
+    ensures { OnOk result
+        (builder.new.rows
+        ≡ builder.old.rows ++ replicate times (option_map (λ t. t.now) text.entry)) }
 {
     match text {
         Some(text) => builder.push_times(alloc, text, times as usize),
@@ -166,7 +168,8 @@ fn are_null_runs(runs: &[Value]) -> bool
 /// The number of rows, where the values of all runs are null.
 pub(crate) fn run_nulls(runs: &[Value], rows: usize) -> Option<usize>
     requires { rows ≡ total_of (map run_view runs.now) }
-    ensures { option_map (λ n. replicate n null) result ≡ values_in_runs kind.null (map run_view runs.now) }
+    ensures { option_map (λ n. replicate n null) result
+        ≡ values_in_runs kind.null (map run_view runs.now) }
 {
     if are_null_runs(runs) {
         Some(rows)

@@ -96,7 +96,8 @@ pub(crate) fn cell_value(
 #[cycle(cells)]
 fn list_values(alloc: Global, values: &Values, dtype: &DataType) -> Result<Vec<Value>, OutOfMemory>
     requires { AreOf (kind_of dtype.now) (items_of values.now) }
-    ensures { IfOk result (λ v. items_view v.items ≡ items_data (kind_of dtype.now) (items_of values.now)) }
+    ensures { IfOk result (λ v.
+        items_view v.items ≡ items_data (kind_of dtype.now) (items_of values.now)) }
 {
     let listed = values.as_slice();
     let mut items = Vec::with_capacity(alloc, listed.len())?;
@@ -109,7 +110,8 @@ fn list_values(alloc: Global, values: &Values, dtype: &DataType) -> Result<Vec<V
 #[cycle(cells)]
 fn struct_value(alloc: Global, values: &Values, dtype: &DataType) -> Result<Value, OutOfMemory>
     requires { HasType (kind_of dtype.now) (struct (items_of values.now)) }
-    ensures { IfOk result (λ v. view v ≡ value_data (kind_of dtype.now) (struct (items_of values.now))) }
+    ensures { IfOk result (λ v.
+        view v ≡ value_data (kind_of dtype.now) (struct (items_of values.now))) }
 {
     match dtype {
         DataType::Struct(fields) => Ok(Value::Array(struct_values(alloc, values, fields)?)),
@@ -121,7 +123,8 @@ fn struct_value(alloc: Global, values: &Values, dtype: &DataType) -> Result<Valu
 #[cycle(cells)]
 fn struct_values(alloc: Global, values: &Values, fields: &Fields) -> Result<Vec<Value>, OutOfMemory>
     requires { AreEachOf (parts_of (parts fields.now)) (items_of values.now) }
-    ensures { IfOk result (λ v. items_view v.items ≡ fields_data (parts_of (parts fields.now)) (items_of values.now)) }
+    ensures { IfOk result (λ v.
+        items_view v.items ≡ fields_data (parts_of (parts fields.now)) (items_of values.now)) }
 {
     let listed = values.as_slice();
     let members = fields.as_slice();

@@ -39,7 +39,8 @@ pub fn push_comma(text: &mut String, later: bool) -> Result<(), OutOfMemory>
 // The text of a value without floats.
 fn push_value(alloc: Global, text: &mut String, value: &Value) -> Result<(), OutOfMemory>
     requires { has_float (view value.now) ≡ false }
-    ensures { OnOk result (string_bytes text.new ≡ string_bytes text.old ++ compact_text (view value.now)) }
+    ensures { OnOk result
+        (string_bytes text.new ≡ string_bytes text.old ++ compact_text (view value.now)) }
 {
     let written = value.to_string(alloc)?;
     text.push_str(written.as_str())?;
@@ -50,7 +51,9 @@ fn push_value(alloc: Global, text: &mut String, value: &Value) -> Result<(), Out
 fn push_number(text: &mut String, integer: i128) -> Result<(), OutOfMemory>
     requires low { negsuc 9223372036854775807 ≤ℤ integer }
     requires high { integer ≤ℤ pos 18446744073709551615 }
-    ensures { OnOk result (string_bytes text.new ≡ string_bytes text.old ++ compact_text (number (of_integer integer))) }
+    ensures { OnOk result
+        (string_bytes text.new
+        ≡ string_bytes text.old ++ compact_text (number (of_integer integer))) }
 {
     let mut buffer = Buffer::new();
     if integer < 0 {
@@ -203,7 +206,8 @@ fn push_array(alloc: Global, text: &mut String, column: &Column) -> Result<(), O
 
 // The name and the type of a column, as the first members of an object.
 fn push_heading(alloc: Global, text: &mut String, column: &Column) -> Result<(), OutOfMemory>
-    ensures { OnOk result (string_bytes text.new ≡ string_bytes text.old ++ heading (plain_column column.now)) }
+    ensures { OnOk result
+        (string_bytes text.new ≡ string_bytes text.old ++ heading (plain_column column.now)) }
 {
     text.push_str("{\"name\":")?;
     push_quoted(alloc, text, column.name().as_str())?;
@@ -213,7 +217,9 @@ fn push_heading(alloc: Global, text: &mut String, column: &Column) -> Result<(),
 }
 
 fn push_column(alloc: Global, text: &mut String, column: &Column) -> Result<(), OutOfMemory>
-    ensures { OnOk result (string_bytes text.new ≡ string_bytes text.old ++ compact_text (column_data (plain_column column.now))) }
+    ensures { OnOk result
+        (string_bytes text.new
+        ≡ string_bytes text.old ++ compact_text (column_data (plain_column column.now))) }
 {
     push_heading(alloc, text, column)?;
     text.push_str(",\"values\":")?;
@@ -264,7 +270,8 @@ pub fn traced_text_of(
     trace: &Value,
 ) -> Result<String, OutOfMemory>
     requires { has_float (view trace.now) ≡ false }
-    ensures { IfOk result (λ s. string_bytes s ≡ traced_text_of (table_of table.now) (view trace.now)) }
+    ensures { IfOk result (λ s.
+        string_bytes s ≡ traced_text_of (table_of table.now) (view trace.now)) }
 {
     let mut text = open_table(alloc, table)?;
     text.push_str(",\"trace\":")?;

@@ -31,11 +31,13 @@ asked_by_names r = lent_request r.left.now r.right.now r.left_on.now r.right_on.
 
 -- the keys are the columns of the names, and the kind is that of the arguments
 abbrev pub IsByNames : LentRequest → Type 0
-IsByNames r = asked_request r ≡ lent_request r.left.now r.right.now r.left_on.now r.right_on.now r.args.now
+IsByNames r =
+    asked_request r ≡ lent_request r.left.now r.right.now r.left_on.now r.right_on.now r.args.now
 
 -- how many places both key lists have
 abbrev pub place_count : LentRequest → ℕ
-place_count r = min (length (table_of (lent_columns r.left_keys.now))) (length (table_of (lent_columns r.right_keys.now)))
+place_count r = min (length (table_of (lent_columns r.left_keys.now)))
+    (length (table_of (lent_columns r.right_keys.now)))
 
 -- the columns of these names, in the order of the names, each as long as the table is high
 pub record AreKeysOf (cs : List Col) (names : List Name) (keys : List Col) : Type 0 where

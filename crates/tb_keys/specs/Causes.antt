@@ -10,7 +10,8 @@ use Rattle.tb_frame.specs.declared.null_flags.JoinNulls.{JoinNulls}
 
 -- a key is unknown, there is none, there are more on one side, there are more or fewer flags, or a key is repeated
 abbrev pub names_refusal : Table → Table → JoinNulls → List Name → List Name → Option PolarsError
-names_refusal left right nulls left_on right_on = first_cause (name_causes left right left_on right_on ++ list_causes nulls left_on right_on)
+names_refusal left right nulls left_on right_on =
+    first_cause (name_causes left right left_on right_on ++ list_causes nulls left_on right_on)
 
 -- the types of the keys, the names of the answer, the sides that are to have no twins, and the size
 abbrev pub later_refusal : Request → Option PolarsError

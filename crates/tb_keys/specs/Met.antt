@@ -11,4 +11,5 @@ is_so false b = not b
 
 -- the left rows with a match, or those without one
 abbrev pub left_alone : Bool → ℕ → ℕ → (ℕ → ℕ → Bool) → List JoinPair
-left_alone met l r m = map left_only (filter (λ i. is_so met (list_any (m i) (row_numbers r))) (row_numbers l))
+left_alone met l r m =
+    map left_only (filter (λ i. is_so met (list_any (m i) (row_numbers r))) (row_numbers l))

@@ -50,7 +50,9 @@ fn push_matched(pairs: &mut Vec<JoinPair>, request: &LentRequest<'_>) -> Result<
 // Whether a left row has a match.
 fn is_left_met(request: &LentRequest<'_>, i: usize) -> bool
     requires { i < height (table_of request.now.left.now) }
-    ensures { result ≡ list_any (matches (asked_request request.now) i) (row_numbers (height (table_of request.now.right.now))) }
+    ensures { result
+        ≡ list_any (matches (asked_request request.now) i)
+        (row_numbers (height (table_of request.now.right.now))) }
 {
     for j in 0..request.right.height() {
         if rows_match(request, i, j) {
@@ -63,7 +65,9 @@ fn is_left_met(request: &LentRequest<'_>, i: usize) -> bool
 // Whether a right row has a match.
 fn is_right_met(request: &LentRequest<'_>, j: usize) -> bool
     requires { j < height (table_of request.now.right.now) }
-    ensures { result ≡ list_any (λ i. matches (asked_request request.now) i j) (row_numbers (height (table_of request.now.left.now))) }
+    ensures { result
+        ≡ list_any (λ i. matches (asked_request request.now) i j)
+        (row_numbers (height (table_of request.now.left.now))) }
 {
     for i in 0..request.left.height() {
         if rows_match(request, i, j) {
@@ -104,7 +108,8 @@ fn push_right_unmet(pairs: &mut Vec<JoinPair>, request: &LentRequest<'_>) -> Res
 }
 
 fn push_pairs(pairs: &mut Vec<JoinPair>, request: &LentRequest<'_>) -> Result<(), OutOfMemory>
-    ensures { OnOk result (pairs.new.items ≡ pairs.old.items ++ listing (asked_request request.now)) }
+    ensures { OnOk result
+        (pairs.new.items ≡ pairs.old.items ++ listing (asked_request request.now)) }
 {
     match request.how {
         JoinType::Inner => push_matched(pairs, request),
@@ -137,7 +142,8 @@ pub fn list_pairs(alloc: Global, request: &LentRequest<'_>) -> Result<Vec<JoinPa
 
 /// Refuses more pairs than a table has rows (TooManyRows).
 pub fn check_size(pairs: &[JoinPair]) -> PolarsResult<()>
-    ensures { SettlesOutright result (when (nat_lt MAX_ROWS (length pairs.now)) (ComputeError TooManyRows)) }
+    ensures { SettlesOutright result
+        (when (nat_lt MAX_ROWS (length pairs.now)) (ComputeError TooManyRows)) }
 {
     if pairs.len() > MAX_ROWS {
         return Err(PolarsError::ComputeError(ComputeCause::TooManyRows));

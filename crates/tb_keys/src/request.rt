@@ -79,8 +79,10 @@ impl<'a> NamedRequest<'a> {
     pub fn key_columns(&self, alloc: Global) -> PolarsResult<KeyColumns<'a>>
         ensures settles { Settles result (names_refusal (table_of self.now.left.now) (table_of self.now.right.now) self.now.args.now.join_nulls
             self.now.left_on.now self.now.right_on.now) }
-        ensures left { IfOk result (λ k. AreKeysOf self.now.left.now self.now.left_on.now (lent_columns k.left.items)) }
-        ensures right { IfOk result (λ k. AreKeysOf self.now.right.now self.now.right_on.now (lent_columns k.right.items)) }
+        ensures left { IfOk result (λ k.
+            AreKeysOf self.now.left.now self.now.left_on.now (lent_columns k.left.items)) }
+        ensures right { IfOk result (λ k.
+            AreKeysOf self.now.right.now self.now.right_on.now (lent_columns k.right.items)) }
     {
         let left = lend_columns(alloc, self.left.get_columns(), self.left_on)?;
         let right = lend_columns(alloc, self.right.get_columns(), self.right_on)?;
@@ -90,12 +92,16 @@ impl<'a> NamedRequest<'a> {
 
     /// The request by these columns, which are those of its keys.
     pub fn with_keys<'k>(&self, keys: &'k KeyColumns<'a>) -> LentRequest<'k>
-        requires left { AreKeysOf self.now.left.now self.now.left_on.now (lent_columns keys.now.left.items) }
-        requires right { AreKeysOf self.now.right.now self.now.right_on.now (lent_columns keys.now.right.items) }
+        requires left { AreKeysOf self.now.left.now self.now.left_on.now
+            (lent_columns keys.now.left.items) }
+        requires right { AreKeysOf self.now.right.now self.now.right_on.now
+            (lent_columns keys.now.right.items) }
         ensures asked { asked_request result ≡ asked_by_names self.now }
         ensures named { IsByNames result }
-        ensures left { lent_columns result.left_keys.now ≡ selected_columns self.now.left_on.now self.now.left.now }
-        ensures right { lent_columns result.right_keys.now ≡ selected_columns self.now.right_on.now self.now.right.now }
+        ensures left { lent_columns result.left_keys.now
+            ≡ selected_columns self.now.left_on.now self.now.left.now }
+        ensures right { lent_columns result.right_keys.now
+            ≡ selected_columns self.now.right_on.now self.now.right.now }
         ensures how { result.how ≡ self.now.args.now.how }
         ensures args { result.args.now ≡ self.now.args.now }
     {

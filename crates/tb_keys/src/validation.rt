@@ -67,7 +67,9 @@ fn are_twins(nulls: &JoinNulls, keys: &[&Series], i: usize, j: usize) -> bool
 fn has_twin(nulls: &JoinNulls, keys: &[&Series], i: usize, n: usize) -> bool
     requires first { All (HasRow i) (lent_columns keys.now) }
     requires rows { HasRows n (lent_columns keys.now) }
-    ensures { result ≡ list_any (are_twins (flag_at nulls.now) (table_of (lent_columns keys.now)) i) (row_numbers n) }
+    ensures { result
+        ≡ list_any (are_twins (flag_at nulls.now) (table_of (lent_columns keys.now)) i)
+        (row_numbers n) }
 {
     for j in 0..n {
         if are_twins(nulls, keys, i, j) {
@@ -93,7 +95,10 @@ fn has_twins(nulls: &JoinNulls, keys: &[&Series], n: usize) -> bool
 // Whether a side of n rows has twins, where it is asked to have none.
 fn is_broken(request: &LentRequest<'_>, is_asked: bool, keys: &[&Series], n: usize) -> bool
     requires { HasRows n (lent_columns keys.now) }
-    ensures { result ≡ (is_validated request.now.how && is_asked && has_twins (flag_at request.now.args.now.join_nulls) (table_of (lent_columns keys.now)) n) }
+    ensures { result
+        ≡ (is_validated request.now.how && is_asked
+        && has_twins (flag_at request.now.args.now.join_nulls)
+        (table_of (lent_columns keys.now)) n) }
 {
     request.how.is_validated() && is_asked && has_twins(&request.args.join_nulls, keys, n)
 }
@@ -131,7 +136,10 @@ fn check_right(request: &LentRequest<'_>) -> PolarsResult<()>
 
 /// Refuses a side that is asked to have each key once and has a key twice (Validation). The left side comes first.
 pub fn check_sides(request: &LentRequest<'_>) -> PolarsResult<()>
-    ensures { SettlesOutright result (first_cause (broken_left (asked_request request.now) ∷ broken_right (asked_request request.now) ∷ [])) }
+    ensures { SettlesOutright result
+        (first_cause
+        (broken_left (asked_request request.now) ∷ broken_right (asked_request request.now)
+        ∷ [])) }
 {
     check_left(request)?;
     check_right(request)

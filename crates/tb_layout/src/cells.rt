@@ -56,7 +56,8 @@ pub(crate) fn push_cell(
     at_right: bool,
     width: usize,
 ) -> Result<(), OutOfMemory>
-    ensures { OnOk result (line.new.items ≡ line.old.items ++ (padded_cell at_right width cell.now ++ blanks 2)) }
+    ensures { OnOk result
+        (line.new.items ≡ line.old.items ++ (padded_cell at_right width cell.now ++ blanks 2)) }
 {
     let missing = width - width_within(width, cell);
     if at_right {

@@ -39,8 +39,10 @@ pub(crate) fn shown_grid<'a>(
     line: usize,
 ) -> Result<Grid<'a>, OutOfMemory>
     ensures line { IfOk result (λ g. g.line ≡ line) }
-    ensures columns { IfOk result (λ g. g.columns.now ≡ take (fitting_columns line (table_of columns.now)) columns.now) }
-    ensures count { IfOk result (λ g. length g.columns.now ≡ fitting_columns line (table_of columns.now)) }
+    ensures columns { IfOk result (λ g.
+        g.columns.now ≡ take (fitting_columns line (table_of columns.now)) columns.now) }
+    ensures count { IfOk result (λ g.
+        length g.columns.now ≡ fitting_columns line (table_of columns.now)) }
     ensures few { IfOk result (λ g. length g.columns.now ≤ length columns.now) }
 {
     let mut widths = column_widths(alloc, columns, line)?;

@@ -17,7 +17,8 @@ use tb_store::Column;
 use tb_value::OutOfMemory;
 
 fn push_characters(text: &mut String, characters: &[char]) -> Result<(), OutOfMemory>
-    ensures { OnOk result (string_bytes text.new ≡ string_bytes text.old ++ encode_utf8_all characters.now) }
+    ensures { OnOk result
+        (string_bytes text.new ≡ string_bytes text.old ++ encode_utf8_all characters.now) }
 {
     for c in characters {
         text.push(*c)?;
@@ -27,7 +28,10 @@ fn push_characters(text: &mut String, characters: &[char]) -> Result<(), OutOfMe
 
 // Appends the line, cut to the terminal and without blanks at its end, and a line feed.
 fn push_line(text: &mut String, line: &[char], width: usize) -> Result<(), OutOfMemory>
-    ensures { OnOk result (string_bytes text.new ≡ string_bytes text.old ++ encode_utf8_all (trimmed_text (cut width line.now) ++ 10 ∷ [])) }
+    ensures { OnOk result
+        (string_bytes text.new
+        ≡ string_bytes text.old
+        ++ encode_utf8_all (trimmed_text (cut width line.now) ++ 10 ∷ [])) }
 {
     push_characters(text, trimmed(cut(line, width)))?;
     text.push('\n')?;
@@ -37,7 +41,9 @@ fn push_line(text: &mut String, line: &[char], width: usize) -> Result<(), OutOf
 // The lines of the columns that are shown, with so many rows.
 fn table_text(alloc: Global, grid: &Grid<'_>, rows: usize) -> Result<String, OutOfMemory>
     requires { All (λ (c : Col). length (values c) ≡ rows) grid.now.columns.now }
-    ensures { IfOk result (λ s. string_bytes s ≡ encode_utf8_all (laid grid.now.line (table_of grid.now.columns.now) rows)) }
+    ensures { IfOk result (λ s.
+        string_bytes s
+        ≡ encode_utf8_all (laid grid.now.line (table_of grid.now.columns.now) rows)) }
 {
     let mut text = String::new(alloc);
     push_line(&mut text, &names_line(alloc, grid)?, grid.line)?;
@@ -55,7 +61,10 @@ fn push_note(
     what: &str,
     columns: &[Column],
 ) -> Result<(), OutOfMemory>
-    ensures { OnOk result (string_bytes text.new ≡ string_bytes text.old ++ encode_utf8_all (ended (note what.now (names_of (table_of columns.now))))) }
+    ensures { OnOk result
+        (string_bytes text.new
+        ≡ string_bytes text.old
+        ++ encode_utf8_all (ended (note what.now (names_of (table_of columns.now))))) }
 {
     if columns.is_empty() {
         return Ok(());
@@ -91,7 +100,8 @@ pub fn layout_of_table(
     table: &DataFrame,
     width: usize,
 ) -> Result<String, OutOfMemory>
-    ensures { IfOk result (λ s. string_bytes s ≡ encode_utf8_all (layout width (table_of table.now))) }
+    ensures { IfOk result (λ s.
+        string_bytes s ≡ encode_utf8_all (layout width (table_of table.now))) }
 {
     let columns = table.get_columns();
     let grid = shown_grid(alloc, columns, width)?;

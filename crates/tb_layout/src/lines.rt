@@ -13,7 +13,8 @@ use tb_value::OutOfMemory;
 
 /// The names, each in its column.
 pub(crate) fn names_line(alloc: Global, grid: &Grid<'_>) -> Result<Vec<char>, OutOfMemory>
-    ensures { IfOk result (λ v. v.items ≡ side_by_side (name_in grid.now.line) (table_of grid.now.columns.now)) }
+    ensures { IfOk result (λ v.
+        v.items ≡ side_by_side (name_in grid.now.line) (table_of grid.now.columns.now)) }
 {
     let mut text = Vec::new(alloc);
     for k in 0..grid.columns.len() {
@@ -25,7 +26,8 @@ pub(crate) fn names_line(alloc: Global, grid: &Grid<'_>) -> Result<Vec<char>, Ou
 
 /// A dash for each character that the widest of a column's lines takes.
 pub(crate) fn dashes_line(alloc: Global, grid: &Grid<'_>) -> Result<Vec<char>, OutOfMemory>
-    ensures { IfOk result (λ v. v.items ≡ side_by_side (dashes_in grid.now.line) (table_of grid.now.columns.now)) }
+    ensures { IfOk result (λ v.
+        v.items ≡ side_by_side (dashes_in grid.now.line) (table_of grid.now.columns.now)) }
 {
     let mut text = Vec::new(alloc);
     for k in 0..grid.columns.len() {
@@ -38,7 +40,8 @@ pub(crate) fn dashes_line(alloc: Global, grid: &Grid<'_>) -> Result<Vec<char>, O
 /// The values of a row, each in its column.
 pub(crate) fn row_line(alloc: Global, grid: &Grid<'_>, row: usize) -> Result<Vec<char>, OutOfMemory>
     requires { All (λ (c : Col). row < length (values c)) grid.now.columns.now }
-    ensures { IfOk result (λ v. v.items ≡ side_by_side (cell_in grid.now.line row) (table_of grid.now.columns.now)) }
+    ensures { IfOk result (λ v.
+        v.items ≡ side_by_side (cell_in grid.now.line row) (table_of grid.now.columns.now)) }
 {
     let mut text = Vec::new(alloc);
     for k in 0..grid.columns.len() {

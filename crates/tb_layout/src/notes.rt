@@ -47,7 +47,9 @@ fn push_gap(text: &mut String, place: usize) -> Result<(), OutOfMemory>
 
 // Appends the names of the columns.
 fn push_names(text: &mut String, columns: &[Column]) -> Result<(), OutOfMemory>
-    ensures { OnOk result (string_bytes text.new ≡ string_bytes text.old ++ listed (names_of (table_of columns.now))) }
+    ensures { OnOk result
+        (string_bytes text.new
+        ≡ string_bytes text.old ++ listed (names_of (table_of columns.now))) }
 {
     for place in 0..columns.len() {
         push_gap(text, place)?;
@@ -62,7 +64,8 @@ pub(crate) fn note_text(
     what: &str,
     columns: &[Column],
 ) -> Result<String, OutOfMemory>
-    ensures { IfOk result (λ s. string_bytes s ≡ note_text what.now (names_of (table_of columns.now))) }
+    ensures { IfOk result (λ s.
+        string_bytes s ≡ note_text what.now (names_of (table_of columns.now))) }
 {
     let count = value_text(alloc, ValueRef::Int(columns.len() as i128))?;
     let mut text = String::new(alloc);

@@ -31,6 +31,7 @@ pub trait Ascend: Sync {
         requires left { left < length (left_keys self.now) }
         requires right { right < length (right_keys self.now) }
         requires ledger { L.name ≡ ledger self.now }
-        ensures order { result ≡ int_cmp (key_at (left_keys self.now) left) (key_at (right_keys self.now) right) }
+        ensures order { result
+            ≡ int_cmp (key_at (left_keys self.now) left) (key_at (right_keys self.now) right) }
         ensures step { steps.new ≡ steps.old + 1 };
 }

@@ -45,15 +45,18 @@ fn merge_row<K: Ascend, L: Ledger>(
     pairs: &mut Vec<JoinPair>,
     steps: &mut Steps<L>,
 ) -> Result<Progress, MergeFault>
-    requires keys { AreMergeable (K.left_keys keys.now) (K.right_keys keys.now) (K.ledger keys.now) L.name }
+    requires keys { AreMergeable (K.left_keys keys.now) (K.right_keys keys.now) (K.ledger keys.now)
+        L.name }
     requires row { from.row < length (K.left_keys keys.now) }
-    requires so_far { IsMergedTo (K.left_keys keys.now) (K.right_keys keys.now) keep_unmatched pairs.old.items from }
+    requires so_far { IsMergedTo (K.left_keys keys.now) (K.right_keys keys.now) keep_unmatched
+        pairs.old.items from }
     ensures gives_up { GivesUpFor result (length (pairs_of (K.left_keys keys.now) (K.right_keys keys.now) keep_unmatched
         (row_numbers (length (K.left_keys keys.now))))) }
     ensures row { IfOk result (λ at. at.row ≡ from.row + 1) }
     ensures merged { IfOk result (λ at. IsMergedTo (K.left_keys keys.now) (K.right_keys keys.now)
         keep_unmatched pairs.new.items at) }
-    ensures counted { IfOk result (λ at. at.cursor.comparisons + steps.old ≡ from.cursor.comparisons + steps.new) }
+    ensures counted { IfOk result (λ at.
+        at.cursor.comparisons + steps.old ≡ from.cursor.comparisons + steps.new) }
     ensures cost { steps.new + from.cursor.comparisons
         ≤ steps.old + 2 * length (K.left_keys keys.now) + length (K.right_keys keys.now) }
 {
@@ -82,15 +85,18 @@ fn merge_portion<K: Ascend, L: Ledger>(
     pairs: &mut Vec<JoinPair>,
     steps: &mut Steps<L>,
 ) -> Result<Progress, MergeFault>
-    requires keys { AreMergeable (K.left_keys keys.now) (K.right_keys keys.now) (K.ledger keys.now) L.name }
+    requires keys { AreMergeable (K.left_keys keys.now) (K.right_keys keys.now) (K.ledger keys.now)
+        L.name }
     requires rows { from.row + len ≤ length (K.left_keys keys.now) }
-    requires so_far { IsMergedTo (K.left_keys keys.now) (K.right_keys keys.now) keep_unmatched pairs.old.items from }
+    requires so_far { IsMergedTo (K.left_keys keys.now) (K.right_keys keys.now) keep_unmatched
+        pairs.old.items from }
     ensures gives_up { GivesUpFor result (length (pairs_of (K.left_keys keys.now) (K.right_keys keys.now) keep_unmatched
         (row_numbers (length (K.left_keys keys.now))))) }
     ensures row { IfOk result (λ at. at.row ≡ from.row + len) }
     ensures merged { IfOk result (λ at. IsMergedTo (K.left_keys keys.now) (K.right_keys keys.now)
         keep_unmatched pairs.new.items at) }
-    ensures counted { IfOk result (λ at. at.cursor.comparisons + steps.old ≡ from.cursor.comparisons + steps.new) }
+    ensures counted { IfOk result (λ at.
+        at.cursor.comparisons + steps.old ≡ from.cursor.comparisons + steps.new) }
     ensures cost { steps.new + from.cursor.comparisons
         ≤ steps.old + 2 * length (K.left_keys keys.now) + length (K.right_keys keys.now) }
 {
@@ -110,7 +116,8 @@ pub fn merge_portions<K: Ascend, L: Ledger>(
     pairs: &mut Vec<JoinPair>,
     steps: &mut Steps<L>,
 ) -> Result<Progress, MergeFault>
-    requires keys { AreMergeable (K.left_keys keys.now) (K.right_keys keys.now) (K.ledger keys.now) L.name }
+    requires keys { AreMergeable (K.left_keys keys.now) (K.right_keys keys.now) (K.ledger keys.now)
+        L.name }
     requires rows { portion_rows cuts.now ≡ row_numbers (length (K.left_keys keys.now)) }
     requires none { pairs.old.items ≡ [] }
     ensures gives_up { GivesUpFor result (length (pairs_of (K.left_keys keys.now) (K.right_keys keys.now) keep_unmatched
@@ -119,7 +126,8 @@ pub fn merge_portions<K: Ascend, L: Ledger>(
     ensures merged { IfOk result (λ at. IsMergedTo (K.left_keys keys.now) (K.right_keys keys.now)
         keep_unmatched pairs.new.items at) }
     ensures counted { IfOk result (λ at. at.cursor.comparisons + steps.old ≡ steps.new) }
-    ensures cost { steps.new ≤ steps.old + 2 * length (K.left_keys keys.now) + length (K.right_keys keys.now) }
+    ensures cost { steps.new ≤ steps.old + 2 * length (K.left_keys keys.now) + length
+        (K.right_keys keys.now) }
 {
     let mut at = Progress {
         row: 0,

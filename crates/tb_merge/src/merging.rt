@@ -71,14 +71,17 @@ fn merge<K: Ascend, L: Ledger>(
     exec: &Exec,
     steps: &mut Steps<L>,
 ) -> Result<(Vec<JoinPair>, Merged), MergeFault>
-    requires keys { AreMergeable (K.left_keys keys.now) (K.right_keys keys.now) (K.ledger keys.now) L.name }
+    requires keys { AreMergeable (K.left_keys keys.now) (K.right_keys keys.now) (K.ledger keys.now)
+        L.name }
     ensures settles { SettlesCount result (length (pairs_of (K.left_keys keys.now) (K.right_keys keys.now) keep_unmatched
         (row_numbers (length (K.left_keys keys.now))))) }
     ensures pairs { IfOk result (λ r. r.0.items ≡ pairs_of (K.left_keys keys.now) (K.right_keys keys.now) keep_unmatched
         (row_numbers (length (K.left_keys keys.now)))) }
-    ensures merged { IfOk result (λ r. IsMergeOf (K.left_keys keys.now) (K.right_keys keys.now) r.1) }
+    ensures merged { IfOk result (λ r.
+        IsMergeOf (K.left_keys keys.now) (K.right_keys keys.now) r.1) }
     ensures counted { IfOk result (λ r. r.1.comparisons + steps.old ≡ steps.new) }
-    ensures cost { steps.new ≤ steps.old + 2 * length (K.left_keys keys.now) + length (K.right_keys keys.now) }
+    ensures cost { steps.new ≤ steps.old + 2 * length (K.left_keys keys.now) + length
+        (K.right_keys keys.now) }
 {
     let left_len = keys.left_len();
     let right_len = keys.right_len();
@@ -107,13 +110,18 @@ pub fn merge_left<K: Ascend, L: Ledger>(
     exec: &Exec,
     steps: &mut Steps<L>,
 ) -> Result<(Vec<JoinPair>, Merged), MergeFault>
-    requires keys { AreMergeable (K.left_keys keys.now) (K.right_keys keys.now) (K.ledger keys.now) L.name }
-    ensures settles { SettlesCount result (length (left_listing (K.left_keys keys.now) (K.right_keys keys.now))) }
-    ensures pairs { IfOk result (λ r. IsPermutation (left_listing (K.left_keys keys.now) (K.right_keys keys.now)) r.0.items) }
+    requires keys { AreMergeable (K.left_keys keys.now) (K.right_keys keys.now) (K.ledger keys.now)
+        L.name }
+    ensures settles { SettlesCount result
+        (length (left_listing (K.left_keys keys.now) (K.right_keys keys.now))) }
+    ensures pairs { IfOk result (λ r.
+        IsPermutation (left_listing (K.left_keys keys.now) (K.right_keys keys.now)) r.0.items) }
     ensures order { IfOk result (λ r. IsSorted left_first r.0.items) }
-    ensures merged { IfOk result (λ r. IsMergeOf (K.left_keys keys.now) (K.right_keys keys.now) r.1) }
+    ensures merged { IfOk result (λ r.
+        IsMergeOf (K.left_keys keys.now) (K.right_keys keys.now) r.1) }
     ensures counted { IfOk result (λ r. r.1.comparisons + steps.old ≡ steps.new) }
-    ensures cost { steps.new ≤ steps.old + 2 * length (K.left_keys keys.now) + length (K.right_keys keys.now) }
+    ensures cost { steps.new ≤ steps.old + 2 * length (K.left_keys keys.now) + length
+        (K.right_keys keys.now) }
 {
     merge(alloc, keys, true, exec, steps)
 }
@@ -126,13 +134,18 @@ pub fn merge_inner<K: Ascend, L: Ledger>(
     exec: &Exec,
     steps: &mut Steps<L>,
 ) -> Result<(Vec<JoinPair>, Merged), MergeFault>
-    requires keys { AreMergeable (K.left_keys keys.now) (K.right_keys keys.now) (K.ledger keys.now) L.name }
-    ensures settles { SettlesCount result (length (inner_listing (K.left_keys keys.now) (K.right_keys keys.now))) }
-    ensures pairs { IfOk result (λ r. r.0.items ≡ inner_listing (K.left_keys keys.now) (K.right_keys keys.now)) }
+    requires keys { AreMergeable (K.left_keys keys.now) (K.right_keys keys.now) (K.ledger keys.now)
+        L.name }
+    ensures settles { SettlesCount result
+        (length (inner_listing (K.left_keys keys.now) (K.right_keys keys.now))) }
+    ensures pairs { IfOk result (λ r.
+        r.0.items ≡ inner_listing (K.left_keys keys.now) (K.right_keys keys.now)) }
     ensures order { IfOk result (λ r. IsSorted left_first r.0.items) }
-    ensures merged { IfOk result (λ r. IsMergeOf (K.left_keys keys.now) (K.right_keys keys.now) r.1) }
+    ensures merged { IfOk result (λ r.
+        IsMergeOf (K.left_keys keys.now) (K.right_keys keys.now) r.1) }
     ensures counted { IfOk result (λ r. r.1.comparisons + steps.old ≡ steps.new) }
-    ensures cost { steps.new ≤ steps.old + 2 * length (K.left_keys keys.now) + length (K.right_keys keys.now) }
+    ensures cost { steps.new ≤ steps.old + 2 * length (K.left_keys keys.now) + length
+        (K.right_keys keys.now) }
 {
     merge(alloc, keys, false, exec, steps)
 }

@@ -33,7 +33,9 @@ fn push_matched(
     requires within { end ≤ MAX_ROWS }
     requires room { length pairs.old.items ≤ MAX_ROWS }
     ensures settles { SettlesCount result (length pairs.old.items + (end - start)) }
-    ensures pairs { OnOk result (pairs.new.items ≡ pairs.old.items ++ map (both left) (range_with_len start (end - start))) }
+    ensures pairs { OnOk result
+        (pairs.new.items
+        ≡ pairs.old.items ++ map (both left) (range_with_len start (end - start))) }
 {
     for right in start..end {
         push_pair(pairs, JoinPair::both(left, right as IdxSize))?;
@@ -54,8 +56,13 @@ pub fn push_row(
     requires ordered { start ≤ end }
     requires within { end ≤ MAX_ROWS }
     requires room { length pairs.old.items ≤ MAX_ROWS }
-    ensures settles { SettlesCount result (length pairs.old.items + length (row_pairs keep_unmatched left (range_with_len start (end - start)))) }
-    ensures pairs { OnOk result (pairs.new.items ≡ pairs.old.items ++ row_pairs keep_unmatched left (range_with_len start (end - start))) }
+    ensures settles { SettlesCount result
+        (length pairs.old.items + length
+        (row_pairs keep_unmatched left (range_with_len start (end - start)))) }
+    ensures pairs { OnOk result
+        (pairs.new.items
+        ≡ pairs.old.items
+        ++ row_pairs keep_unmatched left (range_with_len start (end - start))) }
 {
     if start < end {
         return push_matched(pairs, left, start, end);

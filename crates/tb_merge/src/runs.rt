@@ -20,10 +20,13 @@ pub struct Cursor {
 // Looks from the cursor's end on for the right rows whose key is the left row's.
 fn scan<K: Ascend, L: Ledger>(keys: &K, row: usize, from: Cursor, steps: &mut Steps<L>) -> Cursor
     requires row { row < length (K.left_keys keys.now) }
-    requires keys { AreMergeable (K.left_keys keys.now) (K.right_keys keys.now) (K.ledger keys.now) L.name }
+    requires keys { AreMergeable (K.left_keys keys.now) (K.right_keys keys.now) (K.ledger keys.now)
+        L.name }
     requires few { from.comparisons < 2 ^ 62 }
-    requires scanned { IsScanned (K.right_keys keys.now) (key_at (K.left_keys keys.now) row) from.end from.end }
-    ensures run { IsRun (K.right_keys keys.now) (key_at (K.left_keys keys.now) row) result.start result.end }
+    requires scanned { IsScanned (K.right_keys keys.now) (key_at (K.left_keys keys.now) row)
+        from.end from.end }
+    ensures run { IsRun (K.right_keys keys.now) (key_at (K.left_keys keys.now) row) result.start
+        result.end }
     ensures cost { steps.new + from.end ≤ steps.old + 1 + result.end }
     ensures counted { result.comparisons + steps.old ≡ from.comparisons + steps.new }
 {
@@ -60,10 +63,13 @@ pub fn next_run<K: Ascend, L: Ledger>(
     steps: &mut Steps<L>,
 ) -> Cursor
     requires row { row < length (K.left_keys keys.now) }
-    requires keys { AreMergeable (K.left_keys keys.now) (K.right_keys keys.now) (K.ledger keys.now) L.name }
+    requires keys { AreMergeable (K.left_keys keys.now) (K.right_keys keys.now) (K.ledger keys.now)
+        L.name }
     requires few { last.comparisons < 2 ^ 61 }
-    requires cursor { IsCursor (K.right_keys keys.now) (key_at (K.left_keys keys.now) row) last.start last.end }
-    ensures run { IsRun (K.right_keys keys.now) (key_at (K.left_keys keys.now) row) result.start result.end }
+    requires cursor { IsCursor (K.right_keys keys.now) (key_at (K.left_keys keys.now) row)
+        last.start last.end }
+    ensures run { IsRun (K.right_keys keys.now) (key_at (K.left_keys keys.now) row) result.start
+        result.end }
     ensures cost { steps.new + last.end ≤ steps.old + 2 + result.end }
     ensures counted { result.comparisons + steps.old ≡ last.comparisons + steps.new }
 {

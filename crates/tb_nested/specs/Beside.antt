@@ -8,4 +8,5 @@ use Rattle.tb_frame.specs.RightColumns.{gone_right, right_columns, right_side}
 
 -- those of a join with these arguments, beside left columns of these names
 abbrev pub columns_beside : JoinArgs → List Name → List (Option ℕ) → List Name → List Col → List Col
-columns_beside a right_on rows taken cs = right_columns taken (unwrap_or a.suffix default_suffix) (gone_right a right_on) rows (right_side a.how cs)
+columns_beside a right_on rows taken cs = right_columns taken (unwrap_or a.suffix default_suffix)
+    (gone_right a right_on) rows (right_side a.how cs)

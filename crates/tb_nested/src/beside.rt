@@ -28,7 +28,9 @@ fn named_column(
 ) -> Result<Column, OutOfMemory>
     requires rows { All (IsRowOf (length (values column.now))) rows.now }
     requires few { length rows.now ≤ MAX_ROWS }
-    ensures { IfOk result (λ c. (ns : List Name) → ((n : Name) → has_name taken.now n ≡ is_among ns n) → c ≡ right_column ns suffix.now rows.now column.now) }
+    ensures { IfOk result (λ c.
+        (ns : List Name) → ((n : Name) → has_name taken.now n ≡ is_among ns n)
+        → c ≡ right_column ns suffix.now rows.now column.now) }
 {
     let name = right_name(alloc, taken, suffix, column.name())?;
     let mut column = column.take_opt(alloc, rows)?;
@@ -49,7 +51,10 @@ pub(crate) fn columns_beside(
 ) -> Result<Vec<Column>, OutOfMemory>
     requires rows { All (λ (c : Col). All (IsRowOf (length (values c))) rows.now) right.now }
     requires few { length rows.now ≤ MAX_ROWS }
-    ensures { IfOk result (λ v. v.items ≡ columns_beside (of_kind how args.now) right_on.now rows.now (names_of (table_of left.now)) right.now) }
+    ensures { IfOk result (λ v.
+        v.items
+        ≡ columns_beside (of_kind how args.now) right_on.now rows.now
+        (names_of (table_of left.now)) right.now) }
 {
     let taken = column_name_set(alloc, left)?;
     let gone = name_set(alloc, gone_right(how, args, right_on))?;

@@ -24,7 +24,10 @@ use tb_value::{JoinPair, MAX_ROWS, NullableIdxSize, OutOfMemory, PlSmallStr, Pol
 
 // The left columns that stand in the answer.
 fn kept_left(alloc: Global, request: &LentRequest<'_>) -> Result<DataFrame, OutOfMemory>
-    ensures { IfOk result (λ t. t ≡ without_names (gone_left (asked_request request.now).args request.now.left_on.now) request.now.left.now) }
+    ensures { IfOk result (λ t.
+        t
+        ≡ without_names (gone_left (asked_request request.now).args request.now.left_on.now)
+        request.now.left.now) }
 {
     request.left.drop_many(alloc, gone_left(request.how, request.args, request.left_on))
 }
@@ -57,11 +60,13 @@ fn left_column(
     right_rows: &[NullableIdxSize],
 ) -> Result<Column, OutOfMemory>
     requires left_rows { All (IsRowOf (length (values column.now))) left_rows.now }
-    requires right_rows { ForSome (option_copied key) (λ k. All (IsRowOf (length (values k))) right_rows.now) }
+    requires right_rows { ForSome (option_copied key) (λ k.
+        All (IsRowOf (length (values k))) right_rows.now) }
     requires level { length left_rows.now ≡ length right_rows.now }
     requires few { length left_rows.now ≤ MAX_ROWS }
     requires one_type { ForSome (option_copied key) (λ k. column.now.kind ≡ k.kind) }
-    ensures { IfOk result (λ c. c ≡ left_column left_rows.now right_rows.now (option_copied key.entry) column.now) }
+    ensures { IfOk result (λ c.
+        c ≡ left_column left_rows.now right_rows.now (option_copied key.entry) column.now) }
 {
     let column = column.take_opt(alloc, left_rows)?;
     match key {
@@ -80,12 +85,21 @@ fn left_columns(
     left_rows: &[NullableIdxSize],
     right_rows: &[NullableIdxSize],
 ) -> Result<Vec<Column>, OutOfMemory>
-    requires left_rows { All (λ (c : Col). All (IsRowOf (length (values c))) left_rows.now) columns.now }
-    requires right_rows { All (λ (c : Col). All (IsRowOf (length (values c))) right_rows.now) (lent_columns request.now.right_keys.now) }
+    requires left_rows { All (λ (c : Col). All (IsRowOf (length (values c))) left_rows.now)
+        columns.now }
+    requires right_rows { All (λ (c : Col). All (IsRowOf (length (values c))) right_rows.now)
+        (lent_columns request.now.right_keys.now) }
     requires level { length left_rows.now ≡ length right_rows.now }
     requires few { length left_rows.now ≤ MAX_ROWS }
-    requires types { All (λ (c : Col). ForSome (coalescing_key request.now c.name) (λ k. c.kind ≡ k.kind)) columns.now }
-    ensures { IfOk result (λ v. v.items ≡ map (λ (c : Col). left_column left_rows.now right_rows.now (coalescing_key request.now c.name) c) columns.now) }
+    requires types { All
+        (λ (c : Col). ForSome (coalescing_key request.now c.name) (λ k. c.kind ≡ k.kind))
+        columns.now }
+    ensures { IfOk result (λ v.
+        v.items
+        ≡ map
+        (λ (c : Col).
+        left_column left_rows.now right_rows.now (coalescing_key request.now c.name) c)
+        columns.now) }
 {
     let mut made = Vec::with_capacity(alloc, columns.len())?;
     for column in columns {
@@ -102,9 +116,13 @@ fn answer_columns(
 ) -> Result<Vec<Column>, OutOfMemory>
     requires named { IsByNames request.now }
     requires valid { join_valid (asked_request request.now) }
-    requires pairs { All (IsPairOf (height (table_of request.now.left.now)) (height (table_of request.now.right.now))) pairs.now }
+    requires pairs { All
+        (IsPairOf (height (table_of request.now.left.now))
+        (height (table_of request.now.right.now)))
+        pairs.now }
     requires few { length pairs.now ≤ MAX_ROWS }
-    ensures { IfOk result (λ v. table_of v.items ≡ map (fill pairs.now) (out (asked_request request.now))) }
+    ensures { IfOk result (λ v.
+        table_of v.items ≡ map (fill pairs.now) (out (asked_request request.now))) }
 {
     let _columns = request.left.get_columns();
     let kept = kept_left(alloc, request)?;

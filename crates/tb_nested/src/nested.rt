@@ -67,8 +67,10 @@ pub fn nested_join(
     right_on: &[PlSmallStr],
     args: &JoinArgs,
 ) -> PolarsResult<DataFrame>
-    ensures settles { Settles result (join_refusal (lent_request left.now right.now left_on.now right_on.now args.now)) }
-    ensures answer { IfOk result (λ t. IsAnswer (lent_request left.now right.now left_on.now right_on.now args.now) (table_of t)) }
+    ensures settles { Settles result
+        (join_refusal (lent_request left.now right.now left_on.now right_on.now args.now)) }
+    ensures answer { IfOk result (λ t.
+        IsAnswer (lent_request left.now right.now left_on.now right_on.now args.now) (table_of t)) }
 {
     let named = NamedRequest {
         left,

@@ -14,4 +14,5 @@ kept p l = filter p (row_numbers l)
 
 -- a pair over the kept rows, as one over all rows
 abbrev pub over_all : (ℕ → Bool) → ℕ → JoinPair → JoinPair
-over_all p l pair = record { left = option_map (λ k. slice_index_or (kept p l) k 0) pair.left; right = pair.right }
+over_all p l pair =
+    record { left = option_map (λ k. slice_index_or (kept p l) k 0) pair.left; right = pair.right }

@@ -8,7 +8,8 @@ use Rattle.tb_node.specs.Promise.Trees.{Tree, size}
 
 -- What a tree means, it means with its filters pushed.
 abbrev pub SameMeaning : Type 0
-SameMeaning = (ts : Tables) (n : Tree) (t : Table) → AreTables ts → Means ts n t → Means ts (pushed ts n) t
+SameMeaning =
+    (ts : Tables) (n : Tree) (t : Table) → AreTables ts → Means ts n t → Means ts (pushed ts n) t
 
 -- Pushing changes no name of a column, and leaves as many nodes.
 abbrev pub SameNames : Type 0

@@ -15,13 +15,16 @@ use Rattle.tb_node.specs.Seen.{tree_of}
 abbrev pub passed : Tables → Name → Tree → ℕ
 passed ts c (table n) = 0
 passed ts c (tree.filter i d k) = 0
-passed ts c (join l r lo ro a) = (if is_plain_left a && is_of_left (names_under ts l) (names_under ts r) c then passed ts c l + 1 else 0)
+passed ts c (join l r lo ro a) = (if is_plain_left a && is_of_left (names_under ts l) (names_under ts r) c
+    then passed ts c l + 1
+    else 0)
 
 -- a filter below so many joins of left inputs
 abbrev pub lowered : ℕ → Name → Check → Tree → Tree
 lowered j c k (table n) = tree.filter (table n) c k
 lowered j c k (tree.filter i d q) = tree.filter (tree.filter i d q) c k
-lowered j c k (join l r lo ro a) = (if j == 0 then tree.filter (join l r lo ro a) c k else join (lowered (j - 1) c k l) r lo ro a)
+lowered j c k (join l r lo ro a) =
+    (if j == 0 then tree.filter (join l r lo ro a) c k else join (lowered (j - 1) c k l) r lo ro a)
 
 -- how many names there are, where they are there
 abbrev pub width_of : Option (List Name) → ℕ
@@ -36,7 +39,8 @@ width_over plain names left ws = (if plain && is_some names then width_of left �
 abbrev pub widths : Tables → Tree → List ℕ
 widths ts (table n) = []
 widths ts (tree.filter i d k) = []
-widths ts (join l r lo ro a) = width_over (is_plain_left a) (names_beside a lo ro (names_under ts l) (names_under ts r)) (names_under ts l) (widths ts l)
+widths ts (join l r lo ro a) = width_over (is_plain_left a)
+    (names_beside a lo ro (names_under ts l) (names_under ts r)) (names_under ts l) (widths ts l)
 
 -- how many of them have a column of this name; a name that no column has stands behind them all
 abbrev pub joins_over : Option (List Name) → Name → List ℕ → ℕ

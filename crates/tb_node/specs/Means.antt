@@ -13,10 +13,16 @@ use Rattle.tb_node.specs.Promise.Trees as tree
 -- a table of that name; the rows that pass a test which the type of the column may be put to; or an answer to a join that isn't refused
 abbrev pub Means : Tables → Tree → Table → Type 0
 Means ts (table n) t = ts n ≡ Some t
-Means ts (tree.filter i n k) t = (s : Table) × (c : TableColumn) × Means ts i s × (column_named s n ≡ Some c) × (may_test k c.kind ≡ true) × (t ≡ with_rows (rows_kept k c) s)
+Means ts (tree.filter i n k) t = (s : Table)
+    × (c : TableColumn)
+    × Means ts i s
+    × (column_named s n ≡ Some c)
+    × (may_test k c.kind ≡ true)
+    × (t ≡ with_rows (rows_kept k c) s)
 Means ts (join l r lo ro a) t =
     (x : Table) × (y : Table) × Means ts l x × Means ts r y
-    × (join_refusal (by_names x y lo ro (settled a)) ≡ None) × IsAnswer (by_names x y lo ro (settled a)) t
+    × (join_refusal (by_names x y lo ro (settled a)) ≡ None)
+    × IsAnswer (by_names x y lo ro (settled a)) t
 
 -- what names mean are tables
 abbrev pub AreTables : Tables → Type 0

@@ -55,7 +55,8 @@ fn names_in(
     tables: &TableMap<'_>,
     name: &PlSmallStr,
 ) -> Result<Option<Vec<PlSmallStr>>, OutOfMemory>
-    ensures { IfOk result (λ o. option_map (λ v. v.items) o ≡ option_map names_of (tables_in tables.now name.now)) }
+    ensures { IfOk result (λ o.
+        option_map (λ v. v.items) o ≡ option_map names_of (tables_in tables.now name.now)) }
 {
     match tables.get(name) {
         Some(table) => Ok(Some(column_names(alloc, table)?)),
@@ -100,7 +101,10 @@ fn widths_over(
     left: &Option<Vec<PlSmallStr>>,
     mut widths: Vec<usize>,
 ) -> Result<Vec<usize>, OutOfMemory>
-    ensures { IfOk result (λ v. v.items ≡ width_over plain (option_map (λ v. v.items) names.now) (option_map (λ v. v.items) left.now) widths.items) }
+    ensures { IfOk result (λ v.
+        v.items
+        ≡ width_over plain (option_map (λ v. v.items) names.now)
+        (option_map (λ v. v.items) left.now) widths.items) }
 {
     if plain && names.is_some() {
         widths.insert(0, width_of(left))?;
@@ -220,7 +224,9 @@ fn filter_pushed(
     column: PlSmallStr,
     test: Test,
 ) -> Result<PushedTree, OutOfMemory>
-    ensures { IfOk result (λ p. (ts : Tables) (n : Tree) → IsPushed ts n input → IsPushed ts (sink ts column (check_of test) n) p) }
+    ensures { IfOk result (λ p.
+        (ts : Tables) (n : Tree) → IsPushed ts n input
+        → IsPushed ts (sink ts column (check_of test) n) p) }
 {
     let PushedTree {
         node,
@@ -245,7 +251,9 @@ fn join_pushed(
     right_on: Names,
     args: JoinArgs,
 ) -> Result<PushedTree, OutOfMemory>
-    ensures { IfOk result (λ p. (ts : Tables) (l r : Tree) → IsPushed ts l left → IsPushed ts r right → IsPushed ts (tree.join l r left_on right_on args) p) }
+    ensures { IfOk result (λ p.
+        (ts : Tables) (l r : Tree) → IsPushed ts l left → IsPushed ts r right
+        → IsPushed ts (tree.join l r left_on right_on args) p) }
 {
     let PushedTree {
         node: left,
@@ -282,7 +290,8 @@ fn join_pushed(
 
 // The tree with each filter as far down as it may stand. Names go up it once.
 fn pushed(alloc: Global, tables: &TableMap<'_>, node: Node) -> Result<PushedTree, OutOfMemory>
-    ensures { IfOk result (IsPushed (tables_in tables.now) (pushed (tables_in tables.now) (tree_of node))) }
+    ensures { IfOk result
+        (IsPushed (tables_in tables.now) (pushed (tables_in tables.now) (tree_of node))) }
 {
     match node {
         Node::Table(name) => {
@@ -320,7 +329,8 @@ fn pushed(alloc: Global, tables: &TableMap<'_>, node: Node) -> Result<PushedTree
 /// join are there. Of two tables of one name the first is meant. What the plan answers, it answers then too, and it has
 /// as many nodes, of which some have other numbers.
 pub fn push_filters(alloc: Global, tables: &[NamedTable], root: Node) -> Result<Node, OutOfMemory>
-    ensures { IfOk result (λ n. tree_of n ≡ pushed (table_named (given_tables tables.now)) (tree_of root)) }
+    ensures { IfOk result (λ n.
+        tree_of n ≡ pushed (table_named (given_tables tables.now)) (tree_of root)) }
 {
     let tables = TableMap::of(alloc, tables)?;
     let PushedTree {

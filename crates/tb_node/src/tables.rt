@@ -55,7 +55,8 @@ impl<'t> TableMap<'t> {
 
     /// The tables under their names.
     pub fn of(alloc: Global, tables: &'t [NamedTable]) -> Result<TableMap<'t>, OutOfMemory>
-        ensures { IfOk result (λ m. (n : Name) → tables_in m n ≡ table_named (given_tables tables.now) n) }
+        ensures { IfOk result (λ m.
+            (n : Name) → tables_in m n ≡ table_named (given_tables tables.now) n) }
     {
         let mut map = TableMap::new(alloc);
         for table in tables {

@@ -35,12 +35,15 @@ by_all_columns a b nulls = record {
 
 module _ {A B Y Z : Type 0} where
   -- row numbers: those of the left rows and those of the right rows of these pairs
-  abbrev pub AreNumbersOf : List JoinPair → Either (Vec ℕ A) Y × Either (Vec (Option ℕ) B) Z → Type 0
-  AreNumbersOf pairs ids = IsLeftAnd ids.0 (λ rows. map (λ (n : ℕ). Some n) rows.items ≡ map (λ (p : JoinPair). p.left) pairs)
+  abbrev pub AreNumbersOf : List JoinPair → Either (Vec ℕ A) Y × Either (Vec (Option ℕ) B) Z
+      → Type 0
+  AreNumbersOf pairs ids = IsLeftAnd ids.0 (λ rows.
+      map (λ (n : ℕ). Some n) rows.items ≡ map (λ (p : JoinPair). p.left) pairs)
       × IsLeftAnd ids.1 (λ rows. rows.items ≡ map (λ (p : JoinPair). p.right) pairs)
 
   -- the row numbers of the pairs of the list, by left row and then right row
-  pub record AreLeftJoined (list : List JoinPair) (ids : Either (Vec ℕ A) Y × Either (Vec (Option ℕ) B) Z) : Type 0 where
+  pub record AreLeftJoined (list : List JoinPair)
+      (ids : Either (Vec ℕ A) Y × Either (Vec (Option ℕ) B) Z) : Type 0 where
     pub pairs : List JoinPair
     pub permutation : IsPermutation list pairs
     pub ascends : IsSorted left_first pairs

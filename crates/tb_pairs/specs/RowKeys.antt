@@ -11,7 +11,9 @@ use Rattle.tb_rowkey.specs.Promise.Columns.{keys_at}
 
 -- these are the keys of a request's rows, none of which is too long for one
 pub record AreRowKeysOf (r : LentRequest) (left right : List (Option (List ℕ))) : Type 0 where
-  pub left_keys : map (or_null binary) left ≡ keys_at (lent_columns r.left_keys.now) (nulls_match (asked_request r))
-  pub right_keys : map (or_null binary) right ≡ keys_at (lent_columns r.right_keys.now) (nulls_match (asked_request r))
+  pub left_keys : map (or_null binary) left
+      ≡ keys_at (lent_columns r.left_keys.now) (nulls_match (asked_request r))
+  pub right_keys : map (or_null binary) right
+      ≡ keys_at (lent_columns r.right_keys.now) (nulls_match (asked_request r))
   pub left_short : AreShortRows (lent_columns r.left_keys.now)
   pub right_short : AreShortRows (lent_columns r.right_keys.now)

@@ -20,19 +20,22 @@ abbrev pub row_refusal : LentRequest → Option PolarsError
 row_refusal r = first_cause (row_causes (asked_request r))
 
 -- the pairs of a request as they are found, and their trace
-pub record ArePairsFound (r : LentRequest) (exec : ExecView) (lets_in : ℕ → Type 0) (result : Result FoundPairs PolarsError) : Type 0 where
+pub record ArePairsFound (r : LentRequest) (exec : ExecView) (lets_in : ℕ → Type 0)
+    (result : Result FoundPairs PolarsError) : Type 0 where
   pub settles : Settles result (row_refusal r)
   pub found : IfOk result (IsFound r exec)
   pub let_in : IfOk result (λ f. ArePartsLetIn lets_in f.trace)
 
 -- the pairs of the answer, with the trace that is due, or the refusal by the cause, if there is one
-pub record ArePairsTraced (refusal : Option PolarsError) (r : LentRequest) (exec : ExecView) (lets_in : ℕ → Type 0) (result : Result ListedPairs PolarsError) : Type 0 where
+pub record ArePairsTraced (refusal : Option PolarsError) (r : LentRequest) (exec : ExecView)
+    (lets_in : ℕ → Type 0) (result : Result ListedPairs PolarsError) : Type 0 where
   pub settles : Settles result refusal
   pub listed : IfOk result (λ l. ArePairsOf (asked_request r) l.pairs.items)
   pub traced : IfOk result (λ l. IsTraced exec (requested_trace r exec) l.trace)
   pub let_in : IfOk result (λ l. ArePartsLetIn lets_in l.trace)
 
 -- the pairs of the answer alone
-pub record ArePairsUnless {A : Type 0} (refusal : Option PolarsError) (q : Request) (result : Result (Vec JoinPair A) PolarsError) : Type 0 where
+pub record ArePairsUnless {A : Type 0} (refusal : Option PolarsError) (q : Request)
+    (result : Result (Vec JoinPair A) PolarsError) : Type 0 where
   pub settles : Settles result refusal
   pub listed : IfOk result (λ v. ArePairsOf q v.items)

@@ -37,8 +37,13 @@ pub(crate) fn arranged(
     request: &LentRequest<'_>,
 ) -> Result<Vec<JoinPair>, OutOfMemory>
     requires ascends { Ascends found.order found.pairs.items }
-    requires pairs { All (IsPairOf (height (table_of request.now.left.now)) (height (table_of request.now.right.now))) found.pairs.items }
-    ensures { IfOk result (λ v. IsListed request.now.how request.now.args.now.maintain_order request.now.args.now.slice found.pairs.items v.items) }
+    requires pairs { All
+        (IsPairOf (height (table_of request.now.left.now))
+        (height (table_of request.now.right.now)))
+        found.pairs.items }
+    ensures { IfOk result (λ v.
+        IsListed request.now.how request.now.args.now.maintain_order request.now.args.now.slice
+        found.pairs.items v.items) }
 {
     let args = request.args;
     if is_in_order(found.order, direction_of(request.how, args.maintain_order)) {

@@ -28,7 +28,8 @@ use tb_value::PolarsResult;
 
 // The pairs that a hash table gave, with the order in which they stand and what was built.
 fn found_by_hash(how: JoinType, probed: Probed, built: Built) -> FoundPairs
-    ensures listed { (list : List JoinPair) → IsProbed how built.left_built list probed → IsListedIn list result.listed }
+    ensures listed { (list : List JoinPair) → IsProbed how built.left_built list probed
+        → IsListedIn list result.listed }
     ensures trace { result.trace ≡ JoinTrace.Hash built }
 {
     let order = probed_order(how, built.left_built());
@@ -103,7 +104,8 @@ fn joined_row_keys<G: Gate>(
     left: &RowKeys,
     right: &RowKeys,
 ) -> PolarsResult<(Probed, Built)>
-    ensures hashed { AreValuesJoined join.now kind.binary (map (or_null binary) left.now) (map (or_null binary) right.now) result }
+    ensures hashed { AreValuesJoined join.now kind.binary (map (or_null binary) left.now)
+        (map (or_null binary) right.now) result }
     ensures let_in { IfOk result (λ r. IsLetIn (G.lets_in gate.now) r.1) }
 {
     left.know_rows();

@@ -42,7 +42,9 @@ fn pairs_by_field(alloc: Global, request: &LentRequest<'_>) -> PolarsResult<Dire
 
 // The same, where a row is too long for a key, with their trace.
 fn plain_pairs(alloc: Global, request: &LentRequest<'_>, exec: &Exec) -> PolarsResult<FoundPairs>
-    requires long { lacks_keys (lent_columns request.now.left_keys.now) (lent_columns request.now.right_keys.now) ≡ true }
+    requires long { lacks_keys (lent_columns request.now.left_keys.now)
+        (lent_columns request.now.right_keys.now)
+        ≡ true }
     ensures settles { Settles result (row_refusal request.now) }
     ensures found { IfOk result (IsFound request.now exec.now) }
     ensures plain { IfOk result (λ f. f.trace ≡ JoinTrace.Plain) }
@@ -59,9 +61,12 @@ fn row_keys(
     columns: &[&Series],
 ) -> Result<Option<RowKeys>, OutOfMemory>
     requires some { 0 < length columns.now }
-    requires rows { All (λ c. length (values c) ≡ row_count (lent_columns columns.now)) (lent_columns columns.now) }
+    requires rows { All (λ c. length (values c) ≡ row_count (lent_columns columns.now))
+        (lent_columns columns.now) }
     ensures short { IfOk result (λ keys. IsSome keys ↔ AreShortRows (lent_columns columns.now)) }
-    ensures keys { IfOk result (λ keys. IfSome keys (λ k. map (or_null binary) k ≡ keys_at (lent_columns columns.now) (flag_at nulls.now))) }
+    ensures keys { IfOk result (λ keys.
+        IfSome keys (λ k.
+        map (or_null binary) k ≡ keys_at (lent_columns columns.now) (flag_at nulls.now))) }
 {
     let flags = nulls.flags(alloc, columns.len())?;
     RowKeys::of_columns(alloc, columns, &flags)
@@ -134,7 +139,8 @@ pub fn traced_pairs<G: Gate>(
     gate: &G,
 ) -> PolarsResult<ListedPairs>
     requires alike { AreKeysAlike request.now }
-    ensures { ArePairsTraced (row_refusal request.now) request.now exec.now (G.lets_in gate.now) result }
+    ensures { ArePairsTraced (row_refusal request.now) request.now exec.now (G.lets_in gate.now)
+        result }
 {
     let found = found_pairs(rt, alloc, request, exec, gate)?;
     let pairs = arranged(alloc, found.listed, request)?;

@@ -45,8 +45,11 @@ fn pairs_by_all_columns(
     exec: &Exec,
 ) -> PolarsResult<Vec<JoinPair>>
     requires { AreAlike a.now b.now }
-    ensures settles { Settles result (too_many_rows (by_all_columns (table_of a.now) (table_of b.now) join_nulls)) }
-    ensures listed { IfOk result (λ v. IsListed JoinType.Left order.None None (listing (by_all_columns (table_of a.now) (table_of b.now) join_nulls)) v.items) }
+    ensures settles { Settles result
+        (too_many_rows (by_all_columns (table_of a.now) (table_of b.now) join_nulls)) }
+    ensures listed { IfOk result (λ v.
+        IsListed JoinType.Left order.None None
+        (listing (by_all_columns (table_of a.now) (table_of b.now) join_nulls)) v.items) }
 {
     let left_keys = lent_series(alloc, a)?;
     let right_keys = lent_series(alloc, b)?;
@@ -81,8 +84,10 @@ pub fn private_left_join_multiple_keys(
     exec: &Exec,
 ) -> PolarsResult<LeftJoinIds>
     requires { AreAlike a.now b.now }
-    ensures settles { Settles result (too_many_rows (by_all_columns (table_of a.now) (table_of b.now) join_nulls)) }
-    ensures rows { IfOk result (AreLeftJoined (listing (by_all_columns (table_of a.now) (table_of b.now) join_nulls))) }
+    ensures settles { Settles result
+        (too_many_rows (by_all_columns (table_of a.now) (table_of b.now) join_nulls)) }
+    ensures rows { IfOk result
+        (AreLeftJoined (listing (by_all_columns (table_of a.now) (table_of b.now) join_nulls))) }
 {
     let pairs = pairs_by_all_columns(rt, alloc, a, b, join_nulls, exec)?;
     let left = left_numbers(alloc, &pairs)?;

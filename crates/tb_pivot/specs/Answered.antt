@@ -26,4 +26,5 @@ error_of fault.OutOfMemory = error.OutOfMemory
 
 -- a call gives the column that is due, or is refused as is due, or lacks memory
 abbrev pub Gives : Result Col PolarsError → Result TableColumn PolarsError → Type 0
-Gives r due = MatchResult r (λ c. due ≡ Ok (plain_column c)) (λ e. (e ≡ error.OutOfMemory) ⊎ (due ≡ Err e))
+Gives r due =
+    MatchResult r (λ c. due ≡ Ok (plain_column c)) (λ e. (e ≡ error.OutOfMemory) ⊎ (due ≡ Err e))

@@ -8,4 +8,5 @@ use Rattle.tb_agg.specs.Grouped.{AreGroupsOf}
 
 -- rows in groups by a test have each the number of a group, as an aggregate asks
 abbrev pub GroupsAreOf : Type 0
-GroupsAreOf = (test : ℕ → ℕ → Bool) → IsEquivalence test → (n : ℕ) → (g : Groups) → AreGroups test n g → n ≤ MAX_ROWS → AreGroupsOf n g
+GroupsAreOf = (test : ℕ → ℕ → Bool) → IsEquivalence test → (n : ℕ) → (g : Groups)
+    → AreGroups test n g → n ≤ MAX_ROWS → AreGroupsOf n g

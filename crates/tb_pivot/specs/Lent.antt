@@ -14,7 +14,8 @@ use Rattle.tb_pivot.specs.Promise.Refusal.{none_named}
 use Rattle.tb_pivot.specs.Promise.Request.{Request, Way, given_or_rest, separator_or}
 
 -- the request of columns, names and a separator that are lent
-abbrev pub lent_request : List Col → List Name → Option (List Name) → Option (List Name) → Bool → Way → Option (Bor Name) → Request
+abbrev pub lent_request : List Col → List Name → Option (List Name) → Option (List Name) → Bool
+    → Way → Option (Bor Name) → Request
 lent_request cs on index values sorts way separator = record {
   table = table_of cs;
   on = on;
@@ -26,7 +27,8 @@ lent_request cs on index values sorts way separator = record {
 }
 
 -- 1 to 3 what is said of how many names there are
-abbrev pub name_causes : Table → List Name → Option (List Name) → Option (List Name) → List (Option PolarsError)
+abbrev pub name_causes : Table → List Name → Option (List Name) → Option (List Name)
+    → List (Option PolarsError)
 name_causes t on index values =
     when (is_none index && is_none values) (InvalidOperation BothNone)
     ∷ none_named (given_or_rest t on index values) (ComputeError EmptyIndex)

@@ -11,7 +11,8 @@ use Rattle.tb_pivot.specs.Promise.Request.{Chosen, Way}
 use Rattle.tb_pivot.specs.declared.lookup.RequestColumns.{RequestColumns}
 
 -- the columns of these names, in the order of the names
-pub record AreFound (cs : List Col) (keys rows others : List Name) (f : RequestColumns) : Type 0 where
+pub record AreFound (cs : List Col) (keys rows others : List Name)
+    (f : RequestColumns) : Type 0 where
   pub on : lent_columns f.on.items ≡ selected_columns keys cs
   pub index : lent_columns f.index.items ≡ selected_columns rows cs
   pub values : lent_columns f.values.items ≡ selected_columns others cs

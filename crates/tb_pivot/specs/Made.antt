@@ -21,10 +21,12 @@ takes way t = true
 abbrev pub made_cause : Way → Groups → Col → Option PolarsError
 made_cause one_row g c = None
 made_cause (aggregated agg) g c = agg_refusal agg g c
-made_cause (asked name answers) g c = refused_by (answer_of g.firsts.items g.numbers.items (plain_column c) name answers)
+made_cause (asked name answers) g c =
+    refused_by (answer_of g.firsts.items g.numbers.items (plain_column c) name answers)
 
 -- the column of one value for each group: of its first row where it has one alone
 abbrev pub IsMade : Way → Groups → Col → Col → Type 0
 IsMade one_row g c made = IsAggColumn First g c c.kind made
 IsMade (aggregated agg) g c made = IsAggregated agg g c made
-IsMade (asked name answers) g c made = answer_of g.firsts.items g.numbers.items (plain_column c) name answers ≡ Ok (plain_column made)
+IsMade (asked name answers) g c made =
+    answer_of g.firsts.items g.numbers.items (plain_column c) name answers ≡ Ok (plain_column made)

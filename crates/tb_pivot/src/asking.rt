@@ -39,7 +39,8 @@ fn named_column(
 // The column under another name, as a table.
 fn named_table(alloc: Global, column: &Series, name: &PlSmallStr) -> PolarsResult<DataFrame>
     ensures settles { Settles result None }
-    ensures table { IfOk result (λ t. table_of t ≡ record (plain_column column.now) { name = name.now } ∷ []) }
+    ensures table { IfOk result (λ t.
+        table_of t ≡ record (plain_column column.now) { name = name.now } ∷ []) }
 {
     DataFrame::new(alloc, named_column(alloc, column, name)?)
 }
@@ -65,7 +66,10 @@ fn evaluated(
     table: &DataFrame,
     groups: &Groups,
 ) -> PolarsResult<Series>
-    ensures { Gives result (given_column (length groups.now.firsts.items) (answers expr.now (table_of table.now) groups.now.firsts.items groups.now.numbers.items)) }
+    ensures { Gives result
+        (given_column (length groups.now.firsts.items)
+        (answers expr.now (table_of table.now) groups.now.firsts.items
+        groups.now.numbers.items)) }
 {
     match expr.evaluate(alloc, table, groups) {
         Ok(column) => one_each(column, groups),
@@ -80,7 +84,9 @@ pub(crate) fn answer_to(
     column: &Series,
     groups: &Groups,
 ) -> PolarsResult<Series>
-    ensures { Gives result (answer_of groups.now.firsts.items groups.now.numbers.items (plain_column column.now) (named expr.now) (answers expr.now)) }
+    ensures { Gives result
+        (answer_of groups.now.firsts.items groups.now.numbers.items (plain_column column.now)
+        (named expr.now) (answers expr.now)) }
 {
     let name = match expr.root_name() {
         Ok(name) => name,

@@ -56,7 +56,8 @@ fn push_values<'b>(
     value: &'b Series,
     made: Series,
 ) -> Result<(), OutOfMemory>
-    ensures { OnOk result (blocks.new.items ≡ blocks.old.items ++ record { value = value.entry; made = made } ∷ []) }
+    ensures { OnOk result
+        (blocks.new.items ≡ blocks.old.items ++ record { value = value.entry; made = made } ∷ []) }
 {
     blocks.push(GroupValues { value, made })?;
     Ok(())
@@ -126,7 +127,8 @@ impl<'a, 'b> Layout<'a, 'b> {
         requires high { AreAsHigh height columns.now }
         ensures layout { IfOk result IsLayout }
         ensures columns { IfOk result (λ l. l.columns.now ≡ columns.now) }
-        ensures chosen { IfOk result (λ l. (way : Way) → laid_out l way ≡ chosen_of height columns.now sorts way separator.now) }
+        ensures chosen { IfOk result (λ l.
+            (way : Way) → laid_out l way ≡ chosen_of height columns.now sorts way separator.now) }
     {
         let cells = Cells::of(alloc, height, columns)?;
         let texts = texts_at(alloc, &columns.on, cells.header_rows())?;
@@ -174,7 +176,8 @@ impl<'a, 'b> Layout<'a, 'b> {
         requires places { places.now ≡ cell_grid self.now.cells }
         requires made { length (values made.now) ≡ length self.now.cells.groups.firsts.items }
         requires header { header < length self.now.texts.items }
-        ensures { IfOk result (λ c. plain_column c ≡ header_column self.now value.now made.now header) }
+        ensures { IfOk result (λ c.
+            plain_column c ≡ header_column self.now value.now made.now header) }
     {
         let mut column = self.cells.column(alloc, places, made, header)?;
         column.rename(block_name(
@@ -259,7 +262,10 @@ impl<'a, 'b> Layout<'a, 'b> {
         requires layout { IsLayout self.now }
         requires places { places.now ≡ cell_grid self.now.cells }
         requires made { length (values block.now.made) ≡ length self.now.cells.groups.firsts.items }
-        ensures { OnOk result (table_of columns.new.items ≡ table_of columns.old.items ++ laid_block self.now block.now.value.now block.now.made) }
+        ensures { OnOk result
+            (table_of columns.new.items
+            ≡ table_of columns.old.items
+            ++ laid_block self.now block.now.value.now block.now.made) }
     {
         let mut block = self.block_of_chunks(alloc, places, block.value, &block.made)?;
         columns.append(&mut block)?;
@@ -269,7 +275,10 @@ impl<'a, 'b> Layout<'a, 'b> {
     // The columns of the index, in the rows in which a row of the index stands for the first time.
     fn index_columns(&self, alloc: Global) -> Result<Vec<Column>, OutOfMemory>
         requires { IsLayout self.now }
-        ensures { IfOk result (λ v. v.items ≡ map (taken_rows self.now.cells.rows.firsts.items) (lent_columns self.now.columns.now.index.items)) }
+        ensures { IfOk result (λ v.
+            v.items
+            ≡ map (taken_rows self.now.cells.rows.firsts.items)
+            (lent_columns self.now.columns.now.index.items)) }
     {
         columns_at(alloc, &self.columns.index, self.cells.answer_rows())
     }
@@ -282,9 +291,14 @@ impl<'a, 'b> Layout<'a, 'b> {
     ) -> PolarsResult<Vec<GroupValues<'b>>>
         requires layout { IsLayout self.now }
         requires ready { M.IsReady maker.now }
-        ensures settles { Settles result (first_cause (map (made_cause (M.way maker.now) self.now.cells.groups) (lent_columns self.now.columns.now.values.items))) }
-        ensures values { IfOk result (λ v. map (λ b. b.value) v.items ≡ self.now.columns.now.values.items) }
-        ensures made { IfOk result (λ v. All (λ b. IsMade (M.way maker.now) self.now.cells.groups b.value.now b.made) v.items) }
+        ensures settles { Settles result
+            (first_cause
+            (map (made_cause (M.way maker.now) self.now.cells.groups)
+            (lent_columns self.now.columns.now.values.items))) }
+        ensures values { IfOk result (λ v.
+            map (λ b. b.value) v.items ≡ self.now.columns.now.values.items) }
+        ensures made { IfOk result (λ v.
+            All (λ b. IsMade (M.way maker.now) self.now.cells.groups b.value.now b.made) v.items) }
     {
         let mut blocks = Vec::new(alloc);
         for value in &self.columns.values {
@@ -317,7 +331,8 @@ impl<'a, 'b> Layout<'a, 'b> {
 
     // The names of the columns of the index.
     fn index_names(&self, alloc: Global) -> Result<Vec<PlSmallStr>, OutOfMemory>
-        ensures { IfOk result (λ v. v.items ≡ map (λ c. c.now.name) self.now.columns.now.index.items) }
+        ensures { IfOk result (λ v.
+            v.items ≡ map (λ c. c.now.name) self.now.columns.now.index.items) }
     {
         let mut names = Vec::with_capacity(alloc, self.columns.index.len())?;
         for column in &self.columns.index {
@@ -352,8 +367,14 @@ impl<'a, 'b> Layout<'a, 'b> {
         blocks: &[GroupValues<'_>],
     ) -> Result<Vec<Column>, OutOfMemory>
         requires layout { IsLayout self.now }
-        requires made { All (λ b. length (values b.made) ≡ length self.now.cells.groups.firsts.items) blocks.now }
-        ensures { IfOk result (λ v. table_of v.items ≡ table_of (map (taken_rows self.now.cells.rows.firsts.items) (lent_columns self.now.columns.now.index.items)) ++ flat_map (λ b. laid_block self.now b.value.now b.made) blocks.now) }
+        requires made { All
+            (λ b. length (values b.made) ≡ length self.now.cells.groups.firsts.items) blocks.now }
+        ensures { IfOk result (λ v.
+            table_of v.items
+            ≡ table_of
+            (map (taken_rows self.now.cells.rows.firsts.items)
+            (lent_columns self.now.columns.now.index.items))
+            ++ flat_map (λ b. laid_block self.now b.value.now b.made) blocks.now) }
     {
         let places = self.cells.grid(alloc, self.height, self.columns)?;
         let mut columns = self.index_columns(alloc)?;

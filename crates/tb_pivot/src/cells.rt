@@ -29,7 +29,9 @@ impl Cells {
         columns: &RequestColumns<'_>,
     ) -> Result<Cells, OutOfMemory>
         requires { height ≤ MAX_ROWS }
-        ensures { IfOk result (AreCells height (table_of (lent_columns columns.now.index.items)) (table_of (lent_columns columns.now.on.items))) }
+        ensures { IfOk result
+            (AreCells height (table_of (lent_columns columns.now.index.items))
+            (table_of (lent_columns columns.now.on.items))) }
     {
         let rows = group_rows(alloc, &columns.index, height)?;
         let headers = group_rows(alloc, &columns.on, height)?;
@@ -49,7 +51,8 @@ impl Cells {
         columns: &RequestColumns<'_>,
     ) -> Result<Vec<NullableIdxSize>, OutOfMemory>
         requires few { height ≤ MAX_ROWS }
-        requires cells { AreCells height (table_of (lent_columns columns.now.index.items)) (table_of (lent_columns columns.now.on.items)) self.now }
+        requires cells { AreCells height (table_of (lent_columns columns.now.index.items))
+            (table_of (lent_columns columns.now.on.items)) self.now }
         ensures { IfOk result (λ v. v.items ≡ cell_grid self.now) }
     {
         grid_of(alloc, &self.groups, &self.rows, &self.headers)
@@ -79,7 +82,8 @@ impl Cells {
     // The groups in the cells of a header.
     fn cells_under<'a>(&self, places: &'a [NullableIdxSize], header: usize) -> &'a [NullableIdxSize]
         requires places { places.now ≡ cell_grid self.now }
-        requires long { length places.now ≡ length self.now.headers.firsts.items * length self.now.rows.firsts.items }
+        requires long { length places.now
+            ≡ length self.now.headers.firsts.items * length self.now.rows.firsts.items }
         requires header { header < length self.now.headers.firsts.items }
         ensures { result.now ≡ cells_under self.now header }
     {

@@ -113,7 +113,9 @@ fn pivot_asked<K: Told>(
         (asked K.told_name K.told_answers) separator.entry)) }
 {
     let ask = |alloc: Global, column: &Series, groups: &Groups| -> PolarsResult<Series>
-        ensures { Gives result (answer_of groups.now.firsts.items groups.now.numbers.items (plain_column column.now) (named expr.entry.now) (answers expr.entry.now)) }
+        ensures { Gives result
+            (answer_of groups.now.firsts.items groups.now.numbers.items (plain_column column.now)
+            (named expr.entry.now) (answers expr.entry.now)) }
     { answer_to(alloc, expr, column, groups) };
     let maker = Asked::<K, _> {
         ask,

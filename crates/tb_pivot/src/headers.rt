@@ -74,7 +74,8 @@ fn field_texts(
     row: usize,
 ) -> Result<Vec<PlSmallStr>, OutOfMemory>
     requires { All (λ c. row < length (values c.now)) columns.now }
-    ensures { IfOk result (λ v. v.items ≡ map (λ c. field_text (row_value (values c.now) row)) columns.now) }
+    ensures { IfOk result (λ v.
+        v.items ≡ map (λ c. field_text (row_value (values c.now) row)) columns.now) }
 {
     let mut texts = Vec::with_capacity(alloc, columns.len())?;
     for column in columns {
@@ -95,7 +96,8 @@ pub fn header_text(
     row: usize,
 ) -> Result<PlSmallStr, OutOfMemory>
     requires { All (λ c. row < length (values c.now)) columns.now }
-    ensures { IfOk result (λ s. s ≡ header_text (map (λ c. row_value (values c.now) row) columns.now)) }
+    ensures { IfOk result (λ s.
+        s ≡ header_text (map (λ c. row_value (values c.now) row) columns.now)) }
 {
     if columns.len() == 1 {
         return value_text(alloc, columns[0].get(row));

@@ -36,7 +36,8 @@ fn push_names<'a>(
     names: &mut Vec<&'a PlSmallStr>,
     more: &'a [PlSmallStr],
 ) -> Result<(), OutOfMemory>
-    ensures { OnOk result (map (λ n. n.now) names.new.items ≡ map (λ n. n.now) names.old.items ++ more.now) }
+    ensures { OnOk result
+        (map (λ n. n.now) names.new.items ≡ map (λ n. n.now) names.old.items ++ more.now) }
 {
     for name in more {
         names.push(name)?;
@@ -138,10 +139,13 @@ pub fn found<'a, M: CellMaker>(
     values: &[PlSmallStr],
     maker: &M,
 ) -> PolarsResult<RequestColumns<'a>>
-    ensures settles { Settles result (first_cause (column_causes (table_of table.now) on.now index.now values.now (M.way maker.now))) }
+    ensures settles { Settles result
+        (first_cause
+        (column_causes (table_of table.now) on.now index.now values.now (M.way maker.now))) }
     ensures found { IfOk result (AreFound table.now on.now index.now values.now) }
     ensures high { IfOk result (AreAsHigh (height (table_of table.now))) }
-    ensures taken { IfOk result (λ f. All (λ c. takes (M.way maker.now) c.now.kind ≡ true) f.values.items) }
+    ensures taken { IfOk result (λ f.
+        All (λ c. takes (M.way maker.now) c.now.kind ≡ true) f.values.items) }
 {
     let columns = table.get_columns();
     let on_columns = lend_columns(alloc, columns, on)?;

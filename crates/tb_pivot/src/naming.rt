@@ -76,7 +76,10 @@ fn given_or_rest(
     names: Option<&[PlSmallStr]>,
     others: Option<&[PlSmallStr]>,
 ) -> Result<Vec<PlSmallStr>, OutOfMemory>
-    ensures { IfOk result (λ v. v.items ≡ given_or_rest (table_of table.now) on.now (option_copied names.entry) (option_copied others.entry)) }
+    ensures { IfOk result (λ v.
+        v.items
+        ≡ given_or_rest (table_of table.now) on.now (option_copied names.entry)
+        (option_copied others.entry)) }
 {
     match names {
         Some(names) => copies(alloc, names),
@@ -86,7 +89,9 @@ fn given_or_rest(
 
 // Refuses where neither are given (BothNone).
 fn check_given(index: Option<&[PlSmallStr]>, values: Option<&[PlSmallStr]>) -> PolarsResult<()>
-    ensures { SettlesOutright result (when (is_none (option_copied index.entry) && is_none (option_copied values.entry)) (InvalidOperation BothNone)) }
+    ensures { SettlesOutright result
+        (when (is_none (option_copied index.entry) && is_none (option_copied values.entry))
+        (InvalidOperation BothNone)) }
 {
     if index.is_none() && values.is_none() {
         return Err(PolarsError::InvalidOperation(InvalidCause::BothNone));
@@ -119,9 +124,18 @@ pub(crate) fn request_names(
     index: Option<&[PlSmallStr]>,
     values: Option<&[PlSmallStr]>,
 ) -> PolarsResult<RequestNames>
-    ensures settles { Settles result (first_cause (name_causes (table_of table.now) on.now (option_copied index.entry) (option_copied values.entry))) }
-    ensures index { IfOk result (λ n. n.index.items ≡ given_or_rest (table_of table.now) on.now (option_copied index.entry) (option_copied values.entry)) }
-    ensures values { IfOk result (λ n. n.values.items ≡ given_or_rest (table_of table.now) on.now (option_copied values.entry) (option_copied index.entry)) }
+    ensures settles { Settles result
+        (first_cause
+        (name_causes (table_of table.now) on.now (option_copied index.entry)
+        (option_copied values.entry))) }
+    ensures index { IfOk result (λ n.
+        n.index.items
+        ≡ given_or_rest (table_of table.now) on.now (option_copied index.entry)
+        (option_copied values.entry)) }
+    ensures values { IfOk result (λ n.
+        n.values.items
+        ≡ given_or_rest (table_of table.now) on.now (option_copied values.entry)
+        (option_copied index.entry)) }
 {
     check_given(index, values)?;
     let index_names = given_or_rest(alloc, table, on, index, values)?;

@@ -38,8 +38,10 @@ fn lend_again<'a>(alloc: Global, columns: &[&'a Series]) -> Result<Vec<&'a Serie
 
 impl WholeKeys {
     fn of(alloc: Global, columns: &RequestColumns<'_>) -> Result<WholeKeys, OutOfMemory>
-        ensures on { IfOk result (λ k. k.on.items ≡ map in_one_chunk (lent_columns columns.now.on.items)) }
-        ensures index { IfOk result (λ k. k.index.items ≡ map in_one_chunk (lent_columns columns.now.index.items)) }
+        ensures on { IfOk result (λ k.
+            k.on.items ≡ map in_one_chunk (lent_columns columns.now.on.items)) }
+        ensures index { IfOk result (λ k.
+            k.index.items ≡ map in_one_chunk (lent_columns columns.now.index.items)) }
     {
         Ok(WholeKeys {
             on: rechunked(alloc, &columns.on)?,
@@ -83,8 +85,11 @@ pub(crate) fn wide_of_chunks<M: CellMaker>(
     requires few { height ≤ MAX_ROWS }
     requires high { AreAsHigh height columns.now }
     requires taken { All (λ c. takes (M.way maker.now) c.now.kind ≡ true) columns.now.values.items }
-    ensures settles { Settles result (first_cause (value_causes (chosen_of height columns.now sorts (M.way maker.now) separator.now))) }
-    ensures table { IfOk result (λ t. table_of t ≡ wide (chosen_of height columns.now sorts (M.way maker.now) separator.now)) }
+    ensures settles { Settles result
+        (first_cause
+        (value_causes (chosen_of height columns.now sorts (M.way maker.now) separator.now))) }
+    ensures table { IfOk result (λ t.
+        table_of t ≡ wide (chosen_of height columns.now sorts (M.way maker.now) separator.now)) }
 {
     if are_in_one_chunk(&columns.on) && are_in_one_chunk(&columns.index) {
         return wide(alloc, height, columns, maker, sorts, separator);

@@ -25,9 +25,11 @@ fn laid_table<M: CellMaker>(
 ) -> PolarsResult<DataFrame>
     requires ready { M.IsReady maker.now }
     requires layout { IsLayout layout.now }
-    requires taken { All (λ c. takes (M.way maker.now) c.now.kind ≡ true) layout.now.columns.now.values.items }
+    requires taken { All (λ c. takes (M.way maker.now) c.now.kind ≡ true)
+        layout.now.columns.now.values.items }
     requires some { 0 < length layout.now.columns.now.values.items }
-    ensures settles { Settles result (first_cause (value_causes (laid_out layout.now (M.way maker.now)))) }
+    ensures settles { Settles result
+        (first_cause (value_causes (laid_out layout.now (M.way maker.now)))) }
     ensures table { IfOk result (λ t. table_of t ≡ wide (laid_out layout.now (M.way maker.now))) }
 {
     layout.check_rows(maker)?;
@@ -57,8 +59,11 @@ pub(crate) fn wide<M: CellMaker>(
     requires few { height ≤ MAX_ROWS }
     requires high { AreAsHigh height columns.now }
     requires taken { All (λ c. takes (M.way maker.now) c.now.kind ≡ true) columns.now.values.items }
-    ensures settles { Settles result (first_cause (value_causes (chosen_of height columns.now sorts (M.way maker.now) separator.now))) }
-    ensures table { IfOk result (λ t. table_of t ≡ wide (chosen_of height columns.now sorts (M.way maker.now) separator.now)) }
+    ensures settles { Settles result
+        (first_cause
+        (value_causes (chosen_of height columns.now sorts (M.way maker.now) separator.now))) }
+    ensures table { IfOk result (λ t.
+        table_of t ≡ wide (chosen_of height columns.now sorts (M.way maker.now) separator.now)) }
 {
     if columns.values.is_empty() {
         return DataFrame::new(alloc, Vec::new(alloc));

@@ -101,7 +101,10 @@ pub(crate) fn join_made(
     node: usize,
     exec: &Exec,
 ) -> Result<DataFrame, PlanFault>
-    ensures { Gives table_of result (joined node (by_names (table_made left.entry) (table_made right.entry) left_on.now right_on.now (settled args.now))) }
+    ensures { Gives table_of result
+        (joined node
+        (by_names (table_made left.entry) (table_made right.entry) left_on.now right_on.now
+        (settled args.now))) }
 {
     let args = settled_args(alloc, args)?;
     let left = left.table();
@@ -121,7 +124,8 @@ fn filter_column<'a>(
     column: &PlSmallStr,
     node: usize,
 ) -> Result<&'a Series, PlanFault>
-    ensures found { IfOk result (λ c. find (λ (c : Col). same_name c.name column.now) table.now ≡ Some c.now) }
+    ensures found { IfOk result (λ c.
+        find (λ (c : Col). same_name c.name column.now) table.now ≡ Some c.now) }
     ensures settles { SettlesBut fault.OutOfMemory result
         (when (is_none (find (λ (c : Col). same_name c.name column.now) table.now)) (fault.At node (error.ColumnNotFound column.now))) }
 {
@@ -141,7 +145,8 @@ fn tested_rows(
     node: usize,
 ) -> Result<Option<DataFrame>, PlanFault>
     requires level { length (values column.now) ≡ height (table_of table.now) }
-    ensures { Gives (table_kept (table_of table.now)) result (tested node (check_of test.now) (table_of table.now) (plain_column column.now)) }
+    ensures { Gives (table_kept (table_of table.now)) result
+        (tested node (check_of test.now) (table_of table.now) (plain_column column.now)) }
 {
     if !test.may_test(column.dtype()) {
         return Err(PlanFault::TestType { node });
@@ -161,7 +166,9 @@ fn kept_rows(
     test: &Test,
     node: usize,
 ) -> Result<Option<DataFrame>, PlanFault>
-    ensures { Gives (table_kept (table_of table.now)) result (filtered node column.now (check_of test.now) (table_of table.now) (column_named (table_of table.now) column.now)) }
+    ensures { Gives (table_kept (table_of table.now)) result
+        (filtered node column.now (check_of test.now) (table_of table.now)
+        (column_named (table_of table.now) column.now)) }
 {
     let _columns = table.get_columns();
     match filter_column(alloc, table, column, node) {
@@ -179,7 +186,9 @@ pub(crate) fn filter_made<'t>(
     test: &Test,
     node: usize,
 ) -> Result<Made<'t>, PlanFault>
-    ensures { Gives table_made result (filtered node column.now (check_of test.now) (table_made made.entry) (column_named (table_made made.entry) column.now)) }
+    ensures { Gives table_made result
+        (filtered node column.now (check_of test.now) (table_made made.entry)
+        (column_named (table_made made.entry) column.now)) }
 {
     match kept_rows(rt, alloc, made.table(), column, test, node) {
         Ok(Some(table)) => Ok(Made::Own(table)),

@@ -47,7 +47,8 @@ pub(crate) fn check_tables(
     node: &Node,
     first: usize,
 ) -> Result<usize, PlanFault>
-    ensures settles { SettlesBut fault.OutOfMemory result (unknown_table (tables_in tables.now) first (tree_of node.now)) }
+    ensures settles { SettlesBut fault.OutOfMemory result
+        (unknown_table (tables_in tables.now) first (tree_of node.now)) }
     ensures next { IfOk result (λ n. n ≡ first + size (tree_of node.now)) }
 {
     match node {
@@ -76,7 +77,8 @@ fn lent_numbered<'t>(
     name: &PlSmallStr,
     node: usize,
 ) -> Result<Numbered<'t>, PlanFault>
-    ensures gives { Gives (λ (r : rust.Numbered). table_made r.table) result (or_fault (tables_in tables.now name.now) (fault.UnknownTable node name.now)) }
+    ensures gives { Gives (λ (r : rust.Numbered). table_made r.table) result
+        (or_fault (tables_in tables.now name.now) (fault.UnknownTable node name.now)) }
     ensures next { IfOk result (λ r. r.next ≡ node + 1) }
 {
     let next = next_number(node)?;
@@ -155,7 +157,8 @@ pub(crate) fn node_table<'t>(
     first: usize,
     exec: &Exec,
 ) -> Result<Numbered<'t>, PlanFault>
-    ensures gives { Gives (λ (r : rust.Numbered). table_made r.table) result (outcome (tables_in tables.now) first (tree_of node.now)) }
+    ensures gives { Gives (λ (r : rust.Numbered). table_made r.table) result
+        (outcome (tables_in tables.now) first (tree_of node.now)) }
     ensures next { IfOk result (λ r. r.next ≡ first + size (tree_of node.now)) }
 {
     match node {

@@ -13,7 +13,8 @@ use tb_node::NamedTable;
 use tb_value::{OutOfMemory, PlSmallStr, PolarsError};
 
 fn table_names(alloc: Global, tables: &[NamedTable]) -> Result<Vec<&PlSmallStr>, OutOfMemory>
-    ensures { IfOk result (λ v. map (λ n. n.now) v.items ≡ map (λ (t : rust.NamedTable). t.name) tables.now) }
+    ensures { IfOk result (λ v.
+        map (λ n. n.now) v.items ≡ map (λ (t : rust.NamedTable). t.name) tables.now) }
 {
     let mut names = Vec::with_capacity(alloc, tables.len())?;
     for table in tables {

@@ -25,4 +25,5 @@ ByMembers = (d : Data) → tree_in d ≡ tree_by_members d
 
 -- Where no reason up to `Rows` holds, a request in runs is the one with these values in chunks.
 abbrev pub TwoForms : Type 0
-TwoForms = (d : Data) → format_of d ≡ Some Runs → IsPastRows (plan_in d) → plan_in (expand_plan d) ≡ plan_in d
+TwoForms = (d : Data) → format_of d ≡ Some Runs → IsPastRows (plan_in d)
+    → plan_in (expand_plan d) ≡ plan_in d

@@ -61,7 +61,8 @@ fn tables_in(
     format: Format,
     value: Value,
 ) -> Result<Option<Vec<WrittenTable>>, OutOfMemory>
-    ensures { IfOk result (λ o. option_map (λ v. map written_table v.items) o ≡ list_of (table_in format) (view value)) }
+    ensures { IfOk result (λ o.
+        option_map (λ v. map written_table v.items) o ≡ list_of (table_in format) (view value)) }
 {
     let Some(items) = into_array(alloc, value)? else {
         return Ok(None);

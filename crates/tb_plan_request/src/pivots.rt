@@ -55,7 +55,8 @@ fn pivot_in(alloc: Global, value: &Value) -> Result<Option<PivotCall>, OutOfMemo
 /// object with `on`, a list of texts, and perhaps `index` and `values`, lists of texts, `sort_columns`, a truth value, `agg`,
 /// `"first"`, `"sum"`, `"min"`, `"max"`, `"count"` or `"last"`, and `separator`, a text.
 pub fn pivot_of(alloc: Global, request: &Value) -> Result<Option<Option<PivotCall>>, OutOfMemory>
-    ensures { IfOk result (λ o. option_map (option_map pivot_view) o ≡ pivot_of (view request.now)) }
+    ensures { IfOk result (λ o.
+        option_map (option_map pivot_view) o ≡ pivot_of (view request.now)) }
 {
     let Some(member) = request.get("pivot") else {
         return Ok(Some(None));

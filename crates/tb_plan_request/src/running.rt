@@ -24,7 +24,11 @@ fn run_root(
     root: Node,
     push: bool,
 ) -> Result<Node, OutOfMemory>
-    ensures { IfOk result (λ n. tree_of n ≡ (if push then pushed (table_named (given_tables tables.now)) (tree_of root) else tree_of root)) }
+    ensures { IfOk result (λ n.
+        tree_of n
+        ≡ (if push
+        then pushed (table_named (given_tables tables.now)) (tree_of root)
+        else tree_of root)) }
 {
     if push {
         push_filters(alloc, tables, root)

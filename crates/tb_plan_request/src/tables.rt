@@ -27,8 +27,10 @@ pub(crate) fn claimed_of(
     written: Vec<WrittenTable>,
 ) -> Result<Option<ClaimedTables>, OutOfMemory>
     requires { IsTrue (tables_fit (map written_table written.items)) }
-    ensures tables { IfOk result (λ o. option_map claimed_tables o ≡ each columns_under (map written_table written.items)) }
-    ensures level { IfOk result (λ o. IfSome o (λ c. length c.columns.items ≡ length c.names.items)) }
+    ensures tables { IfOk result (λ o.
+        option_map claimed_tables o ≡ each columns_under (map written_table written.items)) }
+    ensures level { IfOk result (λ o.
+        IfSome o (λ c. length c.columns.items ≡ length c.names.items)) }
 {
     let mut names = Vec::with_capacity(alloc, written.len())?;
     let mut columns = Vec::with_capacity(alloc, written.len())?;
@@ -44,7 +46,8 @@ pub(crate) fn claimed_of(
 
 /// Whether `claimed_of` would give tables, however many rows the runs have: nothing is written out.
 pub(crate) fn are_typed(alloc: Global, written: Vec<WrittenTable>) -> Result<bool, OutOfMemory>
-    ensures { IfOk result (λ b. b ≡ is_some (each columns_under (map written_table written.items))) }
+    ensures { IfOk result (λ b.
+        b ≡ is_some (each columns_under (map written_table written.items))) }
 {
     for table in written {
         if !are_columns(alloc, table.columns)? {
@@ -60,7 +63,8 @@ pub(crate) fn named_tables(
     names: Vec<PlSmallStr>,
     tables: Vec<DataFrame>,
 ) -> Result<Vec<NamedTable>, OutOfMemory>
-    ensures { IfOk result (λ v. map table_view v.items ≡ zip names.items (map (map relaid_column) tables.items)) }
+    ensures { IfOk result (λ v.
+        map table_view v.items ≡ zip names.items (map (map relaid_column) tables.items)) }
 {
     let mut named = Vec::with_capacity(alloc, names.len())?;
     for (name, table) in names.into_iter().zip(tables) {

@@ -19,7 +19,8 @@ use tb_tree::Value;
 use tb_value::OutOfMemory;
 
 fn test_at(alloc: Global, object: &Value, name: &str) -> Result<Option<Test>, OutOfMemory>
-    ensures { IfOk result (λ o. option_map check_of o ≡ option_and_then test_in (get name.now (view object.now))) }
+    ensures { IfOk result (λ o.
+        option_map check_of o ≡ option_and_then test_in (get name.now (view object.now))) }
 {
     match object.get(name) {
         Some(member) => test_in(alloc, member),
@@ -48,7 +49,8 @@ fn filter_from(
     object: &Value,
     input: Option<Node>,
 ) -> Result<Option<Node>, OutOfMemory>
-    ensures { IfOk result (λ o. option_map tree_of o ≡ filter_from (view object.now) (option_map tree_of input)) }
+    ensures { IfOk result (λ o.
+        option_map tree_of o ≡ filter_from (view object.now) (option_map tree_of input)) }
 {
     let Some(input) = input else {
         return Ok(None);
@@ -75,7 +77,9 @@ struct JoinAsked {
 }
 
 fn join_at(alloc: Global, object: &Value) -> Result<Option<JoinAsked>, OutOfMemory>
-    ensures { IfOk result (λ o. option_map (λ (j : rust.JoinAsked). (j.args, (j.left_on, j.right_on))) o ≡ join_at (view object.now)) }
+    ensures { IfOk result (λ o.
+        option_map (λ (j : rust.JoinAsked). (j.args, (j.left_on, j.right_on))) o
+        ≡ join_at (view object.now)) }
 {
     let Some(args) = args_at(alloc, object, "args")? else {
         return Ok(None);
@@ -94,7 +98,8 @@ fn join_at(alloc: Global, object: &Value) -> Result<Option<JoinAsked>, OutOfMemo
 }
 
 fn joined(alloc: Global, left: Node, right: Node, asked: JoinAsked) -> Result<Node, OutOfMemory>
-    ensures { IfOk result (λ n. tree_of n ≡ join (tree_of left) (tree_of right) asked.left_on asked.right_on asked.args) }
+    ensures { IfOk result (λ n.
+        tree_of n ≡ join (tree_of left) (tree_of right) asked.left_on asked.right_on asked.args) }
 {
     let JoinAsked {
         args,
@@ -117,7 +122,9 @@ fn join_from(
     left: Option<Node>,
     right: Option<Node>,
 ) -> Result<Option<Node>, OutOfMemory>
-    ensures { IfOk result (λ o. option_map tree_of o ≡ join_from (view object.now) (option_map tree_of left) (option_map tree_of right)) }
+    ensures { IfOk result (λ o.
+        option_map tree_of o
+        ≡ join_from (view object.now) (option_map tree_of left) (option_map tree_of right)) }
 {
     let (Some(left), Some(right)) = (left, right) else {
         return Ok(None);

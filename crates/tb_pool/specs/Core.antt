@@ -53,10 +53,13 @@ abbrev pub Happens : ℕ → State → Event → State → Type 0
 Happens n s (claim w) t = (h : Seat) × HasSeat s w h × ¬ (IsPast n h.drawn)
     × (t ≡ state (s.next + 1) (slice_set s.seats w (seat_with (h.drawn ++ s.next ∷ []) h.weight)))
 Happens n s (split w) t = (h : Seat) × HasSeat s w h × ¬ (IsPast n h.drawn) × (2 ≤ h.weight)
-    × (t ≡ state s.next (slice_set s.seats w (seat_with h.drawn (h.weight - 1)) ++ seat_with [] 1 ∷ []))
+    × (t
+    ≡ state s.next
+    (slice_set s.seats w (seat_with h.drawn (h.weight - 1)) ++ seat_with [] 1 ∷ []))
 Happens n s (join v w) t = (h : Seat) × (g : Seat) × HasSeat s v h × HasSeat s w g × (v ≢ w)
     × (t ≡ state s.next
-    (slice_set (slice_set s.seats v (seat_with (h.drawn ++ g.drawn) (h.weight + g.weight))) w (seat_with [] 0)))
+    (slice_set (slice_set s.seats v (seat_with (h.drawn ++ g.drawn) (h.weight + g.weight))) w
+    (seat_with [] 0)))
 
 -- the events lead from s to t
 abbrev pub Follows : ℕ → State → List Event → State → Type 0

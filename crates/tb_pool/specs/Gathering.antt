@@ -24,7 +24,8 @@ Ascend xs = AllPairs (λ x y. x < y) xs
 module _ {O : Type 0} (R : ℕ → O → Type 0) where
   -- The seat has drawn the parts that are found, and beside them only numbers of at least the bound, at least one. The
   -- lists hold the parts that are found, each list ascending, and each result is one that its part gives
-  pub record IsGathered (c : ClaimsView) (seat : SeatView) (lists : List (List ℕ)) (found : List (ℕ × O)) : Type 0 where
+  pub record IsGathered (c : ClaimsView) (seat : SeatView) (lists : List (List ℕ))
+      (found : List (ℕ × O)) : Type 0 where
     pub own : IsSeatOf c seat
     pub drawn : (x : ℕ) → x < c.bound → times x seat.drawn ≡ times x (map (λ p. p.0) found)
     pub late_one : (x : ℕ) × (c.bound ≤ x) × (0 < times x seat.drawn)

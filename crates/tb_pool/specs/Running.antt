@@ -23,11 +23,14 @@ IsSeatOf c s = (s.of ≡ c.of) × (s.bound ≡ c.bound)
 
 -- the word is the number that is drawn next, the views are the seats, and together they are a state that keeps the rule
 abbrev pub WordRule : {S : Type 0} → ℕ → TableState S Seat → Type 0
-WordRule n s = (n < 2 ^ 32) × (s.words ≡ slice_index s.words 0 ∷ []) × StateRule n (state (slice_index s.words 0) s.views)
+WordRule n s = (n < 2 ^ 32)
+    × (s.words ≡ slice_index s.words 0 ∷ [])
+    × StateRule n (state (slice_index s.words 0) s.views)
 
 -- the seat has drawn the number that it found, which is greater than each that it had drawn
 abbrev pub Drew : {S : Type 0} → Me S Seat → ℕ → Me S Seat → Type 0
-Drew me found after = (after.0 ≡ seat_with (me.0.drawn ++ found ∷ []) me.0.weight) × (after.1 ≡ me.1)
+Drew me found after =
+    (after.0 ≡ seat_with (me.0.drawn ++ found ∷ []) me.0.weight) × (after.1 ≡ me.1)
     × All (λ y. y < found) me.0.drawn
 
 -- the seat after it gave a weight of 1 away

@@ -40,4 +40,5 @@ module _ {O : Type 0} where
 
 -- the relation holds place by place
 abbrev pub PlaceByPlace : {X : Type 0} → (X → X → Type 0) → List X → List X → Type 0
-PlaceByPlace {X} R xs ys = (k : ℕ) (d : X) → k < length xs → R (slice_index_or xs k d) (slice_index_or ys k d)
+PlaceByPlace {X} R xs ys =
+    (k : ℕ) (d : X) → k < length xs → R (slice_index_or xs k d) (slice_index_or ys k d)

@@ -106,7 +106,8 @@ impl Claims {
     /// Claims of `n` parts, with the seat that has all the weight. The word is 0, and nothing is drawn.
     pub fn new(alloc: Global, n: u32) -> Result<(Claims, ClaimSeat), OutOfMemory>
         ensures bound { IfOk result (λ c. c.0.bound ≡ n) }
-        ensures opening { IfOk result (λ c. IsSeatOf c.0 c.1 × (c.1.drawn ≡ []) × (c.1.weight ≡ 1024)) }
+        ensures opening { IfOk result (λ c.
+            IsSeatOf c.0 c.1 × (c.1.drawn ≡ []) × (c.1.weight ≡ 1024)) }
     {
         let (table, seat) = Table::of_words(alloc, &[0], &n)?;
         let claims = Claims { table, bound: n };

@@ -75,7 +75,8 @@ fn take_in<P: Parts, G: Gate>(
 ) -> Result<Gathered<P::Out>, OutOfMemory>
     requires all { IsGathered (IsLetIn (G.lets_in gate.now) (P.gives work.now)) claims.now all.seat
         (map (λ v. v.items) all.lists.items) all.found.items }
-    requires worker { HasStopped (IsLetIn (G.lets_in gate.now) (P.gives work.now)) claims.now worker }
+    requires worker { HasStopped (IsLetIn (G.lets_in gate.now) (P.gives work.now)) claims.now
+        worker }
     ensures gathered { IfOk result (λ g. IsGathered (IsLetIn (G.lets_in gate.now) (P.gives work.now)) claims.now g.seat
         (map (λ v. v.items) g.lists.items) g.found.items) }
     ensures weight { IfOk result (λ g. g.seat.weight ≡ all.seat.weight + worker.seat.weight) }
@@ -147,12 +148,15 @@ fn close_all<P: Parts, G: Gate>(
     mut workers: Vec<Worker<P::Out>>,
 ) -> Result<(Vec<Vec<u32>>, Vec<(u32, P::Out)>), OutOfMemory>
     requires some { 0 < length workers.items }
-    requires stopped { All (HasStopped (IsLetIn (G.lets_in gate.now) (P.gives work.now)) claims) workers.items }
+    requires stopped { All (HasStopped (IsLetIn (G.lets_in gate.now) (P.gives work.now)) claims)
+        workers.items }
     requires weights { sum_by (λ w. w.seat.weight) workers.items ≡ 1024 }
     ensures lists { IfOk result (λ r. r.0.items ≡ map (λ w. w.claimed) workers.items) }
     ensures ascend { IfOk result (λ r. All Ascend (map (λ v. v.items) r.0.items)) }
-    ensures given { IfOk result (λ r. All (λ p. IsLetIn (G.lets_in gate.now) (P.gives work.now) p.0 p.1) r.1.items) }
-    ensures found { IfOk result (λ r. (x : ℕ) → times x (map (λ p. p.0) r.1.items) ≡ once_below x claims.bound) }
+    ensures given { IfOk result (λ r.
+        All (λ p. IsLetIn (G.lets_in gate.now) (P.gives work.now) p.0 p.1) r.1.items) }
+    ensures found { IfOk result (λ r.
+        (x : ℕ) → times x (map (λ p. p.0) r.1.items) ≡ once_below x claims.bound) }
     ensures claimed { IfOk result (λ r. (x : ℕ) →
         sum_by (λ l. times x l) (map (λ v. v.items) r.0.items) ≡ once_below x claims.bound) }
 {
@@ -226,9 +230,11 @@ pub(crate) fn gather<P: Parts, G: Gate>(
 ) -> Result<Done<P::Out>, OutOfMemory>
     requires bound { n ≡ claims.bound }
     requires some { 0 < length workers.items }
-    requires stopped { All (HasStopped (IsLetIn (G.lets_in gate.now) (P.gives work.now)) claims) workers.items }
+    requires stopped { All (HasStopped (IsLetIn (G.lets_in gate.now) (P.gives work.now)) claims)
+        workers.items }
     requires weights { sum_by (λ w. w.seat.weight) workers.items ≡ 1024 }
-    ensures done { IfOk result (λ d. IsDone (IsLetIn (G.lets_in gate.now) (P.gives work.now)) n (length workers.items) d) }
+    ensures done { IfOk result (λ d.
+        IsDone (IsLetIn (G.lets_in gate.now) (P.gives work.now)) n (length workers.items) d) }
     ensures lists { IfOk result (λ d. d.claimed ≡ map (λ w. w.claimed.items) workers.items) }
 {
     let (claimed, found) = close_all(alloc, work, gate, claims, workers)?;

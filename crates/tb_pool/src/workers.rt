@@ -43,8 +43,10 @@ fn run_part<P: Parts, G: Gate>(
 // Claims parts until a claim answers None.
 fn claim_parts<P: Parts, G: Gate>(claims: &Claims, work: &P, gate: &G, worker: &mut Worker<P::Out>)
     requires ready { IsReady claims.now worker.old }
-    requires may_run { (part : ℕ) → part < claims.now.bound → G.lets_in gate.now part → P.may_run work.now part }
-    ensures { HasWorked (IsLetIn (G.lets_in gate.now) (P.gives work.now)) claims.now worker.old worker.new }
+    requires may_run { (part : ℕ) → part < claims.now.bound → G.lets_in gate.now part
+        → P.may_run work.now part }
+    ensures { HasWorked (IsLetIn (G.lets_in gate.now) (P.gives work.now)) claims.now worker.old
+        worker.new }
 {
     while let Some(part) = claims.claim(&mut worker.seat) {
         match run_part(work, gate, part, &mut worker.claimed, &mut worker.results) {
@@ -67,8 +69,10 @@ pub(crate) fn run_workers<R: Threads + Sync, O: Send + Drop, P: Parts<Out = O>, 
     workers: &mut [Worker<O>],
 )
     requires ready { All (IsReady claims.now) workers.old }
-    requires may_run { (part : ℕ) → part < claims.now.bound → G.lets_in gate.now part → P.may_run work.now part }
-    ensures { PlaceByPlace (HasWorked (IsLetIn (G.lets_in gate.now) (P.gives work.now)) claims.now) workers.old workers.new }
+    requires may_run { (part : ℕ) → part < claims.now.bound → G.lets_in gate.now part
+        → P.may_run work.now part }
+    ensures { PlaceByPlace (HasWorked (IsLetIn (G.lets_in gate.now) (P.gives work.now)) claims.now)
+        workers.old workers.new }
 {
     if workers.len() == 0 {
         return;
@@ -93,19 +97,28 @@ fn run_halves<R: Threads + Sync, O: Send + Drop, P: Parts<Out = O>, G: Gate>(
     requires some { (0 < length a.old) × (0 < length b.old) }
     requires front { All (IsReady claims.now) a.old }
     requires back { All (IsReady claims.now) b.old }
-    requires may_run { (part : ℕ) → part < claims.now.bound → G.lets_in gate.now part → P.may_run work.now part }
-    ensures front { PlaceByPlace (HasWorked (IsLetIn (G.lets_in gate.now) (P.gives work.now)) claims.now) a.old a.new }
-    ensures back { PlaceByPlace (HasWorked (IsLetIn (G.lets_in gate.now) (P.gives work.now)) claims.now) b.old b.new }
+    requires may_run { (part : ℕ) → part < claims.now.bound → G.lets_in gate.now part
+        → P.may_run work.now part }
+    ensures front { PlaceByPlace
+        (HasWorked (IsLetIn (G.lets_in gate.now) (P.gives work.now)) claims.now) a.old a.new }
+    ensures back { PlaceByPlace
+        (HasWorked (IsLetIn (G.lets_in gate.now) (P.gives work.now)) claims.now) b.old b.new }
 {
     let mut front = ||
         requires { IsSync R.row × IsSync P.row × IsSync G.row × IsSend O.row × All (IsReady claims.now) a.now
             × ((part : ℕ) → part < claims.now.bound → G.lets_in gate.now part → P.may_run work.now part) }
-        ensures { PlaceByPlace (HasWorked (IsLetIn (G.lets_in gate.entry.now) (P.gives work.entry.now)) claims.entry.now) a.entry.now a.exit.now }
+        ensures { PlaceByPlace
+            (HasWorked (IsLetIn (G.lets_in gate.entry.now) (P.gives work.entry.now))
+            claims.entry.now)
+            a.entry.now a.exit.now }
     { run_workers(rt, claims, work, gate, a) };
     let mut back = ||
         requires { IsSync R.row × IsSync P.row × IsSync G.row × IsSend O.row × All (IsReady claims.now) b.now
             × ((part : ℕ) → part < claims.now.bound → G.lets_in gate.now part → P.may_run work.now part) }
-        ensures { PlaceByPlace (HasWorked (IsLetIn (G.lets_in gate.entry.now) (P.gives work.entry.now)) claims.entry.now) b.entry.now b.exit.now }
+        ensures { PlaceByPlace
+            (HasWorked (IsLetIn (G.lets_in gate.entry.now) (P.gives work.entry.now))
+            claims.entry.now)
+            b.entry.now b.exit.now }
     { run_workers(rt, claims, work, gate, b) };
     join_mut(rt, &mut front, &mut back);
 }

@@ -24,7 +24,9 @@ each_member f (member k d ms) = member k (f k d) (each_member f ms)
 -- the members of other names
 abbrev pub without : List ℕ → Members → Members
 without name no_members = no_members
-without name (member k d ms) = if bytes_eq k name then without name ms else member k d (without name ms)
+without name (member k d ms) = if bytes_eq k name
+    then without name ms
+    else member k d (without name ms)
 
 -- the runs of a column, none where it has not the form of one
 abbrev pub runs_at : Data → List WrittenRun

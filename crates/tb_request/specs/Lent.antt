@@ -31,10 +31,12 @@ values_view (Chunks cs) = written.in_chunks (map chunk_view cs.items)
 values_view (Runs rs) = written.in_runs (map run_view rs.items)
 
 abbrev pub written_view : WrittenColumn → written.Written
-written_view c = record { name = c.name; kind = kind_of c.dtype; values = values_view c.values; flag = c.flag }
+written_view c =
+    record { name = c.name; kind = kind_of c.dtype; values = values_view c.values; flag = c.flag }
 
 abbrev pub exec_view : ExecNumbers → ExecView
-exec_view e = record { workers = e.workers; partitions = e.partitions; small = e.small; num = e.num; den = e.den }
+exec_view e = record
+    { workers = e.workers; partitions = e.partitions; small = e.small; num = e.num; den = e.den }
 
 abbrev pub written_join : WrittenJoin → written.WrittenJoin
 written_join w = record {

@@ -128,7 +128,8 @@ pub fn texts_if_at(
     object: &Value,
     name: &str,
 ) -> Result<Option<Option<Vec<PlSmallStr>>>, OutOfMemory>
-    ensures { IfOk result (λ o. option_map (option_map (λ v. v.items)) o ≡ texts_if_at name.now (view object.now)) }
+    ensures { IfOk result (λ o.
+        option_map (option_map (λ v. v.items)) o ≡ texts_if_at name.now (view object.now)) }
 {
     let Some(member) = object.get(name) else {
         return Ok(Some(None));

@@ -78,7 +78,8 @@ pub fn join_in(alloc: Global, value: Value) -> Result<JoinRequest, RequestFault>
 /// `OutOfMemory` may come at any time. Else `Json`, where they are no JSON text.
 #[tactic(auto, unfolding(crate::specs::Promise::Reading::value_of))]
 pub fn value_of(alloc: Global, bytes: &[u8]) -> Result<Value, RequestFault>
-    ensures { MatchResult result (λ v. value_of bytes.now ≡ Ok (view v)) (λ e. FaultIs e (value_of bytes.now)) }
+    ensures { MatchResult result (λ v. value_of bytes.now ≡ Ok (view v)) (λ e.
+        FaultIs e (value_of bytes.now)) }
 {
     match Value::from_slice(alloc, bytes) {
         Ok(value) => Ok(value),
@@ -91,7 +92,8 @@ pub fn value_of(alloc: Global, bytes: &[u8]) -> Result<Value, RequestFault>
 
 /// The same. The bytes are let go as soon as the value is made.
 pub fn value_in(alloc: Global, bytes: Vec<u8>) -> Result<Value, RequestFault>
-    ensures { MatchResult result (λ v. value_of bytes.items ≡ Ok (view v)) (λ e. FaultIs e (value_of bytes.items)) }
+    ensures { MatchResult result (λ v. value_of bytes.items ≡ Ok (view v)) (λ e.
+        FaultIs e (value_of bytes.items)) }
 {
     value_of(alloc, &bytes)
 }

@@ -44,7 +44,9 @@ fn is_run(dtype: &DataType, value: &Value) -> bool
 }
 
 fn is_count(dtype: &DataType, times: Item<'_>) -> bool
-    ensures { result ≡ is_some (option_and_then (times_of (kind_of dtype.now)) (whole_of (item_view times.entry))) }
+    ensures { result
+        ≡ is_some
+        (option_and_then (times_of (kind_of dtype.now)) (whole_of (item_view times.entry))) }
 {
     match times.as_u64() {
         Some(times) => times_of(dtype, times).is_some(),

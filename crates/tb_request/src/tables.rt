@@ -189,7 +189,8 @@ pub fn tables_from(
     alloc: Global,
     claimed: Vec<Vec<ClaimedColumn>>,
 ) -> Result<Vec<DataFrame>, RequestFault>
-    ensures columns { IfOk result (λ ts. map (map relaid_column) ts.items ≡ map claimed_views claimed.items) }
+    ensures columns { IfOk result (λ ts.
+        map (map relaid_column) ts.items ≡ map claimed_views claimed.items) }
     ensures tables { MatchResult result (λ ts. are_tables (map claimed_views claimed.items) ≡ Ok tt)
         (λ e. FaultIs e (are_tables (map claimed_views claimed.items))) }
 {

@@ -118,7 +118,8 @@ fn is_of(alloc: Global, dtype: &DataType, run: &Value) -> Result<bool, OutOfMemo
 
 // Whether the value of each run is of the type.
 fn are_of(alloc: Global, dtype: &DataType, runs: &[Value]) -> Result<bool, OutOfMemory>
-    ensures { IfOk result (λ b. b ≡ is_some (each (run_in (kind_of dtype.now)) (map run_view runs.now))) }
+    ensures { IfOk result (λ b.
+        b ≡ is_some (each (run_in (kind_of dtype.now)) (map run_view runs.now))) }
 {
     for run in runs {
         if !is_of(alloc, dtype, run)? {

@@ -14,7 +14,8 @@ use Rattle.tb_pivot.specs.Promise.Request as wide
 
 -- the table with columns put one below the other, and the index beside them
 abbrev pub long_request : Table → List TableColumn → List TableColumn → Name → Name → long.Request
-long_request t index on variable value = record { table = t; on = names_of on; index = names_of index; variable = variable; value = value }
+long_request t index on variable value = record
+    { table = t; on = names_of on; index = names_of index; variable = variable; value = value }
 
 abbrev pub made_long : Table → List TableColumn → List TableColumn → Name → Name → Table
 made_long t index on variable value = unpivot_table (long_request t index on variable value)
@@ -32,7 +33,8 @@ wide_request t index variable value separator = record {
 }
 
 abbrev pub made_wide : Table → List TableColumn → Name → Name → Name → Table
-made_wide t index variable value separator = pivot_table (wide_request t index variable value separator)
+made_wide t index variable value separator =
+    pivot_table (wide_request t index variable value separator)
 
 -- columns are the table's under their names, which are distinct
 pub record AreOf (t : Table) (cs : List TableColumn) : Type 0 where
@@ -40,7 +42,8 @@ pub record AreOf (t : Table) (cs : List TableColumn) : Type 0 where
   pub distinct : AllPairs (λ (a b : Name). a ≢ b) (names_of cs)
 
 -- index columns that tell all rows apart, columns of one type, and names for the two columns that are made of these
-pub record AreUndone (t : Table) (index on : List TableColumn) (k : Kind) (variable value : Name) : Type 0 where
+pub record AreUndone (t : Table) (index on : List TableColumn) (k : Kind)
+    (variable value : Name) : Type 0 where
   pub table : IsTable t
   pub rows : 0 < height t
   pub of_index : AreOf t index
@@ -54,11 +57,13 @@ pub record AreUndone (t : Table) (index on : List TableColumn) (k : Kind) (varia
 
 -- what was made long is made wide again as it was
 abbrev pub Undone : Type 0
-Undone = (t : Table) (index on : List TableColumn) (k : Kind) (variable value separator : Name) → AreUndone t index on k variable value
+Undone = (t : Table) (index on : List TableColumn) (k : Kind) (variable value separator : Name)
+    → AreUndone t index on k variable value
     → made_wide (made_long t index on variable value) index variable value separator ≡ index ++ on
 
 -- moreover there is an index column, all names are distinct together, and there are no more values than a table has rows
-pub record AreAccepted (t : Table) (index on : List TableColumn) (k : Kind) (variable value : Name) : Type 0 where
+pub record AreAccepted (t : Table) (index on : List TableColumn) (k : Kind)
+    (variable value : Name) : Type 0 where
   pub undone : AreUndone t index on k variable value
   pub some_index : 0 < length index
   pub apart : AllPairs (λ (a b : Name). a ≢ b) (names_of (index ++ on))
@@ -66,6 +71,10 @@ pub record AreAccepted (t : Table) (index on : List TableColumn) (k : Kind) (var
 
 -- then neither of the two calls is refused
 abbrev pub BothAccepted : Type 0
-BothAccepted = (t : Table) (index on : List TableColumn) (k : Kind) (variable value separator : Name) → AreAccepted t index on k variable value
+BothAccepted = (t : Table) (index on : List TableColumn) (k : Kind)
+    (variable value separator : Name)
+    → AreAccepted t index on k variable value
     → (unpivot_refusal (long_request t index on variable value) ≡ None)
-    × (pivot_refusal (wide_request (made_long t index on variable value) index variable value separator) ≡ None)
+    × (pivot_refusal
+    (wide_request (made_long t index on variable value) index variable value separator)
+    ≡ None)

@@ -23,7 +23,9 @@ pub trait GroupBy: IntoDf {
     /// `ColumnNotFound` of the first name that no column has, or `OutOfMemory`.
     final fn group_by_stable(&self, alloc: Global, names: &[PlSmallStr]) -> PolarsResult<Groups>
         ensures settles { Settles result (unknown_key (table_of (Self.frame self.now)) names.now) }
-        ensures groups { IfOk result (AreGroups (are_alike (columns_named (table_of (Self.frame self.now)) names.now)) (height (table_of (Self.frame self.now)))) }
+        ensures groups { IfOk result
+            (AreGroups (are_alike (columns_named (table_of (Self.frame self.now)) names.now))
+            (height (table_of (Self.frame self.now)))) }
     {
         groups_by(alloc, self.to_df(), names)
     }
@@ -33,7 +35,9 @@ impl<T: IntoDf> GroupBy for T {}
 
 fn groups_by(alloc: Global, table: &DataFrame, names: &[PlSmallStr]) -> PolarsResult<Groups>
     ensures settles { Settles result (unknown_key (table_of table.now) names.now) }
-    ensures groups { IfOk result (AreGroups (are_alike (columns_named (table_of table.now) names.now)) (height (table_of table.now))) }
+    ensures groups { IfOk result
+        (AreGroups (are_alike (columns_named (table_of table.now) names.now))
+        (height (table_of table.now))) }
 {
     let columns = lend_columns(alloc, table.get_columns(), names)?;
     Ok(group_rows(alloc, &columns, table.height())?)

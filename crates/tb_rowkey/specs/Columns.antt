@@ -40,4 +40,5 @@ pub record AreKeyColumns (cs : List Col) : Type 0 where
 
 -- the fields of row i of some columns and of row j of others agree at each place
 abbrev pub columns_meet : (ℕ → Bool) → List Col → List Col → ℕ → ℕ → Bool
-columns_meet nulls ls rs i j = list_all (λ p. agrees (nulls p) (field_of ls p i) (field_of rs p j)) (row_numbers (length ls))
+columns_meet nulls ls rs i j =
+    list_all (λ p. agrees (nulls p) (field_of ls p i) (field_of rs p j)) (row_numbers (length ls))

@@ -9,7 +9,8 @@ even_places width n = map (λ i. i * width) (row_numbers n)
 
 -- place i is i times place 1
 abbrev pub AreEven : List ℕ → Type 0
-AreEven places = (i : ℕ) → i < length places → slice_index_or places i 0 ≡ i * slice_index_or places 1 0
+AreEven places =
+    (i : ℕ) → i < length places → slice_index_or places i 0 ≡ i * slice_index_or places 1 0
 
 -- at most MAX_ROWS gaps of a width lead to a place in 64 bits
 pub record IsWidth (width gaps : ℕ) : Type 0 where

@@ -16,7 +16,8 @@ key_of (b ∷ bs) = Some (b ∷ bs)
 
 -- row i has the bytes from place i to the next place
 abbrev pub bytes_at : List ℕ → List ℕ → ℕ → List ℕ
-bytes_at bytes places i = take (slice_index_or places (i + 1) 0 - slice_index_or places i 0) (drop (slice_index_or places i 0) bytes)
+bytes_at bytes places i = take (slice_index_or places (i + 1) 0 - slice_index_or places i 0)
+    (drop (slice_index_or places i 0) bytes)
 
 -- the keys of all rows, of which there is one fewer than places
 abbrev pub keys_in : List ℕ → List ℕ → List (Option (List ℕ))
@@ -26,6 +27,8 @@ keys_in bytes places = map (λ i. key_of (bytes_at bytes places i)) (row_numbers
 pub record ArePlaces (bytes places : List ℕ) : Type 0 where
   pub some : 1 ≤ length places
   pub few : length places ≤ MAX_ROWS + 1
-  pub ordered : (i : ℕ) → i + 1 < length places → slice_index_or places i 0 ≤ slice_index_or places (i + 1) 0
+  pub ordered : (i : ℕ) → i + 1 < length places
+      → slice_index_or places i 0 ≤ slice_index_or places (i + 1) 0
   pub within : (i : ℕ) → i < length places → slice_index_or places i 0 ≤ length bytes
-  pub short : (i : ℕ) → i + 1 < length places → slice_index_or places (i + 1) 0 < slice_index_or places i 0 + 2 ^ 32
+  pub short : (i : ℕ) → i + 1 < length places
+      → slice_index_or places (i + 1) 0 < slice_index_or places i 0 + 2 ^ 32

@@ -18,4 +18,5 @@ IsKeyRow ts fs = AllZip IsKeyOf ts fs
 
 -- the fields of two rows agree at each of n places
 abbrev pub rows_meet : (ℕ → Bool) → ℕ → List Datum → List Datum → Bool
-rows_meet nulls n fs gs = list_all (λ p. agrees (nulls p) (slice_index_or fs p null) (slice_index_or gs p null)) (row_numbers n)
+rows_meet nulls n fs gs = list_all
+    (λ p. agrees (nulls p) (slice_index_or fs p null) (slice_index_or gs p null)) (row_numbers n)

@@ -59,8 +59,12 @@ impl<'a> FieldColumn<'a> {
     /// Writes the bytes of a row's field behind those that are there, and says whether it is present.
     pub(crate) fn push_field(&self, bytes: &mut Vec<u8>, row: usize) -> Result<bool, OutOfMemory>
         requires { row < length (values self.now) }
-        ensures bytes { OnOk result (bytes.new.items ≡ bytes.old.items ++ field_code self.now.kind (slice_index_or (values self.now) row null)) }
-        ensures present { IfOk result (λ b. b ≡ is_present (slice_index_or (values self.now) row null)) }
+        ensures bytes { OnOk result
+            (bytes.new.items
+            ≡ bytes.old.items
+            ++ field_code self.now.kind (slice_index_or (values self.now) row null)) }
+        ensures present { IfOk result (λ b.
+            b ≡ is_present (slice_index_or (values self.now) row null)) }
     {
         self.chunk.push_field(bytes, row)
     }

@@ -49,7 +49,8 @@ pub(crate) fn field_columns<'a>(
     joined: &'a [Option<Series>],
 ) -> Result<Vec<FieldColumn<'a>>, OutOfMemory>
     requires { joined.now ≡ map joined_if_cut (lent_columns columns.now) }
-    ensures { IfOk result (λ v. map typed_values v.items ≡ map typed_values (lent_columns columns.now)) }
+    ensures { IfOk result (λ v.
+        map typed_values v.items ≡ map typed_values (lent_columns columns.now)) }
 {
     let mut fields = Vec::with_capacity(alloc, columns.len())?;
     for place in 0..columns.len() {

@@ -24,8 +24,10 @@ use tb_store::{
 // The keys of all rows, copied.
 fn chunk_of(alloc: Global, keys: &RowKeys) -> Result<BinaryChunk, OutOfMemory>
     ensures value { IfOk result (λ c. bytes_of c ≡ keys.now) }
-    ensures views { IfOk result (λ c. ⟦<BinaryChunk as Chunk>⟧.views c ≡ (text_view_array keys.now).views) }
-    ensures buffers { IfOk result (λ c. ⟦<BinaryChunk as Chunk>⟧.buffers c ≡ (text_view_array keys.now).buffers) }
+    ensures views { IfOk result (λ c.
+        ⟦<BinaryChunk as Chunk>⟧.views c ≡ (text_view_array keys.now).views) }
+    ensures buffers { IfOk result (λ c.
+        ⟦<BinaryChunk as Chunk>⟧.buffers c ≡ (text_view_array keys.now).buffers) }
     ensures few { length keys.now ≤ MAX_ROWS }
     ensures typed { IfOk result (λ _. All (HasType kind.binary) (map (or_null binary) keys.now)) }
 {

@@ -12,7 +12,8 @@ ghost use Rattle.tb_rowkey.specs.Rows.{IsKeyRow, rows_meet};
 /// Of rows of the same key types, the row keys are equal exactly where the rows are, and no row key
 /// is a proper prefix of another.
 pub fn one_to_one()
-    ensures equal { (ts : List Kind) (fs gs : List Datum) → IsKeyRow ts fs → IsKeyRow ts gs → (rowkey ts fs ≡ rowkey ts gs) ↔ (fs ≡ gs) }
+    ensures equal { (ts : List Kind) (fs gs : List Datum) → IsKeyRow ts fs → IsKeyRow ts gs
+        → (rowkey ts fs ≡ rowkey ts gs) ↔ (fs ≡ gs) }
     ensures apart { (ts : List Kind) (fs gs : List Datum) (rest : List ℕ) → IsKeyRow ts fs → IsKeyRow ts gs →
         rowkey ts fs ++ rest ≡ rowkey ts gs → rest ≡ [] }
 {}

@@ -56,10 +56,15 @@ impl RowKeys {
         join_nulls: &[bool],
     ) -> Result<Option<RowKeys>, OutOfMemory>
         requires some { 0 < length columns.now }
-        requires rows { All (λ c. length (values c) ≡ row_count (lent_columns columns.now)) (lent_columns columns.now) }
+        requires rows { All (λ c. length (values c) ≡ row_count (lent_columns columns.now))
+            (lent_columns columns.now) }
         requires flags { length join_nulls.now ≡ length columns.now }
-        ensures short { IfOk result (λ keys. IsSome keys ↔ AreShortRows (lent_columns columns.now)) }
-        ensures keys { IfOk result (λ keys. IfSome keys (λ k. map (or_null binary) k ≡ keys_at (lent_columns columns.now) (flag_of join_nulls.now))) }
+        ensures short { IfOk result (λ keys.
+            IsSome keys ↔ AreShortRows (lent_columns columns.now)) }
+        ensures keys { IfOk result (λ keys.
+            IfSome keys (λ k.
+            map (or_null binary) k
+            ≡ keys_at (lent_columns columns.now) (flag_of join_nulls.now))) }
     {
         let joined = joined_columns(alloc, columns)?;
         let fields = field_columns(alloc, columns, &joined)?;
@@ -119,7 +124,8 @@ fn push_fields(
     requires rows { All (λ c. row < length (values c)) columns.now }
     requires flags { length join_nulls.now ≡ length columns.now }
     ensures bytes { OnOk result (bytes.new.items ≡ bytes.old.items ++ row_bytes columns.now row) }
-    ensures key { IfOk result (λ b. b ≡ has_key (flag_of join_nulls.now) (fields_at columns.now row)) }
+    ensures key { IfOk result (λ b.
+        b ≡ has_key (flag_of join_nulls.now) (fields_at columns.now row)) }
 {
     let mut has_key = true;
     for place in 0..columns.len() {
@@ -139,7 +145,9 @@ fn push_key(
     requires rows { All (λ c. row < length (values c)) columns.now }
     requires flags { length join_nulls.now ≡ length columns.now }
     ensures len { IfOk result (λ n. n ≡ length (row_bytes columns.now row)) }
-    ensures bytes { OnOk result (bytes.new.items ≡ bytes.old.items ++ bytes_of (key_at columns.now (flag_of join_nulls.now) row)) }
+    ensures bytes { OnOk result
+        (bytes.new.items
+        ≡ bytes.old.items ++ bytes_of (key_at columns.now (flag_of join_nulls.now) row)) }
 {
     let start = bytes.len();
     let has_key = push_fields(bytes, columns, join_nulls, row)?;
@@ -160,7 +168,8 @@ fn keys_of(
     requires rows { All (λ c. length (values c) ≡ row_count columns.now) columns.now }
     requires flags { length join_nulls.now ≡ length columns.now }
     ensures short { IfOk result (λ keys. IsSome keys ↔ AreShortRows columns.now) }
-    ensures keys { IfOk result (λ keys. IfSome keys (λ k. map (or_null binary) k ≡ keys_at columns.now (flag_of join_nulls.now))) }
+    ensures keys { IfOk result (λ keys.
+        IfSome keys (λ k. map (or_null binary) k ≡ keys_at columns.now (flag_of join_nulls.now))) }
 {
     let rows = columns[0].len();
     let mut bytes = Vec::with_capacity(alloc, room_for(columns))?;

@@ -70,8 +70,13 @@ impl StoredChunk<'_> {
     pub(crate) fn push_field(&self, bytes: &mut Vec<u8>, row: usize) -> Result<bool, OutOfMemory>
         requires row { row < length (chunk_values self.now) }
         requires fits { FitsField (slice_index_or (chunk_values self.now) row null) }
-        ensures bytes { OnOk result (bytes.new.items ≡ bytes.old.items ++ field_code (chunk_kind self.now) (slice_index_or (chunk_values self.now) row null)) }
-        ensures present { IfOk result (λ b. b ≡ is_present (slice_index_or (chunk_values self.now) row null)) }
+        ensures bytes { OnOk result
+            (bytes.new.items
+            ≡ bytes.old.items
+            ++ field_code (chunk_kind self.now)
+            (slice_index_or (chunk_values self.now) row null)) }
+        ensures present { IfOk result (λ b.
+            b ≡ is_present (slice_index_or (chunk_values self.now) row null)) }
     {
         match self {
             StoredChunk::Boolean(chunk) => chunk.push_field(bytes, row),

@@ -5,7 +5,8 @@ use Rattle.tb_rows.specs.declared.groups.Groups.{Groups}
 
 -- whether two rows have the same numbers in both lists
 abbrev pub same_pair : List ℕ → List ℕ → ℕ → ℕ → Bool
-same_pair xs ys i j = (slice_index_or xs i 0 == slice_index_or xs j 0) && (slice_index_or ys i 0 == slice_index_or ys j 0)
+same_pair xs ys i j = (slice_index_or xs i 0 == slice_index_or xs j 0)
+    && (slice_index_or ys i 0 == slice_index_or ys j 0)
 
 -- whether two rows are in one group by each of two groupings
 abbrev pub in_both : Groups → Groups → ℕ → ℕ → Bool
@@ -27,7 +28,9 @@ AreKept xs ys kept = (k i : ℕ) → k < length kept → slice_index_or kept k N
     → (i < length xs) × (slice_index_or xs i 0 ≡ k) × (leader (same_pair xs ys) (length xs) i ≡ i)
 
 -- the rows whose second number is below h have their leaders
-pub record AreLedBelow (xs ys : List ℕ) (h : ℕ) (kept : List (Option ℕ)) (leaders : List ℕ) : Type 0 where
+pub record AreLedBelow (xs ys : List ℕ) (h : ℕ) (kept : List (Option ℕ))
+    (leaders : List ℕ) : Type 0 where
   pub kept_are : AreKept xs ys kept
   pub count : length leaders ≡ length xs
-  pub each : (j : ℕ) → j < length xs → slice_index_or ys j 0 < h → slice_index_or leaders j 0 ≡ leader (same_pair xs ys) (length xs) j
+  pub each : (j : ℕ) → j < length xs → slice_index_or ys j 0 < h
+      → slice_index_or leaders j 0 ≡ leader (same_pair xs ys) (length xs) j

@@ -43,7 +43,8 @@ code_cmp = on (λ (r : CodedRow). r.code) nat_cmp
 
 -- by codes, and then by values
 abbrev pub coded_cmp : List (Bor Col) → CodedRow → CodedRow → Ordering
-coded_cmp cs = then_cmp (on (λ (r : CodedRow). r.code) nat_cmp) (on (λ (r : CodedRow). fields_at cs r.row) (slice_cmp value_cmp))
+coded_cmp cs = then_cmp (on (λ (r : CodedRow). r.code) nat_cmp)
+    (on (λ (r : CodedRow). fields_at cs r.row) (slice_cmp value_cmp))
 
 -- the same code, and the same values
 abbrev pub same_coded : List (Bor Col) → CodedRow → CodedRow → Bool
@@ -51,12 +52,14 @@ same_coded cs a b = (a.code == b.code) && same_at cs a.row b.row
 
 -- of the first n rows, those that stand side by side with one code have the same values
 abbrev pub AreToldByCodes : List (Bor Col) → List CodedRow → ℕ → Type 0
-AreToldByCodes cs rows n = (t : ℕ) → 1 ≤ t → t < n → ((slice_index_or rows (t - 1) no_row).code == (slice_index_or rows t no_row).code) ≡ true
+AreToldByCodes cs rows n = (t : ℕ) → 1 ≤ t → t < n
+    → ((slice_index_or rows (t - 1) no_row).code == (slice_index_or rows t no_row).code) ≡ true
     → same_at cs (slice_index_or rows (t - 1) no_row).row (slice_index_or rows t no_row).row ≡ true
 
 -- whether a row has the values of the one before it
 abbrev pub goes_on : List (Bor Col) → List CodedRow → ℕ → Bool
-goes_on cs rows t = nat_lt 0 t && same_coded cs (slice_index_or rows (t - 1) no_row) (slice_index_or rows t no_row)
+goes_on cs rows t =
+    nat_lt 0 t && same_coded cs (slice_index_or rows (t - 1) no_row) (slice_index_or rows t no_row)
 
 -- the same elements in order, where what ties stands as before
 pub record AreSorted {X : Type 0} (cmp : X → X → Ordering) (old new : List X) : Type 0 where
@@ -83,4 +86,7 @@ same_code rows i j = (slice_index_or rows i no_row).code == (slice_index_or rows
 
 -- the first n rows have the values of their leaders
 abbrev pub AreAsLed : List (Bor Col) → List CodedRow → List ℕ → ℕ → Type 0
-AreAsLed cs rows leaders n = (j : ℕ) → j < n → same_at cs (slice_index_or rows (slice_index_or leaders j 0) no_row).row (slice_index_or rows j no_row).row ≡ true
+AreAsLed cs rows leaders n = (j : ℕ) → j < n
+    → same_at cs (slice_index_or rows (slice_index_or leaders j 0) no_row).row
+    (slice_index_or rows j no_row).row
+    ≡ true

@@ -33,9 +33,11 @@ fn lead_rows(
     requires group { group < length second.now.firsts.items }
     requires few { length numbers.now ≤ MAX_ROWS }
     requires pairs { ArePairs numbers.now second.now.numbers.items (length kept.old.items) }
-    requires led { AreLedBelow numbers.now second.now.numbers.items group kept.old.items leaders.old.items }
+    requires led { AreLedBelow numbers.now second.now.numbers.items group kept.old.items
+        leaders.old.items }
     ensures kept { length kept.new.items ≡ length kept.old.items }
-    ensures led { AreLedBelow numbers.now second.now.numbers.items (group + 1) kept.new.items leaders.new.items }
+    ensures led { AreLedBelow numbers.now second.now.numbers.items (group + 1) kept.new.items
+        leaders.new.items }
 {
     let rows = second.rows(group);
     for at in 0..rows.len() {
@@ -50,9 +52,11 @@ fn lead_rows(
 // For each row the first one that is in its groups.
 fn both_leaders(alloc: Global, first: &Groups, second: &Groups) -> Result<Vec<IdxSize>, OutOfMemory>
     requires few { length first.now.numbers.items ≤ MAX_ROWS }
-    requires pairs { ArePairs first.now.numbers.items second.now.numbers.items (length first.now.firsts.items) }
+    requires pairs { ArePairs first.now.numbers.items second.now.numbers.items
+        (length first.now.firsts.items) }
     requires below { All (λ k. k < length second.now.firsts.items) second.now.numbers.items }
-    ensures { IfOk result (λ v. AreLeaders (in_both first.now second.now) (length first.now.numbers.items) v.items) }
+    ensures { IfOk result (λ v.
+        AreLeaders (in_both first.now second.now) (length first.now.numbers.items) v.items) }
 {
     let mut kept = vec![in alloc; NullableIdxSize::null(); first.len()]?;
     let mut leaders = Vec::new(alloc);
@@ -74,7 +78,8 @@ pub fn group_both(alloc: Global, first: &Groups, second: &Groups) -> Result<Grou
     requires few { length first.now.numbers.items ≤ MAX_ROWS }
     requires first { All (λ k. k < length first.now.firsts.items) first.now.numbers.items }
     requires second { All (λ k. k < length second.now.firsts.items) second.now.numbers.items }
-    ensures { IfOk result (AreGroups (in_both first.now second.now) (length first.now.numbers.items)) }
+    ensures { IfOk result
+        (AreGroups (in_both first.now second.now) (length first.now.numbers.items)) }
 {
     let leaders = both_leaders(alloc, first, second)?;
     led_groups(alloc, leaders.as_slice())

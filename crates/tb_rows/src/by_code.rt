@@ -22,7 +22,12 @@ fn place_of(
     place: IdxSize,
 ) -> Result<IdxSize, OutOfMemory>
     ensures value { IfOk result (λ p. p ≡ unwrap_or (get nat_cmp places.old code) place) }
-    ensures kept { OnOk result ((q : ℕ) → get nat_cmp places.new q ≡ (if is_at (nat_cmp code) q then Some (unwrap_or (get nat_cmp places.old code) place) else get nat_cmp places.old q)) }
+    ensures kept { OnOk result
+        ((q : ℕ)
+        → get nat_cmp places.new q
+        ≡ (if is_at (nat_cmp code) q
+        then Some (unwrap_or (get nat_cmp places.old code) place)
+        else get nat_cmp places.old q)) }
 {
     if let Some(first) = places.get(&code) {
         return Ok(*first);
@@ -44,7 +49,8 @@ pub(crate) fn code_leaders(
     rows: &[CodedRow],
 ) -> Result<Option<Vec<IdxSize>>, OutOfMemory>
     requires { length rows.now ≤ MAX_ROWS }
-    ensures { IfOk result (λ o. IfSome o (λ v. AreLeaders (same_code rows.now) (length rows.now) v.items)) }
+    ensures { IfOk result (λ o.
+        IfSome o (λ v. AreLeaders (same_code rows.now) (length rows.now) v.items)) }
 {
     let mut places = BTreeMap::new(alloc);
     let mut leaders = Vec::with_capacity(alloc, rows.len())?;
@@ -61,7 +67,10 @@ pub(crate) fn code_leaders(
 fn is_as_led(columns: &[&Series], rows: &[CodedRow], leader: usize, at: usize) -> bool
     requires leader { leader < length rows.now }
     requires at { at < length rows.now }
-    ensures { result ≡ true → same_at columns.now (slice_index_or rows.now leader no_row).row (slice_index_or rows.now at no_row).row ≡ true }
+    ensures { result ≡ true
+        → same_at columns.now (slice_index_or rows.now leader no_row).row
+        (slice_index_or rows.now at no_row).row
+        ≡ true }
 {
     same_fields(columns, rows[leader].row as usize, rows[at].row as usize)
 }

@@ -34,7 +34,8 @@ fn compare_rows(columns: &[&Series], first: &CodedRow, second: &CodedRow) -> Ord
 
 // Whether two rows are the same. Where codes are known to tell rows apart, values are not read.
 fn is_same(columns: &[&Series], first: &CodedRow, second: &CodedRow, told: bool) -> bool
-    requires { told ≡ true → (first.now.code == second.now.code) ≡ true → same_at columns.now first.now.row second.now.row ≡ true }
+    requires { told ≡ true → (first.now.code == second.now.code) ≡ true
+        → same_at columns.now first.now.row second.now.row ≡ true }
     ensures { result ≡ same_coded columns.now first.now second.now }
 {
     first.code == second.code
@@ -43,7 +44,8 @@ fn is_same(columns: &[&Series], first: &CodedRow, second: &CodedRow, told: bool)
 
 // Whether two rows have the same values where they have the same code.
 fn is_told(columns: &[&Series], first: &CodedRow, second: &CodedRow) -> bool
-    ensures { result ≡ true → (first.now.code == second.now.code) ≡ true → same_at columns.now first.now.row second.now.row ≡ true }
+    ensures { result ≡ true → (first.now.code == second.now.code) ≡ true
+        → same_at columns.now first.now.row second.now.row ≡ true }
 {
     first.code != second.code || same_fields(columns, first.row as usize, second.row as usize)
 }
@@ -102,7 +104,8 @@ fn are_told_by_codes(columns: &[&Series], rows: &[CodedRow]) -> bool
 // of other values have one code: keys are made for that, or it is a rare chance. Says whether codes tell the rows apart.
 fn sort_rows(columns: &[&Series], rows: &mut Vec<CodedRow>) -> Result<bool, OutOfMemory>
     ensures sorted { OnOk result (AreSorted (coded_cmp columns.now) rows.old.items rows.new.items) }
-    ensures told { IfOk result (λ b. b ≡ true → AreToldByCodes columns.now rows.new.items (length rows.new.items)) }
+    ensures told { IfOk result (λ b.
+        b ≡ true → AreToldByCodes columns.now rows.new.items (length rows.new.items)) }
 {
     sort_by_codes(rows)?;
     if are_told_by_codes(columns, rows.as_slice()) {
@@ -122,7 +125,10 @@ fn leader_at(
 ) -> IdxSize
     requires within { at < length rows.now }
     requires told { told ≡ true → AreToldByCodes columns.now rows.now (length rows.now) }
-    ensures { result ≡ (if goes_on columns.now rows.now at then before else (slice_index_or rows.now at no_row).place) }
+    ensures { result
+        ≡ (if goes_on columns.now rows.now at
+        then before
+        else (slice_index_or rows.now at no_row).place) }
 {
     if at > 0 && is_same(columns, &rows[at - 1], &rows[at], told) {
         return before;
@@ -138,7 +144,8 @@ fn sorted_leaders(
     mut rows: Vec<CodedRow>,
 ) -> Result<Vec<IdxSize>, OutOfMemory>
     requires { AreCoded columns.now rows.items }
-    ensures { IfOk result (λ v. AreLeaders (same_values columns.now rows.items) (length rows.items) v.items) }
+    ensures { IfOk result (λ v.
+        AreLeaders (same_values columns.now rows.items) (length rows.items) v.items) }
 {
     let mut leaders = Vec::new(alloc);
     leaders.resize(rows.len(), 0u32)?;
@@ -159,7 +166,8 @@ fn few_leaders(
 ) -> Result<Option<Vec<IdxSize>>, OutOfMemory>
     requires coded { AreCoded columns.now rows.now }
     requires few { length rows.now ≤ MAX_ROWS }
-    ensures { IfOk result (λ o. IfSome o (λ v. AreLeaders (same_values columns.now rows.now) (length rows.now) v.items)) }
+    ensures { IfOk result (λ o.
+        IfSome o (λ v. AreLeaders (same_values columns.now rows.now) (length rows.now) v.items)) }
 {
     if let Some(leaders) = code_leaders(alloc, rows)? {
         if are_as_led(columns, rows, leaders.as_slice()) {
@@ -178,7 +186,8 @@ pub(crate) fn leaders(
     len: usize,
 ) -> Result<Vec<IdxSize>, OutOfMemory>
     requires { AreNamed names len }
-    ensures { IfOk result (λ v. AreLeaders (named_rows (name_of names.entry) (same_at columns.now)) len v.items) }
+    ensures { IfOk result (λ v.
+        AreLeaders (named_rows (name_of names.entry) (same_at columns.now)) len v.items) }
 {
     let rows = coded_rows(alloc, columns, names, len)?;
     if let Some(leaders) = few_leaders(alloc, columns, rows.as_slice())? {

@@ -38,7 +38,8 @@ pub(crate) fn same_fields(columns: &[&Series], first: usize, second: usize) -> b
 
 /// How two rows compare by the first of their values that don't tie.
 pub(crate) fn compare_fields(columns: &[&Series], first: usize, second: usize) -> Ordering
-    ensures { result ≡ slice_cmp value_cmp (fields_at columns.now first) (fields_at columns.now second) }
+    ensures { result
+        ≡ slice_cmp value_cmp (fields_at columns.now first) (fields_at columns.now second) }
 {
     for column in columns {
         let order = order_of_values(value_or_null(column, first), value_or_null(column, second));

@@ -29,7 +29,8 @@ fn push_first(firsts: &mut Vec<IdxSize>, row: IdxSize, is_first: bool) -> Result
 fn number_of(firsts: &[IdxSize], numbers: &[IdxSize], leader: usize, is_first: bool) -> IdxSize
     requires few { length firsts.now ≤ MAX_ROWS }
     requires there { is_first ≡ false → leader < length numbers.now }
-    ensures { result ≡ (if is_first then length firsts.now else slice_index_or numbers.now leader 0) }
+    ensures { result
+        ≡ (if is_first then length firsts.now else slice_index_or numbers.now leader 0) }
 {
     if is_first {
         return firsts.len() as IdxSize;
@@ -63,7 +64,10 @@ fn group_named(
     len: usize,
 ) -> Result<Groups, OutOfMemory>
     requires { AreNamed names len }
-    ensures { IfOk result (AreGroups (named_rows (name_of names.entry) (same_rows (map (λ c. values c.now) columns.now))) len) }
+    ensures { IfOk result
+        (AreGroups
+        (named_rows (name_of names.entry) (same_rows (map (λ c. values c.now) columns.now)))
+        len) }
 {
     let leaders = leaders(alloc, columns, names, len)?;
     led_groups(alloc, leaders.as_slice())
@@ -94,7 +98,9 @@ pub fn group_listed(
     rows: &[IdxSize],
 ) -> Result<Groups, OutOfMemory>
     requires { length rows.now ≤ MAX_ROWS }
-    ensures { IfOk result (AreGroups (listed_test rows.now (same_rows (map (λ c. values c.now) columns.now))) (length rows.now)) }
+    ensures { IfOk result
+        (AreGroups (listed_test rows.now (same_rows (map (λ c. values c.now) columns.now)))
+        (length rows.now)) }
 {
     group_named(alloc, columns, RowNames::Listed(rows), rows.len())
 }

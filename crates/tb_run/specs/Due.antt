@@ -29,7 +29,8 @@ use Rattle.tb_run.specs.Promise.Due.{due, Tells}
 
 -- a refusal that is not want of memory, with its text
 abbrev pub IsRefusal : PolarsError → Status → List ℕ → Type 0
-IsRefusal e s text = (e ≢ OutOfMemory) × (s ≡ status.Refused) × (text ≡ text_of_refusal (by_operation e))
+IsRefusal e s text =
+    (e ≢ OutOfMemory) × (s ≡ status.Refused) × (text ≡ text_of_refusal (by_operation e))
 
 -- what an operation answers was written: its table, or its refusal
 abbrev pub IsOutcome : Result (List Col) PolarsError → Status → List ℕ → Type 0
@@ -37,8 +38,10 @@ IsOutcome (Ok table) s text = (s ≡ status.Done) × (text ≡ text_of (table_of
 IsOutcome (Err e) s text = IsRefusal e s text
 
 -- the same of a join, whose table is written with its trace where that is asked
-abbrev pub IsJoinOutcome : Bool → Result (List Col × JoinTrace) PolarsError → Status → List ℕ → Type 0
-IsJoinOutcome asks (Ok joined) s text = (s ≡ status.Done) × (text ≡ joined_text asks (table_of joined.0) (trace_told joined.1))
+abbrev pub IsJoinOutcome : Bool → Result (List Col × JoinTrace) PolarsError → Status → List ℕ
+    → Type 0
+IsJoinOutcome asks (Ok joined) s text =
+    (s ≡ status.Done) × (text ≡ joined_text asks (table_of joined.0) (trace_told joined.1))
 IsJoinOutcome asks (Err e) s text = IsRefusal e s text
 
 -- and of a table that was grouped, with its trace where that is told
@@ -49,7 +52,8 @@ IsGroupOutcome (Err e) s text = IsRefusal e s text
 
 -- a fault of a plan that is not want of memory, with its text
 abbrev pub IsPlanRefusal : PlanFault → Status → List ℕ → Type 0
-IsPlanRefusal e s text = (e ≢ plan_fault.OutOfMemory) × (s ≡ status.Refused) × (text ≡ text_of_refusal (by_plan e))
+IsPlanRefusal e s text =
+    (e ≢ plan_fault.OutOfMemory) × (s ≡ status.Refused) × (text ≡ text_of_refusal (by_plan e))
 
 -- what a plan answers was written
 abbrev pub IsPlanOutcome : Result (List Col) PlanFault → Status → List ℕ → Type 0
@@ -58,7 +62,8 @@ IsPlanOutcome (Err e) s text = IsPlanRefusal e s text
 
 -- a refusal to keep a join, with its text
 abbrev pub IsKeptRefusal : KeptFault → Status → List ℕ → Type 0
-IsKeptRefusal fault s text = (s ≡ status.Refused) × ((r : kept.Refusal) × (refusal_view fault ≡ Some r) × (text ≡ kept_texts.text_of_refusal r))
+IsKeptRefusal fault s text = (s ≡ status.Refused)
+    × ((r : kept.Refusal) × (refusal_view fault ≡ Some r) × (text ≡ kept_texts.text_of_refusal r))
 
 -- the status of a text that is due
 abbrev pub HasText : Status → Type 0
@@ -85,12 +90,15 @@ IsKnown Unknown = ⊥
 
 -- the words have a form, and under a command the source tells a request that nothing refuses
 abbrev pub IsValid : Form → Option (List ℕ) → Type 0
-IsValid (Reads command) told = IsSomeAnd told (λ bytes. (length bytes ≤ MAX_INPUT) × ((q : Request) × (request_of command bytes ≡ Ok q) × (refusal_of q ≡ None)))
+IsValid (Reads command) told = IsSomeAnd told (λ bytes.
+    (length bytes ≤ MAX_INPUT)
+    × ((q : Request) × (request_of command bytes ≡ Ok q) × (refusal_of q ≡ None)))
 IsValid (Sample rows) told = ⊤
 IsValid Unknown told = ⊥
 
 -- The headline: the bytes, read to their end, are a request that nothing refuses, and the text of an answer to it was written.
-pub record DoneFor (command : Command) (left left' written written' : Option (List ℕ)) : Type 0 where
+pub record DoneFor (command : Command)
+    (left left' written written' : Option (List ℕ)) : Type 0 where
   pub bytes : List ℕ
   pub told : Tells left bytes
   pub short : length bytes ≤ MAX_INPUT

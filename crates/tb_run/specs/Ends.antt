@@ -12,7 +12,8 @@ abbrev pub Rose : ℕ → ℕ → Type 0
 Rose before now = (before < now) ⊎ (last_count ≤ now)
 
 -- A count never falls, and a call that fails makes it rise. Any other call leaves a count that is exact.
-pub record Counts {T : Type 0} (exact : Bool) (before now : ℕ) (result : Result T Failed) : Type 0 where
+pub record Counts {T : Type 0} (exact : Bool) (before now : ℕ)
+    (result : Result T Failed) : Type 0 where
   pub kept : before ≤ now
   pub failed : OnErr result (Rose before now)
   pub calm : IsTrue exact → OnOk result (now ≡ before)

@@ -31,4 +31,5 @@ expand_for _ d = expand d
 
 -- where no reason up to `Rows` holds, a request of format 2 is that of format 1, or none for the same reason
 abbrev pub TwoForms : Type 0
-TwoForms = (c : Command) (d : Data) → format_of d ≡ Some Runs → IsPastRows (value_request c d) → value_request c (expand_for c d) ≡ value_request c d
+TwoForms = (c : Command) (d : Data) → format_of d ≡ Some Runs → IsPastRows (value_request c d)
+    → value_request c (expand_for c d) ≡ value_request c d

@@ -10,8 +10,10 @@ use Rattle.tb_run.specs.Ends.{Rose}
 
 -- all bytes up to the end, or as many as the limit and one more
 abbrev pub WasRead : Option (List ℕ) → Option (List ℕ) → Input → Type 0
-WasRead before after (Whole bytes) = Consumes before after bytes.items × IsAtEnd after × (length bytes.items ≤ MAX_INPUT)
-WasRead before after TooLong = (taken : List ℕ) × Consumes before after taken × (length taken ≡ MAX_INPUT + 1)
+WasRead before after (Whole bytes) =
+    Consumes before after bytes.items × IsAtEnd after × (length bytes.items ≤ MAX_INPUT)
+WasRead before after TooLong =
+    (taken : List ℕ) × Consumes before after taken × (length taken ≡ MAX_INPUT + 1)
 
 -- The count has not fallen. A read that failed made it rise and is told, and with no such read a count that is exact is as it was.
 abbrev pub CountsReads : {A : Type 0} → Bool → ℕ → ℕ → Result A ReadError → Type 0

@@ -40,7 +40,8 @@ pub(crate) fn answer_request(
     command: Command,
     bytes: Vec<u8>,
 ) -> Result<Answer, OutOfMemory>
-    ensures { IfOk result (λ a. DueOfReading (request_of command bytes.items) a.status (string_bytes a.text)) }
+    ensures { IfOk result (λ a.
+        DueOfReading (request_of command bytes.items) a.status (string_bytes a.text)) }
 {
     match command {
         Command::Join => answer_join(rt, alloc, bytes),
@@ -58,7 +59,9 @@ fn answer_join(
     alloc: Global,
     bytes: Vec<u8>,
 ) -> Result<Answer, OutOfMemory>
-    ensures { IfOk result (λ a. DueOfReading (as_request join (join_request_of bytes.items)) a.status (string_bytes a.text)) }
+    ensures { IfOk result (λ a.
+        DueOfReading (as_request join (join_request_of bytes.items)) a.status
+        (string_bytes a.text)) }
 {
     match join_request_of(alloc, bytes) {
         Ok(request) => join_answer(rt, alloc, request),
@@ -67,7 +70,9 @@ fn answer_join(
 }
 
 fn answer_unpivot(alloc: Global, bytes: Vec<u8>) -> Result<Answer, OutOfMemory>
-    ensures { IfOk result (λ a. DueOfReading (as_request unpivot (unpivot_request_of bytes.items)) a.status (string_bytes a.text)) }
+    ensures { IfOk result (λ a.
+        DueOfReading (as_request unpivot (unpivot_request_of bytes.items)) a.status
+        (string_bytes a.text)) }
 {
     match unpivot_request_of(alloc, bytes) {
         Ok(request) => long_answer(alloc, request),
@@ -76,7 +81,9 @@ fn answer_unpivot(alloc: Global, bytes: Vec<u8>) -> Result<Answer, OutOfMemory>
 }
 
 fn answer_dummies(alloc: Global, bytes: Vec<u8>) -> Result<Answer, OutOfMemory>
-    ensures { IfOk result (λ a. DueOfReading (as_request dummies (dummies_request_of bytes.items)) a.status (string_bytes a.text)) }
+    ensures { IfOk result (λ a.
+        DueOfReading (as_request dummies (dummies_request_of bytes.items)) a.status
+        (string_bytes a.text)) }
 {
     match dummies_request_of(alloc, bytes) {
         Ok(request) => dummies_answer(alloc, request),
@@ -85,7 +92,9 @@ fn answer_dummies(alloc: Global, bytes: Vec<u8>) -> Result<Answer, OutOfMemory>
 }
 
 fn answer_pivot(alloc: Global, bytes: Vec<u8>) -> Result<Answer, OutOfMemory>
-    ensures { IfOk result (λ a. DueOfReading (as_request pivot (pivot_request_of bytes.items)) a.status (string_bytes a.text)) }
+    ensures { IfOk result (λ a.
+        DueOfReading (as_request pivot (pivot_request_of bytes.items)) a.status
+        (string_bytes a.text)) }
 {
     match pivot_request_of(alloc, bytes) {
         Ok(request) => wide_answer(alloc, request),
@@ -98,7 +107,8 @@ fn join_answer(
     alloc: Global,
     request: JoinRequest,
 ) -> Result<Answer, OutOfMemory>
-    ensures { IfOk result (λ a. DueOfRequest (join (request_view request)) a.status (string_bytes a.text)) }
+    ensures { IfOk result (λ a.
+        DueOfRequest (join (request_view request)) a.status (string_bytes a.text)) }
 {
     let JoinRequest {
         left,
@@ -119,7 +129,8 @@ fn join_answer(
 }
 
 fn long_answer(alloc: Global, request: UnpivotRequest) -> Result<Answer, OutOfMemory>
-    ensures { IfOk result (λ a. DueOfRequest (unpivot (unpivot_view request)) a.status (string_bytes a.text)) }
+    ensures { IfOk result (λ a.
+        DueOfRequest (unpivot (unpivot_view request)) a.status (string_bytes a.text)) }
 {
     let UnpivotRequest {
         table,
@@ -139,7 +150,8 @@ fn long_answer(alloc: Global, request: UnpivotRequest) -> Result<Answer, OutOfMe
 }
 
 fn dummies_answer(alloc: Global, request: DummiesRequest) -> Result<Answer, OutOfMemory>
-    ensures { IfOk result (λ a. DueOfRequest (dummies (dummies_view request)) a.status (string_bytes a.text)) }
+    ensures { IfOk result (λ a.
+        DueOfRequest (dummies (dummies_view request)) a.status (string_bytes a.text)) }
 {
     let DummiesRequest {
         table,
@@ -157,7 +169,8 @@ fn dummies_answer(alloc: Global, request: DummiesRequest) -> Result<Answer, OutO
 }
 
 fn wide_answer(alloc: Global, request: PivotRequest) -> Result<Answer, OutOfMemory>
-    ensures { IfOk result (λ a. DueOfRequest (pivot (pivot_view request)) a.status (string_bytes a.text)) }
+    ensures { IfOk result (λ a.
+        DueOfRequest (pivot (pivot_view request)) a.status (string_bytes a.text)) }
 {
     let PivotRequest {
         table,

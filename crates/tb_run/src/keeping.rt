@@ -22,7 +22,9 @@ pub(crate) fn answer_delta(
     alloc: Global,
     bytes: Vec<u8>,
 ) -> Result<Answer, OutOfMemory>
-    ensures { IfOk result (λ a. DueOfReading (as_request delta (delta_request_of bytes.items)) a.status (string_bytes a.text)) }
+    ensures { IfOk result (λ a.
+        DueOfReading (as_request delta (delta_request_of bytes.items)) a.status
+        (string_bytes a.text)) }
 {
     match delta_request_of(alloc, bytes) {
         Ok(request) => delta_answer(rt, alloc, request),
@@ -36,7 +38,8 @@ fn delta_answer(
     request: DeltaRequest,
 ) -> Result<Answer, OutOfMemory>
     requires fitting { AreFitting (delta_view request) }
-    ensures { IfOk result (λ a. DueOfRequest (delta (delta_view request)) a.status (string_bytes a.text)) }
+    ensures { IfOk result (λ a.
+        DueOfRequest (delta (delta_view request)) a.status (string_bytes a.text)) }
 {
     match kept(rt, alloc, request) {
         Ok(join) => kept_answer(alloc, join),
@@ -46,7 +49,10 @@ fn delta_answer(
 
 // The text of the join that was kept.
 fn kept_answer(alloc: Global, join: KeptJoin) -> Result<Answer, OutOfMemory>
-    ensures { IfOk result (λ a. (a.status ≡ Status.Done) × (string_bytes a.text ≡ kept_text (table_of join.table) (lists_of join.partners.items))) }
+    ensures { IfOk result (λ a.
+        (a.status ≡ Status.Done)
+        × (string_bytes a.text
+        ≡ kept_text (table_of join.table) (lists_of join.partners.items))) }
 {
     Ok(Answer {
         status: Status::Done,

@@ -14,7 +14,8 @@ use tb_value::PlSmallStr;
 
 /// One status alone is due for the same words and bytes.
 pub fn one_status(words: &[PlSmallStr], bytes: &[u8])
-    ensures { (s s' : Status) (text text' : List ℕ) → due words.now bytes.now s text → due words.now bytes.now s' text' → s ≡ s' }
+    ensures { (s s' : Status) (text text' : List ℕ) → due words.now bytes.now s text
+        → due words.now bytes.now s' text' → s ≡ s' }
 {}
 
 /// What is due for a valid request is an answer: nothing refuses it.

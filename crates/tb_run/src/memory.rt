@@ -102,8 +102,10 @@ impl Source for MemorySource {
         ensures bound { ReadsAtMost result room.new }
         ensures bytes { ReadConsumes (Some self.old.bytes) (Some self.new.bytes) result room.new }
         ensures count { Counts true self.old.plan.faults self.new.plan.faults result }
-        ensures planned { IsErr result ↔ Contains self.old.plan.failing (next_count self.old.plan.calls) }
-        ensures after { OnOk result (self.new.plan ≡ record self.old.plan { calls = next_count self.old.plan.calls }) }
+        ensures planned { IsErr result ↔ Contains self.old.plan.failing
+            (next_count self.old.plan.calls) }
+        ensures after { OnOk result
+            (self.new.plan ≡ record self.old.plan { calls = next_count self.old.plan.calls }) }
         ensures after_err { OnErr result (self.new.plan
             ≡ record { failing = self.old.plan.failing; calls = next_count self.old.plan.calls; faults = next_count self.old.plan.faults }) }
         ensures whole { IfOk result (λ n. n ≡ min (length room.old) (length self.old.bytes)) }
@@ -138,7 +140,10 @@ impl MemorySink {
     /// An empty sink with room for so many bytes. The calls with the given numbers fail, counted from 1,
     /// and so does a write of something into a full sink; no others do.
     pub fn new(alloc: Global, room: usize, failing: Vec<u64>) -> Result<MemorySink, OutOfMemory>
-        ensures { IfOk result (λ s. s ≡ record { bytes = []; room = room; plan = record { failing = failing.items; calls = 0; faults = 0 } }) }
+        ensures { IfOk result (λ s.
+            s
+            ≡ record
+            { bytes = []; room = room; plan = record { failing = failing.items; calls = 0; faults = 0 } }) }
     {
         Ok(MemorySink {
             taken: Vec::with_capacity(alloc, room)?,
@@ -169,10 +174,12 @@ impl Sink for MemorySink {
         ensures count { Counts true self.old.plan.faults self.new.plan.faults result }
         ensures planned { IsErr result ↔ (Contains self.old.plan.failing (next_count self.old.plan.calls)
             ⊎ ((0 < length piece.now) × (length self.old.bytes ≡ self.old.room))) }
-        ensures after { OnOk result (self.new.plan ≡ record self.old.plan { calls = next_count self.old.plan.calls }) }
+        ensures after { OnOk result
+            (self.new.plan ≡ record self.old.plan { calls = next_count self.old.plan.calls }) }
         ensures after_err { OnErr result (self.new.plan
             ≡ record { failing = self.old.plan.failing; calls = next_count self.old.plan.calls; faults = next_count self.old.plan.faults }) }
-        ensures whole { IfOk result (λ n. n ≡ min (length piece.now) (self.old.room - length self.old.bytes)) }
+        ensures whole { IfOk result (λ n.
+            n ≡ min (length piece.now) (self.old.room - length self.old.bytes)) }
         ensures same_room { self.new.room ≡ self.old.room }
     {
         let planned = self.schedule.next_fails();

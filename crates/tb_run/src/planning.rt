@@ -21,7 +21,9 @@ pub(crate) fn answer_plan(
     alloc: Global,
     bytes: Vec<u8>,
 ) -> Result<Answer, OutOfMemory>
-    ensures { IfOk result (λ a. DueOfReading (as_request plan (plan_request_of bytes.items)) a.status (string_bytes a.text)) }
+    ensures { IfOk result (λ a.
+        DueOfReading (as_request plan (plan_request_of bytes.items)) a.status
+        (string_bytes a.text)) }
 {
     match plan_request_of(alloc, bytes) {
         Ok(request) => plan_answer(rt, alloc, request),
@@ -34,7 +36,8 @@ fn plan_answer(
     alloc: Global,
     request: PlanRequest,
 ) -> Result<Answer, OutOfMemory>
-    ensures { IfOk result (λ a. DueOfRequest (plan (plan_view request)) a.status (string_bytes a.text)) }
+    ensures { IfOk result (λ a.
+        DueOfRequest (plan (plan_view request)) a.status (string_bytes a.text)) }
 {
     let outcome = planned(rt, alloc, request);
     plan_answered(alloc, outcome)

@@ -56,14 +56,18 @@ pub fn run<S: Source, K: Sink>(
         × AppendsPart (K.written sink.old) (K.written sink.new) text) }
 
     // 6: at any time, but not for words of no form. Nothing was written.
-    ensures out_of_memory { result ≡ Status.OutOfMemory → IsKnown (form words.now) × (sink.new ≡ sink.old) }
+    ensures out_of_memory { result ≡ Status.OutOfMemory
+        → IsKnown (form words.now) × (sink.new ≡ sink.old) }
 
     // Counts never fall.
-    ensures kept { (S.faults source.old ≤ S.faults source.new) × (K.faults sink.old ≤ K.faults sink.new) }
+    ensures kept { (S.faults source.old ≤ S.faults source.new)
+        × (K.faults sink.old ≤ K.faults sink.new) }
 
     // No read failed but under 4, and no write but under 5: counts that are exact are as they were.
-    ensures reads_well { IsTrue S.is_exact → result ≢ Status.ReadFault → S.faults source.new ≡ S.faults source.old }
-    ensures writes_well { IsTrue K.is_exact → result ≢ Status.WriteFault → K.faults sink.new ≡ K.faults sink.old }
+    ensures reads_well { IsTrue S.is_exact → result ≢ Status.ReadFault
+        → S.faults source.new ≡ S.faults source.old }
+    ensures writes_well { IsTrue K.is_exact → result ≢ Status.WriteFault
+        → K.faults sink.new ≡ K.faults sink.old }
 
     // Each status exactly where it comes, over a source that tells its bytes and counts that tell each fault, if there is memory.
     ensures exactly { TellFaults S.is_exact K.is_exact (S.faults source.new) (K.faults sink.new) → result ≢ Status.OutOfMemory
@@ -99,7 +103,9 @@ fn respond<S: Source>(
     command: Command,
     source: &mut S,
 ) -> Result<Answer, ReadError>
-    ensures due { IfOk result (λ a. IsDue (Form.Reads command) (S.left source.old) (S.left source.new) a.status (string_bytes a.text)) }
+    ensures due { IfOk result (λ a.
+        IsDue (Form.Reads command) (S.left source.old) (S.left source.new) a.status
+        (string_bytes a.text)) }
     ensures count { CountsReads S.is_exact (S.faults source.old) (S.faults source.new) result }
 {
     match read_request(alloc, source)? {
@@ -123,7 +129,8 @@ fn sampled(rt: &(impl Threads + Sync), alloc: Global, rows: u32) -> Result<Strin
 
 // Writes a text, and answers with its status.
 fn reply<K: Sink>(sink: &mut K, status: Status, text: &str) -> Status
-    ensures ends { IsReply K.is_exact (K.written sink.old) (K.written sink.new) (K.faults sink.old) (K.faults sink.new) status text.now result }
+    ensures ends { IsReply K.is_exact (K.written sink.old) (K.written sink.new) (K.faults sink.old)
+        (K.faults sink.new) status text.now result }
     ensures kept { K.faults sink.old ≤ K.faults sink.new }
 {
     match write_text(sink, text.as_bytes()) {
@@ -139,7 +146,8 @@ pub fn run_calm(
     words: &[PlSmallStr],
     bytes: Vec<u8>,
 ) -> Status
-    ensures { (result ≡ Status.OutOfMemory) ⊎ ((text : List ℕ) × due words.now bytes.items result text) }
+    ensures { (result ≡ Status.OutOfMemory)
+        ⊎ ((text : List ℕ) × due words.now bytes.items result text) }
 {
     let mut source = NeverSource::new(bytes);
     let mut sink = NeverSink::new();

@@ -57,7 +57,8 @@ pub(crate) fn text_with_trace(
     table: &DataFrame,
     trace: &JoinTrace,
 ) -> Result<String, OutOfMemory>
-    ensures { IfOk result (λ s. string_bytes s ≡ traced_text_of (table_of table.now) (trace_data (trace_told trace.now))) }
+    ensures { IfOk result (λ s.
+        string_bytes s ≡ traced_text_of (table_of table.now) (trace_data (trace_told trace.now))) }
 {
     let trace = trace_value(alloc, trace)?;
     traced_text_of(alloc, table, &trace)

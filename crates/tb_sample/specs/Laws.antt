@@ -17,4 +17,6 @@ HasSummary = (n : ℕ) → n ≤ MAX_ROWS → (s : Summary) × IsSummary n s
 -- each summary of n rows is this one: n, the sum of the right keys, and the sum of w, since each right row has one left row
 abbrev pub IsOne : Type 0
 IsOne = (n : ℕ) (s : Summary) → n ≤ MAX_ROWS → IsSummary n s
-    → s ≡ record { height = n; key_sum = pos (sum_by (λ j. (7 * j) % n) (row_numbers n)); w_sum = pos (sum_by (λ j. j) (row_numbers n)) }
+    → s
+    ≡ record
+    { height = n; key_sum = pos (sum_by (λ j. (7 * j) % n) (row_numbers n)); w_sum = pos (sum_by (λ j. j) (row_numbers n)) }

@@ -57,7 +57,8 @@ fn number_type() -> DataType
 fn number_column(alloc: Global, name: &str, numbers: Vec<i64>) -> Result<Column, OutOfMemory>
     requires few { length numbers.items ≤ MAX_ROWS }
     requires typed { All (HasType int64) (map int numbers.items) }
-    ensures { IfOk result (λ c. plain_column c ≡ record { name = name.now; kind = int64; values = map int numbers.items }) }
+    ensures { IfOk result (λ c.
+        plain_column c ≡ record { name = name.now; kind = int64; values = map int numbers.items }) }
 {
     let name = PlSmallStr::from_str(alloc, name)?;
     let mut chunks = Vec::with_capacity(alloc, 1)?;

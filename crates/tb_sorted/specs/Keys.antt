@@ -20,11 +20,13 @@ kind_of_merge keep = (if keep then Left else Inner)
 
 -- the listing of keys
 abbrev pub number_listing : Bool → List ℤ → List ℤ → List JoinPair
-number_listing keep left right = listing_of (kind_of_merge keep) (length left) (length right) (keys_match left right)
+number_listing keep left right =
+    listing_of (kind_of_merge keep) (length left) (length right) (keys_match left right)
 
 -- the sizes of a merge of keys
 abbrev pub number_sizes : List ℤ → List ℤ → MergeSizes
-number_sizes left right = record { left_len = length left; right_len = length right; pairs = length (number_listing false left right) }
+number_sizes left right = record
+    { left_len = length left; right_len = length right; pairs = length (number_listing false left right) }
 
 -- so many pairs are too many
 abbrev pub too_long : List JoinPair → Option PolarsError

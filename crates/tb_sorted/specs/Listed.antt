@@ -32,23 +32,31 @@ pub record IsMergeWithin (due : MergeSizes) (merged : MergedView) : Type 0 where
   pub cost : merged.comparisons ≤ 2 * due.left_len + due.right_len
 
 -- the pairs that two sides list, in this order, and the merge of the sides' sizes that gave them, unless the pairs are too many
-pub record IsMerged {A X : Type 0} (list : List X → List X → List JoinPair) (sizes : List X → List X → MergeSizes) (order : Direction) (left right : List X) (answer : Result (Vec JoinPair A × MergedView) PolarsError) : Type 0 where
+pub record IsMerged {A X : Type 0} (list : List X → List X → List JoinPair)
+    (sizes : List X → List X → MergeSizes) (order : Direction) (left right : List X)
+    (answer : Result (Vec JoinPair A × MergedView) PolarsError) : Type 0 where
   pub settles : Settles answer (too_long (list left right))
   pub pairs : IfOk answer (λ x. IsPermutation (list left right) x.0.items)
   pub ascends : IfOk answer (λ x. Ascends order x.0.items)
   pub merged : IfOk answer (λ x. IsMergeWithin (sizes left right) x.1)
 
 -- two lists of keys are merged, and two columns by their values
-abbrev pub AreKeysMerged : {A : Type 0} → Direction → Bool → List ℤ → List ℤ → Result (Vec JoinPair A × MergedView) PolarsError → Type 0
-AreKeysMerged order keep left right answer = IsMerged (number_listing keep) number_sizes order left right answer
+abbrev pub AreKeysMerged : {A : Type 0} → Direction → Bool → List ℤ → List ℤ
+    → Result (Vec JoinPair A × MergedView) PolarsError → Type 0
+AreKeysMerged order keep left right answer =
+    IsMerged (number_listing keep) number_sizes order left right answer
 
-abbrev pub AreValuesMerged : {A : Type 0} → Direction → Bool → List Datum → List Datum → Result (Vec JoinPair A × MergedView) PolarsError → Type 0
-AreValuesMerged order keep us vs answer = IsMerged (value_listing false (kind_of_merge keep)) value_sizes order us vs answer
+abbrev pub AreValuesMerged : {A : Type 0} → Direction → Bool → List Datum → List Datum
+    → Result (Vec JoinPair A × MergedView) PolarsError → Type 0
+AreValuesMerged order keep us vs answer =
+    IsMerged (value_listing false (kind_of_merge keep)) value_sizes order us vs answer
 
 -- the sizes of the merge of a request's keys
 abbrev pub requested_sizes : LentRequest → MergeSizes
-requested_sizes r = sizes_by r.how (first_values (lent_columns r.left_keys.now)) (first_values (lent_columns r.right_keys.now))
+requested_sizes r = sizes_by r.how (first_values (lent_columns r.left_keys.now))
+    (first_values (lent_columns r.right_keys.now))
 
 -- the cause why a request is refused, where its keys are merged
 abbrev pub merge_refusal : LentRequest → ExecView → Option PolarsError
-merge_refusal r exec = (if takes_merge_path r exec then first_cause (row_causes (asked_request r)) else None)
+merge_refusal r exec =
+    (if takes_merge_path r exec then first_cause (row_causes (asked_request r)) else None)

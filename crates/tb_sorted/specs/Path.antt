@@ -12,11 +12,14 @@ use Rattle.tb_sorted.specs.Promise.Path.{is_flagged, takes_path_by}
 
 -- whether the keys of a request are merged
 abbrev pub takes_merge_path : LentRequest → ExecView → Bool
-takes_merge_path r exec = takes_path_by r.how r.args.now.validation exec (lent_columns r.left_keys.now) (lent_columns r.right_keys.now)
+takes_merge_path r exec = takes_path_by r.how r.args.now.validation exec
+    (lent_columns r.left_keys.now) (lent_columns r.right_keys.now)
 
 -- which of two such keys is sorted first: one that isn't flagged
 abbrev pub sorted_first : Col → Col → SortedFirst
-sorted_first left right = (if is_flagged left.flag then (if is_flagged right.flag then the.Neither else the.Right) else the.Left)
+sorted_first left right = (if is_flagged left.flag
+    then (if is_flagged right.flag then the.Neither else the.Right)
+    else the.Left)
 
 -- the order in which the pairs stand then
 abbrev pub order_after : SortedFirst → Direction

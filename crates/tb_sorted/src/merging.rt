@@ -43,11 +43,15 @@ fn counted_pairs<N: WholeCell, A: NumberList<N>, B: NumberList<N>, L: Ledger + S
     requires right_sorted { IsSorted int_cmp (B.keys right.now) }
     requires left_few { length (A.keys left.now) ≤ MAX_ROWS }
     requires right_few { length (B.keys right.now) ≤ MAX_ROWS }
-    ensures settles { SettlesCount result (length (number_listing keep_unmatched (A.keys left.now) (B.keys right.now))) }
-    ensures pairs { IfOk result (λ r. IsPermutation (number_listing keep_unmatched (A.keys left.now) (B.keys right.now)) r.0.items) }
+    ensures settles { SettlesCount result
+        (length (number_listing keep_unmatched (A.keys left.now) (B.keys right.now))) }
+    ensures pairs { IfOk result (λ r.
+        IsPermutation (number_listing keep_unmatched (A.keys left.now) (B.keys right.now))
+        r.0.items) }
     ensures order { IfOk result (λ r. IsSorted left_first r.0.items) }
     ensures merged { IfOk result (λ r. IsMergeOf (A.keys left.now) (B.keys right.now) r.1) }
-    ensures cost { IfOk result (λ r. r.1.comparisons ≤ 2 * length (A.keys left.now) + length (B.keys right.now)) }
+    ensures cost { IfOk result (λ r.
+        r.1.comparisons ≤ 2 * length (A.keys left.now) + length (B.keys right.now)) }
 {
     let mut steps = Steps::<L>::open(blank);
     let keys = Sides::<N, A, B, L> {

@@ -38,8 +38,10 @@ fn ordered_pairs(
     requires same { left.now.kind ≡ right.now.kind }
     requires left { is_merge_key left.now ≡ true }
     requires right { is_merge_key right.now ≡ true }
-    requires ordered { have_order (kind_of_merge keep_unmatched) exec.now left.now right.now ≡ true }
-    ensures { AreValuesMerged (order_after (sorted_first left.now right.now)) keep_unmatched (values left.now) (values right.now) result }
+    requires ordered { have_order (kind_of_merge keep_unmatched) exec.now left.now right.now
+        ≡ true }
+    ensures { AreValuesMerged (order_after (sorted_first left.now right.now)) keep_unmatched
+        (values left.now) (values right.now) result }
 {
     let _lengths = (left.len(), right.len());
     let left_joined = joined_key(alloc, left)?;
@@ -78,10 +80,19 @@ fn left_way_pairs(
     requires same { left.now.kind ≡ right.now.kind }
     requires left { is_merge_key left.now ≡ true }
     requires right { is_merge_key right.now ≡ true }
-    requires ordered { have_order (kind_of_merge keep_unmatched) exec.now left.now right.now ≡ true }
-    ensures settles { Settles result (too_long (value_listing false (kind_of_merge keep_unmatched) (values left.now) (values right.now))) }
-    ensures found { IfOk result (λ m. IsListedIn (value_listing false (kind_of_merge keep_unmatched) (values left.now) (values right.now)) m.listed) }
-    ensures merged { IfOk result (λ m. IsMergeWithin (value_sizes (values left.now) (values right.now)) m.merged) }
+    requires ordered { have_order (kind_of_merge keep_unmatched) exec.now left.now right.now
+        ≡ true }
+    ensures settles { Settles result
+        (too_long
+        (value_listing false (kind_of_merge keep_unmatched) (values left.now)
+        (values right.now))) }
+    ensures found { IfOk result (λ m.
+        IsListedIn
+        (value_listing false (kind_of_merge keep_unmatched) (values left.now)
+        (values right.now))
+        m.listed) }
+    ensures merged { IfOk result (λ m.
+        IsMergeWithin (value_sizes (values left.now) (values right.now)) m.merged) }
 {
     let (pairs, merged) = ordered_pairs(alloc, keep_unmatched, left, right, exec)?;
     let order = order_after(sorted_first(left, right));
@@ -100,9 +111,13 @@ fn right_way_pairs(
     requires left { is_merge_key left.now ≡ true }
     requires right { is_merge_key right.now ≡ true }
     requires ordered { have_order JoinType.Right exec.now right.now left.now ≡ true }
-    ensures settles { Settles result (too_long (value_listing false JoinType.Right (values left.now) (values right.now))) }
-    ensures found { IfOk result (λ m. IsListedIn (value_listing false JoinType.Right (values left.now) (values right.now)) m.listed) }
-    ensures merged { IfOk result (λ m. IsMergeWithin (sizes_by JoinType.Right (values left.now) (values right.now)) m.merged) }
+    ensures settles { Settles result
+        (too_long (value_listing false JoinType.Right (values left.now) (values right.now))) }
+    ensures found { IfOk result (λ m.
+        IsListedIn (value_listing false JoinType.Right (values left.now) (values right.now))
+        m.listed) }
+    ensures merged { IfOk result (λ m.
+        IsMergeWithin (sizes_by JoinType.Right (values left.now) (values right.now)) m.merged) }
 {
     let (pairs, merged) = ordered_pairs(alloc, true, right, left, exec)?;
     let order = Direction::ByRight;
@@ -123,9 +138,12 @@ fn sorted_pairs(
     requires left { is_merge_key left.now ≡ true }
     requires right { is_merge_key right.now ≡ true }
     requires ordered { are_ordered how exec.now left.now right.now ≡ true }
-    ensures settles { Settles result (too_long (value_listing false how (values left.now) (values right.now))) }
-    ensures found { IfOk result (λ m. IsListedIn (value_listing false how (values left.now) (values right.now)) m.listed) }
-    ensures merged { IfOk result (λ m. IsMergeWithin (sizes_by how (values left.now) (values right.now)) m.merged) }
+    ensures settles { Settles result
+        (too_long (value_listing false how (values left.now) (values right.now))) }
+    ensures found { IfOk result (λ m.
+        IsListedIn (value_listing false how (values left.now) (values right.now)) m.listed) }
+    ensures merged { IfOk result (λ m.
+        IsMergeWithin (sizes_by how (values left.now) (values right.now)) m.merged) }
 {
     match how {
         JoinType::Inner => left_way_pairs(alloc, false, left, right, exec),
@@ -149,7 +167,8 @@ fn takes_merge_path(request: &LentRequest<'_>, exec: &Exec) -> bool
 
 // The pairs of a request whose keys are merged.
 fn taken_pairs(alloc: Global, request: &LentRequest<'_>, exec: &Exec) -> PolarsResult<MergedPairs>
-    requires alike { map (λ (c : Col). c.kind) (lent_columns request.now.left_keys.now) ≡ map (λ (c : Col). c.kind) (lent_columns request.now.right_keys.now) }
+    requires alike { map (λ (c : Col). c.kind) (lent_columns request.now.left_keys.now)
+        ≡ map (λ (c : Col). c.kind) (lent_columns request.now.right_keys.now) }
     requires taken { takes_merge_path request.now exec.now ≡ true }
     ensures settles { Settles result (first_cause (row_causes (asked_request request.now))) }
     ensures found { IfOk result (λ m. IsListedIn (listing (asked_request request.now)) m.listed) }
@@ -181,11 +200,14 @@ pub fn merged_pairs(
     request: &LentRequest<'_>,
     exec: &Exec,
 ) -> PolarsResult<Option<MergedPairs>>
-    requires alike { map (λ (c : Col). c.kind) (lent_columns request.now.left_keys.now) ≡ map (λ (c : Col). c.kind) (lent_columns request.now.right_keys.now) }
+    requires alike { map (λ (c : Col). c.kind) (lent_columns request.now.left_keys.now)
+        ≡ map (λ (c : Col). c.kind) (lent_columns request.now.right_keys.now) }
     ensures taken { IfOk result (λ o. is_some o ≡ takes_merge_path request.now exec.now) }
     ensures settles { Settles result (merge_refusal request.now exec.now) }
-    ensures found { IfOk result (λ o. IfSome o (λ m. IsListedIn (listing (asked_request request.now)) m.listed)) }
-    ensures merged { IfOk result (λ o. IfSome o (λ m. IsMergeWithin (requested_sizes request.now) m.merged)) }
+    ensures found { IfOk result (λ o.
+        IfSome o (λ m. IsListedIn (listing (asked_request request.now)) m.listed)) }
+    ensures merged { IfOk result (λ o.
+        IfSome o (λ m. IsMergeWithin (requested_sizes request.now) m.merged)) }
 {
     if !takes_merge_path(request, exec) {
         return Ok(None);

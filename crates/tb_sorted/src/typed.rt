@@ -29,8 +29,10 @@ fn merged_values<N: WholeCell>(
 ) -> PolarsResult<(Vec<JoinPair>, Merged)>
     requires left { AreMergeKeys (map N.shows left.now.values.now) }
     requires right { AreMergeKeys (map N.shows right.now.values.now) }
-    requires may { MayMerge first keep_unmatched (map N.shows left.now.values.now) (map N.shows right.now.values.now) }
-    ensures { AreValuesMerged (order_after first) keep_unmatched (map N.shows left.now.values.now) (map N.shows right.now.values.now) result }
+    requires may { MayMerge first keep_unmatched (map N.shows left.now.values.now)
+        (map N.shows right.now.values.now) }
+    ensures { AreValuesMerged (order_after first) keep_unmatched (map N.shows left.now.values.now)
+        (map N.shows right.now.values.now) result }
 {
     match first {
         SortedFirst::Neither => merged_lists(alloc, keep_unmatched, left, right, exec),
@@ -64,8 +66,11 @@ fn pairs_of_cells<N: WholeCell>(
     requires right_one { length (cell_lists N.shows right.now) ≡ 1 }
     requires left { AreMergeKeys (concatenation (cell_lists N.shows left.now)) }
     requires right { AreMergeKeys (concatenation (cell_lists N.shows right.now)) }
-    requires may { MayMerge first keep_unmatched (concatenation (cell_lists N.shows left.now)) (concatenation (cell_lists N.shows right.now)) }
-    ensures { AreValuesMerged (order_after first) keep_unmatched (concatenation (cell_lists N.shows left.now)) (concatenation (cell_lists N.shows right.now)) result }
+    requires may { MayMerge first keep_unmatched (concatenation (cell_lists N.shows left.now))
+        (concatenation (cell_lists N.shows right.now)) }
+    ensures { AreValuesMerged (order_after first) keep_unmatched
+        (concatenation (cell_lists N.shows left.now)) (concatenation (cell_lists N.shows right.now))
+        result }
 {
     let left = lone_values(left);
     let right = lone_values(right);
@@ -87,8 +92,10 @@ pub(crate) fn pairs_of_chunks(
     requires right_one { length (chunk_lists right.now) ≡ 1 }
     requires left { AreMergeKeys (concatenation (chunk_lists left.now)) }
     requires right { AreMergeKeys (concatenation (chunk_lists right.now)) }
-    requires may { MayMerge first keep_unmatched (concatenation (chunk_lists left.now)) (concatenation (chunk_lists right.now)) }
-    ensures { AreValuesMerged (order_after first) keep_unmatched (concatenation (chunk_lists left.now)) (concatenation (chunk_lists right.now)) result }
+    requires may { MayMerge first keep_unmatched (concatenation (chunk_lists left.now))
+        (concatenation (chunk_lists right.now)) }
+    ensures { AreValuesMerged (order_after first) keep_unmatched
+        (concatenation (chunk_lists left.now)) (concatenation (chunk_lists right.now)) result }
 {
     match (left, right) {
         (Chunks::Int8Type(l), Chunks::Int8Type(r)) => {

@@ -62,7 +62,8 @@ impl<T: PolarsDataType> ChunkedArray<T> {
     ///
     /// SchemaMismatch where the marker doesn't accept the type.
     pub fn from_series(series: Series) -> PolarsResult<ChunkedArray<T>>
-        ensures { MatchResult result (λ a. (a ≡ series) × (physical series.kind ≡ T.Array.kind)) (λ e. (e ≡ SchemaMismatch) × (physical series.kind ≢ T.Array.kind)) }
+        ensures { MatchResult result (λ a. (a ≡ series) × (physical series.kind ≡ T.Array.kind))
+            (λ e. (e ≡ SchemaMismatch) × (physical series.kind ≢ T.Array.kind)) }
     {
         let (name, dtype, chunks, flag) = series.into_parts();
         match T::unwrap(chunks) {
@@ -88,7 +89,8 @@ impl<T: PolarsDataType> ChunkedArray<T> {
         dtype: DataType,
         chunks: Vec<Vec<AnyValue>>,
     ) -> PolarsResult<ChunkedArray<T>>
-        ensures { IsArranged name.now (kind_of dtype) T.Array.kind (lists_of chunks.items) (fresh_view_arrays (lists_of chunks.items)) result }
+        ensures { IsArranged name.now (kind_of dtype) T.Array.kind (lists_of chunks.items)
+            (fresh_view_arrays (lists_of chunks.items)) result }
     {
         if !T::accepts(&dtype) {
             return Err(PolarsError::SchemaMismatch);
@@ -133,7 +135,8 @@ impl<T: PolarsDataType> ChunkedArray<T> {
     /// The chunks.
     pub fn chunks(&self) -> &[T::Array]
         ensures shown { map T.Array.shown result.now ≡ self.now.chunks }
-        ensures view_arrays { view_arrays_of T.Array.views T.Array.buffers result.now ≡ self.now.view_arrays }
+        ensures view_arrays { view_arrays_of T.Array.views T.Array.buffers result.now
+            ≡ self.now.view_arrays }
     {
         &self.chunks
     }

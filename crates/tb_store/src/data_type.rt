@@ -47,7 +47,9 @@ impl PolarsDataType for BooleanType {
     fn wrap(arrays: Vec<Cells<bool>>) -> Chunks
         ensures lists { chunk_lists result ≡ map ⟦<Cells<bool> as Chunk>⟧.shown arrays.items }
         ensures storage { storage result ≡ kinds.boolean }
-        ensures view_arrays { chunk_view_arrays result ≡ view_arrays_of ⟦<Cells<bool> as Chunk>⟧.views ⟦<Cells<bool> as Chunk>⟧.buffers arrays.items }
+        ensures view_arrays { chunk_view_arrays result
+            ≡ view_arrays_of ⟦<Cells<bool> as Chunk>⟧.views ⟦<Cells<bool> as Chunk>⟧.buffers
+            arrays.items }
     {
         Chunks::BooleanType(arrays)
     }
@@ -73,7 +75,9 @@ impl PolarsDataType for Int8Type {
     fn wrap(arrays: Vec<Cells<i8>>) -> Chunks
         ensures lists { chunk_lists result ≡ map ⟦<Cells<i8> as Chunk>⟧.shown arrays.items }
         ensures storage { storage result ≡ kinds.int8 }
-        ensures view_arrays { chunk_view_arrays result ≡ view_arrays_of ⟦<Cells<i8> as Chunk>⟧.views ⟦<Cells<i8> as Chunk>⟧.buffers arrays.items }
+        ensures view_arrays { chunk_view_arrays result
+            ≡ view_arrays_of ⟦<Cells<i8> as Chunk>⟧.views ⟦<Cells<i8> as Chunk>⟧.buffers
+            arrays.items }
     {
         Chunks::Int8Type(arrays)
     }
@@ -99,7 +103,9 @@ impl PolarsDataType for Int16Type {
     fn wrap(arrays: Vec<Cells<i16>>) -> Chunks
         ensures lists { chunk_lists result ≡ map ⟦<Cells<i16> as Chunk>⟧.shown arrays.items }
         ensures storage { storage result ≡ kinds.int16 }
-        ensures view_arrays { chunk_view_arrays result ≡ view_arrays_of ⟦<Cells<i16> as Chunk>⟧.views ⟦<Cells<i16> as Chunk>⟧.buffers arrays.items }
+        ensures view_arrays { chunk_view_arrays result
+            ≡ view_arrays_of ⟦<Cells<i16> as Chunk>⟧.views ⟦<Cells<i16> as Chunk>⟧.buffers
+            arrays.items }
     {
         Chunks::Int16Type(arrays)
     }
@@ -125,7 +131,9 @@ impl PolarsDataType for Int32Type {
     fn wrap(arrays: Vec<Cells<i32>>) -> Chunks
         ensures lists { chunk_lists result ≡ map ⟦<Cells<i32> as Chunk>⟧.shown arrays.items }
         ensures storage { storage result ≡ kinds.int32 }
-        ensures view_arrays { chunk_view_arrays result ≡ view_arrays_of ⟦<Cells<i32> as Chunk>⟧.views ⟦<Cells<i32> as Chunk>⟧.buffers arrays.items }
+        ensures view_arrays { chunk_view_arrays result
+            ≡ view_arrays_of ⟦<Cells<i32> as Chunk>⟧.views ⟦<Cells<i32> as Chunk>⟧.buffers
+            arrays.items }
     {
         Chunks::Int32Type(arrays)
     }
@@ -151,7 +159,9 @@ impl PolarsDataType for Int64Type {
     fn wrap(arrays: Vec<Cells<i64>>) -> Chunks
         ensures lists { chunk_lists result ≡ map ⟦<Cells<i64> as Chunk>⟧.shown arrays.items }
         ensures storage { storage result ≡ kinds.int64 }
-        ensures view_arrays { chunk_view_arrays result ≡ view_arrays_of ⟦<Cells<i64> as Chunk>⟧.views ⟦<Cells<i64> as Chunk>⟧.buffers arrays.items }
+        ensures view_arrays { chunk_view_arrays result
+            ≡ view_arrays_of ⟦<Cells<i64> as Chunk>⟧.views ⟦<Cells<i64> as Chunk>⟧.buffers
+            arrays.items }
     {
         Chunks::Int64Type(arrays)
     }
@@ -177,7 +187,9 @@ impl PolarsDataType for Int128Type {
     fn wrap(arrays: Vec<Cells<i128>>) -> Chunks
         ensures lists { chunk_lists result ≡ map ⟦<Cells<i128> as Chunk>⟧.shown arrays.items }
         ensures storage { storage result ≡ kinds.int128 }
-        ensures view_arrays { chunk_view_arrays result ≡ view_arrays_of ⟦<Cells<i128> as Chunk>⟧.views ⟦<Cells<i128> as Chunk>⟧.buffers arrays.items }
+        ensures view_arrays { chunk_view_arrays result
+            ≡ view_arrays_of ⟦<Cells<i128> as Chunk>⟧.views ⟦<Cells<i128> as Chunk>⟧.buffers
+            arrays.items }
     {
         Chunks::Int128Type(arrays)
     }
@@ -203,7 +215,9 @@ impl PolarsDataType for UInt8Type {
     fn wrap(arrays: Vec<Cells<u8>>) -> Chunks
         ensures lists { chunk_lists result ≡ map ⟦<Cells<u8> as Chunk>⟧.shown arrays.items }
         ensures storage { storage result ≡ kinds.uint8 }
-        ensures view_arrays { chunk_view_arrays result ≡ view_arrays_of ⟦<Cells<u8> as Chunk>⟧.views ⟦<Cells<u8> as Chunk>⟧.buffers arrays.items }
+        ensures view_arrays { chunk_view_arrays result
+            ≡ view_arrays_of ⟦<Cells<u8> as Chunk>⟧.views ⟦<Cells<u8> as Chunk>⟧.buffers
+            arrays.items }
     {
         Chunks::UInt8Type(arrays)
     }
@@ -229,7 +243,9 @@ impl PolarsDataType for UInt16Type {
     fn wrap(arrays: Vec<Cells<u16>>) -> Chunks
         ensures lists { chunk_lists result ≡ map ⟦<Cells<u16> as Chunk>⟧.shown arrays.items }
         ensures storage { storage result ≡ kinds.uint16 }
-        ensures view_arrays { chunk_view_arrays result ≡ view_arrays_of ⟦<Cells<u16> as Chunk>⟧.views ⟦<Cells<u16> as Chunk>⟧.buffers arrays.items }
+        ensures view_arrays { chunk_view_arrays result
+            ≡ view_arrays_of ⟦<Cells<u16> as Chunk>⟧.views ⟦<Cells<u16> as Chunk>⟧.buffers
+            arrays.items }
     {
         Chunks::UInt16Type(arrays)
     }
@@ -255,7 +271,9 @@ impl PolarsDataType for UInt32Type {
     fn wrap(arrays: Vec<Cells<u32>>) -> Chunks
         ensures lists { chunk_lists result ≡ map ⟦<Cells<u32> as Chunk>⟧.shown arrays.items }
         ensures storage { storage result ≡ kinds.uint32 }
-        ensures view_arrays { chunk_view_arrays result ≡ view_arrays_of ⟦<Cells<u32> as Chunk>⟧.views ⟦<Cells<u32> as Chunk>⟧.buffers arrays.items }
+        ensures view_arrays { chunk_view_arrays result
+            ≡ view_arrays_of ⟦<Cells<u32> as Chunk>⟧.views ⟦<Cells<u32> as Chunk>⟧.buffers
+            arrays.items }
     {
         Chunks::UInt32Type(arrays)
     }
@@ -281,7 +299,9 @@ impl PolarsDataType for UInt64Type {
     fn wrap(arrays: Vec<Cells<u64>>) -> Chunks
         ensures lists { chunk_lists result ≡ map ⟦<Cells<u64> as Chunk>⟧.shown arrays.items }
         ensures storage { storage result ≡ kinds.uint64 }
-        ensures view_arrays { chunk_view_arrays result ≡ view_arrays_of ⟦<Cells<u64> as Chunk>⟧.views ⟦<Cells<u64> as Chunk>⟧.buffers arrays.items }
+        ensures view_arrays { chunk_view_arrays result
+            ≡ view_arrays_of ⟦<Cells<u64> as Chunk>⟧.views ⟦<Cells<u64> as Chunk>⟧.buffers
+            arrays.items }
     {
         Chunks::UInt64Type(arrays)
     }
@@ -307,7 +327,9 @@ impl PolarsDataType for StringType {
     fn wrap(arrays: Vec<StringChunk>) -> Chunks
         ensures lists { chunk_lists result ≡ map ⟦<StringChunk as Chunk>⟧.shown arrays.items }
         ensures storage { storage result ≡ kinds.string }
-        ensures view_arrays { chunk_view_arrays result ≡ view_arrays_of ⟦<StringChunk as Chunk>⟧.views ⟦<StringChunk as Chunk>⟧.buffers arrays.items }
+        ensures view_arrays { chunk_view_arrays result
+            ≡ view_arrays_of ⟦<StringChunk as Chunk>⟧.views ⟦<StringChunk as Chunk>⟧.buffers
+            arrays.items }
     {
         Chunks::StringType(arrays)
     }
@@ -333,7 +355,9 @@ impl PolarsDataType for BinaryType {
     fn wrap(arrays: Vec<BinaryChunk>) -> Chunks
         ensures lists { chunk_lists result ≡ map ⟦<BinaryChunk as Chunk>⟧.shown arrays.items }
         ensures storage { storage result ≡ kinds.binary }
-        ensures view_arrays { chunk_view_arrays result ≡ view_arrays_of ⟦<BinaryChunk as Chunk>⟧.views ⟦<BinaryChunk as Chunk>⟧.buffers arrays.items }
+        ensures view_arrays { chunk_view_arrays result
+            ≡ view_arrays_of ⟦<BinaryChunk as Chunk>⟧.views ⟦<BinaryChunk as Chunk>⟧.buffers
+            arrays.items }
     {
         Chunks::BinaryType(arrays)
     }
@@ -359,7 +383,9 @@ impl PolarsDataType for ListType {
     fn wrap(arrays: Vec<ListChunk>) -> Chunks
         ensures lists { chunk_lists result ≡ map ⟦<ListChunk as Chunk>⟧.shown arrays.items }
         ensures storage { storage result ≡ kinds.list kinds.null }
-        ensures view_arrays { chunk_view_arrays result ≡ view_arrays_of ⟦<ListChunk as Chunk>⟧.views ⟦<ListChunk as Chunk>⟧.buffers arrays.items }
+        ensures view_arrays { chunk_view_arrays result
+            ≡ view_arrays_of ⟦<ListChunk as Chunk>⟧.views ⟦<ListChunk as Chunk>⟧.buffers
+            arrays.items }
     {
         Chunks::ListType(arrays)
     }
@@ -385,7 +411,9 @@ impl PolarsDataType for StructType {
     fn wrap(arrays: Vec<StructChunk>) -> Chunks
         ensures lists { chunk_lists result ≡ map ⟦<StructChunk as Chunk>⟧.shown arrays.items }
         ensures storage { storage result ≡ kinds.struct kinds.end }
-        ensures view_arrays { chunk_view_arrays result ≡ view_arrays_of ⟦<StructChunk as Chunk>⟧.views ⟦<StructChunk as Chunk>⟧.buffers arrays.items }
+        ensures view_arrays { chunk_view_arrays result
+            ≡ view_arrays_of ⟦<StructChunk as Chunk>⟧.views ⟦<StructChunk as Chunk>⟧.buffers
+            arrays.items }
     {
         Chunks::StructType(arrays)
     }

@@ -8,5 +8,6 @@ ghost use Rattle.tb_chunk.specs.Window.{window};
 
 /// A flag that is true of values is true of each part of them: a slice of an ascending column ascends.
 pub fn parts_keep_flags()
-    ensures { (flag : IsSorted) (t : Kind) (vs : List Datum) (offset : ℤ) (len : ℕ) → FlagHolds flag t vs → FlagHolds flag t (window (length vs) offset len vs) }
+    ensures { (flag : IsSorted) (t : Kind) (vs : List Datum) (offset : ℤ) (len : ℕ)
+        → FlagHolds flag t vs → FlagHolds flag t (window (length vs) offset len vs) }
 {}

@@ -66,7 +66,8 @@ impl Series {
         dtype: DataType,
         arrays: Chunks,
     ) -> PolarsResult<Series>
-        ensures { IsArranged name (kind_of dtype) (storage arrays) (chunk_lists arrays) (chunk_view_arrays arrays) result }
+        ensures { IsArranged name (kind_of dtype) (storage arrays) (chunk_lists arrays)
+            (chunk_view_arrays arrays) result }
     {
         if arrays.physical() != physical_of(&dtype) {
             return Err(PolarsError::SchemaMismatch);
@@ -87,7 +88,8 @@ impl Series {
     ) -> PolarsResult<Series>
         requires storage { storage arrays ≡ physical (kind_of dtype) }
         requires typed { IsTyped (kind_of dtype) (chunk_lists arrays) }
-        ensures { IsArranged name (kind_of dtype) (storage arrays) (chunk_lists arrays) (chunk_view_arrays arrays) result }
+        ensures { IsArranged name (kind_of dtype) (storage arrays) (chunk_lists arrays)
+            (chunk_view_arrays arrays) result }
     {
         let chunks = arrays.within_limits(alloc, &dtype)?;
         Ok(Series::from_parts(name, dtype, chunks, IsSorted::Not))

@@ -185,7 +185,9 @@ impl Series {
     }
 
     pub(crate) fn into_parts(self) -> (PlSmallStr, DataType, Chunks, IsSorted)
-        ensures view { self ≡ record { name = result.0; kind = kind_of result.1; chunks = chunk_lists result.2; flag = result.3; view_arrays = chunk_view_arrays result.2 } }
+        ensures view { self
+            ≡ record
+            { name = result.0; kind = kind_of result.1; chunks = chunk_lists result.2; flag = result.3; view_arrays = chunk_view_arrays result.2 } }
         ensures storage { storage result.2 ≡ physical (kind_of result.1) }
         ensures column { IsColumn self }
         ensures few_buffers { HaveFewBuffers self.view_arrays }
@@ -203,9 +205,13 @@ impl Series {
     /// than one, their buffers together number fewer than 2^32, which `Chunks::has_few_buffers` tells.
     pub fn from_parts(name: PlSmallStr, dtype: DataType, chunks: Chunks, flag: IsSorted) -> Series
         requires storage { storage chunks ≡ physical (kind_of dtype) }
-        requires column { IsColumn record { name = name; kind = kind_of dtype; chunks = chunk_lists chunks; flag = flag; view_arrays = chunk_view_arrays chunks } }
-        requires few_buffers { 1 < length (chunk_lists chunks) → HaveFewBuffers (chunk_view_arrays chunks) }
-        ensures { result ≡ record { name = name; kind = kind_of dtype; chunks = chunk_lists chunks; flag = flag; view_arrays = chunk_view_arrays chunks } }
+        requires column { IsColumn record
+            { name = name; kind = kind_of dtype; chunks = chunk_lists chunks; flag = flag; view_arrays = chunk_view_arrays chunks } }
+        requires few_buffers { 1 < length (chunk_lists chunks)
+            → HaveFewBuffers (chunk_view_arrays chunks) }
+        ensures { result
+            ≡ record
+            { name = name; kind = kind_of dtype; chunks = chunk_lists chunks; flag = flag; view_arrays = chunk_view_arrays chunks } }
     {
         Series {
             name,

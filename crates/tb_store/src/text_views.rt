@@ -58,10 +58,13 @@ fn text_chunks(
     requires text { (kind_for stored ≡ kind.string) ⊎ (kind_for stored ≡ kind.binary) }
     requires formed { All (IsViewOrNone buffers.items) views.items }
     requires few { length buffers.items < 2 ^ 32 }
-    requires utf8 { kind_for stored ≡ kind.string → All IsUtf8Row (texts buffers.items views.items) }
-    ensures lists { IfOk result (λ c. chunk_lists c ≡ text_values (kind_for stored) (texts buffers.items views.items) ∷ []) }
+    requires utf8 { kind_for stored ≡ kind.string
+        → All IsUtf8Row (texts buffers.items views.items) }
+    ensures lists { IfOk result (λ c.
+        chunk_lists c ≡ text_values (kind_for stored) (texts buffers.items views.items) ∷ []) }
     ensures storage { IfOk result (λ c. storage c ≡ kind_for stored) }
-    ensures view_arrays { IfOk result (λ c. chunk_view_arrays c ≡ record { views = views.items; buffers = buffers.items } ∷ []) }
+    ensures view_arrays { IfOk result (λ c.
+        chunk_view_arrays c ≡ record { views = views.items; buffers = buffers.items } ∷ []) }
 {
     match stored {
         Physical::String => {
@@ -92,7 +95,8 @@ impl Series {
         requires formed { All (IsViewOrNone buffers.items) views.items }
         requires few { length views.items ≤ MAX_ROWS }
         requires few_buffers { length buffers.items < 2 ^ 32 }
-        requires utf8 { kind_of dtype ≡ kind.string → All IsUtf8Row (texts buffers.items views.items) }
+        requires utf8 { kind_of dtype ≡ kind.string
+            → All IsUtf8Row (texts buffers.items views.items) }
         ensures { IfOk result (λ s. s ≡ record {
           name = name;
           kind = kind_of dtype;
@@ -112,10 +116,14 @@ impl Series {
         requires text { (self.now.kind ≡ kind.string) ⊎ (self.now.kind ≡ kind.binary) }
         requires chunk { chunk < length self.now.chunks }
         ensures views { result.now ≡ (view_array_at self.now.view_arrays chunk).views }
-        ensures formed { All (IsViewOrNone (view_array_at self.now.view_arrays chunk).buffers) result.now }
-        ensures texts { slice_index_or self.now.chunks chunk [] ≡ text_values self.now.kind (texts (view_array_at self.now.view_arrays chunk).buffers result.now) }
+        ensures formed { All (IsViewOrNone (view_array_at self.now.view_arrays chunk).buffers)
+            result.now }
+        ensures texts { slice_index_or self.now.chunks chunk []
+            ≡ text_values self.now.kind
+            (texts (view_array_at self.now.view_arrays chunk).buffers result.now) }
         ensures few { length result.now ≤ MAX_ROWS }
-        ensures utf8 { self.now.kind ≡ kind.string → All IsUtf8Row (texts (view_array_at self.now.view_arrays chunk).buffers result.now) }
+        ensures utf8 { self.now.kind ≡ kind.string
+            → All IsUtf8Row (texts (view_array_at self.now.view_arrays chunk).buffers result.now) }
     {
         self.chunks.views(chunk)
     }
@@ -137,10 +145,14 @@ impl Column {
         requires text { (self.now.kind ≡ kind.string) ⊎ (self.now.kind ≡ kind.binary) }
         requires chunk { chunk < length self.now.chunks }
         ensures views { result.now ≡ (view_array_at self.now.view_arrays chunk).views }
-        ensures formed { All (IsViewOrNone (view_array_at self.now.view_arrays chunk).buffers) result.now }
-        ensures texts { slice_index_or self.now.chunks chunk [] ≡ text_values self.now.kind (texts (view_array_at self.now.view_arrays chunk).buffers result.now) }
+        ensures formed { All (IsViewOrNone (view_array_at self.now.view_arrays chunk).buffers)
+            result.now }
+        ensures texts { slice_index_or self.now.chunks chunk []
+            ≡ text_values self.now.kind
+            (texts (view_array_at self.now.view_arrays chunk).buffers result.now) }
         ensures few { length result.now ≤ MAX_ROWS }
-        ensures utf8 { self.now.kind ≡ kind.string → All IsUtf8Row (texts (view_array_at self.now.view_arrays chunk).buffers result.now) }
+        ensures utf8 { self.now.kind ≡ kind.string
+            → All IsUtf8Row (texts (view_array_at self.now.view_arrays chunk).buffers result.now) }
     {
         self.as_materialized_series().views(chunk)
     }
@@ -161,10 +173,14 @@ impl ChunkedArray<StringType> {
     pub fn views(&self, chunk: usize) -> &[Option<View>]
         requires { chunk < length self.now.chunks }
         ensures views { result.now ≡ (view_array_at self.now.view_arrays chunk).views }
-        ensures formed { All (IsViewOrNone (view_array_at self.now.view_arrays chunk).buffers) result.now }
-        ensures texts { slice_index_or self.now.chunks chunk [] ≡ map (or_null string) (texts (view_array_at self.now.view_arrays chunk).buffers result.now) }
+        ensures formed { All (IsViewOrNone (view_array_at self.now.view_arrays chunk).buffers)
+            result.now }
+        ensures texts { slice_index_or self.now.chunks chunk []
+            ≡ map (or_null string)
+            (texts (view_array_at self.now.view_arrays chunk).buffers result.now) }
         ensures few { length result.now ≤ MAX_ROWS }
-        ensures utf8 { All IsUtf8Row (texts (view_array_at self.now.view_arrays chunk).buffers result.now) }
+        ensures utf8 { All IsUtf8Row
+            (texts (view_array_at self.now.view_arrays chunk).buffers result.now) }
     {
         self.chunks[chunk].views()
     }
@@ -184,8 +200,11 @@ impl ChunkedArray<BinaryType> {
     pub fn views(&self, chunk: usize) -> &[Option<View>]
         requires { chunk < length self.now.chunks }
         ensures views { result.now ≡ (view_array_at self.now.view_arrays chunk).views }
-        ensures formed { All (IsViewOrNone (view_array_at self.now.view_arrays chunk).buffers) result.now }
-        ensures texts { slice_index_or self.now.chunks chunk [] ≡ map (or_null binary) (texts (view_array_at self.now.view_arrays chunk).buffers result.now) }
+        ensures formed { All (IsViewOrNone (view_array_at self.now.view_arrays chunk).buffers)
+            result.now }
+        ensures texts { slice_index_or self.now.chunks chunk []
+            ≡ map (or_null binary)
+            (texts (view_array_at self.now.view_arrays chunk).buffers result.now) }
         ensures few { length result.now ≤ MAX_ROWS }
     {
         self.chunks[chunk].views()

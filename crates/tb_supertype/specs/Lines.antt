@@ -12,7 +12,10 @@ same_answer _ _ = false
 
 -- the answer for each type of a list with each of another, in either order
 abbrev pub gives : Option Kind → List Kind → List Kind → Bool
-gives answer ts us = list_all (λ t. list_all (λ u. same_answer (supertype t u) answer && same_answer (supertype u t) answer) us) ts
+gives answer ts us = list_all
+    (λ t.
+    list_all (λ u. same_answer (supertype t u) answer && same_answer (supertype u t) answer) us)
+    ts
 
 abbrev pub unsigned_kinds : List Kind
 unsigned_kinds = uint8 ∷ uint16 ∷ uint32 ∷ uint64 ∷ []

@@ -72,7 +72,8 @@ fn cells_of<N: Cell>(
     column: &Series,
 ) -> Result<Cells<N>, OutOfMemory>
     requires { All (Fits N.kind) (cast_values (kind_of dtype.now) column.now) }
-    ensures { IfOk result (λ c. map (or_null N.shows) c ≡ cast_values (kind_of dtype.now) column.now) }
+    ensures { IfOk result (λ c.
+        map (or_null N.shows) c ≡ cast_values (kind_of dtype.now) column.now) }
 {
     let class = class_of(dtype);
     let rows = column.len();
@@ -102,7 +103,10 @@ fn push_cast(
 ) -> Result<(), OutOfMemory>
     requires text { IsText value }
     requires fits { Fits kind.string (cast kind.string (lent_value value)) }
-    ensures { OnOk result (map (or_null string) builder.new.rows ≡ map (or_null string) builder.old.rows ++ cast kind.string (lent_value value.entry) ∷ []) }
+    ensures { OnOk result
+        (map (or_null string) builder.new.rows
+        ≡ map (or_null string) builder.old.rows ++ cast kind.string (lent_value value.entry)
+        ∷ []) }
 {
     match value {
         ValueRef::Null => builder.push_null(),
@@ -116,7 +120,8 @@ fn push_cast(
 // The texts that the values of a column become.
 fn cast_texts(alloc: Global, column: &Series) -> Result<StringChunk, OutOfMemory>
     requires { All (Fits kind.string) (cast_values kind.string column.now) }
-    ensures { IfOk result (λ c. ⟦<StringChunk as Chunk>⟧.shown c ≡ cast_values kind.string column.now) }
+    ensures { IfOk result (λ c.
+        ⟦<StringChunk as Chunk>⟧.shown c ≡ cast_values kind.string column.now) }
 {
     let rows = column.len();
     let mut builder = StringBuilder::with_capacity(alloc, rows)?;
@@ -133,7 +138,10 @@ fn push_bytes(
     value: ValueRef<'_>,
 ) -> Result<(), OutOfMemory>
     requires { Fits kind.binary (lent_value value) }
-    ensures { OnOk result (map (or_null binary) builder.new.rows ≡ map (or_null binary) builder.old.rows ++ lent_value value.entry ∷ []) }
+    ensures { OnOk result
+        (map (or_null binary) builder.new.rows
+        ≡ map (or_null binary) builder.old.rows ++ lent_value value.entry
+        ∷ []) }
 {
     match value {
         ValueRef::Null => builder.push_null(),
@@ -149,7 +157,8 @@ fn push_bytes(
 // The bytes of a column, which stay as they are.
 fn cast_bytes(alloc: Global, column: &Series) -> Result<BinaryChunk, OutOfMemory>
     requires { All (Fits kind.binary) (cast_values kind.binary column.now) }
-    ensures { IfOk result (λ c. ⟦<BinaryChunk as Chunk>⟧.shown c ≡ cast_values kind.binary column.now) }
+    ensures { IfOk result (λ c.
+        ⟦<BinaryChunk as Chunk>⟧.shown c ≡ cast_values kind.binary column.now) }
 {
     let rows = column.len();
     let mut builder = BinaryBuilder::with_capacity(alloc, rows)?;
@@ -262,7 +271,8 @@ fn each_chunk<C: CastChunk + Stored>(
 ) -> Result<Vec<C>, OutOfMemory>
     requires stored { physical (kind_of dtype.now) ≡ C.kind }
     requires typed { All (λ c. CastsTo (kind_of dtype.now) c.now) columns.now }
-    ensures { IfOk result (λ v. map C.shown v.items ≡ map (λ c. cast_values (kind_of dtype.now) c.now) columns.now) }
+    ensures { IfOk result (λ v.
+        map C.shown v.items ≡ map (λ c. cast_values (kind_of dtype.now) c.now) columns.now) }
 {
     let mut chunks = Vec::with_capacity(alloc, columns.len())?;
     for column in columns {
@@ -279,7 +289,9 @@ fn chunks_of<C: CastChunk + Stored>(
 ) -> Result<Chunks, OutOfMemory>
     requires stored { physical (kind_of dtype.now) ≡ C.kind }
     requires typed { All (λ c. CastsTo (kind_of dtype.now) c.now) columns.now }
-    ensures lists { IfOk result (λ c. chunk_lists c ≡ at_least_one (map (λ c. cast_values (kind_of dtype.now) c.now) columns.now)) }
+    ensures lists { IfOk result (λ c.
+        chunk_lists c
+        ≡ at_least_one (map (λ c. cast_values (kind_of dtype.now) c.now) columns.now)) }
     ensures storage { IfOk result (λ c. storage c ≡ C.kind) }
 {
     let mut chunks = each_chunk(alloc, dtype, columns)?;
@@ -291,7 +303,9 @@ fn chunks_of<C: CastChunk + Stored>(
 
 fn cast_chunks(alloc: Global, dtype: &DataType, columns: &[&Series]) -> Result<Chunks, OutOfMemory>
     requires { All (λ c. CastsTo (kind_of dtype.now) c.now) columns.now }
-    ensures lists { IfOk result (λ c. chunk_lists c ≡ at_least_one (map (λ c. cast_values (kind_of dtype.now) c.now) columns.now)) }
+    ensures lists { IfOk result (λ c.
+        chunk_lists c
+        ≡ at_least_one (map (λ c. cast_values (kind_of dtype.now) c.now) columns.now)) }
     ensures storage { IfOk result (λ c. storage c ≡ physical (kind_of dtype.now)) }
 {
     match physical_of(dtype) {

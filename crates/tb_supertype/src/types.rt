@@ -40,7 +40,8 @@ fn mixed(signed: u32, unsigned: u32) -> Option<DataType>
 
 // Of two types of whole numbers with one kind of sign, the one of more bits.
 fn wider<'a>(first: &'a DataType, second: &'a DataType, bits: u32, other_bits: u32) -> &'a DataType
-    ensures { kind_of result.now ≡ wider_kind (kind_of first.now) (kind_of second.now) bits other_bits }
+    ensures { kind_of result.now
+        ≡ wider_kind (kind_of first.now) (kind_of second.now) bits other_bits }
 {
     if bits < other_bits { second } else { first }
 }
@@ -57,7 +58,10 @@ fn common(
     first: &DataType,
     second: &DataType,
 ) -> Result<Option<DataType>, OutOfMemory>
-    ensures { IfOk result (λ o. option_map kind_of o ≡ common_by_class (kind_of first.now) (kind_of second.now) (class_of (kind_of first.now)) (class_of (kind_of second.now))) }
+    ensures { IfOk result (λ o.
+        option_map kind_of o
+        ≡ common_by_class (kind_of first.now) (kind_of second.now)
+        (class_of (kind_of first.now)) (class_of (kind_of second.now))) }
 {
     match (class_of(first), class_of(second)) {
         (Class::Nothing, _) => copied(alloc, second),
@@ -86,7 +90,8 @@ pub fn supertype(
     first: &DataType,
     second: &DataType,
 ) -> Result<Option<DataType>, OutOfMemory>
-    ensures { IfOk result (λ o. option_map kind_of o ≡ supertype (kind_of first.now) (kind_of second.now)) }
+    ensures { IfOk result (λ o.
+        option_map kind_of o ≡ supertype (kind_of first.now) (kind_of second.now)) }
 {
     if first == second {
         return copied(alloc, first);

@@ -38,14 +38,16 @@ fn cut_texts(alloc: Global, first: &str, second: &str) -> Result<Series, Fail> {
 
 // Whether the column is of a key type and of this length.
 fn is_key_column(column: &Series, rows: usize) -> bool
-    ensures { IsTrue result ↔ (IsTrue (is_key column.now.kind) × (length (values column.now) ≡ rows)) }
+    ensures { IsTrue result ↔
+        (IsTrue (is_key column.now.kind) × (length (values column.now) ≡ rows)) }
 {
     column.dtype().is_key() && column.len() == rows
 }
 
 // Whether the columns are of key types and of this length.
 fn are_keys(columns: &[Series], rows: usize) -> bool
-    ensures { IsTrue result → All (λ c. IsTrue (is_key c.kind) × (length (values c) ≡ rows)) columns.now }
+    ensures { IsTrue result
+        → All (λ c. IsTrue (is_key c.kind) × (length (values c) ≡ rows)) columns.now }
 {
     for column in columns {
         if !is_key_column(column, rows) {

@@ -11,4 +11,5 @@ items_after (d ∷ ds) rest = item d (items_after ds rest)
 
 -- the array of these values and of those that the tokens begin with, which may nest so deep and be so many
 abbrev pub array_after : List Data → ℕ → ℕ → List Token → Option (Data × List Token)
-array_after ds depth most ts = parse_map (λ rest. array (items_after ds rest)) (converted of_items (items (value depth) most ts))
+array_after ds depth most ts = parse_map (λ rest. array (items_after ds rest))
+    (converted of_items (items (value depth) most ts))

@@ -125,7 +125,8 @@ impl<'v> Item<'v> {
     }
 
     pub fn as_object(self) -> Option<&'v Map<String, Value>>
-        ensures { option_map (λ m. members_view m.now.entries) result ≡ as_object (item_view self.entry) }
+        ensures { option_map (λ m. members_view m.now.entries) result
+            ≡ as_object (item_view self.entry) }
     {
         match self {
             Item::Whole(_) => None,

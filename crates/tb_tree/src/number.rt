@@ -30,7 +30,11 @@ fn digit_of(byte: u8) -> Option<u64>
 
 // The number of a text of digits and nothing else, which most numbers are. None where the number may be too large too.
 fn plain_number(text: &[u8]) -> Option<u64>
-    ensures { IfSome result (λ n. (0 < length text.now) × AllDigits 10 text.now × (digits_value 10 text.now ≡ n) × (n < 2 ^ 64)) }
+    ensures { IfSome result (λ n.
+        (0 < length text.now)
+        × AllDigits 10 text.now
+        × (digits_value 10 text.now ≡ n)
+        × (n < 2 ^ 64)) }
 {
     if text.is_empty() {
         return None;

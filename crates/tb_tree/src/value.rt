@@ -164,7 +164,8 @@ impl Value {
 
     /// The values of an array of two, lent.
     pub fn as_pair(&self) -> Option<(Item<'_>, Item<'_>)>
-        ensures { option_map (λ p. (item_view p.0, item_view p.1)) result ≡ pair_of (view self.now) }
+        ensures { option_map (λ p. (item_view p.0, item_view p.1)) result
+            ≡ pair_of (view self.now) }
     {
         match self {
             Value::TwoShort(first, second) => {
@@ -226,7 +227,8 @@ impl Value {
 }
 
 fn member<'v>(members: &'v Map<String, Value>, name: &str) -> Option<&'v Value>
-    ensures { option_map (λ v. view v.now) result ≡ get_member name.now (members_view members.now.entries) }
+    ensures { option_map (λ v. view v.now) result
+        ≡ get_member name.now (members_view members.now.entries) }
 {
     members.get(name)
 }
@@ -263,7 +265,8 @@ pub(crate) fn list_of_two(alloc: Global, pair: (Value, Value)) -> Result<Vec<Val
 }
 
 fn pair_of_wholes<'v>(numbers: &'v [i64]) -> Option<(Item<'v>, Item<'v>)>
-    ensures { option_map (λ p. (item_view p.0, item_view p.1)) result ≡ two_of (items_of (map whole numbers.now)) }
+    ensures { option_map (λ p. (item_view p.0, item_view p.1)) result
+        ≡ two_of (items_of (map whole numbers.now)) }
 {
     match numbers {
         [first, second] => Some((Item::Whole(*first), Item::Whole(*second))),
@@ -272,7 +275,8 @@ fn pair_of_wholes<'v>(numbers: &'v [i64]) -> Option<(Item<'v>, Item<'v>)>
 }
 
 fn pair_of_values<'v>(values: &'v [Value]) -> Option<(Item<'v>, Item<'v>)>
-    ensures { option_map (λ p. (item_view p.0, item_view p.1)) result ≡ two_of (items_view values.now) }
+    ensures { option_map (λ p. (item_view p.0, item_view p.1)) result
+        ≡ two_of (items_view values.now) }
 {
     match values {
         [first, second] => Some((Item::Lent(first), Item::Lent(second))),

@@ -51,7 +51,8 @@ fn index_columns(
     times: usize,
 ) -> Result<Vec<Column>, OutOfMemory>
     requires { All (λ c. length (values c.now) * times ≤ MAX_ROWS) columns.now }
-    ensures { IfOk result (λ v. table_of v.items ≡ map (repeated times) (table_of (lent_columns columns.now))) }
+    ensures { IfOk result (λ v.
+        table_of v.items ≡ map (repeated times) (table_of (lent_columns columns.now))) }
 {
     let mut repeats = Vec::with_capacity(alloc, columns.len())?;
     for column in columns {
@@ -71,7 +72,8 @@ fn row_count(columns: &[&Series]) -> usize {
 fn name_chunk(alloc: Global, columns: &[&Series]) -> Result<StringChunk, OutOfMemory>
     ensures names { IfOk result (λ c. ⟦<StringChunk as Chunk>⟧.shown c
         ≡ flat_map (λ (c : Col). map (λ (d : Datum). string c.name) (values c)) (lent_columns columns.now)) }
-    ensures typed { IfOk result (λ c. All (HasType kind.string) (⟦<StringChunk as Chunk>⟧.shown c)) }
+    ensures typed { IfOk result (λ c.
+        All (HasType kind.string) (⟦<StringChunk as Chunk>⟧.shown c)) }
 {
     let mut names = StringBuilder::with_capacity(alloc, row_count(columns))?;
     for column in columns {
@@ -108,7 +110,8 @@ fn variable_column(
     columns: &[&Series],
 ) -> Result<Column, OutOfMemory>
     requires { length (concatenation (map (λ c. values c.now) columns.now)) ≤ MAX_ROWS }
-    ensures { IfOk result (λ c. plain_column c ≡ variable_column name (table_of (lent_columns columns.now))) }
+    ensures { IfOk result (λ c.
+        plain_column c ≡ variable_column name (table_of (lent_columns columns.now))) }
 {
     let chunk = name_chunk(alloc, columns)?;
     text_column(alloc, name, chunk)
@@ -122,7 +125,8 @@ fn value_column(
 ) -> Result<Column, OutOfMemory>
     requires few { length (concatenation (map (λ c. values c.now) columns.now)) ≤ MAX_ROWS }
     requires typed { All (λ c. CastsTo (kind_of dtype) c.now) columns.now }
-    ensures { IfOk result (λ c. plain_column c ≡ value_column name (kind_of dtype) (table_of (lent_columns columns.now))) }
+    ensures { IfOk result (λ c.
+        plain_column c ≡ value_column name (kind_of dtype) (table_of (lent_columns columns.now))) }
 {
     Ok(stack(alloc, name, dtype, columns)?.into_column())
 }

@@ -111,7 +111,9 @@ fn unpivoted(
     variable: &str,
     value: &str,
 ) -> PolarsResult<DataFrame>
-    ensures settles { Settles result (unpivot_refusal record { table = table_of table.now; on = on.now; index = index.now; variable = variable.now; value = value.now }) }
+    ensures settles { Settles result
+        (unpivot_refusal record
+        { table = table_of table.now; on = on.now; index = index.now; variable = variable.now; value = value.now }) }
     ensures table { IfOk result (λ t. table_of t
         ≡ unpivot_table record { table = table_of table.now; on = on.now; index = index.now; variable = variable.now; value = value.now }) }
 {

@@ -41,7 +41,8 @@ fn other_names(
     columns: &[Column],
     index: &[PlSmallStr],
 ) -> Result<Vec<PlSmallStr>, OutOfMemory>
-    ensures { IfOk result (λ v. v.items ≡ map (λ (c : Col). c.name) (without_names index.now columns.now)) }
+    ensures { IfOk result (λ v.
+        v.items ≡ map (λ (c : Col). c.name) (without_names index.now columns.now)) }
 {
     let gone = name_set(alloc, index)?;
     let mut names = Vec::new(alloc);
@@ -75,15 +76,19 @@ fn named_columns<'a>(
     names: &[PlSmallStr],
 ) -> PolarsResult<Vec<&'a Series>>
     ensures settles { Settles result (unknown_key (table_of table.now) names.now) }
-    ensures columns { IfOk result (λ v. lent_columns v.items ≡ selected_columns names.now table.now) }
+    ensures columns { IfOk result (λ v.
+        lent_columns v.items ≡ selected_columns names.now table.now) }
 {
     lend_columns(alloc, table.get_columns(), names)
 }
 
 // The common type of a type and the column's, or the refusal that there is none.
 fn next_type(alloc: Global, dtype: &DataType, column: &Series) -> PolarsResult<DataType>
-    ensures settles { Settles result (option_map (λ n. InvalidOperation (NoSupertype n)) (failed_at (common_kind (kind_of dtype.now) (table_of (column.now ∷ []))))) }
-    ensures value { IfOk result (λ t. common_kind (kind_of dtype.now) (table_of (column.now ∷ [])) ≡ Ok (kind_of t)) }
+    ensures settles { Settles result
+        (option_map (λ n. InvalidOperation (NoSupertype n))
+        (failed_at (common_kind (kind_of dtype.now) (table_of (column.now ∷ []))))) }
+    ensures value { IfOk result (λ t.
+        common_kind (kind_of dtype.now) (table_of (column.now ∷ [])) ≡ Ok (kind_of t)) }
 {
     let common = supertype(alloc, dtype, column.dtype())?;
     match common {
@@ -98,7 +103,8 @@ fn next_type(alloc: Global, dtype: &DataType, column: &Series) -> PolarsResult<D
 // (NoSupertype).
 fn common_type(alloc: Global, columns: &[&Series]) -> PolarsResult<DataType>
     ensures settles { Settles result (no_supertype (table_of (lent_columns columns.now))) }
-    ensures value { IfOk result (λ t. common_kind kind.null (table_of (lent_columns columns.now)) ≡ Ok (kind_of t)) }
+    ensures value { IfOk result (λ t.
+        common_kind kind.null (table_of (lent_columns columns.now)) ≡ Ok (kind_of t)) }
 {
     let mut dtype = DataType::Null;
     for column in columns {
@@ -120,8 +126,12 @@ fn check_height(rows: usize, columns: usize) -> PolarsResult<()>
 // The common type of the columns of so many rows. Refuses, in this order, the first column with whose type there is
 // none (NoSupertype), and too many values (TooManyRows).
 fn check_columns(alloc: Global, rows: usize, columns: &[&Series]) -> PolarsResult<DataType>
-    ensures settles { Settles result (first_cause (no_supertype (table_of (lent_columns columns.now)) ∷ too_many_values rows (length columns.now) ∷ [])) }
-    ensures value { IfOk result (λ t. common_kind kind.null (table_of (lent_columns columns.now)) ≡ Ok (kind_of t)) }
+    ensures settles { Settles result
+        (first_cause
+        (no_supertype (table_of (lent_columns columns.now))
+        ∷ too_many_values rows (length columns.now) ∷ [])) }
+    ensures value { IfOk result (λ t.
+        common_kind kind.null (table_of (lent_columns columns.now)) ≡ Ok (kind_of t)) }
     ensures few { IfOk result (λ t. rows * length columns.now ≤ MAX_ROWS) }
 {
     let dtype = common_type(alloc, columns)?;
@@ -144,7 +154,10 @@ fn found<'a>(
     on: &[PlSmallStr],
     index: &[PlSmallStr],
 ) -> PolarsResult<RequestColumns<'a>>
-    ensures settles { Settles result (first_cause (asked_causes (table_of table.now) (table_of (selected_columns on.now table.now)) on.now index.now)) }
+    ensures settles { Settles result
+        (first_cause
+        (asked_causes (table_of table.now) (table_of (selected_columns on.now table.now)) on.now
+        index.now)) }
     ensures asked { IfOk result (IsAsked table.now on.now index.now) }
 {
     let on_columns = named_columns(alloc, table, on)?;
@@ -174,7 +187,10 @@ pub(crate) fn asked<'a>(
     on: &[PlSmallStr],
     index: &[PlSmallStr],
 ) -> PolarsResult<RequestColumns<'a>>
-    ensures settles { Settles result (first_cause (table_causes (table_of table.now) (table_of (selected_columns on.now table.now)) on.now index.now)) }
+    ensures settles { Settles result
+        (first_cause
+        (table_causes (table_of table.now) (table_of (selected_columns on.now table.now)) on.now
+        index.now)) }
     ensures asked { IfOk result (IsAsked table.now on.now index.now) }
 {
     if table.width() == 0 {

@@ -11,7 +11,8 @@ to_swizzled bits (Some p) = p.1 * 2 ^ bits + p.0
 
 -- where there is a row, 1 to 32 bits hold the chunk, and a row number stands above them
 abbrev pub IsSwizzled : ℕ → ℕ → Type 0
-IsSwizzled bits n = n ≢ 18446744073709551615 → (0 < bits) × (bits ≤ 32) × (n / 2 ^ bits < 4294967295)
+IsSwizzled bits n =
+    n ≢ 18446744073709551615 → (0 < bits) × (bits ≤ 32) × (n / 2 ^ bits < 4294967295)
 
 -- the same chunk and the same row
 abbrev pub same_row : ℕ × ℕ → ℕ × ℕ → Bool

@@ -131,7 +131,8 @@ fn is_text(bytes: &[u8]) -> bool
 }
 
 fn is_binary_of(dtype: &DataType, bytes: &[u8]) -> bool
-    ensures { IsTrue result ↔ ((kind_of dtype.now ≡ binary) × (length bytes.now < 2 ^ 32) × IsBytes bytes.now) }
+    ensures { IsTrue result ↔
+        ((kind_of dtype.now ≡ binary) × (length bytes.now < 2 ^ 32) × IsBytes bytes.now) }
 {
     match dtype {
         DataType::Binary => bytes.len() < TOO_LONG,
@@ -167,7 +168,8 @@ fn is_list_of(dtype: &DataType, values: &Values) -> bool
 
 #[cycle(is_of)]
 fn is_struct_of(dtype: &DataType, values: &Values) -> bool
-    ensures { IsTrue result ↔ IsStructOf (kind_of dtype.now) (λ ps. AreEachOf ps (items_of values.now)) }
+    ensures { IsTrue result ↔ IsStructOf (kind_of dtype.now) (λ ps.
+        AreEachOf ps (items_of values.now)) }
 {
     match dtype {
         DataType::Struct(fields) => fits_fields(fields.as_slice(), values.as_slice()),

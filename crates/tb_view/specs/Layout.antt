@@ -13,7 +13,8 @@ all_of s = s.0 ++ s.1 ∷ []
 -- the text is put behind the others, and the view is that of the text
 pub record IsPut (t : List ℕ) (old new : Filling) (v : View) : Type 0 where
   pub placed : new ≡ with_text old (Some t)
-  pub kept : (vs : List (Option View)) → All (IsViewOrNone (all_of old)) vs → All (IsViewOrNone (all_of new)) vs × (texts (all_of new) vs ≡ texts (all_of old) vs)
+  pub kept : (vs : List (Option View)) → All (IsViewOrNone (all_of old)) vs
+      → All (IsViewOrNone (all_of new)) vs × (texts (all_of new) vs ≡ texts (all_of old) vs)
   pub view : IsView (all_of new) v
   pub text : view_text v (all_of new) ≡ t
   pub is : v ≡ next_view old t
@@ -21,7 +22,8 @@ pub record IsPut (t : List ℕ) (old new : Filling) (v : View) : Type 0 where
 -- the same of an optional text, which may be short
 pub record IsRow (o : Option (List ℕ)) (old new : Filling) (w : Option View) : Type 0 where
   pub placed : new ≡ with_text old o
-  pub kept : (vs : List (Option View)) → All (IsViewOrNone (all_of old)) vs → All (IsViewOrNone (all_of new)) vs × (texts (all_of new) vs ≡ texts (all_of old) vs)
+  pub kept : (vs : List (Option View)) → All (IsViewOrNone (all_of old)) vs
+      → All (IsViewOrNone (all_of new)) vs × (texts (all_of new) vs ≡ texts (all_of old) vs)
   pub view : IsViewOrNone (all_of new) w
   pub text : row_text (all_of new) w ≡ o
   pub is : w ≡ option_map (next_view old) o
@@ -38,7 +40,8 @@ building_of ts = record { rows = ts; views = next_views ([], []) ts; laid = fill
 
 -- one more row
 abbrev pub with_row : Building → Option (List ℕ) → Building
-with_row b o = record { rows = b.rows ++ o ∷ []; views = b.views ++ option_map (next_view b.laid) o ∷ []; laid = with_text b.laid o }
+with_row b o = record
+    { rows = b.rows ++ o ∷ []; views = b.views ++ option_map (next_view b.laid) o ∷ []; laid = with_text b.laid o }
 
 -- n more rows of one text, which is put once
 abbrev pub with_rows : Building → List ℕ → ℕ → Building

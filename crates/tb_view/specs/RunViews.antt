@@ -29,4 +29,5 @@ run_building rs = fold with_run (building_of []) rs
 
 -- the views and the buffers of a chunk of these runs
 abbrev pub laid_runs : List (Option (List ℕ) × ℕ) → ViewArray
-laid_runs rs = record { views = (run_building rs).views; buffers = buffers_of (run_building rs).laid }
+laid_runs rs =
+    record { views = (run_building rs).views; buffers = buffers_of (run_building rs).laid }

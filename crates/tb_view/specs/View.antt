@@ -6,7 +6,9 @@ use Rattle.tb_view.specs.declared.view.View.{View}
 
 -- four bytes of the rest from place i on, as a number whose low byte is first
 abbrev pub number_at : View → ℕ → ℕ
-number_at v i = from_le_bytes w32 (slice_index v.rest i ∷ slice_index v.rest (i + 1) ∷ slice_index v.rest (i + 2) ∷ slice_index v.rest (i + 3) ∷ [])
+number_at v i = from_le_bytes w32
+    (slice_index v.rest i ∷ slice_index v.rest (i + 1) ∷ slice_index v.rest (i + 2)
+    ∷ slice_index v.rest (i + 3) ∷ [])
 
 -- the buffer of a long text, and where in it the text begins
 abbrev pub buffer_of : View → ℕ
@@ -21,7 +23,9 @@ text_in bs number offset len = take len (drop offset (slice_index_or bs number [
 
 -- the text that a view stands for
 abbrev pub view_text : View → List (List ℕ) → List ℕ
-view_text v bs = (if nat_le v.length 12 then take v.length v.rest else text_in bs (buffer_of v) (offset_of v) v.length)
+view_text v bs = (if nat_le v.length 12
+    then take v.length v.rest
+    else text_in bs (buffer_of v) (offset_of v) v.length)
 
 -- a short text stands in the view itself, with 0 behind it
 abbrev pub IsInline : View → Type 0

@@ -6,8 +6,10 @@ use Rattle.tb_view.specs.declared.view.View.{View}
 use Rattle.tb_view.specs.Promise.ViewArrays.{ViewArray}
 
 -- the view arrays of chunks, by what the views and the buffers of a chunk are
-abbrev pub view_arrays_of : {C : Type 0} → (C → List (Option View)) → (C → List (List ℕ)) → List C → List ViewArray
-view_arrays_of views buffers chunks = map (λ c. record { views = views c; buffers = buffers c }) chunks
+abbrev pub view_arrays_of : {C : Type 0} → (C → List (Option View)) → (C → List (List ℕ)) → List C
+    → List ViewArray
+view_arrays_of views buffers chunks =
+    map (λ c. record { views = views c; buffers = buffers c }) chunks
 
 -- run k, an empty one where there is none
 abbrev pub view_array_at : List ViewArray → ℕ → ViewArray
@@ -20,7 +22,8 @@ all_buffers rs = flat_map (λ r. r.buffers) rs
 -- the views of all, one after another, where the buffers of the first stand from number base on
 abbrev pub moved_views : ℕ → List ViewArray → List (Option View)
 moved_views base [] = []
-moved_views base (r ∷ rs) = map (moved_view base) r.views ++ moved_views (base + length r.buffers) rs
+moved_views base (r ∷ rs) =
+    map (moved_view base) r.views ++ moved_views (base + length r.buffers) rs
 
 -- the buffers of all are few enough for their numbers
 abbrev pub HaveFewBuffers : List ViewArray → Type 0

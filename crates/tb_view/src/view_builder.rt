@@ -145,9 +145,13 @@ impl ViewChunk {
         runs: &[(AnyValue, u64)],
         rows: usize,
     ) -> Result<ViewChunk, OutOfMemory>
-        ensures texts { IfOk result (λ c. texts c.buffers.items c.views.items ≡ (run_building (text_runs (data_runs runs.now))).rows) }
-        ensures views { IfOk result (λ c. c.views.items ≡ (run_building (text_runs (data_runs runs.now))).views) }
-        ensures buffers { IfOk result (λ c. c.buffers.items ≡ buffers_of (run_building (text_runs (data_runs runs.now))).laid) }
+        ensures texts { IfOk result (λ c.
+            texts c.buffers.items c.views.items
+            ≡ (run_building (text_runs (data_runs runs.now))).rows) }
+        ensures views { IfOk result (λ c.
+            c.views.items ≡ (run_building (text_runs (data_runs runs.now))).views) }
+        ensures buffers { IfOk result (λ c.
+            c.buffers.items ≡ buffers_of (run_building (text_runs (data_runs runs.now))).laid) }
     {
         let mut builder = ViewBuilder::with_capacity(alloc, rows)?;
         for (value, times) in runs {
@@ -158,9 +162,12 @@ impl ViewChunk {
 
     /// The chunk of the texts and bytes among these values.
     pub fn from_values(alloc: Global, values: &[AnyValue]) -> Result<ViewChunk, OutOfMemory>
-        ensures texts { IfOk result (λ c. texts c.buffers.items c.views.items ≡ map (λ v. text_of (datum v)) values.now) }
-        ensures views { IfOk result (λ c. c.views.items ≡ (text_view_array (map (λ v. text_of (datum v)) values.now)).views) }
-        ensures buffers { IfOk result (λ c. c.buffers.items ≡ (text_view_array (map (λ v. text_of (datum v)) values.now)).buffers) }
+        ensures texts { IfOk result (λ c.
+            texts c.buffers.items c.views.items ≡ map (λ v. text_of (datum v)) values.now) }
+        ensures views { IfOk result (λ c.
+            c.views.items ≡ (text_view_array (map (λ v. text_of (datum v)) values.now)).views) }
+        ensures buffers { IfOk result (λ c.
+            c.buffers.items ≡ (text_view_array (map (λ v. text_of (datum v)) values.now)).buffers) }
     {
         let mut builder = ViewBuilder::with_capacity(alloc, values.len())?;
         for value in values {

@@ -75,7 +75,8 @@ impl ViewChunk {
     /// The text of a row, lent.
     pub fn get(&self, row: usize) -> Option<&[u8]>
         requires { row < length self.now.views.items }
-        ensures { option_map (λ t. t.now) result ≡ slice_index_or (texts self.now.buffers.items self.now.views.items) row None }
+        ensures { option_map (λ t. t.now) result
+            ≡ slice_index_or (texts self.now.buffers.items self.now.views.items) row None }
     {
         match &self.views[row] {
             None => None,
@@ -115,7 +116,9 @@ impl ViewChunk {
     ) -> Result<(), OutOfMemory>
         requires none { self.old.views.items ≡ [] }
         ensures views { self.new.views.items ≡ [] }
-        ensures buffers { OnOk result (self.new.buffers.items ≡ self.old.buffers.items ++ take 1 (drop number other.now.buffers.items)) }
+        ensures buffers { OnOk result
+            (self.new.buffers.items
+            ≡ self.old.buffers.items ++ take 1 (drop number other.now.buffers.items)) }
         ensures err { OnErr result (self.new.buffers.items ≡ self.old.buffers.items) }
     {
         if number as usize >= other.buffers.len() {
@@ -138,10 +141,15 @@ impl ViewChunk {
         row: usize,
     ) -> Result<(), OutOfMemory>
         requires row { row < length other.now.views.items }
-        requires held { StandsAt self.old.buffers.items number other.now.buffers.items (slice_index_or other.now.views.items row None) }
+        requires held { StandsAt self.old.buffers.items number other.now.buffers.items
+            (slice_index_or other.now.views.items row None) }
         ensures ok { OnOk result (texts self.new.buffers.items self.new.views.items ≡ texts self.old.buffers.items self.old.views.items
             ++ slice_index_or (texts other.now.buffers.items other.now.views.items) row None ∷ []) }
-        ensures views { OnOk result (self.new.views.items ≡ self.old.views.items ++ view_at_number number (slice_index_or other.now.views.items row None) ∷ []) }
+        ensures views { OnOk result
+            (self.new.views.items
+            ≡ self.old.views.items
+            ++ view_at_number number (slice_index_or other.now.views.items row None)
+            ∷ []) }
         ensures err { OnErr result (self.new.views.items ≡ self.old.views.items) }
         ensures buffers { self.new.buffers.items ≡ self.old.buffers.items }
     {
@@ -152,7 +160,10 @@ impl ViewChunk {
 
     /// Appends a row without a text. After a refusal the chunk is as it was.
     pub fn push_null(&mut self) -> Result<(), OutOfMemory>
-        ensures ok { OnOk result (texts self.new.buffers.items self.new.views.items ≡ texts self.old.buffers.items self.old.views.items ++ None ∷ []) }
+        ensures ok { OnOk result
+            (texts self.new.buffers.items self.new.views.items
+            ≡ texts self.old.buffers.items self.old.views.items ++ None
+            ∷ []) }
         ensures views { OnOk result (self.new.views.items ≡ self.old.views.items ++ None ∷ []) }
         ensures err { OnErr result (self.new.views.items ≡ self.old.views.items) }
         ensures buffers { self.new.buffers.items ≡ self.old.buffers.items }

@@ -14,5 +14,6 @@ HasPlace command reason d =
 
 -- so it is for each reason why the text of a value is no request
 abbrev pub EachReasonHasAPlace : Type 0
-EachReasonHasAPlace = (command : Command) (bytes : List ℕ) (d : Data) (reason : Reason) → value_of bytes ≡ Ok d
+EachReasonHasAPlace =
+    (command : Command) (bytes : List ℕ) (d : Data) (reason : Reason) → value_of bytes ≡ Ok d
     → reason_of command bytes ≡ Some reason → HasPlace command reason d

@@ -89,7 +89,8 @@ request_spot command reason d =
 
 -- the same, and the whole where there is none
 abbrev pub spot_at : Command → Reason → Data → Spot
-spot_at command reason d = unwrap_or (request_spot command reason d) (record { path = []; expected = expected.Request })
+spot_at command reason d =
+    unwrap_or (request_spot command reason d) (record { path = []; expected = expected.Request })
 
 -- the place of a fault in a JSON value; in a text that is none it is free
 abbrev pub IsAt : Place → Spot → Type 0
@@ -99,7 +100,8 @@ IsAt (place.Text line column) s = ⊥
 -- where the bytes are the text of a JSON value, the fault is at the place in it
 abbrev pub IsPlaced : Command → List ℕ → rust.Fault → Type 0
 IsPlaced command bytes f = (d : Data) → value_of bytes ≡ Ok d
-    → IsAt f.place (spot_at command f.reason d) × (f.expected ≡ (spot_at command f.reason d).expected)
+    → IsAt f.place (spot_at command f.reason d)
+    × (f.expected ≡ (spot_at command f.reason d).expected)
 
 abbrev pub IsInText : Place → Type 0
 IsInText (place.Path steps) = ⊥

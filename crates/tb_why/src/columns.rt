@@ -188,7 +188,9 @@ fn single_spot(
     reason: Reason,
     columns: Trees<'_>,
 ) -> Result<Option<Spot>, OutOfMemory>
-    ensures { Finds result (first_at (column_spot format reason (height format (listed columns.entry))) 0 (listed columns.entry)) }
+    ensures { Finds result
+        (first_at (column_spot format reason (height format (listed columns.entry))) 0
+        (listed columns.entry)) }
 {
     let height = height(format, columns);
     for i in 0..columns.len() {

@@ -53,7 +53,9 @@ fn place_of(alloc: Global, bytes: &[u8]) -> Result<TextPlace, OutOfMemory>
 
 /// The value that the bytes are, or where they stop being the text of one.
 pub(crate) fn tree_of(alloc: Global, bytes: &[u8]) -> Result<Result<Value, TextPlace>, OutOfMemory>
-    ensures { IfOk result (λ r. MatchResult r (λ v. value_of bytes.now ≡ Ok (view v)) (λ p. value_of bytes.now ≡ Err Json)) }
+    ensures { IfOk result (λ r.
+        MatchResult r (λ v. value_of bytes.now ≡ Ok (view v)) (λ p.
+        value_of bytes.now ≡ Err Json)) }
 {
     match tb_request::value_of(alloc, bytes) {
         Ok(value) => Ok(Ok(value)),

@@ -21,15 +21,18 @@ use Rattle.tb_calls.specs.declared.arguments.PivotCall.{PivotCall}
 
 -- of a table that is made long: the names of the columns that are put one below the other, of those beside them, and names for two columns
 abbrev pub long_request : Table → List Name → List Name → Option Name → Option Name → long.Request
-long_request t on index variable value = record { table = t; on = on; index = index; variable = variable_or variable; value = value_or value }
+long_request t on index variable value = record
+    { table = t; on = on; index = index; variable = variable_or variable; value = value_or value }
 
 -- of a table whose columns are replaced: which, what stands between a name and a text, and whether a value is left out
 abbrev pub dummies_request : Table → Option (List Name) → Option Name → Bool → marked.Request
-dummies_request t columns separator drop_first = record { table = t; columns = columns; separator = marked.separator_or separator; drop_first = drop_first }
+dummies_request t columns separator drop_first = record
+    { table = t; columns = columns; separator = marked.separator_or separator; drop_first = drop_first }
 
 -- of a table that is made wide: the names of the columns of headers, of rows and of cells, whether columns are sorted, the aggregate,
 -- and what stands between a name and a header
-abbrev pub wide_request : Table → List Name → Option (List Name) → Option (List Name) → Bool → Option Aggregate → Option Name → wide.Request
+abbrev pub wide_request : Table → List Name → Option (List Name) → Option (List Name) → Bool
+    → Option Aggregate → Option Name → wide.Request
 wide_request t on index values sorts agg separator = record {
   table = t;
   on = on;
@@ -56,4 +59,5 @@ abbrev pub marked_of : DummiesCall → Table → marked.Request
 marked_of c t = dummies_request t (names_in c.columns) c.separator c.drop_first
 
 abbrev pub wide_of : PivotCall → Table → wide.Request
-wide_of c t = wide_request t c.on.items (names_in c.index) (names_in c.values) c.sort_columns c.agg c.separator
+wide_of c t = wide_request t c.on.items (names_in c.index) (names_in c.values) c.sort_columns c.agg
+    c.separator

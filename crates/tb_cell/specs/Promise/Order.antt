@@ -17,7 +17,8 @@ may_follow descending before v = is_present v && not (is_lt (order_of descending
 -- the last of values that may follow one another, behind one that stands before them; none where they may not
 abbrev pub last_in_order : Bool → Datum → List Datum → Option Datum
 last_in_order descending before [] = Some before
-last_in_order descending before (v ∷ vs) = (if may_follow descending before v then last_in_order descending v vs else None)
+last_in_order descending before (v ∷ vs) =
+    (if may_follow descending before v then last_in_order descending v vs else None)
 
 -- where the values that are present start, if the nulls stand at one end
 abbrev pub present_from : List Datum → ℕ
@@ -25,4 +26,6 @@ present_from vs = (if is_null (get_or vs 0 null) then length (nulls vs) else 0)
 
 -- whether as many values from there on as are present may follow one another
 unfoldable pub keeps_order : Bool → List Datum → Bool
-keeps_order descending vs = is_some (last_in_order descending null (take (length vs - length (nulls vs)) (drop (present_from vs) vs)))
+keeps_order descending vs = is_some
+    (last_in_order descending null
+    (take (length vs - length (nulls vs)) (drop (present_from vs) vs)))

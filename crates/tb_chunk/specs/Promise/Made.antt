@@ -13,4 +13,5 @@ at_least_one (c ∷ cs) = c ∷ cs
 
 -- the column of this name, type, chunks and flag, made of values
 abbrev pub fresh_column : List ℕ → Kind → List (List Datum) → IsSorted → Col
-fresh_column n t cs f = record { name = n; kind = t; chunks = cs; flag = f; view_arrays = fresh_view_arrays cs }
+fresh_column n t cs f =
+    record { name = n; kind = t; chunks = cs; flag = f; view_arrays = fresh_view_arrays cs }

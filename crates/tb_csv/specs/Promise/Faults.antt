@@ -16,7 +16,9 @@ use Rattle.tb_csv.specs.declared.options.TypeOf.{TypeOf}
 
 -- record i has another number of fields than there are names, or is not UTF-8
 abbrev pub row_fault : ℕ → ℕ → Line → Option CsvFault
-row_fault width i r = first_cause (when (not (length r == width)) (FieldCount i width (length r)) ∷ when (not (is_text r)) (NotUtf8 i) ∷ [])
+row_fault width i r = first_cause
+    (when (not (length r == width)) (FieldCount i width (length r))
+    ∷ when (not (is_text r)) (NotUtf8 i) ∷ [])
 
 -- the first fault of rows, of which the first is record i
 abbrev pub rows_fault : ℕ → ℕ → List Line → Option CsvFault
@@ -29,7 +31,9 @@ repeated_name names = option_map (λ n. RepeatedName n) (first_repeated names)
 -- the first field of a column that is none of its type. The first field stands in record i
 abbrev pub column_fault : Name → FieldType → ℕ → List Field → Option CsvFault
 column_fault name t i [] = None
-column_fault name t i (f ∷ fs) = if is_of t f then column_fault name t (i + 1) fs else Some (NotOfType i name t)
+column_fault name t i (f ∷ fs) = if is_of t f
+    then column_fault name t (i + 1) fs
+    else Some (NotOfType i name t)
 
 -- names, rows and their number. The record of names is number 0
 abbrev pub records_fault : List Line → Option CsvFault
@@ -47,7 +51,8 @@ typed_fault types names rows j =
 
 -- the columns of these names, from the left
 abbrev pub columns_fault : List TypeOf → List Name → List Record → Option CsvFault
-columns_fault types names rows = first_cause (map (typed_fault types names rows) (row_numbers (length names)))
+columns_fault types names rows =
+    first_cause (map (typed_fault types names rows) (row_numbers (length names)))
 
 -- why the fields of records are not of the types of their columns. The first record has the names
 abbrev pub types_fault : List TypeOf → List Record → Option CsvFault
@@ -56,8 +61,11 @@ types_fault types (names ∷ rows) = columns_fault types (line_of names) rows
 
 -- why a text is no names and rows
 abbrev pub text_fault : ℕ → List ℕ → Option CsvFault
-text_fault separator text = first_cause (when (has_open_quote separator text) OpenQuote ∷ records_fault (map line_of (records_of separator text)) ∷ [])
+text_fault separator text = first_cause
+    (when (has_open_quote separator text) OpenQuote
+    ∷ records_fault (map line_of (records_of separator text)) ∷ [])
 
 -- why a text is no table
 abbrev pub csv_refusal : List TypeOf → ℕ → List ℕ → Option CsvFault
-csv_refusal types separator text = first_cause (text_fault separator text ∷ types_fault types (records_of separator text) ∷ [])
+csv_refusal types separator text =
+    first_cause (text_fault separator text ∷ types_fault types (records_of separator text) ∷ [])

@@ -23,7 +23,8 @@ is_open _ = false
 
 -- the text ends inside quotes that nothing closes
 unfoldable pub has_open_quote : ℕ → List ℕ → Bool
-has_open_quote separator text = is_open (state_behind (form separator) st.StartRecord (strip_bom text))
+has_open_quote separator text =
+    is_open (state_behind (form separator) st.StartRecord (strip_bom text))
 
 -- a record begins with the byte between these states: there was none before it, and there is one behind it
 abbrev pub begins_record : State → State → Bool
@@ -37,7 +38,9 @@ opens_field s t = not (is_quoted s) && is_quoted t
 unfoldable pub places_from : (State → State → Bool) → Config → State → ℕ → List ℕ → List ℕ
 places_from p cfg s i [] = []
 places_from p cfg s i (c ∷ rest) =
-    if p s (step cfg s c).0 then i ∷ places_from p cfg (step cfg s c).0 (i + 1) rest else places_from p cfg (step cfg s c).0 (i + 1) rest
+    if p s (step cfg s c).0
+    then i ∷ places_from p cfg (step cfg s c).0 (i + 1) rest
+    else places_from p cfg (step cfg s c).0 (i + 1) rest
 
 -- the places of the first bytes of the records of a text
 abbrev pub record_places : ℕ → List ℕ → List ℕ
@@ -49,7 +52,8 @@ quote_places separator text = places_from opens_field (form separator) st.StartR
 
 -- a line ends at a line feed, and at a carriage return that no line feed follows
 abbrev pub ends_line : List ℕ → ℕ → Bool
-ends_line text i = (slice_index text i == 10) || ((slice_index text i == 13) && not (slice_index text (i + 1) == 10))
+ends_line text i = (slice_index text i == 10)
+    || ((slice_index text i == 13) && not (slice_index text (i + 1) == 10))
 
 -- the line of a place: one more than lines end before it
 abbrev pub line_at : List ℕ → ℕ → ℕ
@@ -60,7 +64,8 @@ last places = fold (λ (found : Option ℕ) i. Some i) None places
 
 -- the line on which a record begins
 abbrev pub record_line : ℕ → List ℕ → ℕ → Option ℕ
-record_line separator text i = option_map (line_at text) (slice_get (record_places separator text) i)
+record_line separator text i =
+    option_map (line_at text) (slice_get (record_places separator text) i)
 
 -- the line of the last quote that opens a field
 abbrev pub quote_line : ℕ → List ℕ → Option ℕ

@@ -36,7 +36,8 @@ form separator = record default_config { delimiter = separator }
 
 -- the bytes of the fields of each record of a text, without a byte-order mark at its front. There is at most one more record than the text has bytes
 unfoldable pub lines_of : ℕ → List ℕ → List Line
-lines_of separator text = records_from (form separator) (length text + 1) st.StartRecord (strip_bom text)
+lines_of separator text =
+    records_from (form separator) (length text + 1) st.StartRecord (strip_bom text)
 
 -- a field that ends in this state began with a quote, and may lack the one that closes it
 abbrev pub is_quoted : State → Bool
@@ -53,7 +54,9 @@ ends_field _ = false
 unfoldable pub marks_from : Config → State → List ℕ → List Bool
 marks_from cfg s [] = if ends_at_end s then is_quoted s ∷ [] else []
 marks_from cfg s (c ∷ rest) =
-    if ends_field (step cfg s c).1 then is_quoted s ∷ marks_from cfg (step cfg s c).0 rest else marks_from cfg (step cfg s c).0 rest
+    if ends_field (step cfg s c).1
+    then is_quoted s ∷ marks_from cfg (step cfg s c).0 rest
+    else marks_from cfg (step cfg s c).0 rest
 
 -- whether each field of a text stands in quotes
 unfoldable pub marks_of : ℕ → List ℕ → List Bool

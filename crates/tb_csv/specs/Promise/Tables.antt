@@ -11,7 +11,8 @@ use Rattle.tb_csv.specs.declared.options.TypeOf.{TypeOf}
 
 -- the column of this name whose fields are read as this type
 abbrev pub typed_column : Name → FieldType → List Field → TableColumn
-typed_column name t fields = record { name = name; kind = kind_at t; values = map (cell_of t) fields }
+typed_column name t fields =
+    record { name = name; kind = kind_at t; values = map (cell_of t) fields }
 
 -- column j of the table
 abbrev pub csv_column : List TypeOf → List Name → List Record → ℕ → TableColumn

@@ -52,7 +52,8 @@ field_among n k v = if n == 1 then Some (bytes_of (field_of k v)) else field_of 
 
 -- the fields of row i
 abbrev pub row_fields : Table → ℕ → Record
-row_fields t i = map (λ (c : TableColumn). field_among (length t) c.kind (slice_index_or c.values i null)) t
+row_fields t i =
+    map (λ (c : TableColumn). field_among (length t) c.kind (slice_index_or c.values i null)) t
 
 -- the names, and the fields of each row
 abbrev pub table_records : Table → List Record
@@ -71,7 +72,8 @@ field_text separator (Some (c ∷ cs)) = kit.field_text (style separator) (c ∷
 -- the fields of a record with the separator between them
 abbrev pub line_text : ℕ → Record → List ℕ
 line_text separator [] = []
-line_text separator (f ∷ fs) = field_text separator f ++ flat_map (λ g. separator ∷ field_text separator g) fs
+line_text separator (f ∷ fs) =
+    field_text separator f ++ flat_map (λ g. separator ∷ field_text separator g) fs
 
 -- a line feed ends each record
 abbrev pub record_text : ℕ → Record → List ℕ
@@ -92,7 +94,8 @@ no_column (c ∷ cs) = None
 
 -- the first column of a type without a text form
 abbrev pub no_text : Table → Option CsvFault
-no_text t = option_map (λ (c : TableColumn). NoText c.name) (find (λ (c : TableColumn). is_none (field_type c.kind)) t)
+no_text t = option_map (λ (c : TableColumn). NoText c.name)
+    (find (λ (c : TableColumn). is_none (field_type c.kind)) t)
 
 -- why a table has no text
 abbrev pub text_refusal : Table → Option CsvFault

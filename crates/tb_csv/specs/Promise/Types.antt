@@ -81,11 +81,13 @@ or_string (Some t) = t
 
 -- the first of Int64, Boolean and Date that all fields are of, and else String
 abbrev pub told_type : List Field → FieldType
-told_type fields = or_string (find (λ t. list_all (is_of t) fields) (field.Int64 ∷ field.Boolean ∷ field.Date ∷ []))
+told_type fields = or_string
+    (find (λ t. list_all (is_of t) fields) (field.Int64 ∷ field.Boolean ∷ field.Date ∷ []))
 
 -- the type that is given for a name, the first where there are several
 abbrev pub given_type : List TypeOf → Name → Option FieldType
-given_type types name = option_map (λ (t : TypeOf). t.field_type) (find (λ (t : TypeOf). same_name t.name name) types)
+given_type types name =
+    option_map (λ (t : TypeOf). t.field_type) (find (λ (t : TypeOf). same_name t.name name) types)
 
 abbrev pub or_told : List Field → Option FieldType → FieldType
 or_told fields None = told_type fields

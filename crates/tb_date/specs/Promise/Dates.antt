@@ -17,7 +17,9 @@ is_civil y m d = nat_le 1 m && nat_le m 12 && nat_le 1 d && nat_le d (days_in_mo
 
 -- the number of the day since 1970-01-01, if the calendar has it
 abbrev pub day_in : Option ℕ → Option ℕ → Option ℕ → Option ℤ
-day_in (Some y) (Some m) (Some d) = if is_civil y m d then Some (days_from_civil (pos y) m d) else None
+day_in (Some y) (Some m) (Some d) = if is_civil y m d
+    then Some (days_from_civil (pos y) m d)
+    else None
 day_in _ _ _ = None
 
 -- ten bytes with hyphens behind the year and the month
@@ -26,7 +28,9 @@ is_shaped s = (length s == 10) && (slice_index_or s 4 0 == 45) && (slice_index_o
 
 -- the day that a text is
 abbrev pub date_in : List ℕ → Option ℤ
-date_in s = if is_shaped s then day_in (number_in (take 4 s)) (number_in (take 2 (drop 5 s))) (number_in (drop 8 s)) else None
+date_in s = if is_shaped s
+    then day_in (number_in (take 4 s)) (number_in (take 2 (drop 5 s))) (number_in (drop 8 s))
+    else None
 
 -- from 0000-01-01 to 9999-12-31
 abbrev pub has_text : ℤ → Bool
@@ -53,7 +57,8 @@ abbrev pub two_digits : ℕ → List ℕ
 two_digits n = (48 + n / 10) ∷ (48 + n % 10) ∷ []
 
 abbrev pub civil_text : ℕ → ℕ → ℕ → List ℕ
-civil_text y m d = two_digits (y / 100) ++ two_digits (y % 100) ++ 45 ∷ [] ++ two_digits m ++ 45 ∷ [] ++ two_digits d
+civil_text y m d = two_digits (y / 100) ++ two_digits (y % 100) ++ 45 ∷ [] ++ two_digits m ++ 45
+    ∷ [] ++ two_digits d
 
 -- the text of a day that has one
 abbrev pub date_text : ℤ → List ℕ

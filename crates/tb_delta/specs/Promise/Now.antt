@@ -23,7 +23,8 @@ use Rattle.tb_delta.specs.Promise.State.{Row, SideState, State, of_side}
 
 -- a column of the rows that there are: its name, its type and the fields at its place
 abbrev pub column_now : List Row → ℕ × (Name × Kind) → TableColumn
-column_now rows c = record { name = c.1.0; kind = c.1.1; values = map (λ (r : Row). slice_index_or r.1 c.0 null) rows }
+column_now rows c = record
+    { name = c.1.0; kind = c.1.1; values = map (λ (r : Row). slice_index_or r.1 c.0 null) rows }
 
 abbrev pub table_now : SideState → Table
 table_now s = map (column_now s.rows) (enumerate_from 0 s.columns)
@@ -42,7 +43,8 @@ kept_args join_nulls = record {
 
 -- the join of the rows that there are
 abbrev pub now : State → Request
-now s = by_names (table_now s.left) (table_now s.right) (s.left.key ∷ []) (s.right.key ∷ []) (kept_args s.join_nulls)
+now s = by_names (table_now s.left) (table_now s.right) (s.left.key ∷ []) (s.right.key ∷ [])
+    (kept_args s.join_nulls)
 
 -- REFUSALS
 
@@ -64,9 +66,12 @@ ids_at_rows s rows = map (λ i. slice_index_or (ids_of s) i 0) rows
 
 -- the ids of the other side's rows that match the row at a place
 abbrev pub partners_at : State → Side → ℕ → List ℕ
-partners_at s side.Left i = ids_at_rows s.right (filter (λ j. matches (now s) i j) (row_numbers (length s.right.rows)))
-partners_at s side.Right j = ids_at_rows s.left (filter (λ i. matches (now s) i j) (row_numbers (length s.left.rows)))
+partners_at s side.Left i =
+    ids_at_rows s.right (filter (λ j. matches (now s) i j) (row_numbers (length s.right.rows)))
+partners_at s side.Right j =
+    ids_at_rows s.left (filter (λ i. matches (now s) i j) (row_numbers (length s.left.rows)))
 
 -- those of the row of an id; None where no row has it
 abbrev pub partners : State → Side → ℕ → Option (List ℕ)
-partners s side id = option_map (partners_at s side) (position (nat_eq id) (ids_of (of_side side s)))
+partners s side id =
+    option_map (partners_at s side) (position (nat_eq id) (ids_of (of_side side s)))

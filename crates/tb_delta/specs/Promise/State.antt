@@ -42,10 +42,12 @@ other side.Right = side.Left
 
 -- the rows of a table have the ids 0, 1, 2 and so on
 abbrev pub side_of : Table → Name → SideState
-side_of t key = record { columns = schema_of t; key = key; rows = enumerate_from 0 (rows_of t); ever = height t }
+side_of t key = record
+    { columns = schema_of t; key = key; rows = enumerate_from 0 (rows_of t); ever = height t }
 
 abbrev pub given : Table → Table → Name → Name → Bool → State
-given left right left_on right_on join_nulls = record { left = side_of left left_on; right = side_of right right_on; join_nulls = join_nulls }
+given left right left_on right_on join_nulls =
+    record { left = side_of left left_on; right = side_of right right_on; join_nulls = join_nulls }
 
 -- STEPS
 

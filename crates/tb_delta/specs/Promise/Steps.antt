@@ -20,15 +20,18 @@ stepped s (remove side id) = on_side side (taken_out id) s
 
 -- a row that fits is put where there is room, and a row that is there is taken out
 abbrev pub IsAccepted : State → Step → Type 0
-IsAccepted s (insert side row) = FitsFields (of_side side s).columns row × ((of_side side s).ever < MAX_ROWS)
+IsAccepted s (insert side row) =
+    FitsFields (of_side side s).columns row × ((of_side side s).ever < MAX_ROWS)
 IsAccepted s (remove side id) = IsSome (row_of (of_side side s) id)
 
 -- why a step is not done; memory may be wanting for one that is accepted, or for telling what it tells
 abbrev pub IsRefusedFor : State → Step → DeltaFault → Type 0
 IsRefusedFor s (insert side row) fault.Schema = ¬ FitsFields (of_side side s).columns row
-IsRefusedFor s (insert side row) fault.Full = FitsFields (of_side side s).columns row × (MAX_ROWS ≤ (of_side side s).ever)
+IsRefusedFor s (insert side row) fault.Full =
+    FitsFields (of_side side s).columns row × (MAX_ROWS ≤ (of_side side s).ever)
 IsRefusedFor s (insert side row) fault.NoRow = ⊥
-IsRefusedFor s (insert side row) fault.OutOfMemory = FitsFields (of_side side s).columns row × ((of_side side s).ever < MAX_ROWS)
+IsRefusedFor s (insert side row) fault.OutOfMemory =
+    FitsFields (of_side side s).columns row × ((of_side side s).ever < MAX_ROWS)
 IsRefusedFor s (remove side id) fault.NoRow = row_of (of_side side s) id ≡ None
 IsRefusedFor s (remove side id) fault.OutOfMemory = Unit {0}
 IsRefusedFor s (remove side id) fault.Schema = ⊥
@@ -36,7 +39,8 @@ IsRefusedFor s (remove side id) fault.Full = ⊥
 
 -- the partners that a step tells: of a new row when it is there, of an old one before it goes
 abbrev pub told : State → Step → List ℕ
-told s (insert side row) = unwrap_or (partners (on_side side (appended row) s) side (of_side side s).ever) []
+told s (insert side row) =
+    unwrap_or (partners (on_side side (appended row) s) side (of_side side s).ever) []
 told s (remove side id) = unwrap_or (partners s side id) []
 
 -- ALL STEPS IN ORDER

@@ -29,7 +29,8 @@ step_refusal s (remove side id) = when (is_none (row_of (of_side side s) id)) fa
 -- the first step that is refused, where these are the steps from the n-th on, and why
 abbrev pub first_refused : ℕ → State → List Step → Option (ℕ × DeltaFault)
 first_refused n s [] = None
-first_refused n s (x ∷ xs) = option_or (option_map (λ f. (n, f)) (step_refusal s x)) (first_refused (n + 1) (stepped s x) xs)
+first_refused n s (x ∷ xs) =
+    option_or (option_map (λ f. (n, f)) (step_refusal s x)) (first_refused (n + 1) (stepped s x) xs)
 
 -- the state behind all steps
 abbrev pub end_of : DeltaRequest → State

@@ -38,10 +38,12 @@ part_of w = (w.name, w.kind)
 
 -- the values of a row, one of each column's type, as those of a struct with these fields
 abbrev pub row_in : List Written → List Data → Option (List Datum)
-row_in columns row = option_map data_in (cells.row_in (parts_of (map part_of columns)) (items_of row))
+row_in columns row =
+    option_map data_in (cells.row_in (parts_of (map part_of columns)) (items_of row))
 
 abbrev pub step_in : List Written → List Written → WrittenStep → Option Step
-step_in left right (written.insert side row) = option_map (steps.insert side) (row_in (of_two side left right) row)
+step_in left right (written.insert side row) =
+    option_map (steps.insert side) (row_in (of_two side left right) row)
 step_in left right (written.remove side id) = Some (steps.remove side id)
 
 abbrev pub steps_in : List Written → List Written → List WrittenStep → Option (List Step)
@@ -83,4 +85,5 @@ AreFitting r = All (Fits (schema_of (table_of r.left)) (schema_of (table_of r.ri
 
 -- what the program's request stands for, wherever the texts of its columns stand
 abbrev pub delta_view : rust.DeltaRequest → DeltaRequest
-delta_view r = record { left = map relaid_column r.left; right = map relaid_column r.right; left_on = r.left_on; right_on = r.right_on; join_nulls = r.join_nulls; steps = steps_of r.steps.items }
+delta_view r = record
+    { left = map relaid_column r.left; right = map relaid_column r.right; left_on = r.left_on; right_on = r.right_on; join_nulls = r.join_nulls; steps = steps_of r.steps.items }

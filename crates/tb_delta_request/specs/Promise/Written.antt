@@ -63,4 +63,6 @@ delta_of d = do
   left ← table_at format (codes "left") d
   right ← table_at format (codes "right") d
   steps ← get (codes "steps") d >>= list_of (step_of left right)
-  Some (record { left = left; left_on = left_on; right = right; right_on = right_on; join_nulls = join_nulls; steps = steps })
+  Some
+      (record
+      { left = left; left_on = left_on; right = right; right_on = right_on; join_nulls = join_nulls; steps = steps })

@@ -45,11 +45,13 @@ mark v w = int (pos (if same v w then 1 else 0))
 
 -- the column for a value: where it stands in a column, called by that column's name and the value's text
 abbrev pub dummy : Name → TableColumn → Datum → TableColumn
-dummy separator c v = record { name = c.name ++ separator ++ value_text v; kind = kind.uint8; values = map (mark v) c.values }
+dummy separator c v = record
+    { name = c.name ++ separator ++ value_text v; kind = kind.uint8; values = map (mark v) c.values }
 
 -- the rows in which the values of a column stand for the first time, less row 0 where it is left out
 abbrev pub value_rows : Bool → List Datum → List ℕ
-value_rows drop_first vs = filter (λ i. not (drop_first && i == 0)) (first_rows (same_rows (vs ∷ [])) (length vs))
+value_rows drop_first vs =
+    filter (λ i. not (drop_first && i == 0)) (first_rows (same_rows (vs ∷ [])) (length vs))
 
 -- columns compared by the bytes of their names
 abbrev pub by_name : TableColumn → TableColumn → Ordering
@@ -57,13 +59,15 @@ by_name c d = slice_cmp nat_cmp c.name d.name
 
 -- the columns for the values of a column, by the bytes of their names
 abbrev pub dummies_of : Name → Bool → TableColumn → List TableColumn
-dummies_of separator drop_first c = in_order by_name (map (λ i. dummy separator c (row_value c.values i)) (value_rows drop_first c.values))
+dummies_of separator drop_first c = in_order by_name
+    (map (λ i. dummy separator c (row_value c.values i)) (value_rows drop_first c.values))
 
 -- THE TABLE
 
 -- what stands in the place of a column, where those of some names are replaced
 abbrev pub in_place_of : (Name → Bool) → Name → Bool → TableColumn → List TableColumn
-in_place_of replaced separator drop_first c = (if replaced c.name then dummies_of separator drop_first c else c ∷ [])
+in_place_of replaced separator drop_first c =
+    (if replaced c.name then dummies_of separator drop_first c else c ∷ [])
 
 abbrev pub dummies_table : Request → Table
 dummies_table q = flat_map (in_place_of (is_replaced q.columns) q.separator q.drop_first) q.table
@@ -72,7 +76,10 @@ dummies_table q = flat_map (in_place_of (is_replaced q.columns) q.separator q.dr
 
 -- the first column that is replaced and whose values name no columns
 abbrev pub header_cause : (Name → Bool) → Table → Option PolarsError
-header_cause replaced t = option_map (λ (c : TableColumn). InvalidOperation (HeaderType c.name)) (find (λ (c : TableColumn). replaced c.name && not (is_header c.kind)) t)
+header_cause replaced t = option_map (λ (c : TableColumn). InvalidOperation (HeaderType c.name))
+    (find (λ (c : TableColumn). replaced c.name && not (is_header c.kind)) t)
 
 abbrev pub dummies_refusal : Request → Option PolarsError
-dummies_refusal q = first_cause (header_cause (is_replaced q.columns) q.table ∷ repeated_among (names_of (dummies_table q)) ∷ [])
+dummies_refusal q = first_cause
+    (header_cause (is_replaced q.columns) q.table ∷ repeated_among (names_of (dummies_table q))
+    ∷ [])

@@ -35,7 +35,8 @@ is_key_value t null = false
 is_key_value t (boolean b) = same_kind t kind.boolean
 is_key_value t (int z) = lies_within (ends t) z
 is_key_value t (string s) = same_kind t kind.string && nat_lt (length s) TOO_LONG && is_utf8 s
-is_key_value t (binary s) = same_kind t kind.binary && nat_lt (length s) TOO_LONG && list_all (λ b. nat_lt b 256) s
+is_key_value t (binary s) =
+    same_kind t kind.binary && nat_lt (length s) TOO_LONG && list_all (λ b. nat_lt b 256) s
 is_key_value t (list vs) = false
 is_key_value t (struct vs) = false
 
@@ -48,8 +49,10 @@ may_test (less w) t = is_key_value t w
 
 -- the rows whose field in a column passes, in order
 abbrev pub rows_kept : Check → TableColumn → List ℕ
-rows_kept k c = filter (λ i. passes k (slice_index_or c.values i null)) (row_numbers (length c.values))
+rows_kept k c =
+    filter (λ i. passes k (slice_index_or c.values i null)) (row_numbers (length c.values))
 
 -- these rows of a table
 abbrev pub with_rows : List ℕ → Table → Table
-with_rows rows t = map (λ (c : TableColumn). record c { values = map (λ i. slice_index_or c.values i null) rows }) t
+with_rows rows t = map
+    (λ (c : TableColumn). record c { values = map (λ i. slice_index_or c.values i null) rows }) t

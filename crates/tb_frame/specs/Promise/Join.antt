@@ -52,7 +52,8 @@ by_names left right left_on right_on args = record {
 
 -- the field of row i in the key at place p
 abbrev pub field : List TableColumn → ℕ → ℕ → Datum
-field keys p i = slice_index_or (slice_index_or (map (λ (c : TableColumn). c.values) keys) p []) i null
+field keys p i =
+    slice_index_or (slice_index_or (map (λ (c : TableColumn). c.values) keys) p []) i null
 
 -- the flag at place p; beyond the flags it is false
 abbrev pub flag_at : JoinNulls → ℕ → Bool
@@ -69,7 +70,8 @@ places q = row_numbers (min (length q.left_keys) (length q.right_keys))
 
 -- rows i and j match where the fields agree at every place
 abbrev pub matches : Request → ℕ → ℕ → Bool
-matches q i j = list_all (λ p. agrees (nulls_match q p) (field q.left_keys p i) (field q.right_keys p j)) (places q)
+matches q i j = list_all
+    (λ p. agrees (nulls_match q p) (field q.left_keys p i) (field q.right_keys p j)) (places q)
 
 -- THE LISTING
 
@@ -108,7 +110,8 @@ Ascends ByLeft ps = IsSorted left_first ps
 Ascends ByRight ps = IsSorted right_first ps
 
 -- ps is a permutation of the list, and ascends in the way that the table names
-pub record IsOrdered (how : JoinType) (o : MaintainOrderJoin) (ps list : List JoinPair) : Type 0 where
+pub record IsOrdered (how : JoinType) (o : MaintainOrderJoin)
+    (ps list : List JoinPair) : Type 0 where
   pub permutation : IsPermutation list ps
   pub ascends : Ascends (direction how o) ps
 
@@ -116,10 +119,12 @@ pub record IsOrdered (how : JoinType) (o : MaintainOrderJoin) (ps list : List Jo
 
 -- whether place p of n is kept: s <= p < s + len, where s is the offset, or offset + n where it is negative
 abbrev pub in_slice : ℕ → ℤ → ℕ → ℕ → Bool
-in_slice n offset len p = let s : ℤ = (if int_lt offset (pos 0) then offset +ℤ pos n else offset) in int_le s (pos p) && int_lt (pos p) (s +ℤ pos len)
+in_slice n offset len p = let s : ℤ = (if int_lt offset (pos 0) then offset +ℤ pos n else offset) in
+    int_le s (pos p) && int_lt (pos p) (s +ℤ pos len)
 
 abbrev pub slice : {X : Type 0} → List X → ℤ → ℕ → List X
-slice {X} ps offset len = map (λ (x : ℕ × X). x.1) (filter (λ (x : ℕ × X). in_slice (length ps) offset len x.0) (enumerate_from 0 ps))
+slice {X} ps offset len = map (λ (x : ℕ × X). x.1)
+    (filter (λ (x : ℕ × X). in_slice (length ps) offset len x.0) (enumerate_from 0 ps))
 
 -- without a slice it is ps
 abbrev pub cut : {X : Type 0} → Option (ℤ × ℕ) → List X → List X
@@ -155,7 +160,9 @@ right_key q p = option_and_then (column_named q.right) (slice_get q.right_on p)
 
 -- the column of the right table that is coalesced with a left one of this name: where keys are coalesced, that of the right key beside the left key
 abbrev pub partner : Request → Name → Option TableColumn
-partner q n = (if coalesces_keys q.args.how (coalesces q.args) then option_and_then (right_key q) (position (same_name n) q.left_on) else None)
+partner q n = (if coalesces_keys q.args.how (coalesces q.args)
+    then option_and_then (right_key q) (position (same_name n) q.left_on)
+    else None)
 
 -- a left column's field, and the partner's where it is Null
 abbrev pub left_field : Option TableColumn → TableColumn → JoinPair → Datum
@@ -167,11 +174,13 @@ left_out q c = record { name = c.name; kind = c.kind; at = left_field (partner q
 
 -- a right column, beside left ones of these names
 abbrev pub right_out : List Name → Option Name → TableColumn → Out
-right_out taken suffix c = record { name = right_name taken suffix c.name; kind = c.kind; at = λ pair. value_at c pair.right }
+right_out taken suffix c = record
+    { name = right_name taken suffix c.name; kind = c.kind; at = λ pair. value_at c pair.right }
 
 -- the columns of the answer
 abbrev pub out : Request → List Out
-out q = map (left_out q) (kept_left_columns q) ++ map (right_out (names_of (kept_left_columns q)) q.args.suffix) (shown_right_columns q)
+out q = map (left_out q) (kept_left_columns q)
+    ++ map (right_out (names_of (kept_left_columns q)) q.args.suffix) (shown_right_columns q)
 
 abbrev pub out_row : Request → JoinPair → List Datum
 out_row q pair = map (λ (o : Out). o.at pair) (out q)

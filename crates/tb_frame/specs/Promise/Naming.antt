@@ -52,11 +52,13 @@ abbrev pub keeps_left : JoinArgs → List Name → Name → Bool
 keeps_left a left_on n = not (drops_left_keys a.how (coalesces a) && is_among left_on n)
 
 abbrev pub keeps_right : JoinArgs → List Name → Name → Bool
-keeps_right a right_on n = has_right a.how && not (drops_right_keys a.how (coalesces a) && is_among right_on n)
+keeps_right a right_on n =
+    has_right a.how && not (drops_right_keys a.how (coalesces a) && is_among right_on n)
 
 -- and whether a right one stays there, since it is not coalesced with a left one
 abbrev pub shows_right : JoinArgs → List Name → Name → Bool
-shows_right a right_on n = keeps_right a right_on n && not (coalesces_keys a.how (coalesces a) && is_among right_on n)
+shows_right a right_on n =
+    keeps_right a right_on n && not (coalesces_keys a.how (coalesces a) && is_among right_on n)
 
 -- THEIR NAMES
 
@@ -73,7 +75,8 @@ left_names a left_on left = filter (keeps_left a left_on) left
 
 -- the names of the columns that are put side by side: those of the left, and those of the right, which avoid them
 abbrev pub joined_names : JoinArgs → List Name → List Name → List Name → List Name → List Name
-joined_names a left_on right_on left right = left_names a left_on left ++ map (right_name (left_names a left_on left) a.suffix) (filter (keeps_right a right_on) right)
+joined_names a left_on right_on left right = left_names a left_on left
+    ++ map (right_name (left_names a left_on left) a.suffix) (filter (keeps_right a right_on) right)
 
 -- a name and a type
 abbrev pub Field : Type 0
@@ -84,4 +87,5 @@ abbrev pub answer_fields : JoinArgs → List Name → List Name → List Field �
 answer_fields a left_on right_on left right =
     let taken : List Name = left_names a left_on (map (λ (f : Field). f.0) left) in
     filter (λ (f : Field). keeps_left a left_on f.0) left
-    ++ map (λ (f : Field). (right_name taken a.suffix f.0, f.1)) (filter (λ (f : Field). shows_right a right_on f.0) right)
+    ++ map (λ (f : Field). (right_name taken a.suffix f.0, f.1))
+    (filter (λ (f : Field). shows_right a right_on f.0) right)

@@ -47,11 +47,13 @@ abbrev pub right_table : CsvOptions → JoinCall → List ℕ → List ℕ → T
 right_table o c left right = joined_table o right left c.right_on.items c.left_on.items
 
 -- why two texts are no such tables
-abbrev pub tables_faults : CsvOptions → List Name → List Name → List ℕ → List ℕ → List (Option FrontFault)
+abbrev pub tables_faults : CsvOptions → List Name → List Name → List ℕ → List ℕ
+    → List (Option FrontFault)
 tables_faults o left_on right_on left right =
     no_records o First left
     ∷ no_records o Second right
-    ∷ unknown_type o.types.items (names_in (records_of o.separator left)) (names_in (records_of o.separator right))
+    ∷ unknown_type o.types.items (names_in (records_of o.separator left))
+    (names_in (records_of o.separator right))
     ∷ no_types o First left (joined_types o left right left_on right_on)
     ∷ no_types o Second right (joined_types o right left right_on left_on)
     ∷ []
@@ -62,11 +64,14 @@ asked_join o c left right = joined_of c (left_table o c left right) (right_table
 
 -- why a request isn't answered by a text: it is refused, or a table of the names and types of its answers has no text
 abbrev pub answer_faults : TextForm → Request → List (Option FrontFault)
-answer_faults form q = refusal_fault (join_refusal q) ∷ writing_fault form (empty_table (out_columns q)) ∷ []
+answer_faults form q =
+    refusal_fault (join_refusal q) ∷ writing_fault form (empty_table (out_columns q)) ∷ []
 
 -- why two tables aren't joined
 abbrev pub joining_fault : TextForm → JoinCall → Table → Table → Option FrontFault
-joining_fault form c left right = first_cause (key_clash left right c.left_on.items c.right_on.items ∷ answer_faults form (joined_of c left right))
+joining_fault form c left right = first_cause
+    (key_clash left right c.left_on.items c.right_on.items
+    ∷ answer_faults form (joined_of c left right))
 
 -- why two texts aren't
 abbrev pub join_fault : TextOptions → JoinCall → List ℕ → List ℕ → Option FrontFault
@@ -92,11 +97,13 @@ abbrev pub table_faults : TextForm → Option PolarsError → Table → List (Op
 table_faults form cause answer = refusal_fault cause ∷ writing_fault form answer ∷ []
 
 abbrev pub unpivot_faults : TextForm → UnpivotArgsIR → Table → List (Option FrontFault)
-unpivot_faults form c t = table_faults form (unpivot_refusal (long_of c t)) (unpivot_table (long_of c t))
+unpivot_faults form c t =
+    table_faults form (unpivot_refusal (long_of c t)) (unpivot_table (long_of c t))
 
 -- the text is no table, or its table has no such answer
 abbrev pub unpivot_fault : TextOptions → UnpivotArgsIR → List ℕ → Option FrontFault
-unpivot_fault o c text = first_cause (table_fault o.csv text ∷ unpivot_faults o.form c (table_in o.csv text))
+unpivot_fault o c text =
+    first_cause (table_fault o.csv text ∷ unpivot_faults o.form c (table_in o.csv text))
 
 -- DUMMIES
 
@@ -113,14 +120,17 @@ marked_names None t = names_of (filter (λ (c : TableColumn). is_marked c.kind) 
 
 -- what is asked of the table whose columns are replaced
 abbrev pub marked_of : DummiesCall → Table → marked.Request
-marked_of c t = dummies_request t (Some (marked_names (call.names_in c.columns) t)) c.separator c.drop_first
+marked_of c t =
+    dummies_request t (Some (marked_names (call.names_in c.columns) t)) c.separator c.drop_first
 
 abbrev pub dummies_faults : TextForm → DummiesCall → Table → List (Option FrontFault)
-dummies_faults form c t = table_faults form (dummies_refusal (marked_of c t)) (dummies_table (marked_of c t))
+dummies_faults form c t =
+    table_faults form (dummies_refusal (marked_of c t)) (dummies_table (marked_of c t))
 
 -- the text is no table, or its table has no such answer
 abbrev pub dummies_fault : TextOptions → DummiesCall → List ℕ → Option FrontFault
-dummies_fault o c text = first_cause (table_fault o.csv text ∷ dummies_faults o.form c (table_in o.csv text))
+dummies_fault o c text =
+    first_cause (table_fault o.csv text ∷ dummies_faults o.form c (table_in o.csv text))
 
 -- PIVOTS
 
@@ -141,7 +151,8 @@ makes_cells c n = is_value c.on.items (call.names_in c.index) (call.names_in c.v
 -- the first column of decimal numbers, read as texts unasked, that is used so
 abbrev pub first_decimals : List TypeOf → Comparison → (Name → Bool) → Table → Option FrontFault
 first_decimals types comparison used t =
-    option_map (λ (c : TableColumn). Decimals comparison c.name) (find (λ (c : TableColumn). used c.name && is_told_decimal types c) t)
+    option_map (λ (c : TableColumn). Decimals comparison c.name)
+    (find (λ (c : TableColumn). used c.name && is_told_decimal types c) t)
 
 -- decimal numbers would be compared by their bytes, as values of cells or as names of columns that are sorted
 abbrev pub decimal_faults : List TypeOf → PivotCall → Table → List (Option FrontFault)

@@ -31,7 +31,8 @@ are_digits s = list_any is_digit s && list_all is_digit s
 
 -- digits, at least one, with at most one point among them
 abbrev pub is_mantissa : List ℕ → Bool
-is_mantissa s = list_any is_digit s && list_all (λ c. is_digit c || is_point c) s && nat_le (count_by is_point s) 1
+is_mantissa s = list_any is_digit s && list_all (λ c. is_digit c || is_point c) s
+    && nat_le (count_by is_point s) 1
 
 -- with the mark of an exponent at a place, or none
 abbrev pub is_scaled : List ℕ → Option ℕ → Bool
@@ -54,7 +55,8 @@ is_blank _ = false
 
 -- a column of texts that look like decimal numbers, blanks apart
 abbrev pub has_decimals : TableColumn → Bool
-has_decimals c = list_all (λ v. is_blank v || is_decimal_value v) c.values && list_any is_decimal_value c.values
+has_decimals c =
+    list_all (λ v. is_blank v || is_decimal_value v) c.values && list_any is_decimal_value c.values
 
 -- no type is given for the name
 abbrev pub is_untyped : List TypeOf → Name → Bool

@@ -31,15 +31,18 @@ Settles r fault = SettlesBut OutOfMemory r fault
 
 -- the text at a place is no table by this fault, which has the line on which it stands
 abbrev pub no_table : ℕ → Place → List ℕ → Option CsvFault → Option FrontFault
-no_table separator place text fault = option_map (λ e. NoTable place e (fault_line separator text e)) fault
+no_table separator place text fault =
+    option_map (λ e. NoTable place e (fault_line separator text e)) fault
 
 -- why the text at a place is no records
 abbrev pub no_records : CsvOptions → Place → List ℕ → Option FrontFault
-no_records options place text = no_table options.separator place text (text_fault options.separator text)
+no_records options place text =
+    no_table options.separator place text (text_fault options.separator text)
 
 -- why its records are no table of these types
 abbrev pub no_types : CsvOptions → Place → List ℕ → List TypeOf → Option FrontFault
-no_types options place text types = no_table options.separator place text (types_fault types (records_of options.separator text))
+no_types options place text types =
+    no_table options.separator place text (types_fault types (records_of options.separator text))
 
 -- the names of the columns of records
 abbrev pub names_in : List Record → List Name
@@ -49,18 +52,21 @@ names_in (names ∷ rows) = line_of names
 -- the first name of a type that is neither among these names nor among the others
 abbrev pub unknown_type : List TypeOf → List Name → List Name → Option FrontFault
 unknown_type types names others =
-    option_map (λ (t : TypeOf). UnknownType t.name) (find (λ (t : TypeOf). not (is_among names t.name || is_among others t.name)) types)
+    option_map (λ (t : TypeOf). UnknownType t.name)
+    (find (λ (t : TypeOf). not (is_among names t.name || is_among others t.name)) types)
 
 -- KEYS
 
 -- the columns of a key are of different types
 abbrev pub clash : Option TableColumn → Option TableColumn → Option FrontFault
-clash (Some l) (Some r) = when (not (same_kind l.kind r.kind)) (KeyTypes l.name (or_string (field_type l.kind)) r.name (or_string (field_type r.kind)))
+clash (Some l) (Some r) = when (not (same_kind l.kind r.kind))
+    (KeyTypes l.name (or_string (field_type l.kind)) r.name (or_string (field_type r.kind)))
 clash _ _ = None
 
 -- the first key whose columns are, of those of these names, each beside the one at its place
 abbrev pub key_clash : Table → Table → List Name → List Name → Option FrontFault
-key_clash left right (n ∷ ns) (m ∷ ms) = first_cause (clash (column_named left n) (column_named right m) ∷ key_clash left right ns ms ∷ [])
+key_clash left right (n ∷ ns) (m ∷ ms) = first_cause
+    (clash (column_named left n) (column_named right m) ∷ key_clash left right ns ms ∷ [])
 key_clash left right _ _ = None
 
 -- ANSWERS
@@ -77,4 +83,5 @@ writing_fault (Layout width) t = None
 
 -- a table of these names and types, without rows
 abbrev pub empty_table : List (Name × Kind) → Table
-empty_table schema = map (λ (s : Name × Kind). record { name = s.0; kind = s.1; values = [] }) schema
+empty_table schema =
+    map (λ (s : Name × Kind). record { name = s.0; kind = s.1; values = [] }) schema

@@ -28,11 +28,13 @@ table_in options text = csv_table options.types.items (records_of options.separa
 -- the types of the columns of a text that is joined with another by these names, told from both
 abbrev pub joined_types : CsvOptions → List ℕ → List ℕ → List Name → List Name → List TypeOf
 joined_types options text other on other_on =
-    types_with_keys options.types.items (records_of options.separator text) (records_of options.separator other) on other_on
+    types_with_keys options.types.items (records_of options.separator text)
+    (records_of options.separator other) on other_on
 
 -- the table that such a text is
 abbrev pub joined_table : CsvOptions → List ℕ → List ℕ → List Name → List Name → Table
-joined_table options text other on other_on = csv_table (joined_types options text other on other_on) (records_of options.separator text)
+joined_table options text other on other_on =
+    csv_table (joined_types options text other on other_on) (records_of options.separator text)
 
 -- the text of a table in a form, with this byte between the fields of comma-separated values
 abbrev pub text_in : TextForm → ℕ → Table → List ℕ
@@ -45,7 +47,9 @@ fault_of cause.OutOfMemory = fault.OutOfMemory
 fault_of e = fault.Refused e
 
 -- what an operation answers is handed on: the text of its table, or its refusal
-abbrev pub IsOutcome : TextForm → ℕ → Result (List Col) PolarsError → Result (Vec ℕ Global) FrontFault → Type 0
+abbrev pub IsOutcome : TextForm → ℕ → Result (List Col) PolarsError
+    → Result (Vec ℕ Global) FrontFault → Type 0
 IsOutcome form separator (Ok t) result =
-    Settles result (writing_fault form (table_of t)) × IfOk result (λ v. v.items ≡ text_in form separator (table_of t))
+    Settles result (writing_fault form (table_of t))
+    × IfOk result (λ v. v.items ≡ text_in form separator (table_of t))
 IsOutcome form separator (Err e) result = result ≡ Err (fault_of e)

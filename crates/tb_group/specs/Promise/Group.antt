@@ -45,4 +45,5 @@ made_of q a (Some v) = agg_column q a v ∷ []
 
 -- the columns by which rows are grouped, and then one for each aggregate
 abbrev pub group_table : Request → Table
-group_table q = map (key_column q) (by_columns q) ++ flat_map (λ (a : GroupAgg). made_of q a (column_named q.table a.column)) q.aggs
+group_table q = map (key_column q) (by_columns q)
+    ++ flat_map (λ (a : GroupAgg). made_of q a (column_named q.table a.column)) q.aggs

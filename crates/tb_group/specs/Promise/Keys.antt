@@ -16,7 +16,8 @@ use Rattle.tb_group.specs.Promise.Request.{Request, by_columns}
 -- the key of a row is its value in the one column, and else the key of the row, in which Nulls match
 abbrev pub key_at : List TableColumn → ℕ → Datum
 key_at (c ∷ []) i = row_value c.values i
-key_at cs i = key_row (map (λ (c : TableColumn). c.kind) cs) (λ _. true) (map (λ (c : TableColumn). row_value c.values i) cs)
+key_at cs i = key_row (map (λ (c : TableColumn). c.kind) cs) (λ _. true)
+    (map (λ (c : TableColumn). row_value c.values i) cs)
 
 -- the type by which keys have codes
 abbrev pub key_type : List TableColumn → Kind
@@ -36,7 +37,9 @@ same_key cs i j = same (key_at cs i) (key_at cs j)
 
 -- of some rows how many have a key that no row before them has
 abbrev pub key_count : List TableColumn → List ℕ → ℕ
-key_count cs rows = length (first_rows (λ a b. same_key cs (slice_index_or rows a 0) (slice_index_or rows b 0)) (length rows))
+key_count cs rows = length
+    (first_rows (λ a b. same_key cs (slice_index_or rows a 0) (slice_index_or rows b 0))
+    (length rows))
 
 -- into how many parts the rows fell, how many rows each has, and how many keys
 pub record GroupedView : Type 0 where
@@ -49,5 +52,6 @@ abbrev pub group_trace : ExecView → Request → GroupedView
 group_trace exec q = record {
   parts = exec.partitions;
   sizes = part_sizes (key_codes q) exec.partitions;
-  groups = map (λ p. key_count (by_columns q) (part_rows (key_codes q) exec.partitions p)) (row_numbers exec.partitions);
+  groups = map (λ p. key_count (by_columns q) (part_rows (key_codes q) exec.partitions p))
+      (row_numbers exec.partitions);
 }

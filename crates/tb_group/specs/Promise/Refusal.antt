@@ -29,7 +29,8 @@ no_keys (n ∷ ns) = None
 
 -- 4 the first place of a column that is of no key type
 abbrev pub key_kind : List TableColumn → Option PolarsError
-key_kind cs = option_map (λ p. InvalidOperation (KeyKind p)) (find (λ p. not (is_key (kind_at cs p))) (row_numbers (length cs)))
+key_kind cs = option_map (λ p. InvalidOperation (KeyKind p))
+    (find (λ p. not (is_key (kind_at cs p))) (row_numbers (length cs)))
 
 -- why an aggregate is not made of a column, where there is one
 abbrev pub of_column : (TableColumn → Option PolarsError) → Option TableColumn → Option PolarsError
@@ -47,11 +48,17 @@ sums_fit _ t zs = true
 
 -- 7 the sum of a group is outside the range of its type
 abbrev pub range_cause : Request → GroupAgg → TableColumn → Option PolarsError
-range_cause q a v = when (not (sums_fit a.agg (sum_kind v.kind) (map (λ x. total (member_values q v x)) (group_firsts q)))) (ComputeError (SumRange a.column))
+range_cause q a v = when
+    (not
+    (sums_fit a.agg (sum_kind v.kind)
+    (map (λ x. total (member_values q v x)) (group_firsts q))))
+    (ComputeError (SumRange a.column))
 
 -- the first aggregate for which there is a cause
-abbrev pub first_agg_cause : Request → (GroupAgg → TableColumn → Option PolarsError) → Option PolarsError
-first_agg_cause q cause = first_cause (map (λ (a : GroupAgg). of_column (cause a) (column_named q.table a.column)) q.aggs)
+abbrev pub first_agg_cause : Request → (GroupAgg → TableColumn → Option PolarsError)
+    → Option PolarsError
+first_agg_cause q cause =
+    first_cause (map (λ (a : GroupAgg). of_column (cause a) (column_named q.table a.column)) q.aggs)
 
 -- 1 to 6, which look at no value
 abbrev pub name_causes : Request → List (Option PolarsError)

@@ -8,7 +8,8 @@ use Rattle.tb_frame.specs.Promise.Refusal.{join_refusal}
 use Rattle.tb_frame.specs.Promise.Table.{table_of}
 
 -- a table that answers the request, or the refusal by the cause, if there is one
-pub record IsJoinUnless (refusal : Option PolarsError) (q : Request) (result : Result (List Col) PolarsError) : Type 0 where
+pub record IsJoinUnless (refusal : Option PolarsError) (q : Request)
+    (result : Result (List Col) PolarsError) : Type 0 where
   pub settles : Settles result refusal
   pub answer : IfOk result (λ t. IsAnswer q (table_of t))
 

@@ -8,4 +8,5 @@ use Rattle.tb_frame.specs.declared.args.MaintainOrderJoin.TheVariants as order
 use Rattle.tb_frame.specs.declared.null_flags.JoinNulls.TheVariants.{All}
 
 abbrev pub plain_args : JoinType → JoinArgs
-plain_args how = record { how = how; validation = ManyToMany; suffix = None; slice = None; join_nulls = All false; coalesce = JoinSpecific; maintain_order = order.None }
+plain_args how = record
+    { how = how; validation = ManyToMany; suffix = None; slice = None; join_nulls = All false; coalesce = JoinSpecific; maintain_order = order.None }

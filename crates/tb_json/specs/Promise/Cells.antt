@@ -61,14 +61,16 @@ abbrev mutual
   -- values of one type
   pub items_in : Kind → Items → Option value.Items
   items_in t no_items = Some value.end
-  items_in t (item d ds) = option_and_then (λ v. option_map (value.more v) (items_in t ds)) (cell_in t d)
+  items_in t (item d ds) =
+      option_and_then (λ v. option_map (value.more v) (items_in t ds)) (cell_in t d)
 
   -- one value of each field
   pub row_in : Parts → Items → Option value.Items
   row_in kind.end no_items = Some value.end
   row_in kind.end (item d ds) = None
   row_in (kind.part n t ps) no_items = None
-  row_in (kind.part n t ps) (item d ds) = option_and_then (λ v. option_map (value.more v) (row_in ps ds)) (cell_in t d)
+  row_in (kind.part n t ps) (item d ds) =
+      option_and_then (λ v. option_map (value.more v) (row_in ps ds)) (cell_in t d)
 
 -- the value of a run, which stands in the text with its count
 abbrev pub run_in : Kind → Data × ℕ → Option (Datum × ℕ)

@@ -95,7 +95,8 @@ abbrev mutual
 
   pub each_part : Items → Option Parts
   each_part no_items = Some kind.end
-  each_part (item d ds) = option_and_then (λ p. option_map (kind.part p.0 p.1) (each_part ds)) (part_in d)
+  each_part (item d ds) =
+      option_and_then (λ p. option_map (kind.part p.0 p.1) (each_part ds)) (part_in d)
 
   pub part_in : Data → Option Part
   part_in null = None

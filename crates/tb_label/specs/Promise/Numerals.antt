@@ -24,4 +24,6 @@ fits z = int_lt z (pos (2 ^ 127)) && int_lt (negsuc (2 ^ 127)) z
 
 -- the number, where the text is written so and the number has at most 128 bits
 unfoldable pub whole_in : List ℕ → Option ℤ
-whole_in s = if is_whole s && fits (signed_digits_value 10 s) then Some (signed_digits_value 10 s) else None
+whole_in s = if is_whole s && fits (signed_digits_value 10 s)
+    then Some (signed_digits_value 10 s)
+    else None

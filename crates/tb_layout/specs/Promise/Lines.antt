@@ -28,7 +28,8 @@ is_number _ = false
 
 -- as wide as the widest of its name and its cells, or as the line where that is less
 abbrev pub column_width : ℕ → TableColumn → ℕ
-column_width line c = min line (fold (λ w v. max w (width_of (cell_of c.kind v))) (width_of (shown_text c.name)) c.values)
+column_width line c = min line
+    (fold (λ w v. max w (width_of (cell_of c.kind v))) (width_of (shown_text c.name)) c.values)
 
 abbrev pub blanks : ℕ → List ℕ
 blanks n = replicate n 32
@@ -85,7 +86,8 @@ is_wide line cell = nat_lt line (width_of cell)
 
 -- the first column, where its name or a cell of it is. It stands alone then, and its lines are cut
 abbrev pub is_cut : ℕ → TableColumn → Bool
-is_cut line c = is_wide line (shown_text c.name) || list_any (λ v. is_wide line (cell_of c.kind v)) c.values
+is_cut line c =
+    is_wide line (shown_text c.name) || list_any (λ v. is_wide line (cell_of c.kind v)) c.values
 
 abbrev pub cut_columns : ℕ → Table → Table
 cut_columns line [] = []
@@ -113,7 +115,8 @@ note what (n ∷ ns) = shown_text (note_text what (n ∷ ns)) ∷ []
 
 -- the columns that are shown, cut to the width of the terminal, without blanks at the ends of lines
 abbrev pub table_lines : ℕ → Table → List (List ℕ)
-table_lines line t = map (λ l. trimmed_text (cut line l)) (whole_lines line (shown line t) (height t))
+table_lines line t =
+    map (λ l. trimmed_text (cut line l)) (whole_lines line (shown line t) (height t))
 
 -- and below them which columns are not shown whole
 abbrev pub notes : ℕ → Table → List (List ℕ)

@@ -16,7 +16,8 @@ use Rattle.tb_node.specs.Promise.Trees.{Tree, table, join}
 use Rattle.tb_node.specs.Promise.Trees as tree
 
 -- the names of the columns of a join, where those of its inputs are there
-abbrev pub names_beside : JoinArgs → List Name → List Name → Option (List Name) → Option (List Name) → Option (List Name)
+abbrev pub names_beside : JoinArgs → List Name → List Name → Option (List Name) → Option (List Name)
+    → Option (List Name)
 names_beside a lo ro (Some ls) (Some rs) = Some (answer_names a lo ro ls rs)
 names_beside a lo ro _ _ = None
 

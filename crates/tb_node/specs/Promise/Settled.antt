@@ -13,4 +13,5 @@ settled_order ByLeft o = o
 settled_order ByRight o = o
 
 abbrev pub settled : JoinArgs → JoinArgs
-settled a = record a { maintain_order = settled_order (direction a.how a.maintain_order) a.maintain_order }
+settled a =
+    record a { maintain_order = settled_order (direction a.how a.maintain_order) a.maintain_order }

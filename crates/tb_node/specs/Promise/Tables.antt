@@ -11,4 +11,5 @@ Tables = Name → Option Table
 
 -- of some tables under names the first of that name
 abbrev pub table_named : List (Name × Table) → Tables
-table_named given n = option_map (λ (t : Name × Table). t.1) (find (λ (t : Name × Table). same_name t.0 n) given)
+table_named given n =
+    option_map (λ (t : Name × Table). t.1) (find (λ (t : Name × Table). same_name t.0 n) given)

@@ -33,7 +33,8 @@ pub data Trace : Type 0 where
 
 -- the fields of some row have 2^32 bytes or more, which no key has
 abbrev pub has_long_row : List Col → Bool
-has_long_row cs = list_any (λ i. not (nat_lt (length (row_bytes cs i)) (2 ^ 32))) (row_numbers (row_count cs))
+has_long_row cs =
+    list_any (λ i. not (nat_lt (length (row_bytes cs i)) (2 ^ 32))) (row_numbers (row_count cs))
 
 -- there are several keys, and some row of either side is too long for one
 abbrev pub lacks_keys : List Col → List Col → Bool
@@ -53,7 +54,9 @@ abbrev pub trace_of : JoinType → JoinArgs → ExecView → List Col → List C
 trace_of how args exec ls rs =
     if lacks_keys ls rs then plain
     else if takes_path_by how args.validation exec ls rs then merge (sizes_by how (first_values ls) (first_values rs))
-    else hash (value_plan exec how (hashed_kind ls) (hashed_values (flag_at args.join_nulls) ls) (hashed_values (flag_at args.join_nulls) rs))
+    else hash
+    (value_plan exec how (hashed_kind ls) (hashed_values (flag_at args.join_nulls) ls)
+    (hashed_values (flag_at args.join_nulls) rs))
 
 -- what a trace tells
 abbrev pub trace_told : JoinTrace → Trace
@@ -79,7 +82,8 @@ pub record IsTraced (exec : ExecView) (due : Trace) (trace : JoinTrace) : Type 0
 
 -- the trace of a request
 abbrev pub requested_trace : LentRequest → ExecView → Trace
-requested_trace r exec = trace_of r.how r.args.now exec (lent_columns r.left_keys.now) (lent_columns r.right_keys.now)
+requested_trace r exec =
+    trace_of r.how r.args.now exec (lent_columns r.left_keys.now) (lent_columns r.right_keys.now)
 
 -- the pairs that a request lists, in an order that is said, and its trace
 pub record IsFound (r : LentRequest) (exec : ExecView) (found : FoundPairs) : Type 0 where

@@ -29,4 +29,5 @@ brace_name names = in_braces (map quoted_text names)
 
 -- the name of a column of a block: the header, behind the name of the value column where there are several
 abbrev pub block_name : ℕ → Name → Name → Name → Name
-block_name value_columns separator value header = (if nat_lt 1 value_columns then value ++ separator ++ header else header)
+block_name value_columns separator value header =
+    (if nat_lt 1 value_columns then value ++ separator ++ header else header)

@@ -51,18 +51,24 @@ key_columns q = q.index ++ q.on
 
 -- what a caller's object answers for a column and the groups of the table's rows, or why it is refused
 abbrev pub one_each : ℕ → TableColumn → Result TableColumn PolarsError
-one_each groups c = (if length c.values == groups then Ok c else Err (ComputeError (EvaluateLength groups (length c.values))))
+one_each groups c = (if length c.values == groups
+    then Ok c
+    else Err (ComputeError (EvaluateLength groups (length c.values))))
 
 abbrev pub given_column : ℕ → Result TableColumn ℕ → Result TableColumn PolarsError
 given_column groups (Ok c) = one_each groups c
 given_column groups (Err code) = Err (ComputeError (Evaluate code))
 
-abbrev pub answer_of : List ℕ → List ℕ → TableColumn → Result Name ℕ → (Table → List ℕ → List ℕ → Result TableColumn ℕ) → Result TableColumn PolarsError
+abbrev pub answer_of : List ℕ → List ℕ → TableColumn → Result Name ℕ
+    → (Table → List ℕ → List ℕ → Result TableColumn ℕ) → Result TableColumn PolarsError
 answer_of firsts numbers v (Err code) answers = Err (ComputeError (Evaluate code))
-answer_of firsts numbers v (Ok n) answers = given_column (length firsts) (answers (record v { name = n } ∷ []) firsts numbers)
+answer_of firsts numbers v (Ok n) answers =
+    given_column (length firsts) (answers (record v { name = n } ∷ []) firsts numbers)
 
-abbrev pub answered_column : Chosen → TableColumn → Result Name ℕ → (Table → List ℕ → List ℕ → Result TableColumn ℕ) → Result TableColumn PolarsError
-answered_column q v name answers = answer_of (distinct_rows q (key_columns q)) (map (group_of (are_alike (key_columns q)) q.height) (row_numbers q.height)) v name answers
+abbrev pub answered_column : Chosen → TableColumn → Result Name ℕ
+    → (Table → List ℕ → List ℕ → Result TableColumn ℕ) → Result TableColumn PolarsError
+answered_column q v name answers = answer_of (distinct_rows q (key_columns q))
+    (map (group_of (are_alike (key_columns q)) q.height) (row_numbers q.height)) v name answers
 
 -- the value at the place of a group, of the column that was answered
 abbrev pub answer_at : Result TableColumn PolarsError → ℕ → Datum
@@ -73,7 +79,8 @@ answer_at (Err e) k = null
 abbrev pub value_for : Chosen → TableColumn → Way → ℕ → List ℕ → Datum
 value_for q v one_row i rows = row_value v.values i
 value_for q v (aggregated agg) i rows = aggregate agg (map (row_value v.values) rows)
-value_for q v (asked name answers) i rows = answer_at (answered_column q v name answers) (group_of (are_alike (key_columns q)) q.height i)
+value_for q v (asked name answers) i rows =
+    answer_at (answered_column q v name answers) (group_of (are_alike (key_columns q)) q.height i)
 
 -- Null where the cell has no rows
 abbrev pub cell_of : Chosen → TableColumn → List ℕ → Datum
@@ -107,7 +114,9 @@ abbrev pub by_name : TableColumn → TableColumn → Ordering
 by_name c d = slice_cmp nat_cmp c.name d.name
 
 abbrev pub block : Chosen → TableColumn → List TableColumn
-block q v = (if q.sorts then in_order by_name (map (block_column q v) (header_rows q)) else map (block_column q v) (header_rows q))
+block q v = (if q.sorts
+    then in_order by_name (map (block_column q v) (header_rows q))
+    else map (block_column q v) (header_rows q))
 
 -- the values of a column in the rows in which a row of the index stands for the first time
 abbrev pub index_column : Chosen → TableColumn → TableColumn

@@ -34,13 +34,15 @@ none_named (n ∷ ns) e = None
 
 -- 6 several columns become headers, and a column has the name that is kept for them
 abbrev pub brace_taken : Table → List Name → Option PolarsError
-brace_taken t on = when (nat_lt 1 (length on) && is_among (names_of t) (brace_name on)) (ComputeError (BraceName (brace_name on)))
+brace_taken t on = when (nat_lt 1 (length on) && is_among (names_of t) (brace_name on))
+    (ComputeError (BraceName (brace_name on)))
 
 -- TYPES
 
 -- 7 the first column for headers whose values have no header texts
 abbrev pub header_cause : List TableColumn → Option PolarsError
-header_cause cs = option_map (λ (c : TableColumn). InvalidOperation (HeaderType c.name)) (find (λ (c : TableColumn). not (is_header c.kind)) cs)
+header_cause cs = option_map (λ (c : TableColumn). InvalidOperation (HeaderType c.name))
+    (find (λ (c : TableColumn). not (is_header c.kind)) cs)
 
 -- 8 the first value column whose type the aggregate does not take
 abbrev pub has_no_kind : Way → TableColumn → Bool
@@ -48,7 +50,8 @@ has_no_kind (aggregated agg) v = is_none (result_kind agg v.kind)
 has_no_kind way v = false
 
 abbrev pub agg_cause : Way → List TableColumn → Option PolarsError
-agg_cause way vs = option_map (λ (c : TableColumn). InvalidOperation (AggType c.name)) (find (has_no_kind way) vs)
+agg_cause way vs =
+    option_map (λ (c : TableColumn). InvalidOperation (AggType c.name)) (find (has_no_kind way) vs)
 
 -- VALUES
 
@@ -58,18 +61,29 @@ is_one_row one_row = true
 is_one_row way = false
 
 abbrev pub many_cause : Chosen → Option PolarsError
-many_cause q = when (is_one_row q.way && (nat_lt 0 (length q.values) && nat_lt (length (distinct_rows q (key_columns q))) q.height)) (ComputeError ManyInGroup)
+many_cause q = when
+    (is_one_row q.way
+    && (nat_lt 0 (length q.values)
+    && nat_lt (length (distinct_rows q (key_columns q))) q.height))
+    (ComputeError ManyInGroup)
 
 -- 10 the first value column of which the sum for a cell is outside the range of its type
 abbrev pub sums_of : Chosen → TableColumn → List ℕ → Bool
-sums_of q v firsts = are_in_range (sum_kind v.kind) (map (λ x. total (map (row_value v.values) (filter (are_alike (key_columns q) x) (row_numbers q.height)))) firsts)
+sums_of q v firsts = are_in_range (sum_kind v.kind)
+    (map
+    (λ x.
+    total
+    (map (row_value v.values)
+    (filter (are_alike (key_columns q) x) (row_numbers q.height))))
+    firsts)
 
 abbrev pub is_out_of_range : Chosen → Way → TableColumn → Bool
 is_out_of_range q (aggregated Sum) v = not (sums_of q v (distinct_rows q (key_columns q)))
 is_out_of_range q way v = false
 
 abbrev pub range_cause : Chosen → Option PolarsError
-range_cause q = option_map (λ (c : TableColumn). ComputeError (SumRange c.name)) (find (is_out_of_range q q.way) q.values)
+range_cause q = option_map (λ (c : TableColumn). ComputeError (SumRange c.name))
+    (find (is_out_of_range q q.way) q.values)
 
 -- 11 the first refusal of a caller's object
 abbrev pub refused_by : Result TableColumn PolarsError → Option PolarsError
@@ -86,7 +100,8 @@ answer_cause q = first_cause (map (way_cause q q.way) q.values)
 -- THE REFUSAL
 
 -- 4 to 8 unknown names, repeated ones, and what is said of the columns of these names
-abbrev pub column_causes : Table → List Name → List Name → List Name → Way → List (Option PolarsError)
+abbrev pub column_causes : Table → List Name → List Name → List Name → Way
+    → List (Option PolarsError)
 column_causes t on index values way =
     unknown_key t on ∷ unknown_key t index ∷ unknown_key t values
     ∷ repeated_among (on ++ index) ∷ repeated_among values
@@ -97,7 +112,8 @@ column_causes t on index values way =
 
 -- 9 to 12 what is said of values, and of the names of the answer
 abbrev pub value_causes : Chosen → List (Option PolarsError)
-value_causes q = many_cause q ∷ range_cause q ∷ answer_cause q ∷ repeated_among (names_of (wide q)) ∷ []
+value_causes q =
+    many_cause q ∷ range_cause q ∷ answer_cause q ∷ repeated_among (names_of (wide q)) ∷ []
 
 abbrev pub pivot_causes : Request → List (Option PolarsError)
 pivot_causes q =

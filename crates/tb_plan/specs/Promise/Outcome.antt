@@ -38,7 +38,9 @@ filled ps o = record { name = o.name; kind = o.kind; values = map o.at ps }
 
 -- the answer to a request whose order is fixed: its columns over the listing, ordered and then cut
 abbrev pub the_answer : Request → Table
-the_answer q = map (filled (cut q.args.slice (pairs_by (direction q.args.how q.args.maintain_order) (listing q)))) (out q)
+the_answer q = map
+    (filled (cut q.args.slice (pairs_by (direction q.args.how q.args.maintain_order) (listing q))))
+    (out q)
 
 -- EACH NODE
 
@@ -53,7 +55,8 @@ joined k q = unless_refused k (join_refusal q) (the_answer q)
 
 -- the rows that pass a test of a column, whose type is to be one that may be tested so
 abbrev pub tested : ℕ → Check → Table → TableColumn → Result Table PlanFault
-tested k check t c = (if may_test check c.kind then Ok (with_rows (rows_kept check c) t) else Err (TestType k))
+tested k check t c =
+    (if may_test check c.kind then Ok (with_rows (rows_kept check c) t) else Err (TestType k))
 
 -- and of the column of a name, which is to be there
 abbrev pub filtered : ℕ → Name → Check → Table → Option TableColumn → Result Table PlanFault
@@ -61,7 +64,8 @@ filtered k n check t None = Err (At k (ColumnNotFound n))
 filtered k n check t (Some c) = tested k check t c
 
 infixl 10 ◌>>=◌
-abbrev pub ◌>>=◌ : {A B : Type 0} → Result A PlanFault → (A → Result B PlanFault) → Result B PlanFault
+abbrev pub ◌>>=◌ : {A B : Type 0} → Result A PlanFault → (A → Result B PlanFault)
+    → Result B PlanFault
 (Ok a) >>= f = f a
 (Err e) >>= f = Err e
 
@@ -72,14 +76,19 @@ or_fault (Some t) e = Ok t
 -- what a tree answers whose nodes are numbered from `first` on, inputs before the node and left before right: its first fault, or its table
 abbrev pub outcome : Tables → ℕ → Tree → Result Table PlanFault
 outcome ts first (table n) = or_fault (ts n) (UnknownTable first n)
-outcome ts first (join l r lo ro a) = outcome ts first l >>= λ s. outcome ts (first + size l) r >>= λ t. joined (first + size l + size r) (by_names s t lo ro (settled a))
-outcome ts first (tree.filter i n check) = outcome ts first i >>= λ t. filtered (first + size i) n check t (column_named t n)
+outcome ts first (join l r lo ro a) = outcome ts first l >>=
+    λ s.
+    outcome ts (first + size l) r >>=
+    λ t. joined (first + size l + size r) (by_names s t lo ro (settled a))
+outcome ts first (tree.filter i n check) =
+    outcome ts first i >>= λ t. filtered (first + size i) n check t (column_named t n)
 
 -- THE PLAN
 
 -- the first name that stood before
 abbrev pub repeated_table : List (Name × Table) → Option PlanFault
-repeated_table given = option_map (λ n. RepeatedTable n) (first_repeated (map (λ (t : Name × Table). t.0) given))
+repeated_table given =
+    option_map (λ n. RepeatedTable n) (first_repeated (map (λ (t : Name × Table). t.0) given))
 
 abbrev pub unless_known : Option Table → PlanFault → Option PlanFault
 unless_known None e = Some e
@@ -88,7 +97,8 @@ unless_known (Some t) e = None
 -- the first node of a tree whose table is none of these
 abbrev pub unknown_table : Tables → ℕ → Tree → Option PlanFault
 unknown_table ts first (table n) = unless_known (ts n) (UnknownTable first n)
-unknown_table ts first (join l r lo ro a) = option_or (unknown_table ts first l) (unknown_table ts (first + size l) r)
+unknown_table ts first (join l r lo ro a) =
+    option_or (unknown_table ts first l) (unknown_table ts (first + size l) r)
 unknown_table ts first (tree.filter i n check) = unknown_table ts first i
 
 -- what is asked of a pivot but its table
@@ -101,7 +111,8 @@ pub record Pivot : Type 0 where
   pub separator : Name
 
 abbrev pub pivot_of : Pivot → Table → pivot.Request
-pivot_of p t = record { table = t; on = p.on; index = p.index; values = p.values; sorts = p.sorts; way = p.way; separator = p.separator }
+pivot_of p t = record
+    { table = t; on = p.on; index = p.index; values = p.values; sorts = p.sorts; way = p.way; separator = p.separator }
 
 -- a table made wide, where that isn't refused
 unfoldable pub widened : ℕ → pivot.Request → Result Table PlanFault
@@ -119,5 +130,6 @@ unless_there (Some e) = Err e
 -- what a plan answers over some tables: first no name may be repeated, then each table of the tree is to be there
 abbrev pub plan_outcome : List (Name × Table) → Tree → Option Pivot → Result Table PlanFault
 plan_outcome given root asked =
-    unless_there (repeated_table given) >>= λ _. unless_there (unknown_table (table_named given) 0 root)
+    unless_there (repeated_table given) >>=
+    λ _. unless_there (unknown_table (table_named given) 0 root)
     >>= λ _. outcome (table_named given) 0 root >>= λ t. pivoted (size root) asked t

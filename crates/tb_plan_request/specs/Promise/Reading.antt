@@ -49,7 +49,9 @@ plan_in d = do
   fit ← only_if (tables_fit written.tables) why.Rows
   standing ← only_if (may_stand written.exec) why.Exec
   valid ← are_tables (map (λ (t : Name × List Col). t.1) tables)
-  Ok (record { tables = tables; root = written.root; pivot = written.pivot; push = written.push; exec = written.exec })
+  Ok
+      (record
+      { tables = tables; root = written.root; pivot = written.pivot; push = written.push; exec = written.exec })
 
 unfoldable pub plan_request_of : List ℕ → Result PlanRequest Reason
 plan_request_of bytes = value_of bytes >>= plan_in

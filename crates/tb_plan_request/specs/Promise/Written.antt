@@ -77,7 +77,8 @@ join_from d left right = do
 
 -- the first tree of a name, where it is one
 abbrev pub tree_at : Name → List (Name × Option Tree) → Option Tree
-tree_at name trees = option_and_then (λ (t : Name × Option Tree). t.1) (find (λ (t : Name × Option Tree). bytes_eq name t.0) trees)
+tree_at name trees = option_and_then (λ (t : Name × Option Tree). t.1)
+    (find (λ (t : Name × Option Tree). bytes_eq name t.0) trees)
 
 -- a node has exactly the members of one of three forms: a table by its name, a filter, or a join
 abbrev pub tree_from : Data → List (Name × Option Tree) → Option Tree
@@ -113,7 +114,9 @@ pivot_in d = do
   sort_columns ← truth_at (codes "sort_columns") d
   agg ← agg_of d
   separator ← text_at (codes "separator") d
-  Some (record { on = on; index = index; values = values; sorts = sort_columns; way = way_of agg; separator = separator_or separator })
+  Some
+      (record
+      { on = on; index = index; values = values; sorts = sort_columns; way = way_of agg; separator = separator_or separator })
 
 -- none is asked where the member is absent
 abbrev pub pivot_of : Data → Option (Option Pivot)

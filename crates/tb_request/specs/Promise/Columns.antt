@@ -23,7 +23,8 @@ chunks_in t (in_runs rs) = option_map (λ vs. expansion vs ∷ []) (each (run_in
 
 -- the column with the flag that is claimed, where its values are of its type
 unfoldable pub values_of : Written → Option Col
-values_of w = option_map (λ chunks. fresh_column w.name w.kind chunks w.flag) (chunks_in w.kind w.values)
+values_of w =
+    option_map (λ chunks. fresh_column w.name w.kind chunks w.flag) (chunks_in w.kind w.values)
 
 abbrev pub columns_from : List Written → Option (List Col)
 columns_from ws = each values_of ws

@@ -134,13 +134,17 @@ unfoldable pub unpivot_in : Data → Result UnpivotRequest Reason
 unpivot_in d = do
   written ← ok_or (unpivot_of d) why.Shape
   table ← table_from written.table
-  Ok (record { table = table; on = written.on; index = written.index; variable_name = written.variable_name; value_name = written.value_name })
+  Ok
+      (record
+      { table = table; on = written.on; index = written.index; variable_name = written.variable_name; value_name = written.value_name })
 
 unfoldable pub dummies_in : Data → Result DummiesRequest Reason
 dummies_in d = do
   written ← ok_or (dummies_of d) why.Shape
   table ← table_from written.table
-  Ok (record { table = table; columns = written.columns; separator = written.separator; drop_first = written.drop_first })
+  Ok
+      (record
+      { table = table; columns = written.columns; separator = written.separator; drop_first = written.drop_first })
 
 unfoldable pub pivot_in : Data → Result PivotRequest Reason
 pivot_in d = do
@@ -179,13 +183,16 @@ asked_request r = by_names (table_of r.left) (table_of r.right) r.left_on r.righ
 
 -- what the program's requests stand for, wherever the texts of their columns stand
 abbrev pub request_view : rust_join.JoinRequest → JoinRequest
-request_view r = record { left = map relaid_column r.left; right = map relaid_column r.right; left_on = r.left_on.items; right_on = r.right_on.items; args = r.args; exec = r.exec; trace = r.trace }
+request_view r = record
+    { left = map relaid_column r.left; right = map relaid_column r.right; left_on = r.left_on.items; right_on = r.right_on.items; args = r.args; exec = r.exec; trace = r.trace }
 
 abbrev pub unpivot_view : rust_unpivot.UnpivotRequest → UnpivotRequest
-unpivot_view r = record { table = map relaid_column r.table; on = r.on.items; index = r.index.items; variable_name = r.variable_name; value_name = r.value_name }
+unpivot_view r = record
+    { table = map relaid_column r.table; on = r.on.items; index = r.index.items; variable_name = r.variable_name; value_name = r.value_name }
 
 abbrev pub dummies_view : rust_dummies.DummiesRequest → DummiesRequest
-dummies_view r = record { table = map relaid_column r.table; columns = option_map (λ v. v.items) r.columns; separator = r.separator; drop_first = r.drop_first }
+dummies_view r = record
+    { table = map relaid_column r.table; columns = option_map (λ v. v.items) r.columns; separator = r.separator; drop_first = r.drop_first }
 
 abbrev pub pivot_view : rust_pivot.PivotRequest → PivotRequest
 pivot_view r = record {

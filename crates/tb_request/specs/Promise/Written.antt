@@ -226,7 +226,9 @@ args_of d = do
   order ← order_of d
   suffix ← text_at (codes "suffix") d
   nulls ← nulls_of d
-  Some (record { how = how; validation = validation; suffix = suffix; slice = slice; join_nulls = nulls; coalesce = coalesce; maintain_order = order })
+  Some
+      (record
+      { how = how; validation = validation; suffix = suffix; slice = slice; join_nulls = nulls; coalesce = coalesce; maintain_order = order })
 
 -- ---- how the work is run
 
@@ -279,7 +281,9 @@ join_of d = do
   left_on ← texts_at (codes "left_on") d
   right ← table_at format (codes "right") d
   right_on ← texts_at (codes "right_on") d
-  Some (record { args = args; exec = exec; left = left; left_on = left_on; right = right; right_on = right_on; trace = trace })
+  Some
+      (record
+      { args = args; exec = exec; left = left; left_on = left_on; right = right; right_on = right_on; trace = trace })
 
 -- ---- a request to make a table long
 
@@ -299,7 +303,9 @@ unpivot_of d = do
   index ← texts_at (codes "index") d
   variable_name ← text_at (codes "variable_name") d
   value_name ← text_at (codes "value_name") d
-  Some (record { table = table; on = on; index = index; variable_name = variable_name; value_name = value_name })
+  Some
+      (record
+      { table = table; on = on; index = index; variable_name = variable_name; value_name = value_name })
 
 -- ---- a request for dummies
 
@@ -354,4 +360,6 @@ pivot_of d = do
   sort_columns ← truth_at (codes "sort_columns") d
   agg ← agg_of d
   separator ← text_at (codes "separator") d
-  Some (record { table = table; on = on; index = index; values = values; sort_columns = sort_columns; agg = agg; separator = separator })
+  Some
+      (record
+      { table = table; on = on; index = index; values = values; sort_columns = sort_columns; agg = agg; separator = separator })

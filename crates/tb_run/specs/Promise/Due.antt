@@ -66,7 +66,8 @@ read_for (Sample rows) bytes = []
 read_for Unknown bytes = []
 
 -- The status and the text are due for the words and the source's bytes, and of these the call has read what it is to read.
-pub record IsDue (asked : Form) (before after : Option (List ℕ)) (s : Status) (text : List ℕ) : Type 0 where
+pub record IsDue (asked : Form) (before after : Option (List ℕ)) (s : Status)
+    (text : List ℕ) : Type 0 where
   pub bytes : List ℕ
   pub told : Tells before bytes
   pub due : DueOfForm asked bytes s text

@@ -18,4 +18,5 @@ abbrev pub Comes : List (List ℕ) → List ℕ → Type 0 → Type 0 → Status
 Comes words bytes read_failed write_failed status.ReadFault = read_failed
 Comes words bytes read_failed write_failed status.WriteFault = write_failed
 Comes words bytes read_failed write_failed status.OutOfMemory = ⊥
-Comes words bytes read_failed write_failed s = ¬ read_failed × ¬ write_failed × ((text : List ℕ) × due words bytes s text)
+Comes words bytes read_failed write_failed s =
+    ¬ read_failed × ¬ write_failed × ((text : List ℕ) × due words bytes s text)

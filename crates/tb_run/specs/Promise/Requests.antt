@@ -67,7 +67,8 @@ asked_dummies r = dummies_request (table_of r.table) r.columns r.separator r.dro
 
 -- what is asked of the table that is made wide
 abbrev pub asked_wide : PivotRequest → wide.Request
-asked_wide r = wide_request (table_of r.table) r.on r.index r.values r.sort_columns r.agg r.separator
+asked_wide r =
+    wide_request (table_of r.table) r.on r.index r.values r.sort_columns r.agg r.separator
 
 -- why a request is refused: the operation that it asks for refuses its tables, the plan has a fault, or the join can't be kept
 pub data Refusal : Type 0 where
@@ -92,7 +93,8 @@ refusal_of (group r) = option_map by_operation (group_refusal (asked_groups r))
 
 -- the text is that of some answer to the request
 unfoldable pub IsAnswerText : Request → List ℕ → Type 0
-IsAnswerText (join r) text = (t : Table) × IsAnswer (asked_request r) t × (text ≡ joined_text r.trace t (due_trace r))
+IsAnswerText (join r) text =
+    (t : Table) × IsAnswer (asked_request r) t × (text ≡ joined_text r.trace t (due_trace r))
 IsAnswerText (unpivot r) text = text ≡ text_of (unpivot_table (asked_long r))
 IsAnswerText (dummies r) text = text ≡ text_of (dummies_table (asked_dummies r))
 IsAnswerText (pivot r) text = text ≡ text_of (pivot_table (asked_wide r))

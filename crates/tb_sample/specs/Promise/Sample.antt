@@ -16,7 +16,8 @@ use Rattle.tb_sample.specs.declared.summary.Summary.{Summary}
 
 -- a column of type Int64 that has in each of n rows a number of that row
 abbrev pub numbers : Name → (ℕ → ℕ) → ℕ → TableColumn
-numbers name f n = record { name = name; kind = int64; values = map (λ i. int (pos (f i))) (row_numbers n) }
+numbers name f n =
+    record { name = name; kind = int64; values = map (λ i. int (pos (f i))) (row_numbers n) }
 
 -- left row i has the key i and v = 3 i
 abbrev pub left_table : ℕ → Table

@@ -11,7 +11,8 @@ use Rattle.tb_sorted.specs.Promise.Keys.{MergeSizes}
 
 -- the listing of two columns by their values
 abbrev pub value_listing : Bool → JoinType → List Datum → List Datum → List JoinPair
-value_listing null_matches how us vs = listing_of how (length us) (length vs) (λ i j. agrees null_matches (slice_index_or us i null) (slice_index_or vs j null))
+value_listing null_matches how us vs = listing_of how (length us) (length vs) (λ i j.
+    agrees null_matches (slice_index_or us i null) (slice_index_or vs j null))
 
 -- how many pairs of rows match, of two columns without Nulls
 abbrev pub match_count : List Datum → List Datum → ℕ
@@ -19,10 +20,12 @@ match_count us vs = length (value_listing false kind.Inner us vs)
 
 -- the sizes of a merge of two columns, and of one for a join of a kind: those of a Right join are merged with their sides exchanged
 abbrev pub value_sizes : List Datum → List Datum → MergeSizes
-value_sizes us vs = record { left_len = length us; right_len = length vs; pairs = match_count us vs }
+value_sizes us vs =
+    record { left_len = length us; right_len = length vs; pairs = match_count us vs }
 
 abbrev pub sizes_by : JoinType → List Datum → List Datum → MergeSizes
-sizes_by kind.Right us vs = record { left_len = length vs; right_len = length us; pairs = match_count us vs }
+sizes_by kind.Right us vs =
+    record { left_len = length vs; right_len = length us; pairs = match_count us vs }
 sizes_by how us vs = value_sizes us vs
 
 -- the values of the first key, which is the only one where keys are merged

@@ -4,4 +4,5 @@ use Rattle.tb_sorted.specs.Promise.Keys.{MergeSizes}
 
 -- the merge was of this size
 abbrev pub sizes_of : MergedView → MergeSizes
-sizes_of merged = record { left_len = merged.left_len; right_len = merged.right_len; pairs = merged.pairs }
+sizes_of merged =
+    record { left_len = merged.left_len; right_len = merged.right_len; pairs = merged.pairs }

@@ -42,7 +42,8 @@ abbrev pub have_order : JoinType → ExecView → Col → Col → Bool
 have_order how exec left right =
     (is_flagged left.flag && is_flagged right.flag)
     || ((is_flagged left.flag && is_worth exec (length (values right)) (length (values left)))
-    || (is_inner how && is_flagged right.flag && is_worth exec (length (values left)) (length (values right))))
+    || (is_inner how && is_flagged right.flag
+    && is_worth exec (length (values left)) (length (values right))))
 
 -- a Right join is judged with its sides exchanged, and no Full, Semi or Anti join is merged
 abbrev pub are_ordered : JoinType → ExecView → Col → Col → Bool
@@ -54,7 +55,8 @@ are_ordered how exec left right = false
 -- two keys are merged: nothing is asked of them, they have the order for it, and both can be
 abbrev pub takes_key_path : JoinType → JoinValidation → ExecView → Col → Col → Bool
 takes_key_path how validation exec left right =
-    asks_nothing validation && are_ordered how exec left right && is_merge_key left && is_merge_key right
+    asks_nothing validation && are_ordered how exec left right && is_merge_key left
+    && is_merge_key right
 
 -- one key on each side
 abbrev pub takes_path_by : JoinType → JoinValidation → ExecView → List Col → List Col → Bool

@@ -23,7 +23,11 @@ class_of _ = Other
 
 -- the narrowest signed type of at least n bits
 abbrev pub signed_kind : ℕ → Kind
-signed_kind n = (if nat_lt 64 n then int128 else (if nat_lt 32 n then int64 else (if nat_lt 16 n then int32 else (if nat_lt 8 n then int16 else int8))))
+signed_kind n = (if nat_lt 64 n
+    then int128
+    else (if nat_lt 32 n
+    then int64
+    else (if nat_lt 16 n then int32 else (if nat_lt 8 n then int16 else int8))))
 
 -- of two types of m and n bits, the one of more bits
 abbrev pub wider_kind : Kind → Kind → ℕ → ℕ → Kind
@@ -32,7 +36,9 @@ wider_kind t u m n = (if nat_lt m n then u else t)
 -- the type of signed numbers of s bits and unsigned ones of u bits, which have one bit more with a sign.
 -- Those of 64 bits fit no signed type but that of 128, and take it only where it is there
 abbrev pub mixed_kind : ℕ → ℕ → Option Kind
-mixed_kind s u = (if s == 128 then Some int128 else (if u == 64 then None else Some (signed_kind (max s (2 * u)))))
+mixed_kind s u = (if s == 128
+    then Some int128
+    else (if u == 64 then None else Some (signed_kind (max s (2 * u)))))
 
 -- of two types that differ: the other one of Null; whole numbers of Boolean; String of Boolean or whole numbers;
 -- and whole numbers by their bits

@@ -78,36 +78,45 @@ repeated n c = record c { values = concatenation (replicate n c.values) }
 
 -- for each value of each of the columns the column's name
 abbrev pub variable_column : Name → List TableColumn → TableColumn
-variable_column n on = record { name = n; kind = kind.string; values = flat_map (λ (o : TableColumn). map (λ (v : Datum). string o.name) o.values) on }
+variable_column n on = record
+    { name = n; kind = kind.string; values = flat_map (λ (o : TableColumn). map (λ (v : Datum). string o.name) o.values) on }
 
 -- the values of each of the columns, cast to a type
 abbrev pub value_column : Name → Kind → List TableColumn → TableColumn
-value_column n t on = record { name = n; kind = t; values = flat_map (λ (o : TableColumn). map (cast t) o.values) on }
+value_column n t on =
+    record { name = n; kind = t; values = flat_map (λ (o : TableColumn). map (cast t) o.values) on }
 
 -- columns of the index once for each of the columns that are put one below the other, and beside them the names of
 -- those and their values, of the type t
 abbrev pub long_table : Kind → List TableColumn → List TableColumn → Name → Name → Table
-long_table t on index variable value = map (repeated (length on)) index ++ variable_column variable on ∷ value_column value t on ∷ []
+long_table t on index variable value =
+    map (repeated (length on)) index ++ variable_column variable on ∷ value_column value t on ∷ []
 
 abbrev pub unpivot_table : Request → Table
-unpivot_table q = long_table (value_kind q) (on_columns q) (columns_named q.table q.index) q.variable q.value
+unpivot_table q =
+    long_table (value_kind q) (on_columns q) (columns_named q.table q.index) q.variable q.value
 
 -- WHY THERE IS NONE
 
 abbrev pub no_supertype : List TableColumn → Option PolarsError
-no_supertype on = option_map (λ n. InvalidOperation (NoSupertype n)) (failed_at (common_kind kind.null on))
+no_supertype on =
+    option_map (λ n. InvalidOperation (NoSupertype n)) (failed_at (common_kind kind.null on))
 
 abbrev pub too_many_values : ℕ → ℕ → Option PolarsError
 too_many_values rows columns = when (nat_lt MAX_ROWS (rows * columns)) (ComputeError TooManyRows)
 
 -- what is looked at where the table has a column
-abbrev pub asked_causes : Table → List TableColumn → List Name → List Name → List (Option PolarsError)
-asked_causes t columns on index = unknown_key t on ∷ unknown_key t index ∷ repeated_among index ∷ no_supertype columns ∷ too_many_values (height t) (length columns) ∷ []
+abbrev pub asked_causes : Table → List TableColumn → List Name → List Name
+    → List (Option PolarsError)
+asked_causes t columns on index = unknown_key t on ∷ unknown_key t index ∷ repeated_among index
+    ∷ no_supertype columns ∷ too_many_values (height t) (length columns) ∷ []
 
-abbrev pub table_causes : Table → List TableColumn → List Name → List Name → List (Option PolarsError)
+abbrev pub table_causes : Table → List TableColumn → List Name → List Name
+    → List (Option PolarsError)
 table_causes [] columns on index = []
 table_causes (c ∷ cs) columns on index = asked_causes (c ∷ cs) columns on index
 
 abbrev pub unpivot_refusal : Request → Option PolarsError
-unpivot_refusal q = first_cause (first_cause (table_causes q.table (on_columns q) (on_names q.table q.on q.index) q.index)
+unpivot_refusal q = first_cause
+    (first_cause (table_causes q.table (on_columns q) (on_names q.table q.on q.index) q.index)
     ∷ repeated_among (names_of (unpivot_table q)) ∷ [])

@@ -29,10 +29,12 @@ abbrev pub left_met : ℕ → ℕ → (ℕ → ℕ → Bool) → List JoinPair
 left_met l r m = map left_only (filter (λ i. list_any (m i) (row_numbers r)) (row_numbers l))
 
 abbrev pub left_unmet : ℕ → ℕ → (ℕ → ℕ → Bool) → List JoinPair
-left_unmet l r m = map left_only (filter (λ i. not (list_any (m i) (row_numbers r))) (row_numbers l))
+left_unmet l r m =
+    map left_only (filter (λ i. not (list_any (m i) (row_numbers r))) (row_numbers l))
 
 abbrev pub right_unmet : ℕ → ℕ → (ℕ → ℕ → Bool) → List JoinPair
-right_unmet l r m = map right_only (filter (λ j. not (list_any (λ i. m i j) (row_numbers l))) (row_numbers r))
+right_unmet l r m =
+    map right_only (filter (λ j. not (list_any (λ i. m i j) (row_numbers l))) (row_numbers r))
 
 -- numbers ascend, and the absent one is the greatest
 abbrev pub row_cmp : Option ℕ → Option ℕ → Ordering
@@ -43,7 +45,9 @@ row_cmp (Some i) (Some j) = nat_cmp i j
 
 -- by (left, right), and by (right, left)
 abbrev pub left_first : JoinPair → JoinPair → Ordering
-left_first = then_cmp (on (λ (p : JoinPair). p.left) row_cmp) (on (λ (p : JoinPair). p.right) row_cmp)
+left_first =
+    then_cmp (on (λ (p : JoinPair). p.left) row_cmp) (on (λ (p : JoinPair). p.right) row_cmp)
 
 abbrev pub right_first : JoinPair → JoinPair → Ordering
-right_first = then_cmp (on (λ (p : JoinPair). p.right) row_cmp) (on (λ (p : JoinPair). p.left) row_cmp)
+right_first =
+    then_cmp (on (λ (p : JoinPair). p.right) row_cmp) (on (λ (p : JoinPair). p.left) row_cmp)

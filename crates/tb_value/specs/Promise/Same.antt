@@ -24,4 +24,5 @@ abbrev mutual
 
 -- two fields are present and equal, or both are Null and Nulls match
 abbrev pub agrees : Bool → Datum → Datum → Bool
-agrees null_matches a b = (is_present a && is_present b && same a b) || (is_null a && is_null b && null_matches)
+agrees null_matches a b =
+    (is_present a && is_present b && same a b) || (is_null a && is_null b && null_matches)

@@ -40,15 +40,18 @@ mutual
   datum_inj null null p = λ i. null
   datum_inj (boolean a) (boolean b) p = λ i. boolean (coded_bool.inj a b (ap (λ g. tail g) p) i)
   datum_inj (int a) (int b) p = λ i. int (coded_ℤ.inj a b (ap (λ g. tail g) p) i)
-  datum_inj (string a) (string b) p = λ i. string ((coded_list coded_ℕ).inj a b (ap (λ g. tail g) p) i)
-  datum_inj (binary a) (binary b) p = λ i. binary ((coded_list coded_ℕ).inj a b (ap (λ g. tail g) p) i)
+  datum_inj (string a) (string b) p =
+      λ i. string ((coded_list coded_ℕ).inj a b (ap (λ g. tail g) p) i)
+  datum_inj (binary a) (binary b) p =
+      λ i. binary ((coded_list coded_ℕ).inj a b (ap (λ g. tail g) p) i)
   datum_inj (list a) (list b) p = λ i. list (items_inj a b (ap (λ g. tail g) p) i)
   datum_inj (struct a) (struct b) p = λ i. struct (items_inj a b (ap (λ g. tail g) p) i)
   datum_inj _ _ p = absurd (omega (arith, ap number p))
 
   pub items_inj : (x y : Items) → items_code x ≡ items_code y → x ≡ y
   items_inj end end p = λ i. end
-  items_inj (more a xs) (more b ys) p = λ i. more (datum_inj a b (ap (λ g. head g) p) i) (items_inj xs ys (ap (λ g. tail g) p) i)
+  items_inj (more a xs) (more b ys) p =
+      λ i. more (datum_inj a b (ap (λ g. head g) p) i) (items_inj xs ys (ap (λ g. tail g) p) i)
   items_inj _ _ p = absurd (cc)
 
 abbrev pub coded_datum : Coded Datum

@@ -17,6 +17,7 @@ deep_le-weight (any.Binary s) = omega arith
 deep_le-weight (any.List vs) = omega arith
 deep_le-weight (any.Struct vs) = omega arith
 
-pub most_le-weights : (xs : List AnyValue) → max (most deep-AnyValue xs) 0 ≤ weights (items_of (data_of xs))
+pub most_le-weights : (xs : List AnyValue)
+    → max (most deep-AnyValue xs) 0 ≤ weights (items_of (data_of xs))
 most_le-weights [] = omega arith
 most_le-weights (x ∷ xs) = omega (arith, deep_le-weight x, most_le-weights xs)

@@ -47,9 +47,35 @@ zone_back (Some z) = ap (λ t. Some t) (text_back z)
 
 abbrev simple_from : ℕ → Kind
 simple_from n =
-    if n == 0 then null else if n == 1 then boolean else if n == 2 then int8 else if n == 3 then int16 else if n == 4 then int32 else
-    if n == 5 then int64 else if n == 6 then int128 else if n == 7 then uint8 else if n == 8 then uint16 else if n == 9 then uint32 else
-    if n == 10 then uint64 else if n == 11 then string else if n == 12 then binary else if n == 13 then date else time
+    if n == 0
+    then null
+    else if n == 1
+    then boolean
+    else if n == 2
+    then int8
+    else if n == 3
+    then int16
+    else if n == 4
+    then int32 else
+    if n == 5
+    then int64
+    else if n == 6
+    then int128
+    else if n == 7
+    then uint8
+    else if n == 8
+    then uint16
+    else if n == 9
+    then uint32 else
+    if n == 10
+    then uint64
+    else if n == 11
+    then string
+    else if n == 12
+    then binary
+    else if n == 13
+    then date
+    else time
 
 abbrev mutual
   kind_to : Kind → Gv

@@ -26,7 +26,8 @@ numbers_equiv = options_equiv nat_eq_equiv
 pub swizzled_back : (bits n : ℕ) → to_swizzled bits (of_swizzled bits n) ≡ n
 swizzled_back bits n = cases (eqb n 18446744073709551615) refl
   where
-    cases : (b : Bool) → eqb n 18446744073709551615 ≡ b → to_swizzled bits (cond b None (Some (n % 2 ^ bits, n / 2 ^ bits))) ≡ n
+    cases : (b : Bool) → eqb n 18446744073709551615 ≡ b
+        → to_swizzled bits (cond b None (Some (n % 2 ^ bits, n / 2 ^ bits))) ≡ n
     cases true e = sym (eqb-true n 18446744073709551615 e)
     cases false e = div-add-mod' n (2 ^ bits)
 
@@ -37,8 +38,12 @@ both_true false b h = absurd (cc)
 same_row-Decides : (p q : ℕ × ℕ) → Decides (same_row p q) (p ≡ q)
 same_row-Decides p q =
     let c = Decides-eqb p.0 q.0 in
-    let r = Decides-eqb p.1 q.1 in
-    (λ h. let b = both_true (nat_eq p.0 q.0) (nat_eq p.1 q.1) h in λ i. (c.0 b.0 i, r.0 b.1 i), λ e. rw (c.1 (λ i. (e i).0), r.1 (λ i. (e i).1)) refl)
+    let r = Decides-eqb p.1 q.1 in (
+      λ h.
+          let b = both_true (nat_eq p.0 q.0) (nat_eq p.1 q.1) h in
+          λ i. (c.0 b.0 i, r.0 b.1 i),
+      λ e. rw (c.1 (λ i. (e i).0), r.1 (λ i. (e i).1)) refl,
+    )
 
 pub ids_equiv : IsEquivalence (option_eq same_row)
 ids_equiv = options_equiv (from_decides same_row same_row-Decides)

@@ -18,7 +18,8 @@ same_unit-Decides _ _ = (λ h. absurd (cc), λ e. absurd (cc))
 
 same_zone-Decides : (z y : Option (List ℕ)) → Decides (same_zone z y) (z ≡ y)
 same_zone-Decides None None = (λ _. refl, λ _. refl)
-same_zone-Decides (Some a) (Some b) = let d = bytes_eq-Decides a b in (λ h. ap Some (d.0 h), λ e. d.1 (cc))
+same_zone-Decides (Some a) (Some b) = let d = bytes_eq-Decides a b in
+    (λ h. ap Some (d.0 h), λ e. d.1 (cc))
 same_zone-Decides _ _ = (λ h. absurd (cc), λ e. absurd (cc))
 
 mutual
@@ -41,12 +42,20 @@ mutual
   same_kind-Decides (datetime u z) (datetime v y) =
       let d = same_unit-Decides u v in
       let r = same_zone-Decides z y in (
-        λ h. λ i. datetime (d.0 (first_so (same_unit u v) (same_zone z y) h) i) (r.0 (second_so (same_unit u v) (same_zone z y) h) i),
-        λ e. let p : same_unit u v ≡ true = d.1 (cc) in let q : same_zone z y ≡ true = r.1 (cc) in rw p q,
+        λ h.
+            λ i.
+            datetime (d.0 (first_so (same_unit u v) (same_zone z y) h) i)
+            (r.0 (second_so (same_unit u v) (same_zone z y) h) i),
+        λ e.
+            let p : same_unit u v ≡ true = d.1 (cc) in
+            let q : same_zone z y ≡ true = r.1 (cc) in rw p q,
       )
-  same_kind-Decides (duration u) (duration v) = let d = same_unit-Decides u v in (λ h. ap duration (d.0 h), λ e. d.1 (cc))
-  same_kind-Decides (list t) (list u) = let d = same_kind-Decides t u in (λ h. ap list (d.0 h), λ e. d.1 (cc))
-  same_kind-Decides (struct ps) (struct qs) = let d = same_parts-Decides ps qs in (λ h. ap struct (d.0 h), λ e. d.1 (cc))
+  same_kind-Decides (duration u) (duration v) = let d = same_unit-Decides u v in
+      (λ h. ap duration (d.0 h), λ e. d.1 (cc))
+  same_kind-Decides (list t) (list u) = let d = same_kind-Decides t u in
+      (λ h. ap list (d.0 h), λ e. d.1 (cc))
+  same_kind-Decides (struct ps) (struct qs) = let d = same_parts-Decides ps qs in
+      (λ h. ap struct (d.0 h), λ e. d.1 (cc))
   same_kind-Decides _ _ = (λ h. absurd (cc), λ e. absurd (cc))
 
   pub same_parts-Decides : (ps qs : Parts) → Decides (same_parts ps qs) (ps ≡ qs)
@@ -79,7 +88,8 @@ pub same_part-Decides : (p q : Part) → Decides (same_part p q) (p ≡ q)
 same_part-Decides p q =
     let names = bytes_eq-Decides p.0 q.0 in
     let types = same_kind-Decides p.1 q.1 in (
-      λ h i. (names.0 (first_so (same_name p.0 q.0) (same_kind p.1 q.1) h) i, types.0 (second_so (same_name p.0 q.0) (same_kind p.1 q.1) h) i),
+      λ h i.
+          (names.0 (first_so (same_name p.0 q.0) (same_kind p.1 q.1) h) i, types.0 (second_so (same_name p.0 q.0) (same_kind p.1 q.1) h) i),
       λ e. let a : same_name p.0 q.0 ≡ true = names.1 (ap (λ (r : Part). r.0) e) in
           let b : same_kind p.1 q.1 ≡ true = types.1 (ap (λ (r : Part). r.1) e) in rw (a, b) refl,
     )

@@ -10,12 +10,17 @@ use Rattle.tb_value.specs.Promise.Same.{same, same_items}
 mutual
   pub same-Decides : (x y : Datum) → Decides (same x y) (x ≡ y)
   same-Decides null null = (λ _. refl, λ _. refl)
-  same-Decides (boolean a) (boolean b) = let d = booleans_Decides a b in (λ h. ap boolean (d.0 h), λ e. d.1 (cc))
+  same-Decides (boolean a) (boolean b) = let d = booleans_Decides a b in
+      (λ h. ap boolean (d.0 h), λ e. d.1 (cc))
   same-Decides (int a) (int b) = let d = signed_Decides a b in (λ h. ap int (d.0 h), λ e. d.1 (cc))
-  same-Decides (string a) (string b) = let d = bytes_eq-Decides a b in (λ h. ap string (d.0 h), λ e. d.1 (cc))
-  same-Decides (binary a) (binary b) = let d = bytes_eq-Decides a b in (λ h. ap binary (d.0 h), λ e. d.1 (cc))
-  same-Decides (list a) (list b) = let d = items-Decides a b in (λ h. ap list (d.0 h), λ e. d.1 (cc))
-  same-Decides (struct a) (struct b) = let d = items-Decides a b in (λ h. ap struct (d.0 h), λ e. d.1 (cc))
+  same-Decides (string a) (string b) = let d = bytes_eq-Decides a b in
+      (λ h. ap string (d.0 h), λ e. d.1 (cc))
+  same-Decides (binary a) (binary b) = let d = bytes_eq-Decides a b in
+      (λ h. ap binary (d.0 h), λ e. d.1 (cc))
+  same-Decides (list a) (list b) = let d = items-Decides a b in
+      (λ h. ap list (d.0 h), λ e. d.1 (cc))
+  same-Decides (struct a) (struct b) = let d = items-Decides a b in
+      (λ h. ap struct (d.0 h), λ e. d.1 (cc))
   same-Decides _ _ = (λ h. absurd (cc), λ e. absurd (cc))
 
   pub items-Decides : (x y : Items) → Decides (same_items x y) (x ≡ y)
@@ -23,8 +28,13 @@ mutual
   items-Decides (more a xs) (more b ys) =
       let d = same-Decides a b in
       let r = items-Decides xs ys in (
-        λ h. λ i. more (d.0 (first_so (same a b) (same_items xs ys) h) i) (r.0 (second_so (same a b) (same_items xs ys) h) i),
-        λ e. let p : same a b ≡ true = d.1 (cc) in let q : same_items xs ys ≡ true = r.1 (cc) in rw p q,
+        λ h.
+            λ i.
+            more (d.0 (first_so (same a b) (same_items xs ys) h) i)
+            (r.0 (second_so (same a b) (same_items xs ys) h) i),
+        λ e.
+            let p : same a b ≡ true = d.1 (cc) in
+            let q : same_items xs ys ≡ true = r.1 (cc) in rw p q,
       )
   items-Decides _ _ = (λ h. absurd (cc), λ e. absurd (cc))
 
@@ -35,15 +45,18 @@ bool_ext false true f g = g refl
 bool_ext false false f g = refl
 
 -- a test that decides equality is an equivalence
-pub from_decides : {K : Type 0} (E : K → K → Bool) → ((x y : K) → Decides (E x y) (x ≡ y)) → IsEquivalence E
+pub from_decides : {K : Type 0} (E : K → K → Bool) → ((x y : K) → Decides (E x y) (x ≡ y))
+    → IsEquivalence E
 from_decides E d = record {
   refl = λ x. (d x x).1 refl;
   symm = λ x y. bool_ext (E x y) (E y x) (λ h. (d y x).1 (sym ((d x y).0 h))) (λ h. (d x y).1 (sym ((d y x).0 h)));
   congr = λ x y z h. ap (λ k. E k z) ((d x y).0 h);
 }
 
-pub pulled : {K J : Type 0} (f : K → J) {E : J → J → Bool} → IsEquivalence E → IsEquivalence (λ x y. E (f x) (f y))
-pulled f l = record { refl = λ x. l.refl (f x); symm = λ x y. l.symm (f x) (f y); congr = λ x y z. l.congr (f x) (f y) (f z) }
+pub pulled : {K J : Type 0} (f : K → J) {E : J → J → Bool} → IsEquivalence E
+    → IsEquivalence (λ x y. E (f x) (f y))
+pulled f l = record
+    { refl = λ x. l.refl (f x); symm = λ x y. l.symm (f x) (f y); congr = λ x y z. l.congr (f x) (f y) (f z) }
 
 pub same_equiv : IsEquivalence same
 same_equiv = from_decides same same-Decides

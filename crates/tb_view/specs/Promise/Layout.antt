@@ -14,7 +14,11 @@ Filling = List (List ℕ) × List ℕ
 -- a text longer than 12 bytes goes behind the others, into a new buffer where the sum would pass 2^32 - 1
 abbrev pub with_text : Filling → Option (List ℕ) → Filling
 with_text s None = s
-with_text s (Some t) = (if nat_le (length t) 12 then s else (if nat_le (length s.1 + length t) 4294967295 then (s.0, s.1 ++ t) else (s.0 ++ s.1 ∷ [], t)))
+with_text s (Some t) = (if nat_le (length t) 12
+    then s
+    else (if nat_le (length s.1 + length t) 4294967295
+    then (s.0, s.1 ++ t)
+    else (s.0 ++ s.1 ∷ [], t)))
 
 abbrev pub filling_of : List (Option (List ℕ)) → Filling
 filling_of ts = fold with_text ([], []) ts
@@ -34,12 +38,15 @@ short_view t = record { length = length t; rest = t ++ replicate (12 - length t)
 
 -- the view of a longer text, by its first four bytes, its buffer and its offset there
 abbrev pub long_view : List ℕ → ℕ → ℕ → View
-long_view t number offset = record { length = length t; rest = take 4 t ++ to_le_bytes w32 number ++ to_le_bytes w32 offset }
+long_view t number offset = record
+    { length = length t; rest = take 4 t ++ to_le_bytes w32 number ++ to_le_bytes w32 offset }
 
 -- the view of a text that is put behind the others
 abbrev pub next_view : Filling → List ℕ → View
 next_view s t = (if nat_le (length t) 12 then short_view t
-    else (if nat_le (length s.1 + length t) 4294967295 then long_view t (length s.0) (length s.1) else long_view t (length s.0 + 1) 0))
+    else (if nat_le (length s.1 + length t) 4294967295
+    then long_view t (length s.0) (length s.1)
+    else long_view t (length s.0 + 1) 0))
 
 -- the views of texts that are put behind the others, one after another
 abbrev pub next_views : Filling → List (Option (List ℕ)) → List (Option View)
