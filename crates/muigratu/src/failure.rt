@@ -1,32 +1,20 @@
 //! Why there is no answer: a sentence and a status.
 
-use crate::sentences::{CsvSentence, RefusalSentence, shown, type_word};
+use crate::front_sentence::{FrontSentence, title};
+use crate::sentences::shown;
 use std::alloc::{AllocError, AllocFailed};
 use std::{fmt, io};
-use tb_csv::{CsvFault, FieldType};
-use tb_front::Comparison;
-use tb_value::{MAX_INPUT, OutOfMemory, PlSmallStr, PolarsError};
+use tb_csv::CsvFault;
+use tb_front::{FrontFault, StepCause};
+use tb_value::{MAX_INPUT, OutOfMemory, PlSmallStr};
 
 /// Why there is no answer.
 #[derive(Drop)]
 pub(crate) enum Failure<'a> {
-    /// The operation refuses the tables.
-    Refused(PolarsError),
-    /// The two columns of a key are of different types.
-    KeyTypes {
-        left: PlSmallStr,
-        left_type: FieldType,
-        right: PlSmallStr,
-        right_type: FieldType,
-    },
-    /// The decimal numbers of this column would be compared by their bytes.
-    Decimals(Comparison, PlSmallStr),
-    /// The answer has no text.
-    NoText(CsvFault),
+    /// The texts of files have no answer. The file is the one that the fault is about, if it is about one.
+    Front { fault: FrontFault, file: &'a str },
     /// This name is given a type twice.
     TypedTwice(PlSmallStr),
-    /// This name is given a type, and no column has it.
-    TypedUnknown(PlSmallStr),
     /// The word is none that the option takes.
     NoWord(&'static str, &'a str),
     /// A word of --on is empty.
@@ -47,8 +35,6 @@ pub(crate) enum Failure<'a> {
     OneInput,
     /// A word is not UTF-8.
     NotWords,
-    /// The text of this file is no table, by a fault that may stand on a line.
-    NoTable(&'a str, CsvFault, Option<u64>),
     /// The text of this file is no answer of the JSON program.
     NoAnswer(&'a str),
     /// This file was not read.
@@ -60,16 +46,36 @@ pub(crate) enum Failure<'a> {
     TooLong(&'a str),
 }
 
+// The exit status where texts have no answer.
+fn front_status(fault: &FrontFault) -> u8 {
+    match fault {
+        FrontFault::KeyTypes { .. }
+        | FrontFault::Decimals(_, _)
+        | FrontFault::Refused(_)
+        | FrontFault::NoText(_)
+        | FrontFault::AtNode(_, _)
+        | FrontFault::TestType(_) => 1,
+        FrontFault::UnknownType(_) | FrontFault::RepeatedTable(_) | FrontFault::UnknownTable(_) =>
+            2,
+        FrontFault::NoTable { fault, .. } => match fault {
+            CsvFault::TooManyRows => 6,
+            _ => 3,
+        },
+        FrontFault::NoPlan(_) => 3,
+        FrontFault::Step { line: _, cause } => match cause {
+            StepCause::Full | StepCause::NoRow(_, _) => 1,
+            _ => 3,
+        },
+        FrontFault::OutOfMemory => 6,
+    }
+}
+
 impl Failure<'_> {
     /// The exit status.
     pub(crate) fn status(&self) -> u8 {
         match self {
-            Failure::Refused(_)
-            | Failure::KeyTypes { .. }
-            | Failure::Decimals(_, _)
-            | Failure::NoText(_) => 1,
+            Failure::Front { fault, file: _ } => front_status(fault),
             Failure::TypedTwice(_)
-            | Failure::TypedUnknown(_)
             | Failure::NoWord(_, _)
             | Failure::EmptyOn
             | Failure::Wanting(_)
@@ -80,8 +86,7 @@ impl Failure<'_> {
             | Failure::NoWidth(_)
             | Failure::OneInput
             | Failure::NotWords => 2,
-            Failure::NoTable(_, CsvFault::TooManyRows, _) => 6,
-            Failure::NoTable(_, _, _) | Failure::NoAnswer(_) => 3,
+            Failure::NoAnswer(_) => 3,
             Failure::Reading(_, _) => 4,
             Failure::Writing(_, _) => 5,
             Failure::OutOfMemory => 6,
@@ -108,11 +113,6 @@ impl<T: Drop> From<AllocFailed<T>> for Failure<'_> {
     }
 }
 
-// The name of a file, as sentences have it.
-fn title(file: &str) -> &str {
-    if file == "-" { "standard input" } else { file }
-}
-
 fn output_title(file: &str) -> &str {
     if file == "-" { "standard output" } else { file }
 }
@@ -120,33 +120,7 @@ fn output_title(file: &str) -> &str {
 impl fmt::Display for Failure<'_> {
     fn fmt<W: fmt::Write>(&self, f: &mut fmt::Formatter<W>) -> fmt::Result {
         match self {
-            Failure::Refused(error) => write!(f, "{}", RefusalSentence(error)),
-            Failure::NoText(fault) => write!(
-                f,
-                "the answer is not written: {}",
-                CsvSentence(fault)
-            ),
-            Failure::KeyTypes {
-                left,
-                left_type,
-                right,
-                right_type,
-            } => write!(
-                f,
-                "the keys \"{}\" ({}) and \"{}\" ({}) are of different types: give --types for both",
-                shown(left.as_str()),
-                type_word(*left_type),
-                shown(right.as_str()),
-                type_word(*right_type)
-            ),
-            Failure::Decimals(comparison, name) => write_decimals_sentence(*comparison, name, f),
-            Failure::NoTable(file, fault, line) => {
-                write!(f, "{}: ", shown(title(file)))?;
-                if let Some(line) = line {
-                    write!(f, "line {line}: ")?;
-                }
-                write!(f, "{}", CsvSentence(fault))
-            }
+            Failure::Front { fault, file } => write!(f, "{}", FrontSentence { fault, file }),
             Failure::NoAnswer(file) => {
                 write!(f, "{}: no answer of the JSON program", shown(title(file)))
             }
@@ -161,23 +135,6 @@ impl fmt::Display for Failure<'_> {
     }
 }
 
-// A sentence on decimal numbers, which are texts.
-fn write_decimals_sentence<W: fmt::Write>(
-    comparison: Comparison,
-    name: &PlSmallStr,
-    f: &mut fmt::Formatter<W>,
-) -> fmt::Result {
-    let uses = match comparison {
-        Comparison::LeastOrGreatest => "--agg min and max don't compare",
-        Comparison::Order => "--sort-columns doesn't order",
-    };
-    write!(
-        f,
-        "{uses} the decimal numbers of column \"{}\": --types NAME=str takes them as texts",
-        shown(name.as_str())
-    )
-}
-
 // A sentence on words that are no command.
 fn write_words_sentence<W: fmt::Write>(
     failure: &Failure<'_>,
@@ -186,13 +143,6 @@ fn write_words_sentence<W: fmt::Write>(
     match failure {
         Failure::TypedTwice(name) => {
             write!(f, "--types names \"{}\" twice", shown(name.as_str()))
-        }
-        Failure::TypedUnknown(name) => {
-            write!(
-                f,
-                "--types names \"{}\", and no column is called so",
-                shown(name.as_str())
-            )
         }
         Failure::NoWord(option, word) => { write!(f, "{option} doesn't take \"{}\"", shown(word)) }
         Failure::EmptyOn => f.write_str("--on takes names of columns, and not an empty word"),

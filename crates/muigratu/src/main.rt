@@ -5,6 +5,7 @@ mod commands;
 mod failure;
 mod fault_sentence;
 mod files;
+mod front_sentence;
 mod request;
 mod running;
 mod sentences;

@@ -8,7 +8,6 @@ use std::alloc::Global;
 use std::io::Input;
 use std::rt::Files;
 use std::thread::Threads;
-use tb_calls::{DummiesCall, PivotCall, UnpivotArgsIR};
 use tb_front::{
     FrontFault, Place, TextOptions, dummies_text, join_texts, pivot_text, unpivot_text,
 };
@@ -35,30 +34,17 @@ impl TableCommand {
     }
 }
 
-// The fault of texts that come from these files.
+// The fault of texts of which the first comes from the one file and the second from the other.
 fn failure<'a>(first: &'a str, second: &'a str, fault: FrontFault) -> Failure<'a> {
-    match fault {
-        FrontFault::NoTable { place, fault, line } => match place {
-            Place::First => Failure::NoTable(first, fault, line),
-            Place::Second => Failure::NoTable(second, fault, line),
-        },
-        FrontFault::UnknownType(name) => Failure::TypedUnknown(name),
-        FrontFault::KeyTypes {
-            left,
-            left_type,
-            right,
-            right_type,
-        } => Failure::KeyTypes {
-            left,
-            left_type,
-            right,
-            right_type,
-        },
-        FrontFault::Decimals(comparison, name) => Failure::Decimals(comparison, name),
-        FrontFault::Refused(error) => Failure::Refused(error),
-        FrontFault::NoText(fault) => Failure::NoText(fault),
-        FrontFault::OutOfMemory => Failure::OutOfMemory,
-    }
+    let file = match &fault {
+        FrontFault::OutOfMemory => return Failure::OutOfMemory,
+        FrontFault::NoTable {
+            place: Place::Second,
+            ..
+        } => second,
+        _ => first,
+    };
+    Failure::Front { fault, file }
 }
 
 fn joined<'a>(
@@ -78,76 +64,40 @@ fn joined<'a>(
     join_texts(rt, alloc, left, right, call, options).map_err(|fault| failure(first, second, fault))
 }
 
-// What is asked of one table.
-trait Asked: Drop + Sized {
-    // What the words ask.
-    fn of_words<'a>(alloc: Global, matches: &ArgMatches<'a>) -> Result<Self, Failure<'a>>;
-
-    // The text of the answer.
-    fn answered(
-        self,
-        alloc: Global,
-        text: Vec<u8>,
-        options: &TextOptions,
-    ) -> Result<Vec<u8>, FrontFault>;
-}
-
-impl Asked for UnpivotArgsIR {
-    fn of_words<'a>(alloc: Global, matches: &ArgMatches<'a>) -> Result<UnpivotArgsIR, Failure<'a>> {
-        unpivot_call(alloc, matches)
-    }
-
-    fn answered(
-        self,
-        alloc: Global,
-        text: Vec<u8>,
-        options: &TextOptions,
-    ) -> Result<Vec<u8>, FrontFault> {
-        unpivot_text(alloc, text, self, options)
-    }
-}
-
-impl Asked for DummiesCall {
-    fn of_words<'a>(alloc: Global, matches: &ArgMatches<'a>) -> Result<DummiesCall, Failure<'a>> {
-        dummies_call(alloc, matches)
-    }
-
-    fn answered(
-        self,
-        alloc: Global,
-        text: Vec<u8>,
-        options: &TextOptions,
-    ) -> Result<Vec<u8>, FrontFault> {
-        dummies_text(alloc, text, self, options)
-    }
-}
-
-impl Asked for PivotCall {
-    fn of_words<'a>(alloc: Global, matches: &ArgMatches<'a>) -> Result<PivotCall, Failure<'a>> {
-        pivot_call(alloc, matches)
-    }
-
-    fn answered(
-        self,
-        alloc: Global,
-        text: Vec<u8>,
-        options: &TextOptions,
-    ) -> Result<Vec<u8>, FrontFault> {
-        pivot_text(alloc, text, self, options)
-    }
-}
-
-fn reshaped<'a, A: Asked>(
-    rt: &(impl Files + Input),
+fn widened<'a>(
+    rt: &(impl Files + Input + Threads + Sync),
     alloc: Global,
     options: &TextOptions,
     matches: &ArgMatches<'a>,
 ) -> Result<Vec<u8>, Failure<'a>> {
     let file = needed(matches, "TABLE")?;
-    let call = A::of_words(alloc, matches)?;
+    let call = pivot_call(alloc, matches)?;
     let text = read_text(rt, alloc, file)?;
-    call.answered(alloc, text, options)
-        .map_err(|fault| failure(file, file, fault))
+    pivot_text(rt, alloc, text, call, options).map_err(|fault| failure(file, file, fault))
+}
+
+fn lengthened<'a>(
+    rt: &(impl Files + Input + Threads + Sync),
+    alloc: Global,
+    options: &TextOptions,
+    matches: &ArgMatches<'a>,
+) -> Result<Vec<u8>, Failure<'a>> {
+    let file = needed(matches, "TABLE")?;
+    let call = unpivot_call(alloc, matches)?;
+    let text = read_text(rt, alloc, file)?;
+    unpivot_text(rt, alloc, text, call, options).map_err(|fault| failure(file, file, fault))
+}
+
+fn marked<'a>(
+    rt: &(impl Files + Input + Threads + Sync),
+    alloc: Global,
+    options: &TextOptions,
+    matches: &ArgMatches<'a>,
+) -> Result<Vec<u8>, Failure<'a>> {
+    let file = needed(matches, "TABLE")?;
+    let call = dummies_call(alloc, matches)?;
+    let text = read_text(rt, alloc, file)?;
+    dummies_text(rt, alloc, text, call, options).map_err(|fault| failure(file, file, fault))
 }
 
 fn answer<'a>(
@@ -159,9 +109,9 @@ fn answer<'a>(
 ) -> Result<Vec<u8>, Failure<'a>> {
     match command {
         TableCommand::Join => joined(rt, alloc, options, matches),
-        TableCommand::Pivot => reshaped::<PivotCall>(rt, alloc, options, matches),
-        TableCommand::Dummies => reshaped::<DummiesCall>(rt, alloc, options, matches),
-        TableCommand::Unpivot => reshaped::<UnpivotArgsIR>(rt, alloc, options, matches),
+        TableCommand::Pivot => widened(rt, alloc, options, matches),
+        TableCommand::Dummies => marked(rt, alloc, options, matches),
+        TableCommand::Unpivot => lengthened(rt, alloc, options, matches),
     }
 }
 
