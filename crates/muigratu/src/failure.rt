@@ -15,6 +15,10 @@ pub(crate) enum Failure<'a> {
     Front { fault: FrontFault, file: &'a str },
     /// This name is given a type twice.
     TypedTwice(PlSmallStr),
+    /// Two tables of a plan have this name.
+    NamedTwice(PlSmallStr),
+    /// The word is no file under a name.
+    NoNamedFile(&'a str),
     /// The word is none that the option takes.
     NoWord(&'static str, &'a str),
     /// A word of --on is empty.
@@ -25,13 +29,15 @@ pub(crate) enum Failure<'a> {
     NoType(&'a str),
     /// The word is no slice.
     NoSlice(&'a str),
-    /// The word is no left key.
-    NoKey(&'a str),
+    /// The name is that of no left key.
+    NoKey(PlSmallStr),
     /// The word is no separator.
     NoSeparator(&'a str),
+    /// The word asks for no column that is made.
+    NoAgg(&'a str),
     /// The word is no width.
     NoWidth(&'a str),
-    /// Both tables are to be read from standard input.
+    /// Two files are to be read from standard input.
     OneInput,
     /// A word is not UTF-8.
     NotWords,
@@ -76,6 +82,8 @@ impl Failure<'_> {
         match self {
             Failure::Front { fault, file: _ } => front_status(fault),
             Failure::TypedTwice(_)
+            | Failure::NamedTwice(_)
+            | Failure::NoNamedFile(_)
             | Failure::NoWord(_, _)
             | Failure::EmptyOn
             | Failure::Wanting(_)
@@ -83,6 +91,7 @@ impl Failure<'_> {
             | Failure::NoSlice(_)
             | Failure::NoKey(_)
             | Failure::NoSeparator(_)
+            | Failure::NoAgg(_)
             | Failure::NoWidth(_)
             | Failure::OneInput
             | Failure::NotWords => 2,
@@ -144,6 +153,12 @@ fn write_words_sentence<W: fmt::Write>(
         Failure::TypedTwice(name) => {
             write!(f, "--types names \"{}\" twice", shown(name.as_str()))
         }
+        Failure::NamedTwice(name) => {
+            write!(f, "two tables are called \"{}\"", shown(name.as_str()))
+        }
+        Failure::NoNamedFile(word) => {
+            write!(f, "a table is NAME=FILE, and not \"{}\"", shown(word))
+        }
         Failure::NoWord(option, word) => { write!(f, "{option} doesn't take \"{}\"", shown(word)) }
         Failure::EmptyOn => f.write_str("--on takes names of columns, and not an empty word"),
         Failure::Wanting(word) => write!(f, "{word} is wanting"),
@@ -157,8 +172,8 @@ fn write_words_sentence<W: fmt::Write>(
                 "--slice takes OFFSET,LENGTH, two whole numbers, and not \"{word}\""
             )
         }
-        Failure::NoKey(word) => {
-            let word = shown(word);
+        Failure::NoKey(name) => {
+            let word = shown(name.as_str());
             write!(
                 f,
                 "--join-nulls takes a left key of --on, and not \"{word}\""
@@ -171,6 +186,13 @@ fn write_words_sentence<W: fmt::Write>(
                 "--separator takes one ASCII character, and not \"{word}\""
             )
         }
+        Failure::NoAgg(word) => {
+            let word = shown(word);
+            write!(
+                f,
+                "--agg takes NEW=KIND:NAME, as total=sum:cents, where KIND is first, last, count, sum, min or max, and not \"{word}\""
+            )
+        }
         Failure::NoWidth(word) => {
             let word = shown(word);
             write!(
@@ -178,7 +200,7 @@ fn write_words_sentence<W: fmt::Write>(
                 "--width takes a whole number from 1 on, and not \"{word}\""
             )
         }
-        Failure::OneInput => f.write_str("standard input can be one table only"),
+        Failure::OneInput => f.write_str("standard input can be one file only"),
         _ => f.write_str("a word is not UTF-8"),
     }
 }

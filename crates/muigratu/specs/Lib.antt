@@ -1,0 +1,4 @@
+pub mod Deltas
+pub mod Reading
+pub mod Slices
+pub mod Words

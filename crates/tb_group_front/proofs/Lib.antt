@@ -1,0 +1,4 @@
+pub mod Compared
+pub mod Faults
+pub mod Parted
+pub mod Sorts
