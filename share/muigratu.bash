@@ -8,7 +8,7 @@ _muigratu() {
     before=${words[-2]:-} command=${words[1]:-}
     COMPREPLY=()
     if [ "${#words[@]}" -le 2 ]; then
-        COMPREPLY=($(compgen -W "join pivot unpivot dummies plan delta why request --help --version" -- "$word"))
+        COMPREPLY=($(compgen -W "join pivot unpivot dummies why request --help --version" -- "$word"))
         return
     fi
     [[ $word != --*=* ]] || { before=${word%%=*}; word=${word#*=}; }
@@ -23,8 +23,6 @@ _muigratu() {
         "pivot --as") choices="csv json table" ;;
         "unpivot --as") choices="csv json table" ;;
         "dummies --as") choices="csv json table" ;;
-        "plan --as") choices="csv json table" ;;
-        "delta --as") choices="csv json table" ;;
         "why why") choices="join unpivot dummies pivot" ;;
     esac
     if [ -n "$choices" ]; then
@@ -36,8 +34,6 @@ _muigratu() {
             pivot) COMPREPLY=($(compgen -W "--on --index --values --agg --sort-columns --name-separator --types --separator --as --width --output -o --help" -- "$word")) ;;
             unpivot) COMPREPLY=($(compgen -W "--on --index --variable-name --value-name --types --separator --as --width --output -o --help" -- "$word")) ;;
             dummies) COMPREPLY=($(compgen -W "--columns --name-separator --drop-first --types --separator --as --width --output -o --help" -- "$word")) ;;
-            plan) COMPREPLY=($(compgen -W "--explain --types --separator --as --width --output -o --help" -- "$word")) ;;
-            delta) COMPREPLY=($(compgen -W "--on --steps --join-nulls --table --types --separator --as --width --output -o --help" -- "$word")) ;;
             why) COMPREPLY=($(compgen -W "--help" -- "$word")) ;;
             request) COMPREPLY=($(compgen -W "--runs --output -o --help" -- "$word")) ;;
         esac

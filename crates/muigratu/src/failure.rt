@@ -1,24 +1,32 @@
 //! Why there is no answer: a sentence and a status.
 
-use crate::front_sentence::{FrontSentence, title};
-use crate::sentences::shown;
+use crate::sentences::{CsvSentence, RefusalSentence, shown, type_word};
 use std::alloc::{AllocError, AllocFailed};
 use std::{fmt, io};
-use tb_csv::CsvFault;
-use tb_front::{FrontFault, StepCause};
-use tb_value::{MAX_INPUT, OutOfMemory, PlSmallStr};
+use tb_csv::{CsvFault, FieldType};
+use tb_front::Comparison;
+use tb_value::{MAX_INPUT, OutOfMemory, PlSmallStr, PolarsError};
 
 /// Why there is no answer.
 #[derive(Drop)]
 pub(crate) enum Failure<'a> {
-    /// The texts of files have no answer. The file is the one that the fault is about, if it is about one.
-    Front { fault: FrontFault, file: &'a str },
+    /// The operation refuses the tables.
+    Refused(PolarsError),
+    /// The two columns of a key are of different types.
+    KeyTypes {
+        left: PlSmallStr,
+        left_type: FieldType,
+        right: PlSmallStr,
+        right_type: FieldType,
+    },
+    /// The decimal numbers of this column would be compared by their bytes.
+    Decimals(Comparison, PlSmallStr),
+    /// The answer has no text.
+    NoText(CsvFault),
     /// This name is given a type twice.
     TypedTwice(PlSmallStr),
-    /// Two tables of a plan have this name.
-    NamedTwice(PlSmallStr),
-    /// The word is no file under a name.
-    NoNamedFile(&'a str),
+    /// This name is given a type, and no column has it.
+    TypedUnknown(PlSmallStr),
     /// The word is none that the option takes.
     NoWord(&'static str, &'a str),
     /// A word of --on is empty.
@@ -29,18 +37,18 @@ pub(crate) enum Failure<'a> {
     NoType(&'a str),
     /// The word is no slice.
     NoSlice(&'a str),
-    /// The name is that of no left key.
-    NoKey(PlSmallStr),
+    /// The word is no left key.
+    NoKey(&'a str),
     /// The word is no separator.
     NoSeparator(&'a str),
-    /// The word asks for no column that is made.
-    NoAgg(&'a str),
     /// The word is no width.
     NoWidth(&'a str),
-    /// Two files are to be read from standard input.
+    /// Both tables are to be read from standard input.
     OneInput,
     /// A word is not UTF-8.
     NotWords,
+    /// The text of this file is no table, by a fault that may stand on a line.
+    NoTable(&'a str, CsvFault, Option<u64>),
     /// The text of this file is no answer of the JSON program.
     NoAnswer(&'a str),
     /// This file was not read.
@@ -52,38 +60,16 @@ pub(crate) enum Failure<'a> {
     TooLong(&'a str),
 }
 
-// The exit status where texts have no answer.
-fn front_status(fault: &FrontFault) -> u8 {
-    match fault {
-        FrontFault::KeyTypes { .. }
-        | FrontFault::Decimals(_, _)
-        | FrontFault::Refused(_)
-        | FrontFault::NoText(_)
-        | FrontFault::AtNode(_, _)
-        | FrontFault::TestType(_) => 1,
-        FrontFault::UnknownType(_) | FrontFault::RepeatedTable(_) | FrontFault::UnknownTable(_) =>
-            2,
-        FrontFault::NoTable { fault, .. } => match fault {
-            CsvFault::TooManyRows => 6,
-            _ => 3,
-        },
-        FrontFault::NoPlan(_) => 3,
-        FrontFault::Step { line: _, cause } => match cause {
-            StepCause::Full | StepCause::NoRow(_, _) => 1,
-            _ => 3,
-        },
-        FrontFault::OutOfMemory => 6,
-    }
-}
-
 impl Failure<'_> {
     /// The exit status.
     pub(crate) fn status(&self) -> u8 {
         match self {
-            Failure::Front { fault, file: _ } => front_status(fault),
+            Failure::Refused(_)
+            | Failure::KeyTypes { .. }
+            | Failure::Decimals(_, _)
+            | Failure::NoText(_) => 1,
             Failure::TypedTwice(_)
-            | Failure::NamedTwice(_)
-            | Failure::NoNamedFile(_)
+            | Failure::TypedUnknown(_)
             | Failure::NoWord(_, _)
             | Failure::EmptyOn
             | Failure::Wanting(_)
@@ -91,11 +77,11 @@ impl Failure<'_> {
             | Failure::NoSlice(_)
             | Failure::NoKey(_)
             | Failure::NoSeparator(_)
-            | Failure::NoAgg(_)
             | Failure::NoWidth(_)
             | Failure::OneInput
             | Failure::NotWords => 2,
-            Failure::NoAnswer(_) => 3,
+            Failure::NoTable(_, CsvFault::TooManyRows, _) => 6,
+            Failure::NoTable(_, _, _) | Failure::NoAnswer(_) => 3,
             Failure::Reading(_, _) => 4,
             Failure::Writing(_, _) => 5,
             Failure::OutOfMemory => 6,
@@ -122,6 +108,11 @@ impl<T: Drop> From<AllocFailed<T>> for Failure<'_> {
     }
 }
 
+// The name of a file, as sentences have it.
+fn title(file: &str) -> &str {
+    if file == "-" { "standard input" } else { file }
+}
+
 fn output_title(file: &str) -> &str {
     if file == "-" { "standard output" } else { file }
 }
@@ -129,7 +120,33 @@ fn output_title(file: &str) -> &str {
 impl fmt::Display for Failure<'_> {
     fn fmt<W: fmt::Write>(&self, f: &mut fmt::Formatter<W>) -> fmt::Result {
         match self {
-            Failure::Front { fault, file } => write!(f, "{}", FrontSentence { fault, file }),
+            Failure::Refused(error) => write!(f, "{}", RefusalSentence(error)),
+            Failure::NoText(fault) => write!(
+                f,
+                "the answer is not written: {}",
+                CsvSentence(fault)
+            ),
+            Failure::KeyTypes {
+                left,
+                left_type,
+                right,
+                right_type,
+            } => write!(
+                f,
+                "the keys \"{}\" ({}) and \"{}\" ({}) are of different types: give --types for both",
+                shown(left.as_str()),
+                type_word(*left_type),
+                shown(right.as_str()),
+                type_word(*right_type)
+            ),
+            Failure::Decimals(comparison, name) => write_decimals_sentence(*comparison, name, f),
+            Failure::NoTable(file, fault, line) => {
+                write!(f, "{}: ", shown(title(file)))?;
+                if let Some(line) = line {
+                    write!(f, "line {line}: ")?;
+                }
+                write!(f, "{}", CsvSentence(fault))
+            }
             Failure::NoAnswer(file) => {
                 write!(f, "{}: no answer of the JSON program", shown(title(file)))
             }
@@ -144,6 +161,23 @@ impl fmt::Display for Failure<'_> {
     }
 }
 
+// A sentence on decimal numbers, which are texts.
+fn write_decimals_sentence<W: fmt::Write>(
+    comparison: Comparison,
+    name: &PlSmallStr,
+    f: &mut fmt::Formatter<W>,
+) -> fmt::Result {
+    let uses = match comparison {
+        Comparison::LeastOrGreatest => "--agg min and max don't compare",
+        Comparison::Order => "--sort-columns doesn't order",
+    };
+    write!(
+        f,
+        "{uses} the decimal numbers of column \"{}\": --types NAME=str takes them as texts",
+        shown(name.as_str())
+    )
+}
+
 // A sentence on words that are no command.
 fn write_words_sentence<W: fmt::Write>(
     failure: &Failure<'_>,
@@ -153,11 +187,12 @@ fn write_words_sentence<W: fmt::Write>(
         Failure::TypedTwice(name) => {
             write!(f, "--types names \"{}\" twice", shown(name.as_str()))
         }
-        Failure::NamedTwice(name) => {
-            write!(f, "two tables are called \"{}\"", shown(name.as_str()))
-        }
-        Failure::NoNamedFile(word) => {
-            write!(f, "a table is NAME=FILE, and not \"{}\"", shown(word))
+        Failure::TypedUnknown(name) => {
+            write!(
+                f,
+                "--types names \"{}\", and no column is called so",
+                shown(name.as_str())
+            )
         }
         Failure::NoWord(option, word) => { write!(f, "{option} doesn't take \"{}\"", shown(word)) }
         Failure::EmptyOn => f.write_str("--on takes names of columns, and not an empty word"),
@@ -172,8 +207,8 @@ fn write_words_sentence<W: fmt::Write>(
                 "--slice takes OFFSET,LENGTH, two whole numbers, and not \"{word}\""
             )
         }
-        Failure::NoKey(name) => {
-            let word = shown(name.as_str());
+        Failure::NoKey(word) => {
+            let word = shown(word);
             write!(
                 f,
                 "--join-nulls takes a left key of --on, and not \"{word}\""
@@ -186,13 +221,6 @@ fn write_words_sentence<W: fmt::Write>(
                 "--separator takes one ASCII character, and not \"{word}\""
             )
         }
-        Failure::NoAgg(word) => {
-            let word = shown(word);
-            write!(
-                f,
-                "--agg takes NEW=KIND:NAME, as total=sum:cents, where KIND is first, last, count, sum, min or max, and not \"{word}\""
-            )
-        }
         Failure::NoWidth(word) => {
             let word = shown(word);
             write!(
@@ -200,7 +228,7 @@ fn write_words_sentence<W: fmt::Write>(
                 "--width takes a whole number from 1 on, and not \"{word}\""
             )
         }
-        Failure::OneInput => f.write_str("standard input can be one file only"),
+        Failure::OneInput => f.write_str("standard input can be one table only"),
         _ => f.write_str("a word is not UTF-8"),
     }
 }

@@ -2,13 +2,9 @@
 #![tactic(auto)]
 
 mod commands;
-mod deltas;
 mod failure;
 mod fault_sentence;
 mod files;
-mod front_sentence;
-mod groups;
-mod plans;
 mod request;
 mod running;
 mod sentences;

@@ -1,10 +1,7 @@
 //! The commands, from their words to the text that is written.
 
-use crate::deltas::changed;
 use crate::failure::Failure;
 use crate::files::{read_text, write_text};
-use crate::groups::grouped;
-use crate::plans::planned;
 use crate::words::{dummies_call, join_call, needed, pivot_call, text_options, unpivot_call};
 use clap::ArgMatches;
 use std::alloc::Global;
@@ -23,9 +20,6 @@ pub(crate) enum TableCommand {
     Pivot,
     Unpivot,
     Dummies,
-    Plan,
-    Delta,
-    Group,
 }
 
 impl TableCommand {
@@ -36,34 +30,35 @@ impl TableCommand {
             "pivot" => Some(TableCommand::Pivot),
             "unpivot" => Some(TableCommand::Unpivot),
             "dummies" => Some(TableCommand::Dummies),
-            "plan" => Some(TableCommand::Plan),
-            "delta" => Some(TableCommand::Delta),
-            "group" => Some(TableCommand::Group),
             _ => None,
         }
     }
 }
 
-// The place of the file that a fault is about, among those of its command.
-fn place_of(fault: &FrontFault) -> usize {
-    match fault {
-        FrontFault::NoTable { place, .. } => match place {
-            Place::First => 0,
-            Place::Second => 1,
-            Place::Named(number) => *number,
-        },
-        FrontFault::Step { .. } => 2,
-        _ => 0,
-    }
-}
-
 // The fault of texts that come from these files.
-pub(crate) fn failure<'a>(files: &[&'a str], fault: FrontFault) -> Failure<'a> {
-    if let FrontFault::OutOfMemory = fault {
-        return Failure::OutOfMemory;
+fn failure<'a>(first: &'a str, second: &'a str, fault: FrontFault) -> Failure<'a> {
+    match fault {
+        FrontFault::NoTable { place, fault, line } => match place {
+            Place::First => Failure::NoTable(first, fault, line),
+            Place::Second => Failure::NoTable(second, fault, line),
+        },
+        FrontFault::UnknownType(name) => Failure::TypedUnknown(name),
+        FrontFault::KeyTypes {
+            left,
+            left_type,
+            right,
+            right_type,
+        } => Failure::KeyTypes {
+            left,
+            left_type,
+            right,
+            right_type,
+        },
+        FrontFault::Decimals(comparison, name) => Failure::Decimals(comparison, name),
+        FrontFault::Refused(error) => Failure::Refused(error),
+        FrontFault::NoText(fault) => Failure::NoText(fault),
+        FrontFault::OutOfMemory => Failure::OutOfMemory,
     }
-    let file = files.get(place_of(&fault)).copied().unwrap_or("");
-    Failure::Front { fault, file }
 }
 
 fn joined<'a>(
@@ -80,10 +75,7 @@ fn joined<'a>(
     let call = join_call(alloc, matches)?;
     let left = read_text(rt, alloc, first)?;
     let right = read_text(rt, alloc, second)?;
-    join_texts(rt, alloc, left, right, call, options).map_err(|fault| failure(
-        &[first, second],
-        fault,
-    ))
+    join_texts(rt, alloc, left, right, call, options).map_err(|fault| failure(first, second, fault))
 }
 
 // What is asked of one table.
@@ -94,7 +86,6 @@ trait Asked: Drop + Sized {
     // The text of the answer.
     fn answered(
         self,
-        rt: &(impl Threads + Sync),
         alloc: Global,
         text: Vec<u8>,
         options: &TextOptions,
@@ -108,12 +99,11 @@ impl Asked for UnpivotArgsIR {
 
     fn answered(
         self,
-        rt: &(impl Threads + Sync),
         alloc: Global,
         text: Vec<u8>,
         options: &TextOptions,
     ) -> Result<Vec<u8>, FrontFault> {
-        unpivot_text(rt, alloc, text, self, options)
+        unpivot_text(alloc, text, self, options)
     }
 }
 
@@ -124,12 +114,11 @@ impl Asked for DummiesCall {
 
     fn answered(
         self,
-        rt: &(impl Threads + Sync),
         alloc: Global,
         text: Vec<u8>,
         options: &TextOptions,
     ) -> Result<Vec<u8>, FrontFault> {
-        dummies_text(rt, alloc, text, self, options)
+        dummies_text(alloc, text, self, options)
     }
 }
 
@@ -140,17 +129,16 @@ impl Asked for PivotCall {
 
     fn answered(
         self,
-        rt: &(impl Threads + Sync),
         alloc: Global,
         text: Vec<u8>,
         options: &TextOptions,
     ) -> Result<Vec<u8>, FrontFault> {
-        pivot_text(rt, alloc, text, self, options)
+        pivot_text(alloc, text, self, options)
     }
 }
 
 fn reshaped<'a, A: Asked>(
-    rt: &(impl Files + Input + Threads + Sync),
+    rt: &(impl Files + Input),
     alloc: Global,
     options: &TextOptions,
     matches: &ArgMatches<'a>,
@@ -158,8 +146,8 @@ fn reshaped<'a, A: Asked>(
     let file = needed(matches, "TABLE")?;
     let call = A::of_words(alloc, matches)?;
     let text = read_text(rt, alloc, file)?;
-    call.answered(rt, alloc, text, options)
-        .map_err(|fault| failure(&[file], fault))
+    call.answered(alloc, text, options)
+        .map_err(|fault| failure(file, file, fault))
 }
 
 fn answer<'a>(
@@ -174,9 +162,6 @@ fn answer<'a>(
         TableCommand::Pivot => reshaped::<PivotCall>(rt, alloc, options, matches),
         TableCommand::Dummies => reshaped::<DummiesCall>(rt, alloc, options, matches),
         TableCommand::Unpivot => reshaped::<UnpivotArgsIR>(rt, alloc, options, matches),
-        TableCommand::Plan => planned(rt, alloc, options, matches),
-        TableCommand::Delta => changed(rt, alloc, options, matches),
-        TableCommand::Group => grouped(rt, alloc, options, matches),
     }
 }
 

@@ -28,8 +28,7 @@ pub(crate) fn type_word(field_type: FieldType) -> &'static str {
     }
 }
 
-/// The word of a side.
-pub(crate) fn side_word(side: Side) -> &'static str {
+fn side_word(side: Side) -> &'static str {
     match side {
         Side::Left => "left",
         Side::Right => "right",
@@ -82,27 +81,7 @@ impl fmt::Display for CsvSentence<'_> {
     }
 }
 
-/// How arguments are called: by options of a command, or by members of a plan.
-#[derive(Clone, Copy)]
-pub(crate) enum Speech {
-    Options,
-    Members,
-}
-
-impl Speech {
-    fn word(self, option: &'static str, member: &'static str) -> &'static str {
-        match self {
-            Speech::Options => option,
-            Speech::Members => member,
-        }
-    }
-}
-
-fn invalid_sentence<W: fmt::Write>(
-    cause: &InvalidCause,
-    speech: Speech,
-    f: &mut fmt::Formatter<W>,
-) -> fmt::Result {
+fn invalid_sentence<W: fmt::Write>(cause: &InvalidCause, f: &mut fmt::Formatter<W>) -> fmt::Result {
     match cause {
         InvalidCause::NoKeys => f.write_str("there is no key"),
         InvalidCause::KeyCounts { left, right } => {
@@ -114,15 +93,11 @@ fn invalid_sentence<W: fmt::Write>(
         InvalidCause::KeyKind { place } => {
             write!(
                 f,
-                "rows can't be joined by the type of key {} of {}",
-                place.saturating_add(1),
-                speech.word("--on", "left_on")
+                "rows can't be joined by the type of key {} of --on",
+                place.saturating_add(1)
             )
         }
-        InvalidCause::BothNone => f.write_str(speech.word(
-            "neither --index nor --values is given",
-            "neither index nor values is given",
-        )),
+        InvalidCause::BothNone => f.write_str("neither --index nor --values is given"),
         InvalidCause::HeaderType(name) => {
             write!(
                 f,
@@ -133,8 +108,7 @@ fn invalid_sentence<W: fmt::Write>(
         InvalidCause::AggType(name) => {
             write!(
                 f,
-                "{} doesn't take the type of column \"{}\"",
-                speech.word("--agg", "agg"),
+                "--agg doesn't take the type of column \"{}\"",
                 shown(name.as_str())
             )
         }
@@ -148,17 +122,12 @@ fn invalid_sentence<W: fmt::Write>(
     }
 }
 
-fn compute_sentence<W: fmt::Write>(
-    cause: &ComputeCause,
-    speech: Speech,
-    f: &mut fmt::Formatter<W>,
-) -> fmt::Result {
+fn compute_sentence<W: fmt::Write>(cause: &ComputeCause, f: &mut fmt::Formatter<W>) -> fmt::Result {
     match cause {
         ComputeCause::KeyTypes { place } => write!(
             f,
-            "the columns of key {} of {} are of different types: give --types for both",
-            place.saturating_add(1),
-            speech.word("--on", "left_on and right_on")
+            "the columns of key {} of --on are of different types: give --types for both",
+            place.saturating_add(1)
         ),
         ComputeCause::Validation(side) => {
             write!(f, "two {} rows have equal keys", side_word(*side))
@@ -170,11 +139,7 @@ fn compute_sentence<W: fmt::Write>(
             write!(f, "a column is called \"{}\" already", shown(name.as_str()))
         }
         ComputeCause::ManyInGroup => {
-            write!(
-                f,
-                "a cell would have several values, and {} is not given",
-                speech.word("--agg", "agg")
-            )
+            f.write_str("a cell would have several values, and --agg is not given")
         }
         ComputeCause::SumRange(name) => {
             write!(
@@ -191,7 +156,7 @@ fn compute_sentence<W: fmt::Write>(
 
 /// Why an operation refuses its tables or its arguments.
 #[derive(Drop)]
-pub(crate) struct RefusalSentence<'a>(pub(crate) &'a PolarsError, pub(crate) Speech);
+pub(crate) struct RefusalSentence<'a>(pub(crate) &'a PolarsError);
 
 impl fmt::Display for RefusalSentence<'_> {
     fn fmt<W: fmt::Write>(&self, f: &mut fmt::Formatter<W>) -> fmt::Result {
@@ -199,8 +164,8 @@ impl fmt::Display for RefusalSentence<'_> {
             PolarsError::ColumnNotFound(name) => {
                 write!(f, "no column is called \"{}\"", shown(name.as_str()))
             }
-            PolarsError::InvalidOperation(cause) => invalid_sentence(cause, self.1, f),
-            PolarsError::ComputeError(cause) => compute_sentence(cause, self.1, f),
+            PolarsError::InvalidOperation(cause) => invalid_sentence(cause, f),
+            PolarsError::ComputeError(cause) => compute_sentence(cause, f),
             PolarsError::Duplicate(name) => {
                 write!(
                     f,

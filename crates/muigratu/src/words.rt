@@ -1,12 +1,4 @@
 //! Words that stand for arguments.
-ghost use Rattle.std.specs.Prelude.{◌≡◌, [], codes, map, not, option_map, unwrap_or, true, IfOk, IfSome, Some};
-ghost use Rattle.std.specs.List.{list_any};
-ghost use Rattle.std.specs.Result.{result_ok};
-ghost use Rattle.clap.specs.Matches.{first_value, found_of};
-ghost use Rattle.muigratu.specs.Deltas.{AsksDelta};
-ghost use Rattle.muigratu.specs.Reading.{byte_between, separator_in, separator_meant, IsWidth};
-ghost use Rattle.muigratu.specs.Slices.{IsOffsetAndLength, IsSlice};
-ghost use Rattle.muigratu.specs.Words.{given_words, is_blank, lent, meant, name_in, stands_alone, words_of};
 
 use crate::failure::Failure;
 use clap::ArgMatches;
@@ -14,14 +6,11 @@ use std::alloc::Global;
 use tb_agg::Aggregate;
 use tb_calls::{DummiesCall, JoinCall, PivotCall, UnpivotArgsIR};
 use tb_csv::{CsvOptions, FieldType, TypeOf};
-use tb_delta_front::DeltaCall;
 use tb_frame::{
     JoinArgs, JoinCoalesce, JoinNulls, JoinType, JoinValidation, MaintainOrderJoin, check_repeated,
     name_set,
 };
 use tb_front::{TextForm, TextOptions, named_flags};
-use tb_group::GroupAgg;
-use tb_group_front::{GroupCall, agg_of_word};
 use tb_request::{agg_named, coalesce_named, how_named, order_named, validation_named};
 use tb_value::{OutOfMemory, PlSmallStr, PolarsError};
 
@@ -29,9 +18,7 @@ use tb_value::{OutOfMemory, PlSmallStr, PolarsError};
 pub(crate) fn needed<'a>(
     matches: &ArgMatches<'a>,
     name: &'static str,
-) -> Result<&'a str, Failure<'a>>
-    ensures { IfOk result (λ w. first_value (found_of matches.now) name.now ≡ Some w.now) }
-{
+) -> Result<&'a str, Failure<'a>> {
     matches.get_str(name).ok_or(Failure::Wanting(name))
 }
 
@@ -41,9 +28,7 @@ fn meant<'a, T: Copy>(
     word: Option<&'a str>,
     named: Option<T>,
     absent: T,
-) -> Result<T, Failure<'a>>
-    ensures { result_ok result ≡ meant (lent word.entry) named absent }
-{
+) -> Result<T, Failure<'a>> {
     match (word, named) {
         (None, _) => Ok(absent),
         (Some(_), Some(meaning)) => Ok(meaning),
@@ -59,9 +44,7 @@ enum Part {
     BehindSign,
 }
 
-fn name_in(part: Part, word: &str) -> &str
-    ensures { result.now ≡ name_in part word.now }
-{
+fn name_in(part: Part, word: &str) -> &str {
     match (part, word.split_once('=')) {
         (Part::BeforeSign, Some((before, _))) => before,
         (Part::BehindSign, Some((_, behind))) => behind,
@@ -73,10 +56,7 @@ fn names_of(
     alloc: Global,
     part: Part,
     words: Option<&[&str]>,
-) -> Result<Vec<PlSmallStr>, OutOfMemory>
-    ensures { IfOk result (λ v.
-        v.items ≡ map (name_in part) (unwrap_or (given_words words.entry) [])) }
-{
+) -> Result<Vec<PlSmallStr>, OutOfMemory> {
     let mut names = Vec::new(alloc);
     for word in words.unwrap_or(&[]) {
         names.push(PlSmallStr::from_str(alloc, name_in(part, word))?)?;
@@ -84,27 +64,11 @@ fn names_of(
     Ok(names)
 }
 
-fn has_blank(words: &[&str]) -> bool
-    ensures { result ≡ list_any is_blank (map (λ w. w.now) words.now) }
-{
-    for word in words {
-        if word.is_empty() {
-            return true;
-        }
-    }
-    false
-}
-
 // The words of --on, of which none is empty.
-fn on_words<'a, 'm>(matches: &'m ArgMatches<'a>) -> Result<Option<&'m [&'a str]>, Failure<'a>>
-    ensures words { IfOk result (λ o.
-        given_words o ≡ words_of (found_of matches.now) (codes "on")) }
-    ensures none_blank { IfOk result (λ o.
-        IfSome (given_words o) (λ ws. not (list_any is_blank ws) ≡ true)) }
-{
+fn on_words<'a, 'm>(matches: &'m ArgMatches<'a>) -> Result<Option<&'m [&'a str]>, Failure<'a>> {
     let words = matches.get_strs("on");
     match words {
-        Some(given) if has_blank(given) => Err(Failure::EmptyOn),
+        Some(words) if words.iter().any(|word| word.is_empty()) => Err(Failure::EmptyOn),
         _ => Ok(words),
     }
 }
@@ -112,18 +76,14 @@ fn on_words<'a, 'm>(matches: &'m ArgMatches<'a>) -> Result<Option<&'m [&'a str]>
 fn names_given(
     alloc: Global,
     words: Option<&[&str]>,
-) -> Result<Option<Vec<PlSmallStr>>, OutOfMemory>
-    ensures { IfOk result (λ o. option_map (λ v. v.items) o ≡ given_words words.entry) }
-{
+) -> Result<Option<Vec<PlSmallStr>>, OutOfMemory> {
     match words {
         Some(_) => Ok(Some(names_of(alloc, Part::Whole, words)?)),
         None => Ok(None),
     }
 }
 
-fn text_given(alloc: Global, word: Option<&str>) -> Result<Option<PlSmallStr>, OutOfMemory>
-    ensures { IfOk result (λ o. o ≡ lent word.entry) }
-{
+fn text_given(alloc: Global, word: Option<&str>) -> Result<Option<PlSmallStr>, OutOfMemory> {
     match word {
         Some(word) => Ok(Some(PlSmallStr::from_str(alloc, word)?)),
         None => Ok(None),
@@ -177,33 +137,16 @@ fn types_given<'a>(alloc: Global, words: Option<&[&'a str]>) -> Result<Vec<TypeO
     }
 }
 
-fn byte_between(byte: u8) -> Option<u8>
-    ensures { result ≡ byte_between byte }
-{
-    match byte {
-        b'"' | b'\n' | b'\r' => None,
-        _ => Some(byte),
-    }
-}
-
 // A character of one byte that is neither a quote nor ends a line; `\t` stands for a tab.
-fn separator_in(word: &[u8]) -> Option<u8>
-    ensures { result ≡ separator_in word.now }
-{
-    match word.len() {
-        1 => byte_between(word[0]),
-        2 if word[0] == b'\\' && word[1] == b't' => Some(b'\t'),
-        _ => None,
-    }
-}
-
-fn separator_given<'a>(word: Option<&'a str>) -> Result<u8, Failure<'a>>
-    ensures { result_ok result ≡ separator_meant (lent word.entry) }
-{
+fn separator_given<'a>(word: Option<&'a str>) -> Result<u8, Failure<'a>> {
     let Some(word) = word else {
         return Ok(b',');
     };
-    separator_in(word.as_bytes()).ok_or(Failure::NoSeparator(word))
+    match word.as_bytes() {
+        [b'\\', b't'] => Ok(b'\t'),
+        [byte] if *byte != b'"' && *byte != b'\n' && *byte != b'\r' => Ok(*byte),
+        _ => Err(Failure::NoSeparator(word)),
+    }
 }
 
 fn csv_options<'a>(alloc: Global, matches: &ArgMatches<'a>) -> Result<CsvOptions, Failure<'a>> {
@@ -214,9 +157,7 @@ fn csv_options<'a>(alloc: Global, matches: &ArgMatches<'a>) -> Result<CsvOptions
 }
 
 // The width that is given, or that of the screen, or one that cuts nothing.
-fn width_given<'a>(screen: Option<usize>, word: Option<&'a str>) -> Result<usize, Failure<'a>>
-    ensures { IfOk result (IsWidth screen (lent word.entry)) }
-{
+fn width_given<'a>(screen: Option<usize>, word: Option<&'a str>) -> Result<usize, Failure<'a>> {
     let Some(word) = word else {
         return Ok(screen.unwrap_or(usize::MAX));
     };
@@ -226,20 +167,13 @@ fn width_given<'a>(screen: Option<usize>, word: Option<&'a str>) -> Result<usize
     }
 }
 
-fn form_named(word: &str, width: usize) -> Option<TextForm> {
-    match word {
-        "csv" => Some(TextForm::Csv),
-        "json" => Some(TextForm::Json),
-        "table" => Some(TextForm::Layout(width)),
-        _ => None,
-    }
-}
-
 fn form<'a>(screen: Option<usize>, matches: &ArgMatches<'a>) -> Result<TextForm, Failure<'a>> {
     let width = width_given(screen, matches.get_str("width"))?;
     match matches.get_str("as") {
-        None => Ok(TextForm::Csv),
-        Some(word) => form_named(word, width).ok_or(Failure::NoWord("--as", word)),
+        None | Some("csv") => Ok(TextForm::Csv),
+        Some("json") => Ok(TextForm::Json),
+        Some("table") => Ok(TextForm::Layout(width)),
+        Some(word) => Err(Failure::NoWord("--as", word)),
     }
 }
 
@@ -286,18 +220,14 @@ fn order_given<'a>(how: JoinType, word: Option<&'a str>) -> Result<MaintainOrder
     meant("--order", word, word.and_then(order_of), absent)
 }
 
-fn slice_in(word: &str) -> Option<(i64, usize)>
-    ensures { IfSome result (IsOffsetAndLength word.now) }
-{
+fn slice_in(word: &str) -> Option<(i64, usize)> {
     let (offset, length) = word.split_once(',')?;
     let offset = offset.parse::<i64>().ok()?;
     let length = length.parse::<usize>().ok()?;
     Some((offset, length))
 }
 
-fn slice_given<'a>(word: Option<&'a str>) -> Result<Option<(i64, usize)>, Failure<'a>>
-    ensures { IfOk result (IsSlice (lent word.entry)) }
-{
+fn slice_given<'a>(word: Option<&'a str>) -> Result<Option<(i64, usize)>, Failure<'a>> {
     let Some(word) = word else {
         return Ok(None);
     };
@@ -308,33 +238,21 @@ fn slice_given<'a>(word: Option<&'a str>) -> Result<Option<(i64, usize)>, Failur
 }
 
 // Whether the word was used without a name.
-fn stands_alone(matches: &ArgMatches<'_>, word: &str) -> bool
-    ensures { result ≡ stands_alone (found_of matches.now) word.now }
-{
-    let Some(uses) = matches.get_raw_occurrences(word) else {
-        return false;
-    };
-    for names in uses {
-        if names.is_empty() {
-            return true;
-        }
+fn stands_alone(matches: &ArgMatches<'_>, word: &str) -> bool {
+    match matches.get_raw_occurrences(word) {
+        Some(mut uses) => uses.any(|names| names.is_empty()),
+        None => false,
     }
-    false
 }
 
-// The first name that is no key.
+// The place of the first name that is no key.
 fn no_key(
     alloc: Global,
     keys: &[PlSmallStr],
     names: &[PlSmallStr],
-) -> Result<Option<PlSmallStr>, OutOfMemory> {
+) -> Result<Option<usize>, OutOfMemory> {
     let known = name_set(alloc, keys)?;
-    for name in names {
-        if !known.contains(name) {
-            return Ok(Some(name.copy(alloc)?));
-        }
-    }
-    Ok(None)
+    Ok(names.iter().position(|name| !known.contains(name)))
 }
 
 // In which keys absent fields match: in all where no key is named at some use, else in those that are named.
@@ -346,11 +264,12 @@ fn nulls_given<'a>(
     if stands_alone(matches, "join-nulls") {
         return Ok(JoinNulls::All(true));
     }
-    let Some(names) = names_given(alloc, matches.get_strs("join-nulls"))? else {
+    let Some(words) = matches.get_strs("join-nulls") else {
         return Ok(JoinNulls::All(false));
     };
+    let names = names_of(alloc, Part::Whole, Some(words))?;
     match no_key(alloc, keys, &names)? {
-        Some(name) => Err(Failure::NoKey(name)),
+        Some(place) => Err(Failure::NoKey(words.get(place).copied().unwrap_or(""))),
         None => Ok(JoinNulls::Each(named_flags(alloc, keys, &names)?)),
     }
 }
@@ -443,95 +362,5 @@ pub(crate) fn pivot_call<'a>(
         sort_columns: matches.get_flag("sort-columns"),
         agg: aggregate_given(matches.get_str("agg"))?,
         separator: text_given(alloc, matches.get_str("name-separator"))?,
-    })
-}
-
-/// A file under the name that a plan has for its table.
-#[derive(Drop)]
-pub(crate) struct NamedFile<'a> {
-    pub(crate) name: PlSmallStr,
-    pub(crate) file: &'a str,
-}
-
-// The name is the part before the first `=`.
-fn named_file<'a>(alloc: Global, word: &'a str) -> Result<NamedFile<'a>, Failure<'a>> {
-    if !word.contains('=') {
-        return Err(Failure::NoNamedFile(word));
-    }
-    Ok(NamedFile {
-        name: PlSmallStr::from_str(alloc, name_in(Part::BeforeSign, word))?,
-        file: name_in(Part::BehindSign, word),
-    })
-}
-
-fn files_given<'a>(
-    alloc: Global,
-    words: Option<&[&'a str]>,
-) -> Result<Vec<NamedFile<'a>>, Failure<'a>> {
-    let mut files = Vec::new(alloc);
-    for word in words.unwrap_or(&[]) {
-        files.push(named_file(alloc, word)?)?;
-    }
-    Ok(files)
-}
-
-fn names_in(alloc: Global, files: &[NamedFile<'_>]) -> Result<Vec<PlSmallStr>, OutOfMemory> {
-    let mut names = Vec::with_capacity(alloc, files.len())?;
-    for file in files {
-        names.push(file.name.copy(alloc)?)?;
-    }
-    Ok(names)
-}
-
-/// The files of a plan's tables, of which no two have one name.
-pub(crate) fn named_files<'a>(
-    alloc: Global,
-    matches: &ArgMatches<'a>,
-) -> Result<Vec<NamedFile<'a>>, Failure<'a>> {
-    let files = files_given(alloc, matches.get_strs("TABLES"))?;
-    let names = names_in(alloc, &files)?;
-    match check_repeated(alloc, &names) {
-        Ok(()) => Ok(files),
-        Err(PolarsError::Duplicate(name)) => Err(Failure::NamedTwice(name)),
-        Err(_) => Err(Failure::OutOfMemory),
-    }
-}
-
-pub(crate) fn delta_call<'a>(
-    alloc: Global,
-    matches: &ArgMatches<'a>,
-) -> Result<DeltaCall, Failure<'a>>
-    ensures { IfOk result (AsksDelta (found_of matches.now)) }
-{
-    let key = needed(matches, "on")?;
-    if key.is_empty() {
-        return Err(Failure::EmptyOn);
-    }
-    Ok(DeltaCall {
-        left_on: PlSmallStr::from_str(alloc, name_in(Part::BeforeSign, key))?,
-        right_on: PlSmallStr::from_str(alloc, name_in(Part::BehindSign, key))?,
-        join_nulls: matches.get_flag("join-nulls"),
-    })
-}
-
-fn aggs_given<'a>(alloc: Global, words: Option<&[&'a str]>) -> Result<Vec<GroupAgg>, Failure<'a>> {
-    let mut aggs = Vec::new(alloc);
-    for word in words.unwrap_or(&[]) {
-        match agg_of_word(alloc, word)? {
-            Some(agg) => aggs.push(agg)?,
-            None => return Err(Failure::NoAgg(word)),
-        }
-    }
-    Ok(aggs)
-}
-
-pub(crate) fn group_call<'a>(
-    alloc: Global,
-    matches: &ArgMatches<'a>,
-) -> Result<GroupCall, Failure<'a>> {
-    Ok(GroupCall {
-        by: names_of(alloc, Part::Whole, matches.get_strs("by"))?,
-        aggs: aggs_given(alloc, matches.get_strs("agg"))?,
-        sorts: matches.get_flag("sort"),
     })
 }

@@ -5,5 +5,3 @@ pub mod OneTable
 pub mod NoClash
 pub mod TextFaults
 pub mod Undecimal
-pub mod Each
-pub mod Dues

@@ -1,4 +1,3 @@
 pub mod Columns
 pub mod Promise
-pub mod Tables
 pub mod Texts

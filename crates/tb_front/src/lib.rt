@@ -4,23 +4,15 @@
 mod asking;
 mod decimals;
 mod fault;
-mod json;
 mod keys;
 mod marking;
 mod nulls;
-mod numbers;
 mod options;
 mod pivoting;
 mod reading;
 mod writing;
 
 pub use asking::{dummies_text, join_texts, pivot_text, unpivot_text};
-pub use decimals::check_undecimal;
-pub use fault::{Comparison, FrontFault, NodeTitle, Place, PlanPart, StepCause};
-pub use json::value_in;
-pub use keys::{check_keys, type_read};
+pub use fault::{Comparison, FrontFault, Place};
 pub use nulls::named_flags;
-pub use numbers::next_number;
 pub use options::{TextForm, TextOptions};
-pub use reading::{TwoTables, check_types, read_at, read_table, read_tables};
-pub use writing::{refused, text_of_table, written};

@@ -9,14 +9,12 @@ ghost use Rattle.tb_csv.specs.Promise.Records.{Record, records_of};
 ghost use Rattle.tb_csv.specs.Promise.Tables.{csv_table};
 ghost use Rattle.tb_csv.specs.Read.{IsLevel, IsRead};
 ghost use Rattle.tb_front.specs.Promise.Asked.{table_fault, tables_faults};
-ghost use Rattle.tb_front.specs.Promise.Due.{Gives};
 ghost use Rattle.tb_front.specs.Promise.Faults.{Settles, names_in, no_records, no_table, unknown_type};
-ghost use Rattle.tb_front.specs.Promise.Texts.{joined_table, table_at, table_in};
+ghost use Rattle.tb_front.specs.Promise.Texts.{joined_table, table_in};
 ghost use Rattle.tb_front.specs.Texts.{fault_in};
 
 use crate::fault::{FrontFault, Place};
 use std::alloc::Global;
-use std::thread::Threads;
 use tb_csv::{
     CsvFault, CsvOptions, Records, TypeOf, fault_line, records_of_csv, table_of_records,
     types_with_keys,
@@ -55,7 +53,6 @@ fn read_records(
 
 // The table of the records of the text at this place.
 fn make_table(
-    rt: &(impl Threads + Sync),
     alloc: Global,
     separator: u8,
     place: Place,
@@ -69,7 +66,7 @@ fn make_table(
     ensures table { (rs : List Record) → IsRead records.now rs
         → IfOk result (λ t. table_of t ≡ csv_table types.now rs) }
 {
-    match table_of_records(rt, alloc, records, types) {
+    match table_of_records(alloc, records, types) {
         Ok(table) => Ok(table),
         Err(fault) => Err(fault_in(separator, place, text, fault)),
     }
@@ -81,12 +78,8 @@ fn names_of(records: &Records) -> &[PlSmallStr]
     records.names()
 }
 
-/// Refuses the first type of a name that no column has.
-///
-/// # Errors
-///
-/// `UnknownType` of the first such name, or `OutOfMemory`.
-pub fn check_types(
+// Refuses the first type of a name that no column has.
+fn check_types(
     alloc: Global,
     types: &[TypeOf],
     names: &[PlSmallStr],
@@ -105,13 +98,7 @@ pub fn check_types(
 }
 
 /// The table of a text, which is let go.
-///
-/// # Errors
-///
-/// The first of these that holds, or `OutOfMemory`: 1 `NoTable`, as `records_of_csv` refuses the text, 2 `UnknownType`, 3 `NoTable`,
-/// where a field isn't of the type of its column.
-pub fn read_table(
-    rt: &(impl Threads + Sync),
+pub(crate) fn read_table(
     alloc: Global,
     options: &CsvOptions,
     text: Vec<u8>,
@@ -122,7 +109,6 @@ pub fn read_table(
     let records = read_records(alloc, options, Place::First, &text)?;
     check_types(alloc, &options.types, names_of(&records), &[])?;
     make_table(
-        rt,
         alloc,
         options.separator,
         Place::First,
@@ -132,41 +118,15 @@ pub fn read_table(
     )
 }
 
-/// The table of the text at this place, which is let go. Types are given for some names, of which any may be none of its columns'.
-///
-/// # Errors
-///
-/// `NoTable`, as `records_of_csv` refuses the text, or else where a field isn't of the type of its column, or `OutOfMemory`.
-pub fn read_at(
-    rt: &(impl Threads + Sync),
-    alloc: Global,
-    options: &CsvOptions,
-    place: Place,
-    text: Vec<u8>,
-) -> Result<DataFrame, FrontFault>
-    ensures { Gives table_of result (table_at options.now place text.items) }
-{
-    let separator = options.separator;
-    match read_records(alloc, options, place, &text) {
-        Ok(records) => make_table(rt, alloc, separator, place, &text, &records, &options.types),
-        Err(fault) => Err(fault),
-    }
-}
-
 /// Two tables, the left one first.
 #[derive(Drop)]
-pub struct TwoTables {
-    pub left: DataFrame,
-    pub right: DataFrame,
+pub(crate) struct TwoTables {
+    pub(crate) left: DataFrame,
+    pub(crate) right: DataFrame,
 }
 
 /// The tables of two texts that are joined by the keys of these names, whose types are told from both texts. The texts are let go.
-///
-/// # Errors
-///
-/// The first five of `join_texts`, or `OutOfMemory`.
-pub fn read_tables(
-    rt: &(impl Threads + Sync),
+pub(crate) fn read_tables(
     alloc: Global,
     options: &CsvOptions,
     left: Vec<u8>,
@@ -190,17 +150,8 @@ pub fn read_tables(
     let left_types = types_with_keys(alloc, &first, &second, given, left_on, right_on)?;
     let right_types = types_with_keys(alloc, &second, &first, given, right_on, left_on)?;
     let separator = options.separator;
-    let left = make_table(
-        rt,
-        alloc,
-        separator,
-        Place::First,
-        &left,
-        &first,
-        &left_types,
-    )?;
+    let left = make_table(alloc, separator, Place::First, &left, &first, &left_types)?;
     let right = make_table(
-        rt,
         alloc,
         separator,
         Place::Second,

@@ -1,7 +1,5 @@
 pub mod NodeMembers
 pub mod ByMembers
-pub mod TableRows
 pub mod Asked
-pub mod Claims
-pub mod Stages
+pub mod Zipped
 pub mod TwoForms

@@ -8,6 +8,8 @@ mod columns;
 #[cfg(test)]
 mod counted;
 #[cfg(test)]
+mod group_parts;
+#[cfg(test)]
 mod grouping;
 #[cfg(test)]
 mod merging;
@@ -21,8 +23,6 @@ mod row_keys;
 mod small_calls;
 #[cfg(test)]
 mod tables;
-#[cfg(test)]
-mod texts;
 #[cfg(test)]
 mod views;
 #[cfg(test)]

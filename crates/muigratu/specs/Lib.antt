@@ -1,4 +1,0 @@
-pub mod Deltas
-pub mod Reading
-pub mod Slices
-pub mod Words

@@ -1,4 +1,0 @@
-pub mod Changes
-pub mod Deltas
-pub mod Keeping
-pub mod Promise

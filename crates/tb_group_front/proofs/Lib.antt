@@ -1,4 +1,0 @@
-pub mod Compared
-pub mod Faults
-pub mod Parted
-pub mod Sorts
