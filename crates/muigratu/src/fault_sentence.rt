@@ -2,9 +2,9 @@
 
 use crate::sentences::shown;
 use std::fmt;
-use tb_request::{Form, MAX_RUN_VALUES, Reason, Word};
+use tb_request::{MAX_RUN_VALUES, Reason};
 use tb_value::IsSorted;
-use tb_why::{Expected, Fault, Place, Step};
+use tb_why::{Expected, Fault, Form, Place, Step, Word};
 
 fn reason_word(reason: Reason) -> &'static str {
     match reason {
@@ -27,8 +27,6 @@ fn words(word: Word) -> &'static str {
         Word::Order => "\"none\", \"left\", \"right\", \"left_right\" or \"right_left\"",
         Word::Sorted => "\"ascending\" or \"descending\"",
         Word::Aggregate => "\"first\", \"last\", \"sum\", \"min\", \"max\" or \"count\"",
-        Word::Side => "\"left\" or \"right\"",
-        Word::Test => "\"is_null\" or \"is_not_null\"",
     }
 }
 
@@ -48,8 +46,6 @@ fn form_words(form: Form) -> &'static str {
         Form::Count => "a whole number from 0 to 4294967295",
         Form::Workers => "a whole number from 1 to 1024",
         Form::Divisor => "a whole number from 1 to 4294967295",
-        Form::Test => "\"is_null\", \"is_not_null\", {\"eq\": value} or {\"less\": value}",
-        Form::Compared => "true, false, a text or a whole number of 64 bits",
         Form::Word(word) => words(word),
     }
 }

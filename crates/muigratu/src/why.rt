@@ -8,7 +8,17 @@ use clap::ArgMatches;
 use std::alloc::Global;
 use std::io::Input;
 use std::rt::Files;
-use tb_why::{command_named, why_not};
+use tb_why::{Command, why_not};
+
+fn command_of(word: &str) -> Option<Command> {
+    match word {
+        "join" => Some(Command::Join),
+        "unpivot" => Some(Command::Unpivot),
+        "dummies" => Some(Command::Dummies),
+        "pivot" => Some(Command::Pivot),
+        _ => None,
+    }
+}
 
 /// Tells whether the file holds a request of the command, or why not and where. The status is 0 or 3.
 pub(crate) fn tell_why<'a>(
@@ -17,7 +27,7 @@ pub(crate) fn tell_why<'a>(
     matches: &ArgMatches<'a>,
 ) -> Result<u8, Failure<'a>> {
     let word = needed(matches, "COMMAND")?;
-    let Some(command) = command_named(word) else {
+    let Some(command) = command_of(word) else {
         return Err(Failure::NoWord("COMMAND", word));
     };
     let file = needed(matches, "REQUEST")?;

@@ -3,12 +3,15 @@
 
 mod by_groups;
 mod counts;
+mod kept;
 pub mod laws;
 mod made;
+mod named;
 mod picks;
 mod running;
 mod sums;
 mod table;
 
 pub use by_groups::aggregated;
-pub use table::Aggregate;
+pub use kept::Kept;
+pub use table::{Aggregate, Form};

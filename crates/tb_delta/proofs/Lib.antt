@@ -1,12 +1,8 @@
 mod Agreeing
-mod Changed
 mod Counted
 mod Given
-mod Gone
 mod Grouped
 mod KeptViews
-mod LateGroups
-mod LateIds
 mod Partners
 mod Placed
 mod PulledViews

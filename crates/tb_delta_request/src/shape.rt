@@ -4,14 +4,13 @@ ghost use Rattle.serde_json.specs.Find.{get};
 ghost use Rattle.tb_tree.specs.View.{view};
 ghost use Rattle.tb_json.specs.Promise.Lists.{as_list, each, list_of};
 ghost use Rattle.tb_request.specs.Lent.{written_view};
-ghost use Rattle.tb_delta_request.specs.Promise.Written.{of_two, delta_of, insert_of, remove_of, side_at, step_of};
+ghost use Rattle.tb_delta_request.specs.Promise.Written.{of_two, delta_of, insert_of, remove_of, side_at, side_named, step_of};
 ghost use Rattle.tb_delta_request.specs.Lent.{step_view, written_delta};
 
-use crate::known::{delta_members, insert_members, remove_members};
 use std::alloc::Global;
 use tb_request::{
     Format, WrittenColumn, count_of, format_of, has_only, into_array, into_member, name_at,
-    side_named, table_in, truth_at,
+    table_in, truth_at,
 };
 use tb_tree::Value;
 use tb_value::{OutOfMemory, PlSmallStr, Side};
@@ -32,6 +31,16 @@ pub(crate) struct WrittenDelta {
     pub right_on: PlSmallStr,
     pub join_nulls: bool,
     pub steps: Vec<WrittenStep>,
+}
+
+fn side_named(text: &str) -> Option<Side>
+    ensures { result ≡ side_named text.now }
+{
+    match text {
+        "left" => Some(Side::Left),
+        "right" => Some(Side::Right),
+        _ => None,
+    }
 }
 
 fn side_at(object: &Value, name: &str) -> Option<Side>
@@ -84,7 +93,7 @@ fn insert_of(
     ensures { IfOk result (λ o. option_map step_view o
         ≡ insert_of (map written_view left.now) (map written_view right.now) (view value)) }
 {
-    if !has_only(&value, insert_members()) {
+    if !has_only(&value, &["insert", "row"]) {
         return Ok(None);
     }
     let Some(side) = side_at(&value, "insert") else {
@@ -103,7 +112,7 @@ fn insert_of(
 fn remove_of(value: &Value) -> Option<WrittenStep>
     ensures { option_map step_view result ≡ remove_of (view value.now) }
 {
-    if !has_only(value, remove_members()) {
+    if !has_only(value, &["id", "remove"]) {
         return None;
     }
     let id = count_of(value.get("id")?)?;
@@ -192,7 +201,18 @@ fn taken_members(object: Value) -> TakenMembers
 pub(crate) fn delta_of(alloc: Global, value: Value) -> Result<Option<WrittenDelta>, OutOfMemory>
     ensures { IfOk result (λ o. option_map written_delta o ≡ delta_of (view value)) }
 {
-    if !has_only(&value, delta_members()) {
+    if !has_only(
+        &value,
+        &[
+            "format",
+            "join_nulls",
+            "left",
+            "left_on",
+            "right",
+            "right_on",
+            "steps",
+        ],
+    ) {
         return Ok(None);
     }
     let (Some(format), Some(join_nulls)) = (format_of(&value), truth_at(&value, "join_nulls"))

@@ -11,6 +11,7 @@ mod once;
 mod order;
 mod part;
 mod parts;
+mod ranks;
 mod request;
 mod whole;
 

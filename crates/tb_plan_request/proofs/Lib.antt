@@ -1,5 +1,7 @@
 pub mod NodeMembers
 pub mod ByMembers
+pub mod TableRows
 pub mod Asked
-pub mod Zipped
+pub mod Claims
+pub mod Stages
 pub mod TwoForms

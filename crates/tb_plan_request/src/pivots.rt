@@ -7,7 +7,6 @@ ghost use Rattle.tb_plan.specs.Asked.{pivot_asked};
 ghost use Rattle.tb_plan_request.specs.Lent.{pivot_view};
 ghost use Rattle.tb_plan_request.specs.Promise.Written.{pivot_in, pivot_of};
 
-use crate::known::pivot_args_members;
 use std::alloc::Global;
 use tb_agg::Aggregate;
 use tb_calls::PivotCall;
@@ -21,7 +20,10 @@ use tb_value::OutOfMemory;
 fn pivot_in(alloc: Global, value: &Value) -> Result<Option<PivotCall>, OutOfMemory>
     ensures { IfOk result (λ o. option_map pivot_view o ≡ pivot_in (view value.now)) }
 {
-    if !has_only(value, pivot_args_members()) {
+    if !has_only(
+        value,
+        &["agg", "index", "on", "separator", "sort_columns", "values"],
+    ) {
         return Ok(None);
     }
     let Some(on) = texts_at(alloc, value, "on")? else {

@@ -60,3 +60,51 @@ frame_refused t (ColumnNotFound n) h = names_repeat t (ColumnNotFound n) (λ p. 
 frame_refused t (InvalidOperation c) h = names_repeat t (InvalidOperation c) (λ p. cc) (λ p. cc) h
 frame_refused t (ComputeError c) h = names_repeat t (ComputeError c) (λ p. cc) (λ p. cc) h
 frame_refused t SchemaMismatch h = names_repeat t SchemaMismatch (λ p. cc) (λ p. cc) h
+
+-- ---- two tables
+
+abbrev two : Bool → Bool → Bool → Bool → Result ⊤ Reason
+two a b c d = only_if (a && (b && true)) why.Heights >>= λ _. only_if (c && (d && true)) why.Name
+
+left_is_one : (a b c d : Bool) → one a c ≡ Ok tt → two a b c d ≡ one b d
+left_is_one true b true d h = refl
+left_is_one true b false d h = absurd (cc)
+left_is_one false b c d h = absurd (cc)
+
+right_is_one : (a b c d : Bool) → one b d ≡ Ok tt → two a b c d ≡ one a c
+right_is_one a true c true h = refl
+right_is_one a true c false h = absurd (cc)
+right_is_one a false c d h = absurd (cc)
+
+names_last : (a b c d : Bool) (reason : Reason) → one a c ≡ Err why.Name → one b d ≡ Err reason → two a b c d ≡ Err reason
+names_last true true false false reason p q = q
+names_last true true false true reason p q = absurd (cc)
+names_last true false false d reason p q = q
+names_last true b true d reason p q = absurd (cc)
+names_last false b c d reason p q = absurd (cc)
+
+heights_first : (a b c d : Bool) (reason : Reason) → reason ≢ why.Name → one a c ≡ Err reason → two a b c d ≡ Err reason
+heights_first false b c d reason p q = q
+heights_first true b false d reason p q = absurd (p (cc))
+heights_first true b true d reason p q = absurd (cc)
+
+-- the left one is a table
+pub left_passes : (l r : Table) → are_frames (l ∷ []) ≡ Ok tt → are_frames (l ∷ r ∷ []) ≡ are_frames (r ∷ [])
+unfolding are_frames
+left_passes l r h = left_is_one (are_level l) (are_level r) (are_distinct (names_of l)) (are_distinct (names_of r)) h
+
+-- the right one is a table
+pub right_passes : (l r : Table) → are_frames (r ∷ []) ≡ Ok tt → are_frames (l ∷ r ∷ []) ≡ are_frames (l ∷ [])
+unfolding are_frames
+right_passes l r h = right_is_one (are_level l) (are_level r) (are_distinct (names_of l)) (are_distinct (names_of r)) h
+
+-- neither is, the left one for its names
+pub left_name_last : (e : RequestFault) (l r : Table) → are_frames (l ∷ []) ≡ Err why.Name → FaultIs e (are_frames (r ∷ [])) → FaultIs e (are_frames (l ∷ r ∷ []))
+unfolding are_frames
+left_name_last fault.OutOfMemory l r p h = tt
+left_name_last (fault.NoRequest reason) l r p h = names_last (are_level l) (are_level r) (are_distinct (names_of l)) (are_distinct (names_of r)) reason p h
+
+-- the left one is none for another reason
+pub left_first : (reason : Reason) (l r : Table) → reason ≢ why.Name → are_frames (l ∷ []) ≡ Err reason → are_frames (l ∷ r ∷ []) ≡ Err reason
+unfolding are_frames
+left_first reason l r p h = heights_first (are_level l) (are_level r) (are_distinct (names_of l)) (are_distinct (names_of r)) reason p h

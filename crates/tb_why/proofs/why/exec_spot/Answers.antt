@@ -1,0 +1,11 @@
+use Rattle.std.proofs.Common.{◌≡◌, refl, subst, List, [], ◌∷◌}
+use Rattle.tb_tree.specs.View.{item_view}
+use Rattle.tb_why.specs.Members.{Known, known_view, members_spot, exec_with}
+use Rattle.tb_why.specs.Spots.{Finds}
+use Rattle.tb_why.proofs.Tests.{cons_is}
+use Rattle.tb_why.proofs.why.exec_spot.Goals as goal
+
+pub returns : goal.returns
+returns c =
+    let same : known_view c.needed.result ∷ known_view c.needed-2.result ∷ known_view c.needed-3.result ∷ known_view c.needed-4.result ∷ known_view c.needed-5.result ∷ [] ≡ exec_with c.args.workers c.args.divisor = cons_is c.needed.ensures (cons_is c.needed-2.ensures (cons_is c.needed-3.ensures (cons_is c.needed-4.ensures (cons_is c.needed-5.ensures refl)))) in
+    subst (λ (ks : List Known). Finds c.members_spot.result (members_spot ks (item_view c.args.exec))) same c.members_spot.ensures
