@@ -1,7 +1,5 @@
 pub mod Extremes
-pub mod Keeping
 pub mod Outcomes
-pub mod Own
 pub mod Picked
 pub mod Ranges
 pub mod Steps

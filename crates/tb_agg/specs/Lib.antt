@@ -1,8 +1,5 @@
-pub mod Forms
 pub mod Grouped
-pub mod Kept
 pub mod Laws
-pub mod Named
 pub mod Outcome
 pub mod Picking
 pub mod Running

@@ -3,17 +3,14 @@ ghost use Rattle.std.specs.Prelude.{◌≡◌, ◌≤ℤ◌, ◌+ℤ◌, pos, ne
 ghost use Rattle.tb_value.specs.Promise.Pairs.{row_numbers};
 ghost use Rattle.tb_value.specs.See.{lent_value};
 ghost use Rattle.tb_chunk.specs.Promise.Col.{values};
-ghost use Rattle.tb_rows.specs.Names.{name_of};
-ghost use Rattle.tb_rows.specs.Promise.Rows.{row_value};
-ghost use Rattle.tb_agg.specs.Promise.Aggregates.{number, total};
-ghost use Rattle.tb_agg.specs.Grouped.{group_rows, AreGroupsOf};
-ghost use Rattle.tb_agg.specs.Named.{AreRowsOf};
+ghost use Rattle.tb_agg.specs.Promise.Aggregates.{number};
+ghost use Rattle.tb_agg.specs.Grouped.{AreGroupsOf};
+ghost use Rattle.tb_agg.specs.Outcome.{totals};
 ghost use Rattle.tb_agg.specs.Running.{sum_so_far};
 
-use crate::named::row_at;
 use crate::running::{Running, plus};
 use std::alloc::Global;
-use tb_rows::{Groups, RowNames};
+use tb_rows::Groups;
 use tb_store::Series;
 use tb_value::{OutOfMemory, ValueRef};
 
@@ -37,28 +34,21 @@ fn plus_value(running: Running, value: ValueRef<'_>) -> Running
     plus(running, number(value))
 }
 
-// The sum of each group, whatever the sums on the way are, of rows that are named.
+// The sum of each group, whatever the sums on the way are.
 pub(crate) fn sums_of(
     alloc: Global,
     column: &Series,
-    names: RowNames<'_>,
     groups: &Groups,
 ) -> Result<Vec<Running>, OutOfMemory>
-    requires rows { AreRowsOf names (length groups.now.numbers.items) (length (values column.now)) }
-    requires groups { AreGroupsOf (length groups.now.numbers.items) groups.now }
-    ensures { IfOk result (λ v. map sum_so_far v.items
-        ≡ map
-        (λ k. total
-        (map (row_value (values column.now)) (group_rows (name_of names.entry) groups.now k)))
-        (row_numbers (length groups.now.firsts.items))) }
+    requires { AreGroupsOf (length (values column.now)) groups.now }
+    ensures { IfOk result (λ v. map sum_so_far v.items ≡ totals groups.now (values column.now)) }
 {
-    let numbers = groups.numbers();
+    let rows = column.len();
     let zero = Running { low: 0, wraps: 0 };
     let mut sums = vec![in alloc; zero; groups.firsts().len()]?;
-    for place in 0..numbers.len() {
-        let group = numbers[place] as usize;
-        let row = row_at(names, place) as usize;
-        sums[group] = plus_value(sums[group], column.get(row));
+    for row in 0..rows {
+        let place = groups.numbers()[row] as usize;
+        sums[place] = plus_value(sums[place], column.get(row));
     }
     Ok(sums)
 }

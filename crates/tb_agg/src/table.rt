@@ -2,13 +2,12 @@
 ghost use Rattle.std.specs.Prelude.{◌≡◌, is_some, option_map};
 ghost use Rattle.tb_value.specs.Promise.Kind as kind;
 ghost use Rattle.tb_value.specs.SeeKind.{kind_of};
-ghost use Rattle.tb_agg.specs.Forms.{form_of};
 ghost use Rattle.tb_agg.specs.Promise.Aggregates.{result_kind, sum_kind};
 
 use tb_value::DataType;
 
 /// What one value of a group of values is. Sum, Min and Max skip nulls.
-#[derive(Clone, Copy, PartialEq, Eq, PartialOrd, Ord, Debug)]
+#[derive(Clone, Copy, PartialEq, Eq, Debug)]
 pub enum Aggregate {
     /// The value of the group's first row, which may be Null.
     First,
@@ -23,17 +22,6 @@ pub enum Aggregate {
     Max,
     /// The number of rows, those with nulls too.
     Count,
-}
-
-/// What is kept of each group of rows, of which the values of aggregates are made.
-#[derive(Clone, Copy, PartialEq, Eq, Debug)]
-pub enum Form {
-    /// A row whose value stands for the group.
-    Picked,
-    /// The number of rows.
-    Counted,
-    /// The exact sum.
-    Summed,
 }
 
 // The type of a number of rows.
@@ -70,17 +58,6 @@ pub(crate) fn sum_type(dtype: &DataType) -> Option<DataType>
 }
 
 impl Aggregate {
-    /// What is kept for this aggregate.
-    pub fn form(self) -> Form
-        ensures { result ≡ form_of self }
-    {
-        match self {
-            Aggregate::First | Aggregate::Last | Aggregate::Min | Aggregate::Max => Form::Picked,
-            Aggregate::Count => Form::Counted,
-            Aggregate::Sum => Form::Summed,
-        }
-    }
-
     /// Whether columns of the type have this aggregate: First, Last and Count of all types, Min and Max of those by which
     /// rows can be joined, Sum of whole numbers, Boolean and Duration.
     pub fn takes(self, dtype: &DataType) -> bool

@@ -116,7 +116,7 @@ given_refusal l r a b nulls x y = λ t. columns_refusal (by_names (table_back l 
 
 -- a view without rows
 pub kept_none : (l r : Table) (a b : Name) (nulls : Bool) (gs : Groups) → IsTable l → IsTable r → ((d : Side) (k : RowKey) → ids_at gs d k ≡ [])
-    → columns_refusal (by_names l r (a ∷ []) (b ∷ []) (kept_args nulls)) ≡ None → IsKept (given_columns l r a b nulls) gs
+    → columns_refusal (by_names l r (a ∷ []) (b ∷ []) (kept_args nulls)) ≡ None → IsKept (given_columns l r a b nulls) (ids_at gs)
 kept_none l r a b nulls gs x y none valid = record {
   left = empty l a x;
   right = empty r b y;
@@ -133,7 +133,7 @@ kept_none l r a b nulls gs x y none valid = record {
       distinct = subst (λ (ns : List Name). AllPairs (λ (p q : Name). p ≡ q → ⊥) ns) (sym (map-map (λ (c : Name × Kind). c.0) (λ (c : TableColumn). (c.name, c.kind)) t)) is.distinct;
     }
 
-    grouped : AreGrouped (given_columns l r a b nulls) gs
+    grouped : AreGrouped (given_columns l r a b nulls) (ids_at gs)
     grouped side.Left k = none side.Left k
     grouped side.Right k = none side.Right k
 

@@ -11,18 +11,17 @@ use Rattle.tb_value.specs.See.{datum}
 use Rattle.tb_value.specs.declared.error.Side.{Side}
 use Rattle.tb_value.specs.declared.error.Side.TheVariants as side
 use Rattle.tb_value.specs.declared.limits.TheConstants.{MAX_ROWS}
-use Rattle.tb_delta.specs.Groups.{ids_at, is_side}
+use Rattle.tb_delta.specs.Groups.{is_side}
 use Rattle.tb_delta.specs.Inside.{AreGrouped, AreRows, IsKept, agreeing, key_of}
 use Rattle.tb_delta.specs.Promise.State.{Row, SideState, State, appended, of_side, on_side}
-use Rattle.tb_delta.specs.declared.groups.Groups.{Groups}
 use Rattle.tb_delta.specs.declared.key.RowKey.{RowKey}
 
 abbrev number : Row → ℕ
 number r = r.0
 
-pub rows_of_side : (s : State) (gs : Groups) → IsKept s gs → (d : Side) → AreRows (of_side d s)
-rows_of_side s gs x side.Left = x.left
-rows_of_side s gs x side.Right = x.right
+pub rows_of_side : (s : State) (ids : Side → RowKey → List ℕ) → IsKept s ids → (d : Side) → AreRows (of_side d s)
+rows_of_side s ids x side.Left = x.left
+rows_of_side s ids x side.Right = x.right
 
 -- ids of rows that ascend
 pub numbers_ascend : (xs : List Row) → AllPairs (λ (a b : Row). a.0 < b.0) xs → AllPairs ◌<◌ (map number xs)
@@ -38,11 +37,11 @@ agreeing_ascend nulls s k x = numbers_ascend (filter (λ (r : Row). agrees nulls
 pub agreeing_below : (nulls : Bool) (s : SideState) (k : Datum) → AreRows s → All (λ i. i < s.ever) (agreeing nulls s k)
 agreeing_below nulls s k x = All-map (λ i. i < s.ever) number (filter (λ (r : Row). agrees nulls (key_of s r.1) k) s.rows) (All-filter (λ (r : Row). agrees nulls (key_of s r.1) k) (λ (r : Row). r.0 < s.ever) s.rows x.below)
 
-pub groups_ascend : (s : State) (gs : Groups) → IsKept s gs → (d : Side) (k : RowKey) → AllPairs ◌<◌ (ids_at gs d k)
-groups_ascend s gs x d k = subst (λ (l : List ℕ). AllPairs ◌<◌ l) (sym (x.grouped d k)) (agreeing_ascend s.join_nulls (of_side d s) (datum k.value) (rows_of_side s gs x d))
+pub groups_ascend : (s : State) (ids : Side → RowKey → List ℕ) → IsKept s ids → (d : Side) (k : RowKey) → AllPairs ◌<◌ (ids d k)
+groups_ascend s ids x d k = subst (λ (l : List ℕ). AllPairs ◌<◌ l) (sym (x.grouped d k)) (agreeing_ascend s.join_nulls (of_side d s) (datum k.value) (rows_of_side s ids x d))
 
-pub groups_below : (s : State) (gs : Groups) → IsKept s gs → (d : Side) (k : RowKey) → All (λ i. i < (of_side d s).ever) (ids_at gs d k)
-groups_below s gs x d k = subst (λ (l : List ℕ). All (λ i. i < (of_side d s).ever) l) (sym (x.grouped d k)) (agreeing_below s.join_nulls (of_side d s) (datum k.value) (rows_of_side s gs x d))
+pub groups_below : (s : State) (ids : Side → RowKey → List ℕ) → IsKept s ids → (d : Side) (k : RowKey) → All (λ i. i < (of_side d s).ever) (ids d k)
+groups_below s ids x d k = subst (λ (l : List ℕ). All (λ i. i < (of_side d s).ever) l) (sym (x.grouped d k)) (agreeing_below s.join_nulls (of_side d s) (datum k.value) (rows_of_side s ids x d))
 
 pairs_push : {X : Type 0} (R : X → X → Type 0) (xs : List X) (y : X) → AllPairs R xs → All (λ x. R x y) xs → AllPairs R (xs ++ y ∷ [])
 pairs_push R [] y asc all = λ i j d less low. absurd (omega (arith, less, low))
@@ -74,10 +73,10 @@ agreeing_appended nulls s row k =
     at few false = sym (append-nil (map number few))
 
 -- the whole view, where the groups have taken the id
-pub kept_left : (s : State) (gs new : Groups) (row : List Datum) → IsKept s gs → FitsFields s.left.columns row → s.left.ever < MAX_ROWS
-    → ((d : Side) (k : RowKey) → ids_at new d k ≡ (if is_side side.Left d && agrees s.join_nulls (key_of s.left row) (datum k.value) then ids_at gs d k ++ s.left.ever ∷ [] else ids_at gs d k))
+pub kept_left : (s : State) (ids new : Side → RowKey → List ℕ) (row : List Datum) → IsKept s ids → FitsFields s.left.columns row → s.left.ever < MAX_ROWS
+    → ((d : Side) (k : RowKey) → new d k ≡ (if is_side side.Left d && agrees s.join_nulls (key_of s.left row) (datum k.value) then ids d k ++ s.left.ever ∷ [] else ids d k))
     → IsKept (on_side side.Left (appended row) s) new
-kept_left s gs new row x fits few put = record {
+kept_left s ids new row x fits few put = record {
   left = rows_appended s.left row x.left fits few;
   right = x.right;
   grouped = grouped;
@@ -90,10 +89,10 @@ kept_left s gs new row x fits few put = record {
         ∙ agreeing_appended s.join_nulls s.left row (datum k.value)
     grouped side.Right k = put side.Right k ∙ x.grouped side.Right k
 
-pub kept_right : (s : State) (gs new : Groups) (row : List Datum) → IsKept s gs → FitsFields s.right.columns row → s.right.ever < MAX_ROWS
-    → ((d : Side) (k : RowKey) → ids_at new d k ≡ (if is_side side.Right d && agrees s.join_nulls (key_of s.right row) (datum k.value) then ids_at gs d k ++ s.right.ever ∷ [] else ids_at gs d k))
+pub kept_right : (s : State) (ids new : Side → RowKey → List ℕ) (row : List Datum) → IsKept s ids → FitsFields s.right.columns row → s.right.ever < MAX_ROWS
+    → ((d : Side) (k : RowKey) → new d k ≡ (if is_side side.Right d && agrees s.join_nulls (key_of s.right row) (datum k.value) then ids d k ++ s.right.ever ∷ [] else ids d k))
     → IsKept (on_side side.Right (appended row) s) new
-kept_right s gs new row x fits few put = record {
+kept_right s ids new row x fits few put = record {
   left = x.left;
   right = rows_appended s.right row x.right fits few;
   grouped = grouped;
@@ -106,5 +105,5 @@ kept_right s gs new row x fits few put = record {
         ∙ agreeing_appended s.join_nulls s.right row (datum k.value)
     grouped side.Left k = put side.Left k ∙ x.grouped side.Left k
 
-pub kept_same : (s n : State) (gs new : Groups) → IsKept s gs → n ≡ s → ((d : Side) (k : RowKey) → ids_at new d k ≡ ids_at gs d k) → IsKept n new
-kept_same s n gs new x same stay = subst (λ (m : State). IsKept m new) (sym same) (record { left = x.left; right = x.right; grouped = λ d k. stay d k ∙ x.grouped d k; valid = x.valid })
+pub kept_same : (s n : State) (ids new : Side → RowKey → List ℕ) → IsKept s ids → n ≡ s → ((d : Side) (k : RowKey) → new d k ≡ ids d k) → IsKept n new
+kept_same s n ids new x same stay = subst (λ (m : State). IsKept m new) (sym same) (record { left = x.left; right = x.right; grouped = λ d k. stay d k ∙ x.grouped d k; valid = x.valid })

@@ -1,8 +1,12 @@
 mod Agreeing
+mod Changed
 mod Counted
 mod Given
+mod Gone
 mod Grouped
 mod KeptViews
+mod LateGroups
+mod LateIds
 mod Partners
 mod Placed
 mod PulledViews

@@ -11,10 +11,9 @@ use Rattle.tb_value.specs.Promise.Typed.{FitsFields}
 use Rattle.tb_value.specs.See.{datum}
 use Rattle.tb_value.specs.declared.error.Side.{Side}
 use Rattle.tb_value.specs.declared.error.Side.TheVariants as side
-use Rattle.tb_delta.specs.Groups.{ids_at, is_side, without}
+use Rattle.tb_delta.specs.Groups.{is_side, without}
 use Rattle.tb_delta.specs.Inside.{AreGrouped, AreRows, IsKept, agreeing, key_of, pulled_agrees}
 use Rattle.tb_delta.specs.Promise.State.{Row, SideState, State, on_side, row_of, taken_out}
-use Rattle.tb_delta.specs.declared.groups.Groups.{Groups}
 use Rattle.tb_delta.specs.declared.key.RowKey.{RowKey}
 use Rattle.tb_delta.proofs.Without.{without-absent}
 
@@ -103,10 +102,10 @@ rows_pulled s id x = record {
   distinct = x.distinct;
 }
 
-pub pulled_left : (s : State) (gs new : Groups) (id : ℕ) → IsKept s gs
-    → ((d : Side) (k : RowKey) → ids_at new d k ≡ (if is_side side.Left d && pulled_agrees s.join_nulls s.left (row_of s.left id) (datum k.value) then without id (ids_at gs d k) else ids_at gs d k))
+pub pulled_left : (s : State) (ids new : Side → RowKey → List ℕ) (id : ℕ) → IsKept s ids
+    → ((d : Side) (k : RowKey) → new d k ≡ (if is_side side.Left d && pulled_agrees s.join_nulls s.left (row_of s.left id) (datum k.value) then without id (ids d k) else ids d k))
     → IsKept (on_side side.Left (taken_out id) s) new
-pulled_left s gs new id x put = record { left = rows_pulled s.left id x.left; right = x.right; grouped = grouped; valid = x.valid }
+pulled_left s ids new id x put = record { left = rows_pulled s.left id x.left; right = x.right; grouped = grouped; valid = x.valid }
   where
     grouped : AreGrouped (on_side side.Left (taken_out id) s) new
     grouped side.Left k = put side.Left k
@@ -114,10 +113,10 @@ pulled_left s gs new id x put = record { left = rows_pulled s.left id x.left; ri
         ∙ agreeing_pulled s.join_nulls s.left id (datum k.value) x.left
     grouped side.Right k = put side.Right k ∙ x.grouped side.Right k
 
-pub pulled_right : (s : State) (gs new : Groups) (id : ℕ) → IsKept s gs
-    → ((d : Side) (k : RowKey) → ids_at new d k ≡ (if is_side side.Right d && pulled_agrees s.join_nulls s.right (row_of s.right id) (datum k.value) then without id (ids_at gs d k) else ids_at gs d k))
+pub pulled_right : (s : State) (ids new : Side → RowKey → List ℕ) (id : ℕ) → IsKept s ids
+    → ((d : Side) (k : RowKey) → new d k ≡ (if is_side side.Right d && pulled_agrees s.join_nulls s.right (row_of s.right id) (datum k.value) then without id (ids d k) else ids d k))
     → IsKept (on_side side.Right (taken_out id) s) new
-pulled_right s gs new id x put = record { left = x.left; right = rows_pulled s.right id x.right; grouped = grouped; valid = x.valid }
+pulled_right s ids new id x put = record { left = x.left; right = rows_pulled s.right id x.right; grouped = grouped; valid = x.valid }
   where
     grouped : AreGrouped (on_side side.Right (taken_out id) s) new
     grouped side.Right k = put side.Right k

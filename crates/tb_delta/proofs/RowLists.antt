@@ -1,6 +1,6 @@
 -- The rows of a side as entries of a map, and as the rows of a state.
-use Rattle.std.proofs.Common.{◌≡◌, ℕ, suc, ◌<◌, Bool, true, cond, not, nat_eq, nat_cmp, List, [], ◌∷◌, ◌++◌, length, get_or, map, Option, Some, refl, ap, arith, sym, ◌∙◌, subst, ⊎_elim}
-use Rattle.std.specs.Prelude.{filter, option_map, unwrap_or, All, AllPairs}
+use Rattle.std.proofs.Common.{◌≡◌, ℕ, suc, ◌<◌, Bool, true, cond, not, nat_eq, nat_cmp, List, [], ◌∷◌, ◌++◌, length, get_or, map, Option, Some, None, refl, ap, arith, sym, ◌∙◌, subst, ⊎_elim}
+use Rattle.std.specs.Prelude.{filter, option_map, unwrap_or, All, AllPairs, IfSome}
 use Rattle.std.specs.Map.{lookup, remove_entry}
 use Rattle.std.specs.BTreeMap.{insert_entry, is_at}
 use Rattle.std.specs.Ordering.{match_ordering}
@@ -64,3 +64,8 @@ looked {X} P test (e ∷ es) v all is = ⊎_elim
     subst P (ap (λ (o : Option X). unwrap_or o e.1) (sym same)) (all 0 e (omega arith)))
     (λ n. looked P test es v (λ k d low. all (suc k) d (omega (arith, low))) (is ∙ ap (λ b. cond b (Some e.1) (lookup test es)) n))
     (cases_Bool (test e.0))
+
+-- the same of what may be found
+pub looked_if : {X : Type 0} (P : X → Type 0) (test : ℕ → Bool) (es : List (ℕ × X)) (o : Option X) → All (λ (e : ℕ × X). P e.1) es → o ≡ lookup test es → IfSome o P
+looked_if P test es None all is = tt
+looked_if P test es (Some v) all is = looked P test es v all is

@@ -1,6 +1,7 @@
 -- The ids under a key.
 use Rattle.std.specs.Prelude.{ℕ, ◌<◌, Bool, true, false, not, nat_eq, List, [], filter, AllPairs, Option, Some, None}
 use Rattle.std.specs.BTreeMap.{get_by}
+use Rattle.std.specs.List.{list_any}
 use Rattle.std.specs.declared.cmp.Ordering.{Ordering}
 use Rattle.tb_value.specs.See.{datum}
 use Rattle.tb_value.specs.declared.error.Side.{Side}
@@ -36,6 +37,10 @@ ids_at gs s k = ids_in s (get_by (key_cmp k) gs.groups)
 -- all but one
 abbrev pub without : ℕ → List ℕ → List ℕ
 without id ids = filter (λ i. not (nat_eq id i)) ids
+
+-- all but those of a list
+abbrev pub without_all : List ℕ → List ℕ → List ℕ
+without_all gone ids = filter (λ i. not (list_any (nat_eq i) gone)) ids
 
 abbrev pub IsAscending : List ℕ → Type 0
 IsAscending ids = AllPairs ◌<◌ ids

@@ -49,8 +49,12 @@ abbrev pub stored : ℕ × StoredRow → Row
 stored e = (e.0, data_of e.1.values.items)
 
 abbrev pub side_state : SideRows → SideState
-side_state s = record
-    { columns = map part s.columns.items; key = s.on; rows = map stored s.rows.entries; ever = s.ever }
+side_state s = record {
+  columns = map part s.columns.items;
+  key = s.on;
+  rows = map stored s.rows.entries;
+  ever = s.ever;
+}
 
 -- the same sides without rows
 abbrev pub no_rows : SideState → SideState
@@ -79,14 +83,14 @@ pub record IsPlaced (rows : SideRows) : Type 0 where
   pub keyed : All (IsKeyed (side_state rows)) rows.rows.entries
 
 -- the ids under each key are those of the rows whose key agrees
-abbrev pub AreGrouped : State → Groups → Type 0
-AreGrouped s gs = (side : Side) (k : RowKey)
-    → ids_at gs side k ≡ agreeing s.join_nulls (of_side side s) (datum k.value)
+abbrev pub AreGrouped : State → (Side → RowKey → List ℕ) → Type 0
+AreGrouped s ids = (side : Side) (k : RowKey)
+    → ids side k ≡ agreeing s.join_nulls (of_side side s) (datum k.value)
 
-pub record IsKept (s : State) (gs : Groups) : Type 0 where
+pub record IsKept (s : State) (ids : Side → RowKey → List ℕ) : Type 0 where
   pub left : AreRows s.left
   pub right : AreRows s.right
-  pub grouped : AreGrouped s gs
+  pub grouped : AreGrouped s ids
   pub valid : view_refusal (emptied s) ≡ None
 
 -- the state of a view's parts
@@ -95,7 +99,7 @@ state_of left right join_nulls =
     record { left = side_state left; right = side_state right; join_nulls = join_nulls }
 
 pub record IsView (left right : SideRows) (join_nulls : Bool) (gs : Groups) : Type 0 where
-  pub kept : IsKept (state_of left right join_nulls) gs
+  pub kept : IsKept (state_of left right join_nulls) (ids_at gs)
   pub left_placed : IsPlaced left
   pub right_placed : IsPlaced right
 

@@ -1,6 +1,8 @@
 pub mod Keys
 pub mod Groups
+pub mod Late
 pub mod Inside
+pub mod Changing
 pub mod Stepped
 pub mod Running
 pub mod Laws

@@ -1,13 +1,16 @@
 //! For each key the ids of the rows of both sides that have it.
-ghost use Rattle.std.specs.Prelude.{◌≡◌, ◌&&◌, ◌++◌, ◌∷◌, [], IfOk, true, OnErr, OnOk, if◌then◌else◌};
+ghost use Rattle.std.specs.Prelude.{◌≡◌, ◌&&◌, ◌++◌, ◌∷◌, [], IfOk, nat_eq, not, true, OnErr, OnOk, if◌then◌else◌};
+ghost use Rattle.std.specs.List.{list_any};
+ghost use Rattle.std.specs.List.Sorted.{IsNonDecreasing};
 ghost use Rattle.tb_value.specs.See.{datum};
-ghost use Rattle.tb_delta.specs.Groups.{ids_at, is_side, side_ids, ties, without, AreAscending, IsAscending};
+ghost use Rattle.tb_delta.specs.Groups.{ids_at, is_side, side_ids, ties, without, without_all, AreAscending, IsAscending};
 ghost use Rattle.tb_delta.specs.declared.key.RowKey.{RowKey};
 ghost use Rattle.tb_value.specs.declared.error.Side.{Side};
 
 use crate::key::RowKey;
 use std::alloc::Global;
 use std::collections::BTreeMap;
+use std::mem;
 use tb_value::{OutOfMemory, Side};
 
 // The ids of the rows that have one key, of each side ascending.
@@ -20,16 +23,35 @@ pub(crate) struct Group {
 // The groups of all keys.
 #[derive(Drop)]
 pub(crate) struct Groups {
-    groups: BTreeMap<RowKey, Group>,
+    pub groups: BTreeMap<RowKey, Group>,
 }
 
 // Takes a number out of ascending ones.
-fn take_out(ids: &mut Vec<u32>, id: u32)
+fn take_out_one(ids: &mut Vec<u32>, id: u32)
     requires { IsAscending ids.old.items }
     ensures { ids.new.items ≡ without id ids.old.items }
 {
     if let Ok(place) = ids.binary_search(&id) {
         ids.remove(place);
+    }
+}
+
+// Whether a number is not among others in order.
+fn is_absent(gone: &[u32], id: u32) -> bool
+    ensures { IsNonDecreasing gone.now → result ≡ not (list_any (nat_eq id) gone.now) }
+{
+    gone.binary_search(&id).is_err()
+}
+
+// Takes all numbers of a list out of ascending ones.
+fn take_out(ids: &mut Vec<u32>, gone: &[u32])
+    requires ascend { IsAscending ids.old.items }
+    requires in_order { IsNonDecreasing gone.now }
+    ensures { ids.new.items ≡ without_all gone.now ids.old.items }
+{
+    match gone {
+        [id] => take_out_one(ids, *id),
+        _ => ids.retain(|id| is_absent(gone, *id)),
     }
 }
 
@@ -78,18 +100,39 @@ impl Group {
         self.left.is_empty() && self.right.is_empty()
     }
 
-    fn take_out(&mut self, side: Side, id: u32)
-        requires { IsAscending (side_ids side self.old) }
+    fn take_out(&mut self, side: Side, gone: &[u32])
+        requires ascend { IsAscending (side_ids side self.old) }
+        requires in_order { IsNonDecreasing gone.now }
         ensures { (s : Side)
             → side_ids s self.new
             ≡ (if is_side side s
-            then without id (side_ids s self.old)
+            then without_all gone.now (side_ids s self.old)
             else side_ids s self.old) }
     {
         match side {
-            Side::Left => take_out(&mut self.left, id),
-            Side::Right => take_out(&mut self.right, id),
+            Side::Left => take_out(&mut self.left, gone),
+            Side::Right => take_out(&mut self.right, gone),
         }
+    }
+
+    // Takes all ids of a side.
+    fn take_all(&mut self, alloc: Global, side: Side) -> Vec<u32>
+        ensures taken { result.items ≡ side_ids side self.old }
+        ensures others { (s : Side)
+            → side_ids s self.new ≡ (if is_side side s then [] else side_ids s self.old) }
+    {
+        match side {
+            Side::Left => mem::replace(&mut self.left, Vec::new(alloc)),
+            Side::Right => mem::replace(&mut self.right, Vec::new(alloc)),
+        }
+    }
+
+    /// The ids of the left side and of the right one.
+    pub(crate) fn into_lists(self) -> (Vec<u32>, Vec<u32>)
+        ensures left { result.0.items ≡ side_ids Side.Left self }
+        ensures right { result.1.items ≡ side_ids Side.Right self }
+    {
+        (self.left, self.right)
     }
 }
 
@@ -121,7 +164,9 @@ impl Groups {
         id: u32,
     ) -> Result<(), OutOfMemory>
         ensures ok { OnOk result ((s : Side) → (k : RowKey) → ids_at self.new s k
-            ≡ (if is_side side s && ties (datum key.now.value) (datum k.value) then ids_at self.old s k ++ id ∷ [] else ids_at self.old s k)) }
+            ≡ (if is_side side s && ties (datum key.now.value) (datum k.value)
+            then ids_at self.old s k ++ id ∷ []
+            else ids_at self.old s k)) }
         ensures err { OnErr result
             ((s : Side) → (k : RowKey) → ids_at self.new s k ≡ ids_at self.old s k) }
     {
@@ -136,17 +181,46 @@ impl Groups {
         }
     }
 
-    /// Takes an id out of those of its side under the key.
-    pub(crate) fn take_out(&mut self, side: Side, key: &RowKey, id: u32)
-        requires { AreAscending self.old }
+    /// Takes ids, which are in order, out of those of their side under the key. It takes no memory.
+    pub(crate) fn take_out(&mut self, side: Side, key: &RowKey, gone: &[u32])
+        requires ascend { AreAscending self.old }
+        requires in_order { IsNonDecreasing gone.now }
         ensures { (s : Side) → (k : RowKey) → ids_at self.new s k
-            ≡ (if is_side side s && ties (datum key.now.value) (datum k.value) then without id (ids_at self.old s k) else ids_at self.old s k) }
+            ≡ (if is_side side s && ties (datum key.now.value) (datum k.value)
+            then without_all gone.now (ids_at self.old s k)
+            else ids_at self.old s k) }
     {
         if let Some(group) = self.groups.get_mut(key) {
-            group.take_out(side, id);
+            group.take_out(side, gone);
             if group.is_empty() {
                 self.groups.remove(key);
             }
+        }
+    }
+
+    /// Takes ids, in whichever order, out of those of their side under the key. It takes no memory.
+    pub(crate) fn take_list_out(&mut self, side: Side, key: &RowKey, mut gone: Vec<u32>)
+        requires { AreAscending self.old }
+        ensures { (s : Side) → (k : RowKey) → ids_at self.new s k
+            ≡ (if is_side side s && ties (datum key.now.value) (datum k.value)
+            then without_all gone.items (ids_at self.old s k)
+            else ids_at self.old s k) }
+    {
+        gone.sort_unstable();
+        self.take_out(side, key, &gone);
+    }
+
+    /// Takes all ids of a side under the key. It takes no memory.
+    pub(crate) fn take_all(&mut self, alloc: Global, side: Side, key: &RowKey) -> Vec<u32>
+        ensures taken { result.items ≡ ids_at self.old side key.now }
+        ensures others { (s : Side) → (k : RowKey) → ids_at self.new s k
+            ≡ (if is_side side s && ties (datum key.now.value) (datum k.value)
+            then []
+            else ids_at self.old s k) }
+    {
+        match self.groups.get_mut(key) {
+            Some(group) => group.take_all(alloc, side),
+            None => Vec::new(alloc),
         }
     }
 }

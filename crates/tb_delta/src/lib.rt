@@ -2,11 +2,13 @@
 //! sides that have it.
 #![tactic(auto)]
 
+mod changing;
 mod checking;
 mod counting;
 mod fault;
 mod groups;
 mod key;
+mod late;
 pub mod laws;
 mod making;
 mod running;

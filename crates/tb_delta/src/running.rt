@@ -1,12 +1,15 @@
 //! Many steps in a row.
-ghost use Rattle.std.specs.Prelude.{◌≡◌, [], IfOk, unwrap_or};
-ghost use Rattle.tb_delta.specs.Promise.Now.{partners};
+ghost use Rattle.tb_delta.specs.Changing.{IsChanging};
+ghost use Rattle.tb_delta.specs.Inside.{state_of};
 ghost use Rattle.tb_delta.specs.Running.{IsDone, IsRun, step_of, steps_of};
 
+use crate::changing::{insert_row, remove_row};
 use crate::fault::DeltaFault;
+use crate::late::LateGroups;
+use crate::side_rows::SideRows;
 use crate::view::JoinView;
 use std::alloc::Global;
-use tb_value::{AnyValue, OutOfMemory, Side};
+use tb_value::{AnyValue, Side};
 
 /// A row that is put last on a side, or the row of an id that is taken out.
 #[derive(Drop)]
@@ -22,40 +25,71 @@ pub struct StepFault {
     pub fault: DeltaFault,
 }
 
-// The partners of a row, copied; none where there is no such row.
-fn told(alloc: Global, view: &JoinView, side: Side, id: u32) -> Result<Vec<u32>, OutOfMemory>
-    ensures { IfOk result (λ v. v.items ≡ unwrap_or (partners view.now side id) []) }
+fn do_step(
+    alloc: Global,
+    left: &mut SideRows,
+    right: &mut SideRows,
+    groups: &mut LateGroups,
+    join_nulls: bool,
+    step: Step,
+) -> Result<Vec<u32>, DeltaFault>
+    requires { IsChanging Side.Left left.old right.old join_nulls groups.old }
+    ensures changing { IsChanging Side.Left left.new right.new join_nulls groups.new }
+    ensures done { IsDone (state_of left.old right.old join_nulls) (step_of step)
+        (state_of left.new right.new join_nulls) result }
 {
-    match view.partners(side, id) {
-        Some(ids) => Ok(Vec::from_slice(alloc, ids)?),
-        None => Ok(Vec::new(alloc)),
+    match step {
+        Step::Insert {
+            side: Side::Left,
+            row,
+        } => { insert_row(alloc, left, right, groups, Side::Left, join_nulls, row) }
+        Step::Insert {
+            side: Side::Right,
+            row,
+        } => { insert_row(alloc, right, left, groups, Side::Right, join_nulls, row) }
+        Step::Remove {
+            side: Side::Left,
+            id,
+        } => { remove_row(alloc, left, right, groups, Side::Left, join_nulls, id) }
+        Step::Remove {
+            side: Side::Right,
+            id,
+        } => { remove_row(alloc, right, left, groups, Side::Right, join_nulls, id) }
     }
 }
 
-fn do_step(alloc: Global, view: &mut JoinView, step: Step) -> Result<Vec<u32>, DeltaFault>
-    ensures { IsDone view.old (step_of step) view.new result }
+/// Does the steps in their order, up to the first that is refused.
+pub(crate) fn run_steps(
+    alloc: Global,
+    left: &mut SideRows,
+    right: &mut SideRows,
+    groups: &mut LateGroups,
+    join_nulls: bool,
+    steps: Vec<Step>,
+) -> Result<Vec<Vec<u32>>, StepFault>
+    requires { IsChanging Side.Left left.old right.old join_nulls groups.old }
+    ensures changing { IsChanging Side.Left left.new right.new join_nulls groups.new }
+    ensures run { IsRun (state_of left.old right.old join_nulls) (steps_of steps.items)
+        (state_of left.new right.new join_nulls) result }
 {
-    match step {
-        Step::Insert { side, row } => {
-            let id = view.insert(alloc, side, row)?;
-            match told(alloc, view, side, id) {
-                Ok(ids) => Ok(ids),
-                Err(OutOfMemory) => Err(DeltaFault::OutOfMemory),
-            }
-        }
-        Step::Remove { side, id } => match told(alloc, view, side, id) {
+    let mut lists = Vec::new(alloc);
+    for (step, asked) in steps.into_iter().enumerate() {
+        match do_step(alloc, left, right, groups, join_nulls, asked) {
             Ok(ids) => {
-                view.remove(side, id)?;
-                Ok(ids)
+                if lists.push(ids).is_err() {
+                    let fault = DeltaFault::OutOfMemory;
+                    return Err(StepFault { step, fault });
+                }
             }
-            Err(OutOfMemory) => Err(DeltaFault::OutOfMemory),
-        },
+            Err(fault) => return Err(StepFault { step, fault }),
+        }
     }
+    Ok(lists)
 }
 
 /// Does the steps in their order, and answers for each the ids of the rows that match its row: those of a new row when it is
 /// there, and those of an old one before it goes. The first step that is refused ends it, and the steps before it stay done;
-/// where memory is wanting, this step may be done too.
+/// where memory is wanting, this step may be done too. A step costs what it tells, whichever rows go, and in whichever order.
 ///
 /// # Errors
 ///
@@ -67,17 +101,5 @@ pub fn do_steps(
 ) -> Result<Vec<Vec<u32>>, StepFault>
     ensures { IsRun view.old (steps_of steps.items) view.new result }
 {
-    let mut lists = Vec::new(alloc);
-    for (step, asked) in steps.into_iter().enumerate() {
-        match do_step(alloc, view, asked) {
-            Ok(ids) => {
-                if lists.push(ids).is_err() {
-                    let fault = DeltaFault::OutOfMemory;
-                    return Err(StepFault { step, fault });
-                }
-            }
-            Err(fault) => return Err(StepFault { step, fault }),
-        }
-    }
-    Ok(lists)
+    view.run(alloc, steps)
 }

@@ -1,5 +1,5 @@
 //! What an insert and a removal do to the rows of a side and to the groups.
-ghost use Rattle.std.specs.Prelude.{◌≡◌, ◌<◌, ◌++◌, ◌∷◌, [], ◌&&◌, All, AllPairs, Bool, List, ℕ, length, IfOk, OnErr, OnOk, option_map, if◌then◌else◌};
+ghost use Rattle.std.specs.Prelude.{◌≡◌, ◌<◌, ◌++◌, ◌∷◌, [], ◌&&◌, All, AllPairs, Bool, List, ℕ, length, IfOk, IfSome, OnErr, OnOk, option_map, if◌then◌else◌};
 ghost use Rattle.tb_value.specs.Promise.Datum.{Datum};
 ghost use Rattle.tb_value.specs.Promise.Same.{agrees};
 ghost use Rattle.tb_value.specs.Promise.Typed.{FitsFields};
@@ -8,7 +8,7 @@ ghost use Rattle.std.specs.Option.{option_copied};
 ghost use Rattle.tb_value.specs.declared.error.Side.{Side};
 ghost use Rattle.tb_value.specs.declared.limits.TheConstants.{MAX_ROWS};
 ghost use Rattle.tb_delta.specs.Groups.{ids_at, is_side, without, AreAscending};
-ghost use Rattle.tb_delta.specs.Inside.{AreRows, IsPlaced, is_grouped, key_of, pulled_agrees, side_state};
+ghost use Rattle.tb_delta.specs.Inside.{AreRows, IsKeyed, IsPlaced, is_grouped, key_of, pulled_agrees, side_state};
 ghost use Rattle.tb_delta.specs.Promise.State.{appended, row_of, taken_out};
 ghost use Rattle.tb_delta.specs.Stepped.{IsChecked};
 ghost use Rattle.tb_delta.specs.declared.key.RowKey.{RowKey};
@@ -34,7 +34,7 @@ pub(crate) fn check(rows: &SideRows, row: &[AnyValue]) -> Result<(), DeltaFault>
 }
 
 // Whether a key is in a group: Null is only where Nulls match.
-fn is_grouped(join_nulls: bool, key: &RowKey) -> bool
+pub(crate) fn is_grouped(join_nulls: bool, key: &RowKey) -> bool
     ensures { result ≡ is_grouped join_nulls (datum key.now.value) }
 {
     join_nulls || !matches!(key.value, AnyValue::Null)
@@ -60,7 +60,10 @@ pub(crate) fn push_row(
     ensures rows { OnOk result
         (side_state rows.new ≡ appended (data_of row.items) (side_state rows.old)) }
     ensures groups { OnOk result ((s : Side) → (k : RowKey) → ids_at groups.new s k
-        ≡ (if is_side side s && agrees join_nulls (key_of (side_state rows.old) (data_of row.items)) (datum k.value) then ids_at groups.old s k ++ rows.old.ever ∷ [] else ids_at groups.old s k)) }
+        ≡ (if is_side side s
+        && agrees join_nulls (key_of (side_state rows.old) (data_of row.items)) (datum k.value)
+        then ids_at groups.old s k ++ rows.old.ever ∷ []
+        else ids_at groups.old s k)) }
     ensures rows_stay { OnErr result (side_state rows.new ≡ side_state rows.old) }
     ensures groups_stay { OnErr result
         ((s : Side) → (k : RowKey) → ids_at groups.new s k ≡ ids_at groups.old s k) }
@@ -79,11 +82,24 @@ pub(crate) fn push_row(
         Err(refused) => {
             let (_, row) = refused.value;
             if grouped {
-                groups.take_out(side, &row.key, id);
+                groups.take_out(side, &row.key, &[id]);
             }
             Err(OutOfMemory)
         }
     }
+}
+
+// Takes a row out of its side. It takes no memory.
+pub(crate) fn pull_stored(rows: &mut SideRows, id: u32) -> Option<StoredRow>
+    requires placed { IsPlaced rows.old }
+    requires kept { AreRows (side_state rows.old) }
+    ensures placed { IsPlaced rows.new }
+    ensures row { option_map (λ s. data_of s.values.items) result
+        ≡ row_of (side_state rows.old) id }
+    ensures rows { side_state rows.new ≡ taken_out id (side_state rows.old) }
+    ensures keyed { IfSome result (λ s. IsKeyed (side_state rows.old) (id, s)) }
+{
+    rows.rows.remove(&id)
 }
 
 // Takes a row out. It takes no memory.
@@ -101,11 +117,15 @@ pub(crate) fn pull_row(
     ensures row { option_map (λ v. data_of v.items) result ≡ row_of (side_state rows.old) id }
     ensures rows { side_state rows.new ≡ taken_out id (side_state rows.old) }
     ensures groups { (s : Side) → (k : RowKey) → ids_at groups.new s k
-        ≡ (if is_side side s && pulled_agrees join_nulls (side_state rows.old) (row_of (side_state rows.old) id) (datum k.value) then without id (ids_at groups.old s k) else ids_at groups.old s k) }
+        ≡ (if is_side side s
+        && pulled_agrees join_nulls (side_state rows.old) (row_of (side_state rows.old) id)
+        (datum k.value)
+        then without id (ids_at groups.old s k)
+        else ids_at groups.old s k) }
 {
-    let row = rows.rows.remove(&id)?;
+    let row = pull_stored(rows, id)?;
     if is_grouped(join_nulls, &row.key) {
-        groups.take_out(side, &row.key, id);
+        groups.take_out(side, &row.key, &[id]);
     }
     Some(row.values)
 }
@@ -119,7 +139,9 @@ pub(crate) fn partners_of<'a>(
 ) -> Option<&'a [u32]>
     requires placed { IsPlaced rows.now }
     ensures { (f : Datum → List ℕ) → ((k : RowKey) → ids_at groups.now beside k ≡ f (datum k.value))
-        → option_copied result ≡ option_map (λ row. f (key_of (side_state rows.now) row)) (row_of (side_state rows.now) id) }
+        → option_copied result
+        ≡ option_map (λ row. f (key_of (side_state rows.now) row))
+        (row_of (side_state rows.now) id) }
 {
     let row = rows.rows.get(&id)?;
     Some(groups.ids(beside, &row.key))

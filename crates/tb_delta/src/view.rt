@@ -11,18 +11,22 @@ ghost use Rattle.tb_frame.specs.Promise.Table.{IsTable, height, row_at, schema_o
 ghost use Rattle.tb_delta.specs.Inside.{given_columns, with_first};
 ghost use Rattle.tb_delta.specs.Promise.Now.{columns_refusal, kept_args, now, partners, view_refusal};
 ghost use Rattle.tb_delta.specs.Promise.State.{appended, given, of_side, on_side};
+ghost use Rattle.tb_delta.specs.Running.{IsRun, steps_of};
 ghost use Rattle.tb_delta.specs.Stepped.{IsInserted, IsRemoved};
 
 use crate::checking::{check_tables, kept_args};
 use crate::counting::are_too_many;
 use crate::fault::{DeltaFault, only_memory};
 use crate::groups::Groups;
+use crate::late::LateGroups;
 use crate::making::{row_at, side_without_rows};
+use crate::running::{Step, StepFault, run_steps};
 use crate::side_rows::SideRows;
 use crate::steps::{check, partners_of, pull_row, push_row};
 use crate::tables::table_now;
 use std::alloc::Global;
 use std::marker::Model;
+use std::mem;
 use std::thread::Threads;
 use tb_frame::DataFrame;
 use tb_join::DataFrameJoinOps;
@@ -248,8 +252,8 @@ impl JoinView {
         }
     }
 
-    /// Takes the row of the id out and hands it back. It takes no memory. NoRow, where no row of the side has the id, leaves all
-    /// as it was.
+    /// Takes the row of the id out and hands it back. It takes no memory, and moves the ids of the rows with its key that were put
+    /// in after it. NoRow, where no row of the side has the id, leaves all as it was.
     ///
     /// # Errors
     ///
@@ -279,5 +283,28 @@ impl JoinView {
                 None => Err(DeltaFault::NoRow),
             },
         }
+    }
+
+    /// Does the steps in their order, as `do_steps` says.
+    pub(crate) fn run(
+        &mut self,
+        alloc: Global,
+        steps: Vec<Step>,
+    ) -> Result<Vec<Vec<u32>>, StepFault>
+        ensures { IsRun self.old (steps_of steps.items) self.new result }
+    {
+        let groups = mem::replace(&mut self.groups, Groups::new(alloc));
+        let gone = Groups::new(alloc);
+        let mut late = LateGroups { groups, gone };
+        let lists = run_steps(
+            alloc,
+            &mut self.left,
+            &mut self.right,
+            &mut late,
+            self.join_nulls,
+            steps,
+        );
+        self.groups = late.settled();
+        lists
     }
 }

@@ -12,7 +12,7 @@ use Rattle.tb_value.proofs.Loops.{map-map}
 use Rattle.tb_chunk.specs.Promise.Col.{Col, values}
 use Rattle.tb_chunk.specs.Rows.{value_or_null}
 use Rattle.tb_chunk.specs.ViewArrays.{view_or_none, joined_view_array}
-use Rattle.tb_frame.specs.Answer.{IsListed, fill}
+use Rattle.tb_frame.specs.Answer.{ArePairsOf, fill}
 use Rattle.tb_frame.specs.Frame.{opt_taken_rows, taken_rows, without_names}
 use Rattle.tb_frame.specs.Promise.Join.{IsAnswer, IsOrdered, Request, cut, listing, out}
 use Rattle.tb_frame.specs.Promise.Table.{IsTable, Table, height, plain_column, table_of}
@@ -21,7 +21,7 @@ use Rattle.tb_frame.proofs.Assembled.{makes_answer}
 use Rattle.tb_value.proofs.RowNumbers.{rows_below}
 use Rattle.tb_frame.proofs.Taking.{IsTable-taken}
 use Rattle.tb_gather.specs.Gathered.{gathered_rows}
-use Rattle.tb_hash.specs.Hashing.{value_listing}
+use Rattle.tb_keys.specs.Promise.Listing.{value_listing}
 use Rattle.tb_join.proofs.AnswerMade.{columns-are}
 use Rattle.tb_join.proofs.KeptColumns.{without_names_none}
 use Rattle.tb_pairs.proofs.Requested.{columns_listed, one_listed}
@@ -89,7 +89,7 @@ module _ (nulls anti : Bool) (l r : Col) (rows : List ℕ) (is : map left_only r
         at true e = record { permutation = IsPermutation-refl (map left_only rows); ascends = subst (IsSorted left_first) (sym e) (left_unmet-sorted (length (values l)) (length (values r)) _) }
         at false e = record { permutation = IsPermutation-refl (map left_only rows); ascends = subst (IsSorted left_first) (sym e) (left_met-sorted (length (values l)) (length (values r)) _) }
 
-    listed : IsListed q.args.how q.args.maintain_order q.args.slice (listing q) items
+    listed : ArePairsOf q items
     listed = record { pairs = map left_only rows; ordered = ordered; is = refl }
 
     lefts : map (λ (p : JoinPair). p.left) items ≡ map (λ (i : ℕ). Some i) (cut s rows)

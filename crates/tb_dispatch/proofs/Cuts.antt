@@ -7,7 +7,7 @@ use Rattle.std.proofs.lemmas.List.Sorted.{length_permutation}
 use Rattle.tb_value.specs.declared.index.JoinPair.{JoinPair}
 use Rattle.tb_value.proofs.Ascending.{Ascends_by, Ascends_by-from_pairs}
 use Rattle.tb_chunk.specs.Window.{part_from, part_to, window}
-use Rattle.tb_frame.specs.Answer.{IsListed}
+use Rattle.tb_frame.specs.Answer.{ArePairsOf}
 use Rattle.tb_frame.specs.Promise.Join.{Request, cut, listing}
 use Rattle.tb_frame.proofs.Windows.{slice_window}
 use Rattle.tb_dispatch.specs.Rows.{Rise}
@@ -41,7 +41,7 @@ cut_short {X} (Some s) xs =
     omega (arith, is, length-take n rest, length-drop (part_from (length xs) s.0) xs)
 
 -- where nothing is listed, nothing is kept
-pub none_listed : (q : Request) (items : List JoinPair) → listing q ≡ [] → IsListed q.args.how q.args.maintain_order q.args.slice (listing q) items → items ≡ []
+pub none_listed : (q : Request) (items : List JoinPair) → listing q ≡ [] → ArePairsOf q items → items ≡ []
 none_listed q items none h =
     let long = ap (λ (xs : List JoinPair). length xs) h.is in
     let same = length_permutation (listing q) h.pairs h.ordered.permutation in

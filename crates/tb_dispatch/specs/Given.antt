@@ -20,7 +20,7 @@ use Rattle.tb_frame.specs.Promise.Refusal.{first_unknown, list_causes, name_caus
 use Rattle.tb_frame.specs.Refusal.{fits, given_refusal}
 use Rattle.tb_frame.specs.Sides.{asking}
 use Rattle.tb_frame.specs.Promise.Table.{height, names_of, plain_column, table_of}
-use Rattle.tb_join.specs.Promise.Answers.{IsJoinUnless}
+use Rattle.tb_keys.specs.Promise.Answers.{IsJoinUnless}
 use Rattle.tb_join.specs.Promise.Asked.{plain_args}
 
 -- the request by columns that are given, under their names

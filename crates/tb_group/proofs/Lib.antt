@@ -8,15 +8,13 @@ pub mod Finished
 pub mod Found
 pub mod Halves
 pub mod KeyParts
-pub mod KeptColumns
 pub mod Members
 pub mod Needed
 pub mod Ordered
+pub mod PartColumns
 pub mod PartRows
 pub mod PartsDone
 pub mod Pieces
-pub mod Placed
-pub mod Ranks
 pub mod Refused
 pub mod Requests
 pub mod RowCodes
@@ -24,6 +22,7 @@ pub mod RowsByKeys
 pub mod ScatteredRows
 pub mod Seated
 pub mod Spread
+pub mod Stacks
 pub mod Starts
 pub mod Together
 pub mod Works

@@ -50,6 +50,9 @@ module _ (q : Request) (w : Wanted) (s : AreServed q w) where
       un_mapped (λ (p : Asked). length p.1.values ≡ row_count (lent_columns w.by)) asked_as w.made
       (subst (λ (m : ℕ). All (λ (p : Asked). length p.1.values ≡ m) (asked_list w.made)) (sym s.high ∙ sym (count_is q w s)) s.level)
 
+  pub taken_made : All (λ (a : AskedColumn). IsSome (result_kind a.asked.now.agg a.column.now.kind)) w.made
+  taken_made = un_mapped (λ (p : Asked). IsSome (result_kind p.0.agg p.1.kind)) asked_as w.made s.taken
+
   -- rows of the table are rows of each column
   pub rows_within : (rows : List ℕ) → All (λ r. r < w.height) rows → All (λ (c : Bor Col). All (λ r. r < length (values c.now)) rows) w.by
   rows_within rows low =

@@ -127,7 +127,7 @@ counted_apart p q r apart either (x ∷ xs) = by (p x) (q x) (r x) refl refl (ei
         ∙ k
         ∙ sym (ap (λ (t : Bool). length (cond t (x ∷ filter r xs) (filter r xs))) g)
 
-pub kept_few : (p : ℕ → Bool) (xs : List ℕ) → length (filter p xs) ≤ length xs
+kept_few : (p : ℕ → Bool) (xs : List ℕ) → length (filter p xs) ≤ length xs
 kept_few p [] = omega arith
 kept_few p (x ∷ xs) = by (p x) (kept_few p xs)
   where

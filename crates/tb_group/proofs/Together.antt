@@ -1,14 +1,9 @@
 -- What all parts give together is what is made of the groups of the whole table.
-use Rattle.std.proofs.Common.{◌≡◌, ◌∙◌, ◌+◌, ◌*◌, ◌<◌, ◌≤◌, ℕ, ℤ, Bool, true, false, ◌&&◌, eqb, List, [], ◌∷◌, ◌++◌, Option, Some, None, filter, get_or, length, map, take, unwrap_or, refl, sym, ap, subst, arith}
+use Rattle.std.proofs.Common.{◌≡◌, ◌∙◌, ◌<◌, ◌≤◌, ℕ, ℤ, Bool, true, false, ◌&&◌, if◌then◌else◌, eqb, List, [], ◌∷◌, ◌++◌, Option, Some, None, filter, get_or, length, map, unwrap_or, refl, sym, ap, subst, arith}
 use Rattle.std.specs.Cmp.{IsEquivalence}
 use Rattle.std.specs.List.{All, flat_map, list_all}
-use Rattle.std.specs.Prelude.{IsSome}
-use Rattle.std.proofs.lemmas.List.{length-map, map-append}
+use Rattle.std.proofs.lemmas.List.{get_or-map, get_or_default, length-map}
 use Rattle.std.proofs.lemmas.List.Elements.{All-append, All-filter, All-map, All-nil}
-use Rattle.std.proofs.lemmas.List.FromFn.{length-range_with_len}
-use Rattle.std.proofs.lemmas.List.Folds.{flat_map-map}
-use Rattle.tb_value.proofs.Loops.{map-map}
-use Rattle.tb_value.proofs.RowNumbers.{rows_below}
 use Rattle.tb_value.specs.Promise.Datum.{Datum}
 use Rattle.tb_value.specs.Promise.Kind as kind
 use Rattle.tb_value.specs.Promise.Kind.{Kind}
@@ -20,35 +15,33 @@ use Rattle.tb_rows.specs.InGroups.{firsts_in, groups_in}
 use Rattle.tb_rows.specs.Promise.Rows.{first_rows, row_value, same_rows}
 use Rattle.tb_rows.proofs.FirstRows.{few_firsts, firsts_below}
 use Rattle.tb_rows.proofs.FirstsIn.{firsts_of_all}
-use Rattle.tb_agg.specs.Forms.{form_of}
-use Rattle.tb_agg.specs.Kept.{all_joined, kept_fits, kept_of, kept_span, kept_values, IsKeptFor, IsSpan}
 use Rattle.tb_agg.specs.Promise.Aggregates.{aggregate, result_kind, sum_kind, total}
-use Rattle.tb_agg.specs.Promise.Outcome.{are_in_range, lies_within}
+use Rattle.tb_agg.specs.Promise.Outcome.{lies_within}
 use Rattle.tb_agg.specs.declared.table.Aggregate.{Aggregate}
 use Rattle.tb_agg.specs.declared.table.Aggregate.TheVariants.{First, Last, Sum, Min, Max, Count}
-use Rattle.tb_agg.specs.declared.table.Form.{Form}
-use Rattle.tb_agg.proofs.Keeping.{kept_all, kept_for as kept_for_all, values_are}
 use Rattle.tb_value.specs.Promise.Typed.{ends}
 use Rattle.tb_build.specs.Promise.Plan.{part_rows}
 use Rattle.tb_group.specs.Asked.{Asked}
 use Rattle.tb_group.specs.Codes.{codes_by}
 use Rattle.tb_group.specs.Order.{row_in, is_listed, IsOrder}
-use Rattle.tb_group.specs.Parts.{has_work, kept_for, part_view, PartView}
+use Rattle.tb_group.specs.Parts.{group_values, groups_column, groups_fit, has_work, part_view, PartView}
 use Rattle.tb_group.specs.Promise.Refusal.{sums_fit}
-use Rattle.tb_group.specs.Ranks.{rank}
 use Rattle.tb_group.specs.Trace.{part_views, work_parts}
-use Rattle.tb_group.specs.Whole.{all_firsts, gathered, part_span, placed_column, AreWhole, CanBePlaced, HasRank}
+use Rattle.tb_group.specs.Whole.{all_firsts, are_there, columns_at, placed_column, AreStacked, AreWhole}
 use Rattle.tb_group.proofs.Alike.{rows_equiv}
 use Rattle.tb_group.proofs.KeyParts.{one_part, part_at, part_low, rows_are}
 use Rattle.tb_group.proofs.PartRows.{part_firsts, part_groups}
-use Rattle.tb_group.proofs.Placed.{placed_values}
-use Rattle.tb_group.proofs.Ranks.{span_is, span_low}
-use Rattle.tb_group.proofs.Spread.{firsts_in_order, kept_few, spread, spread_all, spread_few}
-use Rattle.tb_group.proofs.Works.{all_of_some, no_rows}
+use Rattle.tb_group.proofs.Spread.{firsts_in_order, spread, spread_all, spread_few}
+use Rattle.tb_group.proofs.Works.{all_of_some, first_works, no_rows}
+use Rattle.tb_group.proofs.Stacks.{kinds_are, one, placed, there, values_are, values_few}
 
-map-flat_map : {X Y Z : Type 0} (f : Y → Z) (g : X → List Y) (xs : List X) → map f (flat_map g xs) ≡ flat_map (λ x. map f (g x)) xs
-map-flat_map f g [] = refl
-map-flat_map {X} {Y} {Z} f g (x ∷ xs) = map-append f (g x) (flat_map g xs) ∙ ap (λ (l : List Z). map f (g x) ++ l) (map-flat_map f g xs)
+pub map_twice : {X Y Z : Type 0} (f : X → Y) (g : Y → Z) (xs : List X) → map g (map f xs) ≡ map (λ x. g (f x)) xs
+map_twice f g [] = refl
+map_twice {X} {Y} {Z} f g (x ∷ xs) = ap (λ (l : List Z). g (f x) ∷ l) (map_twice f g xs)
+
+flat_map-map : {X Y Z : Type 0} (f : X → Y) (g : Y → List Z) (xs : List X) → flat_map g (map f xs) ≡ flat_map (λ x. g (f x)) xs
+flat_map-map f g [] = refl
+flat_map-map {X} {Y} {Z} f g (x ∷ xs) = ap (λ (l : List Z). g (f x) ++ l) (flat_map-map f g xs)
 
 all_true : {X : Type 0} (xs : List X) → list_all (λ _. true) xs ≡ true
 all_true [] = refl
@@ -122,15 +115,15 @@ module _ (cs : List TableColumn) (n parts : ℕ) (some : 1 ≤ parts) (asked : L
   idle : (p : ℕ) → works p ≡ false → filter (in_part p) firsts ≡ []
   idle p none = sym (firsts_of p) ∙ ap (firsts_in test) (no_rows p (rows_of p) none)
 
-  members_few : (x : ℕ) → length (members_of x) ≤ n
-  members_few x = omega (arith, kept_few (test x) (row_numbers n), length-range_with_len 0 n)
+  some_busy : 0 < length busy
+  some_busy = first_works (λ p. has_work p (rows_of p)) parts some refl
 
   abbrev all : List ℕ
   all = spread (part_at cs parts) parts firsts
 
   pub all_are : all_firsts views ≡ all
   all_are =
-      flat_map-map (λ (v : PartView). v.firsts) (λ p. part_view test asked (rows_of p)) busy
+      flat_map-map (λ p. part_view test asked (rows_of p)) (λ (v : PartView). v.firsts) busy
       ∙ (λ t. flat_map (λ p. firsts_of p t) busy)
       ∙ all_of_some works (λ p. filter (in_part p) firsts) idle (row_numbers parts)
 
@@ -167,95 +160,71 @@ module _ (cs : List TableColumn) (n parts : ℕ) (some : 1 ≤ parts) (asked : L
       abbrev fits : ℕ → Bool
       fits x = sums_fit a.0.agg (sum_kind a.1.kind) (sum x ∷ [])
 
-      abbrev agg : Aggregate
-      agg = a.0.agg
+      abbrev made_kind : Kind
+      made_kind = unwrap_or (result_kind a.0.agg a.1.kind) kind.null
 
-      abbrev vs : List Datum
-      vs = a.1.values
+      abbrev lists : List (List ℕ)
+      lists = map (λ p. filter (in_part p) firsts) busy
 
-      abbrev form : Form
-      form = form_of agg
+      column_of : (xs : List ℕ) → groups_column a.0.agg a.1 (map members_of xs) ≡ one [] made_kind value fits xs
+      column_of xs =
+          let fit : groups_fit a.0.agg a.1 (map members_of xs) ≡ list_all fits xs =
+          ap (sums_fit a.0.agg (sum_kind a.1.kind)) (map_twice members_of (λ rows. total (map (row_value a.1.values) rows)) xs) ∙ fit_each a.0.agg (sum_kind a.1.kind) sum xs in
+          let values : group_values a.0.agg a.1 (map members_of xs) ≡ map value xs = map_twice members_of (λ rows. aggregate a.0.agg (map (row_value a.1.values) rows)) xs in
+          λ t. (if fit t then Some (record { name = []; kind = made_kind; values = values t }) else None)
 
-      abbrev r : ℕ
-      r = rank form (take k asked)
-
-      -- a part keeps the aggregate's own of its groups
-      many : (p : ℕ) → length (groups_in test (rows_of p)) ≡ length (firsts_in test (rows_of p))
-      many p = length-map (firsts_in test (rows_of p)) (λ x. filter (test x) (rows_of p))
-
-      of_part : (p : ℕ) → part_span form r (part_view test asked (rows_of p)) ≡ kept_of agg vs (map members_of (filter (in_part p) firsts))
-      of_part p =
-          (λ t. kept_span form (r * sym (many p) t) (r * sym (many p) t + sym (many p) t) (kept_for asked (groups_in test (rows_of p))))
-          ∙ span_is (groups_in test (rows_of p)) asked k a here is
-          ∙ ap (kept_of agg vs) (groups_of p)
-
-      flat : flat_map (λ (gs : List (List ℕ)). gs) (map (λ p. map members_of (filter (in_part p) firsts)) busy) ≡ map members_of all
-      flat =
-          flat_map-map (λ (gs : List (List ℕ)). gs) (λ p. map members_of (filter (in_part p) firsts)) busy
-          ∙ sym (map-flat_map members_of (λ p. filter (in_part p) firsts) busy)
-          ∙ ap (map members_of) (all_of_some works (λ p. filter (in_part p) firsts) idle (row_numbers parts))
-
-      -- and all parts together that of all groups
-      gathered_is : gathered form r views ≡ kept_of agg vs (map members_of all)
-      gathered_is =
-          ap all_joined (map-map (part_span form r) (λ p. part_view test asked (rows_of p)) busy
+      columns_are : columns_at k views ≡ map (one [] made_kind value fits) lists
+      columns_are =
+          map_twice (λ p. part_view test asked (rows_of p)) (λ (v : PartView). get_or v.columns k None) busy
           ∙ (λ t. map (λ p. of_part p t) busy)
-          ∙ sym (map-map (kept_of agg vs) (λ p. map members_of (filter (in_part p) firsts)) busy))
-          ∙ kept_all agg vs (map (λ p. map members_of (filter (in_part p) firsts)) busy)
-          ∙ ap (kept_of agg vs) flat
-
-      values_all : kept_values agg vs (gathered form r views) ≡ map value all
-      values_all =
-          ap (kept_values agg vs) gathered_is
-          ∙ values_are vs agg (map members_of all)
-          ∙ map-map (λ rows. aggregate agg (map (row_value vs) rows)) members_of all
-
-      -- the sums are in range exactly where those of all groups are
-      pub fits_is : kept_fits agg a.1.kind (gathered form r views) ≡ sums_fit agg (sum_kind a.1.kind) (map sum firsts)
-      fits_is =
-          ap (kept_fits agg a.1.kind) gathered_is
-          ∙ by agg
-          ∙ fit_each agg (sum_kind a.1.kind) sum all
-          ∙ spread_all (part_at cs parts) parts (part_low cs parts some) fits firsts
-          ∙ sym (fit_each agg (sum_kind a.1.kind) sum firsts)
+          ∙ sym (map_twice (λ p. filter (in_part p) firsts) (one [] made_kind value fits) busy)
         where
-          by : (b : Aggregate) → kept_fits b a.1.kind (kept_of b vs (map members_of all)) ≡ sums_fit b (sum_kind a.1.kind) (map sum all)
-          by First = refl
-          by Last = refl
-          by Min = refl
-          by Max = refl
-          by Count = refl
-          by Sum = ap (are_in_range (sum_kind a.1.kind)) (map-map (λ rows. total (map (row_value vs) rows)) members_of all)
+          of_part : (p : ℕ) → get_or (map (λ (b : Asked). groups_column b.0.agg b.1 (groups_in test (rows_of p))) asked) k None ≡ one [] made_kind value fits (filter (in_part p) firsts)
+          of_part p =
+              get_or-map (λ (b : Asked). groups_column b.0.agg b.1 (groups_in test (rows_of p))) asked k a None here
+              ∙ ap (λ (b : Asked). groups_column b.0.agg b.1 (groups_in test (rows_of p))) (sym is)
+              ∙ ap (groups_column a.0.agg a.1) (groups_of p)
+              ∙ column_of (filter (in_part p) firsts)
 
-      pub placed_is : (name : Name) → placed_column name places a (gathered form r views) ≡ record { name = name; kind = unwrap_or (result_kind agg a.1.kind) kind.null; values = map value firsts }
-      placed_is name =
-          let placed : map (row_value (kept_values agg vs (gathered form r views))) places ≡ map value firsts =
-          ap (λ (l : List Datum). map (row_value l) places) values_all ∙ placed_values value all places low ∙ ap (map value) at in
-          λ t. record { name = name; kind = unwrap_or (result_kind agg a.1.kind) kind.null; values = placed t }
+      flat : flat_map (λ (xs : List ℕ). xs) lists ≡ all
+      flat =
+          flat_map-map (λ p. filter (in_part p) firsts) (λ (xs : List ℕ). xs) busy
+          ∙ all_of_some works (λ p. filter (in_part p) firsts) idle (row_numbers parts)
 
-      ranked : All (HasRank form r) views
-      ranked = All-map (HasRank form r) (λ p. part_view test asked (rows_of p)) busy (λ i d h.
-          let p : ℕ = get_or busy i d in
-          subst (λ (m : ℕ). IsSpan form (r * m) (r * m + m) (kept_for asked (groups_in test (rows_of p)))) (many p) (span_low (groups_in test (rows_of p)) asked k a here is))
+      some_lists : 0 < length lists
+      some_lists = omega (arith, length-map busy (λ p. filter (in_part p) firsts), some_busy)
 
-      -- a column can be made of it, which has the places
-      can_be : n ≤ MAX_ROWS → length vs ≡ n → IsSome (result_kind agg a.1.kind) → CanBePlaced places a r views
-      can_be few level taken = record {
-        ranked = ranked;
-        kept = subst (IsKeptFor (length vs)) (sym gathered_is)
-            (kept_for_all vs (length vs) (map members_of all)
-            (All-map (λ rows. All (λ j. j < length vs) rows) members_of all (λ i d h.
-            subst (λ (m : ℕ). All (λ j. j < m) (members_of (get_or all i d))) (sym level) (All-filter (test (get_or all i d)) (λ j. j < n) (row_numbers n) (rows_below n))))
-            (All-map (λ rows. length rows ≤ MAX_ROWS) members_of all (λ i d h. omega (arith, members_few (get_or all i d), few)))
-            (omega (arith, length-map all members_of, ap length all_are, all_few, few)) agg);
-        taken = taken;
-        within = subst (λ (m : ℕ). All (λ p. p < m) places) (sym (ap length values_all ∙ length-map all value)) low;
-      }
+      -- all parts have a column exactly where the sums of all groups are in range
+      pub there_is : are_there (columns_at k views) ≡ sums_fit a.0.agg (sum_kind a.1.kind) (map sum firsts)
+      there_is =
+          ap are_there columns_are
+          ∙ there [] made_kind value fits lists
+          ∙ ap (list_all fits) flat
+          ∙ spread_all (part_at cs parts) parts (part_low cs parts some) fits firsts
+          ∙ sym (fit_each a.0.agg (sum_kind a.1.kind) sum firsts)
 
-    pub whole_is : n ≤ MAX_ROWS → All (λ (a : Asked). length a.1.values ≡ n) asked → All (λ (a : Asked). IsSome (result_kind a.0.agg a.1.kind)) asked → AreWhole asked views places
-    whole_is few level taken = record {
-      each = λ k a here is. can_be k a here is few
-          (subst (λ (b : Asked). length b.1.values ≡ n) (sym is) (level k a here))
-          (subst (λ (b : Asked). IsSome (result_kind b.0.agg b.1.kind)) (sym is) (taken k a here));
+      pub placed_is : (name : Name) → are_there (columns_at k views) ≡ true → placed_column name places (columns_at k views) ≡ record { name = name; kind = made_kind; values = map value firsts }
+      placed_is name h =
+          ap (placed_column name places) columns_are
+          ∙ placed [] made_kind value fits name lists all places firsts flat some_lists (ap are_there (sym columns_are) ∙ h) low at
+
+      stacked_is : n ≤ MAX_ROWS → AreStacked places (columns_at k views)
+      stacked_is few = subst (AreStacked places) (sym columns_are) (record {
+        some = omega (arith, length-map lists (one [] made_kind value fits), some_lists);
+        kinds = kinds_are [] made_kind value fits lists;
+        few = omega (arith, values_few [] made_kind value fits lists, ap length flat, ap length all_are, all_few, few);
+        within = λ h. subst (λ (m : ℕ). All (λ p. p < m) places)
+            (sym (ap length (values_are [] made_kind value fits lists h ∙ ap (map value) flat) ∙ length-map all value)) low;
+      })
+
+    pub whole_is : n ≤ MAX_ROWS → AreWhole (length asked) views places
+    whole_is few = record {
+      each = All-map (λ (v : PartView). length v.columns ≡ length asked) (λ p. part_view test asked (rows_of p)) busy
+          (λ i d h. length-map asked (λ (a : Asked). groups_column a.0.agg a.1 (groups_in test (rows_of (get_or busy i d)))));
+      stacked = λ k here. stacked_at k here asked refl;
       short = omega (arith, order.few, few);
     }
+      where
+        stacked_at : (k : ℕ) → k < length asked → (bs : List Asked) → bs ≡ asked → AreStacked places (columns_at k views)
+        stacked_at k here [] e = absurd (omega (arith, here, ap length e))
+        stacked_at k here (d ∷ bs) e = stacked_is k (get_or asked k d) here (get_or_default asked k d (get_or asked k d) here) few

@@ -6,7 +6,6 @@ pub mod Once
 pub mod Order
 pub mod Parts
 pub mod Promise
-pub mod Ranks
 pub mod Served
 pub mod Trace
 pub mod Whole

@@ -15,7 +15,7 @@ use crate::once::made_once;
 use crate::order::{places_in_order, rows_at};
 use crate::parts::{Grouped, grouped_parts};
 use crate::request::GroupAgg;
-use crate::whole::{joined_columns, source_columns, whole_columns, with_columns};
+use crate::whole::{joined_columns, joined_sources, whole_columns, whole_sources};
 use std::alloc::Global;
 use std::thread::Threads;
 use tb_frame::DataFrame;
@@ -52,7 +52,7 @@ fn grouped<G: Gate>(
     let (parts, trace) = grouped_parts(rt, alloc, by, made, exec, gate)?;
     let firsts = all_firsts(alloc, &parts)?;
     let places = places_in_order(alloc, height, &firsts)?;
-    let answers = agg_columns(alloc, asked, made, seats, &parts, &places)?;
+    let answers = agg_columns(alloc, asked, seats, &parts, &places)?;
     let rows = rows_at(alloc, &firsts, &places)?;
     let columns = answer_columns(alloc, by, &rows, answers)?;
     Ok((columns, trace))
@@ -97,11 +97,9 @@ pub fn group_by<'a, G: Gate>(
     let asked = asked_columns(alloc, aggs, &columns.sources)?;
     let once = made_once(alloc, &asked)?;
     let joined = joined_columns(alloc, &columns.by)?;
+    let joined_sources = joined_sources(alloc, &once.made)?;
     let keys = whole_columns(alloc, &columns.by, &joined)?;
-    let sources = source_columns(alloc, &once.made)?;
-    let joined_sources = joined_columns(alloc, &sources)?;
-    let whole = whole_columns(alloc, &sources, &joined_sources)?;
-    let made = with_columns(alloc, &once.made, &whole)?;
+    let made = whole_sources(alloc, &once.made, &joined_sources)?;
     let seats = once.seats.as_slice();
     let height = table.height();
     let (answer, trace) = grouped(rt, alloc, height, &keys, &asked, &made, seats, exec, gate)?;

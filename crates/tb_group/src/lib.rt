@@ -11,7 +11,6 @@ mod once;
 mod order;
 mod part;
 mod parts;
-mod ranks;
 mod request;
 mod whole;
 

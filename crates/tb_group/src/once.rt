@@ -15,8 +15,20 @@ pub(crate) struct Once<'a> {
     pub seats: Vec<usize>,
 }
 
-// The name of a column, and an aggregate of it.
-type Source<'a> = (&'a str, Aggregate);
+// The name of a column, and the number of an aggregate of it.
+type Source<'a> = (&'a str, u8);
+
+fn source<'a>(one: &AskedColumn<'a>) -> Source<'a> {
+    let number = match one.asked.agg {
+        Aggregate::First => 0,
+        Aggregate::Last => 1,
+        Aggregate::Sum => 2,
+        Aggregate::Min => 3,
+        Aggregate::Max => 4,
+        Aggregate::Count => 5,
+    };
+    (one.asked.column.as_str(), number)
+}
 
 fn are_alike(a: &AskedColumn<'_>, b: &AskedColumn<'_>) -> bool
     ensures { result ≡ true → AreAlike a.now b.now }
@@ -39,7 +51,7 @@ fn seat<'a>(
 ) -> Result<usize, OutOfMemory>
     ensures { IfOk result (IsSeated made.old.items made.new.items one.now) }
 {
-    let source = (one.asked.column.as_str(), one.asked.agg);
+    let source = source(one);
     if let Some(seat) = seen.get(&source) {
         if is_alike_at(made.as_slice(), *seat, one) {
             return Ok(*seat);

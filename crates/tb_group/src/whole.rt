@@ -62,43 +62,43 @@ pub(crate) fn whole_columns<'a>(
     Ok(whole)
 }
 
-/// The columns of whose values aggregates are made.
-pub(crate) fn source_columns<'a>(
+/// The columns of whose values aggregates are made, where they are cut, in one chunk each, and none in the place of another.
+pub(crate) fn joined_sources(
     alloc: Global,
-    made: &[AskedColumn<'a>],
-) -> Result<Vec<&'a Series>, OutOfMemory>
-    ensures { IfOk result (λ v. lent_columns v.items ≡ source_columns made.now) }
+    made: &[AskedColumn<'_>],
+) -> Result<Vec<Option<Series>>, OutOfMemory>
+    ensures { IfOk result (λ v. v.items ≡ map joined_if_cut (source_columns made.now)) }
 {
-    let mut columns = Vec::with_capacity(alloc, made.len())?;
+    let mut all = Vec::with_capacity(alloc, made.len())?;
     for one in made {
-        columns.push(one.column)?;
+        all.push(joined(alloc, one.column)?)?;
     }
-    Ok(columns)
+    Ok(all)
 }
 
-// The aggregate beside its column as it is lent anew.
-fn with_column<'a>(one: &AskedColumn<'a>, column: &'a Series) -> AskedColumn<'a>
-    requires { plain_column column.now ≡ plain_column one.now.column.now }
+// The aggregate beside its column, or beside the one chunk into which it was put.
+fn whole_source<'a>(one: &AskedColumn<'a>, joined: &'a Option<Series>) -> AskedColumn<'a>
+    requires { joined.now ≡ joined_if_cut one.now.column.now }
     ensures { asked_as result ≡ asked_as one.now }
 {
     AskedColumn {
         asked: one.asked,
-        column,
+        column: whole_column(one.column, joined),
     }
 }
 
-/// The aggregates, each beside its column as it is lent anew.
-pub(crate) fn with_columns<'a>(
+/// The aggregates, each beside its column, or beside the one chunk into which it was put.
+pub(crate) fn whole_sources<'a>(
     alloc: Global,
     made: &[AskedColumn<'a>],
-    columns: &[&'a Series],
+    joined: &'a [Option<Series>],
 ) -> Result<Vec<AskedColumn<'a>>, OutOfMemory>
-    requires { table_of (lent_columns columns.now) ≡ table_of (source_columns made.now) }
+    requires { joined.now ≡ map joined_if_cut (source_columns made.now) }
     ensures { IfOk result (λ v. asked_list v.items ≡ asked_list made.now) }
 {
     let mut whole = Vec::with_capacity(alloc, made.len())?;
     for place in 0..made.len() {
-        whole.push(with_column(&made[place], columns[place]))?;
+        whole.push(whole_source(&made[place], &joined[place]))?;
     }
     Ok(whole)
 }

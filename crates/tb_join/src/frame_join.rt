@@ -2,7 +2,7 @@
 ghost use Rattle.tb_frame.specs.Join.{lent_request};
 ghost use Rattle.tb_keys.specs.Asked.{asked_request};
 ghost use Rattle.tb_keys.specs.Causes.{later_refusal};
-ghost use Rattle.tb_join.specs.Promise.Answers.{IsJoinOf, IsJoinUnless};
+ghost use Rattle.tb_keys.specs.Promise.Answers.{IsJoinOf, IsJoinUnless};
 ghost use Rattle.tb_join.specs.Promise.Asked.{plain_args};
 ghost use Rattle.tb_join.specs.Promise.Traced.{IsTracedJoinOf, IsTracedJoinUnless};
 ghost use Rattle.tb_join.specs.Ready.{CanBeJoined, HaveKeys};

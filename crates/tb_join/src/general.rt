@@ -9,7 +9,7 @@ ghost use Rattle.tb_frame.specs.Promise.Refusal.{repeated_name};
 ghost use Rattle.tb_frame.specs.Promise.Table.{height, table_of};
 ghost use Rattle.tb_gather.specs.Ids.{AreAllRowsInOrder};
 ghost use Rattle.tb_keys.specs.Asked.{asked_request};
-ghost use Rattle.tb_join.specs.Promise.Answers.{IsJoinUnless};
+ghost use Rattle.tb_keys.specs.Promise.Answers.{IsJoinUnless};
 ghost use Rattle.tb_join.specs.AnswerColumns.{answer_columns, right_part, side_by_side};
 ghost use Rattle.tb_join.specs.Ready.{CanCoalesceKeys};
 ghost use Rattle.tb_join.specs.RowOrder.{AscendAsAsked, right_order_asked};

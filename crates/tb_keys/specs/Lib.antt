@@ -3,3 +3,4 @@ pub mod Asked
 pub mod Causes
 pub mod Met
 pub mod Coalescing
+pub mod Promise

@@ -1,14 +1,12 @@
 //! The pairs that two nested loops over row numbers list.
-ghost use Rattle.std.specs.Prelude.{◌≡◌, ◌<◌, ◌++◌, IfOk, OnOk, map, filter, length, nat_lt};
+ghost use Rattle.std.specs.Prelude.{◌≡◌, ◌<◌, ◌++◌, IfOk, OnOk, map, filter, length};
 ghost use Rattle.std.specs.List.{list_any};
 ghost use Rattle.tb_value.specs.Promise.Pairs.{row_numbers, both, matched_pairs, right_unmet};
-ghost use Rattle.tb_value.specs.Promise.Refusals.{when};
 ghost use Rattle.tb_value.specs.Refusals.{SettlesOutright};
-ghost use Rattle.tb_value.specs.declared.error.PolarsError.TheVariants.{ComputeError};
-ghost use Rattle.tb_value.specs.declared.error.ComputeCause.TheVariants.{TooManyRows};
 ghost use Rattle.tb_frame.specs.Promise.Join.{matches, listing};
 ghost use Rattle.tb_frame.specs.Promise.Table.{table_of, height};
 ghost use Rattle.tb_keys.specs.Asked.{asked_request};
+ghost use Rattle.tb_keys.specs.Causes.{too_many};
 ghost use Rattle.tb_keys.specs.Met.{left_alone};
 
 use crate::agreeing::rows_match;
@@ -142,8 +140,7 @@ pub fn list_pairs(alloc: Global, request: &LentRequest<'_>) -> Result<Vec<JoinPa
 
 /// Refuses more pairs than a table has rows (TooManyRows).
 pub fn check_size(pairs: &[JoinPair]) -> PolarsResult<()>
-    ensures { SettlesOutright result
-        (when (nat_lt MAX_ROWS (length pairs.now)) (ComputeError TooManyRows)) }
+    ensures { SettlesOutright result (too_many (length pairs.now)) }
 {
     if pairs.len() > MAX_ROWS {
         return Err(PolarsError::ComputeError(ComputeCause::TooManyRows));

@@ -3,12 +3,11 @@ ghost use Rattle.std.specs.Prelude.{◌≡◌, IfOk};
 ghost use Rattle.tb_value.specs.Promise.Refusals.{first_cause};
 ghost use Rattle.tb_value.specs.Refusals.{Settles};
 ghost use Rattle.tb_frame.specs.Answer.{ArePairsOf};
-ghost use Rattle.tb_frame.specs.Promise.Join.{IsAnswer};
 ghost use Rattle.tb_frame.specs.Join.{lent_request};
-ghost use Rattle.tb_frame.specs.Promise.Refusal.{join_refusal, row_causes, too_many_rows};
-ghost use Rattle.tb_frame.specs.Promise.Table.{table_of};
+ghost use Rattle.tb_frame.specs.Promise.Refusal.{row_causes, too_many_rows};
 ghost use Rattle.tb_keys.specs.Asked.{asked_request};
 ghost use Rattle.tb_keys.specs.Causes.{later_refusal};
+ghost use Rattle.tb_keys.specs.Promise.Answers.{IsJoinOf};
 
 use crate::columns::answer_table;
 use std::alloc::Global;
@@ -67,10 +66,7 @@ pub fn nested_join(
     right_on: &[PlSmallStr],
     args: &JoinArgs,
 ) -> PolarsResult<DataFrame>
-    ensures settles { Settles result
-        (join_refusal (lent_request left.now right.now left_on.now right_on.now args.now)) }
-    ensures answer { IfOk result (λ t.
-        IsAnswer (lent_request left.now right.now left_on.now right_on.now args.now) (table_of t)) }
+    ensures { IsJoinOf (lent_request left.now right.now left_on.now right_on.now args.now) result }
 {
     let named = NamedRequest {
         left,

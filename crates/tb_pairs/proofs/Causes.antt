@@ -13,8 +13,8 @@ use Rattle.tb_chunk.specs.Lent.{lent_columns}
 use Rattle.tb_frame.specs.Promise.Join.{flag_at, listing}
 use Rattle.tb_frame.specs.Promise.Refusal.{asks_left, asks_right, has_twins, row_causes}
 use Rattle.tb_frame.specs.Promise.Table.{height, table_of}
-use Rattle.tb_hash.specs.Hashing.{value_listing}
-use Rattle.tb_hash.specs.Probing.{too_many}
+use Rattle.tb_keys.specs.Promise.Listing.{value_listing}
+use Rattle.tb_keys.specs.Causes.{too_many}
 use Rattle.tb_build.specs.Keys.{twins_among}
 use Rattle.tb_hash.specs.Twins.{validation_cause, value_causes, value_twins}
 use Rattle.tb_rowkey.specs.Promise.Columns.{keys_at, row_count}

@@ -14,7 +14,7 @@ use Rattle.tb_chunk.specs.Lent.{lent_columns}
 use Rattle.tb_frame.specs.declared.args.JoinType.{JoinType}
 use Rattle.tb_frame.specs.Promise.Join.{field, flag_at, listing, listing_of}
 use Rattle.tb_frame.specs.Promise.Table.{TableColumn, height, plain_column, table_of}
-use Rattle.tb_hash.specs.Hashing.{value_listing}
+use Rattle.tb_keys.specs.Promise.Listing.{value_listing}
 use Rattle.tb_rowkey.specs.Promise.Columns.{row_count}
 use Rattle.tb_rowkey.specs.Columns.{columns_meet, field_of}
 use Rattle.tb_sorted.proofs.OneKey.{one_column}

@@ -14,7 +14,7 @@ use Rattle.tb_frame.specs.declared.args.JoinType.{JoinType}
 use Rattle.tb_frame.specs.Promise.Join.{flag_at, listing, listing_of}
 use Rattle.tb_frame.specs.Promise.Table.{height, table_of}
 use Rattle.tb_frame.proofs.Listings.{listing-same}
-use Rattle.tb_hash.specs.Hashing.{value_listing}
+use Rattle.tb_keys.specs.Promise.Listing.{value_listing}
 use Rattle.tb_rowkey.specs.Promise.Columns.{fields_at, kinds, row_count, key_at, keys_at}
 use Rattle.tb_rowkey.specs.Columns.{AreKeyColumns, flag_of, key_column, columns_meet}
 use Rattle.tb_rowkey.specs.Promise.RowKey.{has_key, rowkey}

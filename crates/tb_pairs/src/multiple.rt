@@ -1,9 +1,8 @@
 //! The Left join by all columns.
-ghost use Rattle.std.specs.Prelude.{◌≡◌, IfOk, None};
+ghost use Rattle.std.specs.Prelude.{◌≡◌, IfOk};
 ghost use Rattle.tb_value.specs.Refusals.{Settles};
 ghost use Rattle.tb_chunk.specs.Lent.{lent_columns};
-ghost use Rattle.tb_frame.specs.declared.args.MaintainOrderJoin.TheVariants as order;
-ghost use Rattle.tb_frame.specs.Answer.{IsListed};
+ghost use Rattle.tb_frame.specs.Answer.{ArePairsOf};
 ghost use Rattle.tb_frame.specs.Promise.Join.{listing};
 ghost use Rattle.tb_frame.specs.Promise.Refusal.{too_many_rows};
 ghost use Rattle.tb_frame.specs.Promise.Table.{height, table_of};
@@ -48,8 +47,7 @@ fn pairs_by_all_columns(
     ensures settles { Settles result
         (too_many_rows (by_all_columns (table_of a.now) (table_of b.now) join_nulls)) }
     ensures listed { IfOk result (λ v.
-        IsListed JoinType.Left order.None None
-        (listing (by_all_columns (table_of a.now) (table_of b.now) join_nulls)) v.items) }
+        ArePairsOf (by_all_columns (table_of a.now) (table_of b.now) join_nulls) v.items) }
 {
     let left_keys = lent_series(alloc, a)?;
     let right_keys = lent_series(alloc, b)?;

@@ -15,7 +15,7 @@ use Rattle.tb_frame.specs.declared.args.JoinType.{JoinType}
 use Rattle.tb_frame.specs.declared.args.JoinType.TheVariants.{Left}
 use Rattle.tb_frame.proofs.Listings.{listing-same}
 use Rattle.tb_pool.specs.Promise.ExecView.{ExecView}
-use Rattle.tb_sorted.specs.Promise.Columns.{value_listing}
+use Rattle.tb_keys.specs.Promise.Listing.{value_listing}
 use Rattle.tb_sorted.specs.Columns.{AreMergeKeys, MayMerge}
 use Rattle.tb_sorted.specs.Keys.{kind_of_merge}
 use Rattle.tb_sorted.specs.Promise.Path.{have_order, is_flagged, is_inner, is_merge_key, is_worth}

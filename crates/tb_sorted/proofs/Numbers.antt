@@ -21,10 +21,12 @@ use Rattle.tb_frame.specs.Promise.Join.{listing_of}
 use Rattle.tb_frame.proofs.Listings.{listing-same}
 use Rattle.tb_merge.specs.Keys.{keys_match}
 use Rattle.tb_merge.specs.Promise.MergedView.{MergedView}
-use Rattle.tb_sorted.specs.Promise.Columns.{value_listing, value_sizes}
+use Rattle.tb_sorted.specs.Promise.Columns.{value_sizes}
+use Rattle.tb_keys.specs.Promise.Listing.{value_listing}
 use Rattle.tb_sorted.specs.Columns.{AreMergeKeys}
 use Rattle.tb_sorted.specs.Promise.Keys.{MergeSizes}
-use Rattle.tb_sorted.specs.Keys.{kind_of_merge, number_listing, number_sizes, too_long}
+use Rattle.tb_sorted.specs.Keys.{kind_of_merge, number_listing, number_sizes}
+use Rattle.tb_keys.specs.Causes.{too_many}
 use Rattle.tb_sorted.specs.Listed.{AreKeysMerged, AreValuesMerged, IsMergeWithin}
 
 -- what is in order by its images is in order
@@ -98,7 +100,7 @@ module _ (us vs : List Datum) (ls rs : List ℤ) (is_left : us ≡ map int ls) (
   pub merged_values : {A : Type 0} (order : Direction) (keep : Bool) (answer : Result (Vec JoinPair A × MergedView) PolarsError)
       → AreKeysMerged order keep ls rs answer → AreValuesMerged order keep us vs answer
   merged_values order keep answer h = record {
-    settles = subst (λ (ps : List JoinPair). Settles answer (too_long ps)) (values_listed keep) h.settles;
+    settles = subst (λ (ps : List JoinPair). Settles answer (too_many (length ps))) (values_listed keep) h.settles;
     pairs = subst (λ (ps : List JoinPair). IfOk answer (λ x. IsPermutation ps x.0.items)) (values_listed keep) h.pairs;
     ascends = h.ascends;
     merged = subst (λ (s : MergeSizes). IfOk answer (λ x. IsMergeWithin s x.1)) values_sized h.merged;

@@ -24,8 +24,8 @@ use Rattle.tb_pool.specs.Promise.ExecView.{ExecView}
 use Rattle.tb_keys.specs.Asked.{asked_request}
 use Rattle.tb_keys.specs.Rows.{HasRows}
 use Rattle.tb_keys.specs.declared.request.LentRequest.{LentRequest}
-use Rattle.tb_sorted.specs.Promise.Columns.{value_listing}
-use Rattle.tb_sorted.specs.Keys.{too_long}
+use Rattle.tb_keys.specs.Promise.Listing.{value_listing}
+use Rattle.tb_keys.specs.Causes.{too_many}
 use Rattle.tb_sorted.specs.Promise.Path.{are_ordered, asks_nothing, is_merge_key, takes_key_path, takes_path_by}
 use Rattle.tb_sorted.proofs.Flagged.{first_of, second_of}
 
@@ -131,5 +131,5 @@ no_cause Right exec a b ManyToOne x y d e o h n = absurd (cc)
 no_cause Right exec a b OneToMany x y d e o h n = absurd (cc)
 no_cause Right exec a b OneToOne x y d e o h n = absurd (cc)
 
-pub size_alone : (r : LentRequest) (exec : ExecView) (a b : Col) → are_ordered r.how exec a b ≡ true → asks_nothing r.args.now.validation ≡ true → first_cause (row_causes (asked_request r)) ≡ too_long (listing (asked_request r))
-size_alone r exec a b ordered nothing = no_cause r.how exec a b r.args.now.validation _ _ _ _ (too_long (listing (asked_request r))) ordered nothing
+pub size_alone : (r : LentRequest) (exec : ExecView) (a b : Col) → are_ordered r.how exec a b ≡ true → asks_nothing r.args.now.validation ≡ true → first_cause (row_causes (asked_request r)) ≡ too_many (length (listing (asked_request r)))
+size_alone r exec a b ordered nothing = no_cause r.how exec a b r.args.now.validation _ _ _ _ (too_many (length (listing (asked_request r)))) ordered nothing

@@ -1,26 +1,19 @@
 -- The listing of a Right join by values is that of a Left join of the other side, turned round.
 use Rattle.std.proofs.Common.{◌≡◌, ℕ, zero, suc, ◌+◌, ◌<◌, Bool, false, List, [], ◌∷◌, ◌++◌, length, get_or, set, take, drop, map, refl, sym, ap, ◌∙◌, arith}
-use Rattle.std.specs.Prelude.{IsPermutation, nat_lt}
+use Rattle.std.specs.Prelude.{IsPermutation}
 use Rattle.std.proofs.lemmas.List.{length-map}
 use Rattle.std.proofs.lemmas.List.Sorted.{IsPermutation-map, IsPermutation-sym, IsPermutation-trans, length_permutation}
 use Rattle.tb_value.specs.Promise.Datum.{Datum, null}
 use Rattle.tb_value.specs.Promise.Pairs.{matched_pairs}
 use Rattle.tb_value.specs.Pairs.{turn}
-use Rattle.tb_value.specs.Promise.Refusals.{when}
 use Rattle.tb_value.specs.Promise.Same.{agrees}
-use Rattle.tb_value.specs.declared.error.ComputeCause.TheVariants.{TooManyRows}
-use Rattle.tb_value.specs.declared.error.PolarsError.TheVariants.{ComputeError}
 use Rattle.tb_value.specs.declared.index.JoinPair.{JoinPair}
-use Rattle.tb_value.specs.declared.limits.TheConstants.{MAX_ROWS}
 use Rattle.tb_frame.specs.declared.args.JoinType.TheVariants.{Inner, Left, Right}
 use Rattle.tb_value.proofs.Loops.{turned_matches}
 use Rattle.tb_frame.proofs.Turns.{agrees_symm, turned_listing}
-use Rattle.tb_sorted.specs.Promise.Columns.{match_count, sizes_by, value_listing, value_sizes}
-use Rattle.tb_sorted.specs.Keys.{too_long}
-
--- lists of one length are both too long, or neither
-pub as_long : (ps qs : List JoinPair) → length ps ≡ length qs → too_long ps ≡ too_long qs
-as_long ps qs e = ap (λ (n : ℕ). when (nat_lt MAX_ROWS n) (ComputeError TooManyRows)) e
+use Rattle.tb_sorted.specs.Promise.Columns.{match_count, sizes_by, value_sizes}
+use Rattle.tb_keys.specs.Promise.Listing.{value_listing}
+use Rattle.tb_keys.specs.Causes.{too_many}
 
 module _ (null_matches : Bool) (us vs : List Datum) where
   exchanged_listing : IsPermutation (map turn (value_listing null_matches Left vs us)) (value_listing null_matches Right us vs)
@@ -39,8 +32,8 @@ module _ (null_matches : Bool) (us vs : List Datum) where
       sym (length-map (value_listing null_matches Left vs us) turn)
       ∙ sym (length_permutation (map turn (value_listing null_matches Left vs us)) (value_listing null_matches Right us vs) exchanged_listing)
 
-  pub too_long_turned : too_long (value_listing null_matches Left vs us) ≡ too_long (value_listing null_matches Right us vs)
-  too_long_turned = as_long (value_listing null_matches Left vs us) (value_listing null_matches Right us vs) as_many_turned
+  pub too_many_turned : too_many (length (value_listing null_matches Left vs us)) ≡ too_many (length (value_listing null_matches Right us vs))
+  too_many_turned = ap too_many as_many_turned
 
 -- as many rows match whichever side is the left one
 pub sizes_turned : (us vs : List Datum) → value_sizes vs us ≡ sizes_by Right us vs

@@ -1,11 +1,9 @@
 -- Keys as the whole numbers that they are.
-use Rattle.std.specs.Prelude.{ℤ, Bool, false, if◌then◌else◌, List, length, nat_lt, Option}
+use Rattle.std.specs.Prelude.{ℤ, Bool, false, if◌then◌else◌, List, length}
 use Rattle.tb_value.specs.declared.error.ComputeCause.TheVariants.{TooManyRows}
 use Rattle.tb_value.specs.declared.error.PolarsError.{PolarsError}
 use Rattle.tb_value.specs.declared.error.PolarsError.TheVariants as error
 use Rattle.tb_value.specs.declared.index.JoinPair.{JoinPair}
-use Rattle.tb_value.specs.declared.limits.TheConstants.{MAX_ROWS}
-use Rattle.tb_value.specs.Promise.Refusals.{when}
 use Rattle.tb_frame.specs.declared.args.JoinType.{JoinType}
 use Rattle.tb_frame.specs.declared.args.JoinType.TheVariants.{Inner, Left}
 use Rattle.tb_frame.specs.Promise.Join.{listing_of}
@@ -27,10 +25,6 @@ number_listing keep left right =
 abbrev pub number_sizes : List ℤ → List ℤ → MergeSizes
 number_sizes left right = record
     { left_len = length left; right_len = length right; pairs = length (number_listing false left right) }
-
--- so many pairs are too many
-abbrev pub too_long : List JoinPair → Option PolarsError
-too_long ps = when (nat_lt MAX_ROWS (length ps)) (error.ComputeError TooManyRows)
 
 -- the refusal that a fault of a merge is
 abbrev pub refusal_of : MergeFault → PolarsError

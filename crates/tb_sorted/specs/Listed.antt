@@ -1,5 +1,5 @@
 -- Pairs of a listing, in an order that is said.
-use Rattle.std.specs.Prelude.{◌≡◌, ◌+◌, ◌*◌, ◌≤◌, ℤ, Bool, false, if◌then◌else◌, List, Option, None, Result, IfOk, IsPermutation}
+use Rattle.std.specs.Prelude.{◌≡◌, ◌+◌, ◌*◌, ◌≤◌, ℤ, Bool, false, if◌then◌else◌, List, length, Option, None, Result, IfOk, IsPermutation}
 use Rattle.std.specs.declared.vec.Vec.{Vec}
 use Rattle.tb_value.specs.Promise.Datum.{Datum}
 use Rattle.tb_value.specs.Promise.Refusals.{first_cause}
@@ -12,11 +12,13 @@ use Rattle.tb_frame.specs.Promise.Join.{Ascends}
 use Rattle.tb_frame.specs.Promise.Refusal.{row_causes}
 use Rattle.tb_pool.specs.Promise.ExecView.{ExecView}
 use Rattle.tb_keys.specs.Asked.{asked_request}
+use Rattle.tb_keys.specs.Causes.{too_many}
 use Rattle.tb_keys.specs.declared.request.LentRequest.{LentRequest}
 use Rattle.tb_merge.specs.Promise.MergedView.{MergedView}
-use Rattle.tb_sorted.specs.Promise.Columns.{first_values, sizes_by, value_listing, value_sizes}
+use Rattle.tb_sorted.specs.Promise.Columns.{first_values, sizes_by, value_sizes}
+use Rattle.tb_keys.specs.Promise.Listing.{value_listing}
 use Rattle.tb_sorted.specs.Promise.Keys.{MergeSizes}
-use Rattle.tb_sorted.specs.Keys.{kind_of_merge, number_listing, number_sizes, too_long}
+use Rattle.tb_sorted.specs.Keys.{kind_of_merge, number_listing, number_sizes}
 use Rattle.tb_sorted.specs.Path.{takes_merge_path}
 use Rattle.tb_sorted.specs.declared.pairs.DirectedPairs.{DirectedPairs}
 use Rattle.tb_sorted.specs.Promise.Listed.{sizes_of}
@@ -35,7 +37,7 @@ pub record IsMergeWithin (due : MergeSizes) (merged : MergedView) : Type 0 where
 pub record IsMerged {A X : Type 0} (list : List X → List X → List JoinPair)
     (sizes : List X → List X → MergeSizes) (order : Direction) (left right : List X)
     (answer : Result (Vec JoinPair A × MergedView) PolarsError) : Type 0 where
-  pub settles : Settles answer (too_long (list left right))
+  pub settles : Settles answer (too_many (length (list left right)))
   pub pairs : IfOk answer (λ x. IsPermutation (list left right) x.0.items)
   pub ascends : IfOk answer (λ x. Ascends order x.0.items)
   pub merged : IfOk answer (λ x. IsMergeWithin (sizes left right) x.1)

@@ -1,5 +1,5 @@
 //! The pairs of a request whose keys are merged.
-ghost use Rattle.std.specs.Prelude.{◌≡◌, true, false, IfOk, IfSome, is_some, map};
+ghost use Rattle.std.specs.Prelude.{◌≡◌, true, false, IfOk, IfSome, is_some, length, map};
 ghost use Rattle.tb_value.specs.Pairs.{turn};
 ghost use Rattle.tb_value.specs.Promise.Refusals.{first_cause};
 ghost use Rattle.tb_value.specs.Refusals.{Settles};
@@ -8,9 +8,11 @@ ghost use Rattle.tb_chunk.specs.Lent.{lent_columns};
 ghost use Rattle.tb_frame.specs.Promise.Join.{listing};
 ghost use Rattle.tb_frame.specs.Promise.Refusal.{row_causes};
 ghost use Rattle.tb_keys.specs.Asked.{asked_request};
-ghost use Rattle.tb_sorted.specs.Promise.Columns.{sizes_by, value_listing, value_sizes};
+ghost use Rattle.tb_keys.specs.Causes.{too_many};
+ghost use Rattle.tb_sorted.specs.Promise.Columns.{sizes_by, value_sizes};
+ghost use Rattle.tb_keys.specs.Promise.Listing.{value_listing};
 ghost use Rattle.tb_sorted.specs.Columns.{IsInOneChunk};
-ghost use Rattle.tb_sorted.specs.Keys.{kind_of_merge, too_long};
+ghost use Rattle.tb_sorted.specs.Keys.{kind_of_merge};
 ghost use Rattle.tb_sorted.specs.Listed.{AreValuesMerged, IsListedIn, IsMergeWithin, merge_refusal, requested_sizes};
 ghost use Rattle.tb_sorted.specs.Promise.Path.{are_ordered, have_order, is_merge_key};
 ghost use Rattle.tb_sorted.specs.Path.{order_after, sorted_first, takes_merge_path};
@@ -83,9 +85,10 @@ fn left_way_pairs(
     requires ordered { have_order (kind_of_merge keep_unmatched) exec.now left.now right.now
         ≡ true }
     ensures settles { Settles result
-        (too_long
+        (too_many
+        (length
         (value_listing false (kind_of_merge keep_unmatched) (values left.now)
-        (values right.now))) }
+        (values right.now)))) }
     ensures found { IfOk result (λ m.
         IsListedIn
         (value_listing false (kind_of_merge keep_unmatched) (values left.now)
@@ -112,7 +115,8 @@ fn right_way_pairs(
     requires right { is_merge_key right.now ≡ true }
     requires ordered { have_order JoinType.Right exec.now right.now left.now ≡ true }
     ensures settles { Settles result
-        (too_long (value_listing false JoinType.Right (values left.now) (values right.now))) }
+        (too_many
+        (length (value_listing false JoinType.Right (values left.now) (values right.now)))) }
     ensures found { IfOk result (λ m.
         IsListedIn (value_listing false JoinType.Right (values left.now) (values right.now))
         m.listed) }
@@ -139,7 +143,7 @@ fn sorted_pairs(
     requires right { is_merge_key right.now ≡ true }
     requires ordered { are_ordered how exec.now left.now right.now ≡ true }
     ensures settles { Settles result
-        (too_long (value_listing false how (values left.now) (values right.now))) }
+        (too_many (length (value_listing false how (values left.now) (values right.now)))) }
     ensures found { IfOk result (λ m.
         IsListedIn (value_listing false how (values left.now) (values right.now)) m.listed) }
     ensures merged { IfOk result (λ m.

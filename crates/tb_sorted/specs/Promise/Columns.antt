@@ -1,18 +1,11 @@
--- Key columns, and the pairs of two by their values.
-use Rattle.std.specs.Prelude.{ℕ, Bool, false, List, [], ◌∷◌, length, slice_index_or}
-use Rattle.tb_value.specs.Promise.Datum.{Datum, null}
-use Rattle.tb_value.specs.Promise.Same.{agrees}
-use Rattle.tb_value.specs.declared.index.JoinPair.{JoinPair}
+-- Key columns, and the sizes of a merge of two by their values.
+use Rattle.std.specs.Prelude.{ℕ, false, List, [], ◌∷◌, length}
+use Rattle.tb_value.specs.Promise.Datum.{Datum}
 use Rattle.tb_chunk.specs.Promise.Col.{Col, values}
 use Rattle.tb_frame.specs.declared.args.JoinType.{JoinType}
 use Rattle.tb_frame.specs.declared.args.JoinType.TheVariants as kind
-use Rattle.tb_frame.specs.Promise.Join.{listing_of}
+use Rattle.tb_keys.specs.Promise.Listing.{value_listing}
 use Rattle.tb_sorted.specs.Promise.Keys.{MergeSizes}
-
--- the listing of two columns by their values
-abbrev pub value_listing : Bool → JoinType → List Datum → List Datum → List JoinPair
-value_listing null_matches how us vs = listing_of how (length us) (length vs) (λ i j.
-    agrees null_matches (slice_index_or us i null) (slice_index_or vs j null))
 
 -- how many pairs of rows match, of two columns without Nulls
 abbrev pub match_count : List Datum → List Datum → ℕ

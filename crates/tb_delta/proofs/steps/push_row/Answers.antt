@@ -7,10 +7,11 @@ use Rattle.tb_value.specs.Promise.Same.{agrees}
 use Rattle.tb_value.specs.See.{datum, data_of}
 use Rattle.tb_value.specs.SeeKind.{part}
 use Rattle.tb_value.specs.declared.error.Side.{Side}
-use Rattle.tb_delta.specs.Groups.{ids_at, is_side, ties, without}
+use Rattle.tb_delta.specs.Groups.{ids_at, is_side, ties, without, without_all}
 use Rattle.tb_delta.specs.Inside.{is_grouped, key_of, side_state, stored}
 use Rattle.tb_delta.specs.Promise.State.{Row, SideState}
 use Rattle.tb_delta.specs.declared.side_rows.StoredRow.{StoredRow}
+use Rattle.tb_delta.proofs.Gone.{one_gone}
 use Rattle.tb_delta.proofs.Grouped.{ascending_after, side_is, undone, with_agrees, without_agrees}
 use Rattle.tb_delta.proofs.Placed.{key_at, key_low, placed_push, placed_same, rows_low}
 use Rattle.tb_delta.proofs.RowLists.{put_last}
@@ -59,8 +60,8 @@ returns-in-Ok-clause-groups c = λ s k.
     ] in
     mid
 
-pub take_out-requires : goal.take_out-requires
-take_out-requires c = λ s k.
+pub take_out-requires-clause-ascend : goal.take_out-requires-clause-ascend
+take_out-requires-clause-ascend c = λ s k.
     let low : c.args.rows.now.key < length c.args.row.items = omega (arith, key_low c.args.rows.now c.requires.placed (data_of c.args.row.items) c.requires.fits, length-map c.args.row.items datum) in
     let nulls = c.args.join_nulls in
     let x : Bool = is_side c.args.side s in
@@ -113,8 +114,9 @@ returns-clause-groups_stay c = λ s k.
       | then-grouped-2 w ↦
           ap (λ g. ids_at g s k) w.groups-is
           ∙ w.take_out.ensures s k
-          ∙ ap (λ e. if x && ties e (datum k.value) then without c.args.rows.now.ever there else there)
+          ∙ ap (λ e. if x && ties e (datum k.value) then without_all (c.args.rows.now.ever ∷ []) there else there)
           (ap (λ (p : ℕ × StoredRow). datum p.1.key.value) c.in-Err.ensures.value_returned ∙ key)
+          ∙ ap (λ (l : List ℕ). if x && ties d (datum k.value) then l else there) (sym (one_gone c.args.rows.now.ever there))
           ∙ with_agrees x nulls d (datum k.value) (without c.args.rows.now.ever there) there (ap (is_grouped nulls) (sym key) ∙ sym c.is_grouped-grouped.ensures ∙ w.if-grouped-2.true)
           ∙ undone (x && agrees nulls d (datum k.value)) before there c.args.rows.now.ever mid (λ e. below (first_so x (agrees nulls d (datum k.value)) e))
       | else-grouped-2 w ↦

@@ -1,7 +1,7 @@
 use Rattle.std.proofs.Common.{◌≡◌, ◌∙◌, ◌<◌, ◌⊎◌, ◌∷◌, [], length, ap, sym, subst}
 use Rattle.tb_value.specs.Promise.Names.{Name}
 use Rattle.tb_frame.specs.Promise.Join.{Request, listing, out}
-use Rattle.tb_join.specs.Promise.Answers.{IsJoinUnless}
+use Rattle.tb_keys.specs.Promise.Answers.{IsJoinUnless}
 use Rattle.tb_join.specs.Ready.{CanCoalesceKeys}
 use Rattle.tb_dispatch.specs.Given.{paired_refusal}
 use Rattle.tb_dispatch.proofs.KeyColumns.{alike_one, can_merge, full_wide, series_is}

@@ -1,9 +1,8 @@
-use Rattle.std.proofs.Common.{◌≡◌, ◌∙◌, ◌<◌, ◌⊎◌, inl, inr, rules, List, [], None, length, sym, subst, arith}
+use Rattle.std.proofs.Common.{◌≡◌, ◌∙◌, ◌<◌, ◌⊎◌, inl, inr, rules, [], None, length, sym, subst, arith}
 use Rattle.tb_value.specs.declared.error.ComputeCause.TheVariants.{TooManyRows}
 use Rattle.tb_value.specs.declared.error.PolarsError.TheVariants.{ComputeError}
-use Rattle.tb_value.specs.declared.index.JoinPair.{JoinPair}
 use Rattle.tb_value.specs.declared.limits.TheConstants.{MAX_ROWS}
-use Rattle.tb_frame.specs.Answer.{IsListed}
+use Rattle.tb_frame.specs.Answer.{ArePairsOf}
 use Rattle.tb_frame.specs.Promise.Join.{listing, out}
 use Rattle.tb_frame.specs.Promise.Refusal.{row_causes}
 use Rattle.tb_frame.proofs.Causes.{no_cause, when_not_above}
@@ -25,8 +24,7 @@ finish_join-requires-clause-some g c κs within = at c.requires.wide
 
 pub finish_join-requires-clause-listed : goal.finish_join-requires-clause-listed
 finish_join-requires-clause-listed g c κs within =
-    let r = c.args.request.now in
-    subst (λ (ps : List JoinPair). IsListed r.how r.args.now.maintain_order r.args.now.slice (listing (asked_request r)) ps) (sym c.deref.ensures.value) c.in_ok-pairs.ensures.listed
+    subst (ArePairsOf (asked_request c.args.request.now)) (sym c.deref.ensures.value) c.in_ok-pairs.ensures.listed
 
 pub returns-in_err-check_answer_names : goal.returns-in_err-check_answer_names
 returns-in_err-check_answer_names g c = record { settles = search rules; answer = search rules }

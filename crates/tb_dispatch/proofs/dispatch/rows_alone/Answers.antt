@@ -3,7 +3,7 @@ use Rattle.std.specs.Prelude.{IfOk}
 use Rattle.std.proofs.lemmas.Result.{IfOk-weaker}
 use Rattle.tb_value.specs.Promise.Pairs.{left_only}
 use Rattle.tb_chunk.specs.Promise.Col.{values}
-use Rattle.tb_hash.specs.Hashing.{value_listing}
+use Rattle.tb_keys.specs.Promise.Listing.{value_listing}
 use Rattle.tb_dispatch.specs.Given.{semi_or_anti}
 use Rattle.tb_dispatch.proofs.dispatch.rows_alone.Goals as goal
 

@@ -1,31 +1,17 @@
-use Rattle.std.proofs.Common.{◌≡◌, ◌∙◌, ◌<◌, ℕ, ap, length, map, subst, sym}
-use Rattle.std.specs.List.{All}
-use Rattle.tb_chunk.specs.Promise.Col.{values}
-use Rattle.tb_agg.specs.Kept.{KeptView, kept_values, IsKeptFor}
-use Rattle.tb_agg.specs.declared.table.Form.{Form}
+use Rattle.std.proofs.Common.{◌≡◌, ◌∙◌, ap, map, sym}
+use Rattle.tb_chunk.specs.Lent.{lent_columns}
+use Rattle.tb_frame.specs.Promise.Table.{table_of}
 use Rattle.tb_group.specs.Parts.{shown_part}
-use Rattle.tb_group.specs.Whole.{gathered, HasRank}
-use Rattle.tb_group.proofs.KeptColumns.{places_low, placed_is}
-use Rattle.tb_group.proofs.Pieces.{un_mapped}
+use Rattle.tb_group.specs.Whole.{columns_at, there_of}
+use Rattle.tb_group.proofs.Pieces.{all_there, some_pieces}
 use Rattle.tb_group.proofs.columns.agg_column.Goals as goal
 
-pub gathered-requires : goal.gathered-requires
-gathered-requires c =
-    un_mapped (HasRank c.form.result c.args.rank) shown_part c.args.parts.now
-    (subst (λ (f : Form). All (HasRank f c.args.rank) (map shown_part c.args.parts.now)) (sym c.form.ensures) c.requires.whole.ranked)
+pub pieces-requires-clause-there : goal.pieces-requires-clause-there
+pieces-requires-clause-there c = all_there c.args.place c.args.parts.now c.requires.low (sym c.are_there.ensures ∙ c.if-not-are_there.false)
 
-pub column-requires-clause-taken : goal.column-requires-clause-taken
-column-requires-clause-taken c = c.requires.whole.taken
-
-pub column-requires-clause-kept : goal.column-requires-clause-kept
-column-requires-clause-kept c =
-    subst (IsKeptFor (length (values c.args.made.now.column.now)))
-    (sym (c.in_ok-kept.ensures ∙ ap (λ (f : Form). gathered f c.args.rank (map shown_part c.args.parts.now)) c.form.ensures)) c.requires.whole.kept
-
-pub take-requires-clause-rows : goal.take-requires-clause-rows
-take-requires-clause-rows c =
-    let made = c.args.made.now in
-    let is = c.in_ok-kept.ensures ∙ ap (λ (f : Form). gathered f c.args.rank (map shown_part c.args.parts.now)) c.form.ensures in
-    let all = rw c.in-Some.is at c.in_ok-column.ensures in
-    places_low made.asked.now _ made.column.now _ c.in-Some.column all.1 c.args.places.now
-    (subst (λ (k : KeptView). All (λ p. p < length (kept_values made.asked.now.agg (values made.column.now) k)) c.args.places.now) (sym is) c.requires.whole.within)
+pub stacked-requires-clause-some : goal.stacked-requires-clause-some
+stacked-requires-clause-some c =
+    let os = columns_at c.args.place (map shown_part c.args.parts.now) in
+    let rs = c.deref.result.now in
+    let same : table_of (lent_columns rs) ≡ there_of os = ap (λ l. table_of (lent_columns l)) c.deref.ensures.value ∙ c.in_ok-pieces.ensures in
+    some_pieces rs c.args.places.now os c.requires.stacked same (sym c.are_there.ensures ∙ c.if-not-are_there.false)

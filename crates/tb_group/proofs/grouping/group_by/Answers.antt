@@ -4,7 +4,7 @@ use Rattle.tb_chunk.specs.Lent.{lent_columns}
 use Rattle.tb_frame.specs.Frame.{frame_refusal}
 use Rattle.tb_frame.specs.Promise.Frame.{selected_columns}
 use Rattle.tb_frame.specs.Promise.Table.{table_of}
-use Rattle.tb_group.specs.Asked.{asked_list, asked_of, source_columns}
+use Rattle.tb_group.specs.Asked.{asked_list, asked_of}
 use Rattle.tb_group.specs.Once.{AreOnceTo}
 use Rattle.tb_group.specs.Promise.Refusal.{group_refusal}
 use Rattle.tb_group.specs.Promise.Request.{agg_sources, by_columns, lent_request}
@@ -30,12 +30,6 @@ asked_columns-requires g c =
     let sources : lent_columns c.deref.result.now ≡ selected_columns (agg_sources aggs) cs = ap lent_columns c.deref.ensures.value ∙ found.sources in
     sources_many cs by aggs known c.deref.result.now sources
 
-pub with_columns-requires : goal.with_columns-requires
-with_columns-requires g c =
-    ap (λ l. table_of (lent_columns l)) c.deref-11.ensures.value ∙ c.in_ok-whole.ensures ∙ ap (λ l. table_of (lent_columns l)) c.deref-8.ensures.value
-    ∙ ap table_of (c.in_ok-sources.ensures ∙ ap source_columns c.deref-6.ensures.value)
-    ∙ sym (ap (λ l. table_of (source_columns l)) c.deref-10.ensures.value)
-
 pub grouped-requires-clause-served : goal.grouped-requires-clause-served
 grouped-requires-clause-served g c κs within =
     let cs = c.args.table.now in
@@ -47,14 +41,14 @@ grouped-requires-clause-served g c κs within =
     let sources : lent_columns c.deref.result.now ≡ selected_columns (agg_sources aggs) cs = ap lent_columns c.deref.ensures.value ∙ found.sources in
     let made = c.in_ok-once.once.made.items in
     let asked : asked_list c.in_ok-asked.asked.items ≡ asked_of (table_of cs) aggs = c.in_ok-asked.ensures ∙ asked_are cs by aggs known c.deref.result.now sources in
-    let keys : table_of (lent_columns c.deref-12.result.now) ≡ by_columns (lent_request cs by aggs) =
-    ap (λ l. table_of (lent_columns l)) c.deref-12.ensures.value ∙ c.in_ok-keys.ensures ∙ ap (λ l. table_of (lent_columns l)) c.deref-4.ensures.value
+    let keys : table_of (lent_columns c.deref-9.result.now) ≡ by_columns (lent_request cs by aggs) =
+    ap (λ l. table_of (lent_columns l)) c.deref-9.ensures.value ∙ c.in_ok-keys.ensures ∙ ap (λ l. table_of (lent_columns l)) c.deref-5.ensures.value
     ∙ keys_are cs by aggs c.in_ok-columns.columns.by.items found.by in
-    let once : AreOnceTo c.deref-13.result.now (length c.deref-13.result.now) made c.as_slice-seats.result.now =
-    subst (λ (l : List ℕ). AreOnceTo c.deref-13.result.now (length c.deref-13.result.now) made l) (sym c.as_slice-seats.ensures.value)
-    (subst (λ (l : List AskedColumn). AreOnceTo l (length l) made c.in_ok-once.once.seats.items) (c.deref-2.ensures.value ∙ sym c.deref-13.ensures.value) c.in_ok-once.ensures) in
-    let whole : asked_list c.deref-14.result.now ≡ asked_list made = ap asked_list c.deref-14.ensures.value ∙ c.in_ok-made.ensures ∙ ap asked_list c.deref-10.ensures.value in
-    let served = are_served cs by aggs none found.table _ made c.height-height.ensures.height keys (ap asked_list c.deref-13.ensures.value ∙ asked) once whole in
+    let once : AreOnceTo c.deref-10.result.now (length c.deref-10.result.now) made c.as_slice-seats.result.now =
+    subst (λ (l : List ℕ). AreOnceTo c.deref-10.result.now (length c.deref-10.result.now) made l) (sym c.as_slice-seats.ensures.value)
+    (subst (λ (l : List AskedColumn). AreOnceTo l (length l) made c.in_ok-once.once.seats.items) (c.deref-2.ensures.value ∙ sym c.deref-10.ensures.value) c.in_ok-once.ensures) in
+    let whole : asked_list c.deref-11.result.now ≡ asked_list made = ap asked_list c.deref-11.ensures.value ∙ c.in_ok-made.ensures ∙ ap asked_list c.deref-7.ensures.value in
+    let served = are_served cs by aggs none found.table _ made c.height-height.ensures.height keys (ap asked_list c.deref-10.ensures.value ∙ asked) once whole in
     (lent_request cs by aggs, served)
 
 pub returns-in_err-answer-clause-settles : goal.returns-in_err-answer-clause-settles
@@ -68,14 +62,14 @@ returns-in_err-answer-clause-settles g c =
     let sources : lent_columns c.deref.result.now ≡ selected_columns (agg_sources aggs) cs = ap lent_columns c.deref.ensures.value ∙ found.sources in
     let made = c.in_ok-once.once.made.items in
     let asked : asked_list c.in_ok-asked.asked.items ≡ asked_of (table_of cs) aggs = c.in_ok-asked.ensures ∙ asked_are cs by aggs known c.deref.result.now sources in
-    let keys : table_of (lent_columns c.deref-12.result.now) ≡ by_columns (lent_request cs by aggs) =
-    ap (λ l. table_of (lent_columns l)) c.deref-12.ensures.value ∙ c.in_ok-keys.ensures ∙ ap (λ l. table_of (lent_columns l)) c.deref-4.ensures.value
+    let keys : table_of (lent_columns c.deref-9.result.now) ≡ by_columns (lent_request cs by aggs) =
+    ap (λ l. table_of (lent_columns l)) c.deref-9.ensures.value ∙ c.in_ok-keys.ensures ∙ ap (λ l. table_of (lent_columns l)) c.deref-5.ensures.value
     ∙ keys_are cs by aggs c.in_ok-columns.columns.by.items found.by in
-    let once : AreOnceTo c.deref-13.result.now (length c.deref-13.result.now) made c.as_slice-seats.result.now =
-    subst (λ (l : List ℕ). AreOnceTo c.deref-13.result.now (length c.deref-13.result.now) made l) (sym c.as_slice-seats.ensures.value)
-    (subst (λ (l : List AskedColumn). AreOnceTo l (length l) made c.in_ok-once.once.seats.items) (c.deref-2.ensures.value ∙ sym c.deref-13.ensures.value) c.in_ok-once.ensures) in
-    let whole : asked_list c.deref-14.result.now ≡ asked_list made = ap asked_list c.deref-14.ensures.value ∙ c.in_ok-made.ensures ∙ ap asked_list c.deref-10.ensures.value in
-    let served = are_served cs by aggs none found.table _ made c.height-height.ensures.height keys (ap asked_list c.deref-13.ensures.value ∙ asked) once whole in
+    let once : AreOnceTo c.deref-10.result.now (length c.deref-10.result.now) made c.as_slice-seats.result.now =
+    subst (λ (l : List ℕ). AreOnceTo c.deref-10.result.now (length c.deref-10.result.now) made l) (sym c.as_slice-seats.ensures.value)
+    (subst (λ (l : List AskedColumn). AreOnceTo l (length l) made c.in_ok-once.once.seats.items) (c.deref-2.ensures.value ∙ sym c.deref-10.ensures.value) c.in_ok-once.ensures) in
+    let whole : asked_list c.deref-11.result.now ≡ asked_list made = ap asked_list c.deref-11.ensures.value ∙ c.in_ok-made.ensures ∙ ap asked_list c.deref-7.ensures.value in
+    let served = are_served cs by aggs none found.table _ made c.height-height.ensures.height keys (ap asked_list c.deref-10.ensures.value ∙ asked) once whole in
     let p = err_from_is_err_and c.from_residual-in_err-answer.result c.from_residual-in_err-answer.ensures.1 in
     rw (p.1, p.2) (onward _ _ (group_refusal (lent_request cs by aggs)) (sums_refused (lent_request cs by aggs) none) (c.in_err-answer.ensures.settles (lent_request cs by aggs) served))
 
@@ -90,14 +84,14 @@ returns-in_err-new-clause-settles g c =
     let sources : lent_columns c.deref.result.now ≡ selected_columns (agg_sources aggs) cs = ap lent_columns c.deref.ensures.value ∙ found.sources in
     let made = c.in_ok-once.once.made.items in
     let asked : asked_list c.in_ok-asked.asked.items ≡ asked_of (table_of cs) aggs = c.in_ok-asked.ensures ∙ asked_are cs by aggs known c.deref.result.now sources in
-    let keys : table_of (lent_columns c.deref-12.result.now) ≡ by_columns (lent_request cs by aggs) =
-    ap (λ l. table_of (lent_columns l)) c.deref-12.ensures.value ∙ c.in_ok-keys.ensures ∙ ap (λ l. table_of (lent_columns l)) c.deref-4.ensures.value
+    let keys : table_of (lent_columns c.deref-9.result.now) ≡ by_columns (lent_request cs by aggs) =
+    ap (λ l. table_of (lent_columns l)) c.deref-9.ensures.value ∙ c.in_ok-keys.ensures ∙ ap (λ l. table_of (lent_columns l)) c.deref-5.ensures.value
     ∙ keys_are cs by aggs c.in_ok-columns.columns.by.items found.by in
-    let once : AreOnceTo c.deref-13.result.now (length c.deref-13.result.now) made c.as_slice-seats.result.now =
-    subst (λ (l : List ℕ). AreOnceTo c.deref-13.result.now (length c.deref-13.result.now) made l) (sym c.as_slice-seats.ensures.value)
-    (subst (λ (l : List AskedColumn). AreOnceTo l (length l) made c.in_ok-once.once.seats.items) (c.deref-2.ensures.value ∙ sym c.deref-13.ensures.value) c.in_ok-once.ensures) in
-    let whole : asked_list c.deref-14.result.now ≡ asked_list made = ap asked_list c.deref-14.ensures.value ∙ c.in_ok-made.ensures ∙ ap asked_list c.deref-10.ensures.value in
-    let served = are_served cs by aggs none found.table _ made c.height-height.ensures.height keys (ap asked_list c.deref-13.ensures.value ∙ asked) once whole in
+    let once : AreOnceTo c.deref-10.result.now (length c.deref-10.result.now) made c.as_slice-seats.result.now =
+    subst (λ (l : List ℕ). AreOnceTo c.deref-10.result.now (length c.deref-10.result.now) made l) (sym c.as_slice-seats.ensures.value)
+    (subst (λ (l : List AskedColumn). AreOnceTo l (length l) made c.in_ok-once.once.seats.items) (c.deref-2.ensures.value ∙ sym c.deref-10.ensures.value) c.in_ok-once.ensures) in
+    let whole : asked_list c.deref-11.result.now ≡ asked_list made = ap asked_list c.deref-11.ensures.value ∙ c.in_ok-made.ensures ∙ ap asked_list c.deref-7.ensures.value in
+    let served = are_served cs by aggs none found.table _ made c.height-height.ensures.height keys (ap asked_list c.deref-10.ensures.value ∙ asked) once whole in
     let fine : frame_refusal (table_of c.in_ok-answer.answer.items) ≡ None = ap frame_refusal (c.in_ok-answer.ensures.table (lent_request cs by aggs) served) ∙ not_refused cs by aggs none in
     let refusal : group_refusal (lent_request cs by aggs) ≡ None = sums_refused (lent_request cs by aggs) none ∙ c.in_ok-answer.ensures.settles (lent_request cs by aggs) served in
     let p = err_from_is_err_and c.from_residual-in_err-new.result c.from_residual-in_err-new.ensures.1 in
@@ -114,14 +108,14 @@ returns-clause-settles g c =
     let sources : lent_columns c.deref.result.now ≡ selected_columns (agg_sources aggs) cs = ap lent_columns c.deref.ensures.value ∙ found.sources in
     let made = c.in_ok-once.once.made.items in
     let asked : asked_list c.in_ok-asked.asked.items ≡ asked_of (table_of cs) aggs = c.in_ok-asked.ensures ∙ asked_are cs by aggs known c.deref.result.now sources in
-    let keys : table_of (lent_columns c.deref-12.result.now) ≡ by_columns (lent_request cs by aggs) =
-    ap (λ l. table_of (lent_columns l)) c.deref-12.ensures.value ∙ c.in_ok-keys.ensures ∙ ap (λ l. table_of (lent_columns l)) c.deref-4.ensures.value
+    let keys : table_of (lent_columns c.deref-9.result.now) ≡ by_columns (lent_request cs by aggs) =
+    ap (λ l. table_of (lent_columns l)) c.deref-9.ensures.value ∙ c.in_ok-keys.ensures ∙ ap (λ l. table_of (lent_columns l)) c.deref-5.ensures.value
     ∙ keys_are cs by aggs c.in_ok-columns.columns.by.items found.by in
-    let once : AreOnceTo c.deref-13.result.now (length c.deref-13.result.now) made c.as_slice-seats.result.now =
-    subst (λ (l : List ℕ). AreOnceTo c.deref-13.result.now (length c.deref-13.result.now) made l) (sym c.as_slice-seats.ensures.value)
-    (subst (λ (l : List AskedColumn). AreOnceTo l (length l) made c.in_ok-once.once.seats.items) (c.deref-2.ensures.value ∙ sym c.deref-13.ensures.value) c.in_ok-once.ensures) in
-    let whole : asked_list c.deref-14.result.now ≡ asked_list made = ap asked_list c.deref-14.ensures.value ∙ c.in_ok-made.ensures ∙ ap asked_list c.deref-10.ensures.value in
-    let served = are_served cs by aggs none found.table _ made c.height-height.ensures.height keys (ap asked_list c.deref-13.ensures.value ∙ asked) once whole in
+    let once : AreOnceTo c.deref-10.result.now (length c.deref-10.result.now) made c.as_slice-seats.result.now =
+    subst (λ (l : List ℕ). AreOnceTo c.deref-10.result.now (length c.deref-10.result.now) made l) (sym c.as_slice-seats.ensures.value)
+    (subst (λ (l : List AskedColumn). AreOnceTo l (length l) made c.in_ok-once.once.seats.items) (c.deref-2.ensures.value ∙ sym c.deref-10.ensures.value) c.in_ok-once.ensures) in
+    let whole : asked_list c.deref-11.result.now ≡ asked_list made = ap asked_list c.deref-11.ensures.value ∙ c.in_ok-made.ensures ∙ ap asked_list c.deref-7.ensures.value in
+    let served = are_served cs by aggs none found.table _ made c.height-height.ensures.height keys (ap asked_list c.deref-10.ensures.value ∙ asked) once whole in
     sums_refused (lent_request cs by aggs) none ∙ c.in_ok-answer.ensures.settles (lent_request cs by aggs) served
 
 pub returns-clause-table : goal.returns-clause-table
@@ -135,14 +129,14 @@ returns-clause-table g c =
     let sources : lent_columns c.deref.result.now ≡ selected_columns (agg_sources aggs) cs = ap lent_columns c.deref.ensures.value ∙ found.sources in
     let made = c.in_ok-once.once.made.items in
     let asked : asked_list c.in_ok-asked.asked.items ≡ asked_of (table_of cs) aggs = c.in_ok-asked.ensures ∙ asked_are cs by aggs known c.deref.result.now sources in
-    let keys : table_of (lent_columns c.deref-12.result.now) ≡ by_columns (lent_request cs by aggs) =
-    ap (λ l. table_of (lent_columns l)) c.deref-12.ensures.value ∙ c.in_ok-keys.ensures ∙ ap (λ l. table_of (lent_columns l)) c.deref-4.ensures.value
+    let keys : table_of (lent_columns c.deref-9.result.now) ≡ by_columns (lent_request cs by aggs) =
+    ap (λ l. table_of (lent_columns l)) c.deref-9.ensures.value ∙ c.in_ok-keys.ensures ∙ ap (λ l. table_of (lent_columns l)) c.deref-5.ensures.value
     ∙ keys_are cs by aggs c.in_ok-columns.columns.by.items found.by in
-    let once : AreOnceTo c.deref-13.result.now (length c.deref-13.result.now) made c.as_slice-seats.result.now =
-    subst (λ (l : List ℕ). AreOnceTo c.deref-13.result.now (length c.deref-13.result.now) made l) (sym c.as_slice-seats.ensures.value)
-    (subst (λ (l : List AskedColumn). AreOnceTo l (length l) made c.in_ok-once.once.seats.items) (c.deref-2.ensures.value ∙ sym c.deref-13.ensures.value) c.in_ok-once.ensures) in
-    let whole : asked_list c.deref-14.result.now ≡ asked_list made = ap asked_list c.deref-14.ensures.value ∙ c.in_ok-made.ensures ∙ ap asked_list c.deref-10.ensures.value in
-    let served = are_served cs by aggs none found.table _ made c.height-height.ensures.height keys (ap asked_list c.deref-13.ensures.value ∙ asked) once whole in
+    let once : AreOnceTo c.deref-10.result.now (length c.deref-10.result.now) made c.as_slice-seats.result.now =
+    subst (λ (l : List ℕ). AreOnceTo c.deref-10.result.now (length c.deref-10.result.now) made l) (sym c.as_slice-seats.ensures.value)
+    (subst (λ (l : List AskedColumn). AreOnceTo l (length l) made c.in_ok-once.once.seats.items) (c.deref-2.ensures.value ∙ sym c.deref-10.ensures.value) c.in_ok-once.ensures) in
+    let whole : asked_list c.deref-11.result.now ≡ asked_list made = ap asked_list c.deref-11.ensures.value ∙ c.in_ok-made.ensures ∙ ap asked_list c.deref-7.ensures.value in
+    let served = are_served cs by aggs none found.table _ made c.height-height.ensures.height keys (ap asked_list c.deref-10.ensures.value ∙ asked) once whole in
     ap table_of c.in_ok-new.ensures.columns ∙ c.in_ok-answer.ensures.table (lent_request cs by aggs) served
 
 pub returns-clause-traced : goal.returns-clause-traced
@@ -156,12 +150,12 @@ returns-clause-traced g c =
     let sources : lent_columns c.deref.result.now ≡ selected_columns (agg_sources aggs) cs = ap lent_columns c.deref.ensures.value ∙ found.sources in
     let made = c.in_ok-once.once.made.items in
     let asked : asked_list c.in_ok-asked.asked.items ≡ asked_of (table_of cs) aggs = c.in_ok-asked.ensures ∙ asked_are cs by aggs known c.deref.result.now sources in
-    let keys : table_of (lent_columns c.deref-12.result.now) ≡ by_columns (lent_request cs by aggs) =
-    ap (λ l. table_of (lent_columns l)) c.deref-12.ensures.value ∙ c.in_ok-keys.ensures ∙ ap (λ l. table_of (lent_columns l)) c.deref-4.ensures.value
+    let keys : table_of (lent_columns c.deref-9.result.now) ≡ by_columns (lent_request cs by aggs) =
+    ap (λ l. table_of (lent_columns l)) c.deref-9.ensures.value ∙ c.in_ok-keys.ensures ∙ ap (λ l. table_of (lent_columns l)) c.deref-5.ensures.value
     ∙ keys_are cs by aggs c.in_ok-columns.columns.by.items found.by in
-    let once : AreOnceTo c.deref-13.result.now (length c.deref-13.result.now) made c.as_slice-seats.result.now =
-    subst (λ (l : List ℕ). AreOnceTo c.deref-13.result.now (length c.deref-13.result.now) made l) (sym c.as_slice-seats.ensures.value)
-    (subst (λ (l : List AskedColumn). AreOnceTo l (length l) made c.in_ok-once.once.seats.items) (c.deref-2.ensures.value ∙ sym c.deref-13.ensures.value) c.in_ok-once.ensures) in
-    let whole : asked_list c.deref-14.result.now ≡ asked_list made = ap asked_list c.deref-14.ensures.value ∙ c.in_ok-made.ensures ∙ ap asked_list c.deref-10.ensures.value in
-    let served = are_served cs by aggs none found.table _ made c.height-height.ensures.height keys (ap asked_list c.deref-13.ensures.value ∙ asked) once whole in
+    let once : AreOnceTo c.deref-10.result.now (length c.deref-10.result.now) made c.as_slice-seats.result.now =
+    subst (λ (l : List ℕ). AreOnceTo c.deref-10.result.now (length c.deref-10.result.now) made l) (sym c.as_slice-seats.ensures.value)
+    (subst (λ (l : List AskedColumn). AreOnceTo l (length l) made c.in_ok-once.once.seats.items) (c.deref-2.ensures.value ∙ sym c.deref-10.ensures.value) c.in_ok-once.ensures) in
+    let whole : asked_list c.deref-11.result.now ≡ asked_list made = ap asked_list c.deref-11.ensures.value ∙ c.in_ok-made.ensures ∙ ap asked_list c.deref-7.ensures.value in
+    let served = are_served cs by aggs none found.table _ made c.height-height.ensures.height keys (ap asked_list c.deref-10.ensures.value ∙ asked) once whole in
     c.in_ok-answer.ensures.traced (lent_request cs by aggs) served

@@ -1,12 +1,11 @@
-use Rattle.std.proofs.Common.{◌≡◌, ◌++◌, List, Option, None, length, inl, sym, subst, arith}
+use Rattle.std.proofs.Common.{◌≡◌, ◌++◌, Option, None, length, inl, sym, subst, arith}
 use Rattle.std.specs.Prelude.{All}
 use Rattle.std.proofs.lemmas.Result.{err_from_is_err_and}
 use Rattle.tb_value.specs.declared.error.ComputeCause.TheVariants.{TooManyRows}
 use Rattle.tb_value.specs.declared.error.PolarsError.{PolarsError}
 use Rattle.tb_value.specs.declared.error.PolarsError.TheVariants.{ComputeError}
-use Rattle.tb_value.specs.declared.index.JoinPair.{JoinPair}
 use Rattle.tb_value.specs.declared.limits.TheConstants.{MAX_ROWS}
-use Rattle.tb_frame.specs.Answer.{IsListed}
+use Rattle.tb_frame.specs.Answer.{ArePairsOf}
 use Rattle.tb_frame.specs.Promise.Join.{Request, listing}
 use Rattle.tb_frame.specs.Promise.Refusal.{column_causes, row_causes}
 use Rattle.tb_frame.proofs.Causes.{no_cause, when_not_above}
@@ -34,8 +33,7 @@ finish_join-requires-clause-some g c κs within = inl c.requires.ready.wide
 
 pub finish_join-requires-clause-listed : goal.finish_join-requires-clause-listed
 finish_join-requires-clause-listed g c κs within =
-    let r = c.args.request.now in
-    subst (λ (ps : List JoinPair). IsListed r.how r.args.now.maintain_order r.args.now.slice (listing (asked_request r)) ps) (sym c.deref.ensures.value) c.in_ok-pairs.ensures.listed
+    subst (ArePairsOf (asked_request c.args.request.now)) (sym c.deref.ensures.value) c.in_ok-pairs.ensures.listed
 
 pub returns-in_err-pairs : goal.returns-in_err-pairs
 returns-in_err-pairs g c =

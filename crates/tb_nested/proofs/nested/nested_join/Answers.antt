@@ -1,12 +1,11 @@
-use Rattle.std.proofs.Common.{◌≡◌, ◌⊎◌, List, None, Option, Some, refl, subst, sym}
+use Rattle.std.proofs.Common.{◌≡◌, ◌⊎◌, None, Option, Some, refl, subst, sym}
 use Rattle.std.specs.Prelude.{IfOk}
 use Rattle.std.proofs.lemmas.Result.{err_from_is_err_and}
 use Rattle.tb_value.specs.Refusals.{Settles}
 use Rattle.tb_value.specs.declared.error.PolarsError.{PolarsError}
 use Rattle.tb_value.specs.declared.error.PolarsError.TheVariants.{OutOfMemory}
-use Rattle.tb_value.specs.declared.index.JoinPair.{JoinPair}
-use Rattle.tb_frame.specs.Answer.{IsListed}
-use Rattle.tb_frame.specs.Promise.Join.{IsAnswer, Request, listing}
+use Rattle.tb_frame.specs.Answer.{ArePairsOf}
+use Rattle.tb_frame.specs.Promise.Join.{IsAnswer, Request}
 use Rattle.tb_frame.specs.Join.{lent_request}
 use Rattle.tb_frame.specs.Promise.Refusal.{join_refusal}
 use Rattle.tb_frame.specs.Promise.Table.{table_of}
@@ -16,11 +15,11 @@ use Rattle.tb_keys.proofs.Refusing.{by_first, by_none, by_second, two_causes}
 use Rattle.tb_nested.proofs.nested.nested_join.Goals as goal
 use Rattle.tb_nested.proofs.nested.nested_join.Goals.{After-with_keys-request}
 
-pub returns-in_err-keys-clause-settles : goal.returns-in_err-keys-clause-settles
-returns-in_err-keys-clause-settles c =
+pub returns-in_err-keys : goal.returns-in_err-keys
+returns-in_err-keys c =
     let q = lent_request c.args.left.now c.args.right.now c.args.left_on.now c.args.right_on.now c.args.args.now in
     let p = err_from_is_err_and c.from_residual.result c.from_residual.ensures.1 in
-    rw (p.1, p.2) (by_first (join_refusal q) _ _ _ _ (two_causes q) refl c.in_err-keys.ensures.settles)
+    rw (p.1, p.2) (record { settles = by_first (join_refusal q) _ _ _ _ (two_causes q) refl c.in_err-keys.ensures.settles; answer = tt })
 
 pub with_keys-request-requires-clause-left : goal.with_keys-request-requires-clause-left
 with_keys-request-requires-clause-left c = c.in_ok-keys.ensures.left
@@ -28,13 +27,13 @@ with_keys-request-requires-clause-left c = c.in_ok-keys.ensures.left
 pub with_keys-request-requires-clause-right : goal.with_keys-request-requires-clause-right
 with_keys-request-requires-clause-right c = c.in_ok-keys.ensures.right
 
-pub returns-in_err-pairs-clause-settles : goal.returns-in_err-pairs-clause-settles
-returns-in_err-pairs-clause-settles c =
+pub returns-in_err-pairs : goal.returns-in_err-pairs
+returns-in_err-pairs c =
     let q = lent_request c.args.left.now c.args.right.now c.args.left_on.now c.args.right_on.now c.args.args.now in
     let p = err_from_is_err_and c.from_residual-in_err-pairs.result c.from_residual-in_err-pairs.ensures.1 in
     let later = subst (λ (q : Request). (c.in_err-pairs.field-0.0 ≡ OutOfMemory) ⊎ (later_refusal q ≡ Some c.in_err-pairs.field-0.0))
     c.with_keys-request.ensures.asked c.in_err-pairs.ensures.settles in
-    rw (p.1, p.2) (by_second _ _ _ _ (two_causes q) c.in_ok-keys.ensures.settles later)
+    rw (p.1, p.2) (record { settles = by_second _ _ _ _ (two_causes q) c.in_ok-keys.ensures.settles later; answer = tt })
 
 pub answer_table-requires-clause-named : goal.answer_table-requires-clause-named
 answer_table-requires-clause-named c = c.with_keys-request.ensures.named
@@ -53,13 +52,12 @@ answer_table-requires-clause-valid c =
 
 pub answer_table-requires-clause-listed : goal.answer_table-requires-clause-listed
 answer_table-requires-clause-listed c =
-    let r = c.with_keys-request.result in
-    subst (λ (ps : List JoinPair). IsListed r.how r.args.now.maintain_order r.args.now.slice (listing (asked_request r)) ps) (sym c.deref.ensures.value) c.in_ok-pairs.ensures.listed
+    subst (ArePairsOf (asked_request c.with_keys-request.result)) (sym c.deref.ensures.value) c.in_ok-pairs.ensures.listed
 
-pub returns-clause-settles : goal.returns-clause-settles
-returns-clause-settles c =
-    let d = (goal.at.returns-clause-settles c).After-with_keys-request in
-    subst (λ (o : Option PolarsError). Settles c.answer_table.result o) (sym (valid d c.in_ok-pairs.ensures.settles)) c.answer_table.ensures.settles
-
-pub returns-clause-answer : goal.returns-clause-answer
-returns-clause-answer c = subst (λ (q : Request). IfOk c.answer_table.result (λ t. IsAnswer q (table_of t))) c.with_keys-request.ensures.asked c.answer_table.ensures.answer
+pub returns : goal.returns
+returns c =
+    let d = (goal.at.returns c).After-with_keys-request in
+    record {
+      settles = subst (λ (o : Option PolarsError). Settles c.answer_table.result o) (sym (valid d c.in_ok-pairs.ensures.settles)) c.answer_table.ensures.settles;
+      answer = subst (λ (q : Request). IfOk c.answer_table.result (λ t. IsAnswer q (table_of t))) c.with_keys-request.ensures.asked c.answer_table.ensures.answer;
+    }

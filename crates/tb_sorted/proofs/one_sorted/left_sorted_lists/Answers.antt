@@ -7,9 +7,9 @@ use Rattle.tb_frame.specs.Answer.{AreLeftRows}
 use Rattle.tb_sorted.specs.Promise.Keys.{MergeSizes}
 use Rattle.tb_sorted.specs.Keys.{number_listing}
 use Rattle.tb_sorted.specs.Listed.{IsMergeWithin}
-use Rattle.tb_sorted.specs.SortedRows.{AreSortedRows, keys_of, left_placed, numbered_keys}
+use Rattle.tb_sorted.specs.SortedRows.{AreSortedRows, left_placed, numbered_keys}
 use Rattle.tb_sorted.proofs.Places.{as_many_keys, left_many, left_places, left_sizes, left_way, rows_few}
-use Rattle.tb_sorted.proofs.Turned.{as_long}
+use Rattle.tb_keys.specs.Causes.{too_many}
 use Rattle.tb_sorted.proofs.one_sorted.left_sorted_lists.Goals as goal
 
 pub merged_lists-requires-clause-left_few : goal.merged_lists-requires-clause-left_few
@@ -25,7 +25,7 @@ returns-in_err-pairs g c =
     let right = g.B.NumberList.keys c.args.right.now in
     let rows = numbered_keys g.N.WholeCell.number c.deref.result.now in
     let many = left_many keys rows (subst (λ (l : List (g.row.N.Denot × ℕ)). AreSortedRows keys (numbered_keys g.N.WholeCell.number l)) (sym c.deref.ensures.value) c.in_ok-rows.ensures) right in
-    record { settles = subst (Settles c.from_residual-in_err-pairs.result) (as_long (number_listing false (keys_of rows) right) (number_listing false keys right) many) (search rules); pairs = search rules; ascends = search rules; merged = search rules }
+    record { settles = subst (Settles c.from_residual-in_err-pairs.result) (ap too_many many) (search rules); pairs = search rules; ascends = search rules; merged = search rules }
 
 pub with_left_rows-requires-clause-places : goal.with_left_rows-requires-clause-places
 with_left_rows-requires-clause-places g c κs within =
@@ -54,7 +54,7 @@ returns g c =
     let list = number_listing false keys right in
     let is = ◌∙◌ {A = List JoinPair} c.with_left_rows.ensures (λ t. map (left_placed (numbered_keys g.N.WholeCell.number (same t))) ps) in
     record {
-      settles = sym (as_long (number_listing false (keys_of rows) right) list (left_many keys rows sorted right)) ∙ h.settles;
+      settles = sym (ap too_many (left_many keys rows sorted right)) ∙ h.settles;
       pairs = subst (λ (l : List JoinPair). IsPermutation list l) (sym is) (left_way keys rows sorted right ps h.pairs);
       ascends = tt;
       merged = subst (λ (s : MergeSizes). IsMergeWithin s c.in_ok-pairs.merged) (left_sizes keys rows sorted right) h.merged;

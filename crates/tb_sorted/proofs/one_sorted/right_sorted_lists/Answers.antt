@@ -8,9 +8,9 @@ use Rattle.tb_frame.specs.Answer.{AreRightRows}
 use Rattle.tb_sorted.specs.Promise.Keys.{MergeSizes}
 use Rattle.tb_sorted.specs.Keys.{number_listing}
 use Rattle.tb_sorted.specs.Listed.{IsMergeWithin}
-use Rattle.tb_sorted.specs.SortedRows.{AreSortedRows, keys_of, right_placed, numbered_keys}
+use Rattle.tb_sorted.specs.SortedRows.{AreSortedRows, right_placed, numbered_keys}
 use Rattle.tb_sorted.proofs.Places.{as_many_keys, right_many, right_places, right_sizes, right_way, rows_few, way_permutation, way_sorted}
-use Rattle.tb_sorted.proofs.Turned.{as_long}
+use Rattle.tb_keys.specs.Causes.{too_many}
 use Rattle.tb_sorted.proofs.one_sorted.right_sorted_lists.Goals as goal
 
 pub merged_lists-requires-clause-right_few : goal.merged_lists-requires-clause-right_few
@@ -27,7 +27,7 @@ returns-in_err-pairs g c =
     let rows = numbered_keys g.N.WholeCell.number c.deref.result.now in
     let keep = c.args.keep_unmatched in
     let many = right_many keys rows (subst (λ (l : List (g.row.N.Denot × ℕ)). AreSortedRows keys (numbered_keys g.N.WholeCell.number l)) (sym c.deref.ensures.value) c.in_ok-rows.ensures) keep left in
-    record { settles = subst (Settles c.from_residual-in_err-pairs.result) (as_long (number_listing keep left (keys_of rows)) (number_listing keep left keys) many) (search rules); pairs = search rules; ascends = search rules; merged = search rules }
+    record { settles = subst (Settles c.from_residual-in_err-pairs.result) (ap too_many many) (search rules); pairs = search rules; ascends = search rules; merged = search rules }
 
 pub with_right_rows-requires-clause-places : goal.with_right_rows-requires-clause-places
 with_right_rows-requires-clause-places g c κs within =
@@ -57,7 +57,7 @@ returns g c =
     let list = number_listing keep left keys in
     let is = ◌∙◌ {A = List JoinPair} c.with_right_rows.ensures (◌∙◌ {A = List JoinPair} (λ t. map (right_placed (numbered_keys g.N.WholeCell.number (same t))) ps) (right_way keys rows sorted keep left ps h.pairs h.ascends)) in
     record {
-      settles = sym (as_long (number_listing keep left (keys_of rows)) list (right_many keys rows sorted keep left)) ∙ h.settles;
+      settles = sym (ap too_many (right_many keys rows sorted keep left)) ∙ h.settles;
       pairs = subst (λ (l : List JoinPair). IsPermutation list l) (sym is) (way_permutation keep left keys);
       ascends = subst (λ (l : List JoinPair). IsSorted left_first l) (sym is) (way_sorted keep left keys);
       merged = subst (λ (s : MergeSizes). IsMergeWithin s c.in_ok-pairs.merged) (right_sizes keys rows sorted left) h.merged;

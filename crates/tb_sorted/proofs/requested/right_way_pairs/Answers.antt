@@ -8,18 +8,18 @@ use Rattle.tb_chunk.specs.Promise.Col.{values}
 use Rattle.tb_frame.specs.declared.args.Direction.{Direction}
 use Rattle.tb_frame.specs.declared.args.JoinType.TheVariants.{Right}
 use Rattle.tb_frame.specs.Promise.Join.{Ascends}
-use Rattle.tb_sorted.specs.Promise.Columns.{value_listing}
+use Rattle.tb_keys.specs.Promise.Listing.{value_listing}
 use Rattle.tb_sorted.proofs.Flagged.{by_left}
 use Rattle.tb_sorted.specs.Promise.Keys.{MergeSizes}
 use Rattle.tb_sorted.specs.Listed.{IsMergeWithin}
-use Rattle.tb_sorted.proofs.Turned.{sizes_turned, too_long_turned, turned_pairs}
+use Rattle.tb_sorted.proofs.Turned.{sizes_turned, too_many_turned, turned_pairs}
 use Rattle.tb_sorted.proofs.requested.right_way_pairs.Goals as goal
 
 pub returns-in_err-pairs-clause-settles : goal.returns-in_err-pairs-clause-settles
-returns-in_err-pairs-clause-settles c = subst (Settles c.from_residual.result) (too_long_turned false (values c.args.left.now) (values c.args.right.now)) (search rules)
+returns-in_err-pairs-clause-settles c = subst (Settles c.from_residual.result) (too_many_turned false (values c.args.left.now) (values c.args.right.now)) (search rules)
 
 pub returns-clause-settles : goal.returns-clause-settles
-returns-clause-settles c = sym (too_long_turned false (values c.args.left.now) (values c.args.right.now)) ∙ c.in_ok-pairs.ensures.settles
+returns-clause-settles c = sym (too_many_turned false (values c.args.left.now) (values c.args.right.now)) ∙ c.in_ok-pairs.ensures.settles
 
 pub returns-clause-found : goal.returns-clause-found
 returns-clause-found c =

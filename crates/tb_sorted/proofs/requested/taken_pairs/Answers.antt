@@ -1,10 +1,10 @@
-use Rattle.std.proofs.Common.{List, Option, get_or, ap, subst, sym, ◌∙◌}
+use Rattle.std.proofs.Common.{List, length, Option, get_or, ap, subst, sym, ◌∙◌}
 use Rattle.std.specs.Prelude.{IfOk}
 use Rattle.tb_value.specs.Refusals.{Settles}
 use Rattle.tb_value.specs.declared.error.PolarsError.{PolarsError}
 use Rattle.tb_value.specs.declared.index.JoinPair.{JoinPair}
 use Rattle.tb_frame.specs.Promise.Join.{flag_at}
-use Rattle.tb_sorted.specs.Keys.{too_long}
+use Rattle.tb_keys.specs.Causes.{too_many}
 use Rattle.tb_sorted.specs.Listed.{IsListedIn}
 use Rattle.tb_chunk.specs.Promise.Col.{values}
 use Rattle.tb_sorted.proofs.Flagged.{no_nulls, nulls_apart}
@@ -42,7 +42,7 @@ returns-clause-settles c =
     let a = (get_or r.left_keys.now 0 d).now in
     let b = (get_or r.right_keys.now 0 e).now in
     let listed = ◌∙◌ {A = List JoinPair} (nulls_apart (flag_at r.args.now.join_nulls 0) r.how (values a) (values b) (no_nulls a taken.left)) (requested_listing r a b (one_column r.left_keys.now d one.0) (one_column r.right_keys.now e one.1)) in
-    subst (λ (o : Option PolarsError). Settles c.sorted_pairs.result o) (ap too_long listed ∙ sym (size_alone r c.args.exec.now a b taken.ordered taken.nothing)) c.sorted_pairs.ensures.settles
+    subst (λ (o : Option PolarsError). Settles c.sorted_pairs.result o) (ap (λ (ps : List JoinPair). too_many (length ps)) listed ∙ sym (size_alone r c.args.exec.now a b taken.ordered taken.nothing)) c.sorted_pairs.ensures.settles
 
 pub returns-clause-found : goal.returns-clause-found
 returns-clause-found c =

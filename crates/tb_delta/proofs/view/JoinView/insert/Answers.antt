@@ -24,11 +24,11 @@ pub push_row-requires-clause-kept : goal.push_row-requires-clause-kept
 push_row-requires-clause-kept c = c.self.invariant.kept.left
 
 pub push_row-requires-clause-ascend : goal.push_row-requires-clause-ascend
-push_row-requires-clause-ascend c = λ s k. groups_ascend _ c.self.inside.groups c.self.invariant.kept s k
+push_row-requires-clause-ascend c = λ s k. groups_ascend _ (ids_at c.self.inside.groups) c.self.invariant.kept s k
 
 pub push_row-requires-clause-below : goal.push_row-requires-clause-below
 push_row-requires-clause-below c = λ k.
-    subst (λ (d : Side). All (λ i. i < c.self.inside.left.ever) (ids_at c.self.inside.groups d k)) (sym c.in-Left.is) (groups_below _ c.self.inside.groups c.self.invariant.kept side.Left k)
+    subst (λ (d : Side). All (λ i. i < c.self.inside.left.ever) (ids_at c.self.inside.groups d k)) (sym c.in-Left.is) (groups_below _ (ids_at c.self.inside.groups) c.self.invariant.kept side.Left k)
 
 pub invariant_of-self : goal.invariant_of-self
 invariant_of-self c =
@@ -41,10 +41,10 @@ invariant_of-self c =
     record {
       kept = elim c.match-push_row.branch [
         | in-Ok w ↦
-            subst (λ (x : SideState). IsKept (new x) c.push_row.new.groups) (sym w.in-Ok.ensures.rows)
-            (kept_left v c.self.inside.groups c.push_row.new.groups row c.self.invariant.kept fitting fits.1
+            subst (λ (x : SideState). IsKept (new x) (ids_at c.push_row.new.groups)) (sym w.in-Ok.ensures.rows)
+            (kept_left v (ids_at c.self.inside.groups) (ids_at c.push_row.new.groups) row c.self.invariant.kept fitting fits.1
             (λ d k. w.in-Ok.ensures.groups d k ∙ ap (λ (e : Side). if is_side e d && agrees nulls (key_of v.left row) (datum k.value) then ids_at c.self.inside.groups d k ++ v.left.ever ∷ [] else ids_at c.self.inside.groups d k) c.in-Left.is))
-        | in-Err w ↦ kept_same v (new (side_state c.push_row.new.rows)) c.self.inside.groups c.push_row.new.groups c.self.invariant.kept (ap new w.in-Err.ensures.rows_stay) w.in-Err.ensures.groups_stay
+        | in-Err w ↦ kept_same v (new (side_state c.push_row.new.rows)) (ids_at c.self.inside.groups) (ids_at c.push_row.new.groups) c.self.invariant.kept (ap new w.in-Err.ensures.rows_stay) w.in-Err.ensures.groups_stay
       ];
       left_placed = c.push_row.ensures.placed;
       right_placed = c.self.invariant.right_placed;
@@ -60,11 +60,11 @@ pub push_row-requires-in-Right-clause-kept : goal.push_row-requires-in-Right-cla
 push_row-requires-in-Right-clause-kept c = c.self.invariant.kept.right
 
 pub push_row-requires-in-Right-clause-ascend : goal.push_row-requires-in-Right-clause-ascend
-push_row-requires-in-Right-clause-ascend c = λ s k. groups_ascend _ c.self.inside.groups c.self.invariant.kept s k
+push_row-requires-in-Right-clause-ascend c = λ s k. groups_ascend _ (ids_at c.self.inside.groups) c.self.invariant.kept s k
 
 pub push_row-requires-in-Right-clause-below : goal.push_row-requires-in-Right-clause-below
 push_row-requires-in-Right-clause-below c = λ k.
-    subst (λ (d : Side). All (λ i. i < c.self.inside.right.ever) (ids_at c.self.inside.groups d k)) (sym c.in-Right.is) (groups_below _ c.self.inside.groups c.self.invariant.kept side.Right k)
+    subst (λ (d : Side). All (λ i. i < c.self.inside.right.ever) (ids_at c.self.inside.groups d k)) (sym c.in-Right.is) (groups_below _ (ids_at c.self.inside.groups) c.self.invariant.kept side.Right k)
 
 pub invariant_of-self-in-Right : goal.invariant_of-self-in-Right
 invariant_of-self-in-Right c =
@@ -77,10 +77,10 @@ invariant_of-self-in-Right c =
     record {
       kept = elim c.match-push_row-2.branch [
         | in-Ok-push_row w ↦
-            subst (λ (x : SideState). IsKept (new x) c.push_row-in-Right.new.groups) (sym w.in-Ok-push_row.ensures.rows)
-            (kept_right v c.self.inside.groups c.push_row-in-Right.new.groups row c.self.invariant.kept fitting fits.1
+            subst (λ (x : SideState). IsKept (new x) (ids_at c.push_row-in-Right.new.groups)) (sym w.in-Ok-push_row.ensures.rows)
+            (kept_right v (ids_at c.self.inside.groups) (ids_at c.push_row-in-Right.new.groups) row c.self.invariant.kept fitting fits.1
             (λ d k. w.in-Ok-push_row.ensures.groups d k ∙ ap (λ (e : Side). if is_side e d && agrees nulls (key_of v.right row) (datum k.value) then ids_at c.self.inside.groups d k ++ v.right.ever ∷ [] else ids_at c.self.inside.groups d k) c.in-Right.is))
-        | in-Err-push_row w ↦ kept_same v (new (side_state c.push_row-in-Right.new.rows)) c.self.inside.groups c.push_row-in-Right.new.groups c.self.invariant.kept (ap new w.in-Err-push_row.ensures.rows_stay) w.in-Err-push_row.ensures.groups_stay
+        | in-Err-push_row w ↦ kept_same v (new (side_state c.push_row-in-Right.new.rows)) (ids_at c.self.inside.groups) (ids_at c.push_row-in-Right.new.groups) c.self.invariant.kept (ap new w.in-Err-push_row.ensures.rows_stay) w.in-Err-push_row.ensures.groups_stay
       ];
       left_placed = c.self.invariant.left_placed;
       right_placed = c.push_row-in-Right.ensures.placed;

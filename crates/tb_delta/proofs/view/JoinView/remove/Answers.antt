@@ -23,7 +23,7 @@ pub pull_row-requires-clause-kept : goal.pull_row-requires-clause-kept
 pull_row-requires-clause-kept c = c.self.invariant.kept.left
 
 pub pull_row-requires-clause-ascend : goal.pull_row-requires-clause-ascend
-pull_row-requires-clause-ascend c = λ s k. groups_ascend _ c.self.inside.groups c.self.invariant.kept s k
+pull_row-requires-clause-ascend c = λ s k. groups_ascend _ (ids_at c.self.inside.groups) c.self.invariant.kept s k
 
 pub invariant_of-self : goal.invariant_of-self
 invariant_of-self c =
@@ -33,8 +33,8 @@ invariant_of-self c =
       left_placed = c.pull_row.ensures.placed;
       right_placed = c.self.invariant.right_placed;
       kept =
-          subst (λ (x : SideState). IsKept (new x) c.pull_row.new.groups) (sym c.pull_row.ensures.rows)
-          (pulled_left v c.self.inside.groups c.pull_row.new.groups c.args.id c.self.invariant.kept
+          subst (λ (x : SideState). IsKept (new x) (ids_at c.pull_row.new.groups)) (sym c.pull_row.ensures.rows)
+          (pulled_left v (ids_at c.self.inside.groups) (ids_at c.pull_row.new.groups) c.args.id c.self.invariant.kept
           (λ d k. c.pull_row.ensures.groups d k ∙ ap (λ (e : Side). if is_side e d && pulled_agrees c.self.inside.join_nulls v.left (row_of v.left c.args.id) (datum k.value) then without c.args.id (ids_at c.self.inside.groups d k) else ids_at c.self.inside.groups d k) c.in-Left.is));
     }
 
@@ -45,7 +45,7 @@ pub pull_row-requires-in-Right-clause-kept : goal.pull_row-requires-in-Right-cla
 pull_row-requires-in-Right-clause-kept c = c.self.invariant.kept.right
 
 pub pull_row-requires-in-Right-clause-ascend : goal.pull_row-requires-in-Right-clause-ascend
-pull_row-requires-in-Right-clause-ascend c = λ s k. groups_ascend _ c.self.inside.groups c.self.invariant.kept s k
+pull_row-requires-in-Right-clause-ascend c = λ s k. groups_ascend _ (ids_at c.self.inside.groups) c.self.invariant.kept s k
 
 pub invariant_of-self-in-Right : goal.invariant_of-self-in-Right
 invariant_of-self-in-Right c =
@@ -55,8 +55,8 @@ invariant_of-self-in-Right c =
       left_placed = c.self.invariant.left_placed;
       right_placed = c.pull_row-in-Right.ensures.placed;
       kept =
-          subst (λ (x : SideState). IsKept (new x) c.pull_row-in-Right.new.groups) (sym c.pull_row-in-Right.ensures.rows)
-          (pulled_right v c.self.inside.groups c.pull_row-in-Right.new.groups c.args.id c.self.invariant.kept
+          subst (λ (x : SideState). IsKept (new x) (ids_at c.pull_row-in-Right.new.groups)) (sym c.pull_row-in-Right.ensures.rows)
+          (pulled_right v (ids_at c.self.inside.groups) (ids_at c.pull_row-in-Right.new.groups) c.args.id c.self.invariant.kept
           (λ d k. c.pull_row-in-Right.ensures.groups d k ∙ ap (λ (e : Side). if is_side e d && pulled_agrees c.self.inside.join_nulls v.right (row_of v.right c.args.id) (datum k.value) then without c.args.id (ids_at c.self.inside.groups d k) else ids_at c.self.inside.groups d k) c.in-Right.is));
     }
 

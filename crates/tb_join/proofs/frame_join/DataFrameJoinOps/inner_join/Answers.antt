@@ -1,7 +1,7 @@
 use Rattle.std.proofs.Common.{subst}
 use Rattle.tb_frame.specs.declared.args.JoinArgs.{JoinArgs}
 use Rattle.tb_frame.specs.Join.{lent_request}
-use Rattle.tb_join.specs.Promise.Answers.{IsJoinOf}
+use Rattle.tb_keys.specs.Promise.Answers.{IsJoinOf}
 use Rattle.tb_join.proofs.frame_join.DataFrameJoinOps.inner_join.Goals as goal
 
 pub returns : goal.returns

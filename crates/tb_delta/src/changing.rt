@@ -1,0 +1,129 @@
+//! One step of a list, after which ids may still be to be taken out of the groups.
+ghost use Rattle.std.specs.Prelude.{◌≡◌, [], IfOk, List, option_map, unwrap_or, ℕ};
+ghost use Rattle.tb_value.specs.Promise.Datum.{Datum};
+ghost use Rattle.tb_value.specs.Promise.Same.{agrees};
+ghost use Rattle.tb_value.specs.See.{datum, data_of};
+ghost use Rattle.tb_value.specs.declared.error.Side.{Side};
+ghost use Rattle.tb_delta.specs.Changing.{IsChanging, of_both};
+ghost use Rattle.tb_delta.specs.Groups.{AreAscending};
+ghost use Rattle.tb_delta.specs.Inside.{IsPlaced, key_of, side_state};
+ghost use Rattle.tb_delta.specs.Late.{ids_left, IsTakenOut, KeepsIds};
+ghost use Rattle.tb_delta.specs.Promise.State.{other, row_of};
+ghost use Rattle.tb_delta.specs.Promise.Steps.{insert, remove};
+ghost use Rattle.tb_delta.specs.Running.{IsDone};
+ghost use Rattle.tb_delta.specs.declared.key.RowKey.{RowKey};
+
+use crate::fault::DeltaFault;
+use crate::key::RowKey;
+use crate::late::LateGroups;
+use crate::side_rows::SideRows;
+use crate::steps::{check, is_grouped, pull_stored, push_row};
+use std::alloc::Global;
+use tb_value::{AnyValue, OutOfMemory, Side};
+
+fn other(side: Side) -> Side
+    ensures { result ≡ other side }
+{
+    match side {
+        Side::Left => Side::Right,
+        Side::Right => Side::Left,
+    }
+}
+
+// The ids on the other side under the key of a row, copied, and none where there is no such row.
+fn told(
+    alloc: Global,
+    rows: &SideRows,
+    groups: &mut LateGroups,
+    beside: Side,
+    id: u32,
+) -> Result<Vec<u32>, OutOfMemory>
+    requires placed { IsPlaced rows.now }
+    requires ascend { AreAscending groups.old.groups }
+    ensures keeps { KeepsIds groups.old groups.new }
+    ensures told { (f : Datum → List ℕ)
+        → ((k : RowKey) → ids_left groups.old beside k ≡ f (datum k.value))
+        → IfOk result (λ v.
+        v.items
+        ≡ unwrap_or
+        (option_map (λ row. f (key_of (side_state rows.now) row))
+        (row_of (side_state rows.now) id))
+        []) }
+{
+    match rows.rows.get(&id) {
+        Some(row) => groups.copied(alloc, beside, &row.key),
+        None => Ok(Vec::new(alloc)),
+    }
+}
+
+/// Puts a row last on its side, and answers the ids of the other side's rows that match it.
+pub(crate) fn insert_row(
+    alloc: Global,
+    own: &mut SideRows,
+    others: &SideRows,
+    groups: &mut LateGroups,
+    side: Side,
+    join_nulls: bool,
+    row: Vec<AnyValue>,
+) -> Result<Vec<u32>, DeltaFault>
+    requires { IsChanging side own.old others.now join_nulls groups.old }
+    ensures changing { IsChanging side own.new others.now join_nulls groups.new }
+    ensures done { IsDone (of_both side own.old others.now join_nulls)
+        (insert side (data_of row.items))
+        (of_both side own.new others.now join_nulls)
+        result }
+{
+    check(own, &row)?;
+    match push_row(alloc, own, &mut groups.groups, side, join_nulls, row) {
+        Ok(id) => match told(alloc, own, groups, other(side), id) {
+            Ok(ids) => Ok(ids),
+            Err(OutOfMemory) => Err(DeltaFault::OutOfMemory),
+        },
+        Err(OutOfMemory) => Err(DeltaFault::OutOfMemory),
+    }
+}
+
+// Takes the id of a row out of its group, if it is in one.
+fn take_out(
+    alloc: Global,
+    groups: &mut LateGroups,
+    side: Side,
+    join_nulls: bool,
+    key: &RowKey,
+    id: u32,
+)
+    requires { AreAscending groups.old.groups }
+    ensures { IsTakenOut groups.old side (agrees join_nulls (datum key.now.value)) id groups.new }
+{
+    if is_grouped(join_nulls, key) {
+        groups.take_out(alloc, side, key, id);
+    }
+}
+
+/// Takes the row of an id out, and answers the ids of the other side's rows that match it.
+pub(crate) fn remove_row(
+    alloc: Global,
+    own: &mut SideRows,
+    others: &SideRows,
+    groups: &mut LateGroups,
+    side: Side,
+    join_nulls: bool,
+    id: u32,
+) -> Result<Vec<u32>, DeltaFault>
+    requires { IsChanging side own.old others.now join_nulls groups.old }
+    ensures changing { IsChanging side own.new others.now join_nulls groups.new }
+    ensures done { IsDone (of_both side own.old others.now join_nulls)
+        (remove side id)
+        (of_both side own.new others.now join_nulls)
+        result }
+{
+    let Some(row) = pull_stored(own, id) else {
+        return Err(DeltaFault::NoRow);
+    };
+    let ids = groups.copied(alloc, other(side), &row.key);
+    take_out(alloc, groups, side, join_nulls, &row.key, id);
+    match ids {
+        Ok(ids) => Ok(ids),
+        Err(OutOfMemory) => Err(DeltaFault::OutOfMemory),
+    }
+}

@@ -1,0 +1,12 @@
+pub mod Lists
+pub mod Spread
+pub mod Listings
+pub mod Among
+pub mod Alike
+pub mod Ascending
+pub mod Requests
+pub mod Outs
+pub mod Together
+pub mod Twins
+pub mod Causes
+pub mod Merged

@@ -1,0 +1,3 @@
+pub mod KeyRows
+pub mod Meets
+pub mod PartTables
