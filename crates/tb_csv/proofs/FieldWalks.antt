@@ -1,6 +1,6 @@
 -- Facts on the fields of a column.
 use Rattle.std.proofs.Common.{◌≡◌, ◌<◌, ◌+◌, ◌∷◌, ◌++◌, ◌∙◌, [], ℕ, List, true, false, Option, Some, None, option_map, Bor, length, map, take, drop, get_or, refl, sym, ap, inl, inr}
-use Rattle.std.specs.Prelude.{is_some, nat_lt}
+use Rattle.std.specs.Prelude.{Bool, is_some, nat_lt}
 use Rattle.std.proofs.lemmas.Bool.{cases_Bool}
 use Rattle.std.specs.List.{list_all}
 use Rattle.std.proofs.lemmas.List.{at_drop_more, map_more, map-append}
@@ -11,7 +11,8 @@ use Rattle.tb_chunk.specs.Chunk.{or_null}
 use Rattle.tb_csv.specs.Promise.Faults.{column_fault}
 use Rattle.tb_csv.specs.Read.{lent_field, lent_fields}
 use Rattle.tb_csv.specs.Promise.Records.{Field}
-use Rattle.tb_csv.specs.Promise.Types.{cell_of, cell_value, is_of, value_or_null}
+use Rattle.tb_csv.specs.Promise.Types.{cell_of, cell_value, is_of, told_type, value_or_null}
+use Rattle.tb_csv.specs.declared.fault.CsvFault.{CsvFault}
 use Rattle.tb_csv.specs.declared.fault.CsvFault.TheVariants.{NotOfType}
 use Rattle.tb_csv.specs.declared.field_type.FieldType.{FieldType}
 use Rattle.tb_csv.specs.declared.field_type.FieldType.TheVariants as field
@@ -65,3 +66,38 @@ text_held (Some (c ∷ cs)) h = elim (cases_Bool (nat_lt (length (c ∷ cs)) 429
   | inl short ↦ rw short refl
   | inr long ↦ cc (rw long at h)
 ]
+
+-- THE FIRST FIELD THAT IS NONE OF THE TYPE
+
+-- there is none where all fields are of the type
+fault_none-by : (name : Name) (t : FieldType) (i : ℕ) (f : Field) (fs : List Field) (b : Bool) → is_of t f ≡ b → column_fault name t i (f ∷ fs) ≡ None
+    → (column_fault name t (i + 1) fs ≡ None → list_all (is_of t) fs ≡ true) → list_all (is_of t) (f ∷ fs) ≡ true
+fault_none-by name t i f fs true is h rest = rw is (rest (rw is at h))
+fault_none-by name t i f fs false is h rest = let no = rw is at h in cc no
+
+pub fault_none : (name : Name) (t : FieldType) (i : ℕ) (fs : List Field) → column_fault name t i fs ≡ None → list_all (is_of t) fs ≡ true
+fault_none name t i [] h = refl
+fault_none name t i (f ∷ fs) h = fault_none-by name t i f fs (is_of t f) refl h (fault_none name t (i + 1) fs)
+
+none_all-by : (name : Name) (t : FieldType) (i : ℕ) (f : Field) (fs : List Field) (b : Bool) → is_of t f ≡ b → list_all (is_of t) (f ∷ fs) ≡ true
+    → (list_all (is_of t) fs ≡ true → column_fault name t (i + 1) fs ≡ None) → column_fault name t i (f ∷ fs) ≡ None
+none_all-by name t i f fs true is h rest = rw is (rest (rw is at h))
+none_all-by name t i f fs false is h rest = let no = rw is at h in cc no
+
+pub all_none : (name : Name) (t : FieldType) (i : ℕ) (fs : List Field) → list_all (is_of t) fs ≡ true → column_fault name t i fs ≡ None
+all_none name t i [] h = refl
+all_none name t i (f ∷ fs) h = none_all-by name t i f fs (is_of t f) refl h (all_none name t (i + 1) fs)
+
+-- and else one of them is not
+fault_some-by : (name : Name) (t : FieldType) (i : ℕ) (f : Field) (fs : List Field) (e : CsvFault) (b : Bool) → is_of t f ≡ b → column_fault name t i (f ∷ fs) ≡ Some e
+    → (column_fault name t (i + 1) fs ≡ Some e → list_all (is_of t) fs ≡ false) → list_all (is_of t) (f ∷ fs) ≡ false
+fault_some-by name t i f fs e true is h rest = rw is (rest (rw is at h))
+fault_some-by name t i f fs e false is h rest = rw is refl
+
+pub fault_some : (name : Name) (t : FieldType) (i : ℕ) (fs : List Field) (e : CsvFault) → column_fault name t i fs ≡ Some e → list_all (is_of t) fs ≡ false
+fault_some name t i [] e h = cc h
+fault_some name t i (f ∷ fs) e h = fault_some-by name t i f fs e (is_of t f) refl h (fault_some name t (i + 1) fs e)
+
+-- whole numbers are told first
+pub told_numbers : (fs : List Field) → list_all (is_of field.Int64) fs ≡ true → told_type fs ≡ field.Int64
+told_numbers fs all = rw all refl

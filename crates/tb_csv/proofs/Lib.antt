@@ -11,6 +11,8 @@ pub mod RecordWalks
 pub mod ReadRecords
 pub mod MarksFit
 pub mod TextWalks
+pub mod RowPieces
+pub mod ReadColumns
 pub mod LinesBack
 pub mod ClosedQuotes
 pub mod RecordsBack

@@ -4,7 +4,17 @@ use Rattle.std.specs.Borrow.{Bor}
 use Rattle.std.specs.List.{All, flat_map}
 use Rattle.csv.specs.Records.{fields_of}
 use Rattle.tb_value.specs.declared.limits.TheConstants.{MAX_ROWS}
-use Rattle.tb_csv.specs.Promise.Records.{Field, Line, Record, line_of, marked_fields}
+use Rattle.std.specs.Result.{IfOk}
+use Rattle.std.specs.declared.result.Result.{Result}
+use Rattle.tb_value.specs.Promise.Names.{Name}
+use Rattle.tb_frame.specs.Promise.Table.{plain_column}
+use Rattle.tb_store.specs.declared.column.Column.{Column}
+use Rattle.tb_csv.specs.Faults.{Settles}
+use Rattle.tb_csv.specs.Promise.Faults.{text_fault, typed_fault}
+use Rattle.tb_csv.specs.Promise.Tables.{csv_column}
+use Rattle.tb_csv.specs.declared.fault.CsvFault.{CsvFault}
+use Rattle.tb_csv.specs.declared.options.TypeOf.{TypeOf}
+use Rattle.tb_csv.specs.Promise.Records.{Field, Line, Record, line_of, marked_fields, records_of}
 use Rattle.tb_csv.specs.declared.lines.Lines.{Lines}
 use Rattle.tb_csv.specs.declared.records.Records.{Records}
 
@@ -47,3 +57,14 @@ lent_field f = option_map (λ s. s.now) f
 
 abbrev pub lent_fields : List (Option (Bor (List ℕ))) → List Field
 lent_fields fs = map lent_field fs
+
+-- what comes of reading column j: the column, or why there is none
+abbrev pub IsReadColumn : List TypeOf → List Name → List Record → ℕ → Result Column CsvFault → Type 0
+IsReadColumn types names rows j r = Settles r (typed_fault types names rows j)
+    × IfOk r (λ c. plain_column c ≡ csv_column types names rows j)
+
+-- what reading a text gives: its records, or why they are none
+pub record AreRecords (separator : ℕ) (text : List ℕ) (r : Result Records CsvFault) : Type 0 where
+  pub settles : Settles r (text_fault separator text)
+  pub read : IfOk r (λ rs. IsRead rs (records_of separator text))
+  pub level : IfOk r IsLevel

@@ -1,22 +1,26 @@
 //! The columns of what was read.
-ghost use Rattle.std.specs.Prelude.{◌≡◌, ◌≤◌, ◌<◌, List, length, IfOk};
+ghost use Rattle.std.specs.Prelude.{◌≡◌, ◌≤◌, ◌<◌, List, length, true, false, IfOk, MatchOption};
+ghost use Rattle.std.specs.List.{AllZip, list_all};
+ghost use Rattle.tb_value.specs.Promise.Pairs.{row_numbers};
 ghost use Rattle.tb_value.specs.declared.limits.TheConstants.{MAX_ROWS};
 ghost use Rattle.tb_frame.specs.Promise.Table.{plain_column, table_of};
-ghost use Rattle.tb_csv.specs.Promise.Faults.{column_fault, columns_fault, typed_fault};
+ghost use Rattle.tb_csv.specs.Promise.Faults.{column_fault, columns_fault};
 ghost use Rattle.tb_csv.specs.Faults.{Settles};
-ghost use Rattle.tb_csv.specs.Read.{AreRows, IsLevel, lent_fields};
+ghost use Rattle.tb_csv.specs.Read.{AreRows, IsLevel, IsReadColumn, lent_fields};
 ghost use Rattle.tb_csv.specs.Promise.Records.{Record};
-ghost use Rattle.tb_csv.specs.Promise.Tables.{csv_column, csv_columns, typed_column};
-ghost use Rattle.tb_csv.specs.Promise.Types.{column_type, given_type, told_type};
+ghost use Rattle.tb_csv.specs.Promise.Tables.{csv_columns, typed_column};
+ghost use Rattle.tb_csv.specs.Promise.Types.{given_type, is_of, told_type};
 
 use crate::cells::{are_of, read_chunk};
 use crate::fault::CsvFault;
 use crate::field_type::FieldType;
 use crate::options::TypeOf;
 use crate::records::Records;
+use rayon::prelude::*;
 use std::alloc::Global;
+use std::thread::Threads;
 use tb_store::{Column, IsSorted, Series};
-use tb_value::PlSmallStr;
+use tb_value::{OutOfMemory, PlSmallStr};
 
 /// The type that is given for the name, if one is.
 pub(crate) fn given_type(types: &[TypeOf], name: &PlSmallStr) -> Option<FieldType>
@@ -34,22 +38,22 @@ pub(crate) fn told_type(fields: &[Option<&str>]) -> FieldType
 {
     if are_of::<i64>(FieldType::Int64, fields) {
         FieldType::Int64
-    } else if are_of::<bool>(FieldType::Boolean, fields) {
+    } else {
+        told_otherwise(fields)
+    }
+}
+
+// The type that fields tell of which one at least is no whole number.
+fn told_otherwise(fields: &[Option<&str>]) -> FieldType
+    ensures { list_all (is_of FieldType.Int64) (lent_fields fields.now) ≡ false
+        → result ≡ told_type (lent_fields fields.now) }
+{
+    if are_of::<bool>(FieldType::Boolean, fields) {
         FieldType::Boolean
     } else if are_of::<i32>(FieldType::Date, fields) {
         FieldType::Date
     } else {
         FieldType::String
-    }
-}
-
-// The type that is given for the name, or the one that the fields tell.
-fn column_type(types: &[TypeOf], name: &PlSmallStr, fields: &[Option<&str>]) -> FieldType
-    ensures { result ≡ column_type types.now name.now (lent_fields fields.now) }
-{
-    match given_type(types, name) {
-        Some(given) => given,
-        None => told_type(fields),
     }
 }
 
@@ -71,6 +75,43 @@ fn read_column(
     Ok(series.into_column())
 }
 
+// The column of this name whose fields are whole numbers, or None where one of them is none.
+fn whole_numbers(
+    alloc: Global,
+    name: &PlSmallStr,
+    fields: &[Option<&str>],
+) -> Result<Option<Column>, OutOfMemory>
+    requires { length fields.now ≤ MAX_ROWS }
+    ensures { IfOk result (λ o. MatchOption o
+        (list_all (is_of FieldType.Int64) (lent_fields fields.now) ≡ false)
+        (λ c. (list_all (is_of FieldType.Int64) (lent_fields fields.now) ≡ true)
+        × (plain_column c ≡ typed_column name.now FieldType.Int64 (lent_fields fields.now)))) }
+{
+    match read_column(alloc, name, FieldType::Int64, fields) {
+        Ok(column) => Ok(Some(column)),
+        Err(CsvFault::NotOfType { .. }) => Ok(None),
+        Err(_) => Err(OutOfMemory),
+    }
+}
+
+// The column of this name, of the type that its fields tell. Most columns are whole numbers, which are read as they are told.
+fn told_column(
+    alloc: Global,
+    name: &PlSmallStr,
+    fields: &[Option<&str>],
+) -> Result<Column, CsvFault>
+    requires { length fields.now ≤ MAX_ROWS }
+    ensures settles { Settles result
+        (column_fault name.now (told_type (lent_fields fields.now)) 1 (lent_fields fields.now)) }
+    ensures column { IfOk result (λ c. plain_column c
+        ≡ typed_column name.now (told_type (lent_fields fields.now)) (lent_fields fields.now)) }
+{
+    match whole_numbers(alloc, name, fields)? {
+        Some(column) => Ok(column),
+        None => read_column(alloc, name, told_otherwise(fields), fields),
+    }
+}
+
 // A column of the table.
 fn csv_column(
     alloc: Global,
@@ -80,19 +121,56 @@ fn csv_column(
 ) -> Result<Column, CsvFault>
     requires column { column < length records.now.lines.names.items }
     requires level { IsLevel records.now }
-    ensures settles { (rows : List Record) → AreRows records.now rows
-        → Settles result (typed_fault types.now records.now.lines.names.items rows column) }
-    ensures column { (rows : List Record) → AreRows records.now rows
-        → IfOk result (λ c. plain_column c ≡ csv_column types.now records.now.lines.names.items rows column) }
+    ensures { (rows : List Record) → AreRows records.now rows
+        → IsReadColumn types.now records.now.lines.names.items rows column result }
 {
     let fields = records.column(alloc, column)?;
     let name = &records.lines.names[column];
-    let field_type = column_type(types, name, &fields);
-    read_column(alloc, name, field_type, &fields)
+    match given_type(types, name) {
+        Some(given) => read_column(alloc, name, given, &fields),
+        None => told_column(alloc, name, &fields),
+    }
 }
 
-/// The columns of the table.
+// Columns of fewer rows are read in less time than a thread takes to start.
+const WORTH_A_THREAD: usize = 8_192;
+
+// How many columns a thread reads at least.
+fn columns_a_thread(columns: usize, rows: usize) -> usize {
+    if rows < WORTH_A_THREAD { columns } else { 1 }
+}
+
+// What reading each column gives, side by side.
+fn each_column(
+    rt: &(impl Threads + Sync),
+    alloc: Global,
+    records: &Records,
+    types: &[TypeOf],
+) -> Result<Vec<Result<Column, CsvFault>>, OutOfMemory>
+    requires level { IsLevel records.now }
+    ensures { (rows : List Record) → AreRows records.now rows → IfOk result (λ v. AllZip
+        (IsReadColumn types.now records.now.lines.names.items rows)
+        (row_numbers (length records.now.lines.names.items)) v.items) }
+{
+    let width = records.lines.names.len();
+    let columns = (0..width)
+        .into_par_iter()
+        .with_min_len(columns_a_thread(width, records.lines.height))
+        .map(
+            |column: usize| -> Result<Column, CsvFault>
+                requires column { column < length records.now.lines.names.items }
+                requires level { IsLevel records.now }
+                ensures { (rows : List Record) → AreRows records.entry.now rows → IsReadColumn
+                    types.entry.now records.entry.now.lines.names.items rows column result }
+            { csv_column(alloc, records, types, column) },
+        )
+        .collect(rt, alloc)?;
+    Ok(columns)
+}
+
+/// The columns of the table, read side by side.
 pub(crate) fn csv_columns(
+    rt: &(impl Threads + Sync),
     alloc: Global,
     records: &Records,
     types: &[TypeOf],
@@ -101,11 +179,13 @@ pub(crate) fn csv_columns(
     ensures settles { (rows : List Record) → AreRows records.now rows
         → Settles result (columns_fault types.now records.now.lines.names.items rows) }
     ensures columns { (rows : List Record) → AreRows records.now rows
-        → IfOk result (λ v. table_of v.items ≡ csv_columns types.now records.now.lines.names.items rows) }
+        → IfOk result (λ v.
+        table_of v.items ≡ csv_columns types.now records.now.lines.names.items rows) }
 {
-    let mut columns = Vec::with_capacity(alloc, records.lines.names.len())?;
-    for column in 0..records.lines.names.len() {
-        columns.push(csv_column(alloc, records, types, column)?)?;
+    let read = each_column(rt, alloc, records, types)?;
+    let mut columns = Vec::with_capacity(alloc, read.len())?;
+    for column in read {
+        columns.push(column?)?;
     }
     Ok(columns)
 }

@@ -2,13 +2,14 @@
 ghost use Rattle.std.specs.Prelude.{◌≡◌, ◌<◌, ◌∷◌, List, drop, length, slice_index_or, false, IfOk};
 ghost use Rattle.tb_csv.specs.Promise.Faults.{text_fault};
 ghost use Rattle.tb_csv.specs.Faults.{Settles};
-ghost use Rattle.tb_csv.specs.Read.{AreRows, IsLevel, IsRead, lent_field, lent_fields};
+ghost use Rattle.tb_csv.specs.Read.{AreRecords, AreRows, IsLevel, IsRead, lent_field, lent_fields};
 ghost use Rattle.tb_csv.specs.Promise.Records.{Record, column_fields, field, line_of, records_of};
 
 use crate::fault::CsvFault;
 use crate::lines::{Lines, read_lines};
 use crate::marks::marks_of;
 use std::alloc::Global;
+use std::thread::{Threads, join};
 use tb_value::{OutOfMemory, PlSmallStr};
 
 /// The records of a text, of which the first has the names. Their fields are not read as values yet.
@@ -41,6 +42,28 @@ pub fn records_of_csv(alloc: Global, text: &[u8], separator: u8) -> Result<Recor
         lines,
         marks: marks.marks,
     })
+}
+
+/// What `records_of_csv` gives of each of two texts, which are read at once.
+pub fn records_of_two(
+    rt: &impl Threads,
+    alloc: Global,
+    left: &[u8],
+    right: &[u8],
+    separator: u8,
+) -> (Result<Records, CsvFault>, Result<Records, CsvFault>)
+    ensures left { AreRecords separator left.now result.0 }
+    ensures right { AreRecords separator right.now result.1 }
+{
+    join(
+        rt,
+        || -> Result<Records, CsvFault>
+            ensures { AreRecords separator left.entry.now result }
+        { records_of_csv(alloc, left, separator) },
+        || -> Result<Records, CsvFault>
+            ensures { AreRecords separator right.entry.now result }
+        { records_of_csv(alloc, right, separator) },
+    )
 }
 
 // A field without a byte is absent, unless it stands in quotes.

@@ -12,6 +12,7 @@ use crate::fault::CsvFault;
 use crate::options::{CsvOptions, TypeOf};
 use crate::records::{Records, records_of_csv};
 use std::alloc::Global;
+use std::thread::Threads;
 use tb_frame::DataFrame;
 
 /// The table of records, whose columns have the types that are given or that their fields tell. A field without a byte is Null,
@@ -22,6 +23,7 @@ use tb_frame::DataFrame;
 ///
 /// NotOfType of the first column from the left that has such a field, and the first such field of it, and OutOfMemory.
 pub fn table_of_records(
+    rt: &(impl Threads + Sync),
     alloc: Global,
     records: &Records,
     types: &[TypeOf],
@@ -32,7 +34,7 @@ pub fn table_of_records(
     ensures table { (rs : List Record) → IsRead records.now rs
         → IfOk result (λ t. table_of t ≡ csv_table types.now rs) }
 {
-    let columns = csv_columns(alloc, records, types)?;
+    let columns = csv_columns(rt, alloc, records, types)?;
     // The names are distinct and the columns of one height, so that want of memory alone is left.
     DataFrame::new(alloc, columns).map_err(|_error| CsvFault::OutOfMemory)
 }
@@ -42,7 +44,12 @@ pub fn table_of_records(
 /// # Errors
 ///
 /// Those of `records_of_csv`, then those of `table_of_records`, and OutOfMemory.
-pub fn table_of_csv(alloc: Global, text: &[u8], options: &CsvOptions) -> Result<DataFrame, CsvFault>
+pub fn table_of_csv(
+    rt: &(impl Threads + Sync),
+    alloc: Global,
+    text: &[u8],
+    options: &CsvOptions,
+) -> Result<DataFrame, CsvFault>
     ensures settles { Settles result
         (csv_refusal options.now.types.items options.now.separator text.now) }
     ensures table { IfOk result (λ t.
@@ -50,5 +57,5 @@ pub fn table_of_csv(alloc: Global, text: &[u8], options: &CsvOptions) -> Result<
         ≡ csv_table options.now.types.items (records_of options.now.separator text.now)) }
 {
     let records = records_of_csv(alloc, text, options.separator)?;
-    table_of_records(alloc, &records, &options.types)
+    table_of_records(rt, alloc, &records, &options.types)
 }

@@ -1,5 +1,5 @@
 //! The text of a table.
-ghost use Rattle.std.specs.Prelude.{◌≡◌, ◌++◌, ◌∷◌, ◌<◌, [], ℕ, Some, length, map, is_none, if◌then◌else◌, IfOk, OnOk};
+ghost use Rattle.std.specs.Prelude.{◌≡◌, ◌++◌, ◌∷◌, ◌<◌, ◌≤◌, ◌-◌, [], ℕ, Some, length, map, is_none, if◌then◌else◌, IfOk, OnOk};
 ghost use Rattle.std.specs.List.{All, find};
 ghost use Rattle.std.specs.Option.{option_copied};
 ghost use Rattle.csv.specs.Writing.{escaped, needs_quotes, quoted};
@@ -11,12 +11,14 @@ ghost use Rattle.tb_frame.specs.Promise.Table.{height, names_of, table_of};
 ghost use Rattle.tb_csv.specs.Faults.{Settles};
 ghost use Rattle.tb_date.specs.Promise.Dates.{number_text};
 ghost use Rattle.tb_csv.specs.Promise.Texts.{csv_text, field_among, field_text, field_type, record_text, records_text, row_fields, style, text_refusal};
-ghost use Rattle.tb_csv.specs.Texts.{gap};
+ghost use Rattle.tb_csv.specs.Texts.{gap, rows_text};
 
 use crate::fault::CsvFault;
 use crate::field_type::FieldType;
+use crate::pieces::records_text;
 use itoa::Buffer;
 use std::alloc::Global;
+use std::thread::Threads;
 use tb_date::{date_text, dated, is_date};
 use tb_frame::DataFrame;
 use tb_label::truth_text;
@@ -182,20 +184,34 @@ fn push_names(text: &mut Vec<u8>, separator: u8, columns: &[Column]) -> Result<(
     Ok(text.push(b'\n')?)
 }
 
-// The names and all rows.
-fn records_text(
+/// The record of the names of the columns.
+pub(crate) fn names_text(
     alloc: Global,
     separator: u8,
     columns: &[Column],
-    height: usize,
 ) -> Result<Vec<u8>, OutOfMemory>
-    requires { All (λ (c : Col). length (values c) ≡ height) columns.now }
-    ensures { IfOk result (λ v. v.items ≡ records_text separator (map (λ n. Some n) (names_of (table_of columns.now))
-        ∷ map (row_fields (table_of columns.now)) (row_numbers height))) }
+    ensures { IfOk result (λ v.
+        v.items ≡ record_text separator (map (λ n. Some n) (names_of (table_of columns.now)))) }
 {
     let mut text = Vec::new(alloc);
     push_names(&mut text, separator, columns)?;
-    for index in 0..height {
+    Ok(text)
+}
+
+/// The records of the rows from one number up to another.
+pub(crate) fn rows_text(
+    alloc: Global,
+    separator: u8,
+    columns: &[Column],
+    start: usize,
+    end: usize,
+) -> Result<Vec<u8>, OutOfMemory>
+    requires { All (λ (c : Col). end ≤ length (values c)) columns.now }
+    ensures { IfOk result (λ v.
+        v.items ≡ rows_text separator (table_of columns.now) start (end - start)) }
+{
+    let mut text = Vec::new(alloc);
+    for index in start..end {
         push_row(&mut text, separator, columns, index)?;
     }
     Ok(text)
@@ -210,11 +226,16 @@ fn records_text(
 ///
 /// 1 Empty where the table has no column, 2 NoText of the first column whose type isn't Boolean, a whole number, Date or String, and
 /// OutOfMemory.
-pub fn csv_of_table(alloc: Global, table: &DataFrame, separator: u8) -> Result<Vec<u8>, CsvFault>
+pub fn csv_of_table(
+    rt: &(impl Threads + Sync),
+    alloc: Global,
+    table: &DataFrame,
+    separator: u8,
+) -> Result<Vec<u8>, CsvFault>
     ensures settles { Settles result (text_refusal (table_of table.now)) }
     ensures text { IfOk result (λ v. v.items ≡ csv_text separator (table_of table.now)) }
 {
     let columns = table.get_columns();
     check_columns(alloc, columns)?;
-    Ok(records_text(alloc, separator, columns, table.height())?)
+    Ok(records_text(rt, alloc, separator, columns, table.height())?)
 }

@@ -1,4 +1,4 @@
-use Rattle.std.proofs.Common.{◌∙◌, sym}
+use Rattle.std.proofs.Common.{sym}
 use Rattle.tb_csv.specs.declared.field_type.FieldType.TheVariants as field
 use Rattle.tb_csv.proofs.FieldWalks.{all_fails, all_more}
 use Rattle.tb_csv.proofs.cells.are_short.Goals as goal

@@ -1,6 +1,6 @@
-use Rattle.std.proofs.Common.{◌≡◌, ◌∙◌, List, Some, None, ap}
+use Rattle.std.proofs.Common.{◌∙◌, ap}
 use Rattle.std.specs.Prelude.{position}
-use Rattle.tb_value.specs.Promise.Names.{Name, same_name}
+use Rattle.tb_value.specs.Promise.Names.{same_name}
 use Rattle.tb_csv.specs.Read.{lent_fields}
 use Rattle.tb_csv.proofs.KeyWalks.{none_fields, some_fields}
 use Rattle.tb_csv.proofs.keys.fields_named.Goals as goal

@@ -1,0 +1,45 @@
+use Rattle.std.proofs.Common.{◌≡◌, ℕ, ◌+◌, ◌*◌, ◌/◌, ◌≤◌, ◌-◌, ◌∙◌, Vec, Global, map, ap, arith, subst}
+use denote.Param.Send.{sendable}
+use Rattle.std.proofs.Crossing.{crosses}
+use Rattle.std.specs.List.{range_with_len}
+use Rattle.std.specs.Result.{IfOk}
+use Rattle.tb_frame.specs.Promise.Table.{table_of}
+use Rattle.rayon.specs.Numbers.{nat_range}
+use Rattle.rayon.proofs.ToStd.{nat_range-All}
+use Rattle.tb_store.proofs.Crossing.{Column-sync}
+use Rattle.tb_csv.specs.Texts.{piece_text}
+use Rattle.tb_csv.specs.declared.pieces.TheConstants.{ROWS_OF_A_PIECE}
+use Rattle.tb_csv.proofs.RowPieces.{chained}
+use Rattle.tb_csv.proofs.pieces.row_pieces.Goals as goal
+
+pub map-requires-send-F : goal.map-requires-send-F
+map-requires-send-F g c κs within = search (Column-sync, crosses, sendable) depth 60 fits 20000
+
+pub map-requires-sync-F : goal.map-requires-sync-F
+map-requires-sync-F g c κs within = search (Column-sync, crosses, sendable) depth 60 fits 20000
+
+pub collect-requires-send-Self : goal.collect-requires-send-Self
+collect-requires-send-Self g c κs within = search (Column-sync, crosses, sendable) depth 60 fits 20000
+
+pub collect-requires-clause-ready : goal.collect-requires-clause-ready
+collect-requires-clause-ready g c κs within =
+    let ends = c.into_par_iter.ensures in
+    let inside = nat_range-All (λ i. i * ROWS_OF_A_PIECE ≤ c.args.height) 0 (c.args.height / ROWS_OF_A_PIECE + 1) (λ i low high. omega (arith, high)) in
+    rw (c.map.ensures.base, c.map.ensures.f, ends.0, ends.1) (λ k d lt. ((c.requires.level, inside k d lt), λ y h. tt))
+
+pub returns : goal.returns
+returns g c =
+    let ends = c.into_par_iter.ensures in
+    let h = c.in_ok-collect.ensures in
+    let columns = ap (λ f. f.2.now) c.map.ensures.f in
+    let first = ap (λ r. r.start) c.map.ensures.base ∙ ends.0 in
+    let last = ap (λ r. r.end) c.map.ensures.base ∙ ends.1 in
+    let n = c.args.height / ROWS_OF_A_PIECE + 1 in
+    let many : n - 0 ≡ n = omega arith in
+    let places = h.1.1 ∙ (λ i. nat_range (first i) (last i)) ∙ ap (range_with_len 0) many in
+    let text = piece_text c.args.separator (table_of c.args.columns.now) c.args.height in
+    let separator = ap (λ f. f.1.now) c.map.ensures.f in
+    let height = ap (λ f. f.3.now) c.map.ensures.f in
+    let made = chained (λ (v : Vec ℕ Global). v.items) (λ (w : Vec (Vec ℕ Global) Global). w.items) (piece_text c.map.result.f.1.now (table_of c.map.result.f.2.now) c.map.result.f.3.now) h.1.0 h.0 c.in_ok-collect.field-0 h.1.2 h.2 in
+    subst (λ ks. IfOk c.in_ok-collect.field-0 (λ v. map (λ (p : Vec ℕ Global). p.items) v.items ≡ map text ks)) places
+    (subst (λ q. IfOk c.in_ok-collect.field-0 (λ v. map (λ (p : Vec ℕ Global). p.items) v.items ≡ map q h.1.0)) (λ i. piece_text (separator i) (table_of (columns i)) (height i)) made)

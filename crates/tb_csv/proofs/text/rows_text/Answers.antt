@@ -1,0 +1,25 @@
+use Rattle.std.proofs.Common.{◌≡◌, ◌-◌, ◌≤◌, ◌∙◌, ap, arith, inl, inr, refl, ⊎_elim}
+use Rattle.tb_frame.specs.Promise.Table.{table_of}
+use Rattle.tb_csv.specs.Texts.{rows_text}
+use Rattle.tb_csv.proofs.RowPieces.{rows_more}
+use Rattle.tb_csv.proofs.text.rows_text.Goals as goal
+
+pub loop-index-init : goal.loop-index-init
+loop-index-init c = record { from = omega arith; to = inr refl; text = let none : c.args.start - c.args.start ≡ 0 = omega arith in rw none c.new-text.ensures.items }
+
+pub loop-index-preserved : goal.loop-index-preserved
+loop-index-preserved c = record {
+  from = omega (arith, c.loop-index.invariant.from);
+  to = inl (omega (arith, c.loop-index-test.true));
+  text = rows_more c.args.separator (table_of c.args.columns.now) c.args.start c.loop-index.index _ _ c.loop-index.invariant.from c.in_ok-push_row.ensures c.loop-index.invariant.text;
+}
+
+pub returns : goal.returns
+returns c =
+    let from = c.loop-index.invariant.from in
+    let past = c.loop-index-test.false in
+    let all : c.loop-index.index - c.args.start ≡ c.args.end - c.args.start = ⊎_elim
+    (λ (le : c.loop-index.index ≤ c.args.end). omega (arith, le, past, from))
+    (λ (e : c.loop-index.index ≡ c.args.start). omega (arith, e, past, from))
+    c.loop-index.invariant.to in
+    c.loop-index.invariant.text ∙ ap (rows_text c.args.separator (table_of c.args.columns.now) c.args.start) all
