@@ -64,7 +64,7 @@ same_written (Layout width) t schema is = refl
 -- ---- an answer
 
 module _ (form : TextForm) (separator : ℕ) (q : Request) where
-  answers_written : (outcome : Result (List Col) PolarsError) → IfOk outcome (λ t. IsAnswer q (table_of t))
+  pub answers_written : (outcome : Result (List Col) PolarsError) → IfOk outcome (λ t. IsAnswer q (table_of t))
       → IfOk outcome (λ t. writing_fault form (table_of t) ≡ writing_fault form (empty_table (out_columns q)))
   answers_written (Ok t) answer = same_written form (table_of t) (out_columns q) answer.columns
   answers_written (Err e) answer = tt

@@ -5,3 +5,5 @@ pub mod OneTable
 pub mod NoClash
 pub mod TextFaults
 pub mod Undecimal
+pub mod Each
+pub mod Dues

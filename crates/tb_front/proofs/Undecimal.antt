@@ -1,5 +1,5 @@
 -- Pivots that compare no decimal numbers, and those that would.
-use Rattle.std.proofs.Common.{◌≡◌, Bool, false, List, [], ◌∷◌, Option, Some, None, refl, subst}
+use Rattle.std.proofs.Common.{◌≡◌, Bool, false, List, [], ◌∷◌, Option, Some, None, Result, refl, subst}
 use mathlib.Core.Logic.{◌⊎◌}
 use Rattle.tb_value.specs.Promise.Names.{Name}
 use Rattle.tb_value.specs.Promise.Refusals.{first_cause}
@@ -9,6 +9,7 @@ use Rattle.tb_csv.specs.declared.options.TypeOf.{TypeOf}
 use Rattle.tb_front.specs.declared.fault.Comparison.{Comparison}
 use Rattle.tb_front.specs.declared.fault.FrontFault.{FrontFault}
 use Rattle.tb_front.specs.Promise.Asked.{decimal_faults, first_decimals}
+use Rattle.tb_front.specs.Promise.Faults.{Settles}
 use Rattle.tb_front.specs.declared.fault.FrontFault.TheVariants.{OutOfMemory}
 use Rattle.tb_front.proofs.Steps.{refused}
 
@@ -21,3 +22,8 @@ pub decimals_refused : (given types : List TypeOf) (c : PivotCall) (t : Table) (
     → (e ≡ OutOfMemory) ⊎ (first_cause (decimal_faults given c t) ≡ Some e) → (e ≡ OutOfMemory) ⊎ (first_cause (first_cause (decimal_faults types c t) ∷ fs) ≡ Some e)
 decimals_refused given types c t fs e same settles =
     refused e (first_cause (decimal_faults types c t)) fs (subst (λ (ts : List TypeOf). (e ≡ OutOfMemory) ⊎ (first_cause (decimal_faults ts c t) ≡ Some e)) same settles)
+
+-- names that are used alike
+pub alike_settles : {T : Type 0} (types : List TypeOf) (comparison : Comparison) (p q : Name → Bool) (t : Table) (result : Result T FrontFault) → ((n : Name) → p n ≡ q n)
+    → Settles result (first_decimals types comparison p t) → Settles result (first_decimals types comparison q t)
+alike_settles types comparison p q t result same settles = subst (λ f. Settles result f) (λ i. first_decimals types comparison (λ n. same n i) t) settles

@@ -1,5 +1,6 @@
 -- What is promised: the definitions on which the answers of calls and programs stand. Words for the code stand beside this folder.
 pub mod Asked
 pub mod Decimals
+pub mod Due
 pub mod Faults
 pub mod Texts

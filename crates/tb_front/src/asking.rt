@@ -41,7 +41,7 @@ fn join_tables(
     let TwoTables { left, right } = tables;
     check_keys(alloc, &left, &right, &call.left_on, &call.right_on)?;
     let outcome = joined(rt, alloc, left, right, call, &Exec::standard());
-    written(alloc, options.form, options.csv.separator, outcome)
+    written(rt, alloc, options.form, options.csv.separator, outcome)
 }
 
 /// Joins the tables that two texts of comma-separated values are. A key has the type that is given for its name, or the one that
@@ -67,6 +67,7 @@ pub fn join_texts(
         IsAnswerText options.now (asked_join options.now.csv call left.items right.items) v.items) }
 {
     let tables = read_tables(
+        rt,
         alloc,
         &options.csv,
         left,
@@ -78,6 +79,7 @@ pub fn join_texts(
 }
 
 fn long_text(
+    rt: &(impl Threads + Sync),
     alloc: Global,
     table: DataFrame,
     call: UnpivotArgsIR,
@@ -91,7 +93,7 @@ fn long_text(
         (unpivot_table (long_of call (table_of table)))) }
 {
     let outcome = made_long(alloc, table, call);
-    written(alloc, options.form, options.csv.separator, outcome)
+    written(rt, alloc, options.form, options.csv.separator, outcome)
 }
 
 /// Makes the table long that a text of comma-separated values is.
@@ -101,6 +103,7 @@ fn long_text(
 /// The first of these that holds, or `OutOfMemory`: 1 `NoTable`, as `records_of_csv` refuses the text, 2 `UnknownType` of a name that
 /// no column has, 3 `NoTable`, where a field isn't of the type of its column, 4 `Refused`, as `unpivot2` refuses, 5 `NoText`.
 pub fn unpivot_text(
+    rt: &(impl Threads + Sync),
     alloc: Global,
     text: Vec<u8>,
     call: UnpivotArgsIR,
@@ -112,11 +115,12 @@ pub fn unpivot_text(
         ≡ text_in options.now.form options.now.csv.separator
         (unpivot_table (long_of call (table_in options.now.csv text.items)))) }
 {
-    let table = read_table(alloc, &options.csv, text)?;
-    long_text(alloc, table, call, options)
+    let table = read_table(rt, alloc, &options.csv, text)?;
+    long_text(rt, alloc, table, call, options)
 }
 
 fn marked_text(
+    rt: &(impl Threads + Sync),
     alloc: Global,
     table: DataFrame,
     call: DummiesCall,
@@ -131,7 +135,7 @@ fn marked_text(
 {
     let call = with_names(alloc, &table, call)?;
     let outcome = with_dummies(alloc, table, call);
-    written(alloc, options.form, options.csv.separator, outcome)
+    written(rt, alloc, options.form, options.csv.separator, outcome)
 }
 
 /// Replaces columns by dummies in the table that a text of comma-separated values is: those that are named, or else those of texts
@@ -142,6 +146,7 @@ fn marked_text(
 /// The first of these that holds, or `OutOfMemory`: 1 `NoTable`, as `records_of_csv` refuses the text, 2 `UnknownType` of a name that
 /// no column has, 3 `NoTable`, where a field isn't of the type of its column, 4 `Refused`, as `_to_dummies` refuses, 5 `NoText`.
 pub fn dummies_text(
+    rt: &(impl Threads + Sync),
     alloc: Global,
     text: Vec<u8>,
     call: DummiesCall,
@@ -153,11 +158,12 @@ pub fn dummies_text(
         ≡ text_in options.now.form options.now.csv.separator
         (dummies_table (marked_of call (table_in options.now.csv text.items)))) }
 {
-    let table = read_table(alloc, &options.csv, text)?;
-    marked_text(alloc, table, call, options)
+    let table = read_table(rt, alloc, &options.csv, text)?;
+    marked_text(rt, alloc, table, call, options)
 }
 
 fn wide_text(
+    rt: &(impl Threads + Sync),
     alloc: Global,
     table: DataFrame,
     call: PivotCall,
@@ -172,7 +178,7 @@ fn wide_text(
 {
     check_decimals(alloc, &options.csv.types, &call, &table)?;
     let outcome = made_wide(alloc, table, call);
-    written(alloc, options.form, options.csv.separator, outcome)
+    written(rt, alloc, options.form, options.csv.separator, outcome)
 }
 
 /// Makes the table wide that a text of comma-separated values is. Texts that look like decimal numbers are not compared: a column
@@ -186,6 +192,7 @@ fn wide_text(
 /// the least or greatest is asked, 5 `Decimals` of the first such column whose values name columns that are sorted, 6 `Refused`, as
 /// `pivot_by` refuses, 7 `NoText`.
 pub fn pivot_text(
+    rt: &(impl Threads + Sync),
     alloc: Global,
     text: Vec<u8>,
     call: PivotCall,
@@ -197,6 +204,6 @@ pub fn pivot_text(
         ≡ text_in options.now.form options.now.csv.separator
         (pivot_table (wide_of call (table_in options.now.csv text.items)))) }
 {
-    let table = read_table(alloc, &options.csv, text)?;
-    wide_text(alloc, table, call, options)
+    let table = read_table(rt, alloc, &options.csv, text)?;
+    wide_text(rt, alloc, table, call, options)
 }

@@ -4,11 +4,17 @@ ghost use Rattle.std.specs.List.{list_all, list_any};
 ghost use Rattle.tb_value.specs.Promise.Names.{same_name};
 ghost use Rattle.tb_value.specs.See.{lent_value};
 ghost use Rattle.tb_chunk.specs.Promise.Col.{values};
-ghost use Rattle.tb_frame.specs.Promise.Table.{plain_column};
+ghost use Rattle.tb_frame.specs.NameSets.{has_name};
+ghost use Rattle.tb_frame.specs.Promise.Table.{plain_column, table_of};
 ghost use Rattle.tb_csv.specs.declared.options.TypeOf.{TypeOf};
+ghost use Rattle.tb_front.specs.Promise.Asked.{first_decimals};
+ghost use Rattle.tb_front.specs.Promise.Faults.{Settles};
 ghost use Rattle.tb_front.specs.Promise.Decimals.{are_digits, has_decimals, is_blank, is_decimal, is_decimal_value, is_digit, is_exponent_mark, is_mantissa, is_point, is_scaled, is_sign, is_told_decimal, is_untyped, without_sign};
 
+use crate::fault::{Comparison, FrontFault};
+use std::alloc::Global;
 use tb_csv::TypeOf;
+use tb_frame::{DataFrame, NameSet};
 use tb_store::Column;
 use tb_value::{PlSmallStr, ValueRef};
 
@@ -161,4 +167,29 @@ pub(crate) fn is_told_decimal(types: &[TypeOf], column: &Column) -> bool
     ensures { result ≡ is_told_decimal types.now (plain_column column.now) }
 {
     !is_typed(types, column.name()) && has_no_other(column) && has_a_decimal(column)
+}
+
+/// Refuses the first column with one of these names whose values look like decimal numbers, blanks apart, and are read as texts
+/// unasked.
+///
+/// # Errors
+///
+/// `Decimals` of that column, or `OutOfMemory`.
+pub fn check_undecimal(
+    alloc: Global,
+    types: &[TypeOf],
+    comparison: Comparison,
+    names: &NameSet<'_>,
+    table: &DataFrame,
+) -> Result<(), FrontFault>
+    ensures { Settles result
+        (first_decimals types.now comparison (has_name names.now) (table_of table.now)) }
+{
+    for column in table.get_columns() {
+        if names.contains(column.name()) && is_told_decimal(types, column) {
+            let name = column.name().copy(alloc)?;
+            return Err(FrontFault::Decimals(comparison, name));
+        }
+    }
+    Ok(())
 }

@@ -9,7 +9,7 @@ ghost use Rattle.tb_calls.specs.Promise.Asked.{names_in};
 ghost use Rattle.tb_front.specs.Promise.Asked.{compares, decimal_faults, first_decimals, is_value, makes_cells};
 ghost use Rattle.tb_front.specs.Promise.Faults.{Settles};
 
-use crate::decimals::is_told_decimal;
+use crate::decimals::{check_undecimal, is_told_decimal};
 use crate::fault::{Comparison, FrontFault};
 use std::alloc::Global;
 use tb_agg::Aggregate;
@@ -97,13 +97,7 @@ fn check_headers(
         return Ok(());
     }
     let on = name_set(alloc, &call.on)?;
-    for column in table.get_columns() {
-        if on.contains(column.name()) && is_told_decimal(types, column) {
-            let name = column.name().copy(alloc)?;
-            return Err(FrontFault::Decimals(Comparison::Order, name));
-        }
-    }
-    Ok(())
+    check_undecimal(alloc, types, Comparison::Order, &on, table)
 }
 
 /// Refuses a pivot that would compare decimal numbers by their bytes.

@@ -9,12 +9,14 @@ ghost use Rattle.tb_csv.specs.Promise.Records.{Record, records_of};
 ghost use Rattle.tb_csv.specs.Promise.Tables.{csv_table};
 ghost use Rattle.tb_csv.specs.Read.{IsLevel, IsRead};
 ghost use Rattle.tb_front.specs.Promise.Asked.{table_fault, tables_faults};
+ghost use Rattle.tb_front.specs.Promise.Due.{Gives};
 ghost use Rattle.tb_front.specs.Promise.Faults.{Settles, names_in, no_records, no_table, unknown_type};
-ghost use Rattle.tb_front.specs.Promise.Texts.{joined_table, table_in};
-ghost use Rattle.tb_front.specs.Texts.{fault_in};
+ghost use Rattle.tb_front.specs.Promise.Texts.{joined_table, table_at, table_in};
+ghost use Rattle.tb_front.specs.Texts.{fault_in, AreRecordsAt};
 
 use crate::fault::{FrontFault, Place};
 use std::alloc::Global;
+use std::thread::{self, Threads};
 use tb_csv::{
     CsvFault, CsvOptions, Records, TypeOf, fault_line, records_of_csv, table_of_records,
     types_with_keys,
@@ -51,8 +53,27 @@ fn read_records(
     }
 }
 
+// The records of both texts, which are read at once.
+fn read_both(
+    rt: &impl Threads,
+    alloc: Global,
+    options: &CsvOptions,
+    left: &[u8],
+    right: &[u8],
+) -> (Result<Records, FrontFault>, Result<Records, FrontFault>)
+    ensures left { AreRecordsAt options.now Place.First left.now result.0 }
+    ensures right { AreRecordsAt options.now Place.Second right.now result.1 }
+{
+    thread::join(
+        rt,
+        || read_records(alloc, options, Place::First, left),
+        || read_records(alloc, options, Place::Second, right),
+    )
+}
+
 // The table of the records of the text at this place.
 fn make_table(
+    rt: &(impl Threads + Sync),
     alloc: Global,
     separator: u8,
     place: Place,
@@ -66,7 +87,7 @@ fn make_table(
     ensures table { (rs : List Record) → IsRead records.now rs
         → IfOk result (λ t. table_of t ≡ csv_table types.now rs) }
 {
-    match table_of_records(alloc, records, types) {
+    match table_of_records(rt, alloc, records, types) {
         Ok(table) => Ok(table),
         Err(fault) => Err(fault_in(separator, place, text, fault)),
     }
@@ -78,8 +99,12 @@ fn names_of(records: &Records) -> &[PlSmallStr]
     records.names()
 }
 
-// Refuses the first type of a name that no column has.
-fn check_types(
+/// Refuses the first type of a name that no column has.
+///
+/// # Errors
+///
+/// `UnknownType` of the first such name, or `OutOfMemory`.
+pub fn check_types(
     alloc: Global,
     types: &[TypeOf],
     names: &[PlSmallStr],
@@ -98,7 +123,13 @@ fn check_types(
 }
 
 /// The table of a text, which is let go.
-pub(crate) fn read_table(
+///
+/// # Errors
+///
+/// The first of these that holds, or `OutOfMemory`: 1 `NoTable`, as `records_of_csv` refuses the text, 2 `UnknownType`, 3 `NoTable`,
+/// where a field isn't of the type of its column.
+pub fn read_table(
+    rt: &(impl Threads + Sync),
     alloc: Global,
     options: &CsvOptions,
     text: Vec<u8>,
@@ -109,6 +140,7 @@ pub(crate) fn read_table(
     let records = read_records(alloc, options, Place::First, &text)?;
     check_types(alloc, &options.types, names_of(&records), &[])?;
     make_table(
+        rt,
         alloc,
         options.separator,
         Place::First,
@@ -118,15 +150,41 @@ pub(crate) fn read_table(
     )
 }
 
+/// The table of the text at this place, which is let go. Types are given for some names, of which any may be none of its columns'.
+///
+/// # Errors
+///
+/// `NoTable`, as `records_of_csv` refuses the text, or else where a field isn't of the type of its column, or `OutOfMemory`.
+pub fn read_at(
+    rt: &(impl Threads + Sync),
+    alloc: Global,
+    options: &CsvOptions,
+    place: Place,
+    text: Vec<u8>,
+) -> Result<DataFrame, FrontFault>
+    ensures { Gives table_of result (table_at options.now place text.items) }
+{
+    let separator = options.separator;
+    match read_records(alloc, options, place, &text) {
+        Ok(records) => make_table(rt, alloc, separator, place, &text, &records, &options.types),
+        Err(fault) => Err(fault),
+    }
+}
+
 /// Two tables, the left one first.
 #[derive(Drop)]
-pub(crate) struct TwoTables {
-    pub(crate) left: DataFrame,
-    pub(crate) right: DataFrame,
+pub struct TwoTables {
+    pub left: DataFrame,
+    pub right: DataFrame,
 }
 
 /// The tables of two texts that are joined by the keys of these names, whose types are told from both texts. The texts are let go.
-pub(crate) fn read_tables(
+///
+/// # Errors
+///
+/// The first five of `join_texts`, or `OutOfMemory`.
+pub fn read_tables(
+    rt: &(impl Threads + Sync),
     alloc: Global,
     options: &CsvOptions,
     left: Vec<u8>,
@@ -143,15 +201,24 @@ pub(crate) fn read_tables(
         table_of t.right
         ≡ joined_table options.now right.items left.items right_on.now left_on.now) }
 {
-    let first = read_records(alloc, options, Place::First, &left)?;
-    let second = read_records(alloc, options, Place::Second, &right)?;
+    let (first, second) = read_both(rt, alloc, options, &left, &right);
+    let (first, second) = (first?, second?);
     let given = options.types.as_slice();
     check_types(alloc, given, names_of(&first), names_of(&second))?;
     let left_types = types_with_keys(alloc, &first, &second, given, left_on, right_on)?;
     let right_types = types_with_keys(alloc, &second, &first, given, right_on, left_on)?;
     let separator = options.separator;
-    let left = make_table(alloc, separator, Place::First, &left, &first, &left_types)?;
+    let left = make_table(
+        rt,
+        alloc,
+        separator,
+        Place::First,
+        &left,
+        &first,
+        &left_types,
+    )?;
     let right = make_table(
+        rt,
         alloc,
         separator,
         Place::Second,

@@ -2,11 +2,13 @@
 ghost use Rattle.std.specs.Prelude.{◌≡◌, IfOk};
 ghost use Rattle.tb_frame.specs.Promise.Table.{table_of};
 ghost use Rattle.tb_front.specs.Promise.Faults.{Settles, writing_fault};
-ghost use Rattle.tb_front.specs.Promise.Texts.{IsOutcome, text_in};
+ghost use Rattle.tb_front.specs.Promise.Due.{Gives};
+ghost use Rattle.tb_front.specs.Promise.Texts.{IsOutcome, fault_of, text_in, written};
 
 use crate::fault::FrontFault;
 use crate::options::TextForm;
 use std::alloc::Global;
+use std::thread::Threads;
 use tb_csv::{CsvFault, csv_of_table};
 use tb_frame::DataFrame;
 use tb_json::text_of;
@@ -32,12 +34,17 @@ fn in_single_chunks(alloc: Global, table: DataFrame) -> Result<DataFrame, OutOfM
     Ok(single)
 }
 
-fn write_csv(alloc: Global, separator: u8, table: DataFrame) -> Result<Vec<u8>, FrontFault>
+fn write_csv(
+    rt: &(impl Threads + Sync),
+    alloc: Global,
+    separator: u8,
+    table: DataFrame,
+) -> Result<Vec<u8>, FrontFault>
     ensures settles { Settles result (writing_fault TextForm.Csv (table_of table)) }
     ensures text { IfOk result (λ v. v.items ≡ text_in TextForm.Csv separator (table_of table)) }
 {
     let table = in_single_chunks(alloc, table)?;
-    match csv_of_table(alloc, &table, separator) {
+    match csv_of_table(rt, alloc, &table, separator) {
         Ok(text) => Ok(text),
         Err(CsvFault::OutOfMemory) => Err(FrontFault::OutOfMemory),
         Err(fault) => Err(FrontFault::NoText(fault)),
@@ -67,6 +74,7 @@ fn write_lines(alloc: Global, width: usize, table: DataFrame) -> Result<Vec<u8>,
 }
 
 fn write_table(
+    rt: &(impl Threads + Sync),
     alloc: Global,
     form: TextForm,
     separator: u8,
@@ -76,14 +84,46 @@ fn write_table(
     ensures text { IfOk result (λ v. v.items ≡ text_in form separator (table_of table)) }
 {
     match form {
-        TextForm::Csv => write_csv(alloc, separator, table),
+        TextForm::Csv => write_csv(rt, alloc, separator, table),
         TextForm::Json => write_json(alloc, table),
         TextForm::Layout(width) => write_lines(alloc, width, table),
     }
 }
 
+/// The text of the table, which is let go.
+///
+/// # Errors
+///
+/// `NoText` of a table that has no text in the form, or `OutOfMemory`.
+pub fn text_of_table(
+    rt: &(impl Threads + Sync),
+    alloc: Global,
+    form: TextForm,
+    separator: u8,
+    table: DataFrame,
+) -> Result<Vec<u8>, FrontFault>
+    ensures { Gives (λ v. v.items) result (written form separator (table_of table)) }
+{
+    write_table(rt, alloc, form, separator, table)
+}
+
+/// The fault that an operation's refusal is.
+pub fn refused(error: PolarsError) -> FrontFault
+    ensures { result ≡ fault_of error }
+{
+    match error {
+        PolarsError::OutOfMemory => FrontFault::OutOfMemory,
+        error => FrontFault::Refused(error),
+    }
+}
+
 /// The text of the table that an operation gave, or why it gave none.
-pub(crate) fn written(
+///
+/// # Errors
+///
+/// `Refused`, as the operation refused, `NoText`, or `OutOfMemory`.
+pub fn written(
+    rt: &(impl Threads + Sync),
     alloc: Global,
     form: TextForm,
     separator: u8,
@@ -92,8 +132,7 @@ pub(crate) fn written(
     ensures { IsOutcome form separator outcome result }
 {
     match outcome {
-        Ok(table) => write_table(alloc, form, separator, table),
-        Err(PolarsError::OutOfMemory) => Err(FrontFault::OutOfMemory),
-        Err(error) => Err(FrontFault::Refused(error)),
+        Ok(table) => write_table(rt, alloc, form, separator, table),
+        Err(error) => Err(refused(error)),
     }
 }

@@ -1,8 +1,9 @@
 -- The tables that texts are, and the texts of answers.
-use Rattle.std.specs.Prelude.{◌≡◌, ℕ, List, Result, Ok, Err, IfOk, encode_utf8_all}
+use Rattle.std.specs.Prelude.{◌≡◌, ℕ, List, [], ◌∷◌, Result, Ok, Err, IfOk, encode_utf8_all}
 use Rattle.std.specs.declared.vec.Vec.{Vec}
 use Rattle.std.specs.declared.alloc.Global.{Global}
 use Rattle.tb_value.specs.Promise.Names.{Name}
+use Rattle.tb_value.specs.Promise.Refusals.{first_cause}
 use Rattle.tb_value.specs.declared.error.PolarsError.{PolarsError}
 use Rattle.tb_value.specs.declared.error.PolarsError.TheVariants as cause
 use Rattle.tb_chunk.specs.Promise.Col.{Col}
@@ -19,11 +20,19 @@ use Rattle.tb_front.specs.declared.options.TextForm.{TextForm}
 use Rattle.tb_front.specs.declared.options.TextForm.TheVariants.{Csv, Json, Layout}
 use Rattle.tb_front.specs.declared.fault.FrontFault.{FrontFault}
 use Rattle.tb_front.specs.declared.fault.FrontFault.TheVariants as fault
-use Rattle.tb_front.specs.Promise.Faults.{Settles, writing_fault}
+use Rattle.tb_front.specs.declared.fault.Place.{Place}
+use Rattle.tb_front.specs.Promise.Due.{◌>>=◌, unless}
+use Rattle.tb_front.specs.Promise.Faults.{Settles, no_records, no_types, writing_fault}
 
 -- the table that a text is
 abbrev pub table_in : CsvOptions → List ℕ → Table
 table_in options text = csv_table options.types.items (records_of options.separator text)
+
+-- the same of the text at a place, or why it is none
+abbrev pub table_at : CsvOptions → Place → List ℕ → Result Table FrontFault
+table_at o place text = unless
+    (first_cause (no_records o place text ∷ no_types o place text o.types.items ∷ [])) >>=
+    λ _. Ok (table_in o text)
 
 -- the types of the columns of a text that is joined with another by these names, told from both
 abbrev pub joined_types : CsvOptions → List ℕ → List ℕ → List Name → List Name → List TypeOf
@@ -41,6 +50,10 @@ abbrev pub text_in : TextForm → ℕ → Table → List ℕ
 text_in Csv separator t = csv_text separator t
 text_in Json separator t = text_of t
 text_in (Layout width) separator t = encode_utf8_all (layout width t)
+
+-- the text of a table, where it has one
+abbrev pub written : TextForm → ℕ → Table → Result (List ℕ) FrontFault
+written form separator t = unless (writing_fault form t) >>= λ _. Ok (text_in form separator t)
 
 abbrev pub fault_of : PolarsError → FrontFault
 fault_of cause.OutOfMemory = fault.OutOfMemory

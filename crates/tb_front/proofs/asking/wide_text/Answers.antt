@@ -12,14 +12,14 @@ use Rattle.tb_front.proofs.Undecimal.{decimals_refused}
 use Rattle.tb_front.proofs.asking.wide_text.Goals as goal
 
 pub returns-in_err-check_decimals-clause-settles : goal.returns-in_err-check_decimals-clause-settles
-returns-in_err-check_decimals-clause-settles c =
+returns-in_err-check_decimals-clause-settles g c =
     let o = c.args.options.now in
     let q = wide_of c.args.call (table_of c.args.table) in
     let p = err_from_is_err_and c.from_residual.result c.from_residual.ensures.1 in
     rw (p.1, p.2) (decimals_refused c.deref.result.now o.csv.types.items c.args.call (table_of c.args.table) (table_faults o.form (pivot_refusal q) (pivot_table q)) _ c.deref.ensures.value c.in_err-check_decimals.ensures)
 
 pub returns-clause-settles : goal.returns-clause-settles
-returns-clause-settles c =
+returns-clause-settles g c =
     let o = c.args.options.now in
     let t = table_of c.args.table in
     let q = wide_of c.args.call t in
@@ -28,6 +28,6 @@ returns-clause-settles c =
     (table_settles o.form o.csv.separator _ _ (pivot_refusal q) (pivot_table q) c.made_wide-outcome.ensures.settles c.made_wide-outcome.ensures.table c.written.ensures)
 
 pub returns-clause-answer : goal.returns-clause-answer
-returns-clause-answer c =
+returns-clause-answer g c =
     let o = c.args.options.now in
     table_text o.form o.csv.separator _ _ (pivot_table (wide_of c.args.call (table_of c.args.table))) c.made_wide-outcome.ensures.table c.written.ensures
