@@ -9,13 +9,15 @@ use Rattle.tb_chunk.specs.Promise.Made.{fresh_column}
 use Rattle.tb_frame.specs.Promise.Table.{schema_of, table_of}
 use Rattle.tb_delta.specs.Promise.Steps.{Step}
 use Rattle.tb_json.specs.Promise.Lists.{each}
+use Rattle.tb_pool.specs.Promise.ExecView.{ExecView}
 use Rattle.tb_request.specs.Lent.{written_view}
 use Rattle.tb_request.specs.Promise.Columns.{chunks_in, columns_from, values_of}
+use Rattle.tb_request.specs.Promise.Reading.{request_tables}
 use Rattle.tb_request.specs.Promise.Written.{Written}
+use Rattle.tb_request.proofs.TablesRead.{both_there}
 use Rattle.tb_request.specs.declared.shape.WrittenColumn.{WrittenColumn}
-use Rattle.tb_delta_request.specs.Lent.{column_part, sides_in}
+use Rattle.tb_delta_request.specs.Lent.{column_part}
 use Rattle.tb_delta_request.specs.Promise.Reading.{Fits, part_of}
-use Rattle.tb_delta_request.proofs.Stages.{columns_there}
 
 some_parts : {A B : Type 0} (f : A → B) (x y : A) → Some x ≡ Some y → f x ≡ f y
 some_parts f x y e = cc
@@ -46,8 +48,8 @@ schema_from (w ∷ ws) cs e = one_more w ws (values_of w) (each values_of ws) cs
 schema_is : (ws : List WrittenColumn) (cs : List Col) → columns_from (map written_view ws) ≡ Some cs → schema_of (table_of cs) ≡ map column_part ws
 schema_is ws cs e = schema_from (map written_view ws) cs e ∙ map-map part_of written_view ws
 
-pub fit_tables : (ls rs : List WrittenColumn) (p : List Col × List Col) (ss : List Step) → sides_in (map written_view ls) (map written_view rs) ≡ Ok p
-    → All (Fits (map column_part ls) (map column_part rs)) ss → All (Fits (schema_of (table_of p.0)) (schema_of (table_of p.1))) ss
-fit_tables ls rs p ss e fits =
-    let both = columns_there (map written_view ls) (map written_view rs) p e in
-    subst (λ (q : List Part × List Part). All (Fits q.0 q.1) ss) (λ t. (sym (schema_is ls p.0 both.0) t, sym (schema_is rs p.1 both.1) t)) fits
+pub fit_tables : (ls rs : List WrittenColumn) (l r : List Col) (exec : ExecView) (ss : List Step) → request_tables (map written_view ls ∷ map written_view rs ∷ []) exec ≡ Ok (l ∷ r ∷ [])
+    → All (Fits (map column_part ls) (map column_part rs)) ss → All (Fits (schema_of (table_of l)) (schema_of (table_of r))) ss
+fit_tables ls rs l r exec ss e fits =
+    let both = both_there (map written_view ls) (map written_view rs) l r exec e in
+    subst (λ (q : List Part × List Part). All (Fits q.0 q.1) ss) (λ t. (sym (schema_is ls l both.0) t, sym (schema_is rs r both.1) t)) fits

@@ -1,9 +1,9 @@
 mod FirstRefused
+mod Stages
 mod Fitting
 mod KeptFaults
 mod Outcomes
 mod RowValues
 mod SameShape
-mod Stages
 mod KeptTexts
 pub mod TwoForms

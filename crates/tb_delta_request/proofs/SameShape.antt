@@ -1,5 +1,5 @@
 -- The members of a request of format 2, and of the same one in format 1.
-use Rattle.std.proofs.Common.{◌≡◌, ◌∙◌, ℕ, List, [], ◌∷◌, map, length, Bool, true, false, cond, Option, Some, None, option_and_then, option_map, codes, refl, sym, ap}
+use Rattle.std.proofs.Common.{◌≡◌, ◌∙◌, ℕ, List, map, length, Bool, true, false, cond, Option, Some, None, option_and_then, option_map, codes, refl, sym, ap}
 use Rattle.std.specs.Prelude.{◌==◌, is_some}
 use Rattle.std.proofs.lemmas.List.{length-map}
 use Rattle.serde_json.specs.Data.{array, boolean, Data, Members, null, number, object, string}
@@ -11,9 +11,11 @@ use Rattle.tb_json.specs.Promise.Lists.{◌>>=◌, are_among, as_list, check, ha
 use Rattle.tb_request.specs.declared.shape.Format.{Format}
 use Rattle.tb_request.specs.declared.shape.Format.TheVariants.{Chunks, Runs}
 use Rattle.tb_request.specs.Forms.{expand, expand_member}
+use Rattle.tb_request.specs.Promise.Members.{names_of}
 use Rattle.tb_request.specs.Promise.Written.{format_of, optional_member, table_at, Written}
 use Rattle.tb_request.proofs.Expanded.{names_out, written_out}
 use Rattle.tb_request.proofs.SameShape.{format_out, GoOut, same_member, side_out, some_is}
+use Rattle.tb_delta_request.specs.Promise.Members.{delta_members, insert_members}
 use Rattle.tb_delta_request.specs.Promise.Written.{WrittenDelta, WrittenStep, delta_of, insert, insert_of, of_two, remove_of, side_at, step_of}
 
 -- ---- steps, which ask for the number of columns alone
@@ -24,7 +26,7 @@ width_out side.Right l r = length-map r written_out
 
 insert_same : (l r : List Written) (d : Data) → insert_of (map written_out l) (map written_out r) d ≡ insert_of l r d
 unfolding insert_of
-insert_same l r d = λ i. check (has_only (codes "insert" ∷ codes "row" ∷ []) d) >>= λ known. side_at (codes "insert") d >>= λ s. (get (codes "row") d >>= as_list) >>= λ row. check (length row == width_out s l r i) >>= λ whole. Some (insert s row)
+insert_same l r d = λ i. check (has_only (names_of insert_members) d) >>= λ known. side_at (codes "insert") d >>= λ s. (get (codes "row") d >>= as_list) >>= λ row. check (length row == width_out s l r i) >>= λ whole. Some (insert s row)
 
 step_same : (l r : List Written) (d : Data) → step_of (map written_out l) (map written_out r) d ≡ step_of l r d
 step_same l r d = ap (λ o. cond (is_some (get (codes "insert") d)) o (remove_of d)) (insert_same l r d)
@@ -78,7 +80,7 @@ delta_goes true (Some n) (Some lo) None l l' r r' steps w h k same x = absurd (c
 delta_goes true (Some n) (Some lo) (Some ro) l l' r r' steps w h k same x = sides_go n lo ro (l Runs) (l' Chunks) (r Runs) (r' Chunks) steps w h k same x
 
 abbrev delta_names : List Name
-delta_names = codes "format" ∷ codes "join_nulls" ∷ codes "left" ∷ codes "left_on" ∷ codes "right" ∷ codes "right_on" ∷ codes "steps" ∷ []
+delta_names = names_of delta_members
 
 -- by the values of the members
 abbrev delta_by : Bool → Option Format → (List ℕ → Option Data) → (Format → List ℕ → Option (List Written)) → Option WrittenDelta

@@ -1,5 +1,5 @@
 -- Requests of both formats are read alike.
-use Rattle.std.proofs.Common.{◌≡◌, ◌∙◌, ◌≤◌, List, [], ◌∷◌, ◌++◌, map, Bool, true, false, Option, Some, None, option_map, refl, sym, ap, arith}
+use Rattle.std.proofs.Common.{◌≡◌, ◌∙◌, List, [], ◌∷◌, map, Option, Some, None, option_map, refl, ap}
 use Rattle.std.specs.Prelude.{ok_or, Result, Ok, Err}
 use Rattle.serde_json.specs.Data.{Data}
 use Rattle.serde_json.specs.View.{items_of}
@@ -16,18 +16,15 @@ use Rattle.tb_json.specs.Promise.Lists.{each}
 use Rattle.tb_request.specs.declared.request.Reason.{Reason}
 use Rattle.tb_request.specs.declared.request.Reason.TheVariants as why
 use Rattle.tb_request.specs.Forms.{expand, IsPastRows}
-use Rattle.tb_request.specs.Promise.Columns.{columns_from, rows_fit}
-use Rattle.tb_request.specs.Promise.Reading.{◌>>=◌, are_tables}
-use Rattle.tb_request.specs.Promise.Written.{Written}
-use Rattle.tb_request.proofs.Expanded.{columns_out, written_out}
-use Rattle.tb_request.proofs.RoomLeft.{rows_append}
-use Rattle.tb_request.proofs.TwoForms.{both_fit_out, fit_from}
+use Rattle.tb_request.specs.Promise.Reading.{◌>>=◌, first_table, request_tables, second_table}
+use Rattle.tb_request.specs.Promise.Written.{standard_exec, Written}
+use Rattle.tb_request.proofs.Expanded.{written_out}
+use Rattle.tb_request.proofs.TwoForms.{tables_same}
 use Rattle.tb_delta_request.specs.Laws.{TwoForms}
 use Rattle.tb_delta_request.specs.Promise.Reading.{DeltaRequest, delta_in, part_of, step_in, steps_in}
 use Rattle.tb_delta_request.specs.Promise.Written as written
 use Rattle.tb_delta_request.specs.Promise.Written.{WrittenDelta, WrittenStep, delta_of, of_two}
 use Rattle.tb_delta_request.proofs.SameShape.{delta_of_out, delta_out}
-use Rattle.tb_delta_request.proofs.Stages.{all_stages, made, stages}
 
 -- the values of steps hang on names and types of columns alone
 parts_out : (d : Side) (l r : List Written) → map part_of (of_two d (map written_out l) (map written_out r)) ≡ map part_of (of_two d l r)
@@ -41,26 +38,32 @@ step_out l r (written.remove d id) = refl
 steps_out : (l r : List Written) (ss : List WrittenStep) → steps_in (map written_out l) (map written_out r) ss ≡ steps_in l r ss
 steps_out l r ss = ap (λ (f : WrittenStep → Option Step). each f ss) (λ i s. step_out l r s i)
 
-after_same : (w : WrittenDelta) (lo ro : Option (List Col)) (so : Option (List Step)) (fit : Bool) → columns_from w.left ≡ lo → columns_from w.right ≡ ro → steps_in w.left w.right w.steps ≡ so → rows_fit (w.left ++ w.right) ≡ fit
-    → IsPastRows (all_stages lo ro so fit (λ l r. are_tables (l ∷ r ∷ [])) (made w)) → stages (delta_out w) ≡ all_stages lo ro so fit (λ l r. are_tables (l ∷ r ∷ [])) (made w)
-after_same w None ro so fit a b c f p = absurd p
-after_same w (Some l) None so fit a b c f p = absurd p
-after_same w (Some l) (Some r) None fit a b c f p = absurd p
-after_same w (Some l) (Some r) (Some ss) false a b c f p = absurd p
-after_same w (Some l) (Some r) (Some ss) true a b c f p =
-    let few = fit_from (w.left ++ w.right) f in
-    let sum = rows_append w.left w.right in
-    let is = steps_out w.left w.right w.steps ∙ c in
-    λ i. all_stages (columns_out w.left l (omega (arith, few, sum)) a i) (columns_out w.right r (omega (arith, few, sum)) b i) (is i) (both_fit_out w.left w.right i) (λ l r. are_tables (l ∷ r ∷ [])) (made w)
+-- with the steps' values the request is what its tables are
+abbrev delta_made : List Step → WrittenDelta → List (List Col) → DeltaRequest
+delta_made ss w ts = record { left = first_table ts; right = second_table ts; left_on = w.left_on; right_on = w.right_on; join_nulls = w.join_nulls; steps = ss }
 
-abbrev from : Option WrittenDelta → Result DeltaRequest Reason
-from o = ok_or o why.Shape >>= stages
+abbrev with_steps : WrittenDelta → Option (List Step) → Result DeltaRequest Reason
+with_steps w steps = ok_or steps why.Value >>= λ ss. request_tables (w.left ∷ w.right ∷ []) standard_exec >>= λ ts. Ok (delta_made ss w ts)
 
-from_same : (o o' : Option WrittenDelta) → ((w : WrittenDelta) → o ≡ Some w → o' ≡ Some (delta_out w)) → IsPastRows (from o) → from o' ≡ from o
-from_same None o' h p = absurd p
-from_same (Some w) o' h p =
-    ap from (h w refl) ∙ after_same w (columns_from w.left) (columns_from w.right) (steps_in w.left w.right w.steps) (rows_fit (w.left ++ w.right)) refl refl refl refl p
+abbrev delta_from : Option WrittenDelta → Result DeltaRequest Reason
+delta_from o = ok_or o why.Shape >>= λ w. with_steps w (steps_in w.left w.right w.steps)
+
+past : (w : WrittenDelta) (ss : List Step) (r : Result (List (List Col)) Reason) → IsPastRows (r >>= λ ts. Ok (delta_made ss w ts)) → IsPastRows r
+past w ss (Ok ts) p = tt
+past w ss (Err reason) p = p
+
+with_steps_same : (w : WrittenDelta) (o : Option (List Step)) → IsPastRows (with_steps w o) → with_steps (delta_out w) o ≡ with_steps w o
+with_steps_same w None p = absurd p
+with_steps_same w (Some ss) p =
+    ap (λ r. r >>= λ ts. Ok (delta_made ss w ts)) (tables_same (w.left ∷ w.right ∷ []) standard_exec (past w ss (request_tables (w.left ∷ w.right ∷ []) standard_exec) p))
+
+delta_from_same : (o o' : Option WrittenDelta) → ((w : WrittenDelta) → o ≡ Some w → o' ≡ Some (delta_out w)) → IsPastRows (delta_from o) → delta_from o' ≡ delta_from o
+delta_from_same None o' h p = absurd p
+delta_from_same (Some w) o' h p =
+    ap delta_from (h w refl)
+    ∙ ap (with_steps (delta_out w)) (steps_out w.left w.right w.steps)
+    ∙ with_steps_same w (steps_in w.left w.right w.steps) p
 
 pub delta_same : TwoForms
 unfolding delta_in
-delta_same d e p = from_same (delta_of d) (delta_of (expand d)) (λ w. delta_of_out d w e) p
+delta_same d e p = delta_from_same (delta_of d) (delta_of (expand d)) (λ w. delta_of_out d w e) p

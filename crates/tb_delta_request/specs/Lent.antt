@@ -1,5 +1,5 @@
 -- What the program's values stand for.
-use Rattle.std.specs.Prelude.{List, [], ◌∷◌, ◌++◌, map, Option, Some, None, Result, Ok, Err, ok_or}
+use Rattle.std.specs.Prelude.{map, Option, Some, None}
 use Rattle.tb_tree.specs.View.{view}
 use Rattle.tb_delta.specs.declared.running.StepFault.{StepFault}
 use Rattle.tb_request.specs.Lent.{written_view}
@@ -10,12 +10,6 @@ use Rattle.tb_value.specs.declared.error.PolarsError.TheVariants as refused
 use Rattle.tb_delta.specs.declared.fault.DeltaFault.{DeltaFault}
 use Rattle.tb_delta.specs.declared.fault.DeltaFault.TheVariants as fault
 use Rattle.tb_value.specs.SeeKind.{kind_of}
-use Rattle.tb_chunk.specs.Promise.Col.{Col}
-use Rattle.tb_request.specs.declared.request.Reason.{Reason}
-use Rattle.tb_request.specs.declared.request.Reason.TheVariants as why
-use Rattle.tb_request.specs.Promise.Columns.{columns_from, rows_fit}
-use Rattle.tb_request.specs.Promise.Reading.{◌>>=◌, are_tables, only_if}
-use Rattle.tb_request.specs.Promise.Written.{Written}
 use Rattle.tb_delta_request.specs.Promise.Answers.{Refusal, at_step, by_operation}
 use Rattle.tb_delta_request.specs.Promise.Written as written
 use Rattle.tb_delta_request.specs.declared.keeping.KeptFault.{KeptFault}
@@ -41,15 +35,6 @@ written_delta w = record {
   join_nulls = w.join_nulls;
   steps = map step_view w.steps.items;
 }
-
--- the tables of both sides: the stages that come behind the form, where the steps are not looked at
-unfoldable pub sides_in : List Written → List Written → Result (List Col × List Col) Reason
-sides_in left right = do
-  ls ← ok_or (columns_from left) why.Value
-  rs ← ok_or (columns_from right) why.Value
-  fit ← only_if (rows_fit (left ++ right)) why.Rows
-  valid ← are_tables (ls ∷ rs ∷ [])
-  Ok (ls, rs)
 
 -- the refusal that a fault tells of; want of memory is none
 abbrev pub refusal_view : KeptFault → Option Refusal

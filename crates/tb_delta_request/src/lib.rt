@@ -2,6 +2,7 @@
 #![tactic(auto)]
 
 mod keeping;
+mod known;
 pub mod laws;
 mod reading;
 mod request;
@@ -10,6 +11,7 @@ mod shape;
 mod texts;
 
 pub use keeping::{KeptFault, KeptJoin, kept};
+pub use known::{delta_members, insert_members, remove_members};
 pub use reading::{delta_in, delta_request_of};
 pub use request::DeltaRequest;
 pub use texts::{text_of_fault, text_of_kept};

@@ -1,46 +1,15 @@
 //! The requests that bytes are.
-ghost use Rattle.std.specs.Prelude.{◌≡◌, map, IfOk, MatchResult, Ok};
+ghost use Rattle.std.specs.Prelude.{◌≡◌, IfOk, MatchResult, Ok};
 ghost use Rattle.tb_tree.specs.View.{view};
-ghost use Rattle.tb_request.specs.Columns.{relaid_column};
-ghost use Rattle.tb_request.specs.Lent.{written_view};
 ghost use Rattle.tb_request.specs.Promise.Reading.{FaultIs};
-ghost use Rattle.tb_delta_request.specs.Lent.{sides_in};
 ghost use Rattle.tb_delta_request.specs.Promise.Reading.{delta_in, delta_request_of, delta_view, AreFitting};
 
 use crate::request::DeltaRequest;
 use crate::rows::steps_from;
 use crate::shape::{WrittenDelta, delta_of};
 use std::alloc::Global;
-use tb_frame::DataFrame;
-use tb_request::{
-    Reason, RequestFault, WrittenColumn, are_columns, columns_of, sides_fit, tables_of,
-    unfit_reason, value_in,
-};
+use tb_request::{ExecNumbers, Reason, RequestFault, two_tables, value_in};
 use tb_tree::Value;
-
-// The tables of these columns.
-#[tactic(auto, unfolding(crate::specs::Lent::sides_in))]
-fn sides_of(
-    alloc: Global,
-    left: Vec<WrittenColumn>,
-    right: Vec<WrittenColumn>,
-) -> Result<(DataFrame, DataFrame), RequestFault>
-    ensures { MatchResult result
-        (λ p. sides_in (map written_view left.items) (map written_view right.items) ≡ Ok (map relaid_column p.0, map relaid_column p.1))
-        (λ e. FaultIs e (sides_in (map written_view left.items) (map written_view right.items))) }
-{
-    if !sides_fit(&left, &right) {
-        let typed = are_columns(alloc, left)? && are_columns(alloc, right)?;
-        return Err(RequestFault::NoRequest(unfit_reason(typed)));
-    }
-    let Some(left) = columns_of(alloc, left)? else {
-        return Err(RequestFault::NoRequest(Reason::Value));
-    };
-    let Some(right) = columns_of(alloc, right)? else {
-        return Err(RequestFault::NoRequest(Reason::Value));
-    };
-    tables_of(alloc, left, right)
-}
 
 /// The request to keep a join that a JSON value is.
 ///
@@ -67,7 +36,7 @@ pub fn delta_in(alloc: Global, value: Value) -> Result<DeltaRequest, RequestFaul
     let Some(steps) = steps_from(alloc, &left, &right, steps)? else {
         return Err(RequestFault::NoRequest(Reason::Value));
     };
-    let (left, right) = sides_of(alloc, left, right)?;
+    let (left, right, _) = two_tables(alloc, left, right, ExecNumbers::standard())?;
     Ok(DeltaRequest {
         left,
         right,

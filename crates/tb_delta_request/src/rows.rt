@@ -72,7 +72,8 @@ pub(crate) fn steps_from(
     written: Vec<WrittenStep>,
 ) -> Result<Option<Vec<Step>>, OutOfMemory>
     ensures value { IfOk result (λ o. option_map (λ v. steps_of v.items) o
-        ≡ steps_in (map written_view left.now) (map written_view right.now) (map step_view written.items)) }
+        ≡ steps_in (map written_view left.now) (map written_view right.now)
+        (map step_view written.items)) }
     ensures fits { IfOk result (λ o.
         IfSome o (λ v.
         All (Fits (map column_part left.now) (map column_part right.now)) (steps_of v.items))) }

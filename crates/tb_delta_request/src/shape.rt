@@ -4,13 +4,14 @@ ghost use Rattle.serde_json.specs.Find.{get};
 ghost use Rattle.tb_tree.specs.View.{view};
 ghost use Rattle.tb_json.specs.Promise.Lists.{as_list, each, list_of};
 ghost use Rattle.tb_request.specs.Lent.{written_view};
-ghost use Rattle.tb_delta_request.specs.Promise.Written.{of_two, delta_of, insert_of, remove_of, side_at, side_named, step_of};
+ghost use Rattle.tb_delta_request.specs.Promise.Written.{of_two, delta_of, insert_of, remove_of, side_at, step_of};
 ghost use Rattle.tb_delta_request.specs.Lent.{step_view, written_delta};
 
+use crate::known::{delta_members, insert_members, remove_members};
 use std::alloc::Global;
 use tb_request::{
     Format, WrittenColumn, count_of, format_of, has_only, into_array, into_member, name_at,
-    table_in, truth_at,
+    side_named, table_in, truth_at,
 };
 use tb_tree::Value;
 use tb_value::{OutOfMemory, PlSmallStr, Side};
@@ -31,16 +32,6 @@ pub(crate) struct WrittenDelta {
     pub right_on: PlSmallStr,
     pub join_nulls: bool,
     pub steps: Vec<WrittenStep>,
-}
-
-fn side_named(text: &str) -> Option<Side>
-    ensures { result ≡ side_named text.now }
-{
-    match text {
-        "left" => Some(Side::Left),
-        "right" => Some(Side::Right),
-        _ => None,
-    }
 }
 
 fn side_at(object: &Value, name: &str) -> Option<Side>
@@ -93,7 +84,7 @@ fn insert_of(
     ensures { IfOk result (λ o. option_map step_view o
         ≡ insert_of (map written_view left.now) (map written_view right.now) (view value)) }
 {
-    if !has_only(&value, &["insert", "row"]) {
+    if !has_only(&value, insert_members()) {
         return Ok(None);
     }
     let Some(side) = side_at(&value, "insert") else {
@@ -112,7 +103,7 @@ fn insert_of(
 fn remove_of(value: &Value) -> Option<WrittenStep>
     ensures { option_map step_view result ≡ remove_of (view value.now) }
 {
-    if !has_only(value, &["id", "remove"]) {
+    if !has_only(value, remove_members()) {
         return None;
     }
     let id = count_of(value.get("id")?)?;
@@ -142,7 +133,8 @@ fn steps_of(
     items: Vec<Value>,
 ) -> Result<Option<Vec<WrittenStep>>, OutOfMemory>
     ensures { IfOk result (λ o. option_map (λ v. map step_view v.items) o
-        ≡ each (step_of (map written_view left.now) (map written_view right.now)) (map view items.items)) }
+        ≡ each (step_of (map written_view left.now) (map written_view right.now))
+        (map view items.items)) }
 {
     let mut steps = Vec::with_capacity(alloc, items.len())?;
     for item in items {
@@ -162,7 +154,9 @@ fn steps_at(
     steps: Option<Value>,
 ) -> Result<Option<Vec<WrittenStep>>, OutOfMemory>
     ensures { IfOk result (λ o. option_map (λ v. map step_view v.items) o
-        ≡ option_and_then (list_of (step_of (map written_view left.now) (map written_view right.now))) (option_map view steps)) }
+        ≡ option_and_then
+        (list_of (step_of (map written_view left.now) (map written_view right.now)))
+        (option_map view steps)) }
 {
     match array_in(alloc, steps)? {
         Some(items) => steps_of(alloc, left, right, items),
@@ -201,18 +195,7 @@ fn taken_members(object: Value) -> TakenMembers
 pub(crate) fn delta_of(alloc: Global, value: Value) -> Result<Option<WrittenDelta>, OutOfMemory>
     ensures { IfOk result (λ o. option_map written_delta o ≡ delta_of (view value)) }
 {
-    if !has_only(
-        &value,
-        &[
-            "format",
-            "join_nulls",
-            "left",
-            "left_on",
-            "right",
-            "right_on",
-            "steps",
-        ],
-    ) {
+    if !has_only(&value, delta_members()) {
         return Ok(None);
     }
     let (Some(format), Some(join_nulls)) = (format_of(&value), truth_at(&value, "join_nulls"))

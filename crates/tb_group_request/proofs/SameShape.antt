@@ -1,5 +1,5 @@
 -- The members of a request of format 2, and of the same one in format 1.
-use Rattle.std.proofs.Common.{◌≡◌, ◌∙◌, ℕ, List, [], ◌∷◌, map, Bool, false, Option, Some, None, codes, refl, sym, ap}
+use Rattle.std.proofs.Common.{◌≡◌, ◌∙◌, ℕ, List, map, Bool, false, Option, Some, None, codes, refl, sym, ap}
 use Rattle.serde_json.specs.Data.{array, boolean, Data, null, number, object, string}
 use Rattle.serde_json.specs.Find.{as_bool, as_str, get_member}
 use Rattle.tb_value.specs.Promise.Names.{Name}
@@ -8,16 +8,18 @@ use Rattle.tb_group.specs.declared.request.GroupAgg.{GroupAgg}
 use Rattle.tb_json.specs.Promise.Lists.{◌>>=◌, are_among, list_of}
 use Rattle.tb_request.specs.declared.shape.Format.TheVariants.{Runs}
 use Rattle.tb_request.specs.Forms.{expand, expand_member}
+use Rattle.tb_request.specs.Promise.Members.{names_of}
 use Rattle.tb_request.specs.Promise.Written.{format_of, optional_member, plan_of, standard_exec, table_at, Written}
 use Rattle.tb_request.proofs.Expanded.{names_out, written_out}
 use Rattle.tb_request.proofs.SameShape.{format_out, same_member, side_out, some_is, table_first, table_goes}
+use Rattle.tb_group_request.specs.Promise.Members.{group_members}
 use Rattle.tb_group_request.specs.Promise.Written.{agg_in, group_of, WrittenGroup}
 
 abbrev pub group_out : WrittenGroup → WrittenGroup
 group_out w = record w { table = map written_out w.table }
 
 abbrev group_names : List Name
-group_names = codes "aggs" ∷ codes "by" ∷ codes "exec" ∷ codes "format" ∷ codes "table" ∷ codes "trace" ∷ []
+group_names = names_of group_members
 
 abbrev group_rest : Option (List Name) → Option (List GroupAgg) → Option ExecView → Option Bool → List Written → Option WrittenGroup
 group_rest by aggs exec trace table = do

@@ -2,6 +2,7 @@
 #![tactic(auto)]
 
 mod grouping;
+mod known;
 pub mod laws;
 mod reading;
 mod request;
@@ -9,6 +10,7 @@ mod shape;
 mod texts;
 
 pub use grouping::{GroupedTable, grouped};
+pub use known::{agg_members, group_members};
 pub use reading::{group_in, group_request_of};
 pub use request::GroupRequest;
 pub use texts::{counts_value, text_of_grouped};

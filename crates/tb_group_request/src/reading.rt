@@ -7,10 +7,7 @@ ghost use Rattle.tb_group_request.specs.Promise.Reading.{group_in, group_request
 use crate::request::GroupRequest;
 use crate::shape::{WrittenGroup, group_of};
 use std::alloc::Global;
-use tb_request::{
-    Reason, RequestFault, are_columns, columns_of, exec_from, rows_fit, table_of, unfit_reason,
-    value_in,
-};
+use tb_request::{Reason, RequestFault, single_table, value_in};
 use tb_tree::Value;
 
 /// The request to group a table that a JSON value is.
@@ -33,18 +30,9 @@ pub fn group_in(alloc: Global, value: Value) -> Result<GroupRequest, RequestFaul
         exec,
         trace,
     } = written;
-    if !rows_fit(&table) {
-        let typed = are_columns(alloc, table)?;
-        return Err(RequestFault::NoRequest(unfit_reason(typed)));
-    }
-    let Some(columns) = columns_of(alloc, table)? else {
-        return Err(RequestFault::NoRequest(Reason::Value));
-    };
-    let Some(exec) = exec_from(exec) else {
-        return Err(RequestFault::NoRequest(Reason::Exec));
-    };
+    let (table, exec) = single_table(alloc, table, exec)?;
     Ok(GroupRequest {
-        table: table_of(alloc, columns)?,
+        table,
         by,
         aggs,
         exec,

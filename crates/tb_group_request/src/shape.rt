@@ -7,6 +7,7 @@ ghost use Rattle.tb_request.specs.Promise.Written.{agg_named, name_at};
 ghost use Rattle.tb_group_request.specs.Lent.{written_group};
 ghost use Rattle.tb_group_request.specs.Promise.Written.{agg_in, group_of};
 
+use crate::known::{agg_members, group_members};
 use std::alloc::Global;
 use tb_group::{GroupAgg, GroupKind};
 use tb_request::{
@@ -37,7 +38,7 @@ fn aggregate_of(agg: &Value) -> Option<GroupKind>
 fn agg_in(alloc: Global, value: &Value) -> Result<Option<GroupAgg>, OutOfMemory>
     ensures { IfOk result (λ o. o ≡ agg_in (view value.now)) }
 {
-    if !has_only(value, &["agg", "column", "name"]) {
+    if !has_only(value, agg_members()) {
         return Ok(None);
     }
     let Some(agg) = aggregate_of(value) else {
@@ -94,7 +95,7 @@ fn aggs_at(alloc: Global, object: &Value, name: &str) -> Result<Option<Vec<Group
 pub(crate) fn group_of(alloc: Global, value: Value) -> Result<Option<WrittenGroup>, OutOfMemory>
     ensures { IfOk result (λ o. option_map written_group o ≡ group_of (view value)) }
 {
-    if !has_only(&value, &["aggs", "by", "exec", "format", "table", "trace"]) {
+    if !has_only(&value, group_members()) {
         return Ok(None);
     }
     let (Some(format), Some(exec), Some(trace)) = (

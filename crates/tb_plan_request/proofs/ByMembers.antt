@@ -1,10 +1,12 @@
 -- A tree by the members of its value.
-use Rattle.std.proofs.Common.{◌≡◌, Bool, true, false, List, [], ◌∷◌, Option, Some, None, codes, if◌then◌else◌, refl, sym, ap, ◌∙◌}
+use Rattle.std.proofs.Common.{◌≡◌, List, Bool, true, false, Option, Some, None, codes, if◌then◌else◌, refl, sym, ap, ◌∙◌}
 use Rattle.std.specs.Option.{option_map, option_and_then}
 use Rattle.serde_json.specs.Data.{Data, null, boolean, number, string, array, object, Members}
 use Rattle.serde_json.specs.Find.{as_str, get}
 use Rattle.tb_json.specs.Promise.Lists.{has_only}
 use Rattle.tb_node.specs.Promise.Trees.{Tree, table}
+use Rattle.tb_request.specs.Promise.Members.{Known, names_of}
+use Rattle.tb_plan_request.specs.Promise.Members.{filter_members, join_node_members, table_node_members}
 use Rattle.tb_plan_request.specs.Promise.Written.{filter_from, join_from, tree_in, tree_from, trees_in}
 use Rattle.tb_plan_request.specs.Laws.{tree_by_members}
 use Rattle.tb_plan_request.proofs.NodeMembers.{tree_at-get}
@@ -17,16 +19,20 @@ reads (string s) = refl
 reads (array ds) = refl
 reads (object ms) = rw (tree_at-get (codes "input") ms, tree_at-get (codes "left") ms, tree_at-get (codes "right") ms) refl
 
+-- what a test of members says of the members that these are
+pub has_these : (ks members : List Known) (d : Data) (tested is : Bool) → ks ≡ members → tested ≡ has_only (names_of ks) d → tested ≡ is → has_only (names_of members) d ≡ is
+has_these ks members d tested is same by said = ap (λ known. has_only (names_of known) d) (sym same) ∙ sym by ∙ said
+
 -- ---- a filter
 
 abbrev is_table : Data → Bool
-is_table d = has_only (codes "table" ∷ []) d
+is_table d = has_only (names_of table_node_members) d
 
 abbrev is_filter : Data → Bool
-is_filter d = has_only (codes "column" ∷ codes "input" ∷ codes "test" ∷ []) d
+is_filter d = has_only (names_of filter_members) d
 
 abbrev is_join : Data → Bool
-is_join d = has_only (codes "args" ∷ codes "left" ∷ codes "left_on" ∷ codes "right" ∷ codes "right_on" ∷ []) d
+is_join d = has_only (names_of join_node_members) d
 
 filter_reads : (d : Data) → is_table d ≡ false → is_filter d ≡ true → tree_in d ≡ filter_from d (option_and_then tree_in (get (codes "input") d))
 filter_reads d first second = reads d ∙ rw (first, second) refl

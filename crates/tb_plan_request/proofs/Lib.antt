@@ -1,7 +1,7 @@
 pub mod NodeMembers
 pub mod ByMembers
-pub mod TableRows
 pub mod Asked
-pub mod Claims
-pub mod Stages
+pub mod Zipped
+pub mod Beside
+pub mod PlanRead
 pub mod TwoForms

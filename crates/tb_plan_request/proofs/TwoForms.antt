@@ -1,33 +1,28 @@
 -- Requests of a plan in both formats are read alike.
-use Rattle.std.proofs.Common.{◌≡◌, ◌∙◌, ◌+◌, ◌≤◌, ℕ, List, [], ◌∷◌, map, Bool, true, false, Option, Some, None, option_and_then, option_map, codes, refl, sym, ap, arith}
-use Rattle.std.specs.Prelude.{ok_or, Result, Ok, Err}
-use Rattle.std.proofs.lemmas.Bool.{le-leb, leb-true}
-use Rattle.std.proofs.lemmas.List.Sums.{sum_by-cons}
+use Rattle.std.proofs.Common.{◌≡◌, ◌∙◌, ℕ, List, [], ◌∷◌, map, Bool, true, false, Option, Some, None, option_and_then, option_map, codes, refl, sym, ap}
+use Rattle.std.specs.List.{zip}
 use Rattle.serde_json.specs.Data.{array, boolean, Data, item, Items, Members, no_items, null, number, object, string}
 use Rattle.serde_json.specs.Find.{as_bool, as_str, get_member}
 use Rattle.tb_value.specs.Promise.Names.{Name}
 use Rattle.tb_pool.specs.Promise.ExecView.{ExecView}
-use Rattle.tb_chunk.specs.Promise.Col.{Col}
 use Rattle.tb_node.specs.Promise.Trees.{Tree}
 use Rattle.tb_plan.specs.Promise.Outcome.{Pivot}
 use Rattle.tb_json.specs.Promise.Lists.{◌>>=◌, are_among, check, each, list_from, list_of}
-use Rattle.tb_request.specs.declared.request.Reason.{Reason}
-use Rattle.tb_request.specs.declared.request.Reason.TheVariants as why
-use Rattle.tb_request.specs.declared.runs.TheConstants.{MAX_RUN_VALUES}
 use Rattle.tb_request.specs.declared.shape.Format.{Format}
 use Rattle.tb_request.specs.declared.shape.Format.TheVariants.{Chunks, Runs}
-use Rattle.tb_request.specs.Forms.{each_item, each_member, IsPastRows}
-use Rattle.tb_request.specs.Promise.Columns.{columns_from, rows_in}
-use Rattle.tb_request.specs.Promise.Reading.{are_tables, may_stand, only_if}
-use Rattle.tb_request.specs.Promise.Reading as reading
+use Rattle.tb_request.specs.Forms.{each_item, each_member}
+use Rattle.tb_request.specs.Promise.Members.{names_of}
 use Rattle.tb_request.specs.Promise.Written.{format_of, optional_member, plan_of, standard_exec, table_at, Written}
-use Rattle.tb_request.proofs.EachRun.{each_goes, each_more, parts}
-use Rattle.tb_request.proofs.Expanded.{columns_out, member_out, names_out, rows_out, written_out}
+use Rattle.tb_request.proofs.EachRun.{each_goes}
+use Rattle.tb_request.proofs.Expanded.{member_out, names_out, written_out}
 use Rattle.tb_request.proofs.SameShape.{format_out, same_member, side_out, some_is}
+use Rattle.tb_request.proofs.TwoForms.{request_same, tables_out}
 use Rattle.tb_plan_request.specs.Forms.{expand_entry, expand_named, expand_plan, expand_plan_member, expand_tables}
 use Rattle.tb_plan_request.specs.Laws.{TwoForms}
-use Rattle.tb_plan_request.specs.Promise.Reading.{PlanRequest, columns_under, plan_in, rows_in_tables, tables_fit}
+use Rattle.tb_plan_request.specs.Promise.Members.{entry_members, plan_members}
+use Rattle.tb_plan_request.specs.Promise.Reading.{plan_in, table_columns, table_names}
 use Rattle.tb_plan_request.specs.Promise.Written.{WrittenPlan, pivot_in, table_in, tree_in, written_of}
+use Rattle.tb_plan_request.proofs.PlanRead.{made as plan_made}
 
 -- ---- a table under its name
 
@@ -53,7 +48,7 @@ entry_goes true (Some n) (Some ws) columns' t h e =
     ∙ ap (λ (u : Named). Some (named_out u)) (some_is (n, ws) t e)
 
 abbrev entry_names : List Name
-entry_names = codes "name" ∷ codes "table" ∷ []
+entry_names = names_of entry_members
 
 entry_out : (d : Data) (t : Named) → table_in Runs d ≡ Some t → table_in Chunks (expand_entry d) ≡ Some (named_out t)
 unfolding table_in
@@ -70,13 +65,13 @@ entries_out : (ds : Items) → list_from (each_item expand_entry ds) ≡ map exp
 entries_out no_items = refl
 entries_out (item d ds) = ap (λ es. expand_entry d ∷ es) (entries_out ds)
 
-tables_out : (d : Data) (ts : List Named) → list_of (table_in Runs) d ≡ Some ts → list_of (table_in Chunks) (expand_tables d) ≡ Some (map named_out ts)
-tables_out null ts e = absurd (cc)
-tables_out (boolean b) ts e = absurd (cc)
-tables_out (number n) ts e = absurd (cc)
-tables_out (string s) ts e = absurd (cc)
-tables_out (array ds) ts e = ap (each (table_in Chunks)) (entries_out ds) ∙ each_goes expand_entry named_out (table_in Runs) (table_in Chunks) entry_out (list_from ds) ts e
-tables_out (object ms) ts e = absurd (cc)
+entry_list_out : (d : Data) (ts : List Named) → list_of (table_in Runs) d ≡ Some ts → list_of (table_in Chunks) (expand_tables d) ≡ Some (map named_out ts)
+entry_list_out null ts e = absurd (cc)
+entry_list_out (boolean b) ts e = absurd (cc)
+entry_list_out (number n) ts e = absurd (cc)
+entry_list_out (string s) ts e = absurd (cc)
+entry_list_out (array ds) ts e = ap (each (table_in Chunks)) (entries_out ds) ∙ each_goes expand_entry named_out (table_in Runs) (table_in Chunks) entry_out (list_from ds) ts e
+entry_list_out (object ms) ts e = absurd (cc)
 
 -- ---- the members of a request
 
@@ -116,10 +111,10 @@ tables_at_out : (ms : Members) (ts : List Named) → tables_at Runs (object ms) 
 tables_at_out ms ts e = ap (option_and_then (list_of (table_in Chunks))) (member_out expand_plan_member (codes "tables") ms) ∙ at (get_member (codes "tables") ms) e where
   at : (o : Option Data) → (o >>= list_of (table_in Runs)) ≡ Some ts → (option_map (expand_plan_member (codes "tables")) o >>= list_of (table_in Chunks)) ≡ Some (map named_out ts)
   at None e = cc
-  at (Some d) e = tables_out d ts e
+  at (Some d) e = entry_list_out d ts e
 
 abbrev plan_names : List Name
-plan_names = codes "exec" ∷ codes "format" ∷ codes "pivot" ∷ codes "push" ∷ codes "root" ∷ codes "tables" ∷ []
+plan_names = names_of plan_members
 
 -- by the values of the members
 abbrev plan_by : Members → Option Format → Option WrittenPlan
@@ -147,54 +142,19 @@ plan_of_out (object ms) w e x =
     (λ f. tables_at f (object ms)) (λ f. tables_at f (expand_plan (object ms))) w (tables_at_out ms)
     (ap (plan_by ms) (sym e) ∙ x)
 
--- ---- their values
-
-under_goes : (n : Name) (o o' : Option (List Col)) (t : Name × List Col) → ((cs : List Col) → o ≡ Some cs → o' ≡ Some cs) → option_map (λ cs. (n, cs)) o ≡ Some t → option_map (λ cs. (n, cs)) o' ≡ Some t
-under_goes n None o' t h e = absurd (cc)
-under_goes n (Some cs) o' t h e = ap (option_map (λ cs. (n, cs))) (h cs refl) ∙ e
-
-rows_more : (t : Named) (ts : List Named) → rows_in_tables (t ∷ ts) ≡ rows_in t.1 + rows_in_tables ts
-rows_more t ts = sum_by-cons (λ (u : Named). rows_in u.1) t ts
-
-all_out : (ts : List Named) (us : List (Name × List Col)) → rows_in_tables ts ≤ MAX_RUN_VALUES → each columns_under ts ≡ Some us → each columns_under (map named_out ts) ≡ Some us
-all_out [] us few e = e
-all_out (t ∷ ts) us few e =
-    let s = parts (columns_under t) (each columns_under ts) us e in
-    let sum = rows_more t ts in
-    each_more columns_under (named_out t) (map named_out ts) s.0 s.1
-    (under_goes t.0 (columns_from t.1) (columns_from (map written_out t.1)) s.0 (λ cs. columns_out t.1 cs (omega (arith, few, sum))) s.2)
-    (all_out ts s.1 (omega (arith, few, sum)) s.3)
-    ∙ ap Some (sym s.4)
-
-no_rows_out : (ts : List Named) → rows_in_tables (map named_out ts) ≡ 0
-no_rows_out [] = refl
-no_rows_out (t ∷ ts) = rows_more (named_out t) (map named_out ts) ∙ (λ i. rows_out t.1 i + no_rows_out ts i)
-
-fit_out : (ts : List Named) → tables_fit (map named_out ts) ≡ true
-fit_out ts = le-leb (rows_in_tables (map named_out ts)) MAX_RUN_VALUES (omega (arith, no_rows_out ts))
-
 -- ---- a request
 
-abbrev plan_after : WrittenPlan → Option (List (Name × List Col)) → Bool → Result PlanRequest Reason
-plan_after w tables fit =
-    reading.◌>>=◌ (ok_or tables why.Value) λ ts.
-    reading.◌>>=◌ (only_if fit why.Rows) λ _.
-    reading.◌>>=◌ (only_if (may_stand w.exec) why.Exec) λ _.
-    reading.◌>>=◌ (are_tables (map (λ (t : Name × List Col). t.1) ts)) λ _.
-    Ok (record { tables = ts; root = w.root; pivot = w.pivot; push = w.push; exec = w.exec })
+columns_are : (ts : List Named) → table_columns (map named_out ts) ≡ tables_out (table_columns ts)
+columns_are [] = refl
+columns_are (t ∷ ts) = ap (λ cs. map written_out t.1 ∷ cs) (columns_are ts)
 
-abbrev plan_from : Option WrittenPlan → Result PlanRequest Reason
-plan_from o = reading.◌>>=◌ (ok_or o why.Shape) λ (w : WrittenPlan). plan_after w (each columns_under w.tables) (tables_fit w.tables)
-
-plan_after_same : (w : WrittenPlan) (o : Option (List (Name × List Col))) (fit : Bool) → each columns_under w.tables ≡ o → tables_fit w.tables ≡ fit → IsPastRows (plan_after w o fit) → plan_after (plan_out w) (each columns_under (map named_out w.tables)) (tables_fit (map named_out w.tables)) ≡ plan_after w o fit
-plan_after_same w None fit a b p = absurd p
-plan_after_same w (Some ts) false a b p = absurd p
-plan_after_same w (Some ts) true a b p = λ i. plan_after (plan_out w) (all_out w.tables ts (leb-true (rows_in_tables w.tables) MAX_RUN_VALUES b) a i) (fit_out w.tables i)
-
-plan_from_same : (o o' : Option WrittenPlan) → ((w : WrittenPlan) → o ≡ Some w → o' ≡ Some (plan_out w)) → IsPastRows (plan_from o) → plan_from o' ≡ plan_from o
-plan_from_same None o' h p = absurd p
-plan_from_same (Some w) o' h p = ap plan_from (h w refl) ∙ plan_after_same w (each columns_under w.tables) (tables_fit w.tables) refl refl p
+names_are : (ts : List Named) → table_names (map named_out ts) ≡ table_names ts
+names_are [] = refl
+names_are (t ∷ ts) = ap (λ ns. t.0 ∷ ns) (names_are ts)
 
 pub plan_same : TwoForms
 unfolding plan_in
-plan_same d e p = plan_from_same (written_of d) (written_of (expand_plan d)) (λ w. plan_of_out d w e) p
+plan_same d e p =
+    request_same (λ (w : WrittenPlan). table_columns w.tables) (λ w. w.exec) plan_made plan_out (λ w. columns_are w.tables) (λ w. refl)
+    (λ w ts i. record { tables = zip (names_are w.tables i) ts; root = w.root; pivot = w.pivot; push = w.push; exec = w.exec })
+    (written_of d) (written_of (expand_plan d)) (λ w. plan_of_out d w e) p

@@ -1,6 +1,5 @@
 -- What the program's values stand for.
 use Rattle.std.specs.Prelude.{List, map, option_map}
-use Rattle.std.specs.List.{zip}
 use Rattle.tb_value.specs.Promise.Names.{Name}
 use Rattle.tb_chunk.specs.Promise.Col.{Col}
 use Rattle.tb_pivot.specs.Promise.Request.{separator_or, way_of}
@@ -10,12 +9,11 @@ use Rattle.tb_node.specs.declared.tables.NamedTable.{NamedTable}
 use Rattle.tb_node.specs.Seen.{tree_of}
 use Rattle.tb_plan.specs.Promise.Outcome.{Pivot}
 use Rattle.tb_request.specs.Columns.{relaid_column}
-use Rattle.tb_request.specs.Lent.{claimed_views, exec_view, written_view}
+use Rattle.tb_request.specs.Lent.{exec_view, written_view}
 use Rattle.tb_request.specs.Promise.Written.{Written}
 use Rattle.tb_plan_request.specs.declared.request.PlanRequest as rust
 use Rattle.tb_plan_request.specs.declared.members.WrittenTable.{WrittenTable}
 use Rattle.tb_plan_request.specs.declared.members.WrittenPlan as rust_written
-use Rattle.tb_plan_request.specs.declared.tables.ClaimedTables.{ClaimedTables}
 use Rattle.tb_plan_request.specs.Promise.Reading.{PlanRequest}
 use Rattle.tb_plan_request.specs.Promise.Written.{WrittenPlan}
 
@@ -40,9 +38,6 @@ written_plan w = record {
   push = w.push;
   exec = exec_view w.exec;
 }
-
-abbrev pub claimed_tables : ClaimedTables → List (Name × List Col)
-claimed_tables c = zip c.names.items (map claimed_views c.columns.items)
 
 -- the columns of a table under its name, wherever their texts stand
 abbrev pub table_view : NamedTable → Name × List Col

@@ -6,6 +6,7 @@ ghost use Rattle.tb_value.specs.See.{datum};
 ghost use Rattle.tb_filter.specs.Seen.{check_of};
 ghost use Rattle.tb_plan_request.specs.Promise.Written.{compared_at, compared_in, comparison_in, test_in, test_named};
 
+use crate::known::{eq_members, less_members};
 use std::alloc::Global;
 use tb_filter::Test;
 use tb_request::has_only;
@@ -48,9 +49,9 @@ fn test_named(word: &str) -> Option<Test>
 fn comparison_in(alloc: Global, value: &Value) -> Result<Option<Test>, OutOfMemory>
     ensures { IfOk result (λ o. option_map check_of o ≡ comparison_in (view value.now)) }
 {
-    if has_only(value, &["eq"]) {
+    if has_only(value, eq_members()) {
         Ok(compared_at(alloc, value, "eq")?.map(Test::Eq))
-    } else if has_only(value, &["less"]) {
+    } else if has_only(value, less_members()) {
         Ok(compared_at(alloc, value, "less")?.map(Test::Less))
     } else {
         Ok(None)

@@ -7,6 +7,7 @@ ghost use Rattle.tb_node.specs.Seen.{tree_of};
 ghost use Rattle.tb_plan_request.specs.Lent.{written_plan, written_table};
 ghost use Rattle.tb_plan_request.specs.Promise.Written.{table_in, tree_in, written_of};
 
+use crate::known::{entry_members, plan_members};
 use crate::pivots::pivot_of;
 use crate::trees::tree_of;
 use std::alloc::Global;
@@ -44,7 +45,7 @@ fn table_in(
 ) -> Result<Option<WrittenTable>, OutOfMemory>
     ensures { IfOk result (λ o. option_map written_table o ≡ table_in format (view value)) }
 {
-    if !has_only(&value, &["name", "table"]) {
+    if !has_only(&value, entry_members()) {
         return Ok(None);
     }
     let Some(name) = name_at(alloc, &value, "name")? else {
@@ -93,7 +94,8 @@ fn tables_at(
 }
 
 fn root_of(alloc: Global, request: &Value) -> Result<Option<Node>, OutOfMemory>
-    ensures { IfOk result (λ o. option_map tree_of o ≡ option_and_then tree_in (get (codes "root") (view request.now))) }
+    ensures { IfOk result (λ o. option_map tree_of o
+        ≡ option_and_then tree_in (get (codes "root") (view request.now))) }
 {
     match request.get("root") {
         Some(member) => tree_of(alloc, member),
@@ -106,10 +108,7 @@ fn root_of(alloc: Global, request: &Value) -> Result<Option<Node>, OutOfMemory>
 pub(crate) fn written_of(alloc: Global, value: Value) -> Result<Option<WrittenPlan>, OutOfMemory>
     ensures { IfOk result (λ o. option_map written_plan o ≡ written_of (view value)) }
 {
-    if !has_only(
-        &value,
-        &["exec", "format", "pivot", "push", "root", "tables"],
-    ) {
+    if !has_only(&value, plan_members()) {
         return Ok(None);
     }
     let Some(format) = format_of(&value) else {

@@ -7,6 +7,7 @@ ghost use Rattle.tb_plan.specs.Asked.{pivot_asked};
 ghost use Rattle.tb_plan_request.specs.Lent.{pivot_view};
 ghost use Rattle.tb_plan_request.specs.Promise.Written.{pivot_in, pivot_of};
 
+use crate::known::pivot_args_members;
 use std::alloc::Global;
 use tb_agg::Aggregate;
 use tb_calls::PivotCall;
@@ -20,10 +21,7 @@ use tb_value::OutOfMemory;
 fn pivot_in(alloc: Global, value: &Value) -> Result<Option<PivotCall>, OutOfMemory>
     ensures { IfOk result (λ o. option_map pivot_view o ≡ pivot_in (view value.now)) }
 {
-    if !has_only(
-        value,
-        &["agg", "index", "on", "separator", "sort_columns", "values"],
-    ) {
+    if !has_only(value, pivot_args_members()) {
         return Ok(None);
     }
     let Some(on) = texts_at(alloc, value, "on")? else {
@@ -99,7 +97,8 @@ fn pivot_args(call: PivotCall) -> PivotArgs
 /// The pivot as a plan takes it.
 pub(crate) fn args_of_pivot(pivot: Option<PivotCall>) -> Option<PivotArgs>
     ensures { let of = ⟦<dyn PhysicalAggExpr as PhysicalAggExpr>⟧ in
-        option_map (pivot_asked (λ d. (of d).named) (λ d. (of d).answers)) result ≡ option_map pivot_view pivot }
+        option_map (pivot_asked (λ d. (of d).named) (λ d. (of d).answers)) result
+        ≡ option_map pivot_view pivot }
 {
     match pivot {
         Some(call) => Some(pivot_args(call)),

@@ -7,10 +7,9 @@ ghost use Rattle.tb_plan_request.specs.Promise.Reading.{plan_in, plan_request_of
 
 use crate::members::{WrittenPlan, written_of};
 use crate::request::PlanRequest;
-use crate::rows::tables_fit;
-use crate::tables::{are_typed, claimed_of, named_tables};
+use crate::tables::{NamedColumns, named_columns, named_tables};
 use std::alloc::Global;
-use tb_request::{Reason, RequestFault, exec_from, tables_from, unfit_reason, value_in};
+use tb_request::{Reason, RequestFault, RequestTables, request_tables, value_in};
 use tb_tree::Value;
 
 /// The plan that a JSON value asks for.
@@ -33,19 +32,10 @@ pub fn plan_in(alloc: Global, value: Value) -> Result<PlanRequest, RequestFault>
         push,
         exec,
     } = written;
-    if !tables_fit(&tables) {
-        let typed = are_typed(alloc, tables)?;
-        return Err(RequestFault::NoRequest(unfit_reason(typed)));
-    }
-    let Some(claimed) = claimed_of(alloc, tables)? else {
-        return Err(RequestFault::NoRequest(Reason::Value));
-    };
-    let Some(exec) = exec_from(exec) else {
-        return Err(RequestFault::NoRequest(Reason::Exec));
-    };
-    let frames = tables_from(alloc, claimed.columns)?;
+    let NamedColumns { names, columns } = named_columns(alloc, tables)?;
+    let RequestTables { tables, exec } = request_tables(alloc, columns, exec)?;
     Ok(PlanRequest {
-        tables: named_tables(alloc, claimed.names, frames)?,
+        tables: named_tables(alloc, names, tables)?,
         root,
         pivot,
         push,

@@ -1,60 +1,42 @@
 //! The tables of a request, under their names.
-ghost use Rattle.std.specs.Prelude.{◌≡◌, is_some, length, map, option_map, IfOk, IfSome, IsTrue};
+ghost use Rattle.std.specs.Prelude.{◌≡◌, map, IfOk};
 ghost use Rattle.std.specs.List.{zip};
-ghost use Rattle.tb_json.specs.Promise.Lists.{each};
 ghost use Rattle.tb_request.specs.Columns.{relaid_column};
-ghost use Rattle.tb_plan_request.specs.Lent.{claimed_tables, table_view, written_table};
-ghost use Rattle.tb_plan_request.specs.Promise.Reading.{columns_under, tables_fit};
+ghost use Rattle.tb_request.specs.Lent.{written_views};
+ghost use Rattle.tb_plan_request.specs.Lent.{table_view, written_table};
+ghost use Rattle.tb_plan_request.specs.Promise.Reading.{table_columns, table_names};
 
 use crate::members::WrittenTable;
 use std::alloc::Global;
 use tb_frame::DataFrame;
 use tb_node::NamedTable;
-use tb_request::{ClaimedColumn, are_columns, columns_of};
+use tb_request::WrittenColumn;
 use tb_value::{OutOfMemory, PlSmallStr};
 
 /// The names of tables, and beside them the tables' columns.
 #[derive(Drop)]
-pub(crate) struct ClaimedTables {
+pub(crate) struct NamedColumns {
     pub names: Vec<PlSmallStr>,
-    pub columns: Vec<Vec<ClaimedColumn>>,
+    pub columns: Vec<Vec<WrittenColumn>>,
 }
 
-/// The columns of the tables, whose runs have no more rows than a request may have, or None where a value is not of its
-/// column's type or a column of chunks is too long.
-pub(crate) fn claimed_of(
+/// The columns of tables, with the names of these beside them.
+pub(crate) fn named_columns(
     alloc: Global,
     written: Vec<WrittenTable>,
-) -> Result<Option<ClaimedTables>, OutOfMemory>
-    requires { IsTrue (tables_fit (map written_table written.items)) }
-    ensures tables { IfOk result (λ o.
-        option_map claimed_tables o ≡ each columns_under (map written_table written.items)) }
-    ensures level { IfOk result (λ o.
-        IfSome o (λ c. length c.columns.items ≡ length c.names.items)) }
+) -> Result<NamedColumns, OutOfMemory>
+    ensures names { IfOk result (λ n.
+        n.names.items ≡ table_names (map written_table written.items)) }
+    ensures columns { IfOk result (λ n.
+        map written_views n.columns.items ≡ table_columns (map written_table written.items)) }
 {
     let mut names = Vec::with_capacity(alloc, written.len())?;
     let mut columns = Vec::with_capacity(alloc, written.len())?;
     for table in written {
-        let Some(claimed) = columns_of(alloc, table.columns)? else {
-            return Ok(None);
-        };
         names.push(table.name)?;
-        columns.push(claimed)?;
+        columns.push(table.columns)?;
     }
-    Ok(Some(ClaimedTables { names, columns }))
-}
-
-/// Whether `claimed_of` would give tables, however many rows the runs have: nothing is written out.
-pub(crate) fn are_typed(alloc: Global, written: Vec<WrittenTable>) -> Result<bool, OutOfMemory>
-    ensures { IfOk result (λ b.
-        b ≡ is_some (each columns_under (map written_table written.items))) }
-{
-    for table in written {
-        if !are_columns(alloc, table.columns)? {
-            return Ok(false);
-        }
-    }
-    Ok(true)
+    Ok(NamedColumns { names, columns })
 }
 
 /// The tables under their names.

@@ -10,6 +10,7 @@ ghost use Rattle.tb_plan_request.specs.Promise.Written.{filter_from, join_at, jo
 ghost use Rattle.tb_plan_request.specs.declared.trees.JoinAsked as rust;
 
 use crate::checks::test_in;
+use crate::known::{filter_members, join_node_members, table_node_members};
 use std::alloc::Global;
 use tb_filter::Test;
 use tb_frame::JoinArgs;
@@ -38,7 +39,8 @@ fn args_at(alloc: Global, object: &Value, name: &str) -> Result<Option<JoinArgs>
 }
 
 fn table_from(alloc: Global, object: &Value) -> Result<Option<Node>, OutOfMemory>
-    ensures { IfOk result (λ o. option_map tree_of o ≡ option_map table (option_and_then as_str (get (codes "table") (view object.now)))) }
+    ensures { IfOk result (λ o. option_map tree_of o
+        ≡ option_map table (option_and_then as_str (get (codes "table") (view object.now)))) }
 {
     Ok(name_at(alloc, object, "table")?.map(Node::Table))
 }
@@ -142,17 +144,17 @@ fn join_from(
 pub fn tree_of(alloc: Global, value: &Value) -> Result<Option<Node>, OutOfMemory>
     ensures { IfOk result (λ o. option_map tree_of o ≡ tree_in (view value.now)) }
 {
-    if has_only(value, &["table"]) {
+    if has_only(value, table_node_members()) {
         return table_from(alloc, value);
     }
-    if has_only(value, &["column", "input", "test"]) {
+    if has_only(value, filter_members()) {
         let Some(input) = value.get("input") else {
             return Ok(None);
         };
         let input = tree_of(alloc, input)?;
         return filter_from(alloc, value, input);
     }
-    if has_only(value, &["args", "left", "left_on", "right", "right_on"]) {
+    if has_only(value, join_node_members()) {
         let Some(left) = value.get("left") else {
             return Ok(None);
         };

@@ -30,7 +30,8 @@ use Rattle.tb_request.specs.declared.shape.Format.{Format}
 use Rattle.tb_request.specs.declared.shape.Format.TheVariants.{Chunks, Runs}
 use Rattle.tb_request.specs.Forms.{each_item, each_member, expand_column, expand_columns, expand_table, runs_at, without}
 use Rattle.tb_request.specs.Promise.Columns.{chunks_in, columns_from, rows_in, rows_of_runs, run_in, values_of}
-use Rattle.tb_request.specs.Promise.Written.{column_names, column_of, flag_named, flag_of, text_or, in_chunks, in_runs, run_of, table_of, values_in, Written, WrittenRun, WrittenValues}
+use Rattle.tb_request.specs.Promise.Members.{column_members, names_of}
+use Rattle.tb_request.specs.Promise.Written.{column_of, flag_named, flag_of, text_or, in_chunks, in_runs, run_of, table_of, values_in, Written, WrittenRun, WrittenValues}
 use Rattle.tb_request.proofs.RoomLeft.{rows_more}
 use Rattle.tb_request.proofs.EachRun.{each_expansion, each_goes, each_more, each_total, parts}
 
@@ -133,6 +134,9 @@ name_known false true false s t others others' h e = h e
 name_known false false false true t others others' h e = h e
 name_known false false false false true others others' h e = h e
 name_known false false false false false others others' h e = cc
+
+abbrev column_names : Format → List Name
+column_names f = names_of (column_members f)
 
 known_without : (ms : Members) → are_among (column_names Runs) ms ≡ true → are_among (column_names Chunks) (without (codes "runs") ms) ≡ true
 known_without no_members e = refl

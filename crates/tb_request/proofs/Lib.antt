@@ -4,8 +4,10 @@ pub mod FromBytes
 pub mod Taken
 pub mod Unlaid
 pub mod Judged
+pub mod Claims
 pub mod EachRun
 pub mod RoomLeft
+pub mod TablesRead
 pub mod Expanded
 pub mod SameShape
 pub mod TwoForms

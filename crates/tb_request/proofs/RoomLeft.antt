@@ -1,15 +1,15 @@
 -- The rows of runs, column by column.
-use Rattle.std.proofs.Common.{◌≡◌, ◌∙◌, ◌+◌, ◌<◌, ℕ, List, ◌∷◌, ◌++◌, map, length, get_or, drop, sym}
+use Rattle.std.proofs.Common.{◌≡◌, ◌∙◌, ◌+◌, ◌<◌, ℕ, List, ◌∷◌, map, length, get_or, drop, Vec, Global, sym}
 use Rattle.std.specs.Prelude.{sum_by}
-use Rattle.std.proofs.lemmas.List.Sums.{sum_by-append, sum_by-cons, sum_by-drop_more}
+use Rattle.std.proofs.lemmas.List.Sums.{sum_by-cons, sum_by-drop_more}
 use Rattle.serde_json.specs.Data.{Data}
 use Rattle.tb_value.proofs.Counts.{sum_by-map}
 use Rattle.tb_tree.specs.declared.value.Value.{Value}
 use Rattle.tb_chunk.specs.RunLayout.{total_of}
 use Rattle.tb_request.specs.declared.shape.WrittenColumn.{WrittenColumn}
-use Rattle.tb_request.specs.Promise.Columns.{rows_in, rows_of_runs}
+use Rattle.tb_request.specs.Promise.Columns.{rows_in, rows_in_tables, rows_of_runs}
 use Rattle.tb_request.specs.Promise.Written.{Written}
-use Rattle.tb_request.specs.Lent.{run_view, values_view, written_view}
+use Rattle.tb_request.specs.Lent.{run_view, values_view, written_view, written_views}
 
 abbrev pub column_rows : WrittenColumn → ℕ
 column_rows c = rows_of_runs (values_view c.values)
@@ -34,9 +34,22 @@ total_drop vs i v low is =
     ∙ sum_by-drop_more (λ w. (run_view w).1) vs i v low
     ∙ (λ j. (run_view (sym is j)).1 + sym (by_runs (drop (i + 1) vs)) j)
 
--- the rows of two tables
-pub rows_append : (ws vs : List Written) → rows_in (ws ++ vs) ≡ rows_in ws + rows_in vs
-rows_append ws vs = sum_by-append (λ (w : Written). rows_of_runs w.values) ws vs
+abbrev pub table_rows : Vec WrittenColumn Global → ℕ
+table_rows t = rows_in (written_views t)
+
+by_tables : (ts : List (Vec WrittenColumn Global)) → rows_in_tables (map written_views ts) ≡ sum_by table_rows ts
+by_tables ts = sum_by-map rows_in written_views ts
+
+-- the rows that are left are those of the next table and those after it
+pub table_rows_drop : (ts : List (Vec WrittenColumn Global)) (i : ℕ) (t : Vec WrittenColumn Global) → i < length ts → t ≡ get_or ts i t → rows_in_tables (map written_views (drop i ts)) ≡ table_rows t + rows_in_tables (map written_views (drop (i + 1) ts))
+table_rows_drop ts i t low is =
+    by_tables (drop i ts)
+    ∙ sum_by-drop_more table_rows ts i t low
+    ∙ (λ j. table_rows (sym is j) + sym (by_tables (drop (i + 1) ts)) j)
+
+-- the rows of one more table
+pub tables_more : (t : List Written) (ts : List (List Written)) → rows_in_tables (t ∷ ts) ≡ rows_in t + rows_in_tables ts
+tables_more t ts = sum_by-cons rows_in t ts
 
 pub rows_more : (w : Written) (ws : List Written) → rows_in (w ∷ ws) ≡ rows_of_runs w.values + rows_in ws
 rows_more w ws = sum_by-cons (λ (v : Written). rows_of_runs v.values) w ws

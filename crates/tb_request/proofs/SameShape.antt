@@ -1,5 +1,5 @@
 -- The members of a request of format 2, and of the same one in format 1.
-use Rattle.std.proofs.Common.{◌≡◌, ◌∙◌, ℕ, List, [], ◌∷◌, map, Bool, true, false, Option, Some, None, option_and_then, option_map, codes, refl, sym, ap}
+use Rattle.std.proofs.Common.{◌≡◌, ◌∙◌, ℕ, List, map, Bool, true, false, Option, Some, None, option_and_then, option_map, codes, refl, sym, ap}
 use Rattle.serde_json.specs.Data.{array, boolean, Data, Members, null, number, object, string, unsigned}
 use Rattle.serde_json.specs.Find.{as_bool, as_str, get_member}
 use Rattle.tb_value.specs.Promise.Names.{Name}
@@ -10,6 +10,7 @@ use Rattle.tb_json.specs.Promise.Lists.{◌>>=◌, are_among, check, list_of}
 use Rattle.tb_request.specs.declared.shape.Format.{Format}
 use Rattle.tb_request.specs.declared.shape.Format.TheVariants.{Chunks, Runs}
 use Rattle.tb_request.specs.Forms.{each_member, expand, expand_member, expand_table}
+use Rattle.tb_request.specs.Promise.Members.{dummies_members, join_members, names_of, pivot_members, unpivot_members}
 use Rattle.tb_request.specs.Promise.Written.{agg_named, args_of, dummies_of, format_numbered, format_of, join_of, optional_member, pivot_of, plan_of, standard_exec, table_at, table_of, text_or, unpivot_of, whole_of, Written, WrittenDummies, WrittenJoin, WrittenPivot, WrittenUnpivot}
 use Rattle.tb_request.proofs.Expanded.{member_out, names_out, table_out, written_out}
 
@@ -85,7 +86,7 @@ join_goes true (Some a) (Some e) None l l' lo r r' ro w h k x = absurd (cc)
 join_goes true (Some a) (Some e) (Some t) l l' lo r r' ro w h k x = sides_go a e t (l Runs) (l' Chunks) lo (r Runs) (r' Chunks) ro w h k x
 
 abbrev join_names : List Name
-join_names = codes "args" ∷ codes "exec" ∷ codes "format" ∷ codes "left" ∷ codes "left_on" ∷ codes "right" ∷ codes "right_on" ∷ codes "trace" ∷ []
+join_names = names_of join_members
 
 -- by the values of the members
 abbrev join_by : Bool → (List ℕ → Option Data) → Option Format → (Format → List ℕ → Option (List Written)) → Option WrittenJoin
@@ -139,7 +140,7 @@ abbrev pub unpivot_out : WrittenUnpivot → WrittenUnpivot
 unpivot_out w = record w { table = map written_out w.table }
 
 abbrev unpivot_names : List Name
-unpivot_names = codes "format" ∷ codes "index" ∷ codes "on" ∷ codes "table" ∷ codes "value_name" ∷ codes "variable_name" ∷ []
+unpivot_names = names_of unpivot_members
 
 abbrev unpivot_rest : Option (List Name) → Option (List Name) → Option (Option Name) → Option (Option Name) → List Written → Option WrittenUnpivot
 unpivot_rest on index variable_name value_name table = do
@@ -190,7 +191,7 @@ abbrev pub dummies_out : WrittenDummies → WrittenDummies
 dummies_out w = record w { table = map written_out w.table }
 
 abbrev dummies_names : List Name
-dummies_names = codes "columns" ∷ codes "drop_first" ∷ codes "format" ∷ codes "separator" ∷ codes "table" ∷ []
+dummies_names = names_of dummies_members
 
 abbrev dummies_rest : Option (Option (List Name)) → Option (Option Name) → Option Bool → List Written → Option WrittenDummies
 dummies_rest columns separator drop_first table = do
@@ -234,7 +235,7 @@ abbrev pub pivot_out : WrittenPivot → WrittenPivot
 pivot_out w = record w { table = map written_out w.table }
 
 abbrev pivot_names : List Name
-pivot_names = codes "agg" ∷ codes "format" ∷ codes "index" ∷ codes "on" ∷ codes "separator" ∷ codes "sort_columns" ∷ codes "table" ∷ codes "values" ∷ []
+pivot_names = names_of pivot_members
 
 abbrev pivot_rest : Option (List Name) → Option (Option (List Name)) → Option (Option (List Name)) → Option Bool → Option (Option Aggregate) → Option (Option Name) → List Written → Option WrittenPivot
 pivot_rest on index values sort_columns agg separator table = do

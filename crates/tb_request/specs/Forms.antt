@@ -30,7 +30,9 @@ without name (member k d ms) = if bytes_eq k name
 
 -- the runs of a column, none where it has not the form of one
 abbrev pub runs_at : Data → List WrittenRun
-runs_at column = unwrap_or ((get (codes "type") column >>= kind_in) >>= λ t. get (codes "runs") column >>= list_of (run_of t)) []
+runs_at column =
+    unwrap_or ((get (codes "type") column >>= kind_in) >>= λ t.
+    get (codes "runs") column >>= list_of (run_of t)) []
 
 -- the one chunk, in which each run's value stands as often as its count says
 abbrev pub chunks_of : Data → Data
@@ -38,7 +40,8 @@ chunks_of column = array (item (array (items_of (expansion (runs_at column)))) n
 
 -- the column with `chunks`, which is the first of its members by their names, in place of `runs`
 abbrev pub expand_column : Data → Data
-expand_column (object ms) = object (member (codes "chunks") (chunks_of (object ms)) (without (codes "runs") ms))
+expand_column (object ms) =
+    object (member (codes "chunks") (chunks_of (object ms)) (without (codes "runs") ms))
 expand_column d = d
 
 abbrev pub expand_columns : Data → Data

@@ -34,6 +34,9 @@ abbrev pub written_view : WrittenColumn → written.Written
 written_view c =
     record { name = c.name; kind = kind_of c.dtype; values = values_view c.values; flag = c.flag }
 
+abbrev pub written_views : Vec WrittenColumn Global → List written.Written
+written_views v = map written_view v.items
+
 abbrev pub exec_view : ExecNumbers → ExecView
 exec_view e = record
     { workers = e.workers; partitions = e.partitions; small = e.small; num = e.num; den = e.den }

@@ -1,6 +1,8 @@
 -- What is promised: the definitions on which the answers of calls and programs stand. Words for the code stand beside this folder.
 pub mod Columns
 pub mod Flags
+pub mod HasForm
+pub mod Members
 pub mod Reading
 pub mod Reasons
 pub mod Written

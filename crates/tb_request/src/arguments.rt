@@ -1,15 +1,16 @@
 //! The arguments of a join.
 ghost use Rattle.std.specs.Prelude.{◌≡◌, ◌∷◌, [], IfOk};
 ghost use Rattle.tb_tree.specs.View.{view, item_view};
-ghost use Rattle.tb_request.specs.Promise.Written.{how_named, validation_named, coalesce_named, order_named, how_of, validation_of, slice_from, slice_in, slice_of, nulls_in, nulls_of, coalesce_of, order_of, args_of};
+ghost use Rattle.tb_request.specs.Promise.Written.{how_named, side_named, validation_named, coalesce_named, order_named, how_of, validation_of, slice_from, slice_in, slice_of, nulls_in, nulls_of, coalesce_of, order_of, args_of};
 
+use crate::known::args_members;
 use crate::members::{has_only, text_at, truths_of};
 use std::alloc::Global;
 use tb_frame::{
     Flags, JoinArgs, JoinCoalesce, JoinNulls, JoinType, JoinValidation, MaintainOrderJoin,
 };
 use tb_tree::{Item, Value};
-use tb_value::OutOfMemory;
+use tb_value::{OutOfMemory, Side};
 
 /// The kind of join that a word names.
 pub fn how_named(text: &str) -> Option<JoinType>
@@ -22,6 +23,17 @@ pub fn how_named(text: &str) -> Option<JoinType>
         "full" => Some(JoinType::Full),
         "semi" => Some(JoinType::Semi),
         "anti" => Some(JoinType::Anti),
+        _ => None,
+    }
+}
+
+/// The side of a join that a word names.
+pub fn side_named(text: &str) -> Option<Side>
+    ensures { result ≡ side_named text.now }
+{
+    match text {
+        "left" => Some(Side::Left),
+        "right" => Some(Side::Right),
         _ => None,
     }
 }
@@ -155,18 +167,7 @@ fn nulls_of(alloc: Global, args: &Value) -> Result<Option<JoinNulls>, OutOfMemor
 pub fn args_of(alloc: Global, value: &Value) -> Result<Option<JoinArgs>, OutOfMemory>
     ensures { IfOk result (λ o. o ≡ args_of (view value.now)) }
 {
-    if !has_only(
-        value,
-        &[
-            "coalesce",
-            "how",
-            "join_nulls",
-            "maintain_order",
-            "slice",
-            "suffix",
-            "validation",
-        ],
-    ) {
+    if !has_only(value, args_members()) {
         return Ok(None);
     }
     let Some(how) = how_of(value) else {

@@ -2,33 +2,24 @@
 ghost use Rattle.std.specs.Prelude.{◌≡◌, codes, map, option_map, IfOk};
 ghost use Rattle.tb_tree.specs.View.{view};
 ghost use Rattle.serde_json.specs.Find.{as_bool, as_str, get};
-ghost use Rattle.tb_json.specs.Promise.Lists.{as_list, is_among, has_only, list_of};
+ghost use Rattle.tb_json.specs.Promise.Lists.{as_list, has_only, list_of};
+ghost use Rattle.tb_request.specs.Promise.Members.{known_views, names_of};
 ghost use Rattle.tb_request.specs.Promise.Written.{name_at, text_at, texts_at, texts_if_at, truth_at};
 
+use crate::known::{Known, is_among};
 use std::alloc::Global;
 use tb_tree::Value;
 use tb_value::{OutOfMemory, PlSmallStr};
 
-fn is_among(name: &str, names: &[&str]) -> bool
-    ensures { result ≡ is_among name.now (map (λ n. n.now) names.now) }
-{
-    for known in names {
-        if name == *known {
-            return true;
-        }
-    }
-    false
-}
-
-/// Whether the value is an object without a member of another name than these.
-pub fn has_only(value: &Value, names: &[&str]) -> bool
-    ensures { result ≡ has_only (map (λ n. n.now) names.now) (view value.now) }
+/// Whether the value is an object that has no member but these.
+pub fn has_only(value: &Value, known: &[Known]) -> bool
+    ensures { result ≡ has_only (names_of (known_views known.now)) (view value.now) }
 {
     let Some(members) = value.as_object() else {
         return false;
     };
     for name in members.keys() {
-        if !is_among(name.as_str(), names) {
+        if !is_among(name.as_str(), known) {
             return false;
         }
     }

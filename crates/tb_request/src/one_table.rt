@@ -4,6 +4,7 @@ ghost use Rattle.tb_tree.specs.View.{view};
 ghost use Rattle.tb_request.specs.Promise.Written.{agg_named, agg_of, dummies_of, pivot_of, unpivot_of};
 ghost use Rattle.tb_request.specs.Lent.{written_dummies, written_pivot, written_unpivot};
 
+use crate::known::{dummies_members, pivot_members, unpivot_members};
 use crate::members::{has_only, text_at, texts_at, texts_if_at, truth_at};
 use crate::shape::{WrittenColumn, format_of, table_at};
 use std::alloc::Global;
@@ -26,17 +27,7 @@ pub(crate) struct WrittenUnpivot {
 pub(crate) fn unpivot_of(alloc: Global, value: Value) -> Result<Option<WrittenUnpivot>, OutOfMemory>
     ensures { IfOk result (λ o. option_map written_unpivot o ≡ unpivot_of (view value)) }
 {
-    if !has_only(
-        &value,
-        &[
-            "format",
-            "index",
-            "on",
-            "table",
-            "value_name",
-            "variable_name",
-        ],
-    ) {
+    if !has_only(&value, unpivot_members()) {
         return Ok(None);
     }
     let on = texts_at(alloc, &value, "on")?;
@@ -76,10 +67,7 @@ pub(crate) struct WrittenDummies {
 pub(crate) fn dummies_of(alloc: Global, value: Value) -> Result<Option<WrittenDummies>, OutOfMemory>
     ensures { IfOk result (λ o. option_map written_dummies o ≡ dummies_of (view value)) }
 {
-    if !has_only(
-        &value,
-        &["columns", "drop_first", "format", "separator", "table"],
-    ) {
+    if !has_only(&value, dummies_members()) {
         return Ok(None);
     }
     let columns = texts_if_at(alloc, &value, "columns")?;
@@ -144,19 +132,7 @@ pub fn agg_of(object: &Value) -> Option<Option<Aggregate>>
 pub(crate) fn pivot_of(alloc: Global, value: Value) -> Result<Option<WrittenPivot>, OutOfMemory>
     ensures { IfOk result (λ o. option_map written_pivot o ≡ pivot_of (view value)) }
 {
-    if !has_only(
-        &value,
-        &[
-            "agg",
-            "format",
-            "index",
-            "on",
-            "separator",
-            "sort_columns",
-            "table",
-            "values",
-        ],
-    ) {
+    if !has_only(&value, pivot_members()) {
         return Ok(None);
     }
     let on = texts_at(alloc, &value, "on")?;

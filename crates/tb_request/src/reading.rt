@@ -1,44 +1,25 @@
 //! The requests that bytes are.
-ghost use Rattle.std.specs.Prelude.{◌≡◌, if◌then◌else◌, IfOk, IfErr, MatchResult, Ok, Some, None};
+ghost use Rattle.std.specs.Prelude.{◌≡◌, option_map, IfOk, MatchResult, Ok};
+ghost use Rattle.std.specs.Result.{result_ok};
 ghost use Rattle.tb_tree.specs.View.{view};
-ghost use Rattle.tb_request.specs.Lent.{written_dummies, written_join, written_pivot, written_unpivot, exec_view};
-ghost use Rattle.tb_request.specs.Promise.Reading.{may_stand, value_of, dummies_in, join_in, pivot_in, unpivot_in, dummies_request_of, join_request_of, pivot_request_of, unpivot_request_of, dummies_view, pivot_view, request_view, unpivot_view, FaultIs};
+ghost use Rattle.tb_request.specs.Promise.Reading.{value_of, dummies_in, join_in, pivot_in, unpivot_in, dummies_request_of, join_request_of, pivot_request_of, unpivot_request_of, dummies_view, pivot_view, request_view, unpivot_view, FaultIs};
 
 use crate::one_table::{dummies_of, pivot_of, unpivot_of};
 use crate::request::{
     DummiesRequest, JoinRequest, PivotRequest, Reason, RequestFault, UnpivotRequest,
 };
-use crate::runs::sides_fit;
 use crate::shape::{ExecNumbers, join_of};
-use crate::tables::{table_from, tables_of, unfit_reason};
-use crate::values::{are_columns, columns_of};
+use crate::tables::{single_table, two_tables};
 use std::alloc::Global;
-use tb_pool::Exec;
 use tb_tree::{Fault, Value};
-
-/// The `Exec` of these numbers, or None where `Exec::new` refuses them.
-pub fn exec_from(numbers: ExecNumbers) -> Option<Exec>
-    ensures { result ≡ (if may_stand (exec_view numbers) then Some (exec_view numbers) else None) }
-{
-    let made = Exec::new(
-        numbers.workers,
-        numbers.partitions,
-        numbers.small,
-        numbers.num,
-        numbers.den,
-    );
-    match made {
-        Ok(exec) => Some(exec),
-        Err(_) => None,
-    }
-}
+use tb_value::OutOfMemory;
 
 /// The request to join that a JSON value is.
 ///
 /// # Errors
 ///
 /// Those of `join_request_of`, of the value.
-#[tactic(auto, unfolding(crate::specs::Promise::Reading::join_in, crate::specs::Promise::Columns::tables_of))]
+#[tactic(auto, unfolding(crate::specs::Promise::Reading::join_in))]
 pub fn join_in(alloc: Global, value: Value) -> Result<JoinRequest, RequestFault>
     ensures { MatchResult result (λ q. join_in (view value) ≡ Ok (request_view q))
         (λ e. FaultIs e (join_in (view value))) }
@@ -46,20 +27,7 @@ pub fn join_in(alloc: Global, value: Value) -> Result<JoinRequest, RequestFault>
     let Some(written) = join_of(alloc, value)? else {
         return Err(RequestFault::NoRequest(Reason::Shape));
     };
-    if !sides_fit(&written.left, &written.right) {
-        let typed = are_columns(alloc, written.left)? && are_columns(alloc, written.right)?;
-        return Err(RequestFault::NoRequest(unfit_reason(typed)));
-    }
-    let Some(left) = columns_of(alloc, written.left)? else {
-        return Err(RequestFault::NoRequest(Reason::Value));
-    };
-    let Some(right) = columns_of(alloc, written.right)? else {
-        return Err(RequestFault::NoRequest(Reason::Value));
-    };
-    let Some(exec) = exec_from(written.exec) else {
-        return Err(RequestFault::NoRequest(Reason::Exec));
-    };
-    let (left, right) = tables_of(alloc, left, right)?;
+    let (left, right, exec) = two_tables(alloc, written.left, written.right, written.exec)?;
     Ok(JoinRequest {
         left,
         right,
@@ -90,6 +58,23 @@ pub fn value_of(alloc: Global, bytes: &[u8]) -> Result<Value, RequestFault>
     }
 }
 
+/// The value that the text is, or None where it is no JSON text.
+///
+/// # Errors
+///
+/// `OutOfMemory` alone, which may come at any time.
+pub fn json_value(alloc: Global, text: &[u8]) -> Result<Option<Value>, OutOfMemory>
+    ensures { IfOk result (λ o. option_map view o ≡ result_ok (value_of text.now)) }
+{
+    match value_of(alloc, text) {
+        Ok(value) => Ok(Some(value)),
+        Err(fault) => match fault {
+            RequestFault::OutOfMemory => Err(OutOfMemory),
+            RequestFault::NoRequest(_) => Ok(None),
+        },
+    }
+}
+
 /// The same. The bytes are let go as soon as the value is made.
 pub fn value_in(alloc: Global, bytes: Vec<u8>) -> Result<Value, RequestFault>
     ensures { MatchResult result (λ v. value_of bytes.items ≡ Ok (view v)) (λ e.
@@ -111,8 +96,9 @@ pub fn unpivot_in(alloc: Global, value: Value) -> Result<UnpivotRequest, Request
     let Some(written) = unpivot_of(alloc, value)? else {
         return Err(RequestFault::NoRequest(Reason::Shape));
     };
+    let (table, _) = single_table(alloc, written.table, ExecNumbers::standard())?;
     Ok(UnpivotRequest {
-        table: table_from(alloc, written.table)?,
+        table,
         on: written.on,
         index: written.index,
         variable_name: written.variable_name,
@@ -133,8 +119,9 @@ pub fn dummies_in(alloc: Global, value: Value) -> Result<DummiesRequest, Request
     let Some(written) = dummies_of(alloc, value)? else {
         return Err(RequestFault::NoRequest(Reason::Shape));
     };
+    let (table, _) = single_table(alloc, written.table, ExecNumbers::standard())?;
     Ok(DummiesRequest {
-        table: table_from(alloc, written.table)?,
+        table,
         columns: written.columns,
         separator: written.separator,
         drop_first: written.drop_first,
@@ -154,8 +141,9 @@ pub fn pivot_in(alloc: Global, value: Value) -> Result<PivotRequest, RequestFaul
     let Some(written) = pivot_of(alloc, value)? else {
         return Err(RequestFault::NoRequest(Reason::Shape));
     };
+    let (table, _) = single_table(alloc, written.table, ExecNumbers::standard())?;
     Ok(PivotRequest {
-        table: table_from(alloc, written.table)?,
+        table,
         on: written.on,
         index: written.index,
         values: written.values,

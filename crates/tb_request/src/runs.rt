@@ -1,14 +1,14 @@
 //! Runs, as they are written: values, each with its count, which says how often it stands.
-ghost use Rattle.std.specs.Prelude.{◌≡◌, ◌<◌, ◌≤◌, ◌+◌, ◌++◌, codes, is_some, map, option_and_then, option_map, IfOk, MatchOption};
+ghost use Rattle.std.specs.Prelude.{◌≡◌, ◌<◌, ◌≤◌, ◌+◌, codes, is_some, map, option_and_then, option_map, IfOk, MatchOption};
 ghost use Rattle.serde_json.specs.Find.{get};
 ghost use Rattle.tb_tree.specs.View.{item_view, view};
 ghost use Rattle.tb_chunk.specs.RunLayout.{total_of};
 ghost use Rattle.tb_json.specs.Promise.Lists.{each, list_of};
 ghost use Rattle.tb_value.specs.SeeKind.{kind_of};
-ghost use Rattle.tb_request.specs.Promise.Columns.{rows_fit, rows_in};
+ghost use Rattle.tb_request.specs.Promise.Columns.{rows_in, rows_in_tables, tables_fit};
 ghost use Rattle.tb_request.specs.Promise.Written.{run_of, times_of, whole_of};
 ghost use Rattle.tb_request.specs.declared.runs.TheConstants.{MAX_RUN_VALUES};
-ghost use Rattle.tb_request.specs.Lent.{run_view, written_view};
+ghost use Rattle.tb_request.specs.Lent.{run_view, written_view, written_views};
 
 use crate::members::{into_array, into_member};
 use crate::shape::{WrittenColumn, WrittenValues};
@@ -85,7 +85,8 @@ pub(crate) fn runs_in(
     column: Value,
 ) -> Result<Option<Vec<Value>>, OutOfMemory>
     ensures { IfOk result (λ o. option_map (λ v. map run_view v.items) o
-        ≡ option_and_then (list_of (run_of (kind_of dtype.now))) (get (codes "runs") (view column))) }
+        ≡ option_and_then (list_of (run_of (kind_of dtype.now)))
+        (get (codes "runs") (view column))) }
 {
     match into_member(column, "runs") {
         Some(runs) => runs_of(alloc, dtype, runs),
@@ -93,9 +94,9 @@ pub(crate) fn runs_in(
     }
 }
 
-/// What is left of the room after these runs, if they fit. The counts are never added: they are taken from the room.
+// What is left of the room after these runs, if they fit. The counts are never added: they are taken from the room.
 #[tactic(auto, using(crate::proofs::RoomLeft::total_drop))]
-pub fn room_after_runs(mut room: u64, runs: &[Value]) -> Option<u64>
+fn room_after_runs(mut room: u64, runs: &[Value]) -> Option<u64>
     ensures { MatchOption result (room < total_of (map run_view runs.now))
         (λ left. left + total_of (map run_view runs.now) ≡ room) }
 {
@@ -106,9 +107,9 @@ pub fn room_after_runs(mut room: u64, runs: &[Value]) -> Option<u64>
     Some(room)
 }
 
-/// The same of the runs of these columns.
+// The same of the runs of these columns.
 #[tactic(auto, using(crate::proofs::RoomLeft::rows_drop))]
-pub fn room_after(mut room: u64, columns: &[WrittenColumn]) -> Option<u64>
+fn room_after(mut room: u64, columns: &[WrittenColumn]) -> Option<u64>
     ensures { MatchOption result (room < rows_in (map written_view columns.now))
         (λ left. left + rows_in (map written_view columns.now) ≡ room) }
 {
@@ -131,19 +132,21 @@ pub(crate) fn rows_of(runs: &[Value]) -> usize
     }
 }
 
-/// Whether the counts of all runs of these columns add up to no more than `MAX_RUN_VALUES`.
-pub fn rows_fit(columns: &[WrittenColumn]) -> bool
-    ensures { result ≡ rows_fit (map written_view columns.now) }
+// The same of the runs of these tables.
+#[tactic(auto, using(crate::proofs::RoomLeft::table_rows_drop))]
+fn room_after_tables(mut room: u64, tables: &[Vec<WrittenColumn>]) -> Option<u64>
+    ensures { MatchOption result (room < rows_in_tables (map written_views tables.now))
+        (λ left. left + rows_in_tables (map written_views tables.now) ≡ room) }
 {
-    room_after(MAX_RUN_VALUES, columns).is_some()
+    for table in tables {
+        room = room_after(room, table)?;
+    }
+    Some(room)
 }
 
-/// The same, of the columns of two tables together.
-pub fn sides_fit(left: &[WrittenColumn], right: &[WrittenColumn]) -> bool
-    ensures { result ≡ rows_fit (map written_view left.now ++ map written_view right.now) }
+/// Whether the counts of all runs of these tables add up to no more than `MAX_RUN_VALUES`.
+pub(crate) fn tables_fit(tables: &[Vec<WrittenColumn>]) -> bool
+    ensures { result ≡ tables_fit (map written_views tables.now) }
 {
-    match room_after(MAX_RUN_VALUES, left) {
-        Some(room) => room_after(room, right).is_some(),
-        None => false,
-    }
+    room_after_tables(MAX_RUN_VALUES, tables).is_some()
 }

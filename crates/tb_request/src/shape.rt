@@ -5,10 +5,11 @@ ghost use Rattle.tb_tree.specs.View.{view};
 ghost use Rattle.tb_json.specs.Promise.Kinds.{kind_in};
 ghost use Rattle.tb_json.specs.Promise.Lists.{as_list, each, list_of};
 ghost use Rattle.tb_value.specs.SeeKind.{kind_of};
-ghost use Rattle.tb_request.specs.Promise.Written.{format_numbered, format_of, flag_named, flag_of, count_of, plan_of, exec_of, join_of, column_names, column_of, table_of, table_at, values_in};
+ghost use Rattle.tb_request.specs.Promise.Written.{format_numbered, format_of, flag_named, flag_of, count_of, plan_of, exec_of, standard_exec, join_of, column_of, table_of, table_at, values_in};
 ghost use Rattle.tb_request.specs.Lent.{chunk_view, values_view, written_view, exec_view, written_join};
 
 use crate::arguments::args_of;
+use crate::known::{column_members, exec_members, join_members, table_members};
 use crate::members::{has_only, into_array, into_member, into_sides, name_at, texts_at, truth_at};
 use crate::runs::runs_in;
 use std::alloc::Global;
@@ -52,6 +53,21 @@ pub struct ExecNumbers {
     pub small: u32,
     pub num: u32,
     pub den: u32,
+}
+
+impl ExecNumbers {
+    /// Those of `Exec::standard`.
+    pub fn standard() -> ExecNumbers
+        ensures { exec_view result ≡ standard_exec }
+    {
+        ExecNumbers {
+            workers: 4,
+            partitions: 8,
+            small: 256,
+            num: 1,
+            den: 1,
+        }
+    }
 }
 
 // A request to join, whose values are not read yet.
@@ -174,15 +190,6 @@ fn values_in(
     Ok(values)
 }
 
-fn column_members(format: Format) -> &'static [&'static str]
-    ensures { map (λ n. n.now) result.now ≡ column_names format }
-{
-    match format {
-        Format::Chunks => &["chunks", "name", "sorted", "type"],
-        Format::Runs => &["name", "runs", "sorted", "type"],
-    }
-}
-
 #[tactic(auto, unfolding(crate::specs::Promise::Written::column_of))]
 fn column_of(
     alloc: Global,
@@ -240,7 +247,7 @@ fn table_of(
     ensures { IfOk result (λ o. option_map (λ v. map written_view v.items) o
         ≡ table_of format (view value)) }
 {
-    if !has_only(&value, &["columns"]) {
+    if !has_only(&value, table_members()) {
         return Ok(None);
     }
     match into_member(value, "columns") {
@@ -294,7 +301,7 @@ pub fn count_of(value: &Value) -> Option<u32>
 fn numbers_of(value: &Value) -> Option<ExecNumbers>
     ensures { option_map exec_view result ≡ plan_of (view value.now) }
 {
-    if !has_only(value, &["den", "num", "partitions", "small", "workers"]) {
+    if !has_only(value, exec_members()) {
         return None;
     }
     let workers = count_of(value.get("workers")?)?;
@@ -318,13 +325,7 @@ pub fn exec_of(request: &Value) -> Option<ExecNumbers>
 {
     match request.get("exec") {
         Some(member) => numbers_of(member),
-        None => Some(ExecNumbers {
-            workers: 4,
-            partitions: 8,
-            small: 256,
-            num: 1,
-            den: 1,
-        }),
+        None => Some(ExecNumbers::standard()),
     }
 }
 
@@ -333,12 +334,7 @@ pub fn exec_of(request: &Value) -> Option<ExecNumbers>
 pub(crate) fn join_of(alloc: Global, value: Value) -> Result<Option<WrittenJoin>, OutOfMemory>
     ensures { IfOk result (λ o. option_map written_join o ≡ join_of (view value)) }
 {
-    if !has_only(
-        &value,
-        &[
-            "args", "exec", "format", "left", "left_on", "right", "right_on", "trace",
-        ],
-    ) {
+    if !has_only(&value, join_members()) {
         return Ok(None);
     }
     let Some(args) = value.get("args") else {

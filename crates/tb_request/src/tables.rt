@@ -1,19 +1,22 @@
 //! The tables of a request.
-ghost use Rattle.std.specs.Prelude.{◌≡◌, [], ◌∷◌, if◌then◌else◌, map, IfOk, MatchResult, Ok, Err};
-ghost use Rattle.tb_frame.specs.Promise.Table.{Table, table_of};
+ghost use Rattle.std.specs.Prelude.{◌≡◌, [], ◌∷◌, if◌then◌else◌, is_some, map, option_map, vec_len, IfOk, IsTrue, MatchResult, Ok, Err, Some, None};
+ghost use Rattle.tb_json.specs.Promise.Lists.{each};
+ghost use Rattle.tb_frame.specs.Promise.Table.{table_of};
 ghost use Rattle.tb_request.specs.Columns.{relaid_column};
-ghost use Rattle.tb_request.specs.Promise.Reading.{are_frames, are_tables, fault_of, table_from, earlier_reason, earliest_reason, FaultIs};
-ghost use Rattle.tb_request.specs.Lent.{claimed_view, claimed_views, written_view};
+ghost use Rattle.tb_request.specs.Promise.Columns.{columns_from, tables_fit};
+ghost use Rattle.tb_request.specs.Promise.Reading.{are_frames, are_tables, fault_of, may_stand, request_tables, earlier_reason, earliest_reason, FaultIs};
+ghost use Rattle.tb_request.specs.Lent.{claimed_view, claimed_views, exec_view, written_views};
 
 use crate::flags::flagged;
 use crate::request::{Reason, RequestFault};
-use crate::runs::rows_fit;
-use crate::shape::WrittenColumn;
+use crate::runs::tables_fit;
+use crate::shape::{ExecNumbers, WrittenColumn};
 use crate::values::{ClaimedColumn, are_columns, columns_of};
 use std::alloc::Global;
 use tb_frame::DataFrame;
+use tb_pool::Exec;
 use tb_store::Column;
-use tb_value::PolarsError;
+use tb_value::{OutOfMemory, PolarsError};
 
 fn fault_of(error: &PolarsError) -> RequestFault
     ensures { result ≡ fault_of error.now }
@@ -41,55 +44,9 @@ fn frame_of(alloc: Global, columns: Vec<Column>) -> Result<DataFrame, RequestFau
     }
 }
 
-// Why neither side is a table. The heights of both come before the names of any.
-fn first_fault(left: Reason, right: RequestFault) -> RequestFault
-    ensures { (l r : Table) → are_frames (l ∷ []) ≡ Err left → FaultIs right (are_frames (r ∷ []))
-        → FaultIs result (are_frames (l ∷ r ∷ [])) }
-{
-    match left {
-        Reason::Name => right,
-        _ => RequestFault::NoRequest(left),
-    }
-}
-
-// Why the sides are not two tables, where the left one is none for this reason.
-fn fault_beside(alloc: Global, left: Reason, right: Vec<Column>) -> RequestFault
-    ensures { (l : Table) → are_frames (l ∷ []) ≡ Err left
-        → FaultIs result (are_frames (l ∷ table_of right.items ∷ [])) }
-{
-    match frame_of(alloc, right) {
-        Ok(_) => RequestFault::NoRequest(left),
-        Err(fault) => first_fault(left, fault),
-    }
-}
-
-fn frames_of(
-    alloc: Global,
-    left: Vec<Column>,
-    right: Vec<Column>,
-) -> Result<(DataFrame, DataFrame), RequestFault>
-    ensures columns { IfOk result (λ p. (p.0 ≡ left.items) × (p.1 ≡ right.items)) }
-    ensures frames { MatchResult result
-        (λ p. are_frames (table_of left.items ∷ table_of right.items ∷ []) ≡ Ok tt)
-        (λ e. FaultIs e (are_frames (table_of left.items ∷ table_of right.items ∷ []))) }
-{
-    match frame_of(alloc, left) {
-        Ok(left) => {
-            let right = frame_of(alloc, right)?;
-            Ok((left, right))
-        }
-        Err(RequestFault::OutOfMemory) => Err(RequestFault::OutOfMemory),
-        Err(RequestFault::NoRequest(reason)) => Err(fault_beside(alloc, reason, right)),
-    }
-}
-
-/// The table of these columns with the flags that are claimed.
-///
-/// # Errors
-///
-/// Those of `tables_from`, of the one table.
+// The table of these columns with the flags that are claimed.
 #[tactic(auto, unfolding(crate::specs::Promise::Reading::are_tables))]
-pub fn table_of(alloc: Global, claimed: Vec<ClaimedColumn>) -> Result<DataFrame, RequestFault>
+fn table_of(alloc: Global, claimed: Vec<ClaimedColumn>) -> Result<DataFrame, RequestFault>
     ensures columns { IfOk result (λ t. map relaid_column t ≡ map claimed_view claimed.items) }
     ensures tables { MatchResult result
         (λ t. are_tables (map claimed_view claimed.items ∷ []) ≡ Ok tt)
@@ -99,59 +56,6 @@ pub fn table_of(alloc: Global, claimed: Vec<ClaimedColumn>) -> Result<DataFrame,
     let frame = frame_of(alloc, claimed.columns)?;
     if claimed.hold {
         Ok(frame)
-    } else {
-        Err(RequestFault::NoRequest(Reason::Flag))
-    }
-}
-
-/// Why columns whose runs have too many rows make no request. Their values are judged first.
-pub fn unfit_reason(typed: bool) -> Reason
-    ensures { result ≡ (if typed then Reason.Rows else Reason.Value) }
-{
-    if typed { Reason::Rows } else { Reason::Value }
-}
-
-/// The one table of a request, whose columns are written so.
-#[tactic(auto, unfolding(crate::specs::Promise::Reading::table_from))]
-pub(crate) fn table_from(
-    alloc: Global,
-    written: Vec<WrittenColumn>,
-) -> Result<DataFrame, RequestFault>
-    ensures { MatchResult result (λ t. table_from (map written_view written.items) ≡ Ok (map relaid_column t))
-        (λ e. FaultIs e (table_from (map written_view written.items))) }
-{
-    if !rows_fit(&written) {
-        let typed = are_columns(alloc, written)?;
-        return Err(RequestFault::NoRequest(unfit_reason(typed)));
-    }
-    match columns_of(alloc, written)? {
-        Some(columns) => table_of(alloc, columns),
-        None => Err(RequestFault::NoRequest(Reason::Value)),
-    }
-}
-
-/// The two tables of these columns with the flags that are claimed.
-///
-/// # Errors
-///
-/// Those of `tables_from`, of both.
-#[tactic(auto, unfolding(crate::specs::Promise::Reading::are_tables))]
-pub fn tables_of(
-    alloc: Global,
-    left: Vec<ClaimedColumn>,
-    right: Vec<ClaimedColumn>,
-) -> Result<(DataFrame, DataFrame), RequestFault>
-    ensures columns { IfOk result (λ p. (map relaid_column p.0 ≡ map claimed_view left.items)
-        × (map relaid_column p.1 ≡ map claimed_view right.items)) }
-    ensures tables { MatchResult result
-        (λ p. are_tables (map claimed_view left.items ∷ map claimed_view right.items ∷ []) ≡ Ok tt)
-        (λ e. FaultIs e (are_tables (map claimed_view left.items ∷ map claimed_view right.items ∷ []))) }
-{
-    let left = flagged(alloc, left)?;
-    let right = flagged(alloc, right)?;
-    let frames = frames_of(alloc, left.columns, right.columns)?;
-    if left.hold && right.hold {
-        Ok(frames)
     } else {
         Err(RequestFault::NoRequest(Reason::Flag))
     }
@@ -177,15 +81,9 @@ fn earliest(fault: Option<Reason>, reason: Reason) -> Reason
     }
 }
 
-/// The tables of these columns with the flags that are claimed.
-///
-/// # Errors
-///
-/// `OutOfMemory` may come at any time. Else the first of these reasons that holds of some table: `Heights`, where two
-/// columns of it differ in length, `Name`, where two have one name, and `Flag`, where a column is not in the order that
-/// is claimed of it.
+// The tables of these columns with the flags that are claimed.
 #[tactic(auto, using(crate::proofs::Judged::no_table, crate::proofs::Judged::one_more, crate::proofs::Judged::one_more_none))]
-pub fn tables_from(
+fn tables_from(
     alloc: Global,
     claimed: Vec<Vec<ClaimedColumn>>,
 ) -> Result<Vec<DataFrame>, RequestFault>
@@ -207,4 +105,171 @@ pub fn tables_from(
         Some(reason) => Err(RequestFault::NoRequest(reason)),
         None => Ok(tables),
     }
+}
+
+// The columns of tables whose runs have no more rows than a request may have, or None where a value is not of its column's
+// type or a column of chunks is too long.
+fn claimed_of(
+    alloc: Global,
+    written: Vec<Vec<WrittenColumn>>,
+) -> Result<Option<Vec<Vec<ClaimedColumn>>>, OutOfMemory>
+    requires { IsTrue (tables_fit (map written_views written.items)) }
+    ensures { IfOk result (λ o. option_map (λ v. map claimed_views v.items) o
+        ≡ each columns_from (map written_views written.items)) }
+{
+    let mut claimed = Vec::with_capacity(alloc, written.len())?;
+    for table in written {
+        let Some(columns) = columns_of(alloc, table)? else {
+            return Ok(None);
+        };
+        claimed.push(columns)?;
+    }
+    Ok(Some(claimed))
+}
+
+// Whether `claimed_of` would give columns, however many rows the runs have: nothing is written out.
+fn are_typed(alloc: Global, written: Vec<Vec<WrittenColumn>>) -> Result<bool, OutOfMemory>
+    ensures { IfOk result (λ b.
+        b ≡ is_some (each columns_from (map written_views written.items))) }
+{
+    for table in written {
+        if !are_columns(alloc, table)? {
+            return Ok(false);
+        }
+    }
+    Ok(true)
+}
+
+// The `Exec` of these numbers, or None where `Exec::new` refuses them.
+fn exec_from(numbers: ExecNumbers) -> Option<Exec>
+    ensures { result ≡ (if may_stand (exec_view numbers) then Some (exec_view numbers) else None) }
+{
+    let made = Exec::new(
+        numbers.workers,
+        numbers.partitions,
+        numbers.small,
+        numbers.num,
+        numbers.den,
+    );
+    match made {
+        Ok(exec) => Some(exec),
+        Err(_) => None,
+    }
+}
+
+/// The tables of a request, and how its work is run.
+#[derive(Drop)]
+pub struct RequestTables {
+    pub tables: Vec<DataFrame>,
+    pub exec: Exec,
+}
+
+/// The tables of a request that are written so, and how its work is run.
+///
+/// # Errors
+///
+/// `OutOfMemory` may come at any time. Else the first of these reasons that holds of any of the tables, or of the numbers:
+/// `Value`, where a value is not of its column's type or the chunks of a column have more than `MAX_ROWS` values; `Rows`,
+/// where the counts of all runs of all tables add up to more than `MAX_RUN_VALUES`; `Exec`, where `Exec::new` refuses the
+/// numbers; `Heights`, where two columns of a table differ in length; `Name`, where two have one name; and `Flag`, where a
+/// column is not in the order that is claimed of it.
+#[tactic(auto, unfolding(crate::specs::Promise::Reading::request_tables))]
+pub fn request_tables(
+    alloc: Global,
+    written: Vec<Vec<WrittenColumn>>,
+    exec: ExecNumbers,
+) -> Result<RequestTables, RequestFault>
+    ensures tables { MatchResult result
+        (λ r. request_tables (map written_views written.items) (exec_view exec)
+        ≡ Ok (map (map relaid_column) r.tables.items))
+        (λ e. FaultIs e (request_tables (map written_views written.items) (exec_view exec))) }
+    ensures exec { IfOk result (λ r. r.exec ≡ exec_view exec) }
+{
+    if !tables_fit(&written) {
+        let reason = if are_typed(alloc, written)? {
+            Reason::Rows
+        } else {
+            Reason::Value
+        };
+        return Err(RequestFault::NoRequest(reason));
+    }
+    let Some(claimed) = claimed_of(alloc, written)? else {
+        return Err(RequestFault::NoRequest(Reason::Value));
+    };
+    let Some(exec) = exec_from(exec) else {
+        return Err(RequestFault::NoRequest(Reason::Exec));
+    };
+    let tables = tables_from(alloc, claimed)?;
+    Ok(RequestTables { tables, exec })
+}
+
+// The one of a list of one.
+fn only<T: Drop>(mut items: Vec<T>) -> T
+    requires { vec_len items ≡ 1 }
+    ensures { items.items ≡ result ∷ [] }
+{
+    match items.pop() {
+        Some(item) => item,
+        None => unreachable!(),
+    }
+}
+
+// The two of a list of two.
+fn both<T: Drop>(mut items: Vec<T>) -> (T, T)
+    requires { vec_len items ≡ 2 }
+    ensures { items.items ≡ result.0 ∷ result.1 ∷ [] }
+{
+    let last = items.pop();
+    match (items.pop(), last) {
+        (Some(first), Some(second)) => (first, second),
+        _ => unreachable!(),
+    }
+}
+
+/// The table of a request that has one, and how its work is run.
+///
+/// # Errors
+///
+/// Those of `request_tables`, of the one table.
+pub fn single_table(
+    alloc: Global,
+    written: Vec<WrittenColumn>,
+    exec: ExecNumbers,
+) -> Result<(DataFrame, Exec), RequestFault>
+    ensures table { MatchResult result
+        (λ r. request_tables (written_views written ∷ []) (exec_view exec)
+        ≡ Ok (map relaid_column r.0 ∷ []))
+        (λ e. FaultIs e (request_tables (written_views written ∷ []) (exec_view exec))) }
+    ensures exec { IfOk result (λ r. r.1 ≡ exec_view exec) }
+{
+    let mut tables = Vec::with_capacity(alloc, 1)?;
+    tables.push(written)?;
+    let RequestTables { tables, exec } = request_tables(alloc, tables, exec)?;
+    Ok((only(tables), exec))
+}
+
+/// The tables of a request that has two, and how its work is run.
+///
+/// # Errors
+///
+/// Those of `request_tables`, of both tables.
+pub fn two_tables(
+    alloc: Global,
+    left: Vec<WrittenColumn>,
+    right: Vec<WrittenColumn>,
+    exec: ExecNumbers,
+) -> Result<(DataFrame, DataFrame, Exec), RequestFault>
+    ensures tables { MatchResult result
+        (λ r. request_tables (written_views left ∷ written_views right ∷ []) (exec_view exec)
+        ≡ Ok (map relaid_column r.0 ∷ map relaid_column r.1 ∷ []))
+        (λ e. FaultIs e
+        (request_tables (written_views left ∷ written_views right ∷ []) (exec_view exec))) }
+    ensures exec { IfOk result (λ r. r.2 ≡ exec_view exec) }
+{
+    let mut tables = Vec::with_capacity(alloc, 2)?;
+    tables.push(left)?;
+    tables.push(right)?;
+    let RequestTables { tables, exec } = request_tables(alloc, tables, exec)?;
+    let (left, right) = both(tables);
+    Ok((left, right, exec))
 }

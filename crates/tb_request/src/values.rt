@@ -33,7 +33,8 @@ fn series_of_chunks(
     chunks: Vec<Value>,
 ) -> Result<Option<Series>, OutOfMemory>
     ensures { IfOk result (λ o. option_map relaid_column o
-        ≡ option_map (λ cs. fresh_column name (kind_of dtype) cs Not) (chunks_in (kind_of dtype) (in_chunks (map chunk_view chunks.items)))) }
+        ≡ option_map (λ cs. fresh_column name (kind_of dtype) cs Not)
+        (chunks_in (kind_of dtype) (in_chunks (map chunk_view chunks.items)))) }
 {
     let Some(arrays) = arrays_in(alloc, &dtype, &chunks)? else {
         return Ok(None);
@@ -53,7 +54,8 @@ fn series_of_runs(
 ) -> Result<Option<Series>, OutOfMemory>
     requires { rows_of_runs (in_runs (map run_view runs.items)) ≤ MAX_RUN_VALUES }
     ensures { IfOk result (λ o. option_map relaid_column o
-        ≡ option_map (λ cs. fresh_column name (kind_of dtype) cs Not) (chunks_in (kind_of dtype) (in_runs (map run_view runs.items)))) }
+        ≡ option_map (λ cs. fresh_column name (kind_of dtype) cs Not)
+        (chunks_in (kind_of dtype) (in_runs (map run_view runs.items)))) }
 {
     let Some(array) = run_array_in(alloc, &dtype, &runs, rows_of(&runs))? else {
         return Ok(None);

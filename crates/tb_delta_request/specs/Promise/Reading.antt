@@ -1,5 +1,5 @@
 -- The requests to keep a join that bytes are, or the first reason why they are none.
-use Rattle.std.specs.Prelude.{ℕ, List, [], ◌∷◌, ◌++◌, All, map, Bool, Option, Some, option_map, Result, Ok, Err, ok_or}
+use Rattle.std.specs.Prelude.{ℕ, List, [], ◌∷◌, All, map, Bool, Option, Some, option_map, Result, Ok, Err, ok_or}
 use Rattle.serde_json.specs.Data.{Data}
 use Rattle.serde_json.specs.View.{items_of}
 use Rattle.tb_value.specs.Promise.Datum.{Datum, data_in}
@@ -17,9 +17,8 @@ use Rattle.tb_json.specs.Promise.Lists.{each}
 use Rattle.tb_request.specs.declared.request.Reason.{Reason}
 use Rattle.tb_request.specs.declared.request.Reason.TheVariants as why
 use Rattle.tb_request.specs.Columns.{relaid_column}
-use Rattle.tb_request.specs.Promise.Columns.{columns_from, rows_fit}
-use Rattle.tb_request.specs.Promise.Reading.{◌>>=◌, are_tables, only_if, value_of}
-use Rattle.tb_request.specs.Promise.Written.{Written}
+use Rattle.tb_request.specs.Promise.Reading.{◌>>=◌, first_table, request_tables, second_table, value_of}
+use Rattle.tb_request.specs.Promise.Written.{Written, standard_exec}
 use Rattle.tb_delta_request.specs.Promise.Written as written
 use Rattle.tb_delta_request.specs.Promise.Written.{WrittenStep, of_two, delta_of}
 use Rattle.tb_delta_request.specs.declared.request.DeltaRequest as rust
@@ -49,18 +48,16 @@ step_in left right (written.remove side id) = Some (steps.remove side id)
 abbrev pub steps_in : List Written → List Written → List WrittenStep → Option (List Step)
 steps_in left right ws = each (step_in left right) ws
 
--- Each line speaks of the whole value, so the first that fails is the reason.
+-- Each line speaks of the whole value, so the first that fails is the reason. A wrong value of a step and one of a table
+-- are one reason.
 unfoldable pub delta_in : Data → Result DeltaRequest Reason
 delta_in d = do
   written ← ok_or (delta_of d) why.Shape
-  left ← ok_or (columns_from written.left) why.Value
-  right ← ok_or (columns_from written.right) why.Value
   steps ← ok_or (steps_in written.left written.right written.steps) why.Value
-  fit ← only_if (rows_fit (written.left ++ written.right)) why.Rows
-  valid ← are_tables (left ∷ right ∷ [])
+  tables ← request_tables (written.left ∷ written.right ∷ []) standard_exec
   Ok (record {
-    left = left;
-    right = right;
+    left = first_table tables;
+    right = second_table tables;
     left_on = written.left_on;
     right_on = written.right_on;
     join_nulls = written.join_nulls;
@@ -85,5 +82,11 @@ AreFitting r = All (Fits (schema_of (table_of r.left)) (schema_of (table_of r.ri
 
 -- what the program's request stands for, wherever the texts of its columns stand
 abbrev pub delta_view : rust.DeltaRequest → DeltaRequest
-delta_view r = record
-    { left = map relaid_column r.left; right = map relaid_column r.right; left_on = r.left_on; right_on = r.right_on; join_nulls = r.join_nulls; steps = steps_of r.steps.items }
+delta_view r = record {
+  left = map relaid_column r.left;
+  right = map relaid_column r.right;
+  left_on = r.left_on;
+  right_on = r.right_on;
+  join_nulls = r.join_nulls;
+  steps = steps_of r.steps.items;
+}

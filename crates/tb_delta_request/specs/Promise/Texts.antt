@@ -24,7 +24,8 @@ lists_data lists = array (items_of (map ids_data lists))
 -- a table and, behind its height, the partners that each step told
 abbrev pub kept_data : Table → List (List ℕ) → Data
 kept_data t lists = object (member (codes "columns") (array (items_of (map column_data t)))
-    (member (codes "height") (number (unsigned (height t))) (member (codes "partners") (lists_data lists) no_members)))
+    (member (codes "height") (number (unsigned (height t)))
+    (member (codes "partners") (lists_data lists) no_members)))
 
 -- the compact text and a newline
 unfoldable pub kept_text : Table → List (List ℕ) → List ℕ
@@ -42,7 +43,8 @@ fault_word fault.OutOfMemory = codes "OutOfMemory"
 
 -- a step that is refused: why, and its place
 abbrev pub step_data : ℕ × DeltaFault → Data
-step_data f = object (member (codes "error") (string (fault_word f.1)) (member (codes "step") (number (unsigned f.0)) no_members))
+step_data f = object (member (codes "error") (string (fault_word f.1))
+    (member (codes "step") (number (unsigned f.0)) no_members))
 
 unfoldable pub step_text : ℕ × DeltaFault → List ℕ
 step_text f = compact_text (step_data f) ++ 10 ∷ []

@@ -1,13 +1,14 @@
 -- The members of a request to keep a join, whose values aren't read yet.
-use Rattle.std.specs.Prelude.{ℕ, ◌==◌, List, [], ◌∷◌, length, if◌then◌else◌, Bool, is_some, Option, Some, None, codes}
-use Rattle.std.specs.Str.{bytes_eq}
+use Rattle.std.specs.Prelude.{ℕ, ◌==◌, List, length, if◌then◌else◌, Bool, is_some, Option, Some, None, codes}
 use Rattle.serde_json.specs.Data.{Data}
 use Rattle.serde_json.specs.Find.{get}
 use Rattle.tb_value.specs.Promise.Names.{Name}
 use Rattle.tb_value.specs.declared.error.Side.{Side}
 use Rattle.tb_value.specs.declared.error.Side.TheVariants as side
 use Rattle.tb_json.specs.Promise.Lists.{◌>>=◌, check, as_list, list_of, has_only}
-use Rattle.tb_request.specs.Promise.Written.{Written, count_of, format_of, name_at, table_at, truth_at}
+use Rattle.tb_request.specs.Promise.Members.{names_of}
+use Rattle.tb_request.specs.Promise.Written.{Written, count_of, format_of, name_at, side_named, table_at, truth_at}
+use Rattle.tb_delta_request.specs.Promise.Members.{delta_members, insert_members, remove_members}
 
 -- a row that is put last on a side, with its values as they stand in the text, or the row of an id that is taken out
 pub data WrittenStep : Type 0 where
@@ -22,9 +23,6 @@ pub record WrittenDelta : Type 0 where
   pub join_nulls : Bool
   pub steps : List WrittenStep
 
-abbrev pub side_named : List ℕ → Option Side
-side_named s = if bytes_eq s (codes "left") then Some side.Left else if bytes_eq s (codes "right") then Some side.Right else None
-
 abbrev pub side_at : List ℕ → Data → Option Side
 side_at name d = name_at name d >>= side_named
 
@@ -36,7 +34,7 @@ of_two side.Right left right = right
 -- a row has as many values as its side has columns
 unfoldable pub insert_of : List Written → List Written → Data → Option WrittenStep
 insert_of left right d = do
-  known ← check (has_only (codes "insert" ∷ codes "row" ∷ []) d)
+  known ← check (has_only (names_of insert_members) d)
   side ← side_at (codes "insert") d
   row ← get (codes "row") d >>= as_list
   whole ← check (length row == length (of_two side left right))
@@ -44,18 +42,19 @@ insert_of left right d = do
 
 unfoldable pub remove_of : Data → Option WrittenStep
 remove_of d = do
-  known ← check (has_only (codes "id" ∷ codes "remove" ∷ []) d)
+  known ← check (has_only (names_of remove_members) d)
   id ← get (codes "id") d >>= count_of
   side ← side_at (codes "remove") d
   Some (remove side id)
 
 -- what has a member `insert` is an insert, and all else a removal
 abbrev pub step_of : List Written → List Written → Data → Option WrittenStep
-step_of left right d = if is_some (get (codes "insert") d) then insert_of left right d else remove_of d
+step_of left right d =
+    if is_some (get (codes "insert") d) then insert_of left right d else remove_of d
 
 unfoldable pub delta_of : Data → Option WrittenDelta
 delta_of d = do
-  known ← check (has_only (codes "format" ∷ codes "join_nulls" ∷ codes "left" ∷ codes "left_on" ∷ codes "right" ∷ codes "right_on" ∷ codes "steps" ∷ []) d)
+  known ← check (has_only (names_of delta_members) d)
   format ← format_of d
   join_nulls ← truth_at (codes "join_nulls") d
   left_on ← name_at (codes "left_on") d
@@ -63,6 +62,11 @@ delta_of d = do
   left ← table_at format (codes "left") d
   right ← table_at format (codes "right") d
   steps ← get (codes "steps") d >>= list_of (step_of left right)
-  Some
-      (record
-      { left = left; left_on = left_on; right = right; right_on = right_on; join_nulls = join_nulls; steps = steps })
+  Some (record {
+    left = left;
+    left_on = left_on;
+    right = right;
+    right_on = right_on;
+    join_nulls = join_nulls;
+    steps = steps;
+  })

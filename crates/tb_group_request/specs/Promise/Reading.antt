@@ -8,8 +8,7 @@ use Rattle.tb_group.specs.declared.request.GroupAgg.{GroupAgg}
 use Rattle.tb_request.specs.declared.request.Reason.{Reason}
 use Rattle.tb_request.specs.declared.request.Reason.TheVariants as why
 use Rattle.tb_request.specs.Columns.{relaid_column}
-use Rattle.tb_request.specs.Promise.Columns.{columns_from, rows_fit}
-use Rattle.tb_request.specs.Promise.Reading.{◌>>=◌, are_tables, may_stand, only_if, value_of}
+use Rattle.tb_request.specs.Promise.Reading.{◌>>=◌, first_table, request_tables, value_of}
 use Rattle.tb_group_request.specs.Promise.Written.{group_of}
 use Rattle.tb_group_request.specs.declared.request.GroupRequest as rust
 
@@ -20,16 +19,12 @@ pub record GroupRequest : Type 0 where
   pub exec : ExecView
   pub trace : Bool
 
--- Each line speaks of the whole value, so the first that fails is the reason.
 unfoldable pub group_in : Data → Result GroupRequest Reason
 group_in d = do
   written ← ok_or (group_of d) why.Shape
-  table ← ok_or (columns_from written.table) why.Value
-  fit ← only_if (rows_fit written.table) why.Rows
-  standing ← only_if (may_stand written.exec) why.Exec
-  valid ← are_tables (table ∷ [])
+  tables ← request_tables (written.table ∷ []) written.exec
   Ok (record {
-    table = table;
+    table = first_table tables;
     by = written.by;
     aggs = written.aggs;
     exec = written.exec;

@@ -15,7 +15,9 @@ use Rattle.tb_node.specs.Promise.Trees.{Tree, table, join, filter}
 use Rattle.tb_plan.specs.Promise.Outcome.{Pivot}
 use Rattle.tb_json.specs.Promise.Lists.{◌>>=◌, check, has_only, list_of}
 use Rattle.tb_request.specs.declared.shape.Format.{Format}
+use Rattle.tb_request.specs.Promise.Members.{names_of}
 use Rattle.tb_request.specs.Promise.Written.{Written, agg_of, args_of, exec_of, format_of, optional_member, table_at, text_at, texts_at, texts_if_at, truth_at}
+use Rattle.tb_plan_request.specs.Promise.Members.{entry_members, eq_members, filter_members, join_node_members, less_members, pivot_args_members, plan_members, table_node_members}
 
 -- ---- what is asked of a field
 
@@ -29,7 +31,10 @@ compared_in (array ds) = None
 compared_in (object ms) = None
 
 abbrev pub test_named : List ℕ → Option Check
-test_named s = if bytes_eq s (codes "is_null") then Some is_absent else if bytes_eq s (codes "is_not_null") then Some is_there else None
+test_named s =
+    if bytes_eq s (codes "is_null") then Some is_absent
+    else if bytes_eq s (codes "is_not_null") then Some is_there
+    else None
 
 abbrev pub compared_at : List ℕ → Data → Option Datum
 compared_at name d = get name d >>= compared_in
@@ -37,8 +42,8 @@ compared_at name d = get name d >>= compared_in
 -- exactly one member, which says how the field is compared
 abbrev pub comparison_in : Data → Option Check
 comparison_in d =
-    if has_only (codes "eq" ∷ []) d then option_map equals (compared_at (codes "eq") d)
-    else if has_only (codes "less" ∷ []) d then option_map less (compared_at (codes "less") d)
+    if has_only (names_of eq_members) d then option_map equals (compared_at (codes "eq") d)
+    else if has_only (names_of less_members) d then option_map less (compared_at (codes "less") d)
     else None
 
 abbrev pub test_from : Option (List ℕ) → Data → Option Check
@@ -83,9 +88,12 @@ tree_at name trees = option_and_then (λ (t : Name × Option Tree). t.1)
 -- a node has exactly the members of one of three forms: a table by its name, a filter, or a join
 abbrev pub tree_from : Data → List (Name × Option Tree) → Option Tree
 tree_from d trees =
-    if has_only (codes "table" ∷ []) d then option_map table (get (codes "table") d >>= as_str)
-    else if has_only (codes "column" ∷ codes "input" ∷ codes "test" ∷ []) d then filter_from d (tree_at (codes "input") trees)
-    else if has_only (codes "args" ∷ codes "left" ∷ codes "left_on" ∷ codes "right" ∷ codes "right_on" ∷ []) d then join_from d (tree_at (codes "left") trees) (tree_at (codes "right") trees)
+    if has_only (names_of table_node_members) d
+    then option_map table (get (codes "table") d >>= as_str)
+    else if has_only (names_of filter_members) d
+    then filter_from d (tree_at (codes "input") trees)
+    else if has_only (names_of join_node_members) d
+    then join_from d (tree_at (codes "left") trees) (tree_at (codes "right") trees)
     else None
 
 abbrev mutual
@@ -107,16 +115,21 @@ abbrev mutual
 
 unfoldable pub pivot_in : Data → Option Pivot
 pivot_in d = do
-  known ← check (has_only (codes "agg" ∷ codes "index" ∷ codes "on" ∷ codes "separator" ∷ codes "sort_columns" ∷ codes "values" ∷ []) d)
+  known ← check (has_only (names_of pivot_args_members) d)
   on ← texts_at (codes "on") d
   index ← texts_if_at (codes "index") d
   values ← texts_if_at (codes "values") d
   sort_columns ← truth_at (codes "sort_columns") d
   agg ← agg_of d
   separator ← text_at (codes "separator") d
-  Some
-      (record
-      { on = on; index = index; values = values; sorts = sort_columns; way = way_of agg; separator = separator_or separator })
+  Some (record {
+    on = on;
+    index = index;
+    values = values;
+    sorts = sort_columns;
+    way = way_of agg;
+    separator = separator_or separator;
+  })
 
 -- none is asked where the member is absent
 abbrev pub pivot_of : Data → Option (Option Pivot)
@@ -127,7 +140,7 @@ pivot_of d = optional_member None (λ m. option_map Some (pivot_in m)) (get (cod
 -- the columns of a table, under its name
 unfoldable pub table_in : Format → Data → Option (Name × List Written)
 table_in f d = do
-  known ← check (has_only (codes "name" ∷ codes "table" ∷ []) d)
+  known ← check (has_only (names_of entry_members) d)
   name ← get (codes "name") d >>= as_str
   columns ← table_at f (codes "table") d
   Some (name, columns)
@@ -141,7 +154,7 @@ pub record WrittenPlan : Type 0 where
 
 unfoldable pub written_of : Data → Option WrittenPlan
 written_of d = do
-  known ← check (has_only (codes "exec" ∷ codes "format" ∷ codes "pivot" ∷ codes "push" ∷ codes "root" ∷ codes "tables" ∷ []) d)
+  known ← check (has_only (names_of plan_members) d)
   format ← format_of d
   exec ← exec_of d
   push ← truth_at (codes "push") d

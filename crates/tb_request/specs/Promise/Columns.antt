@@ -11,7 +11,7 @@ use Rattle.tb_json.specs.Promise.Cells.{cell_in}
 pub use Rattle.tb_json.specs.Promise.Cells.{run_in}
 use Rattle.tb_json.specs.Promise.Lists.{◌>>=◌, check, each}
 use Rattle.tb_request.specs.declared.runs.TheConstants.{MAX_RUN_VALUES}
-use Rattle.tb_request.specs.Promise.Written.{Written, WrittenJoin, WrittenValues, in_chunks, in_runs}
+use Rattle.tb_request.specs.Promise.Written.{Written, WrittenValues, in_chunks, in_runs}
 
 -- the values of the chunks, where there are few enough of them, or of the one chunk of the runs
 abbrev pub chunks_in : Kind → WrittenValues → Option (List (List Datum))
@@ -29,13 +29,6 @@ values_of w =
 abbrev pub columns_from : List Written → Option (List Col)
 columns_from ws = each values_of ws
 
--- the columns of the left table and of the right one
-unfoldable pub tables_of : WrittenJoin → Option (List Col × List Col)
-tables_of w = do
-  left ← columns_from w.left
-  right ← columns_from w.right
-  Some (left, right)
-
 -- how many rows the runs of a column give
 abbrev pub rows_of_runs : WrittenValues → ℕ
 rows_of_runs (in_chunks cs) = 0
@@ -48,3 +41,10 @@ rows_in ws = sum_by (λ (w : Written). rows_of_runs w.values) ws
 -- they are no more than a request may have
 abbrev pub rows_fit : List Written → Bool
 rows_fit ws = nat_le (rows_in ws) MAX_RUN_VALUES
+
+-- how many rows all runs of these tables give, which are no more than a request may have
+abbrev pub rows_in_tables : List (List Written) → ℕ
+rows_in_tables tables = sum_by rows_in tables
+
+abbrev pub tables_fit : List (List Written) → Bool
+tables_fit tables = nat_le (rows_in_tables tables) MAX_RUN_VALUES

@@ -12,6 +12,7 @@ use Rattle.tb_agg.specs.declared.table.Aggregate.{Aggregate}
 use Rattle.tb_chunk.specs.Promise.Col.{Col}
 use Rattle.tb_frame.specs.declared.args.JoinArgs.{JoinArgs}
 use Rattle.tb_frame.specs.Promise.Table.{Table, table_of, names_of}
+use Rattle.tb_json.specs.Promise.Lists.{each}
 use Rattle.tb_frame.specs.Promise.Frame.{are_level}
 use Rattle.tb_frame.specs.Promise.Join.{Request, by_names}
 use Rattle.tb_frame.specs.Promise.Refusal.{first_repeated}
@@ -23,8 +24,8 @@ use Rattle.tb_request.specs.declared.request.Reason.{Reason}
 use Rattle.tb_request.specs.declared.request.Reason.TheVariants as why
 use Rattle.tb_request.specs.declared.request.RequestFault.{RequestFault}
 use Rattle.tb_request.specs.declared.request.RequestFault.TheVariants.{OutOfMemory, NoRequest}
-use Rattle.tb_request.specs.Promise.Written.{Written, join_of, unpivot_of, dummies_of, pivot_of}
-use Rattle.tb_request.specs.Promise.Columns.{tables_of, columns_from, rows_fit}
+use Rattle.tb_request.specs.Promise.Written.{Written, join_of, unpivot_of, dummies_of, pivot_of, standard_exec}
+use Rattle.tb_request.specs.Promise.Columns.{columns_from, tables_fit}
 use Rattle.tb_request.specs.Columns.{relaid_column}
 use Rattle.tb_request.specs.Promise.Flags.{flags_hold}
 
@@ -104,17 +105,32 @@ abbrev pub earliest_reason : Option Reason → Reason → Reason
 earliest_reason None reason = reason
 earliest_reason (Some first) reason = earlier_reason first reason
 
--- Each line speaks of the whole value, so the first that fails is the reason.
+-- The tables of a request whose work is run by these numbers. Each line speaks of all of them, so the first that fails
+-- is the reason.
+unfoldable pub request_tables : List (List Written) → ExecView → Result (List (List Col)) Reason
+request_tables written exec = do
+  tables ← ok_or (each columns_from written) why.Value
+  fit ← only_if (tables_fit written) why.Rows
+  standing ← only_if (may_stand exec) why.Exec
+  valid ← are_tables tables
+  Ok tables
+
+-- of a request with one table, and with two
+abbrev pub first_table : List (List Col) → List Col
+first_table [] = []
+first_table (t ∷ ts) = t
+
+abbrev pub second_table : List (List Col) → List Col
+second_table [] = []
+second_table (t ∷ ts) = first_table ts
+
 unfoldable pub join_in : Data → Result JoinRequest Reason
 join_in d = do
   written ← ok_or (join_of d) why.Shape
-  tables ← ok_or (tables_of written) why.Value
-  fit ← only_if (rows_fit (written.left ++ written.right)) why.Rows
-  standing ← only_if (may_stand written.exec) why.Exec
-  valid ← are_tables (tables.0 ∷ tables.1 ∷ [])
+  tables ← request_tables (written.left ∷ written.right ∷ []) written.exec
   Ok (record {
-    left = tables.0;
-    right = tables.1;
+    left = first_table tables;
+    right = second_table tables;
     left_on = written.left_on;
     right_on = written.right_on;
     args = written.args;
@@ -122,36 +138,35 @@ join_in d = do
     trace = written.trace;
   })
 
--- the one table of a request
-unfoldable pub table_from : List Written → Result (List Col) Reason
-table_from columns = do
-  table ← ok_or (columns_from columns) why.Value
-  fit ← only_if (rows_fit columns) why.Rows
-  valid ← are_tables (table ∷ [])
-  Ok table
-
 unfoldable pub unpivot_in : Data → Result UnpivotRequest Reason
 unpivot_in d = do
   written ← ok_or (unpivot_of d) why.Shape
-  table ← table_from written.table
-  Ok
-      (record
-      { table = table; on = written.on; index = written.index; variable_name = written.variable_name; value_name = written.value_name })
+  tables ← request_tables (written.table ∷ []) standard_exec
+  Ok (record {
+    table = first_table tables;
+    on = written.on;
+    index = written.index;
+    variable_name = written.variable_name;
+    value_name = written.value_name;
+  })
 
 unfoldable pub dummies_in : Data → Result DummiesRequest Reason
 dummies_in d = do
   written ← ok_or (dummies_of d) why.Shape
-  table ← table_from written.table
-  Ok
-      (record
-      { table = table; columns = written.columns; separator = written.separator; drop_first = written.drop_first })
+  tables ← request_tables (written.table ∷ []) standard_exec
+  Ok (record {
+    table = first_table tables;
+    columns = written.columns;
+    separator = written.separator;
+    drop_first = written.drop_first;
+  })
 
 unfoldable pub pivot_in : Data → Result PivotRequest Reason
 pivot_in d = do
   written ← ok_or (pivot_of d) why.Shape
-  table ← table_from written.table
+  tables ← request_tables (written.table ∷ []) standard_exec
   Ok (record {
-    table = table;
+    table = first_table tables;
     on = written.on;
     index = written.index;
     values = written.values;
@@ -183,16 +198,32 @@ asked_request r = by_names (table_of r.left) (table_of r.right) r.left_on r.righ
 
 -- what the program's requests stand for, wherever the texts of their columns stand
 abbrev pub request_view : rust_join.JoinRequest → JoinRequest
-request_view r = record
-    { left = map relaid_column r.left; right = map relaid_column r.right; left_on = r.left_on.items; right_on = r.right_on.items; args = r.args; exec = r.exec; trace = r.trace }
+request_view r = record {
+  left = map relaid_column r.left;
+  right = map relaid_column r.right;
+  left_on = r.left_on.items;
+  right_on = r.right_on.items;
+  args = r.args;
+  exec = r.exec;
+  trace = r.trace;
+}
 
 abbrev pub unpivot_view : rust_unpivot.UnpivotRequest → UnpivotRequest
-unpivot_view r = record
-    { table = map relaid_column r.table; on = r.on.items; index = r.index.items; variable_name = r.variable_name; value_name = r.value_name }
+unpivot_view r = record {
+  table = map relaid_column r.table;
+  on = r.on.items;
+  index = r.index.items;
+  variable_name = r.variable_name;
+  value_name = r.value_name;
+}
 
 abbrev pub dummies_view : rust_dummies.DummiesRequest → DummiesRequest
-dummies_view r = record
-    { table = map relaid_column r.table; columns = option_map (λ v. v.items) r.columns; separator = r.separator; drop_first = r.drop_first }
+dummies_view r = record {
+  table = map relaid_column r.table;
+  columns = option_map (λ v. v.items) r.columns;
+  separator = r.separator;
+  drop_first = r.drop_first;
+}
 
 abbrev pub pivot_view : rust_pivot.PivotRequest → PivotRequest
 pivot_view r = record {

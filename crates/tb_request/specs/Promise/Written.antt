@@ -6,6 +6,8 @@ use Rattle.serde_json.specs.Find.{get, as_bool, as_i64, as_number, as_str, as_u6
 use Rattle.tb_value.specs.Promise.Kind as kind
 use Rattle.tb_value.specs.Promise.Kind.{Kind}
 use Rattle.tb_value.specs.Promise.Names.{Name}
+use Rattle.tb_value.specs.declared.error.Side.{Side}
+use Rattle.tb_value.specs.declared.error.Side.TheVariants as side
 use Rattle.tb_value.specs.declared.sorted.IsSorted.{IsSorted}
 use Rattle.tb_value.specs.declared.sorted.IsSorted.TheVariants.{Ascending, Descending, Not}
 use Rattle.tb_pool.specs.Promise.ExecView.{ExecView}
@@ -26,6 +28,7 @@ use Rattle.tb_json.specs.Promise.Kinds.{kind_in}
 use Rattle.tb_json.specs.Promise.Lists.{◌>>=◌, check, as_list, list_of, has_only}
 use Rattle.tb_request.specs.declared.shape.Format.{Format}
 use Rattle.tb_request.specs.declared.shape.Format.TheVariants.{Chunks, Runs}
+use Rattle.tb_request.specs.Promise.Members.{args_members, column_members, dummies_members, exec_members, join_members, names_of, pivot_members, table_members, unpivot_members}
 
 -- a member that may be absent, which then means `absent`, and else is what f reads of it
 abbrev pub optional_member : {A : Type 0} → A → (Data → Option A) → Option Data → Option A
@@ -88,7 +91,10 @@ pub record Written : Type 0 where
   pub flag : IsSorted
 
 abbrev pub flag_named : List ℕ → Option IsSorted
-flag_named s = if bytes_eq s (codes "ascending") then Some Ascending else if bytes_eq s (codes "descending") then Some Descending else None
+flag_named s =
+    if bytes_eq s (codes "ascending") then Some Ascending
+    else if bytes_eq s (codes "descending") then Some Descending
+    else None
 
 abbrev pub flag_of : Data → Option IsSorted
 flag_of d = text_or Not flag_named (get (codes "sorted") d)
@@ -118,14 +124,9 @@ abbrev pub values_in : Format → Kind → Data → Option WrittenValues
 values_in Chunks t d = option_map in_chunks (get (codes "chunks") d >>= list_of as_list)
 values_in Runs t d = option_map in_runs (get (codes "runs") d >>= list_of (run_of t))
 
--- the names that the members of a column may have
-abbrev pub column_names : Format → List Name
-column_names Chunks = codes "chunks" ∷ codes "name" ∷ codes "sorted" ∷ codes "type" ∷ []
-column_names Runs = codes "name" ∷ codes "runs" ∷ codes "sorted" ∷ codes "type" ∷ []
-
 unfoldable pub column_of : Format → Data → Option Written
 column_of f d = do
-  known ← check (has_only (column_names f) d)
+  known ← check (has_only (names_of (column_members f)) d)
   name ← get (codes "name") d >>= as_str
   flag ← flag_of d
   kind ← get (codes "type") d >>= kind_in
@@ -134,7 +135,7 @@ column_of f d = do
 
 unfoldable pub table_of : Format → Data → Option (List Written)
 table_of f d = do
-  known ← check (has_only (codes "columns" ∷ []) d)
+  known ← check (has_only (names_of table_members) d)
   get (codes "columns") d >>= list_of (column_of f)
 
 abbrev pub table_at : Format → List ℕ → Data → Option (List Written)
@@ -150,6 +151,12 @@ how_named s =
     else if bytes_eq s (codes "full") then Some Full
     else if bytes_eq s (codes "semi") then Some Semi
     else if bytes_eq s (codes "anti") then Some Anti
+    else None
+
+abbrev pub side_named : List ℕ → Option Side
+side_named s =
+    if bytes_eq s (codes "left") then Some side.Left
+    else if bytes_eq s (codes "right") then Some side.Right
     else None
 
 -- the left side is named first
@@ -218,7 +225,7 @@ order_of d = text_or order.None order_named (get (codes "maintain_order") d)
 
 unfoldable pub args_of : Data → Option JoinArgs
 args_of d = do
-  known ← check (has_only (codes "coalesce" ∷ codes "how" ∷ codes "join_nulls" ∷ codes "maintain_order" ∷ codes "slice" ∷ codes "suffix" ∷ codes "validation" ∷ []) d)
+  known ← check (has_only (names_of args_members) d)
   how ← how_of d
   validation ← validation_of d
   slice ← slice_of d
@@ -226,9 +233,15 @@ args_of d = do
   order ← order_of d
   suffix ← text_at (codes "suffix") d
   nulls ← nulls_of d
-  Some
-      (record
-      { how = how; validation = validation; suffix = suffix; slice = slice; join_nulls = nulls; coalesce = coalesce; maintain_order = order })
+  Some (record {
+    how = how;
+    validation = validation;
+    suffix = suffix;
+    slice = slice;
+    join_nulls = nulls;
+    coalesce = coalesce;
+    maintain_order = order;
+  })
 
 -- ---- how the work is run
 
@@ -244,7 +257,7 @@ count_at name d = get name d >>= count_of
 
 unfoldable pub plan_of : Data → Option ExecView
 plan_of d = do
-  known ← check (has_only (codes "den" ∷ codes "num" ∷ codes "partitions" ∷ codes "small" ∷ codes "workers" ∷ []) d)
+  known ← check (has_only (names_of exec_members) d)
   workers ← count_at (codes "workers") d
   partitions ← count_at (codes "partitions") d
   small ← count_at (codes "small") d
@@ -272,7 +285,7 @@ pub record WrittenJoin : Type 0 where
 
 unfoldable pub join_of : Data → Option WrittenJoin
 join_of d = do
-  known ← check (has_only (codes "args" ∷ codes "exec" ∷ codes "format" ∷ codes "left" ∷ codes "left_on" ∷ codes "right" ∷ codes "right_on" ∷ codes "trace" ∷ []) d)
+  known ← check (has_only (names_of join_members) d)
   args ← get (codes "args") d >>= args_of
   exec ← exec_of d
   trace ← truth_at (codes "trace") d
@@ -281,9 +294,15 @@ join_of d = do
   left_on ← texts_at (codes "left_on") d
   right ← table_at format (codes "right") d
   right_on ← texts_at (codes "right_on") d
-  Some
-      (record
-      { args = args; exec = exec; left = left; left_on = left_on; right = right; right_on = right_on; trace = trace })
+  Some (record {
+    args = args;
+    exec = exec;
+    left = left;
+    left_on = left_on;
+    right = right;
+    right_on = right_on;
+    trace = trace;
+  })
 
 -- ---- a request to make a table long
 
@@ -296,16 +315,20 @@ pub record WrittenUnpivot : Type 0 where
 
 unfoldable pub unpivot_of : Data → Option WrittenUnpivot
 unpivot_of d = do
-  known ← check (has_only (codes "format" ∷ codes "index" ∷ codes "on" ∷ codes "table" ∷ codes "value_name" ∷ codes "variable_name" ∷ []) d)
+  known ← check (has_only (names_of unpivot_members) d)
   format ← format_of d
   table ← table_at format (codes "table") d
   on ← texts_at (codes "on") d
   index ← texts_at (codes "index") d
   variable_name ← text_at (codes "variable_name") d
   value_name ← text_at (codes "value_name") d
-  Some
-      (record
-      { table = table; on = on; index = index; variable_name = variable_name; value_name = value_name })
+  Some (record {
+    table = table;
+    on = on;
+    index = index;
+    variable_name = variable_name;
+    value_name = value_name;
+  })
 
 -- ---- a request for dummies
 
@@ -317,7 +340,7 @@ pub record WrittenDummies : Type 0 where
 
 unfoldable pub dummies_of : Data → Option WrittenDummies
 dummies_of d = do
-  known ← check (has_only (codes "columns" ∷ codes "drop_first" ∷ codes "format" ∷ codes "separator" ∷ codes "table" ∷ []) d)
+  known ← check (has_only (names_of dummies_members) d)
   format ← format_of d
   table ← table_at format (codes "table") d
   columns ← texts_if_at (codes "columns") d
@@ -351,7 +374,7 @@ pub record WrittenPivot : Type 0 where
 
 unfoldable pub pivot_of : Data → Option WrittenPivot
 pivot_of d = do
-  known ← check (has_only (codes "agg" ∷ codes "format" ∷ codes "index" ∷ codes "on" ∷ codes "separator" ∷ codes "sort_columns" ∷ codes "table" ∷ codes "values" ∷ []) d)
+  known ← check (has_only (names_of pivot_members) d)
   format ← format_of d
   table ← table_at format (codes "table") d
   on ← texts_at (codes "on") d
@@ -360,6 +383,12 @@ pivot_of d = do
   sort_columns ← truth_at (codes "sort_columns") d
   agg ← agg_of d
   separator ← text_at (codes "separator") d
-  Some
-      (record
-      { table = table; on = on; index = index; values = values; sort_columns = sort_columns; agg = agg; separator = separator })
+  Some (record {
+    table = table;
+    on = on;
+    index = index;
+    values = values;
+    sort_columns = sort_columns;
+    agg = agg;
+    separator = separator;
+  })

@@ -3,7 +3,7 @@ use Rattle.std.proofs.lemmas.List.{length-map}
 use Rattle.std.specs.List.{zip}
 use Rattle.tb_request.specs.Columns.{relaid_column}
 use Rattle.tb_plan_request.specs.Lent.{table_view}
-use Rattle.tb_plan_request.proofs.Claims.{zip_ended}
+use Rattle.tb_plan_request.proofs.Zipped.{zip_ended}
 use Rattle.tb_plan_request.proofs.tables.named_tables.Goals as goal
 
 pub returns : goal.returns
