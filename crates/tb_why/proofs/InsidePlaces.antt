@@ -6,16 +6,19 @@ use Rattle.serde_json.specs.Find.{as_object, get}
 use Rattle.tb_value.specs.Promise.Names.{Name}
 use Rattle.tb_request.specs.declared.request.Reason.{Reason}
 use Rattle.tb_request.specs.declared.request.Reason.TheVariants as why
+use Rattle.tb_request.specs.declared.known.Form.TheVariants as form
 use Rattle.tb_request.specs.declared.shape.Format.{Format}
+use Rattle.tb_request.specs.Promise.Members.{Known, names_of}
 use Rattle.tb_why.specs.declared.spot.Command.{Command}
 use Rattle.tb_why.specs.declared.spot.Command.TheVariants as command
 use Rattle.tb_why.specs.declared.spot.Expected.TheVariants as expected
-use Rattle.tb_why.specs.declared.spot.Form.TheVariants as form
 use Rattle.tb_why.specs.declared.spot.Step.{Step}
 use Rattle.tb_why.specs.declared.spot.Step.TheVariants.{Member}
 use Rattle.tb_why.specs.Spots.{Spot, inside, or_else, spot_here, under, unless}
-use Rattle.tb_why.specs.Members.{Known, each_known, fault_of, members_spot, names_of, unknown_in, unknown_spot}
-use Rattle.tb_why.specs.Requests.{args_spot, exec_known, format_at, members_of, only_spot, parts_spot, request_spot, sides_spot}
+use Rattle.tb_why.specs.Arguments.{args_spot}
+use Rattle.tb_why.specs.Members.{each_known, fault_of, unknown_in, unknown_spot}
+use Rattle.tb_why.specs.Requests.{aggs_spot, entries_spot, exec_spot, format_at, members_of, only_spot, parts_spot, plan_spot, request_spot, sides_spot}
+use Rattle.tb_why.specs.Steps.{steps_spot}
 use Rattle.tb_why.specs.Laws.{EachReasonHasAPlace}
 use Rattle.tb_why.proofs.Places.{is_placed}
 
@@ -71,14 +74,24 @@ only_is_inside f why.Heights d = steps_in _ _
 only_is_inside f why.Name d = steps_in _ _
 only_is_inside f why.Flag d = steps_in _ _
 
+plan_is_inside : (d : Data) → IsInside (plan_spot d)
+plan_is_inside d = either_in _ _ (steps_in _ _) (steps_in _ _)
+
 parts_are_inside : (c : Command) (f : Format) (reason : Reason) (d : Data) → IsInside (parts_spot c f reason d)
 parts_are_inside command.Join f reason d =
     let args = inside (codes "args") args_spot d in
-    let exec = inside (codes "exec") (members_spot (exec_known reason)) d in
-    either_in args (or_else exec (sides_spot f reason d)) (steps_in (Member (codes "args")) _) (either_in exec (sides_spot f reason d) (steps_in (Member (codes "exec")) _) (sides_are_inside f reason d))
+    either_in args (or_else (exec_spot reason d) (sides_spot f reason d)) (steps_in (Member (codes "args")) _) (either_in (exec_spot reason d) (sides_spot f reason d) (steps_in (Member (codes "exec")) _) (sides_are_inside f reason d))
 parts_are_inside command.Unpivot f reason d = only_is_inside f reason d
 parts_are_inside command.Dummies f reason d = only_is_inside f reason d
 parts_are_inside command.Pivot f reason d = only_is_inside f reason d
+parts_are_inside command.Plan f reason d =
+    let tables = inside (codes "tables") (entries_spot f reason) d in
+    either_in (plan_spot d) (or_else (exec_spot reason d) tables) (plan_is_inside d) (either_in (exec_spot reason d) tables (steps_in (Member (codes "exec")) _) (steps_in (Member (codes "tables")) _))
+parts_are_inside command.Delta f reason d =
+    either_in (sides_spot f reason d) (inside (codes "steps") (steps_spot reason d) d) (sides_are_inside f reason d) (steps_in (Member (codes "steps")) _)
+parts_are_inside command.Group f reason d =
+    let aggs = inside (codes "aggs") aggs_spot d in
+    either_in aggs (or_else (exec_spot reason d) (only_spot f reason d)) (steps_in (Member (codes "aggs")) _) (either_in (exec_spot reason d) (only_spot f reason d) (steps_in (Member (codes "exec")) _) (only_is_inside f reason d))
 
 -- ---- the whole
 

@@ -1,13 +1,16 @@
 pub mod Walks
-pub mod Tests
+pub mod Told
 pub mod Repeats
 pub mod Unfound
 pub mod EachRead
 pub mod ReadParts
+pub mod NodeParts
+pub mod ReadNodes
 pub mod ReadRequests
 pub mod WrittenColumns
 pub mod MadeColumns
 pub mod MadeTables
+pub mod ReadSteps
 pub mod Stages
 pub mod Places
 pub mod InsidePlaces

@@ -16,22 +16,24 @@ use Rattle.tb_frame.specs.Promise.Frame.{are_level}
 use Rattle.tb_frame.specs.Promise.Refusal.{repeats}
 use Rattle.tb_frame.specs.Promise.Refusal as refusal
 use Rattle.tb_frame.specs.Promise.Table as table
-use Rattle.tb_frame.specs.Promise.Table.{TableColumn, names_of, plain_column}
+use Rattle.tb_frame.specs.Promise.Table.{TableColumn, plain_column}
+use Rattle.tb_json.specs.Promise.Lists as lists
 use Rattle.tb_json.specs.Promise.Lists.{check, has_only}
 use Rattle.tb_request.specs.declared.request.Reason.{Reason}
 use Rattle.tb_request.specs.declared.request.Reason.TheVariants as why
 use Rattle.tb_request.specs.declared.shape.Format.{Format}
 use Rattle.tb_request.specs.declared.shape.Format.TheVariants.{Chunks, Runs}
-use Rattle.tb_request.specs.Promise.Columns.{columns_from, rows_in, rows_of_runs, values_of}
+use Rattle.tb_request.specs.Promise.Columns.{columns_from, rows_in, rows_in_tables, rows_of_runs, values_of}
 use Rattle.tb_request.specs.Promise.Flags.{flag_holds, flags_hold}
 use Rattle.tb_request.specs.Promise.Reading.{are_distinct}
-use Rattle.tb_request.specs.Promise.Written.{column_of, table_at, table_of, Written}
+use Rattle.tb_request.specs.Promise.Members.{names_of, table_members}
+use Rattle.tb_request.specs.Promise.Written.{column_of, table_of, Written}
 use Rattle.tb_why.specs.declared.spot.Expected.TheVariants as expected
 use Rattle.tb_why.specs.declared.spot.Step.TheVariants.{Index, Member}
 use Rattle.tb_why.specs.Spots.{Spot, first_at, first_in_room, inside, spot_here, under}
-use Rattle.tb_why.specs.Members.{members_spot, table_members}
-use Rattle.tb_why.specs.Columns.{column_room_spot, columns_of, columns_spot, count_at, flag_spot, height, height_spot, name_at, run_room_spot, runs_at, table_room_spot, table_spot, times_at, values_spot}
-use Rattle.tb_why.proofs.Unfound.{at_member, in_room, inside_items, neither, not_under, so}
+use Rattle.tb_why.specs.Members.{members_spot}
+use Rattle.tb_why.specs.Columns.{column_room_spot, columns_of, columns_spot, count_at, flag_spot, height, height_spot, name_at, run_room_spot, runs_at, table_room_spot, table_rows, table_spot, times_at, values_spot}
+use Rattle.tb_why.proofs.Unfound.{in_room, inside_items, neither, not_under, one_more, so}
 use Rattle.tb_why.proofs.EachRead.{Reads, each_read, items_read, next_reads, taken}
 use Rattle.tb_why.proofs.WrittenColumns.{chunks_written, counts_written, is_written, runs_written}
 use Rattle.tb_why.proofs.MadeColumns.{flag_is_held, is_made, values_made}
@@ -87,7 +89,7 @@ heights_are_level f ds ws cs reads made h =
 
 -- ---- the names
 
-names_are : (f : Format) (ds : List Data) (ws : List Written) (cs : List Col) → Reads (column_of f) ds ws → Reads values_of ws cs → names_of (table.table_of cs) ≡ map name_at ds
+names_are : (f : Format) (ds : List Data) (ws : List Written) (cs : List Col) → Reads (column_of f) ds ws → Reads values_of ws cs → table.names_of (table.table_of cs) ≡ map name_at ds
 names_are f [] [] [] reads made = refl
 names_are f [] [] (c ∷ cs) reads made = absurd made
 names_are f [] (w ∷ ws) cs reads made = absurd reads
@@ -101,7 +103,7 @@ none_repeats : (o : Option ℕ) → option_and_then (λ (i : ℕ). under (Index 
 none_repeats None h = refl
 none_repeats (Some i) h = absurd (cc)
 
-names_are_distinct : (f : Format) (ds : List Data) (ws : List Written) (cs : List Col) → Reads (column_of f) ds ws → Reads values_of ws cs → columns_spot f why.Name ds ≡ None → are_distinct (names_of (table.table_of cs)) ≡ true
+names_are_distinct : (f : Format) (ds : List Data) (ws : List Written) (cs : List Col) → Reads (column_of f) ds ws → Reads values_of ws cs → columns_spot f why.Name ds ≡ None → are_distinct (table.names_of (table.table_of cs)) ≡ true
 names_are_distinct f ds ws cs reads made h =
     let none : find (repeats (map name_at ds)) (row_numbers (length ds)) ≡ None = none_repeats _ h in
     let counted : find (repeats (map name_at ds)) (row_numbers (length (map name_at ds))) ≡ None = ap (λ n. find (repeats (map name_at ds)) (row_numbers n)) (length-map ds name_at) ∙ none in
@@ -142,46 +144,77 @@ run_has_room room run h = leb-true _ _ (so _ expected.FewRunValues h)
 column_has_room : (room : ℕ) (d : Data) → column_room_spot room d ≡ None → count_at Runs d ≤ room
 column_has_room room d h = in_room times_at run_room_spot run_has_room room 0 (runs_at d) (inside_items (codes "runs") (first_in_room times_at run_room_spot room 0) d refl h)
 
--- ---- a table of a request
+-- ---- tables
 
--- the member that is the table, whose columns are these
-pub record IsSide (f : Format) (n : Name) (d : Data) (ws : List Written) : Type 0 where
-  pub table : Data
-  pub there : get n d ≡ Some table
-  pub columns : Reads (column_of f) (columns_of table) ws
-
-columns_written : (f : Format) (t : Data) (ws : List Written) → table_of f t ≡ Some ws → Reads (column_of f) (columns_of t) ws
+pub columns_written : (f : Format) (t : Data) (ws : List Written) → table_of f t ≡ Some ws → Reads (column_of f) (columns_of t) ws
 unfolding table_of
 columns_written f t ws h =
-    let known = taken _ (check (has_only (codes "columns" ∷ []) t)) ws h in
+    let known = taken _ (check (has_only (names_of table_members) t)) ws h in
     items_read (column_of f) (get (codes "columns") t) ws known.2
 
-pub is_side : (f : Format) (n : Name) (d : Data) (ws : List Written) → table_at f n d ≡ Some ws → IsSide f n d ws
-is_side f n d ws h =
-    let there = taken (table_of f) (get n d) ws h in
-    record { table = there.0; there = there.1; columns = columns_written f there.0 ws there.2 }
-
--- no spot is found in its columns
-side_spot : (f : Format) (reason : Reason) (n : Name) (d : Data) (ws : List Written) (s : IsSide f n d ws) → inside n (table_spot f reason) d ≡ None → columns_spot f reason (columns_of s.table) ≡ None
-side_spot f reason n d ws s h =
-    let none : table_spot f reason s.table ≡ None = at_member n (table_spot f reason) (get n d) s.table s.there h in
-    let parts = neither (members_spot table_members s.table) _ none in
+-- no spot is found in the columns
+columns_free : (f : Format) (reason : Reason) (t : Data) → table_spot f reason t ≡ None → columns_spot f reason (columns_of t) ≡ None
+columns_free f reason t h =
+    let parts = neither (members_spot table_members t) _ h in
     not_under (Member (codes "columns")) _ parts.1
 
-pub side_made : (f : Format) (n : Name) (d : Data) (ws : List Written) → IsSide f n d ws → inside n (table_spot f why.Value) d ≡ None → is_some (columns_from ws) ≡ true
-side_made f n d ws s h = columns_made f (columns_of s.table) ws s.columns (side_spot f why.Value n d ws s h)
+-- no spot is found in any of them
+abbrev pub Free : (Data → Option Spot) → List Data → Type 0
+Free g [] = ⊤
+Free g (t ∷ ts) = (g t ≡ None) × Free g ts
 
-pub side_is_level : (f : Format) (n : Name) (d : Data) (ws : List Written) (cs : List Col) → IsSide f n d ws → columns_from ws ≡ Some cs → inside n (table_spot f why.Heights) d ≡ None → are_level (table.table_of cs) ≡ true
-side_is_level f n d ws cs s made h = heights_are_level f (columns_of s.table) ws cs s.columns (each_read values_of ws cs made) (side_spot f why.Heights n d ws s h)
+pub tables_made : (f : Format) (ts : List Data) (wss : List (List Written)) → Reads (table_of f) ts wss → Free (table_spot f why.Value) ts → is_some (lists.each columns_from wss) ≡ true
+tables_made f [] [] reads h = refl
+tables_made f [] (ws ∷ wss) reads h = absurd reads
+tables_made f (t ∷ ts) [] reads h = absurd reads
+tables_made f (t ∷ ts) (ws ∷ wss) reads h =
+    one_more (columns_from ws) (lists.each columns_from wss)
+    (columns_made f (columns_of t) ws (columns_written f t ws reads.0) (columns_free f why.Value t h.0))
+    (tables_made f ts wss reads.1 h.1)
 
-pub side_is_distinct : (f : Format) (n : Name) (d : Data) (ws : List Written) (cs : List Col) → IsSide f n d ws → columns_from ws ≡ Some cs → inside n (table_spot f why.Name) d ≡ None → are_distinct (names_of (table.table_of cs)) ≡ true
-side_is_distinct f n d ws cs s made h = names_are_distinct f (columns_of s.table) ws cs s.columns (each_read values_of ws cs made) (side_spot f why.Name n d ws s h)
+-- a test of each table
+all_hold : (f : Format) (reason : Reason) (P : List Written → Type 0) (p : List Col → Bool)
+    → ((t : Data) (ws : List Written) (cs : List Col) → P ws → Reads (column_of f) (columns_of t) ws → Reads values_of ws cs → columns_spot f reason (columns_of t) ≡ None → p cs ≡ true)
+    → (ts : List Data) (wss : List (List Written)) (css : List (List Col)) → Each P wss → Reads (table_of f) ts wss → Reads columns_from wss css → Free (table_spot f reason) ts → list_all p css ≡ true
+all_hold f reason P p one [] [] [] all reads made h = refl
+all_hold f reason P p one [] [] (cs ∷ css) all reads made h = absurd made
+all_hold f reason P p one [] (ws ∷ wss) css all reads made h = absurd reads
+all_hold f reason P p one (t ∷ ts) [] css all reads made h = absurd reads
+all_hold f reason P p one (t ∷ ts) (ws ∷ wss) [] all reads made h = absurd made
+all_hold f reason P p one (t ∷ ts) (ws ∷ wss) (cs ∷ css) all reads made h =
+    both_hold (p cs) (list_all p css)
+    (one t ws cs all.0 (columns_written f t ws reads.0) (each_read values_of ws cs made.0) (columns_free f reason t h.0))
+    (all_hold f reason P p one ts wss css all.1 reads.1 made.1 h.1)
 
-pub side_holds : (f : Format) (n : Name) (d : Data) (ws : List Written) (cs : List Col) → IsSide f n d ws → columns_from ws ≡ Some cs → rows_in ws ≤ MAX_ROWS → inside n (table_spot f why.Flag) d ≡ None → flags_hold cs ≡ true
-side_holds f n d ws cs s made rows h = flags_are_held f (columns_of s.table) ws cs (few_rows MAX_ROWS ws rows) s.columns (each_read values_of ws cs made) (side_spot f why.Flag n d ws s h)
+pub tables_are_level : (f : Format) (ts : List Data) (wss : List (List Written)) (css : List (List Col)) → Reads (table_of f) ts wss → Reads columns_from wss css → Free (table_spot f why.Heights) ts → list_all are_level (map table.table_of css) ≡ true
+tables_are_level f ts wss css reads made h =
+    list_all-map are_level table.table_of css
+    ∙ all_hold f why.Heights (λ _. ⊤) (λ cs. are_level (table.table_of cs)) (λ t ws cs _. heights_are_level f (columns_of t) ws cs) ts wss css (any wss) reads made h
 
-pub side_rows : (f : Format) (n : Name) (d : Data) (ws : List Written) (s : IsSide f n d ws) → rows_in ws ≤ sum_by (count_at Runs) (columns_of s.table)
-side_rows f n d ws s = rows_written f (columns_of s.table) ws s.columns
+pub tables_are_distinct : (f : Format) (ts : List Data) (wss : List (List Written)) (css : List (List Col)) → Reads (table_of f) ts wss → Reads columns_from wss css → Free (table_spot f why.Name) ts
+    → list_all (λ t. are_distinct (table.names_of t)) (map table.table_of css) ≡ true
+tables_are_distinct f ts wss css reads made h =
+    list_all-map (λ (t : table.Table). are_distinct (table.names_of t)) table.table_of css
+    ∙ all_hold f why.Name (λ _. ⊤) (λ cs. are_distinct (table.names_of (table.table_of cs))) (λ t ws cs _. names_are_distinct f (columns_of t) ws cs) ts wss css (any wss) reads made h
 
-pub side_has_room : (room : ℕ) (f : Format) (n : Name) (d : Data) (ws : List Written) (s : IsSide f n d ws) → inside n (table_room_spot room) d ≡ None → sum_by (count_at Runs) (columns_of s.table) ≤ room
-side_has_room room f n d ws s h = in_room (count_at Runs) column_room_spot column_has_room room 0 (columns_of s.table) (not_under (Member (codes "columns")) _ (at_member n (table_room_spot room) (get n d) s.table s.there h))
+-- where all runs have few rows, so have those of each column
+each_few : (n : ℕ) (wss : List (List Written)) → rows_in_tables wss ≤ n → Each (λ ws. rows_in ws ≤ n) wss
+each_few n [] h = tt
+each_few n (ws ∷ wss) h =
+    let sum : rows_in_tables (ws ∷ wss) ≡ rows_in ws + rows_in_tables wss = sum_by-cons rows_in ws wss in
+    (omega arith, each_few n wss (omega arith))
+
+pub tables_hold : (f : Format) (ts : List Data) (wss : List (List Written)) (css : List (List Col)) → rows_in_tables wss ≤ MAX_ROWS → Reads (table_of f) ts wss → Reads columns_from wss css → Free (table_spot f why.Flag) ts → list_all flags_hold css ≡ true
+tables_hold f ts wss css few reads made h =
+    all_hold f why.Flag (λ ws. rows_in ws ≤ MAX_ROWS) flags_hold (λ t ws cs rows. flags_are_held f (columns_of t) ws cs (few_rows MAX_ROWS ws rows)) ts wss css (each_few MAX_ROWS wss few) reads made h
+
+-- ---- the rows of runs of tables
+
+pub rows_of_tables : (f : Format) (ts : List Data) (wss : List (List Written)) → Reads (table_of f) ts wss → rows_in_tables wss ≤ sum_by table_rows ts
+rows_of_tables f [] [] reads = omega arith
+rows_of_tables f [] (ws ∷ wss) reads = absurd reads
+rows_of_tables f (t ∷ ts) [] reads = absurd reads
+rows_of_tables f (t ∷ ts) (ws ∷ wss) reads = omega (arith, sum_by-cons rows_in ws wss, sum_by-cons table_rows t ts, rows_written f (columns_of t) ws (columns_written f t ws reads.0), rows_of_tables f ts wss reads.1)
+
+pub table_has_room : (room : ℕ) (t : Data) → table_room_spot room t ≡ None → table_rows t ≤ room
+table_has_room room t h = in_room (count_at Runs) column_room_spot column_has_room room 0 (columns_of t) (not_under (Member (codes "columns")) _ h)

@@ -1,34 +1,49 @@
 -- Each reason has a place.
-use Rattle.std.proofs.Common.{◌≡◌, ◌∙◌, ℕ, ◌+◌, ◌≤◌, List, [], ◌∷◌, ◌++◌, Bool, true, false, ◌&&◌, Option, Some, None, codes, refl, sym, subst, ap, arith}
-use Rattle.std.specs.Prelude.{is_some, nat_le, option_and_then, option_map, ok_or, unwrap_or, Result, Ok, Err}
-use Rattle.std.proofs.lemmas.Bool.{le-leb}
-use Rattle.std.proofs.lemmas.List.Sums.{sum_by-append}
-use Rattle.serde_json.specs.Data.{Data}
-use Rattle.serde_json.specs.Find.{get}
-use Rattle.tb_value.specs.declared.limits.TheConstants.{MAX_ROWS}
+use Rattle.std.proofs.Common.{◌≡◌, ◌∙◌, ℕ, ◌+◌, ◌≤◌, List, [], ◌∷◌, map, Bool, true, false, ◌&&◌, Option, Some, None, codes, refl, sym, subst, ap, arith}
+use Rattle.std.specs.Prelude.{is_some, nat_le, option_and_then, option_map, ok_or, sum_by, unwrap_or, Result, Ok, Err}
+use Rattle.std.proofs.lemmas.List.Sums.{sum_by-cons}
+use Rattle.serde_json.specs.Data.{Data, null}
+use Rattle.serde_json.specs.Find.{as_str, get}
+use Rattle.tb_value.specs.Promise.Names.{Name}
+use Rattle.tb_value.proofs.Counts.{sum_by-map}
 use Rattle.tb_chunk.specs.Promise.Col.{Col}
 use Rattle.tb_pool.specs.Promise.ExecView.{ExecView}
-use Rattle.tb_json.specs.Promise.Lists.{check, has_only}
+use Rattle.tb_json.specs.Promise.Lists.{check, has_only, list_of}
+use Rattle.tb_request.specs.declared.known.Form.{Form}
+use Rattle.tb_request.specs.declared.known.Form.TheVariants as form
 use Rattle.tb_request.specs.declared.request.Reason.{Reason}
 use Rattle.tb_request.specs.declared.request.Reason.TheVariants as why
 use Rattle.tb_request.specs.declared.runs.TheConstants.{MAX_RUN_VALUES}
 use Rattle.tb_request.specs.declared.shape.Format.{Format}
-use Rattle.tb_request.specs.Promise.Columns.{columns_from, rows_fit, rows_in, rows_of_runs, tables_of}
-use Rattle.tb_request.specs.Promise.Reading.{◌>>=◌, are_tables, dummies_in, dummies_request_of, join_in, join_request_of, may_count, may_stand, pivot_in, pivot_request_of, table_from, unpivot_in, unpivot_request_of, value_of}
-use Rattle.tb_request.specs.Promise.Written.{agg_of, args_of, count_at, count_of, dummies_of, exec_of, format_of, join_of, optional_member, pivot_of, plan_of, standard_exec, table_at, text_at, texts_at, texts_if_at, truth_at, unpivot_of, Written, WrittenDummies, WrittenJoin, WrittenPivot, WrittenUnpivot}
+use Rattle.tb_request.specs.Promise.HasForm.{has_form}
+use Rattle.tb_request.specs.Promise.Members.{dummies_members, exec_members, join_members, names_of, needed_member, pivot_members, standing_members, unpivot_members}
+use Rattle.tb_request.specs.Promise.Reading.{◌>>=◌, dummies_in, dummies_request_of, join_in, join_request_of, may_count, may_stand, pivot_in, pivot_request_of, request_tables, unpivot_in, unpivot_request_of, value_of}
+use Rattle.tb_request.specs.Promise.Written.{agg_of, args_of, count_at, count_of, dummies_of, exec_of, format_of, join_of, optional_member, pivot_of, plan_of, standard_exec, table_at, table_of, text_at, texts_at, texts_if_at, truth_at, unpivot_of, Written, WrittenDummies, WrittenJoin, WrittenPivot, WrittenUnpivot}
+use Rattle.tb_plan_request.specs.Promise.Members.{entry_members, plan_members}
+use Rattle.tb_plan_request.specs.Promise.Reading.{plan_in, plan_request_of, table_columns}
+use Rattle.tb_plan_request.specs.Promise.Written as plan_written
+use Rattle.tb_plan_request.specs.Promise.Written.{WrittenPlan, table_in, tree_in, written_of}
+use Rattle.tb_delta_request.specs.Promise.Members.{delta_members}
+use Rattle.tb_delta_request.specs.Promise.Reading.{delta_in, delta_request_of, steps_in}
+use Rattle.tb_delta_request.specs.Promise.Written.{WrittenDelta, delta_of}
+use Rattle.tb_group_request.specs.Promise.Members.{group_members}
+use Rattle.tb_group_request.specs.Promise.Reading.{group_in, group_request_of}
+use Rattle.tb_group_request.specs.Promise.Written.{WrittenGroup, agg_in, group_of}
 use Rattle.tb_why.specs.declared.spot.Command.{Command}
 use Rattle.tb_why.specs.declared.spot.Command.TheVariants as command
-use Rattle.tb_why.specs.declared.spot.Form.{Form}
-use Rattle.tb_why.specs.declared.spot.Form.TheVariants as form
-use Rattle.tb_why.specs.Spots.{Spot, inside}
-use Rattle.tb_why.specs.Members.{dummies_members, exec_with, fault_of, has_form, join_members, members_spot, names_of, needed_member, pivot_members, unpivot_members}
-use Rattle.tb_why.specs.Columns.{room_after, table_room_spot, table_spot}
-use Rattle.tb_why.specs.Requests.{args_spot, exec_known, format_at, only_spot, parts_spot, reason_of, refusal, request_spot, right_room, sides_spot}
-use Rattle.tb_why.proofs.Unfound.{EachFits, at_member, each_of_them, fits, neither, so}
-use Rattle.tb_why.proofs.EachRead.{same_some, taken}
-use Rattle.tb_why.proofs.ReadRequests.{dummies_read, format_is, join_read, pivot_read, unpivot_read}
-use Rattle.tb_why.proofs.MadeTables.{IsSide, is_side, side_has_room, side_holds, side_is_distinct, side_is_level, side_made, side_rows}
-use Rattle.tb_why.proofs.Stages.{before_answer, not_false, not_none, rows_are_few, table_placed, tables_stage, test_stage, value_stage}
+use Rattle.tb_why.specs.declared.spot.Step.TheVariants.{Index, Member}
+use Rattle.tb_why.specs.Arguments.{args_spot}
+use Rattle.tb_why.specs.Columns.{items_at, room_after, table_room_spot, table_rows, table_spot}
+use Rattle.tb_why.specs.Members.{fault_of, members_spot}
+use Rattle.tb_why.specs.Requests.{aggs_spot, entries_spot, entry_room_spot, entry_rows, entry_spot, entry_table, exec_known, exec_spot, format_at, only_spot, parts_spot, plan_spot, reason_of, refusal, request_spot, right_room, sides_spot}
+use Rattle.tb_why.specs.Spots.{Spot, first_at, first_in_room, inside, or_else, under}
+use Rattle.tb_why.specs.Steps.{steps_spot}
+use Rattle.tb_why.proofs.EachRead.{Reads, items_read, same_some, taken}
+use Rattle.tb_why.proofs.MadeTables.{Free, table_has_room}
+use Rattle.tb_why.proofs.ReadRequests.{dummies_read, format_is, group_read, join_read, pivot_read, plan_read, unpivot_read}
+use Rattle.tb_why.proofs.ReadSteps.{IsDelta, delta_read, is_delta, steps_made}
+use Rattle.tb_why.proofs.Stages.{Placed, before_answer, not_none, tables_placed, value_stage}
+use Rattle.tb_why.proofs.Unfound.{EachFits, at_member, each_of_them, fits, in_room, inside_items, neither, not_under, so}
 
 -- ---- the numbers by which work is run
 
@@ -43,11 +58,11 @@ all_stand true true c h k l = l
 all_stand true false c h k l = absurd (cc)
 all_stand false b c h k l = absurd (cc)
 
-plan_stands : (d : Data) (p : ExecView) → plan_of d ≡ Some p → members_spot (exec_with form.Workers form.Divisor) d ≡ None → may_stand p ≡ true
+plan_stands : (d : Data) (p : ExecView) → plan_of d ≡ Some p → members_spot (standing_members) d ≡ None → may_stand p ≡ true
 unfolding plan_of
 plan_stands d p h none =
-    let ks = exec_with form.Workers form.Divisor in
-    let m : EachFits (exec_with form.Workers form.Divisor) d = each_of_them ks d (fits ks d none).members in
+    let ks = standing_members in
+    let m : EachFits (standing_members) d = each_of_them ks d (fits ks d none).members in
     let known = taken _ (check (has_only (names_of ks) d)) p h in
     let workers = taken _ (count_at (codes "workers") d) p known.2 in
     let partitions = taken _ (count_at (codes "partitions") d) p workers.2 in
@@ -60,11 +75,69 @@ plan_stands d p h none =
     (tested (codes "partitions") form.Workers may_count (get (codes "partitions") d) partitions.0 (λ m. refl) partitions.1 m.1.1.0)
     (tested (codes "den") form.Divisor (nat_le 1) (get (codes "den") d) den.0 (λ m. refl) den.1 m.0)
 
-exec_stands : (d : Data) (p : ExecView) → exec_of d ≡ Some p → inside (codes "exec") (members_spot (exec_known why.Exec)) d ≡ None → may_stand p ≡ true
+exec_stands : (d : Data) (p : ExecView) → exec_of d ≡ Some p → exec_spot why.Exec d ≡ None → may_stand p ≡ true
 exec_stands d p h none = of_member (get (codes "exec") d) refl h where
   of_member : (o : Option Data) → get (codes "exec") d ≡ o → optional_member standard_exec plan_of o ≡ Some p → may_stand p ≡ true
   of_member None is e = ap may_stand (sym (same_some standard_exec p e))
-  of_member (Some m) is e = plan_stands m p e (at_member (codes "exec") (members_spot (exec_with form.Workers form.Divisor)) (get (codes "exec") d) m is none)
+  of_member (Some m) is e = plan_stands m p e (at_member (codes "exec") (members_spot (standing_members)) (get (codes "exec") d) m is none)
+
+-- ---- the tables of a request
+
+-- the table that a member is
+table_there : (f : Format) (n : Name) (d : Data) (ws : List Written) → table_at f n d ≡ Some ws → (t : Data) × (get n d ≡ Some t) × (table_of f t ≡ Some ws)
+table_there f n d ws h = taken (table_of f) (get n d) ws h
+
+-- no spot is found in the only table
+only_free : (f : Format) (q : Reason) (d t : Data) → get (codes "table") d ≡ Some t → inside (codes "table") (table_spot f q) d ≡ None → Free (table_spot f q) (t ∷ [])
+only_free f q d t is h = (at_member (codes "table") (table_spot f q) (get (codes "table") d) t is h, tt)
+
+only_placed : (f : Format) (d : Data) (ws : List Written) (exec : ExecView) (reason : Reason) → (there : (t : Data) × (get (codes "table") d ≡ Some t) × (table_of f t ≡ Some ws))
+    → only_spot f reason d ≡ None → (reason ≡ why.Exec → may_stand exec ≡ true) → Placed f (there.0 ∷ []) (ws ∷ []) exec reason
+only_placed f d ws exec reason there none stands =
+    let at : (q : Reason) → reason ≡ q → only_spot f q d ≡ None = λ q is. subst (λ p. only_spot f p d ≡ None) is none in
+    record {
+      written = (there.2, tt);
+      value = λ is. only_free f why.Value d there.0 there.1 (at why.Value is);
+      room = λ is.
+          let few : table_rows there.0 ≤ MAX_RUN_VALUES = table_has_room MAX_RUN_VALUES there.0 (at_member (codes "table") (table_room_spot MAX_RUN_VALUES) (get (codes "table") d) there.0 there.1 (at why.Rows is)) in
+          omega (arith, sum_by-cons table_rows there.0 []);
+      stands = stands;
+      heights = λ is. only_free f why.Heights d there.0 there.1 (at why.Heights is);
+      name = λ is. only_free f why.Name d there.0 there.1 (at why.Name is);
+      flag = λ is. only_free f why.Flag d there.0 there.1 (at why.Flag is);
+    }
+
+-- no spot is found in either table
+sides_free : (f : Format) (q : Reason) (d l r : Data) → get (codes "left") d ≡ Some l → get (codes "right") d ≡ Some r
+    → or_else (inside (codes "left") (table_spot f q) d) (inside (codes "right") (table_spot f q) d) ≡ None → Free (table_spot f q) (l ∷ r ∷ [])
+sides_free f q d l r left right h =
+    let s = neither (inside (codes "left") (table_spot f q) d) (inside (codes "right") (table_spot f q) d) h in
+    (at_member (codes "left") (table_spot f q) (get (codes "left") d) l left s.0, (at_member (codes "right") (table_spot f q) (get (codes "right") d) r right s.1, tt))
+
+-- both tables have room
+sides_have_room : (d l r : Data) → get (codes "left") d ≡ Some l → get (codes "right") d ≡ Some r
+    → or_else (inside (codes "left") (table_room_spot MAX_RUN_VALUES) d) (inside (codes "right") (table_room_spot (right_room d)) d) ≡ None → sum_by table_rows (l ∷ r ∷ []) ≤ MAX_RUN_VALUES
+sides_have_room d l r left right h =
+    let s = neither (inside (codes "left") (table_room_spot MAX_RUN_VALUES) d) (inside (codes "right") (table_room_spot (right_room d)) d) h in
+    let room : right_room d ≡ room_after MAX_RUN_VALUES l = ap (λ o. unwrap_or (option_map (room_after MAX_RUN_VALUES) o) MAX_RUN_VALUES) left in
+    let few : table_rows l ≤ MAX_RUN_VALUES = table_has_room MAX_RUN_VALUES l (at_member (codes "left") (table_room_spot MAX_RUN_VALUES) (get (codes "left") d) l left s.0) in
+    let fit : table_rows r ≤ right_room d = table_has_room (right_room d) r (at_member (codes "right") (table_room_spot (right_room d)) (get (codes "right") d) r right s.1) in
+    omega (arith, room, sum_by-cons table_rows l (r ∷ []), sum_by-cons table_rows r [])
+
+sides_placed : (f : Format) (d : Data) (ls rs : List Written) (exec : ExecView) (reason : Reason)
+    → (left : (t : Data) × (get (codes "left") d ≡ Some t) × (table_of f t ≡ Some ls)) → (right : (t : Data) × (get (codes "right") d ≡ Some t) × (table_of f t ≡ Some rs))
+    → sides_spot f reason d ≡ None → (reason ≡ why.Exec → may_stand exec ≡ true) → Placed f (left.0 ∷ right.0 ∷ []) (ls ∷ rs ∷ []) exec reason
+sides_placed f d ls rs exec reason left right none stands =
+    let at : (q : Reason) → reason ≡ q → sides_spot f q d ≡ None = λ q is. subst (λ p. sides_spot f p d ≡ None) is none in
+    record {
+      written = (left.2, (right.2, tt));
+      value = λ is. sides_free f why.Value d left.0 right.0 left.1 right.1 (at why.Value is);
+      room = λ is. sides_have_room d left.0 right.0 left.1 right.1 (at why.Rows is);
+      stands = stands;
+      heights = λ is. sides_free f why.Heights d left.0 right.0 left.1 right.1 (at why.Heights is);
+      name = λ is. sides_free f why.Name d left.0 right.0 left.1 right.1 (at why.Name is);
+      flag = λ is. sides_free f why.Flag d left.0 right.0 left.1 right.1 (at why.Flag is);
+    }
 
 -- ---- a request to join
 
@@ -92,76 +165,12 @@ is_join d w h =
       right = ap (λ g. table_at g (codes "right") d) (sym is) ∙ right.1;
     })
 
-abbrev pair_of : Option (List Col) → Option (List Col) → Option (List Col × List Col)
-pair_of l r = option_and_then (λ a. option_and_then (λ b. Some (a, b)) r) l
-
-both_some : (l r : Option (List Col)) → is_some l ≡ true → is_some r ≡ true → is_some (pair_of l r) ≡ true
-both_some None r h k = absurd (cc)
-both_some (Some a) None h k = absurd (cc)
-both_some (Some a) (Some b) h k = refl
-
-both_made : (w : WrittenJoin) → is_some (columns_from w.left) ≡ true → is_some (columns_from w.right) ≡ true → is_some (tables_of w) ≡ true
-unfolding tables_of
-both_made w h k = both_some (columns_from w.left) (columns_from w.right) h k
-
-tables_from_both : (w : WrittenJoin) (ts : List Col × List Col) → tables_of w ≡ Some ts → (columns_from w.left ≡ Some ts.0) × (columns_from w.right ≡ Some ts.1)
-unfolding tables_of
-tables_from_both w ts h =
-    let left = taken _ (columns_from w.left) ts h in
-    let right = taken _ (columns_from w.right) ts left.2 in
-    let pair = same_some _ ts right.2 in
-    (left.1 ∙ ap (λ (p : List Col × List Col). Some p.0) pair, right.1 ∙ ap (λ (p : List Col × List Col). Some p.1) pair)
-
-two_true : (a b : Bool) → a ≡ true → b ≡ true → a && (b && true) ≡ true
-two_true true true h k = refl
-two_true true false h k = absurd (cc)
-two_true false b h k = absurd (cc)
-
--- both tables have room
-sides_fit : (d : Data) (w : WrittenJoin) (l : IsSide (format_at d) (codes "left") d w.left) (r : IsSide (format_at d) (codes "right") d w.right) → sides_spot (format_at d) why.Rows d ≡ None → rows_fit (w.left ++ w.right) ≡ true
-sides_fit d w l r h =
-    let parts = neither (inside (codes "left") (table_room_spot MAX_RUN_VALUES) d) (inside (codes "right") (table_room_spot (right_room d)) d) h in
-    let room : right_room d ≡ room_after MAX_RUN_VALUES l.table = ap (λ o. unwrap_or (option_map (room_after MAX_RUN_VALUES) o) MAX_RUN_VALUES) l.there in
-    let sum : rows_in (w.left ++ w.right) ≡ rows_in w.left + rows_in w.right = sum_by-append (λ (v : Written). rows_of_runs v.values) w.left w.right in
-    le-leb _ _ (omega (
-      arith,
-      sum,
-      room,
-      side_rows (format_at d) (codes "left") d w.left l,
-      side_rows (format_at d) (codes "right") d w.right r,
-      side_has_room MAX_RUN_VALUES (format_at d) (codes "left") d w.left l parts.0,
-      side_has_room (right_room d) (format_at d) (codes "right") d w.right r parts.1,
-    ))
-
--- the tables of both sides, for each reason that is judged of them
-tables_are_placed : (d : Data) (w : WrittenJoin) (ts : List Col × List Col) (reason : Reason) → IsSide (format_at d) (codes "left") d w.left → IsSide (format_at d) (codes "right") d w.right
-    → columns_from w.left ≡ Some ts.0 → columns_from w.right ≡ Some ts.1 → rows_fit (w.left ++ w.right) ≡ true → are_tables (ts.0 ∷ ts.1 ∷ []) ≡ Err reason → sides_spot (format_at d) reason d ≡ None → ⊥
-tables_are_placed d w ts reason l r left right fit h none =
-    let f : Format = format_at d in
-    let sum : rows_in (w.left ++ w.right) ≡ rows_in w.left + rows_in w.right = sum_by-append (λ (v : Written). rows_of_runs v.values) w.left w.right in
-    let few : rows_in (w.left ++ w.right) ≤ MAX_ROWS = rows_are_few (w.left ++ w.right) fit in
-    tables_stage (ts.0 ∷ ts.1 ∷ []) reason h
-    (λ e is.
-    let s = neither (inside (codes "left") (table_spot f why.Heights) d) _ (subst (λ q. sides_spot f q d ≡ None) is none) in
-    not_false _ e (two_true _ _ (side_is_level f (codes "left") d w.left ts.0 l left s.0) (side_is_level f (codes "right") d w.right ts.1 r right s.1)))
-    (λ e is.
-    let s = neither (inside (codes "left") (table_spot f why.Name) d) _ (subst (λ q. sides_spot f q d ≡ None) is none) in
-    not_false _ e (two_true _ _ (side_is_distinct f (codes "left") d w.left ts.0 l left s.0) (side_is_distinct f (codes "right") d w.right ts.1 r right s.1)))
-    (λ e is.
-    let s = neither (inside (codes "left") (table_spot f why.Flag) d) _ (subst (λ q. sides_spot f q d ≡ None) is none) in
-    not_false _ e (two_true _ _ (side_holds f (codes "left") d w.left ts.0 l left (omega arith) s.0) (side_holds f (codes "right") d w.right ts.1 r right (omega arith) s.1)))
-
-sides_are_made : (d : Data) (w : WrittenJoin) → IsSide (format_at d) (codes "left") d w.left → IsSide (format_at d) (codes "right") d w.right → sides_spot (format_at d) why.Value d ≡ None → is_some (tables_of w) ≡ true
-sides_are_made d w l r h =
-    let s = neither (inside (codes "left") (table_spot (format_at d) why.Value) d) (inside (codes "right") (table_spot (format_at d) why.Value) d) h in
-    both_made w (side_made (format_at d) (codes "left") d w.left l s.0) (side_made (format_at d) (codes "right") d w.right r s.1)
-
 -- what is not found in the numbers by which work is run, and in both tables
-exec_and_sides : (d : Data) (reason : Reason) → request_spot command.Join reason d ≡ None → (inside (codes "exec") (members_spot (exec_known reason)) d ≡ None) × (sides_spot (format_at d) reason d ≡ None)
+exec_and_sides : (d : Data) (reason : Reason) → request_spot command.Join reason d ≡ None → (exec_spot reason d ≡ None) × (sides_spot (format_at d) reason d ≡ None)
 exec_and_sides d reason none =
     let outer = neither (members_spot join_members d) (parts_spot command.Join (format_at d) reason d) none in
     let args = neither (inside (codes "args") args_spot d) _ outer.1 in
-    neither (inside (codes "exec") (members_spot (exec_known reason)) d) (sides_spot (format_at d) reason d) args.1
+    neither (exec_spot reason d) (sides_spot (format_at d) reason d) args.1
 
 join_placed : (d : Data) (reason : Reason) → join_in d ≡ Err reason → request_spot command.Join reason d ≡ None → ⊥
 unfolding join_in
@@ -171,17 +180,11 @@ join_placed d reason h none =
     (λ e is. not_none _ e (join_read d (at why.Shape is)))
     (λ w written more.
     let j : IsJoin d w = is_join d w written in
-    let l : IsSide (format_at d) (codes "left") d w.left = is_side (format_at d) (codes "left") d w.left j.left in
-    let r : IsSide (format_at d) (codes "right") d w.right = is_side (format_at d) (codes "right") d w.right j.right in
-    value_stage (tables_of w) why.Value reason _ more
-    (λ e is. not_none _ e (sides_are_made d w l r (exec_and_sides d why.Value (at why.Value is)).1))
-    (λ ts made rows.
-    let both = tables_from_both w ts made in
-    test_stage (rows_fit (w.left ++ w.right)) why.Rows reason _ rows
-    (λ e is. not_false _ e (sides_fit d w l r (exec_and_sides d why.Rows (at why.Rows is)).1))
-    (λ fit numbers. test_stage (may_stand w.exec) why.Exec reason _ numbers
-    (λ e is. not_false _ e (exec_stands d w.exec j.exec (exec_and_sides d why.Exec (at why.Exec is)).0))
-    (λ stands tables. tables_are_placed d w ts reason l r both.0 both.1 fit (before_answer _ reason _ tables) (exec_and_sides d reason none).1))))
+    let left = table_there (format_at d) (codes "left") d w.left j.left in
+    let right = table_there (format_at d) (codes "right") d w.right j.right in
+    tables_placed (format_at d) (left.0 ∷ right.0 ∷ []) (w.left ∷ w.right ∷ []) w.exec reason
+    (sides_placed (format_at d) d w.left w.right w.exec reason left right (exec_and_sides d reason none).1 (λ is. exec_stands d w.exec j.exec (exec_and_sides d why.Exec (at why.Exec is)).0))
+    (before_answer _ reason _ more))
 
 -- ---- requests of one table
 
@@ -223,27 +226,184 @@ pivot_table d w h =
     ap (λ g. table_at g (codes "table") d) (format_is (format_of d) f.0 f.1) ∙ table.1 ∙ ap (λ (v : WrittenPivot). Some v.table) (same_some _ w separator.2)
 
 -- by what is known where no spot is found for the shape, and for another reason
-one_table_placed : {W B : Type 0} (d : Data) (reason : Reason) (o : Option W) (table : W → List Written) (answer : W → List Col → B) (spot : Reason → Option Spot)
+one_table_placed : {W B : Type 0} (d : Data) (reason : Reason) (o : Option W) (table : W → List Written) (exec : W → ExecView) (answer : W → List (List Col) → B) (spot : Reason → Option Spot)
     → (spot why.Shape ≡ None → is_some o ≡ true) → ((w : W) → o ≡ Some w → table_at (format_at d) (codes "table") d ≡ Some (table w)) → (spot reason ≡ None → only_spot (format_at d) reason d ≡ None)
-    → (ok_or o why.Shape >>= λ w. table_from (table w) >>= λ cs. Ok (answer w cs)) ≡ Err reason → spot reason ≡ None → ⊥
-one_table_placed d reason o table answer spot read written only h none = value_stage o why.Shape reason _ h
+    → ((w : W) → o ≡ Some w → spot why.Exec ≡ None → may_stand (exec w) ≡ true)
+    → (ok_or o why.Shape >>= λ w. request_tables (table w ∷ []) (exec w) >>= λ css. Ok (answer w css)) ≡ Err reason → spot reason ≡ None → ⊥
+one_table_placed d reason o table exec answer spot read written only stands h none = value_stage o why.Shape reason _ h
     (λ e is. not_none o e (read (subst (λ q. spot q ≡ None) is none)))
-    (λ w there more. table_placed (format_at d) d (table w) reason (is_side (format_at d) (codes "table") d (table w) (written w there)) (before_answer (table_from (table w)) reason (answer w) more) (only none))
+    (λ w is_w more.
+    let there = table_there (format_at d) (codes "table") d (table w) (written w is_w) in
+    tables_placed (format_at d) (there.0 ∷ []) (table w ∷ []) (exec w) reason
+    (only_placed (format_at d) d (table w) (exec w) reason there (only none) (λ is. stands w is_w (subst (λ q. spot q ≡ None) is none)))
+    (before_answer (request_tables (table w ∷ []) (exec w)) reason (answer w) more))
 
 unpivot_placed : (d : Data) (reason : Reason) → unpivot_in d ≡ Err reason → request_spot command.Unpivot reason d ≡ None → ⊥
 unfolding unpivot_in
-unpivot_placed d reason h none = one_table_placed d reason (unpivot_of d) (λ w. w.table) _ (λ q. request_spot command.Unpivot q d) (unpivot_read d) (unpivot_table d)
-    (λ k. (neither (members_spot unpivot_members d) (parts_spot command.Unpivot (format_at d) reason d) k).1) h none
+unpivot_placed d reason h none = one_table_placed d reason (unpivot_of d) (λ w. w.table) (λ _. standard_exec) _ (λ q. request_spot command.Unpivot q d) (unpivot_read d) (unpivot_table d)
+    (λ k. (neither (members_spot unpivot_members d) (parts_spot command.Unpivot (format_at d) reason d) k).1) (λ _ _ _. refl) h none
 
 dummies_placed : (d : Data) (reason : Reason) → dummies_in d ≡ Err reason → request_spot command.Dummies reason d ≡ None → ⊥
 unfolding dummies_in
-dummies_placed d reason h none = one_table_placed d reason (dummies_of d) (λ w. w.table) _ (λ q. request_spot command.Dummies q d) (dummies_read d) (dummies_table d)
-    (λ k. (neither (members_spot dummies_members d) (parts_spot command.Dummies (format_at d) reason d) k).1) h none
+dummies_placed d reason h none = one_table_placed d reason (dummies_of d) (λ w. w.table) (λ _. standard_exec) _ (λ q. request_spot command.Dummies q d) (dummies_read d) (dummies_table d)
+    (λ k. (neither (members_spot dummies_members d) (parts_spot command.Dummies (format_at d) reason d) k).1) (λ _ _ _. refl) h none
 
 pivot_placed : (d : Data) (reason : Reason) → pivot_in d ≡ Err reason → request_spot command.Pivot reason d ≡ None → ⊥
 unfolding pivot_in
-pivot_placed d reason h none = one_table_placed d reason (pivot_of d) (λ w. w.table) _ (λ q. request_spot command.Pivot q d) (pivot_read d) (pivot_table d)
-    (λ k. (neither (members_spot pivot_members d) (parts_spot command.Pivot (format_at d) reason d) k).1) h none
+pivot_placed d reason h none = one_table_placed d reason (pivot_of d) (λ w. w.table) (λ _. standard_exec) _ (λ q. request_spot command.Pivot q d) (pivot_read d) (pivot_table d)
+    (λ k. (neither (members_spot pivot_members d) (parts_spot command.Pivot (format_at d) reason d) k).1) (λ _ _ _. refl) h none
+
+-- ---- a request to group a table
+
+record IsGroup (d : Data) (w : WrittenGroup) : Type 0 where
+  exec : exec_of d ≡ Some w.exec
+  table : table_at (format_at d) (codes "table") d ≡ Some w.table
+
+is_group : (d : Data) (w : WrittenGroup) → group_of d ≡ Some w → IsGroup d w
+unfolding group_of
+is_group d w h =
+    let known = taken _ (check (has_only (names_of group_members) d)) w h in
+    let f = taken _ (format_of d) w known.2 in
+    let table = taken _ (table_at f.0 (codes "table") d) w f.2 in
+    let by = taken _ (texts_at (codes "by") d) w table.2 in
+    let aggs = taken _ (option_and_then (list_of agg_in) (get (codes "aggs") d)) w by.2 in
+    let exec = taken _ (exec_of d) w aggs.2 in
+    let trace = taken _ (truth_at (codes "trace") d) w exec.2 in
+    let is : f.0 ≡ format_at d = sym (format_is (format_of d) f.0 f.1) in
+    subst (IsGroup d) (same_some _ w trace.2) (record {
+      exec = exec.1;
+      table = ap (λ g. table_at g (codes "table") d) (sym is) ∙ table.1;
+    })
+
+exec_and_table : (d : Data) (reason : Reason) → request_spot command.Group reason d ≡ None → (exec_spot reason d ≡ None) × (only_spot (format_at d) reason d ≡ None)
+exec_and_table d reason none =
+    let outer = neither (members_spot group_members d) (parts_spot command.Group (format_at d) reason d) none in
+    let aggs = neither (inside (codes "aggs") aggs_spot d) _ outer.1 in
+    neither (exec_spot reason d) (only_spot (format_at d) reason d) aggs.1
+
+group_placed : (d : Data) (reason : Reason) → group_in d ≡ Err reason → request_spot command.Group reason d ≡ None → ⊥
+unfolding group_in
+group_placed d reason h none = one_table_placed d reason (group_of d) (λ w. w.table) (λ w. w.exec) _ (λ q. request_spot command.Group q d) (group_read d) (λ w is. (is_group d w is).table)
+    (λ k. (exec_and_table d reason k).1) (λ w is k. exec_stands d w.exec (is_group d w is).exec (exec_and_table d why.Exec k).0) h none
+
+-- ---- a request of a plan
+
+-- the table of an entry
+entry_there : (f : Format) (e : Data) (t : Name × List Written) → table_in f e ≡ Some t → (get (codes "table") e ≡ Some (entry_table e)) × (table_of f (entry_table e) ≡ Some t.1)
+unfolding table_in
+entry_there f e t h =
+    let known = taken _ (check (has_only (names_of entry_members) e)) t h in
+    let name = taken _ (option_and_then as_str (get (codes "name") e)) t known.2 in
+    let columns = taken _ (table_at f (codes "table") e) t name.2 in
+    let table = taken (table_of f) (get (codes "table") e) columns.0 columns.1 in
+    let same : entry_table e ≡ table.0 = ap (λ o. unwrap_or o null) table.1 in
+    (table.1 ∙ ap Some (sym same), ap (table_of f) same ∙ table.2 ∙ ap (λ (u : Name × List Written). Some u.1) (same_some (name.0, columns.0) t columns.2))
+
+entries_written : (f : Format) (es : List Data) (ts : List (Name × List Written)) → Reads (table_in f) es ts → Reads (table_of f) (map entry_table es) (table_columns ts)
+entries_written f [] [] reads = tt
+entries_written f [] (t ∷ ts) reads = absurd reads
+entries_written f (e ∷ es) [] reads = absurd reads
+entries_written f (e ∷ es) (t ∷ ts) reads = ((entry_there f e t reads.0).1, entries_written f es ts reads.1)
+
+entries_free : (f : Format) (q : Reason) (i : ℕ) (es : List Data) (ts : List (Name × List Written)) → Reads (table_in f) es ts → first_at (entry_spot f q) i es ≡ None → Free (table_spot f q) (map entry_table es)
+entries_free f q i [] [] reads h = tt
+entries_free f q i [] (t ∷ ts) reads h = absurd reads
+entries_free f q i (e ∷ es) [] reads h = absurd reads
+entries_free f q i (e ∷ es) (t ∷ ts) reads h =
+    let both : (under (Index i) (entry_spot f q e) ≡ None) × (first_at (entry_spot f q) (i + 1) es ≡ None) = neither _ _ h in
+    let parts = neither (members_spot entry_members e) (inside (codes "table") (table_spot f q) e) (not_under (Index i) (entry_spot f q e) both.0) in
+    (at_member (codes "table") (table_spot f q) (get (codes "table") e) (entry_table e) (entry_there f e t reads.0).0 parts.1, entries_free f q (i + 1) es ts reads.1 both.1)
+
+entry_has_room : (room : ℕ) (e : Data) → entry_room_spot room e ≡ None → entry_rows e ≤ room
+entry_has_room room e h = of_table (get (codes "table") e) h where
+  of_table : (o : Option Data) → under (Member (codes "table")) (option_and_then (table_room_spot room) o) ≡ None → table_rows (unwrap_or o null) ≤ room
+  of_table None k = omega arith
+  of_table (Some t) k = table_has_room room t (not_under (Member (codes "table")) _ k)
+
+rows_of_entries : (es : List Data) → sum_by table_rows (map entry_table es) ≡ sum_by entry_rows es
+rows_of_entries es = sum_by-map table_rows entry_table es
+
+abbrev entries_at : Data → List Data
+entries_at d = items_at (codes "tables") d
+
+record IsPlan (d : Data) (w : WrittenPlan) : Type 0 where
+  exec : exec_of d ≡ Some w.exec
+  tables : Reads (table_in (format_at d)) (entries_at d) w.tables
+
+is_plan : (d : Data) (w : WrittenPlan) → written_of d ≡ Some w → IsPlan d w
+unfolding written_of
+is_plan d w h =
+    let known = taken _ (check (has_only (names_of plan_members) d)) w h in
+    let f = taken _ (format_of d) w known.2 in
+    let exec = taken _ (exec_of d) w f.2 in
+    let push = taken _ (truth_at (codes "push") d) w exec.2 in
+    let pivot = taken _ (plan_written.pivot_of d) w push.2 in
+    let root = taken _ (option_and_then tree_in (get (codes "root") d)) w pivot.2 in
+    let tables = taken _ (option_and_then (list_of (table_in f.0)) (get (codes "tables") d)) w root.2 in
+    let is : f.0 ≡ format_at d = sym (format_is (format_of d) f.0 f.1) in
+    subst (IsPlan d) (same_some _ w tables.2) (record {
+      exec = exec.1;
+      tables = subst (λ g. Reads (table_in g) (entries_at d) tables.0) is (items_read (table_in f.0) (get (codes "tables") d) tables.0 tables.1);
+    })
+
+exec_and_entries : (d : Data) (reason : Reason) → request_spot command.Plan reason d ≡ None → (exec_spot reason d ≡ None) × (inside (codes "tables") (entries_spot (format_at d) reason) d ≡ None)
+exec_and_entries d reason none =
+    let outer = neither (members_spot plan_members d) (parts_spot command.Plan (format_at d) reason d) none in
+    let parts = neither (plan_spot d) _ outer.1 in
+    neither (exec_spot reason d) (inside (codes "tables") (entries_spot (format_at d) reason) d) parts.1
+
+entries_placed : (d : Data) (w : WrittenPlan) (reason : Reason) → IsPlan d w → inside (codes "tables") (entries_spot (format_at d) reason) d ≡ None → (reason ≡ why.Exec → may_stand w.exec ≡ true)
+    → Placed (format_at d) (map entry_table (entries_at d)) (table_columns w.tables) w.exec reason
+entries_placed d w reason k none stands =
+    let f : Format = format_at d in
+    let es : List Data = entries_at d in
+    let at : (q : Reason) → reason ≡ q → inside (codes "tables") (entries_spot f q) d ≡ None = λ q is. subst (λ p. inside (codes "tables") (entries_spot f p) d ≡ None) is none in
+    record {
+      written = entries_written f es w.tables k.tables;
+      value = λ is. entries_free f why.Value 0 es w.tables k.tables (inside_items (codes "tables") (first_at (entry_spot f why.Value) 0) d refl (at why.Value is));
+      room = λ is.
+          let few : sum_by entry_rows es ≤ MAX_RUN_VALUES = in_room entry_rows entry_room_spot entry_has_room MAX_RUN_VALUES 0 es (inside_items (codes "tables") (first_in_room entry_rows entry_room_spot MAX_RUN_VALUES 0) d refl (at why.Rows is)) in
+          omega (arith, rows_of_entries es);
+      stands = stands;
+      heights = λ is. entries_free f why.Heights 0 es w.tables k.tables (inside_items (codes "tables") (first_at (entry_spot f why.Heights) 0) d refl (at why.Heights is));
+      name = λ is. entries_free f why.Name 0 es w.tables k.tables (inside_items (codes "tables") (first_at (entry_spot f why.Name) 0) d refl (at why.Name is));
+      flag = λ is. entries_free f why.Flag 0 es w.tables k.tables (inside_items (codes "tables") (first_at (entry_spot f why.Flag) 0) d refl (at why.Flag is));
+    }
+
+plan_placed : (d : Data) (reason : Reason) → plan_in d ≡ Err reason → request_spot command.Plan reason d ≡ None → ⊥
+unfolding plan_in
+plan_placed d reason h none =
+    let at : (q : Reason) → reason ≡ q → request_spot command.Plan q d ≡ None = λ q is. subst (λ p. request_spot command.Plan p d ≡ None) is none in
+    value_stage (written_of d) why.Shape reason _ h
+    (λ e is. not_none _ e (plan_read d (at why.Shape is)))
+    (λ w written more.
+    let k : IsPlan d w = is_plan d w written in
+    tables_placed (format_at d) (map entry_table (entries_at d)) (table_columns w.tables) w.exec reason
+    (entries_placed d w reason k (exec_and_entries d reason none).1 (λ is. exec_stands d w.exec k.exec (exec_and_entries d why.Exec (at why.Exec is)).0))
+    (before_answer _ reason _ more))
+
+-- ---- a request to keep a join
+
+sides_and_steps : (d : Data) (reason : Reason) → request_spot command.Delta reason d ≡ None → (sides_spot (format_at d) reason d ≡ None) × (inside (codes "steps") (steps_spot reason d) d ≡ None)
+sides_and_steps d reason none =
+    let outer = neither (members_spot delta_members d) (parts_spot command.Delta (format_at d) reason d) none in
+    neither (sides_spot (format_at d) reason d) (inside (codes "steps") (steps_spot reason d) d) outer.1
+
+delta_placed : (d : Data) (reason : Reason) → delta_in d ≡ Err reason → request_spot command.Delta reason d ≡ None → ⊥
+unfolding delta_in
+delta_placed d reason h none =
+    let at : (q : Reason) → reason ≡ q → request_spot command.Delta q d ≡ None = λ q is. subst (λ p. request_spot command.Delta p d ≡ None) is none in
+    value_stage (delta_of d) why.Shape reason _ h
+    (λ e is. not_none _ e (delta_read d (at why.Shape is)))
+    (λ w written more.
+    let k : IsDelta d w = is_delta d w written in
+    let left = table_there (format_at d) (codes "left") d w.left k.left in
+    let right = table_there (format_at d) (codes "right") d w.right k.right in
+    value_stage (steps_in w.left w.right w.steps) why.Value reason _ more
+    (λ e is. not_none _ e (steps_made d w k (sides_and_steps d why.Value (at why.Value is)).1))
+    (λ steps read tables. tables_placed (format_at d) (left.0 ∷ right.0 ∷ []) (w.left ∷ w.right ∷ []) standard_exec reason
+    (sides_placed (format_at d) d w.left w.right standard_exec reason left right (sides_and_steps d reason none).0 (λ _. refl))
+    (before_answer _ reason _ tables)))
 
 -- ---- all commands
 
@@ -252,8 +412,11 @@ refused (Ok x) reason h = absurd (cc)
 refused (Err e) reason h = cc
 
 pub is_placed : (c : Command) (bytes : List ℕ) (d : Data) (reason : Reason) → value_of bytes ≡ Ok d → reason_of c bytes ≡ Some reason → request_spot c reason d ≡ None → ⊥
-unfolding join_request_of unpivot_request_of dummies_request_of pivot_request_of
+unfolding join_request_of unpivot_request_of dummies_request_of pivot_request_of plan_request_of delta_request_of group_request_of
 is_placed command.Join bytes d reason is h = join_placed d reason (ap (λ v. v >>= join_in) (sym is) ∙ refused (value_of bytes >>= join_in) reason h)
 is_placed command.Unpivot bytes d reason is h = unpivot_placed d reason (ap (λ v. v >>= unpivot_in) (sym is) ∙ refused (value_of bytes >>= unpivot_in) reason h)
 is_placed command.Dummies bytes d reason is h = dummies_placed d reason (ap (λ v. v >>= dummies_in) (sym is) ∙ refused (value_of bytes >>= dummies_in) reason h)
 is_placed command.Pivot bytes d reason is h = pivot_placed d reason (ap (λ v. v >>= pivot_in) (sym is) ∙ refused (value_of bytes >>= pivot_in) reason h)
+is_placed command.Plan bytes d reason is h = plan_placed d reason (ap (λ v. v >>= plan_in) (sym is) ∙ refused (value_of bytes >>= plan_in) reason h)
+is_placed command.Delta bytes d reason is h = delta_placed d reason (ap (λ v. v >>= delta_in) (sym is) ∙ refused (value_of bytes >>= delta_in) reason h)
+is_placed command.Group bytes d reason is h = group_placed d reason (ap (λ v. v >>= group_in) (sym is) ∙ refused (value_of bytes >>= group_in) reason h)

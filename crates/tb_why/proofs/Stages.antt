@@ -1,11 +1,13 @@
 -- The stages in which a request is read, each with its reason, and what is known where no spot is found for one.
-use Rattle.std.proofs.Common.{◌≡◌, ◌≤◌, List, [], ◌∷◌, map, Bool, true, false, ◌&&◌, Option, Some, None, codes, refl, subst, arith}
-use Rattle.std.specs.Prelude.{is_some, ok_or, Result, Ok, Err, ⊤}
+use Rattle.std.proofs.Common.{◌≡◌, ◌≤◌, List, map, Bool, true, false, Option, Some, None, refl, arith}
+use Rattle.std.specs.Prelude.{is_some, ok_or, sum_by, Result, Ok, Err, ⊤}
 use Rattle.std.specs.List.{list_all}
 use Rattle.std.proofs.lemmas.Bool.{le-leb, leb-true}
 use Rattle.serde_json.specs.Data.{Data}
 use Rattle.tb_value.specs.declared.limits.TheConstants.{MAX_ROWS}
 use Rattle.tb_chunk.specs.Promise.Col.{Col}
+use Rattle.tb_pool.specs.Promise.ExecView.{ExecView}
+use Rattle.tb_json.specs.Promise.Lists.{each}
 use Rattle.tb_frame.specs.Promise.Frame.{are_level}
 use Rattle.tb_frame.specs.Promise.Table as table
 use Rattle.tb_frame.specs.Promise.Table.{names_of}
@@ -13,12 +15,13 @@ use Rattle.tb_request.specs.declared.request.Reason.{Reason}
 use Rattle.tb_request.specs.declared.request.Reason.TheVariants as why
 use Rattle.tb_request.specs.declared.runs.TheConstants.{MAX_RUN_VALUES}
 use Rattle.tb_request.specs.declared.shape.Format.{Format}
-use Rattle.tb_request.specs.Promise.Columns.{columns_from, rows_fit, rows_in}
+use Rattle.tb_request.specs.Promise.Columns.{columns_from, rows_in_tables, tables_fit}
 use Rattle.tb_request.specs.Promise.Flags.{flags_hold}
-use Rattle.tb_request.specs.Promise.Reading.{◌>>=◌, are_distinct, are_frames, are_tables, only_if, table_from}
-use Rattle.tb_request.specs.Promise.Written.{Written}
-use Rattle.tb_why.specs.Requests.{only_spot}
-use Rattle.tb_why.proofs.MadeTables.{IsSide, side_has_room, side_holds, side_is_distinct, side_is_level, side_made, side_rows}
+use Rattle.tb_request.specs.Promise.Reading.{◌>>=◌, are_distinct, are_frames, are_tables, may_stand, only_if, request_tables}
+use Rattle.tb_request.specs.Promise.Written.{table_of, Written}
+use Rattle.tb_why.specs.Columns.{table_rows, table_spot}
+use Rattle.tb_why.proofs.EachRead.{Reads, each_read}
+use Rattle.tb_why.proofs.MadeTables.{Free, rows_of_tables, tables_are_distinct, tables_are_level, tables_hold, tables_made}
 
 -- ---- stages
 
@@ -65,27 +68,35 @@ unfolding are_tables
 tables_stage ts reason h level distinct flags = first_of_two (are_frames (map table.table_of ts)) reason _ h
     (λ frames. frames_stage ts reason frames level distinct) (λ _ more. last_stage (list_all flags_hold ts) why.Flag reason more flags)
 
--- ---- the one table of a request
+-- ---- the tables of a request
 
-pub rows_are_few : (ws : List Written) → rows_fit ws ≡ true → rows_in ws ≤ MAX_ROWS
-rows_are_few ws fit =
-    let few : rows_in ws ≤ MAX_RUN_VALUES = leb-true _ _ fit in
+rows_are_few : (wss : List (List Written)) → tables_fit wss ≡ true → rows_in_tables wss ≤ MAX_ROWS
+rows_are_few wss fit =
+    let few : rows_in_tables wss ≤ MAX_RUN_VALUES = leb-true _ _ fit in
     omega arith
 
-pub one_true : (b : Bool) → b ≡ true → b && true ≡ true
-one_true true h = refl
-one_true false h = absurd (cc)
+-- what is known where no spot is found for the reason why tables are none
+pub record Placed (f : Format) (ts : List Data) (wss : List (List Written)) (exec : ExecView) (reason : Reason) : Type 0 where
+  pub written : Reads (table_of f) ts wss
+  pub value : reason ≡ why.Value → Free (table_spot f why.Value) ts
+  pub room : reason ≡ why.Rows → sum_by table_rows ts ≤ MAX_RUN_VALUES
+  pub stands : reason ≡ why.Exec → may_stand exec ≡ true
+  pub heights : reason ≡ why.Heights → Free (table_spot f why.Heights) ts
+  pub name : reason ≡ why.Name → Free (table_spot f why.Name) ts
+  pub flag : reason ≡ why.Flag → Free (table_spot f why.Flag) ts
 
--- no spot is found in the table for the reason why it is none
-pub table_placed : (f : Format) (d : Data) (ws : List Written) (reason : Reason) → IsSide f (codes "table") d ws → table_from ws ≡ Err reason → only_spot f reason d ≡ None → ⊥
-unfolding table_from
-table_placed f d ws reason s h none =
-    let at : (r : Reason) → reason ≡ r → only_spot f r d ≡ None = λ r is. subst (λ q. only_spot f q d ≡ None) is none in
-    value_stage (columns_from ws) why.Value reason _ h
-    (λ e is. not_none _ e (side_made f (codes "table") d ws s (at why.Value is)))
-    (λ cs made more. test_stage (rows_fit ws) why.Rows reason _ more
-    (λ e is. not_false _ e (le-leb _ _ (omega (arith, side_rows f (codes "table") d ws s, side_has_room MAX_RUN_VALUES f (codes "table") d ws s (at why.Rows is)))))
-    (λ fit last. tables_stage (cs ∷ []) reason (before_answer _ reason _ last)
-    (λ e is. not_false _ e (one_true _ (side_is_level f (codes "table") d ws cs s made (at why.Heights is))))
-    (λ e is. not_false _ e (one_true _ (side_is_distinct f (codes "table") d ws cs s made (at why.Name is))))
-    (λ e is. not_false _ e (one_true _ (side_holds f (codes "table") d ws cs s made (rows_are_few ws fit) (at why.Flag is))))))
+pub tables_placed : (f : Format) (ts : List Data) (wss : List (List Written)) (exec : ExecView) (reason : Reason) → Placed f ts wss exec reason → request_tables wss exec ≡ Err reason → ⊥
+unfolding request_tables
+tables_placed f ts wss exec reason p h =
+    value_stage (each columns_from wss) why.Value reason _ h
+    (λ e is. not_none _ e (tables_made f ts wss p.written (p.value is)))
+    (λ css made rows.
+    let read : Reads columns_from wss css = each_read columns_from wss css made in
+    test_stage (tables_fit wss) why.Rows reason _ rows
+    (λ e is. not_false _ e (le-leb _ _ (let room : sum_by table_rows ts ≤ MAX_RUN_VALUES = p.room is in omega (arith, rows_of_tables f ts wss p.written))))
+    (λ fit numbers. test_stage (may_stand exec) why.Exec reason _ numbers
+    (λ e is. not_false _ e (p.stands is))
+    (λ stands last. tables_stage css reason (before_answer _ reason (λ _. css) last)
+    (λ e is. not_false _ e (tables_are_level f ts wss css p.written read (p.heights is)))
+    (λ e is. not_false _ e (tables_are_distinct f ts wss css p.written read (p.name is)))
+    (λ e is. not_false _ e (tables_hold f ts wss css (rows_are_few wss fit) p.written read (p.flag is))))))

@@ -1,21 +1,28 @@
 -- What is known where no spot is found.
-use Rattle.std.proofs.Common.{◌≡◌, ℕ, ◌+◌, ◌-◌, ◌≤◌, List, [], ◌∷◌, Bool, true, false, Option, Some, None, cond, refl, ap, sym, ◌∙◌, arith}
+use Rattle.std.proofs.Common.{◌≡◌, ℕ, ◌+◌, ◌-◌, ◌≤◌, List, [], ◌∷◌, Bool, true, false, Option, Some, None, cond, is_eq, nat_cmp, Ordering, Less, Equal, Greater, refl, ap, sym, ◌∙◌, arith}
 use Rattle.std.specs.Prelude.{is_some, option_and_then, option_map, unwrap_or, sum_by, ⊤}
+use Rattle.std.specs.Cmp.Lexicographic.{slice_cmp}
+use Rattle.std.specs.Ordering.{match_ordering}
+use Rattle.std.specs.Str.{bytes_eq}
 use Rattle.std.proofs.lemmas.List.Sums.{sum_by-cons}
+use Rattle.std.proofs.lemmas.Map.Text.{is_eq-slice_cmp}
+use Rattle.std.proofs.lemmas.Slice.Eq.{bytes_eq-Decides}
 use Rattle.serde_json.specs.Data.{Data, null, boolean, number, string, array, object, Members, no_members, member}
-use Rattle.serde_json.specs.Find.{as_object, get}
+use Rattle.serde_json.specs.Find.{as_object, get, get_member}
 use Rattle.tb_value.specs.Promise.Names.{Name}
 use Rattle.tb_json.specs.Promise.Lists.{as_list, are_among, each, has_only, is_among}
 use Rattle.tb_request.specs.Promise.Written as written
 use Rattle.tb_why.specs.declared.spot.Expected.{Expected}
 use Rattle.tb_why.specs.declared.spot.Expected.TheVariants as expected
-use Rattle.tb_why.specs.declared.spot.Form.{Form}
-use Rattle.tb_why.specs.declared.spot.Form.TheVariants as form
+use Rattle.tb_request.specs.declared.known.Form.{Form}
+use Rattle.tb_request.specs.declared.known.Form.TheVariants as form
+use Rattle.tb_request.specs.Promise.HasForm.{has_form}
+use Rattle.tb_request.specs.Promise.Members.{Known, names_of, needed_member, possible_member}
 use Rattle.tb_why.specs.declared.spot.Step.{Step}
 use Rattle.tb_why.specs.declared.spot.Step.TheVariants.{Member, Index}
 use Rattle.tb_why.specs.Spots.{Spot, first_at, first_in_room, inside, or_else, spot_here, under, unless}
 use Rattle.tb_why.specs.Columns.{items_at, items_of}
-use Rattle.tb_why.specs.Members.{Known, each_known, fault_of, has_form, members_spot, names_of, needed_member, optional_member, unknown_among, unknown_in, unknown_spot}
+use Rattle.tb_why.specs.Members.{each_known, fault_of, members_spot, unknown_among, unknown_in, unknown_spot}
 
 -- ---- spots
 
@@ -84,7 +91,7 @@ pub needed_reads : {A : Type 0} (n : Name) (f : Form) (read : Data → Option A)
 needed_reads n f read None h reads = absurd (cc)
 needed_reads n f read (Some m) h reads = reads m refl (so (has_form f m) (expected.Form f) h)
 
-pub optional_reads : {A : Type 0} (n : Name) (f : Form) (absent : A) (read : Data → Option A) (o : Option Data) → fault_of (optional_member n f) o ≡ None
+pub optional_reads : {A : Type 0} (n : Name) (f : Form) (absent : A) (read : Data → Option A) (o : Option Data) → fault_of (possible_member n f) o ≡ None
     → ((m : Data) → o ≡ Some m → has_form f m ≡ true → is_some (read m) ≡ true) → is_some (written.optional_member absent read o) ≡ true
 optional_reads n f absent read None h reads = refl
 optional_reads n f absent read (Some m) h reads = reads m refl (so (has_form f m) (expected.Form f) h)
@@ -154,3 +161,43 @@ in_room size f one room i (d ∷ ds) h =
     let first : size d ≤ room = one room d (not_under (Index i) (f room d) both.0) in
     let rest : sum_by size ds ≤ room - size d = in_room size f one (room - size d) (i + 1) ds both.1 in
     omega (arith, sum_by-cons size d ds)
+
+-- ---- members that objects have
+
+given_name : (name k : Name) → bytes_eq name k ≡ true → name ≡ k
+given_name name k e = (bytes_eq-Decides name k).0 e
+
+cond_false : (b c : Bool) → c ≡ false → cond b c false ≡ false
+cond_false true c h = h
+cond_false false c h = refl
+
+other_then : (o : Ordering) (names : List Name) (name k : Name) (d m : Data) (ms : Members) → (is_eq o ≡ true → name ≡ k) → is_among name names ≡ false
+    → (get_member name ms ≡ Some m → are_among names ms ≡ false) → match_ordering o (get_member name ms) (Some d) (get_member name ms) ≡ Some m → cond (is_among k names) (are_among names ms) false ≡ false
+other_then Less names name k d m ms same lacks rest is = cond_false (is_among k names) (are_among names ms) (rest is)
+other_then Equal names name k d m ms same lacks rest is = ap (λ b. cond b (are_among names ms) false) (ap (λ n. is_among n names) (sym (same refl)) ∙ lacks)
+other_then Greater names name k d m ms same lacks rest is = cond_false (is_among k names) (are_among names ms) (rest is)
+
+another_among : (names : List Name) (name : Name) (m : Data) (ms : Members) → is_among name names ≡ false → get_member name ms ≡ Some m → are_among names ms ≡ false
+another_among names name m no_members lacks is = absurd (cc)
+another_among names name m (member k d ms) lacks is =
+    other_then (slice_cmp nat_cmp name k) names name k d m ms (λ e. given_name name k (sym (is_eq-slice_cmp name k) ∙ e)) lacks (another_among names name m ms lacks) is
+
+-- an object with another member has not only these
+pub has_another : (names : List Name) (name : Name) (d m : Data) → is_among name names ≡ false → get name d ≡ Some m → has_only names d ≡ false
+has_another names name null m lacks is = refl
+has_another names name (boolean b) m lacks is = refl
+has_another names name (number n) m lacks is = refl
+has_another names name (string s) m lacks is = refl
+has_another names name (array ds) m lacks is = refl
+has_another names name (object ms) m lacks is = another_among names name m ms lacks is
+
+-- a member that must be there is
+pub there : (n : Name) (f : Form) (o : Option Data) → fault_of (needed_member n f) o ≡ None → Given o
+there n f None h = absurd (cc)
+there n f (Some m) h = (m, refl)
+
+pub has_the_form : (n : Name) (f : Form) (o : Option Data) (m : Data) → o ≡ Some m → fault_of (needed_member n f) o ≡ None → has_form f m ≡ true
+has_the_form n f None m is h = absurd (cc)
+has_the_form n f (Some d) m is h =
+    let same : d ≡ m = cc in
+    ap (has_form f) (sym same) ∙ so (has_form f d) (expected.Form f) h

@@ -17,20 +17,20 @@ use Rattle.tb_request.specs.declared.shape.Format.{Format}
 use Rattle.tb_why.specs.Columns.{column_spot, columns_spot, height}
 
 -- the first i values are not at fault
-abbrev pub Walk : (Data → Option Spot) → List Data → ℕ → Type 0
+abbrev pub Walk : {A : Type 0} → (A → Option Spot) → List A → ℕ → Type 0
 Walk f ds i = first_at f 0 ds ≡ first_at f i (drop i ds)
 
 -- the walk at the value in place i
-at_value : (f : Data → Option Spot) (ds : List Data) (i : ℕ) (d : Data) → i < length ds → d ≡ get_or ds i d → Walk f ds i
+at_value : {A : Type 0} (f : A → Option Spot) (ds : List A) (i : ℕ) (d : A) → i < length ds → d ≡ get_or ds i d → Walk f ds i
     → first_at f 0 ds ≡ or_else (under (Index i) (f d)) (first_at f (i + 1) (drop (i + 1) ds))
 at_value f ds i d low is so_far =
     let same : get_or ds i d ≡ d = sym is in
     so_far ∙ ap (first_at f i) (drop-cons ds i d low) ∙ rw (same, add-one)
 
-pub Walk-next : (f : Data → Option Spot) (ds : List Data) (i : ℕ) (d : Data) → i < length ds → d ≡ get_or ds i d → f d ≡ None → Walk f ds i → Walk f ds (i + 1)
+pub Walk-next : {A : Type 0} (f : A → Option Spot) (ds : List A) (i : ℕ) (d : A) → i < length ds → d ≡ get_or ds i d → f d ≡ None → Walk f ds i → Walk f ds (i + 1)
 Walk-next f ds i d low is none so_far = at_value f ds i d low is so_far ∙ rw none
 
-pub Walk-found : (f : Data → Option Spot) (ds : List Data) (i : ℕ) (d : Data) (s : Spot) → i < length ds → d ≡ get_or ds i d → f d ≡ Some s → Walk f ds i → under (Index i) (Some s) ≡ first_at f 0 ds
+pub Walk-found : {A : Type 0} (f : A → Option Spot) (ds : List A) (i : ℕ) (d : A) (s : Spot) → i < length ds → d ≡ get_or ds i d → f d ≡ Some s → Walk f ds i → under (Index i) (Some s) ≡ first_at f 0 ds
 Walk-found f ds i d s low is found so_far = sym (at_value f ds i d low is so_far ∙ rw found)
 
 -- ---- the same with a room

@@ -1,9 +1,10 @@
 -- What stands in the JSON value of a column that is read.
-use Rattle.std.proofs.Common.{◌≡◌, ◌∙◌, ℕ, List, [], ◌∷◌, map, Bool, true, false, ◌&&◌, not, ◌||◌, Some, None, cond, codes, refl, sym, subst, ap, arith}
-use Rattle.std.specs.Prelude.{◌==◌, nat_le, option_and_then, unwrap_or, sum_by}
+use Rattle.std.proofs.Common.{◌≡◌, ◌∙◌, ℕ, List, [], ◌∷◌, map, Bool, true, false, ◌&&◌, not, ◌||◌, Option, Some, None, cond, codes, refl, sym, subst, ap, arith}
+use Rattle.std.specs.Prelude.{◌==◌, nat_le, option_and_then, option_map, unwrap_or, sum_by}
 use Rattle.std.proofs.lemmas.List.Sums.{sum_by-cons}
 use Rattle.serde_json.specs.Data.{Data}
 use Rattle.serde_json.specs.Find.{as_str, get}
+use Rattle.tb_tree.specs.View.{pair_of}
 use Rattle.tb_value.specs.Promise.Kind.{Kind}
 use Rattle.tb_value.specs.Promise.Names.{Name}
 use Rattle.tb_value.specs.declared.sorted.IsSorted.{IsSorted}
@@ -11,8 +12,10 @@ use Rattle.tb_chunk.specs.RunLayout.{total_of}
 use Rattle.tb_json.specs.Promise.Lists.{as_list, check, has_only, list_of}
 use Rattle.tb_request.specs.declared.shape.Format.{Format}
 use Rattle.tb_request.specs.declared.shape.Format.TheVariants.{Chunks, Runs}
-use Rattle.tb_request.specs.Promise.Written.{column_names, column_of, flag_of, holds_values, in_chunks, in_runs, run_from, run_of, times_of, values_in, whole_of, Written, WrittenRun, WrittenValues}
-use Rattle.tb_why.specs.Columns.{items_at, items_of, kind_at, name_at, parts_of, runs_at, times_at, two_of}
+use Rattle.tb_request.specs.Promise.Written.{column_of, flag_of, holds_values, in_chunks, in_runs, run_of, times_of, values_in, whole_of, Written, WrittenRun, WrittenValues}
+use Rattle.tb_request.specs.Promise.Members.{column_members, names_of}
+use Rattle.tb_request.proofs.Parts.{run_of_pair}
+use Rattle.tb_why.specs.Columns.{items_at, items_of, kind_at, name_at, runs_at, times_at}
 use Rattle.tb_why.proofs.EachRead.{Reads, items_read, mapped_from, same_some, taken}
 
 -- the parts of a column, each from the member that has it
@@ -29,7 +32,7 @@ column_written f d n flag t vs w name flagged kind values is = subst (IsWritten 
 pub is_written : (f : Format) (d : Data) (w : Written) → column_of f d ≡ Some w → IsWritten f d w
 unfolding column_of
 is_written f d w h =
-    let known = taken _ (check (has_only (column_names f) d)) w h in
+    let known = taken _ (check (has_only (names_of (column_members f)) d)) w h in
     let name = taken _ (option_and_then as_str (get (codes "name") d)) w known.2 in
     let flag = taken _ (flag_of d) w name.2 in
     let kind = taken _ (kind_at d) w flag.2 in
@@ -60,7 +63,7 @@ runs_written d w k =
 -- the two values of a run
 pub record IsRun (t : Kind) (run : Data) (r : WrittenRun) : Type 0 where
   pub count : Data
-  pub parts : parts_of run ≡ Some (r.0, count)
+  pub parts : pair_of run ≡ Some (r.0, count)
   pub times : whole_of count ≡ Some r.1
 
 times_are : (t : Kind) (n m : ℕ) → times_of t n ≡ Some m → n ≡ m
@@ -69,24 +72,23 @@ times_are t n m h = times_if (nat_le 1 n && (not (holds_values t) || (n == 1))) 
   times_if true k = cc
   times_if false k = absurd (cc)
 
-run_parts : (t : Kind) (run : Data) (vs : List Data) (r : WrittenRun) → as_list run ≡ Some vs → run_from t vs ≡ Some r → IsRun t run r
-run_parts t run [] r is h = absurd (cc)
-run_parts t run (v ∷ []) r is h = absurd (cc)
-run_parts t run (v ∷ n ∷ []) r is h =
-    let times = mapped_from (λ (m : ℕ). (v, m)) (option_and_then (times_of t) (whole_of n)) r h in
-    let whole = taken (times_of t) (whole_of n) times.0 times.1 in
-    let of_pair : IsRun t run (v, times.0) = record {
-      count = n;
-      parts = ap (λ o. two_of (unwrap_or o [])) is;
+abbrev counted : Kind → Data × Data → Option WrittenRun
+counted t p = option_map (λ times. (p.0, times)) (option_and_then (times_of t) (whole_of p.1))
+
+run_parts : (t : Kind) (run : Data) (o : Option (Data × Data)) (r : WrittenRun) → pair_of run ≡ o → option_and_then (counted t) o ≡ Some r → IsRun t run r
+run_parts t run None r is h = absurd (cc)
+run_parts t run (Some p) r is h =
+    let times = mapped_from (λ (m : ℕ). (p.0, m)) (option_and_then (times_of t) (whole_of p.1)) r h in
+    let whole = taken (times_of t) (whole_of p.1) times.0 times.1 in
+    let of_pair : IsRun t run (p.0, times.0) = record {
+      count = p.1;
+      parts = is;
       times = whole.1 ∙ ap Some (times_are t whole.0 times.0 whole.2);
     } in
     subst (IsRun t run) times.2 of_pair
-run_parts t run (v ∷ n ∷ m ∷ more) r is h = absurd (cc)
 
 pub is_run : (t : Kind) (run : Data) (r : WrittenRun) → run_of t run ≡ Some r → IsRun t run r
-is_run t run r h =
-    let list = taken (run_from t) (as_list run) r h in
-    run_parts t run list.0 r list.1 list.2
+is_run t run r h = run_parts t run (pair_of run) r refl (sym (run_of_pair t run) ∙ h)
 
 pub times_written : (t : Kind) (run : Data) (r : WrittenRun) → run_of t run ≡ Some r → times_at run ≡ r.1
 times_written t run r h =

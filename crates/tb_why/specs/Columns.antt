@@ -3,6 +3,7 @@ use Rattle.std.specs.Prelude.{ℕ, ℤ, ◌-◌, ◌==◌, List, [], ◌∷◌, 
 use Rattle.std.specs.List.{find}
 use Rattle.serde_json.specs.Data.{Data}
 use Rattle.serde_json.specs.Find.{get, as_str}
+use Rattle.tb_tree.specs.View.{pair_of}
 use Rattle.tb_value.specs.Promise.Datum.{Datum}
 use Rattle.tb_value.specs.Promise.Kind as kind
 use Rattle.tb_value.specs.Promise.Kind.{Kind}
@@ -28,7 +29,8 @@ use Rattle.tb_why.specs.declared.spot.Expected.{Expected}
 use Rattle.tb_why.specs.declared.spot.Expected.TheVariants as expected
 use Rattle.tb_why.specs.declared.spot.Step.TheVariants.{Member, Index}
 use Rattle.tb_why.specs.Spots.{Spot, spot_here, unless, under, or_else, inside, first_at, first_in_room}
-use Rattle.tb_why.specs.Members.{members_spot, column_members, table_members}
+use Rattle.tb_request.specs.Promise.Members.{column_members, table_members}
+use Rattle.tb_why.specs.Members.{members_spot}
 
 -- the values of an array, and those of a member that is one; none where it is none
 abbrev pub items_of : Data → List Data
@@ -47,22 +49,12 @@ name_at column = unwrap_or (get (codes "name") column >>= as_str) []
 abbrev pub chunks_at : Data → List (List Data)
 chunks_at column = map items_of (items_at (codes "chunks") column)
 
--- the value and the count of a run, where it is a list of two
-abbrev pub two_of : List Data → Option (Data × Data)
-two_of [] = None
-two_of (v ∷ []) = None
-two_of (v ∷ n ∷ []) = Some (v, n)
-two_of (v ∷ n ∷ m ∷ more) = None
-
-abbrev pub parts_of : Data → Option (Data × Data)
-parts_of run = two_of (items_of run)
-
 abbrev pub runs_at : Data → List Data
 runs_at column = items_at (codes "runs") column
 
 -- how often the value of a run stands
 abbrev pub times_at : Data → ℕ
-times_at run = unwrap_or (parts_of run >>= λ p. whole_of p.1) 0
+times_at run = unwrap_or (pair_of run >>= λ p. whole_of p.1) 0
 
 -- how many values it has
 abbrev pub count_at : Format → Data → ℕ
@@ -97,7 +89,7 @@ chunks_spot t d = first_at (chunk_spot t) 0 (items_of d)
 
 -- the value of a run
 abbrev pub run_value_spot : Kind → Data → Option Spot
-run_value_spot t run = parts_of run >>= λ p. under (Index 0) (cell_spot t p.0)
+run_value_spot t run = pair_of run >>= λ p. under (Index 0) (cell_spot t p.0)
 
 abbrev pub run_values_spot : Kind → Data → Option Spot
 run_values_spot t d = first_at (run_value_spot t) 0 (items_of d)
@@ -127,7 +119,7 @@ parts_spot t (Some p) = under (Index 1) (times_spot t p.1)
 
 -- the run where it is no list of two, or else its count
 abbrev pub run_spot : Kind → Data → Option Spot
-run_spot t run = parts_spot t (parts_of run)
+run_spot t run = parts_spot t (pair_of run)
 
 abbrev pub runs_spot : Kind → Data → Option Spot
 runs_spot t d = first_at (run_spot t) 0 (items_of d)
@@ -188,7 +180,8 @@ height f (c ∷ cs) = count_at f c
 
 -- the first column that has the name of one before it
 abbrev pub name_spot : List Data → Option Spot
-name_spot columns = option_and_then (λ i. under (Index i) (under (Member (codes "name")) (spot_here expected.OtherName)))
+name_spot columns = option_and_then
+    (λ i. under (Index i) (under (Member (codes "name")) (spot_here expected.OtherName)))
     (find (repeats (map name_at columns)) (row_numbers (length columns)))
 
 -- the first column that is at fault for this reason
@@ -222,6 +215,9 @@ table_room_spot room table =
     under (Member (codes "columns"))
     (first_in_room (count_at Runs) column_room_spot room 0 (columns_of table))
 
--- what the runs of a table leave of the room
+-- how many values the runs of a table have, and what they leave of the room
+abbrev pub table_rows : Data → ℕ
+table_rows table = sum_by (count_at Runs) (columns_of table)
+
 abbrev pub room_after : ℕ → Data → ℕ
-room_after room table = room - sum_by (count_at Runs) (columns_of table)
+room_after room table = room - table_rows table

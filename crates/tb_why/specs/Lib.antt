@@ -1,5 +1,10 @@
+pub mod Commands
 pub mod Spots
 pub mod Members
 pub mod Columns
+pub mod Arguments
+pub mod Nodes
+pub mod Steps
+pub mod Lent
 pub mod Requests
 pub mod Laws

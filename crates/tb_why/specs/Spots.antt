@@ -32,7 +32,7 @@ abbrev pub inside : List ℕ → (Data → Option Spot) → Data → Option Spot
 inside name f d = under (Member name) (option_and_then f (get name d))
 
 -- the first that f finds in the values, the first of which stands at place i
-abbrev pub first_at : (Data → Option Spot) → ℕ → List Data → Option Spot
+abbrev pub first_at : {A : Type 0} → (A → Option Spot) → ℕ → List A → Option Spot
 first_at f i [] = None
 first_at f i (d ∷ ds) = or_else (under (Index i) (f d)) (first_at f (i + 1) ds)
 

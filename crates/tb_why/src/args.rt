@@ -1,33 +1,15 @@
 //! The arguments of a join that are at fault.
 ghost use Rattle.std.specs.Prelude.{◌≡◌, option_map};
 ghost use Rattle.tb_tree.specs.View.{item_view};
-ghost use Rattle.tb_why.specs.Members.{args_members, members_spot};
-ghost use Rattle.tb_why.specs.Requests.{args_spot, flag_spot, flags_spot};
+ghost use Rattle.tb_why.specs.Arguments.{args_spot, flag_spot, flags_spot};
 ghost use Rattle.tb_why.specs.Spots.{spot_view, Finds};
 
-use crate::members::{members_spot, needed, optional, unless};
-use crate::spot::{Expected, Form, Spot, Word, under_index, under_member};
+use crate::members::{members_spot, unless};
+use crate::spot::{Expected, Spot, under_index, under_member};
 use crate::tree::{Tree, is_truth, items, member};
 use std::alloc::Global;
+use tb_request::{Form, args_members};
 use tb_value::OutOfMemory;
-
-fn args_members_spot(alloc: Global, args: Tree<'_>) -> Result<Option<Spot>, OutOfMemory>
-    ensures { Finds result (members_spot args_members (item_view args.entry)) }
-{
-    members_spot(
-        alloc,
-        &[
-            optional("coalesce", Form::Word(Word::Coalesce)),
-            needed("how", Form::Word(Word::How)),
-            optional("join_nulls", Form::Nulls),
-            optional("maintain_order", Form::Word(Word::Order)),
-            optional("slice", Form::Slice),
-            optional("suffix", Form::Text),
-            optional("validation", Form::Word(Word::Validation)),
-        ],
-        args,
-    )
-}
 
 fn flag_spot(alloc: Global, flag: Tree<'_>) -> Option<Spot>
     ensures { option_map spot_view result ≡ flag_spot (item_view flag.entry) }
@@ -53,7 +35,7 @@ fn flags_spot(alloc: Global, flags: Tree<'_>) -> Result<Option<Spot>, OutOfMemor
 pub(crate) fn args_spot(alloc: Global, args: Tree<'_>) -> Result<Option<Spot>, OutOfMemory>
     ensures { Finds result (args_spot (item_view args.entry)) }
 {
-    if let Some(spot) = args_members_spot(alloc, args)? {
+    if let Some(spot) = members_spot(alloc, args_members(), args)? {
         return Ok(Some(spot));
     }
     match member(args, "join_nulls") {

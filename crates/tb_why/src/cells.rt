@@ -37,7 +37,12 @@ fn value_expected(dtype: &DataType) -> Expected
     }
 }
 
-fn cell_spot(alloc: Global, dtype: &DataType, value: Tree<'_>) -> Result<Option<Spot>, OutOfMemory>
+/// The value where it is none of the type.
+pub(crate) fn cell_spot(
+    alloc: Global,
+    dtype: &DataType,
+    value: Tree<'_>,
+) -> Result<Option<Spot>, OutOfMemory>
     ensures { Finds result (cell_spot (kind_of dtype.now) (item_view value.entry)) }
 {
     let holds = is_cell(alloc, dtype, value)?;

@@ -4,65 +4,28 @@ ghost use Rattle.tb_tree.specs.View.{item_view, listed};
 ghost use Rattle.tb_value.specs.SeeKind.{kind_of};
 ghost use Rattle.tb_request.specs.declared.shape.Format.TheVariants.{Chunks, Runs};
 ghost use Rattle.tb_why.specs.Columns.{column_spot, columns_spot, flag_is_true, flag_spot, height, is_ordered, shape_spot, table_spot};
-ghost use Rattle.tb_why.specs.Members.{column_members, members_spot};
 ghost use Rattle.tb_why.specs.Spots.{first_at, Finds};
 
 use crate::cells::{count_at, values_spot};
-use crate::members::{members_spot, needed, optional, unless};
+use crate::members::{members_spot, unless};
 use crate::names::name_spot;
 use crate::runs::counted_spot;
-use crate::spot::{Expected, Form, Spot, Word, under_index, under_member};
+use crate::spot::{Expected, Spot, under_index, under_member};
 use crate::tree::{Tree, Trees, chunk_lists, dtype, flag, items_at, member, run_values};
 use std::alloc::Global;
-use tb_request::{Format, Reason, flag_holds};
+use tb_request::{Format, Reason, column_members, flag_holds, table_members};
 use tb_store::Series;
 use tb_value::{DataType, IsSorted, OutOfMemory, PolarsError};
-
-fn chunk_members_spot(alloc: Global, column: Tree<'_>) -> Result<Option<Spot>, OutOfMemory>
-    ensures { Finds result (members_spot (column_members Chunks) (item_view column.entry)) }
-{
-    members_spot(
-        alloc,
-        &[
-            needed("chunks", Form::Chunks),
-            needed("name", Form::Text),
-            optional("sorted", Form::Word(Word::Sorted)),
-            needed("type", Form::Type),
-        ],
-        column,
-    )
-}
-
-fn run_members_spot(alloc: Global, column: Tree<'_>) -> Result<Option<Spot>, OutOfMemory>
-    ensures { Finds result (members_spot (column_members Runs) (item_view column.entry)) }
-{
-    members_spot(
-        alloc,
-        &[
-            needed("name", Form::Text),
-            needed("runs", Form::Runs),
-            optional("sorted", Form::Word(Word::Sorted)),
-            needed("type", Form::Type),
-        ],
-        column,
-    )
-}
-
-fn runs_shape_spot(alloc: Global, column: Tree<'_>) -> Result<Option<Spot>, OutOfMemory>
-    ensures { Finds result (shape_spot Runs (item_view column.entry)) }
-{
-    match run_members_spot(alloc, column)? {
-        Some(spot) => Ok(Some(spot)),
-        None => counted_spot(alloc, column),
-    }
-}
 
 fn shape_spot(alloc: Global, format: Format, column: Tree<'_>) -> Result<Option<Spot>, OutOfMemory>
     ensures { Finds result (shape_spot format (item_view column.entry)) }
 {
+    if let Some(spot) = members_spot(alloc, column_members(format), column)? {
+        return Ok(Some(spot));
+    }
     match format {
-        Format::Chunks => chunk_members_spot(alloc, column),
-        Format::Runs => runs_shape_spot(alloc, column),
+        Format::Chunks => Ok(None),
+        Format::Runs => counted_spot(alloc, column),
     }
 }
 
@@ -225,7 +188,7 @@ pub(crate) fn table_spot(
 ) -> Result<Option<Spot>, OutOfMemory>
     ensures { Finds result (table_spot format reason (item_view table.entry)) }
 {
-    if let Some(spot) = members_spot(alloc, &[needed("columns", Form::Values)], table)? {
+    if let Some(spot) = members_spot(alloc, table_members(), table)? {
         return Ok(Some(spot));
     }
     let found = columns_spot(alloc, format, reason, items_at(table, "columns"))?;

@@ -4,12 +4,15 @@ ghost use Rattle.std.specs.List.{list_all};
 ghost use Rattle.serde_json.specs.Find.{as_str};
 ghost use Rattle.tb_tree.specs.View.{item_view, listed};
 ghost use Rattle.tb_json.specs.Promise.Lists.{as_list};
-ghost use Rattle.tb_why.specs.Members.{has_form, is_word};
+ghost use Rattle.tb_request.specs.declared.known.Form as Form;
+ghost use Rattle.tb_request.specs.Promise.HasForm.{has_form, is_word};
 
-use crate::spot::{Form, Word};
 use crate::tree::{Tree, Trees, count, dtype, is_object, is_truth, list, slice, text, whole};
 use std::alloc::Global;
-use tb_request::{agg_named, coalesce_named, flag_named, how_named, order_named, validation_named};
+use tb_request::{
+    Form, Word, agg_named, coalesce_named, flag_named, how_named, order_named, side_named,
+    validation_named,
+};
 use tb_value::OutOfMemory;
 
 fn is_word(word: Word, text: &str) -> bool
@@ -22,6 +25,8 @@ fn is_word(word: Word, text: &str) -> bool
         Word::Order => order_named(text).is_some(),
         Word::Sorted => flag_named(text).is_some(),
         Word::Aggregate => agg_named(text).is_some(),
+        Word::Side => side_named(text).is_some(),
+        Word::Test => text == "is_null" || text == "is_not_null",
     }
 }
 
@@ -98,6 +103,22 @@ fn is_divisor(value: Tree<'_>) -> bool
     }
 }
 
+// A word that is a test, or an object that may be one.
+fn is_test(value: Tree<'_>) -> bool
+    ensures { result ≡ has_form Form.Test (item_view value.entry) }
+{
+    match text(value) {
+        Some(text) => is_word(Word::Test, text),
+        None => is_object(value),
+    }
+}
+
+fn is_compared(value: Tree<'_>) -> bool
+    ensures { result ≡ has_form Form.Compared (item_view value.entry) }
+{
+    is_truth(value) || text(value).is_some() || value.as_i128().is_some()
+}
+
 /// Whether the value has the form.
 pub(crate) fn has_form(alloc: Global, form: Form, value: Tree<'_>) -> Result<bool, OutOfMemory>
     ensures { IfOk result (λ b. b ≡ has_form form (item_view value.entry)) }
@@ -117,6 +138,8 @@ pub(crate) fn has_form(alloc: Global, form: Form, value: Tree<'_>) -> Result<boo
         Form::Count => Ok(count(value).is_some()),
         Form::Workers => Ok(is_worker_count(value)),
         Form::Divisor => Ok(is_divisor(value)),
+        Form::Test => Ok(is_test(value)),
+        Form::Compared => Ok(is_compared(value)),
         Form::Word(word) => Ok(is_text_among(word, value)),
     }
 }

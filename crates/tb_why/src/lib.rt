@@ -8,11 +8,14 @@ mod forms;
 pub mod laws;
 mod members;
 mod names;
+mod nodes;
+mod requests;
 mod room;
 mod runs;
 mod spot;
+mod steps;
 mod tree;
 mod why;
 
-pub use spot::{Command, Expected, Fault, Form, Place, Step, Word};
+pub use spot::{Command, Expected, Fault, Place, Step, command_named};
 pub use why::why_not;

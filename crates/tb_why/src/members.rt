@@ -1,57 +1,16 @@
 //! The members that objects of a request have.
 ghost use Rattle.std.specs.Prelude.{◌≡◌, option_map};
 ghost use Rattle.tb_tree.specs.View.{item_view};
-ghost use Rattle.tb_json.specs.Promise.Lists.{is_among};
-ghost use Rattle.tb_why.specs.Members.{known_view, known_views, names_of, needed_member, optional_member, fault_of, each_known, unknown_spot, members_spot};
+ghost use Rattle.tb_request.specs.Promise.Members.{known_view, known_views, names_of};
+ghost use Rattle.tb_why.specs.Members.{fault_of, each_known, has_any, unknown_spot, members_spot};
 ghost use Rattle.tb_why.specs.Spots.{spot_view, unless, Finds};
 
 use crate::forms::has_form;
-use crate::spot::{Expected, Form, Spot, here, under_member};
+use crate::spot::{Expected, Spot, here, under_member};
 use crate::tree::{Tree, is_object, member, unknown_in};
 use std::alloc::Global;
+use tb_request::{Form, Known};
 use tb_value::OutOfMemory;
-
-/// A member that an object may have, or must.
-#[derive(Clone, Copy)]
-pub(crate) struct Known {
-    name: &'static str,
-    needed: bool,
-    form: Form,
-}
-
-/// A member that an object must have.
-pub(crate) fn needed(name: &'static str, form: Form) -> Known
-    ensures { known_view result ≡ needed_member name.now form }
-{
-    Known {
-        name,
-        needed: true,
-        form,
-    }
-}
-
-/// A member that an object may have.
-pub(crate) fn optional(name: &'static str, form: Form) -> Known
-    ensures { known_view result ≡ optional_member name.now form }
-{
-    Known {
-        name,
-        needed: false,
-        form,
-    }
-}
-
-/// Whether the name is that of one of the members.
-pub(crate) fn is_among(name: &str, known: &[Known]) -> bool
-    ensures { result ≡ is_among name.now (names_of (known_views known.now)) }
-{
-    for one in known {
-        if name == one.name {
-            return true;
-        }
-    }
-    false
-}
 
 /// What is expected, where it is not so.
 pub(crate) fn unless(alloc: Global, holds: bool, expected: Expected) -> Option<Spot>
@@ -73,10 +32,10 @@ fn fault_of(
 {
     match value {
         Some(value) => {
-            let holds = has_form(alloc, known.form, value)?;
-            Ok(unless(alloc, holds, Expected::Form(known.form)))
+            let holds = has_form(alloc, known.form(), value)?;
+            Ok(unless(alloc, holds, Expected::Form(known.form())))
         }
-        None => Ok(unless(alloc, !known.needed, Expected::Wanting(known.form))),
+        None => Ok(unless(alloc, !known.is_needed(), Expected::Wanting(known.form()))),
     }
 }
 
@@ -84,8 +43,8 @@ fn each_known(alloc: Global, known: &[Known], object: Tree<'_>) -> Result<Option
     ensures { Finds result (each_known (known_views known.now) (item_view object.entry)) }
 {
     for one in known {
-        if let Some(spot) = fault_of(alloc, one, member(object, one.name))? {
-            return under_member(alloc, one.name, Some(spot));
+        if let Some(spot) = fault_of(alloc, one, member(object, one.name()))? {
+            return under_member(alloc, one.name(), Some(spot));
         }
     }
     Ok(None)
@@ -103,6 +62,18 @@ fn unknown_spot(
         Some(name) => under_member(alloc, name, Some(here(alloc, Expected::NoMember))),
         None => Ok(None),
     }
+}
+
+/// Whether the object has any of these members.
+pub(crate) fn has_any(object: Tree<'_>, known: &[Known]) -> bool
+    ensures { result ≡ has_any (known_views known.now) (item_view object.entry) }
+{
+    for one in known {
+        if member(object, one.name()).is_some() {
+            return true;
+        }
+    }
+    false
 }
 
 /// The first of its members that the object has not, or should not have, or that is of another form.

@@ -1,10 +1,11 @@
 //! Faults of requests, their places, and what is expected there.
 ghost use Rattle.std.specs.Prelude.{◌≡◌, Some, option_map, IfOk};
 ghost use Rattle.tb_why.specs.declared.spot.Step.TheVariants.{Member, Index};
+ghost use Rattle.tb_why.specs.Commands.{command_named};
 ghost use Rattle.tb_why.specs.Spots.{spot_here, spot_view, under, Finds};
 
 use std::alloc::Global;
-use tb_request::Reason;
+use tb_request::{Form, Reason};
 use tb_value::{IsSorted, OutOfMemory, PlSmallStr};
 
 /// The commands that have requests.
@@ -14,54 +15,25 @@ pub enum Command {
     Unpivot,
     Dummies,
     Pivot,
+    Plan,
+    Delta,
+    Group,
 }
 
-/// A choice of words.
-#[derive(Clone, Copy)]
-pub enum Word {
-    /// The kinds of joins.
-    How,
-    /// On which sides no two rows may have equal keys.
-    Validation,
-    /// Whether two keys become one column.
-    Coalesce,
-    /// By which rows an answer is ordered.
-    Order,
-    /// The order in which the values of a column are.
-    Sorted,
-    /// What becomes of the values of a cell.
-    Aggregate,
-}
-
-/// A form that a value may have.
-#[derive(Clone, Copy)]
-pub enum Form {
-    Object,
-    /// A list.
-    Values,
-    /// A list of lists.
-    Chunks,
-    /// A list of runs, each of which is looked at by itself.
-    Runs,
-    Text,
-    /// A list of texts.
-    Texts,
-    Truth,
-    /// A truth value, or a list.
-    Nulls,
-    /// A type of columns.
-    Type,
-    /// The number of a format in which columns are written.
-    Format,
-    /// An offset of 64 bits and a length of 64 bits without sign.
-    Slice,
-    /// A whole number below 2^32.
-    Count,
-    /// A whole number from 1 to 1024.
-    Workers,
-    /// A whole number from 1 to 2^32 - 1.
-    Divisor,
-    Word(Word),
+/// The command of a name.
+pub fn command_named(name: &str) -> Option<Command>
+    ensures { result ≡ command_named name.now }
+{
+    match name {
+        "join" => Some(Command::Join),
+        "unpivot" => Some(Command::Unpivot),
+        "dummies" => Some(Command::Dummies),
+        "pivot" => Some(Command::Pivot),
+        "plan" => Some(Command::Plan),
+        "delta" => Some(Command::Delta),
+        "group" => Some(Command::Group),
+        _ => None,
+    }
 }
 
 /// What is expected at a place.

@@ -2,7 +2,7 @@
 ghost use Rattle.std.specs.Prelude.{◌≡◌, map, is_some, option_map, IfOk, IfSome, MatchResult, Ok, Err};
 ghost use Rattle.std.specs.List.{All};
 ghost use Rattle.serde_json.specs.Find.{as_bool, as_object, as_str, get};
-ghost use Rattle.tb_tree.specs.View.{view, item_view, listed};
+ghost use Rattle.tb_tree.specs.View.{view, item_view, listed, pair_of};
 ghost use Rattle.tb_value.specs.See.{data_of, datum};
 ghost use Rattle.tb_value.specs.SeeKind.{kind_of};
 ghost use Rattle.tb_value.specs.Promise.Typed.{HasType};
@@ -14,13 +14,15 @@ ghost use Rattle.tb_json.specs.Promise.Lists.{as_list, each};
 ghost use Rattle.tb_request.specs.declared.request.Reason.TheVariants.{Json};
 ghost use Rattle.tb_request.specs.Promise.Reading.{value_of};
 ghost use Rattle.tb_request.specs.Promise.Written.{count_of, flag_of, format_of, slice_in, whole_of};
-ghost use Rattle.tb_why.specs.Columns.{items_of, items_at, chunks_at, parts_of, runs_at, run_at, times_at};
-ghost use Rattle.tb_why.specs.Members.{known_views, names_of, unknown_in};
+ghost use Rattle.tb_why.specs.Columns.{items_of, items_at, chunks_at, runs_at, run_at, times_at};
+ghost use Rattle.tb_request.specs.Promise.Members.{known_views, names_of};
+ghost use Rattle.tb_why.specs.Members.{unknown_in};
 
-use crate::members::{Known, is_among};
 use std::alloc::Global;
 use tb_json::{item_of, type_of};
-use tb_request::{Format, RequestFault, count_of, flag_of, format_of, slice_in, times_of};
+use tb_request::{
+    Format, Known, RequestFault, count_of, flag_of, format_of, is_among, slice_in, times_of,
+};
 use tb_tree::{Item, Items, Value};
 use tb_value::{AnyValue, DataType, IsSorted, OutOfMemory};
 
@@ -114,13 +116,12 @@ pub(crate) fn items_at<'v>(object: Tree<'v>, name: &str) -> Trees<'v>
 /// The value and the count of a run, where it is a list of two.
 pub(crate) fn parts<'v>(run: Tree<'v>) -> Option<(Tree<'v>, Tree<'v>)>
     ensures { option_map (λ p. (item_view p.0, item_view p.1)) result
-        ≡ parts_of (item_view run.entry) }
+        ≡ pair_of (item_view run.entry) }
 {
-    let parts = items(run);
-    if parts.len() != 2 {
-        return None;
+    match run {
+        Item::Whole(_) => None,
+        Item::Lent(value) => value.as_pair(),
     }
-    Some((parts.at(0), parts.at(1)))
 }
 
 /// How often the value of a run stands.

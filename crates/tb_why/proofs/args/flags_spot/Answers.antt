@@ -1,6 +1,6 @@
 use Rattle.std.proofs.Common.{arith, option_map, ap, sym, subst, ◌∙◌}
 use Rattle.tb_tree.specs.View.{item_view, listed}
-use Rattle.tb_why.specs.Requests.{flag_spot}
+use Rattle.tb_why.specs.Arguments.{flag_spot}
 use Rattle.tb_why.specs.Spots.{first_at, spot_view, Finds}
 use Rattle.tb_why.proofs.Walks.{Walk-next, Walk-found}
 use Rattle.tb_why.proofs.args.flags_spot.Goals as goal

@@ -1,5 +1,5 @@
 use Rattle.tb_tree.specs.View.{listed}
-use Rattle.tb_why.specs.Requests.{flag_spot}
+use Rattle.tb_why.specs.Arguments.{flag_spot}
 use Rattle.tb_why.proofs.Walks.{Walk}
 use Rattle.tb_why.proofs.args.flags_spot.Given as goal
 

@@ -1,5 +1,5 @@
 use Rattle.tb_tree.specs.View.{item_view}
-use Rattle.tb_why.specs.Members.{known_views, names_of}
+use Rattle.tb_request.specs.Promise.Members.{known_views, names_of}
 use Rattle.tb_why.proofs.Walks.{unknown_in-object}
 use Rattle.tb_why.proofs.tree.unknown_in.Goals as goal
 

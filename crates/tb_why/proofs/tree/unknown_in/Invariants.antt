@@ -1,6 +1,7 @@
 use Rattle.std.proofs.Common.{◌≡◌}
 use Rattle.tb_tree.specs.View.{item_view}
-use Rattle.tb_why.specs.Members.{known_views, names_of, unknown_in}
+use Rattle.tb_request.specs.Promise.Members.{known_views, names_of}
+use Rattle.tb_why.specs.Members.{unknown_in}
 use Rattle.tb_why.proofs.Walks.{unknown_from}
 use Rattle.tb_why.proofs.tree.unknown_in.Given as goal
 

@@ -1,7 +1,0 @@
-use Rattle.std.proofs.Common.{◌≡◌, drop}
-use Rattle.tb_json.specs.Promise.Lists.{is_among}
-use Rattle.tb_why.specs.Members.{known_views, names_of}
-use Rattle.tb_why.proofs.members.is_among.Given as goal
-
-abbrev pub invariant-loop-one : goal.invariant-loop-one
-invariant-loop-one l = is_among l.name (names_of (known_views l.known)) ≡ is_among l.name (names_of (known_views (drop l.one-index l.known)))
