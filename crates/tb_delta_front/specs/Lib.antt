@@ -1,0 +1,4 @@
+pub mod Changes
+pub mod Deltas
+pub mod Keeping
+pub mod Promise

@@ -1,0 +1,5 @@
+pub mod Asked
+pub mod Compared
+pub mod Faults
+pub mod Parted
+pub mod Sorts
