@@ -100,55 +100,97 @@ fn full_rows(
     Ok(full.height())
 }
 
+// Each join of two tables by a column of each.
+fn check_joins(
+    rt: &(impl Threads + Sync + Abort),
+    alloc: Global,
+    left: &DataFrame,
+    right: &DataFrame,
+    left_key: &Series,
+    right_key: &Series,
+) -> Result<(), Fail>
+    requires keys { StandBeside left.now right.now left_key.now right_key.now }
+    requires rows { left.now ≡ left_key.now ∷ [] }
+    requires types { AreKeys left_key.now right_key.now }
+{
+    check_met(rt, alloc, left, left_key, right_key)?;
+    assert!(rt; full_rows(rt, alloc, left, right, left_key, right_key)? == 4);
+    check_sides(rt, alloc, left.copy(alloc)?, right, left_key, right_key)
+}
+
 #[tactic(auto, using(crate::proofs::Sides::stands, crate::proofs::Sides::are_keys))]
 #[test]
 fn joins_by_one_column_of_each_side(rt: HostRuntime) -> Result<(), Fail> {
-    let alloc = rt.alloc();
-    let (left, left_key) = with_table(alloc, left_keys(alloc)?)?;
-    let (right, right_key) = with_table(alloc, right_keys(alloc)?)?;
-    check_met(&rt, alloc, &left, &left_key, &right_key)?;
-    assert!(rt; full_rows(&rt, alloc, &left, &right, &left_key, &right_key)? == 4);
-    check_sides(&rt, alloc, left, &right, &left_key, &right_key)
+    let (left, left_key) = with_table(rt.alloc(), left_keys(rt.alloc())?)?;
+    let (right, right_key) = with_table(rt.alloc(), right_keys(rt.alloc())?)?;
+    check_joins(&rt, rt.alloc(), &left, &right, &left_key, &right_key)
 }
 
-// The Inner join of two tables by a column that is given beside each.
+// The Inner join of two tables by columns that are given beside each.
 fn joined_by(
     rt: &(impl Threads + Sync),
     alloc: Global,
     left: &DataFrame,
     right: &DataFrame,
-    left_key: Series,
-    right_key: Series,
-) -> Result<PolarsResult<DataFrame>, Fail> {
-    let left_keys = one_key(alloc, left_key)?;
-    let right_keys = one_key(alloc, right_key)?;
+    left_keys: Vec<Series>,
+    right_keys: Vec<Series>,
+) -> PolarsResult<DataFrame> {
     let (args, exec) = (JoinArgs::new(JoinType::Inner), Exec::standard());
-    Ok(left._join_impl(rt, alloc, right, left_keys, right_keys, args, &exec))
+    left._join_impl(rt, alloc, right, left_keys, right_keys, args, &exec)
+}
+
+// The join of two tables by the keys of each test.
+fn by_given_columns(
+    rt: &(impl Threads + Sync),
+    alloc: Global,
+    left: &DataFrame,
+    right: &DataFrame,
+) -> Result<DataFrame, Fail> {
+    let left_keys = one_key(alloc, left_keys(alloc)?)?;
+    let right_keys = one_key(alloc, right_keys(alloc)?)?;
+    Ok(joined_by(rt, alloc, left, right, left_keys, right_keys)?)
 }
 
 #[test]
 fn a_join_by_given_columns(rt: HostRuntime) -> Result<(), Fail> {
-    let alloc = rt.alloc();
-    let (left, left_key) = with_table(alloc, left_keys(alloc)?)?;
-    let (right, right_key) = with_table(alloc, right_keys(alloc)?)?;
-    let joined = joined_by(&rt, alloc, &left, &right, left_key, right_key)??;
+    let left = table_of(rt.alloc(), left_keys(rt.alloc())?.into_column())?;
+    let right = table_of(rt.alloc(), right_keys(rt.alloc())?.into_column())?;
+    let joined = by_given_columns(&rt, rt.alloc(), &left, &right)?;
     let line = r#"{"columns":[{"name":"k","type":"i64","values":[1,1]}],"height":2}"#;
-    check_text(&rt, alloc, &joined, line)
+    check_text(&rt, rt.alloc(), &joined, line)
 }
 
-// A given column of another length than its table is refused, but one value beside a table without rows stands for none.
+// Whether a join by a given column of another length than its table is refused.
+fn is_refused(rt: &(impl Threads + Sync), alloc: Global, table: &DataFrame) -> Result<bool, Fail> {
+    let short = one_key(alloc, column(alloc, "k", &[Some(1), Some(2)], &[])?)?;
+    let keys = one_key(alloc, left_keys(alloc)?)?;
+    let joined = joined_by(rt, alloc, table, table, short, keys);
+    Ok(matches!(joined, Err(PolarsError::ShapeMismatch)))
+}
+
 #[test]
 fn given_columns_of_other_lengths(rt: HostRuntime) -> Result<(), Fail> {
-    let alloc = rt.alloc();
-    let (left, _left_key) = with_table(alloc, left_keys(alloc)?)?;
-    let short = column(alloc, "k", &[Some(1), Some(2)], &[])?;
-    let refused = joined_by(&rt, alloc, &left, &left, short, left_keys(alloc)?)?;
-    assert!(rt; matches!(refused, Err(PolarsError::ShapeMismatch)));
-    let (empty, _no_key) = with_table(alloc, column(alloc, "k", &[], &[])?)?;
-    let one = column(alloc, "k", &[Some(1)], &[])?;
-    let other = column(alloc, "k", &[Some(1)], &[])?;
-    let joined = joined_by(&rt, alloc, &empty, &empty, one, other)??;
-    assert!(rt; joined.height() == 0);
+    let table = table_of(rt.alloc(), left_keys(rt.alloc())?.into_column())?;
+    assert!(rt; is_refused(&rt, rt.alloc(), &table)?);
+    Ok(())
+}
+
+// The join of a table with itself by one value beside each.
+fn by_one_value(
+    rt: &(impl Threads + Sync),
+    alloc: Global,
+    table: &DataFrame,
+) -> Result<DataFrame, Fail> {
+    let left = one_key(alloc, column(alloc, "k", &[Some(1)], &[])?)?;
+    let right = one_key(alloc, column(alloc, "k", &[Some(1)], &[])?)?;
+    Ok(joined_by(rt, alloc, table, table, left, right)?)
+}
+
+// One value beside a table without rows stands for none.
+#[test]
+fn one_value_beside_no_rows(rt: HostRuntime) -> Result<(), Fail> {
+    let table = table_of(rt.alloc(), column(rt.alloc(), "k", &[], &[])?.into_column())?;
+    assert!(rt; by_one_value(&rt, rt.alloc(), &table)?.height() == 0);
     Ok(())
 }
 
@@ -162,27 +204,55 @@ fn named_rows(
     requires present { All (λ (id : Id). IsSome id) ids.now }
     requires few { length ids.now ≤ MAX_ROWS }
 {
-    table.create_left_df_chunked(rt, alloc, ids, false, true)
+    table.create_left_df_chunked(rt, alloc, ids, false, false)
+}
+
+// Rows that ids name in any order.
+fn turned_rows(
+    rt: &(impl Threads + Sync),
+    alloc: Global,
+    table: &DataFrame,
+    key: &Series,
+) -> Result<DataFrame, Fail>
+    requires { table.now ≡ key.now ∷ [] }
+{
+    let ids = two_ids(alloc, key)?;
+    Ok(named_rows(rt, alloc, table, &ids)?)
+}
+
+fn check_named(
+    rt: &(impl Threads + Sync + Abort),
+    alloc: Global,
+    table: &DataFrame,
+    key: &Series,
+) -> Result<(), Fail>
+    requires { table.now ≡ key.now ∷ [] }
+{
+    let line = r#"{"columns":[{"name":"k","type":"i64","values":[2,1]}],"height":2}"#;
+    check_text(rt, alloc, &turned_rows(rt, alloc, table, key)?, line)
+}
+
+fn check_numbered(
+    rt: &(impl Threads + Sync + Abort),
+    alloc: Global,
+    table: &DataFrame,
+) -> Result<(), Fail> {
+    if table.height() != 3 {
+        return Err(Fail::from("another height"));
+    }
+    let whole = table._create_left_df_from_slice(rt, alloc, &[0, 1, 2], true, false, true)?;
+    let line = r#"{"columns":[{"name":"k","type":"i64","values":[1,null,2]}],"height":3}"#;
+    check_text(rt, alloc, &whole, line)?;
+    let kept = table._finish_anti_semi_join(rt, alloc, &[0, 2], Some((1, 1)))?;
+    let line = r#"{"columns":[{"name":"k","type":"i64","values":[2]}],"height":1}"#;
+    check_text(rt, alloc, &kept, line)
 }
 
 #[test]
 fn rows_that_were_found_before(rt: HostRuntime) -> Result<(), Fail> {
-    let alloc = rt.alloc();
-    let key = left_keys(alloc)?;
-    let ids = two_ids(alloc, &key)?;
-    let table = table_of(alloc, key.into_column())?;
-    if table.height() != 3 {
-        return Err(Fail::from("another height"));
-    }
-    let named = named_rows(&rt, alloc, &table, &ids)?;
-    let whole = table._create_left_df_from_slice(&rt, alloc, &[0, 1, 2], true, false, true)?;
-    let kept = table._finish_anti_semi_join(&rt, alloc, &[0, 2], Some((1, 1)))?;
-    let named_line = r#"{"columns":[{"name":"k","type":"i64","values":[2,1]}],"height":2}"#;
-    check_text(&rt, alloc, &named, named_line)?;
-    let whole_line = r#"{"columns":[{"name":"k","type":"i64","values":[1,null,2]}],"height":3}"#;
-    check_text(&rt, alloc, &whole, whole_line)?;
-    let kept_line = r#"{"columns":[{"name":"k","type":"i64","values":[2]}],"height":1}"#;
-    check_text(&rt, alloc, &kept, kept_line)
+    let (table, key) = with_table(rt.alloc(), left_keys(rt.alloc())?)?;
+    check_named(&rt, rt.alloc(), &table, &key)?;
+    check_numbered(&rt, rt.alloc(), &table)
 }
 
 // A table of two columns, of which the first is called x.
@@ -207,14 +277,23 @@ fn side_by_side(
 
 #[test]
 fn tables_side_by_side(rt: HostRuntime) -> Result<(), Fail> {
-    let alloc = rt.alloc();
+    let table = side_by_side(rt.alloc(), None)??;
     let line =
         r#"{"columns":[{"name":"x","type":"i64","values":[1]},{"name":"y","type":"i64","values":[null]},{"name":"x_right","type":"i64","values":[1]},{"name":"z","type":"i64","values":[null]}],"height":1}"#;
-    check_text(&rt, alloc, &side_by_side(alloc, None)??, line)?;
-    let suffix = PlSmallStr::from_str(alloc, "")?;
-    let refused = side_by_side(alloc, Some(suffix))?;
+    check_text(&rt, rt.alloc(), &table, line)
+}
+
+#[test]
+fn a_name_that_stands_on_both_sides(rt: HostRuntime) -> Result<(), Fail> {
+    let suffix = PlSmallStr::from_str(rt.alloc(), "")?;
+    let refused = side_by_side(rt.alloc(), Some(suffix))?;
     assert!(rt; matches!(refused, Err(PolarsError::Duplicate(_))));
-    let name = _join_suffix_name(alloc, "x", "_b")?;
+    Ok(())
+}
+
+#[test]
+fn a_name_with_a_suffix(rt: HostRuntime) -> Result<(), Fail> {
+    let name = _join_suffix_name(rt.alloc(), "x", "_b")?;
     assert_eq!(rt; name.as_str(), "x_b");
     Ok(())
 }
@@ -244,14 +323,18 @@ fn merged_keys(
     _coalesce_full_join(alloc, joined, keys, keys, None, left)
 }
 
+// The columns of a Full join, whose keys stand in one column.
+fn with_one_key(alloc: Global, left: &DataFrame) -> Result<DataFrame, Fail> {
+    let key = PlSmallStr::from_str(alloc, "k")?;
+    let joined = with_both_keys(alloc)?;
+    Ok(merged_keys(alloc, joined, &key, left)?)
+}
+
 #[test]
 fn keys_of_a_joined_table(rt: HostRuntime) -> Result<(), Fail> {
-    let alloc = rt.alloc();
-    let joined = with_both_keys(alloc)?;
-    let left = table_of(alloc, left_keys(alloc)?.into_column())?;
-    let key = PlSmallStr::from_str(alloc, "k")?;
-    let merged = merged_keys(alloc, joined, &key, &left)?;
+    let left = table_of(rt.alloc(), left_keys(rt.alloc())?.into_column())?;
+    let merged = with_one_key(rt.alloc(), &left)?;
     let line =
         r#"{"columns":[{"name":"k","type":"i64","values":[1,2]},{"name":"v","type":"i64","values":[7,8]}],"height":2}"#;
-    check_text(&rt, alloc, &merged, line)
+    check_text(&rt, rt.alloc(), &merged, line)
 }

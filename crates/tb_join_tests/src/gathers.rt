@@ -1,5 +1,6 @@
 // Tests of gathers by ids of rows in chunks, each through its bound.
 ghost use Rattle.std.specs.Prelude.{◌≡◌, ◌≤◌, ◌↔◌, ◌∷◌, [], All, IfOk, IsSome, IsTrue, length, map};
+ghost use Rattle.tb_chunk.specs.Rows.{IsRowOf};
 ghost use Rattle.tb_gather.specs.Ids.{Id};
 ghost use Rattle.tb_gather.specs.Gathered.{NameRows, opt_gathered_column};
 
@@ -19,17 +20,48 @@ pub(crate) fn are_present(ids: &[StandardChunkId]) -> bool
     ids.iter().all(|id| !id.is_null())
 }
 
+fn is_row(row: NullableIdxSize, len: usize) -> bool
+    ensures { IsTrue result ↔ IsRowOf len row }
+{
+    match row.row() {
+        None => true,
+        Some(row) => (row as usize) < len,
+    }
+}
+
+fn are_rows(rows: &[NullableIdxSize], len: usize) -> bool
+    ensures { IsTrue result ↔ All (IsRowOf len) rows.now }
+{
+    rows.iter().all(|row| is_row(*row, len))
+}
+
+// The ids of these rows of the column.
+pub(crate) fn ids_in(
+    alloc: Global,
+    column: &Series,
+    rows: &[NullableIdxSize],
+) -> Result<Vec<StandardChunkId>, Fail>
+    ensures named { IfOk result (λ v. NameRows v.items column.now) }
+    ensures few { IfOk result (λ v. length v.items ≤ MAX_ROWS) }
+{
+    if column.n_chunks() > 3 || !are_rows(rows, column.len()) {
+        return Err(Fail::from("no such rows"));
+    }
+    let ids = ids_of(alloc, column, rows)?;
+    if ids.len() > MAX_ROWS {
+        return Err(Fail::from("too many ids"));
+    }
+    Ok(ids)
+}
+
 // The ids of two rows of the column.
 pub(crate) fn two_ids(alloc: Global, column: &Series) -> Result<Vec<StandardChunkId>, Fail>
     ensures named { IfOk result (λ v. All (NameRows v.items) (column.now ∷ [])) }
     ensures present { IfOk result (λ v. All (λ (id : Id). IsSome id) v.items) }
     ensures few { IfOk result (λ v. length v.items ≤ MAX_ROWS) }
 {
-    if column.len() < 3 || column.n_chunks() > 2 {
-        return Err(Fail::from("a short column"));
-    }
     let rows = [NullableIdxSize::some(2), NullableIdxSize::some(0)];
-    let ids: Vec<StandardChunkId> = ids_of(alloc, column, &rows)?;
+    let ids = ids_in(alloc, column, &rows)?;
     if ids.len() == 2 && are_present(&ids) {
         Ok(ids)
     } else {

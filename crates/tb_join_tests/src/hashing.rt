@@ -127,8 +127,8 @@ fn check_left(
     Ok(())
 }
 
-// The rows of a Full join, and those that have a match and that have none.
-fn check_others(
+// The rows of a Full join.
+fn check_full(
     rt: &(impl Threads + Sync + Abort),
     alloc: Global,
     left: &Series,
@@ -149,11 +149,39 @@ fn check_others(
         rights.as_slice(),
         [None, Some(0u32), Some(0), Some(1), Some(1)].as_slice()
     );
-    let semi = left.hash_join_semi_anti(rt, alloc, right, false, false, &exec)?;
-    assert_eq!(rt; semi.as_slice(), [0u32, 2].as_slice());
-    let anti = left.hash_join_semi_anti(rt, alloc, right, true, false, &exec)?;
-    assert_eq!(rt; anti.as_slice(), [1u32].as_slice());
     Ok(())
+}
+
+// The rows that have a match, or none.
+fn check_alone(
+    rt: &(impl Threads + Sync + Abort),
+    alloc: Global,
+    left: &Series,
+    right: &Series,
+    anti: bool,
+    wanted: &[u32],
+) -> Result<(), Fail>
+    requires key { is_key left.now.kind ≡ true }
+    requires same { left.now.kind ≡ right.now.kind }
+{
+    let exec = Exec::standard();
+    let rows = left.hash_join_semi_anti(rt, alloc, right, anti, false, &exec)?;
+    assert_eq!(rt; rows.as_slice(), wanted);
+    Ok(())
+}
+
+fn check_others(
+    rt: &(impl Threads + Sync + Abort),
+    alloc: Global,
+    left: &Series,
+    right: &Series,
+) -> Result<(), Fail>
+    requires key { is_key left.now.kind ≡ true }
+    requires same { left.now.kind ≡ right.now.kind }
+{
+    check_full(rt, alloc, left, right)?;
+    check_alone(rt, alloc, left, right, false, &[0, 2])?;
+    check_alone(rt, alloc, left, right, true, &[1])
 }
 
 #[test]
@@ -190,13 +218,18 @@ fn two_keys(alloc: Global, first: &[Option<i64>], second: &[Option<i64>]) -> Res
     Ok(DataFrame::new(alloc, columns)?)
 }
 
-#[test]
-fn left_pairs_by_two_columns(rt: HostRuntime) -> Result<(), Fail> {
-    let alloc = rt.alloc();
-    let left = two_keys(alloc, &[Some(1), Some(2)], &[Some(7), Some(8)])?;
-    let right = two_keys(alloc, &[Some(2)], &[Some(8)])?;
+// The pairs of a Left join of two tables by all columns.
+fn check_left_pairs(
+    rt: &(impl Threads + Sync + Abort),
+    alloc: Global,
+    left: &DataFrame,
+    right: &DataFrame,
+) -> Result<(), Fail>
+    requires left { map (λ (c : Col). c.kind) left.now ≡ int64 ∷ int64 ∷ [] }
+    requires right { map (λ (c : Col). c.kind) right.now ≡ int64 ∷ int64 ∷ [] }
+{
     let exec = Exec::standard();
-    let (lefts, rights) = private_left_join_multiple_keys(&rt, alloc, &left, &right, false, &exec)?;
+    let (lefts, rights) = private_left_join_multiple_keys(rt, alloc, left, right, false, &exec)?;
     let lefts = lefts.left().ok_or("no row numbers")?;
     let rights = rights.left().ok_or("no row numbers")?;
     assert_eq!(rt; lefts.as_slice(), [0u32, 1].as_slice());
@@ -205,4 +238,12 @@ fn left_pairs_by_two_columns(rt: HostRuntime) -> Result<(), Fail> {
         [NullableIdxSize::null(), NullableIdxSize::some(0)].as_slice()
     );
     Ok(())
+}
+
+#[test]
+fn left_pairs_by_two_columns(rt: HostRuntime) -> Result<(), Fail> {
+    let alloc = rt.alloc();
+    let left = two_keys(alloc, &[Some(1), Some(2)], &[Some(7), Some(8)])?;
+    let right = two_keys(alloc, &[Some(2)], &[Some(8)])?;
+    check_left_pairs(&rt, alloc, &left, &right)
 }

@@ -1,4 +1,4 @@
-//! Tests of joins that cross crates. The library itself is empty.
+//! Tests of joins that cross crates, and of parts that two workers do at once. The library itself is empty.
 #![tactic(auto)]
 
 #[cfg(test)]
@@ -6,7 +6,11 @@ mod calls;
 #[cfg(test)]
 mod gathers;
 #[cfg(test)]
+mod group_parts;
+#[cfg(test)]
 mod hashing;
+#[cfg(test)]
+mod meeting;
 #[cfg(test)]
 mod names;
 #[cfg(test)]

@@ -3,6 +3,7 @@
 use crate::pairs::column;
 use std::alloc::Global;
 use std::process::Abort;
+use std::slice;
 use std::test::Fail;
 use std::thread::Threads;
 use tb_frame::{DataFrame, JoinArgs, JoinCoalesce, JoinType, answer_names};
@@ -39,22 +40,45 @@ fn are_names(names: &[PlSmallStr], texts: &[&str]) -> bool {
     true
 }
 
+// The names of the answer, told by names alone.
+fn told_names(
+    alloc: Global,
+    left: &DataFrame,
+    right: &DataFrame,
+    key: &[PlSmallStr],
+    args: &JoinArgs,
+) -> Result<Vec<PlSmallStr>, Fail> {
+    let lefts = names_of(alloc, left)?;
+    let rights = names_of(alloc, right)?;
+    Ok(answer_names(alloc, args, key, key, &lefts, &rights)?)
+}
+
+fn joined_names(
+    rt: &(impl Threads + Sync),
+    alloc: Global,
+    left: &DataFrame,
+    right: &DataFrame,
+    key: &[PlSmallStr],
+    args: &JoinArgs,
+) -> Result<Vec<PlSmallStr>, Fail> {
+    let args = args.copy(alloc)?;
+    let answer = left.join(rt, alloc, right, key, key, args, &Exec::standard())?;
+    names_of(alloc, &answer)
+}
+
 // The names of a join by the column `k` of both tables.
 fn check_names(
     rt: &(impl Threads + Sync + Abort),
     alloc: Global,
     left: &DataFrame,
     right: &DataFrame,
-    args: JoinArgs,
+    args: &JoinArgs,
     texts: &[&str],
 ) -> Result<(), Fail> {
-    let mut key = Vec::new(alloc);
-    key.push(PlSmallStr::from_str(alloc, "k")?)?;
-    let (lefts, rights) = (names_of(alloc, left)?, names_of(alloc, right)?);
-    let told = answer_names(alloc, &args, &key, &key, &lefts, &rights)?;
-    assert!(rt; are_names(&told, texts));
-    let answer = left.join(rt, alloc, right, &key, &key, args, &Exec::standard())?;
-    assert!(rt; are_names(&names_of(alloc, &answer)?, texts));
+    let key = PlSmallStr::from_str(alloc, "k")?;
+    let key = slice::from_ref(&key);
+    assert!(rt; are_names(&told_names(alloc, left, right, key, args)?, texts));
+    assert!(rt; are_names(&joined_names(rt, alloc, left, right, key, args)?, texts));
     Ok(())
 }
 
@@ -62,7 +86,7 @@ fn check_names(
 fn check_kind(
     rt: &(impl Threads + Sync + Abort),
     alloc: Global,
-    args: JoinArgs,
+    args: &JoinArgs,
     texts: &[&str],
 ) -> Result<(), Fail> {
     let left = table_of_names(alloc, &["k", "x"])?;
@@ -70,28 +94,41 @@ fn check_kind(
     check_names(rt, alloc, &left, &right, args, texts)
 }
 
+// The same of a kind with nothing else asked.
+fn check_plain(
+    rt: &(impl Threads + Sync + Abort),
+    alloc: Global,
+    how: JoinType,
+    texts: &[&str],
+) -> Result<(), Fail> {
+    check_kind(rt, alloc, &JoinArgs::new(how), texts)
+}
+
 // A right name that is taken gets the suffix, and keys are coalesced as the kind does.
 #[test]
 fn names_of_each_kind(rt: HostRuntime) -> Result<(), Fail> {
     let alloc = rt.alloc();
     for how in [JoinType::Inner, JoinType::Left] {
-        check_kind(&rt, alloc, JoinArgs::new(how), &["k", "x", "x_right", "y"])?;
+        check_plain(&rt, alloc, how, &["k", "x", "x_right", "y"])?;
     }
-    let right = JoinArgs::new(JoinType::Right);
-    check_kind(&rt, alloc, right, &["x", "k", "x_right", "y"])?;
-    let full = JoinArgs::new(JoinType::Full);
-    check_kind(&rt, alloc, full, &["k", "x", "k_right", "x_right", "y"])?;
-    check_kind(&rt, alloc, JoinArgs::new(JoinType::Semi), &["k", "x"])
+    check_plain(&rt, alloc, JoinType::Right, &["x", "k", "x_right", "y"])?;
+    let full = ["k", "x", "k_right", "x_right", "y"];
+    check_plain(&rt, alloc, JoinType::Full, &full)?;
+    check_plain(&rt, alloc, JoinType::Semi, &["k", "x"])
 }
 
 #[test]
-fn names_that_are_asked(rt: HostRuntime) -> Result<(), Fail> {
-    let alloc = rt.alloc();
-    let mut kept = JoinArgs::new(JoinType::Left);
-    kept.coalesce = JoinCoalesce::KeepColumns;
-    kept.suffix = Some(PlSmallStr::from_str(alloc, "_b")?);
-    check_kind(&rt, alloc, kept, &["k", "x", "k_b", "x_b", "y"])?;
-    let mut merged = JoinArgs::new(JoinType::Full);
-    merged.coalesce = JoinCoalesce::CoalesceColumns;
-    check_kind(&rt, alloc, merged, &["k", "x", "x_right", "y"])
+fn names_with_a_suffix(rt: HostRuntime) -> Result<(), Fail> {
+    let suffix = PlSmallStr::from_str(rt.alloc(), "_b")?;
+    let mut args = JoinArgs::new(JoinType::Left);
+    args.coalesce = JoinCoalesce::KeepColumns;
+    args.suffix = Some(suffix);
+    check_kind(&rt, rt.alloc(), &args, &["k", "x", "k_b", "x_b", "y"])
+}
+
+#[test]
+fn names_of_coalesced_keys(rt: HostRuntime) -> Result<(), Fail> {
+    let mut args = JoinArgs::new(JoinType::Full);
+    args.coalesce = JoinCoalesce::CoalesceColumns;
+    check_kind(&rt, rt.alloc(), &args, &["k", "x", "x_right", "y"])
 }

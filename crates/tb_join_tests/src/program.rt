@@ -8,7 +8,6 @@ use tb_join::DataFrameJoinOps;
 use tb_json::text_of;
 use tb_nested::nested_join;
 use tb_request::{JoinRequest, join_request_of};
-use tb_value::PolarsResult;
 
 // Absent keys on both sides, and one that matches twice.
 const BY_ONE_KEY: &str =
@@ -18,13 +17,17 @@ const BY_ONE_KEY: &str =
 const BY_TWO_KEYS: &str =
     r#""left":{"columns":[{"name":"a","type":"str","chunks":[["x",null],["x","x"]]},{"name":"b","type":"i64","chunks":[[1,1,null,2]]}]},"right":{"columns":[{"name":"b","type":"i64","chunks":[[1],[null,1,1]]},{"name":"a","type":"str","chunks":[["x","x",null,"x"]]}]},"left_on":["a","b"],"right_on":["a","b"]"#;
 
-// The texts of an answer's rows, sorted.
-fn rows_of(alloc: Global, answer: PolarsResult<DataFrame>) -> Result<Vec<String>, Fail> {
-    let table = answer.ok().ok_or("no answer")?;
+// The text of one row of a table.
+fn row_text(alloc: Global, table: &DataFrame, row: i64) -> Result<String, Fail> {
+    let one_row = table.slice(alloc, row, 1)?;
+    Ok(text_of(alloc, &one_row)?)
+}
+
+// The texts of a table's rows, sorted.
+fn rows_of(alloc: Global, table: &DataFrame) -> Result<Vec<String>, Fail> {
     let mut rows = Vec::new(alloc);
     for row in 0..table.height() {
-        let one_row = table.slice(alloc, row as i64, 1).ok().ok_or("memory")?;
-        rows.push(text_of(alloc, &one_row)?)?;
+        rows.push(row_text(alloc, table, row as i64)?)?;
     }
     rows.sort()?;
     Ok(rows)
@@ -34,51 +37,54 @@ fn by_nested_loops(
     alloc: Global,
     request: &JoinRequest,
     args: &JoinArgs,
-) -> PolarsResult<DataFrame> {
-    let (left, right) = (&request.left, &request.right);
-    nested_join(
+) -> Result<Vec<String>, Fail> {
+    let (left_on, right_on) = (&request.left_on, &request.right_on);
+    let table = nested_join(
         alloc,
-        left,
-        right,
-        &request.left_on,
-        &request.right_on,
+        &request.left,
+        &request.right,
+        left_on,
+        right_on,
         args,
-    )
+    )?;
+    rows_of(alloc, &table)
 }
 
 fn by_join(
     rt: &(impl Threads + Sync),
     alloc: Global,
-    request: JoinRequest,
-) -> PolarsResult<DataFrame> {
-    let JoinRequest {
-        left,
-        right,
-        left_on,
-        right_on,
-        args,
-        exec,
-        trace: _,
-    } = request;
-    left.join(rt, alloc, &right, &left_on, &right_on, args, &exec)
+    request: &JoinRequest,
+) -> Result<Vec<String>, Fail> {
+    let args = request.args.copy(alloc)?;
+    let (left_on, right_on) = (&request.left_on, &request.right_on);
+    let exec = &request.exec;
+    let (left, right) = (&request.left, &request.right);
+    let table = left.join(rt, alloc, right, left_on, right_on, args, exec)?;
+    rows_of(alloc, &table)
 }
 
-// Both joins by two keys give the same rows.
-fn check_joins(
-    rt: &(impl Threads + Sync + Abort),
-    alloc: Global,
-    how: &str,
-    nulls: bool,
-) -> Result<(), Fail> {
+fn request_of(alloc: Global, text: String) -> Result<JoinRequest, Fail> {
+    let request = join_request_of(alloc, text.into_bytes()).ok();
+    Ok(request.ok_or("no request")?)
+}
+
+// A join by two keys.
+fn by_two_keys(alloc: Global, how: &str, nulls: bool) -> Result<JoinRequest, Fail> {
     let text = format!(in alloc;
         r#"{{"args":{{"how":"{how}","join_nulls":{nulls}}},{BY_TWO_KEYS}}}"#
     )?;
-    let Ok(request) = join_request_of(alloc, text.as_bytes().to_vec(alloc)?) else {
-        return Err("no request".into());
-    };
-    let slow = rows_of(alloc, by_nested_loops(alloc, &request, &request.args))?;
-    let fast = rows_of(alloc, by_join(rt, alloc, request))?;
-    assert_eq!(rt; fast.as_slice(), slow.as_slice(), "{text}");
+    request_of(alloc, text)
+}
+
+// Both joins give the same rows.
+fn check_joins(
+    rt: &(impl Threads + Sync + Abort),
+    alloc: Global,
+    request: &JoinRequest,
+) -> Result<(), Fail> {
+    let slow = by_nested_loops(alloc, request, &request.args)?;
+    let fast = by_join(rt, alloc, request)?;
+    assert_eq!(rt; fast.as_slice(), slow.as_slice());
     Ok(())
 }
 
@@ -87,7 +93,7 @@ fn each_kind_by_hash_tables_and_by_nested_loops(rt: HostRuntime) -> Result<(), F
     let alloc = rt.alloc();
     for how in ["inner", "left", "right", "full", "semi", "anti"] {
         for nulls in [false, true] {
-            check_joins(&rt, alloc, how, nulls)?;
+            check_joins(&rt, alloc, &by_two_keys(alloc, how, nulls)?)?;
         }
     }
     Ok(())
@@ -99,14 +105,15 @@ fn called(
     alloc: Global,
     request: &JoinRequest,
     how: JoinType,
-) -> PolarsResult<DataFrame> {
+) -> Result<Vec<String>, Fail> {
     let (left, right) = (&request.left, &request.right);
     let (left_on, right_on) = (&request.left_on, &request.right_on);
     let exec = &request.exec;
-    match how {
+    let answer = match how {
         JoinType::Left => left.left_join(rt, alloc, right, left_on, right_on, exec),
         _ => left.full_join(rt, alloc, right, left_on, right_on, exec),
-    }
+    };
+    rows_of(alloc, &answer?)
 }
 
 // The call of a kind gives the rows that nested loops give.
@@ -116,8 +123,8 @@ fn check_call(
     request: &JoinRequest,
     how: JoinType,
 ) -> Result<(), Fail> {
-    let fast = rows_of(alloc, called(rt, alloc, request, how))?;
-    let slow = rows_of(alloc, by_nested_loops(alloc, request, &JoinArgs::new(how)))?;
+    let fast = called(rt, alloc, request, how)?;
+    let slow = by_nested_loops(alloc, request, &JoinArgs::new(how))?;
     assert_eq!(rt; fast.as_slice(), slow.as_slice());
     Ok(())
 }
@@ -126,9 +133,7 @@ fn check_call(
 fn kinds_that_have_a_call(rt: HostRuntime) -> Result<(), Fail> {
     let alloc = rt.alloc();
     let text = format!(in alloc; r#"{{"args":{{"how":"inner"}},{BY_ONE_KEY}}}"#)?;
-    let Ok(request) = join_request_of(alloc, text.into_bytes()) else {
-        return Err("no request".into());
-    };
+    let request = request_of(alloc, text)?;
     for how in [JoinType::Left, JoinType::Full] {
         check_call(&rt, alloc, &request, how)?;
     }

@@ -4,16 +4,14 @@ ghost use Rattle.tb_value.specs.Promise.Kind as kind;
 ghost use Rattle.tb_value.specs.See.{data_of};
 ghost use Rattle.tb_value.specs.SeeKind.{kind_of};
 ghost use Rattle.tb_value.specs.Promise.Typed.{HasType};
-ghost use Rattle.tb_chunk.specs.Promise.Col.{values};
-ghost use Rattle.tb_chunk.specs.Rows.{IsRowOf};
 ghost use Rattle.tb_gather.specs.Gathered.{NameRows, opt_gathered_column};
 
-use crate::gathers::{are_present, rows_of_array, rows_of_column, rows_of_table};
+use crate::gathers::{are_present, ids_in, rows_of_array, rows_of_column, rows_of_table};
 use std::alloc::Global;
 use std::process::Abort;
 use std::test::Fail;
 use tb_frame::DataFrame;
-use tb_gather::{TakeChunked, ids_of};
+use tb_gather::TakeChunked;
 use tb_store::{
     AnyValue, Chunk, ChunkedArray, DataType, PlSmallStr, Series, StringChunk, StringType,
 };
@@ -49,12 +47,21 @@ fn is_text(value: ValueRef<'_>, text: Option<&str>) -> bool {
     }
 }
 
-fn has_texts(column: &Series, texts: &[Option<&str>]) -> bool {
-    if column.len() != texts.len() {
+// The text of the row, and none of no row.
+fn text_at<'a>(texts: &[Option<&'a str>], row: NullableIdxSize) -> Option<&'a str> {
+    match row.row() {
+        Some(row) if (row as usize) < texts.len() => texts[row as usize],
+        _ => None,
+    }
+}
+
+// Whether the column has the texts of these rows.
+fn has_rows(column: &Series, texts: &[Option<&str>], rows: &[NullableIdxSize]) -> bool {
+    if column.len() != rows.len() {
         return false;
     }
-    for row in 0..texts.len() {
-        if !is_text(column.get(row), texts[row]) {
+    for i in 0..rows.len() {
+        if !is_text(column.get(i), text_at(texts, rows[i])) {
             return false;
         }
     }
@@ -90,47 +97,59 @@ fn gather(alloc: Global, column: &Series, by: &[StandardChunkId]) -> Result<Seri
     }
 }
 
-// The rows of the column have these texts, and these buffers alone stand behind them.
+// The numbers as rows, of which those that are absent are none.
+fn rows_of(alloc: Global, numbers: &[Option<u8>]) -> Result<Vec<NullableIdxSize>, Fail> {
+    let mut rows = Vec::new(alloc);
+    for number in numbers {
+        rows.push(match number {
+            None => NullableIdxSize::null(),
+            Some(number) => NullableIdxSize::some(u32::from(*number)),
+        })?;
+    }
+    Ok(rows)
+}
+
+// Whether these rows of the column, gathered by their ids, have their texts, and these buffers alone behind them.
+fn are_gathered(
+    alloc: Global,
+    column: &Series,
+    texts: &[Option<&str>],
+    rows: &[NullableIdxSize],
+    buffers: &[&str],
+) -> Result<bool, Fail> {
+    let ids = ids_in(alloc, column, rows)?;
+    let gathered = gather(alloc, column, &ids)?;
+    Ok(has_rows(&gathered, texts, rows) && has_buffers(&gathered, buffers))
+}
+
 fn check_rows(
     rt: &impl Abort,
     alloc: Global,
     column: &Series,
-    rows: &[NullableIdxSize],
     texts: &[Option<&str>],
+    numbers: &[Option<u8>],
     buffers: &[&str],
-) -> Result<(), Fail>
-    requires text { column.now.kind ≡ kind.string }
-    requires rows { All (IsRowOf (length (values column.now))) rows.now }
-    requires few { length rows.now ≤ MAX_ROWS }
-{
-    if column.n_chunks() > 3 {
-        return Err(Fail::from("many chunks"));
-    }
-    let by: Vec<StandardChunkId> = ids_of(alloc, column, rows)?;
-    let gathered = gather(alloc, column, &by)?;
-    assert!(rt; has_texts(&gathered, texts));
-    assert!(rt; has_buffers(&gathered, buffers));
+) -> Result<(), Fail> {
+    let rows = rows_of(alloc, numbers)?;
+    assert!(rt; are_gathered(alloc, column, texts, &rows, buffers)?);
     Ok(())
 }
+
+const SEVEN: [Option<&str>; 7] = [
+    Some("1 loooooooooooong string"),
+    Some("2 loooooooooooong string"),
+    Some("11 loooooooooooong string"),
+    Some("22 loooooooooooong string"),
+    Some("111 loooooooooooong string"),
+    Some("222 loooooooooooong string"),
+    Some("small"),
+];
 
 // Two chunks of two texts, and one of three, of which the last lies in no buffer.
 fn three_chunks(alloc: Global) -> Result<Series, Fail>
     ensures { IfOk result (λ s. s.kind ≡ kind.string) }
 {
-    let first = [
-        Some("1 loooooooooooong string"),
-        Some("2 loooooooooooong string"),
-    ];
-    let second = [
-        Some("11 loooooooooooong string"),
-        Some("22 loooooooooooong string"),
-    ];
-    let third = [
-        Some("111 loooooooooooong string"),
-        Some("222 loooooooooooong string"),
-        Some("small"),
-    ];
-    column_of(alloc, &[&first, &second, &third])
+    column_of(alloc, &[&SEVEN[..2], &SEVEN[2..4], &SEVEN[4..]])
 }
 
 const FIRST: &str = "1 loooooooooooong string2 loooooooooooong string";
@@ -141,70 +160,50 @@ const THIRD: &str = "111 loooooooooooong string222 loooooooooooong string";
 
 const ALL: [&str; 3] = [FIRST, SECOND, THIRD];
 
-// As many ids as chunks keep all buffers.
+// As many ids as chunks keep all buffers, null ones too.
 #[test]
 fn many_rows_keep_all_buffers(rt: HostRuntime) -> Result<(), Fail> {
-    let alloc = rt.alloc();
-    let column = three_chunks(alloc)?;
-    if column.len() != 7 {
-        return Err(Fail::from("seven rows"));
-    }
-    let rows = [
-        NullableIdxSize::some(0),
-        NullableIdxSize::some(1),
-        NullableIdxSize::some(3),
-        NullableIdxSize::some(2),
-        NullableIdxSize::some(4),
-        NullableIdxSize::some(5),
-        NullableIdxSize::some(6),
+    let column = three_chunks(rt.alloc())?;
+    let all = [
+        Some(0),
+        Some(1),
+        Some(3),
+        Some(2),
+        Some(4),
+        Some(5),
+        Some(6),
     ];
-    let texts = [
-        Some("1 loooooooooooong string"),
-        Some("2 loooooooooooong string"),
-        Some("22 loooooooooooong string"),
-        Some("11 loooooooooooong string"),
-        Some("111 loooooooooooong string"),
-        Some("222 loooooooooooong string"),
-        Some("small"),
-    ];
-    check_rows(&rt, alloc, &column, &rows, &texts, &ALL)
+    check_rows(&rt, rt.alloc(), &column, &SEVEN, &all, &ALL)?;
+    let some = [None, Some(1), Some(3), Some(2)];
+    check_rows(&rt, rt.alloc(), &column, &SEVEN, &some, &ALL)
 }
 
-// So do null ids.
+// Fewer ids than chunks keep the buffers in use, in the order of first use.
 #[test]
-fn null_ids_of_texts(rt: HostRuntime) -> Result<(), Fail> {
-    let alloc = rt.alloc();
-    let column = three_chunks(alloc)?;
-    if column.len() != 7 {
-        return Err(Fail::from("seven rows"));
+fn few_rows_keep_the_buffers_in_use(rt: HostRuntime) -> Result<(), Fail> {
+    let column = three_chunks(rt.alloc())?;
+    let both = [Some(4), Some(1)];
+    check_rows(&rt, rt.alloc(), &column, &SEVEN, &both, &[THIRD, FIRST])?;
+    let both = [Some(2), Some(3)];
+    check_rows(&rt, rt.alloc(), &column, &SEVEN, &both, &[SECOND])?;
+    for one in [Some(6), None] {
+        check_rows(&rt, rt.alloc(), &column, &SEVEN, &[one], &[])?;
     }
-    let rows = [
-        NullableIdxSize::null(),
-        NullableIdxSize::some(1),
-        NullableIdxSize::some(3),
-        NullableIdxSize::some(2),
-    ];
-    let texts = [
-        None,
-        Some("2 loooooooooooong string"),
-        Some("22 loooooooooooong string"),
-        Some("11 loooooooooooong string"),
-    ];
-    check_rows(&rt, alloc, &column, &rows, &texts, &ALL)
+    Ok(())
 }
+
+const FOUR: [Option<&str>; 4] = [
+    Some("1 loooooooooooong string 1"),
+    Some("2 loooooooooooong string 2"),
+    Some("11 loooooooooooong string 11"),
+    None,
+];
 
 // Two chunks of two rows, of which the last is Null.
 fn two_chunks(alloc: Global) -> Result<Series, Fail>
     ensures { IfOk result (λ s. s.kind ≡ kind.string) }
 {
-    let first = [
-        Some("1 loooooooooooong string 1"),
-        Some("2 loooooooooooong string 2"),
-    ];
-    column_of(
-        alloc,
-        &[&first, &[Some("11 loooooooooooong string 11"), None]],
-    )
+    column_of(alloc, &[&FOUR[..2], &FOUR[2..]])
 }
 
 const BOTH: [&str; 2] = [
@@ -212,71 +211,55 @@ const BOTH: [&str; 2] = [
     "11 loooooooooooong string 11",
 ];
 
-// Ids of a row that is Null.
+// Ids of a row that is Null, without null ids and with one.
 #[test]
 fn ids_of_a_null_row(rt: HostRuntime) -> Result<(), Fail> {
-    let alloc = rt.alloc();
-    let column = two_chunks(alloc)?;
-    if column.len() != 4 {
-        return Err(Fail::from("four rows"));
+    let column = two_chunks(rt.alloc())?;
+    for first in [Some(0), None] {
+        let rows = [first, Some(1), Some(3), Some(2)];
+        check_rows(&rt, rt.alloc(), &column, &FOUR, &rows, &BOTH)?;
     }
-    let rows = [
-        NullableIdxSize::some(0),
-        NullableIdxSize::some(1),
-        NullableIdxSize::some(3),
-        NullableIdxSize::some(2),
-    ];
-    let texts = [
-        Some("1 loooooooooooong string 1"),
-        Some("2 loooooooooooong string 2"),
-        None,
-        Some("11 loooooooooooong string 11"),
-    ];
-    check_rows(&rt, alloc, &column, &rows, &texts, &BOTH)
+    Ok(())
 }
 
-// Null ids beside such a row.
+// One chunk keeps its buffers, whatever is read of them.
 #[test]
-fn null_ids_among_rows(rt: HostRuntime) -> Result<(), Fail> {
-    let alloc = rt.alloc();
-    let column = two_chunks(alloc)?;
-    if column.len() != 4 {
-        return Err(Fail::from("four rows"));
-    }
-    let rows = [
-        NullableIdxSize::null(),
-        NullableIdxSize::some(1),
-        NullableIdxSize::some(3),
-        NullableIdxSize::some(2),
-    ];
-    let texts = [
-        None,
-        Some("2 loooooooooooong string 2"),
-        None,
-        Some("11 loooooooooooong string 11"),
-    ];
-    check_rows(&rt, alloc, &column, &rows, &texts, &BOTH)
+fn one_chunk_keeps_its_buffers(rt: HostRuntime) -> Result<(), Fail> {
+    let texts = [Some("aaaaaaaaaaaa"), Some("aaaaaaaaaaaaa")];
+    let column = column_of(rt.alloc(), &[&texts])?;
+    check_rows(
+        &rt,
+        rt.alloc(),
+        &column,
+        &texts,
+        &[Some(0)],
+        &["aaaaaaaaaaaaa"],
+    )
 }
 
-const TWO_TEXTS: [Option<&str>; 2] = [
-    Some("11 loooooooooooong string 11"),
-    Some("1 loooooooooooong string 1"),
-];
+// Whether a column has the texts of the rows 2 and 0.
+fn has_two_rows(column: &Series) -> bool {
+    let rows = [NullableIdxSize::some(2), NullableIdxSize::some(0)];
+    has_rows(column, &FOUR, &rows)
+}
 
 fn check_texts(rt: &impl Abort, column: &Series) -> Result<(), Fail> {
-    assert!(rt; has_texts(column, &TWO_TEXTS));
+    assert!(rt; has_two_rows(column));
     assert!(rt; has_buffers(column, &BOTH));
     Ok(())
 }
 
 // Rows of a column keep the buffers. Those of an array stand anew.
 #[test]
-fn texts_of_a_column_and_an_array(rt: HostRuntime) -> Result<(), Fail> {
-    let alloc = rt.alloc();
-    let column = rows_of_column(&rt, alloc, two_chunks(alloc)?)?;
-    check_texts(&rt, column.as_materialized_series())?;
-    let array = rows_of_array::<StringType>(alloc, two_chunks(alloc)?)?;
-    assert!(rt; has_texts(&array.into_series(), &TWO_TEXTS));
+fn texts_of_a_column(rt: HostRuntime) -> Result<(), Fail> {
+    let column = rows_of_column(&rt, rt.alloc(), two_chunks(rt.alloc())?)?;
+    check_texts(&rt, column.as_materialized_series())
+}
+
+#[test]
+fn texts_of_an_array(rt: HostRuntime) -> Result<(), Fail> {
+    let array = rows_of_array::<StringType>(rt.alloc(), two_chunks(rt.alloc())?)?;
+    assert!(rt; has_two_rows(&array.into_series()));
     Ok(())
 }
 
@@ -297,24 +280,21 @@ fn texts_of_a_table(rt: HostRuntime) -> Result<(), Fail> {
     check_table(&rt, &by_several)
 }
 
-// Whether a column has these texts, and the buffers of all three chunks.
-fn keeps_buffers(column: &Series, texts: &[Option<&str>]) -> bool {
-    has_texts(column, texts) && has_buffers(column, &ALL)
+// Whether a column has the last two texts, and the buffers of all three chunks.
+fn is_end(column: &Series) -> bool {
+    let rows = [NullableIdxSize::some(5), NullableIdxSize::some(6)];
+    has_rows(column, &SEVEN, &rows) && has_buffers(column, &ALL)
 }
 
-const LAST_TEXTS: [Option<&str>; 2] = [Some("222 loooooooooooong string"), Some("small")];
-
 fn last_part(alloc: Global, column: &Series) -> Result<bool, OutOfMemory> {
-    let part = column.slice(alloc, -2, 2)?;
-    Ok(keeps_buffers(&part, &LAST_TEXTS))
+    Ok(is_end(&column.slice(alloc, -2, 2)?))
 }
 
 fn last_rows(alloc: Global, column: &Series) -> Result<bool, OutOfMemory> {
     if column.len() != 7 {
         return Ok(false);
     }
-    let rows = column.take(alloc, &[5, 6])?;
-    Ok(keeps_buffers(&rows, &LAST_TEXTS))
+    Ok(is_end(&column.take(alloc, &[5, 6])?))
 }
 
 fn in_one_chunk(alloc: Global, column: &Series) -> Result<bool, OutOfMemory> {
@@ -345,80 +325,23 @@ fn are_of(dtype: &DataType, values: &[AnyValue]) -> bool
     true
 }
 
-// A chunk made of the texts of the third chunk has their views and their buffer.
+// The chunk of the texts of the third chunk.
 #[tactic(auto, using(tb_chunk::proofs::Fitting::fits_stored))]
+fn third_chunk(alloc: Global) -> Result<StringChunk, Fail> {
+    let values = chunk_of(alloc, &SEVEN[4..])?;
+    if !are_of(&DataType::String, &values) {
+        return Err(Fail::from("texts"));
+    }
+    Ok(StringChunk::from_values(alloc, &values)?)
+}
+
+// A chunk made of the texts of the third chunk has their views and their buffer.
 #[test]
 fn a_chunk_of_texts(rt: HostRuntime) -> Result<(), Fail> {
-    let alloc = rt.alloc();
-    let array: ChunkedArray<StringType> = ChunkedArray::from_series(three_chunks(alloc)?)?;
-    let texts = [
-        Some("111 loooooooooooong string"),
-        Some("222 loooooooooooong string"),
-        Some("small"),
-    ];
-    let values = chunk_of(alloc, &texts)?;
-    if array.n_chunks() != 3 || !are_of(&DataType::String, &values) {
-        return Err(Fail::from("three chunks of texts"));
-    }
-    let chunk = StringChunk::from_values(alloc, &values)?;
+    let array: ChunkedArray<StringType> = ChunkedArray::from_series(three_chunks(rt.alloc())?)?;
+    let chunk = third_chunk(rt.alloc())?;
+    assert!(rt; array.n_chunks() == 3);
     assert!(rt; chunk.views() == array.views(2));
     assert!(rt; chunk.buffers() == array.data_buffers(2));
     Ok(())
-}
-
-// Fewer ids than chunks keep the buffers in use, in the order of first use.
-#[test]
-fn few_rows_keep_the_buffers_in_use(rt: HostRuntime) -> Result<(), Fail> {
-    let alloc = rt.alloc();
-    let column = three_chunks(alloc)?;
-    if column.len() != 7 {
-        return Err(Fail::from("seven rows"));
-    }
-    let rows = [NullableIdxSize::some(4), NullableIdxSize::some(1)];
-    let texts = [
-        Some("111 loooooooooooong string"),
-        Some("2 loooooooooooong string"),
-    ];
-    check_rows(&rt, alloc, &column, &rows, &texts, &[THIRD, FIRST])?;
-    let rows = [NullableIdxSize::some(2), NullableIdxSize::some(3)];
-    let texts = [
-        Some("11 loooooooooooong string"),
-        Some("22 loooooooooooong string"),
-    ];
-    check_rows(&rt, alloc, &column, &rows, &texts, &[SECOND])?;
-    check_rows(
-        &rt,
-        alloc,
-        &column,
-        &[NullableIdxSize::some(6)],
-        &[Some("small")],
-        &[],
-    )?;
-    check_rows(
-        &rt,
-        alloc,
-        &column,
-        &[NullableIdxSize::null()],
-        &[None],
-        &[],
-    )
-}
-
-// One chunk keeps its buffers, whatever is read of them.
-#[test]
-fn one_chunk_keeps_its_buffers(rt: HostRuntime) -> Result<(), Fail> {
-    let alloc = rt.alloc();
-    let column = column_of(alloc, &[&[Some("aaaaaaaaaaaa"), Some("aaaaaaaaaaaaa")]])?;
-    if column.len() != 2 {
-        return Err(Fail::from("two rows"));
-    }
-    let rows = [NullableIdxSize::some(0)];
-    check_rows(
-        &rt,
-        alloc,
-        &column,
-        &rows,
-        &[Some("aaaaaaaaaaaa")],
-        &["aaaaaaaaaaaaa"],
-    )
 }

@@ -1,55 +1,11 @@
-// What no contract says of a join by two workers: that both are at work in each phase at once.
+//! What no contract says of a join by two workers: that both are at work in each phase at once.
+use crate::meeting::Meeting;
 use std::alloc::Global;
 use std::process::Abort;
-use std::sync::atomic::{AtomicU64, Ordering};
 use std::test::Fail;
 use std::thread::Threads;
 use tb_join::{DataFrameJoinOps, JoinTrace};
-use tb_pool::Gate;
 use tb_request::{JoinRequest, join_request_of};
-
-// Some seconds: on a busy machine a worker may come late, and only one that never comes is to be told.
-const TURNS: u64 = 4_000_000_000;
-
-// Holds each entry of part 0 and of part 1 until the other part has entered as often, and notes where it doesn't. With no
-// turns it holds none.
-#[derive(Drop)]
-struct Meeting {
-    turns: u64,
-    first: AtomicU64,
-    second: AtomicU64,
-    late: AtomicU64,
-}
-
-impl Gate for Meeting {
-    ghost lets_in = { λ _ _. Unit {0} };
-
-    fn enter(&self, part: u32) {
-        let (own, other) = if part == 0 {
-            (&self.first, &self.second)
-        } else {
-            (&self.second, &self.first)
-        };
-        let before = own.fetch_add(1, Ordering::SeqCst);
-        for _ in 0..self.turns {
-            if other.load(Ordering::SeqCst) > before {
-                return;
-            }
-        }
-        self.late.store(1, Ordering::SeqCst);
-    }
-}
-
-impl Meeting {
-    fn new(turns: u64) -> Meeting {
-        Meeting {
-            turns,
-            first: AtomicU64::new(0),
-            second: AtomicU64::new(0),
-            late: AtomicU64::new(0),
-        }
-    }
-}
 
 // The numbers below `rows`, with commas between them.
 fn numbers(alloc: Global, rows: u32) -> Result<String, Fail> {
@@ -61,7 +17,27 @@ fn numbers(alloc: Global, rows: u32) -> Result<String, Fail> {
     Ok(text)
 }
 
-// A join by these keys of two tables of so many rows, by two workers and two partitions.
+// A table of two columns of so many rows.
+fn table_text(alloc: Global, rows: u32) -> Result<String, Fail> {
+    let rows = numbers(alloc, rows)?;
+    Ok(format!(in alloc;
+        r#"{{"columns":[{{"name":"a","type":"i64","chunks":[[{rows}]]}},{{"name":"b","type":"i64","chunks":[[{rows}]]}}]}}"#
+    )?)
+}
+
+// A join by these keys of a table with itself, by two workers and two partitions.
+fn request_text(
+    alloc: Global,
+    how: &str,
+    keys: &str,
+    table: &str,
+    small: u32,
+) -> Result<String, Fail> {
+    Ok(format!(in alloc;
+        r#"{{"left":{table},"right":{table},"left_on":{keys},"right_on":{keys},"args":{{"how":"{how}"}},"exec":{{"workers":2,"partitions":2,"small":{small},"num":1,"den":1}}}}"#
+    )?)
+}
+
 fn request_of(
     alloc: Global,
     how: &str,
@@ -69,56 +45,42 @@ fn request_of(
     rows: u32,
     small: u32,
 ) -> Result<JoinRequest, Fail> {
-    let rows = numbers(alloc, rows)?;
-    let table = format!(in alloc;
-        r#"{{"columns":[{{"name":"a","type":"i64","chunks":[[{rows}]]}},{{"name":"b","type":"i64","chunks":[[{rows}]]}}]}}"#
-    )?;
-    let exec = format!(in alloc;
-        r#"{{"workers":2,"partitions":2,"small":{small},"num":1,"den":1}}"#
-    )?;
-    let text = format!(in alloc;
-        r#"{{"left":{table},"right":{table},"left_on":{keys},"right_on":{keys},"args":{{"how":"{how}"}},"exec":{exec}}}"#
-    )?;
-    Ok(
-        join_request_of(alloc, text.into_bytes())
-            .ok()
-            .ok_or("no request")?,
-    )
+    let table = table_text(alloc, rows)?;
+    let text = request_text(alloc, how, keys, &table, small)?;
+    let request = join_request_of(alloc, text.into_bytes()).ok();
+    Ok(request.ok_or("no request")?)
 }
 
-fn join_behind(
-    rt: &(impl Threads + Sync + Abort),
+// Whether the keys of the request are hashed.
+fn is_hashed(
+    rt: &(impl Threads + Sync),
     alloc: Global,
-    request: JoinRequest,
+    request: &JoinRequest,
     gate: &Meeting,
-) -> Result<(), Fail> {
-    let JoinRequest {
-        left,
-        right,
-        left_on,
-        right_on,
+) -> Result<bool, Fail> {
+    let args = request.args.copy(alloc)?;
+    let (_table, trace) = request.left.join_traced(
+        rt,
+        alloc,
+        &request.right,
+        &request.left_on,
+        &request.right_on,
         args,
-        exec,
-        trace: _,
-    } = request;
-    let joined = left.join_traced(rt, alloc, &right, &left_on, &right_on, args, &exec, gate);
-    let (_table, trace) = joined.ok().ok_or("no answer")?;
-    assert!(rt; matches!(trace, JoinTrace::Hash(_)));
-    Ok(())
+        &request.exec,
+        gate,
+    )?;
+    Ok(matches!(trace, JoinTrace::Hash(_)))
 }
 
 // Both parts enter as often, in the scatter, the build and the probe, and none waits in vain.
 fn meet(
     rt: &(impl Threads + Sync + Abort),
     alloc: Global,
-    request: JoinRequest,
+    request: &JoinRequest,
 ) -> Result<(), Fail> {
-    let gate = Meeting::new(TURNS);
-    join_behind(rt, alloc, request, &gate)?;
-    let entered = gate.first.load(Ordering::SeqCst);
-    assert_eq!(rt; gate.second.load(Ordering::SeqCst), entered);
-    assert!(rt; entered >= 3);
-    assert_eq!(rt; gate.late.load(Ordering::SeqCst), 0);
+    let gate = Meeting::new();
+    assert!(rt; is_hashed(rt, alloc, request, &gate)?);
+    assert!(rt; gate.meetings().is_some_and(|entries| entries >= 3));
     Ok(())
 }
 
@@ -131,7 +93,7 @@ fn both_workers_enter_each_phase(rt: HostRuntime) -> Result<(), Fail> {
     let alloc = rt.alloc();
     for how in ["inner", "left", "right", "full", "semi", "anti"] {
         for keys in [ONE_KEY, TWO_KEYS] {
-            meet(&rt, alloc, request_of(alloc, how, keys, 8, 0)?)?;
+            meet(&rt, alloc, &request_of(alloc, how, keys, 8, 0)?)?;
         }
     }
     Ok(())
@@ -141,25 +103,28 @@ fn both_workers_enter_each_phase(rt: HostRuntime) -> Result<(), Fail> {
 fn both_enter_where_rows_are_not_few(rt: HostRuntime) -> Result<(), Fail> {
     let alloc = rt.alloc();
     for keys in [ONE_KEY, TWO_KEYS] {
-        meet(&rt, alloc, request_of(alloc, "inner", keys, 256, 256)?)?;
+        meet(&rt, alloc, &request_of(alloc, "inner", keys, 256, 256)?)?;
     }
     Ok(())
+}
+
+// How often each part enters where there are few rows.
+fn entries_of_few_rows(
+    rt: &(impl Threads + Sync),
+    alloc: Global,
+    keys: &str,
+) -> Result<(u64, u64), Fail> {
+    let gate = Meeting::counting();
+    let request = request_of(alloc, "inner", keys, 255, 256)?;
+    is_hashed(rt, alloc, &request, &gate)?;
+    Ok(gate.entries())
 }
 
 // Of few rows one part is built and one is probed.
 #[test]
 fn few_rows_enter_as_one_part(rt: HostRuntime) -> Result<(), Fail> {
-    let alloc = rt.alloc();
     for keys in [ONE_KEY, TWO_KEYS] {
-        let gate = Meeting::new(0);
-        join_behind(
-            &rt,
-            alloc,
-            request_of(alloc, "inner", keys, 255, 256)?,
-            &gate,
-        )?;
-        assert_eq!(rt; gate.first.load(Ordering::SeqCst), 2);
-        assert_eq!(rt; gate.second.load(Ordering::SeqCst), 0);
+        assert_eq!(rt; entries_of_few_rows(&rt, rt.alloc(), keys)?, (2, 0));
     }
     Ok(())
 }

@@ -1,26 +1,35 @@
 //! Columns of each way to store values: made, copied, cut, joined into one chunk, and made of rows of others.
 
+use crate::small_calls::one_field;
 use std::alloc::Global;
 use std::process::Abort;
 use std::test::Fail;
 use tb_store::{
-    AnyValue, BinaryType, BooleanType, Bytes, Chunk, ChunkedArray, Column, DataType, Field, Fields,
-    Int64Type, ListType, NullableIdxSize, OutOfMemory, PlSmallStr, PolarsDataType, PolarsError,
-    Series, StringType, StructType, Values,
+    AnyValue, BinaryType, BooleanType, Bytes, Chunk, ChunkedArray, Column, DataType, Int64Type,
+    ListType, NullableIdxSize, OutOfMemory, PlSmallStr, PolarsDataType, PolarsError, Series,
+    StringType, StructType, Values,
 };
 use tb_value::equality::same_types;
 use tb_value::same_value;
 
+// A chunk of the value.
+fn one_value(alloc: Global, value: &AnyValue) -> Result<Vec<AnyValue>, OutOfMemory> {
+    let mut chunk = Vec::new(alloc);
+    chunk.push(value.as_ref().to_value(alloc)?)?;
+    Ok(chunk)
+}
+
+fn value_and_null(alloc: Global, value: &AnyValue) -> Result<Vec<AnyValue>, OutOfMemory> {
+    let mut chunk = one_value(alloc, value)?;
+    chunk.push(AnyValue::Null)?;
+    Ok(chunk)
+}
+
 // The value and a Null, and the value again in a chunk of its own.
-fn two_chunks(alloc: Global, value: &AnyValue) -> Result<Vec<Vec<AnyValue>>, Fail> {
-    let mut first = Vec::new(alloc);
-    first.push(value.as_ref().to_value(alloc)?)?;
-    first.push(AnyValue::Null)?;
-    let mut second = Vec::new(alloc);
-    second.push(value.as_ref().to_value(alloc)?)?;
+fn two_chunks(alloc: Global, value: &AnyValue) -> Result<Vec<Vec<AnyValue>>, OutOfMemory> {
     let mut chunks = Vec::new(alloc);
-    chunks.push(first)?;
-    chunks.push(second)?;
+    chunks.push(value_and_null(alloc, value)?)?;
+    chunks.push(one_value(alloc, value)?)?;
     Ok(chunks)
 }
 
@@ -83,8 +92,8 @@ fn check_rows(
 
 // A column of the value, a Null and the value.
 fn column_of(alloc: Global, dtype: &DataType, value: &AnyValue) -> Result<Column, Fail> {
-    let chunks = two_chunks(alloc, value)?;
-    let series = Series::from_chunks(alloc, "s", dtype.copy(alloc)?, chunks)?;
+    let dtype = dtype.copy(alloc)?;
+    let series = Series::from_chunks(alloc, "s", dtype, two_chunks(alloc, value)?)?;
     Ok(series.copy(alloc)?.into_column())
 }
 
@@ -105,8 +114,8 @@ fn array_of<T: PolarsDataType>(
     dtype: &DataType,
     value: &AnyValue,
 ) -> Result<ChunkedArray<T>, Fail> {
-    let chunks = two_chunks(alloc, value)?;
     let dtype = dtype.copy(alloc)?;
+    let chunks = two_chunks(alloc, value)?;
     Ok(ChunkedArray::from_chunks(alloc, "s", dtype, chunks)?)
 }
 
@@ -215,25 +224,10 @@ fn columns_of_lists(rt: HostRuntime) -> Result<(), Fail> {
     check_marked::<ListType>(&rt, alloc, &list, &AnyValue::List(inner_values(alloc)?))
 }
 
-// One field of such numbers.
-fn one_field(alloc: Global) -> Result<Fields, Fail> {
-    let mut fields = Vec::new(alloc);
-    fields.push(Field {
-        name: PlSmallStr::from_str(alloc, "f")?,
-        dtype: DataType::UInt8,
-    })?;
-    Ok(Fields::from_vec(fields))
-}
-
-fn is_like_its_copy(alloc: Global, fields: &Fields) -> Result<bool, OutOfMemory> {
-    Ok(fields.copy(alloc)? == *fields)
-}
-
 #[test]
 fn columns_of_structs(rt: HostRuntime) -> Result<(), Fail> {
     let alloc = rt.alloc();
-    let fields = one_field(alloc)?;
-    assert!(rt; is_like_its_copy(alloc, &fields)?);
+    let dtype = DataType::Struct(one_field(alloc)?);
     let value = AnyValue::Struct(inner_values(alloc)?);
-    check_marked::<StructType>(&rt, alloc, &DataType::Struct(fields), &value)
+    check_marked::<StructType>(&rt, alloc, &dtype, &value)
 }

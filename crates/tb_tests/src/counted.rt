@@ -9,20 +9,14 @@ use tb_chunk::{BinaryBuilder, Chunk, StringBuilder};
 use tb_store::{
     AnyValue, ChunkedArray, DataType, PlSmallStr, PolarsError, Series, StringType, Values,
 };
-use tb_value::{ComputeCause, PolarsResult, ValueRef, same_value};
+use tb_value::{ComputeCause, ValueRef, same_value};
 
 const LONG: &str = "1 loooooooooooong string";
 
-// A column of one run.
-fn column_of(
-    alloc: Global,
-    dtype: DataType,
-    value: AnyValue,
-    count: u64,
-) -> Result<PolarsResult<Series>, Fail> {
+fn one_run(alloc: Global, value: AnyValue, count: u64) -> Result<Vec<(AnyValue, u64)>, Fail> {
     let mut runs = Vec::new(alloc);
     runs.push((value, count))?;
-    Ok(Series::from_runs(alloc, "s", dtype, runs))
+    Ok(runs)
 }
 
 // A column of texts, each with its count.
@@ -89,21 +83,26 @@ fn short_texts_and_runs_of_no_row(rt: HostRuntime) -> Result<(), Fail> {
     )
 }
 
+// Whether a run of a value above 8 bits is of another type than numbers of 8 bits.
+fn is_of_another_type(alloc: Global, count: u64) -> Result<bool, Fail> {
+    let runs = one_run(alloc, AnyValue::Int(256), count)?;
+    let column = Series::from_runs(alloc, "s", DataType::UInt8, runs);
+    Ok(matches!(column, Err(PolarsError::SchemaMismatch)))
+}
+
 // The value of a run of no row has to be of the type too.
 #[test]
 fn a_value_of_another_type(rt: HostRuntime) -> Result<(), Fail> {
-    let refused = column_of(rt.alloc(), DataType::UInt8, AnyValue::Int(256), 1)?;
-    assert!(rt; matches!(refused, Err(PolarsError::SchemaMismatch)));
-    let refused = column_of(rt.alloc(), DataType::UInt8, AnyValue::Int(256), 0)?;
-    assert!(rt; matches!(refused, Err(PolarsError::SchemaMismatch)));
+    for count in [1, 0] {
+        assert!(rt; is_of_another_type(rt.alloc(), count)?);
+    }
     Ok(())
 }
 
 // Two counts of 2^63, whose sum would pass 64 bits.
 #[test]
 fn counts_that_pass_every_number(rt: HostRuntime) -> Result<(), Fail> {
-    let mut runs = Vec::new(rt.alloc());
-    runs.push((AnyValue::Int(1), 1 << 63))?;
+    let mut runs = one_run(rt.alloc(), AnyValue::Int(1), 1 << 63)?;
     runs.push((AnyValue::Int(2), 1 << 63))?;
     let refused = Series::from_runs(rt.alloc(), "s", DataType::UInt8, runs);
     assert!(rt;
@@ -115,27 +114,40 @@ fn counts_that_pass_every_number(rt: HostRuntime) -> Result<(), Fail> {
     Ok(())
 }
 
+// How many Nulls a column of a run of Nulls has.
+fn null_count(alloc: Global, dtype: DataType, count: u64) -> Result<usize, Fail> {
+    let runs = one_run(alloc, AnyValue::Null, count)?;
+    Ok(Series::from_runs(alloc, "s", dtype, runs)?.null_count())
+}
+
 #[test]
 fn no_run_and_runs_of_nulls(rt: HostRuntime) -> Result<(), Fail> {
+    assert_eq!(rt; null_count(rt.alloc(), DataType::String, 4)?, 4);
+    assert_eq!(rt; null_count(rt.alloc(), DataType::Null, 5)?, 5);
     let empty = texts_of(rt.alloc(), &[])?;
     assert_eq!(rt; empty.n_chunks(), 1);
     assert_eq!(rt; empty.len(), 0);
-    let nulls = column_of(rt.alloc(), DataType::String, AnyValue::Null, 4)??;
-    assert_eq!(rt; nulls.null_count(), 4);
-    let nulls = column_of(rt.alloc(), DataType::Null, AnyValue::Null, 5)??;
-    assert_eq!(rt; nulls.null_count(), 5);
     Ok(())
+}
+
+fn list_of_seven(alloc: Global) -> Result<AnyValue, Fail> {
+    let mut items = Vec::new(alloc);
+    items.push(AnyValue::Int(7))?;
+    Ok(AnyValue::List(Values::from_vec(items)))
+}
+
+// A column of the list, three times.
+fn three_lists(alloc: Global, list: &AnyValue) -> Result<Series, Fail> {
+    let runs = one_run(alloc, list.as_ref().to_value(alloc)?, 3)?;
+    let dtype = DataType::List(Box::new(alloc, DataType::Int64)?);
+    Ok(Series::from_runs(alloc, "s", dtype, runs)?)
 }
 
 // A list stands as often as its count says.
 #[test]
 fn a_run_of_lists(rt: HostRuntime) -> Result<(), Fail> {
-    let alloc = rt.alloc();
-    let mut items = Vec::new(alloc);
-    items.push(AnyValue::Int(7))?;
-    let list = AnyValue::List(Values::from_vec(items));
-    let dtype = DataType::List(Box::new(alloc, DataType::Int64)?);
-    let column = column_of(alloc, dtype, list.as_ref().to_value(alloc)?, 3)??;
+    let list = list_of_seven(rt.alloc())?;
+    let column = three_lists(rt.alloc(), &list)?;
     assert_eq!(rt; column.len(), 3);
     for row in 0..column.len() {
         assert!(rt; same_value(column.get(row), list.as_ref()));
@@ -144,18 +156,22 @@ fn a_run_of_lists(rt: HostRuntime) -> Result<(), Fail> {
 }
 
 #[test]
-fn bytes_and_texts_many_times(rt: HostRuntime) -> Result<(), Fail> {
-    let alloc = rt.alloc();
-    let mut builder = BinaryBuilder::with_capacity(alloc, 3)?;
-    builder.push_times(alloc, LONG.as_bytes(), 2)?;
+fn bytes_many_times(rt: HostRuntime) -> Result<(), Fail> {
+    let mut builder = BinaryBuilder::with_capacity(rt.alloc(), 3)?;
+    builder.push_times(rt.alloc(), LONG.as_bytes(), 2)?;
     builder.push_nulls(1)?;
-    let chunk = builder.finish(alloc)?;
+    let chunk = builder.finish(rt.alloc())?;
     assert_eq!(rt; chunk.len(), 3);
     assert_eq!(rt; chunk.null_count(), 1);
     assert_eq!(rt; chunk.buffers().len(), 1);
-    let mut builder = StringBuilder::with_capacity(alloc, 2)?;
+    Ok(())
+}
+
+#[test]
+fn texts_that_are_absent(rt: HostRuntime) -> Result<(), Fail> {
+    let mut builder = StringBuilder::with_capacity(rt.alloc(), 2)?;
     builder.push_nulls(2)?;
-    let chunk = builder.finish(alloc)?;
+    let chunk = builder.finish(rt.alloc())?;
     assert_eq!(rt; chunk.null_count(), 2);
     Ok(())
 }

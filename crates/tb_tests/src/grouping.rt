@@ -1,9 +1,7 @@
 //! The rows of a table in groups, and rows that are listed.
 
-use crate::tables::{column, name};
-use std::alloc::Global;
+use crate::texts::{table_of, unpivot_asked};
 use std::test::Fail;
-use tb_frame::DataFrame;
 use tb_reshape::GroupBy;
 use tb_rows::{Groups, group_listed};
 
@@ -16,28 +14,25 @@ fn are_two_groups(groups: &Groups) -> bool {
         && groups.rows(1) == [2].as_slice()
 }
 
-fn two_kinds(alloc: Global) -> Result<DataFrame, Fail> {
-    let mut columns = Vec::new(alloc);
-    columns.push(column(alloc, "i", &[7, 7, 8])?)?;
-    columns.push(column(alloc, "o", &[5, 6, 5])?)?;
-    Ok(DataFrame::new(alloc, columns)?)
-}
+// Two columns, of which the index is the first.
+const TWO_KINDS: &str =
+    r#"{"table":{"columns":[{"name":"i","type":"i64","chunks":[[7,7,8]]},{"name":"o","type":"i64","chunks":[[5,6,5]]}]},"on":[],"index":["i"]}"#;
 
 #[test]
 fn rows_of_a_table_in_groups(rt: HostRuntime) -> Result<(), Fail> {
-    let alloc = rt.alloc();
-    let table = two_kinds(alloc)?;
-    let groups = table.group_by_stable(alloc, &name(alloc, "i")?)?;
+    let request = unpivot_asked(rt.alloc(), TWO_KINDS)?;
+    let groups = request.table.group_by_stable(rt.alloc(), &request.index)?;
     assert!(rt; are_two_groups(&groups));
-    assert!(rt; table.group_by_stable(alloc, &name(alloc, "x")?).is_err());
     Ok(())
 }
 
+const LISTED: &str = r#"{"table":{"columns":[{"name":"k","type":"i64","chunks":[[8,5,7,7]]}]}}"#;
+
 #[test]
 fn listed_rows_in_groups(rt: HostRuntime) -> Result<(), Fail> {
-    let alloc = rt.alloc();
-    let keys = column(alloc, "k", &[8, 5, 7, 7])?.take_materialized_series();
-    let groups = group_listed(alloc, &[&keys], &[3, 2, 0])?;
+    let table = table_of(rt.alloc(), LISTED)?;
+    let keys = table.column(rt.alloc(), "k")?.as_materialized_series();
+    let groups = group_listed(rt.alloc(), &[keys], &[3, 2, 0])?;
     assert!(rt; are_two_groups(&groups));
     Ok(())
 }

@@ -8,8 +8,6 @@ mod columns;
 #[cfg(test)]
 mod counted;
 #[cfg(test)]
-mod group_parts;
-#[cfg(test)]
 mod grouping;
 #[cfg(test)]
 mod merging;
@@ -23,6 +21,8 @@ mod row_keys;
 mod small_calls;
 #[cfg(test)]
 mod tables;
+#[cfg(test)]
+mod texts;
 #[cfg(test)]
 mod views;
 #[cfg(test)]

@@ -1,13 +1,13 @@
 //! A table made wide by an object of the caller's.
 
-use crate::tables::{column, name};
+use crate::texts::{check_answer, given, pivot_asked, table_of};
 use std::alloc::Global;
+use std::process::Abort;
 use std::test::Fail;
 use tb_frame::DataFrame;
 use tb_pivot::{ExprFault, PhysicalAggExpr, PivotAgg, pivot_stable};
 use tb_rows::Groups;
 use tb_store::{PlSmallStr, Series};
-use tb_value::{ComputeCause, PolarsError, PolarsResult};
 
 // Answers a column of its own, whatever it is asked.
 #[derive(Drop)]
@@ -74,96 +74,75 @@ impl PhysicalAggExpr for Refusing {
 }
 
 // Two rows of the first index and one of the second, with three cells.
-fn three_cells(alloc: Global) -> Result<DataFrame, Fail> {
-    let mut columns = Vec::new(alloc);
-    columns.push(column(alloc, "i", &[1, 1, 2])?)?;
-    columns.push(column(alloc, "o", &[5, 6, 5])?)?;
-    columns.push(column(alloc, "v", &[7, 8, 9])?)?;
-    Ok(DataFrame::new(alloc, columns)?)
+const THREE_CELLS: &str =
+    r#"{"table":{"columns":[{"name":"i","type":"i64","chunks":[[1,1,2]]},{"name":"o","type":"i64","chunks":[[5,6,5]]},{"name":"v","type":"i64","chunks":[[7,8,9]]}]},"on":["o"],"index":["i"]}"#;
+
+// What a pivot of the three cells by an object answers.
+fn check_wide(rt: &impl Abort, alloc: Global, agg: &PivotAgg, line: &str) -> Result<(), Fail> {
+    let request = pivot_asked(alloc, THREE_CELLS)?;
+    let (table, on, index) = (&request.table, &request.on, given(&request.index));
+    let wide = pivot_stable(alloc, table, on, index, None, false, Some(agg), None);
+    check_answer(rt, alloc, wide, line)
 }
 
-fn made_wide(alloc: Global, agg: &PivotAgg) -> Result<PolarsResult<DataFrame>, Fail> {
-    let table = three_cells(alloc)?;
-    let on = name(alloc, "o")?;
-    let index = name(alloc, "i")?;
-    Ok(pivot_stable(
-        alloc,
-        &table,
-        &on,
-        Some(&index),
-        None,
-        false,
-        Some(agg),
-        None,
-    ))
+fn name(alloc: Global) -> Result<PlSmallStr, Fail> {
+    Ok(PlSmallStr::from_str(alloc, "w")?)
 }
 
-fn an_answer(alloc: Global, ints: &[i128]) -> Result<Given, Fail> {
-    let name = PlSmallStr::from_str(alloc, "w")?;
-    let column = column(alloc, "x", ints)?.take_materialized_series();
+// The column `x` of a table.
+fn column_of(alloc: Global, text: &str) -> Result<Series, Fail> {
+    let table = table_of(alloc, text)?;
+    let column = table.column(alloc, "x")?;
+    Ok(column.as_materialized_series().copy(alloc)?)
+}
+
+// An object that answers such a column.
+fn answering(alloc: Global, text: &str) -> Result<Given, Fail> {
+    let name = name(alloc)?;
+    let column = column_of(alloc, text)?;
     Ok(Given { name, column })
 }
 
-// The columns of the index and of the first header.
-fn two_columns(alloc: Global) -> Result<DataFrame, Fail> {
-    let mut columns = Vec::new(alloc);
-    columns.push(column(alloc, "i", &[1, 2])?)?;
-    columns.push(column(alloc, "5", &[70, 90])?)?;
-    Ok(DataFrame::new(alloc, columns)?)
-}
-
-fn has_two_columns_and_another(alloc: Global, wide: &DataFrame) -> Result<bool, Fail> {
-    let others = wide.drop_many(alloc, &name(alloc, "6")?)?;
-    Ok(wide.width() == 3 && others.equals_missing(&two_columns(alloc)?))
-}
+const THREE_VALUES: &str =
+    r#"{"table":{"columns":[{"name":"x","type":"i64","chunks":[[70,80,90]]}]}}"#;
 
 #[test]
 fn the_values_of_an_object_stand_in_their_cells(rt: HostRuntime) -> Result<(), Fail> {
-    let alloc = rt.alloc();
-    let agg = PivotAgg::Expr(Box::new(alloc, an_answer(alloc, &[70, 80, 90])?)?);
-    let wide = made_wide(alloc, &agg)??;
-    assert!(rt; has_two_columns_and_another(alloc, &wide)?);
-    Ok(())
+    let given = answering(rt.alloc(), THREE_VALUES)?;
+    let agg = PivotAgg::Expr(Box::new(rt.alloc(), given)?);
+    let line =
+        r#"{"columns":[{"name":"i","type":"i64","values":[1,2]},{"name":"5","type":"i64","values":[70,90]},{"name":"6","type":"i64","values":[80,null]}],"height":2}"#;
+    check_wide(&rt, rt.alloc(), &agg, line)
 }
 
-fn is_refused_for(alloc: Global, agg: &PivotAgg, cause: ComputeCause) -> Result<bool, Fail> {
-    let refusal = made_wide(alloc, agg)?.err();
-    Ok(refusal == Some(PolarsError::ComputeError(cause)))
-}
+const TWO_VALUES: &str = r#"{"table":{"columns":[{"name":"x","type":"i64","chunks":[[70,80]]}]}}"#;
 
 #[test]
 fn two_values_for_three_cells(rt: HostRuntime) -> Result<(), Fail> {
-    let alloc = rt.alloc();
-    let agg = PivotAgg::Expr(Box::new(alloc, an_answer(alloc, &[70, 80])?)?);
-    let cause = ComputeCause::EvaluateLength {
-        groups: 3,
-        values: 2,
-    };
-    assert!(rt; is_refused_for(alloc, &agg, cause)?);
-    Ok(())
+    let given = answering(rt.alloc(), TWO_VALUES)?;
+    let agg = PivotAgg::Expr(Box::new(rt.alloc(), given)?);
+    let line = r#"{"cause":"EvaluateLength","error":"ComputeError","groups":3,"values":2}"#;
+    check_wide(&rt, rt.alloc(), &agg, line)
 }
 
 #[test]
 fn an_object_refuses_to_name_a_column(rt: HostRuntime) -> Result<(), Fail> {
-    let alloc = rt.alloc();
     let nameless = Refusing {
         name: None,
         code: 3,
     };
-    assert!(rt; nameless.root_name().err() == Some(ExprFault::Refused(3)));
-    let agg = PivotAgg::Expr(Box::new(alloc, nameless)?);
-    assert!(rt; is_refused_for(alloc, &agg, ComputeCause::Evaluate(3))?);
-    Ok(())
+    let agg = PivotAgg::Expr(Box::new(rt.alloc(), nameless)?);
+    let line = r#"{"cause":"Evaluate","error":"ComputeError","number":3}"#;
+    check_wide(&rt, rt.alloc(), &agg, line)
 }
 
 #[test]
 fn an_object_refuses_to_answer(rt: HostRuntime) -> Result<(), Fail> {
-    let alloc = rt.alloc();
     let refusing = Refusing {
-        name: Some(PlSmallStr::from_str(alloc, "w")?),
+        name: Some(name(rt.alloc())?),
         code: 7,
     };
-    let agg = PivotAgg::Expr(Box::new(alloc, refusing)?);
-    assert!(rt; is_refused_for(alloc, &agg, ComputeCause::Evaluate(7))?);
-    Ok(())
+    let agg = PivotAgg::Expr(Box::new(rt.alloc(), refusing)?);
+    let line = r#"{"cause":"Evaluate","error":"ComputeError","number":7}"#;
+    check_wide(&rt, rt.alloc(), &agg, line)
 }

@@ -1,367 +1,215 @@
-//! Tables made wide and long, and columns replaced by dummies, by each of the calls for it.
+//! Tables made wide and long, and columns replaced by dummies, by each of the calls for it. A row is a request and the
+//! text of its answer.
 
-use crate::tables::{column, column_of, name, names, texts, values};
+use crate::texts::{check_answer, dummies_asked, given, pivot_asked, unpivot_asked};
 use std::alloc::Global;
+use std::process::Abort;
+use std::slice;
 use std::test::Fail;
 use tb_dummies::DataFrameOps;
 use tb_frame::DataFrame;
 use tb_pivot::{PivotAgg, pivot, pivot_stable};
-use tb_store::{AnyValue, Column, DataType};
+use tb_request::{DummiesRequest, PivotRequest, UnpivotRequest};
 use tb_unpivot::UnpivotDF;
-use tb_value::{ComputeCause, InvalidCause, PolarsError, PolarsResult};
+use tb_value::PlSmallStr;
 
-fn table_of_one(alloc: Global, only: Column) -> Result<DataFrame, Fail> {
-    let mut columns = Vec::new(alloc);
-    columns.push(only)?;
-    Ok(DataFrame::new(alloc, columns)?)
-}
+// Three cells of two indices and two headers; two value columns beside two headers; a text and a number as one header; two
+// rows of one cell; a Null beside its word.
+const PIVOTS: [(&str, &str); 5] = [
+    (
+        r#"{"table":{"columns":[{"name":"i","type":"str","chunks":[["x","x","y"]]},{"name":"o","type":"str","chunks":[["p","q","p"]]},{"name":"v","type":"i64","chunks":[[1,2,3]]}]},"on":["o"],"index":["i"]}"#,
+        r#"{"columns":[{"name":"i","type":"str","values":["x","y"]},{"name":"p","type":"i64","values":[1,3]},{"name":"q","type":"i64","values":[2,null]}],"height":2}"#,
+    ),
+    (
+        r#"{"table":{"columns":[{"name":"i","type":"i64","chunks":[[5,5]]},{"name":"o","type":"str","chunks":[["p","q"]]},{"name":"v","type":"i64","chunks":[[1,2]]},{"name":"w","type":"i64","chunks":[[3,4]]}]},"on":["o"],"index":["i"]}"#,
+        r#"{"columns":[{"name":"i","type":"i64","values":[5]},{"name":"v_p","type":"i64","values":[1]},{"name":"v_q","type":"i64","values":[2]},{"name":"w_p","type":"i64","values":[3]},{"name":"w_q","type":"i64","values":[4]}],"height":1}"#,
+    ),
+    (
+        r#"{"table":{"columns":[{"name":"o","type":"str","chunks":[["p"]]},{"name":"n","type":"i64","chunks":[[1]]},{"name":"v","type":"i64","chunks":[[7]]}]},"on":["o","n"],"index":["v"],"values":["v"]}"#,
+        r#"{"columns":[{"name":"v","type":"i64","values":[7]},{"name":"{\"p\",1}","type":"i64","values":[7]}],"height":1}"#,
+    ),
+    (
+        r#"{"table":{"columns":[{"name":"i","type":"str","chunks":[["x","x"]]},{"name":"o","type":"str","chunks":[["p","p"]]},{"name":"v","type":"i64","chunks":[[1,1]]}]},"on":["o"],"index":["i"]}"#,
+        r#"{"cause":"ManyInGroup","error":"ComputeError"}"#,
+    ),
+    (
+        r#"{"table":{"columns":[{"name":"i","type":"str","chunks":[["x","x"]]},{"name":"o","type":"str","chunks":[[null,"null"]]},{"name":"v","type":"i64","chunks":[[1,2]]}]},"on":["o"],"index":["i"]}"#,
+        r#"{"error":"Duplicate","name":"null"}"#,
+    ),
+];
 
-fn table_of(
+// Three cells of two rows each; a sum of 8 bits has 64; one of 64 bits is too great.
+const SUMS: [(&str, &str); 3] = [
+    (
+        r#"{"table":{"columns":[{"name":"i","type":"str","chunks":[["x","x","y","x","x","y"]]},{"name":"o","type":"str","chunks":[["p","q","p","p","q","p"]]},{"name":"v","type":"i64","chunks":[[1,2,3,1,2,3]]}]},"on":["o"],"index":["i"]}"#,
+        r#"{"columns":[{"name":"i","type":"str","values":["x","y"]},{"name":"p","type":"i64","values":[2,6]},{"name":"q","type":"i64","values":[4,null]}],"height":2}"#,
+    ),
+    (
+        r#"{"table":{"columns":[{"name":"i","type":"str","chunks":[["x","x"]]},{"name":"o","type":"str","chunks":[["p","p"]]},{"name":"v","type":"i8","chunks":[[100,100]]}]},"on":["o"],"index":["i"]}"#,
+        r#"{"columns":[{"name":"i","type":"str","values":["x"]},{"name":"p","type":"i64","values":[200]}],"height":1}"#,
+    ),
+    (
+        r#"{"table":{"columns":[{"name":"i","type":"str","chunks":[["x","x"]]},{"name":"o","type":"str","chunks":[["p","p"]]},{"name":"v","type":"u64","chunks":[[18446744073709551615,1]]}]},"on":["o"],"index":["i"]}"#,
+        r#"{"cause":"SumRange","error":"ComputeError","name":"v"}"#,
+    ),
+];
+
+// What both calls answer.
+fn check_both(
+    rt: &impl Abort,
     alloc: Global,
-    first: Column,
-    second: Column,
-    third: Column,
-) -> Result<DataFrame, Fail> {
-    let mut columns = Vec::new(alloc);
-    columns.push(first)?;
-    columns.push(second)?;
-    columns.push(third)?;
-    Ok(DataFrame::new(alloc, columns)?)
-}
-
-// Three cells of two indices and two headers.
-fn tall(alloc: Global) -> Result<DataFrame, Fail> {
-    table_of(
-        alloc,
-        texts(alloc, "i", &["x", "x", "y"])?,
-        texts(alloc, "o", &["p", "q", "p"])?,
-        column(alloc, "v", &[1, 2, 3])?,
-    )
-}
-
-// The same rows twice.
-fn tall_twice(alloc: Global) -> Result<DataFrame, Fail> {
-    table_of(
-        alloc,
-        texts(alloc, "i", &["x", "x", "y", "x", "x", "y"])?,
-        texts(alloc, "o", &["p", "q", "p", "p", "q", "p"])?,
-        column(alloc, "v", &[1, 2, 3, 1, 2, 3])?,
-    )
-}
-
-// A value and a Null.
-fn one_and_null(alloc: Global, name: &str, int: i128) -> Result<Column, Fail> {
-    let mut chunk = values(alloc, &[int])?;
-    chunk.push(AnyValue::Null)?;
-    column_of(alloc, name, DataType::Int64, chunk)
-}
-
-fn wide(alloc: Global, first: &[i128], second: i128) -> Result<DataFrame, Fail> {
-    table_of(
-        alloc,
-        texts(alloc, "i", &["x", "y"])?,
-        column(alloc, "p", first)?,
-        one_and_null(alloc, "q", second)?,
-    )
-}
-
-fn by_pivot(
-    alloc: Global,
-    table: &DataFrame,
+    request: &PivotRequest,
     agg: Option<&PivotAgg>,
-) -> Result<PolarsResult<DataFrame>, Fail> {
-    let on = name(alloc, "o")?;
-    let index = name(alloc, "i")?;
-    Ok(pivot(alloc, table, &on, Some(&index), None, false, agg, None))
+    line: &str,
+) -> Result<(), Fail> {
+    let (table, on) = (&request.table, &request.on);
+    let (index, values) = (given(&request.index), given(&request.values));
+    let wide = pivot(alloc, table, on, index, values, false, agg, None);
+    check_answer(rt, alloc, wide, line)?;
+    let wide = pivot_stable(alloc, table, on, index, values, false, agg, None);
+    check_answer(rt, alloc, wide, line)
 }
 
-fn by_pivot_stable(
+fn check_pivots(
+    rt: &impl Abort,
     alloc: Global,
-    table: &DataFrame,
+    text: &str,
     agg: Option<&PivotAgg>,
-) -> Result<PolarsResult<DataFrame>, Fail> {
-    let on = name(alloc, "o")?;
-    let index = name(alloc, "i")?;
-    Ok(pivot_stable(alloc, table, &on, Some(&index), None, false, agg, None))
+    line: &str,
+) -> Result<(), Fail> {
+    let request = pivot_asked(alloc, text)?;
+    check_both(rt, alloc, &request, agg, line)
 }
 
-// Whether both calls make this table.
-fn make_both(
-    alloc: Global,
-    table: &DataFrame,
-    agg: Option<&PivotAgg>,
-    wanted: &DataFrame,
-) -> Result<bool, Fail> {
-    if !by_pivot(alloc, table, agg)??.equals_missing(wanted) {
-        return Ok(false);
+#[test]
+fn tables_made_wide(rt: HostRuntime) -> Result<(), Fail> {
+    for (text, line) in PIVOTS {
+        check_pivots(&rt, rt.alloc(), text, None, line)?;
     }
-    Ok(by_pivot_stable(alloc, table, agg)??.equals_missing(wanted))
-}
-
-#[test]
-fn cells_of_one_row(rt: HostRuntime) -> Result<(), Fail> {
-    let alloc = rt.alloc();
-    let table = tall(alloc)?;
-    assert!(rt; make_both(alloc, &table, None, &wide(alloc, &[1, 3], 2)?)?);
+    for (text, line) in SUMS {
+        check_pivots(&rt, rt.alloc(), text, Some(&PivotAgg::Sum), line)?;
+    }
     Ok(())
 }
 
-#[test]
-fn sums_of_two_rows(rt: HostRuntime) -> Result<(), Fail> {
-    let alloc = rt.alloc();
-    let table = tall_twice(alloc)?;
-    assert!(rt;
-        make_both(
-            alloc,
-            &table,
-            Some(&PivotAgg::Sum),
-            &wide(alloc, &[2, 6], 4)?
-        )?
-    );
-    Ok(())
+// All columns put below one another, two of them, and none, where all are in the index.
+const LONG: [(&str, &str); 3] = [
+    (
+        r#"{"table":{"columns":[{"name":"A","type":"str","chunks":[["a","b","a"]]},{"name":"B","type":"i32","chunks":[[1,3,5]]},{"name":"C","type":"i32","chunks":[[10,11,12]]},{"name":"D","type":"i32","chunks":[[2,4,6]]}]},"on":[],"index":[]}"#,
+        r#"{"columns":[{"name":"variable","type":"str","values":["A","A","A","B","B","B","C","C","C","D","D","D"]},{"name":"value","type":"str","values":["a","b","a","1","3","5","10","11","12","2","4","6"]}],"height":12}"#,
+    ),
+    (
+        r#"{"table":{"columns":[{"name":"A","type":"str","chunks":[["a","b","a"]]},{"name":"B","type":"i32","chunks":[[1,3,5]]},{"name":"C","type":"i32","chunks":[[10,11,12]]},{"name":"D","type":"i32","chunks":[[2,4,6]]}]},"on":["C","D"],"index":["A","B"]}"#,
+        r#"{"columns":[{"name":"A","type":"str","values":["a","b","a","a","b","a"]},{"name":"B","type":"i32","values":[1,3,5,1,3,5]},{"name":"variable","type":"str","values":["C","C","C","D","D","D"]},{"name":"value","type":"i32","values":[10,11,12,2,4,6]}],"height":6}"#,
+    ),
+    (
+        r#"{"table":{"columns":[{"name":"A","type":"str","chunks":[["a"]]},{"name":"B","type":"i32","chunks":[[1]]}]},"on":[],"index":["A","B"]}"#,
+        r#"{"columns":[{"name":"A","type":"str","values":[]},{"name":"B","type":"i32","values":[]},{"name":"variable","type":"str","values":[]},{"name":"value","type":"null","values":[]}],"height":0}"#,
+    ),
+];
+
+fn check_long(rt: &impl Abort, alloc: Global, text: &str, line: &str) -> Result<(), Fail> {
+    let request = unpivot_asked(alloc, text)?;
+    let long = request.table.unpivot(alloc, &request.on, &request.index);
+    check_answer(rt, alloc, long, line)
 }
 
 #[test]
-fn cells_of_two_rows(rt: HostRuntime) -> Result<(), Fail> {
-    let alloc = rt.alloc();
-    let table = tall_twice(alloc)?;
-    let many = Some(PolarsError::ComputeError(ComputeCause::ManyInGroup));
-    assert!(rt; by_pivot(alloc, &table, None)?.err() == many);
-    assert!(rt; by_pivot_stable(alloc, &table, None)?.err() == many);
+fn tables_made_long(rt: HostRuntime) -> Result<(), Fail> {
+    for (text, line) in LONG {
+        check_long(&rt, rt.alloc(), text, line)?;
+    }
     Ok(())
 }
 
-// The sum of two small numbers in one cell.
-fn summed(alloc: Global, dtype: DataType, ints: &[i128]) -> Result<PolarsResult<DataFrame>, Fail> {
-    let table = table_of(
-        alloc,
-        texts(alloc, "i", &["x", "x"])?,
-        texts(alloc, "o", &["p", "p"])?,
-        column_of(alloc, "v", dtype, values(alloc, ints)?)?,
-    )?;
-    by_pivot_stable(alloc, &table, Some(&PivotAgg::Sum))
-}
-
-#[test]
-fn a_sum_of_8_bits_has_64(rt: HostRuntime) -> Result<(), Fail> {
-    let alloc = rt.alloc();
-    let table = summed(alloc, DataType::Int8, &[100, 100])??;
-    let sums = table.select(alloc, &name(alloc, "p")?)?;
-    assert!(rt; sums.equals_missing(&table_of_one(alloc, column(alloc, "p", &[200])?)?));
-    Ok(())
-}
-
-#[test]
-fn a_sum_of_64_bits_is_too_great(rt: HostRuntime) -> Result<(), Fail> {
-    let alloc = rt.alloc();
-    let refused = summed(alloc, DataType::UInt64, &[18_446_744_073_709_551_615, 1])?;
-    assert!(rt;
-        matches!(
-            refused,
-            Err(PolarsError::ComputeError(ComputeCause::SumRange(_)))
-        )
-    );
-    Ok(())
-}
-
-// Two value columns beside two headers.
-fn two_values(alloc: Global) -> Result<DataFrame, Fail> {
-    let table = table_of(
-        alloc,
-        texts(alloc, "o", &["p", "q"])?,
-        column(alloc, "v", &[1, 2])?,
-        column(alloc, "w", &[3, 4])?,
-    )?;
-    let index = table_of_one(alloc, column(alloc, "i", &[5, 5])?)?;
-    Ok(index.hstack(alloc, table.get_columns())?)
-}
-
-#[test]
-fn values_stand_before_headers_in_names(rt: HostRuntime) -> Result<(), Fail> {
-    let alloc = rt.alloc();
-    let table = by_pivot_stable(alloc, &two_values(alloc)?, None)??;
-    assert_eq!(rt; table.width(), 5);
-    assert_eq!(rt; table.position("v_p"), Some(1));
-    assert_eq!(rt; table.position("v_q"), Some(2));
-    assert_eq!(rt; table.position("w_p"), Some(3));
-    assert_eq!(rt; table.position("w_q"), Some(4));
-    Ok(())
-}
-
-// A text and a number become one header.
-fn on_two_columns(alloc: Global) -> Result<DataFrame, Fail> {
-    let table = table_of(
-        alloc,
-        texts(alloc, "o", &["p"])?,
-        column(alloc, "n", &[1])?,
-        column(alloc, "v", &[7])?,
-    )?;
-    let on = names(alloc, &["o", "n"])?;
-    let index = name(alloc, "v")?;
+// The long table made wide by its columns of names and of values.
+fn wide_again(
+    alloc: Global,
+    long: &DataFrame,
+    index: &[PlSmallStr],
+    on: &PlSmallStr,
+) -> Result<DataFrame, Fail> {
+    let value = PlSmallStr::from_str(alloc, "value")?;
+    let (on, values) = (slice::from_ref(on), slice::from_ref(&value));
     Ok(pivot_stable(
         alloc,
-        &table,
-        &on,
-        Some(&index),
-        Some(&index),
+        long,
+        on,
+        Some(index),
+        Some(values),
         false,
         None,
         None,
     )?)
 }
 
-#[test]
-fn the_header_of_a_text_and_a_number(rt: HostRuntime) -> Result<(), Fail> {
-    let alloc = rt.alloc();
-    assert_eq!(rt; on_two_columns(alloc)?.position("{\"p\",1}"), Some(1));
-    Ok(())
+fn there_and_back(
+    alloc: Global,
+    request: &UnpivotRequest,
+    on: &PlSmallStr,
+) -> Result<DataFrame, Fail> {
+    let long = request.table.unpivot(alloc, &request.on, &request.index)?;
+    wide_again(alloc, &long, &request.index, on)
 }
 
-fn short(alloc: Global, name: &str, ints: &[i128]) -> Result<Column, Fail> {
-    column_of(alloc, name, DataType::Int32, values(alloc, ints)?)
+fn comes_back(alloc: Global, request: &UnpivotRequest) -> Result<bool, Fail> {
+    let variable = PlSmallStr::from_str(alloc, "variable")?;
+    let back = there_and_back(alloc, request, &variable)?;
+    Ok(back.equals_missing(&request.table))
 }
 
-// A column of texts and three of numbers.
-fn four_columns(alloc: Global) -> Result<DataFrame, Fail> {
-    let mut columns = Vec::new(alloc);
-    columns.push(texts(alloc, "A", &["a", "b", "a"])?)?;
-    columns.push(short(alloc, "B", &[1, 3, 5])?)?;
-    columns.push(short(alloc, "C", &[10, 11, 12])?)?;
-    columns.push(short(alloc, "D", &[2, 4, 6])?)?;
-    Ok(DataFrame::new(alloc, columns)?)
-}
-
-// The values of the table made long.
-fn long_values(alloc: Global, on: &[&str], index: &[&str]) -> Result<DataFrame, Fail> {
-    let table = four_columns(alloc)?;
-    let long = table.unpivot(alloc, &names(alloc, on)?, &names(alloc, index)?)?;
-    Ok(long.select(alloc, &name(alloc, "value")?)?)
-}
-
-#[test]
-fn all_columns_are_put_below_one_another(rt: HostRuntime) -> Result<(), Fail> {
-    let alloc = rt.alloc();
-    let wanted = texts(
-        alloc,
-        "value",
-        &[
-            "a", "b", "a", "1", "3", "5", "10", "11", "12", "2", "4", "6",
-        ],
-    )?;
-    let values = long_values(alloc, &[], &[])?;
-    assert!(rt; values.equals_missing(&table_of_one(alloc, wanted)?));
-    Ok(())
-}
-
-#[test]
-fn two_columns_are_put_below_one_another(rt: HostRuntime) -> Result<(), Fail> {
-    let alloc = rt.alloc();
-    let wanted = table_of_one(alloc, short(alloc, "value", &[10, 11, 12, 2, 4, 6])?)?;
-    let values = long_values(alloc, &["C", "D"], &["A", "B"])?;
-    assert!(rt; values.equals_missing(&wanted));
-    Ok(())
-}
-
-#[test]
-fn no_column_is_left_outside_the_index(rt: HostRuntime) -> Result<(), Fail> {
-    let alloc = rt.alloc();
-    let all = names(alloc, &["A", "B", "C", "D"])?;
-    let long = four_columns(alloc)?.unpivot(alloc, &[], &all)?;
-    assert_eq!(rt; long.height(), 0);
-    assert_eq!(rt; long.width(), 6);
-    assert_eq!(rt; long.position("variable"), Some(4));
-    assert_eq!(rt; long.position("value"), Some(5));
-    Ok(())
-}
-
-// The table made long, and made wide again.
-fn there_and_back(alloc: Global, table: &DataFrame) -> Result<DataFrame, Fail> {
-    let index = name(alloc, "i")?;
-    let long = table.unpivot(alloc, &names(alloc, &["v1", "v2"])?, &index)?;
-    let on = name(alloc, "variable")?;
-    let values = name(alloc, "value")?;
-    Ok(pivot_stable(
-        alloc,
-        &long,
-        &on,
-        Some(&index),
-        Some(&values),
-        false,
-        None,
-        None,
-    )?)
-}
+const INDEXED: &str =
+    r#"{"table":{"columns":[{"name":"i","type":"str","chunks":[["x","y"]]},{"name":"v1","type":"i64","chunks":[[1,2]]},{"name":"v2","type":"i64","chunks":[[3,4]]}]},"on":["v1","v2"],"index":["i"]}"#;
 
 #[test]
 fn a_table_made_long_comes_back(rt: HostRuntime) -> Result<(), Fail> {
-    let alloc = rt.alloc();
-    let table = table_of(
-        alloc,
-        texts(alloc, "i", &["x", "y"])?,
-        column(alloc, "v1", &[1, 2])?,
-        column(alloc, "v2", &[3, 4])?,
-    )?;
-    assert!(rt; there_and_back(alloc, &table)?.equals_missing(&table));
+    let request = unpivot_asked(rt.alloc(), INDEXED)?;
+    assert!(rt; comes_back(rt.alloc(), &request)?);
     Ok(())
 }
 
-// The column of types, as a table.
-fn types(alloc: Global) -> Result<DataFrame, Fail> {
-    table_of_one(
-        alloc,
-        texts(alloc, "type", &["A", "B", "B", "B", "C", "C", "C", "B"])?,
-    )
-}
+// A column for each type; for all but that of the first row; and no dummies of dates.
+const DUMMIES: [(&str, &str); 3] = [
+    (
+        r#"{"table":{"columns":[{"name":"type","type":"str","chunks":[["A","B","B","B","C","C","C","B"]]}]}}"#,
+        r#"{"columns":[{"name":"type_A","type":"u8","values":[1,0,0,0,0,0,0,0]},{"name":"type_B","type":"u8","values":[0,1,1,1,0,0,0,1]},{"name":"type_C","type":"u8","values":[0,0,0,0,1,1,1,0]}],"height":8}"#,
+    ),
+    (
+        r#"{"table":{"columns":[{"name":"type","type":"str","chunks":[["A","B","B","B","C","C","C","B"]]}]},"drop_first":true}"#,
+        r#"{"columns":[{"name":"type_B","type":"u8","values":[0,1,1,1,0,0,0,1]},{"name":"type_C","type":"u8","values":[0,0,0,0,1,1,1,0]}],"height":8}"#,
+    ),
+    (
+        r#"{"table":{"columns":[{"name":"d","type":"date","chunks":[[7]]}]}}"#,
+        r#"{"cause":"HeaderType","error":"InvalidOperation","name":"d"}"#,
+    ),
+];
 
-fn marks(alloc: Global, name: &str, ints: &[i128]) -> Result<Column, Fail> {
-    column_of(alloc, name, DataType::UInt8, values(alloc, ints)?)
-}
-
-fn dummies(alloc: Global) -> Result<DataFrame, Fail> {
-    table_of(
-        alloc,
-        marks(alloc, "type_A", &[1, 0, 0, 0, 0, 0, 0, 0])?,
-        marks(alloc, "type_B", &[0, 1, 1, 1, 0, 0, 0, 1])?,
-        marks(alloc, "type_C", &[0, 0, 0, 0, 1, 1, 1, 0])?,
-    )
+fn check_dummies(rt: &impl Abort, alloc: Global, text: &str, line: &str) -> Result<(), Fail> {
+    let request = dummies_asked(alloc, text)?;
+    let made = request.table.to_dummies(alloc, None, request.drop_first);
+    check_answer(rt, alloc, made, line)
 }
 
 #[test]
-fn a_column_for_each_type(rt: HostRuntime) -> Result<(), Fail> {
-    let alloc = rt.alloc();
-    let made = types(alloc)?.to_dummies(alloc, None, false)?;
-    assert!(rt; made.equals_missing(&dummies(alloc)?));
+fn columns_for_values(rt: HostRuntime) -> Result<(), Fail> {
+    for (text, line) in DUMMIES {
+        check_dummies(&rt, rt.alloc(), text, line)?;
+    }
     Ok(())
 }
 
-#[test]
-fn the_type_of_the_first_row_is_left_out(rt: HostRuntime) -> Result<(), Fail> {
-    let alloc = rt.alloc();
-    let made = types(alloc)?.to_dummies(alloc, None, true)?;
-    let wanted = dummies(alloc)?.drop_many(alloc, &name(alloc, "type_A")?)?;
-    assert!(rt; made.equals_missing(&wanted));
-    Ok(())
+// Whether dummies of the columns of this name are the table itself.
+fn replaces_nothing(alloc: Global, request: &DummiesRequest, name: &str) -> Result<bool, Fail> {
+    let name = PlSmallStr::from_str(alloc, name)?;
+    let names = slice::from_ref(&name);
+    let made = request.table.columns_to_dummies(alloc, names, None, false)?;
+    Ok(made.equals_missing(&request.table))
 }
 
 #[test]
-fn no_column_of_the_name(rt: HostRuntime) -> Result<(), Fail> {
-    let alloc = rt.alloc();
-    let table = types(alloc)?;
-    let made = table.columns_to_dummies(alloc, &name(alloc, "nope")?, None, false)?;
-    assert!(rt; made.equals_missing(&table));
-    Ok(())
-}
-
-#[test]
-fn no_dummies_of_dates(rt: HostRuntime) -> Result<(), Fail> {
-    let alloc = rt.alloc();
-    let dates = column_of(alloc, "d", DataType::Date, values(alloc, &[7])?)?;
-    let table = table_of_one(alloc, dates)?;
-    assert!(rt;
-        matches!(
-            table.to_dummies(alloc, None, false),
-            Err(PolarsError::InvalidOperation(InvalidCause::HeaderType(_)))
-        )
-    );
+fn columns_of_no_name(rt: HostRuntime) -> Result<(), Fail> {
+    let (text, _line) = DUMMIES[0];
+    let request = dummies_asked(rt.alloc(), text)?;
+    assert!(rt; replaces_nothing(rt.alloc(), &request, "nope")?);
     Ok(())
 }

@@ -116,47 +116,51 @@ fn check_no_key(rt: &impl Abort, alloc: Global, columns: &[Series]) -> Result<()
     Ok(())
 }
 
-#[test]
-fn texts_in_two_chunks(rt: HostRuntime) -> Result<(), Fail> {
-    let alloc = rt.alloc();
+fn two_of_cut_texts(alloc: Global) -> Result<Vec<Series>, Fail> {
     let mut columns = Vec::new(alloc);
     columns.push(cut_texts(alloc, "ab", "a")?)?;
     columns.push(cut_texts(alloc, "c", "bc")?)?;
-    check_key(
-        &rt,
-        alloc,
-        &columns,
-        &[true, true],
-        0,
+    Ok(columns)
+}
+
+#[test]
+fn texts_in_two_chunks(rt: HostRuntime) -> Result<(), Fail> {
+    let columns = two_of_cut_texts(rt.alloc())?;
+    let wanted = [
         b"\x01\x00\x00\x00\x02ab\x01\x00\x00\x00\x01c",
-    )?;
-    check_key(
-        &rt,
-        alloc,
-        &columns,
-        &[true, true],
-        1,
         b"\x01\x00\x00\x00\x01a\x01\x00\x00\x00\x02bc",
-    )
+    ];
+    for row in 0..2 {
+        check_key(&rt, rt.alloc(), &columns, &[true, true], row, wanted[row])?;
+    }
+    Ok(())
+}
+
+fn null_and_number(alloc: Global) -> Result<Vec<Series>, Fail> {
+    let mut columns = Vec::new(alloc);
+    columns.push(column(alloc, DataType::String, AnyValue::Null)?)?;
+    columns.push(column(alloc, DataType::Int32, AnyValue::Int(5))?)?;
+    Ok(columns)
 }
 
 #[test]
 fn absent_field(rt: HostRuntime) -> Result<(), Fail> {
-    let alloc = rt.alloc();
-    let mut columns = Vec::new(alloc);
-    columns.push(column(alloc, DataType::String, AnyValue::Null)?)?;
-    columns.push(column(alloc, DataType::Int32, AnyValue::Int(5))?)?;
-    let first = [true, false];
-    check_key(&rt, alloc, &columns, &first, 0, b"\x00\x01\x00\x00\x00\x05")?;
-    check_no_key(&rt, alloc, &columns)
+    let columns = null_and_number(rt.alloc())?;
+    let (first, wanted) = ([true, false], b"\x00\x01\x00\x00\x00\x05");
+    check_key(&rt, rt.alloc(), &columns, &first, 0, wanted)?;
+    check_no_key(&rt, rt.alloc(), &columns)
 }
 
-#[test]
-fn number_and_truth(rt: HostRuntime) -> Result<(), Fail> {
-    let alloc = rt.alloc();
+fn number_and_truth(alloc: Global) -> Result<Vec<Series>, Fail> {
     let mut columns = Vec::new(alloc);
     columns.push(column(alloc, DataType::Int16, AnyValue::Int(-1))?)?;
     columns.push(column(alloc, DataType::Boolean, AnyValue::Boolean(true))?)?;
+    Ok(columns)
+}
+
+#[test]
+fn a_number_beside_a_truth_value(rt: HostRuntime) -> Result<(), Fail> {
+    let columns = number_and_truth(rt.alloc())?;
     let none = [false, false];
-    check_key(&rt, alloc, &columns, &none, 0, b"\x01\xff\xff\x01\x01")
+    check_key(&rt, rt.alloc(), &columns, &none, 0, b"\x01\xff\xff\x01\x01")
 }

@@ -1,11 +1,11 @@
 //! Small calls on worked values: windows, a column of one byte, tables that are none, and copies of types.
 
-use crate::tables::column;
+use crate::texts::{check_answer, table_of};
 use std::alloc::Global;
 use std::test::Fail;
 use tb_chunk::slice_offsets;
 use tb_frame::DataFrame;
-use tb_store::{AnyValue, DataType, Field, Fields, PlSmallStr, PolarsError, Series};
+use tb_store::{AnyValue, DataType, Field, Fields, OutOfMemory, PlSmallStr, PolarsError, Series};
 use tb_value::PolarsResult;
 use tb_value::equality::{same_names, same_types};
 
@@ -18,13 +18,18 @@ fn windows_of_three_rows(rt: HostRuntime) -> Result<(), Fail> {
     Ok(())
 }
 
-// A column of the type of one byte: a whole number, and a Null.
-fn byte_and_null(alloc: Global, int: i128) -> Result<PolarsResult<Series>, Fail> {
+// A number and a Null.
+fn number_and_null(alloc: Global, int: i128) -> Result<Vec<AnyValue>, Fail> {
     let mut chunk = Vec::new(alloc);
     chunk.push(AnyValue::Int(int))?;
     chunk.push(AnyValue::Null)?;
+    Ok(chunk)
+}
+
+// A column of the type of one byte of these.
+fn byte_and_null(alloc: Global, int: i128) -> Result<PolarsResult<Series>, Fail> {
     let mut chunks = Vec::new(alloc);
-    chunks.push(chunk)?;
+    chunks.push(number_and_null(alloc, int)?)?;
     Ok(Series::from_chunks(alloc, "s", DataType::UInt8, chunks))
 }
 
@@ -33,42 +38,65 @@ fn a_column_of_one_byte(rt: HostRuntime) -> Result<(), Fail> {
     let bytes = byte_and_null(rt.alloc(), 255)??;
     assert_eq!(rt; bytes.len(), 2);
     assert_eq!(rt; bytes.null_count(), 1);
+    Ok(())
+}
+
+#[test]
+fn no_column_of_one_byte(rt: HostRuntime) -> Result<(), Fail> {
     let refused = byte_and_null(rt.alloc(), 256)?;
     assert!(rt; matches!(refused, Err(PolarsError::SchemaMismatch)));
     Ok(())
 }
 
-// A table of a column `a` and another.
-fn table_of(alloc: Global, name: &str, ints: &[i128]) -> Result<PolarsResult<DataFrame>, Fail> {
-    let mut columns = Vec::new(alloc);
-    columns.push(column(alloc, "a", &[1])?)?;
-    columns.push(column(alloc, name, ints)?)?;
+// The columns of two tables as one table.
+fn together(alloc: Global, first: &str, second: &str) -> Result<PolarsResult<DataFrame>, Fail> {
+    let mut columns = table_of(alloc, first)?.into_columns();
+    for column in table_of(alloc, second)?.into_columns() {
+        columns.push(column)?;
+    }
     Ok(DataFrame::new(alloc, columns))
 }
 
+const ONE_ROW: &str = r#"{"table":{"columns":[{"name":"a","type":"i64","chunks":[[1]]}]}}"#;
+
+const TWO_ROWS: &str = r#"{"table":{"columns":[{"name":"b","type":"i64","chunks":[[1,2]]}]}}"#;
+
 #[test]
 fn tables_that_are_none(rt: HostRuntime) -> Result<(), Fail> {
-    let refused = table_of(rt.alloc(), "b", &[1, 2])?;
-    assert!(rt; matches!(refused, Err(PolarsError::ShapeMismatch)));
-    let refused = table_of(rt.alloc(), "a", &[2])?;
-    assert!(rt; matches!(refused, Err(PolarsError::Duplicate(_))));
-    Ok(())
+    let alloc = rt.alloc();
+    let line = r#"{"error":"ShapeMismatch"}"#;
+    check_answer(&rt, alloc, together(alloc, ONE_ROW, TWO_ROWS)?, line)?;
+    let line = r#"{"error":"Duplicate","name":"a"}"#;
+    check_answer(&rt, alloc, together(alloc, ONE_ROW, ONE_ROW)?, line)
 }
 
-// The type Struct of one field, and the field.
-#[test]
-fn copies_of_a_field(rt: HostRuntime) -> Result<(), Fail> {
-    let alloc = rt.alloc();
-    let field = Field {
+fn field(alloc: Global) -> Result<Field, Fail> {
+    Ok(Field {
         name: PlSmallStr::from_str(alloc, "f")?,
         dtype: DataType::UInt8,
-    };
-    let copy = field.copy(alloc)?;
-    assert!(rt; same_names(&copy.name, &field.name));
-    assert!(rt; same_types(&copy.dtype, &field.dtype));
+    })
+}
+
+// One field of whole numbers of 8 bits.
+pub(crate) fn one_field(alloc: Global) -> Result<Fields, Fail> {
     let mut fields = Vec::new(alloc);
-    fields.push(field)?;
-    let dtype = DataType::Struct(Fields::from_vec(fields));
-    assert!(rt; same_types(&dtype.copy(alloc)?, &dtype));
+    fields.push(field(alloc)?)?;
+    Ok(Fields::from_vec(fields))
+}
+
+fn is_like_its_copy(alloc: Global, field: &Field) -> Result<bool, OutOfMemory> {
+    let copy = field.copy(alloc)?;
+    Ok(same_names(&copy.name, &field.name) && same_types(&copy.dtype, &field.dtype))
+}
+
+fn is_type_like_its_copy(alloc: Global, dtype: &DataType) -> Result<bool, OutOfMemory> {
+    Ok(same_types(&dtype.copy(alloc)?, dtype))
+}
+
+#[test]
+fn copies_of_a_field(rt: HostRuntime) -> Result<(), Fail> {
+    assert!(rt; is_like_its_copy(rt.alloc(), &field(rt.alloc())?)?);
+    let dtype = DataType::Struct(one_field(rt.alloc())?);
+    assert!(rt; is_type_like_its_copy(rt.alloc(), &dtype)?);
     Ok(())
 }

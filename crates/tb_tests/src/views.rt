@@ -63,38 +63,49 @@ fn check_again(rt: &impl Abort, alloc: Global, column: &Series) -> Result<(), Fa
     Ok(())
 }
 
-// A column of a long value that stands twice, a short one and a Null.
-fn column_of(
-    alloc: Global,
-    dtype: DataType,
-    long: AnyValue,
-    short: AnyValue,
-) -> Result<Series, Fail>
+// The column of these runs.
+fn column_of(alloc: Global, dtype: DataType, runs: Vec<(AnyValue, u64)>) -> Result<Series, Fail>
     ensures kind { IfOk result (λ s. s.kind ≡ kind_of dtype) }
     ensures one { IfOk result (λ s. length s.chunks ≡ 1) }
     ensures flag { IfOk result (λ s. s.flag ≡ Not) }
 {
-    let mut runs = Vec::new(alloc);
-    runs.push((long, 2))?;
-    runs.push((short, 1))?;
-    runs.push((AnyValue::Null, 1))?;
     Ok(Series::from_runs(alloc, "s", dtype, runs)?)
+}
+
+fn text(alloc: Global, text: &str) -> Result<AnyValue, OutOfMemory> {
+    Ok(AnyValue::String(PlSmallStr::from_str(alloc, text)?))
+}
+
+// A long text that stands twice, a short one and a Null.
+fn three_texts(alloc: Global) -> Result<Vec<(AnyValue, u64)>, Fail> {
+    let mut runs = Vec::new(alloc);
+    runs.push((text(alloc, "1 loooooooooooong string")?, 2))?;
+    runs.push((text(alloc, "é")?, 1))?;
+    runs.push((AnyValue::Null, 1))?;
+    Ok(runs)
 }
 
 #[test]
 fn texts_by_their_views(rt: HostRuntime) -> Result<(), Fail> {
-    let alloc = rt.alloc();
-    let long = AnyValue::String(PlSmallStr::from_str(alloc, "1 loooooooooooong string")?);
-    let short = AnyValue::String(PlSmallStr::from_str(alloc, "é")?);
-    let column = column_of(alloc, DataType::String, long, short)?;
-    check_again(&rt, alloc, &column)
+    let column = column_of(rt.alloc(), DataType::String, three_texts(rt.alloc())?)?;
+    check_again(&rt, rt.alloc(), &column)
+}
+
+fn bytes(alloc: Global, bytes: &[u8]) -> Result<AnyValue, Fail> {
+    Ok(AnyValue::Binary(Bytes::from_vec(alloc, bytes.to_vec(alloc)?)?))
+}
+
+// The same of bytes.
+fn three_times_bytes(alloc: Global) -> Result<Vec<(AnyValue, u64)>, Fail> {
+    let mut runs = Vec::new(alloc);
+    runs.push((bytes(alloc, &[255; 13])?, 2))?;
+    runs.push((bytes(alloc, &[0, 255])?, 1))?;
+    runs.push((AnyValue::Null, 1))?;
+    Ok(runs)
 }
 
 #[test]
 fn bytes_by_their_views(rt: HostRuntime) -> Result<(), Fail> {
-    let alloc = rt.alloc();
-    let long = AnyValue::Binary(Bytes::from_vec(alloc, [255; 13].to_vec(alloc)?)?);
-    let short = AnyValue::Binary(Bytes::from_vec(alloc, [0, 255].to_vec(alloc)?)?);
-    let column = column_of(alloc, DataType::Binary, long, short)?;
-    check_again(&rt, alloc, &column)
+    let column = column_of(rt.alloc(), DataType::Binary, three_times_bytes(rt.alloc())?)?;
+    check_again(&rt, rt.alloc(), &column)
 }
