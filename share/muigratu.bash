@@ -8,7 +8,7 @@ _muigratu() {
     before=${words[-2]:-} command=${words[1]:-}
     COMPREPLY=()
     if [ "${#words[@]}" -le 2 ]; then
-        COMPREPLY=($(compgen -W "join pivot unpivot dummies why request --help --version" -- "$word"))
+        COMPREPLY=($(compgen -W "join pivot unpivot dummies plan delta group split why request --help --version" -- "$word"))
         return
     fi
     [[ $word != --*=* ]] || { before=${word%%=*}; word=${word#*=}; }
@@ -23,7 +23,10 @@ _muigratu() {
         "pivot --as") choices="csv json table" ;;
         "unpivot --as") choices="csv json table" ;;
         "dummies --as") choices="csv json table" ;;
-        "why why") choices="join unpivot dummies pivot" ;;
+        "plan --as") choices="csv json table" ;;
+        "delta --as") choices="csv json table" ;;
+        "group --as") choices="csv json table" ;;
+        "why why") choices="join unpivot dummies pivot plan delta group" ;;
     esac
     if [ -n "$choices" ]; then
         COMPREPLY=($(compgen -W "$choices" -- "$word"))
@@ -34,6 +37,10 @@ _muigratu() {
             pivot) COMPREPLY=($(compgen -W "--on --index --values --agg --sort-columns --name-separator --types --separator --as --width --output -o --help" -- "$word")) ;;
             unpivot) COMPREPLY=($(compgen -W "--on --index --variable-name --value-name --types --separator --as --width --output -o --help" -- "$word")) ;;
             dummies) COMPREPLY=($(compgen -W "--columns --name-separator --drop-first --types --separator --as --width --output -o --help" -- "$word")) ;;
+            plan) COMPREPLY=($(compgen -W "--explain --types --separator --as --width --output -o --help" -- "$word")) ;;
+            delta) COMPREPLY=($(compgen -W "--on --steps --join-nulls --table --types --separator --as --width --output -o --help" -- "$word")) ;;
+            group) COMPREPLY=($(compgen -W "--by --agg --sort --types --separator --as --width --output -o --help" -- "$word")) ;;
+            split) COMPREPLY=($(compgen -W "--on --parts --number --output --types --separator -o --help" -- "$word")) ;;
             why) COMPREPLY=($(compgen -W "--help" -- "$word")) ;;
             request) COMPREPLY=($(compgen -W "--runs --output -o --help" -- "$word")) ;;
         esac

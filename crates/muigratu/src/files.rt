@@ -1,10 +1,10 @@
 //! Reading whole texts, and writing them.
 
-use crate::failure::Failure;
 use std::alloc::Global;
 use std::fs::{self, File, OpenFile, OpenOptions, Permissions};
 use std::io::{self, ErrorKind, Input, Read, Write};
 use std::rt::Files;
+use tb_sentences::Failure;
 use tb_value::MAX_INPUT;
 
 // How many names a new file may be given, of which others may be taken.
@@ -122,7 +122,13 @@ fn replace(
     outcome
 }
 
-fn write_file(rt: &impl Files, alloc: Global, file: &str, text: &[u8]) -> io::Result<()> {
+/// Writes the text to the file of this name, which holds what it held until the text is whole.
+pub(crate) fn write_file(
+    rt: &impl Files,
+    alloc: Global,
+    file: &str,
+    text: &[u8],
+) -> io::Result<()> {
     match fs::symlink_metadata(rt, file) {
         Ok(old) if old.is_file() => {
             // A file that may not be written stays as it is.
@@ -132,6 +138,15 @@ fn write_file(rt: &impl Files, alloc: Global, file: &str, text: &[u8]) -> io::Re
         Err(error) if error.kind() == ErrorKind::NotFound => replace(rt, alloc, file, None, text),
         // A link, a pipe or a device stays what it is.
         _ => fs::write(rt, file, text),
+    }
+}
+
+/// The failure by an error of what is written to this file or folder.
+pub(crate) fn write_failure<'a>(file: &'a str, error: io::Error) -> Failure<'a> {
+    if error.kind() == ErrorKind::OutOfMemory {
+        Failure::OutOfMemory
+    } else {
+        Failure::Writing(file, error)
     }
 }
 
@@ -150,7 +165,6 @@ pub(crate) fn write_text<'a>(
     };
     match outcome {
         Ok(()) => Ok(()),
-        Err(error) if error.kind() == ErrorKind::OutOfMemory => Err(Failure::OutOfMemory),
-        Err(error) => Err(Failure::Writing(file, error)),
+        Err(error) => Err(write_failure(file, error)),
     }
 }

@@ -1,29 +1,29 @@
 //! Joins and reshapes tables that lie in files.
 #![tactic(auto)]
 
-mod commands;
-mod failure;
-mod fault_sentence;
+mod deltas;
 mod files;
+mod groups;
+mod plans;
 mod request;
 mod running;
-mod sentences;
-mod visible;
+mod shapes;
+mod splits;
 mod why;
-mod words;
 
 use clap::ArgMatches;
 use clap::error::ErrorKind;
-use commands::program;
-use failure::Failure;
 use request::make_request;
 use running::{TableCommand, run_command};
+use splits::split_table;
 use std::alloc::Global;
 use std::env::{self, Env};
 use std::io::{self, Input, IsTerminal};
 use std::process::ExitCode;
 use std::rt::Files;
 use std::thread::Threads;
+use tb_sentences::Failure;
+use tb_words::{WordFault, program};
 use why::tell_why;
 
 // The words that the program is called with, its name first.
@@ -37,7 +37,7 @@ fn words_given<'a>(rt: &(impl Env + AllocGlobal)) -> Result<Vec<String>, Failure
             Ok(words)
         }
         Err(error) if error.kind() == io::ErrorKind::OutOfMemory => Err(Failure::OutOfMemory),
-        Err(_) => Err(Failure::NotWords),
+        Err(_) => Err(Failure::Words(WordFault::NotUtf8)),
     }
 }
 
@@ -85,6 +85,10 @@ fn done<'a>(
         return Ok(0);
     }
     match name {
+        "split" => {
+            split_table(rt, alloc, matches)?;
+            Ok(0)
+        }
         "why" => tell_why(rt, alloc, matches),
         "request" => {
             make_request(rt, alloc, matches)?;

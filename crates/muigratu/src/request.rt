@@ -1,15 +1,15 @@
 //! The command that makes an answer of the JSON program a table of a request.
 
-use crate::failure::Failure;
 use crate::files::{read_json, write_text};
-use crate::words::needed;
 use clap::ArgMatches;
 use serde_json::{Map, Value};
 use std::alloc::Global;
 use std::io::Input;
 use std::rt::Files;
 use tb_request::Format;
+use tb_sentences::Failure;
 use tb_value::OutOfMemory;
+use tb_words::needed;
 
 // A run: a value and its count.
 fn run_of(alloc: Global, value: Value, times: u64) -> Result<Value, OutOfMemory> {

@@ -1,24 +1,14 @@
 //! The command that tells why the text of a file is no request.
 
-use crate::failure::Failure;
-use crate::fault_sentence::FaultSentence;
 use crate::files::{read_json, write_text};
-use crate::words::needed;
 use clap::ArgMatches;
 use std::alloc::Global;
 use std::io::Input;
 use std::rt::Files;
-use tb_why::{Command, why_not};
-
-fn command_of(word: &str) -> Option<Command> {
-    match word {
-        "join" => Some(Command::Join),
-        "unpivot" => Some(Command::Unpivot),
-        "dummies" => Some(Command::Dummies),
-        "pivot" => Some(Command::Pivot),
-        _ => None,
-    }
-}
+use tb_sentences::Failure;
+use tb_why::{command_named, why_not};
+use tb_why_told::FaultSentence;
+use tb_words::{Choice, WordFault, needed};
 
 /// Tells whether the file holds a request of the command, or why not and where. The status is 0 or 3.
 pub(crate) fn tell_why<'a>(
@@ -27,8 +17,8 @@ pub(crate) fn tell_why<'a>(
     matches: &ArgMatches<'a>,
 ) -> Result<u8, Failure<'a>> {
     let word = needed(matches, "COMMAND")?;
-    let Some(command) = command_of(word) else {
-        return Err(Failure::NoWord("COMMAND", word));
+    let Some(command) = command_named(word) else {
+        return Err(Failure::Words(WordFault::NoWord(Choice::Command, word)));
     };
     let file = needed(matches, "REQUEST")?;
     let text = read_json(rt, alloc, file)?;

@@ -1,14 +1,9 @@
 //! Sentences on why a text is no table, and why an operation refuses.
 
-use crate::visible::Shown;
 use std::fmt;
 use tb_csv::{CsvFault, FieldType};
 use tb_value::{ComputeCause, InvalidCause, PolarsError, Side};
-
-/// A name or a word as sentences have it: in one line, and without a character that could steer a terminal.
-pub(crate) fn shown(text: &str) -> Shown<'_> {
-    Shown(text)
-}
+use tb_words::shown;
 
 /// The word of a type, as `--types` takes it.
 pub(crate) fn type_word(field_type: FieldType) -> &'static str {
@@ -28,7 +23,8 @@ pub(crate) fn type_word(field_type: FieldType) -> &'static str {
     }
 }
 
-fn side_word(side: Side) -> &'static str {
+/// The word of a side.
+pub(crate) fn side_word(side: Side) -> &'static str {
     match side {
         Side::Left => "left",
         Side::Right => "right",
@@ -81,7 +77,27 @@ impl fmt::Display for CsvSentence<'_> {
     }
 }
 
-fn invalid_sentence<W: fmt::Write>(cause: &InvalidCause, f: &mut fmt::Formatter<W>) -> fmt::Result {
+/// How arguments are called: by options of a command, or by members of a plan.
+#[derive(Clone, Copy)]
+pub(crate) enum Speech {
+    Options,
+    Members,
+}
+
+impl Speech {
+    fn word(self, option: &'static str, member: &'static str) -> &'static str {
+        match self {
+            Speech::Options => option,
+            Speech::Members => member,
+        }
+    }
+}
+
+fn invalid_sentence<W: fmt::Write>(
+    cause: &InvalidCause,
+    speech: Speech,
+    f: &mut fmt::Formatter<W>,
+) -> fmt::Result {
     match cause {
         InvalidCause::NoKeys => f.write_str("there is no key"),
         InvalidCause::KeyCounts { left, right } => {
@@ -93,11 +109,15 @@ fn invalid_sentence<W: fmt::Write>(cause: &InvalidCause, f: &mut fmt::Formatter<
         InvalidCause::KeyKind { place } => {
             write!(
                 f,
-                "rows can't be joined by the type of key {} of --on",
-                place.saturating_add(1)
+                "rows can't be joined by the type of key {} of {}",
+                place.saturating_add(1),
+                speech.word("--on", "left_on")
             )
         }
-        InvalidCause::BothNone => f.write_str("neither --index nor --values is given"),
+        InvalidCause::BothNone => f.write_str(speech.word(
+            "neither --index nor --values is given",
+            "neither index nor values is given",
+        )),
         InvalidCause::HeaderType(name) => {
             write!(
                 f,
@@ -108,7 +128,8 @@ fn invalid_sentence<W: fmt::Write>(cause: &InvalidCause, f: &mut fmt::Formatter<
         InvalidCause::AggType(name) => {
             write!(
                 f,
-                "--agg doesn't take the type of column \"{}\"",
+                "{} doesn't take the type of column \"{}\"",
+                speech.word("--agg", "agg"),
                 shown(name.as_str())
             )
         }
@@ -122,12 +143,17 @@ fn invalid_sentence<W: fmt::Write>(cause: &InvalidCause, f: &mut fmt::Formatter<
     }
 }
 
-fn compute_sentence<W: fmt::Write>(cause: &ComputeCause, f: &mut fmt::Formatter<W>) -> fmt::Result {
+fn compute_sentence<W: fmt::Write>(
+    cause: &ComputeCause,
+    speech: Speech,
+    f: &mut fmt::Formatter<W>,
+) -> fmt::Result {
     match cause {
         ComputeCause::KeyTypes { place } => write!(
             f,
-            "the columns of key {} of --on are of different types: give --types for both",
-            place.saturating_add(1)
+            "the columns of key {} of {} are of different types: give --types for both",
+            place.saturating_add(1),
+            speech.word("--on", "left_on and right_on")
         ),
         ComputeCause::Validation(side) => {
             write!(f, "two {} rows have equal keys", side_word(*side))
@@ -139,7 +165,11 @@ fn compute_sentence<W: fmt::Write>(cause: &ComputeCause, f: &mut fmt::Formatter<
             write!(f, "a column is called \"{}\" already", shown(name.as_str()))
         }
         ComputeCause::ManyInGroup => {
-            f.write_str("a cell would have several values, and --agg is not given")
+            write!(
+                f,
+                "a cell would have several values, and {} is not given",
+                speech.word("--agg", "agg")
+            )
         }
         ComputeCause::SumRange(name) => {
             write!(
@@ -156,7 +186,7 @@ fn compute_sentence<W: fmt::Write>(cause: &ComputeCause, f: &mut fmt::Formatter<
 
 /// Why an operation refuses its tables or its arguments.
 #[derive(Drop)]
-pub(crate) struct RefusalSentence<'a>(pub(crate) &'a PolarsError);
+pub(crate) struct RefusalSentence<'a>(pub(crate) &'a PolarsError, pub(crate) Speech);
 
 impl fmt::Display for RefusalSentence<'_> {
     fn fmt<W: fmt::Write>(&self, f: &mut fmt::Formatter<W>) -> fmt::Result {
@@ -164,8 +194,8 @@ impl fmt::Display for RefusalSentence<'_> {
             PolarsError::ColumnNotFound(name) => {
                 write!(f, "no column is called \"{}\"", shown(name.as_str()))
             }
-            PolarsError::InvalidOperation(cause) => invalid_sentence(cause, f),
-            PolarsError::ComputeError(cause) => compute_sentence(cause, f),
+            PolarsError::InvalidOperation(cause) => invalid_sentence(cause, self.1, f),
+            PolarsError::ComputeError(cause) => compute_sentence(cause, self.1, f),
             PolarsError::Duplicate(name) => {
                 write!(
                     f,

@@ -5,9 +5,14 @@ use std::fmt;
 /// A text as sentences have it, within one line: line feeds, tabs and carriage returns as `\n`, `\t` and `\r`, and other control
 /// characters as U+FFFD, so that no name of a file can steer the terminal by them.
 #[derive(Clone, Copy)]
-pub(crate) struct Shown<'a>(pub(crate) &'a str);
+pub struct OneLine<'a>(&'a str);
 
-impl fmt::Display for Shown<'_> {
+/// A name or a word as sentences have it.
+pub fn shown(text: &str) -> OneLine<'_> {
+    OneLine(text)
+}
+
+impl fmt::Display for OneLine<'_> {
     fn fmt<W: fmt::Write>(&self, f: &mut fmt::Formatter<W>) -> fmt::Result {
         for c in self.0.chars() {
             match c {

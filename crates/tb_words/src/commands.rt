@@ -8,10 +8,14 @@ use std::alloc::{AllocError, Global};
 enum Takes {
     // A file, at its place among the words.
     File,
+    // One or more words of this form, behind all others that have a place.
+    Last(&'static str),
     // One of these words, at its place among the words.
     Place(&'static [&'static str]),
     // A file to write, which `-o` names too.
     Output,
+    // A folder to write to, which `-o` names too, and there must be one.
+    Folder,
     // One text, which this word stands for in the help.
     Text(&'static str),
     // One text, which may begin with a hyphen.
@@ -20,6 +24,8 @@ enum Takes {
     Names(&'static str),
     // The same, and there must be one.
     SomeNames(&'static str),
+    // One text, and there must be one.
+    SomeText(&'static str),
     // No name, or one behind `=`, as often as it is used.
     NameBehindSign(&'static str),
     // One of these words.
@@ -56,18 +62,22 @@ const OUTPUT: Word = Word(
     "Where the answer goes, else standard output",
 );
 
+const TYPES: Word = Word(
+    "types",
+    Takes::Names("NAME=TYPE"),
+    "Types: bool, date, i8 to i128, u8 to u64, str",
+);
+
+const SEPARATOR: Word = Word(
+    "separator",
+    Takes::Text("CHARACTER"),
+    "What stands between fields [default: ,]",
+);
+
 // What each command has that reads files and writes an answer.
 const SHARED: &[Word] = &[
-    Word(
-        "types",
-        Takes::Names("NAME=TYPE"),
-        "Types: bool, date, i8 to i128, u8 to u64, str",
-    ),
-    Word(
-        "separator",
-        Takes::Text("CHARACTER"),
-        "What stands between fields [default: ,]",
-    ),
+    TYPES,
+    SEPARATOR,
     Word(
         "as",
         Takes::Choice(&["csv", "json", "table"]),
@@ -239,6 +249,112 @@ const DUMMIES: Form = Form {
     shared: SHARED,
 };
 
+const PLAN: Form = Form {
+    name: "plan",
+    about: "Joins and filters tables by a plan",
+    usage: "muigratu plan <PLAN> <NAME=FILE>... [OPTIONS]",
+    after: "Example:{n}  muigratu plan plan.json orders=orders.csv customers=customers.csv{n}{n}The plan is an object in JSON: root, and perhaps pivot and push, as in requests.{n}NAME is what the plan calls the table of FILE.{n}The type of a column is told from its file alone; --types NAME=str reads texts.{n}Decimal numbers are texts, which compare by their characters.",
+    words: &[
+        Word("PLAN", Takes::File, "The plan, or - for standard input"),
+        Word(
+            "TABLES",
+            Takes::Last("NAME=FILE"),
+            "The tables, each by its name in the plan",
+        ),
+        Word(
+            "explain",
+            Takes::Nothing,
+            "Print the tree as it is run, and how many rows",
+        ),
+    ],
+    shared: SHARED,
+};
+
+const DELTA: Form = Form {
+    name: "delta",
+    about: "Tells what changes of rows change in a join of two tables",
+    usage: "muigratu delta <LEFT> <RIGHT> --on <KEY[=KEY]> --steps <FILE> [OPTIONS]",
+    after: "Example:{n}  muigratu delta orders.csv customers.csv --on customer=id --steps steps.jsonl{n}{n}Each line of the steps is a step in JSON:{n}  {\"insert\":\"right\",\"row\":{\"id\":30,\"name\":\"Alan\",\"town\":null}}{n}  {\"remove\":\"left\",\"id\":0}{n}A row has a field for each column, which is null where there is no value.{n}The rows of a file have the ids 0, 1, 2 and so on, and new rows the next ones.{n}Without --table each pair of rows that comes (+) or goes (-) is a row: the{n}number of the step, the sign, and the ids of the left and the right row.",
+    words: &[
+        Word(
+            "LEFT",
+            Takes::File,
+            "The left table, or - for standard input",
+        ),
+        Word(
+            "RIGHT",
+            Takes::File,
+            "The right table, or - for standard input",
+        ),
+        Word(
+            "on",
+            Takes::SomeText("KEY[=KEY]"),
+            "Names of the key columns",
+        ),
+        Word(
+            "steps",
+            Takes::SomeText("FILE"),
+            "Rows put in and taken out, a step a line",
+        ),
+        Word("join-nulls", Takes::Nothing, "Absent keys match"),
+        Word(
+            "table",
+            Takes::Nothing,
+            "Write the joined table behind all steps",
+        ),
+    ],
+    shared: SHARED,
+};
+
+const GROUP: Form = Form {
+    name: "group",
+    about: "Makes a row of each group of rows",
+    usage: "muigratu group <TABLE> --by <NAME>... [OPTIONS]",
+    after: "Example:{n}  muigratu group orders.csv --by day --agg total=sum:cents orders=count:order{n}{n}The file comes first, since --by takes all words up to the next option.{n}KIND is first, last, count, sum, min or max of the values of column NAME in a{n}group; NEW is what the new column is called. Without --agg each group is told.{n}Groups come in the order of their first rows; with --sort in that of the values{n}of the columns of --by, an absent value first.{n}Decimal numbers are texts, which neither min and max nor --sort compare unless{n}--types NAME=str says that they are texts.",
+    words: &[
+        TABLE,
+        Word(
+            "by",
+            Takes::SomeNames("NAME"),
+            "Rows with the same values here are a group",
+        ),
+        Word(
+            "agg",
+            Takes::Names("NEW=KIND:NAME"),
+            "Columns that are made of each group",
+        ),
+        Word("sort", Takes::Nothing, "Groups go by the values of --by"),
+    ],
+    shared: SHARED,
+};
+
+const SPLIT: Form = Form {
+    name: "split",
+    about: "Splits a table into files by its keys",
+    usage: "muigratu split <TABLE> --on <NAME>... --parts <NUMBER> --output <FOLDER> [OPTIONS]",
+    after: "Example:{n}  muigratu split orders.csv --on customer --parts 4 --output parts{n}{n}The file comes first, since --on takes all words up to the next option.{n}Rows with the same keys stand in one file. Two tables that are split with one{n}NUMBER meet part by part: a join of them is the joins of part-0.csv with{n}part-0.csv, of part-1.csv with part-1.csv and so on, if both read their keys{n}by one type, which --types gives where the files differ.",
+    words: &[
+        TABLE,
+        Word("on", Takes::SomeNames("NAME"), "Names of the key columns"),
+        Word(
+            "parts",
+            Takes::SomeText("NUMBER"),
+            "How many files, from 1 to 65536",
+        ),
+        Word(
+            "number",
+            Takes::Text("NAME"),
+            "A first column of this name numbers the rows",
+        ),
+        Word(
+            "output",
+            Takes::Folder,
+            "Where the files go: part-0.csv and so on",
+        ),
+    ],
+    shared: &[TYPES, SEPARATOR],
+};
+
 const WHY: Form = Form {
     name: "why",
     about: "Tells whether a text is a request, or why not and where",
@@ -247,7 +363,9 @@ const WHY: Form = Form {
     words: &[
         Word(
             "COMMAND",
-            Takes::Place(&["join", "unpivot", "dummies", "pivot"]),
+            Takes::Place(&[
+                "join", "unpivot", "dummies", "pivot", "plan", "delta", "group",
+            ]),
             "The command whose request it is to be",
         ),
         Word(
@@ -279,7 +397,9 @@ const REQUEST: Form = Form {
     shared: &[OUTPUT],
 };
 
-const FORMS: [Form; 6] = [JOIN, PIVOT, UNPIVOT, DUMMIES, WHY, REQUEST];
+const FORMS: [Form; 10] = [
+    JOIN, PIVOT, UNPIVOT, DUMMIES, PLAN, DELTA, GROUP, SPLIT, WHY, REQUEST,
+];
 
 fn placed_arg<'a>(alloc: Global, name: &'a str) -> Arg<'a> {
     Arg::new(alloc, name).action(ArgAction::Set).required(true)
@@ -295,9 +415,12 @@ fn named_arg<'a>(alloc: Global, name: &'a str, takes: Takes) -> Arg<'a> {
     let arg = Arg::new(alloc, name).long(name).action(ArgAction::Set);
     match takes {
         Takes::File => placed_arg(alloc, name),
+        Takes::Last(value) => many(placed_arg(alloc, name), value),
         Takes::Place(words) => placed_arg(alloc, name).value_parser(words),
         Takes::Output => arg.short('o').value_name("FILE"),
+        Takes::Folder => arg.short('o').value_name("FOLDER").required(true),
         Takes::Text(value) => arg.value_name(value),
+        Takes::SomeText(value) => arg.value_name(value).required(true),
         Takes::Hyphened(value) => arg.value_name(value).allow_hyphen_values(true),
         Takes::Names(value) => many(arg, value),
         Takes::SomeNames(value) => many(arg, value).required(true),
@@ -354,7 +477,7 @@ fn named_program<'a>(alloc: Global) -> Result<Command<'a>, AllocError> {
 }
 
 /// The program's command, with its subcommands.
-pub(crate) fn program<'a>(alloc: Global) -> Result<Command<'a>, AllocError> {
+pub fn program<'a>(alloc: Global) -> Result<Command<'a>, AllocError> {
     let mut program = named_program(alloc)?;
     for form in &FORMS {
         program = with_command(alloc, program, *form)?;

@@ -1,0 +1,3 @@
+mod Repeats
+mod Typed
+mod WholeNames
