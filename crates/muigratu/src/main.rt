@@ -2,6 +2,7 @@
 #![tactic(auto)]
 
 mod deltas;
+mod explaining;
 mod files;
 mod groups;
 mod plans;
@@ -21,7 +22,9 @@ use std::env::{self, Env};
 use std::io::{self, Input, IsTerminal};
 use std::process::ExitCode;
 use std::rt::Files;
-use std::thread::Threads;
+use std::thread::{Threads, available_parallelism};
+use std::time::Clock;
+use tb_asked::Host;
 use tb_sentences::Failure;
 use tb_words::{WordFault, program};
 use why::tell_why;
@@ -72,16 +75,24 @@ fn screen_width(rt: &(impl Env + AllocGlobal), is_screen: bool) -> Option<usize>
     Some(if columns == 0 { 80 } else { columns })
 }
 
+// How many processors there are, or 4 where that isn't told.
+fn processors(rt: &impl Threads) -> u32 {
+    match available_parallelism(rt) {
+        Ok(count) => u32::try_from(count.get()).unwrap_or(u32::MAX),
+        Err(_) => 4,
+    }
+}
+
 // Does what the command of this name is asked, and gives the status.
 fn done<'a>(
-    rt: &(impl Files + Input + Print + Threads + Sync),
+    rt: &(impl Files + Input + Print + Eprint + Clock + Threads + Sync),
     alloc: Global,
-    screen: Option<usize>,
+    host: Host,
     name: &str,
     matches: &ArgMatches<'a>,
 ) -> Result<u8, Failure<'a>> {
     if let Some(command) = TableCommand::named(name) {
-        run_command(rt, alloc, screen, command, matches)?;
+        run_command(rt, alloc, host, command, matches)?;
         return Ok(0);
     }
     match name {
@@ -100,8 +111,8 @@ fn done<'a>(
 
 // Does what the words ask, and gives the status.
 fn run(
-    rt: &(impl Files + Input + Print + Eprint + AllocGlobal + Threads + Sync),
-    screen: Option<usize>,
+    rt: &(impl Files + Input + Print + Eprint + AllocGlobal + Clock + Threads + Sync),
+    host: Host,
     words: &[String],
 ) -> u8 {
     let Ok(command) = program(rt.alloc()) else {
@@ -114,7 +125,7 @@ fn run(
     let Some((name, matches)) = matches.subcommand() else {
         return 2;
     };
-    match done(rt, rt.alloc(), screen, name, matches) {
+    match done(rt, rt.alloc(), host, name, matches) {
         Ok(status) => status,
         Err(failure) => told(rt, &failure),
     }
@@ -123,8 +134,12 @@ fn run(
 fn main(rt: HostRuntime) -> ExitCode {
     match words_given(&rt) {
         Ok(words) => {
-            let screen = screen_width(&rt, rt.stdout().is_terminal());
-            ExitCode::from(run(&rt, screen, &words))
+            let host = Host {
+                screen: screen_width(&rt, rt.stdout().is_terminal()),
+                attended: rt.stderr().is_terminal(),
+                processors: processors(&rt),
+            };
+            ExitCode::from(run(&rt, host, &words))
         }
         Err(failure) => ExitCode::from(told(&rt, &failure)),
     }

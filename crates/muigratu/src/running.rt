@@ -10,7 +10,8 @@ use std::alloc::Global;
 use std::io::Input;
 use std::rt::Files;
 use std::thread::Threads;
-use tb_asked::text_options;
+use std::time::Clock;
+use tb_asked::{Host, text_options};
 use tb_front::TextOptions;
 use tb_sentences::Failure;
 
@@ -43,14 +44,15 @@ impl TableCommand {
 }
 
 fn answer<'a>(
-    rt: &(impl Files + Input + Threads + Sync),
+    rt: &(impl Files + Input + Eprint + Clock + Threads + Sync),
     alloc: Global,
+    host: Host,
     options: &TextOptions,
     command: TableCommand,
     matches: &ArgMatches<'a>,
 ) -> Result<Vec<u8>, Failure<'a>> {
     match command {
-        TableCommand::Join => joined(rt, alloc, options, matches),
+        TableCommand::Join => joined(rt, alloc, host, options, matches),
         TableCommand::Pivot => pivoted(rt, alloc, options, matches),
         TableCommand::Unpivot => unpivoted(rt, alloc, options, matches),
         TableCommand::Dummies => marked(rt, alloc, options, matches),
@@ -63,15 +65,15 @@ fn answer<'a>(
 /// Does what the command is asked: the text is made whole before any of it is written. Tables for people are as wide as the screen,
 /// if they go there.
 pub(crate) fn run_command<'a>(
-    rt: &(impl Files + Input + Print + Threads + Sync),
+    rt: &(impl Files + Input + Print + Eprint + Clock + Threads + Sync),
     alloc: Global,
-    screen: Option<usize>,
+    host: Host,
     command: TableCommand,
     matches: &ArgMatches<'a>,
 ) -> Result<(), Failure<'a>> {
     let output = matches.get_str("output");
-    let screen = screen.filter(|_| output.unwrap_or("-") == "-");
-    let options = text_options(alloc, screen, matches)?;
-    let text = answer(rt, alloc, &options, command, matches)?;
+    let screen = host.screen.filter(|_| output.unwrap_or("-") == "-");
+    let options = text_options(alloc, &Host { screen, ..host }, matches)?;
+    let text = answer(rt, alloc, host, &options, command, matches)?;
     write_text(rt, alloc, output, &text)
 }

@@ -1,12 +1,14 @@
 //! The commands that join two tables that lie in files, and that reshape one.
 
+use crate::explaining::{Audience, Explaining, Stage};
 use crate::files::read_text;
 use clap::ArgMatches;
 use std::alloc::Global;
 use std::io::Input;
 use std::rt::Files;
 use std::thread::Threads;
-use tb_asked::{dummies_call, join_call, pivot_call, unpivot_call};
+use std::time::Clock;
+use tb_asked::{Host, dummies_call, join_call, pivot_call, unpivot_call};
 use tb_front::{TextOptions, dummies_text, join_texts, pivot_text, unpivot_text};
 use tb_sentences::{Failure, text_or_failure};
 use tb_words::{WordFault, needed};
@@ -29,10 +31,22 @@ fn read_two<'a>(
     Ok(TwoTexts { left, right })
 }
 
+// Who is told how the join goes.
+fn audience(host: Host, matches: &ArgMatches<'_>) -> Audience {
+    if matches.get_flag("explain") {
+        Audience::Asking
+    } else if host.attended {
+        Audience::Waiting
+    } else {
+        Audience::Nobody
+    }
+}
+
 /// The text of two joined tables.
 pub(crate) fn joined<'a>(
-    rt: &(impl Files + Input + Threads + Sync),
+    rt: &(impl Files + Input + Eprint + Clock + Threads + Sync),
     alloc: Global,
+    host: Host,
     options: &TextOptions,
     matches: &ArgMatches<'a>,
 ) -> Result<Vec<u8>, Failure<'a>> {
@@ -42,11 +56,13 @@ pub(crate) fn joined<'a>(
         return Err(Failure::Words(WordFault::OneInput));
     }
     let call = join_call(alloc, matches)?;
+    let mut watch = Explaining::begun(rt, audience(host, matches));
     let TwoTexts { left, right } = read_two(rt, alloc, first, second)?;
-    text_or_failure(
-        &[first, second],
-        join_texts(rt, alloc, left, right, call, options),
-    )
+    let outcome = join_texts(rt, alloc, left, right, call, options, &mut watch);
+    if outcome.is_ok() {
+        watch.tell(Stage::Answered);
+    }
+    text_or_failure(&[first, second], outcome)
 }
 
 /// The text of a table that is made long.

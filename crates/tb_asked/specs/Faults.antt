@@ -10,12 +10,12 @@ use Rattle.tb_frame.specs.declared.null_flags.JoinNulls.{JoinNulls}
 use Rattle.tb_group_front.specs.Promise.Words.{agg_of_word}
 use Rattle.tb_request.specs.Promise.Written.{agg_named, coalesce_named, how_named, validation_named}
 use Rattle.tb_value.specs.Promise.Names.{Name}
-use Rattle.tb_words.specs.Numbers.{separator_in, IsSlice, IsWidth}
+use Rattle.tb_words.specs.Numbers.{separator_in, IsSlice, IsThreads, IsWidth}
 use Rattle.tb_words.specs.Words.{has_blank, words_given, words_of, IsUnknown}
 use Rattle.tb_words.specs.declared.fault.Choice.{Choice}
 use Rattle.tb_words.specs.declared.fault.Choice.TheVariants.{How, Validation, Coalesce, Order, Aggregate, Form, Command}
 use Rattle.tb_words.specs.declared.fault.WordFault.{WordFault}
-use Rattle.tb_words.specs.declared.fault.WordFault.TheVariants.{TypedTwice, NamedTwice, NoNamedFile, NoWord, EmptyOn, Wanting, NoType, NoSlice, NoKey, NoSeparator, NoAgg, NoWidth, NoParts, OneInput, NotUtf8, OutOfMemory}
+use Rattle.tb_words.specs.declared.fault.WordFault.TheVariants.{TypedTwice, NamedTwice, NoNamedFile, NoWord, EmptyOn, Wanting, NoType, NoSlice, NoKey, NoSeparator, NoAgg, NoWidth, NoParts, NoThreads, OneInput, NotUtf8, OutOfMemory}
 use Rattle.tb_asked.specs.Joins.{left_keys, nulls_meant, order_word, unknown_key}
 use Rattle.tb_asked.specs.Options.{form_word, AreTyped}
 use Rattle.tb_asked.specs.Plans.{file_named}
@@ -63,6 +63,8 @@ Tells words (NoSeparator word) = IsUnknown separator_in (first_value words (code
 Tells words (NoAgg word) = GivesNone agg_of_word (words_given words (codes "agg")) word.now
 Tells words (NoWidth word) = IsSomeAnd (first_value words (codes "width")) (λ w. ¬ (IsWidth w))
 Tells words (NoParts word) = IsSomeAnd (first_value words (codes "parts")) (λ w. ¬ (IsCount w))
+Tells words (NoThreads word) =
+    IsSomeAnd (first_value words (codes "threads")) (λ w. ¬ (IsThreads w))
 Tells words OneInput = ⊥
 Tells words NotUtf8 = ⊥
 Tells words OutOfMemory = ⊤

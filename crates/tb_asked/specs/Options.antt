@@ -1,5 +1,5 @@
 -- How files are read and answers are written, as words say it.
-use Rattle.std.specs.Prelude.{◌≡◌, ◌^◌, ◌-◌, List, [], ◌∷◌, ℕ, Option, Some, None, codes, if◌then◌else◌, map, unwrap_or, ⊤}
+use Rattle.std.specs.Prelude.{◌≡◌, ◌≤◌, ◌^◌, ◌-◌, List, [], ◌∷◌, ℕ, Option, Some, None, codes, if◌then◌else◌, map, unwrap_or, ⊤}
 use Rattle.std.specs.Str.{bytes_eq}
 use Rattle.std.specs.Str.Pattern.{RFindsChar, SplitsAroundMatch}
 use Rattle.clap.specs.Matches.{first_value}
@@ -12,7 +12,8 @@ use Rattle.tb_frame.specs.Promise.Refusal.{repeated_among}
 use Rattle.tb_front.specs.declared.options.TextForm.{TextForm}
 use Rattle.tb_front.specs.declared.options.TextForm.TheVariants.{Csv, Json, Layout}
 use Rattle.tb_front.specs.declared.options.TextOptions.{TextOptions}
-use Rattle.tb_words.specs.Numbers.{number_of, separator_in, IsWidth}
+use Rattle.tb_words.specs.Numbers.{number_of, separator_in, IsThreads, IsWidth}
+use Rattle.tb_asked.specs.declared.options.Host.{Host}
 use Rattle.tb_words.specs.Words.{word_means, words_given}
 
 -- ---- types
@@ -78,10 +79,19 @@ form_word width w =
 abbrev pub form_meant : ℕ → Found → Option TextForm
 form_meant width words = word_means (form_word width) Csv (first_value words (codes "as"))
 
+-- ---- threads
+
+-- the number of the word, or else that of the processors, as far as it is one of 1 to 1,024
+abbrev pub IsThreadsOf : ℕ → Option (List ℕ) → ℕ → Type 0
+IsThreadsOf processors None n =
+    (1 ≤ n) × (n ≤ 1024) × (1 ≤ processors → processors ≤ 1024 → n ≡ processors)
+IsThreadsOf processors (Some word) n = IsThreads word × (n ≡ number_of word)
+
 -- ---- the whole
 
-pub record AsksOptions (screen : Option ℕ) (words : Found) (o : TextOptions) : Type 0 where
+pub record AsksOptions (host : Host) (words : Found) (o : TextOptions) : Type 0 where
   pub csv : AsksCsv words o.csv
   pub width : ℕ
-  pub wide : IsWidthOf screen (first_value words (codes "width")) width
+  pub wide : IsWidthOf host.screen (first_value words (codes "width")) width
   pub form : form_meant width words ≡ Some o.form
+  pub threads : IsThreadsOf host.processors (first_value words (codes "threads")) o.exec.workers

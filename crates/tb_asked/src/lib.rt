@@ -13,7 +13,7 @@ mod splits;
 pub use deltas::delta_call;
 pub use groups::group_call;
 pub use joins::join_call;
-pub use options::{csv_options, text_options};
+pub use options::{Host, csv_options, text_options};
 pub use plans::{NamedFile, named_files};
 pub use shapes::{dummies_call, pivot_call, unpivot_call};
 pub use splits::split_call;

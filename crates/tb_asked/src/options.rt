@@ -1,17 +1,29 @@
 //! How files are read and answers are written, as words say it.
-ghost use Rattle.std.specs.Prelude.{◌≡◌, [], codes, map, unwrap_or, IfOk, MatchResult, Some};
+ghost use Rattle.std.specs.Prelude.{◌≡◌, ◌≤◌, [], codes, map, unwrap_or, IfOk, MatchResult, None, Some};
 ghost use Rattle.clap.specs.Matches.{first_value, found_of};
 ghost use Rattle.tb_words.specs.Words.{given_words};
 ghost use Rattle.tb_asked.specs.Faults.{IsNoType, IsTypeFault, Tells};
-ghost use Rattle.tb_asked.specs.Options.{form_meant, form_word, separator_asked, type_named, AreTyped, AskTypes, AsksCsv, AsksOptions, IsTyped, IsWidthOf};
+ghost use Rattle.tb_asked.specs.Options.{form_meant, form_word, separator_asked, type_named, AreTyped, AskTypes, AsksCsv, AsksOptions, IsThreadsOf, IsTyped, IsWidthOf};
 
 use clap::ArgMatches;
 use std::alloc::Global;
 use tb_csv::{CsvOptions, FieldType, TypeOf};
 use tb_frame::check_repeated;
 use tb_front::{TextForm, TextOptions};
+use tb_pool::Exec;
 use tb_value::{OutOfMemory, PlSmallStr, PolarsError};
-use tb_words::{Choice, WordFault, separator_of, width_of};
+use tb_words::{Choice, WordFault, separator_of, threads_of, width_of};
+
+/// What a command runs on.
+#[derive(Clone, Copy)]
+pub struct Host {
+    /// How many columns the screen has that the answer goes to, if it goes to one.
+    pub screen: Option<usize>,
+    /// Whether somebody at a terminal reads standard error.
+    pub attended: bool,
+    /// How many processors there are.
+    pub processors: u32,
+}
 
 fn type_named(word: &str) -> Option<FieldType>
     ensures { result ≡ type_named word.now }
@@ -148,6 +160,52 @@ fn form_given<'a>(width: usize, matches: &ArgMatches<'a>) -> Result<TextForm, Wo
     }
 }
 
+// One for each processor, as far as a call takes so many.
+fn threads_for(processors: u32) -> u32
+    ensures { IsThreadsOf processors None result }
+{
+    if processors < 1 {
+        1
+    } else if processors > 1024 {
+        1024
+    } else {
+        processors
+    }
+}
+
+// The number of threads that is given, or one for each processor.
+fn threads_given<'a>(processors: u32, matches: &ArgMatches<'a>) -> Result<u32, WordFault<'a>>
+    ensures { let words = found_of matches.now in MatchResult result
+        (IsThreadsOf processors (first_value words (codes "threads"))) (Tells words) }
+{
+    let Some(word) = matches.get_str("threads") else {
+        return Ok(threads_for(processors));
+    };
+    match threads_of(word) {
+        Some(count) => Ok(count),
+        None => Err(WordFault::NoThreads(word)),
+    }
+}
+
+// Work for so many threads, in twice as many parts, so that none waits long for another.
+fn exec_for(threads: u32) -> Exec
+    requires { (1 ≤ threads) × (threads ≤ 1024) }
+    ensures { result.workers ≡ threads }
+{
+    let standard = Exec::standard();
+    let partitions = if threads < 4 {
+        8
+    } else if threads > 512 {
+        1024
+    } else {
+        threads * 2
+    };
+    match Exec::new(threads, partitions, standard.small(), 1, 1) {
+        Ok(exec) => exec,
+        Err(_) => standard,
+    }
+}
+
 /// How files are read.
 ///
 /// # Errors
@@ -163,22 +221,24 @@ pub fn csv_options<'a>(alloc: Global, matches: &ArgMatches<'a>) -> Result<CsvOpt
     Ok(CsvOptions { separator, types })
 }
 
-/// How files are read, and the form of the answer. Tables for people are as wide as the screen where no width is given, if there is one.
+/// How files are read, the form of the answer, and how many threads work on it. Tables for people are as wide as the screen where no
+/// width is given, if there is one.
 ///
 /// # Errors
 ///
-/// In this order: `NoWidth`; `NoWord` of `--as`, where no table has the word; those of `csv_options`. `OutOfMemory` may come at any
-/// time.
+/// In this order: `NoWidth`; `NoWord` of `--as`, where no table has the word; `NoThreads`; those of `csv_options`. `OutOfMemory` may
+/// come at any time.
 pub fn text_options<'a>(
     alloc: Global,
-    screen: Option<usize>,
+    host: &Host,
     matches: &ArgMatches<'a>,
 ) -> Result<TextOptions, WordFault<'a>>
     ensures { let words = found_of matches.now in
-        MatchResult result (AsksOptions screen words) (Tells words) }
+        MatchResult result (AsksOptions host.now words) (Tells words) }
 {
-    let width = width_given(screen, matches)?;
+    let width = width_given(host.screen, matches)?;
     let form = form_given(width, matches)?;
+    let exec = exec_for(threads_given(host.processors, matches)?);
     let csv = csv_options(alloc, matches)?;
-    Ok(TextOptions { csv, form })
+    Ok(TextOptions { csv, form, exec })
 }

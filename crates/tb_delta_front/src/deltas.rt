@@ -29,7 +29,6 @@ use tb_front::{
     FrontFault, StepCause, TextOptions, TwoTables, check_keys, next_number, read_tables, refused,
     written,
 };
-use tb_pool::Exec;
 use tb_value::{AnyValue, OutOfMemory, PlSmallStr, Side};
 
 /// What is asked of two tables whose join is kept.
@@ -381,7 +380,7 @@ fn end_text(
     ensures settles { Settles result (end_faults options.now.form (now view)) }
     ensures answer { IfOk result (λ v. IsAnswerText options.now (now view) v.items) }
 {
-    let outcome = view.table(rt, alloc, &Exec::standard());
+    let outcome = view.table(rt, alloc, &options.exec);
     drop(view);
     written(rt, alloc, options.form, options.csv.separator, outcome)
 }

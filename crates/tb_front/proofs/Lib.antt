@@ -1,9 +1,10 @@
-pub mod Steps
-pub mod Outcomes
+mod Watching
+pub mod Dues
+pub mod Each
 pub mod Joined
-pub mod OneTable
 pub mod NoClash
+pub mod OneTable
+pub mod Outcomes
+pub mod Steps
 pub mod TextFaults
 pub mod Undecimal
-pub mod Each
-pub mod Dues

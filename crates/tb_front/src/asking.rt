@@ -1,5 +1,5 @@
 //! The operations over texts.
-ghost use Rattle.std.specs.Prelude.{◌≡◌, IfOk};
+ghost use Rattle.std.specs.Prelude.{◌≡◌, Err, IfOk, MatchResult, Ok};
 ghost use Rattle.tb_value.specs.Promise.Refusals.{first_cause};
 ghost use Rattle.tb_frame.specs.Promise.Table.{table_of};
 ghost use Rattle.tb_unpivot.specs.Promise.Unpivot.{unpivot_table};
@@ -16,21 +16,41 @@ use crate::marking::with_names;
 use crate::options::TextOptions;
 use crate::pivoting::check_decimals;
 use crate::reading::{TwoTables, read_table, read_tables};
+use crate::watch::Watch;
 use crate::writing::written;
 use std::alloc::Global;
 use std::thread::Threads;
 use tb_calls::{
-    DummiesCall, JoinCall, PivotCall, UnpivotArgsIR, joined, made_long, made_wide, with_dummies,
+    DummiesCall, JoinCall, PivotCall, UnpivotArgsIR, joined_traced, made_long, made_wide,
+    with_dummies,
 };
 use tb_frame::DataFrame;
-use tb_pool::Exec;
+use tb_join::JoinTrace;
+use tb_value::PolarsResult;
 
-fn join_tables(
+// The table of a join, of which the watch is told.
+fn watched<W: Watch>(
+    outcome: PolarsResult<(DataFrame, JoinTrace)>,
+    watch: &mut W,
+) -> PolarsResult<DataFrame>
+    ensures { MatchResult outcome (λ r. result ≡ Ok r.0) (λ e. result ≡ Err e) }
+{
+    match outcome {
+        Ok((table, trace)) => {
+            watch.joined(table.height(), &trace);
+            Ok(table)
+        }
+        Err(error) => Err(error),
+    }
+}
+
+fn join_tables<W: Watch>(
     rt: &(impl Threads + Sync),
     alloc: Global,
     tables: TwoTables,
     call: JoinCall,
     options: &TextOptions,
+    watch: &mut W,
 ) -> Result<Vec<u8>, FrontFault>
     ensures settles { Settles result
         (joining_fault options.now.form call (table_of tables.left) (table_of tables.right)) }
@@ -40,13 +60,16 @@ fn join_tables(
 {
     let TwoTables { left, right } = tables;
     check_keys(alloc, &left, &right, &call.left_on, &call.right_on)?;
-    let outcome = joined(rt, alloc, left, right, call, &Exec::standard());
+    watch.read(left.height(), right.height());
+    let outcome = joined_traced(rt, alloc, left, right, call, &options.exec);
+    let outcome = watched(outcome, watch);
     written(rt, alloc, options.form, options.csv.separator, outcome)
 }
 
 /// Joins the tables that two texts of comma-separated values are. A key has the type that is given for its name, or the one that
 /// both texts tell together, as `types_with_keys` of `tb_csv` has it. The texts are let go once both are read, and the tables before
-/// the answer's text is made. That text is the one of a table that answers the request, in the form that is asked.
+/// the answer's text is made. That text is the one of a table that answers the request, in the form that is asked. The watch is told how
+/// far the join is.
 ///
 /// # Errors
 ///
@@ -54,13 +77,14 @@ fn join_tables(
 /// second, 3 `UnknownType` of a name that no column of either has, 4 `NoTable` of the first text, where a field isn't of the type of
 /// its column, 5 the same of the second, 6 `KeyTypes` of the first key whose columns are of different types, 7 `Refused`, as the join
 /// refuses, 8 `NoText`.
-pub fn join_texts(
+pub fn join_texts<W: Watch>(
     rt: &(impl Threads + Sync),
     alloc: Global,
     left: Vec<u8>,
     right: Vec<u8>,
     call: JoinCall,
     options: &TextOptions,
+    watch: &mut W,
 ) -> Result<Vec<u8>, FrontFault>
     ensures settles { Settles result (join_fault options.now call left.items right.items) }
     ensures answer { IfOk result (λ v.
@@ -75,7 +99,7 @@ pub fn join_texts(
         &call.left_on,
         &call.right_on,
     )?;
-    join_tables(rt, alloc, tables, call, options)
+    join_tables(rt, alloc, tables, call, options, watch)
 }
 
 fn long_text(

@@ -11,6 +11,7 @@ mod numbers;
 mod options;
 mod pivoting;
 mod reading;
+mod watch;
 mod writing;
 
 pub use asking::{dummies_text, join_texts, pivot_text, unpivot_text};
@@ -21,4 +22,5 @@ pub use nulls::named_flags;
 pub use numbers::next_number;
 pub use options::{TextForm, TextOptions};
 pub use reading::{TwoTables, check_types, read_at, read_table, read_tables};
+pub use watch::{Unwatched, Watch};
 pub use writing::{refused, text_of_table, written};

@@ -1,6 +1,7 @@
-//! How texts are read and written.
+//! How texts are read and written, and how work is run.
 
 use tb_csv::CsvOptions;
+use tb_pool::Exec;
 
 /// The form that an answer is written in.
 #[derive(Clone, Copy)]
@@ -13,9 +14,10 @@ pub enum TextForm {
     Layout(usize),
 }
 
-/// How texts are read, and the form of the answer.
+/// How texts are read, the form of the answer, and how what is made of tables is run, on which no answer depends.
 #[derive(Drop)]
 pub struct TextOptions {
     pub csv: CsvOptions,
     pub form: TextForm,
+    pub exec: Exec,
 }

@@ -26,14 +26,14 @@ fn groups_of(
     alloc: Global,
     table: DataFrame,
     call: &GroupCall,
+    exec: &Exec,
 ) -> PolarsResult<DataFrame>
     ensures settles { causes.Settles result
         (group_refusal (asked_groups call.now (table_of table))) }
     ensures table { IfOk result (λ t.
         table_of t ≡ group_table (asked_groups call.now (table_of table))) }
 {
-    let exec = Exec::standard();
-    let (groups, _parts) = group_by(rt, alloc, &table, &call.by, &call.aggs, &exec, &OpenGate)?;
+    let (groups, _parts) = group_by(rt, alloc, &table, &call.by, &call.aggs, exec, &OpenGate)?;
     Ok(groups)
 }
 
@@ -59,12 +59,13 @@ fn grouped(
     alloc: Global,
     table: DataFrame,
     call: &GroupCall,
+    exec: &Exec,
 ) -> PolarsResult<DataFrame>
     ensures settles { causes.Settles result
         (group_refusal (asked_groups call.now (table_of table))) }
     ensures table { IfOk result (λ t. table_of t ≡ grouped_table call.now (table_of table)) }
 {
-    let groups = groups_of(rt, alloc, table, call)?;
+    let groups = groups_of(rt, alloc, table, call, exec)?;
     Ok(in_asked_order(alloc, groups, call)?)
 }
 
@@ -83,7 +84,7 @@ fn grouped_text(
         (grouped_table call.now (table_of table))) }
 {
     check_decimals(alloc, &options.csv.types, call, &table)?;
-    let outcome = grouped(rt, alloc, table, call);
+    let outcome = grouped(rt, alloc, table, call, &options.exec);
     written(rt, alloc, options.form, options.csv.separator, outcome)
 }
 

@@ -26,6 +26,7 @@ use tb_filter::Test;
 use tb_frame::{DataFrame, JoinArgs};
 use tb_front::{FrontFault, NodeTitle, next_number};
 use tb_node::{NamedTable, Names, Node, TableMap};
+use tb_pool::Exec;
 use tb_value::{OutOfMemory, PlSmallStr};
 
 /// A node of a plan that was run.
@@ -100,7 +101,7 @@ fn one_node(
         pivot: None,
         push: false,
     };
-    planned_table(rt, alloc, inputs, call)
+    planned_table(rt, alloc, inputs, call, &Exec::standard())
 }
 
 fn named(alloc: Global, name: &str, table: DataFrame) -> Result<NamedTable, OutOfMemory>
@@ -274,7 +275,7 @@ fn pivot_explained(
         pivot: Some(pivot),
         push: false,
     };
-    match planned_table(rt, alloc, inputs, call) {
+    match planned_table(rt, alloc, inputs, call, &Exec::standard()) {
         Ok(table) => Ok(with_line(table, lines, 0, NodeTitle::Pivot)?.lines),
         Err(fault) => Err(fault),
     }

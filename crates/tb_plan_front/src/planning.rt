@@ -52,6 +52,7 @@ fn outcome_of(
     tables: Vec<NamedTable>,
     root: Node,
     pivot: Option<PivotCall>,
+    exec: &Exec,
 ) -> Result<DataFrame, PlanFault>
     ensures { plan.Gives table_of result
         (plan_outcome (given_tables tables.items) (tree_of root) (option_map pivot_view pivot)) }
@@ -61,7 +62,7 @@ fn outcome_of(
         root,
         pivot,
         push: false,
-        exec: Exec::standard(),
+        exec: *exec,
     };
     planned(rt, alloc, request)
 }
@@ -72,13 +73,14 @@ pub(crate) fn planned_table(
     alloc: Global,
     tables: Vec<NamedTable>,
     call: PlanCall,
+    exec: &Exec,
 ) -> Result<DataFrame, FrontFault>
     ensures { Gives table_of result (planned_table (given_tables tables.items) (plan_asked call)) }
 {
     let PlanCall { root, pivot, push } = call;
     let root = run_root(alloc, &tables, root, push)?;
     let nodes = titles_of(alloc, &root)?;
-    match outcome_of(rt, alloc, tables, root, pivot) {
+    match outcome_of(rt, alloc, tables, root, pivot, exec) {
         Ok(table) => Ok(table),
         Err(fault) => Err(told(nodes, fault)),
     }
@@ -104,7 +106,7 @@ pub fn plan_text(
         (plan_text options.now (given_texts texts.items) (plan_asked call)) }
 {
     match tables_of(rt, alloc, &options.csv, texts) {
-        Ok(tables) => match planned_table(rt, alloc, tables, call) {
+        Ok(tables) => match planned_table(rt, alloc, tables, call, &options.exec) {
             Ok(table) => text_of_table(rt, alloc, options.form, options.csv.separator, table),
             Err(fault) => Err(fault),
         },

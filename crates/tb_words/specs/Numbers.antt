@@ -1,5 +1,5 @@
 -- What words mean that are numbers, and the byte between fields.
-use Rattle.std.specs.Prelude.{◌≡◌, ◌<◌, ◌^◌, ◌==◌, ◌&&◌, ◌||◌, ℕ, ℤ, Bool, List, [], ◌∷◌, length, if◌then◌else◌, Option, Some, None}
+use Rattle.std.specs.Prelude.{◌<◌, ◌≤◌, ◌^◌, ◌==◌, ◌&&◌, ◌||◌, ℕ, ℤ, Bool, List, [], ◌∷◌, length, if◌then◌else◌, Option, Some, None}
 use mir.Syntax.{w64}
 use mir.Val.{SFits as FitsSigned}
 use Rattle.std.specs.List.{after_first, before_first, position_or_len}
@@ -31,6 +31,10 @@ IsNumber word = IsNumeral 10 (without_leading_plus word) × (number_of word < 2 
 -- a width that is given is a whole number from 1 on
 abbrev pub IsWidth : List ℕ → Type 0
 IsWidth word = IsNumber word × (0 < number_of word)
+
+-- a number of threads that is given is one from 1 to 1,024
+abbrev pub IsThreads : List ℕ → Type 0
+IsThreads word = IsNumber word × (1 ≤ number_of word) × (number_of word ≤ 1024)
 
 -- ---- slices
 

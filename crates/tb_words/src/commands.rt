@@ -88,6 +88,11 @@ const SHARED: &[Word] = &[
         Takes::Text("COLUMNS"),
         "Of a table; what fits no line is named below it",
     ),
+    Word(
+        "threads",
+        Takes::Text("COUNT"),
+        "That join and group [default: one a processor]",
+    ),
     OUTPUT,
 ];
 
@@ -134,6 +139,11 @@ const JOIN: Form = Form {
             "validate",
             Takes::Choice(&["m:m", "m:1", "1:m", "1:1"]),
             "Unique keys: m:m (default), m:1, 1:m or 1:1",
+        ),
+        Word(
+            "explain",
+            Takes::Nothing,
+            "Tell on standard error how the join goes",
         ),
         Word(
             "coalesce",

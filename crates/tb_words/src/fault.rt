@@ -63,6 +63,8 @@ pub enum WordFault<'a> {
     NoWidth(&'a str),
     /// The word is no number of parts.
     NoParts(&'a str),
+    /// The word is no number of threads.
+    NoThreads(&'a str),
     /// Two files are to be read from standard input.
     OneInput,
     /// A word is not UTF-8.
@@ -153,6 +155,9 @@ impl fmt::Display for WordFault<'_> {
             }
             WordFault::NoParts(word) => {
                 write_refused("--parts takes a whole number from 1 to 65536", word, f)
+            }
+            WordFault::NoThreads(word) => {
+                write_refused("--threads takes a whole number from 1 to 1024", word, f)
             }
             WordFault::EmptyOn => f.write_str("--on takes names of columns, and not an empty word"),
             WordFault::OneInput => f.write_str("standard input can be one file only"),

@@ -10,5 +10,5 @@ mod visible;
 pub use commands::program;
 pub use fault::{Choice, WordFault};
 pub use names::{Part, name_in, names_given, names_of, needed, on_words, stands_alone, text_given};
-pub use numbers::{separator_of, slice_of, width_of};
+pub use numbers::{separator_of, slice_of, threads_of, width_of};
 pub use visible::{OneLine, shown};

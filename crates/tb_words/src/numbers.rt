@@ -1,6 +1,6 @@
 //! Words that are numbers, and the byte between fields.
 ghost use Rattle.std.specs.Prelude.{◌≡◌, MatchOption};
-ghost use Rattle.tb_words.specs.Numbers.{byte_between, number_of, separator_in, slice_of, IsSlice, IsWidth};
+ghost use Rattle.tb_words.specs.Numbers.{byte_between, number_of, separator_in, slice_of, IsSlice, IsThreads, IsWidth};
 
 fn byte_between(byte: u8) -> Option<u8>
     ensures { result ≡ byte_between byte }
@@ -35,6 +35,17 @@ pub fn width_of(word: &str) -> Option<usize>
 {
     match word.parse::<usize>() {
         Ok(width) if width > 0 => Some(width),
+        _ => None,
+    }
+}
+
+/// The number of threads that a word means: a whole number from 1 to 1,024.
+pub fn threads_of(word: &str) -> Option<u32>
+    ensures { MatchOption result (¬ IsThreads word.now)
+        (λ n. IsThreads word.now × (n ≡ number_of word.now)) }
+{
+    match word.parse::<u32>() {
+        Ok(count) if 1 <= count && count <= 1024 => Some(count),
         _ => None,
     }
 }

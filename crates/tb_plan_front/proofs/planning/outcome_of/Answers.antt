@@ -10,6 +10,6 @@ use Rattle.tb_plan_front.proofs.planning.outcome_of.Goals as goal
 pub returns : goal.returns
 returns g c =
     subst (λ (r : Result Table PlanFault). Gives table_of c.planned.result r)
-    (due (record { tables = c.args.tables; root = c.args.root; pivot = c.args.pivot; push = false; exec = c.standard.result })
+    (due (record { tables = c.args.tables; root = c.args.root; pivot = c.args.pivot; push = false; exec = c.args.exec.now })
     c.args.tables.items c.args.tables.items (tree_of c.args.root) (option_map pivot_view c.args.pivot) refl refl refl refl)
     c.planned.ensures
