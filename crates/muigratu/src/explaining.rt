@@ -31,7 +31,7 @@ impl fmt::Display for Seconds {
     }
 }
 
-// How full the parts are, a bar for each.
+// How many parts there are and how full they are, with a bar for each.
 #[derive(Clone, Copy, Drop)]
 struct Bars<'a>(&'a [usize]);
 
@@ -44,10 +44,11 @@ fn bar(size: usize, most: usize) -> char {
 impl fmt::Display for Bars<'_> {
     fn fmt<W: fmt::Write>(&self, f: &mut fmt::Formatter<W>) -> fmt::Result {
         let most = self.0.iter().copied().max().unwrap_or(0);
+        write!(f, "(parts: {}, fullest: {most}) ", self.0.len())?;
         for size in self.0.iter().take(MOST_BARS) {
             f.write_char(bar(*size, most))?;
         }
-        write!(f, " ({most} in the fullest)")
+        Ok(())
     }
 }
 
@@ -55,8 +56,7 @@ fn write_way<W: fmt::Write>(trace: &JoinTrace, f: &mut fmt::Formatter<W>) -> fmt
     match trace {
         JoinTrace::Hash(built) => {
             let side = if built.left_built() { "left" } else { "right" };
-            let bars = Bars(built.sizes());
-            write!(f, "{side} keys hashed in {} parts {bars}", built.parts())
+            write!(f, "{side} keys hashed {}", Bars(built.sizes()))
         }
         JoinTrace::Merge(merged) => write!(
             f,

@@ -1,3 +1,4 @@
+mod LastSigns
 mod Repeats
-mod Typed
+mod TypesGiven
 mod WholeNames

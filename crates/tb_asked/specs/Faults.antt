@@ -17,7 +17,7 @@ use Rattle.tb_words.specs.declared.fault.Choice.TheVariants.{How, Validation, Co
 use Rattle.tb_words.specs.declared.fault.WordFault.{WordFault}
 use Rattle.tb_words.specs.declared.fault.WordFault.TheVariants.{TypedTwice, NamedTwice, NoNamedFile, NoWord, EmptyOn, Wanting, NoType, NoSlice, NoKey, NoSeparator, NoAgg, NoWidth, NoParts, NoThreads, OneInput, NotUtf8, OutOfMemory}
 use Rattle.tb_asked.specs.Joins.{left_keys, nulls_meant, order_word, unknown_key}
-use Rattle.tb_asked.specs.Options.{form_word, AreTyped}
+use Rattle.tb_asked.specs.Options.{form_word, type_given, AreTyped}
 use Rattle.tb_asked.specs.Plans.{file_named}
 use Rattle.tb_asked.specs.Splits.{IsCount}
 
@@ -50,7 +50,7 @@ abbrev pub Tells : Found → WordFault → Type 0
 Tells words EmptyOn = has_blank (words_of words (codes "on")) ≡ true
 Tells words (Wanting option) = first_value words option.now ≡ None
 Tells words (NoWord choice word) = IsUnmeant words choice
-Tells words (NoType word) = Contains (words_given words (codes "types")) word.now
+Tells words (NoType word) = GivesNone type_given (words_given words (codes "types")) word.now
 Tells words (TypedTwice name) =
     (names : List Name) × TypeNames words names × IsSome (repeated_among names)
 Tells words (NoNamedFile word) =
@@ -78,12 +78,12 @@ GivesNulls keys words r = MatchResult r
 -- ---- of single words, and of the words of an option
 
 abbrev pub IsNoType : Bor (List ℕ) → WordFault → Type 0
-IsNoType word (NoType w) = w ≡ word
+IsNoType word (NoType w) = (w ≡ word) × (type_given word.now ≡ None)
 IsNoType word OutOfMemory = ⊤
 IsNoType word _ = ⊥
 
 abbrev pub IsTypeFault : List (List ℕ) → WordFault → Type 0
-IsTypeFault given (NoType w) = Contains given w.now
+IsTypeFault given (NoType w) = GivesNone type_given given w.now
 IsTypeFault given OutOfMemory = ⊤
 IsTypeFault given _ = ⊥
 

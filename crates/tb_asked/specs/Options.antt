@@ -1,7 +1,7 @@
 -- How files are read and answers are written, as words say it.
-use Rattle.std.specs.Prelude.{◌≡◌, ◌≤◌, ◌^◌, ◌-◌, List, [], ◌∷◌, ℕ, Option, Some, None, codes, if◌then◌else◌, map, unwrap_or, ⊤}
+use Rattle.std.specs.Prelude.{◌≡◌, ◌==◌, ◌≤◌, ◌^◌, ◌-◌, List, [], ◌∷◌, ℕ, Option, Some, None, codes, if◌then◌else◌, length, map, option_map, unwrap_or}
+use Rattle.std.specs.List.{after_last, before_last, position_or_len}
 use Rattle.std.specs.Str.{bytes_eq}
-use Rattle.std.specs.Str.Pattern.{RFindsChar, SplitsAroundMatch}
 use Rattle.clap.specs.Matches.{first_value}
 use Rattle.clap.specs.declared.parser.matches.Found.{Found}
 use Rattle.tb_csv.specs.declared.field_type.FieldType.{FieldType}
@@ -9,12 +9,13 @@ use Rattle.tb_csv.specs.declared.field_type.FieldType.TheVariants as type
 use Rattle.tb_csv.specs.declared.options.CsvOptions.{CsvOptions}
 use Rattle.tb_csv.specs.declared.options.TypeOf.{TypeOf}
 use Rattle.tb_frame.specs.Promise.Refusal.{repeated_among}
+use Rattle.tb_value.specs.Promise.Names.{Name}
 use Rattle.tb_front.specs.declared.options.TextForm.{TextForm}
 use Rattle.tb_front.specs.declared.options.TextForm.TheVariants.{Csv, Json, Layout}
 use Rattle.tb_front.specs.declared.options.TextOptions.{TextOptions}
 use Rattle.tb_words.specs.Numbers.{number_of, separator_in, IsThreads, IsWidth}
 use Rattle.tb_asked.specs.declared.options.Host.{Host}
-use Rattle.tb_words.specs.Words.{word_means, words_given}
+use Rattle.tb_words.specs.Words.{is_sign, word_means, words_given}
 
 -- ---- types
 
@@ -34,17 +35,17 @@ type_named w =
     else if bytes_eq w (codes "date") then Some type.Date
     else None
 
--- a word gives the type behind its last `=`, which is 61, to the name before it
-abbrev pub IsTyped : List ℕ → TypeOf → Type 0
-IsTyped word t = (type_word : List ℕ)
-    × SplitsAroundMatch (RFindsChar 61) word t.name type_word
-    × (type_named type_word ≡ Some t.field_type)
+abbrev pub typed_name : TypeOf → Name × FieldType
+typed_name t = (t.name, t.field_type)
+
+-- the name before the last `=` of a word, and the type behind it
+abbrev pub type_given : List ℕ → Option (Name × FieldType)
+type_given w = if position_or_len is_sign w == length w then None
+    else option_map (λ t. (before_last is_sign w, t)) (type_named (after_last is_sign w))
 
 -- each word gives the type at its place
 abbrev pub AreTyped : List (List ℕ) → List TypeOf → Type 0
-AreTyped [] [] = ⊤
-AreTyped (w ∷ ws) (t ∷ ts) = IsTyped w t × AreTyped ws ts
-AreTyped _ _ = ⊥
+AreTyped given types = map Some (map typed_name types) ≡ map type_given given
 
 -- each word of --types gives a type, and no two to one name
 pub record AskTypes (words : Found) (types : List TypeOf) : Type 0 where

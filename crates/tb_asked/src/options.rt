@@ -3,7 +3,7 @@ ghost use Rattle.std.specs.Prelude.{◌≡◌, ◌≤◌, [], codes, map, unwrap
 ghost use Rattle.clap.specs.Matches.{first_value, found_of};
 ghost use Rattle.tb_words.specs.Words.{given_words};
 ghost use Rattle.tb_asked.specs.Faults.{IsNoType, IsTypeFault, Tells};
-ghost use Rattle.tb_asked.specs.Options.{form_meant, form_word, separator_asked, type_named, AreTyped, AskTypes, AsksCsv, AsksOptions, IsThreadsOf, IsTyped, IsWidthOf};
+ghost use Rattle.tb_asked.specs.Options.{form_meant, form_word, separator_asked, type_given, type_named, typed_name, AreTyped, AskTypes, AsksCsv, AsksOptions, IsThreadsOf, IsWidthOf};
 
 use clap::ArgMatches;
 use std::alloc::Global;
@@ -47,7 +47,8 @@ fn type_named(word: &str) -> Option<FieldType>
 
 // The type is the part behind the last `=`, so that a name may have one.
 fn type_of_word<'a>(alloc: Global, word: &'a str) -> Result<TypeOf, WordFault<'a>>
-    ensures { MatchResult result (IsTyped word.entry.now) (IsNoType word.entry) }
+    ensures { MatchResult result (λ t. Some (typed_name t) ≡ type_given word.entry.now)
+        (IsNoType word.entry) }
 {
     let Some((name, type_name)) = word.rsplit_once('=') else {
         return Err(WordFault::NoType(word));
