@@ -1,5 +1,7 @@
 pub mod Extremes
+pub mod Keeping
 pub mod Outcomes
+pub mod Own
 pub mod Picked
 pub mod Ranges
 pub mod Steps

@@ -13,6 +13,13 @@ use Rattle.tb_agg.specs.declared.table.Aggregate.{Aggregate}
 abbrev pub rows_of : List ℕ → ℕ → ℕ → List ℕ
 rows_of numbers n k = filter (λ i. slice_index numbers i == k) (row_numbers n)
 
+-- the same of rows that are named, and those of each group
+abbrev pub group_rows : (ℕ → ℕ) → Groups → ℕ → List ℕ
+group_rows name g k = map name (rows_of g.numbers.items (length g.numbers.items) k)
+
+abbrev pub rows_by_group : (ℕ → ℕ) → Groups → List (List ℕ)
+rows_by_group name g = map (group_rows name g) (row_numbers (length g.firsts.items))
+
 -- the values of the group, in the order of the rows
 abbrev pub values_of : List ℕ → List Datum → ℕ → List Datum
 values_of numbers vs k = map (row_value vs) (rows_of numbers (length vs) k)

@@ -1,5 +1,7 @@
 pub mod Grouped
+pub mod Kept
 pub mod Laws
+pub mod Named
 pub mod Outcome
 pub mod Picking
 pub mod Running

@@ -8,22 +8,19 @@ use tb_rows::Groups;
 use tb_value::{IdxSize, MAX_ROWS, OutOfMemory};
 
 // The number of rows of each group.
-pub(crate) fn counts_of(
-    alloc: Global,
-    groups: &Groups,
-    rows: usize,
-) -> Result<Vec<IdxSize>, OutOfMemory>
-    requires groups { AreGroupsOf rows groups.now }
-    requires few { rows ≤ MAX_ROWS }
+pub(crate) fn counts_of(alloc: Global, groups: &Groups) -> Result<Vec<IdxSize>, OutOfMemory>
+    requires groups { AreGroupsOf (length groups.now.numbers.items) groups.now }
+    requires few { length groups.now.numbers.items ≤ MAX_ROWS }
     ensures { IfOk result (λ v.
         v.items
-        ≡ map (λ k. length (rows_of groups.now.numbers.items rows k))
+        ≡ map (λ k. length (rows_of groups.now.numbers.items (length groups.now.numbers.items) k))
         (row_numbers (length groups.now.firsts.items))) }
 {
+    let numbers = groups.numbers();
     let mut counts = vec![in alloc; 0; groups.firsts().len()]?;
-    for row in 0..rows {
-        let place = groups.numbers()[row] as usize;
-        counts[place] += 1;
+    for place in 0..numbers.len() {
+        let group = numbers[place] as usize;
+        counts[group] += 1;
     }
     Ok(counts)
 }

@@ -3,12 +3,16 @@
 
 mod by_groups;
 mod counts;
+mod kept;
 pub mod laws;
 mod made;
+mod named;
 mod picks;
+mod places;
 mod running;
 mod sums;
 mod table;
 
 pub use by_groups::aggregated;
+pub use kept::Kept;
 pub use table::Aggregate;

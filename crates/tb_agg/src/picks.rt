@@ -1,16 +1,17 @@
 //! The rows whose values stand for groups.
 ghost use Rattle.std.specs.Prelude.{◌≡◌, ◌<◌, IfOk, length, map};
-ghost use Rattle.std.specs.List.{All};
-ghost use Rattle.tb_value.specs.Promise.Pairs.{row_numbers};
 ghost use Rattle.tb_value.specs.See.{lent_value};
 ghost use Rattle.tb_chunk.specs.Promise.Col.{values};
 ghost use Rattle.tb_chunk.specs.Rows.{value_or_null, IsRowOf};
 ghost use Rattle.tb_agg.specs.Promise.Aggregates.{beats};
-ghost use Rattle.tb_agg.specs.Grouped.{rows_of, AreGroupsOf};
+ghost use Rattle.tb_rows.specs.Names.{name_of};
+ghost use Rattle.tb_agg.specs.Grouped.{rows_by_group, AreGroupsOf};
+ghost use Rattle.tb_agg.specs.Named.{AreRowsOf};
 ghost use Rattle.tb_agg.specs.Picking.{next_pick, picked_row, replaces};
 
+use crate::named::row_at;
 use std::alloc::Global;
-use tb_rows::Groups;
+use tb_rows::{Groups, RowNames};
 use tb_store::{Series, compare_values};
 use tb_value::{IdxSize, NullableIdxSize, OutOfMemory, ValueRef};
 
@@ -72,24 +73,25 @@ fn next_pick(pick: Pick, column: &Series, best: NullableIdxSize, row: IdxSize) -
     }
 }
 
-// For each group the row that stands for it.
+// For each group the row that stands for it, of rows that are named.
 pub(crate) fn picked_rows(
     alloc: Global,
     column: &Series,
+    names: RowNames<'_>,
     groups: &Groups,
     pick: Pick,
 ) -> Result<Vec<NullableIdxSize>, OutOfMemory>
-    requires { AreGroupsOf (length (values column.now)) groups.now }
-    ensures picked { IfOk result (λ v. v.items
-        ≡ map (λ k. picked_row pick (values column.now) (rows_of groups.now.numbers.items (length (values column.now)) k))
-        (row_numbers (length groups.now.firsts.items))) }
-    ensures within { IfOk result (λ v. All (IsRowOf (length (values column.now))) v.items) }
+    requires rows { AreRowsOf names (length groups.now.numbers.items) (length (values column.now)) }
+    requires groups { AreGroupsOf (length groups.now.numbers.items) groups.now }
+    ensures { IfOk result (λ v. v.items
+        ≡ map (picked_row pick (values column.now))
+        (rows_by_group (name_of names.entry) groups.now)) }
 {
-    let rows = column.len();
+    let numbers = groups.numbers();
     let mut picked = vec![in alloc; NullableIdxSize::null(); groups.firsts().len()]?;
-    for row in 0..rows {
-        let place = groups.numbers()[row] as usize;
-        picked[place] = next_pick(pick, column, picked[place], row as IdxSize);
+    for place in 0..numbers.len() {
+        let group = numbers[place] as usize;
+        picked[group] = next_pick(pick, column, picked[group], row_at(names, place));
     }
     Ok(picked)
 }

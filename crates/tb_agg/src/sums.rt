@@ -1,16 +1,18 @@
 //! The sums of groups.
 ghost use Rattle.std.specs.Prelude.{◌≡◌, ◌≤ℤ◌, ◌+ℤ◌, pos, neg_ℤ, IfOk, length, map};
-ghost use Rattle.tb_value.specs.Promise.Pairs.{row_numbers};
 ghost use Rattle.tb_value.specs.See.{lent_value};
 ghost use Rattle.tb_chunk.specs.Promise.Col.{values};
-ghost use Rattle.tb_agg.specs.Promise.Aggregates.{number};
-ghost use Rattle.tb_agg.specs.Grouped.{AreGroupsOf};
-ghost use Rattle.tb_agg.specs.Outcome.{totals};
+ghost use Rattle.tb_rows.specs.Names.{name_of};
+ghost use Rattle.tb_rows.specs.Promise.Rows.{row_value};
+ghost use Rattle.tb_agg.specs.Promise.Aggregates.{number, total};
+ghost use Rattle.tb_agg.specs.Grouped.{rows_by_group, AreGroupsOf};
+ghost use Rattle.tb_agg.specs.Named.{AreRowsOf};
 ghost use Rattle.tb_agg.specs.Running.{sum_so_far};
 
+use crate::named::row_at;
 use crate::running::{Running, plus};
 use std::alloc::Global;
-use tb_rows::Groups;
+use tb_rows::{Groups, RowNames};
 use tb_store::Series;
 use tb_value::{OutOfMemory, ValueRef};
 
@@ -34,21 +36,26 @@ fn plus_value(running: Running, value: ValueRef<'_>) -> Running
     plus(running, number(value))
 }
 
-// The sum of each group, whatever the sums on the way are.
+// The sum of each group, whatever the sums on the way are, of rows that are named.
 pub(crate) fn sums_of(
     alloc: Global,
     column: &Series,
+    names: RowNames<'_>,
     groups: &Groups,
 ) -> Result<Vec<Running>, OutOfMemory>
-    requires { AreGroupsOf (length (values column.now)) groups.now }
-    ensures { IfOk result (λ v. map sum_so_far v.items ≡ totals groups.now (values column.now)) }
+    requires rows { AreRowsOf names (length groups.now.numbers.items) (length (values column.now)) }
+    requires groups { AreGroupsOf (length groups.now.numbers.items) groups.now }
+    ensures { IfOk result (λ v. map sum_so_far v.items
+        ≡ map (λ rows. total (map (row_value (values column.now)) rows))
+        (rows_by_group (name_of names.entry) groups.now)) }
 {
-    let rows = column.len();
+    let numbers = groups.numbers();
     let zero = Running { low: 0, wraps: 0 };
     let mut sums = vec![in alloc; zero; groups.firsts().len()]?;
-    for row in 0..rows {
-        let place = groups.numbers()[row] as usize;
-        sums[place] = plus_value(sums[place], column.get(row));
+    for place in 0..numbers.len() {
+        let group = numbers[place] as usize;
+        let row = row_at(names, place) as usize;
+        sums[group] = plus_value(sums[group], column.get(row));
     }
     Ok(sums)
 }
