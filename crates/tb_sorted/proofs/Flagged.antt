@@ -12,14 +12,14 @@ use Rattle.tb_cell.specs.Promise.Flag.{datum_cmp, nulls}
 use Rattle.tb_chunk.specs.Flag.{FlagHolds, present_values}
 use Rattle.tb_frame.specs.declared.args.Direction.TheVariants.{ByLeft}
 use Rattle.tb_frame.specs.declared.args.JoinType.{JoinType}
-use Rattle.tb_frame.specs.declared.args.JoinType.TheVariants.{Left}
+use Rattle.tb_frame.specs.declared.args.JoinType.TheVariants.{Left, Right}
 use Rattle.tb_frame.proofs.Listings.{listing-same}
 use Rattle.tb_pool.specs.Promise.ExecView.{ExecView}
 use Rattle.tb_keys.specs.Promise.Listing.{value_listing}
-use Rattle.tb_sorted.specs.Columns.{AreMergeKeys, MayMerge}
+use Rattle.tb_sorted.specs.Columns.{AreMergeKeys, DoOthersAscend, MayMerge}
 use Rattle.tb_sorted.specs.Keys.{kind_of_merge}
-use Rattle.tb_sorted.specs.Promise.Path.{have_order, is_flagged, is_inner, is_merge_key, is_worth}
-use Rattle.tb_sorted.specs.Path.{order_after, sorted_first}
+use Rattle.tb_sorted.specs.Promise.Path.{are_ordered, have_order, is_flagged, is_inner, is_merge_key, is_worth}
+use Rattle.tb_sorted.specs.Path.{AreKeysToMerge, order_after, sorted_first}
 use Rattle.tb_sorted.specs.declared.path.SortedFirst.{SortedFirst}
 use Rattle.tb_sorted.specs.declared.path.SortedFirst.TheVariants as the
 
@@ -52,7 +52,7 @@ flag_is Not e = absurd (cc)
 pub no_nulls : (c : Col) → is_merge_key c ≡ true → length (nulls (values c)) ≡ 0
 no_nulls c key = eqb-true (length (nulls (values c))) 0 (second_of (is_whole_physical c.kind) (length (nulls (values c)) == 0) key)
 
-pub merge_keys : (c : Col) → IsColumn c → is_merge_key c ≡ true → AreMergeKeys (values c)
+merge_keys : (c : Col) → IsColumn c → is_merge_key c ≡ true → AreMergeKeys (values c)
 merge_keys c column key = record { present = no_nulls c key; few = column.short }
 
 -- and ascends where it is flagged
@@ -67,7 +67,7 @@ first_by left right = (if left then (if right then the.Neither else the.Right) e
 
 module _ (us vs : List Datum) where
   by_flags : (keep a b x y : Bool) → (a ≡ true → IsInOrder datum_cmp us) → (b ≡ true → IsInOrder datum_cmp vs)
-      → ((a && b) || ((a && x) || (is_inner (kind_of_merge keep) && b && y))) ≡ true → MayMerge (first_by a b) keep us vs
+      → ((a && b) || ((a && x) || (is_inner (kind_of_merge keep) && b && y))) ≡ true → DoOthersAscend (first_by a b) keep us vs
   by_flags keep true true x y l r h = (l refl, r refl)
   by_flags keep true false x y l r h = l refl
   by_flags false false true x y l r h = (refl, r refl)
@@ -75,11 +75,22 @@ module _ (us vs : List Datum) where
   by_flags true false false x y l r h = absurd (cc)
   by_flags false false false x y l r h = absurd (cc)
 
-pub may_merge : (keep : Bool) (exec : ExecView) (l r : Col) → IsColumn l → IsColumn r → is_merge_key l ≡ true → is_merge_key r ≡ true → have_order (kind_of_merge keep) exec l r ≡ true
-    → MayMerge (sorted_first l r) keep (values l) (values r)
-may_merge keep exec l r left right left_key right_key h =
-    by_flags (values l) (values r) keep (is_flagged l.flag) (is_flagged r.flag) (is_worth exec (length (values r)) (length (values l))) (is_worth exec (length (values l)) (length (values r)))
-    (flagged_ascend l left left_key) (flagged_ascend r right right_key) h
+has_order : (keep : Bool) (exec : ExecView) (l r : Col) → are_ordered (kind_of_merge keep) exec l r ≡ true → have_order (kind_of_merge keep) exec l r ≡ true
+has_order true exec l r h = h
+has_order false exec l r h = h
+
+pub may_merge : (keep : Bool) (exec : ExecView) (l r : Col) → IsColumn l → IsColumn r → AreKeysToMerge (kind_of_merge keep) exec l r → MayMerge (sorted_first l r) keep (values l) (values r)
+may_merge keep exec l r left right h = record {
+  left = merge_keys l left h.left;
+  right = merge_keys r right h.right;
+  ascend =
+      by_flags (values l) (values r) keep (is_flagged l.flag) (is_flagged r.flag) (is_worth exec (length (values r)) (length (values l))) (is_worth exec (length (values l)) (length (values r)))
+      (flagged_ascend l left h.left) (flagged_ascend r right h.right) (has_order keep exec l r h.ordered);
+}
+
+-- keys of a Right join are those of a Left join the other way round
+pub turned_keys : (exec : ExecView) (l r : Col) → AreKeysToMerge Right exec l r → AreKeysToMerge Left exec r l
+turned_keys exec l r h = record { same = sym h.same; left = h.right; right = h.left; ordered = h.ordered }
 
 -- where the left rows without a match are kept, the pairs stand by left rows
 left_first_by : (a b x y : Bool) → ((a && b) || ((a && x) || (false && b && y))) ≡ true → order_after (first_by a b) ≡ ByLeft
@@ -117,9 +128,6 @@ alone vs = append-nil vs
 -- the same of the chunk that it has
 pub lone_list : (c : Col) (lists : List (List Datum)) → lists ≡ values c ∷ [] → concatenation lists ≡ values c
 lone_list c lists is = ap concatenation is ∙ alone (values c)
-
-pub lone_keys : (c : Col) (lists : List (List Datum)) → lists ≡ values c ∷ [] → AreMergeKeys (values c) → AreMergeKeys (concatenation lists)
-lone_keys c lists is keys = subst AreMergeKeys (sym (lone_list c lists is)) keys
 
 -- one list of values is all of them
 pub only_list : (lists : List (List Datum)) → length lists ≡ 1 → lists ≡ concatenation lists ∷ []

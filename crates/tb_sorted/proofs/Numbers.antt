@@ -23,11 +23,14 @@ use Rattle.tb_merge.specs.Keys.{keys_match}
 use Rattle.tb_merge.specs.Promise.MergedView.{MergedView}
 use Rattle.tb_sorted.specs.Promise.Columns.{value_sizes}
 use Rattle.tb_keys.specs.Promise.Listing.{value_listing}
-use Rattle.tb_sorted.specs.Columns.{AreMergeKeys}
+use Rattle.tb_sorted.specs.Columns.{AreMergeKeys, DoOthersAscend, MayMerge}
 use Rattle.tb_sorted.specs.Promise.Keys.{MergeSizes}
 use Rattle.tb_sorted.specs.Keys.{kind_of_merge, number_listing, number_sizes}
 use Rattle.tb_keys.specs.Causes.{too_many}
 use Rattle.tb_sorted.specs.Listed.{AreKeysMerged, AreValuesMerged, IsMergeWithin}
+use Rattle.tb_sorted.specs.Path.{order_after}
+use Rattle.tb_sorted.specs.declared.path.SortedFirst.{SortedFirst}
+use Rattle.tb_sorted.specs.declared.path.SortedFirst.TheVariants as the
 
 -- what is in order by its images is in order
 pub sorted_back : {X Y : Type 0} (f : X → Y) (order : X → X → Ordering) (image : Y → Y → Ordering) → ((x y : X) → image (f x) (f y) ≡ order x y) → (xs : List X) → IsSorted image (map f xs) → IsSorted order xs
@@ -105,6 +108,30 @@ module _ (us vs : List Datum) (ls rs : List ℤ) (is_left : us ≡ map int ls) (
     ascends = h.ascends;
     merged = subst (λ (s : MergeSizes). IfOk answer (λ x. IsMergeWithin s x.1)) values_sized h.merged;
   }
+
+-- the stored numbers that ascend, by the side that is sorted first
+module _ {N : Type 0} (shows : N → Datum) (number : N → ℤ) (law : (x : N) → shows x ≡ int (number x)) (ls rs : List N) (first : SortedFirst) (keep : Bool) (may : MayMerge first keep (map shows ls) (map shows rs)) where
+  others_ascend : (here : SortedFirst) → first ≡ here → DoOthersAscend here keep (map shows ls) (map shows rs)
+  others_ascend here is = subst (λ (f : SortedFirst). DoOthersAscend f keep (map shows ls) (map shows rs)) is may.ascend
+
+  pub both_ascend : first ≡ the.Neither → IsSorted int_cmp (map number ls) × IsSorted int_cmp (map number rs)
+  both_ascend is = (numbers_ascend shows number law ls (others_ascend the.Neither is).0, numbers_ascend shows number law rs (others_ascend the.Neither is).1)
+
+  pub left_ascends : first ≡ the.Right → IsSorted int_cmp (map number ls)
+  left_ascends is = numbers_ascend shows number law ls (others_ascend the.Right is)
+
+  pub right_ascends : first ≡ the.Left → IsSorted int_cmp (map number rs)
+  right_ascends is = numbers_ascend shows number law rs (others_ascend the.Left is).1
+
+  pub none_kept : first ≡ the.Left → keep ≡ false
+  none_kept is = (others_ascend the.Left is).0
+
+-- what was merged of stored numbers was merged of the values that they show
+pub shown_merged : {A N : Type 0} (shows : N → Datum) (number : N → ℤ) → ((x : N) → shows x ≡ int (number x)) → (ls rs : List N) (first here : SortedFirst) (keep : Bool) (answer : Result (Vec JoinPair A × MergedView) PolarsError)
+    → first ≡ here → AreKeysMerged (order_after here) keep (map number ls) (map number rs) answer → AreValuesMerged (order_after first) keep (map shows ls) (map shows rs) answer
+shown_merged shows number law ls rs first here keep answer is h =
+    subst (λ (f : SortedFirst). AreValuesMerged (order_after f) keep (map shows ls) (map shows rs) answer) (sym is)
+    (merged_values (map shows ls) (map shows rs) (map number ls) (map number rs) (shown_numbers shows number law ls) (shown_numbers shows number law rs) (order_after here) keep answer h)
 
 -- what was merged of chunks was merged of those with equal values
 pub chunks_merged : {A : Type 0} (order : Direction) (keep : Bool) (ls rs ls' rs' : List (List Datum)) (answer : Result (Vec JoinPair A × MergedView) PolarsError)

@@ -1,10 +1,11 @@
 -- Requests with one key on each side.
-use Rattle.std.proofs.Common.{◌≡◌, ℕ, Bool, true, false, ◌&&◌, List, [], ◌∷◌, length, get_or, refl, sym, ◌∙◌, subst, arith, Option}
+use Rattle.std.proofs.Common.{◌≡◌, ℕ, Bool, true, false, ◌&&◌, List, [], ◌∷◌, length, get_or, map, refl, sym, ap, ◌∙◌, subst, arith, Option}
 use Rattle.std.specs.Prelude.{min}
 use Rattle.std.specs.List.{list_all}
 use Rattle.std.specs.Borrow.{Bor}
 use Rattle.std.proofs.lemmas.List.Elements.{All-head}
 use Rattle.tb_value.specs.Promise.Datum.{null}
+use Rattle.tb_value.specs.Promise.Kind.{Kind}
 use Rattle.tb_value.specs.Promise.Pairs.{row_numbers}
 use Rattle.tb_value.specs.Promise.Refusals.{first_cause, when}
 use Rattle.tb_value.specs.Promise.Same.{agrees}
@@ -26,6 +27,9 @@ use Rattle.tb_keys.specs.Rows.{HasRows}
 use Rattle.tb_keys.specs.declared.request.LentRequest.{LentRequest}
 use Rattle.tb_keys.specs.Promise.Listing.{value_listing}
 use Rattle.tb_keys.specs.Causes.{too_many}
+use Rattle.tb_sorted.specs.Listed.{requested_sizes}
+use Rattle.tb_sorted.specs.Path.{AreKeysToMerge}
+use Rattle.tb_sorted.specs.Promise.Columns.{first_values, sizes_by}
 use Rattle.tb_sorted.specs.Promise.Path.{are_ordered, asks_nothing, is_merge_key, takes_key_path, takes_path_by}
 use Rattle.tb_sorted.proofs.Flagged.{first_of, second_of}
 
@@ -57,38 +61,35 @@ right_not_one how validation exec (l ∷ []) [] h = refl
 right_not_one how validation exec (l ∷ []) (r ∷ []) h = absurd (h refl)
 right_not_one how validation exec (l ∷ []) (r ∷ s ∷ rs) h = refl
 
--- and their path is taken
-path_of_keys : (how : JoinType) (validation : JoinValidation) (exec : ExecView) (ls rs : List (Bor Col)) (d e : Bor Col) → takes_path_by how validation exec (lent_columns ls) (lent_columns rs) ≡ true
-    → takes_key_path how validation exec (get_or ls 0 d).now (get_or rs 0 e).now ≡ true
-path_of_keys how validation exec [] rs d e h = absurd (cc)
-path_of_keys how validation exec (l ∷ m ∷ ls) rs d e h = absurd (cc)
-path_of_keys how validation exec (l ∷ []) [] d e h = absurd (cc)
-path_of_keys how validation exec (l ∷ []) (r ∷ s ∷ rs) d e h = absurd (cc)
-path_of_keys how validation exec (l ∷ []) (r ∷ []) d e h = h
-
 -- what it means that the path of two keys is taken
 pub record IsTaken (how : JoinType) (validation : JoinValidation) (exec : ExecView) (l r : Col) : Type 0 where
   pub nothing : asks_nothing validation ≡ true
-  pub ordered : are_ordered how exec l r ≡ true
-  pub left : is_merge_key l ≡ true
-  pub right : is_merge_key r ≡ true
+  pub keys : AreKeysToMerge how exec l r
 
-taken_parts : (how : JoinType) (validation : JoinValidation) (exec : ExecView) (l r : Col) → takes_key_path how validation exec l r ≡ true → IsTaken how validation exec l r
-taken_parts how validation exec l r h =
+taken_parts : (how : JoinType) (validation : JoinValidation) (exec : ExecView) (l r : Col) → l.kind ≡ r.kind → takes_key_path how validation exec l r ≡ true → IsTaken how validation exec l r
+taken_parts how validation exec l r same h =
     let n = asks_nothing validation in
     let o = are_ordered how exec l r in
     let three = first_of (n && o && is_merge_key l) (is_merge_key r) h in
     let two = first_of (n && o) (is_merge_key l) three in
     record {
       nothing = first_of n o two;
-      ordered = second_of n o two;
-      left = second_of (n && o) (is_merge_key l) three;
-      right = second_of (n && o && is_merge_key l) (is_merge_key r) h;
+      keys = record {
+        same = same;
+        left = second_of (n && o) (is_merge_key l) three;
+        right = second_of (n && o && is_merge_key l) (is_merge_key r) h;
+        ordered = second_of n o two;
+      };
     }
 
-pub taken_keys : (how : JoinType) (validation : JoinValidation) (exec : ExecView) (ls rs : List (Bor Col)) (d e : Bor Col) → takes_path_by how validation exec (lent_columns ls) (lent_columns rs) ≡ true
-    → IsTaken how validation exec (get_or ls 0 d).now (get_or rs 0 e).now
-taken_keys how validation exec ls rs d e h = taken_parts how validation exec (get_or ls 0 d).now (get_or rs 0 e).now (path_of_keys how validation exec ls rs d e h)
+-- and it is, of the first keys of a request
+pub taken_keys : (how : JoinType) (validation : JoinValidation) (exec : ExecView) (ls rs : List (Bor Col)) (d e : Bor Col) → map (λ (c : Col). c.kind) (lent_columns ls) ≡ map (λ (c : Col). c.kind) (lent_columns rs)
+    → takes_path_by how validation exec (lent_columns ls) (lent_columns rs) ≡ true → IsTaken how validation exec (get_or ls 0 d).now (get_or rs 0 e).now
+taken_keys how validation exec [] rs d e alike h = absurd (cc)
+taken_keys how validation exec (l ∷ m ∷ ls) rs d e alike h = absurd (cc)
+taken_keys how validation exec (l ∷ []) [] d e alike h = absurd (cc)
+taken_keys how validation exec (l ∷ []) (r ∷ s ∷ rs) d e alike h = absurd (cc)
+taken_keys how validation exec (l ∷ []) (r ∷ []) d e alike h = taken_parts how validation exec l.now r.now (ap (λ (ks : List Kind). get_or ks 0 l.now.kind) alike) h
 
 -- the listing of their values is that of the request
 and_true : (b : Bool) → b ≡ (b && true)
@@ -109,6 +110,10 @@ module _ (r : LentRequest) (a b : Col) (is_left : lent_columns r.left_keys.now �
       let high_right : length (values b) ≡ height (table_of r.right.now) = rows_are (height (table_of r.right.now)) (lent_columns r.right_keys.now) b is_right r.right_rows in
       ◌∙◌ {A = List JoinPair} (λ t. listing_of r.how (high_left t) (high_right t) (λ i j. and_true (agrees (flag_at r.args.now.join_nulls 0) (get_or (values a) i null) (get_or (values b) j null)) t))
       (λ t. listing_of r.how (height (table_of r.left.now)) (height (table_of r.right.now)) (one_key_matches (flag_at r.args.now.join_nulls) (sym is_left t) (sym is_right t)))
+
+  -- and so is the merge
+  pub requested_sized : sizes_by r.how (values a) (values b) ≡ requested_sizes r
+  requested_sized = λ t. sizes_by r.how (first_values (sym is_left t)) (first_values (sym is_right t))
 
 -- THE CAUSES
 

@@ -15,6 +15,7 @@ use Rattle.std.specs.List.Sorted.{IsSortedByKeyClosure, IsStableByKeyClosure}
 use Rattle.std.proofs.lemmas.Fn.{always_returns_same}
 use denote.Ref.{Bor}
 use denote.Param.Members.{Mut}
+use Rattle.tb_value.specs.declared.error.Side.TheVariants.{Left, Right}
 use Rattle.tb_value.specs.declared.index.JoinPair.{JoinPair}
 use Rattle.tb_value.specs.declared.limits.TheConstants.{MAX_ROWS}
 use Rattle.tb_value.specs.Promise.Pairs.{both, left_first, matched_pairs, row_numbers}
@@ -32,7 +33,7 @@ use Rattle.tb_merge.specs.Keys.{key_at, keys_match}
 use Rattle.tb_merge.specs.RowPairs.{pairs_of, row_pairs, rows_of}
 use Rattle.tb_merge.proofs.Matches.{inner_is, left_is}
 use Rattle.tb_sorted.specs.Keys.{kind_of_merge, number_listing, number_sizes}
-use Rattle.tb_sorted.specs.SortedRows.{AreSortedRows, has_key, keys_of, left_placed, numbered_keys, right_placed, row_at, with_rows}
+use Rattle.tb_sorted.specs.SortedRows.{AreSortedRows, has_key, keys_of, numbered_keys, placed, row_at, with_rows}
 
 -- STORED KEYS AS NUMBERS
 
@@ -120,6 +121,10 @@ module _ {N : Type 0} (cmp : N → N → Ordering) (number : N → ℤ) (ordered
             sym (numbered_kept v ys) ∙ ap (map image) (kept_by_number xs ys (stable key computes) v) ∙ numbered_kept v xs ∙ ap (filter (has_key v)) is;
       }
 
+-- the same of the rows as they are lent
+pub lent_rows : {N : Type 0} (number : N → ℤ) (keys : List ℤ) (rows lent : List (N × ℕ)) → lent ≡ rows → AreSortedRows keys (numbered_keys number rows) → AreSortedRows keys (numbered_keys number lent)
+lent_rows {N} number keys rows lent is h = subst (λ (l : List (N × ℕ)). AreSortedRows keys (numbered_keys number l)) (sym is) h
+
 -- THE PAIRS IN THE ORDER OF THE LEFT ROWS
 
 abbrev pub way : Bool → List ℤ → List ℤ → List JoinPair
@@ -181,26 +186,26 @@ module _ (keys : List ℤ) (rows : List (ℤ × ℕ)) (sorted : AreSortedRows ke
       ∙ sym (kept_images own (has_key v) second (row_numbers (length keys)))
       ∙ map-id (rows_of left keys i))
 
-  placed_row : (keep : Bool) (i : ℕ) (js : List ℕ) → map (right_placed rows) (row_pairs keep i js) ≡ row_pairs keep i (map (row_at rows) js)
+  placed_row : (keep : Bool) (i : ℕ) (js : List ℕ) → map (placed Right rows) (row_pairs keep i js) ≡ row_pairs keep i (map (row_at rows) js)
   placed_row true i [] = refl
   placed_row false i [] = refl
-  placed_row keep i (j ∷ js) = map-map (right_placed rows) (both i) (j ∷ js) ∙ sym (map-map (both i) (row_at rows) (j ∷ js))
+  placed_row keep i (j ∷ js) = map-map (placed Right rows) (both i) (j ∷ js) ∙ sym (map-map (both i) (row_at rows) (j ∷ js))
 
-  placed_way : (keep : Bool) (left : List ℤ) → map (right_placed rows) (way keep left (keys_of rows)) ≡ way keep left keys
+  placed_way : (keep : Bool) (left : List ℤ) → map (placed Right rows) (way keep left (keys_of rows)) ≡ way keep left keys
   placed_way keep left =
-      map-flat_map (right_placed rows) (λ i. row_pairs keep i (rows_of left (keys_of rows) i)) (row_numbers (length left))
-      ∙ flat_map_agree (λ i. map (right_placed rows) (row_pairs keep i (rows_of left (keys_of rows) i))) (λ i. row_pairs keep i (rows_of left keys i))
+      map-flat_map (placed Right rows) (λ i. row_pairs keep i (rows_of left (keys_of rows) i)) (row_numbers (length left))
+      ∙ flat_map_agree (λ i. map (placed Right rows) (row_pairs keep i (rows_of left (keys_of rows) i))) (λ i. row_pairs keep i (rows_of left keys i))
       (λ i. placed_row keep i (rows_of left (keys_of rows) i) ∙ ap (row_pairs keep i) (rows_at_places left i)) (row_numbers (length left))
 
   -- THE RIGHT SIDE SORTED
 
-  pub right_way : (keep : Bool) (left : List ℤ) (ps : List JoinPair) → IsPermutation (number_listing keep left (keys_of rows)) ps → IsSorted left_first ps → map (right_placed rows) ps ≡ way keep left keys
-  right_way keep left ps h s = ap (map (right_placed rows)) (only_way keep left (keys_of rows) ps h s) ∙ placed_way keep left
+  pub right_way : (keep : Bool) (left : List ℤ) (ps : List JoinPair) → IsPermutation (number_listing keep left (keys_of rows)) ps → IsSorted left_first ps → map (placed Right rows) ps ≡ way keep left keys
+  right_way keep left ps h s = ap (map (placed Right rows)) (only_way keep left (keys_of rows) ps h s) ∙ placed_way keep left
 
   pub right_many : (keep : Bool) (left : List ℤ) → length (number_listing keep left (keys_of rows)) ≡ length (number_listing keep left keys)
   right_many keep left =
       sym (length_permutation (number_listing keep left (keys_of rows)) (way keep left (keys_of rows)) (way_permutation keep left (keys_of rows)))
-      ∙ sym (length-map (way keep left (keys_of rows)) (right_placed rows))
+      ∙ sym (length-map (way keep left (keys_of rows)) (placed Right rows))
       ∙ ap (λ (l : List JoinPair). length l) (placed_way keep left)
       ∙ length_permutation (number_listing keep left keys) (way keep left keys) (way_permutation keep left keys)
 
@@ -227,24 +232,24 @@ module _ (keys : List ℤ) (rows : List (ℤ × ℕ)) (sorted : AreSortedRows ke
         (ap (λ (m : ℕ → ℕ → Bool). matched_pairs (length right) (length ks) m) (exchanged ks) ∙ sym (inner_is right ks))
         (turned_matches (length ks) (length right) (keys_match ks right))
 
-    turned_placed : (ps : List JoinPair) → map turn (map (right_placed rows) ps) ≡ map (left_placed rows) (map turn ps)
-    turned_placed ps = map-map turn (right_placed rows) ps ∙ sym (map-map (left_placed rows) turn ps)
+    turned_placed : (ps : List JoinPair) → map turn (map (placed Right rows) ps) ≡ map (placed Left rows) (map turn ps)
+    turned_placed ps = map-map turn (placed Right rows) ps ∙ sym (map-map (placed Left rows) turn ps)
 
-    pub left_way : (ps : List JoinPair) → IsPermutation (number_listing false (keys_of rows) right) ps → IsPermutation (number_listing false keys right) (map (left_placed rows) ps)
+    pub left_way : (ps : List JoinPair) → IsPermutation (number_listing false (keys_of rows) right) ps → IsPermutation (number_listing false keys right) (map (placed Left rows) ps)
     left_way ps h =
         let there : List JoinPair = way false right (keys_of rows) in
         let here : IsPermutation (number_listing false keys right) (map turn (way false right keys)) = IsPermutation-sym (map turn (way false right keys)) (number_listing false keys right) (turned_inner keys) in
-        let same : map turn (way false right keys) ≡ map (left_placed rows) (map turn there) = ap (map turn) (sym (placed_way false right)) ∙ turned_placed there in
-        let moved : IsPermutation (map (left_placed rows) (map turn there)) (map (left_placed rows) ps) =
-        IsPermutation-map (left_placed rows) (map turn there) ps (IsPermutation-trans (map turn there) (number_listing false (keys_of rows) right) ps (turned_inner (keys_of rows)) h) in
-        IsPermutation-trans (number_listing false keys right) (map (left_placed rows) (map turn there)) (map (left_placed rows) ps)
+        let same : map turn (way false right keys) ≡ map (placed Left rows) (map turn there) = ap (map turn) (sym (placed_way false right)) ∙ turned_placed there in
+        let moved : IsPermutation (map (placed Left rows) (map turn there)) (map (placed Left rows) ps) =
+        IsPermutation-map (placed Left rows) (map turn there) ps (IsPermutation-trans (map turn there) (number_listing false (keys_of rows) right) ps (turned_inner (keys_of rows)) h) in
+        IsPermutation-trans (number_listing false keys right) (map (placed Left rows) (map turn there)) (map (placed Left rows) ps)
         (subst (λ (l : List JoinPair). IsPermutation (number_listing false keys right) l) same here) moved
 
     pub left_many : length (number_listing false (keys_of rows) right) ≡ length (number_listing false keys right)
     left_many =
         let list : List JoinPair = number_listing false (keys_of rows) right in
-        sym (length-map list (left_placed rows))
-        ∙ length_permutation (number_listing false keys right) (map (left_placed rows) list) (left_way list (IsPermutation-refl list))
+        sym (length-map list (placed Left rows))
+        ∙ length_permutation (number_listing false keys right) (map (placed Left rows) list) (left_way list (IsPermutation-refl list))
 
     pub left_sizes : number_sizes (keys_of rows) right ≡ number_sizes keys right
     left_sizes = λ t. record { left_len = as_many_keys t; right_len = length right; pairs = left_many t }

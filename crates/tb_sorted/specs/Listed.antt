@@ -8,6 +8,7 @@ use Rattle.tb_value.specs.declared.error.PolarsError.{PolarsError}
 use Rattle.tb_value.specs.declared.index.JoinPair.{JoinPair}
 use Rattle.tb_chunk.specs.Lent.{lent_columns}
 use Rattle.tb_frame.specs.declared.args.Direction.{Direction}
+use Rattle.tb_frame.specs.declared.args.JoinType.{JoinType}
 use Rattle.tb_frame.specs.Promise.Join.{Ascends}
 use Rattle.tb_frame.specs.Promise.Refusal.{row_causes}
 use Rattle.tb_pool.specs.Promise.ExecView.{ExecView}
@@ -21,6 +22,7 @@ use Rattle.tb_sorted.specs.Promise.Keys.{MergeSizes}
 use Rattle.tb_sorted.specs.Keys.{kind_of_merge, number_listing, number_sizes}
 use Rattle.tb_sorted.specs.Path.{takes_merge_path}
 use Rattle.tb_sorted.specs.declared.pairs.DirectedPairs.{DirectedPairs}
+use Rattle.tb_sorted.specs.declared.pairs.MergedPairs.{MergedPairs}
 use Rattle.tb_sorted.specs.Promise.Listed.{sizes_of}
 
 -- these are the pairs of the list, and they stand in the order that is said
@@ -52,6 +54,20 @@ abbrev pub AreValuesMerged : {A : Type 0} → Direction → Bool → List Datum 
     → Result (Vec JoinPair A × MergedView) PolarsError → Type 0
 AreValuesMerged order keep us vs answer =
     IsMerged (value_listing false (kind_of_merge keep)) value_sizes order us vs answer
+
+-- the pairs of the list and the merge of these sizes that gave them, unless the cause refuses them
+pub record AreMergedPairs (cause : Option PolarsError) (list : List JoinPair) (due : MergeSizes)
+    (answer : Result MergedPairs PolarsError) : Type 0 where
+  pub settles : Settles answer cause
+  pub found : IfOk answer (λ m. IsListedIn list m.listed)
+  pub merged : IfOk answer (λ m. IsMergeWithin due m.merged)
+
+-- the pairs of two columns for a join of a kind
+abbrev pub AreMergedPairsOf : JoinType → List Datum → List Datum → Result MergedPairs PolarsError
+    → Type 0
+AreMergedPairsOf how us vs answer =
+    AreMergedPairs (too_many (length (value_listing false how us vs)))
+    (value_listing false how us vs) (sizes_by how us vs) answer
 
 -- the sizes of the merge of a request's keys
 abbrev pub requested_sizes : LentRequest → MergeSizes

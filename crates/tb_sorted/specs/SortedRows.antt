@@ -2,6 +2,8 @@
 use Rattle.std.specs.Prelude.{ℕ, ℤ, pos, ◌≡◌, Bool, List, length, map, filter, Option, Some, None, IsSorted, IsPermutation, slice_index_or}
 use Rattle.std.specs.Ordering.{int_cmp, int_eq}
 use Rattle.tb_value.specs.Promise.Pairs.{row_numbers}
+use Rattle.tb_value.specs.declared.error.Side.{Side}
+use Rattle.tb_value.specs.declared.error.Side.TheVariants.{Left, Right}
 use Rattle.tb_value.specs.declared.index.JoinPair.{JoinPair}
 use Rattle.tb_merge.specs.Keys.{key_at}
 
@@ -34,9 +36,11 @@ abbrev pub row_or_none : List (ℤ × ℕ) → Option ℕ → Option ℕ
 row_or_none rows None = None
 row_or_none rows (Some i) = Some (row_at rows i)
 
--- a pair whose right place is the row that stands there, and one whose left place is
-abbrev pub right_placed : List (ℤ × ℕ) → JoinPair → JoinPair
-right_placed rows p = record { left = p.left; right = row_or_none rows p.right }
+-- the place of a pair on a side, and the pair with the row that stands there
+abbrev pub place_on : Side → JoinPair → Option ℕ
+place_on Left p = p.left
+place_on Right p = p.right
 
-abbrev pub left_placed : List (ℤ × ℕ) → JoinPair → JoinPair
-left_placed rows p = record { left = row_or_none rows p.left; right = p.right }
+abbrev pub placed : Side → List (ℤ × ℕ) → JoinPair → JoinPair
+placed Left rows p = record { left = row_or_none rows p.left; right = p.right }
+placed Right rows p = record { left = p.left; right = row_or_none rows p.right }

@@ -7,11 +7,11 @@ ghost use Rattle.tb_sorted.specs.Listed.{AreKeysMerged};
 use crate::cells::WholeCell;
 use crate::key_lists::{NumberList, SortedRows};
 use crate::merging::merged_lists;
-use crate::row_sorting::{sorted_rows, with_left_rows, with_right_rows};
+use crate::row_sorting::{placed_pairs, sorted_rows};
 use std::alloc::Global;
 use tb_merge::Merged;
 use tb_pool::Exec;
-use tb_value::{JoinPair, MAX_ROWS, PolarsResult};
+use tb_value::{JoinPair, MAX_ROWS, PolarsResult, Side};
 
 /// The pairs of a Left join, or of an Inner one, of a left list that ascends and a right one that is sorted first, in the
 /// order of the left rows.
@@ -30,7 +30,7 @@ pub(crate) fn right_sorted_lists<N: WholeCell, A: NumberList<N>, B: NumberList<N
     let rows = sorted_rows(alloc, right)?;
     let sorted = SortedRows { rows: &rows };
     let (pairs, merged) = merged_lists(alloc, keep_unmatched, left, &sorted, exec)?;
-    Ok((with_right_rows(pairs, &rows), merged))
+    Ok((placed_pairs(Side::Right, pairs, sorted.rows), merged))
 }
 
 /// The pairs of an Inner join of a left list that is sorted first and a right one that ascends.
@@ -48,5 +48,5 @@ pub(crate) fn left_sorted_lists<N: WholeCell, A: NumberList<N>, B: NumberList<N>
     let rows = sorted_rows(alloc, left)?;
     let sorted = SortedRows { rows: &rows };
     let (pairs, merged) = merged_lists(alloc, false, &sorted, right, exec)?;
-    Ok((with_left_rows(pairs, &rows), merged))
+    Ok((placed_pairs(Side::Left, pairs, sorted.rows), merged))
 }

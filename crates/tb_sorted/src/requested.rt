@@ -1,5 +1,5 @@
 //! The pairs of a request whose keys are merged.
-ghost use Rattle.std.specs.Prelude.{◌≡◌, true, false, IfOk, IfSome, is_some, length, map};
+ghost use Rattle.std.specs.Prelude.{◌≡◌, true, IfOk, IfSome, is_some, map};
 ghost use Rattle.tb_value.specs.Pairs.{turn};
 ghost use Rattle.tb_value.specs.Promise.Refusals.{first_cause};
 ghost use Rattle.tb_value.specs.Refusals.{Settles};
@@ -8,14 +8,10 @@ ghost use Rattle.tb_chunk.specs.Lent.{lent_columns};
 ghost use Rattle.tb_frame.specs.Promise.Join.{listing};
 ghost use Rattle.tb_frame.specs.Promise.Refusal.{row_causes};
 ghost use Rattle.tb_keys.specs.Asked.{asked_request};
-ghost use Rattle.tb_keys.specs.Causes.{too_many};
-ghost use Rattle.tb_sorted.specs.Promise.Columns.{sizes_by, value_sizes};
-ghost use Rattle.tb_keys.specs.Promise.Listing.{value_listing};
 ghost use Rattle.tb_sorted.specs.Columns.{IsInOneChunk};
 ghost use Rattle.tb_sorted.specs.Keys.{kind_of_merge};
-ghost use Rattle.tb_sorted.specs.Listed.{AreValuesMerged, IsListedIn, IsMergeWithin, merge_refusal, requested_sizes};
-ghost use Rattle.tb_sorted.specs.Promise.Path.{are_ordered, have_order, is_merge_key};
-ghost use Rattle.tb_sorted.specs.Path.{order_after, sorted_first, takes_merge_path};
+ghost use Rattle.tb_sorted.specs.Listed.{AreMergedPairs, AreMergedPairsOf, AreValuesMerged, IsListedIn, IsMergeWithin, merge_refusal, requested_sizes};
+ghost use Rattle.tb_sorted.specs.Path.{AreKeysToMerge, order_after, sorted_first, takes_merge_path};
 
 use crate::one_chunk::{joined_key, lone_chunk};
 use crate::pairs::{DirectedPairs, MergedPairs};
@@ -37,11 +33,7 @@ fn ordered_pairs(
     right: &Series,
     exec: &Exec,
 ) -> PolarsResult<(Vec<JoinPair>, Merged)>
-    requires same { left.now.kind ≡ right.now.kind }
-    requires left { is_merge_key left.now ≡ true }
-    requires right { is_merge_key right.now ≡ true }
-    requires ordered { have_order (kind_of_merge keep_unmatched) exec.now left.now right.now
-        ≡ true }
+    requires { AreKeysToMerge (kind_of_merge keep_unmatched) exec.now left.now right.now }
     ensures { AreValuesMerged (order_after (sorted_first left.now right.now)) keep_unmatched
         (values left.now) (values right.now) result }
 {
@@ -79,23 +71,9 @@ fn left_way_pairs(
     right: &Series,
     exec: &Exec,
 ) -> PolarsResult<MergedPairs>
-    requires same { left.now.kind ≡ right.now.kind }
-    requires left { is_merge_key left.now ≡ true }
-    requires right { is_merge_key right.now ≡ true }
-    requires ordered { have_order (kind_of_merge keep_unmatched) exec.now left.now right.now
-        ≡ true }
-    ensures settles { Settles result
-        (too_many
-        (length
-        (value_listing false (kind_of_merge keep_unmatched) (values left.now)
-        (values right.now)))) }
-    ensures found { IfOk result (λ m.
-        IsListedIn
-        (value_listing false (kind_of_merge keep_unmatched) (values left.now)
-        (values right.now))
-        m.listed) }
-    ensures merged { IfOk result (λ m.
-        IsMergeWithin (value_sizes (values left.now) (values right.now)) m.merged) }
+    requires { AreKeysToMerge (kind_of_merge keep_unmatched) exec.now left.now right.now }
+    ensures { AreMergedPairsOf (kind_of_merge keep_unmatched) (values left.now) (values right.now)
+        result }
 {
     let (pairs, merged) = ordered_pairs(alloc, keep_unmatched, left, right, exec)?;
     let order = order_after(sorted_first(left, right));
@@ -110,18 +88,8 @@ fn right_way_pairs(
     right: &Series,
     exec: &Exec,
 ) -> PolarsResult<MergedPairs>
-    requires same { left.now.kind ≡ right.now.kind }
-    requires left { is_merge_key left.now ≡ true }
-    requires right { is_merge_key right.now ≡ true }
-    requires ordered { have_order JoinType.Right exec.now right.now left.now ≡ true }
-    ensures settles { Settles result
-        (too_many
-        (length (value_listing false JoinType.Right (values left.now) (values right.now)))) }
-    ensures found { IfOk result (λ m.
-        IsListedIn (value_listing false JoinType.Right (values left.now) (values right.now))
-        m.listed) }
-    ensures merged { IfOk result (λ m.
-        IsMergeWithin (sizes_by JoinType.Right (values left.now) (values right.now)) m.merged) }
+    requires { AreKeysToMerge JoinType.Right exec.now left.now right.now }
+    ensures { AreMergedPairsOf JoinType.Right (values left.now) (values right.now) result }
 {
     let (pairs, merged) = ordered_pairs(alloc, true, right, left, exec)?;
     let order = Direction::ByRight;
@@ -138,16 +106,8 @@ fn sorted_pairs(
     right: &Series,
     exec: &Exec,
 ) -> PolarsResult<MergedPairs>
-    requires same { left.now.kind ≡ right.now.kind }
-    requires left { is_merge_key left.now ≡ true }
-    requires right { is_merge_key right.now ≡ true }
-    requires ordered { are_ordered how exec.now left.now right.now ≡ true }
-    ensures settles { Settles result
-        (too_many (length (value_listing false how (values left.now) (values right.now)))) }
-    ensures found { IfOk result (λ m.
-        IsListedIn (value_listing false how (values left.now) (values right.now)) m.listed) }
-    ensures merged { IfOk result (λ m.
-        IsMergeWithin (sizes_by how (values left.now) (values right.now)) m.merged) }
+    requires { AreKeysToMerge how exec.now left.now right.now }
+    ensures { AreMergedPairsOf how (values left.now) (values right.now) result }
 {
     match how {
         JoinType::Inner => left_way_pairs(alloc, false, left, right, exec),
@@ -174,9 +134,8 @@ fn taken_pairs(alloc: Global, request: &LentRequest<'_>, exec: &Exec) -> PolarsR
     requires alike { map (λ (c : Col). c.kind) (lent_columns request.now.left_keys.now)
         ≡ map (λ (c : Col). c.kind) (lent_columns request.now.right_keys.now) }
     requires taken { takes_merge_path request.now exec.now ≡ true }
-    ensures settles { Settles result (first_cause (row_causes (asked_request request.now))) }
-    ensures found { IfOk result (λ m. IsListedIn (listing (asked_request request.now)) m.listed) }
-    ensures merged { IfOk result (λ m. IsMergeWithin (requested_sizes request.now) m.merged) }
+    ensures { AreMergedPairs (first_cause (row_causes (asked_request request.now)))
+        (listing (asked_request request.now)) (requested_sizes request.now) result }
 {
     let left = request.left_keys[0];
     let right = request.right_keys[0];

@@ -1,14 +1,13 @@
 //! Keys with their rows, sorted by key, and the rows that pairs of places stand for.
 ghost use Rattle.std.specs.Prelude.{◌≡◌, ◌<◌, ◌≤◌, ℕ, ℤ, All, IfOk, length, map};
 ghost use Rattle.tb_chunk.specs.Rows.{IsRowOf};
-ghost use Rattle.tb_frame.specs.Answer.{AreLeftRows, AreRightRows};
 ghost use Rattle.tb_merge.specs.Keys.{key_at};
-ghost use Rattle.tb_sorted.specs.SortedRows.{AreSortedRows, left_placed, numbered_keys, right_placed, row_or_none, with_rows};
+ghost use Rattle.tb_sorted.specs.SortedRows.{AreSortedRows, numbered_keys, place_on, placed, row_or_none, with_rows};
 
 use crate::cells::WholeCell;
 use crate::key_lists::NumberList;
 use std::alloc::Global;
-use tb_value::{IdxSize, JoinPair, MAX_ROWS, NullableIdxSize, OutOfMemory};
+use tb_value::{IdxSize, JoinPair, MAX_ROWS, NullableIdxSize, OutOfMemory, Side};
 
 // A key of the list, with its row.
 fn key_with_row<N: WholeCell, K: NumberList<N>>(list: &K, row: usize) -> (N, IdxSize)
@@ -61,32 +60,37 @@ fn row_at<N: WholeCell>(rows: &[(N, IdxSize)], place: NullableIdxSize) -> Nullab
     }
 }
 
-/// The pairs whose right places stand for the rows there.
-pub(crate) fn with_right_rows<N: WholeCell>(
-    mut pairs: Vec<JoinPair>,
-    rows: &[(N, IdxSize)],
-) -> Vec<JoinPair>
-    requires places { AreRightRows (length rows.now) pairs.items }
+// The pair whose place on the side is the row that stands there.
+fn placed<N: WholeCell>(side: Side, rows: &[(N, IdxSize)], pair: JoinPair) -> JoinPair
+    requires place { IsRowOf (length rows.now) (place_on side pair) }
     requires rows { All (λ (p : ℤ × ℕ). p.1 < MAX_ROWS) (numbered_keys N.number rows.now) }
-    ensures { result.items ≡ map (right_placed (numbered_keys N.number rows.now)) pairs.items }
+    ensures { result ≡ placed side (numbered_keys N.number rows.now) pair }
 {
-    for pair in pairs.iter_mut() {
-        pair.right = row_at(rows, pair.right);
+    let JoinPair { left, right } = pair;
+    match side {
+        Side::Left => JoinPair {
+            left: row_at(rows, left),
+            right,
+        },
+        Side::Right => JoinPair {
+            left,
+            right: row_at(rows, right),
+        },
     }
-    pairs
 }
 
-/// The pairs whose left places stand for the rows there.
-pub(crate) fn with_left_rows<N: WholeCell>(
+/// The pairs whose places on the side are the rows that stand there.
+pub(crate) fn placed_pairs<N: WholeCell>(
+    side: Side,
     mut pairs: Vec<JoinPair>,
     rows: &[(N, IdxSize)],
 ) -> Vec<JoinPair>
-    requires places { AreLeftRows (length rows.now) pairs.items }
+    requires places { All (λ p. IsRowOf (length rows.now) (place_on side p)) pairs.items }
     requires rows { All (λ (p : ℤ × ℕ). p.1 < MAX_ROWS) (numbered_keys N.number rows.now) }
-    ensures { result.items ≡ map (left_placed (numbered_keys N.number rows.now)) pairs.items }
+    ensures { result.items ≡ map (placed side (numbered_keys N.number rows.now)) pairs.items }
 {
     for pair in pairs.iter_mut() {
-        pair.left = row_at(rows, pair.left);
+        *pair = placed(side, rows, *pair);
     }
     pairs
 }

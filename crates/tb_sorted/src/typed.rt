@@ -27,8 +27,6 @@ fn merged_values<N: WholeCell>(
     right: &LentValues<'_, N>,
     exec: &Exec,
 ) -> PolarsResult<(Vec<JoinPair>, Merged)>
-    requires left { AreMergeKeys (map N.shows left.now.values.now) }
-    requires right { AreMergeKeys (map N.shows right.now.values.now) }
     requires may { MayMerge first keep_unmatched (map N.shows left.now.values.now)
         (map N.shows right.now.values.now) }
     ensures { AreValuesMerged (order_after first) keep_unmatched (map N.shows left.now.values.now)
@@ -64,8 +62,6 @@ fn pairs_of_cells<N: WholeCell>(
 ) -> PolarsResult<(Vec<JoinPair>, Merged)>
     requires left_one { length (cell_lists N.shows left.now) ≡ 1 }
     requires right_one { length (cell_lists N.shows right.now) ≡ 1 }
-    requires left { AreMergeKeys (concatenation (cell_lists N.shows left.now)) }
-    requires right { AreMergeKeys (concatenation (cell_lists N.shows right.now)) }
     requires may { MayMerge first keep_unmatched (concatenation (cell_lists N.shows left.now))
         (concatenation (cell_lists N.shows right.now)) }
     ensures { AreValuesMerged (order_after first) keep_unmatched
@@ -90,8 +86,6 @@ pub(crate) fn pairs_of_chunks(
     requires same { storage left.now ≡ storage right.now }
     requires left_one { length (chunk_lists left.now) ≡ 1 }
     requires right_one { length (chunk_lists right.now) ≡ 1 }
-    requires left { AreMergeKeys (concatenation (chunk_lists left.now)) }
-    requires right { AreMergeKeys (concatenation (chunk_lists right.now)) }
     requires may { MayMerge first keep_unmatched (concatenation (chunk_lists left.now))
         (concatenation (chunk_lists right.now)) }
     ensures { AreValuesMerged (order_after first) keep_unmatched

@@ -1,4 +1,4 @@
-use Rattle.std.proofs.Common.{ap, ◌≡◌, List, ℕ, arith, length, map, rules, subst, sym, ◌∙◌}
+use Rattle.std.proofs.Common.{ap, List, ℕ, arith, rules, subst, sym, ◌∙◌}
 use Rattle.std.proofs.lemmas.List.{length-map}
 use Rattle.std.specs.Prelude.{IsPermutation, IsSorted}
 use Rattle.tb_value.specs.Promise.Pairs.{left_first}
@@ -8,57 +8,60 @@ use Rattle.tb_frame.specs.Answer.{AreRightRows}
 use Rattle.tb_sorted.specs.Promise.Keys.{MergeSizes}
 use Rattle.tb_sorted.specs.Keys.{number_listing}
 use Rattle.tb_sorted.specs.Listed.{IsMergeWithin}
-use Rattle.tb_sorted.specs.SortedRows.{AreSortedRows, right_placed, numbered_keys}
-use Rattle.tb_sorted.proofs.Places.{as_many_keys, right_many, right_places, right_sizes, right_way, rows_few, way_permutation, way_sorted}
+use Rattle.tb_sorted.specs.SortedRows.{numbered_keys}
+use Rattle.tb_sorted.proofs.Places.{as_many_keys, lent_rows, right_many, right_places, right_sizes, right_way, rows_few, way_permutation, way_sorted}
 use Rattle.tb_keys.specs.Causes.{too_many}
 use Rattle.tb_sorted.proofs.one_sorted.right_sorted_lists.Goals as goal
 
 pub merged_lists-requires-clause-right_few : goal.merged_lists-requires-clause-right_few
 merged_lists-requires-clause-right_few g c κs within =
+    let number = g.N.WholeCell.number in
     let keys = g.B.NumberList.keys c.args.right.now in
-    let rows = numbered_keys g.N.WholeCell.number c.deref.result.now in
-    let many = as_many_keys keys rows (subst (λ (l : List (g.row.N.Denot × ℕ)). AreSortedRows keys (numbered_keys g.N.WholeCell.number l)) (sym c.deref.ensures.value) c.in_ok-rows.ensures) in
+    let sorted = lent_rows number keys c.in_ok-rows.rows.items c.deref.result.now c.deref.ensures.value c.in_ok-rows.ensures in
+    let many = as_many_keys keys (numbered_keys number c.deref.result.now) sorted in
     omega (arith, many, c.requires.right_few)
 
 pub returns-in_err-pairs : goal.returns-in_err-pairs
 returns-in_err-pairs g c =
+    let number = g.N.WholeCell.number in
+    let keys = g.B.NumberList.keys c.args.right.now in
     let left = g.A.NumberList.keys c.args.left.now in
-    let keys = g.B.NumberList.keys c.args.right.now in
-    let rows = numbered_keys g.N.WholeCell.number c.deref.result.now in
-    let keep = c.args.keep_unmatched in
-    let many = right_many keys rows (subst (λ (l : List (g.row.N.Denot × ℕ)). AreSortedRows keys (numbered_keys g.N.WholeCell.number l)) (sym c.deref.ensures.value) c.in_ok-rows.ensures) keep left in
-    record { settles = subst (Settles c.from_residual-in_err-pairs.result) (ap too_many many) (search rules); pairs = search rules; ascends = search rules; merged = search rules }
+    let rows = numbered_keys number c.deref.result.now in
+    let sorted = lent_rows number keys c.in_ok-rows.rows.items c.deref.result.now c.deref.ensures.value c.in_ok-rows.ensures in
+    let settled = subst (Settles c.from_residual-in_err-pairs.result) (ap too_many (right_many keys rows sorted c.args.keep_unmatched left)) (search rules) in
+    record { settles = settled; pairs = search rules; ascends = search rules; merged = search rules }
 
-pub with_right_rows-requires-clause-places : goal.with_right_rows-requires-clause-places
-with_right_rows-requires-clause-places g c κs within =
+pub placed_pairs-requires-clause-places : goal.placed_pairs-requires-clause-places
+placed_pairs-requires-clause-places g c κs within =
+    let number = g.N.WholeCell.number in
+    let keys = g.B.NumberList.keys c.args.right.now in
     let left = g.A.NumberList.keys c.args.left.now in
-    let keys = g.B.NumberList.keys c.args.right.now in
-    let rows = numbered_keys g.N.WholeCell.number c.deref.result.now in
-    let same = c.deref.ensures.value ∙ sym c.deref-2.ensures.value in
-    let sorted = subst (λ (l : List (g.row.N.Denot × ℕ)). AreSortedRows keys (numbered_keys g.N.WholeCell.number l)) (sym c.deref.ensures.value) c.in_ok-rows.ensures in
-    subst (λ (n : ℕ). AreRightRows n c.in_ok-pairs.pairs.items)
-    (length-map c.deref.result.now (λ (p : g.row.N.Denot × ℕ). (g.N.WholeCell.number p.0, p.1)) ∙ ap (λ (l : List (g.row.N.Denot × ℕ)). length l) same) (right_places keys rows sorted c.args.keep_unmatched left c.in_ok-pairs.pairs.items c.in_ok-pairs.ensures.pairs)
+    let rows = numbered_keys number c.deref.result.now in
+    let sorted = lent_rows number keys c.in_ok-rows.rows.items c.deref.result.now c.deref.ensures.value c.in_ok-rows.ensures in
+    subst (λ (n : ℕ). AreRightRows n c.in_ok-pairs.pairs.items) (length-map c.deref.result.now (λ (p : g.row.N.Denot × ℕ). (number p.0, p.1)))
+    (right_places keys rows sorted c.args.keep_unmatched left c.in_ok-pairs.pairs.items c.in_ok-pairs.ensures.pairs)
 
-pub with_right_rows-requires-clause-rows : goal.with_right_rows-requires-clause-rows
-with_right_rows-requires-clause-rows g c κs within =
+pub placed_pairs-requires-clause-rows : goal.placed_pairs-requires-clause-rows
+placed_pairs-requires-clause-rows g c κs within =
+    let number = g.N.WholeCell.number in
     let keys = g.B.NumberList.keys c.args.right.now in
-    rows_few keys (numbered_keys g.N.WholeCell.number c.deref-2.result.now) (subst (λ (l : List (g.row.N.Denot × ℕ)). AreSortedRows keys (numbered_keys g.N.WholeCell.number l)) (sym c.deref-2.ensures.value) c.in_ok-rows.ensures) c.requires.right_few
+    let sorted = lent_rows number keys c.in_ok-rows.rows.items c.deref.result.now c.deref.ensures.value c.in_ok-rows.ensures in
+    rows_few keys (numbered_keys number c.deref.result.now) sorted c.requires.right_few
 
 pub returns : goal.returns
 returns g c =
-    let left = g.A.NumberList.keys c.args.left.now in
+    let number = g.N.WholeCell.number in
     let keys = g.B.NumberList.keys c.args.right.now in
-    let rows = numbered_keys g.N.WholeCell.number c.deref.result.now in
-    let keep = c.args.keep_unmatched in
+    let left = g.A.NumberList.keys c.args.left.now in
+    let rows = numbered_keys number c.deref.result.now in
+    let sorted = lent_rows number keys c.in_ok-rows.rows.items c.deref.result.now c.deref.ensures.value c.in_ok-rows.ensures in
     let ps = c.in_ok-pairs.pairs.items in
-    let same : c.deref-2.result.now ≡ c.deref.result.now = c.deref-2.ensures.value ∙ sym c.deref.ensures.value in
-    let sorted = subst (λ (l : List (g.row.N.Denot × ℕ)). AreSortedRows keys (numbered_keys g.N.WholeCell.number l)) (sym c.deref.ensures.value) c.in_ok-rows.ensures in
     let h = c.in_ok-pairs.ensures in
-    let list = number_listing keep left keys in
-    let is = ◌∙◌ {A = List JoinPair} c.with_right_rows.ensures (◌∙◌ {A = List JoinPair} (λ t. map (right_placed (numbered_keys g.N.WholeCell.number (same t))) ps) (right_way keys rows sorted keep left ps h.pairs h.ascends)) in
+    let keep = c.args.keep_unmatched in
+    let is = sym (c.placed_pairs.ensures ∙ right_way keys rows sorted keep left ps h.pairs h.ascends) in
     record {
       settles = sym (ap too_many (right_many keys rows sorted keep left)) ∙ h.settles;
-      pairs = subst (λ (l : List JoinPair). IsPermutation list l) (sym is) (way_permutation keep left keys);
-      ascends = subst (λ (l : List JoinPair). IsSorted left_first l) (sym is) (way_sorted keep left keys);
+      pairs = subst (λ (l : List JoinPair). IsPermutation (number_listing keep left keys) l) is (way_permutation keep left keys);
+      ascends = subst (λ (l : List JoinPair). IsSorted left_first l) is (way_sorted keep left keys);
       merged = subst (λ (s : MergeSizes). IsMergeWithin s c.in_ok-pairs.merged) (right_sizes keys rows sorted left) h.merged;
     }

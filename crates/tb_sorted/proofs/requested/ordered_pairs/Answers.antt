@@ -6,14 +6,8 @@ use Rattle.tb_sorted.specs.Columns.{MayMerge}
 use Rattle.tb_sorted.specs.Listed.{AreValuesMerged}
 use Rattle.tb_sorted.specs.Path.{order_after, sorted_first}
 use Rattle.tb_sorted.specs.declared.path.SortedFirst.{SortedFirst}
-use Rattle.tb_sorted.proofs.Flagged.{lone_keys, lone_list, may_merge, merge_keys}
+use Rattle.tb_sorted.proofs.Flagged.{lone_list, may_merge}
 use Rattle.tb_sorted.proofs.requested.ordered_pairs.Goals as goal
-
-pub pairs_of_chunks-requires-clause-left : goal.pairs_of_chunks-requires-clause-left
-pairs_of_chunks-requires-clause-left c = lone_keys c.args.left.now _ c.lone_chunk.ensures.lists (merge_keys c.args.left.now c.len.ensures.column c.requires.left)
-
-pub pairs_of_chunks-requires-clause-right : goal.pairs_of_chunks-requires-clause-right
-pairs_of_chunks-requires-clause-right c = lone_keys c.args.right.now _ c.lone_chunk-2.ensures.lists (merge_keys c.args.right.now c.len-2.ensures.column c.requires.right)
 
 pub pairs_of_chunks-requires-clause-may : goal.pairs_of_chunks-requires-clause-may
 pairs_of_chunks-requires-clause-may c =
@@ -23,7 +17,7 @@ pairs_of_chunks-requires-clause-may c =
     let first = sorted_first l r in
     let us = concatenation (chunk_lists c.lone_chunk.result.now) in
     let vs = concatenation (chunk_lists c.lone_chunk-2.result.now) in
-    let may = may_merge keep c.args.exec.now l r c.len.ensures.column c.len-2.ensures.column c.requires.left c.requires.right c.requires.ordered in
+    let may = may_merge keep c.args.exec.now l r c.len.ensures.column c.len-2.ensures.column c.requires in
     subst (λ (f : SortedFirst). MayMerge f keep us vs) (sym c.sorted_first.ensures)
     (subst (λ (xs : List Datum). MayMerge first keep xs vs) (sym (lone_list l (chunk_lists c.lone_chunk.result.now) c.lone_chunk.ensures.lists))
     (subst (λ (xs : List Datum). MayMerge first keep (values l) xs) (sym (lone_list r (chunk_lists c.lone_chunk-2.result.now) c.lone_chunk-2.ensures.lists)) may))

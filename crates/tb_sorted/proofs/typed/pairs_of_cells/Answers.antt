@@ -2,16 +2,10 @@ use Rattle.std.proofs.Common.{List, subst, sym}
 use Rattle.tb_value.specs.Promise.Datum.{Datum}
 use Rattle.tb_chunk.specs.Promise.Col.{concatenation}
 use Rattle.std.specs.Prelude.{map}
-use Rattle.tb_sorted.specs.Columns.{AreMergeKeys, MayMerge, cell_lists}
+use Rattle.tb_sorted.specs.Columns.{MayMerge, cell_lists}
 use Rattle.tb_sorted.specs.Listed.{AreValuesMerged}
 use Rattle.tb_sorted.specs.Path.{order_after}
 use Rattle.tb_sorted.proofs.typed.pairs_of_cells.Goals as goal
-
-pub merged_values-requires-clause-left : goal.merged_values-requires-clause-left
-merged_values-requires-clause-left g c κs within = subst AreMergeKeys (sym c.lone_values-left.ensures) c.requires.left
-
-pub merged_values-requires-clause-right : goal.merged_values-requires-clause-right
-merged_values-requires-clause-right g c κs within = subst AreMergeKeys (sym c.lone_values-right.ensures) c.requires.right
 
 pub merged_values-requires-clause-may : goal.merged_values-requires-clause-may
 merged_values-requires-clause-may g c κs within =

@@ -1,7 +1,0 @@
-use Rattle.std.proofs.Common.{◌≡◌}
-use Rattle.tb_sorted.specs.SortedRows.{left_placed, numbered_keys}
-use Rattle.tb_sorted.proofs.Turned.{mapped_so_far}
-use Rattle.tb_sorted.proofs.row_sorting.with_left_rows.Given as goal
-
-abbrev pub invariant-loop-pair : goal.invariant-loop-pair
-invariant-loop-pair g l = l.pair-items ≡ mapped_so_far (left_placed (numbered_keys g.N.WholeCell.number l.rows)) l.pair-index l.fn.pairs.items
