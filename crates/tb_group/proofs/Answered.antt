@@ -1,5 +1,5 @@
 -- What is answered is the grouped table of the request, with its trace, or its refusal.
-use Rattle.std.proofs.Common.{◌≡◌, ◌∙◌, ◌<◌, ◌≤◌, ℕ, Bool, true, not, List, [], ◌∷◌, ◌++◌, append-nil, Option, None, filter, get_or, length, map, unwrap_or, refl, sym, ap, subst, arith}
+use Rattle.std.proofs.Common.{◌≡◌, ◌∙◌, ◌<◌, ◌≤◌, ℕ, Bool, not, List, [], ◌∷◌, ◌++◌, append-nil, None, filter, get_or, length, map, unwrap_or, refl, sym, ap, subst, arith}
 use Rattle.std.specs.Borrow.{Bor}
 use Rattle.std.specs.List.{All, flat_map}
 use Rattle.std.proofs.lemmas.List.{get_or-map, get_or_default, length-map, map-append, same_lists}
@@ -10,7 +10,6 @@ use Rattle.tb_value.specs.Promise.Names.{Name}
 use Rattle.tb_value.specs.Promise.Pairs.{row_numbers}
 use Rattle.tb_value.specs.Promise.Refusals.{first_cause, when}
 use Rattle.tb_value.specs.declared.error.ComputeCause.TheVariants.{SumRange}
-use Rattle.tb_value.specs.declared.error.PolarsError.{PolarsError}
 use Rattle.tb_value.specs.declared.error.PolarsError.TheVariants.{ComputeError}
 use Rattle.tb_value.specs.declared.limits.TheConstants.{MAX_ROWS}
 use Rattle.tb_chunk.specs.Changed.{taken_rows}
@@ -18,11 +17,12 @@ use Rattle.tb_chunk.specs.Lent.{lent_columns}
 use Rattle.tb_chunk.specs.Promise.Col.{Col, values}
 use Rattle.tb_frame.specs.Promise.Table.{Table, TableColumn, IsTyped, height, plain_column, table_of}
 use Rattle.tb_frame.specs.Promise.Join.{column_named}
-use Rattle.tb_frame.proofs.Causes.{no_cause, selected_hold}
+use Rattle.tb_frame.proofs.Causes.{selected_hold}
 use Rattle.tb_rowkey.specs.Promise.Columns.{row_count}
 use Rattle.tb_rows.specs.InGroups.{firsts_in, listed_test}
 use Rattle.tb_rows.specs.Promise.Rows.{first_rows, row_value, same_rows}
 use Rattle.tb_rows.proofs.Listed.{firsts_listed}
+use Rattle.tb_agg.specs.Kept.{kept_fits}
 use Rattle.tb_agg.specs.Promise.Aggregates.{aggregate, result_kind, sum_kind, total}
 use Rattle.tb_agg.specs.declared.table.Aggregate.{Aggregate}
 use Rattle.tb_build.specs.Promise.Plan.{part_rows, part_sizes}
@@ -37,14 +37,13 @@ use Rattle.tb_group.specs.Promise.Refusal.{first_agg_cause, range_cause, sums_fi
 use Rattle.tb_group.specs.Promise.Request.{Request, by_columns}
 use Rattle.tb_group.specs.Served.{AreSeated, AreServed, IsSeat, Wanted}
 use Rattle.tb_group.specs.Trace.{part_views, trace_by}
-use Rattle.tb_group.specs.Whole.{all_firsts, are_there, cause_at, columns_at, placed_at, placed_column, AreWhole, AreWholeAt}
+use Rattle.tb_group.specs.Whole.{all_firsts, cause_at, made_cause, made_column, no_column, placed, placed_at, AreWhole, AreWholeAt}
 use Rattle.tb_group.specs.declared.request.GroupAgg.{GroupAgg}
 use Rattle.tb_group.proofs.Alike.{rows_equiv}
 use Rattle.tb_group.proofs.KeyParts.{lent_same}
-use Rattle.tb_group.proofs.PartColumns.{passed}
 use Rattle.tb_group.proofs.Requests.{causes_of, columns_of}
 use Rattle.tb_group.proofs.RowsByKeys.{by_keys}
-use Rattle.tb_group.proofs.Together.{all_few, all_low, in_order, placed_is, there_is, whole_is}
+use Rattle.tb_group.proofs.Together.{all_few, all_low, fits_is, in_order, made_is, whole_is}
 
 -- what is made of each place of a list is what is made of each element
 by_places : {X Y : Type 0} (f : ℕ → Y) (g : X → Y) (xs : List X) → ((k : ℕ) (x : X) → k < length xs → x ≡ get_or xs k x → f k ≡ g x) → map f (row_numbers (length xs)) ≡ map g xs
@@ -99,6 +98,9 @@ module _ (q : Request) (w : Wanted) (s : AreServed q w) where
   pub each_high : All (λ (c : TableColumn). length c.values ≡ n) cs
   each_high = subst (λ (m : ℕ). All (λ (c : TableColumn). length c.values ≡ m) cs) (sym s.high) (selected_hold (λ (c : TableColumn). length c.values ≡ height q.table) q.table s.table.one_height q.by)
 
+  level : All (λ (a : Asked). length a.1.values ≡ n) made_list
+  level = subst (λ (m : ℕ). All (λ (a : Asked). length a.1.values ≡ m) made_list) (sym s.high) s.level
+
   -- the seats, by the aggregates of the request
   seated : AreSeated aggs made_list seats
   seated = subst (λ (ps : List Asked). AreSeated ps made_list seats) s.asked s.seated
@@ -134,8 +136,8 @@ module _ (q : Request) (w : Wanted) (s : AreServed q w) where
       ordered : IsOrder n (all_firsts due) places
       ordered = subst (λ (vs : List PartView). IsOrder n (all_firsts vs) places) views_are order
 
-      pub are_whole : n ≤ MAX_ROWS → AreWholeAt seats views places
-      are_whole few = (length made_list, subst (λ (vs : List PartView). AreWhole (length made_list) vs places) (sym views_are) (whole_is cs n parts some made_list places ordered few), seats_low)
+      pub are_whole : n ≤ MAX_ROWS → AreWholeAt made_list seats views places
+      are_whole few = (subst (λ (vs : List PartView). AreWhole made_list vs places) (sym views_are) (whole_is cs n parts some made_list places ordered few level s.taken), seats_low)
 
       firsts_are : first_rows (alike q) n ≡ group_firsts q
       firsts_are = ap (first_rows (alike q)) s.high
@@ -162,9 +164,9 @@ module _ (q : Request) (w : Wanted) (s : AreServed q w) where
         abbrev fits_at : Aggregate → TableColumn → ℕ → Bool
         fits_at agg v m = sums_fit agg (sum_kind v.kind) (map (λ x. total (map (row_value v.values) (filter (alike q x) (row_numbers m)))) (first_rows (alike q) m))
 
-        there_at : are_there (columns_at seat due) ≡ fits_at a.0.agg a.1 (height q.table)
-        there_at =
-            there_is cs n parts some made_list places ordered seat own has_seat.there own_is
+        fits_are : kept_fits own.1.kind (placed own seat due places) ≡ fits_at a.0.agg a.1 (height q.table)
+        fits_are =
+            fits_is cs n parts some made_list places ordered seat own has_seat.there own_is
             ∙ (λ t. fits_at (has_seat.agg t) (has_seat.column t) (s.high t))
 
         -- the column, over so many rows
@@ -175,9 +177,9 @@ module _ (q : Request) (w : Wanted) (s : AreServed q w) where
           values = map (λ x. aggregate agg (map (row_value v.values) (filter (alike q x) (row_numbers m)))) (first_rows (alike q) m);
         }
 
-        placed_by : (name : Name) → are_there (columns_at seat due) ≡ true → placed_column name places (columns_at seat due) ≡ made_at name a.0.agg a.1 (height q.table)
-        placed_by name fine =
-            placed_is cs n parts some made_list places ordered seat own has_seat.there own_is name fine
+        placed_by : (name : Name) → made_column name own seat due places ≡ made_at name a.0.agg a.1 (height q.table)
+        placed_by name =
+            made_is cs n parts some made_list places ordered seat own has_seat.there own_is (s.taken seat a has_seat.there) name
             ∙ (λ t. made_at name (has_seat.agg t) (has_seat.column t) (s.high t))
 
         source_at : get_or (map (λ (b : Asked). b.0.column) aggs) k [] ≡ a.0.column
@@ -186,40 +188,37 @@ module _ (q : Request) (w : Wanted) (s : AreServed q w) where
         answer_name : get_or (map (λ (b : Asked). b.0.name) aggs) k [] ≡ a.0.name
         answer_name = get_or-map (λ (b : Asked). b.0.name) aggs k a [] low ∙ ap (λ (b : Asked). b.0.name) (sym is)
 
-        cause_is : cause_at aggs seats due k ≡ range_cause q a.0 a.1
-        cause_is = λ t. when (not (there_at t)) (ComputeError (SumRange (source_at t)))
+        cause_is : cause_at aggs made_list seats due places k ≡ range_cause q a.0 a.1
+        cause_is =
+            get_or-map (λ (b : Asked). made_cause (get_or (map (λ (d : Asked). d.0.column) aggs) k []) b seat due places) made_list seat a None has_seat.there
+            ∙ (λ t. when (not (fits_are t)) (ComputeError (SumRange (source_at t))))
 
-        column_is : are_there (columns_at seat due) ≡ true → placed_at aggs seats due places k ≡ agg_column q a.0 a.1
-        column_is fine = placed_by (get_or (map (λ (b : Asked). b.0.name) aggs) k []) fine ∙ (λ t. made_at (answer_name t) a.0.agg a.1 (height q.table))
+        column_is : placed_at aggs made_list seats due places k ≡ agg_column q a.0 a.1
+        column_is =
+            get_or-map (λ (b : Asked). made_column (get_or (map (λ (d : Asked). d.0.name) aggs) k []) b seat due places) made_list seat a no_column has_seat.there
+            ∙ placed_by (get_or (map (λ (b : Asked). b.0.name) aggs) k [])
+            ∙ (λ t. made_at (answer_name t) a.0.agg a.1 (height q.table))
 
-      pub causes_are : first_cause (map (cause_at (asked_list w.asked) seats views) (row_numbers (length w.asked))) ≡ first_agg_cause q (range_cause q)
+      pub causes_are : first_cause (map (cause_at (asked_list w.asked) made_list seats views places) (row_numbers (length w.asked))) ≡ first_agg_cause q (range_cause q)
       causes_are =
-          (λ t. first_cause (map (cause_at (s.asked t) seats (views_are t)) (row_numbers (many t))))
-          ∙ ap first_cause (by_places (cause_at aggs seats due) (λ (p : Asked). range_cause q p.0 p.1) aggs cause_is)
+          (λ t. first_cause (map (cause_at (s.asked t) made_list seats (views_are t) places) (row_numbers (many t))))
+          ∙ ap first_cause (by_places (cause_at aggs made_list seats due places) (λ (p : Asked). range_cause q p.0 p.1) aggs cause_is)
           ∙ sym (causes_of (range_cause q) q.table q.aggs)
 
-      module _ (none : first_cause (map (cause_at (asked_list w.asked) seats views) (row_numbers (length w.asked))) ≡ None) where
-        fine : (k : ℕ) → k < length aggs → are_there (columns_at (get_or seats k 0) due) ≡ true
-        fine k low =
-            let causes : List (Option PolarsError) = map (cause_at aggs seats due) (row_numbers (length aggs)) in
-            let all : All (λ (o : Option PolarsError). o ≡ None) causes = no_cause causes ((λ t. first_cause (map (cause_at (sym s.asked t) seats (sym views_are t)) (row_numbers (sym many t)))) ∙ none) in
-            let here : cause_at aggs seats due k ≡ None = sym (get_or-map-range_with_len (cause_at aggs seats due) 0 (length aggs) k k None low (omega arith)) ∙ all k None (omega (arith, low, length-map-range_with_len (cause_at aggs seats due) 0 (length aggs))) in
-            passed (are_there (columns_at (get_or seats k 0) due)) (ComputeError (SumRange (get_or (map (λ (b : Asked). b.0.column) aggs) k []))) here
+      pub made_are : map (placed_at (asked_list w.asked) made_list seats views places) (row_numbers (length w.asked)) ≡ flat_map (λ (a : GroupAgg). made_of q a (column_named q.table a.column)) q.aggs
+      made_are =
+          (λ t. map (placed_at (s.asked t) made_list seats (views_are t) places) (row_numbers (many t)))
+          ∙ by_places (placed_at aggs made_list seats due places) (λ (p : Asked). agg_column q p.0 p.1) aggs column_is
+          ∙ sym (columns_of q q.aggs)
 
-        pub made_are : map (placed_at (asked_list w.asked) seats views places) (row_numbers (length w.asked)) ≡ flat_map (λ (a : GroupAgg). made_of q a (column_named q.table a.column)) q.aggs
-        made_are =
-            (λ t. map (placed_at (s.asked t) seats (views_are t) places) (row_numbers (many t)))
-            ∙ by_places (placed_at aggs seats due places) (λ (p : Asked). agg_column q p.0 p.1) aggs (λ k a low is. column_is k a low is (fine k low))
-            ∙ sym (columns_of q q.aggs)
-
-        -- the key columns and the made ones are the grouped table
-        pub table_is : (rows : List ℕ) (made : List Col) → rows ≡ map (row_in (all_firsts views)) places
-            → table_of made ≡ map (placed_at (asked_list w.asked) seats views places) (row_numbers (length w.asked))
-            → table_of (map (taken_rows rows) (lent_columns w.by) ++ made) ≡ group_table q
-        table_is rows made at are_made =
-            table_more (map (taken_rows rows) (lent_columns w.by)) made
-            ∙ ap (λ (t : Table). t ++ table_of made) (taken_plain rows (lent_columns w.by) ∙ (λ t. map (λ (c : TableColumn). record c { values = map (row_value c.values) ((at ∙ rows_are) t) }) (s.by t)))
-            ∙ ap (λ (t : Table). map (key_column q) cs ++ t) (are_made ∙ made_are)
+      -- the key columns and the made ones are the grouped table
+      pub table_is : (rows : List ℕ) (made : List Col) → rows ≡ map (row_in (all_firsts views)) places
+          → table_of made ≡ map (placed_at (asked_list w.asked) made_list seats views places) (row_numbers (length w.asked))
+          → table_of (map (taken_rows rows) (lent_columns w.by) ++ made) ≡ group_table q
+      table_is rows made at are_made =
+          table_more (map (taken_rows rows) (lent_columns w.by)) made
+          ∙ ap (λ (t : Table). t ++ table_of made) (taken_plain rows (lent_columns w.by) ∙ (λ t. map (λ (c : TableColumn). record c { values = map (row_value c.values) ((at ∙ rows_are) t) }) (s.by t)))
+          ∙ ap (λ (t : Table). map (key_column q) cs ++ t) (are_made ∙ made_are)
 
   -- THE TRACE
 

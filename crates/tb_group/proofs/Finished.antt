@@ -1,5 +1,5 @@
 -- What the parts give for a request, as it is put together.
-use Rattle.std.proofs.Common.{◌≡◌, ◌∙◌, ◌<◌, ◌≤◌, ◌++◌, ℕ, List, None, length, map, sym, ap, subst, arith}
+use Rattle.std.proofs.Common.{◌≡◌, ◌∙◌, ◌<◌, ◌≤◌, ◌++◌, ℕ, List, length, map, sym, ap, subst, arith}
 use Rattle.std.specs.Borrow.{Bor}
 use Rattle.std.specs.List.{All}
 use Rattle.std.proofs.lemmas.List.{length-map}
@@ -42,10 +42,10 @@ module _ (q : Request) (w : Wanted) (s : AreServed q w) (parts : ℕ) (some : 1 
       ordered : IsOrder w.height (all_firsts views) places
       ordered = subst (λ (l : List ℕ). IsOrder w.height l places) is order
 
-      pub whole : w.height ≤ MAX_ROWS → AreWholeAt w.seats views places
+      pub whole : w.height ≤ MAX_ROWS → AreWholeAt (asked_list w.made) w.seats views places
       whole few = are_whole q w s parts some views are places ordered few
 
-      pub causes : first_cause (map (cause_at (asked_list w.asked) w.seats views) (row_numbers (length w.asked))) ≡ first_agg_cause q (range_cause q)
+      pub causes : first_cause (map (cause_at (asked_list w.asked) (asked_list w.made) w.seats views places) (row_numbers (length w.asked))) ≡ first_agg_cause q (range_cause q)
       causes = causes_are q w s parts some views are places ordered
 
       -- the first row of each group
@@ -62,7 +62,6 @@ module _ (q : Request) (w : Wanted) (s : AreServed q w) (parts : ℕ) (some : 1 
         pub few_rows : w.height ≤ MAX_ROWS → length rows ≤ MAX_ROWS
         few_rows few = omega (arith, ap length at, length-map places (row_in firsts), order.few, few)
 
-        pub answer_is : (made : List Col) → first_cause (map (cause_at (asked_list w.asked) w.seats views) (row_numbers (length w.asked))) ≡ None
-            → table_of made ≡ map (placed_at (asked_list w.asked) w.seats views places) (row_numbers (length w.asked))
+        pub answer_is : (made : List Col) → table_of made ≡ map (placed_at (asked_list w.asked) (asked_list w.made) w.seats views places) (row_numbers (length w.asked))
             → table_of (map (taken_rows rows) (lent_columns w.by) ++ made) ≡ group_table q
-        answer_is made none are_made = table_is q w s parts some views are places ordered none rows made by_views are_made
+        answer_is made are_made = table_is q w s parts some views are places ordered rows made by_views are_made

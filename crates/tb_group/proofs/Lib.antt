@@ -8,10 +8,10 @@ pub mod Finished
 pub mod Found
 pub mod Halves
 pub mod KeyParts
+pub mod KeptColumns
 pub mod Members
 pub mod Needed
 pub mod Ordered
-pub mod PartColumns
 pub mod PartRows
 pub mod PartsDone
 pub mod Pieces
@@ -22,7 +22,6 @@ pub mod RowsByKeys
 pub mod ScatteredRows
 pub mod Seated
 pub mod Spread
-pub mod Stacks
 pub mod Starts
 pub mod Together
 pub mod Works

@@ -3,7 +3,6 @@ use Rattle.std.proofs.Common.{◌≡◌, ◌∙◌, ◌<◌, ℕ, List, [], ◌�
 use Rattle.std.specs.Borrow.{Bor}
 use Rattle.std.specs.List.{All, cons_option}
 use Rattle.std.specs.Option.{option_map}
-use Rattle.std.specs.Prelude.{IsSome}
 use Rattle.std.proofs.lemmas.List.Elements.{All-cons, All-nil, All-weaker}
 use Rattle.tb_chunk.specs.Lent.{lent_columns}
 use Rattle.tb_chunk.specs.Promise.Col.{Col, values}
@@ -12,7 +11,6 @@ use Rattle.tb_frame.specs.Promise.Table.{Table, TableColumn, height, plain_colum
 use Rattle.tb_frame.proofs.Causes.{found_holds}
 use Rattle.tb_value.specs.Promise.Names.{same_name}
 use Rattle.tb_rowkey.specs.Promise.Columns.{row_count}
-use Rattle.tb_agg.specs.Promise.Aggregates.{result_kind}
 use Rattle.tb_rows.proofs.FirstRows.{firsts_below}
 use Rattle.tb_group.specs.Asked.{Asked, asked_as, asked_list, asked_of}
 use Rattle.tb_group.specs.Promise.Group.{alike, group_firsts}
@@ -49,9 +47,6 @@ module _ (q : Request) (w : Wanted) (s : AreServed q w) where
   rows_made =
       un_mapped (λ (p : Asked). length p.1.values ≡ row_count (lent_columns w.by)) asked_as w.made
       (subst (λ (m : ℕ). All (λ (p : Asked). length p.1.values ≡ m) (asked_list w.made)) (sym s.high ∙ sym (count_is q w s)) s.level)
-
-  pub taken_made : All (λ (a : AskedColumn). IsSome (result_kind a.asked.now.agg a.column.now.kind)) w.made
-  taken_made = un_mapped (λ (p : Asked). IsSome (result_kind p.0.agg p.1.kind)) asked_as w.made s.taken
 
   -- rows of the table are rows of each column
   pub rows_within : (rows : List ℕ) → All (λ r. r < w.height) rows → All (λ (c : Bor Col). All (λ r. r < length (values c.now)) rows) w.by

@@ -30,7 +30,7 @@ use Rattle.tb_group.proofs.Causes.{goes_on, onward, stops}
 use Rattle.tb_group.proofs.Needed.{asked_hold}
 use Rattle.tb_group.proofs.Requests.{all_keys, all_taken, causes_of, columns_of, names_made}
 use Rattle.tb_group.proofs.Seated.{are_seated, made_hold}
-use Rattle.tb_group.proofs.Together.{map_twice}
+use Rattle.tb_value.proofs.Loops.{map-map}
 
 -- a cause of names and types is one of the request
 pub names_refused : (q : Request) (e : PolarsError) → (e ≡ OutOfMemory) ⊎ (first_cause (name_causes q) ≡ Some e) → (e ≡ OutOfMemory) ⊎ (group_refusal q ≡ Some e)
@@ -108,8 +108,8 @@ module _ (cs : List Col) (by : List Name) (aggs : List GroupAgg) (none : first_c
   names_are : names_of (group_table request) ≡ by ++ agg_names aggs
   names_are =
       let name : TableColumn → Name = λ c. c.name in
-      let keys : map name key_columns ≡ by = map_twice (key_column request) name (by_columns request) ∙ named in
-      let others : map name made ≡ agg_names aggs = map_twice (λ (p : Asked). agg_column request p.0 p.1) name (asked_of (table_of cs) aggs) ∙ names_made (table_of cs) aggs known_sources in
+      let keys : map name key_columns ≡ by = map-map name (key_column request) (by_columns request) ∙ named in
+      let others : map name made ≡ agg_names aggs = map-map name (λ (p : Asked). agg_column request p.0 p.1) (asked_of (table_of cs) aggs) ∙ names_made (table_of cs) aggs known_sources in
       ap names_of answer_is ∙ map-append name key_columns made ∙ (λ t. keys t ++ others t)
 
   -- and one value for each group

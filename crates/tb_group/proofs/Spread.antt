@@ -1,6 +1,6 @@
 -- Rows that fall into parts, one part after another.
 use Rattle.std.proofs.Common.{◌≡◌, ◌∙◌, ◌+◌, ◌<◌, ◌≤◌, ℕ, zero, suc, Bool, true, false, not, ◌&&◌, ◌||◌, eqb, ltb, List, [], ◌∷◌, filter, cond, length, length-append, refl, sym, ap, arith}
-use Rattle.std.specs.List.{flat_map, list_all, list_any, range_with_len}
+use Rattle.std.specs.List.{flat_map, list_any, range_with_len}
 use Rattle.std.proofs.lemmas.Bool.{lt-ltb}
 use Rattle.std.proofs.lemmas.Bool.Decides.{nat_tests}
 use Rattle.std.proofs.lemmas.List.Folds.{list_any-append}
@@ -91,15 +91,6 @@ alike_in p q (suc n) a h =
     ap (λ (b : Bool). cond b (a ∷ filter p (range_with_len (a + 1) n)) (filter p (range_with_len (a + 1) n))) (h a (omega arith) (omega arith))
     ∙ ap (λ (l : List ℕ). cond (q a) (a ∷ l) l) (alike_in p q n (a + 1) (λ i low high. h i (omega (arith, low)) (omega (arith, high))))
 
--- a test of each, as one of which none fails
-all_not_any : (f : ℕ → Bool) (xs : List ℕ) → list_all f xs ≡ not (list_any (λ x. not (f x)) xs)
-all_not_any f [] = refl
-all_not_any f (x ∷ xs) = by (f x) (all_not_any f xs)
-  where
-    by : (b : Bool) → list_all f xs ≡ not (list_any (λ y. not (f y)) xs) → (b && list_all f xs) ≡ not (not b || list_any (λ y. not (f y)) xs)
-    by true k = k
-    by false k = refl
-
 -- two tests of which one passes exactly where a third does
 counted_apart : (p q r : ℕ → Bool) → ((x : ℕ) → (p x ≡ true) → q x ≡ false) → ((x : ℕ) → r x ≡ (p x || q x)) → (xs : List ℕ) → length (filter p xs) + length (filter q xs) ≡ length (filter r xs)
 counted_apart p q r apart either [] = refl
@@ -127,7 +118,7 @@ counted_apart p q r apart either (x ∷ xs) = by (p x) (q x) (r x) refl refl (ei
         ∙ k
         ∙ sym (ap (λ (t : Bool). length (cond t (x ∷ filter r xs) (filter r xs))) g)
 
-kept_few : (p : ℕ → Bool) (xs : List ℕ) → length (filter p xs) ≤ length xs
+pub kept_few : (p : ℕ → Bool) (xs : List ℕ) → length (filter p xs) ≤ length xs
 kept_few p [] = omega arith
 kept_few p (x ∷ xs) = by (p x) (kept_few p xs)
   where
@@ -164,10 +155,6 @@ module _ (part : ℕ → ℕ) where
   spread_few parts xs = omega (arith, some_few xs parts 0, kept_few (λ j. not (ltb (part j) 0)) xs)
 
   module _ (parts : ℕ) (low : (j : ℕ) → part j < parts) where
-    -- a test of all is one of all
-    pub spread_all : (f : ℕ → Bool) (rows : List ℕ) → list_all f (spread parts rows) ≡ list_all f rows
-    spread_all f rows = all_not_any f (spread parts rows) ∙ ap not (all_parts part rows (λ x. not (f x)) parts low) ∙ sym (all_not_any f rows)
-
     -- the first rows of all parts, in the order of the rows, are the first rows
     pub firsts_in_order : (test : ℕ → ℕ → Bool) (n : ℕ) → filter (is_listed (spread parts (first_rows test n))) (row_numbers n) ≡ first_rows test n
     firsts_in_order test n =

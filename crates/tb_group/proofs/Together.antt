@@ -1,9 +1,14 @@
 -- What all parts give together is what is made of the groups of the whole table.
-use Rattle.std.proofs.Common.{◌≡◌, ◌∙◌, ◌<◌, ◌≤◌, ℕ, ℤ, Bool, true, false, ◌&&◌, if◌then◌else◌, eqb, List, [], ◌∷◌, ◌++◌, Option, Some, None, filter, get_or, length, map, unwrap_or, refl, sym, ap, subst, arith}
+use Rattle.std.proofs.Common.{◌≡◌, ◌∙◌, ◌<◌, ◌≤◌, ℕ, ℤ, Bool, true, false, eqb, List, [], ◌∷◌, ◌++◌, filter, get_or, length, map, unwrap_or, refl, sym, ap, subst, arith}
 use Rattle.std.specs.Cmp.{IsEquivalence}
-use Rattle.std.specs.List.{All, flat_map, list_all}
-use Rattle.std.proofs.lemmas.List.{get_or-map, get_or_default, length-map}
+use Rattle.std.specs.List.{All, flat_map}
+use Rattle.std.specs.Prelude.{IsSome}
+use Rattle.std.proofs.lemmas.List.{get_or-map, length-map, map-append}
 use Rattle.std.proofs.lemmas.List.Elements.{All-append, All-filter, All-map, All-nil}
+use Rattle.std.proofs.lemmas.List.FromFn.{length-range_with_len}
+use Rattle.std.proofs.lemmas.List.Folds.{flat_map-map}
+use Rattle.tb_value.proofs.Loops.{map-map}
+use Rattle.tb_value.proofs.RowNumbers.{rows_below}
 use Rattle.tb_value.specs.Promise.Datum.{Datum}
 use Rattle.tb_value.specs.Promise.Kind as kind
 use Rattle.tb_value.specs.Promise.Kind.{Kind}
@@ -15,55 +20,29 @@ use Rattle.tb_rows.specs.InGroups.{firsts_in, groups_in}
 use Rattle.tb_rows.specs.Promise.Rows.{first_rows, row_value, same_rows}
 use Rattle.tb_rows.proofs.FirstRows.{few_firsts, firsts_below}
 use Rattle.tb_rows.proofs.FirstsIn.{firsts_of_all}
+use Rattle.tb_agg.specs.Kept.{KeptView, all_joined, kept_at, kept_fits, kept_kind, kept_len, kept_of, kept_values, nothing, IsKeptFor}
 use Rattle.tb_agg.specs.Promise.Aggregates.{aggregate, result_kind, sum_kind, total}
-use Rattle.tb_agg.specs.Promise.Outcome.{lies_within}
+use Rattle.tb_agg.specs.Promise.Outcome.{are_in_range}
 use Rattle.tb_agg.specs.declared.table.Aggregate.{Aggregate}
 use Rattle.tb_agg.specs.declared.table.Aggregate.TheVariants.{First, Last, Sum, Min, Max, Count}
-use Rattle.tb_value.specs.Promise.Typed.{ends}
+use Rattle.tb_agg.proofs.Keeping.{as_many, kept_all, kept_for, kept_taken, kind_is, made_at, values_are}
 use Rattle.tb_build.specs.Promise.Plan.{part_rows}
 use Rattle.tb_group.specs.Asked.{Asked}
 use Rattle.tb_group.specs.Codes.{codes_by}
 use Rattle.tb_group.specs.Order.{row_in, is_listed, IsOrder}
-use Rattle.tb_group.specs.Parts.{group_values, groups_column, groups_fit, has_work, part_view, PartView}
+use Rattle.tb_group.specs.Parts.{has_work, part_view, PartView}
 use Rattle.tb_group.specs.Promise.Refusal.{sums_fit}
 use Rattle.tb_group.specs.Trace.{part_views, work_parts}
-use Rattle.tb_group.specs.Whole.{all_firsts, are_there, columns_at, placed_column, AreStacked, AreWhole}
+use Rattle.tb_group.specs.Whole.{all_firsts, gathered, made_column, placed, AreWhole, CanBeMade}
 use Rattle.tb_group.proofs.Alike.{rows_equiv}
 use Rattle.tb_group.proofs.KeyParts.{one_part, part_at, part_low, rows_are}
 use Rattle.tb_group.proofs.PartRows.{part_firsts, part_groups}
-use Rattle.tb_group.proofs.Spread.{firsts_in_order, spread, spread_all, spread_few}
-use Rattle.tb_group.proofs.Works.{all_of_some, first_works, no_rows}
-use Rattle.tb_group.proofs.Stacks.{kinds_are, one, placed, there, values_are, values_few}
+use Rattle.tb_group.proofs.Spread.{firsts_in_order, kept_few, spread, spread_few}
+use Rattle.tb_group.proofs.Works.{all_of_some, no_rows}
 
-pub map_twice : {X Y Z : Type 0} (f : X → Y) (g : Y → Z) (xs : List X) → map g (map f xs) ≡ map (λ x. g (f x)) xs
-map_twice f g [] = refl
-map_twice {X} {Y} {Z} f g (x ∷ xs) = ap (λ (l : List Z). g (f x) ∷ l) (map_twice f g xs)
-
-flat_map-map : {X Y Z : Type 0} (f : X → Y) (g : Y → List Z) (xs : List X) → flat_map g (map f xs) ≡ flat_map (λ x. g (f x)) xs
-flat_map-map f g [] = refl
-flat_map-map {X} {Y} {Z} f g (x ∷ xs) = ap (λ (l : List Z). g (f x) ++ l) (flat_map-map f g xs)
-
-all_true : {X : Type 0} (xs : List X) → list_all (λ _. true) xs ≡ true
-all_true [] = refl
-all_true (x ∷ xs) = all_true xs
-
--- sums fit where each does
-pub fit_each : {X : Type 0} (agg : Aggregate) (t : Option Kind) (sum : X → ℤ) (xs : List X) → sums_fit agg t (map sum xs) ≡ list_all (λ x. sums_fit agg t (sum x ∷ [])) xs
-fit_each First t sum xs = sym (all_true xs)
-fit_each Last t sum xs = sym (all_true xs)
-fit_each Min t sum xs = sym (all_true xs)
-fit_each Max t sum xs = sym (all_true xs)
-fit_each Count t sum xs = sym (all_true xs)
-fit_each Sum None sum xs = sym (all_true xs)
-fit_each {X} Sum (Some t) sum xs = each xs
-  where
-    alone : (b c : Bool) → (b && c) ≡ ((b && true) && c)
-    alone true c = refl
-    alone false c = refl
-
-    each : (ys : List X) → list_all (lies_within (ends t)) (map sum ys) ≡ list_all (λ y. list_all (lies_within (ends t)) (sum y ∷ [])) ys
-    each [] = refl
-    each (y ∷ ys) = ap (λ (b : Bool). lies_within (ends t) (sum y) && b) (each ys) ∙ alone (lies_within (ends t) (sum y)) (list_all (λ z. list_all (lies_within (ends t)) (sum z ∷ [])) ys)
+map-flat_map : {X Y Z : Type 0} (f : Y → Z) (g : X → List Y) (xs : List X) → map f (flat_map g xs) ≡ flat_map (λ x. map f (g x)) xs
+map-flat_map f g [] = refl
+map-flat_map {X} {Y} {Z} f g (x ∷ xs) = map-append f (g x) (flat_map g xs) ∙ ap (λ (l : List Z). map f (g x) ++ l) (map-flat_map f g xs)
 
 -- for rows by these columns, in so many parts
 module _ (cs : List TableColumn) (n parts : ℕ) (some : 1 ≤ parts) (asked : List Asked) where
@@ -115,15 +94,15 @@ module _ (cs : List TableColumn) (n parts : ℕ) (some : 1 ≤ parts) (asked : L
   idle : (p : ℕ) → works p ≡ false → filter (in_part p) firsts ≡ []
   idle p none = sym (firsts_of p) ∙ ap (firsts_in test) (no_rows p (rows_of p) none)
 
-  some_busy : 0 < length busy
-  some_busy = first_works (λ p. has_work p (rows_of p)) parts some refl
+  members_few : (x : ℕ) → length (members_of x) ≤ n
+  members_few x = omega (arith, kept_few (test x) (row_numbers n), length-range_with_len 0 n)
 
   abbrev all : List ℕ
   all = spread (part_at cs parts) parts firsts
 
   pub all_are : all_firsts views ≡ all
   all_are =
-      flat_map-map (λ p. part_view test asked (rows_of p)) (λ (v : PartView). v.firsts) busy
+      flat_map-map (λ (v : PartView). v.firsts) (λ p. part_view test asked (rows_of p)) busy
       ∙ (λ t. flat_map (λ p. firsts_of p t) busy)
       ∙ all_of_some works (λ p. filter (in_part p) firsts) idle (row_numbers parts)
 
@@ -157,74 +136,92 @@ module _ (cs : List TableColumn) (n parts : ℕ) (some : 1 ≤ parts) (asked : L
       abbrev value : ℕ → Datum
       value x = aggregate a.0.agg (map (row_value a.1.values) (members_of x))
 
-      abbrev fits : ℕ → Bool
-      fits x = sums_fit a.0.agg (sum_kind a.1.kind) (sum x ∷ [])
+      abbrev agg : Aggregate
+      agg = a.0.agg
 
-      abbrev made_kind : Kind
-      made_kind = unwrap_or (result_kind a.0.agg a.1.kind) kind.null
+      abbrev vs : List Datum
+      vs = a.1.values
 
-      abbrev lists : List (List ℕ)
-      lists = map (λ p. filter (in_part p) firsts) busy
+      abbrev whole : List (List ℕ)
+      whole = map members_of firsts
 
-      column_of : (xs : List ℕ) → groups_column a.0.agg a.1 (map members_of xs) ≡ one [] made_kind value fits xs
-      column_of xs =
-          let fit : groups_fit a.0.agg a.1 (map members_of xs) ≡ list_all fits xs =
-          ap (sums_fit a.0.agg (sum_kind a.1.kind)) (map_twice members_of (λ rows. total (map (row_value a.1.values) rows)) xs) ∙ fit_each a.0.agg (sum_kind a.1.kind) sum xs in
-          let values : group_values a.0.agg a.1 (map members_of xs) ≡ map value xs = map_twice members_of (λ rows. aggregate a.0.agg (map (row_value a.1.values) rows)) xs in
-          λ t. (if fit t then Some (record { name = []; kind = made_kind; values = values t }) else None)
+      -- a part keeps of its groups what the aggregate needs
+      of_part : (p : ℕ) → get_or (part_view test asked (rows_of p)).kept k (nothing agg) ≡ kept_of agg vs (map members_of (filter (in_part p) firsts))
+      of_part p =
+          let keep : Asked → KeptView = λ b. kept_of b.0.agg b.1.values (groups_in test (rows_of p)) in
+          get_or-map keep asked k a (nothing agg) here
+          ∙ ap keep (sym is)
+          ∙ ap (kept_of agg vs) (groups_of p)
 
-      columns_are : columns_at k views ≡ map (one [] made_kind value fits) lists
-      columns_are =
-          map_twice (λ p. part_view test asked (rows_of p)) (λ (v : PartView). get_or v.columns k None) busy
-          ∙ (λ t. map (λ p. of_part p t) busy)
-          ∙ sym (map_twice (λ p. filter (in_part p) firsts) (one [] made_kind value fits) busy)
-        where
-          of_part : (p : ℕ) → get_or (map (λ (b : Asked). groups_column b.0.agg b.1 (groups_in test (rows_of p))) asked) k None ≡ one [] made_kind value fits (filter (in_part p) firsts)
-          of_part p =
-              get_or-map (λ (b : Asked). groups_column b.0.agg b.1 (groups_in test (rows_of p))) asked k a None here
-              ∙ ap (λ (b : Asked). groups_column b.0.agg b.1 (groups_in test (rows_of p))) (sym is)
-              ∙ ap (groups_column a.0.agg a.1) (groups_of p)
-              ∙ column_of (filter (in_part p) firsts)
-
-      flat : flat_map (λ (xs : List ℕ). xs) lists ≡ all
+      flat : flat_map (λ (gs : List (List ℕ)). gs) (map (λ p. map members_of (filter (in_part p) firsts)) busy) ≡ map members_of all
       flat =
-          flat_map-map (λ p. filter (in_part p) firsts) (λ (xs : List ℕ). xs) busy
-          ∙ all_of_some works (λ p. filter (in_part p) firsts) idle (row_numbers parts)
+          flat_map-map (λ (gs : List (List ℕ)). gs) (λ p. map members_of (filter (in_part p) firsts)) busy
+          ∙ sym (map-flat_map members_of (λ p. filter (in_part p) firsts) busy)
+          ∙ ap (map members_of) (all_of_some works (λ p. filter (in_part p) firsts) idle (row_numbers parts))
 
-      some_lists : 0 < length lists
-      some_lists = omega (arith, length-map busy (λ p. filter (in_part p) firsts), some_busy)
+      -- and all parts of all groups
+      gathered_is : gathered agg k views ≡ kept_of agg vs (map members_of all)
+      gathered_is =
+          ap (all_joined agg) (map-map (λ (v : PartView). get_or v.kept k (nothing agg)) (λ p. part_view test asked (rows_of p)) busy
+          ∙ (λ t. map (λ p. of_part p t) busy)
+          ∙ sym (map-map (kept_of agg vs) (λ p. map members_of (filter (in_part p) firsts)) busy))
+          ∙ kept_all agg vs (map (λ p. map members_of (filter (in_part p) firsts)) busy)
+          ∙ ap (kept_of agg vs) flat
 
-      -- all parts have a column exactly where the sums of all groups are in range
-      pub there_is : are_there (columns_at k views) ≡ sums_fit a.0.agg (sum_kind a.1.kind) (map sum firsts)
-      there_is =
-          ap are_there columns_are
-          ∙ there [] made_kind value fits lists
-          ∙ ap (list_all fits) flat
-          ∙ spread_all (part_at cs parts) parts (part_low cs parts some) fits firsts
-          ∙ sym (fit_each a.0.agg (sum_kind a.1.kind) sum firsts)
+      groups_low : All (λ p. p < length (map members_of all)) places
+      groups_low = subst (λ (m : ℕ). All (λ p. p < m) places) (sym (length-map all members_of)) low
 
-      pub placed_is : (name : Name) → are_there (columns_at k views) ≡ true → placed_column name places (columns_at k views) ≡ record { name = name; kind = made_kind; values = map value firsts }
-      placed_is name h =
-          ap (placed_column name places) columns_are
-          ∙ placed [] made_kind value fits name lists all places firsts flat some_lists (ap are_there (sym columns_are) ∙ h) low at
+      -- in the order of the groups
+      placed_is : placed a k views places ≡ kept_of agg vs whole
+      placed_is =
+          ap (kept_at places) gathered_is
+          ∙ kept_taken agg vs (map members_of all) places groups_low
+          ∙ ap (kept_of agg vs) (made_at members_of all places 0 [] low ∙ ap (map members_of) at)
 
-      stacked_is : n ≤ MAX_ROWS → AreStacked places (columns_at k views)
-      stacked_is few = subst (AreStacked places) (sym columns_are) (record {
-        some = omega (arith, length-map lists (one [] made_kind value fits), some_lists);
-        kinds = kinds_are [] made_kind value fits lists;
-        few = omega (arith, values_few [] made_kind value fits lists, ap length flat, ap length all_are, all_few, few);
-        within = λ h. subst (λ (m : ℕ). All (λ p. p < m) places)
-            (sym (ap length (values_are [] made_kind value fits lists h ∙ ap (map value) flat) ∙ length-map all value)) low;
-      })
+      -- the sums are in range exactly where those of the groups are
+      pub fits_is : kept_fits a.1.kind (placed a k views places) ≡ sums_fit agg (sum_kind a.1.kind) (map sum firsts)
+      fits_is = ap (kept_fits a.1.kind) placed_is ∙ by agg
+        where
+          by : (b : Aggregate) → kept_fits a.1.kind (kept_of b vs whole) ≡ sums_fit b (sum_kind a.1.kind) (map sum firsts)
+          by First = refl
+          by Last = refl
+          by Min = refl
+          by Max = refl
+          by Count = refl
+          by Sum = ap (are_in_range (sum_kind a.1.kind)) (map-map (λ rows. total (map (row_value vs) rows)) members_of firsts)
 
-    pub whole_is : n ≤ MAX_ROWS → AreWhole (length asked) views places
-    whole_is few = record {
-      each = All-map (λ (v : PartView). length v.columns ≡ length asked) (λ p. part_view test asked (rows_of p)) busy
-          (λ i d h. length-map asked (λ (a : Asked). groups_column a.0.agg a.1 (groups_in test (rows_of (get_or busy i d)))));
-      stacked = λ k here. stacked_at k here asked refl;
+      module _ (taken : IsSome (result_kind agg a.1.kind)) where
+        kinds_are : kept_kind a.1.kind (placed a k views places) ≡ result_kind agg a.1.kind
+        kinds_are = ap (kept_kind a.1.kind) placed_is ∙ kind_is agg a.1.kind vs whole taken
+
+        made_values : kept_values vs (placed a k views places) ≡ map value firsts
+        made_values =
+            ap (kept_values vs) placed_is
+            ∙ values_are vs agg whole
+            ∙ map-map (λ rows. aggregate agg (map (row_value vs) rows)) members_of firsts
+
+        pub made_is : (name : Name) → made_column name a k views places ≡ record { name = name; kind = unwrap_or (result_kind agg a.1.kind) kind.null; values = map value firsts }
+        made_is name = λ t. record { name = name; kind = unwrap_or (kinds_are t) kind.null; values = made_values t }
+
+        -- a column can be made of it
+        can_be : n ≤ MAX_ROWS → length vs ≡ n → CanBeMade places a k views
+        can_be few level = record {
+          there = All-map (λ (v : PartView). k < length v.kept) (λ p. part_view test asked (rows_of p)) busy (λ i d h.
+              omega (arith, here, length-map asked (λ (b : Asked). kept_of b.0.agg b.1.values (groups_in test (rows_of (get_or busy i d))))));
+          within = subst (λ (m : ℕ). All (λ p. p < m) places) (sym (ap kept_len gathered_is ∙ as_many agg vs (map members_of all))) groups_low;
+          kept = subst (IsKeptFor (length vs)) (sym placed_is)
+              (kept_for vs (length vs) whole
+              (All-map (λ rows. All (λ j. j < length vs) rows) members_of firsts (λ i d h.
+              subst (λ (m : ℕ). All (λ j. j < m) (members_of (get_or firsts i d))) (sym level) (All-filter (test (get_or firsts i d)) (λ j. j < n) (row_numbers n) (rows_below n))))
+              (All-map (λ rows. length rows ≤ MAX_ROWS) members_of firsts (λ i d h. omega (arith, members_few (get_or firsts i d), few)))
+              (omega (arith, length-map firsts members_of, few_firsts test n, few)) agg);
+          taken = subst IsSome (sym kinds_are) taken;
+        }
+
+    pub whole_is : n ≤ MAX_ROWS → All (λ (a : Asked). length a.1.values ≡ n) asked → All (λ (a : Asked). IsSome (result_kind a.0.agg a.1.kind)) asked → AreWhole asked views places
+    whole_is few level taken = record {
+      each = λ k a here is. can_be k a here is
+          (subst (λ (b : Asked). IsSome (result_kind b.0.agg b.1.kind)) (sym is) (taken k a here)) few
+          (subst (λ (b : Asked). length b.1.values ≡ n) (sym is) (level k a here));
       short = omega (arith, order.few, few);
     }
-      where
-        stacked_at : (k : ℕ) → k < length asked → (bs : List Asked) → bs ≡ asked → AreStacked places (columns_at k views)
-        stacked_at k here [] e = absurd (omega (arith, here, ap length e))
-        stacked_at k here (d ∷ bs) e = stacked_is k (get_or asked k d) here (get_or_default asked k d (get_or asked k d) here) few

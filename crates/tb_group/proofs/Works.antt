@@ -1,8 +1,7 @@
 -- Parts that have work, and what the others don't add.
-use Rattle.std.proofs.Common.{◌≡◌, ◌∙◌, ◌<◌, ◌≤◌, ◌||◌, ℕ, zero, suc, Bool, true, false, cond, List, [], ◌∷◌, ◌++◌, filter, length, nat_eq, nat_lt, refl, sym, ap, arith}
-use Rattle.std.specs.List.{flat_map, range_with_len}
+use Rattle.std.proofs.Common.{◌≡◌, ◌∙◌, ◌||◌, ℕ, Bool, true, false, cond, List, [], ◌∷◌, ◌++◌, filter, length, nat_eq, nat_lt, refl, sym, ap, arith}
+use Rattle.std.specs.List.{flat_map}
 use Rattle.std.proofs.lemmas.Bool.{lt-ltb}
-use Rattle.tb_value.specs.Promise.Pairs.{row_numbers}
 use Rattle.tb_group.specs.Parts.{has_work}
 
 -- what gives nothing adds nothing
@@ -24,9 +23,3 @@ no_rows p (r ∷ rows) h = absurd (by (nat_eq p 0) (nat_lt 0 (length (r ∷ rows
     by : (b c : Bool) → c ≡ true → (b || c) ≡ false → ⊥
     by true c t e = cc
     by false c t e = cc
-
--- the first passes, so that some do
-pub first_works : (p : ℕ → Bool) (n : ℕ) → 1 ≤ n → p 0 ≡ true → 0 < length (filter p (row_numbers n))
-first_works p zero some h = absurd (omega (arith, some))
-first_works p (suc n) some h =
-    omega (arith, ap (λ (b : Bool). length (cond b (0 ∷ filter p (range_with_len 1 n)) (filter p (range_with_len 1 n)))) h)

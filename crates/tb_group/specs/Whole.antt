@@ -1,8 +1,6 @@
 -- What the parts give, put together.
-use Rattle.std.specs.Prelude.{◌≡◌, ℕ, ◌<◌, ◌≤◌, Bool, not, true, List, [], ◌∷◌, length, map, slice_index_or, Option, Some, None, is_some}
-use Rattle.std.specs.List.{All, flat_map, list_all}
-use Rattle.tb_value.specs.Promise.Datum.{Datum}
-use Rattle.tb_value.specs.Promise.Kind.{Kind}
+use Rattle.std.specs.Prelude.{ℕ, ◌<◌, ◌≤◌, ◌≡◌, not, List, [], length, map, slice_index_or, Option, None, IsSome, unwrap_or}
+use Rattle.std.specs.List.{All, flat_map}
 use Rattle.tb_value.specs.Promise.Kind as kind
 use Rattle.tb_value.specs.Promise.Names.{Name}
 use Rattle.tb_value.specs.Promise.Refusals.{when}
@@ -11,7 +9,8 @@ use Rattle.tb_value.specs.declared.error.PolarsError.{PolarsError}
 use Rattle.tb_value.specs.declared.error.PolarsError.TheVariants.{ComputeError}
 use Rattle.tb_value.specs.declared.limits.TheConstants.{MAX_ROWS}
 use Rattle.tb_frame.specs.Promise.Table.{TableColumn}
-use Rattle.tb_rows.specs.Promise.Rows.{row_value}
+use Rattle.tb_agg.specs.Kept.{KeptView, all_joined, kept_at, kept_fits, kept_kind, kept_len, kept_values, nothing, IsKeptFor}
+use Rattle.tb_agg.specs.declared.table.Aggregate.{Aggregate}
 use Rattle.tb_group.specs.Asked.{Asked}
 use Rattle.tb_group.specs.Parts.{PartView}
 
@@ -19,67 +18,63 @@ use Rattle.tb_group.specs.Parts.{PartView}
 abbrev pub all_firsts : List PartView → List ℕ
 all_firsts parts = flat_map (λ (v : PartView). v.firsts) parts
 
--- the columns of the aggregate at a place, one for each part
-abbrev pub columns_at : ℕ → List PartView → List (Option TableColumn)
-columns_at k parts = map (λ (v : PartView). slice_index_or v.columns k None) parts
+-- what all parts keep for the aggregate at a seat, one part after another
+abbrev pub gathered : Aggregate → ℕ → List PartView → KeptView
+gathered agg seat parts =
+    all_joined agg (map (λ (v : PartView). slice_index_or v.kept seat (nothing agg)) parts)
 
-abbrev pub are_there : List (Option TableColumn) → Bool
-are_there os = list_all (λ (o : Option TableColumn). is_some o) os
+-- and of the groups at these places alone
+abbrev pub placed : Asked → ℕ → List PartView → List ℕ → KeptView
+placed a seat parts places = kept_at places (gathered a.0.agg seat parts)
 
--- the type of the first column, and the values of all
-abbrev pub first_kind : List TableColumn → Kind
-first_kind [] = kind.null
-first_kind (c ∷ cs) = c.kind
+-- why there is no column of it: a sum is out of range; and else the column, which has this name
+abbrev pub made_cause : Name → Asked → ℕ → List PartView → List ℕ → Option PolarsError
+made_cause source a seat parts places =
+    when (not (kept_fits a.1.kind (placed a seat parts places))) (ComputeError (SumRange source))
 
-abbrev pub all_values : List TableColumn → List Datum
-all_values cs = flat_map (λ (c : TableColumn). c.values) cs
+abbrev pub made_column : Name → Asked → ℕ → List PartView → List ℕ → TableColumn
+made_column name a seat parts places = record {
+  name = name;
+  kind = unwrap_or (kept_kind a.1.kind (placed a seat parts places)) kind.null;
+  values = kept_values a.1.values (placed a seat parts places);
+}
 
--- the columns one after another, under this name
-abbrev pub stacked_column : Name → List TableColumn → TableColumn
-stacked_column n cs = record { name = n; kind = first_kind cs; values = all_values cs }
-
--- those that are there
-abbrev pub there_of : List (Option TableColumn) → List TableColumn
-there_of [] = []
-there_of (None ∷ os) = there_of os
-there_of (Some c ∷ os) = c ∷ there_of os
-
--- a column's values at these places
-abbrev pub column_at : List ℕ → TableColumn → TableColumn
-column_at places c = record c { values = map (row_value c.values) places }
-
--- why there is no column of an aggregate: in a part a sum is out of range
-abbrev pub stack_cause : Name → List (Option TableColumn) → Option PolarsError
-stack_cause source os = when (not (are_there os)) (ComputeError (SumRange source))
-
--- the column of an aggregate that has this name, at these places
-abbrev pub placed_column : Name → List ℕ → List (Option TableColumn) → TableColumn
-placed_column name places os = column_at places (stacked_column name (there_of os))
-
--- columns of one type, with room for all values, and places in them
-pub record AreStacked (places : List ℕ) (os : List (Option TableColumn)) : Type 0 where
-  pub some : 0 < length os
-  pub kinds : All (λ (c : TableColumn). c.kind ≡ first_kind (there_of os)) (there_of os)
-  pub few : length (all_values (there_of os)) ≤ MAX_ROWS
-  pub within : are_there os ≡ true → All (λ p. p < length (all_values (there_of os))) places
+-- all parts have the seat, and of what they keep at these places a column can be made
+pub record CanBeMade (places : List ℕ) (a : Asked) (seat : ℕ) (parts : List PartView) : Type 0 where
+  pub there : All (λ (v : PartView). seat < length v.kept) parts
+  pub within : All (λ p. p < kept_len (gathered a.0.agg seat parts)) places
+  pub kept : IsKeptFor (length a.1.values) (placed a seat parts places)
+  pub taken : IsSome (kept_kind a.1.kind (placed a seat parts places))
 
 -- of each aggregate that is asked for, by its place: why there is no column of the one that is made for it, and else that column
-abbrev pub cause_at : List Asked → List ℕ → List PartView → ℕ → Option PolarsError
-cause_at asked seats parts k = stack_cause
-    (slice_index_or (map (λ (a : Asked). a.0.column) asked) k [])
-    (columns_at (slice_index_or seats k 0) parts)
+abbrev pub cause_at : List Asked → List Asked → List ℕ → List PartView → List ℕ → ℕ → Option PolarsError
+cause_at asked made seats parts places k = slice_index_or
+    (map
+    (λ (a : Asked). made_cause
+    (slice_index_or (map (λ (b : Asked). b.0.column) asked) k [])
+    a (slice_index_or seats k 0) parts places)
+    made)
+    (slice_index_or seats k 0) None
 
-abbrev pub placed_at : List Asked → List ℕ → List PartView → List ℕ → ℕ → TableColumn
-placed_at asked seats parts places k = placed_column
-    (slice_index_or (map (λ (a : Asked). a.0.name) asked) k []) places
-    (columns_at (slice_index_or seats k 0) parts)
+abbrev pub no_column : TableColumn
+no_column = record { name = []; kind = kind.null; values = [] }
 
--- what parts give for so many aggregates can be put together
-pub record AreWhole (n : ℕ) (parts : List PartView) (places : List ℕ) : Type 0 where
-  pub each : All (λ (v : PartView). length v.columns ≡ n) parts
-  pub stacked : (k : ℕ) → k < n → AreStacked places (columns_at k parts)
+abbrev pub placed_at : List Asked → List Asked → List ℕ → List PartView → List ℕ → ℕ → TableColumn
+placed_at asked made seats parts places k = slice_index_or
+    (map
+    (λ (a : Asked). made_column
+    (slice_index_or (map (λ (b : Asked). b.0.name) asked) k [])
+    a (slice_index_or seats k 0) parts places)
+    made)
+    (slice_index_or seats k 0) no_column
+
+-- of what the parts give, a column can be made for each aggregate
+pub record AreWhole (made : List Asked) (parts : List PartView) (places : List ℕ) : Type 0 where
+  pub each : (k : ℕ) (a : Asked) → k < length made → a ≡ slice_index_or made k a
+      → CanBeMade places a k parts
   pub short : length places ≤ MAX_ROWS
 
--- and so they can at the places that aggregates have among them
-abbrev pub AreWholeAt : List ℕ → List PartView → List ℕ → Type 0
-AreWholeAt seats parts places = (n : ℕ) × AreWhole n parts places × All (λ seat. seat < n) seats
+-- and so it can at the seats that those asked for have among them
+abbrev pub AreWholeAt : List Asked → List ℕ → List PartView → List ℕ → Type 0
+AreWholeAt made seats parts places =
+    AreWhole made parts places × All (λ seat. seat < length made) seats

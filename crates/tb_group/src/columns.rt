@@ -1,5 +1,5 @@
 //! The columns of the answer, from what the parts give.
-ghost use Rattle.std.specs.Prelude.{◌≡◌, ℕ, ◌<◌, ◌≤◌, ◌∷◌, [], ◌++◌, OnOk, true, Some, None, IfOk, IsSome, IsTrue, length, map, slice_index_or, is_some};
+ghost use Rattle.std.specs.Prelude.{◌≡◌, ◌<◌, ◌≤◌, ◌∷◌, [], ◌++◌, OnOk, IfOk, length, map};
 ghost use Rattle.std.specs.List.{All};
 ghost use Rattle.tb_value.specs.Promise.Pairs.{row_numbers};
 ghost use Rattle.tb_value.specs.Promise.Refusals.{first_cause};
@@ -9,19 +9,18 @@ ghost use Rattle.tb_chunk.specs.Lent.{lent_columns};
 ghost use Rattle.tb_chunk.specs.Promise.Col.{values};
 ghost use Rattle.tb_frame.specs.Frame.{taken_rows};
 ghost use Rattle.tb_frame.specs.Promise.Table.{plain_column, table_of};
-ghost use Rattle.tb_group.specs.Asked.{asked_list};
+ghost use Rattle.tb_agg.specs.Kept.{shown_kept};
+ghost use Rattle.tb_group.specs.Asked.{asked_as, asked_list};
 ghost use Rattle.tb_group.specs.Parts.{shown_part};
-ghost use Rattle.tb_group.specs.Whole.{all_firsts, all_values, are_there, cause_at, columns_at, first_kind, placed_at, placed_column, stack_cause, stacked_column, there_of, AreStacked, AreWholeAt};
+ghost use Rattle.tb_group.specs.Whole.{all_firsts, cause_at, gathered, made_cause, made_column, placed_at, AreWholeAt, CanBeMade};
 
 use crate::lookup::AskedColumn;
 use crate::part::PartGroups;
+use crate::request::GroupAgg;
 use std::alloc::Global;
-use tb_rowkey::know_columns;
+use tb_agg::{Aggregate, Kept};
 use tb_store::{Column, Series};
-use tb_supertype::stack;
-use tb_value::{
-    ComputeCause, IdxSize, MAX_ROWS, OutOfMemory, PlSmallStr, PolarsError, PolarsResult,
-};
+use tb_value::{ComputeCause, IdxSize, MAX_ROWS, OutOfMemory, PolarsError, PolarsResult};
 
 /// The first rows of the groups of all parts, one part after another.
 pub(crate) fn all_firsts(alloc: Global, parts: &[PartGroups]) -> Result<Vec<IdxSize>, OutOfMemory>
@@ -69,87 +68,51 @@ pub(crate) fn answer_columns(
     Ok(columns)
 }
 
-// Whether each part has a column for the aggregate at a place.
-fn are_there(parts: &[PartGroups], place: usize) -> bool
-    requires { All (λ p. place < length p.columns.items) parts.now }
-    ensures { result ≡ are_there (columns_at place (map shown_part parts.now)) }
+// What all parts keep of the groups for the aggregate that has this seat, one part after another.
+fn gathered(
+    alloc: Global,
+    parts: &[PartGroups],
+    agg: Aggregate,
+    seat: usize,
+) -> Result<Kept, OutOfMemory>
+    requires { All (λ p. seat < length p.kept.items) parts.now }
+    ensures { IfOk result (λ k. shown_kept k ≡ gathered agg seat (map shown_part parts.now)) }
 {
+    let mut kept = Kept::new(alloc, agg);
     for part in parts {
-        if part.columns()[place].is_none() {
-            return false;
-        }
+        kept.append(&part.kept()[seat])?;
     }
-    true
+    Ok(kept)
 }
 
-// The column of a part for the aggregate at a place.
-fn piece(part: &PartGroups, place: usize) -> &Series
-    requires low { place < length part.now.columns.items }
-    requires there { IsSome (slice_index_or part.now.columns.items place None) }
-    ensures { Some (plain_column result.now)
-        ≡ slice_index_or (shown_part part.now).columns place None }
-{
-    match &part.columns()[place] {
-        Some(column) => column,
-        None => unreachable!(),
-    }
-}
-
-// Those of all parts.
-fn pieces(alloc: Global, parts: &[PartGroups], place: usize) -> Result<Vec<&Series>, OutOfMemory>
-    requires low { All (λ p. place < length p.columns.items) parts.now }
-    requires there { All (λ p. IsSome (slice_index_or p.columns.items place None)) parts.now }
-    ensures { IfOk result (λ v.
-        table_of (lent_columns v.items) ≡ there_of (columns_at place (map shown_part parts.now))) }
-{
-    let mut pieces = Vec::with_capacity(alloc, parts.len())?;
-    for part in parts {
-        pieces.push(piece(part, place))?;
-    }
-    Ok(pieces)
-}
-
-// Columns of one type, one after another, under this name.
-fn stacked(alloc: Global, name: &PlSmallStr, pieces: &[&Series]) -> Result<Series, OutOfMemory>
-    requires some { 0 < length pieces.now }
-    requires kinds { All (λ c. c.kind ≡ first_kind (table_of (lent_columns pieces.now)))
-        (table_of (lent_columns pieces.now)) }
-    requires few { length (all_values (table_of (lent_columns pieces.now))) ≤ MAX_ROWS }
-    ensures { IfOk result (λ s.
-        plain_column s ≡ stacked_column name.now (table_of (lent_columns pieces.now))) }
-{
-    know_columns(pieces);
-    let dtype = pieces[0].dtype().copy(alloc)?;
-    let name = name.copy(alloc)?;
-    stack(alloc, name, dtype, pieces)
-}
-
-// The column of an aggregate, from those of all parts. Refuses a sum out of range (SumRange).
+// The column that is asked for, of the aggregate that is made for it at this seat, for the groups at these places. Refuses
+// a sum out of range (SumRange).
 fn agg_column(
     alloc: Global,
-    asked: &AskedColumn<'_>,
+    asked: &GroupAgg,
+    made: &AskedColumn<'_>,
+    seat: usize,
     parts: &[PartGroups],
-    place: usize,
     places: &[IdxSize],
 ) -> PolarsResult<Column>
-    requires low { All (λ p. place < length p.columns.items) parts.now }
-    requires stacked { AreStacked places.now (columns_at place (map shown_part parts.now)) }
-    requires few { length places.now ≤ MAX_ROWS }
+    requires { CanBeMade places.now (asked_as made.now) seat (map shown_part parts.now) }
     ensures settles { Settles result
-        (stack_cause asked.now.asked.now.column (columns_at place (map shown_part parts.now))) }
+        (made_cause asked.now.column (asked_as made.now) seat (map shown_part parts.now)
+        places.now) }
     ensures column { IfOk result (λ c.
         plain_column c
-        ≡ placed_column asked.now.asked.now.name places.now
-        (columns_at place (map shown_part parts.now))) }
+        ≡ made_column asked.now.name (asked_as made.now) seat (map shown_part parts.now)
+        places.now) }
 {
-    if !are_there(parts, place) {
-        return Err(PolarsError::ComputeError(ComputeCause::SumRange(
-            asked.asked.column.copy(alloc)?,
-        )));
+    let all = gathered(alloc, parts, made.asked.agg, seat)?;
+    let kept = all.take(alloc, places)?;
+    match kept.column(alloc, made.column, asked.name.copy(alloc)?)? {
+        Some(column) => Ok(column.into_column()),
+        None => {
+            let source = asked.column.copy(alloc)?;
+            Err(PolarsError::ComputeError(ComputeCause::SumRange(source)))
+        }
     }
-    let pieces = pieces(alloc, parts, place)?;
-    let stacked = stacked(alloc, &asked.asked.name, &pieces)?;
-    Ok(stacked.take(alloc, places)?.into_column())
 }
 
 // Puts a column behind others.
@@ -160,29 +123,37 @@ fn push_column(columns: &mut Vec<Column>, column: Column) -> Result<(), OutOfMem
     Ok(())
 }
 
-/// The columns of all aggregates that are asked for, each from those that the parts have at its seat. Refuses the first of
-/// which a sum is out of range (SumRange).
+/// The columns of all aggregates that are asked for, each from what the parts keep of the one that is made for it, which
+/// has its seat among these. Refuses the first of which a sum is out of range (SumRange).
 pub(crate) fn agg_columns(
     alloc: Global,
     asked: &[AskedColumn<'_>],
+    made: &[AskedColumn<'_>],
     seats: &[usize],
     parts: &[PartGroups],
     places: &[IdxSize],
 ) -> PolarsResult<Vec<Column>>
     requires long { length seats.now ≡ length asked.now }
-    requires whole { AreWholeAt seats.now (map shown_part parts.now) places.now }
+    requires whole { AreWholeAt (asked_list made.now) seats.now (map shown_part parts.now)
+        places.now }
     ensures settles { Settles result
         (first_cause
-        (map (cause_at (asked_list asked.now) seats.now (map shown_part parts.now))
+        (map
+        (cause_at (asked_list asked.now) (asked_list made.now) seats.now
+        (map shown_part parts.now) places.now)
         (row_numbers (length asked.now)))) }
     ensures columns { IfOk result (λ v.
         table_of v.items
-        ≡ map (placed_at (asked_list asked.now) seats.now (map shown_part parts.now) places.now)
+        ≡ map
+        (placed_at (asked_list asked.now) (asked_list made.now) seats.now
+        (map shown_part parts.now) places.now)
         (row_numbers (length asked.now))) }
 {
     let mut columns = Vec::new(alloc);
     for place in 0..asked.len() {
-        let column = agg_column(alloc, &asked[place], parts, seats[place], places)?;
+        let seat = seats[place];
+        let one = &asked[place];
+        let column = agg_column(alloc, one.asked, &made[seat], seat, parts, places)?;
         push_column(&mut columns, column)?;
     }
     Ok(columns)

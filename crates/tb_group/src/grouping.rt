@@ -52,7 +52,7 @@ fn grouped<G: Gate>(
     let (parts, trace) = grouped_parts(rt, alloc, by, made, exec, gate)?;
     let firsts = all_firsts(alloc, &parts)?;
     let places = places_in_order(alloc, height, &firsts)?;
-    let answers = agg_columns(alloc, asked, seats, &parts, &places)?;
+    let answers = agg_columns(alloc, asked, made, seats, &parts, &places)?;
     let rows = rows_at(alloc, &firsts, &places)?;
     let columns = answer_columns(alloc, by, &rows, answers)?;
     Ok((columns, trace))

@@ -1,33 +1,28 @@
-//! What a part gives: the groups of its rows, and for each aggregate a column of one value for each group.
-ghost use Rattle.std.specs.Prelude.{◌≡◌, ◌≤◌, ◌<◌, ◌+◌, IfOk, IfSome, IsSome, Ok, Option, is_none, is_some, length, map};
-ghost use Rattle.std.specs.List.{All, flat_map};
-ghost use Rattle.std.specs.Option.{option_map};
-ghost use Rattle.tb_value.specs.Refusals.{Settles};
-ghost use Rattle.tb_value.specs.declared.error.PolarsError.{PolarsError};
+//! What a part gives: the groups of its rows, and what is kept of them for each aggregate.
+ghost use Rattle.std.specs.Prelude.{◌≡◌, ◌≤◌, ◌<◌, IfOk, length, map};
+ghost use Rattle.std.specs.List.{All};
 ghost use Rattle.tb_value.specs.declared.limits.TheConstants.{MAX_ROWS};
 ghost use Rattle.tb_chunk.specs.Promise.Col.{values};
-ghost use Rattle.tb_frame.specs.Promise.Table.{plain_column};
 ghost use Rattle.tb_agg.specs.Grouped.{AreGroupsOf};
-ghost use Rattle.tb_agg.specs.Promise.Aggregates.{result_kind};
-ghost use Rattle.tb_group.specs.Asked.{asked_list, Asked};
-ghost use Rattle.tb_group.specs.Parts.{groups_column, lent_test, part_view, rows_in_groups, shown_part, unnamed_rows, PartView};
-ghost use Rattle.tb_group.specs.declared.part.PartGroups.{PartGroups};
+ghost use Rattle.tb_agg.specs.Kept.{shown_kept};
+ghost use Rattle.tb_group.specs.Asked.{asked_list};
+ghost use Rattle.tb_group.specs.Parts.{kept_for, lent_test, part_view, rows_in_groups, shown_part};
 
 use crate::lookup::AskedColumn;
 use crate::order::rows_at;
 use std::alloc::Global;
-use tb_agg::{Aggregate, aggregated};
+use tb_agg::Kept;
 use tb_pool::Parts;
-use tb_rows::{Groups, group_listed};
+use tb_rows::{Groups, RowNames, group_listed};
 use tb_store::Series;
-use tb_value::{IdxSize, MAX_ROWS, OutOfMemory, PlSmallStr, PolarsError, PolarsResult};
+use tb_value::{IdxSize, MAX_ROWS, OutOfMemory};
 
-/// The first row of each group of a part, and for each aggregate that is asked for the column of one value for each group,
-/// or none where a sum is out of range. The work of a part alone makes one.
+/// The first row of each group of a part, and what is kept of the groups for each aggregate that is made. The work of a part
+/// alone makes one.
 #[derive(Drop)]
 pub(crate) struct PartGroups {
     firsts: Vec<IdxSize>,
-    columns: Vec<Option<Series>>,
+    kept: Vec<Kept>,
 }
 
 impl PartGroups {
@@ -38,79 +33,34 @@ impl PartGroups {
         &self.firsts
     }
 
-    /// For each aggregate its column, if there is one.
-    pub(crate) fn columns(&self) -> &[Option<Series>]
-        ensures { result.now ≡ self.now.columns.items }
+    /// What is kept of the groups, for each aggregate.
+    pub(crate) fn kept(&self) -> &[Kept]
+        ensures { result.now ≡ self.now.kept.items }
     {
-        &self.columns
+        &self.kept
     }
 }
 
-// These rows of a column, without its name, of which each part would keep a copy.
-fn unnamed_rows(alloc: Global, column: &Series, rows: &[IdxSize]) -> Result<Series, OutOfMemory>
-    requires rows { All (λ r. r < length (values column.now)) rows.now }
-    requires few { length rows.now ≤ MAX_ROWS }
-    ensures { IfOk result (λ s. s ≡ unnamed_rows rows.now column.now) }
-{
-    let mut listed = column.take(alloc, rows)?;
-    listed.rename(PlSmallStr::from_str(alloc, "")?);
-    Ok(listed)
-}
-
-// The column that was made, and none where it was refused.
-fn if_made(made: PolarsResult<Series>) -> Result<Option<Series>, OutOfMemory>
-    ensures { IfOk result (λ o.
-        IfSome o (λ s. made ≡ Ok s)
-        × ((cause : Option PolarsError) → Settles made cause → is_none o ≡ is_some cause)) }
-{
-    match made {
-        Ok(column) => Ok(Some(column)),
-        Err(PolarsError::OutOfMemory) => Err(OutOfMemory),
-        Err(_) => Ok(None),
-    }
-}
-
-// The column of one value for each group of listed rows, and none where a sum is out of range.
-fn part_column(
-    alloc: Global,
-    column: &Series,
-    agg: Aggregate,
-    rows: &[IdxSize],
-    groups: &Groups,
-) -> Result<Option<Series>, OutOfMemory>
-    requires rows { All (λ r. r < length (values column.now)) rows.now }
-    requires few { length rows.now ≤ MAX_ROWS }
-    requires groups { AreGroupsOf (length rows.now) groups.now }
-    requires taken { IsSome (result_kind agg column.now.kind) }
-    ensures { IfOk result (λ o.
-        option_map plain_column o
-        ≡ groups_column agg (plain_column column.now) (rows_in_groups rows.now groups.now)) }
-{
-    let listed = unnamed_rows(alloc, column, rows)?;
-    if_made(aggregated(alloc, &listed, groups, agg))
-}
-
-// One for each aggregate that is asked for.
-fn part_columns(
+// What is kept of groups of listed rows, for each aggregate.
+fn part_kept(
     alloc: Global,
     asked: &[AskedColumn<'_>],
     rows: &[IdxSize],
     groups: &Groups,
-) -> Result<Vec<Option<Series>>, OutOfMemory>
+) -> Result<Vec<Kept>, OutOfMemory>
     requires rows { All (λ a. All (λ r. r < length (values a.column.now)) rows.now) asked.now }
     requires few { length rows.now ≤ MAX_ROWS }
     requires groups { AreGroupsOf (length rows.now) groups.now }
-    requires taken { All (λ a. IsSome (result_kind a.asked.now.agg a.column.now.kind)) asked.now }
     ensures { IfOk result (λ v.
-        map (option_map plain_column) v.items
-        ≡ map (λ (a : Asked). groups_column a.0.agg a.1 (rows_in_groups rows.now groups.now))
-        (asked_list asked.now)) }
+        map shown_kept v.items
+        ≡ kept_for (asked_list asked.now) (rows_in_groups rows.now groups.now)) }
 {
-    let mut columns = Vec::with_capacity(alloc, asked.len())?;
+    let names = RowNames::Listed(rows);
+    let mut kept = Vec::with_capacity(alloc, asked.len())?;
     for one in asked {
-        columns.push(part_column(alloc, one.column, one.asked.agg, rows, groups)?)?;
+        kept.push(Kept::of(alloc, one.asked.agg, one.column, names, groups)?)?;
     }
-    Ok(columns)
+    Ok(kept)
 }
 
 // These rows in groups, and what is made of the groups.
@@ -122,19 +72,18 @@ fn grouped_part(
 ) -> Result<PartGroups, OutOfMemory>
     requires rows { All (λ a. All (λ r. r < length (values a.column.now)) rows.now) asked.now }
     requires few { length rows.now ≤ MAX_ROWS }
-    requires taken { All (λ a. IsSome (result_kind a.asked.now.agg a.column.now.kind)) asked.now }
     ensures { IfOk result (λ p.
         shown_part p ≡ part_view (lent_test by.now) (asked_list asked.now) rows.now) }
 {
     let groups = group_listed(alloc, by, rows)?;
     let firsts = rows_at(alloc, rows, groups.firsts())?;
-    let columns = part_columns(alloc, asked, rows, &groups)?;
-    Ok(PartGroups { firsts, columns })
+    let kept = part_kept(alloc, asked, rows, &groups)?;
+    Ok(PartGroups { firsts, kept })
 }
 
 /// Rows that fell into parts: those of all parts, one part after another, and where each part begins, with the end of all.
 /// The rows of each part are grouped. A part without rows gives nothing, unless it is the first: there may be many more
-/// parts than rows, and each part has a column for each aggregate.
+/// parts than rows.
 #[derive(Drop)]
 pub(crate) struct Grouping<'a> {
     pub alloc: Global,
@@ -144,7 +93,6 @@ pub(crate) struct Grouping<'a> {
     pub starts: &'a [usize],
     ghost rows: { All (λ a. All (λ r. r < length (values a.column.now)) idxs.now) asked.now },
     ghost few: { length idxs.now ≤ MAX_ROWS },
-    ghost taken: { All (λ a. IsSome (result_kind a.asked.now.agg a.column.now.kind)) asked.now },
 }
 
 impl Parts for Grouping<'_> {

@@ -1,5 +1,5 @@
 //! Rows that fall into parts, each of which is grouped as a part of one phase.
-ghost use Rattle.std.specs.Prelude.{◌≡◌, ℕ, ◌+◌, ◌-◌, ◌<◌, ◌≤◌, IfOk, IsSome, length, map, slice_index_or};
+ghost use Rattle.std.specs.Prelude.{◌≡◌, ℕ, ◌+◌, ◌-◌, ◌<◌, ◌≤◌, IfOk, length, map, slice_index_or};
 ghost use Rattle.std.specs.List.{All, filter_map};
 ghost use Rattle.tb_value.specs.Promise.Pairs.{row_numbers};
 ghost use Rattle.tb_value.specs.declared.limits.TheConstants.{MAX_ROWS};
@@ -7,7 +7,6 @@ ghost use Rattle.tb_chunk.specs.Lent.{lent_columns};
 ghost use Rattle.tb_chunk.specs.Promise.Col.{values};
 ghost use Rattle.tb_frame.specs.Promise.Table.{table_of};
 ghost use Rattle.tb_rowkey.specs.Promise.Columns.{row_count};
-ghost use Rattle.tb_agg.specs.Promise.Aggregates.{result_kind};
 ghost use Rattle.tb_build.specs.Plan.{part_start, scattered_rows};
 ghost use Rattle.tb_group.specs.Asked.{asked_list};
 ghost use Rattle.tb_group.specs.Codes.{codes_by};
@@ -159,7 +158,6 @@ pub(crate) fn grouped_parts<G: Gate>(
     requires few { row_count (lent_columns by.now) ≤ MAX_ROWS }
     requires sources { All (λ a. length (values a.column.now) ≡ row_count (lent_columns by.now))
         asked.now }
-    requires taken { All (λ a. IsSome (result_kind a.asked.now.agg a.column.now.kind)) asked.now }
     ensures parts { IfOk result (λ r.
         map shown_part r.0.items
         ≡ part_views (lent_test by.now) (asked_list asked.now)

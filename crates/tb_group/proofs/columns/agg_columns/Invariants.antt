@@ -9,6 +9,6 @@ use Rattle.tb_group.proofs.columns.agg_columns.Given as goal
 
 abbrev pub invariant-loop-place : goal.invariant-loop-place
 invariant-loop-place l = record {
-  none : first_cause (map (cause_at (asked_list l.asked) l.seats (map shown_part l.parts)) (row_numbers l.place)) ≡ None;
-  columns : table_of l.columns.items ≡ map (placed_at (asked_list l.asked) l.seats (map shown_part l.parts) l.places) (row_numbers l.place);
+  none : first_cause (map (cause_at (asked_list l.asked) (asked_list l.made) l.seats (map shown_part l.parts) l.places) (row_numbers l.place)) ≡ None;
+  columns : table_of l.columns.items ≡ map (placed_at (asked_list l.asked) (asked_list l.made) l.seats (map shown_part l.parts) l.places) (row_numbers l.place);
 }

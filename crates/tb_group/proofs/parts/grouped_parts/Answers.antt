@@ -25,7 +25,6 @@ invariant_of-work g c =
     record {
       rows = rows_of_sources (table_of cs) (row_count cs) n c.as_slice.result.now rows c.args.asked.now c.requires.sources;
       few = omega (arith, scattered_few (table_of cs) (row_count cs) n c.as_slice.result.now rows, c.requires.few);
-      taken = c.requires.taken;
     }
 
 pub run_phase-requires-after_bounds : goal.run_phase-requires-after_bounds
