@@ -1,7 +1,9 @@
 //! Asking a caller's object for the values of cells.
 ghost use Rattle.std.specs.Prelude.{◌≡◌, ◌∷◌, [], IfOk, None, length};
 ghost use Rattle.tb_value.specs.Refusals.{Settles};
-ghost use Rattle.tb_frame.specs.Promise.Table.{plain_column, table_of};
+ghost use Rattle.tb_agg.specs.Grouped.{AreGroupsOf};
+ghost use Rattle.tb_chunk.specs.Promise.Col.{values};
+ghost use Rattle.tb_frame.specs.Promise.Table.{height, plain_column, table_of};
 ghost use Rattle.tb_pivot.specs.Answered.{error_of, Gives};
 ghost use Rattle.tb_pivot.specs.Promise.Pivot.{answer_of, given_column, one_each};
 
@@ -66,6 +68,7 @@ fn evaluated(
     table: &DataFrame,
     groups: &Groups,
 ) -> PolarsResult<Series>
+    requires { AreGroupsOf (height (table_of table.now)) groups.now }
     ensures { Gives result
         (given_column (length groups.now.firsts.items)
         (answers expr.now (table_of table.now) groups.now.firsts.items
@@ -84,6 +87,7 @@ pub(crate) fn answer_to(
     column: &Series,
     groups: &Groups,
 ) -> PolarsResult<Series>
+    requires { AreGroupsOf (length (values column.now)) groups.now }
     ensures { Gives result
         (answer_of groups.now.firsts.items groups.now.numbers.items (plain_column column.now)
         (named expr.now) (answers expr.now)) }
@@ -124,10 +128,11 @@ pub(crate) struct Asked<K: Told, F: Fn(Global, &Series, &Groups) -> PolarsResult
 }
 
 impl<K: Told, F: Fn(Global, &Series, &Groups) -> PolarsResult<Series>> CellMaker for Asked<K, F> {
-    ghost use Rattle.std.specs.Prelude.{Result};
+    ghost use Rattle.std.specs.Prelude.{Result, length};
     ghost use Rattle.std.specs.Borrow.{Bor};
     ghost use Rattle.tb_value.specs.declared.error.PolarsError.{PolarsError};
-    ghost use Rattle.tb_chunk.specs.Promise.Col.{Col};
+    ghost use Rattle.tb_agg.specs.Grouped.{AreGroupsOf};
+    ghost use Rattle.tb_chunk.specs.Promise.Col.{Col, values};
     ghost use Rattle.tb_frame.specs.Promise.Table.{plain_column};
     ghost use Rattle.tb_rows.specs.declared.groups.Groups.{Groups};
     ghost use Rattle.tb_pivot.specs.Answered.{Gives};
@@ -136,7 +141,8 @@ impl<K: Told, F: Fn(Global, &Series, &Groups) -> PolarsResult<Series>> CellMaker
 
     ghost way = { λ _. asked K.told_name K.told_answers };
 
-    ghost IsReady = { λ maker. F.IsAlwaysCallable maker.ask
+    ghost IsReady = { λ maker. ((alloc : _) (c : Bor Col) (g : Bor Groups) → AreGroupsOf (length (values c.now)) g.now
+        → F.pre maker.ask alloc c g)
         × ((alloc : _) (c : Bor Col) (g : Bor Groups) (r : Result Col PolarsError) → F.post maker.ask alloc c g r
         → Gives r (answer_of g.now.firsts.items g.now.numbers.items (plain_column c.now) K.told_name K.told_answers)) };
 

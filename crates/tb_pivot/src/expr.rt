@@ -21,7 +21,8 @@ pub enum ExprFault {
 pub trait PhysicalAggExpr: Drop {
     ghost use Rattle.std.specs.Prelude.{ℕ, List, Result};
     ghost use Rattle.tb_value.specs.Promise.Names.{Name};
-    ghost use Rattle.tb_frame.specs.Promise.Table.{Table, TableColumn, plain_column, table_of};
+    ghost use Rattle.tb_agg.specs.Grouped.{AreGroupsOf};
+    ghost use Rattle.tb_frame.specs.Promise.Table.{Table, TableColumn, height, plain_column, table_of};
     ghost use Rattle.tb_pivot.specs.Answered.{Answers};
 
     /// The name that it asks for, or the number that it refuses with.
@@ -36,7 +37,9 @@ pub trait PhysicalAggExpr: Drop {
         ensures { Answers (λ name. name.now) result (named self.now) };
 
     /// A column of one value for each group of the table's rows, in the order of the groups. Its type is that of the cells.
+    /// Each row of the table has the number of a group, so that the object may call `tb_agg::aggregated`.
     fn evaluate(&self, alloc: Global, df: &DataFrame, groups: &Groups) -> Result<Series, ExprFault>
+        requires { AreGroupsOf (height (table_of df.now)) groups.now }
         ensures { Answers plain_column result (answers self.now (table_of df.now) groups.now.firsts.items groups.now.numbers.items) };
 }
 

@@ -1,8 +1,10 @@
 //! The calls by which a table is made wide.
-ghost use Rattle.std.specs.Prelude.{◌≡◌, ◌++◌, IfOk, option_map};
+ghost use Rattle.std.specs.Prelude.{◌≡◌, ◌++◌, IfOk, length, option_map};
 ghost use Rattle.std.specs.Option.{option_copied};
 ghost use Rattle.tb_value.specs.Promise.Refusals.{first_cause};
 ghost use Rattle.tb_value.specs.Refusals.{Settles};
+ghost use Rattle.tb_agg.specs.Grouped.{AreGroupsOf};
+ghost use Rattle.tb_chunk.specs.Promise.Col as columns;
 ghost use Rattle.tb_frame.specs.Promise.Table.{table_of};
 ghost use Rattle.tb_pivot.specs.Lent.{lent_request};
 ghost use Rattle.tb_pivot.specs.Promise.Pivot.{pivot_table};
@@ -113,6 +115,7 @@ fn pivot_asked<K: Told>(
         (asked K.told_name K.told_answers) separator.entry)) }
 {
     let ask = |alloc: Global, column: &Series, groups: &Groups| -> PolarsResult<Series>
+        requires { AreGroupsOf (length (columns.values column.now)) groups.now }
         ensures { Gives result
             (answer_of groups.now.firsts.items groups.now.numbers.items (plain_column column.now)
             (named expr.entry.now) (answers expr.entry.now)) }
