@@ -22,7 +22,7 @@ use Rattle.tb_delta.specs.Late.{ids_left, AreBelow, IsTakenOut, KeepsIds}
 use Rattle.tb_delta.specs.Promise.Now.{partners}
 use Rattle.tb_delta.specs.Promise.State.{Row, SideState, State, appended, of_side, on_side, other, row_of, taken_out}
 use Rattle.tb_delta.specs.Promise.Steps.{IsAccepted, IsRefusedFor, insert, remove, stepped, told}
-use Rattle.tb_delta.specs.Running.{IsDone}
+use Rattle.tb_delta.specs.Running.{IsDone, IsRefused}
 use Rattle.tb_delta.specs.Stepped.{IsChecked}
 use Rattle.tb_delta.specs.declared.fault.DeltaFault.{DeltaFault}
 use Rattle.tb_delta.specs.declared.fault.DeltaFault.TheVariants as fault
@@ -198,6 +198,15 @@ among_others s own others n gs x k = others_grouped s own others n gs x k
 abbrev told_from : SideRows → SideRows → Bool → ℕ → List ℕ
 told_from own others n id = unwrap_or (option_map (λ (row : List Datum). agreeing n (side_state others) (key_of (side_state own) row)) (row_of (side_state own) id)) []
 
+-- ids that are others too, where they are told
+pub where_told : {a b : List ℕ} (tells : Bool) → a ≡ b → (if tells then a else []) ≡ (if tells then b else [])
+where_told tells e = ap (λ (l : List ℕ). if tells then l else []) e
+
+-- where nothing is told
+pub none_told : (tells : Bool) (ids : List ℕ) → ids ≡ [] → ids ≡ (if tells then [] else [])
+none_told true ids none = none
+none_told false ids none = none
+
 -- a copy of ids that are others too
 pub copied_as : (r : Result (Vec ℕ Global) OutOfMemory) (a b : List ℕ) → IfOk r (λ v. v.items ≡ a) → a ≡ b → IfOk r (λ v. v.items ≡ b)
 copied_as (Ok v) a b h e = h ∙ e
@@ -205,7 +214,7 @@ copied_as (Err x) a b h e = tt
 
 -- WHAT IS DONE
 
-pub checked : (s : Side) (own others : SideRows) (n : Bool) (row : List Datum) (f : DeltaFault) → IsChecked (side_state own) row (Err f) → IsDone (of_both s own others n) (insert s row) (of_both s own others n) (Err f)
+pub checked : (s : Side) (own others : SideRows) (n : Bool) (row : List Datum) (f : DeltaFault) → IsChecked (side_state own) row (Err f) → IsRefused (of_both s own others n) (insert s row) (of_both s own others n) f
 checked side.Left own others n row fault.Schema h = (h, inl refl)
 checked side.Left own others n row fault.Full h = (h, inl refl)
 checked side.Left own others n row fault.NoRow h = absurd h
@@ -216,7 +225,7 @@ checked side.Right own others n row fault.NoRow h = absurd h
 checked side.Right own others n row fault.OutOfMemory h = absurd h
 
 module _ (own others new : SideRows) (n : Bool) (row : List Datum) (fits : FitsFields (side_state own).columns row) (few : own.ever < MAX_ROWS) where
-  pub not_put : (s : Side) → side_state new ≡ side_state own → IsDone (of_both s own others n) (insert s row) (of_both s new others n) (Err fault.OutOfMemory)
+  pub not_put : (s : Side) → side_state new ≡ side_state own → IsRefused (of_both s own others n) (insert s row) (of_both s new others n) fault.OutOfMemory
   not_put side.Left e = ((fits, few), inl (both_same side.Left own new others n e))
   not_put side.Right e = ((fits, few), inl (both_same side.Right own new others n e))
 
@@ -224,28 +233,28 @@ module _ (own others new : SideRows) (n : Bool) (row : List Datum) (fits : FitsF
   put_both side.Left e = ap (λ (t : SideState). record { left = t; right = side_state others; join_nulls = n }) e
   put_both side.Right e = ap (λ (t : SideState). record { left = side_state others; right = t; join_nulls = n }) e
 
-  pub not_told : (s : Side) → side_state new ≡ appended row (side_state own) → IsDone (of_both s own others n) (insert s row) (of_both s new others n) (Err fault.OutOfMemory)
+  pub not_told : (s : Side) → side_state new ≡ appended row (side_state own) → IsRefused (of_both s own others n) (insert s row) (of_both s new others n) fault.OutOfMemory
   not_told side.Left e = ((fits, few), inr (refl, (fits, few), put_both side.Left e))
   not_told side.Right e = ((fits, few), inr (refl, (fits, few), put_both side.Right e))
 
-  pub inserted : (s : Side) (gs : LateGroups) (id : ℕ) (v : Vec ℕ Global) → IsChanging s new others n gs → side_state new ≡ appended row (side_state own) → id ≡ own.ever → v.items ≡ told_from new others n id
-      → IsDone (of_both s own others n) (insert s row) (of_both s new others n) (Ok v)
-  inserted side.Left gs id v x e is tells = (
+  pub inserted : (tells : Bool) (s : Side) (gs : LateGroups) (id : ℕ) (v : Vec ℕ Global) → IsChanging s new others n gs → side_state new ≡ appended row (side_state own) → id ≡ own.ever
+      → v.items ≡ (if tells then told_from new others n id else []) → IsDone tells (of_both s own others n) (insert s row) (of_both s new others n) (Ok v)
+  inserted tells side.Left gs id v x e is as_told = (
     (fits, few),
     put_both side.Left e,
-    tells ∙ told_is side.Left new others n gs id x ∙ (λ t. unwrap_or (partners (put_both side.Left e t) side.Left (is t)) []),
+    as_told ∙ where_told tells (told_is side.Left new others n gs id x ∙ (λ t. unwrap_or (partners (put_both side.Left e t) side.Left (is t)) [])),
   )
-  inserted side.Right gs id v x e is tells = (
+  inserted tells side.Right gs id v x e is as_told = (
     (fits, few),
     put_both side.Right e,
-    tells ∙ told_is side.Right new others n gs id x ∙ (λ t. unwrap_or (partners (put_both side.Right e t) side.Right (is t)) []),
+    as_told ∙ where_told tells (told_is side.Right new others n gs id x ∙ (λ t. unwrap_or (partners (put_both side.Right e t) side.Right (is t)) [])),
   )
 
 module _ (own others new : SideRows) (n : Bool) (id : ℕ) (rows : side_state new ≡ taken_out id (side_state own)) where
   pub nothing_out : None ≡ row_of (side_state own) id → side_state new ≡ side_state own
   nothing_out none = rows ∙ ap (λ (l : List Row). record { columns = (side_state own).columns; key = (side_state own).key; rows = l; ever = (side_state own).ever }) (absent_row id (side_state own).rows (sym none))
 
-  pub no_row : (s : Side) → None ≡ row_of (side_state own) id → IsDone (of_both s own others n) (remove s id) (of_both s new others n) (Err fault.NoRow)
+  pub no_row : (s : Side) → None ≡ row_of (side_state own) id → IsRefused (of_both s own others n) (remove s id) (of_both s new others n) fault.NoRow
   no_row side.Left none = (sym none, inl (both_same side.Left own new others n (nothing_out none)))
   no_row side.Right none = (sym none, inl (both_same side.Right own new others n (nothing_out none)))
 
@@ -256,18 +265,18 @@ module _ (own others new : SideRows) (n : Bool) (id : ℕ) (rows : side_state ne
   there : (o : Option (List Datum)) (row : List Datum) → Some row ≡ o → IsSome o
   there o row e = subst (λ (p : Option (List Datum)). IsSome p) e refl
 
-  pub removed_untold : (s : Side) (row : List Datum) → Some row ≡ row_of (side_state own) id → IsDone (of_both s own others n) (remove s id) (of_both s new others n) (Err fault.OutOfMemory)
+  pub removed_untold : (s : Side) (row : List Datum) → Some row ≡ row_of (side_state own) id → IsRefused (of_both s own others n) (remove s id) (of_both s new others n) fault.OutOfMemory
   removed_untold side.Left row is = (tt, inr (refl, there (row_of (side_state own) id) row is, out_both side.Left))
   removed_untold side.Right row is = (tt, inr (refl, there (row_of (side_state own) id) row is, out_both side.Right))
 
-  pub removed : (s : Side) (gs : LateGroups) (row : List Datum) (key : RowKey) (v : Vec ℕ Global) → IsChanging s own others n gs → Some row ≡ row_of (side_state own) id → datum key.value ≡ key_of (side_state own) row
-      → v.items ≡ ids_left gs (other s) key → IsDone (of_both s own others n) (remove s id) (of_both s new others n) (Ok v)
-  removed s gs row key v x is keyed tells = at s x (tells ∙ others_grouped s own others n gs x key ∙ ap (agreeing n (side_state others)) keyed
-      ∙ ap (λ (o : Option (List Datum)). unwrap_or (option_map (λ (r : List Datum). agreeing n (side_state others) (key_of (side_state own) r)) o) []) is)
+  pub removed : (tells : Bool) (s : Side) (gs : LateGroups) (row : List Datum) (key : RowKey) (v : Vec ℕ Global) → IsChanging s own others n gs → Some row ≡ row_of (side_state own) id
+      → datum key.value ≡ key_of (side_state own) row → v.items ≡ (if tells then ids_left gs (other s) key else []) → IsDone tells (of_both s own others n) (remove s id) (of_both s new others n) (Ok v)
+  removed tells s gs row key v x is keyed as_told = at s x (as_told ∙ where_told tells (others_grouped s own others n gs x key ∙ ap (agreeing n (side_state others)) keyed
+      ∙ ap (λ (o : Option (List Datum)). unwrap_or (option_map (λ (r : List Datum). agreeing n (side_state others) (key_of (side_state own) r)) o) []) is))
     where
-      at : (s : Side) → IsChanging s own others n gs → v.items ≡ told_from own others n id → IsDone (of_both s own others n) (remove s id) (of_both s new others n) (Ok v)
-      at side.Left y e = (there (row_of (side_state own) id) row is, out_both side.Left, e ∙ told_is side.Left own others n gs id y)
-      at side.Right y e = (there (row_of (side_state own) id) row is, out_both side.Right, e ∙ told_is side.Right own others n gs id y)
+      at : (s : Side) → IsChanging s own others n gs → v.items ≡ (if tells then told_from own others n id else []) → IsDone tells (of_both s own others n) (remove s id) (of_both s new others n) (Ok v)
+      at side.Left y e = (there (row_of (side_state own) id) row is, out_both side.Left, e ∙ where_told tells (told_is side.Left own others n gs id y))
+      at side.Right y e = (there (row_of (side_state own) id) row is, out_both side.Right, e ∙ where_told tells (told_is side.Right own others n gs id y))
 
 -- FROM A VIEW AND BACK
 

@@ -1,6 +1,7 @@
 -- The ids under each key, after the group of one key has changed.
-use Rattle.std.proofs.Common.{◌≡◌, ℕ, ◌<◌, ◌∷◌, ◌++◌, length, map, get_or, not, nat_eq, arith, Bool, true, false, cond, ◌&&◌, if◌then◌else◌, List, [], Some, None, refl, ap, sym, ◌∙◌, ⊎_elim}
+use Rattle.std.proofs.Common.{◌≡◌, ℕ, ◌<◌, ◌∷◌, ◌++◌, length, map, get_or, not, nat_eq, arith, Bool, true, false, cond, ◌&&◌, if◌then◌else◌, List, [], Some, None, refl, ap, sym, subst, ◌∙◌, ⊎_elim}
 use Rattle.std.specs.BTreeMap.{get_by}
+use Rattle.std.specs.Cmp.{first_so}
 use Rattle.std.proofs.lemmas.Bool.{cases_Bool}
 use Rattle.std.specs.Prelude.{All, AllPairs}
 use Rattle.std.proofs.lemmas.List.{append-nil, get_or-map}
@@ -104,6 +105,21 @@ ascending_after false ids id asc below = asc
 pub undone : (b : Bool) (old mid : List ℕ) (id : ℕ) → mid ≡ (if b then old ++ id ∷ [] else old) → (b ≡ true → All (λ i. i < id) old) → (if b then without id mid else mid) ≡ old
 undone true old mid id is below = ap (without id) is ∙ put_and_taken id old (below refl)
 undone false old mid id is below = is
+
+-- an id behind all others of its side, put under a key: the ids ascend, and it may be taken out again
+module _ (d s : Side) (nulls : Bool) (key k : RowKey) (id : ℕ) (old mid : Groups) (below : All (λ i. i < id) (ids_at old d k))
+    (put : ids_at mid s k ≡ (if is_side d s && agrees nulls (datum key.value) (datum k.value) then ids_at old s k ++ id ∷ [] else ids_at old s k)) where
+  below_there : (is_side d s && agrees nulls (datum key.value) (datum k.value)) ≡ true → All (λ i. i < id) (ids_at old s k)
+  below_there e = subst (λ (t : Side). All (λ i. i < id) (ids_at old t k)) (side_is d s (first_so (is_side d s) (agrees nulls (datum key.value) (datum k.value)) e)) below
+
+  pub put_ascends : AllPairs ◌<◌ (ids_at old s k) → AllPairs ◌<◌ (ids_at mid s k)
+  put_ascends asc = subst (λ (l : List ℕ). AllPairs ◌<◌ l) (sym put) (ascending_after (is_side d s && agrees nulls (datum key.value) (datum k.value)) (ids_at old s k) id asc below_there)
+
+  pub put_undone : (other : RowKey) → datum other.value ≡ datum key.value
+      → (if is_side d s && agrees nulls (datum other.value) (datum k.value) then without id (ids_at mid s k) else ids_at mid s k) ≡ ids_at old s k
+  put_undone other same =
+      ap (λ (e : Datum). if is_side d s && agrees nulls e (datum k.value) then without id (ids_at mid s k) else ids_at mid s k) same
+      ∙ undone (is_side d s && agrees nulls (datum key.value) (datum k.value)) (ids_at old s k) (ids_at mid s k) id put below_there
 
 -- taking out a group without ids leaves all
 pub emptied : (old new : Groups) (key k : RowKey) (w : Group) (s : Side)

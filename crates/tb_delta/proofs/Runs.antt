@@ -1,11 +1,11 @@
 -- Steps in their order, one more at a time.
-use Rattle.std.proofs.Common.{◌≡◌, ◌⊎◌, inl, inr, ℕ, zero, suc, ◌+◌, ◌<◌, ◌≤◌, List, [], ◌∷◌, ◌++◌, length, get_or, map, take, drop, Ok, Err, refl, ap, arith, sym, ◌∙◌, subst, ⊎_elim}
+use Rattle.std.proofs.Common.{◌≡◌, ◌⊎◌, inl, inr, ℕ, zero, suc, ◌+◌, ◌<◌, ◌≤◌, List, [], ◌∷◌, ◌++◌, length, get_or, map, take, drop, refl, ap, arith, sym, ◌∙◌, subst, ⊎_elim}
 use Rattle.std.proofs.lemmas.List.{get_or-map, get_or_default, map-append, take_more}
 use Rattle.std.specs.declared.vec.Vec.{Vec}
 use Rattle.std.specs.declared.alloc.Global.{Global}
 use Rattle.tb_delta.specs.Promise.State.{State}
 use Rattle.tb_delta.specs.Promise.Steps.{AreAccepted, IsAccepted, IsRefusedFor, Step, after, insert, remove, stepped, told, told_each}
-use Rattle.tb_delta.specs.Running.{IsBehind, IsDone, IsStopped, lists_of, step_of, steps_of}
+use Rattle.tb_delta.specs.Running.{IsBehind, IsRefused, IsStopped, lists_of, step_of, steps_of}
 use Rattle.tb_delta.specs.declared.fault.DeltaFault.{DeltaFault}
 use Rattle.tb_delta.specs.declared.fault.DeltaFault.TheVariants as fault
 use Rattle.tb_delta.specs.declared.running.Step.{Step as RustStep}
@@ -94,7 +94,7 @@ stopped_done s xs k j x n m same b low is may made =
       left = inr (refl, behind_more s xs k x n m b low is may made);
     })
 
-pub stopped_refused : (s : State) (xs : List Step) (k j : ℕ) (x : Step) (n m : State) (f : DeltaFault) → j ≡ k → IsBehind s xs k n → k < length xs → x ≡ get_or xs k x → IsDone n x m (Err f)
+pub stopped_refused : (s : State) (xs : List Step) (k j : ℕ) (x : Step) (n m : State) (f : DeltaFault) → j ≡ k → IsBehind s xs k n → k < length xs → x ≡ get_or xs k x → IsRefused n x m f
     → IsStopped s xs m (record { step = j; fault = f })
 stopped_refused s xs k j x n m f same b low is done =
     subst (λ i. IsStopped s xs m (record { step = i; fault = f })) (sym same) (record {

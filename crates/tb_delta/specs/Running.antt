@@ -1,5 +1,5 @@
 -- What a call answers that does many steps.
-use Rattle.std.specs.Prelude.{◌≡◌, ◌<◌, ◌≤◌, ◌⊎◌, ℕ, ◌+◌, List, [], length, map, take, slice_index_or, Result, Ok, Err}
+use Rattle.std.specs.Prelude.{◌≡◌, ◌<◌, ◌≤◌, ◌⊎◌, ℕ, ◌+◌, Bool, if◌then◌else◌, List, [], length, map, take, slice_index_or, Result, Ok, Err}
 use Rattle.std.specs.declared.vec.Vec.{Vec}
 use Rattle.std.specs.declared.alloc.Global.{Global}
 use Rattle.tb_value.specs.See.{data_of}
@@ -20,11 +20,20 @@ step_of (rust.Remove side id) = remove side id
 abbrev pub steps_of : List RustStep → List Step
 steps_of xs = map step_of xs
 
--- a step is done, or it isn't; only where memory is wanting for telling, it is done for all that
-abbrev pub IsDone : State → Step → State → Result (Vec ℕ Global) DeltaFault → Type 0
-IsDone s x n (Ok ids) = IsAccepted s x × (n ≡ stepped s x) × (ids.items ≡ told s x)
-IsDone s x n (Err f) =
+-- what a step tells, where it tells
+abbrev pub told_where : Bool → State → Step → List ℕ
+told_where tells s x = (if tells then told s x else [])
+
+-- a step is not done; only where memory is wanting for telling, it is done for all that
+abbrev pub IsRefused : State → Step → State → DeltaFault → Type 0
+IsRefused s x n f =
     IsRefusedFor s x f × ((n ≡ s) ⊎ ((f ≡ fault.OutOfMemory) × IsAccepted s x × (n ≡ stepped s x)))
+
+-- a step is done, and tells, or it isn't
+abbrev pub IsDone : Bool → State → Step → State → Result (Vec ℕ Global) DeltaFault → Type 0
+IsDone tells s x n (Ok ids) =
+    IsAccepted s x × (n ≡ stepped s x) × (ids.items ≡ told_where tells s x)
+IsDone tells s x n (Err f) = IsRefused s x n f
 
 -- the lists of ids
 abbrev pub lists_of : List (Vec ℕ Global) → List (List ℕ)

@@ -1,5 +1,5 @@
 //! One step of a list, after which ids may still be to be taken out of the groups.
-ghost use Rattle.std.specs.Prelude.{◌≡◌, [], IfOk, List, option_map, unwrap_or, ℕ};
+ghost use Rattle.std.specs.Prelude.{◌≡◌, [], IfOk, List, if◌then◌else◌, option_map, unwrap_or, ℕ};
 ghost use Rattle.tb_value.specs.Promise.Datum.{Datum};
 ghost use Rattle.tb_value.specs.Promise.Same.{agrees};
 ghost use Rattle.tb_value.specs.See.{datum, data_of};
@@ -30,13 +30,14 @@ fn other(side: Side) -> Side
     }
 }
 
-// The ids on the other side under the key of a row, copied, and none where there is no such row.
+// The ids on the other side under the key of a row, copied where they are told, and none where there is no such row.
 fn told(
     alloc: Global,
     rows: &SideRows,
     groups: &mut LateGroups,
     beside: Side,
     id: u32,
+    tells: bool,
 ) -> Result<Vec<u32>, OutOfMemory>
     requires placed { IsPlaced rows.now }
     requires ascend { AreAscending groups.old.groups }
@@ -45,18 +46,20 @@ fn told(
         → ((k : RowKey) → ids_left groups.old beside k ≡ f (datum k.value))
         → IfOk result (λ v.
         v.items
-        ≡ unwrap_or
+        ≡ (if tells
+        then unwrap_or
         (option_map (λ row. f (key_of (side_state rows.now) row))
         (row_of (side_state rows.now) id))
-        []) }
+        []
+        else [])) }
 {
     match rows.rows.get(&id) {
-        Some(row) => groups.copied(alloc, beside, &row.key),
+        Some(row) => groups.copied(alloc, beside, &row.key, tells),
         None => Ok(Vec::new(alloc)),
     }
 }
 
-/// Puts a row last on its side, and answers the ids of the other side's rows that match it.
+/// Puts a row last on its side, and answers the ids of the other side's rows that match it, where they are told.
 pub(crate) fn insert_row(
     alloc: Global,
     own: &mut SideRows,
@@ -65,17 +68,18 @@ pub(crate) fn insert_row(
     side: Side,
     join_nulls: bool,
     row: Vec<AnyValue>,
+    tells: bool,
 ) -> Result<Vec<u32>, DeltaFault>
     requires { IsChanging side own.old others.now join_nulls groups.old }
     ensures changing { IsChanging side own.new others.now join_nulls groups.new }
-    ensures done { IsDone (of_both side own.old others.now join_nulls)
+    ensures done { IsDone tells (of_both side own.old others.now join_nulls)
         (insert side (data_of row.items))
         (of_both side own.new others.now join_nulls)
         result }
 {
     check(own, &row)?;
     match push_row(alloc, own, &mut groups.groups, side, join_nulls, row) {
-        Ok(id) => match told(alloc, own, groups, other(side), id) {
+        Ok(id) => match told(alloc, own, groups, other(side), id, tells) {
             Ok(ids) => Ok(ids),
             Err(OutOfMemory) => Err(DeltaFault::OutOfMemory),
         },
@@ -100,7 +104,7 @@ fn take_out(
     }
 }
 
-/// Takes the row of an id out, and answers the ids of the other side's rows that match it.
+/// Takes the row of an id out, and answers the ids of the other side's rows that match it, where they are told.
 pub(crate) fn remove_row(
     alloc: Global,
     own: &mut SideRows,
@@ -109,10 +113,11 @@ pub(crate) fn remove_row(
     side: Side,
     join_nulls: bool,
     id: u32,
+    tells: bool,
 ) -> Result<Vec<u32>, DeltaFault>
     requires { IsChanging side own.old others.now join_nulls groups.old }
     ensures changing { IsChanging side own.new others.now join_nulls groups.new }
-    ensures done { IsDone (of_both side own.old others.now join_nulls)
+    ensures done { IsDone tells (of_both side own.old others.now join_nulls)
         (remove side id)
         (of_both side own.new others.now join_nulls)
         result }
@@ -120,7 +125,7 @@ pub(crate) fn remove_row(
     let Some(row) = pull_stored(own, id) else {
         return Err(DeltaFault::NoRow);
     };
-    let ids = groups.copied(alloc, other(side), &row.key);
+    let ids = groups.copied(alloc, other(side), &row.key, tells);
     take_out(alloc, groups, side, join_nulls, &row.key, id);
     match ids {
         Ok(ids) => Ok(ids),

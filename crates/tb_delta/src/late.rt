@@ -2,7 +2,7 @@
 //!
 //! An id that goes out of a long list is put down beside the groups, and goes when a step asks for the list, together with
 //! all others that went since. So a step costs what it answers, and a removal no more than the sorting of its id.
-ghost use Rattle.std.specs.Prelude.{◌≡◌, ◌-◌, IfOk};
+ghost use Rattle.std.specs.Prelude.{◌≡◌, ◌-◌, [], IfOk, if◌then◌else◌};
 ghost use Rattle.tb_value.specs.declared.error.Side.{Side};
 ghost use Rattle.tb_delta.specs.Groups.{ids_at, ties, AreAscending};
 ghost use Rattle.tb_value.specs.See.{datum};
@@ -38,19 +38,25 @@ impl LateGroups {
         self.groups.take_list_out(side, key, gone);
     }
 
-    /// The ids of a side under the key, copied.
+    /// The ids of a side under the key, copied, where they are told.
     pub(crate) fn copied(
         &mut self,
         alloc: Global,
         side: Side,
         key: &RowKey,
+        tells: bool,
     ) -> Result<Vec<u32>, OutOfMemory>
         requires { AreAscending self.old.groups }
         ensures keeps { KeepsIds self.old self.new }
-        ensures ids { IfOk result (λ v. v.items ≡ ids_left self.old side key.now) }
+        ensures ids { IfOk result (λ v.
+            v.items ≡ (if tells then ids_left self.old side key.now else [])) }
     {
-        self.settle(alloc, side, key);
-        Ok(Vec::from_slice(alloc, self.groups.ids(side, key))?)
+        if tells {
+            self.settle(alloc, side, key);
+            Ok(Vec::from_slice(alloc, self.groups.ids(side, key))?)
+        } else {
+            Ok(Vec::new(alloc))
+        }
     }
 
     // Takes an id out of those of its side under the key. It takes no memory.

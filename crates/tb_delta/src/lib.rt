@@ -7,6 +7,7 @@ mod checking;
 mod counting;
 mod fault;
 mod groups;
+mod join_run;
 mod key;
 mod late;
 pub mod laws;
@@ -18,5 +19,6 @@ mod tables;
 mod view;
 
 pub use fault::DeltaFault;
+pub use join_run::JoinRun;
 pub use running::{Step, StepFault, do_steps};
 pub use view::JoinView;

@@ -25,36 +25,38 @@ pub struct StepFault {
     pub fault: DeltaFault,
 }
 
-fn do_step(
+/// Does a step, and answers what it tells, where it `tells`.
+pub(crate) fn do_step(
     alloc: Global,
     left: &mut SideRows,
     right: &mut SideRows,
     groups: &mut LateGroups,
-    join_nulls: bool,
+    nulls: bool,
     step: Step,
+    tells: bool,
 ) -> Result<Vec<u32>, DeltaFault>
-    requires { IsChanging Side.Left left.old right.old join_nulls groups.old }
-    ensures changing { IsChanging Side.Left left.new right.new join_nulls groups.new }
-    ensures done { IsDone (state_of left.old right.old join_nulls) (step_of step)
-        (state_of left.new right.new join_nulls) result }
+    requires { IsChanging Side.Left left.old right.old nulls groups.old }
+    ensures changing { IsChanging Side.Left left.new right.new nulls groups.new }
+    ensures done { IsDone tells (state_of left.old right.old nulls) (step_of step)
+        (state_of left.new right.new nulls) result }
 {
     match step {
         Step::Insert {
             side: Side::Left,
             row,
-        } => { insert_row(alloc, left, right, groups, Side::Left, join_nulls, row) }
+        } => { insert_row(alloc, left, right, groups, Side::Left, nulls, row, tells) }
         Step::Insert {
             side: Side::Right,
             row,
-        } => { insert_row(alloc, right, left, groups, Side::Right, join_nulls, row) }
+        } => { insert_row(alloc, right, left, groups, Side::Right, nulls, row, tells) }
         Step::Remove {
             side: Side::Left,
             id,
-        } => { remove_row(alloc, left, right, groups, Side::Left, join_nulls, id) }
+        } => { remove_row(alloc, left, right, groups, Side::Left, nulls, id, tells) }
         Step::Remove {
             side: Side::Right,
             id,
-        } => { remove_row(alloc, right, left, groups, Side::Right, join_nulls, id) }
+        } => { remove_row(alloc, right, left, groups, Side::Right, nulls, id, tells) }
     }
 }
 
@@ -74,7 +76,7 @@ pub(crate) fn run_steps(
 {
     let mut lists = Vec::new(alloc);
     for (step, asked) in steps.into_iter().enumerate() {
-        match do_step(alloc, left, right, groups, join_nulls, asked) {
+        match do_step(alloc, left, right, groups, join_nulls, asked, true) {
             Ok(ids) => {
                 if lists.push(ids).is_err() {
                     let fault = DeltaFault::OutOfMemory;

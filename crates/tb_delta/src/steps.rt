@@ -40,6 +40,42 @@ pub(crate) fn is_grouped(join_nulls: bool, key: &RowKey) -> bool
     join_nulls || !matches!(key.value, AnyValue::Null)
 }
 
+// Puts the id of a row into its group, if it is in one. After a refusal all are as they were.
+fn put_in_group(
+    alloc: Global,
+    groups: &mut Groups,
+    side: Side,
+    join_nulls: bool,
+    key: &RowKey,
+    id: u32,
+) -> Result<(), OutOfMemory>
+    ensures ok { OnOk result ((s : Side) → (k : RowKey) → ids_at groups.new s k
+        ≡ (if is_side side s && agrees join_nulls (datum key.now.value) (datum k.value)
+        then ids_at groups.old s k ++ id ∷ []
+        else ids_at groups.old s k)) }
+    ensures err { OnErr result
+        ((s : Side) → (k : RowKey) → ids_at groups.new s k ≡ ids_at groups.old s k) }
+{
+    if is_grouped(join_nulls, key) {
+        groups.add(alloc, side, key, id)
+    } else {
+        Ok(())
+    }
+}
+
+// Takes the id of a row out of its group, if it is in one. It takes no memory.
+fn take_from_group(groups: &mut Groups, side: Side, join_nulls: bool, key: &RowKey, id: u32)
+    requires { AreAscending groups.old }
+    ensures { (s : Side) → (k : RowKey) → ids_at groups.new s k
+        ≡ (if is_side side s && agrees join_nulls (datum key.now.value) (datum k.value)
+        then without id (ids_at groups.old s k)
+        else ids_at groups.old s k) }
+{
+    if is_grouped(join_nulls, key) {
+        groups.take_out(side, key, &[id]);
+    }
+}
+
 // Puts a row last. After a refusal all are as they were.
 pub(crate) fn push_row(
     alloc: Global,
@@ -70,10 +106,7 @@ pub(crate) fn push_row(
 {
     let id = rows.ever;
     let key = RowKey::of(alloc, &row[rows.key])?;
-    let grouped = is_grouped(join_nulls, &key);
-    if grouped {
-        groups.add(alloc, side, &key, id)?;
-    }
+    put_in_group(alloc, groups, side, join_nulls, &key, id)?;
     match rows.rows.insert(id, StoredRow { key, values: row }) {
         Ok(_) => {
             rows.ever = id + 1;
@@ -81,9 +114,7 @@ pub(crate) fn push_row(
         }
         Err(refused) => {
             let (_, row) = refused.value;
-            if grouped {
-                groups.take_out(side, &row.key, &[id]);
-            }
+            take_from_group(groups, side, join_nulls, &row.key, id);
             Err(OutOfMemory)
         }
     }
@@ -124,9 +155,7 @@ pub(crate) fn pull_row(
         else ids_at groups.old s k) }
 {
     let row = pull_stored(rows, id)?;
-    if is_grouped(join_nulls, &row.key) {
-        groups.take_out(side, &row.key, &[id]);
-    }
+    take_from_group(groups, side, join_nulls, &row.key, id);
     Some(row.values)
 }
 

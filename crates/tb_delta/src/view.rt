@@ -38,10 +38,10 @@ use tb_value::{AnyValue, ComputeCause, OutOfMemory, PlSmallStr, PolarsError, Pol
 /// sides that have it.
 #[derive(Drop)]
 pub struct JoinView {
-    left: SideRows,
-    right: SideRows,
-    join_nulls: bool,
-    groups: Groups,
+    pub(crate) left: SideRows,
+    pub(crate) right: SideRows,
+    pub(crate) join_nulls: bool,
+    pub(crate) groups: Groups,
 }
 
 impl Model for JoinView {
@@ -253,7 +253,8 @@ impl JoinView {
     }
 
     /// Takes the row of the id out and hands it back. It takes no memory, and moves the ids of the rows with its key that were put
-    /// in after it. NoRow, where no row of the side has the id, leaves all as it was.
+    /// in after it: who takes out many rows of one key does so in a `JoinRun`. NoRow, where no row of the side has the id, leaves
+    /// all as it was.
     ///
     /// # Errors
     ///

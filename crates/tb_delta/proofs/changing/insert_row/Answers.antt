@@ -51,7 +51,7 @@ returns-in-Ok-told-clause-done c =
     let late : LateGroups = record { groups = c.push_row.new.groups; gone = c.args.groups.now.gone } in
     let put : IsChanging c.args.side new others c.args.join_nulls late =
     pushed own others new c.args.join_nulls c.args.groups.now c.push_row.new.groups row c.in-Ok.ensures.rows c.args.side c.requires fits c.in_ok-check.ensures.1 c.push_row.ensures.placed c.in-Ok.ensures.groups in
-    inserted own others new c.args.join_nulls row fits c.in_ok-check.ensures.1 c.args.side late c.in-Ok.id c.in-Ok-told.ids put c.in-Ok.ensures.rows c.in-Ok.ensures.id
+    inserted own others new c.args.join_nulls row fits c.in_ok-check.ensures.1 c.args.tells c.args.side late c.in-Ok.id c.in-Ok-told.ids put c.in-Ok.ensures.rows c.in-Ok.ensures.id
     (c.in-Ok-told.ensures.told (agreeing c.args.join_nulls (side_state others))
     (λ k. ap (λ (d : Side). ids_left late d k) c.other.ensures ∙ among_others c.args.side new others c.args.join_nulls late put k))
 

@@ -11,7 +11,7 @@ use Rattle.tb_delta.specs.Late.{ids_left}
 use Rattle.tb_delta.specs.Promise.State.{row_of}
 use Rattle.tb_delta.specs.declared.late.LateGroups.{LateGroups}
 use Rattle.tb_delta.specs.declared.side_rows.StoredRow.{StoredRow}
-use Rattle.tb_delta.proofs.Changed.{kept_ids, no_row, nothing_out, own_rows, pulled, removed, row_low, unmoved}
+use Rattle.tb_delta.proofs.Changed.{kept_ids, no_row, nothing_out, own_rows, pulled, removed, row_low, unmoved, where_told}
 use Rattle.tb_delta.proofs.changing.remove_row.Goals as goal
 
 pub returns-in_default-clause-changing : goal.returns-in_default-clause-changing
@@ -47,8 +47,8 @@ returns-in-Ok-clause-done c =
     let row : List Datum = data_of v.values.items in
     let there : Some row ≡ row_of (side_state own) c.args.id = c.in-Some.ensures.row in
     let key : datum v.key.value ≡ key_of (side_state own) row = c.in-Some.ensures.keyed in
-    removed own others new c.args.join_nulls c.args.id c.pull_stored.ensures.rows c.args.side c.args.groups.now row v.key c.in-Ok.ids c.requires there key
-    (c.in-Ok.ensures.ids ∙ ap (λ (d : Side). ids_left c.args.groups.now d v.key) c.other.ensures)
+    removed own others new c.args.join_nulls c.args.id c.pull_stored.ensures.rows c.args.tells c.args.side c.args.groups.now row v.key c.in-Ok.ids c.requires there key
+    (c.in-Ok.ensures.ids ∙ where_told c.args.tells (ap (λ (d : Side). ids_left c.args.groups.now d v.key) c.other.ensures))
 
 pub returns-clause-changing : goal.returns-clause-changing
 returns-clause-changing c =

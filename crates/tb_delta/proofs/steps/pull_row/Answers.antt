@@ -1,17 +1,16 @@
-use Rattle.std.proofs.Common.{◌≡◌, ◌∙◌, ◌&&◌, ◌∷◌, [], ap, sym, ℕ, Bool, List, Option, Some, None, option_map, if◌then◌else◌}
+use Rattle.std.proofs.Common.{◌≡◌, ◌∙◌, ◌&&◌, ap, ℕ, Bool, List, Option, Some, None, option_map, if◌then◌else◌}
 use Rattle.std.specs.declared.vec.Vec.{Vec}
 use Rattle.std.specs.declared.alloc.Global.{Global}
 use Rattle.tb_value.specs.Promise.Datum.{Datum}
+use Rattle.tb_value.specs.Promise.Same.{agrees}
 use Rattle.tb_value.specs.See.{datum, data_of}
 use Rattle.tb_value.specs.declared.any_value.AnyValue.{AnyValue}
-use Rattle.tb_delta.specs.Groups.{ids_at, is_side, ties, without}
-use Rattle.tb_delta.specs.Inside.{is_grouped, key_of, pulled_agrees, side_state}
+use Rattle.tb_delta.specs.Groups.{ids_at, is_side, without}
+use Rattle.tb_delta.specs.Inside.{key_of, pulled_agrees, side_state}
 use Rattle.tb_delta.specs.Promise.State.{SideState, row_of}
 use Rattle.tb_delta.specs.declared.side_rows.StoredRow.{StoredRow}
-use Rattle.tb_delta.proofs.Gone.{one_gone}
-use Rattle.tb_delta.proofs.Grouped.{neither, with_agrees, without_agrees}
+use Rattle.tb_delta.proofs.Grouped.{neither}
 use Rattle.tb_delta.proofs.steps.pull_row.Goals as goal
-use Rattle.tb_delta.proofs.steps.pull_row.Goals.{then-is_grouped, else-is_grouped}
 
 abbrev seen : StoredRow → List Datum
 seen s = data_of s.values.items
@@ -40,16 +39,6 @@ returns-clause-groups c = λ s k.
     let there : Some (seen c.in_ok-row.row) ≡ row_of st c.args.id = c.in_ok-row.ensures.row in
     let d : Datum = key_of st (seen c.in_ok-row.row) in
     let key : datum c.in_ok-row.row.key.value ≡ d = c.in_ok-row.ensures.keyed in
-    elim c.if-is_grouped.branch [
-      | then-is_grouped w ↦
-          ap (λ g. ids_at g s k) w.groups-is
-          ∙ w.take_out.ensures s k
-          ∙ ap (λ (l : List ℕ). if x && ties (datum c.in_ok-row.row.key.value) (datum k.value) then l else before) (sym (one_gone c.args.id before))
-          ∙ ap (λ e. if x && ties e (datum k.value) then after else before) key
-          ∙ with_agrees x nulls d (datum k.value) after before (ap (is_grouped nulls) (sym key) ∙ sym c.is_grouped.ensures ∙ w.if-is_grouped.true)
-          ∙ ap (λ (o : Option (List Datum)). if x && pulled_agrees nulls st o (datum k.value) then after else before) there
-      | else-is_grouped w ↦
-          ap (λ g. ids_at g s k) w.groups-is
-          ∙ without_agrees x nulls d (datum k.value) after before (ap (is_grouped nulls) (sym key) ∙ sym c.is_grouped.ensures ∙ w.if-is_grouped.false)
-          ∙ ap (λ (o : Option (List Datum)). if x && pulled_agrees nulls st o (datum k.value) then after else before) there
-    ]
+    c.take_from_group.ensures s k
+    ∙ ap (λ (e : Datum). if x && agrees nulls e (datum k.value) then after else before) key
+    ∙ ap (λ (o : Option (List Datum)). if x && pulled_agrees nulls st o (datum k.value) then after else before) there
