@@ -1,27 +1,27 @@
 -- A join that is kept through steps, a step at a time.
-use Rattle.std.proofs.Common.{◌≡◌, ◌∙◌, ℕ, ◌+◌, ◌<◌, ◌≤◌, nat_le, Bool, true, false, List, [], ◌∷◌, ◌++◌, map, Some, None, option_map, Result, Ok, Err, refl, sym, ap, arith, subst, append-nil, append_assoc}
-use Rattle.std.specs.Prelude.{All, OnOk, is_none, unwrap_or, ⊤}
+use Rattle.std.proofs.Common.{◌≡◌, ◌∙◌, ℕ, ◌+◌, ◌<◌, ◌≤◌, nat_le, Bool, true, false, List, [], ◌∷◌, ◌++◌, map, Some, None, option_map, Ok, refl, sym, ap, arith, subst, append-nil, append_assoc}
+use Rattle.std.specs.Prelude.{All, IsSome, Option, is_none}
 use mathlib.Core.Logic.{◌⊎◌, inl, inr}
 use Rattle.std.proofs.lemmas.List.Elements.{All-head, All-tail}
 use Rattle.tb_value.specs.Promise.Kind.{Part}
 use Rattle.tb_value.specs.Promise.Datum.{Datum}
-use Rattle.tb_value.specs.Promise.Refusals.{SettlesBut, first_cause, when}
+use Rattle.tb_value.specs.Promise.Refusals.{first_cause, when}
 use Rattle.tb_value.specs.Promise.Typed.{FitsFields}
 use Rattle.tb_value.specs.declared.error.Side.{Side}
 use Rattle.tb_value.specs.declared.error.Side.TheVariants as side
 use Rattle.tb_value.specs.declared.limits.TheConstants.{MAX_ROWS}
-use Rattle.tb_delta.specs.Promise.Now.{partners}
 use Rattle.tb_delta.specs.Promise.State.{State, of_side, row_of}
-use Rattle.tb_delta.specs.Promise.Steps.{Step, after, insert, remove, stepped}
+use Rattle.tb_delta.specs.Promise.Steps.{IsAccepted, Step, after, insert, remove, stepped, told}
 use Rattle.tb_delta_front.specs.Promise.Steps.{Fits}
 use Rattle.tb_front.specs.declared.fault.FrontFault.{FrontFault}
-use Rattle.tb_delta.specs.Stepped.{IsInserted}
+use Rattle.tb_delta.specs.Running.{IsRefused, told_where}
 use Rattle.tb_delta.specs.declared.fault.DeltaFault.{DeltaFault}
 use Rattle.tb_delta.specs.declared.fault.DeltaFault.TheVariants as delta
 use Rattle.tb_front.specs.declared.fault.FrontFault.TheVariants as fault
 use Rattle.tb_front.specs.declared.fault.FrontFault.TheVariants.{OutOfMemory}
 use Rattle.tb_front.specs.declared.fault.StepCause.TheVariants as cause
-use Rattle.tb_delta_front.specs.Keeping.{insert_fault, IsLeft, IsStepped}
+use Rattle.tb_delta_front.specs.Keeping.{fault_at, step_row, IsLeft, IsStepped}
+use Rattle.tb_delta_front.specs.declared.deltas.StepRow.{StepRow}
 use Rattle.tb_delta_front.specs.Promise.Deltas.{Change, changed, changes, pair_with, step_fault, steps_fault}
 use Rattle.tb_front.proofs.Steps.{first_of_one}
 
@@ -46,32 +46,51 @@ not_full k n low = grind (arith, low)
 is_full : (k n : ℕ) → n ≤ k → nat_le n k ≡ true
 is_full k n high = grind (arith, high)
 
-pub put_in_done : (keeps : Bool) (n : ℕ) (s t : State) (d : Side) (row : List Datum) (id : ℕ) (old new : List Change) → IsInserted s d row t (Ok id)
-    → (keeps ≡ true → new ≡ old ++ map (pair_with n true d id) (unwrap_or (partners t d id) [])) → IsStepped keeps n s (insert d row) t old new (Ok tt)
-put_in_done keeps n s t d row id old new is pairs = (
-  ap (λ b. option_map (λ c. fault.Step n c) (when b cause.Full)) (not_full (of_side d s).ever MAX_ROWS is.1),
-  is.3,
-  λ k. pairs k ∙ (λ i. old ++ map (pair_with n true d (is.2 i)) (unwrap_or (partners (is.3 i) d (is.2 i)) [])),
+-- a step that is accepted has no fault
+there_is : (n : ℕ) (d : Side) (id : ℕ) (o : Option (List Datum)) → IsSome o → option_map (λ c. fault.Step n c) (when (is_none o) (cause.NoRow d id)) ≡ None
+there_is n d id None h = absurd (cc)
+there_is n d id (Some v) h = refl
+
+no_fault : (n : ℕ) (s : State) (x : Step) → IsAccepted s x → step_fault n s x ≡ None
+no_fault n s (insert d row) may = ap (λ b. option_map (λ c. fault.Step n c) (when b cause.Full)) (not_full (of_side d s).ever MAX_ROWS may.1)
+no_fault n s (remove d id) may = there_is n d id (row_of (of_side d s) id) may
+
+-- the pairs of its row with its partners are what it changes
+pairs_are : (n : ℕ) (s : State) (x : Step) → map (pair_with n (step_row s x).comes (step_row s x).side (step_row s x).id) (told s x) ≡ changed n s x
+pairs_are n s (insert d row) = refl
+pairs_are n s (remove d id) = refl
+
+pub step_done : (keeps : Bool) (n : ℕ) (s t : State) (x : Step) (row : StepRow) (others : List ℕ) (old new : List Change) → row ≡ step_row s x → IsAccepted s x → t ≡ stepped s x
+    → others ≡ told_where keeps s x → new ≡ old ++ map (pair_with n row.comes row.side row.id) others → IsStepped keeps n s x t old new (Ok tt)
+step_done keeps n s t x row others old new is may made tells pairs = (
+  no_fault n s x may,
+  made,
+  λ k. pairs
+      ∙ (λ i. old ++ map (pair_with n (is i).comes (is i).side (is i).id) (tells i))
+      ∙ ap (λ (b : Bool). old ++ map (pair_with n (step_row s x).comes (step_row s x).side (step_row s x).id) (told_where b s x)) k
+      ∙ ap (λ (l : List Change). old ++ l) (pairs_are n s x),
 )
 
-pub put_in_refused : (n : ℕ) (s t : State) (d : Side) (row : List Datum) (f : DeltaFault) → FitsFields (of_side d s).columns row → IsInserted s d row t (Err f)
-    → (insert_fault n f ≡ OutOfMemory) ⊎ (step_fault n s (insert d row) ≡ Some (insert_fault n f))
-put_in_refused n s t d row delta.Schema fits is = absurd (is.0 fits)
-put_in_refused n s t d row delta.Full fits is = inr (ap (λ b. option_map (λ c. fault.Step n c) (when b cause.Full)) (is_full (of_side d s).ever MAX_ROWS is.1))
-put_in_refused n s t d row delta.NoRow fits is = absurd is
-put_in_refused n s t d row delta.OutOfMemory fits is = inl refl
+-- why a step isn't done
+fitting : (s : State) (d : Side) (row : List Datum) → Fits s.left.columns s.right.columns (insert d row) → FitsFields (of_side d s).columns row
+fitting s side.Left row fits = fits
+fitting s side.Right row fits = fits
 
-pub pulled_out : (n : ℕ) (s : State) (d : Side) (id : ℕ) (row : List Datum) → row_of (of_side d s) id ≡ Some row → step_fault n s (remove d id) ≡ None
-pulled_out n s d id row is = ap (λ o. option_map (λ c. fault.Step n c) (when (is_none o) (cause.NoRow d id))) is
+due_fault : (n : ℕ) (s t : State) (x : Step) (f : DeltaFault) → Fits s.left.columns s.right.columns x → IsRefused s x t f
+    → (fault_at n (step_row s x) f ≡ OutOfMemory) ⊎ (step_fault n s x ≡ Some (fault_at n (step_row s x) f))
+due_fault n s t (insert d row) delta.Schema fits is = absurd (is.0 (fitting s d row fits))
+due_fault n s t (insert d row) delta.Full fits is = inr (ap (λ b. option_map (λ c. fault.Step n c) (when b cause.Full)) (is_full (of_side d s).ever MAX_ROWS is.0.1))
+due_fault n s t (insert d row) delta.NoRow fits is = absurd is.0
+due_fault n s t (insert d row) delta.OutOfMemory fits is = inl refl
+due_fault n s t (remove d id) delta.Schema fits is = absurd is.0
+due_fault n s t (remove d id) delta.Full fits is = absurd is.0
+due_fault n s t (remove d id) delta.NoRow fits is = inr (ap (λ o. option_map (λ c. fault.Step n c) (when (is_none o) (cause.NoRow d id))) is.0)
+due_fault n s t (remove d id) delta.OutOfMemory fits is = inl refl
 
-pub not_there : (n : ℕ) (s : State) (d : Side) (id : ℕ) → row_of (of_side d s) id ≡ None → step_fault n s (remove d id) ≡ Some (fault.Step n (cause.NoRow d id))
-not_there n s d id is = ap (λ o. option_map (λ c. fault.Step n c) (when (is_none o) (cause.NoRow d id))) is
-
-pub take_out_ends : (keeps : Bool) (n : ℕ) (s t : State) (d : Side) (id : ℕ) (old new : List Change) (r : Result ⊤ FrontFault)
-    → SettlesBut OutOfMemory r (step_fault n s (remove d id)) → OnOk r (t ≡ stepped s (remove d id)) → (keeps ≡ true → new ≡ old ++ map (pair_with n false d id) (unwrap_or (partners s d id) []))
-    → IsStepped keeps n s (remove d id) t old new r
-take_out_ends keeps n s t d id old new (Ok u) settles state pairs = (settles, state, pairs)
-take_out_ends keeps n s t d id old new (Err e) settles state pairs = settles
+pub step_refused : (n : ℕ) (s t : State) (x : Step) (row : StepRow) (f : DeltaFault) (e : FrontFault) → row ≡ step_row s x → e ≡ fault_at n row f
+    → Fits s.left.columns s.right.columns x → IsRefused s x t f → (e ≡ OutOfMemory) ⊎ (step_fault n s x ≡ Some e)
+step_refused n s t x row f e is as_told fits why =
+    subst (λ (g : FrontFault). (g ≡ OutOfMemory) ⊎ (step_fault n s x ≡ Some g)) (sym (as_told ∙ ap (λ (r : StepRow). fault_at n r f) is)) (due_fault n s t x f fits why)
 
 -- ---- all steps
 

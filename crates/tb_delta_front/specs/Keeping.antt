@@ -1,22 +1,30 @@
 -- What is kept of a join while steps are done.
-use Rattle.std.specs.Prelude.{◌≡◌, ◌⊎◌, ℕ, Bool, true, List, ◌++◌, All, Some, None, Result, Ok, Err, ⊤, MatchResult}
-use Rattle.tb_delta.specs.Promise.State.{State}
+use Rattle.std.specs.Prelude.{◌≡◌, ◌⊎◌, ℕ, Bool, true, false, List, ◌++◌, All, Some, None, Result, Ok, Err, ⊤, MatchResult}
+use Rattle.tb_delta.specs.Promise.State.{State, of_side}
 use Rattle.tb_delta.specs.Promise.Steps as steps
 use Rattle.tb_delta.specs.Promise.Steps.{after, stepped}
 use Rattle.tb_delta.specs.declared.fault.DeltaFault.{DeltaFault}
 use Rattle.tb_delta.specs.declared.fault.DeltaFault.TheVariants as delta
 use Rattle.tb_delta_front.specs.Promise.Steps.{Fits}
 use Rattle.tb_delta_front.specs.declared.deltas.KeptRows.{KeptRows}
+use Rattle.tb_delta_front.specs.declared.deltas.StepRow.{StepRow}
 use Rattle.tb_front.specs.declared.fault.FrontFault.{FrontFault}
 use Rattle.tb_front.specs.declared.fault.FrontFault.TheVariants.{OutOfMemory, Step}
-use Rattle.tb_front.specs.declared.fault.StepCause.TheVariants.{Full}
+use Rattle.tb_front.specs.declared.fault.StepCause.TheVariants.{Full, NoRow}
 use Rattle.tb_delta_front.specs.Deltas.{changes_of}
 use Rattle.tb_delta_front.specs.Promise.Deltas.{Change, changed, changes, step_fault, steps_fault}
 
--- why a row that fits is not put in
-abbrev pub insert_fault : ℕ → DeltaFault → FrontFault
-insert_fault n delta.OutOfMemory = OutOfMemory
-insert_fault n _ = Step n Full
+-- the row that a step puts in or takes out: whether it comes, its side and its id
+abbrev pub step_row : State → steps.Step → StepRow
+step_row s (steps.insert side row) =
+    record { comes = true; side = side; id = (of_side side s).ever }
+step_row s (steps.remove side id) = record { comes = false; side = side; id = id }
+
+-- why a step that fits is not done
+abbrev pub fault_at : ℕ → StepRow → DeltaFault → FrontFault
+fault_at n row delta.OutOfMemory = OutOfMemory
+fault_at n row delta.NoRow = Step n (NoRow row.side row.id)
+fault_at n row _ = Step n Full
 
 -- a step is done, and its pairs stand behind the others where they are kept; or it isn't, for the fault that is due
 abbrev pub IsStepped : Bool → ℕ → State → steps.Step → State → List Change → List Change

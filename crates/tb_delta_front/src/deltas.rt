@@ -1,17 +1,14 @@
 //! A join of two texts that is kept through the steps of a third.
-ghost use Rattle.std.specs.Prelude.{◌≡◌, ◌++◌, ◌∷◌, [], All, IfOk, OnOk, true, map, unwrap_or};
-ghost use Rattle.tb_value.specs.See.{data_of};
-ghost use Rattle.tb_value.specs.Promise.Typed.{FitsFields};
+ghost use Rattle.std.specs.Prelude.{◌≡◌, ◌++◌, ◌∷◌, [], All, IfOk, OnOk, true};
 ghost use Rattle.tb_frame.specs.Promise.Table.{schema_of, table_of};
-ghost use Rattle.tb_delta.specs.Promise.Now.{now, partners, view_refusal};
-ghost use Rattle.tb_delta.specs.Promise.State.{of_side};
-ghost use Rattle.tb_delta.specs.Promise.Steps.{after, insert, remove, stepped};
+ghost use Rattle.tb_delta.specs.Promise.Now.{now, view_refusal};
+ghost use Rattle.tb_delta.specs.Promise.Steps.{after};
 ghost use Rattle.tb_delta.specs.Running.{step_of, steps_of};
 ghost use Rattle.tb_delta_front.specs.Deltas.{changes_of};
-ghost use Rattle.tb_delta_front.specs.Keeping.{insert_fault, IsKept, IsStepped};
+ghost use Rattle.tb_delta_front.specs.Keeping.{fault_at, step_row, IsKept, IsStepped};
 ghost use Rattle.tb_delta_front.specs.Promise.Deltas as due;
 ghost use Rattle.tb_front.specs.Promise.Asked.{IsAnswerText};
-ghost use Rattle.tb_delta_front.specs.Promise.Deltas.{asked_of, asked_steps, changed_text, end_fault, end_faults, kept_behind, kept_from, pair_with, state_of, step_fault, steps_done, steps_fault, IsEndText};
+ghost use Rattle.tb_delta_front.specs.Promise.Deltas.{asked_of, asked_steps, changed_text, end_fault, end_faults, kept_behind, kept_from, state_of, steps_done, steps_fault, IsEndText};
 ghost use Rattle.tb_front.specs.Promise.Due.{Gives};
 ghost use Rattle.tb_front.specs.Promise.Faults.{Settles, key_clash, refusal_fault};
 ghost use Rattle.tb_delta_front.specs.Promise.Steps.{steps_in, Fits};
@@ -24,12 +21,12 @@ use std::alloc::Global;
 use std::slice;
 use std::thread::Threads;
 use tb_csv::CsvOptions;
-use tb_delta::{DeltaFault, JoinView, Step};
+use tb_delta::{DeltaFault, JoinRun, JoinView, Step};
 use tb_front::{
     FrontFault, StepCause, TextOptions, TwoTables, check_keys, next_number, read_tables, refused,
     written,
 };
-use tb_value::{AnyValue, OutOfMemory, PlSmallStr, Side};
+use tb_value::{PlSmallStr, Side};
 
 /// What is asked of two tables whose join is kept.
 #[derive(Drop)]
@@ -42,134 +39,91 @@ pub struct DeltaCall {
     pub join_nulls: bool,
 }
 
-// Tells the pairs of a row with its partners, where pairs are kept.
-fn tell(
-    view: &JoinView,
-    keeps: bool,
-    line: usize,
+// The row that a step puts in or takes out.
+#[derive(Clone, Copy)]
+struct StepRow {
     comes: bool,
     side: Side,
     id: u32,
-    changes: &mut Vec<Change>,
-) -> Result<(), OutOfMemory>
-    ensures { keeps ≡ true
-        → OnOk result
-        (changes_of changes.new.items
-        ≡ changes_of changes.old.items
-        ++ map (pair_with line comes side id)
-        (unwrap_or (partners view.now side id) [])) }
+}
+
+fn step_row(run: &JoinRun, step: &Step) -> StepRow
+    ensures { result ≡ step_row run.now (step_of step.now) }
 {
-    if !keeps {
-        return Ok(());
-    }
-    match view.partners(side, id) {
-        Some(others) => push_pairs(changes, line as u64, comes, side, id, others),
-        None => Ok(()),
+    match step {
+        Step::Insert { side, .. } => StepRow {
+            comes: true,
+            side: *side,
+            id: run.next_id(*side),
+        },
+        Step::Remove { side, id } => StepRow {
+            comes: false,
+            side: *side,
+            id: *id,
+        },
     }
 }
 
-// Why a row that fits is not put in.
-fn insert_fault(line: usize, fault: DeltaFault) -> FrontFault
-    ensures { result ≡ insert_fault line fault }
+// Why a step that fits is not done.
+fn fault_at(line: usize, row: StepRow, fault: DeltaFault) -> FrontFault
+    ensures { result ≡ fault_at line row fault }
 {
     match fault {
         DeltaFault::OutOfMemory => FrontFault::OutOfMemory,
-        DeltaFault::Full | DeltaFault::Schema | DeltaFault::NoRow => {
+        DeltaFault::NoRow => {
+            let cause = StepCause::NoRow(row.side, row.id);
+            FrontFault::Step { line, cause }
+        }
+        DeltaFault::Full | DeltaFault::Schema => {
             let cause = StepCause::Full;
             FrontFault::Step { line, cause }
         }
     }
 }
 
-fn put_in(
-    alloc: Global,
-    view: &mut JoinView,
-    keeps: bool,
-    line: usize,
-    side: Side,
-    row: Vec<AnyValue>,
-    changes: &mut Vec<Change>,
-) -> Result<(), FrontFault>
-    requires { FitsFields (of_side side view.old).columns (data_of row.items) }
-    ensures { IsStepped keeps line view.old (insert side (data_of row.items)) view.new
-        (changes_of changes.old.items) (changes_of changes.new.items) result }
-{
-    match view.insert(alloc, side, row) {
-        Ok(id) => match tell(view, keeps, line, true, side, id, changes) {
-            Ok(()) => Ok(()),
-            Err(OutOfMemory) => Err(FrontFault::OutOfMemory),
-        },
-        Err(fault) => Err(insert_fault(line, fault)),
-    }
-}
-
-fn pull_out(view: &mut JoinView, line: usize, side: Side, id: u32) -> Result<(), FrontFault>
-    ensures settles { Settles result (step_fault line view.old (remove side id)) }
-    ensures state { OnOk result (view.new ≡ stepped view.old (remove side id)) }
-{
-    let Ok(row) = view.remove(side, id) else {
-        let cause = StepCause::NoRow(side, id);
-        return Err(FrontFault::Step { line, cause });
-    };
-    drop(row);
-    Ok(())
-}
-
-fn take_out(
-    view: &mut JoinView,
-    keeps: bool,
-    line: usize,
-    side: Side,
-    id: u32,
-    changes: &mut Vec<Change>,
-) -> Result<(), FrontFault>
-    ensures { IsStepped keeps line view.old (remove side id) view.new (changes_of changes.old.items)
-        (changes_of changes.new.items) result }
-{
-    match tell(view, keeps, line, false, side, id, changes) {
-        Ok(()) => pull_out(view, line, side, id),
-        Err(OutOfMemory) => Err(FrontFault::OutOfMemory),
-    }
-}
-
+// Does a step, and tells the pairs of its row with its partners, where pairs are kept.
 fn do_step(
     alloc: Global,
-    view: &mut JoinView,
+    run: &mut JoinRun,
     keeps: bool,
     line: usize,
     step: Step,
     changes: &mut Vec<Change>,
 ) -> Result<(), FrontFault>
-    requires { Fits view.old.left.columns view.old.right.columns (step_of step) }
-    ensures { IsStepped keeps line view.old (step_of step) view.new (changes_of changes.old.items)
+    requires { Fits run.old.left.columns run.old.right.columns (step_of step) }
+    ensures { IsStepped keeps line run.old (step_of step) run.new (changes_of changes.old.items)
         (changes_of changes.new.items) result }
 {
-    match step {
-        Step::Insert { side, row } => put_in(alloc, view, keeps, line, side, row, changes),
-        Step::Remove { side, id } => take_out(view, keeps, line, side, id, changes),
+    let row = step_row(run, &step);
+    match run.step(alloc, step, keeps) {
+        Ok(others) => {
+            push_pairs(changes, line as u64, row.comes, row.side, row.id, &others)?;
+            Ok(())
+        }
+        Err(fault) => Err(fault_at(line, row, fault)),
     }
 }
 
 // Does the steps, which fit, in their order, up to the first that is refused.
 fn do_steps(
     alloc: Global,
-    view: &mut JoinView,
+    run: &mut JoinRun,
     keeps: bool,
     steps: Vec<Step>,
     changes: &mut Vec<Change>,
 ) -> Result<(), FrontFault>
-    requires { All (Fits view.old.left.columns view.old.right.columns) (steps_of steps.items) }
-    ensures settles { Settles result (steps_fault 1 view.old (steps_of steps.items)) }
-    ensures state { OnOk result (view.new ≡ after view.old (steps_of steps.items)) }
+    requires { All (Fits run.old.left.columns run.old.right.columns) (steps_of steps.items) }
+    ensures settles { Settles result (steps_fault 1 run.old (steps_of steps.items)) }
+    ensures state { OnOk result (run.new ≡ after run.old (steps_of steps.items)) }
     ensures told { keeps ≡ true
         → OnOk result
         (changes_of changes.new.items
-        ≡ changes_of changes.old.items ++ due.changes 1 view.old (steps_of steps.items)) }
+        ≡ changes_of changes.old.items ++ due.changes 1 run.old (steps_of steps.items)) }
 {
     let mut line = 1;
     for step in steps {
         let next = next_number(line)?;
-        match do_step(alloc, view, keeps, line, step, changes) {
+        match do_step(alloc, run, keeps, line, step, changes) {
             Ok(()) => line = next,
             Err(fault) => return Err(fault),
         }
@@ -194,10 +148,13 @@ fn kept_view(
     requires { All (Fits view.left.columns view.right.columns) (steps_of steps.items) }
     ensures { IsKept keeps (steps_done view (steps_of steps.items)) result }
 {
-    let mut view = view;
+    let mut run = JoinRun::new(alloc, view);
     let mut changes = Vec::new(alloc);
-    match do_steps(alloc, &mut view, keeps, steps, &mut changes) {
-        Ok(()) => Ok(KeptRows { view, changes }),
+    match do_steps(alloc, &mut run, keeps, steps, &mut changes) {
+        Ok(()) => Ok(KeptRows {
+            view: run.into_view(),
+            changes,
+        }),
         Err(fault) => Err(fault),
     }
 }

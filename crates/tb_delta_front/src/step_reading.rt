@@ -11,16 +11,18 @@ ghost use Rattle.tb_value.specs.SeeKind.{kind_of};
 ghost use Rattle.tb_date.specs.Promise.Dates.{date_in};
 ghost use Rattle.tb_frame.specs.Promise.Table.{schema_of, table_of};
 ghost use Rattle.tb_delta.specs.Running.{step_of, steps_of};
+ghost use Rattle.tb_delta_request.specs.Promise.Written.{of_two};
 ghost use Rattle.tb_request.specs.Promise.Members.{known_views, names_of};
 ghost use Rattle.tb_request.specs.Promise.Written.{count_of};
 ghost use Rattle.tb_front.specs.Promise.Due.{Gives};
 ghost use Rattle.tb_delta_front.specs.Promise.Steps as due;
-ghost use Rattle.tb_delta_front.specs.Promise.Steps.{dated, field_at, field_in, fields_in, insert_in, of_two, remove_in, row_in, side_at, side_named, step_in, steps_in, unknown_field, Fits};
+ghost use Rattle.tb_delta_front.specs.Promise.Steps.{dated, field_at, field_in, fields_in, insert_in, remove_in, row_in, step_in, steps_in, unknown_field, Fits};
 
 use crate::lines::first_line;
 use std::alloc::Global;
 use tb_date::{date_in, is_date};
 use tb_delta::Step;
+use tb_delta_request::{remove_members, side_at};
 use tb_frame::column_name_set;
 use tb_front::{FrontFault, StepCause, type_read};
 use tb_json::value_of;
@@ -186,22 +188,6 @@ fn row_in(
     }
 }
 
-fn side_named(text: &str) -> Option<Side>
-    ensures { result ≡ side_named text.now }
-{
-    match text {
-        "left" => Some(Side::Left),
-        "right" => Some(Side::Right),
-        _ => None,
-    }
-}
-
-fn side_at(object: &Value, name: &str) -> Option<Side>
-    ensures { result ≡ side_at name.now (view object.now) }
-{
-    side_named(object.get(name)?.as_str()?)
-}
-
 fn columns_on<'a>(side: Side, left: &'a [Column], right: &'a [Column]) -> &'a [Column]
     ensures { result.now ≡ of_two side left.now right.now }
 {
@@ -218,8 +204,8 @@ fn id_at(object: &Value) -> Option<u32>
     count_of(object.get("id")?)
 }
 
-// The members of a step that puts a row in, which is an object here.
-fn insert_members() -> &'static [Known]
+// The members of a line that puts a row in, which is an object here and no list of values.
+fn insert_line_members() -> &'static [Known]
     ensures { names_of (known_views result.now) ≡ codes "insert" ∷ codes "row" ∷ [] }
 {
     &[
@@ -242,7 +228,7 @@ fn insert_in(
     ensures fits { IfOk result (λ s.
         Fits (schema_of (table_of left.now)) (schema_of (table_of right.now)) (step_of s)) }
 {
-    if !has_only(value, insert_members()) {
+    if !has_only(value, insert_line_members()) {
         return Err(no_step(line));
     }
     let Some(side) = side_at(value, "insert") else {
@@ -255,16 +241,6 @@ fn insert_in(
         Ok(row) => Ok(Step::Insert { side, row }),
         Err(fault) => Err(fault),
     }
-}
-
-// The members of a step that takes a row out.
-fn remove_members() -> &'static [Known]
-    ensures { names_of (known_views result.now) ≡ codes "id" ∷ codes "remove" ∷ [] }
-{
-    &[
-        Known::Needed("id", Form::Count),
-        Known::Needed("remove", Form::Word(Word::Side)),
-    ]
 }
 
 #[tactic(auto, unfolding(crate::specs::Promise::Steps::remove_in))]

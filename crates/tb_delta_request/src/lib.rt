@@ -14,4 +14,5 @@ pub use keeping::{KeptFault, KeptJoin, kept};
 pub use known::{delta_members, insert_members, remove_members};
 pub use reading::{delta_in, delta_request_of};
 pub use request::DeltaRequest;
+pub use shape::side_at;
 pub use texts::{text_of_fault, text_of_kept};

@@ -34,7 +34,8 @@ pub(crate) struct WrittenDelta {
     pub steps: Vec<WrittenStep>,
 }
 
-fn side_at(object: &Value, name: &str) -> Option<Side>
+/// The side that a member of an object names.
+pub fn side_at(object: &Value, name: &str) -> Option<Side>
     ensures { result ≡ side_at name.now (view object.now) }
 {
     side_named(object.get(name)?.as_str()?)

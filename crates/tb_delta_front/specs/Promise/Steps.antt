@@ -2,7 +2,6 @@
 use Rattle.std.specs.Prelude.{ℕ, ◌==◌, not, Bool, List, [], ◌∷◌, map, codes, if◌then◌else◌, Option, Some, None, is_some, option_map, option_and_then, Result, Ok, Err, ok_or, ⊤}
 use Rattle.std.specs.List.{find}
 use Rattle.std.specs.Result.{result_ok}
-use Rattle.std.specs.Str.{bytes_eq}
 use Rattle.serde_json.specs.Data.{Data, Members, no_members, member}
 use Rattle.serde_json.specs.Find.{as_object, as_str, get}
 use Rattle.tb_value.specs.Promise.Datum.{Datum}
@@ -10,8 +9,6 @@ use Rattle.tb_value.specs.Promise.Datum as value
 use Rattle.tb_value.specs.Promise.Kind.{Kind, Part}
 use Rattle.tb_value.specs.Promise.Names.{Name}
 use Rattle.tb_value.specs.Promise.Typed.{FitsFields}
-use Rattle.tb_value.specs.declared.error.Side.{Side}
-use Rattle.tb_value.specs.declared.error.Side.TheVariants as side
 use Rattle.tb_frame.specs.Promise.Naming.{is_among}
 use Rattle.tb_date.specs.Promise.Dates.{date_in, is_date}
 use Rattle.tb_csv.specs.Promise.Texts.{field_type}
@@ -20,7 +17,10 @@ use Rattle.tb_delta.specs.Promise.Steps.{Step, insert, remove}
 use Rattle.tb_json.specs.Promise.Cells.{cell_in}
 use Rattle.tb_json.specs.Promise.Lists.{has_only}
 use Rattle.tb_request.specs.Promise.Reading.{value_of}
+use Rattle.tb_request.specs.Promise.Members as request
 use Rattle.tb_request.specs.Promise.Written.{count_of}
+use Rattle.tb_delta_request.specs.Promise.Members.{remove_members}
+use Rattle.tb_delta_request.specs.Promise.Written.{of_two, side_at}
 use Rattle.tb_front.specs.declared.fault.FrontFault.{FrontFault}
 use Rattle.tb_front.specs.declared.fault.FrontFault.TheVariants as fault
 use Rattle.tb_front.specs.declared.fault.StepCause.TheVariants as cause
@@ -92,20 +92,6 @@ row_in n ps d = do
 
 -- ---- a step
 
-abbrev pub side_named : List ℕ → Option Side
-side_named s =
-    if bytes_eq s (codes "left") then Some side.Left
-    else if bytes_eq s (codes "right") then Some side.Right
-    else None
-
-abbrev pub side_at : List ℕ → Data → Option Side
-side_at name d = option_and_then side_named (option_and_then as_str (get name d))
-
--- the one of two that is the side's
-abbrev pub of_two : {A : Type 0} → Side → A → A → A
-of_two side.Left left right = left
-of_two side.Right left right = right
-
 -- a row that is put in has a value of each of its side's columns
 abbrev pub Fits : List Part → List Part → Step → Type 0
 Fits left right (insert side row) = FitsFields (of_two side left right) row
@@ -121,7 +107,7 @@ insert_in left right n d = do
 
 unfoldable pub remove_in : ℕ → Data → Result Step FrontFault
 remove_in n d = do
-  known ← only_if n (has_only (codes "id" ∷ codes "remove" ∷ []) d)
+  known ← only_if n (has_only (request.names_of remove_members) d)
   side ← ok_or (side_at (codes "remove") d) (no_step n)
   id ← ok_or (option_and_then count_of (get (codes "id") d)) (no_step n)
   Ok (remove side id)

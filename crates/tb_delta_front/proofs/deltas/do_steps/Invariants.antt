@@ -5,4 +5,4 @@ use Rattle.tb_delta_front.proofs.deltas.do_steps.Given as goal
 
 abbrev pub invariant-loop-step : goal.invariant-loop-step
 invariant-loop-step l =
-    IsLeft l.keeps l.initial.view (steps_of l.fn.steps.items) (changes_of l.initial.changes.items) l.line l.view (steps_of l.step-iterator.rest.items) (changes_of l.changes.items)
+    IsLeft l.keeps l.initial.run (steps_of l.fn.steps.items) (changes_of l.initial.changes.items) l.line l.run (steps_of l.step-iterator.rest.items) (changes_of l.changes.items)
