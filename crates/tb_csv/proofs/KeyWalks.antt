@@ -21,14 +21,14 @@ pub all_both : (t : FieldType) (xs ys : List Field) → list_all (is_of t) (xs +
 all_both t xs ys = list_all-append (is_of t) xs ys
 
 -- the fields of a column that is there, and of one that isn't
-pub some_fields : (r : Records) (rs : List Record) (name : Name) (place : ℕ) (fs : List Field) → IsRead r rs → Some place ≡ position (λ n. same_name n name) r.lines.names.items
+pub some_fields : (r : Records) (rs : List Record) (name : Name) (place : ℕ) (fs : List Field) → IsRead r rs → Some place ≡ position (λ n. same_name n name) r.names.items
     → ((rows : List Record) → AreRows r rows → fs ≡ column_fields rows place) → Some fs ≡ fields_named rs name
 some_fields r [] name place fs h at column = absurd h
 some_fields r (names ∷ rows) name place fs h at column =
     let found : position (λ n. same_name n name) (line_of names) ≡ Some place = ap (position (λ n. same_name n name)) (sym h.0) ∙ sym at in
     rw found (ap Some (column rows h.1))
 
-pub none_fields : (r : Records) (rs : List Record) (name : Name) → IsRead r rs → None ≡ position (λ n. same_name n name) r.lines.names.items → None ≡ fields_named rs name
+pub none_fields : (r : Records) (rs : List Record) (name : Name) → IsRead r rs → None ≡ position (λ n. same_name n name) r.names.items → None ≡ fields_named rs name
 none_fields r [] name h at = absurd h
 none_fields r (names ∷ rows) name h at =
     let found : position (λ n. same_name n name) (line_of names) ≡ None = ap (position (λ n. same_name n name)) (sym h.0) ∙ sym at in

@@ -10,6 +10,9 @@ pub mod Unquoted
 pub mod RecordWalks
 pub mod ReadRecords
 pub mod MarksFit
+pub mod CutText
+pub mod InPieces
+pub mod RunWalks
 pub mod TextWalks
 pub mod RowPieces
 pub mod ReadColumns

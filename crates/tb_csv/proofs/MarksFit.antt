@@ -15,7 +15,7 @@ use Rattle.tb_csv.specs.Promise.Records.{Line, ends_field, form, is_quoted, line
 -- WHERE A STEP LEADS
 
 -- inside a record whose end is still to come
-abbrev inside : State → Bool
+abbrev pub inside : State → Bool
 inside st.StartField = true
 inside st.InField = true
 inside st.InQuoted = true
@@ -96,7 +96,7 @@ there separator s fields field (c ∷ rest) h =
 -- ONE RECORD
 
 -- the marks from a place on, beside the next record from there, of which so many fields are read. At most so many bytes are left behind it
-abbrev Fits : Config → ℕ → ℕ → List Bool → Option Read → Type 0
+abbrev pub Fits : Config → ℕ → ℕ → List Bool → Option Read → Type 0
 Fits cfg fields most marks None = marks ≡ []
 Fits cfg fields most marks (Some p) = (fields + length marks ≡ length p.0 + length (marks_from cfg p.1 p.2)) × (length p.2 ≤ most) × (ends_at_end p.1 ≡ false)
 
@@ -130,7 +130,7 @@ fits_step cfg q t act.EndField c rest fields field ends more goes_on =
     (goes_on refl (fields ++ field ∷ []) []) (more (fields ++ field ∷ []) [])
 fits_step cfg q t act.EndRecord c rest fields field ends more goes_on = (omega (arith, pushed fields field), omega arith, ends refl)
 
-fits : (separator : ℕ) (s : State) (fields : Line) (field xs : List ℕ)
+pub fits : (separator : ℕ) (s : State) (fields : Line) (field xs : List ℕ)
     → Fits (form separator) (length fields) (length xs - 1) (marks_from (form separator) s xs) (next_record (form separator) s fields field xs)
 unfolding marks_from next_record
 fits separator s fields field [] = fits_end (form separator) (ends_at_end s) (is_quoted s) fields field
@@ -160,7 +160,7 @@ no_longer : (b : Bool) (x y z : ℕ) (rest : List ℕ) → length (cond b rest (
 no_longer true x y z rest = omega arith
 no_longer false x y z rest = omega arith
 
-stripped_length : (xs : List ℕ) → length (strip_bom xs) ≤ length xs
+pub stripped_length : (xs : List ℕ) → length (strip_bom xs) ≤ length xs
 unfolding strip_bom
 stripped_length [] = omega arith
 stripped_length (x ∷ []) = omega arith

@@ -1,17 +1,19 @@
 -- What was read of a text, with its marks.
-use Rattle.std.proofs.Common.{◌≡◌, ◌≤◌, ◌∷◌, ◌∙◌, [], ℕ, List, Bool, drop, length, map, get_or, Some, None, Option, Bor, false, true, refl, sym, ap, subst}
+use Rattle.std.proofs.Common.{◌≡◌, ◌≤◌, ◌∷◌, ◌∙◌, [], ℕ, List, Bool, append-nil, drop, length, map, get_or, Some, None, Option, Bor, false, true, refl, sym, ap, subst}
 use Rattle.std.specs.List.{All}
 use Rattle.csv.specs.Records.{field_at, fields_of}
 use Rattle.tb_value.specs.declared.limits.TheConstants.{MAX_ROWS}
 use Rattle.tb_csv.specs.Places.{MarkAlike}
-use Rattle.tb_csv.specs.Read.{AreLines, IsRead, lent_field}
+use Rattle.tb_csv.specs.Read.{AreLines, AreRunRows, IsRead, lent_field}
 use Rattle.tb_value.specs.Promise.Refusals.{first_cause}
 use Rattle.tb_csv.specs.Promise.Faults.{records_fault, text_fault}
 use Rattle.tb_csv.specs.Promise.LineNumbers.{has_open_quote}
 use Rattle.tb_csv.specs.declared.fault.CsvFault.{CsvFault}
 use Rattle.tb_csv.specs.declared.fault.CsvFault.TheVariants.{OpenQuote}
-use Rattle.tb_csv.specs.Promise.Records.{Line, field, line_of, lines_of, marked_fields, marked_records, marks_of, records_of}
+use Rattle.tb_csv.specs.Promise.Records.{Line, Record, field, line_of, lines_of, marked_fields, marked_records, marks_of, records_of}
+use Rattle.tb_csv.specs.declared.lines.Lines.{Lines}
 use Rattle.tb_csv.specs.declared.records.Records.{Records}
+use Rattle.tb_csv.specs.declared.run.Run.{Run}
 use Rattle.tb_csv.proofs.MarkedFields.{line_back, lines_back, marked_all, marked_at, marked_height, marked_level}
 use Rattle.tb_csv.proofs.RecordWalks.{found, place}
 
@@ -19,24 +21,29 @@ pub lines_read : (separator : ℕ) (text : List ℕ) → map line_of (records_of
 unfolding records_of
 lines_read separator text = lines_back (marks_of separator text) (lines_of separator text)
 
-by_marks : (r : Records) (qs : List Bool) (ls : List Line) → MarkAlike r.marks.items qs → AreLines r.lines ls → IsRead r (marked_records qs ls)
-by_marks r qs [] alike h = absurd h
-by_marks r qs (first ∷ ls) alike h =
-    let count : length r.lines.names.items ≡ length first = ap length h.0 in
-    let rest = drop (length first) qs in (
-      h.0 ∙ sym (line_back qs first),
+-- rows in one run, with the marks behind those of the names
+pub by_marks : (r : Records) (run : Run) (l : Lines) (ms qs : List Bool) (ls : List Line) → MarkAlike ms qs → AreLines l ls
+    → r.names.items ≡ l.names.items → r.runs.items ≡ run ∷ [] → r.height ≡ l.height
+    → run.fields ≡ l.fields → run.marks.items ≡ drop (length l.names.items) ms → run.height ≡ l.height → IsRead r (marked_records qs ls)
+by_marks r run l ms qs [] alike h names runs height fields marks rows = absurd h
+by_marks r run l ms qs (first ∷ ls) alike h names runs height fields marks rows =
+    let count : length l.names.items ≡ length first = ap length h.0 in
+    let wide : length r.names.items ≡ length first = ap length names ∙ count in
+    let rest = drop (length first) qs in
+    let here : AreRunRows (length r.names.items) run (marked_records rest ls) = record {
+      fields = ap (λ (ps : List Bool). marked_fields ps (fields_of run.fields)) marks ∙ ap (λ k. marked_fields (drop (length l.names.items) ms) (fields_of k)) fields
+          ∙ alike (length l.names.items) (fields_of l.fields) ∙ ap (λ (n : ℕ). marked_fields (drop n qs) (fields_of l.fields)) count
+          ∙ ap (marked_fields rest) h.1 ∙ marked_all rest ls;
+      height = rows ∙ h.2 ∙ sym (marked_height rest ls);
+      level = subst (λ (n : ℕ). All (λ (row : Record). length row ≡ n) (marked_records rest ls)) (sym wide) (marked_level (length first) rest ls h.4);
+    } in (
+      names ∙ h.0 ∙ sym (line_back qs first),
       record {
-        fields = alike (length r.lines.names.items) (fields_of r.lines.fields) ∙ ap (λ (n : ℕ). marked_fields (drop n qs) (fields_of r.lines.fields)) count
-            ∙ ap (marked_fields rest) h.1 ∙ marked_all rest ls;
-        height = h.2 ∙ sym (marked_height rest ls);
+        runs = (marked_records rest ls ∷ [], sym (append-nil (marked_records rest ls)), rw runs (here, tt));
+        height = height ∙ h.2 ∙ sym (marked_height rest ls);
         few = subst (λ (n : ℕ). n ≤ MAX_ROWS) (sym (marked_height rest ls)) h.3;
-        level = marked_level (length r.lines.names.items) rest ls (subst (λ (n : ℕ). All (λ (k : Line). length k ≡ n) ls) (sym count) h.4);
       },
     )
-
-pub records_read : (separator : ℕ) (text : List ℕ) (r : Records) → MarkAlike r.marks.items (marks_of separator text) → AreLines r.lines (lines_of separator text) → IsRead r (records_of separator text)
-unfolding records_of
-records_read separator text r alike h = by_marks r (marks_of separator text) (lines_of separator text) alike h
 
 -- a field that is lent, by its mark
 pub field_there : (qs : List Bool) (l : Line) (i : ℕ) (q : Bool) (s : List ℕ) (f : Option (Bor (List ℕ))) (ms : List Bool) → Some s ≡ field_at l i → ms ≡ qs → q ≡ get_or ms i false

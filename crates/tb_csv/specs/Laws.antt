@@ -1,6 +1,7 @@
 -- What holds of texts and tables.
-use Rattle.std.specs.Prelude.{◌≡◌, ◌≢◌, ◌≤◌, ⊤, ℕ, List, length, map, Some, None, is_none, true, false}
+use Rattle.std.specs.Prelude.{◌≡◌, ◌≢◌, ◌≤◌, ◌++◌, ⊤, ℕ, List, ◌∷◌, length, map, Some, None, is_none, true, false}
 use Rattle.std.specs.List.{All}
+use Rattle.csv.specs.Machine.{line_feed}
 use Rattle.csv.specs.Reading.{strip_bom}
 use Rattle.tb_value.specs.Promise.Datum.{Datum, int, null}
 use Rattle.tb_value.specs.Promise.Kind.{Kind}
@@ -10,6 +11,7 @@ use Rattle.tb_value.specs.declared.limits.TheConstants.{MAX_ROWS}
 use Rattle.tb_frame.specs.Promise.Table.{IsTable, Table, TableColumn, height, names_of}
 use Rattle.tb_date.specs.Promise.Dates.{has_text, is_date}
 use Rattle.tb_csv.specs.Promise.Faults.{csv_refusal}
+use Rattle.tb_csv.specs.Promise.LineNumbers.{has_open_quote}
 use Rattle.tb_csv.specs.Read.{all_fields}
 use Rattle.tb_csv.specs.Promise.Records.{is_text, line_of, lines_of, marks_of, records_of}
 use Rattle.tb_csv.specs.Promise.Tables.{csv_table}
@@ -62,3 +64,13 @@ abbrev pub RoundTrip : Type 0
 RoundTrip = (t : Table) → IsTold t
     → (csv_refusal (types_of t) comma (csv_text comma t) ≡ None)
     × (csv_table (types_of t) (records_of comma (csv_text comma t)) ≡ t)
+
+-- The records of a text are those of two pieces of it, one behind the other, if it is cut before a line feed that stands in no quotes.
+-- The second piece alone says whether a quote stays open
+abbrev pub PiecesFit : Type 0
+PiecesFit = (separator : ℕ) → separator ≢ line_feed → (piece rest : List ℕ)
+    → has_open_quote separator piece ≡ false
+    → (records_of separator (piece ++ line_feed ∷ rest)
+    ≡ records_of separator piece ++ records_of separator (line_feed ∷ rest))
+    × (has_open_quote separator (piece ++ line_feed ∷ rest)
+    ≡ has_open_quote separator (line_feed ∷ rest))

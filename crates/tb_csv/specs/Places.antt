@@ -1,5 +1,6 @@
 -- The places of a reader in a text.
-use Rattle.std.specs.Prelude.{◌≡◌, ◌==◌, ℕ, Bool, false, List, ◌∷◌, drop}
+use Rattle.std.specs.Prelude.{◌≡◌, ◌==◌, ⊤, ℕ, Bool, false, List, [], ◌∷◌, drop}
+use Rattle.csv.specs.Machine.{line_feed}
 use Rattle.csv.specs.declared.parser.Action.{Action}
 use Rattle.csv.specs.declared.parser.State.{State}
 use Rattle.csv.specs.declared.parser.State.TheVariants as st
@@ -33,3 +34,8 @@ has_mark _ = false
 -- lists of marks from which fields are the same
 abbrev pub MarkAlike : List Bool → List Bool → Type 0
 MarkAlike ps qs = (n : ℕ) (l : Line) → marked_fields (drop n ps) l ≡ marked_fields (drop n qs) l
+
+-- a text from the end of a line on, or without a byte
+abbrev pub IsFromLineEnd : List ℕ → Type 0
+IsFromLineEnd [] = ⊤
+IsFromLineEnd (c ∷ rest) = c ≡ line_feed

@@ -119,13 +119,13 @@ fn csv_column(
     types: &[TypeOf],
     column: usize,
 ) -> Result<Column, CsvFault>
-    requires column { column < length records.now.lines.names.items }
+    requires column { column < length records.now.names.items }
     requires level { IsLevel records.now }
     ensures { (rows : List Record) → AreRows records.now rows
-        → IsReadColumn types.now records.now.lines.names.items rows column result }
+        → IsReadColumn types.now records.now.names.items rows column result }
 {
     let fields = records.column(alloc, column)?;
-    let name = &records.lines.names[column];
+    let name = &records.names[column];
     match given_type(types, name) {
         Some(given) => read_column(alloc, name, given, &fields),
         None => told_column(alloc, name, &fields),
@@ -149,19 +149,19 @@ fn each_column(
 ) -> Result<Vec<Result<Column, CsvFault>>, OutOfMemory>
     requires level { IsLevel records.now }
     ensures { (rows : List Record) → AreRows records.now rows → IfOk result (λ v. AllZip
-        (IsReadColumn types.now records.now.lines.names.items rows)
-        (row_numbers (length records.now.lines.names.items)) v.items) }
+        (IsReadColumn types.now records.now.names.items rows)
+        (row_numbers (length records.now.names.items)) v.items) }
 {
-    let width = records.lines.names.len();
+    let width = records.names.len();
     let columns = (0..width)
         .into_par_iter()
-        .with_min_len(columns_a_thread(width, records.lines.height))
+        .with_min_len(columns_a_thread(width, records.height))
         .map(
             |column: usize| -> Result<Column, CsvFault>
-                requires column { column < length records.now.lines.names.items }
+                requires column { column < length records.now.names.items }
                 requires level { IsLevel records.now }
                 ensures { (rows : List Record) → AreRows records.entry.now rows → IsReadColumn
-                    types.entry.now records.entry.now.lines.names.items rows column result }
+                    types.entry.now records.entry.now.names.items rows column result }
             { csv_column(alloc, records, types, column) },
         )
         .collect(rt, alloc)?;
@@ -177,10 +177,10 @@ pub(crate) fn csv_columns(
 ) -> Result<Vec<Column>, CsvFault>
     requires level { IsLevel records.now }
     ensures settles { (rows : List Record) → AreRows records.now rows
-        → Settles result (columns_fault types.now records.now.lines.names.items rows) }
+        → Settles result (columns_fault types.now records.now.names.items rows) }
     ensures columns { (rows : List Record) → AreRows records.now rows
         → IfOk result (λ v.
-        table_of v.items ≡ csv_columns types.now records.now.lines.names.items rows) }
+        table_of v.items ≡ csv_columns types.now records.now.names.items rows) }
 {
     let read = each_column(rt, alloc, records, types)?;
     let mut columns = Vec::with_capacity(alloc, read.len())?;

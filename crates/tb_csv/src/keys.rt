@@ -67,7 +67,7 @@ fn fields_named<'a>(
     ensures fields { (rs : List Record) → IsRead records.now rs
         → IfOk result (λ found. option_map (λ v. lent_fields v.items) found ≡ fields_named rs name.now) }
 {
-    match place_of(&records.lines.names, name) {
+    match place_of(&records.names, name) {
         Some(place) => Ok(Some(records.column(alloc, place)?)),
         None => Ok(None),
     }

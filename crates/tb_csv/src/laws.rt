@@ -1,9 +1,14 @@
 //! What holds of texts and tables, as the contracts of empty functions.
-ghost use Rattle.tb_csv.specs.Laws.{CellsBack, MarksFit, RecordsBack, RoundTrip};
+ghost use Rattle.tb_csv.specs.Laws.{CellsBack, MarksFit, PiecesFit, RecordsBack, RoundTrip};
 
 /// The records of a text have the bytes that the toolchain's reader reads, and each of their fields has a mark.
 pub fn marks_fit()
     ensures { MarksFit }
+{}
+
+/// The records of a text are those of its pieces one after another, where it is cut before a line feed outside quotes.
+pub fn pieces_fit()
+    ensures { PiecesFit }
 {}
 
 /// The records of the text of a table are its names and the fields of its rows.

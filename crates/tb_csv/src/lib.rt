@@ -3,9 +3,11 @@
 
 mod cells;
 mod columns;
+mod cuts;
 mod fault;
 mod field_type;
 mod fields;
+mod in_pieces;
 mod keys;
 pub mod laws;
 mod line_numbers;
@@ -13,16 +15,20 @@ mod lines;
 mod marks;
 mod options;
 mod pieces;
+mod read;
 mod reading;
 mod records;
+mod run;
 mod table;
 mod text;
+mod whole;
 
 pub use fault::CsvFault;
 pub use field_type::FieldType;
 pub use keys::types_with_keys;
 pub use line_numbers::fault_line;
 pub use options::{CsvOptions, TypeOf};
-pub use records::{Records, records_of_csv, records_of_two};
+pub use read::{records_of_csv, records_of_two};
+pub use records::Records;
 pub use table::{table_of_csv, table_of_records};
 pub use text::csv_of_table;

@@ -100,8 +100,8 @@ fn push_line(
     }
 }
 
-// Appends the fields of all rows that the reader has left, in at most so many turns, and counts the rows.
-fn read_rows(
+/// Appends the fields of all rows that the reader has left, in at most so many turns, and counts the rows.
+pub(crate) fn read_rows(
     reader: &mut Reader<&[u8]>,
     row: &mut ByteRecord,
     fields: &mut StringRecord,
@@ -123,7 +123,7 @@ fn read_rows(
     Ok(turns)
 }
 
-fn check_height(height: usize) -> Result<(), CsvFault>
+pub(crate) fn check_height(height: usize) -> Result<(), CsvFault>
     ensures settles { Settles result (when (nat_lt MAX_ROWS height) TooManyRows) }
     ensures few { OnOk result (height ≤ MAX_ROWS) }
 {

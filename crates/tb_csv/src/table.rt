@@ -10,7 +10,8 @@ ghost use Rattle.tb_csv.specs.Read.{IsLevel, IsRead};
 use crate::columns::csv_columns;
 use crate::fault::CsvFault;
 use crate::options::{CsvOptions, TypeOf};
-use crate::records::{Records, records_of_csv};
+use crate::read::records_of_csv;
+use crate::records::Records;
 use std::alloc::Global;
 use std::thread::Threads;
 use tb_frame::DataFrame;
@@ -56,6 +57,6 @@ pub fn table_of_csv(
         table_of t
         ≡ csv_table options.now.types.items (records_of options.now.separator text.now)) }
 {
-    let records = records_of_csv(alloc, text, options.separator)?;
+    let records = records_of_csv(rt, alloc, text, options.separator)?;
     table_of_records(rt, alloc, &records, &options.types)
 }

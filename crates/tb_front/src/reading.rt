@@ -1,5 +1,6 @@
 //! The tables that texts are.
 ghost use Rattle.std.specs.Prelude.{◌≡◌, List, IfOk};
+ghost use Rattle.std.specs.Thread.{IsSync};
 ghost use Rattle.tb_value.specs.Promise.Names.{Name};
 ghost use Rattle.tb_value.specs.Promise.Refusals.{first_cause};
 ghost use Rattle.tb_frame.specs.Promise.Naming.{is_among};
@@ -38,6 +39,7 @@ fn fault_in(separator: u8, place: Place, text: &[u8], fault: CsvFault) -> FrontF
 }
 
 fn read_records(
+    rt: &(impl Threads + Sync),
     alloc: Global,
     options: &CsvOptions,
     place: Place,
@@ -47,15 +49,15 @@ fn read_records(
     ensures read { IfOk result (λ r. IsRead r (records_of options.now.separator text.now)) }
     ensures level { IfOk result (λ r. IsLevel r) }
 {
-    match records_of_csv(alloc, text, options.separator) {
+    match records_of_csv(rt, alloc, text, options.separator) {
         Ok(records) => Ok(records),
         Err(fault) => Err(fault_in(options.separator, place, text, fault)),
     }
 }
 
 // The records of both texts, which are read at once.
-fn read_both(
-    rt: &impl Threads,
+fn read_both<R: Threads + Sync>(
+    rt: &R,
     alloc: Global,
     options: &CsvOptions,
     left: &[u8],
@@ -66,8 +68,14 @@ fn read_both(
 {
     thread::join(
         rt,
-        || read_records(alloc, options, Place::First, left),
-        || read_records(alloc, options, Place::Second, right),
+        || -> Result<Records, FrontFault>
+            requires { IsSync R.row }
+            ensures { AreRecordsAt options.entry.now Place.First left.entry.now result }
+        { read_records(rt, alloc, options, Place::First, left) },
+        || -> Result<Records, FrontFault>
+            requires { IsSync R.row }
+            ensures { AreRecordsAt options.entry.now Place.Second right.entry.now result }
+        { read_records(rt, alloc, options, Place::Second, right) },
     )
 }
 
@@ -137,7 +145,7 @@ pub fn read_table(
     ensures settles { Settles result (table_fault options.now text.items) }
     ensures table { IfOk result (λ t. table_of t ≡ table_in options.now text.items) }
 {
-    let records = read_records(alloc, options, Place::First, &text)?;
+    let records = read_records(rt, alloc, options, Place::First, &text)?;
     check_types(alloc, &options.types, names_of(&records), &[])?;
     make_table(
         rt,
@@ -165,7 +173,7 @@ pub fn read_at(
     ensures { Gives table_of result (table_at options.now place text.items) }
 {
     let separator = options.separator;
-    match read_records(alloc, options, place, &text) {
+    match read_records(rt, alloc, options, place, &text) {
         Ok(records) => make_table(rt, alloc, separator, place, &text, &records, &options.types),
         Err(fault) => Err(fault),
     }

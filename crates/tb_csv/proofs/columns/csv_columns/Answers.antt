@@ -12,7 +12,7 @@ use Rattle.tb_csv.proofs.columns.csv_columns.Goals as goal
 
 pub returns-in_err-column-clause-settles : goal.returns-in_err-column-clause-settles
 returns-in_err-column-clause-settles g c rows are =
-    let names = c.args.records.now.lines.names.items in
+    let names = c.args.records.now.names.items in
     let read_as = IsReadColumn c.args.types.now names rows in
     let j = length c.loop-column.yielded in
     let so_far = c.loop-column.invariant rows are in
@@ -24,7 +24,7 @@ returns-in_err-column-clause-settles g c rows are =
 
 pub loop-column-preserved : goal.loop-column-preserved
 loop-column-preserved g c rows are =
-    let names = c.args.records.now.lines.names.items in
+    let names = c.args.records.now.names.items in
     let read_as = IsReadColumn c.args.types.now names rows in
     let j = length c.loop-column.yielded in
     let so_far = c.loop-column.invariant rows are in
@@ -43,7 +43,7 @@ loop-column-preserved g c rows are =
 
 pub returns-clause-settles : goal.returns-clause-settles
 returns-clause-settles g c rows are =
-    let names = c.args.records.now.lines.names.items in
+    let names = c.args.records.now.names.items in
     let read_as = IsReadColumn c.args.types.now names rows in
     let j = length c.loop-column.yielded in
     let so_far = c.loop-column.invariant rows are in
@@ -54,7 +54,7 @@ returns-clause-settles g c rows are =
 
 pub returns-clause-columns : goal.returns-clause-columns
 returns-clause-columns g c rows are =
-    let names = c.args.records.now.lines.names.items in
+    let names = c.args.records.now.names.items in
     let read_as = IsReadColumn c.args.types.now names rows in
     let j = length c.loop-column.yielded in
     let so_far = c.loop-column.invariant rows are in

@@ -13,7 +13,7 @@ use Rattle.tb_csv.proofs.columns.csv_columns.Given as goal
 abbrev pub invariant-loop-column : goal.invariant-loop-column
 invariant-loop-column g l =
     (rows : List Record) → AreRows l.records rows
-    → (table_of l.columns.items ≡ map (csv_column l.types l.records.lines.names.items rows) (row_numbers (length l.yielded)))
-    × (first_cause (map (typed_fault l.types l.records.lines.names.items rows) (row_numbers (length l.yielded))) ≡ None)
-    × (length l.yielded ≤ length l.records.lines.names.items)
-    × AllZip (IsReadColumn l.types l.records.lines.names.items rows) (range_with_len (length l.yielded) (length l.records.lines.names.items - length l.yielded)) l.column-iterator.rest.items
+    → (table_of l.columns.items ≡ map (csv_column l.types l.records.names.items rows) (row_numbers (length l.yielded)))
+    × (first_cause (map (typed_fault l.types l.records.names.items rows) (row_numbers (length l.yielded))) ≡ None)
+    × (length l.yielded ≤ length l.records.names.items)
+    × AllZip (IsReadColumn l.types l.records.names.items rows) (range_with_len (length l.yielded) (length l.records.names.items - length l.yielded)) l.column-iterator.rest.items

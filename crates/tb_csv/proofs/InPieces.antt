@@ -1,0 +1,225 @@
+-- A text that was read in pieces.
+use Rattle.std.proofs.Common.{◌≡◌, ◌≢◌, ◌==◌, ◌≤◌, ◌+◌, ◌*◌, ◌++◌, ◌∷◌, ◌∙◌, [], ℕ, List, Bool, true, false, None, length, map, refl, sym, ap, arith, subst}
+use Rattle.std.specs.Prelude.{not, nat_lt}
+use Rattle.std.specs.List.{All, AllZip, flat_map}
+use Rattle.std.proofs.lemmas.Bool.{le-ltb}
+use Rattle.std.proofs.lemmas.List.{append-nil, length-append, length-map, map-append}
+use Rattle.std.proofs.lemmas.List.Elements.{All-cons, All-head, All-nil, All-tail}
+use Rattle.std.proofs.lemmas.List.Sums.{sum_by-cons}
+use Rattle.csv.specs.Machine.{line_feed, next_record}
+use Rattle.csv.specs.Reading.{records_from, strip_bom}
+use Rattle.csv.specs.Records.{fields_of}
+use Rattle.tb_value.specs.Promise.Refusals.{first_cause, when}
+use Rattle.tb_value.specs.declared.limits.TheConstants.{MAX_ROWS}
+use Rattle.tb_csv.specs.Places.{IsFromLineEnd, MarkAlike}
+use Rattle.tb_csv.specs.Read.{AreRunRows, IsFull, IsLevel, IsRead, IsRunOf, all_fields, rows_in}
+use Rattle.tb_csv.specs.Promise.Faults.{records_fault, repeated_name, row_fault, rows_fault, text_fault}
+use Rattle.tb_csv.specs.Promise.LineNumbers.{has_open_quote, state_behind}
+use Rattle.tb_csv.specs.Promise.Records.{Line, Record, is_text, line_of, lines_of, marked_fields, marks_of, records_of}
+use Rattle.tb_csv.specs.declared.fault.CsvFault.{CsvFault}
+use Rattle.tb_csv.specs.declared.fault.CsvFault.TheVariants.{FieldCount, NotUtf8, OpenQuote, TooManyRows}
+use Rattle.tb_csv.specs.declared.records.Records.{Records}
+use Rattle.tb_csv.specs.declared.run.Run.{Run}
+use Rattle.tb_csv.proofs.Causes.{first_parts, none_later}
+use Rattle.tb_csv.proofs.CutText.{no_separator, open_two, records_two}
+use Rattle.tb_csv.proofs.MarkedFields.{marked_all, marked_height, marked_level}
+use Rattle.tb_csv.proofs.ReadRecords.{lines_read}
+use Rattle.tb_csv.proofs.RecordWalks.{full_rows, level_rows}
+
+-- ONE PIECE
+
+-- the rows that were read of a piece, and its marks
+pub run_read : (separator width : ℕ) (piece : List ℕ) (run : Run) → has_open_quote separator piece ≡ false → MarkAlike run.marks.items (marks_of separator piece)
+    → rows_fault width 1 (lines_of separator piece) ≡ None → run.height ≡ length (lines_of separator piece)
+    → fields_of run.fields ≡ all_fields (lines_of separator piece) → IsRunOf separator width piece run
+unfolding records_of
+run_read separator width piece run shut alike sound height fields =
+    let ls = lines_of separator piece in
+    let qs = marks_of separator piece in
+    let level = level_rows width 1 ls sound in
+    record {
+      shut = shut;
+      sound = sound;
+      rows = record {
+        fields = alike 0 (fields_of run.fields) ∙ ap (marked_fields qs) fields ∙ marked_all qs ls;
+        height = height ∙ sym (marked_height qs ls);
+        level = marked_level width qs ls level;
+      };
+      full = ap length fields ∙ full_rows ls width level ∙ ap (λ n. n * width) (sym height);
+    }
+
+-- FAULTS OF ROWS
+
+when_not : (b : Bool) (e : CsvFault) → when (not b) e ≡ None → b ≡ true
+when_not true e h = refl
+when_not false e h = cc h
+
+row_moved : (w i k : ℕ) (r : Line) → row_fault w i r ≡ None → row_fault w k r ≡ None
+row_moved w i k r none =
+    let both = first_parts (when (not (length r == w)) (FieldCount i w (length r))) _ none in
+    let text = first_parts (when (not (is_text r)) (NotUtf8 i)) [] both.1 in
+    rw (when_not (length r == w) (FieldCount i w (length r)) both.0, when_not (is_text r) (NotUtf8 i) text.0) refl
+
+-- rows one behind the other have no fault where neither has one, wherever they are counted from
+rows_joined : (w i j k : ℕ) (rs ss : List Line) → rows_fault w i rs ≡ None → rows_fault w j ss ≡ None → rows_fault w k (rs ++ ss) ≡ None
+rows_joined w i j k [] [] none more = refl
+rows_joined w i j k [] (s ∷ ss) none more =
+    let both = first_parts (row_fault w j s) (rows_fault w (j + 1) ss ∷ []) more in
+    let rest = first_parts (rows_fault w (j + 1) ss) [] both.1 in
+    none_later (row_fault w k s) _ (row_moved w j k s both.0) (none_later (rows_fault w (k + 1) ss) [] (rows_joined w i (j + 1) (k + 1) [] ss none rest.0) refl)
+rows_joined w i j k (r ∷ rs) ss none more =
+    let both = first_parts (row_fault w i r) (rows_fault w (i + 1) rs ∷ []) none in
+    let rest = first_parts (rows_fault w (i + 1) rs) [] both.1 in
+    none_later (row_fault w k r) _ (row_moved w i k r both.0) (none_later (rows_fault w (k + 1) (rs ++ ss)) [] (rows_joined w (i + 1) j (k + 1) rs ss rest.0 more) refl)
+
+-- ALL PIECES
+
+no_records : (separator : ℕ) → records_of separator [] ≡ []
+unfolding records_of lines_of marks_of strip_bom records_from next_record
+no_records separator = refl
+
+no_quote : (separator : ℕ) → has_open_quote separator [] ≡ false
+unfolding has_open_quote state_behind strip_bom
+no_quote separator = refl
+
+module _ (separator : ℕ) (other : (10 == separator) ≡ false) where
+  joined : (piece rest : List ℕ) → has_open_quote separator piece ≡ false → IsFromLineEnd rest
+      → (records_of separator (piece ++ rest) ≡ records_of separator piece ++ records_of separator rest)
+  joined piece [] shut start =
+      ap (records_of separator) (append-nil piece) ∙ sym (append-nil (records_of separator piece)) ∙ ap (λ rs. records_of separator piece ++ rs) (sym (no_records separator))
+  joined piece (c ∷ rest) shut start =
+      subst (λ b. records_of separator (piece ++ b ∷ rest) ≡ records_of separator piece ++ records_of separator (b ∷ rest)) (sym start) (records_two separator other piece rest shut)
+
+  shut_joined : (piece rest : List ℕ) → has_open_quote separator piece ≡ false → IsFromLineEnd rest → has_open_quote separator rest ≡ false → has_open_quote separator (piece ++ rest) ≡ false
+  shut_joined piece [] shut start last = ap (has_open_quote separator) (append-nil piece) ∙ shut
+  shut_joined piece (c ∷ rest) shut start last =
+      subst (λ b. has_open_quote separator (piece ++ b ∷ rest) ≡ false) (sym start)
+      (open_two separator other piece rest shut ∙ subst (λ b. has_open_quote separator (b ∷ rest) ≡ false) start last)
+
+  from_append : (piece rest : List ℕ) → IsFromLineEnd piece → IsFromLineEnd rest → IsFromLineEnd (piece ++ rest)
+  from_append [] rest start more = more
+  from_append (c ∷ piece) rest start more = start
+
+  module _ {X : Type 0} (text : X → List ℕ) (width : ℕ) where
+    -- the pieces behind the names, each with its rows
+    pub record AreRead (pieces : List X) (runs : List Run) : Type 0 where
+      pub start : IsFromLineEnd (flat_map text pieces)
+      pub shut : has_open_quote separator (flat_map text pieces) ≡ false
+      pub sound : rows_fault width 1 (lines_of separator (flat_map text pieces)) ≡ None
+      pub rows : AllZip (AreRunRows width) runs (map (λ p. records_of separator (text p)) pieces)
+      pub all : records_of separator (flat_map text pieces) ≡ all_fields (map (λ p. records_of separator (text p)) pieces)
+      pub height : rows_in runs ≡ length (records_of separator (flat_map text pieces))
+      pub full : All (IsFull width) runs
+
+    more_lines : (piece rest : List ℕ) → has_open_quote separator piece ≡ false → IsFromLineEnd rest → lines_of separator (piece ++ rest) ≡ lines_of separator piece ++ lines_of separator rest
+    more_lines piece rest shut start =
+        sym (lines_read separator (piece ++ rest)) ∙ ap (map line_of) (joined piece rest shut start)
+        ∙ map-append line_of (records_of separator piece) (records_of separator rest)
+        ∙ rw (lines_read separator piece, lines_read separator rest) refl
+
+    pub are_read : (pieces : List X) (runs : List Run) → All (λ p. IsFromLineEnd (text p)) pieces → AllZip (λ p run. IsRunOf separator width (text p) run) pieces runs → AreRead pieces runs
+    are_read [] [] start zipped = record {
+      start = tt;
+      shut = no_quote separator;
+      sound = ap (rows_fault width 1) (sym (lines_read separator []) ∙ ap (map line_of) (no_records separator));
+      rows = tt;
+      all = no_records separator;
+      height = sym (ap length (no_records separator));
+      full = All-nil (IsFull width);
+    }
+    are_read [] (run ∷ runs) start zipped = absurd zipped
+    are_read (p ∷ ps) [] start zipped = absurd zipped
+    are_read (p ∷ ps) (run ∷ runs) start zipped =
+        let here = zipped.0 in
+        let first = All-head (λ p. IsFromLineEnd (text p)) p ps start in
+        let more = are_read ps runs (All-tail (λ p. IsFromLineEnd (text p)) p ps start) zipped.1 in
+        let rest = flat_map text ps in
+        let two = joined (text p) rest here.shut more.start in
+        record {
+          start = from_append (text p) rest first more.start;
+          shut = shut_joined (text p) rest here.shut more.start more.shut;
+          sound = ap (rows_fault width 1) (more_lines (text p) rest here.shut more.start) ∙ rows_joined width 1 1 1 (lines_of separator (text p)) (lines_of separator rest) here.sound more.sound;
+          rows = (here.rows, more.rows);
+          all = two ∙ ap (λ rs. records_of separator (text p) ++ rs) more.all;
+          height = sum_by-cons (λ (r : Run). r.height) run runs
+              ∙ omega (arith, here.rows.height, more.height, ap (λ (rs : List Record). length rs) two, length-append (records_of separator (text p)) (records_of separator rest));
+          full = All-cons (IsFull width) run runs here.full more.full;
+        }
+
+    -- WITH THE NAMES
+
+    when_off : (b : Bool) (e : CsvFault) → when b e ≡ None → b ≡ false
+    when_off true e h = cc h
+    when_off false e h = refl
+
+    module _ (xs line : List ℕ) (pieces : List X) (first : Record) (r : Records) (whole : line ++ flat_map text pieces ≡ xs) (head : text_fault separator line ≡ None)
+        (named : records_of separator line ≡ first ∷ []) (names : r.names.items ≡ line_of first) (wide : length r.names.items ≡ width)
+        (read : AreRead pieces r.runs.items) (height : r.height ≡ rows_in r.runs.items) (few : r.height ≤ MAX_ROWS) where
+      open_part : (when (has_open_quote separator line) OpenQuote ≡ None) × (first_cause (records_fault (map line_of (records_of separator line)) ∷ []) ≡ None)
+      open_part = first_parts (when (has_open_quote separator line) OpenQuote) _ head
+
+      line_shut : has_open_quote separator line ≡ false
+      line_shut = when_off (has_open_quote separator line) OpenQuote open_part.0
+
+      abbrev rows : List Record
+      rows = records_of separator (flat_map text pieces)
+
+      are : records_of separator xs ≡ first ∷ rows
+      are = ap (records_of separator) (sym whole) ∙ joined line (flat_map text pieces) line_shut read.start ∙ ap (λ rs. rs ++ rows) named
+
+      tall : r.height ≡ length rows
+      tall = height ∙ read.height
+
+      names_sound : records_fault (line_of first ∷ []) ≡ None
+      names_sound = subst (λ rs. records_fault (map line_of rs) ≡ None) named (first_parts (records_fault (map line_of (records_of separator line))) [] open_part.1).0
+
+      lines_sound : records_fault (line_of first ∷ map line_of rows) ≡ None
+      lines_sound =
+          let a = first_parts (when (not (is_text (line_of first))) (NotUtf8 0)) _ names_sound in
+          let b = first_parts (repeated_name (line_of first)) _ a.1 in
+          let many : nat_lt MAX_ROWS (length (map line_of rows)) ≡ false = le-ltb MAX_ROWS (length (map line_of rows)) (subst (λ n. n ≤ MAX_ROWS) (tall ∙ sym (length-map rows line_of)) few) in
+          let sound : rows_fault (length (line_of first)) 1 (map line_of rows) ≡ None =
+          subst (λ w. rows_fault w 1 (map line_of rows) ≡ None) (sym wide ∙ ap length names) (ap (rows_fault width 1) (lines_read separator (flat_map text pieces)) ∙ read.sound) in
+          none_later _ _ a.0 (none_later _ _ b.0 (none_later _ _ sound (none_later (when (nat_lt MAX_ROWS (length (map line_of rows))) TooManyRows) [] (rw many refl) refl)))
+
+      pub sound : text_fault separator xs ≡ None
+      sound =
+          let shut : has_open_quote separator xs ≡ false = ap (has_open_quote separator) (sym whole) ∙ shut_joined line (flat_map text pieces) line_shut read.start read.shut in
+          rw (shut, are) (none_later _ [] lines_sound refl)
+
+      pub is_read : IsRead r (records_of separator xs)
+      is_read = subst (IsRead r) (sym are) (
+        names,
+        record {
+          runs = (
+            map (λ p. records_of separator (text p)) pieces,
+            read.all,
+            subst (λ w. AllZip (AreRunRows w) r.runs.items (map (λ p. records_of separator (text p)) pieces)) (sym wide) read.rows,
+          );
+          height = tall;
+          few = subst (λ n. n ≤ MAX_ROWS) tall few;
+        },
+      )
+
+      pub is_level : IsLevel r
+      is_level = record {
+        full = subst (λ w. All (IsFull w) r.runs.items) (sym wide) read.full;
+        height = height;
+        few = few;
+      }
+
+-- the whole text, cut behind its first line and then in pieces
+pub read_in_pieces : {X : Type 0} (separator : ℕ) (text : X → List ℕ) (xs line rest : List ℕ) (pieces : List X) (r : Records) → separator ≢ line_feed
+    → line ++ rest ≡ xs → flat_map text pieces ≡ rest → All (λ p. IsFromLineEnd (text p)) pieces
+    → text_fault separator line ≡ None → (first : Record) × (records_of separator line ≡ first ∷ []) × (r.names.items ≡ line_of first)
+    → AllZip (λ p run. IsRunOf separator (length r.names.items) (text p) run) pieces r.runs.items → r.height ≡ rows_in r.runs.items → r.height ≤ MAX_ROWS
+    → (text_fault separator xs ≡ None) × IsRead r (records_of separator xs) × IsLevel r
+read_in_pieces separator text xs line rest pieces r other whole parts starts head named zipped height few =
+    let byte = no_separator separator other in
+    let width = length r.names.items in
+    let read = are_read separator byte text width pieces r.runs.items starts zipped in
+    let all = ap (λ (ys : List ℕ). line ++ ys) parts ∙ whole in (
+      sound separator byte text width xs line pieces named.0 r all head named.1 named.2 refl read height few,
+      is_read separator byte text width xs line pieces named.0 r all head named.1 named.2 refl read height few,
+      is_level separator byte text width xs line pieces named.0 r all head named.1 named.2 refl read height few,
+    )
