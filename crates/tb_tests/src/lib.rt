@@ -6,10 +6,6 @@ mod claims;
 #[cfg(test)]
 mod columns;
 #[cfg(test)]
-mod counted;
-#[cfg(test)]
-mod grouping;
-#[cfg(test)]
 mod merging;
 #[cfg(test)]
 mod pivoting;
@@ -17,8 +13,6 @@ mod pivoting;
 mod reshaping;
 #[cfg(test)]
 mod row_keys;
-#[cfg(test)]
-mod small_calls;
 #[cfg(test)]
 mod tables;
 #[cfg(test)]

@@ -13,7 +13,7 @@ use tb_pool::Exec;
 use tb_value::{JoinPair, MAX_ROWS};
 
 // Two lists, whose comparisons are counted in the ledger L.
-#[derive(Clone, Copy)]
+#[derive(Drop)]
 struct TwoLists<'a, L: Ledger + Sync> {
     left: &'a [i64],
     right: &'a [i64],
@@ -72,35 +72,43 @@ fn counted<L: Ledger + Sync>(
     }
 }
 
-// The merge of two lists, each sorted first, by so many workers.
-fn merged(
+// These keys in their order.
+fn sorted(alloc: Global, keys: &[i64]) -> Result<Vec<i64>, Fail>
+    ensures sorted { IfOk result (λ v. IsSorted int_cmp v.items) }
+    ensures few { IfOk result (λ v. length v.items ≤ MAX_ROWS) }
+{
+    let mut keys = keys.to_vec(alloc)?;
+    keys.sort()?;
+    if keys.len() > MAX_ROWS {
+        return Err(Fail::from("too many keys"));
+    }
+    Ok(keys)
+}
+
+// A merge by so many workers lists these pairs: how many keys it compares.
+fn check_pairs(
     rt: &impl Abort,
     alloc: Global,
     left: &[i64],
     right: &[i64],
     is_left: bool,
-    workers: u32,
-) -> Result<(Vec<JoinPair>, Merged), Fail> {
-    let mut left = left.to_vec(alloc)?;
-    let mut right = right.to_vec(alloc)?;
-    left.sort()?;
-    right.sort()?;
-    assert!(rt; left.len() <= MAX_ROWS);
-    assert!(rt; right.len() <= MAX_ROWS);
-    Ok(counted::<Brand>(
-        alloc,
-        left.as_slice(),
-        right.as_slice(),
-        is_left,
-        &Exec::new(workers, 8, 256, 1, 1)?,
-        Blank::new(1),
-    )?)
+    wanted: &[JoinPair],
+) -> Result<u64, Fail>
+    requires left_sorted { IsSorted int_cmp left.now }
+    requires right_sorted { IsSorted int_cmp right.now }
+    requires left_small { length left.now ≤ MAX_ROWS }
+    requires right_small { length right.now ≤ MAX_ROWS }
+{
+    let exec = Exec::standard();
+    let (pairs, merge) = counted::<Brand>(alloc, left, right, is_left, &exec, Blank::new(1))?;
+    assert!(rt; *pairs.as_slice() == *wanted);
+    Ok(merge.comparisons())
 }
 
 #[test]
 fn each_left_row_stands_beside_its_right_rows_or_alone(rt: HostRuntime) -> Result<(), Fail> {
-    let left = [1i64, 2, 2, 4];
-    let right = [2i64, 2, 3];
+    let left = sorted(rt.alloc(), &[1, 2, 2, 4])?;
+    let right = sorted(rt.alloc(), &[2, 2, 3])?;
     let wanted = [
         JoinPair::left_only(0),
         JoinPair::both(1, 0),
@@ -109,42 +117,8 @@ fn each_left_row_stands_beside_its_right_rows_or_alone(rt: HostRuntime) -> Resul
         JoinPair::both(2, 1),
         JoinPair::left_only(3),
     ];
-    let (pairs, merge) = merged(&rt, rt.alloc(), left.as_slice(), right.as_slice(), true, 1)?;
-    assert_eq!(rt; pairs.as_slice(), wanted.as_slice());
-    assert!(rt; merge.comparisons() <= 11);
-    let matched = [
-        JoinPair::both(1, 0),
-        JoinPair::both(1, 1),
-        JoinPair::both(2, 0),
-        JoinPair::both(2, 1),
-    ];
-    let (pairs, _) = merged(&rt, rt.alloc(), left.as_slice(), right.as_slice(), false, 1)?;
-    assert_eq!(rt; pairs.as_slice(), matched.as_slice());
-    Ok(())
-}
-
-#[test]
-fn lists_without_keys_take_no_comparison(rt: HostRuntime) -> Result<(), Fail> {
-    let none: [i64; 0] = [];
-    let (pairs, merge) = merged(&rt, rt.alloc(), none.as_slice(), none.as_slice(), true, 4)?;
-    assert_eq!(rt; pairs.len(), 0);
-    assert_eq!(rt; merge.comparisons(), 0);
-    Ok(())
-}
-
-#[test]
-fn many_workers_pass_each_right_key_once(rt: HostRuntime) -> Result<(), Fail> {
-    let left = [7i64; 2_048];
-    let right = [5i64; 64];
-    let (pairs, merge) = merged(
-        &rt,
-        rt.alloc(),
-        left.as_slice(),
-        right.as_slice(),
-        true,
-        1_024,
-    )?;
-    assert_eq!(rt; pairs.len(), 2_048);
-    assert_eq!(rt; merge.comparisons(), 64);
+    let listed = wanted.as_slice();
+    assert!(rt; check_pairs(&rt, rt.alloc(), &left, &right, true, listed)? <= 11);
+    check_pairs(&rt, rt.alloc(), &left, &right, false, &listed[1..5])?;
     Ok(())
 }

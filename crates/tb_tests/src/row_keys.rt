@@ -5,35 +5,21 @@ ghost use Rattle.tb_value.specs.Promise.SameKind.{is_key};
 ghost use Rattle.tb_chunk.specs.Promise.Col.{values};
 ghost use Rattle.tb_rowkey.specs.Columns.{lent_columns};
 
+use crate::texts::dummies_asked;
 use std::alloc::Global;
 use std::process::Abort;
 use std::test::Fail;
+use tb_frame::DataFrame;
 use tb_rowkey::{RowKeys, prepare_keys_multiple};
-use tb_store::{AnyValue, DataType, OutOfMemory, PlSmallStr, Series, ValueRef};
+use tb_store::{OutOfMemory, Series, ValueRef};
 
-fn text(alloc: Global, word: &str) -> Result<AnyValue, Fail> {
-    Ok(AnyValue::String(PlSmallStr::from_str(alloc, word)?))
-}
-
-fn chunk_of(alloc: Global, value: AnyValue) -> Result<Vec<AnyValue>, Fail> {
-    let mut chunk = Vec::new(alloc);
-    chunk.push(value)?;
-    Ok(chunk)
-}
-
-// A column of one value.
-fn column(alloc: Global, dtype: DataType, value: AnyValue) -> Result<Series, Fail> {
-    let mut chunks = Vec::new(alloc);
-    chunks.push(chunk_of(alloc, value)?)?;
-    Ok(Series::from_chunks(alloc, "k", dtype, chunks)?)
-}
-
-// A column of two texts in two chunks.
-fn cut_texts(alloc: Global, first: &str, second: &str) -> Result<Series, Fail> {
-    let mut chunks = Vec::new(alloc);
-    chunks.push(chunk_of(alloc, text(alloc, first)?)?)?;
-    chunks.push(chunk_of(alloc, text(alloc, second)?)?)?;
-    Ok(Series::from_chunks(alloc, "k", DataType::String, chunks)?)
+// The columns of a table.
+fn columns_of(alloc: Global, table: &DataFrame) -> Result<Vec<Series>, OutOfMemory> {
+    let mut columns = Vec::new(alloc);
+    for column in table.get_columns() {
+        columns.push(column.as_materialized_series().copy(alloc)?)?;
+    }
+    Ok(columns)
 }
 
 // Whether the column is of a key type and of this length.
@@ -91,76 +77,20 @@ fn has_key(keys: &Series, row: usize, wanted: &[u8]) -> bool {
         }
 }
 
-fn has_none(keys: &Series, row: usize) -> bool {
-    row < keys.len() && matches!(keys.get(row), ValueRef::Null)
-}
-
-// The key of a row has these bytes.
-fn check_key(
-    rt: &impl Abort,
-    alloc: Global,
-    columns: &[Series],
-    join_nulls: &[bool],
-    row: usize,
-    wanted: &[u8],
-) -> Result<(), Fail> {
-    let keys = keys_of(rt, alloc, columns, join_nulls)?;
-    assert!(rt; has_key(&keys, row, wanted));
+// The keys of the rows (ab, c) and (a, bc).
+fn check_keys(rt: &impl Abort, alloc: Global, columns: &[Series]) -> Result<(), Fail> {
+    let keys = keys_of(rt, alloc, columns, &[true, true])?;
+    assert!(rt; has_key(&keys, 0, b"\x01\x00\x00\x00\x02ab\x01\x00\x00\x00\x01c"));
+    assert!(rt; has_key(&keys, 1, b"\x01\x00\x00\x00\x01a\x01\x00\x00\x00\x02bc"));
     Ok(())
 }
 
-// The first row has no key where Nulls don't match in the first column.
-fn check_no_key(rt: &impl Abort, alloc: Global, columns: &[Series]) -> Result<(), Fail> {
-    let keys = keys_of(rt, alloc, columns, &[false, true])?;
-    assert!(rt; has_none(&keys, 0));
-    Ok(())
-}
-
-fn two_of_cut_texts(alloc: Global) -> Result<Vec<Series>, Fail> {
-    let mut columns = Vec::new(alloc);
-    columns.push(cut_texts(alloc, "ab", "a")?)?;
-    columns.push(cut_texts(alloc, "c", "bc")?)?;
-    Ok(columns)
-}
+const CUT_TEXTS: &str =
+    r#"{"table":{"columns":[{"name":"a","type":"str","chunks":[["ab"],["a"]]},{"name":"b","type":"str","chunks":[["c"],["bc"]]}]}}"#;
 
 #[test]
 fn texts_in_two_chunks(rt: HostRuntime) -> Result<(), Fail> {
-    let columns = two_of_cut_texts(rt.alloc())?;
-    let wanted = [
-        b"\x01\x00\x00\x00\x02ab\x01\x00\x00\x00\x01c",
-        b"\x01\x00\x00\x00\x01a\x01\x00\x00\x00\x02bc",
-    ];
-    for row in 0..2 {
-        check_key(&rt, rt.alloc(), &columns, &[true, true], row, wanted[row])?;
-    }
-    Ok(())
-}
-
-fn null_and_number(alloc: Global) -> Result<Vec<Series>, Fail> {
-    let mut columns = Vec::new(alloc);
-    columns.push(column(alloc, DataType::String, AnyValue::Null)?)?;
-    columns.push(column(alloc, DataType::Int32, AnyValue::Int(5))?)?;
-    Ok(columns)
-}
-
-#[test]
-fn absent_field(rt: HostRuntime) -> Result<(), Fail> {
-    let columns = null_and_number(rt.alloc())?;
-    let (first, wanted) = ([true, false], b"\x00\x01\x00\x00\x00\x05");
-    check_key(&rt, rt.alloc(), &columns, &first, 0, wanted)?;
-    check_no_key(&rt, rt.alloc(), &columns)
-}
-
-fn number_and_truth(alloc: Global) -> Result<Vec<Series>, Fail> {
-    let mut columns = Vec::new(alloc);
-    columns.push(column(alloc, DataType::Int16, AnyValue::Int(-1))?)?;
-    columns.push(column(alloc, DataType::Boolean, AnyValue::Boolean(true))?)?;
-    Ok(columns)
-}
-
-#[test]
-fn a_number_beside_a_truth_value(rt: HostRuntime) -> Result<(), Fail> {
-    let columns = number_and_truth(rt.alloc())?;
-    let none = [false, false];
-    check_key(&rt, rt.alloc(), &columns, &none, 0, b"\x01\xff\xff\x01\x01")
+    let request = dummies_asked(rt.alloc(), CUT_TEXTS)?;
+    let columns = columns_of(rt.alloc(), &request.table)?;
+    check_keys(&rt, rt.alloc(), &columns)
 }

@@ -1,6 +1,6 @@
 //! Tables asked for columns and rows, put together and compared.
 
-use crate::texts::table_of;
+use crate::texts::dummies_asked;
 use std::alloc::Global;
 use std::slice;
 use std::test::Fail;
@@ -10,54 +10,85 @@ use tb_store::{Column, NullableIdxSize, PlSmallStr};
 const KEYED: &str =
     r#"{"table":{"columns":[{"name":"k","type":"i64","chunks":[[1,2,3]]},{"name":"a","type":"i64","chunks":[[10,20,30]]}]}}"#;
 
-// The columns of these names, and behind them the others.
-fn put_first(alloc: Global, table: &DataFrame, names: &[PlSmallStr]) -> Result<DataFrame, Fail> {
-    let first = table.select(alloc, names)?;
+// Whether the first columns of a table, and behind them all but those of these names, are the table.
+fn are_together(
+    alloc: Global,
+    table: &DataFrame,
+    names: &[PlSmallStr],
+    first: &DataFrame,
+) -> Result<bool, Fail> {
     let others = table.drop_many(alloc, names)?;
-    Ok(first.hstack(alloc, others.get_columns())?)
+    let again = first.hstack(alloc, others.get_columns())?;
+    Ok(again.equals_missing(table))
 }
 
-fn is_put_together_again(alloc: Global, table: &DataFrame) -> Result<bool, Fail> {
-    let key = PlSmallStr::from_str(alloc, "k")?;
-    let again = put_first(alloc, table, slice::from_ref(&key))?;
-    Ok(again.equals_missing(table))
+// The same, where the first columns are those of these names.
+fn is_put_together_again(
+    alloc: Global,
+    table: &DataFrame,
+    names: &[PlSmallStr],
+) -> Result<bool, Fail> {
+    let first = table.select(alloc, names)?;
+    are_together(alloc, table, names, &first)
 }
 
 #[test]
 fn columns_of_a_table(rt: HostRuntime) -> Result<(), Fail> {
-    let table = table_of(rt.alloc(), KEYED)?;
-    assert!(rt; table.width() == 2 && table.get_columns().len() == 2);
-    assert!(rt; table.position("a") == Some(1));
-    assert!(rt; table.column(rt.alloc(), "a")?.name().as_str() == "a");
-    assert!(rt; is_put_together_again(rt.alloc(), &table)?);
+    let request = dummies_asked(rt.alloc(), KEYED)?;
+    let table = &request.table;
+    assert!(rt; table.width() == 2 && table.position("a") == Some(1));
+    let key = table.column(rt.alloc(), "k")?.name();
+    assert!(rt; is_put_together_again(rt.alloc(), table, slice::from_ref(key))?);
     Ok(())
 }
 
-// Whether rows that may be absent are taken as others are, and are another table.
-fn are_taken_alike(alloc: Global, table: &DataFrame) -> Result<bool, Fail> {
+// Whether rows that may be absent are these rows of the table, which are another one.
+fn are_taken_alike(alloc: Global, table: &DataFrame, taken: &DataFrame) -> Result<bool, Fail> {
     if table.height() != 3 {
         return Ok(false);
     }
-    let taken = table.take(alloc, &[2, 1])?;
     let rows = [NullableIdxSize::some(2), NullableIdxSize::some(1)];
     let opt_taken = table.take_opt(alloc, &rows)?;
     Ok(taken.equals_missing(&opt_taken) && !taken.equals_missing(table))
 }
 
-// A copy of the table, each column in one chunk.
-fn in_single_chunks(alloc: Global, table: &DataFrame) -> Result<DataFrame, Fail> {
-    let mut copy = table.copy(alloc)?;
-    copy.as_single_chunk_par(alloc)?;
-    Ok(copy)
+// The last two rows of three, the last one first.
+fn last_rows(alloc: Global, table: &DataFrame) -> Result<DataFrame, Fail> {
+    if table.height() != 3 {
+        return Err(Fail::from("another height"));
+    }
+    Ok(table.take(alloc, &[2, 1])?)
+}
+
+// Whether rows by numbers and rows that may be absent are taken alike.
+fn has_both_takes(alloc: Global, table: &DataFrame) -> Result<bool, Fail> {
+    let taken = last_rows(alloc, table)?;
+    are_taken_alike(alloc, table, &taken)
+}
+
+// How high a part of a table is whose columns are put into one chunk each.
+fn part_height(alloc: Global, table: &DataFrame) -> Result<usize, Fail> {
+    let mut part = table.slice(alloc, -2, 1)?;
+    part.as_single_chunk_par(alloc)?;
+    Ok(part.height())
+}
+
+// How high a copy is, whose chunks are cut alike.
+fn copy_height(alloc: Global, table: &DataFrame) -> Result<Option<usize>, Fail> {
+    let copy = table.copy(alloc)?;
+    Ok(if copy.should_rechunk() {
+        None
+    } else {
+        Some(copy.height())
+    })
 }
 
 #[test]
 fn rows_of_a_table(rt: HostRuntime) -> Result<(), Fail> {
-    let table = table_of(rt.alloc(), KEYED)?;
-    assert!(rt; !table.should_rechunk());
-    assert!(rt; are_taken_alike(rt.alloc(), &table)?);
-    assert!(rt; table.slice(rt.alloc(), -2, 1)?.height() == 1);
-    assert!(rt; in_single_chunks(rt.alloc(), &table)?.into_columns().len() == 2);
+    let request = dummies_asked(rt.alloc(), KEYED)?;
+    assert!(rt; has_both_takes(rt.alloc(), &request.table)?);
+    assert!(rt; part_height(rt.alloc(), &request.table)? == 1);
+    assert!(rt; copy_height(rt.alloc(), &request.table)? == Some(3));
     Ok(())
 }
 
@@ -68,8 +99,8 @@ fn coalesced_rows(alloc: Global, column: &Column) -> Result<usize, Fail> {
 
 #[test]
 fn coalesced_columns(rt: HostRuntime) -> Result<(), Fail> {
-    let table = table_of(rt.alloc(), KEYED)?;
-    for column in table.get_columns() {
+    let request = dummies_asked(rt.alloc(), KEYED)?;
+    for column in request.table.get_columns() {
         assert!(rt; coalesced_rows(rt.alloc(), column)? == 3);
     }
     Ok(())

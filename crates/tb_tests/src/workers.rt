@@ -1,6 +1,5 @@
 //! What no contract says of workers: that they enter at once, and that one takes what another leaves.
 use std::alloc::Global;
-use std::process::Abort;
 use std::sync::atomic::{AtomicU64, Ordering};
 use std::test::Fail;
 use std::thread::Threads;
@@ -54,33 +53,42 @@ impl Gate for Holding {
     }
 }
 
-// Two workers do so many parts behind such a gate, and bring back as many results.
-fn two_workers_enter(
-    rt: &(impl Threads + Abort + Sync),
+// Two workers do so many parts behind the gate, and bring back so many results.
+fn by_two(
+    rt: &(impl Threads + Sync),
+    alloc: Global,
+    parts: u32,
+    gate: &Holding,
+) -> Result<usize, Fail> {
+    let exec = Exec::new(2, 1, 0, 1, 1)?;
+    let done = run_parts(rt, alloc, &exec, parts, &Squares, gate)?;
+    Ok(done.results().len())
+}
+
+// Whether all of so many parts enter in time, of which so many are held until all have entered.
+fn all_enter(
+    rt: &(impl Threads + Sync),
     alloc: Global,
     parts: u32,
     held: u64,
-) -> Result<(), Fail> {
-    let exec = Exec::new(2, 1, 0, 1, 1)?;
+) -> Result<bool, Fail> {
     let gate = Holding {
         held,
         all: u64::from(parts),
         entered: AtomicU64::new(0),
         late: AtomicU64::new(0),
     };
-    let done = run_parts(rt, alloc, &exec, parts, &Squares, &gate)?;
-    assert_eq!(rt; gate.entered.load(Ordering::SeqCst), gate.all);
-    assert_eq!(rt; gate.late.load(Ordering::SeqCst), 0);
-    assert_eq!(rt; done.results().len() as u64, gate.all);
+    let results = by_two(rt, alloc, parts, &gate)?;
+    let entered = gate.entered.load(Ordering::SeqCst);
+    let late = gate.late.load(Ordering::SeqCst);
+    Ok(results as u64 == gate.all && entered == gate.all && late == 0)
+}
+
+// Two workers wait for each other, and one takes what the other leaves.
+#[test]
+fn two_workers_at_once_and_in_turn(rt: HostRuntime) -> Result<(), Fail> {
+    for (parts, held) in [(2, 2), (8, 1)] {
+        assert!(rt; all_enter(&rt, rt.alloc(), parts, held)?);
+    }
     Ok(())
-}
-
-#[test]
-fn two_workers_wait_for_each_other(rt: HostRuntime) -> Result<(), Fail> {
-    two_workers_enter(&rt, rt.alloc(), 2, 2)
-}
-
-#[test]
-fn one_worker_takes_what_the_other_leaves(rt: HostRuntime) -> Result<(), Fail> {
-    two_workers_enter(&rt, rt.alloc(), 8, 1)
 }
