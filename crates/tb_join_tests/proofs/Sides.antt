@@ -1,12 +1,12 @@
--- Tables of one key column each.
-use Rattle.std.proofs.Common.{◌≡◌, ◌∙◌, List, [], ◌∷◌, sym, refl}
-use Rattle.tb_value.specs.Promise.Kind.{int64}
-use Rattle.tb_chunk.specs.Promise.Col.{Col}
+-- Keys beside their tables.
+use Rattle.std.proofs.Common.{◌≡◌, List, length, true}
+use Rattle.tb_value.specs.Promise.SameKind.{is_key}
+use Rattle.tb_chunk.specs.Promise.Col.{Col, values}
+use Rattle.tb_frame.specs.Promise.Table.{height, table_of}
 use Rattle.tb_dispatch.specs.Given.{AreKeys, StandBeside}
 
-pub are_keys : (a b : Col) → a.kind ≡ int64 → b.kind ≡ int64 → AreKeys a b
-are_keys a b p q = record { key = rw p refl; same = p ∙ sym q }
+pub are_keys : (a b : Col) → is_key a.kind ≡ true → a.kind ≡ b.kind → AreKeys a b
+are_keys a b key same = record { key = key; same = same }
 
--- a column stands beside the table that it makes
-pub stands : (l r : List Col) (a b : Col) → l ≡ a ∷ [] → r ≡ b ∷ [] → a.kind ≡ int64 → b.kind ≡ int64 → StandBeside l r a b
-stands l r a b l_is r_is p q = record { types = are_keys a b p q; left_rows = rw l_is refl; right_rows = rw r_is refl }
+pub stand_beside : (l r : List Col) (a b : Col) → AreKeys a b → length (values a) ≡ height (table_of l) → length (values b) ≡ height (table_of r) → StandBeside l r a b
+stand_beside l r a b types left right = record { types = types; left_rows = left; right_rows = right }

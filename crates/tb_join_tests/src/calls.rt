@@ -1,13 +1,15 @@
 // Tests of the calls beside the join.
-ghost use Rattle.std.specs.Prelude.{◌≡◌, ◌≤◌, ◌∷◌, [], All, IfOk, IsSome, codes, length};
-ghost use Rattle.tb_value.specs.Promise.Kind.{int64};
+ghost use Rattle.std.specs.Prelude.{◌≡◌, ◌≤◌, ◌∷◌, [], All, IfOk, IsSome, IsTrue, codes, length};
+ghost use Rattle.tb_chunk.specs.Promise.Col.{values};
+ghost use Rattle.tb_frame.specs.Promise.Table.{height, table_of};
 ghost use Rattle.tb_gather.specs.Gathered.{NameRows};
 ghost use Rattle.tb_gather.specs.Ids.{Id};
 ghost use Rattle.tb_dispatch.specs.Given.{AreKeys, StandBeside};
 ghost use Rattle.tb_join_tests.specs.Tables.{HasBothKeys};
 
+use crate::columns::{column, table_with, three_keys};
 use crate::gathers::two_ids;
-use crate::pairs::{column, left_keys, right_keys, table_of};
+use crate::texts::{check_text, join_asked};
 use std::alloc::Global;
 use std::process::Abort;
 use std::slice;
@@ -18,35 +20,50 @@ use tb_dispatch::{
     materialize_left_join_from_series,
 };
 use tb_frame::{DataFrame, JoinArgs, JoinType};
-use tb_json::text_of;
 use tb_pool::Exec;
 use tb_store::Series;
-use tb_value::{MAX_ROWS, OutOfMemory, PlSmallStr, PolarsError, PolarsResult, StandardChunkId};
+use tb_value::equality::same_types;
+use tb_value::{MAX_ROWS, OutOfMemory, PlSmallStr, PolarsResult, StandardChunkId};
 
 // The table of a key column, and the column.
 fn with_table(alloc: Global, key: Series) -> Result<(DataFrame, Series), Fail>
-    requires { key.kind ≡ int64 }
-    ensures kind { IfOk result (λ s. s.1.kind ≡ int64) }
-    ensures table { IfOk result (λ s. s.0 ≡ s.1 ∷ []) }
+    ensures { IfOk result (λ s. s.0 ≡ s.1 ∷ []) }
 {
-    let table = table_of(alloc, key.copy(alloc)?.into_column())?;
+    let table = table_with(alloc, key.copy(alloc)?.into_column())?;
     Ok((table, key))
 }
 
-fn one_key(alloc: Global, key: Series) -> Result<Vec<Series>, Fail> {
+// The key of a table.
+fn one_key(alloc: Global, table: &DataFrame) -> Result<Vec<Series>, Fail> {
+    let key = table.column(alloc, "k")?.as_materialized_series();
     let mut keys = Vec::new(alloc);
-    keys.push(key)?;
+    keys.push(key.copy(alloc)?)?;
     Ok(keys)
 }
 
-fn check_text(rt: &impl Abort, alloc: Global, table: &DataFrame, line: &str) -> Result<(), Fail> {
-    let text = text_of(alloc, table)?;
-    assert_eq!(rt; text.trim_end(), line);
-    Ok(())
+// Two sides by their keys alone: in two chunks, with a Null, and with one that matches twice.
+const SIDES: &str =
+    r#"{"left":{"columns":[{"name":"k","type":"i64","chunks":[[1,null],[2]]}]},"right":{"columns":[{"name":"k","type":"i64","chunks":[[1],[1]]}]},"left_on":["k"],"right_on":["k"],"args":{"how":"left"}}"#;
+
+// Whether the keys are of one type that has keys.
+#[tactic(auto, using(crate::proofs::Sides::are_keys))]
+fn are_keys(left: &Series, right: &Series) -> bool
+    ensures { IsTrue result → AreKeys left.now right.now }
+{
+    left.dtype().is_key() && same_types(left.dtype(), right.dtype())
+}
+
+// Whether such keys are as long as their tables are high.
+#[tactic(auto, using(crate::proofs::Sides::stand_beside))]
+fn stand_beside(left: &DataFrame, right: &DataFrame, left_key: &Series, right_key: &Series) -> bool
+    requires { AreKeys left_key.now right_key.now }
+    ensures { IsTrue result → StandBeside left.now right.now left_key.now right_key.now }
+{
+    left_key.len() == left.height() && right_key.len() == right.height()
 }
 
 // The two sides of a Left join, of which the right one has nothing but its key.
-fn check_sides(
+fn check_halves(
     rt: &(impl Threads + Sync + Abort),
     alloc: Global,
     left: DataFrame,
@@ -74,7 +91,7 @@ fn check_met(
     right_key: &Series,
 ) -> Result<(), Fail>
     requires keys { AreKeys left_key.now right_key.now }
-    requires rows { left.now ≡ left_key.now ∷ [] }
+    requires rows { length (values left_key.now) ≡ height (table_of left.now) }
 {
     let exec = Exec::standard();
     let met = left._semi_anti_join_from_series(
@@ -106,24 +123,21 @@ fn check_joins(
     alloc: Global,
     left: &DataFrame,
     right: &DataFrame,
-    left_key: &Series,
-    right_key: &Series,
-) -> Result<(), Fail>
-    requires keys { StandBeside left.now right.now left_key.now right_key.now }
-    requires rows { left.now ≡ left_key.now ∷ [] }
-    requires types { AreKeys left_key.now right_key.now }
-{
+) -> Result<(), Fail> {
+    let left_key = left.column(alloc, "k")?.as_materialized_series();
+    let right_key = right.column(alloc, "k")?.as_materialized_series();
+    assert!(rt; are_keys(left_key, right_key));
+    assert!(rt; left_key.len() == left.height());
     check_met(rt, alloc, left, left_key, right_key)?;
+    assert!(rt; stand_beside(left, right, left_key, right_key));
     assert!(rt; full_rows(rt, alloc, left, right, left_key, right_key)? == 4);
-    check_sides(rt, alloc, left.copy(alloc)?, right, left_key, right_key)
+    check_halves(rt, alloc, left.copy(alloc)?, right, left_key, right_key)
 }
 
-#[tactic(auto, using(crate::proofs::Sides::stands, crate::proofs::Sides::are_keys))]
 #[test]
 fn joins_by_one_column_of_each_side(rt: HostRuntime) -> Result<(), Fail> {
-    let (left, left_key) = with_table(rt.alloc(), left_keys(rt.alloc())?)?;
-    let (right, right_key) = with_table(rt.alloc(), right_keys(rt.alloc())?)?;
-    check_joins(&rt, rt.alloc(), &left, &right, &left_key, &right_key)
+    let request = join_asked(rt.alloc(), SIDES)?;
+    check_joins(&rt, rt.alloc(), &request.left, &request.right)
 }
 
 // The Inner join of two tables by columns that are given beside each.
@@ -139,59 +153,24 @@ fn joined_by(
     left._join_impl(rt, alloc, right, left_keys, right_keys, args, &exec)
 }
 
-// The join of two tables by the keys of each test.
+// The join of two tables by their keys, which are given.
 fn by_given_columns(
     rt: &(impl Threads + Sync),
     alloc: Global,
     left: &DataFrame,
     right: &DataFrame,
 ) -> Result<DataFrame, Fail> {
-    let left_keys = one_key(alloc, left_keys(alloc)?)?;
-    let right_keys = one_key(alloc, right_keys(alloc)?)?;
+    let left_keys = one_key(alloc, left)?;
+    let right_keys = one_key(alloc, right)?;
     Ok(joined_by(rt, alloc, left, right, left_keys, right_keys)?)
 }
 
 #[test]
 fn a_join_by_given_columns(rt: HostRuntime) -> Result<(), Fail> {
-    let left = table_of(rt.alloc(), left_keys(rt.alloc())?.into_column())?;
-    let right = table_of(rt.alloc(), right_keys(rt.alloc())?.into_column())?;
-    let joined = by_given_columns(&rt, rt.alloc(), &left, &right)?;
+    let request = join_asked(rt.alloc(), SIDES)?;
+    let joined = by_given_columns(&rt, rt.alloc(), &request.left, &request.right)?;
     let line = r#"{"columns":[{"name":"k","type":"i64","values":[1,1]}],"height":2}"#;
     check_text(&rt, rt.alloc(), &joined, line)
-}
-
-// Whether a join by a given column of another length than its table is refused.
-fn is_refused(rt: &(impl Threads + Sync), alloc: Global, table: &DataFrame) -> Result<bool, Fail> {
-    let short = one_key(alloc, column(alloc, "k", &[Some(1), Some(2)], &[])?)?;
-    let keys = one_key(alloc, left_keys(alloc)?)?;
-    let joined = joined_by(rt, alloc, table, table, short, keys);
-    Ok(matches!(joined, Err(PolarsError::ShapeMismatch)))
-}
-
-#[test]
-fn given_columns_of_other_lengths(rt: HostRuntime) -> Result<(), Fail> {
-    let table = table_of(rt.alloc(), left_keys(rt.alloc())?.into_column())?;
-    assert!(rt; is_refused(&rt, rt.alloc(), &table)?);
-    Ok(())
-}
-
-// The join of a table with itself by one value beside each.
-fn by_one_value(
-    rt: &(impl Threads + Sync),
-    alloc: Global,
-    table: &DataFrame,
-) -> Result<DataFrame, Fail> {
-    let left = one_key(alloc, column(alloc, "k", &[Some(1)], &[])?)?;
-    let right = one_key(alloc, column(alloc, "k", &[Some(1)], &[])?)?;
-    Ok(joined_by(rt, alloc, table, table, left, right)?)
-}
-
-// One value beside a table without rows stands for none.
-#[test]
-fn one_value_beside_no_rows(rt: HostRuntime) -> Result<(), Fail> {
-    let table = table_of(rt.alloc(), column(rt.alloc(), "k", &[], &[])?.into_column())?;
-    assert!(rt; by_one_value(&rt, rt.alloc(), &table)?.height() == 0);
-    Ok(())
 }
 
 fn named_rows(
@@ -250,7 +229,7 @@ fn check_numbered(
 
 #[test]
 fn rows_that_were_found_before(rt: HostRuntime) -> Result<(), Fail> {
-    let (table, key) = with_table(rt.alloc(), left_keys(rt.alloc())?)?;
+    let (table, key) = with_table(rt.alloc(), three_keys(rt.alloc())?)?;
     check_named(&rt, rt.alloc(), &table, &key)?;
     check_numbered(&rt, rt.alloc(), &table)
 }
@@ -263,32 +242,21 @@ fn with_x(alloc: Global, other: &str) -> Result<DataFrame, Fail> {
     Ok(DataFrame::new(alloc, columns)?)
 }
 
-// Two tables of one height side by side, where a suffix is given or none.
-fn side_by_side(
-    alloc: Global,
-    suffix: Option<PlSmallStr>,
-) -> Result<PolarsResult<DataFrame>, Fail> {
+// Two tables of one height side by side.
+fn side_by_side(alloc: Global) -> Result<DataFrame, Fail> {
     let (left, right) = (with_x(alloc, "y")?, with_x(alloc, "z")?);
     if left.height() != right.height() {
         return Err(Fail::from("other heights"));
     }
-    Ok(_finish_join(alloc, left, right, suffix))
+    Ok(_finish_join(alloc, left, right, None)?)
 }
 
 #[test]
 fn tables_side_by_side(rt: HostRuntime) -> Result<(), Fail> {
-    let table = side_by_side(rt.alloc(), None)??;
+    let table = side_by_side(rt.alloc())?;
     let line =
         r#"{"columns":[{"name":"x","type":"i64","values":[1]},{"name":"y","type":"i64","values":[null]},{"name":"x_right","type":"i64","values":[1]},{"name":"z","type":"i64","values":[null]}],"height":1}"#;
     check_text(&rt, rt.alloc(), &table, line)
-}
-
-#[test]
-fn a_name_that_stands_on_both_sides(rt: HostRuntime) -> Result<(), Fail> {
-    let suffix = PlSmallStr::from_str(rt.alloc(), "")?;
-    let refused = side_by_side(rt.alloc(), Some(suffix))?;
-    assert!(rt; matches!(refused, Err(PolarsError::Duplicate(_))));
-    Ok(())
 }
 
 #[test]
@@ -332,8 +300,8 @@ fn with_one_key(alloc: Global, left: &DataFrame) -> Result<DataFrame, Fail> {
 
 #[test]
 fn keys_of_a_joined_table(rt: HostRuntime) -> Result<(), Fail> {
-    let left = table_of(rt.alloc(), left_keys(rt.alloc())?.into_column())?;
-    let merged = with_one_key(rt.alloc(), &left)?;
+    let request = join_asked(rt.alloc(), SIDES)?;
+    let merged = with_one_key(rt.alloc(), &request.left)?;
     let line =
         r#"{"columns":[{"name":"k","type":"i64","values":[1,2]},{"name":"v","type":"i64","values":[7,8]}],"height":2}"#;
     check_text(&rt, rt.alloc(), &merged, line)

@@ -4,7 +4,7 @@ ghost use Rattle.tb_chunk.specs.Rows.{IsRowOf};
 ghost use Rattle.tb_gather.specs.Ids.{Id};
 ghost use Rattle.tb_gather.specs.Gathered.{NameRows, opt_gathered_column};
 
-use crate::pairs::{left_keys, table_of};
+use crate::columns::{table_with, three_keys};
 use std::alloc::Global;
 use std::process::Abort;
 use std::test::Fail;
@@ -100,21 +100,19 @@ fn side_by_side<T: TakeChunkedHorPar<24>>(
     from._take_opt_chunked_unchecked_hor_par(rt, alloc, by)
 }
 
-// The rows of a column, which are as many as those of its series.
+// The rows of a column.
 fn check_column(
     rt: &impl Abort,
     alloc: Global,
     column: &Column,
     by: &[StandardChunkId],
-) -> Result<Column, Fail>
+) -> Result<(), Fail>
     requires named { All (NameRows by.now) (column.now ∷ []) }
     requires present { All (λ (id : Id). IsSome id) by.now }
     requires few { length by.now ≤ MAX_ROWS }
 {
-    let rows = gathered(alloc, column, by)?;
-    assert!(rt; rows.len() == 2);
-    assert!(rt; gathered(alloc, column.as_materialized_series(), by)?.len() == 2);
-    Ok(rows)
+    assert!(rt; gathered(alloc, column, by)?.len() == 2);
+    Ok(())
 }
 
 // The rows of a table, by one thread and by several.
@@ -123,20 +121,18 @@ fn check_table(
     alloc: Global,
     table: &DataFrame,
     by: &[StandardChunkId],
-) -> Result<(DataFrame, DataFrame), Fail>
+) -> Result<(), Fail>
     requires named { All (NameRows by.now) table.now }
     requires present { All (λ (id : Id). IsSome id) by.now }
     requires few { length by.now ≤ MAX_ROWS }
 {
-    let by_one = gathered(alloc, table, by)?;
-    assert!(rt; by_one.height() == 2);
-    let by_several = side_by_side(rt, alloc, table, by)?;
-    assert!(rt; by_several.height() == 2);
-    Ok((by_one, by_several))
+    assert!(rt; gathered(alloc, table, by)?.height() == 2);
+    assert!(rt; side_by_side(rt, alloc, table, by)?.height() == 2);
+    Ok(())
 }
 
 // Two rows of an array.
-pub(crate) fn rows_of_array<T: PolarsDataType>(
+fn rows_of_array<T: PolarsDataType>(
     alloc: Global,
     series: Series,
 ) -> Result<ChunkedArray<T>, Fail> {
@@ -146,33 +142,28 @@ pub(crate) fn rows_of_array<T: PolarsDataType>(
 }
 
 // Two rows of a column.
-pub(crate) fn rows_of_column(
-    rt: &impl Abort,
-    alloc: Global,
-    series: Series,
-) -> Result<Column, Fail> {
+fn rows_of_column(rt: &impl Abort, alloc: Global, series: Series) -> Result<(), Fail> {
     let column = series.into_column();
     let by = two_ids(alloc, column.as_materialized_series())?;
     check_column(rt, alloc, &column, &by)
 }
 
 // Two rows of the table of a column, by one thread and by several.
-pub(crate) fn rows_of_table(
+fn rows_of_table(
     rt: &(impl Threads + Sync + Abort),
     alloc: Global,
     series: Series,
-) -> Result<(DataFrame, DataFrame), Fail> {
+) -> Result<(), Fail> {
     let by = two_ids(alloc, &series)?;
-    let table = table_of(alloc, series.into_column())?;
+    let table = table_with(alloc, series.into_column())?;
     check_table(rt, alloc, &table, &by)
 }
 
 #[test]
 fn rows_of_keys(rt: HostRuntime) -> Result<(), Fail> {
     let alloc = rt.alloc();
-    let array = rows_of_array::<Int64Type>(alloc, left_keys(alloc)?)?;
+    let array = rows_of_array::<Int64Type>(alloc, three_keys(alloc)?)?;
     assert!(rt; array.len() == 2);
-    rows_of_column(&rt, alloc, left_keys(alloc)?)?;
-    rows_of_table(&rt, alloc, left_keys(alloc)?)?;
-    Ok(())
+    rows_of_column(&rt, alloc, three_keys(alloc)?)?;
+    rows_of_table(&rt, alloc, three_keys(alloc)?)
 }

@@ -4,22 +4,18 @@
 #[cfg(test)]
 mod calls;
 #[cfg(test)]
-mod gathers;
+mod columns;
 #[cfg(test)]
-mod group_parts;
+mod gathers;
 #[cfg(test)]
 mod hashing;
 #[cfg(test)]
 mod meeting;
 #[cfg(test)]
-mod names;
-#[cfg(test)]
-mod pairs;
-#[cfg(test)]
 mod program;
 #[cfg(test)]
-mod samples;
-#[cfg(test)]
 mod text_gathers;
+#[cfg(test)]
+mod texts;
 #[cfg(test)]
 mod workers;

@@ -5,11 +5,9 @@ use tb_pool::Gate;
 // Some seconds: on a busy machine a worker may come late, and only one that never comes is to be told.
 const TURNS: u64 = 4_000_000_000;
 
-// Holds each entry of part 0 and of part 1 until the other part has entered as often, and notes where it doesn't. With no
-// turns it holds none.
+// Holds each entry of part 0 and of part 1 until the other part has entered as often, and notes where it doesn't.
 #[derive(Drop)]
 pub(crate) struct Meeting {
-    turns: u64,
     first: AtomicU64,
     second: AtomicU64,
     late: AtomicU64,
@@ -25,7 +23,7 @@ impl Gate for Meeting {
             (&self.second, &self.first)
         };
         let before = own.fetch_add(1, Ordering::SeqCst);
-        for _ in 0..self.turns {
+        for _ in 0..TURNS {
             if other.load(Ordering::SeqCst) > before {
                 return;
             }
@@ -36,34 +34,17 @@ impl Gate for Meeting {
 
 impl Meeting {
     pub(crate) fn new() -> Meeting {
-        Meeting::of_turns(TURNS)
-    }
-
-    // A gate that counts entries and holds none.
-    pub(crate) fn counting() -> Meeting {
-        Meeting::of_turns(0)
-    }
-
-    fn of_turns(turns: u64) -> Meeting {
         Meeting {
-            turns,
             first: AtomicU64::new(0),
             second: AtomicU64::new(0),
             late: AtomicU64::new(0),
         }
     }
 
-    // How often part 0 and part 1 have entered.
-    pub(crate) fn entries(&self) -> (u64, u64) {
-        (
-            self.first.load(Ordering::SeqCst),
-            self.second.load(Ordering::SeqCst),
-        )
-    }
-
     // How often each of the two has entered, where both have as often and none has waited in vain.
     pub(crate) fn meetings(&self) -> Option<u64> {
-        let (first, second) = self.entries();
+        let first = self.first.load(Ordering::SeqCst);
+        let second = self.second.load(Ordering::SeqCst);
         if first == second && self.late.load(Ordering::SeqCst) == 0 {
             Some(first)
         } else {

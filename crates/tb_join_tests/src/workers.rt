@@ -1,54 +1,28 @@
-//! What no contract says of a join by two workers: that both are at work in each phase at once.
+//! What no contract says of a join and a grouping by two workers: that both are at work in each phase at once, and that parts
+//! are grouped in a phase of their own.
 use crate::meeting::Meeting;
+use crate::texts::{group_asked, join_asked};
 use std::alloc::Global;
 use std::process::Abort;
 use std::test::Fail;
 use std::thread::Threads;
+use tb_build::scatter;
+use tb_group::group_by;
+use tb_group_request::GroupRequest;
 use tb_join::{DataFrameJoinOps, JoinTrace};
-use tb_request::{JoinRequest, join_request_of};
+use tb_pool::Exec;
+use tb_request::JoinRequest;
 
-// The numbers below `rows`, with commas between them.
-fn numbers(alloc: Global, rows: u32) -> Result<String, Fail> {
-    let mut text = String::new(alloc);
-    for row in 0..rows {
-        let comma = if row == 0 { "" } else { "," };
-        text.push_str(&format!(in alloc; "{comma}{row}")?)?;
-    }
-    Ok(text)
-}
+// Eight rows of two columns.
+const TABLE: &str =
+    r#"{"columns":[{"name":"a","type":"i64","chunks":[[0,1,2,3,4,5,6,7]]},{"name":"b","type":"i64","chunks":[[0,1,2,3,4,5,6,7]]}]}"#;
 
-// A table of two columns of so many rows.
-fn table_text(alloc: Global, rows: u32) -> Result<String, Fail> {
-    let rows = numbers(alloc, rows)?;
-    Ok(format!(in alloc;
-        r#"{{"columns":[{{"name":"a","type":"i64","chunks":[[{rows}]]}},{{"name":"b","type":"i64","chunks":[[{rows}]]}}]}}"#
-    )?)
-}
-
-// A join by these keys of a table with itself, by two workers and two partitions.
-fn request_text(
-    alloc: Global,
-    how: &str,
-    keys: &str,
-    table: &str,
-    small: u32,
-) -> Result<String, Fail> {
-    Ok(format!(in alloc;
-        r#"{{"left":{table},"right":{table},"left_on":{keys},"right_on":{keys},"args":{{"how":"{how}"}},"exec":{{"workers":2,"partitions":2,"small":{small},"num":1,"den":1}}}}"#
-    )?)
-}
-
-fn request_of(
-    alloc: Global,
-    how: &str,
-    keys: &str,
-    rows: u32,
-    small: u32,
-) -> Result<JoinRequest, Fail> {
-    let table = table_text(alloc, rows)?;
-    let text = request_text(alloc, how, keys, &table, small)?;
-    let request = join_request_of(alloc, text.into_bytes()).ok();
-    Ok(request.ok_or("no request")?)
+// A join by these keys of the table with itself, by two workers and two partitions.
+fn request_of(alloc: Global, how: &str, keys: &str) -> Result<JoinRequest, Fail> {
+    let text = format!(in alloc;
+        r#"{{"left":{TABLE},"right":{TABLE},"left_on":{keys},"right_on":{keys},"args":{{"how":"{how}"}},"exec":{{"workers":2,"partitions":2,"small":0,"num":1,"den":1}}}}"#
+    )?;
+    join_asked(alloc, &text)
 }
 
 // Whether the keys of the request are hashed.
@@ -84,47 +58,57 @@ fn meet(
     Ok(())
 }
 
-const ONE_KEY: &str = r#"["a"]"#;
-
-const TWO_KEYS: &str = r#"["a","b"]"#;
-
 #[test]
 fn both_workers_enter_each_phase(rt: HostRuntime) -> Result<(), Fail> {
-    let alloc = rt.alloc();
     for how in ["inner", "left", "right", "full", "semi", "anti"] {
-        for keys in [ONE_KEY, TWO_KEYS] {
-            meet(&rt, alloc, &request_of(alloc, how, keys, 8, 0)?)?;
+        for keys in [r#"["a"]"#, r#"["a","b"]"#] {
+            meet(&rt, rt.alloc(), &request_of(rt.alloc(), how, keys)?)?;
         }
     }
     Ok(())
 }
 
-#[test]
-fn both_enter_where_rows_are_not_few(rt: HostRuntime) -> Result<(), Fail> {
-    let alloc = rt.alloc();
-    for keys in [ONE_KEY, TWO_KEYS] {
-        meet(&rt, alloc, &request_of(alloc, "inner", keys, 256, 256)?)?;
-    }
-    Ok(())
+// Eight rows with a key of their own each, counted by two workers in two partitions.
+const COUNTED: &str =
+    r#"{"table":{"columns":[{"name":"k","type":"i64","chunks":[[0,1,2,3,4,5,6,7]]}]},"by":["k"],"aggs":[{"agg":"count","column":"k","name":"n"}],"exec":{"workers":2,"partitions":2,"small":0,"num":1,"den":1}}"#;
+
+// How often both parts enter where the rows are grouped.
+fn grouped(rt: &(impl Threads + Sync), alloc: Global, request: &GroupRequest) -> Result<u64, Fail> {
+    let gate = Meeting::new();
+    group_by(
+        rt,
+        alloc,
+        &request.table,
+        &request.by,
+        &request.aggs,
+        &request.exec,
+        &gate,
+    )?;
+    Ok(gate.meetings().ok_or("a part came late")?)
 }
 
-// How often each part enters where there are few rows.
-fn entries_of_few_rows(
-    rt: &(impl Threads + Sync),
-    alloc: Global,
-    keys: &str,
-) -> Result<(u64, u64), Fail> {
-    let gate = Meeting::counting();
-    let request = request_of(alloc, "inner", keys, 255, 256)?;
-    is_hashed(rt, alloc, &request, &gate)?;
-    Ok(gate.entries())
+const KEYS: [Option<i64>; 8] = [
+    Some(0),
+    Some(1),
+    Some(2),
+    Some(3),
+    Some(4),
+    Some(5),
+    Some(6),
+    Some(7),
+];
+
+// How often they enter where such keys are scattered.
+fn scattered(rt: &(impl Threads + Sync), alloc: Global, exec: &Exec) -> Result<u64, Fail> {
+    let gate = Meeting::new();
+    scatter(rt, alloc, &KEYS, exec, &gate)?;
+    Ok(gate.meetings().ok_or("a part came late")?)
 }
 
-// Of few rows one part is built and one is probed.
 #[test]
-fn few_rows_enter_as_one_part(rt: HostRuntime) -> Result<(), Fail> {
-    for keys in [ONE_KEY, TWO_KEYS] {
-        assert_eq!(rt; entries_of_few_rows(&rt, rt.alloc(), keys)?, (2, 0));
-    }
+fn both_enter_more_often_than_in_a_scatter(rt: HostRuntime) -> Result<(), Fail> {
+    let request = group_asked(rt.alloc(), COUNTED)?;
+    let alone = scattered(&rt, rt.alloc(), &request.exec)?;
+    assert!(rt; alone > 0 && grouped(&rt, rt.alloc(), &request)? > alone);
     Ok(())
 }

@@ -1,0 +1,36 @@
+//! Requests that are read from texts, and tables as texts.
+
+use std::alloc::Global;
+use std::process::Abort;
+use std::test::Fail;
+use tb_frame::DataFrame;
+use tb_group_request::{GroupRequest, group_request_of};
+use tb_json::text_of;
+use tb_request::{DummiesRequest, JoinRequest, dummies_request_of, join_request_of};
+
+pub(crate) fn join_asked(alloc: Global, text: &str) -> Result<JoinRequest, Fail> {
+    let request = join_request_of(alloc, text.as_bytes().to_vec(alloc)?).ok();
+    Ok(request.ok_or("no request")?)
+}
+
+pub(crate) fn group_asked(alloc: Global, text: &str) -> Result<GroupRequest, Fail> {
+    let request = group_request_of(alloc, text.as_bytes().to_vec(alloc)?).ok();
+    Ok(request.ok_or("no request")?)
+}
+
+pub(crate) fn dummies_asked(alloc: Global, text: &str) -> Result<DummiesRequest, Fail> {
+    let request = dummies_request_of(alloc, text.as_bytes().to_vec(alloc)?).ok();
+    Ok(request.ok_or("no request")?)
+}
+
+// The table has this text.
+pub(crate) fn check_text(
+    rt: &impl Abort,
+    alloc: Global,
+    table: &DataFrame,
+    line: &str,
+) -> Result<(), Fail> {
+    let text = text_of(alloc, table)?;
+    assert_eq!(rt; text.trim_end(), line);
+    Ok(())
+}
