@@ -143,7 +143,7 @@ fn answer_columns(
 }
 
 /// The table over these pairs. Only memory may be wanting.
-pub(crate) fn answer_table(
+pub fn answer_table(
     alloc: Global,
     request: &LentRequest<'_>,
     pairs: &[JoinPair],

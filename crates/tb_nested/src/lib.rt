@@ -6,4 +6,5 @@ mod beside;
 mod columns;
 mod nested;
 
+pub use columns::answer_table;
 pub use nested::nested_join;
