@@ -33,13 +33,13 @@ _muigratu() {
         [[ $word != *:* ]] || COMPREPLY=("${COMPREPLY[@]#"${word%:*}:"}")
     elif [[ $word == -* ]]; then
         case $command in
-            join) COMPREPLY=($(compgen -W "--on --how --order --validate --coalesce --suffix --join-nulls --slice --types --separator --as --width --output -o --help" -- "$word")) ;;
-            pivot) COMPREPLY=($(compgen -W "--on --index --values --agg --sort-columns --name-separator --types --separator --as --width --output -o --help" -- "$word")) ;;
-            unpivot) COMPREPLY=($(compgen -W "--on --index --variable-name --value-name --types --separator --as --width --output -o --help" -- "$word")) ;;
-            dummies) COMPREPLY=($(compgen -W "--columns --name-separator --drop-first --types --separator --as --width --output -o --help" -- "$word")) ;;
-            plan) COMPREPLY=($(compgen -W "--explain --types --separator --as --width --output -o --help" -- "$word")) ;;
-            delta) COMPREPLY=($(compgen -W "--on --steps --join-nulls --table --types --separator --as --width --output -o --help" -- "$word")) ;;
-            group) COMPREPLY=($(compgen -W "--by --agg --sort --types --separator --as --width --output -o --help" -- "$word")) ;;
+            join) COMPREPLY=($(compgen -W "--on --how --order --validate --explain --coalesce --suffix --join-nulls --slice --types --separator --as --width --threads --output -o --help" -- "$word")) ;;
+            pivot) COMPREPLY=($(compgen -W "--on --index --values --agg --sort-columns --name-separator --types --separator --as --width --threads --output -o --help" -- "$word")) ;;
+            unpivot) COMPREPLY=($(compgen -W "--on --index --variable-name --value-name --types --separator --as --width --threads --output -o --help" -- "$word")) ;;
+            dummies) COMPREPLY=($(compgen -W "--columns --name-separator --drop-first --types --separator --as --width --threads --output -o --help" -- "$word")) ;;
+            plan) COMPREPLY=($(compgen -W "--explain --types --separator --as --width --threads --output -o --help" -- "$word")) ;;
+            delta) COMPREPLY=($(compgen -W "--on --steps --join-nulls --table --types --separator --as --width --threads --output -o --help" -- "$word")) ;;
+            group) COMPREPLY=($(compgen -W "--by --agg --sort --types --separator --as --width --threads --output -o --help" -- "$word")) ;;
             split) COMPREPLY=($(compgen -W "--on --parts --number --output --types --separator -o --help" -- "$word")) ;;
             why) COMPREPLY=($(compgen -W "--help" -- "$word")) ;;
             request) COMPREPLY=($(compgen -W "--runs --output -o --help" -- "$word")) ;;
