@@ -1,0 +1,4 @@
+mod CodedBytes
+mod InOrder
+mod Matching
+mod FoundRows

@@ -1,0 +1,4 @@
+pub mod CodedKeys
+pub mod Keys
+pub mod Tables
+pub mod Found
