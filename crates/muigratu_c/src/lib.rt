@@ -1,0 +1,121 @@
+//! Muigratu for programs in other languages: a request in JSON goes in, and the text of its answer into room that the
+//! caller gives. No pointer is kept, and nothing is to be freed.
+#![tactic(auto)]
+
+ghost use Rattle.std.specs.Prelude.{◌≡◌, ◌≤◌, ◌<◌, ◌++◌, IfOk, drop, length, string_bytes};
+ghost use Rattle.tb_answer.specs.Promise.Due.{DueOfDummies, DueOfJoin, DueOfPivot, DueOfUnpivot};
+ghost use Rattle.muigratu_c.specs.Promise.Calls.{HasAnswered};
+ghost use Rattle.muigratu_c.specs.Given.{IsGiven};
+
+use std::alloc::Global;
+use tb_answer::{Answer, answer_dummies, answer_join, answer_pivot, answer_unpivot};
+use tb_value::OutOfMemory;
+
+// The status of a call that wanted memory, in the numbers of the JSON program.
+const OUT_OF_MEMORY: u32 = 6;
+
+/// How a call ended, in the numbers of the JSON program, and how many bytes the text of its answer has.
+#[repr(C)]
+#[derive(Drop)]
+pub struct MuigratuEnded {
+    pub status: u32,
+    pub length: usize,
+}
+
+// Puts the text at the front of the room, where there is room for all of it.
+fn hand_over(text: &[u8], room: &mut [u8])
+    ensures whole { length text.now ≤ length room.old
+        → room.new ≡ text.now ++ drop (length text.now) room.old }
+    ensures short { length room.old < length text.now → room.new ≡ room.old }
+{
+    let length = text.len();
+    if length <= room.len() {
+        let (front, _) = room.split_at_mut(length);
+        front.copy_from_slice(text);
+    }
+}
+
+// Hands over what was answered.
+fn given(answered: Result<Answer, OutOfMemory>, room: &mut [u8]) -> MuigratuEnded
+    ensures { IsGiven answered room.old room.new result }
+{
+    match answered {
+        Ok(answer) => {
+            let text = answer.text.as_bytes();
+            hand_over(text, room);
+            MuigratuEnded {
+                status: answer.status.code(),
+                length: text.len(),
+            }
+        }
+        Err(OutOfMemory) => MuigratuEnded {
+            status: OUT_OF_MEMORY,
+            length: 0,
+        },
+    }
+}
+
+fn joined(alloc: Global, request: &[u8]) -> Result<Answer, OutOfMemory>
+    ensures { IfOk result (λ a. DueOfJoin request.now a.status (string_bytes a.text)) }
+{
+    answer_join(alloc, Vec::from_slice(alloc, request)?)
+}
+
+fn made_long(alloc: Global, request: &[u8]) -> Result<Answer, OutOfMemory>
+    ensures { IfOk result (λ a. DueOfUnpivot request.now a.status (string_bytes a.text)) }
+{
+    answer_unpivot(alloc, Vec::from_slice(alloc, request)?)
+}
+
+fn made_wide(alloc: Global, request: &[u8]) -> Result<Answer, OutOfMemory>
+    ensures { IfOk result (λ a. DueOfPivot request.now a.status (string_bytes a.text)) }
+{
+    answer_pivot(alloc, Vec::from_slice(alloc, request)?)
+}
+
+fn with_dummies(alloc: Global, request: &[u8]) -> Result<Answer, OutOfMemory>
+    ensures { IfOk result (λ a. DueOfDummies request.now a.status (string_bytes a.text)) }
+{
+    answer_dummies(alloc, Vec::from_slice(alloc, request)?)
+}
+
+/// Joins the two tables of a request. Its text and that of its answer are those of the JSON program. Where the room is
+/// too small, it stays as it was, and the length that is handed back tells what is needed.
+#[unsafe(no_mangle)]
+pub extern "C" fn muigratu_join(alloc: Global, request: &[u8], room: &mut [u8]) -> MuigratuEnded
+    ensures { HasAnswered (DueOfJoin request.now) room.old room.new result }
+{
+    given(joined(alloc, request), room)
+}
+
+/// Makes the table of a request long.
+#[unsafe(no_mangle)]
+pub extern "C" fn muigratu_unpivot(alloc: Global, request: &[u8], room: &mut [u8]) -> MuigratuEnded
+    ensures { HasAnswered (DueOfUnpivot request.now) room.old room.new result }
+{
+    given(made_long(alloc, request), room)
+}
+
+/// Makes the table of a request wide.
+#[unsafe(no_mangle)]
+pub extern "C" fn muigratu_pivot(alloc: Global, request: &[u8], room: &mut [u8]) -> MuigratuEnded
+    ensures { HasAnswered (DueOfPivot request.now) room.old room.new result }
+{
+    given(made_wide(alloc, request), room)
+}
+
+/// Replaces columns of the table of a request by dummies.
+#[unsafe(no_mangle)]
+pub extern "C" fn muigratu_dummies(alloc: Global, request: &[u8], room: &mut [u8]) -> MuigratuEnded
+    ensures { HasAnswered (DueOfDummies request.now) room.old room.new result }
+{
+    given(with_dummies(alloc, request), room)
+}
+
+/// The number of these signatures: a caller that was built for another number is not to call.
+#[unsafe(no_mangle)]
+pub extern "C" fn muigratu_abi() -> u32
+    ensures { result ≡ 1 }
+{
+    1
+}

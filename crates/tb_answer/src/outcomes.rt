@@ -1,0 +1,104 @@
+//! The text of what an operation gives, or of why there is none.
+ghost use Rattle.std.specs.Prelude.{◌≡◌, Err, IfOk, string_bytes};
+ghost use Rattle.tb_request.specs.Promise.Reasons.{reason_word};
+ghost use Rattle.tb_answer.specs.Outcomes.{IsJoinOutcome, IsNoRequest, IsOutcome, IsRefusal};
+ghost use Rattle.tb_answer.specs.Promise.Due.{bad_request_text};
+
+use crate::status::Status;
+use serde_json::Value;
+use std::alloc::Global;
+use tb_frame::DataFrame;
+use tb_json::{text_of, text_of_refusal, traced_text_of};
+use tb_request::{Reason, RequestFault};
+use tb_value::{OutOfMemory, PolarsError, PolarsResult};
+
+/// A text, and the status that goes with it.
+#[derive(Drop)]
+pub struct Answer {
+    pub status: Status,
+    pub text: String,
+}
+
+/// The text of the table that an operation gave, or of why it gave none.
+pub(crate) fn answered(
+    alloc: Global,
+    outcome: PolarsResult<DataFrame>,
+) -> Result<Answer, OutOfMemory>
+    ensures { IfOk result (λ a. IsOutcome outcome a.status (string_bytes a.text)) }
+{
+    match outcome {
+        Ok(table) => Ok(Answer {
+            status: Status::Done,
+            text: text_of(alloc, &table)?,
+        }),
+        Err(error) => refused(alloc, error),
+    }
+}
+
+/// The same of a join. Where its trace is asked, the trace tells nothing.
+pub(crate) fn join_answered(
+    alloc: Global,
+    asks_trace: bool,
+    outcome: PolarsResult<DataFrame>,
+) -> Result<Answer, OutOfMemory>
+    ensures { IfOk result (λ a. IsJoinOutcome asks_trace outcome a.status (string_bytes a.text)) }
+{
+    match outcome {
+        Ok(table) if asks_trace => Ok(Answer {
+            status: Status::Done,
+            text: traced_text_of(alloc, &table, &Value::Null)?,
+        }),
+        outcome => answered(alloc, outcome),
+    }
+}
+
+// Want of memory is handed on, and any other refusal has a text.
+fn refused(alloc: Global, error: PolarsError) -> Result<Answer, OutOfMemory>
+    ensures { IfOk result (λ a. IsRefusal error a.status (string_bytes a.text)) }
+{
+    match error {
+        PolarsError::OutOfMemory => Err(OutOfMemory),
+        error => Ok(Answer {
+            status: Status::Refused,
+            text: text_of_refusal(alloc, &error)?,
+        }),
+    }
+}
+
+/// Want of memory is handed on, and a reason has a text.
+pub(crate) fn no_request(alloc: Global, fault: RequestFault) -> Result<Answer, OutOfMemory>
+    ensures { IfOk result (λ a. (reason : Reason) × (fault ≡ RequestFault.NoRequest reason)
+        × IsNoRequest reason a.status (string_bytes a.text)) }
+{
+    match fault {
+        RequestFault::OutOfMemory => Err(OutOfMemory),
+        RequestFault::NoRequest(reason) => Ok(Answer {
+            status: Status::BadRequest,
+            text: bad_request_text(alloc, reason)?,
+        }),
+    }
+}
+
+fn bad_request_text(alloc: Global, reason: Reason) -> Result<String, OutOfMemory>
+    ensures { IfOk result (λ t. string_bytes t ≡ bad_request_text reason) }
+{
+    let mut text = String::from_str(alloc, "{\"error\":\"BadRequest\",\"reason\":\"")?;
+    text.push_str(reason_word(reason))?;
+    text.push_str("\"}\n")?;
+    Ok(text)
+}
+
+fn reason_word(reason: Reason) -> &'static str
+    ensures { result.now ≡ reason_word reason }
+{
+    match reason {
+        Reason::Json => "Json",
+        Reason::Shape => "Shape",
+        Reason::Value => "Value",
+        Reason::Rows => "Rows",
+        Reason::Exec => "Exec",
+        Reason::Heights => "Heights",
+        Reason::Name => "Name",
+        Reason::Flag => "Flag",
+    }
+}
