@@ -6,18 +6,20 @@
     print(muigratu.join(orders, names, left_on="customer", right_on="id", how="left"))
 
 Tables are lists of dicts, dicts of lists, and frames of pandas or polars; an answer has the form of the (left) table that it is made of. The program
-`tb_app` does the work: its place is given by `program`, by the environment variable MUIGRATU (the file, or a folder with it), or by the path.
+`tb_app` does the work: its place is given by `program`, by the environment variable MUIGRATU (the file, or a folder with it), or by the path. Where
+the variable MUIGRATU_LIBRARY names the C library, or it lies in this folder, it does the joins and what is done to one table, without a process.
 """
 from . import errors
 from .errors import CannotCross, MuigratuError, Refused
 from .grouping import group_by
 from .joining import join
 from .keeping import Insert, Kept, KeptJoin, Remove, delta
+from .library import Library, find_library
 from .planning import plan, table
 from .program import Program, find_program
 from .reshaping import get_dummies, pivot, to_dummies, unpivot
 
 __all__ = [
-    "CannotCross", "Insert", "Kept", "KeptJoin", "MuigratuError", "Program", "Refused", "Remove", "delta", "errors", "find_program",
+    "CannotCross", "Insert", "Kept", "KeptJoin", "Library", "MuigratuError", "Program", "Refused", "Remove", "delta", "errors", "find_library", "find_program",
     "get_dummies", "group_by", "join", "pivot", "plan", "table", "to_dummies", "unpivot",
 ]

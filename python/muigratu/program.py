@@ -69,14 +69,18 @@ class Program:
     def ask(self, command: str, request: dict[str, Any]) -> dict[str, Any]:
         """The answer to a request, or the exception that its status stands for."""
         text = written(request)
-        status, out = self._run(self.path, [command], text)
+        status, out = self.answer(command, text)
         if status == 0:
             return _read(out)
         if status == 1:
             raise errors.refusal_of(_read(out))
         if status == 3:
             raise errors.BadRequest(_read(out).get("reason", ""), *self._place(command, text))
-        raise _ended(status, command, self.path)
+        raise _ended(status, command)
+
+    def answer(self, command: str, text: bytes) -> tuple[int, bytes]:
+        """The status and the text that the program answers to the text of a request."""
+        return self._run(self.path, [command], text)
 
     def _run(self, path: pathlib.Path, words: list[str], text: bytes) -> tuple[int, bytes]:
         try:
@@ -87,7 +91,10 @@ class Program:
 
     def _place(self, command: str, text: bytes) -> tuple[Optional[str], Optional[str]]:
         """Where a text is no request, and what is expected there, if `muigratu` is there to tell."""
-        teller = _find_teller(self.path)
+        try:
+            teller = _find_teller(self.path)
+        except errors.ProgramNotFound:
+            teller = None
         if teller is None:
             return None, None
         _, out = self._run(teller, ["why", command, "-"], text)
@@ -105,9 +112,9 @@ def _read(out: bytes) -> dict[str, Any]:
     return answer
 
 
-def _ended(status: int, command: str, path: pathlib.Path) -> errors.MuigratuError:
+def _ended(status: int, command: str) -> errors.MuigratuError:
     if status == 2:
-        return errors.Usage(f"{path} doesn't know the command {command!r}")
+        return errors.Usage(f"the program doesn't know the command {command!r}")
     if status == 4:
         return errors.ReadFailed("the program couldn't read the request")
     if status == 5:
@@ -117,9 +124,17 @@ def _ended(status: int, command: str, path: pathlib.Path) -> errors.MuigratuErro
     if status == 7:
         return errors.TooLong(LIMIT)
     how = f"by signal {-status}" if status < 0 else f"with status {status}"
-    return errors.ProgramFailed(f"{path} ended {how}")
+    return errors.ProgramFailed(f"the program ended {how}")
 
 
 def program_of(given: Union[None, Place, Program]) -> Program:
-    """The program that an argument names."""
-    return given if isinstance(given, Program) else Program(given)
+    """The program that an argument names; where none does, the library if it is found."""
+    if isinstance(given, Program):
+        return given
+    if given is None:
+        from . import library  # which stands on this module
+
+        place = library.find_library()
+        if place is not None:
+            return library.Library(place)
+    return Program(given)
