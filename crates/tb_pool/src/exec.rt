@@ -6,6 +6,9 @@ ghost use Rattle.tb_pool.specs.ExecView.{MayStand};
 use std::marker::Model;
 use thiserror::Error;
 
+/// The most workers of an `Exec`, and the most partitions.
+pub const MAX_WORKERS: u32 = 1_024;
+
 /// How work is run, seen as five numbers. No answer of an operation depends on them.
 #[derive(Clone, Copy, PartialEq, Eq, Debug)]
 pub struct Exec {
@@ -53,10 +56,10 @@ impl Exec {
             × (e ≡ record { workers = workers; partitions = partitions; small = small; num = num; den = den })) }
         ensures fault { IfErr result (λ f. IsFirstFault f workers partitions den) }
     {
-        if workers < 1 || workers > 1024 {
+        if workers < 1 || workers > MAX_WORKERS {
             return Err(ExecFault::BadWorkers);
         }
-        if partitions < 1 || partitions > 1024 {
+        if partitions < 1 || partitions > MAX_WORKERS {
             return Err(ExecFault::BadPartitions);
         }
         if den == 0 {

@@ -13,7 +13,7 @@ mod workers;
 
 pub use claims::{ClaimSeat, Claims};
 pub use cuts::portions;
-pub use exec::{Exec, ExecFault};
+pub use exec::{Exec, ExecFault, MAX_WORKERS};
 pub use gather::Done;
 pub use parts::{Gate, OpenGate, Parts};
 pub use run::run_parts;
