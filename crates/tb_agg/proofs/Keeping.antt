@@ -23,8 +23,6 @@ use Rattle.tb_agg.specs.Grouped.{group_rows, rows_by_group, rows_of}
 use Rattle.tb_agg.specs.Kept.{KeptView, all_joined, items_at, joined, kept_at, kept_kind, kept_len, kept_of, kept_values, picked, counted, summed, AreRowsKept, IsKeptFor}
 use Rattle.tb_agg.specs.Picking.{aggregate_of, next_pick, picked_row, replaces}
 use Rattle.tb_agg.specs.Promise.Aggregates.{aggregate, result_kind, total}
-use Rattle.tb_agg.specs.Running.{sum_so_far}
-use Rattle.tb_agg.specs.declared.running.Running.{Running}
 use Rattle.tb_agg.specs.declared.picks.Pick.{Pick}
 use Rattle.tb_agg.specs.declared.picks.Pick.TheVariants.{FirstRow, LastRow, LeastValue, GreatestValue}
 use Rattle.tb_agg.specs.declared.table.Aggregate.{Aggregate}
@@ -141,13 +139,6 @@ made_at f xs (p ∷ places) d e low =
     let here : p < length xs = All-head (λ k. k < length xs) p places low in
     let rest = made_at f xs places d e (All-tail (λ k. k < length xs) p places low) in
     λ t. get_or-map f xs p d e here t ∷ rest t
-
--- sums, as they are shown
-pub sums_at : (sums taken : List Running) (places : List ℕ) → ((other : Running) → taken ≡ items_at other sums places) → All (λ p. p < length sums) places
-    → map sum_so_far taken ≡ items_at (pos 0) (map sum_so_far sums) places
-sums_at sums taken places is low =
-    let zero : Running = record { low = pos 0; wraps = pos 0 } in
-    ap (map sum_so_far) (is zero) ∙ sym (made_at sum_so_far sums places zero (pos 0) low)
 
 -- what is kept of these groups
 pub kept_taken : (agg : Aggregate) (vs : List Datum) (groups : List (List ℕ)) (places : List ℕ) → All (λ p. p < length groups) places → kept_at places (kept_of agg vs groups) ≡ kept_of agg vs (items_at [] groups places)

@@ -14,7 +14,7 @@ use Rattle.tb_rows.specs.Promise.Rows.{row_value}
 use Rattle.tb_agg.specs.Picking.{picked_row}
 use Rattle.tb_agg.specs.Promise.Aggregates.{sum_kind, total}
 use Rattle.tb_agg.specs.Promise.Outcome.{are_in_range}
-use Rattle.tb_agg.specs.Running.{sum_so_far}
+use Rattle.tb_agg.specs.Sums.{shown_sums}
 use Rattle.tb_agg.specs.declared.kept.Form.{Form}
 use Rattle.tb_agg.specs.declared.kept.Form.TheVariants.{Picked, Counted, Summed}
 use Rattle.tb_agg.specs.declared.kept.Kept.{Kept}
@@ -31,7 +31,7 @@ pub data KeptView : Type 0 where
 abbrev pub shown_form : Form → KeptView
 shown_form (Picked rows) = picked rows.items
 shown_form (Counted counts) = counted counts.items
-shown_form (Summed sums) = summed (map sum_so_far sums.items)
+shown_form (Summed sums) = summed (shown_sums sums)
 
 abbrev pub shown_kept : Kept → KeptView
 shown_kept k = shown_form k.form

@@ -5,4 +5,5 @@ pub mod Named
 pub mod Outcome
 pub mod Picking
 pub mod Running
+pub mod Sums
 pub mod Promise

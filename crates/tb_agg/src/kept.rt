@@ -1,8 +1,7 @@
 //! What one pass over the rows of groups keeps for an aggregate, and the column that is made of it.
-ghost use Rattle.std.specs.Prelude.{◌≡◌, ◌<◌, ◌≤◌, ◌∷◌, [], pos, IfOk, IsSome, MatchOption, None, Ok, OnOk, false, length, map, true};
+ghost use Rattle.std.specs.Prelude.{◌≡◌, ◌<◌, ◌≤◌, ◌∷◌, [], pos, IfOk, IsSome, MatchOption, OnOk, Some, false, length, map, true};
 ghost use Rattle.tb_value.specs.Promise.Datum.{int};
 ghost use Rattle.tb_value.specs.Promise.Kind as kind;
-ghost use Rattle.tb_value.specs.Refusals.{Settles};
 ghost use Rattle.tb_value.specs.SeeKind.{kind_of};
 ghost use Rattle.tb_value.specs.declared.limits.TheConstants.{MAX_ROWS};
 ghost use Rattle.tb_value.specs.declared.sorted.IsSorted.TheVariants.{Not};
@@ -12,26 +11,23 @@ ghost use Rattle.tb_chunk.specs.Promise.Col.{values};
 ghost use Rattle.tb_chunk.specs.Rows.{value_or_null, IsRowOf};
 ghost use Rattle.tb_rows.specs.Names.{name_of};
 ghost use Rattle.tb_agg.specs.Grouped.{rows_by_group, AreGroupsOf};
-ghost use Rattle.tb_agg.specs.Kept.{counted_in, joined, kept_at, kept_fits, kept_kind, kept_len, kept_of, nothing, picked, picked_in, shown_kept, summed_in, IsKeptColumn, IsKeptFor};
+ghost use Rattle.tb_agg.specs.Kept.{counted_in, joined, kept_at, kept_fits, kept_kind, kept_len, kept_of, nothing, picked, picked_in, shown_kept, IsKeptColumn, IsKeptFor};
 ghost use Rattle.tb_agg.specs.Named.{AreRowsOf};
 ghost use Rattle.tb_agg.specs.Picking.{picked_row};
 ghost use Rattle.tb_agg.specs.Promise.Outcome.{are_in_range};
-ghost use Rattle.tb_agg.specs.Running.{sum_so_far};
+ghost use Rattle.tb_agg.specs.Promise.Aggregates.{sum_kind};
+ghost use Rattle.tb_agg.specs.Sums.{shown_sums};
 
 use crate::counts::counts_of;
-use crate::made::{column_of, count_values, sum_values};
+use crate::made::{count_chunks, sum_chunks};
 use crate::picks::{Pick, picked_rows};
 use crate::places::items_at;
-use crate::running::Running;
-use crate::sums::sums_of;
+use crate::sums::Sums;
 use crate::table::{Aggregate, count_type, sum_type};
 use std::alloc::Global;
 use tb_rows::{Groups, RowNames};
 use tb_store::Series;
-use tb_value::{
-    DataType, IdxSize, MAX_ROWS, NullableIdxSize, OutOfMemory, PlSmallStr, PolarsError,
-    PolarsResult,
-};
+use tb_value::{DataType, IdxSize, IsSorted, MAX_ROWS, NullableIdxSize, OutOfMemory, PlSmallStr};
 
 /// What is kept of groups of rows for an aggregate, of which its column is made: of each group one row, one count or one
 /// sum, whatever rows it has.
@@ -48,19 +44,7 @@ enum Form {
     /// How many rows there are.
     Counted(Vec<IdxSize>),
     /// The exact sum.
-    Summed(Vec<Running>),
-}
-
-// The column, where no cause but want of memory refuses it.
-fn if_memory(made: PolarsResult<Series>) -> Result<Series, OutOfMemory>
-    requires { Settles made None }
-    ensures { IfOk result (λ s. made ≡ Ok s) }
-{
-    match made {
-        Ok(column) => Ok(column),
-        Err(PolarsError::OutOfMemory) => Err(OutOfMemory),
-        Err(_) => unreachable!(),
-    }
+    Summed(Sums),
 }
 
 fn picked_column(
@@ -82,50 +66,59 @@ fn picked_column(
 
 fn counted_column(
     alloc: Global,
-    counts: &[IdxSize],
+    counts: Vec<IdxSize>,
     name: PlSmallStr,
 ) -> Result<Series, OutOfMemory>
-    requires small { All (λ n. n ≤ MAX_ROWS) counts.now }
-    requires few { length counts.now ≤ MAX_ROWS }
+    requires small { All (λ n. n ≤ MAX_ROWS) counts.items }
+    requires few { length counts.items ≤ MAX_ROWS }
     ensures { IfOk result
-        (IsOf name kind.uint32 (map (λ n. int (pos n)) counts.now ∷ []) Not) }
+        (IsOf name kind.uint32 (map (λ n. int (pos n)) counts.items ∷ []) Not) }
 {
-    let values = count_values(alloc, counts)?;
-    if_memory(column_of(alloc, &name, count_type(), values))
+    let chunks = count_chunks(alloc, counts)?;
+    Ok(Series::from_parts(name, count_type(), chunks, IsSorted::Not))
 }
 
 // And none where a sum is outside the range of the type.
 fn summed_column(
     alloc: Global,
-    sums: &[Running],
+    sums: &Sums,
     dtype: DataType,
     name: PlSmallStr,
 ) -> Result<Option<Series>, OutOfMemory>
-    requires few { length sums.now ≤ MAX_ROWS }
+    requires few { length (shown_sums sums.now) ≤ MAX_ROWS }
+    requires summed { sum_kind (kind_of dtype) ≡ Some (kind_of dtype) }
     ensures { IfOk result (λ o. MatchOption o
-        (are_in_range (Some (kind_of dtype)) (map sum_so_far sums.now) ≡ false)
-        (λ s. (are_in_range (Some (kind_of dtype)) (map sum_so_far sums.now) ≡ true)
-        × IsOf name (kind_of dtype) (map int (map sum_so_far sums.now) ∷ []) Not s)) }
+        (are_in_range (Some (kind_of dtype)) (shown_sums sums.now) ≡ false)
+        (λ s. (are_in_range (Some (kind_of dtype)) (shown_sums sums.now) ≡ true)
+        × IsOf name (kind_of dtype) (map int (shown_sums sums.now) ∷ []) Not s)) }
 {
-    match sum_values(alloc, &dtype, sums)? {
-        Some(values) => Ok(Some(if_memory(column_of(alloc, &name, dtype, values))?)),
+    match sum_chunks(alloc, &dtype, sums)? {
+        Some(chunks) => Ok(Some(Series::from_parts(name, dtype, chunks, IsSorted::Not))),
         None => Ok(None),
     }
 }
 
 impl Kept {
-    /// What the aggregate needs of no group.
-    pub fn new(alloc: Global, aggregate: Aggregate) -> Kept
-        ensures { shown_kept result ≡ nothing aggregate }
+    /// What the aggregate needs of no group, with room for so many.
+    ///
+    /// # Errors
+    ///
+    /// `OutOfMemory` where memory is wanting.
+    pub fn with_capacity(
+        alloc: Global,
+        aggregate: Aggregate,
+        groups: usize,
+    ) -> Result<Kept, OutOfMemory>
+        ensures { IfOk result (λ k. shown_kept k ≡ nothing aggregate) }
     {
         let form = match aggregate {
             Aggregate::First | Aggregate::Last | Aggregate::Min | Aggregate::Max => {
-                Form::Picked(Vec::new(alloc))
+                Form::Picked(Vec::with_capacity(alloc, groups)?)
             }
-            Aggregate::Count => Form::Counted(Vec::new(alloc)),
-            Aggregate::Sum => Form::Summed(Vec::new(alloc)),
+            Aggregate::Count => Form::Counted(Vec::with_capacity(alloc, groups)?),
+            Aggregate::Sum => Form::Summed(Sums::with_capacity(alloc, groups)?),
         };
-        Kept { form }
+        Ok(Kept { form })
     }
 
     fn picks(
@@ -178,7 +171,7 @@ impl Kept {
                 form: Form::Counted(counts_of(alloc, groups)?),
             }),
             Aggregate::Sum => Ok(Kept {
-                form: Form::Summed(sums_of(alloc, column, names, groups)?),
+                form: Form::Summed(Sums::of(alloc, column, names, groups)?),
             }),
         }
     }
@@ -201,28 +194,23 @@ impl Kept {
         }
     }
 
-    fn summed(&self) -> &[Running]
-        ensures { map sum_so_far result.now ≡ summed_in (shown_kept self.now) }
-    {
-        match &self.form {
-            Form::Summed(sums) => sums,
-            _ => &[],
-        }
-    }
-
     /// Puts behind what is kept what another keeps, where that is kept for an aggregate that needs the same.
     ///
     /// # Errors
     ///
     /// `OutOfMemory` where memory is wanting.
-    pub fn append(&mut self, other: &Kept) -> Result<(), OutOfMemory>
+    pub fn append(&mut self, alloc: Global, other: &Kept) -> Result<(), OutOfMemory>
         ensures { OnOk result
             (shown_kept self.new ≡ joined (shown_kept self.old) (shown_kept other.now)) }
     {
         match &mut self.form {
             Form::Picked(rows) => rows.extend_from_slice(other.picked())?,
             Form::Counted(counts) => counts.extend_from_slice(other.counted())?,
-            Form::Summed(sums) => sums.extend_from_slice(other.summed())?,
+            Form::Summed(sums) => {
+                if let Form::Summed(more) = &other.form {
+                    sums.append(alloc, more)?;
+                }
+            }
         }
         Ok(())
     }
@@ -244,35 +232,36 @@ impl Kept {
                 form: Form::Counted(items_at(alloc, counts, places)?),
             }),
             Form::Summed(sums) => Ok(Kept {
-                form: Form::Summed(items_at(alloc, sums, places)?),
+                form: Form::Summed(sums.take(alloc, places)?),
             }),
         }
     }
 
     /// The column of one value for each group, under this name, of the column for which it is kept, and none where a sum is
-    /// outside the range of its type.
+    /// outside the range of its type. What is kept is let go.
     ///
     /// # Errors
     ///
     /// `OutOfMemory` where memory is wanting.
     pub fn column(
-        &self,
+        self,
         alloc: Global,
         column: &Series,
         name: PlSmallStr,
     ) -> Result<Option<Series>, OutOfMemory>
-        requires taken { IsSome (kept_kind column.now.kind (shown_kept self.now)) }
-        requires kept { IsKeptFor (length (values column.now)) (shown_kept self.now) }
+        requires taken { IsSome (kept_kind column.now.kind (shown_kept self)) }
+        requires kept { IsKeptFor (length (values column.now)) (shown_kept self) }
         ensures { IfOk result (λ o. MatchOption o
-            (kept_fits column.now.kind (shown_kept self.now) ≡ false)
-            (λ s. (kept_fits column.now.kind (shown_kept self.now) ≡ true)
-            × IsKeptColumn name column.now (shown_kept self.now) s)) }
+            (kept_fits column.now.kind (shown_kept self) ≡ false)
+            (λ s. (kept_fits column.now.kind (shown_kept self) ≡ true)
+            × IsKeptColumn name column.now (shown_kept self) s)) }
     {
-        match &self.form {
-            Form::Picked(rows) => Ok(Some(picked_column(alloc, rows, column, name)?)),
+        let Kept { form } = self;
+        match form {
+            Form::Picked(rows) => Ok(Some(picked_column(alloc, &rows, column, name)?)),
             Form::Counted(counts) => Ok(Some(counted_column(alloc, counts, name)?)),
             Form::Summed(sums) => match sum_type(column.dtype()) {
-                Some(dtype) => summed_column(alloc, sums, dtype, name),
+                Some(dtype) => summed_column(alloc, &sums, dtype, name),
                 None => unreachable!(),
             },
         }

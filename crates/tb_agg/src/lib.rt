@@ -6,7 +6,6 @@ mod counts;
 mod kept;
 pub mod laws;
 mod made;
-mod named;
 mod picks;
 mod places;
 mod running;

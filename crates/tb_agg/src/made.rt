@@ -1,31 +1,40 @@
-//! Columns of numbers that were counted or summed.
-ghost use Rattle.std.specs.Prelude.{◌≡◌, ◌≤◌, ◌∷◌, [], IfOk, MatchOption, None, true, false, length, map, pos};
-ghost use Rattle.std.specs.List.{All, list_all};
+//! The chunks of columns of numbers that were counted or summed.
+ghost use Rattle.std.specs.Prelude.{◌≡◌, ◌∷◌, [], IfOk, MatchOption, Some, true, false, length, map, pos};
 ghost use Rattle.tb_value.specs.Promise.Datum.{int};
-ghost use Rattle.tb_value.specs.See.{datum, data_of};
+ghost use Rattle.tb_value.specs.Promise.Kind as kind;
+ghost use Rattle.tb_value.specs.See.{datum};
 ghost use Rattle.tb_value.specs.SeeKind.{kind_of};
-ghost use Rattle.tb_value.specs.Promise.Typed.{HasType, ends};
-ghost use Rattle.tb_value.specs.Refusals.{Settles};
-ghost use Rattle.tb_value.specs.declared.sorted.IsSorted.TheVariants.{Not};
-ghost use Rattle.tb_chunk.specs.Made.{lists_of, IsOf};
-ghost use Rattle.tb_agg.specs.Promise.Outcome.{lies_within};
+ghost use Rattle.tb_value.specs.Promise.Typed.{HasType};
+ghost use Rattle.tb_cell.specs.Physical.{physical};
+ghost use Rattle.tb_chunk.specs.Seen.{chunk_lists, storage};
+ghost use Rattle.tb_agg.specs.Promise.Aggregates.{sum_kind};
+ghost use Rattle.tb_agg.specs.Promise.Outcome.{are_in_range};
 ghost use Rattle.tb_agg.specs.Running.{sum_so_far};
+ghost use Rattle.tb_agg.specs.Sums.{shown_sums};
 
 use crate::running::{Running, exact};
+use crate::sums::Sums;
 use std::alloc::Global;
-use tb_store::Series;
-use tb_value::{
-    AnyValue, DataType, IdxSize, MAX_ROWS, OutOfMemory, PlSmallStr, PolarsResult, ValueRef,
-};
+use tb_store::{Cell, Cells, Chunk, Chunks, Stored};
+use tb_value::{AnyValue, DataType, IdxSize, OutOfMemory, ValueRef};
 
-pub(crate) fn count_values(alloc: Global, counts: &[IdxSize]) -> Result<Vec<AnyValue>, OutOfMemory>
-    ensures { IfOk result (λ v. data_of v.items ≡ map (λ n. int (pos n)) counts.now) }
+// The only chunk.
+fn one_chunk<C: Drop>(alloc: Global, chunk: C) -> Result<Vec<C>, OutOfMemory>
+    ensures { IfOk result (λ v. v.items ≡ chunk ∷ []) }
 {
-    let mut values = Vec::with_capacity(alloc, counts.len())?;
-    for count in counts {
-        values.push(AnyValue::Int(*count as i128))?;
-    }
-    Ok(values)
+    let mut chunks = Vec::with_capacity(alloc, 1)?;
+    chunks.push(chunk)?;
+    Ok(chunks)
+}
+
+// The chunk of counts, as that of a column.
+pub(crate) fn count_chunks(alloc: Global, counts: Vec<IdxSize>) -> Result<Chunks, OutOfMemory>
+    ensures lists { IfOk result (λ c.
+        chunk_lists c ≡ map (λ n. int (pos n)) counts.items ∷ []) }
+    ensures storage { IfOk result (λ c. storage c ≡ kind.uint32) }
+{
+    let cells = Cells::from_vec(alloc, counts);
+    Ok(Chunks::UInt32Type(one_chunk(alloc, cells)?))
 }
 
 // The sum, where it is a number of the type.
@@ -39,45 +48,102 @@ fn sum_value(dtype: &DataType, sum: Running) -> Option<AnyValue>
     }
 }
 
-// The sums, where they are numbers of the type.
-pub(crate) fn sum_values(
+// The sums as they are stored, where they are numbers of the type.
+fn sum_cells<N: Cell>(
     alloc: Global,
     dtype: &DataType,
-    sums: &[Running],
-) -> Result<Option<Vec<AnyValue>>, OutOfMemory>
-    ensures { IfOk result (λ o. MatchOption o (list_all (lies_within (ends (kind_of dtype.now))) (map sum_so_far sums.now) ≡ false)
-        (λ v. (data_of v.items ≡ map int (map sum_so_far sums.now)) × All (HasType (kind_of dtype.now)) (data_of v.items)
-        × (list_all (lies_within (ends (kind_of dtype.now))) (map sum_so_far sums.now) ≡ true))) }
+    sums: &Sums,
+) -> Result<Option<Vec<N>>, OutOfMemory>
+    requires { physical (kind_of dtype.now) ≡ N.kind }
+    ensures { IfOk result (λ o. MatchOption o
+        (are_in_range (Some (kind_of dtype.now)) (shown_sums sums.now) ≡ false)
+        (λ v. (are_in_range (Some (kind_of dtype.now)) (shown_sums sums.now) ≡ true)
+        × (map N.shows v.items ≡ map int (shown_sums sums.now)))) }
 {
-    let mut values = Vec::with_capacity(alloc, sums.len())?;
-    for sum in sums {
-        match sum_value(dtype, *sum) {
-            Some(value) => values.push(value)?,
+    let mut cells = Vec::with_capacity(alloc, sums.len())?;
+    for place in 0..sums.len() {
+        match sum_value(dtype, sums.get(place)) {
+            Some(value) => cells.push(N::from_value(alloc, &value)?)?,
             None => return Ok(None),
         }
     }
-    Ok(Some(values))
+    Ok(Some(cells))
 }
 
-// The values as the only list.
-fn one_list(alloc: Global, values: Vec<AnyValue>) -> Result<Vec<Vec<AnyValue>>, OutOfMemory>
-    ensures { IfOk result (λ v. lists_of v.items ≡ data_of values.items ∷ []) }
-{
-    Ok(vec![in alloc; values]?)
+/// A chunk of sums.
+trait SumChunk: Chunk {
+    /// The chunk of these sums, where they are numbers of the type.
+    fn of_sums(alloc: Global, dtype: &DataType, sums: &Sums) -> Result<Option<Self>, OutOfMemory>
+        requires { physical (kind_of dtype.now) ≡ Self.kind }
+        ensures { IfOk result (λ o. MatchOption o
+            (are_in_range (Some (kind_of dtype.now)) (shown_sums sums.now) ≡ false)
+            (λ c. (are_in_range (Some (kind_of dtype.now)) (shown_sums sums.now) ≡ true)
+            × (Self.shown c ≡ map int (shown_sums sums.now)))) };
 }
 
-// The column of these values, which are of the type.
-pub(crate) fn column_of(
+impl<N: Cell> SumChunk for Cells<N> {
+    fn of_sums(
+        alloc: Global,
+        dtype: &DataType,
+        sums: &Sums,
+    ) -> Result<Option<Cells<N>>, OutOfMemory> {
+        match sum_cells(alloc, dtype, sums)? {
+            Some(cells) => Ok(Some(Cells::from_vec(alloc, cells))),
+            None => Ok(None),
+        }
+    }
+}
+
+// The one chunk of sums, as that of a column.
+fn stored_sums<C: SumChunk + Stored>(
     alloc: Global,
-    name: &PlSmallStr,
-    dtype: DataType,
-    values: Vec<AnyValue>,
-) -> PolarsResult<Series>
-    requires typed { All (HasType (kind_of dtype)) (data_of values.items) }
-    requires few { length values.items ≤ MAX_ROWS }
-    ensures column { IfOk result (IsOf name.now (kind_of dtype) (data_of values.items ∷ []) Not) }
-    ensures settles { Settles result None }
+    dtype: &DataType,
+    sums: &Sums,
+) -> Result<Option<Chunks>, OutOfMemory>
+    requires { physical (kind_of dtype.now) ≡ C.kind }
+    ensures { IfOk result (λ o. MatchOption o
+        (are_in_range (Some (kind_of dtype.now)) (shown_sums sums.now) ≡ false)
+        (λ c. (are_in_range (Some (kind_of dtype.now)) (shown_sums sums.now) ≡ true)
+        × (storage c ≡ C.kind)
+        × (chunk_lists c ≡ map int (shown_sums sums.now) ∷ []))) }
 {
-    let chunks = one_list(alloc, values)?;
-    Series::from_chunks(alloc, name.as_str(), dtype, chunks)
+    match C::of_sums(alloc, dtype, sums)? {
+        Some(chunk) => Ok(Some(C::wrap(one_chunk(alloc, chunk)?))),
+        None => Ok(None),
+    }
+}
+
+// The chunk of sums, as that of a column of a type of sums, and none where a sum is outside the range of the type.
+pub(crate) fn sum_chunks(
+    alloc: Global,
+    dtype: &DataType,
+    sums: &Sums,
+) -> Result<Option<Chunks>, OutOfMemory>
+    requires { sum_kind (kind_of dtype.now) ≡ Some (kind_of dtype.now) }
+    ensures { IfOk result (λ o. MatchOption o
+        (are_in_range (Some (kind_of dtype.now)) (shown_sums sums.now) ≡ false)
+        (λ c. (are_in_range (Some (kind_of dtype.now)) (shown_sums sums.now) ≡ true)
+        × (storage c ≡ physical (kind_of dtype.now))
+        × (chunk_lists c ≡ map int (shown_sums sums.now) ∷ []))) }
+{
+    match dtype {
+        DataType::Int32 => stored_sums::<Cells<i32>>(alloc, dtype, sums),
+        DataType::Int64 | DataType::Duration(_) => stored_sums::<Cells<i64>>(alloc, dtype, sums),
+        DataType::Int128 => stored_sums::<Cells<i128>>(alloc, dtype, sums),
+        DataType::UInt32 => stored_sums::<Cells<u32>>(alloc, dtype, sums),
+        DataType::UInt64 => stored_sums::<Cells<u64>>(alloc, dtype, sums),
+        DataType::Null
+        | DataType::Boolean
+        | DataType::Int8
+        | DataType::Int16
+        | DataType::UInt8
+        | DataType::UInt16
+        | DataType::String
+        | DataType::Binary
+        | DataType::Date
+        | DataType::Datetime(_, _)
+        | DataType::Time
+        | DataType::List(_)
+        | DataType::Struct(_) => unreachable!(),
+    }
 }

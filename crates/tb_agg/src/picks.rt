@@ -9,7 +9,6 @@ ghost use Rattle.tb_agg.specs.Grouped.{rows_by_group, AreGroupsOf};
 ghost use Rattle.tb_agg.specs.Named.{AreRowsOf};
 ghost use Rattle.tb_agg.specs.Picking.{next_pick, picked_row, replaces};
 
-use crate::named::row_at;
 use std::alloc::Global;
 use tb_rows::{Groups, RowNames};
 use tb_store::{Series, compare_values};
@@ -91,7 +90,7 @@ pub(crate) fn picked_rows(
     let mut picked = vec![in alloc; NullableIdxSize::null(); groups.firsts().len()]?;
     for place in 0..numbers.len() {
         let group = numbers[place] as usize;
-        picked[group] = next_pick(pick, column, picked[group], row_at(names, place));
+        picked[group] = next_pick(pick, column, picked[group], names.name(place));
     }
     Ok(picked)
 }

@@ -9,6 +9,18 @@ pub(crate) struct Running {
     pub(crate) wraps: i64,
 }
 
+impl Running {
+    /// A number of 64 bits.
+    pub(crate) fn of(number: i64) -> Running
+        ensures { sum_so_far result ≡ number }
+    {
+        Running {
+            low: number as i128,
+            wraps: 0,
+        }
+    }
+}
+
 fn low_past_top(low: i128, value: i128) -> i128
     requires up { pos 0 ≤ℤ value }
     requires past { pos 170141183460469231731687303715884105727 <ℤ (low +ℤ value) }

@@ -16,7 +16,6 @@ use Rattle.tb_value.specs.Promise.Typed.{AreEachOf, AreOf, HasType, IsBytes, IsL
 use Rattle.tb_value.specs.Proved.TypeTests.{same_kind-Decides}
 use Rattle.tb_value.specs.declared.limits.TheConstants.{TOO_LONG}
 use Rattle.tb_frame.proofs.Frames.{all_true}
-use Rattle.tb_agg.proofs.Ranges.{typed_within}
 use Rattle.tb_agg.specs.Promise.Outcome.{lies_within}
 use Rattle.tb_filter.specs.Promise.Filtered.{is_key_value}
 
@@ -39,6 +38,13 @@ within (Some (a, b)) z h =
     let low : int_le a z ≡ true = both.0 in
     let high : int_le z b ≡ true = both.1 in
     ((a, b), refl, (grind (arith, ints), grind (arith, ints)))
+
+within_by : (o : Option (ℤ × ℤ)) (z : ℤ) → IsSomeAnd o (λ e. (e.0 ≤ℤ z) × (z ≤ℤ e.1)) → lies_within o z ≡ true
+within_by None z h = absurd h
+within_by (Some (a, b)) z h = let low : a ≤ℤ z = h.0 in let high : z ≤ℤ b = h.1 in grind (arith, ints)
+
+typed_within : (t : Kind) (z : ℤ) → HasType t (int z) → lies_within (ends t) z ≡ true
+typed_within t z h = within_by (ends t) z h
 
 int_typed : (t : Kind) (z : ℤ) → lies_within (ends t) z ≡ true → Means t (int z)
 unfolding Means

@@ -9,7 +9,7 @@ ghost use Rattle.tb_chunk.specs.Lent.{lent_columns};
 ghost use Rattle.tb_chunk.specs.Promise.Col.{values};
 ghost use Rattle.tb_frame.specs.Frame.{taken_rows};
 ghost use Rattle.tb_frame.specs.Promise.Table.{plain_column, table_of};
-ghost use Rattle.tb_agg.specs.Kept.{shown_kept};
+ghost use Rattle.tb_agg.specs.Kept.{kept_at, kept_len, shown_kept};
 ghost use Rattle.tb_group.specs.Asked.{asked_as, asked_list};
 ghost use Rattle.tb_group.specs.Parts.{shown_part};
 ghost use Rattle.tb_group.specs.Whole.{all_firsts, cause_at, gathered, made_cause, made_column, placed_at, AreWholeAt, CanBeMade};
@@ -68,21 +68,41 @@ pub(crate) fn answer_columns(
     Ok(columns)
 }
 
-// What all parts keep of the groups for the aggregate that has this seat, one part after another.
+// What all parts keep of the groups for the aggregate that has this seat, one part after another, in room for so many.
 fn gathered(
     alloc: Global,
     parts: &[PartGroups],
     agg: Aggregate,
     seat: usize,
+    groups: usize,
 ) -> Result<Kept, OutOfMemory>
     requires { All (λ p. seat < length p.kept.items) parts.now }
     ensures { IfOk result (λ k. shown_kept k ≡ gathered agg seat (map shown_part parts.now)) }
 {
-    let mut kept = Kept::new(alloc, agg);
+    let mut kept = Kept::with_capacity(alloc, agg, groups)?;
     for part in parts {
-        kept.append(&part.kept()[seat])?;
+        kept.append(alloc, &part.kept()[seat])?;
     }
     Ok(kept)
+}
+
+// What all parts keep for the aggregate that has this seat, of the groups at these places. What is kept of all is let go.
+fn placed(
+    alloc: Global,
+    parts: &[PartGroups],
+    agg: Aggregate,
+    seat: usize,
+    places: &[IdxSize],
+) -> Result<Kept, OutOfMemory>
+    requires there { All (λ p. seat < length p.kept.items) parts.now }
+    requires within { All
+        (λ p. p < kept_len (gathered agg seat (map shown_part parts.now)))
+        places.now }
+    ensures { IfOk result (λ k.
+        shown_kept k ≡ kept_at places.now (gathered agg seat (map shown_part parts.now))) }
+{
+    let all = gathered(alloc, parts, agg, seat, places.len())?;
+    all.take(alloc, places)
 }
 
 // The column that is asked for, of the aggregate that is made for it at this seat, for the groups at these places. Refuses
@@ -104,8 +124,7 @@ fn agg_column(
         ≡ made_column asked.now.name (asked_as made.now) seat (map shown_part parts.now)
         places.now) }
 {
-    let all = gathered(alloc, parts, made.asked.agg, seat)?;
-    let kept = all.take(alloc, places)?;
+    let kept = placed(alloc, parts, made.asked.agg, seat, places)?;
     match kept.column(alloc, made.column, asked.name.copy(alloc)?)? {
         Some(column) => Ok(column.into_column()),
         None => {

@@ -14,7 +14,8 @@ pub enum RowNames<'a> {
 }
 
 impl RowNames<'_> {
-    pub(crate) fn name(&self, row: usize) -> IdxSize
+    /// What the row is called.
+    pub fn name(&self, row: usize) -> IdxSize
         requires { (n : ℕ) × (row < n) × AreNamed self.now n }
         ensures { result ≡ name_of self.now row }
     {

@@ -34,8 +34,8 @@ returns-in-Some-clause-column c =
     own_column c.args.aggregate c.args.groups.now c.args.column.now c.requires.groups (shown_kept c.in_ok-kept.kept) c.in_ok-kept.ensures c.requires.taken
     c.in_ok-copy.field-0 c.in-Some.made (c.in_ok-copy.ensures ∙ c.name.ensures) made.1
 
-pub returns-clause-settles : goal.returns-clause-settles
-returns-clause-settles c =
+pub returns-in_ok-name-in-None-clause-settles : goal.returns-in_ok-name-in-None-clause-settles
+returns-in_ok-name-in-None-clause-settles c =
     let none = rw c.in-None.is at c.in_ok-made.ensures in
     inr (own_cause_by c.args.aggregate c.args.groups.now c.args.column.now c.requires.groups (shown_kept c.in_ok-kept.kept) c.in_ok-kept.ensures false none
     ∙ ap (λ (n : Name). Some (ComputeError (SumRange n))) (sym (c.in_ok-name-in-None.ensures ∙ c.name-in-None.ensures)))

@@ -25,8 +25,8 @@ loop-place-init c =
       within = subst (λ (l : List (Option ℕ)). All (IsRowOf (length vs)) l) (sym is) (All-replicate (IsRowOf (length vs)) g None tt);
     }
 
-pub row_at-requires : goal.row_at-requires
-row_at-requires c =
+pub name-requires : goal.name-requires
+name-requires c =
     let numbers = c.args.groups.now.numbers.items in
     (length numbers, omega (arith, c.loop-place-test.true, ap length c.numbers-numbers.ensures), c.requires.rows.named)
 
@@ -35,7 +35,7 @@ next_pick-requires-clause-row c =
     let numbers = c.args.groups.now.numbers.items in
     let n = c.loop-place.place in
     let low = c.requires.rows.within n (omega (arith, c.loop-place-test.true, ap length c.numbers-numbers.ensures)) in
-    omega (arith, low, c.row_at.ensures)
+    omega (arith, low, c.name.ensures)
 
 pub loop-place-preserved : goal.loop-place-preserved
 loop-place-preserved c =
@@ -55,7 +55,7 @@ loop-place-preserved c =
     let old : c.index.result.now ≡ get_or kept p c.index.result.now = c.index.ensures in
     record {
       picked = one_more made (λ (o : Option ℕ). o) numbers g n kept so_far.picked p is low c.next_pick.result
-          (c.next_pick.ensures.next ∙ ap (λ (r : ℕ). next_pick c.args.pick vs c.index.result.now r) c.row_at.ensures ∙ named_pick c.args.pick vs name (rows_of numbers n p) n c.index.result.now (old ∙ there));
+          (c.next_pick.ensures.next ∙ ap (λ (r : ℕ). next_pick c.args.pick vs c.index.result.now r) c.name.ensures ∙ named_pick c.args.pick vs name (rows_of numbers n p) n c.index.result.now (old ∙ there));
       within = All-set (IsRowOf (length vs)) kept p c.next_pick.result c.next_pick.ensures.within so_far.within;
     }
 

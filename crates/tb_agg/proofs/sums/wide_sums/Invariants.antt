@@ -7,7 +7,7 @@ use Rattle.tb_rows.specs.Promise.Rows.{row_value}
 use Rattle.tb_agg.specs.Promise.Aggregates.{total}
 use Rattle.tb_agg.specs.Grouped.{rows_of}
 use Rattle.tb_agg.specs.Running.{sum_so_far}
-use Rattle.tb_agg.proofs.sums.sums_of.Given as goal
+use Rattle.tb_agg.proofs.sums.wide_sums.Given as goal
 
 abbrev pub invariant-loop-place : goal.invariant-loop-place
 invariant-loop-place l = record {

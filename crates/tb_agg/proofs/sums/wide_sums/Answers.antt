@@ -15,7 +15,7 @@ use Rattle.tb_agg.specs.Running.{sum_so_far}
 use Rattle.tb_agg.specs.declared.running.Running.{Running}
 use Rattle.tb_agg.proofs.Steps.{all_kept, group_low, kept_there, none_yet, one_more}
 use Rattle.tb_agg.proofs.Totals.{total_step}
-use Rattle.tb_agg.proofs.sums.sums_of.Goals as goal
+use Rattle.tb_agg.proofs.sums.wide_sums.Goals as goal
 
 abbrev zero_sum : Running
 zero_sum = record { low = pos 0; wraps = pos 0 }
@@ -48,7 +48,7 @@ loop-place-preserved c =
     let low = group_low numbers g (length numbers) n p refl c.requires.groups.within below is in
     let value : ℕ → Datum = λ j. row_value vs (name_of c.args.names j) in
     let made = λ (rows : List ℕ). total (map value rows) in
-    let at : lent_value c.get.result ≡ value n = c.get.ensures.value ∙ ap (λ (r : ℕ). row_value vs r) c.row_at-row.ensures in
+    let at : lent_value c.get.result ≡ value n = c.get.ensures.value ∙ ap (λ (r : ℕ). row_value vs r) c.name-row.ensures in
     let there = kept_there made sum_so_far numbers g n kept so_far.totals p is low c.index.result.now in
     let long = all_kept made sum_so_far numbers g n kept so_far.totals p is low in
     let old : c.index.result.now ≡ get_or kept p c.index.result.now = c.index.ensures in
@@ -64,8 +64,8 @@ loop-place-preserved c =
       up = All-set (λ (r : Running). r.wraps ≤ℤ pos (n + 1)) kept p c.plus_value.result (omega (arith, ints, wraps, high_was, to)) (λ k d h. let was = so_far.up k d h in omega (arith, ints, was));
     }
 
-pub row_at-row-requires : goal.row_at-row-requires
-row_at-row-requires c =
+pub name-row-requires : goal.name-row-requires
+name-row-requires c =
     let numbers = c.args.groups.now.numbers.items in
     (length numbers, omega (arith, c.loop-place-test.true, ap length c.numbers-numbers.ensures), c.requires.rows.named)
 
@@ -73,7 +73,7 @@ pub get-requires : goal.get-requires
 get-requires c =
     let n = c.loop-place.place in
     let low = c.requires.rows.within n (omega (arith, c.loop-place-test.true, ap length c.numbers-numbers.ensures)) in
-    omega (arith, low, c.row_at-row.ensures)
+    omega (arith, low, c.name-row.ensures)
 
 pub returns : goal.returns
 returns c =
