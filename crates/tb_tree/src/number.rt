@@ -19,6 +19,7 @@ fn has_minus(text: &[u8]) -> bool
 /// A number up to this one has room for a further digit.
 const HAS_ROOM: u64 = 1_000_000_000_000_000_000;
 
+#[inline(always)]
 fn digit_of(byte: u8) -> Option<u64>
     ensures { IfSome result (λ n. (digit_value byte ≡ n) × (n < 10)) }
 {
@@ -29,6 +30,7 @@ fn digit_of(byte: u8) -> Option<u64>
 }
 
 // The number of a text of digits and nothing else, which most numbers are. None where the number may be too large too.
+#[inline(always)]
 fn plain_number(text: &[u8]) -> Option<u64>
     ensures { IfSome result (λ n.
         (0 < length text.now)
@@ -51,6 +53,7 @@ fn plain_number(text: &[u8]) -> Option<u64>
 }
 
 /// The value that a JSON number is, or None where it is too large for a float.
+#[inline(always)]
 pub(crate) fn number_of(text: &str) -> Option<Value>
     ensures { option_map view result ≡ option_map number (number_of text.now) }
 {
@@ -60,6 +63,7 @@ pub(crate) fn number_of(text: &str) -> Option<Value>
     }
 }
 
+#[inline(never)]
 fn any_number(text: &str) -> Option<Value>
     ensures { option_map view result ≡ option_map number (number_of text.now) }
 {

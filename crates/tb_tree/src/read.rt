@@ -1,8 +1,9 @@
 //! Values, read from a text in one pass over its tokens.
-ghost use Rattle.std.specs.Prelude.{◌≡◌, ◌<◌, ◌≤◌, ℕ, [], ◌∷◌, length, map, Some, None, Err, IfOk, OnOk, IsUtf8};
-ghost use Rattle.json.specs.Json.{value, members};
-ghost use Rattle.serde_json.specs.Data.{array, string, no_members};
-ghost use Rattle.serde_json.specs.Read.{of_json, of_members, converted, read as read_text};
+ghost use Rattle.std.specs.Prelude.{◌≡◌, ◌<◌, ◌≤◌, ℕ, [], ◌∷◌, length, map, option_map, Some, None, Err, IfOk, OnOk, OnErr, IsUtf8, MatchOption};
+ghost use Rattle.json.specs.Json.{after_end_array, value, members};
+ghost use Rattle.json.specs.Reads.{token_of};
+ghost use Rattle.serde_json.specs.Data.{array, number, string, no_members};
+ghost use Rattle.serde_json.specs.Read.{number_of, of_json, of_members, converted, read as read_text};
 ghost use Rattle.serde_json.specs.View.{items_of};
 ghost use Rattle.tb_tree.specs.Arrays.{array_after};
 ghost use Rattle.tb_tree.specs.Begun.{begun_view};
@@ -89,7 +90,20 @@ fn text_of(alloc: Global, text: &str) -> Result<Value, AllocError>
     }
 }
 
+// The value that a number is.
+#[inline(always)]
+fn number_in(text: &str) -> Result<Value, Fault>
+    ensures ok { IfOk result (λ v. option_map number (number_of text.now) ≡ Some (view v)) }
+    ensures err { OnErr result (option_map number (number_of text.now) ≡ None) }
+{
+    match number_of(text) {
+        Some(number) => Ok(number),
+        None => Err(Fault::NoJson),
+    }
+}
+
 // An array of one value.
+#[inline(always)]
 fn one(alloc: Global, value: Value) -> Result<Value, AllocError>
     ensures { IfOk result (λ v. view v ≡ array (items_of (view value ∷ []))) }
 {
@@ -100,6 +114,7 @@ fn one(alloc: Global, value: Value) -> Result<Value, AllocError>
 }
 
 // An array of two values.
+#[inline(always)]
 fn two(alloc: Global, first: Value, second: Value) -> Result<Value, AllocError>
     ensures { IfOk result (λ v. view v ≡ array (items_of (view first ∷ view second ∷ []))) }
 {
@@ -134,12 +149,26 @@ fn read(alloc: Global, reader: &mut Reader<'_>, depth: usize) -> Result<Value, F
     ensures err { result ≡ Err Fault.NoJson → converted of_json (value depth reader.old) ≡ None }
 {
     let token = reader.next().ok_or(Fault::NoJson)?;
+    read_from(alloc, reader, depth, token)
+}
+
+// The same behind its first token.
+#[cycle(read)]
+fn read_from(
+    alloc: Global,
+    reader: &mut Reader<'_>,
+    depth: usize,
+    token: Token<'_>,
+) -> Result<Value, Fault>
+    ensures ok { IfOk result
+        (λ v. converted of_json (value depth (token_of token.entry ∷ reader.old)) ≡ Some (view v, reader.new)) }
+    ensures shorter { OnOk result (length reader.new ≤ length reader.old) }
+    ensures err { result ≡ Err Fault.NoJson
+        → converted of_json (value depth (token_of token.entry ∷ reader.old)) ≡ None }
+{
     match token {
         Token::String(text) => Ok(text_of(alloc, text)?),
-        Token::Number(text) => match number_of(text) {
-            Some(number) => Ok(number),
-            None => Err(Fault::NoJson),
-        },
+        Token::Number(text) => Ok(number_in(text)?),
         Token::Bool(b) => Ok(Value::Bool(b)),
         Token::Null => Ok(Value::Null),
         Token::EndObject | Token::EndArray | Token::Key(_) | Token::Bad => Err(Fault::NoJson),
@@ -159,7 +188,38 @@ fn read(alloc: Global, reader: &mut Reader<'_>, depth: usize) -> Result<Value, F
     }
 }
 
+// The next value of an array, or None at its end. Most values are numbers, which are read here without a call.
+#[inline(always)]
+#[cycle(read)]
+fn next_item(
+    alloc: Global,
+    reader: &mut Reader<'_>,
+    depth: usize,
+) -> Result<Option<Value>, Fault>
+    ensures ok { IfOk result (λ o. MatchOption o (after_end_array reader.old ≡ Some reader.new)
+        (λ v. (after_end_array reader.old ≡ None)
+        × (converted of_json (value depth reader.old) ≡ Some (view v, reader.new)))) }
+    ensures shorter { OnOk result (length reader.new < length reader.old) }
+    ensures err { result ≡ Err Fault.NoJson → (after_end_array reader.old ≡ None)
+        × (converted of_json (value depth reader.old) ≡ None) }
+{
+    let token = reader.next().ok_or(Fault::NoJson)?;
+    match token {
+        Token::EndArray => Ok(None),
+        Token::Number(text) => Ok(Some(number_in(text)?)),
+        Token::BeginArray
+        | Token::BeginObject
+        | Token::String(_)
+        | Token::Bool(_)
+        | Token::Null
+        | Token::EndObject
+        | Token::Key(_)
+        | Token::Bad => Ok(Some(read_from(alloc, reader, depth, token)?)),
+    }
+}
+
 // What is left of an array behind its bracket.
+#[inline(always)]
 #[cycle(read)]
 fn read_array(alloc: Global, reader: &mut Reader<'_>, depth: usize) -> Result<Value, Fault>
     ensures ok { IfOk result
@@ -168,14 +228,14 @@ fn read_array(alloc: Global, reader: &mut Reader<'_>, depth: usize) -> Result<Va
     ensures err { result ≡ Err Fault.NoJson
         → array_after [] depth (length reader.old) reader.old ≡ None }
 {
-    if reader.take_end_array() {
-        return Ok(Value::Empty);
+    match next_item(alloc, reader, depth)? {
+        Some(first) => read_second(alloc, reader, depth, first),
+        None => Ok(Value::Empty),
     }
-    let first = read(alloc, reader, depth)?;
-    read_second(alloc, reader, depth, first)
 }
 
 // The same behind the first value.
+#[inline(always)]
 #[cycle(read)]
 fn read_second(
     alloc: Global,
@@ -189,14 +249,14 @@ fn read_second(
     ensures err { (most : ℕ) → length reader.old ≤ most → result ≡ Err Fault.NoJson
         → array_after (view first ∷ []) depth most reader.old ≡ None }
 {
-    if reader.take_end_array() {
-        return Ok(one(alloc, first)?);
+    match next_item(alloc, reader, depth)? {
+        Some(second) => read_third(alloc, reader, depth, first, second),
+        None => Ok(one(alloc, first)?),
     }
-    let second = read(alloc, reader, depth)?;
-    read_third(alloc, reader, depth, first, second)
 }
 
 // The same behind the first two values.
+#[inline(always)]
 #[cycle(read)]
 fn read_third(
     alloc: Global,
@@ -252,8 +312,7 @@ fn read_wholes(
     ensures err { (most : ℕ) → length reader.old ≤ most → result ≡ Err Fault.NoJson
         → array_after (map whole found.items) depth most reader.old ≡ None }
 {
-    'wholes: while !reader.take_end_array() {
-        let item = read(alloc, reader, depth)?;
+    'wholes: while let Some(item) = next_item(alloc, reader, depth)? {
         match item.into_whole() {
             Ok(number) => found.push(number)?,
             Err(item) => {
@@ -279,8 +338,7 @@ fn read_values(
     ensures err { (most : ℕ) → length reader.old ≤ most → result ≡ Err Fault.NoJson
         → array_after (map view found.items) depth most reader.old ≡ None }
 {
-    'values: while !reader.take_end_array() {
-        let item = read(alloc, reader, depth)?;
+    'values: while let Some(item) = next_item(alloc, reader, depth)? {
         found.push(item)?;
     }
     Ok(Value::Array(Box::new(alloc, found)?))

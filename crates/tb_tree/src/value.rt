@@ -61,6 +61,7 @@ impl Value {
     }
 
     // The whole number that the value is, where it is one as `whole` makes them.
+    #[inline(always)]
     pub(crate) fn as_whole(&self) -> Option<i64>
         ensures { IfSome result (λ n. view self.now ≡ whole n) }
     {
@@ -82,6 +83,7 @@ impl Value {
     }
 
     // The same, where it has 32 bits.
+    #[inline(always)]
     pub(crate) fn as_short(&self) -> Option<i32>
         ensures { IfSome result (λ n. view self.now ≡ whole n) }
     {

@@ -20,71 +20,82 @@ read-returns-in_err-token-clause-err t c refused =
     let empty : c.args.reader.now ≡ [] = grind arith in
     ap (converted of_json) (ap (value c.args.depth) empty ∙ value_is c.args.depth [])
 
-pub read-returns-then-depth-eq0-clause-err : goal.read-returns-then-depth-eq0-clause-err
+pub read-returns-clause-ok : goal.read-returns-clause-ok
+read-returns-clause-ok t c =
+    let first : c.args.reader.now ≡ token_of c.in_ok-token.token ∷ c.next.new.self = grind arith in
+    rw (ap (λ ts. converted of_json (value c.args.depth ts)) first) c.read_from.ensures.ok
+
+pub read-returns-clause-err : goal.read-returns-clause-err
+read-returns-clause-err t c refused =
+    let first : c.args.reader.now ≡ token_of c.in_ok-token.token ∷ c.next.new.self = grind arith in
+    ap (λ ts. converted of_json (value c.args.depth ts)) first ∙ c.read_from.ensures.err refused
+
+-- ---- behind the first token
+
+pub read_from-returns-then-depth-eq0-clause-err : goal.read_from-returns-then-depth-eq0-clause-err
 unfolding value
-read-returns-then-depth-eq0-clause-err t c never =
-    let first : c.args.reader.now ≡ token_of c.in_ok-token.token ∷ c.next.new.self = grind arith in
+read_from-returns-then-depth-eq0-clause-err t c never =
     let none : c.args.depth ≡ 0 = omega arith in
-    ap (converted of_json) (ap₂ value none (first ∙ ap (λ k. token_of k ∷ c.next.new.self) c.in-BeginArray.is))
+    ap (converted of_json) (ap₂ value none (ap (λ k. token_of k ∷ c.args.reader.now) c.in-BeginArray.is))
 
-pub read-returns-then-depth-eq0-2-clause-err : goal.read-returns-then-depth-eq0-2-clause-err
+pub read_from-returns-then-depth-eq0-2-clause-err : goal.read_from-returns-then-depth-eq0-2-clause-err
 unfolding value
-read-returns-then-depth-eq0-2-clause-err t c never =
-    let first : c.args.reader.now ≡ token_of c.in_ok-token.token ∷ c.next.new.self = grind arith in
+read_from-returns-then-depth-eq0-2-clause-err t c never =
     let none : c.args.depth ≡ 0 = omega arith in
-    ap (converted of_json) (ap₂ value none (first ∙ ap (λ k. token_of k ∷ c.next.new.self) c.in-BeginObject.is))
+    ap (converted of_json) (ap₂ value none (ap (λ k. token_of k ∷ c.args.reader.now) c.in-BeginObject.is))
 
-pub read-returns-in_err-members-in-BeginObject-clause-err : goal.read-returns-in_err-members-in-BeginObject-clause-err
-read-returns-in_err-members-in-BeginObject-clause-err t c refused =
-    let first : c.args.reader.now ≡ token_of c.in_ok-token.token ∷ c.next.new.self = grind arith in
-    let opened = ap (converted of_json) (ap (value c.args.depth) (first ∙ ap (λ k. token_of k ∷ c.next.new.self) c.in-BeginObject.is) ∙ value-begin_object c.args.depth c.next.new.self (omega arith)) ∙ converted-object (members (value (c.args.depth - 1)) (length c.next.new.self) c.next.new.self) in
-    opened ∙ ap (parse_map object) (c.read_members.ensures.err (grind arith))
+pub read_from-returns-in_ok-text_of-in-String-clause-ok : goal.read_from-returns-in_ok-text_of-in-String-clause-ok
+read_from-returns-in_ok-text_of-in-String-clause-ok t c =
+    ap (λ k. converted of_json (value c.args.depth (token_of k ∷ c.args.reader.now))) c.in-String.is ∙ ap (converted of_json) (value_is c.args.depth _)
+    ∙ ap (λ d. Some (d, c.args.reader.now)) (sym c.in_ok-text_of-in-String.ensures)
 
-pub read-returns-in_ok-text_of-in-String-clause-ok : goal.read-returns-in_ok-text_of-in-String-clause-ok
-read-returns-in_ok-text_of-in-String-clause-ok t c =
-    let first : c.args.reader.now ≡ token_of c.in_ok-token.token ∷ c.next.new.self = grind arith in
-    let is : c.args.reader.now ≡ Token.string c.in-String.text.now ∷ c.next.new.self = grind (arith, first) in
-    let seen = c.in_ok-text_of-in-String.ensures in
-    ap (converted of_json) (ap (value c.args.depth) is ∙ value_is c.args.depth _) ∙ ap (λ d. Some (d, c.next.new.self)) (sym seen)
+pub read_from-returns-in_ok-number_in-in-Number-clause-ok : goal.read_from-returns-in_ok-number_in-in-Number-clause-ok
+read_from-returns-in_ok-number_in-in-Number-clause-ok t c =
+    ap (λ k. converted of_json (value c.args.depth (token_of k ∷ c.args.reader.now))) c.in-Number.is ∙ ap (converted of_json) (value_is c.args.depth _)
+    ∙ ap (option_map (λ d. (d, c.args.reader.now))) c.in_ok-number_in-in-Number.ensures.ok
 
-pub read-returns-in-Bool-clause-ok : goal.read-returns-in-Bool-clause-ok
-read-returns-in-Bool-clause-ok t c =
-    let first : c.args.reader.now ≡ token_of c.in_ok-token.token ∷ c.next.new.self = grind arith in
-    let is : c.args.reader.now ≡ Token.boolean c.in-Bool.b ∷ c.next.new.self = grind (arith, first) in
+pub read_from-returns-in_err-number_in-in-Number-clause-err : goal.read_from-returns-in_err-number_in-in-Number-clause-err
+read_from-returns-in_err-number_in-in-Number-clause-err t c refused =
+    ap (λ k. converted of_json (value c.args.depth (token_of k ∷ c.args.reader.now))) c.in-Number.is ∙ ap (converted of_json) (value_is c.args.depth _)
+    ∙ ap (option_map (λ d. (d, c.args.reader.now))) c.in_err-number_in-in-Number.ensures.err
+
+pub read_from-returns-in-Bool-clause-ok : goal.read_from-returns-in-Bool-clause-ok
+read_from-returns-in-Bool-clause-ok t c =
     let seen : view (Bool c.in-Bool.b) ≡ boolean c.in-Bool.b = search (rules, the_lemmas) in
-    ap (converted of_json) (ap (value c.args.depth) is ∙ value_is c.args.depth _) ∙ ap (λ d. Some (d, c.next.new.self)) (sym seen)
+    ap (λ k. converted of_json (value c.args.depth (token_of k ∷ c.args.reader.now))) c.in-Bool.is ∙ ap (converted of_json) (value_is c.args.depth _)
+    ∙ ap (λ d. Some (d, c.args.reader.now)) (sym seen)
 
-pub read-returns-in-Null-clause-ok : goal.read-returns-in-Null-clause-ok
-read-returns-in-Null-clause-ok t c =
-    let first : c.args.reader.now ≡ token_of c.in_ok-token.token ∷ c.next.new.self = grind arith in
-    let is : c.args.reader.now ≡ Token.null ∷ c.next.new.self = grind (arith, first) in
+pub read_from-returns-in-Null-clause-ok : goal.read_from-returns-in-Null-clause-ok
+read_from-returns-in-Null-clause-ok t c =
     let seen : view (Null) ≡ null = search (rules, the_lemmas) in
-    ap (converted of_json) (ap (value c.args.depth) is ∙ value_is c.args.depth _) ∙ ap (λ d. Some (d, c.next.new.self)) (sym seen)
+    ap (λ k. converted of_json (value c.args.depth (token_of k ∷ c.args.reader.now))) c.in-Null.is ∙ ap (converted of_json) (value_is c.args.depth _)
+    ∙ ap (λ d. Some (d, c.args.reader.now)) (sym seen)
 
-pub read-returns-in-Some-clause-ok : goal.read-returns-in-Some-clause-ok
-read-returns-in-Some-clause-ok t c =
-    let first : c.args.reader.now ≡ token_of c.in_ok-token.token ∷ c.next.new.self = grind arith in
-    let is : c.args.reader.now ≡ Token.number c.in-Number.text.now ∷ c.next.new.self = grind (arith, first) in
-    ap (converted of_json) (ap (value c.args.depth) is ∙ value_is c.args.depth _) ∙ ap (option_map (λ d. (d, c.next.new.self))) (sym c.in-Some.ensures)
-
-pub read-returns-in-None-clause-err : goal.read-returns-in-None-clause-err
-read-returns-in-None-clause-err t c refused =
-    let first : c.args.reader.now ≡ token_of c.in_ok-token.token ∷ c.next.new.self = grind arith in
-    let is : c.args.reader.now ≡ Token.number c.in-Number.text.now ∷ c.next.new.self = grind (arith, first) in
-    ap (converted of_json) (ap (value c.args.depth) is ∙ value_is c.args.depth _) ∙ ap (option_map (λ d. (d, c.next.new.self))) (sym c.in-None.ensures)
-
-pub read-returns-in-EndObject-clause-err : goal.read-returns-in-EndObject-clause-err
-read-returns-in-EndObject-clause-err t c refused =
-    let first : c.args.reader.now ≡ token_of c.in_ok-token.token ∷ c.next.new.self = grind arith in
-    let none : value c.args.depth c.args.reader.now ≡ None = rw (value_is c.args.depth c.args.reader.now, first) (grind arith) in
+pub read_from-returns-in-EndObject-clause-err : goal.read_from-returns-in-EndObject-clause-err
+read_from-returns-in-EndObject-clause-err t c refused =
+    let none : value c.args.depth (token_of c.args.token ∷ c.args.reader.now) ≡ None = rw (value_is c.args.depth (token_of c.args.token ∷ c.args.reader.now)) (grind arith) in
     ap (converted of_json) none
 
-pub read-returns-in_ok-new-in-BeginObject-clause-ok : goal.read-returns-in_ok-new-in-BeginObject-clause-ok
-read-returns-in_ok-new-in-BeginObject-clause-ok t c =
-    let first : c.args.reader.now ≡ token_of c.in_ok-token.token ∷ c.next.new.self = grind arith in
-    let opened = ap (converted of_json) (ap (value c.args.depth) (first ∙ ap (λ k. token_of k ∷ c.next.new.self) c.in-BeginObject.is) ∙ value-begin_object c.args.depth c.next.new.self (omega arith)) ∙ converted-object (members (value (c.args.depth - 1)) (length c.next.new.self) c.next.new.self) in
+pub read_from-returns-in_err-members-in-BeginObject-clause-err : goal.read_from-returns-in_err-members-in-BeginObject-clause-err
+read_from-returns-in_err-members-in-BeginObject-clause-err t c refused =
+    let opened = ap (converted of_json) (ap (λ k. value c.args.depth (token_of k ∷ c.args.reader.now)) c.in-BeginObject.is ∙ value-begin_object c.args.depth c.args.reader.now (omega arith)) ∙ converted-object (members (value (c.args.depth - 1)) (length c.args.reader.now) c.args.reader.now) in
+    opened ∙ ap (parse_map object) (c.read_members.ensures.err (grind arith))
+
+pub read_from-returns-in_ok-new-in-BeginObject-clause-ok : goal.read_from-returns-in_ok-new-in-BeginObject-clause-ok
+read_from-returns-in_ok-new-in-BeginObject-clause-ok t c =
+    let opened = ap (converted of_json) (ap (λ k. value c.args.depth (token_of k ∷ c.args.reader.now)) c.in-BeginObject.is ∙ value-begin_object c.args.depth c.args.reader.now (omega arith)) ∙ converted-object (members (value (c.args.depth - 1)) (length c.args.reader.now) c.args.reader.now) in
     let found = c.in_ok-members-in-BeginObject in
     opened ∙ ap (parse_map object) found.ensures.ok ∙ ap (λ d. Some (d, c.read_members.new.reader)) (ap (λ m. object (members_view m.entries)) (sym c.in_ok-new-in-BeginObject.ensures.ok) ∙ sym (view-Object c.in_ok-new-in-BeginObject.field-0))
+
+pub read_from-returns-else-depth-eq0-clause-ok : goal.read_from-returns-else-depth-eq0-clause-ok
+read_from-returns-else-depth-eq0-clause-ok t c =
+    let opened = ap (converted of_json) (ap (λ k. value c.args.depth (token_of k ∷ c.args.reader.now)) c.in-BeginArray.is ∙ value-begin_array c.args.depth c.args.reader.now (omega arith)) ∙ converted-array (items (value (c.args.depth - 1)) (length c.args.reader.now) c.args.reader.now) ∙ array_after-none (c.args.depth - 1) (length c.args.reader.now) c.args.reader.now in
+    rw opened c.read_array.ensures.ok
+
+pub read_from-returns-else-depth-eq0-clause-err : goal.read_from-returns-else-depth-eq0-clause-err
+read_from-returns-else-depth-eq0-clause-err t c refused =
+    let opened = ap (converted of_json) (ap (λ k. value c.args.depth (token_of k ∷ c.args.reader.now)) c.in-BeginArray.is ∙ value-begin_array c.args.depth c.args.reader.now (omega arith)) ∙ converted-array (items (value (c.args.depth - 1)) (length c.args.reader.now) c.args.reader.now) ∙ array_after-none (c.args.depth - 1) (length c.args.reader.now) c.args.reader.now in
+    opened ∙ c.read_array.ensures.err refused
 
 pub read_members-members-init : goal.read_members-members-init
 read_members-members-init t c =
@@ -144,69 +155,91 @@ read_members-returns-clause-ok t c =
 
 -- ---- arrays
 
-pub read-returns-else-depth-eq0-clause-ok : goal.read-returns-else-depth-eq0-clause-ok
-read-returns-else-depth-eq0-clause-ok t c =
-    let first : c.args.reader.now ≡ token_of c.in_ok-token.token ∷ c.next.new.self = grind arith in
-    let opened = ap (converted of_json) (ap (value c.args.depth) (first ∙ ap (λ k. token_of k ∷ c.next.new.self) c.in-BeginArray.is) ∙ value-begin_array c.args.depth c.next.new.self (omega arith)) ∙ converted-array (items (value (c.args.depth - 1)) (length c.next.new.self) c.next.new.self) ∙ array_after-none (c.args.depth - 1) (length c.next.new.self) c.next.new.self in
-    rw opened c.read_array.ensures.ok
+pub next_item-returns-in_err-token-clause-err : goal.next_item-returns-in_err-token-clause-err
+next_item-returns-in_err-token-clause-err t c refused =
+    let empty : c.args.reader.now ≡ [] = grind arith in
+    (ap after_end_array empty, ap (converted of_json) (ap (value c.args.depth) empty ∙ value_is c.args.depth []))
 
-pub read-returns-else-depth-eq0-clause-err : goal.read-returns-else-depth-eq0-clause-err
-read-returns-else-depth-eq0-clause-err t c refused =
+pub next_item-returns-in-EndArray-clause-ok : goal.next_item-returns-in-EndArray-clause-ok
+next_item-returns-in-EndArray-clause-ok t c =
     let first : c.args.reader.now ≡ token_of c.in_ok-token.token ∷ c.next.new.self = grind arith in
-    let opened = ap (converted of_json) (ap (value c.args.depth) (first ∙ ap (λ k. token_of k ∷ c.next.new.self) c.in-BeginArray.is) ∙ value-begin_array c.args.depth c.next.new.self (omega arith)) ∙ converted-array (items (value (c.args.depth - 1)) (length c.next.new.self) c.next.new.self) ∙ array_after-none (c.args.depth - 1) (length c.next.new.self) c.next.new.self in
-    opened ∙ c.read_array.ensures.err refused
+    ap after_end_array (first ∙ ap (λ k. token_of k ∷ c.next.new.self) c.in-EndArray.is)
 
-pub read_array-returns-then-take_end_array-clause-ok : goal.read_array-returns-then-take_end_array-clause-ok
-read_array-returns-then-take_end_array-clause-ok t c =
+pub next_item-returns-in_ok-number_in-in-Number-clause-ok : goal.next_item-returns-in_ok-number_in-in-Number-clause-ok
+next_item-returns-in_ok-number_in-in-Number-clause-ok t c =
+    let first : c.args.reader.now ≡ token_of c.in_ok-token.token ∷ c.next.new.self = grind arith in
+    let is : c.args.reader.now ≡ Token.number c.in-Number.text.now ∷ c.next.new.self = first ∙ ap (λ k. token_of k ∷ c.next.new.self) c.in-Number.is in
+    (
+      ap after_end_array is,
+      ap (converted of_json) (ap (value c.args.depth) is ∙ value_is c.args.depth _) ∙ ap (option_map (λ d. (d, c.next.new.self))) c.in_ok-number_in-in-Number.ensures.ok,
+    )
+
+pub next_item-returns-in_err-number_in-in-Number-clause-err : goal.next_item-returns-in_err-number_in-in-Number-clause-err
+next_item-returns-in_err-number_in-in-Number-clause-err t c refused =
+    let first : c.args.reader.now ≡ token_of c.in_ok-token.token ∷ c.next.new.self = grind arith in
+    let is : c.args.reader.now ≡ Token.number c.in-Number.text.now ∷ c.next.new.self = first ∙ ap (λ k. token_of k ∷ c.next.new.self) c.in-Number.is in
+    (
+      ap after_end_array is,
+      ap (converted of_json) (ap (value c.args.depth) is ∙ value_is c.args.depth _) ∙ ap (option_map (λ d. (d, c.next.new.self))) c.in_err-number_in-in-Number.ensures.err,
+    )
+
+pub next_item-returns-in_ok-read_from-in-BeginArray-clause-ok : goal.next_item-returns-in_ok-read_from-in-BeginArray-clause-ok
+next_item-returns-in_ok-read_from-in-BeginArray-clause-ok t c =
+    let first : c.args.reader.now ≡ token_of c.in_ok-token.token ∷ c.next.new.self = grind arith in
+    (grind (arith, first), ap (λ ts. converted of_json (value c.args.depth ts)) first ∙ c.in_ok-read_from-in-BeginArray.ensures.ok)
+
+pub next_item-returns-in_err-read_from-in-BeginArray-clause-err : goal.next_item-returns-in_err-read_from-in-BeginArray-clause-err
+next_item-returns-in_err-read_from-in-BeginArray-clause-err t c refused =
+    let first : c.args.reader.now ≡ token_of c.in_ok-token.token ∷ c.next.new.self = grind arith in
+    (grind (arith, first), ap (λ ts. converted of_json (value c.args.depth ts)) first ∙ c.read_from.ensures.err (grind arith))
+
+pub read_array-returns-in-None-clause-ok : goal.read_array-returns-in-None-clause-ok
+read_array-returns-in-None-clause-ok t c =
     let seen : view Empty ≡ array (items_of []) = search (rules, the_lemmas) in
-    array_after-end [] c.args.depth (length c.args.reader.now) c.args.reader.now c.take_end_array.new.self (omega arith) (grind arith) ∙ ap (λ d. Some (d, c.take_end_array.new.self)) (sym seen)
+    array_after-end [] c.args.depth (length c.args.reader.now) c.args.reader.now c.next_item.new.reader (omega arith) (grind arith) ∙ ap (λ d. Some (d, c.next_item.new.reader)) (sym seen)
 
 pub read_array-returns-in_err-first-clause-err : goal.read_array-returns-in_err-first-clause-err
 read_array-returns-in_err-first-clause-err t c refused =
-    let going : (after_end_array c.args.reader.now ≡ None) × (c.take_end_array.new.self ≡ c.args.reader.now) = grind arith in
-    array_after-refused [] c.args.depth (length c.args.reader.now) c.args.reader.now going.0 (rw (← going.1) (c.read.ensures.err (grind arith)))
+    let none = c.next_item.ensures.err (grind arith) in
+    array_after-refused [] c.args.depth (length c.args.reader.now) c.args.reader.now none.0 none.1
 
-pub read_array-returns-clause-ok : goal.read_array-returns-clause-ok
-read_array-returns-clause-ok t c =
-    let going : (after_end_array c.args.reader.now ≡ None) × (c.take_end_array.new.self ≡ c.args.reader.now) = grind arith in
+pub read_array-returns-in-Some-clause-ok : goal.read_array-returns-in-Some-clause-ok
+read_array-returns-in-Some-clause-ok t c =
+    let going : (after_end_array c.args.reader.now ≡ None) × (converted of_json (value c.args.depth c.args.reader.now) ≡ Some (view c.in-Some.first, c.next_item.new.reader)) = grind arith in
+    let less : length c.next_item.new.reader < length c.args.reader.now = grind arith in
     let n = length c.args.reader.now in
-    let r = c.read.new.reader in
-    let less : length r < n = rw (← going.1) c.in_ok-first.ensures.shorter in
-    let turn = array_after-more [] c.args.depth n c.args.reader.now r (view c.in_ok-first.first) (omega arith) going.0 (rw (← going.1) c.in_ok-first.ensures.ok) in
+    let turn = array_after-more [] c.args.depth n c.args.reader.now c.next_item.new.reader (view c.in-Some.first) (omega arith) going.0 going.1 in
     rw turn (c.read_second.ensures.ok (n - 1) (omega arith))
 
-pub read_array-returns-clause-err : goal.read_array-returns-clause-err
-read_array-returns-clause-err t c refused =
-    let going : (after_end_array c.args.reader.now ≡ None) × (c.take_end_array.new.self ≡ c.args.reader.now) = grind arith in
+pub read_array-returns-in-Some-clause-err : goal.read_array-returns-in-Some-clause-err
+read_array-returns-in-Some-clause-err t c refused =
+    let going : (after_end_array c.args.reader.now ≡ None) × (converted of_json (value c.args.depth c.args.reader.now) ≡ Some (view c.in-Some.first, c.next_item.new.reader)) = grind arith in
+    let less : length c.next_item.new.reader < length c.args.reader.now = grind arith in
     let n = length c.args.reader.now in
-    let r = c.read.new.reader in
-    let less : length r < n = rw (← going.1) c.in_ok-first.ensures.shorter in
-    let turn = array_after-more [] c.args.depth n c.args.reader.now r (view c.in_ok-first.first) (omega arith) going.0 (rw (← going.1) c.in_ok-first.ensures.ok) in
+    let turn = array_after-more [] c.args.depth n c.args.reader.now c.next_item.new.reader (view c.in-Some.first) (omega arith) going.0 going.1 in
     turn ∙ c.read_second.ensures.err (n - 1) (omega arith) refused
 
-pub read_second-returns-then-take_end_array-clause-ok : goal.read_second-returns-then-take_end_array-clause-ok
-read_second-returns-then-take_end_array-clause-ok t c most enough =
-    array_after-end (view c.args.first ∷ []) c.args.depth most c.args.reader.now c.take_end_array.new.self enough (grind arith) ∙ ap (λ d. Some (d, c.take_end_array.new.self)) (sym c.in_ok-one.ensures)
+pub read_second-returns-in_ok-one-in-None-clause-ok : goal.read_second-returns-in_ok-one-in-None-clause-ok
+read_second-returns-in_ok-one-in-None-clause-ok t c most enough =
+    array_after-end (view c.args.first ∷ []) c.args.depth most c.args.reader.now c.next_item.new.reader enough (grind arith) ∙ ap (λ d. Some (d, c.next_item.new.reader)) (sym c.in_ok-one-in-None.ensures)
 
 pub read_second-returns-in_err-second-clause-err : goal.read_second-returns-in_err-second-clause-err
 read_second-returns-in_err-second-clause-err t c most enough refused =
-    let going : (after_end_array c.args.reader.now ≡ None) × (c.take_end_array.new.self ≡ c.args.reader.now) = grind arith in
-    array_after-refused (view c.args.first ∷ []) c.args.depth most c.args.reader.now going.0 (rw (← going.1) (c.read.ensures.err (grind arith)))
+    let none = c.next_item.ensures.err (grind arith) in
+    array_after-refused (view c.args.first ∷ []) c.args.depth most c.args.reader.now none.0 none.1
 
-pub read_second-returns-clause-ok : goal.read_second-returns-clause-ok
-read_second-returns-clause-ok t c most enough =
-    let going : (after_end_array c.args.reader.now ≡ None) × (c.take_end_array.new.self ≡ c.args.reader.now) = grind arith in
-    let r = c.read.new.reader in
-    let less : length r < length c.args.reader.now = rw (← going.1) c.in_ok-second.ensures.shorter in
-    let turn = array_after-more (view c.args.first ∷ []) c.args.depth most c.args.reader.now r (view c.in_ok-second.second) (omega (arith, enough)) going.0 (rw (← going.1) c.in_ok-second.ensures.ok) in
+pub read_second-returns-in-Some-clause-ok : goal.read_second-returns-in-Some-clause-ok
+read_second-returns-in-Some-clause-ok t c most enough =
+    let going : (after_end_array c.args.reader.now ≡ None) × (converted of_json (value c.args.depth c.args.reader.now) ≡ Some (view c.in-Some.second, c.next_item.new.reader)) = grind arith in
+    let less : length c.next_item.new.reader < length c.args.reader.now = grind arith in
+    let turn = array_after-more (view c.args.first ∷ []) c.args.depth most c.args.reader.now c.next_item.new.reader (view c.in-Some.second) (omega (arith, enough)) going.0 going.1 in
     rw turn (c.read_third.ensures.ok (most - 1) (omega (arith, enough)))
 
-pub read_second-returns-clause-err : goal.read_second-returns-clause-err
-read_second-returns-clause-err t c most enough refused =
-    let going : (after_end_array c.args.reader.now ≡ None) × (c.take_end_array.new.self ≡ c.args.reader.now) = grind arith in
-    let r = c.read.new.reader in
-    let less : length r < length c.args.reader.now = rw (← going.1) c.in_ok-second.ensures.shorter in
-    let turn = array_after-more (view c.args.first ∷ []) c.args.depth most c.args.reader.now r (view c.in_ok-second.second) (omega (arith, enough)) going.0 (rw (← going.1) c.in_ok-second.ensures.ok) in
+pub read_second-returns-in-Some-clause-err : goal.read_second-returns-in-Some-clause-err
+read_second-returns-in-Some-clause-err t c most enough refused =
+    let going : (after_end_array c.args.reader.now ≡ None) × (converted of_json (value c.args.depth c.args.reader.now) ≡ Some (view c.in-Some.second, c.next_item.new.reader)) = grind arith in
+    let less : length c.next_item.new.reader < length c.args.reader.now = grind arith in
+    let turn = array_after-more (view c.args.first ∷ []) c.args.depth most c.args.reader.now c.next_item.new.reader (view c.in-Some.second) (omega (arith, enough)) going.0 going.1 in
     turn ∙ c.read_third.ensures.err (most - 1) (omega (arith, enough)) refused
 
 pub read_third-returns-then-take_end_array-clause-ok : goal.read_third-returns-then-take_end_array-clause-ok
@@ -238,23 +271,22 @@ pub read_values-returns-in_err-item-clause-err : goal.read_values-returns-in_err
 read_values-returns-in_err-item-clause-err t c most enough refused =
     let l = c.values in
     let so_far = l.invariant.read most enough in
-    let going : (after_end_array l.reader ≡ None) × (c.take_end_array.new.self ≡ l.reader) = grind arith in
-    so_far.2 ∙ array_after-refused (map view l.found.items) c.args.depth so_far.0 l.reader going.0 (rw (← going.1) (c.read.ensures.err (grind arith)))
+    let none = c.next_item.ensures.err (grind arith) in
+    so_far.2 ∙ array_after-refused (map view l.found.items) c.args.depth so_far.0 l.reader none.0 none.1
 
 pub read_values-values-preserved : goal.read_values-values-preserved
 read_values-values-preserved t c =
     let l = c.values in
-    let going : (after_end_array l.reader ≡ None) × (c.take_end_array.new.self ≡ l.reader) = grind arith in
-    let done = c.in_ok-item.ensures in
-    let v = c.in_ok-item.item in
-    let r = c.read.new.reader in
-    let less : length r < length l.reader = rw (← going.1) done.shorter in
+    let v = c.in-Some.item in
+    let r = c.next_item.new.reader in
+    let going : (after_end_array l.reader ≡ None) × (converted of_json (value c.args.depth l.reader) ≡ Some (view v, r)) = grind arith in
+    let less : length r < length l.reader = grind arith in
     let pushed : map view c.push.new.self.items ≡ map view l.found.items ++ view v ∷ [] = rw (c.in_ok-push.ensures.items, map_push) refl in
     let within = l.invariant.shorter in
     record {
       read = λ most enough.
           let so_far = l.invariant.read most enough in
-          let turn = array_after-more (map view l.found.items) c.args.depth so_far.0 l.reader r (view v) (omega (arith, so_far.1)) going.0 (rw (← going.1) done.ok) in
+          let turn = array_after-more (map view l.found.items) c.args.depth so_far.0 l.reader r (view v) (omega (arith, so_far.1)) going.0 going.1 in
           (so_far.0 - 1, omega (arith, so_far.1), so_far.2 ∙ turn ∙ ap (λ ds. array_after ds c.args.depth (so_far.0 - 1) r) (sym pushed));
       shorter = omega arith;
     }
@@ -263,7 +295,7 @@ pub read_values-returns-clause-ok : goal.read_values-returns-clause-ok
 read_values-returns-clause-ok t c most enough =
     let l = c.values in
     let so_far = l.invariant.read most enough in
-    let r = c.take_end_array.new.self in
+    let r = c.next_item.new.reader in
     so_far.2 ∙ array_after-end (map view l.found.items) c.args.depth so_far.0 l.reader r so_far.1 (grind arith)
     ∙ ap (λ d. Some (d, r)) (ap (λ v. array (items_view v.items)) (sym c.in_ok-new.ensures.ok) ∙ sym (view-Array c.in_ok-new.field-0))
 
@@ -274,24 +306,23 @@ pub read_wholes-returns-in_err-item-clause-err : goal.read_wholes-returns-in_err
 read_wholes-returns-in_err-item-clause-err t c most enough refused =
     let l = c.wholes in
     let so_far = l.invariant.read most enough in
-    let going : (after_end_array l.reader ≡ None) × (c.take_end_array.new.self ≡ l.reader) = grind arith in
-    so_far.2 ∙ array_after-refused (map whole l.found.items) c.args.depth so_far.0 l.reader going.0 (rw (← going.1) (c.read.ensures.err (grind arith)))
+    let none = c.next_item.ensures.err (grind arith) in
+    so_far.2 ∙ array_after-refused (map whole l.found.items) c.args.depth so_far.0 l.reader none.0 none.1
 
 pub read_wholes-wholes-preserved : goal.read_wholes-wholes-preserved
 read_wholes-wholes-preserved t c =
     let l = c.wholes in
-    let going : (after_end_array l.reader ≡ None) × (c.take_end_array.new.self ≡ l.reader) = grind arith in
-    let done = c.in_ok-item.ensures in
-    let v = c.in_ok-item.item in
-    let r = c.read.new.reader in
-    let less : length r < length l.reader = rw (← going.1) done.shorter in
+    let v = c.in-Some.item in
+    let r = c.next_item.new.reader in
+    let going : (after_end_array l.reader ≡ None) × (converted of_json (value c.args.depth l.reader) ≡ Some (view v, r)) = grind arith in
+    let less : length r < length l.reader = grind arith in
     let back : to_z w64 (of_z w64 c.in-Ok.number) ≡ c.in-Ok.number = search rules in
     let pushed : map whole c.push.new.self.items ≡ map whole l.found.items ++ view v ∷ [] = rw (c.in_ok-push-in-Ok.ensures.items, map_push, back, c.in-Ok.ensures) refl in
     let within = l.invariant.shorter in
     record {
       read = λ most enough.
           let so_far = l.invariant.read most enough in
-          let turn = array_after-more (map whole l.found.items) c.args.depth so_far.0 l.reader r (view v) (omega (arith, so_far.1)) going.0 (rw (← going.1) done.ok) in
+          let turn = array_after-more (map whole l.found.items) c.args.depth so_far.0 l.reader r (view v) (omega (arith, so_far.1)) going.0 going.1 in
           (so_far.0 - 1, omega (arith, so_far.1), so_far.2 ∙ turn ∙ ap (λ ds. array_after ds c.args.depth (so_far.0 - 1) r) (sym pushed));
       shorter = omega arith;
     }
@@ -300,12 +331,11 @@ pub read_wholes-returns-in-Err-clause-ok : goal.read_wholes-returns-in-Err-claus
 read_wholes-returns-in-Err-clause-ok t c most enough =
     let l = c.wholes in
     let so_far = l.invariant.read most enough in
-    let going : (after_end_array l.reader ≡ None) × (c.take_end_array.new.self ≡ l.reader) = grind arith in
-    let done = c.in_ok-item.ensures in
-    let v = c.in_ok-item.item in
-    let r = c.read.new.reader in
-    let less : length r < length l.reader = rw (← going.1) done.shorter in
-    let turn = array_after-more (map whole l.found.items) c.args.depth so_far.0 l.reader r (view v) (omega (arith, so_far.1)) going.0 (rw (← going.1) done.ok) in
+    let v = c.in-Some.item in
+    let r = c.next_item.new.reader in
+    let going : (after_end_array l.reader ≡ None) × (converted of_json (value c.args.depth l.reader) ≡ Some (view v, r)) = grind arith in
+    let less : length r < length l.reader = grind arith in
+    let turn = array_after-more (map whole l.found.items) c.args.depth so_far.0 l.reader r (view v) (omega (arith, so_far.1)) going.0 going.1 in
     let values = c.in_ok-values-in-Err.ensures ∙ ap (λ w. map whole l.found.items ++ view w ∷ []) c.in-Err.ensures in
     rw (so_far.2 ∙ turn ∙ ap (λ ds. array_after ds c.args.depth (so_far.0 - 1) r) (sym values)) (c.read_values.ensures.ok (so_far.0 - 1) (omega (arith, so_far.1)))
 
@@ -313,12 +343,11 @@ pub read_wholes-returns-in-Err-clause-err : goal.read_wholes-returns-in-Err-clau
 read_wholes-returns-in-Err-clause-err t c most enough refused =
     let l = c.wholes in
     let so_far = l.invariant.read most enough in
-    let going : (after_end_array l.reader ≡ None) × (c.take_end_array.new.self ≡ l.reader) = grind arith in
-    let done = c.in_ok-item.ensures in
-    let v = c.in_ok-item.item in
-    let r = c.read.new.reader in
-    let less : length r < length l.reader = rw (← going.1) done.shorter in
-    let turn = array_after-more (map whole l.found.items) c.args.depth so_far.0 l.reader r (view v) (omega (arith, so_far.1)) going.0 (rw (← going.1) done.ok) in
+    let v = c.in-Some.item in
+    let r = c.next_item.new.reader in
+    let going : (after_end_array l.reader ≡ None) × (converted of_json (value c.args.depth l.reader) ≡ Some (view v, r)) = grind arith in
+    let less : length r < length l.reader = grind arith in
+    let turn = array_after-more (map whole l.found.items) c.args.depth so_far.0 l.reader r (view v) (omega (arith, so_far.1)) going.0 going.1 in
     let values = c.in_ok-values-in-Err.ensures ∙ ap (λ w. map whole l.found.items ++ view w ∷ []) c.in-Err.ensures in
     so_far.2 ∙ turn ∙ ap (λ ds. array_after ds c.args.depth (so_far.0 - 1) r) (sym values) ∙ c.read_values.ensures.err (so_far.0 - 1) (omega (arith, so_far.1)) refused
 
@@ -326,6 +355,6 @@ pub read_wholes-returns-clause-ok : goal.read_wholes-returns-clause-ok
 read_wholes-returns-clause-ok t c most enough =
     let l = c.wholes in
     let so_far = l.invariant.read most enough in
-    let r = c.take_end_array.new.self in
+    let r = c.next_item.new.reader in
     so_far.2 ∙ array_after-end (map whole l.found.items) c.args.depth so_far.0 l.reader r so_far.1 (grind arith)
     ∙ ap (λ d. Some (d, r)) (ap (λ v. array (items_of (map whole v.items))) (sym c.in_ok-new.ensures.ok) ∙ sym (view-Wholes c.in_ok-new.field-0))
