@@ -3,7 +3,7 @@ import pathlib
 import re
 
 ROOT = pathlib.Path(__file__).resolve().parent.parent
-FUNCTION = re.compile(r"^\s*(?:pub(?:\([^)]*\))? )?(?:final )?fn (\w+)")
+FUNCTION = re.compile(r'^\s*(?:pub(?:\([^)]*\))? )?(?:final )?(?:extern "C" )?fn (\w+)')
 OWNER = re.compile(r"^(?:pub )?(impl|trait)\b(?:<[^>]*(?:<[^>]*>)?[^>]*>)?\s*(.*)$")
 CLAUSE = re.compile(r"^\s*(requires|ensures)\b\s*(\w+)?\s*\{\s*(\w*)")
 DEFINED = re.compile(r"^(?:pub |unfoldable |abbrev |record |data )+(?!mod |use )(\S+)")
