@@ -8,6 +8,7 @@ pub mod laws;
 mod members;
 mod one_table;
 mod reading;
+mod reasons;
 mod request;
 mod runs;
 mod shape;
@@ -30,6 +31,7 @@ pub use reading::{
     dummies_in, dummies_request_of, join_in, join_request_of, json_value, pivot_in,
     pivot_request_of, unpivot_in, unpivot_request_of, value_in, value_of,
 };
+pub use reasons::bad_request_text;
 pub use request::{
     DummiesRequest, JoinRequest, PivotRequest, Reason, RequestFault, UnpivotRequest,
 };

@@ -1,5 +1,5 @@
 -- The words for why bytes are no request.
-use Rattle.std.specs.Prelude.{ℕ, List, codes}
+use Rattle.std.specs.Prelude.{ℕ, ◌++◌, List, [], ◌∷◌, codes}
 use Rattle.tb_request.specs.declared.request.Reason.{Reason}
 use Rattle.tb_request.specs.declared.request.Reason.TheVariants as why
 
@@ -13,3 +13,8 @@ reason_word why.Exec = codes "Exec"
 reason_word why.Heights = codes "Heights"
 reason_word why.Name = codes "Name"
 reason_word why.Flag = codes "Flag"
+
+-- the text that tells the reason
+abbrev pub bad_request_text : Reason → List ℕ
+bad_request_text reason =
+    codes "{\"error\":\"BadRequest\",\"reason\":\"" ++ reason_word reason ++ codes "\"}" ++ 10 ∷ []
