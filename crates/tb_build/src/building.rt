@@ -16,8 +16,8 @@ use std::thread::Threads;
 use tb_pool::{Exec, Gate, Parts};
 use tb_value::{IdxSize, MAX_ROWS, OutOfMemory};
 
-// The one table of few keys, and its size.
-fn one_table<K: KeyCode, L: KeyList<K>>(
+/// The one table of few keys, and its size.
+pub fn one_table<K: KeyCode, L: KeyList<K>>(
     alloc: Global,
     list: &L,
 ) -> Result<(Vec<PackedTable<K>>, Vec<usize>), OutOfMemory>

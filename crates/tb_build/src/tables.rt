@@ -7,7 +7,7 @@ ghost use Rattle.tb_build.specs.TableView.{rows_at, tables_view, IsParted, IsTab
 ghost use Rattle.tb_build.specs.Packed.{cut_of, key_rows, starts_at, AreAsked, IsAsked};
 ghost use Rattle.std.specs.List.{range_with_len};
 
-use crate::building::planned_tables;
+use crate::building::{one_table, planned_tables};
 use crate::keys::{JoinKey, KeyCode, code_of, partition_of};
 use crate::lent::{JoinList, KeyList, SliceKeys};
 use crate::packed::PackedTable;
@@ -260,6 +260,33 @@ pub fn listed_tables<K: JoinKey, L: JoinList<K>, G: Gate>(
         left_built,
     };
     Ok((tables, built))
+}
+
+/// The tables of the keys of a list, which are of the left side or of the right one, in one part: without a thread, and
+/// without a gate.
+///
+/// # Errors
+///
+/// `OutOfMemory` where memory is wanting.
+pub fn one_part_tables<K: KeyCode, L: KeyList<K>>(
+    alloc: Global,
+    list: &L,
+    join_nulls: bool,
+    left_built: bool,
+) -> Result<Tables<K>, OutOfMemory>
+    requires { length (L.list list.now) ≤ MAX_ROWS }
+    ensures table { IfOk result (IsTableOf K.eq K.code (L.list list.now)) }
+    ensures nulls { IfOk result (λ t. t.join_nulls ≡ join_nulls) }
+    ensures side { IfOk result (λ t. t.left_built ≡ left_built) }
+{
+    let (parts, _) = one_table(alloc, list)?;
+    let tables = Tables {
+        parts,
+        built_len: list.len(),
+        join_nulls,
+        left_built,
+    };
+    Ok(tables)
 }
 
 /// The tables of these keys, which are of the left side or of the right one, and how they were built: in one part
