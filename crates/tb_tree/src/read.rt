@@ -191,11 +191,7 @@ fn read_from(
 // The next value of an array, or None at its end. Most values are numbers, which are read here without a call.
 #[inline(always)]
 #[cycle(read)]
-fn next_item(
-    alloc: Global,
-    reader: &mut Reader<'_>,
-    depth: usize,
-) -> Result<Option<Value>, Fault>
+fn next_item(alloc: Global, reader: &mut Reader<'_>, depth: usize) -> Result<Option<Value>, Fault>
     ensures ok { IfOk result (λ o. MatchOption o (after_end_array reader.old ≡ Some reader.new)
         (λ v. (after_end_array reader.old ≡ None)
         × (converted of_json (value depth reader.old) ≡ Some (view v, reader.new)))) }
@@ -219,7 +215,6 @@ fn next_item(
 }
 
 // What is left of an array behind its bracket.
-#[inline(always)]
 #[cycle(read)]
 fn read_array(alloc: Global, reader: &mut Reader<'_>, depth: usize) -> Result<Value, Fault>
     ensures ok { IfOk result
@@ -228,49 +223,12 @@ fn read_array(alloc: Global, reader: &mut Reader<'_>, depth: usize) -> Result<Va
     ensures err { result ≡ Err Fault.NoJson
         → array_after [] depth (length reader.old) reader.old ≡ None }
 {
-    match next_item(alloc, reader, depth)? {
-        Some(first) => read_second(alloc, reader, depth, first),
-        None => Ok(Value::Empty),
-    }
-}
-
-// The same behind the first value.
-#[inline(always)]
-#[cycle(read)]
-fn read_second(
-    alloc: Global,
-    reader: &mut Reader<'_>,
-    depth: usize,
-    first: Value,
-) -> Result<Value, Fault>
-    ensures ok { (most : ℕ) → length reader.old ≤ most → IfOk result
-        (λ v. array_after (view first ∷ []) depth most reader.old ≡ Some (view v, reader.new)) }
-    ensures shorter { OnOk result (length reader.new < length reader.old) }
-    ensures err { (most : ℕ) → length reader.old ≤ most → result ≡ Err Fault.NoJson
-        → array_after (view first ∷ []) depth most reader.old ≡ None }
-{
-    match next_item(alloc, reader, depth)? {
-        Some(second) => read_third(alloc, reader, depth, first, second),
-        None => Ok(one(alloc, first)?),
-    }
-}
-
-// The same behind the first two values.
-#[inline(always)]
-#[cycle(read)]
-fn read_third(
-    alloc: Global,
-    reader: &mut Reader<'_>,
-    depth: usize,
-    first: Value,
-    second: Value,
-) -> Result<Value, Fault>
-    ensures ok { (most : ℕ) → length reader.old ≤ most → IfOk result
-        (λ v. array_after (view first ∷ view second ∷ []) depth most reader.old ≡ Some (view v, reader.new)) }
-    ensures shorter { OnOk result (length reader.new < length reader.old) }
-    ensures err { (most : ℕ) → length reader.old ≤ most → result ≡ Err Fault.NoJson
-        → array_after (view first ∷ view second ∷ []) depth most reader.old ≡ None }
-{
+    let Some(first) = next_item(alloc, reader, depth)? else {
+        return Ok(Value::Empty);
+    };
+    let Some(second) = next_item(alloc, reader, depth)? else {
+        return Ok(one(alloc, first)?);
+    };
     if reader.take_end_array() {
         return Ok(two(alloc, first, second)?);
     }
@@ -278,7 +236,7 @@ fn read_third(
     read_more(alloc, reader, depth, begun)
 }
 
-// The same behind the values of a list that grows.
+// The same behind the first two values.
 #[cycle(read)]
 fn read_more(
     alloc: Global,

@@ -168,8 +168,7 @@ next_item-returns-in-EndArray-clause-ok t c =
 pub next_item-returns-in_ok-number_in-in-Number-clause-ok : goal.next_item-returns-in_ok-number_in-in-Number-clause-ok
 next_item-returns-in_ok-number_in-in-Number-clause-ok t c =
     let first : c.args.reader.now ≡ token_of c.in_ok-token.token ∷ c.next.new.self = grind arith in
-    let is : c.args.reader.now ≡ Token.number c.in-Number.text.now ∷ c.next.new.self = first ∙ ap (λ k. token_of k ∷ c.next.new.self) c.in-Number.is in
-    (
+    let is : c.args.reader.now ≡ Token.number c.in-Number.text.now ∷ c.next.new.self = first ∙ ap (λ k. token_of k ∷ c.next.new.self) c.in-Number.is in (
       ap after_end_array is,
       ap (converted of_json) (ap (value c.args.depth) is ∙ value_is c.args.depth _) ∙ ap (option_map (λ d. (d, c.next.new.self))) c.in_ok-number_in-in-Number.ensures.ok,
     )
@@ -177,8 +176,7 @@ next_item-returns-in_ok-number_in-in-Number-clause-ok t c =
 pub next_item-returns-in_err-number_in-in-Number-clause-err : goal.next_item-returns-in_err-number_in-in-Number-clause-err
 next_item-returns-in_err-number_in-in-Number-clause-err t c refused =
     let first : c.args.reader.now ≡ token_of c.in_ok-token.token ∷ c.next.new.self = grind arith in
-    let is : c.args.reader.now ≡ Token.number c.in-Number.text.now ∷ c.next.new.self = first ∙ ap (λ k. token_of k ∷ c.next.new.self) c.in-Number.is in
-    (
+    let is : c.args.reader.now ≡ Token.number c.in-Number.text.now ∷ c.next.new.self = first ∙ ap (λ k. token_of k ∷ c.next.new.self) c.in-Number.is in (
       ap after_end_array is,
       ap (converted of_json) (ap (value c.args.depth) is ∙ value_is c.args.depth _) ∙ ap (option_map (λ d. (d, c.next.new.self))) c.in_err-number_in-in-Number.ensures.err,
     )
@@ -193,8 +191,8 @@ next_item-returns-in_err-read_from-in-BeginArray-clause-err t c refused =
     let first : c.args.reader.now ≡ token_of c.in_ok-token.token ∷ c.next.new.self = grind arith in
     (grind (arith, first), ap (λ ts. converted of_json (value c.args.depth ts)) first ∙ c.read_from.ensures.err (grind arith))
 
-pub read_array-returns-in-None-clause-ok : goal.read_array-returns-in-None-clause-ok
-read_array-returns-in-None-clause-ok t c =
+pub read_array-returns-in_default-clause-ok : goal.read_array-returns-in_default-clause-ok
+read_array-returns-in_default-clause-ok t c =
     let seen : view Empty ≡ array (items_of []) = search (rules, the_lemmas) in
     array_after-end [] c.args.depth (length c.args.reader.now) c.args.reader.now c.next_item.new.reader (omega arith) (grind arith) ∙ ap (λ d. Some (d, c.next_item.new.reader)) (sym seen)
 
@@ -203,60 +201,69 @@ read_array-returns-in_err-first-clause-err t c refused =
     let none = c.next_item.ensures.err (grind arith) in
     array_after-refused [] c.args.depth (length c.args.reader.now) c.args.reader.now none.0 none.1
 
-pub read_array-returns-in-Some-clause-ok : goal.read_array-returns-in-Some-clause-ok
-read_array-returns-in-Some-clause-ok t c =
-    let going : (after_end_array c.args.reader.now ≡ None) × (converted of_json (value c.args.depth c.args.reader.now) ≡ Some (view c.in-Some.first, c.next_item.new.reader)) = grind arith in
-    let less : length c.next_item.new.reader < length c.args.reader.now = grind arith in
+pub read_array-returns-in_err-second-clause-err : goal.read_array-returns-in_err-second-clause-err
+read_array-returns-in_err-second-clause-err t c refused =
     let n = length c.args.reader.now in
-    let turn = array_after-more [] c.args.depth n c.args.reader.now c.next_item.new.reader (view c.in-Some.first) (omega arith) going.0 going.1 in
-    rw turn (c.read_second.ensures.ok (n - 1) (omega arith))
+    let r = c.next_item.new.reader in
+    let going : (after_end_array c.args.reader.now ≡ None) × (converted of_json (value c.args.depth c.args.reader.now) ≡ Some (view c.in-Some.first, r)) = grind arith in
+    let less : length r < n = grind arith in
+    let turn = array_after-more [] c.args.depth n c.args.reader.now r (view c.in-Some.first) (omega (arith, less)) going.0 going.1 in
+    let none = c.next_item-2.ensures.err (grind arith) in
+    turn ∙ array_after-refused (view c.in-Some.first ∷ []) c.args.depth (n - 1) r none.0 none.1
 
-pub read_array-returns-in-Some-clause-err : goal.read_array-returns-in-Some-clause-err
-read_array-returns-in-Some-clause-err t c refused =
-    let going : (after_end_array c.args.reader.now ≡ None) × (converted of_json (value c.args.depth c.args.reader.now) ≡ Some (view c.in-Some.first, c.next_item.new.reader)) = grind arith in
-    let less : length c.next_item.new.reader < length c.args.reader.now = grind arith in
+pub read_array-returns-in_default-2-clause-ok : goal.read_array-returns-in_default-2-clause-ok
+read_array-returns-in_default-2-clause-ok t c =
     let n = length c.args.reader.now in
-    let turn = array_after-more [] c.args.depth n c.args.reader.now c.next_item.new.reader (view c.in-Some.first) (omega arith) going.0 going.1 in
-    turn ∙ c.read_second.ensures.err (n - 1) (omega arith) refused
+    let r = c.next_item.new.reader in
+    let going : (after_end_array c.args.reader.now ≡ None) × (converted of_json (value c.args.depth c.args.reader.now) ≡ Some (view c.in-Some.first, r)) = grind arith in
+    let less : length r < n = grind arith in
+    let turn = array_after-more [] c.args.depth n c.args.reader.now r (view c.in-Some.first) (omega (arith, less)) going.0 going.1 in
+    let s = c.next_item-2.new.reader in
+    turn ∙ array_after-end (view c.in-Some.first ∷ []) c.args.depth (n - 1) r s (omega (arith, less)) (grind arith) ∙ ap (λ d. Some (d, s)) (sym c.in_ok-one.ensures)
 
-pub read_second-returns-in_ok-one-in-None-clause-ok : goal.read_second-returns-in_ok-one-in-None-clause-ok
-read_second-returns-in_ok-one-in-None-clause-ok t c most enough =
-    array_after-end (view c.args.first ∷ []) c.args.depth most c.args.reader.now c.next_item.new.reader enough (grind arith) ∙ ap (λ d. Some (d, c.next_item.new.reader)) (sym c.in_ok-one-in-None.ensures)
+pub read_array-returns-then-take_end_array-clause-ok : goal.read_array-returns-then-take_end_array-clause-ok
+read_array-returns-then-take_end_array-clause-ok t c =
+    let n = length c.args.reader.now in
+    let r = c.next_item.new.reader in
+    let going : (after_end_array c.args.reader.now ≡ None) × (converted of_json (value c.args.depth c.args.reader.now) ≡ Some (view c.in-Some.first, r)) = grind arith in
+    let less : length r < n = grind arith in
+    let turn = array_after-more [] c.args.depth n c.args.reader.now r (view c.in-Some.first) (omega (arith, less)) going.0 going.1 in
+    let s = c.next_item-2.new.reader in
+    let on : (after_end_array r ≡ None) × (converted of_json (value c.args.depth r) ≡ Some (view c.in-Some-2.second, s)) = grind arith in
+    let lesser : length s < length r = grind arith in
+    let turns = turn ∙ array_after-more (view c.in-Some.first ∷ []) c.args.depth (n - 1) r s (view c.in-Some-2.second) (omega (arith, less, lesser)) on.0 on.1 in
+    let e = c.take_end_array.new.self in
+    turns ∙ array_after-end (view c.in-Some.first ∷ view c.in-Some-2.second ∷ []) c.args.depth (n - 1 - 1) s e (omega (arith, less, lesser)) (grind arith) ∙ ap (λ d. Some (d, e)) (sym c.in_ok-two.ensures)
 
-pub read_second-returns-in_err-second-clause-err : goal.read_second-returns-in_err-second-clause-err
-read_second-returns-in_err-second-clause-err t c most enough refused =
-    let none = c.next_item.ensures.err (grind arith) in
-    array_after-refused (view c.args.first ∷ []) c.args.depth most c.args.reader.now none.0 none.1
+pub read_array-returns-clause-ok : goal.read_array-returns-clause-ok
+read_array-returns-clause-ok t c =
+    let n = length c.args.reader.now in
+    let r = c.next_item.new.reader in
+    let going : (after_end_array c.args.reader.now ≡ None) × (converted of_json (value c.args.depth c.args.reader.now) ≡ Some (view c.in-Some.first, r)) = grind arith in
+    let less : length r < n = grind arith in
+    let turn = array_after-more [] c.args.depth n c.args.reader.now r (view c.in-Some.first) (omega (arith, less)) going.0 going.1 in
+    let s = c.next_item-2.new.reader in
+    let on : (after_end_array r ≡ None) × (converted of_json (value c.args.depth r) ≡ Some (view c.in-Some-2.second, s)) = grind arith in
+    let lesser : length s < length r = grind arith in
+    let turns = turn ∙ array_after-more (view c.in-Some.first ∷ []) c.args.depth (n - 1) r s (view c.in-Some-2.second) (omega (arith, less, lesser)) on.0 on.1 in
+    let same : c.take_end_array.new.self ≡ s = grind arith in
+    let begun = ap₂ (λ ds ts. array_after ds c.args.depth (n - 1 - 1) ts) (sym c.in_ok-begun.ensures) (sym same) in
+    rw (turns ∙ begun) (c.read_more.ensures.ok (n - 1 - 1) (rw same (omega (arith, less, lesser))))
 
-pub read_second-returns-in-Some-clause-ok : goal.read_second-returns-in-Some-clause-ok
-read_second-returns-in-Some-clause-ok t c most enough =
-    let going : (after_end_array c.args.reader.now ≡ None) × (converted of_json (value c.args.depth c.args.reader.now) ≡ Some (view c.in-Some.second, c.next_item.new.reader)) = grind arith in
-    let less : length c.next_item.new.reader < length c.args.reader.now = grind arith in
-    let turn = array_after-more (view c.args.first ∷ []) c.args.depth most c.args.reader.now c.next_item.new.reader (view c.in-Some.second) (omega (arith, enough)) going.0 going.1 in
-    rw turn (c.read_third.ensures.ok (most - 1) (omega (arith, enough)))
-
-pub read_second-returns-in-Some-clause-err : goal.read_second-returns-in-Some-clause-err
-read_second-returns-in-Some-clause-err t c most enough refused =
-    let going : (after_end_array c.args.reader.now ≡ None) × (converted of_json (value c.args.depth c.args.reader.now) ≡ Some (view c.in-Some.second, c.next_item.new.reader)) = grind arith in
-    let less : length c.next_item.new.reader < length c.args.reader.now = grind arith in
-    let turn = array_after-more (view c.args.first ∷ []) c.args.depth most c.args.reader.now c.next_item.new.reader (view c.in-Some.second) (omega (arith, enough)) going.0 going.1 in
-    turn ∙ c.read_third.ensures.err (most - 1) (omega (arith, enough)) refused
-
-pub read_third-returns-then-take_end_array-clause-ok : goal.read_third-returns-then-take_end_array-clause-ok
-read_third-returns-then-take_end_array-clause-ok t c most enough =
-    array_after-end (view c.args.first ∷ view c.args.second ∷ []) c.args.depth most c.args.reader.now c.take_end_array.new.self enough (grind arith) ∙ ap (λ d. Some (d, c.take_end_array.new.self)) (sym c.in_ok-two.ensures)
-
-pub read_third-returns-clause-ok : goal.read_third-returns-clause-ok
-read_third-returns-clause-ok t c most enough =
-    let same : c.take_end_array.new.self ≡ c.args.reader.now = grind arith in
-    let on = ap₂ (λ ds ts. array_after ds c.args.depth most ts) (sym c.in_ok-begun.ensures) (sym same) in
-    rw on (c.read_more.ensures.ok most (rw same enough))
-
-pub read_third-returns-clause-err : goal.read_third-returns-clause-err
-read_third-returns-clause-err t c most enough refused =
-    let same : c.take_end_array.new.self ≡ c.args.reader.now = grind arith in
-    let on = ap₂ (λ ds ts. array_after ds c.args.depth most ts) (sym c.in_ok-begun.ensures) (sym same) in
-    on ∙ c.read_more.ensures.err most (rw same enough) refused
+pub read_array-returns-clause-err : goal.read_array-returns-clause-err
+read_array-returns-clause-err t c refused =
+    let n = length c.args.reader.now in
+    let r = c.next_item.new.reader in
+    let going : (after_end_array c.args.reader.now ≡ None) × (converted of_json (value c.args.depth c.args.reader.now) ≡ Some (view c.in-Some.first, r)) = grind arith in
+    let less : length r < n = grind arith in
+    let turn = array_after-more [] c.args.depth n c.args.reader.now r (view c.in-Some.first) (omega (arith, less)) going.0 going.1 in
+    let s = c.next_item-2.new.reader in
+    let on : (after_end_array r ≡ None) × (converted of_json (value c.args.depth r) ≡ Some (view c.in-Some-2.second, s)) = grind arith in
+    let lesser : length s < length r = grind arith in
+    let turns = turn ∙ array_after-more (view c.in-Some.first ∷ []) c.args.depth (n - 1) r s (view c.in-Some-2.second) (omega (arith, less, lesser)) on.0 on.1 in
+    let same : c.take_end_array.new.self ≡ s = grind arith in
+    let begun = ap₂ (λ ds ts. array_after ds c.args.depth (n - 1 - 1) ts) (sym c.in_ok-begun.ensures) (sym same) in
+    turns ∙ begun ∙ c.read_more.ensures.err (n - 1 - 1) (rw same (omega (arith, less, lesser))) refused
 
 pub read_more-returns-in-Wholes-clause-ok : goal.read_more-returns-in-Wholes-clause-ok
 read_more-returns-in-Wholes-clause-ok t c most enough = rw (ap (λ b. array_after (begun_view b) c.args.depth most c.args.reader.now) c.in-Wholes.is) (c.read_wholes.ensures.ok most enough)

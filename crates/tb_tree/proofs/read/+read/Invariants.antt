@@ -7,34 +7,28 @@ use Rattle.tb_tree.specs.View.{view, members_view, whole}
 use Rattle.tb_tree.proofs.read.+read.Given as goal
 
 abbrev pub decreases-read : goal.decreases-read
-decreases-read l = 8 * l.depth + 1
+decreases-read l = 6 * l.depth + 1
 
 abbrev pub decreases-read_from : goal.decreases-read_from
-decreases-read_from l = 8 * l.depth
+decreases-read_from l = 6 * l.depth
 
 abbrev pub decreases-next_item : goal.decreases-next_item
-decreases-next_item l = 8 * l.depth + 1
+decreases-next_item l = 6 * l.depth + 1
 
 abbrev pub decreases-read_array : goal.decreases-read_array
-decreases-read_array l = 8 * l.depth + 7
-
-abbrev pub decreases-read_second : goal.decreases-read_second
-decreases-read_second l = 8 * l.depth + 6
-
-abbrev pub decreases-read_third : goal.decreases-read_third
-decreases-read_third l = 8 * l.depth + 5
+decreases-read_array l = 6 * l.depth + 5
 
 abbrev pub decreases-read_more : goal.decreases-read_more
-decreases-read_more l = 8 * l.depth + 4
+decreases-read_more l = 6 * l.depth + 4
 
 abbrev pub decreases-read_wholes : goal.decreases-read_wholes
-decreases-read_wholes l = 8 * l.depth + 3
+decreases-read_wholes l = 6 * l.depth + 3
 
 abbrev pub decreases-read_values : goal.decreases-read_values
-decreases-read_values l = 8 * l.depth + 2
+decreases-read_values l = 6 * l.depth + 2
 
 abbrev pub decreases-read_members : goal.decreases-read_members
-decreases-read_members l = 8 * l.depth + 2
+decreases-read_members l = 6 * l.depth + 2
 
 -- what was found and is left of the array, of whatever fuel was enough at the start
 abbrev pub invariant-read_wholes-wholes : goal.invariant-read_wholes-wholes
