@@ -1,6 +1,6 @@
 -- What is kept between steps is kept by one more step.
-use Rattle.std.proofs.Common.{◌≡◌, ◌⊎◌, inl, inr, ℕ, suc, ◌+◌, ◌<◌, Bool, true, false, cond, nat_eq, ◌&&◌, if◌then◌else◌, List, [], ◌∷◌, ◌++◌, length, Option, Some, None, Ok, Err, refl, ap, arith, sym, ◌∙◌, subst, ⊎_elim}
-use Rattle.std.specs.Prelude.{All, AllPairs, IfOk, IsSome, Result, filter, not, option_map, unwrap_or}
+use Rattle.std.proofs.Common.{◌≡◌, inl, inr, ℕ, ◌+◌, ◌<◌, Bool, true, false, cond, nat_eq, ◌&&◌, if◌then◌else◌, List, [], ◌∷◌, ◌++◌, Option, Some, None, Ok, Err, refl, ap, arith, sym, ◌∙◌, subst, ⊎_elim}
+use Rattle.std.specs.Prelude.{All, AllPairs, IsSome, option_map, unwrap_or}
 use Rattle.std.specs.Cmp.{first_so}
 use Rattle.std.specs.Map.{lookup}
 use Rattle.std.specs.declared.vec.Vec.{Vec}
@@ -11,17 +11,16 @@ use Rattle.tb_value.specs.Promise.Datum.{Datum}
 use Rattle.tb_value.specs.Promise.Same.{agrees}
 use Rattle.tb_value.specs.Promise.Typed.{FitsFields}
 use Rattle.tb_value.specs.See.{datum}
-use Rattle.tb_value.specs.declared.error.OutOfMemory.{OutOfMemory}
 use Rattle.tb_value.specs.declared.error.Side.{Side}
 use Rattle.tb_value.specs.declared.error.Side.TheVariants as side
 use Rattle.tb_value.specs.declared.limits.TheConstants.{MAX_ROWS}
 use Rattle.tb_delta.specs.Changing.{IsChanging, of_both}
-use Rattle.tb_delta.specs.Groups.{ids_at, is_side, without, without_all, AreAscending}
+use Rattle.tb_delta.specs.Groups.{ids_at, is_side, without, without_all}
 use Rattle.tb_delta.specs.Inside.{AreRows, IsKept, IsPlaced, IsView, agreeing, key_of, pulled_agrees, side_state, state_of}
 use Rattle.tb_delta.specs.Late.{ids_left, AreBelow, IsTakenOut, KeepsIds}
 use Rattle.tb_delta.specs.Promise.Now.{partners}
-use Rattle.tb_delta.specs.Promise.State.{Row, SideState, State, appended, of_side, on_side, other, row_of, taken_out}
-use Rattle.tb_delta.specs.Promise.Steps.{IsAccepted, IsRefusedFor, insert, remove, stepped, told}
+use Rattle.tb_delta.specs.Promise.State.{Row, SideState, appended, on_side, other, row_of, taken_out}
+use Rattle.tb_delta.specs.Promise.Steps.{insert, remove}
 use Rattle.tb_delta.specs.Running.{IsDone, IsRefused}
 use Rattle.tb_delta.specs.Stepped.{IsChecked}
 use Rattle.tb_delta.specs.declared.fault.DeltaFault.{DeltaFault}
@@ -198,19 +197,24 @@ among_others s own others n gs x k = others_grouped s own others n gs x k
 abbrev told_from : SideRows → SideRows → Bool → ℕ → List ℕ
 told_from own others n id = unwrap_or (option_map (λ (row : List Datum). agreeing n (side_state others) (key_of (side_state own) row)) (row_of (side_state own) id)) []
 
+-- the row that was put last
+found_last : (rows : List Row) (id : ℕ) (row : List Datum) → All (λ (r : Row). r.0 < id) rows → lookup (nat_eq id) (rows ++ (id, row) ∷ []) ≡ Some row
+found_last [] id row low = let here : nat_eq id id ≡ true = grind (arith) in ap (λ b. cond b (Some row) None) here
+found_last (r ∷ rows) id row low =
+    let apart : nat_eq id r.0 ≡ false = grind (arith, low 0 r (omega arith)) in
+    ap (λ b. cond b (Some r.1) (lookup (nat_eq id) (rows ++ (id, row) ∷ []))) apart ∙ found_last rows id row (All-tail (λ (q : Row). q.0 < id) r rows low)
+
+-- what the new row tells
+pub told_last : (own others new : SideRows) (n : Bool) (row : List Datum) → AreRows (side_state own) → side_state new ≡ appended row (side_state own)
+    → agreeing n (side_state others) (key_of (side_state own) row) ≡ told_from new others n own.ever
+told_last own others new n row kept rows = sym (
+    (λ t. unwrap_or (option_map (λ (r : List Datum). agreeing n (side_state others) (key_of (rows t) r)) (row_of (rows t) own.ever)) [])
+    ∙ ap (λ (o : Option (List Datum)). unwrap_or (option_map (λ (r : List Datum). agreeing n (side_state others) (key_of (side_state own) r)) o) []) (found_last (side_state own).rows own.ever row kept.below)
+    )
+
 -- ids that are others too, where they are told
 pub where_told : {a b : List ℕ} (tells : Bool) → a ≡ b → (if tells then a else []) ≡ (if tells then b else [])
 where_told tells e = ap (λ (l : List ℕ). if tells then l else []) e
-
--- where nothing is told
-pub none_told : (tells : Bool) (ids : List ℕ) → ids ≡ [] → ids ≡ (if tells then [] else [])
-none_told true ids none = none
-none_told false ids none = none
-
--- a copy of ids that are others too
-pub copied_as : (r : Result (Vec ℕ Global) OutOfMemory) (a b : List ℕ) → IfOk r (λ v. v.items ≡ a) → a ≡ b → IfOk r (λ v. v.items ≡ b)
-copied_as (Ok v) a b h e = h ∙ e
-copied_as (Err x) a b h e = tt
 
 -- WHAT IS DONE
 

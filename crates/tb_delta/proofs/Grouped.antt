@@ -48,7 +48,7 @@ changed old new key k w s side f got is = ⊎_elim
     ∙ sym (ap (λ b. if is_side side s && b then f (ids_at old s k) else ids_at old s k) e))
     (cases_Bool (ties (datum key.value) (datum k.value)))
 
-either : (x : Bool) (a : List ℕ) → a ≡ (if x then a else a)
+pub either : (x : Bool) (a : List ℕ) → a ≡ (if x then a else a)
 either true a = refl
 either false a = refl
 
@@ -72,6 +72,11 @@ pub rewritten : (old new : Groups) (key k : RowKey) (w : Group) (s : Side)
 rewritten old new key k w s got is =
     changed old new key k w s s (λ ids. ids) got (is ∙ either (is_side s s) (ids_at old s key))
     ∙ sym (either (is_side s s && ties (datum key.value) (datum k.value)) (ids_at old s k))
+
+-- where nothing stands, nothing is told
+pub none_told : (tells : Bool) (ids : List ℕ) → ids ≡ [] → ids ≡ (if tells then [] else [])
+none_told true ids none = none
+none_told false ids none = none
 
 -- the test of a grouped key
 pub with_agrees : (x nulls : Bool) (d e : Datum) (a b : List ℕ) → is_grouped nulls d ≡ true → (if x && ties d e then a else b) ≡ (if x && agrees nulls d e then a else b)

@@ -1,6 +1,6 @@
 -- The ids under each key, after ids were taken out of groups or put down as gone.
-use Rattle.std.proofs.Common.{◌≡◌, ℕ, ◌<◌, Bool, true, false, cond, ◌&&◌, if◌then◌else◌, List, [], ◌∷◌, ◌++◌, Option, Some, None, length, refl, ap, arith, sym, ◌∙◌}
-use Rattle.std.specs.Prelude.{All}
+use Rattle.std.proofs.Common.{◌≡◌, ℕ, ◌<◌, Bool, true, false, cond, ◌&&◌, if◌then◌else◌, List, [], ◌∷◌, ◌++◌, Option, Some, None, length, refl, ap, arith, sym, subst, ◌∙◌}
+use Rattle.std.specs.Prelude.{AllPairs}
 use Rattle.std.specs.BTreeMap.{BTreeMap, get_by, is_at}
 use Rattle.std.specs.Map.{lookup}
 use Rattle.std.specs.Cmp.{first_so, second_so}
@@ -20,7 +20,7 @@ use Rattle.tb_delta.specs.declared.groups.Groups.{Groups}
 use Rattle.tb_delta.specs.declared.key.RowKey.{RowKey}
 use Rattle.tb_delta.specs.declared.late.LateGroups.{LateGroups}
 use Rattle.tb_delta.proofs.Gone.{none_gone}
-use Rattle.tb_delta.proofs.Grouped.{side_is, with_agrees}
+use Rattle.tb_delta.proofs.Grouped.{side_is, with_agrees, without_agrees}
 use Rattle.tb_delta.proofs.LateIds.{emptied_below, fewer_ascend, fewer_below, more_below, put_down_at, settled_at, taken_at}
 
 -- under a key that ties the same ids stand
@@ -135,6 +135,30 @@ pub all_settled : (gs : LateGroups) → count_gone gs ≡ 0 → (s : Side) (k : 
 all_settled gs none s k =
     ap (λ (es : List (RowKey × Group)). without_all (ids_in s (lookup (is_at (key_cmp k)) es)) (ids_at gs.groups s k)) (no_items gs.gone.groups.entries none)
     ∙ none_gone (ids_at gs.groups s k)
+
+-- the same ids in each group
+pub same_groups : (old : LateGroups) (groups : Groups) → AreAscending old.groups → ((s : Side) (k : RowKey) → ids_at groups s k ≡ ids_at old.groups s k) → KeepsIds old (record { groups = groups; gone = old.gone })
+same_groups old groups asc stay = record {
+  ascend = λ s k. subst (λ (l : List ℕ). AllPairs ◌<◌ l) (sym (stay s k)) (asc s k);
+  below = λ s n below k. (emptied_below false n (ids_at old.groups s k) (ids_at groups s k) (stay s k) (below k).0, (below k).1);
+  ids = λ s k. ap (λ (l : List ℕ). without_all (ids_at old.gone s k) l) (stay s k);
+}
+
+-- an id is taken out of ids that are as before
+pub taken_after : (old mid new : LateGroups) (d : Side) (passes : Datum → Bool) (id : ℕ) → KeepsIds old mid → IsTakenOut mid d passes id new → IsTakenOut old d passes id new
+taken_after old mid new d passes id kept h = record {
+  ascend = h.ascend;
+  below = λ s n low below. h.below s n low (kept.below s n below);
+  ids = λ s k. h.ids s k ∙ (λ t. if is_side d s && passes (datum k.value) then without id (kept.ids s k t) else kept.ids s k t);
+}
+
+-- a key without a group has no id to be taken out
+pub kept_ungrouped : (old new : LateGroups) (d : Side) (nulls : Bool) (key : Datum) (id : ℕ) → is_grouped nulls key ≡ false → KeepsIds old new → IsTakenOut old d (agrees nulls key) id new
+kept_ungrouped old new d nulls key id alone h = record {
+  ascend = h.ascend;
+  below = λ s n low. h.below s n;
+  ids = λ s k. h.ids s k ∙ without_agrees (is_side d s) nulls key (datum k.value) (without id (ids_left old s k)) (ids_left old s k) alone;
+}
 
 -- the test of a grouped key
 pub taken_grouped : (old new : LateGroups) (d : Side) (nulls : Bool) (key : Datum) (id : ℕ) → is_grouped nulls key ≡ true → IsTakenOut old d (ties key) id new → IsTakenOut old d (agrees nulls key) id new

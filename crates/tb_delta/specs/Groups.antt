@@ -1,5 +1,5 @@
 -- The ids under a key.
-use Rattle.std.specs.Prelude.{ℕ, ◌<◌, Bool, true, false, not, nat_eq, List, [], filter, AllPairs, Option, Some, None}
+use Rattle.std.specs.Prelude.{ℕ, ◌<◌, Bool, true, false, not, nat_eq, if◌then◌else◌, List, [], ◌∷◌, filter, AllPairs, Option, Some, None}
 use Rattle.std.specs.BTreeMap.{get_by}
 use Rattle.std.specs.List.{list_any}
 use Rattle.std.specs.declared.cmp.Ordering.{Ordering}
@@ -41,6 +41,10 @@ without id ids = filter (λ i. not (nat_eq id i)) ids
 -- all but those of a list
 abbrev pub without_all : List ℕ → List ℕ → List ℕ
 without_all gone ids = filter (λ i. not (list_any (nat_eq i) gone)) ids
+
+-- all but one, where it is taken out
+abbrev pub without_where : Bool → ℕ → List ℕ → List ℕ
+without_where is_out id ids = (if is_out then without_all (id ∷ []) ids else ids)
 
 abbrev pub IsAscending : List ℕ → Type 0
 IsAscending ids = AllPairs ◌<◌ ids

@@ -14,50 +14,13 @@ ghost use Rattle.tb_delta.specs.Running.{IsDone};
 ghost use Rattle.tb_delta.specs.declared.key.RowKey.{RowKey};
 
 use crate::fault::DeltaFault;
+use crate::groups::other;
 use crate::key::RowKey;
 use crate::late::LateGroups;
 use crate::side_rows::SideRows;
-use crate::steps::{check, is_grouped, pull_stored, push_row};
+use crate::steps::{check, is_grouped, pull_stored, put_row};
 use std::alloc::Global;
 use tb_value::{AnyValue, OutOfMemory, Side};
-
-fn other(side: Side) -> Side
-    ensures { result ≡ other side }
-{
-    match side {
-        Side::Left => Side::Right,
-        Side::Right => Side::Left,
-    }
-}
-
-// The ids on the other side under the key of a row, copied where they are told, and none where there is no such row.
-fn told(
-    alloc: Global,
-    rows: &SideRows,
-    groups: &mut LateGroups,
-    beside: Side,
-    id: u32,
-    tells: bool,
-) -> Result<Vec<u32>, OutOfMemory>
-    requires placed { IsPlaced rows.now }
-    requires ascend { AreAscending groups.old.groups }
-    ensures keeps { KeepsIds groups.old groups.new }
-    ensures told { (f : Datum → List ℕ)
-        → ((k : RowKey) → ids_left groups.old beside k ≡ f (datum k.value))
-        → IfOk result (λ v.
-        v.items
-        ≡ (if tells
-        then unwrap_or
-        (option_map (λ row. f (key_of (side_state rows.now) row))
-        (row_of (side_state rows.now) id))
-        []
-        else [])) }
-{
-    match rows.rows.get(&id) {
-        Some(row) => groups.copied(alloc, beside, &row.key, tells),
-        None => Ok(Vec::new(alloc)),
-    }
-}
 
 /// Puts a row last on its side, and answers the ids of the other side's rows that match it, where they are told.
 pub(crate) fn insert_row(
@@ -78,16 +41,26 @@ pub(crate) fn insert_row(
         result }
 {
     check(own, &row)?;
-    match push_row(alloc, own, &mut groups.groups, side, join_nulls, row) {
-        Ok(id) => match told(alloc, own, groups, other(side), id, tells) {
-            Ok(ids) => Ok(ids),
-            Err(OutOfMemory) => Err(DeltaFault::OutOfMemory),
-        },
+    let Ok(key) = RowKey::of(alloc, &row[own.key]) else {
+        return Err(DeltaFault::OutOfMemory);
+    };
+    groups.settle_told(alloc, other(side), &key, tells);
+    match put_row(
+        alloc,
+        own,
+        &mut groups.groups,
+        side,
+        join_nulls,
+        key,
+        row,
+        tells,
+    ) {
+        Ok(ids) => Ok(ids),
         Err(OutOfMemory) => Err(DeltaFault::OutOfMemory),
     }
 }
 
-// Takes the id of a row out of its group, if it is in one.
+// Takes the id of a row out of its group, if it is in one, and answers the ids of the other side, where they are told.
 fn take_out(
     alloc: Global,
     groups: &mut LateGroups,
@@ -95,12 +68,18 @@ fn take_out(
     join_nulls: bool,
     key: &RowKey,
     id: u32,
-)
+    tells: bool,
+) -> Result<Vec<u32>, OutOfMemory>
     requires { AreAscending groups.old.groups }
-    ensures { IsTakenOut groups.old side (agrees join_nulls (datum key.now.value)) id groups.new }
+    ensures taken { IsTakenOut groups.old side (agrees join_nulls (datum key.now.value)) id
+        groups.new }
+    ensures told { IfOk result (λ v.
+        v.items ≡ (if tells then ids_left groups.old (other side) key.now else [])) }
 {
     if is_grouped(join_nulls, key) {
-        groups.take_out(alloc, side, key, id);
+        groups.take_out(alloc, side, key, id, tells)
+    } else {
+        groups.copied(alloc, other(side), key, tells)
     }
 }
 
@@ -125,9 +104,7 @@ pub(crate) fn remove_row(
     let Some(row) = pull_stored(own, id) else {
         return Err(DeltaFault::NoRow);
     };
-    let ids = groups.copied(alloc, other(side), &row.key, tells);
-    take_out(alloc, groups, side, join_nulls, &row.key, id);
-    match ids {
+    match take_out(alloc, groups, side, join_nulls, &row.key, id, tells) {
         Ok(ids) => Ok(ids),
         Err(OutOfMemory) => Err(DeltaFault::OutOfMemory),
     }

@@ -3,7 +3,8 @@ ghost use Rattle.std.specs.Prelude.{◌≡◌, ◌&&◌, ◌++◌, ◌∷◌, []
 ghost use Rattle.std.specs.List.{list_any};
 ghost use Rattle.std.specs.List.Sorted.{IsNonDecreasing};
 ghost use Rattle.tb_value.specs.See.{datum};
-ghost use Rattle.tb_delta.specs.Groups.{ids_at, is_side, side_ids, ties, without, without_all, AreAscending, IsAscending};
+ghost use Rattle.tb_delta.specs.Groups.{ids_at, is_side, side_ids, ties, without, without_all, without_where, AreAscending, IsAscending};
+ghost use Rattle.tb_delta.specs.Promise.State.{other};
 ghost use Rattle.tb_delta.specs.declared.key.RowKey.{RowKey};
 ghost use Rattle.tb_value.specs.declared.error.Side.{Side};
 
@@ -24,6 +25,36 @@ pub(crate) struct Group {
 #[derive(Drop)]
 pub(crate) struct Groups {
     pub groups: BTreeMap<RowKey, Group>,
+}
+
+// Out of lists of at most so many ids one is taken at once, since they are moved at no cost.
+const FEW_IDS: usize = 64;
+
+// What a step finds under its key: the ids of the other side, and whether its own one was taken out.
+#[derive(Drop)]
+pub(crate) struct Taken {
+    pub told: Result<Vec<u32>, OutOfMemory>,
+    pub is_out: bool,
+}
+
+pub(crate) fn other(side: Side) -> Side
+    ensures { result ≡ other side }
+{
+    match side {
+        Side::Left => Side::Right,
+        Side::Right => Side::Left,
+    }
+}
+
+// The ids, copied where they are told.
+fn copied(alloc: Global, ids: &[u32], tells: bool) -> Result<Vec<u32>, OutOfMemory>
+    ensures { IfOk result (λ v. v.items ≡ (if tells then ids.now else [])) }
+{
+    if tells {
+        Ok(Vec::from_slice(alloc, ids)?)
+    } else {
+        Ok(Vec::new(alloc))
+    }
 }
 
 // Takes a number out of ascending ones.
@@ -93,6 +124,29 @@ impl Group {
         Ok(())
     }
 
+    // Puts an id behind those of its side, and answers those of the other side, where they are told.
+    fn put(
+        &mut self,
+        alloc: Global,
+        side: Side,
+        id: u32,
+        tells: bool,
+    ) -> Result<Vec<u32>, OutOfMemory>
+        ensures ok { OnOk result
+            ((s : Side)
+            → side_ids s self.new
+            ≡ (if is_side side s
+            then side_ids s self.old ++ id ∷ []
+            else side_ids s self.old)) }
+        ensures told { IfOk result (λ v.
+            v.items ≡ (if tells then side_ids (other side) self.old else [])) }
+        ensures err { OnErr result ((s : Side) → side_ids s self.new ≡ side_ids s self.old) }
+    {
+        let told = copied(alloc, self.ids(other(side)), tells)?;
+        self.push(side, id)?;
+        Ok(told)
+    }
+
     // Whether no row has the key.
     fn is_empty(&self) -> bool
         ensures { result ≡ true → (s : Side) → side_ids s self.now ≡ [] }
@@ -113,6 +167,28 @@ impl Group {
             Side::Left => take_out(&mut self.left, gone),
             Side::Right => take_out(&mut self.right, gone),
         }
+    }
+
+    // Takes an id out where those of its side are few, and answers those of the other side, where they are told.
+    fn take_few(&mut self, alloc: Global, side: Side, id: u32, tells: bool) -> Taken
+        requires { IsAscending (side_ids side self.old) }
+        ensures ids { (s : Side)
+            → side_ids s self.new
+            ≡ (if is_side side s
+            then without_where result.is_out id (side_ids s self.old)
+            else side_ids s self.old) }
+        ensures told { IfOk result.told (λ v.
+            v.items ≡ (if tells then side_ids (other side) self.old else [])) }
+    {
+        let told = copied(alloc, self.ids(other(side)), tells);
+        if self.ids(side).len() > FEW_IDS {
+            return Taken {
+                told,
+                is_out: false,
+            };
+        }
+        self.take_out(side, &[id]);
+        Taken { told, is_out: true }
     }
 
     // Takes all ids of a side.
@@ -155,6 +231,50 @@ impl Groups {
         }
     }
 
+    /// The same ids, copied where they are told.
+    pub(crate) fn copied(
+        &self,
+        alloc: Global,
+        side: Side,
+        key: &RowKey,
+        tells: bool,
+    ) -> Result<Vec<u32>, OutOfMemory>
+        ensures { IfOk result (λ v.
+            v.items ≡ (if tells then ids_at self.now side key.now else [])) }
+    {
+        copied(alloc, self.ids(side, key), tells)
+    }
+
+    /// Puts an id behind those of its side under the key, and answers those of the other side, where they are told. After a
+    /// refusal all are as they were.
+    pub(crate) fn put(
+        &mut self,
+        alloc: Global,
+        side: Side,
+        key: &RowKey,
+        id: u32,
+        tells: bool,
+    ) -> Result<Vec<u32>, OutOfMemory>
+        ensures ok { OnOk result ((s : Side) → (k : RowKey) → ids_at self.new s k
+            ≡ (if is_side side s && ties (datum key.now.value) (datum k.value)
+            then ids_at self.old s k ++ id ∷ []
+            else ids_at self.old s k)) }
+        ensures told { IfOk result (λ v.
+            v.items ≡ (if tells then ids_at self.old (other side) key.now else [])) }
+        ensures err { OnErr result
+            ((s : Side) → (k : RowKey) → ids_at self.new s k ≡ ids_at self.old s k) }
+    {
+        match self.groups.get_mut(key) {
+            Some(group) => group.put(alloc, side, id, tells),
+            None => {
+                let group = Group::of(alloc, side, id)?;
+                let key = RowKey::of(alloc, &key.value)?;
+                self.groups.insert(key, group)?;
+                Ok(Vec::new(alloc))
+            }
+        }
+    }
+
     /// Puts an id behind those of its side under the key. After a refusal all are as they were.
     pub(crate) fn add(
         &mut self,
@@ -170,15 +290,40 @@ impl Groups {
         ensures err { OnErr result
             ((s : Side) → (k : RowKey) → ids_at self.new s k ≡ ids_at self.old s k) }
     {
-        match self.groups.get_mut(key) {
-            Some(group) => group.push(side, id),
-            None => {
-                let group = Group::of(alloc, side, id)?;
-                let key = RowKey::of(alloc, &key.value)?;
-                self.groups.insert(key, group)?;
-                Ok(())
-            }
+        self.put(alloc, side, key, id, false)?;
+        Ok(())
+    }
+
+    /// Takes an id out where those of its side under the key are few, and answers those of the other side, where they are told.
+    /// Taking out takes no memory.
+    pub(crate) fn take_few(
+        &mut self,
+        alloc: Global,
+        side: Side,
+        key: &RowKey,
+        id: u32,
+        tells: bool,
+    ) -> Taken
+        requires { AreAscending self.old }
+        ensures ids { (s : Side) → (k : RowKey) → ids_at self.new s k
+            ≡ (if is_side side s && ties (datum key.now.value) (datum k.value)
+            then without_where result.is_out id (ids_at self.old s k)
+            else ids_at self.old s k) }
+        ensures told { IfOk result.told (λ v.
+            v.items ≡ (if tells then ids_at self.old (other side) key.now else [])) }
+    {
+        let Some(group) = self.groups.get_mut(key) else {
+            return Taken {
+                told: Ok(Vec::new(alloc)),
+                is_out: true,
+            };
+        };
+        let taken = group.take_few(alloc, side, id, tells);
+        if !group.is_empty() {
+            return taken;
         }
+        self.groups.remove(key);
+        taken
     }
 
     /// Takes ids, which are in order, out of those of their side under the key. It takes no memory.

@@ -7,15 +7,13 @@ ghost use Rattle.tb_value.specs.declared.error.Side.{Side};
 ghost use Rattle.tb_delta.specs.Groups.{ids_at, ties, AreAscending};
 ghost use Rattle.tb_value.specs.See.{datum};
 ghost use Rattle.tb_delta.specs.Late.{count_gone, ids_left, IsTakenOut, KeepsIds};
+ghost use Rattle.tb_delta.specs.Promise.State.{other};
 ghost use Rattle.tb_delta.specs.declared.key.RowKey.{RowKey};
 
-use crate::groups::Groups;
+use crate::groups::{Groups, Taken, other};
 use crate::key::RowKey;
 use std::alloc::Global;
 use tb_value::{OutOfMemory, Side};
-
-// Out of lists of at most so many ids one is taken at once, since they are moved at no cost.
-const FEW_IDS: usize = 64;
 
 // The groups, and the ids that are still to be taken out of them.
 #[derive(Drop)]
@@ -38,6 +36,18 @@ impl LateGroups {
         self.groups.take_list_out(side, key, gone);
     }
 
+    /// Takes out of the ids of a side under the key those that are gone, where they are told. It takes no memory.
+    pub(crate) fn settle_told(&mut self, alloc: Global, side: Side, key: &RowKey, tells: bool)
+        requires { AreAscending self.old.groups }
+        ensures keeps { KeepsIds self.old self.new }
+        ensures settled { (if tells then ids_at self.new.groups side key.now else [])
+            ≡ (if tells then ids_left self.old side key.now else []) }
+    {
+        if tells {
+            self.settle(alloc, side, key);
+        }
+    }
+
     /// The ids of a side under the key, copied, where they are told.
     pub(crate) fn copied(
         &mut self,
@@ -51,20 +61,8 @@ impl LateGroups {
         ensures ids { IfOk result (λ v.
             v.items ≡ (if tells then ids_left self.old side key.now else [])) }
     {
-        if tells {
-            self.settle(alloc, side, key);
-            Ok(Vec::from_slice(alloc, self.groups.ids(side, key))?)
-        } else {
-            Ok(Vec::new(alloc))
-        }
-    }
-
-    // Takes an id out of those of its side under the key. It takes no memory.
-    fn take_out_now(&mut self, side: Side, key: &RowKey, id: u32)
-        requires { AreAscending self.old.groups }
-        ensures { IsTakenOut self.old side (ties (datum key.now.value)) id self.new }
-    {
-        self.groups.take_out(side, key, &[id]);
+        self.settle_told(alloc, side, key, tells);
+        self.groups.copied(alloc, side, key, tells)
     }
 
     // Puts down that an id is gone, or takes it out where memory is wanting for that.
@@ -78,16 +76,28 @@ impl LateGroups {
         }
     }
 
-    /// Takes an id out of those of its side under the key, at once where they are few.
-    pub(crate) fn take_out(&mut self, alloc: Global, side: Side, key: &RowKey, id: u32)
+    /// Takes an id out of those of its side under the key, at once where they are few, and answers those of the other side, where
+    /// they are told. The id is out for all that where memory is wanting for telling.
+    pub(crate) fn take_out(
+        &mut self,
+        alloc: Global,
+        side: Side,
+        key: &RowKey,
+        id: u32,
+        tells: bool,
+    ) -> Result<Vec<u32>, OutOfMemory>
         requires { AreAscending self.old.groups }
-        ensures { IsTakenOut self.old side (ties (datum key.now.value)) id self.new }
+        ensures taken { IsTakenOut self.old side (ties (datum key.now.value)) id self.new }
+        ensures told { IfOk result (λ v.
+            v.items ≡ (if tells then ids_left self.old (other side) key.now else [])) }
     {
-        if self.groups.ids(side, key).len() > FEW_IDS {
-            self.take_out_later(alloc, side, key, id)
-        } else {
-            self.take_out_now(side, key, id)
+        self.settle_told(alloc, other(side), key, tells);
+        let Taken { told, is_out } = self.groups.take_few(alloc, side, key, id, tells);
+        if is_out {
+            return told;
         }
+        self.take_out_later(alloc, side, key, id);
+        told
     }
 
     // Takes out what is gone under the first key.

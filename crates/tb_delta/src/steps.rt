@@ -9,12 +9,12 @@ ghost use Rattle.tb_value.specs.declared.error.Side.{Side};
 ghost use Rattle.tb_value.specs.declared.limits.TheConstants.{MAX_ROWS};
 ghost use Rattle.tb_delta.specs.Groups.{ids_at, is_side, without, AreAscending};
 ghost use Rattle.tb_delta.specs.Inside.{AreRows, IsKeyed, IsPlaced, is_grouped, key_of, pulled_agrees, side_state};
-ghost use Rattle.tb_delta.specs.Promise.State.{appended, row_of, taken_out};
+ghost use Rattle.tb_delta.specs.Promise.State.{appended, other, row_of, taken_out};
 ghost use Rattle.tb_delta.specs.Stepped.{IsChecked};
 ghost use Rattle.tb_delta.specs.declared.key.RowKey.{RowKey};
 
 use crate::fault::DeltaFault;
-use crate::groups::Groups;
+use crate::groups::{Groups, other};
 use crate::key::RowKey;
 use crate::side_rows::{SideRows, StoredRow};
 use std::alloc::Global;
@@ -40,7 +40,8 @@ pub(crate) fn is_grouped(join_nulls: bool, key: &RowKey) -> bool
     join_nulls || !matches!(key.value, AnyValue::Null)
 }
 
-// Puts the id of a row into its group, if it is in one. After a refusal all are as they were.
+// Puts the id of a row into its group, if it is in one, and answers the ids of the other side, where they are told. After a
+// refusal all are as they were.
 fn put_in_group(
     alloc: Global,
     groups: &mut Groups,
@@ -48,18 +49,21 @@ fn put_in_group(
     join_nulls: bool,
     key: &RowKey,
     id: u32,
-) -> Result<(), OutOfMemory>
+    tells: bool,
+) -> Result<Vec<u32>, OutOfMemory>
     ensures ok { OnOk result ((s : Side) → (k : RowKey) → ids_at groups.new s k
         ≡ (if is_side side s && agrees join_nulls (datum key.now.value) (datum k.value)
         then ids_at groups.old s k ++ id ∷ []
         else ids_at groups.old s k)) }
+    ensures told { IfOk result (λ v.
+        v.items ≡ (if tells then ids_at groups.old (other side) key.now else [])) }
     ensures err { OnErr result
         ((s : Side) → (k : RowKey) → ids_at groups.new s k ≡ ids_at groups.old s k) }
 {
     if is_grouped(join_nulls, key) {
-        groups.add(alloc, side, key, id)
+        groups.put(alloc, side, key, id, tells)
     } else {
-        Ok(())
+        groups.copied(alloc, other(side), key, tells)
     }
 }
 
@@ -76,7 +80,55 @@ fn take_from_group(groups: &mut Groups, side: Side, join_nulls: bool, key: &RowK
     }
 }
 
-// Puts a row last. After a refusal all are as they were.
+// Puts a row with its key last, and answers the ids of the other side under the key, where they are told. After a refusal all are
+// as they were.
+pub(crate) fn put_row(
+    alloc: Global,
+    rows: &mut SideRows,
+    groups: &mut Groups,
+    side: Side,
+    join_nulls: bool,
+    key: RowKey,
+    row: Vec<AnyValue>,
+    tells: bool,
+) -> Result<Vec<u32>, OutOfMemory>
+    requires fits { FitsFields (side_state rows.old).columns (data_of row.items) }
+    requires keyed { datum key.value ≡ key_of (side_state rows.old) (data_of row.items) }
+    requires few { rows.old.ever < MAX_ROWS }
+    requires placed { IsPlaced rows.old }
+    requires kept { AreRows (side_state rows.old) }
+    requires ascend { AreAscending groups.old }
+    requires below { (k : RowKey) → All (λ i. i < rows.old.ever) (ids_at groups.old side k) }
+    ensures told { IfOk result (λ v.
+        v.items ≡ (if tells then ids_at groups.old (other side) key else [])) }
+    ensures placed { IsPlaced rows.new }
+    ensures rows { OnOk result
+        (side_state rows.new ≡ appended (data_of row.items) (side_state rows.old)) }
+    ensures groups { OnOk result ((s : Side) → (k : RowKey) → ids_at groups.new s k
+        ≡ (if is_side side s
+        && agrees join_nulls (key_of (side_state rows.old) (data_of row.items)) (datum k.value)
+        then ids_at groups.old s k ++ rows.old.ever ∷ []
+        else ids_at groups.old s k)) }
+    ensures rows_stay { OnErr result (side_state rows.new ≡ side_state rows.old) }
+    ensures groups_stay { OnErr result
+        ((s : Side) → (k : RowKey) → ids_at groups.new s k ≡ ids_at groups.old s k) }
+{
+    let id = rows.ever;
+    let told = put_in_group(alloc, groups, side, join_nulls, &key, id, tells)?;
+    match rows.rows.insert(id, StoredRow { key, values: row }) {
+        Ok(_) => {
+            rows.ever = id + 1;
+            Ok(told)
+        }
+        Err(refused) => {
+            let (_, row) = refused.value;
+            take_from_group(groups, side, join_nulls, &row.key, id);
+            Err(OutOfMemory)
+        }
+    }
+}
+
+// Puts a row last, and answers its id. After a refusal all are as they were.
 pub(crate) fn push_row(
     alloc: Global,
     rows: &mut SideRows,
@@ -104,19 +156,11 @@ pub(crate) fn push_row(
     ensures groups_stay { OnErr result
         ((s : Side) → (k : RowKey) → ids_at groups.new s k ≡ ids_at groups.old s k) }
 {
-    let id = rows.ever;
+    let next = rows.ever;
     let key = RowKey::of(alloc, &row[rows.key])?;
-    put_in_group(alloc, groups, side, join_nulls, &key, id)?;
-    match rows.rows.insert(id, StoredRow { key, values: row }) {
-        Ok(_) => {
-            rows.ever = id + 1;
-            Ok(id)
-        }
-        Err(refused) => {
-            let (_, row) = refused.value;
-            take_from_group(groups, side, join_nulls, &row.key, id);
-            Err(OutOfMemory)
-        }
+    match put_row(alloc, rows, groups, side, join_nulls, key, row, false) {
+        Ok(_) => Ok(next),
+        Err(OutOfMemory) => Err(OutOfMemory),
     }
 }
 

@@ -1,17 +1,10 @@
-use Rattle.std.proofs.Common.{◌≡◌, ◌∙◌, ◌<◌, ◌++◌, ◌∷◌, [], ap, sym, subst, ℕ, List, Some, None}
+use Rattle.std.proofs.Common.{◌≡◌, ◌<◌, List, Some, None}
 use Rattle.tb_value.specs.Promise.Datum.{Datum}
-use Rattle.tb_value.specs.Promise.Typed.{FitsFields}
 use Rattle.tb_value.specs.See.{datum, data_of}
-use Rattle.tb_value.specs.declared.any_value.AnyValue.{AnyValue}
-use Rattle.tb_value.specs.declared.error.Side.{Side}
-use Rattle.tb_value.specs.declared.limits.TheConstants.{MAX_ROWS}
-use Rattle.tb_delta.specs.Changing.{IsChanging}
-use Rattle.tb_delta.specs.Inside.{agreeing, key_of, side_state}
-use Rattle.tb_delta.specs.Late.{ids_left}
+use Rattle.tb_delta.specs.Inside.{key_of, side_state}
 use Rattle.tb_delta.specs.Promise.State.{row_of}
-use Rattle.tb_delta.specs.declared.late.LateGroups.{LateGroups}
 use Rattle.tb_delta.specs.declared.side_rows.StoredRow.{StoredRow}
-use Rattle.tb_delta.proofs.Changed.{kept_ids, no_row, nothing_out, own_rows, pulled, removed, row_low, unmoved, where_told}
+use Rattle.tb_delta.proofs.Changed.{no_row, nothing_out, own_rows, pulled, removed, row_low, unmoved}
 use Rattle.tb_delta.proofs.changing.remove_row.Goals as goal
 
 pub returns-in_default-clause-changing : goal.returns-in_default-clause-changing
@@ -34,9 +27,8 @@ returns-in-Ok-clause-changing c =
     let row : List Datum = data_of v.values.items in
     let there : Some row ≡ row_of (side_state own) c.args.id = c.in-Some.ensures.row in
     let key : datum v.key.value ≡ key_of (side_state own) row = c.in-Some.ensures.keyed in
-    let mid : IsChanging c.args.side own others c.args.join_nulls c.copied-ids.new.self = kept_ids c.args.side own others c.args.join_nulls c.args.groups.now c.copied-ids.new.self c.requires c.copied-ids.ensures.keeps in
     let low : c.args.id < own.ever = row_low (side_state own) c.args.id row (own_rows c.args.side own others c.args.join_nulls c.args.groups.now c.requires) there in
-    pulled own others new c.args.join_nulls c.copied-ids.new.self c.take_out.new.groups c.args.id c.pull_stored.ensures.rows c.args.side row (datum v.key.value) mid c.pull_stored.ensures.placed there key low c.take_out.ensures
+    pulled own others new c.args.join_nulls c.args.groups.now c.take_out.new.groups c.args.id c.pull_stored.ensures.rows c.args.side row (datum v.key.value) c.requires c.pull_stored.ensures.placed there key low c.take_out.ensures.taken
 
 pub returns-in-Ok-clause-done : goal.returns-in-Ok-clause-done
 returns-in-Ok-clause-done c =
@@ -48,7 +40,7 @@ returns-in-Ok-clause-done c =
     let there : Some row ≡ row_of (side_state own) c.args.id = c.in-Some.ensures.row in
     let key : datum v.key.value ≡ key_of (side_state own) row = c.in-Some.ensures.keyed in
     removed own others new c.args.join_nulls c.args.id c.pull_stored.ensures.rows c.args.tells c.args.side c.args.groups.now row v.key c.in-Ok.ids c.requires there key
-    (c.in-Ok.ensures.ids ∙ where_told c.args.tells (ap (λ (d : Side). ids_left c.args.groups.now d v.key) c.other.ensures))
+    c.in-Ok.ensures.told
 
 pub returns-clause-changing : goal.returns-clause-changing
 returns-clause-changing c =
@@ -59,6 +51,5 @@ returns-clause-changing c =
     let row : List Datum = data_of v.values.items in
     let there : Some row ≡ row_of (side_state own) c.args.id = c.in-Some.ensures.row in
     let key : datum v.key.value ≡ key_of (side_state own) row = c.in-Some.ensures.keyed in
-    let mid : IsChanging c.args.side own others c.args.join_nulls c.copied-ids.new.self = kept_ids c.args.side own others c.args.join_nulls c.args.groups.now c.copied-ids.new.self c.requires c.copied-ids.ensures.keeps in
     let low : c.args.id < own.ever = row_low (side_state own) c.args.id row (own_rows c.args.side own others c.args.join_nulls c.args.groups.now c.requires) there in
-    pulled own others new c.args.join_nulls c.copied-ids.new.self c.take_out.new.groups c.args.id c.pull_stored.ensures.rows c.args.side row (datum v.key.value) mid c.pull_stored.ensures.placed there key low c.take_out.ensures
+    pulled own others new c.args.join_nulls c.args.groups.now c.take_out.new.groups c.args.id c.pull_stored.ensures.rows c.args.side row (datum v.key.value) c.requires c.pull_stored.ensures.placed there key low c.take_out.ensures.taken
