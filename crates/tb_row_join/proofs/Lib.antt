@@ -1,0 +1,4 @@
+pub mod Rooms
+pub mod PairNumbers
+pub mod Marked
+pub mod Turned

@@ -1,0 +1,4 @@
+pub mod Promise
+pub mod Lists
+pub mod Marks
+pub mod Written
