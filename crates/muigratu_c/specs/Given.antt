@@ -3,7 +3,7 @@ use Rattle.std.specs.Prelude.{◌≡◌, ℕ, List, length, Result, Ok, Err, str
 use Rattle.tb_value.specs.declared.error.OutOfMemory.{OutOfMemory}
 use Rattle.tb_answer.specs.declared.outcomes.Answer.{Answer}
 use Rattle.tb_answer.specs.Promise.Due.{code_of}
-use Rattle.muigratu_c.specs.Promise.Calls.{IsHandedOver}
+use Rattle.tb_row_join.specs.Promise.Rooms.{IsHandedOver}
 use Rattle.muigratu_c.specs.declared.MuigratuEnded.{MuigratuEnded}
 
 -- the text was handed over, or memory was wanting

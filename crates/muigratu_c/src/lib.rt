@@ -1,10 +1,14 @@
 //! Muigratu for programs in other languages: a request in JSON goes in, and the text of its answer into room that the
-//! caller gives. No pointer is kept, and nothing is to be freed.
+//! caller gives; or two columns of whole numbers, and the row numbers of their join. No pointer is kept, and nothing is
+//! to be freed.
 #![tactic(auto)]
 
-ghost use Rattle.std.specs.Prelude.{◌≡◌, ◌≤◌, ◌<◌, ◌++◌, IfOk, drop, length, string_bytes};
+mod rows;
+
+ghost use Rattle.std.specs.Prelude.{◌≡◌, ◌≤◌, ◌<◌, ◌++◌, ◌==◌, IfOk, drop, length, not, string_bytes};
 ghost use Rattle.tb_answer.specs.Promise.Due.{DueOfDummies, DueOfJoin, DueOfPivot, DueOfUnpivot};
 ghost use Rattle.muigratu_c.specs.Promise.Calls.{HasAnswered};
+ghost use Rattle.muigratu_c.specs.Promise.Rows.{HasRows};
 ghost use Rattle.muigratu_c.specs.Given.{IsGiven};
 
 use std::alloc::Global;
@@ -14,7 +18,8 @@ use tb_value::OutOfMemory;
 // The status of a call that wanted memory, in the numbers of the JSON program.
 const OUT_OF_MEMORY: u32 = 6;
 
-/// How a call ended, in the numbers of the JSON program, and how many bytes the text of its answer has.
+/// How a call ended, in the numbers of the JSON program, and how many bytes the text of its answer has, or how many pairs
+/// there are.
 #[repr(C)]
 #[derive(Drop)]
 pub struct MuigratuEnded {
@@ -112,10 +117,49 @@ pub extern "C" fn muigratu_dummies(alloc: Global, request: &[u8], room: &mut [u8
     given(with_dummies(alloc, request), room)
 }
 
+/// Joins two columns of whole numbers. A number whose mark in `left_there` or `right_there` is 0 is Null; without marks
+/// none is. Where `nulls_equal` isn't 0, Nulls match each other. The row numbers of the pairs go to the front of the two
+/// rooms, 4294967295 where a pair has no row of the side: by left rows and then by right rows, and those of a Right join
+/// by right rows and then by left rows. A room that is too short stays as it was, and the length that is handed back
+/// tells what is needed.
+#[unsafe(no_mangle)]
+pub extern "C" fn muigratu_rows_i64(
+    alloc: Global,
+    left: &[i64],
+    left_there: &[u8],
+    right: &[i64],
+    right_there: &[u8],
+    how: u32,
+    nulls_equal: u32,
+    left_rows: &mut [u32],
+    right_rows: &mut [u32],
+) -> MuigratuEnded
+    ensures { HasRows (record {
+      left = left.now;
+      left_there = left_there.now;
+      right = right.now;
+      right_there = right_there.now;
+      how = how;
+    }) (not (nulls_equal == 0))
+        left_rows.old right_rows.old left_rows.new right_rows.new result }
+{
+    rows::join_columns(
+        alloc,
+        left,
+        left_there,
+        right,
+        right_there,
+        how,
+        nulls_equal != 0,
+        left_rows,
+        right_rows,
+    )
+}
+
 /// The number of these signatures: a caller that was built for another number is not to call.
 #[unsafe(no_mangle)]
 pub extern "C" fn muigratu_abi() -> u32
-    ensures { result ≡ 1 }
+    ensures { result ≡ 2 }
 {
-    1
+    2
 }

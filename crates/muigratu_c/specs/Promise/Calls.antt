@@ -1,14 +1,9 @@
 -- What a call has done with the caller's room.
-use Rattle.std.specs.Prelude.{◌≡◌, ◌⊎◌, ℕ, ◌≤◌, ◌<◌, ◌++◌, List, drop, length}
+use Rattle.std.specs.Prelude.{◌≡◌, ◌⊎◌, ℕ, List, length}
 use Rattle.tb_answer.specs.declared.status.Status.{Status}
 use Rattle.tb_answer.specs.Promise.Due.{code_of}
+use Rattle.tb_row_join.specs.Promise.Rooms.{IsHandedOver}
 use Rattle.muigratu_c.specs.declared.MuigratuEnded.{MuigratuEnded}
-
--- a text stands at the front of the room, and the rest is as it was; where there is too little room, all of it is
-abbrev pub IsHandedOver : List ℕ → List ℕ → List ℕ → Type 0
-IsHandedOver text before after =
-    (length text ≤ length before → after ≡ text ++ drop (length text) before)
-    × (length before < length text → after ≡ before)
 
 -- memory was wanting and nothing was done, or a text that is due was handed over, with its status
 abbrev pub HasAnswered : (Status → List ℕ → Type 0) → List ℕ → List ℕ → MuigratuEnded → Type 0
