@@ -1,4 +1,6 @@
 mod Watching
+mod ToldAlike
+mod Alike
 pub mod Dues
 pub mod Each
 pub mod Joined

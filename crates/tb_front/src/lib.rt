@@ -22,5 +22,5 @@ pub use nulls::named_flags;
 pub use numbers::next_number;
 pub use options::{TextForm, TextOptions};
 pub use reading::{TwoTables, check_types, read_at, read_table, read_tables};
-pub use watch::{Unwatched, Watch};
+pub use watch::Watch;
 pub use writing::{refused, text_of_table, written};

@@ -1,9 +1,10 @@
 //! The tables that texts are.
-ghost use Rattle.std.specs.Prelude.{◌≡◌, List, IfOk};
+ghost use Rattle.std.specs.Prelude.{◌≡◌, List, None, IfOk, IfSome};
 ghost use Rattle.std.specs.Thread.{IsSync};
 ghost use Rattle.tb_value.specs.Promise.Names.{Name};
 ghost use Rattle.tb_value.specs.Promise.Refusals.{first_cause};
 ghost use Rattle.tb_frame.specs.Promise.Naming.{is_among};
+ghost use Rattle.tb_frame.specs.Promise.Refusal.{first_repeated};
 ghost use Rattle.tb_frame.specs.Promise.Table.{table_of};
 ghost use Rattle.tb_csv.specs.Promise.Faults.{types_fault};
 ghost use Rattle.tb_csv.specs.Promise.Records.{Record, records_of};
@@ -13,9 +14,11 @@ ghost use Rattle.tb_front.specs.Promise.Asked.{table_fault, tables_faults};
 ghost use Rattle.tb_front.specs.Promise.Due.{Gives};
 ghost use Rattle.tb_front.specs.Promise.Faults.{Settles, names_in, no_records, no_table, unknown_type};
 ghost use Rattle.tb_front.specs.Promise.Texts.{joined_table, table_at, table_in};
+ghost use Rattle.tb_front.specs.Tables.{AreJoined, IsMade};
 ghost use Rattle.tb_front.specs.Texts.{fault_in, AreRecordsAt};
 
 use crate::fault::{FrontFault, Place};
+use crate::keys::check_keys;
 use std::alloc::Global;
 use std::thread::{self, Threads};
 use tb_csv::{
@@ -186,6 +189,61 @@ pub struct TwoTables {
     pub right: DataFrame,
 }
 
+// What making the tables of both by these types gives, which are made at once.
+fn make_both<R: Threads + Sync>(
+    rt: &R,
+    alloc: Global,
+    left: &Records,
+    right: &Records,
+    types: &[TypeOf],
+) -> (Result<DataFrame, CsvFault>, Result<DataFrame, CsvFault>)
+    requires left { IsLevel left.now }
+    requires right { IsLevel right.now }
+    ensures left { IsMade left.now types.now result.0 }
+    ensures right { IsMade right.now types.now result.1 }
+{
+    thread::join(
+        rt,
+        || -> Result<DataFrame, CsvFault>
+            requires shared { IsSync R.row }
+            requires level { IsLevel left.now }
+            ensures { IsMade left.entry.now types.entry.now result }
+        { table_of_records(rt, alloc, left, types) },
+        || -> Result<DataFrame, CsvFault>
+            requires shared { IsSync R.row }
+            requires level { IsLevel right.now }
+            ensures { IsMade right.entry.now types.entry.now result }
+        { table_of_records(rt, alloc, right, types) },
+    )
+}
+
+// The tables by the types that are given and those that each text tells, if each key is then of one type in both. The types that
+// both texts tell together are the same.
+fn tables_alike(
+    rt: &(impl Threads + Sync),
+    alloc: Global,
+    left: &Records,
+    right: &Records,
+    types: &[TypeOf],
+    left_on: &[PlSmallStr],
+    right_on: &[PlSmallStr],
+) -> Option<TwoTables>
+    requires left { IsLevel left.now }
+    requires right { IsLevel right.now }
+    ensures { (ls rs : List Record) → IsRead left.now ls → IsRead right.now rs
+        → first_repeated (names_in ls) ≡ None → first_repeated (names_in rs) ≡ None
+        → IfSome result (AreJoined types.now left_on.now right_on.now ls rs) }
+{
+    let (left, right) = make_both(rt, alloc, left, right, types);
+    let (Ok(left), Ok(right)) = (left, right) else {
+        return None;
+    };
+    match check_keys(alloc, &left, &right, left_on, right_on) {
+        Ok(()) => Some(TwoTables { left, right }),
+        Err(_) => None,
+    }
+}
+
 /// The tables of two texts that are joined by the keys of these names, whose types are told from both texts. The texts are let go.
 ///
 /// # Errors
@@ -213,6 +271,10 @@ pub fn read_tables(
     let (first, second) = (first?, second?);
     let given = options.types.as_slice();
     check_types(alloc, given, names_of(&first), names_of(&second))?;
+    let alike = tables_alike(rt, alloc, &first, &second, given, left_on, right_on);
+    if let Some(tables) = alike {
+        return Ok(tables);
+    }
     let left_types = types_with_keys(alloc, &first, &second, given, left_on, right_on)?;
     let right_types = types_with_keys(alloc, &second, &first, given, right_on, left_on)?;
     let separator = options.separator;

@@ -10,13 +10,3 @@ pub trait Watch: Drop {
     /// The tables are joined, to one of so many rows, and this is how it went.
     fn joined(&mut self, rows: usize, trace: &JoinTrace);
 }
-
-/// One who isn't told.
-#[derive(Clone, Copy)]
-pub struct Unwatched;
-
-impl Watch for Unwatched {
-    fn read(&mut self, _left: usize, _right: usize) {}
-
-    fn joined(&mut self, _rows: usize, _trace: &JoinTrace) {}
-}
