@@ -14,12 +14,13 @@ from .errors import CannotCross, MuigratuError, Refused
 from .grouping import group_by
 from .joining import join
 from .keeping import Insert, Kept, KeptJoin, Remove, delta
-from .library import Library, find_library
+from .library import NO_ROW, Library, find_library
+from .numbers import join_rows
 from .planning import plan, table
 from .program import Program, find_program
 from .reshaping import get_dummies, pivot, to_dummies, unpivot
 
 __all__ = [
-    "CannotCross", "Insert", "Kept", "KeptJoin", "Library", "MuigratuError", "Program", "Refused", "Remove", "delta", "errors", "find_library", "find_program",
-    "get_dummies", "group_by", "join", "pivot", "plan", "table", "to_dummies", "unpivot",
+    "CannotCross", "Insert", "Kept", "KeptJoin", "Library", "MuigratuError", "NO_ROW", "Program", "Refused", "Remove", "delta", "errors", "find_library", "find_program",
+    "get_dummies", "group_by", "join", "join_rows", "pivot", "plan", "table", "to_dummies", "unpivot",
 ]

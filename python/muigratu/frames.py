@@ -37,6 +37,35 @@ class PandasTable(Table):
         numbered = pool.astype(_with_room(pool.dtype))
         return numbered.reindex([-1 if row is None else row for row in rows]).reset_index(drop=True)
 
+    def taken_at(self, place: int, rows: Any, has_absent: bool) -> Any:
+        """The cells of a column at these rows, an array of numpy in which -1 is no row."""
+        import pandas
+
+        pool = self.columns[place]
+        if has_absent:
+            pool = pool.astype(_with_room(pool.dtype))
+        # (pandas makes a column of an array of its own that wraps numpy's by way of objects)
+        cells = pool.array if pandas.api.types.is_extension_array_dtype(pool.dtype) else pool.to_numpy()
+        return pandas.Series(pandas.api.extensions.take(cells, rows, allow_fill=has_absent))
+
+    def sign(self, place: int) -> Optional[bool]:
+        """Whether a column of whole numbers of at most 64 bits with their sign has negative ones too; None of another column."""
+        bits = _bits(self.columns[place].dtype)
+        return None if bits is None or bits == (False, 64) else bits[0]
+
+    def head(self) -> PandasTable:
+        """The same columns without a row."""
+        return PandasTable(self.frame.iloc[:0])
+
+    def numbers(self, numbers: Any, absent: Any, dtypes: Iterable[Any]) -> Any:
+        """A column of whole numbers, each with whether it is absent, if any is. `dtypes` is what columns of numbers were made of."""
+        import pandas
+
+        dtype = _chosen({}, None, dtypes, []) or "int64"
+        if absent is None or not absent.any():
+            return pandas.Series(numbers).astype(dtype, copy=False)
+        return pandas.Series(pandas.arrays.IntegerArray(numbers, absent)).astype(_with_room(dtype))
+
     def column(self, values: list[Any], dtypes: Iterable[Any], kind: Any) -> Any:
         import pandas
 

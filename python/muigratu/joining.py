@@ -6,6 +6,7 @@ from typing import Any, Optional, Sequence, TypeVar, Union
 
 from . import errors
 from .crossing import Column, Crossing, column
+from .numbers import is_by_numbers, joined_by_numbers
 from .program import Place, Program, program_of
 from .tables import Table, listed, table_of
 from .values import Values, aligned, values_of
@@ -143,6 +144,16 @@ def _in_two(program: Program, crossing: Crossing, left: Side, right: Side, args:
     return crossing.made([(each["name"], given_back(each)) for each in columns], answer["height"])
 
 
+def _by_numbers(library: Any, tables: Sequence[Table], on: Sequence[list[str]], args: dict[str, Any]) -> Any:
+    """The join by row numbers, and a request of all columns without rows, which tells the answer's columns."""
+    heads = [table.head() for table in tables]
+    left, right = Side(heads[0], on[0], "left"), Side(heads[1], on[1], "right", shows=args["how"] not in ("semi", "anti"))
+    align(left, right)
+    crossing = Crossing(heads[0])
+    columns = library.ask("join", _request(left.heads(crossing), right.heads(crossing), *on, args))["columns"]
+    return joined_by_numbers(library, crossing, columns, tables, on, args, heads)
+
+
 def join(
     left: T,
     right: Any,
@@ -179,8 +190,11 @@ def join(
     args = arguments(how, suffix, validate, join_nulls, coalesce, maintain_order, slice)
     left_on, right_on = keys_of(on, left_on, right_on)
     asked = program_of(program)
-    ours = Side(table_of(left, "left"), left_on, "left")
-    others = Side(table_of(right, "right"), right_on, "right", shows=how not in ("semi", "anti"))
+    tables, on = (table_of(left, "left"), table_of(right, "right")), (left_on, right_on)
+    if is_by_numbers(asked, tables, on, args):
+        return _by_numbers(asked, tables, on, args)
+    ours = Side(tables[0], left_on, "left")
+    others = Side(tables[1], right_on, "right", shows=how not in ("semi", "anti"))
     align(ours, others)
     way = _in_two if ours.spare_cells() + others.spare_cells() > MANY_CELLS else _in_one
     try:

@@ -4,19 +4,38 @@ from __future__ import annotations
 import ctypes
 import os
 import pathlib
-from typing import Optional
+from typing import Any, NamedTuple, Optional
 
 from . import errors
-from .program import Place, Program
+from .program import Place, Program, program_ended
 
 VARIABLE = "MUIGRATU_LIBRARY"
 NAME = "libmuigratu.so"
-ABI = 1
+ABI = 2
 COMMANDS = ("join", "unpivot", "pivot", "dummies")
+# the kinds of a join, by their numbers
+HOWS = ("inner", "left", "right", "full", "semi", "anti")
+# the row number of a pair that has no row of a side
+NO_ROW = (1 << 32) - 1
 
 
 class _Ended(ctypes.Structure):
     _fields_ = [("status", ctypes.c_uint32), ("length", ctypes.c_size_t)]
+
+
+class Buffer(NamedTuple):
+    """Memory of another object, which is held as long as this is: where it begins, and how many elements it has."""
+
+    holder: Any
+    address: int
+    length: int
+
+
+class Numbers(NamedTuple):
+    """A column of whole numbers of 64 bits, with a byte for each, 0 where the number is absent; or with none where all are there."""
+
+    numbers: Buffer
+    there: Buffer
 
 
 def find_library() -> Optional[pathlib.Path]:
@@ -43,11 +62,13 @@ class Library(Program):
         except OSError as error:
             raise errors.ProgramFailed(f"{self.place} cannot be loaded: {error}") from error
         self._calls = {command: self._call(command) for command in COMMANDS}
+        self._rows = self._call("rows_i64")
+        self._rows.argtypes = [ctypes.c_void_p, ctypes.c_size_t] * 4 + [ctypes.c_uint32] * 2 + [ctypes.c_void_p, ctypes.c_size_t] * 2
 
-    def _call(self, command: str) -> "ctypes._CFuncPtr":
+    def _call(self, name: str) -> "ctypes._CFuncPtr":
         try:
             abi = self._library.muigratu_abi
-            call = getattr(self._library, f"muigratu_{command}")
+            call = getattr(self._library, f"muigratu_{name}")
         except AttributeError as error:
             raise errors.ProgramFailed(f"{self.place} is no library of Muigratu: {error}") from error
         abi.argtypes, abi.restype = [], ctypes.c_uint32
@@ -70,6 +91,22 @@ class Library(Program):
             if length <= room:
                 return status, out
             room = length
+
+    def rows(self, left: Numbers, right: Numbers, how: str, join_nulls: bool, left_rows: Buffer, right_rows: Buffer) -> int:
+        """Joins two columns of numbers, and puts the row numbers of the pairs at the front of two rooms of 32-bit numbers, each where it has place
+        for them, with NO_ROW where a pair has no row of the side: by left rows and then by right rows, or in a right join by right rows and then
+        by left rows. Tells how many pairs there are.
+
+        This alone hands buffers to the library: they are held by name until the call has ended.
+        """
+        given = [part for side in (left, right) for buffer in side for part in (buffer.address, buffer.length)]
+        rooms = [part for buffer in (left_rows, right_rows) for part in (buffer.address, buffer.length)]
+        ended = self._rows(*given, HOWS.index(how), join_nulls, *rooms)
+        if ended.status == 0:
+            return ended.length
+        if ended.status == 8:
+            raise errors.CannotCross("a side has more than 4294967294 rows")
+        raise program_ended(ended.status, "rows")
 
 
 def _asked(call: "ctypes._CFuncPtr", text: bytes, length: int) -> tuple[int, int, bytes]:

@@ -76,7 +76,7 @@ class Program:
             raise errors.refusal_of(_read(out))
         if status == 3:
             raise errors.BadRequest(_read(out).get("reason", ""), *self._place(command, text))
-        raise _ended(status, command)
+        raise program_ended(status, command)
 
     def answer(self, command: str, text: bytes) -> tuple[int, bytes]:
         """The status and the text that the program answers to the text of a request."""
@@ -112,7 +112,8 @@ def _read(out: bytes) -> dict[str, Any]:
     return answer
 
 
-def _ended(status: int, command: str) -> errors.MuigratuError:
+def program_ended(status: int, command: str) -> errors.MuigratuError:
+    """The exception that a status stands for which has no answer."""
     if status == 2:
         return errors.Usage(f"the program doesn't know the command {command!r}")
     if status == 4:

@@ -1,4 +1,5 @@
 """The library beside the program: both answer alike. Skipped where MUIGRATU_LIBRARY names no library, or there is no program."""
+import array
 import collections
 import os
 import pathlib
@@ -6,7 +7,7 @@ import random
 import unittest
 
 import muigratu
-from muigratu import errors, library
+from muigratu import errors, joining, library
 from muigratu.program import Program
 
 from . import needs_program, oracle
@@ -80,6 +81,73 @@ class BesideTheProgram(unittest.TestCase):
     def test_answers_longer_than_their_requests(self):
         rows = 300
         self.same(lambda program: muigratu.join({"k": [1] * rows}, {"k": [1] * rows, "v": list(range(rows))}, on="k", maintain_order="left_right", program=program))
+
+
+def whole_numbers(rng, pandas, is_signed, height):
+    """A column of whole numbers of one sign, some absent where it may have such."""
+    name = rng.choice(["int8", "int32", "int64", "Int32", "Int64"] if is_signed else ["uint8", "uint32", "UInt16", "UInt32"])
+    least = -2 if is_signed else 0
+    return pandas.array([None if name[0].isupper() and rng.random() < 0.2 else rng.randrange(least, 4) for _ in range(height)], dtype=name)
+
+
+def some_frame(rng, pandas, names, is_signed):
+    """A frame with a random index: whole numbers under the first name, and other cells under the others."""
+    height = rng.randrange(9)
+    made = {names[0]: whole_numbers(rng, pandas, is_signed, height)}
+    for name in names[1:]:
+        cells = [rng.choice([0.5, 1.5]), rng.choice(["a", None]), rng.random() < 0.5, rng.randrange(9), pandas.Timestamp(rng.randrange(9), unit="D")]
+        made[name] = [cells[names.index(name) % len(cells)]] * height
+    order = rng.sample(names, len(names))
+    return pandas.DataFrame({name: made[name] for name in order}, index=[rng.randrange(99) for _ in range(height)])
+
+
+@needs_library
+class RowNumbers(unittest.TestCase):
+    def setUp(self):
+        self.library = muigratu.Library(library.find_library())
+
+    def test_lists_beside_nested_loops(self):
+        for seed in range(1000):
+            rng = random.Random(seed)
+            left, right = ([rng.choice([None, 0, 1, 2, 2**63 - 1, -(2**63)]) for _ in range(rng.randrange(8))] for _ in range(2))
+            how, join_nulls = rng.choice(library.HOWS), rng.random() < 0.5
+            wanted = oracle.Join({"k": left}, {"k": right}, ["k"], ["k"], how, join_nulls=join_nulls).ordered("right" if how == "right" else "left")[0]
+            rows = muigratu.join_rows(left, right, how, join_nulls=join_nulls, program=self.library)
+            given = list(zip(*([None if row == muigratu.NO_ROW else int(row) for row in side] for side in rows)))
+            self.assertEqual(given, wanted, (seed, left, right, how, join_nulls))
+
+    def test_arrays_are_keys(self):
+        left_rows, right_rows = muigratu.join_rows(array.array("q", [5, 7]), array.array("q", [7, 7]), program=self.library)
+        self.assertEqual((list(left_rows), list(right_rows)), ([1, 1], [0, 1]))
+
+    def test_what_is_no_whole_number_is_refused(self):
+        for keys in (["a"], [0.5], [True], [2**63]):
+            with self.assertRaises(errors.CannotCross):
+                muigratu.join_rows(keys, [1], program=self.library)
+        with self.assertRaises(ValueError):
+            muigratu.join_rows([1], [1], "outer", program=self.library)
+
+    @needs_program
+    def test_frames_beside_the_program(self):
+        try:
+            import pandas
+        except ImportError:
+            self.skipTest("no pandas")
+        program = Program()
+        for seed in range(400):
+            rng = random.Random(seed)
+            is_signed = rng.random() < 0.7
+            left, right = some_frame(rng, pandas, ["k", "a", "b", "c"][: rng.randrange(1, 5)], is_signed), some_frame(rng, pandas, ["id", "b", "c"][: rng.randrange(1, 4)], is_signed)
+            how = rng.choice(library.HOWS)
+            # (an Inner or a Full join may have another order in the program where none is asked)
+            order = rng.choice(["left", "left_right"]) if how in ("inner", "full") else rng.choice([None, *joining.ORDERS])
+            args = {"how": how, "join_nulls": rng.random() < 0.5, "coalesce": rng.choice([None, True, False]) if how not in ("semi", "anti") else None, "maintain_order": order}
+            with self.subTest(seed=seed):
+                ours, theirs = (told(lambda: muigratu.join(left, right, left_on="k", right_on="id", program=asked, **args)) for asked in (self.library, program))
+                if isinstance(ours, tuple) or isinstance(theirs, tuple):
+                    self.assertEqual(ours, theirs)
+                else:
+                    pandas.testing.assert_frame_equal(ours, theirs)
 
 
 class Finding(unittest.TestCase):
