@@ -1,8 +1,7 @@
 //! A request that is read is answered: the one door to the commands.
 ghost use Rattle.std.specs.Prelude.{◌≡◌, Err, IfOk, string_bytes};
 ghost use Rattle.tb_request.specs.Promise.Reading.{request_view, unpivot_view, dummies_view, pivot_view, join_request_of, unpivot_request_of, dummies_request_of, pivot_request_of};
-ghost use Rattle.tb_request.specs.Promise.Reasons.{reason_word};
-ghost use Rattle.tb_run.specs.Promise.Due.{DueOfReading, DueOfRequest, bad_request_text};
+ghost use Rattle.tb_run.specs.Promise.Due.{DueOfReading, DueOfRequest};
 ghost use Rattle.tb_run.specs.Due.{IsJoinOutcome, IsOutcome, IsRefusal};
 ghost use Rattle.tb_run.specs.Promise.Requests.{request_of, as_request, join, unpivot, dummies, pivot};
 
@@ -22,7 +21,7 @@ use tb_frame::DataFrame;
 use tb_json::{text_of, text_of_refusal};
 use tb_request::{
     DummiesRequest, JoinRequest, PivotRequest, Reason, RequestFault, UnpivotRequest,
-    dummies_request_of, join_request_of, pivot_request_of, unpivot_request_of,
+    bad_request_text, dummies_request_of, join_request_of, pivot_request_of, unpivot_request_of,
 };
 use tb_value::{OutOfMemory, PolarsError, PolarsResult};
 
@@ -249,29 +248,5 @@ pub(crate) fn no_request(alloc: Global, fault: RequestFault) -> Result<Answer, O
             status: Status::BadRequest,
             text: bad_request_text(alloc, reason)?,
         }),
-    }
-}
-
-fn bad_request_text(alloc: Global, reason: Reason) -> Result<String, OutOfMemory>
-    ensures { IfOk result (λ t. string_bytes t ≡ bad_request_text reason) }
-{
-    let mut text = String::from_str(alloc, "{\"error\":\"BadRequest\",\"reason\":\"")?;
-    text.push_str(reason_word(reason))?;
-    text.push_str("\"}\n")?;
-    Ok(text)
-}
-
-fn reason_word(reason: Reason) -> &'static str
-    ensures { result.now ≡ reason_word reason }
-{
-    match reason {
-        Reason::Json => "Json",
-        Reason::Shape => "Shape",
-        Reason::Value => "Value",
-        Reason::Rows => "Rows",
-        Reason::Exec => "Exec",
-        Reason::Heights => "Heights",
-        Reason::Name => "Name",
-        Reason::Flag => "Flag",
     }
 }

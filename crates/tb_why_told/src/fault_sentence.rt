@@ -1,23 +1,10 @@
 //! A sentence on why bytes are no request.
 
 use std::fmt;
-use tb_request::{Form, MAX_RUN_VALUES, Reason, Word};
+use tb_request::{Form, MAX_RUN_VALUES, Word};
 use tb_value::IsSorted;
 use tb_why::{Expected, Fault, Place, Step};
 use tb_words::shown;
-
-fn reason_word(reason: Reason) -> &'static str {
-    match reason {
-        Reason::Json => "Json",
-        Reason::Shape => "Shape",
-        Reason::Value => "Value",
-        Reason::Rows => "Rows",
-        Reason::Exec => "Exec",
-        Reason::Heights => "Heights",
-        Reason::Name => "Name",
-        Reason::Flag => "Flag",
-    }
-}
 
 fn words(word: Word) -> &'static str {
     match word {
@@ -119,7 +106,7 @@ pub struct FaultSentence<'a>(pub &'a Fault);
 
 impl fmt::Display for FaultSentence<'_> {
     fn fmt<W: fmt::Write>(&self, f: &mut fmt::Formatter<W>) -> fmt::Result {
-        write!(f, "{} at ", reason_word(self.0.reason))?;
+        write!(f, "{} at ", self.0.reason.word())?;
         write_place(&self.0.place, f)?;
         f.write_str(": expected ")?;
         write_expected(self.0.expected, f)

@@ -5,7 +5,7 @@ use Rattle.tb_value.specs.declared.limits.TheConstants.{MAX_INPUT}
 use Rattle.tb_sample.specs.Promise.Sample.{IsSummary, text_of_summary}
 use Rattle.tb_sample.specs.declared.summary.Summary.{Summary}
 use Rattle.tb_request.specs.declared.request.Reason.{Reason}
-use Rattle.tb_request.specs.Promise.Reasons.{reason_word}
+use Rattle.tb_request.specs.Promise.Reasons.{bad_request_text}
 use Rattle.tb_run.specs.declared.words.Form.{Form}
 use Rattle.tb_run.specs.declared.words.Form.TheVariants.{Reads, Sample, Unknown}
 use Rattle.tb_run.specs.declared.status.Status.{Status}
@@ -21,9 +21,6 @@ usage_text = line (codes "{\"error\":\"Usage\"}")
 
 abbrev pub too_long_text : List ℕ
 too_long_text = line (codes "{\"error\":\"TooLong\"}")
-
-abbrev pub bad_request_text : Reason → List ℕ
-bad_request_text reason = line (codes "{\"error\":\"BadRequest\",\"reason\":\"" ++ reason_word reason ++ codes "\"}")
 
 -- a request is refused, or it is done
 abbrev pub DueOfRequest : Request → Status → List ℕ → Type 0
