@@ -27,10 +27,7 @@ fn how_given<'a>(matches: &ArgMatches<'a>) -> Result<JoinType, WordFault<'a>>
     let Some(word) = matches.get_str("how") else {
         return Ok(JoinType::Inner);
     };
-    match how_named(word) {
-        Some(how) => Ok(how),
-        None => Err(WordFault::NoWord(Choice::How, word)),
-    }
+    how_named(word).ok_or(WordFault::NoWord(Choice::How, word))
 }
 
 fn validation_given<'a>(matches: &ArgMatches<'a>) -> Result<JoinValidation, WordFault<'a>>
@@ -40,10 +37,7 @@ fn validation_given<'a>(matches: &ArgMatches<'a>) -> Result<JoinValidation, Word
     let Some(word) = matches.get_str("validate") else {
         return Ok(JoinValidation::ManyToMany);
     };
-    match validation_named(word) {
-        Some(validation) => Ok(validation),
-        None => Err(WordFault::NoWord(Choice::Validation, word)),
-    }
+    validation_named(word).ok_or(WordFault::NoWord(Choice::Validation, word))
 }
 
 fn coalesce_given<'a>(matches: &ArgMatches<'a>) -> Result<JoinCoalesce, WordFault<'a>>
@@ -53,10 +47,7 @@ fn coalesce_given<'a>(matches: &ArgMatches<'a>) -> Result<JoinCoalesce, WordFaul
     let Some(word) = matches.get_str("coalesce") else {
         return Ok(JoinCoalesce::JoinSpecific);
     };
-    match coalesce_named(word) {
-        Some(coalesce) => Ok(coalesce),
-        None => Err(WordFault::NoWord(Choice::Coalesce, word)),
-    }
+    coalesce_named(word).ok_or(WordFault::NoWord(Choice::Coalesce, word))
 }
 
 // A hyphen may stand for the line between two words.
@@ -83,10 +74,7 @@ fn order_given<'a>(
             _ => MaintainOrderJoin::None,
         });
     };
-    match order_word(word) {
-        Some(order) => Ok(order),
-        None => Err(WordFault::NoWord(Choice::Order, word)),
-    }
+    order_word(word).ok_or(WordFault::NoWord(Choice::Order, word))
 }
 
 fn slice_given<'a>(matches: &ArgMatches<'a>) -> Result<Option<(i64, usize)>, WordFault<'a>>

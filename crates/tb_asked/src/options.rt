@@ -1,6 +1,7 @@
 //! How files are read and answers are written, as words say it.
 ghost use Rattle.std.specs.Prelude.{◌≡◌, ◌≤◌, [], codes, map, unwrap_or, IfOk, MatchResult, None, Some};
 ghost use Rattle.clap.specs.Matches.{first_value, found_of};
+ghost use Rattle.tb_pool.specs.declared.exec.TheConstants.{MAX_WORKERS};
 ghost use Rattle.tb_words.specs.Words.{given_words};
 ghost use Rattle.tb_asked.specs.Faults.{IsNoType, IsTypeFault, Tells};
 ghost use Rattle.tb_asked.specs.Options.{form_meant, form_word, separator_asked, type_given, type_named, typed_name, AreTyped, AskTypes, AsksCsv, AsksOptions, IsThreadsOf, IsWidthOf};
@@ -10,7 +11,7 @@ use std::alloc::Global;
 use tb_csv::{CsvOptions, FieldType, TypeOf};
 use tb_frame::check_repeated;
 use tb_front::{TextForm, TextOptions};
-use tb_pool::Exec;
+use tb_pool::{Exec, MAX_WORKERS};
 use tb_value::{OutOfMemory, PlSmallStr, PolarsError};
 use tb_words::{Choice, WordFault, separator_of, threads_of, width_of};
 
@@ -117,10 +118,7 @@ fn separator_given<'a>(matches: &ArgMatches<'a>) -> Result<u8, WordFault<'a>>
     let Some(word) = matches.get_str("separator") else {
         return Ok(b',');
     };
-    match separator_of(word) {
-        Some(byte) => Ok(byte),
-        None => Err(WordFault::NoSeparator(word)),
-    }
+    separator_of(word).ok_or(WordFault::NoSeparator(word))
 }
 
 // The width that is given, or that of the screen, or one that cuts nothing.
@@ -131,10 +129,7 @@ fn width_given<'a>(screen: Option<usize>, matches: &ArgMatches<'a>) -> Result<us
     let Some(word) = matches.get_str("width") else {
         return Ok(screen.unwrap_or(usize::MAX));
     };
-    match width_of(word) {
-        Some(width) => Ok(width),
-        None => Err(WordFault::NoWidth(word)),
-    }
+    width_of(word).ok_or(WordFault::NoWidth(word))
 }
 
 fn form_word(width: usize, word: &str) -> Option<TextForm>
@@ -155,23 +150,14 @@ fn form_given<'a>(width: usize, matches: &ArgMatches<'a>) -> Result<TextForm, Wo
     let Some(word) = matches.get_str("as") else {
         return Ok(TextForm::Csv);
     };
-    match form_word(width, word) {
-        Some(form) => Ok(form),
-        None => Err(WordFault::NoWord(Choice::Form, word)),
-    }
+    form_word(width, word).ok_or(WordFault::NoWord(Choice::Form, word))
 }
 
 // One for each processor, as far as a call takes so many.
 fn threads_for(processors: u32) -> u32
     ensures { IsThreadsOf processors None result }
 {
-    if processors < 1 {
-        1
-    } else if processors > 1024 {
-        1024
-    } else {
-        processors
-    }
+    processors.clamp(1, MAX_WORKERS)
 }
 
 // The number of threads that is given, or one for each processor.
@@ -182,25 +168,16 @@ fn threads_given<'a>(processors: u32, matches: &ArgMatches<'a>) -> Result<u32, W
     let Some(word) = matches.get_str("threads") else {
         return Ok(threads_for(processors));
     };
-    match threads_of(word) {
-        Some(count) => Ok(count),
-        None => Err(WordFault::NoThreads(word)),
-    }
+    threads_of(word).ok_or(WordFault::NoThreads(word))
 }
 
 // Work for so many threads, in twice as many parts, so that none waits long for another.
 fn exec_for(threads: u32) -> Exec
-    requires { (1 ≤ threads) × (threads ≤ 1024) }
+    requires { (1 ≤ threads) × (threads ≤ MAX_WORKERS) }
     ensures { result.workers ≡ threads }
 {
     let standard = Exec::standard();
-    let partitions = if threads < 4 {
-        8
-    } else if threads > 512 {
-        1024
-    } else {
-        threads * 2
-    };
+    let partitions = (threads * 2).clamp(8, MAX_WORKERS);
     match Exec::new(threads, partitions, standard.small(), 1, 1) {
         Ok(exec) => exec,
         Err(_) => standard,

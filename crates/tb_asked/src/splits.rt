@@ -23,10 +23,7 @@ fn parts_given<'a>(matches: &ArgMatches<'a>) -> Result<PartCount, WordFault<'a>>
         MatchResult result (IsCountOf (first_value words (codes "parts"))) (Tells words) }
 {
     let word = needed(matches, "parts")?;
-    match parts_in(word) {
-        Some(count) => Ok(count),
-        None => Err(WordFault::NoParts(word)),
-    }
+    parts_in(word).ok_or(WordFault::NoParts(word))
 }
 
 /// What the words of `muigratu split` ask of a table.

@@ -9,6 +9,7 @@ ghost use Rattle.tb_request.specs.Promise.HasForm.{has_form, is_word};
 
 use crate::tree::{Tree, Trees, count, dtype, is_object, is_truth, list, slice, text, whole};
 use std::alloc::Global;
+use tb_pool::MAX_WORKERS;
 use tb_request::{
     Form, Word, agg_named, coalesce_named, flag_named, how_named, order_named, side_named,
     validation_named,
@@ -89,7 +90,7 @@ fn is_worker_count(value: Tree<'_>) -> bool
     ensures { result ≡ has_form Form.Workers (item_view value.entry) }
 {
     match count(value) {
-        Some(count) => 1 <= count && count <= 1024,
+        Some(count) => 1 <= count && count <= MAX_WORKERS,
         None => false,
     }
 }
