@@ -1,12 +1,10 @@
 -- What is due for a request, by what its operation answers.
 use Rattle.std.proofs.Common.{◌≡◌, ◌⊎◌, ◌∙◌, ℕ, Bool, List, Option, Some, Result, Ok, Err, IfOk, refl, sym, ap, subst}
 use mathlib.Core.Logic.{inl, inr}
-use Rattle.tb_value.specs.Promise.Names.{Name}
 use Rattle.tb_value.specs.Refusals.{Settles}
 use Rattle.tb_value.specs.declared.error.PolarsError.{PolarsError}
 use Rattle.tb_value.specs.declared.error.PolarsError.TheVariants.{OutOfMemory}
 use Rattle.tb_chunk.specs.Promise.Col.{Col}
-use Rattle.tb_frame.specs.Join.{lent_request}
 use Rattle.tb_frame.specs.Promise.Join.{IsAnswer, by_names}
 use Rattle.tb_frame.specs.Promise.Join as asking
 use Rattle.tb_frame.specs.Promise.Refusal.{join_refusal}
@@ -28,8 +26,7 @@ use Rattle.tb_dummies.specs.Promise.Dummies as marked
 use Rattle.tb_pivot.specs.Promise.Pivot.{pivot_table}
 use Rattle.tb_pivot.specs.Promise.Refusal.{pivot_refusal}
 use Rattle.tb_pivot.specs.Promise.Request as wide
-use Rattle.tb_calls.specs.declared.arguments.JoinCall.{JoinCall}
-use Rattle.tb_calls.specs.Promise.Asked.{dummies_request, joined_of, long_request, names_in, wide_request}
+use Rattle.tb_calls.specs.Promise.Asked.{dummies_request, long_request, names_in, wide_request}
 use Rattle.tb_answer.specs.declared.status.Status.{Status}
 use Rattle.tb_answer.specs.Promise.Due.{DueOfReading, DueOfRequest, IsDummiesText, IsJoinText, IsLongText, IsWideText, asked_dummies, asked_long, asked_wide, joined_text, refusal_of_dummies, refusal_of_join, refusal_of_pivot, refusal_of_unpivot}
 use Rattle.tb_answer.specs.Outcomes.{DueOfDummiesRequest, DueOfJoinRequest, DueOfPivotRequest, DueOfUnpivotRequest, IsJoinOutcome, IsNoRequest, IsOutcome, IsRefusal}
@@ -75,21 +72,6 @@ join_outcomes_are_due : {A E : Type 0} (refusal cause : Option PolarsError) (IsT
     → IfOk result (λ a. IsJoinOutcome asks outcome (s a) (text a)) → IfOk result (λ a. DueOfRequest refusal IsText (s a) (text a))
 join_outcomes_are_due refusal cause IsText asks outcome s text (Ok a) same settles answers is = join_outcome_is_due refusal cause IsText asks outcome (s a) (text a) same settles answers is
 join_outcomes_are_due refusal cause IsText asks outcome s text (Err e) same settles answers is = is
-
--- A CALL
-
--- what is asked with what is lent of a call to join is what is asked by the call
-module _ (c : JoinCall) (left right : List Col) (left_on right_on : List Name) (l : left_on ≡ c.left_on.items) (r : right_on ≡ c.right_on.items) where
-  lent_is : lent_request left right left_on right_on c.args ≡ joined_of c (table_of left) (table_of right)
-  lent_is = λ t. by_names (table_of left) (table_of right) (l t) (r t) c.args
-
-  pub call_settles : (result : Result (List Col) PolarsError) → Settles result (join_refusal (lent_request left right left_on right_on c.args))
-      → Settles result (join_refusal (joined_of c (table_of left) (table_of right)))
-  call_settles result settles = subst (λ (a : asking.Request). Settles result (join_refusal a)) lent_is settles
-
-  pub call_answers : (result : Result (List Col) PolarsError) → IfOk result (λ t. IsAnswer (lent_request left right left_on right_on c.args) (table_of t))
-      → IfOk result (λ t. IsAnswer (joined_of c (table_of left) (table_of right)) (table_of t))
-  call_answers result answers = subst (λ (a : asking.Request). IfOk result (λ t. IsAnswer a (table_of t))) lent_is answers
 
 -- A JOIN
 

@@ -6,10 +6,11 @@ use Rattle.tb_chunk.specs.Promise.Col.{Col}
 use Rattle.tb_frame.specs.Promise.Table.{table_of}
 use Rattle.tb_json.specs.Promise.Text.{text_of, text_of_refusal}
 use Rattle.tb_request.specs.declared.request.Reason.{Reason}
+use Rattle.tb_request.specs.Promise.Reasons.{bad_request_text}
 use Rattle.tb_request.specs.Promise.Reading.{JoinRequest, UnpivotRequest, DummiesRequest, PivotRequest}
 use Rattle.tb_answer.specs.declared.status.Status.{Status}
 use Rattle.tb_answer.specs.declared.status.Status.TheVariants as status
-use Rattle.tb_answer.specs.Promise.Due.{DueOfRequest, IsDummiesText, IsJoinText, IsLongText, IsWideText, bad_request_text, joined_text, refusal_of_dummies, refusal_of_join, refusal_of_pivot, refusal_of_unpivot}
+use Rattle.tb_answer.specs.Promise.Due.{DueOfRequest, IsDummiesText, IsJoinText, IsLongText, IsWideText, joined_text, refusal_of_dummies, refusal_of_join, refusal_of_pivot, refusal_of_unpivot}
 
 -- a refusal that is not want of memory, with its text
 abbrev pub IsRefusal : PolarsError → Status → List ℕ → Type 0

@@ -1,15 +1,13 @@
 //! The text of what an operation gives, or of why there is none.
 ghost use Rattle.std.specs.Prelude.{◌≡◌, Err, IfOk, string_bytes};
-ghost use Rattle.tb_request.specs.Promise.Reasons.{reason_word};
 ghost use Rattle.tb_answer.specs.Outcomes.{IsJoinOutcome, IsNoRequest, IsOutcome, IsRefusal};
-ghost use Rattle.tb_answer.specs.Promise.Due.{bad_request_text};
 
 use crate::status::Status;
 use serde_json::Value;
 use std::alloc::Global;
 use tb_frame::DataFrame;
 use tb_json::{text_of, text_of_refusal, traced_text_of};
-use tb_request::{Reason, RequestFault};
+use tb_request::{Reason, RequestFault, bad_request_text};
 use tb_value::{OutOfMemory, PolarsError, PolarsResult};
 
 /// A text, and the status that goes with it.
@@ -76,29 +74,5 @@ pub(crate) fn no_request(alloc: Global, fault: RequestFault) -> Result<Answer, O
             status: Status::BadRequest,
             text: bad_request_text(alloc, reason)?,
         }),
-    }
-}
-
-fn bad_request_text(alloc: Global, reason: Reason) -> Result<String, OutOfMemory>
-    ensures { IfOk result (λ t. string_bytes t ≡ bad_request_text reason) }
-{
-    let mut text = String::from_str(alloc, "{\"error\":\"BadRequest\",\"reason\":\"")?;
-    text.push_str(reason_word(reason))?;
-    text.push_str("\"}\n")?;
-    Ok(text)
-}
-
-fn reason_word(reason: Reason) -> &'static str
-    ensures { result.now ≡ reason_word reason }
-{
-    match reason {
-        Reason::Json => "Json",
-        Reason::Shape => "Shape",
-        Reason::Value => "Value",
-        Reason::Rows => "Rows",
-        Reason::Exec => "Exec",
-        Reason::Heights => "Heights",
-        Reason::Name => "Name",
-        Reason::Flag => "Flag",
     }
 }

@@ -1,5 +1,5 @@
 -- What is due for the bytes of a request: a text, and the status that goes with it.
-use Rattle.std.specs.Prelude.{◌≡◌, ℕ, ◌++◌, Bool, List, [], ◌∷◌, codes, Option, Result, Ok, Err, MatchOption, if◌then◌else◌}
+use Rattle.std.specs.Prelude.{◌≡◌, ℕ, Bool, List, Option, Result, Ok, Err, MatchOption, if◌then◌else◌}
 use Rattle.serde_json.specs.Data.{null}
 use Rattle.tb_value.specs.declared.error.PolarsError.{PolarsError}
 use Rattle.tb_frame.specs.Promise.Join.{IsAnswer}
@@ -16,7 +16,7 @@ use Rattle.tb_calls.specs.Promise.Asked.{long_request, dummies_request, wide_req
 use Rattle.tb_json.specs.Promise.Text.{text_of, text_of_refusal, traced_text_of}
 use Rattle.tb_request.specs.declared.request.Reason.{Reason}
 use Rattle.tb_request.specs.Promise.Reading.{JoinRequest, UnpivotRequest, DummiesRequest, PivotRequest, asked_request, join_request_of, unpivot_request_of, dummies_request_of, pivot_request_of}
-use Rattle.tb_request.specs.Promise.Reasons.{reason_word}
+use Rattle.tb_request.specs.Promise.Reasons.{bad_request_text}
 use Rattle.tb_answer.specs.declared.status.Status.{Status}
 use Rattle.tb_answer.specs.declared.status.Status.TheVariants as status
 
@@ -81,11 +81,6 @@ IsDummiesText r text = text ≡ text_of (dummies_table (asked_dummies r))
 -- the text is that of the wide table
 unfoldable pub IsWideText : PivotRequest → List ℕ → Type 0
 IsWideText r text = text ≡ text_of (pivot_table (asked_wide r))
-
--- why bytes are no request
-abbrev pub bad_request_text : Reason → List ℕ
-bad_request_text reason =
-    codes "{\"error\":\"BadRequest\",\"reason\":\"" ++ reason_word reason ++ codes "\"}" ++ 10 ∷ []
 
 -- WHAT IS DUE
 
