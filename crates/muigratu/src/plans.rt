@@ -99,7 +99,7 @@ fn explained<'a>(
     texts: Vec<NamedText>,
     call: PlanCall,
 ) -> Result<Vec<u8>, Failure<'a>> {
-    match plan_lines(rt, alloc, texts, call, &options.csv) {
+    match plan_lines(rt, alloc, texts, call, options) {
         Ok(lines) => Ok(lines_text(alloc, &lines)?),
         Err(fault) => Err(front_failure(files, fault)),
     }

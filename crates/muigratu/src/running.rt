@@ -43,16 +43,17 @@ impl TableCommand {
     }
 }
 
+// The text that the command answers.
 fn answer<'a>(
     rt: &(impl Files + Input + Eprint + Clock + Threads + Sync),
     alloc: Global,
-    host: Host,
+    attended: bool,
     options: &TextOptions,
     command: TableCommand,
     matches: &ArgMatches<'a>,
 ) -> Result<Vec<u8>, Failure<'a>> {
     match command {
-        TableCommand::Join => joined(rt, alloc, host, options, matches),
+        TableCommand::Join => joined(rt, alloc, attended, options, matches),
         TableCommand::Pivot => pivoted(rt, alloc, options, matches),
         TableCommand::Unpivot => unpivoted(rt, alloc, options, matches),
         TableCommand::Dummies => marked(rt, alloc, options, matches),
@@ -62,8 +63,21 @@ fn answer<'a>(
     }
 }
 
-/// Does what the command is asked: the text is made whole before any of it is written. Tables for people are as wide as the screen,
-/// if they go there.
+// The same by the words that all of these commands share. Tables for people are as wide as the screen, if they go there.
+fn text_asked<'a>(
+    rt: &(impl Files + Input + Eprint + Clock + Threads + Sync),
+    alloc: Global,
+    host: Host,
+    command: TableCommand,
+    matches: &ArgMatches<'a>,
+) -> Result<Vec<u8>, Failure<'a>> {
+    let output = matches.get_str("output").unwrap_or("-");
+    let screen = host.screen.filter(|_| output == "-");
+    let options = text_options(alloc, &Host { screen, ..host }, matches)?;
+    answer(rt, alloc, host.attended, &options, command, matches)
+}
+
+/// Does what the command is asked: the text is made whole before any of it is written.
 pub(crate) fn run_command<'a>(
     rt: &(impl Files + Input + Print + Eprint + Clock + Threads + Sync),
     alloc: Global,
@@ -71,9 +85,6 @@ pub(crate) fn run_command<'a>(
     command: TableCommand,
     matches: &ArgMatches<'a>,
 ) -> Result<(), Failure<'a>> {
-    let output = matches.get_str("output");
-    let screen = host.screen.filter(|_| output.unwrap_or("-") == "-");
-    let options = text_options(alloc, &Host { screen, ..host }, matches)?;
-    let text = answer(rt, alloc, host, &options, command, matches)?;
-    write_text(rt, alloc, output, &text)
+    let text = text_asked(rt, alloc, host, command, matches)?;
+    write_text(rt, alloc, matches.get_str("output"), &text)
 }

@@ -8,7 +8,7 @@ use std::io::Input;
 use std::rt::Files;
 use std::thread::Threads;
 use std::time::Clock;
-use tb_asked::{Host, dummies_call, join_call, pivot_call, unpivot_call};
+use tb_asked::{dummies_call, join_call, pivot_call, unpivot_call};
 use tb_front::{TextOptions, dummies_text, join_texts, pivot_text, unpivot_text};
 use tb_sentences::{Failure, text_or_failure};
 use tb_words::{WordFault, needed};
@@ -32,21 +32,21 @@ fn read_two<'a>(
 }
 
 // Who is told how the join goes.
-fn audience(host: Host, matches: &ArgMatches<'_>) -> Audience {
+fn audience(attended: bool, matches: &ArgMatches<'_>) -> Audience {
     if matches.get_flag("explain") {
         Audience::Asking
-    } else if host.attended {
+    } else if attended {
         Audience::Waiting
     } else {
         Audience::Nobody
     }
 }
 
-/// The text of two joined tables.
+/// The text of two joined tables. Whoever attends is told how a long join goes.
 pub(crate) fn joined<'a>(
     rt: &(impl Files + Input + Eprint + Clock + Threads + Sync),
     alloc: Global,
-    host: Host,
+    attended: bool,
     options: &TextOptions,
     matches: &ArgMatches<'a>,
 ) -> Result<Vec<u8>, Failure<'a>> {
@@ -56,7 +56,7 @@ pub(crate) fn joined<'a>(
         return Err(Failure::Words(WordFault::OneInput));
     }
     let call = join_call(alloc, matches)?;
-    let mut watch = Explaining::begun(rt, audience(host, matches));
+    let mut watch = Explaining::begun(rt, audience(attended, matches));
     let TwoTexts { left, right } = read_two(rt, alloc, first, second)?;
     let outcome = join_texts(rt, alloc, left, right, call, options, &mut watch);
     if outcome.is_ok() {

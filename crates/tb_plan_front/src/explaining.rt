@@ -21,10 +21,9 @@ use crate::titles::join_title;
 use std::alloc::Global;
 use std::thread::Threads;
 use tb_calls::PivotCall;
-use tb_csv::CsvOptions;
 use tb_filter::Test;
 use tb_frame::{DataFrame, JoinArgs};
-use tb_front::{FrontFault, NodeTitle, next_number};
+use tb_front::{FrontFault, NodeTitle, TextOptions, next_number};
 use tb_node::{NamedTable, Names, Node, TableMap};
 use tb_pool::Exec;
 use tb_value::{OutOfMemory, PlSmallStr};
@@ -92,6 +91,7 @@ fn one_node(
     alloc: Global,
     inputs: Vec<NamedTable>,
     root: Node,
+    exec: &Exec,
 ) -> Result<DataFrame, FrontFault>
     ensures { Gives table_of result
         (planned_table (given_tables inputs.items) (alone (tree_of root))) }
@@ -101,7 +101,7 @@ fn one_node(
         pivot: None,
         push: false,
     };
-    planned_table(rt, alloc, inputs, call, &Exec::standard())
+    planned_table(rt, alloc, inputs, call, exec)
 }
 
 fn named(alloc: Global, name: &str, table: DataFrame) -> Result<NamedTable, OutOfMemory>
@@ -145,6 +145,7 @@ fn filter_explained(
     input: NodeTable,
     column: PlSmallStr,
     test: Test,
+    exec: &Exec,
 ) -> Result<NodeTable, FrontFault>
     ensures { Gives explained_view result
         (filter_explained depth column (check_of test) (explained_view input)) }
@@ -157,7 +158,7 @@ fn filter_explained(
         column,
         test,
     };
-    match one_node(rt, alloc, inputs, root) {
+    match one_node(rt, alloc, inputs, root, exec) {
         Ok(table) => Ok(with_line(table, lines, depth, title)?),
         Err(fault) => Err(fault),
     }
@@ -178,6 +179,7 @@ fn join_explained(
     left: NodeTable,
     right: NodeTable,
     keys: JoinKeys,
+    exec: &Exec,
 ) -> Result<NodeTable, FrontFault>
     ensures { Gives explained_view result
         (join_explained depth keys.left_on keys.right_on keys.args (explained_view left)
@@ -203,7 +205,7 @@ fn join_explained(
         right_on,
         args,
     };
-    match one_node(rt, alloc, inputs, root) {
+    match one_node(rt, alloc, inputs, root, exec) {
         Ok(table) => Ok(with_line(table, lines, depth, title)?),
         Err(fault) => Err(fault),
     }
@@ -216,6 +218,7 @@ fn explained(
     tables: &TableMap<'_>,
     depth: usize,
     node: Node,
+    exec: &Exec,
 ) -> Result<NodeTable, FrontFault>
     ensures { Gives explained_view result (explained (tables_in tables.now) depth (tree_of node)) }
 {
@@ -227,8 +230,8 @@ fn explained(
             test,
         } => {
             let below = next_number(depth)?;
-            match explained(rt, alloc, tables, below, Box::into_inner(input)) {
-                Ok(input) => filter_explained(rt, alloc, depth, input, column, test),
+            match explained(rt, alloc, tables, below, Box::into_inner(input), exec) {
+                Ok(input) => filter_explained(rt, alloc, depth, input, column, test, exec),
                 Err(fault) => Err(fault),
             }
         }
@@ -240,15 +243,22 @@ fn explained(
             args,
         } => {
             let below = next_number(depth)?;
-            match explained(rt, alloc, tables, below, Box::into_inner(left)) {
-                Ok(left) => match explained(rt, alloc, tables, below, Box::into_inner(right)) {
+            match explained(rt, alloc, tables, below, Box::into_inner(left), exec) {
+                Ok(left) => match explained(
+                    rt,
+                    alloc,
+                    tables,
+                    below,
+                    Box::into_inner(right),
+                    exec,
+                ) {
                     Ok(right) => {
                         let keys = JoinKeys {
                             left_on,
                             right_on,
                             args,
                         };
-                        join_explained(rt, alloc, depth, left, right, keys)
+                        join_explained(rt, alloc, depth, left, right, keys, exec)
                     }
                     Err(fault) => Err(fault),
                 },
@@ -264,6 +274,7 @@ fn pivot_explained(
     alloc: Global,
     made: NodeTable,
     pivot: PivotCall,
+    exec: &Exec,
 ) -> Result<Vec<NodeLine>, FrontFault>
     ensures { Gives (λ v. lines_view v.items) result
         (pivot_explained (pivot_view pivot) (explained_view made)) }
@@ -275,7 +286,7 @@ fn pivot_explained(
         pivot: Some(pivot),
         push: false,
     };
-    match planned_table(rt, alloc, inputs, call, &Exec::standard()) {
+    match planned_table(rt, alloc, inputs, call, exec) {
         Ok(table) => Ok(with_line(table, lines, 0, NodeTitle::Pivot)?.lines),
         Err(fault) => Err(fault),
     }
@@ -288,17 +299,18 @@ fn finished_over(
     tables: &TableMap<'_>,
     root: Node,
     pivot: Option<PivotCall>,
+    exec: &Exec,
 ) -> Result<Vec<NodeLine>, FrontFault>
     ensures { Gives (λ v. lines_view v.items) result
         (finished (tables_in tables.now) (tree_of root) (option_map pivot_view pivot)) }
 {
     match pivot {
-        None => match explained(rt, alloc, tables, 0, root) {
+        None => match explained(rt, alloc, tables, 0, root, exec) {
             Ok(made) => Ok(made.lines),
             Err(fault) => Err(fault),
         },
-        Some(pivot) => match explained(rt, alloc, tables, 1, root) {
-            Ok(made) => pivot_explained(rt, alloc, made, pivot),
+        Some(pivot) => match explained(rt, alloc, tables, 1, root, exec) {
+            Ok(made) => pivot_explained(rt, alloc, made, pivot, exec),
             Err(fault) => Err(fault),
         },
     }
@@ -311,13 +323,14 @@ fn finished(
     tables: &[NamedTable],
     root: Node,
     pivot: Option<PivotCall>,
+    exec: &Exec,
 ) -> Result<Vec<NodeLine>, FrontFault>
     ensures { Gives (λ v. lines_view v.items) result
         (finished (table_named (given_tables tables.now)) (tree_of root)
         (option_map pivot_view pivot)) }
 {
     let map = TableMap::of(alloc, tables)?;
-    finished_over(rt, alloc, &map, root, pivot)
+    finished_over(rt, alloc, &map, root, pivot, exec)
 }
 
 // The lines with the marks of filters that came through joins, of which the last is that of the first line.
@@ -343,6 +356,7 @@ fn explained_plan(
     alloc: Global,
     tables: &[NamedTable],
     call: PlanCall,
+    exec: &Exec,
 ) -> Result<Vec<NodeLine>, FrontFault>
     ensures { Gives (λ v. lines_view v.items) result
         (explained_plan (given_tables tables.now) (plan_asked call)) }
@@ -351,7 +365,7 @@ fn explained_plan(
     let over = over_of(alloc, &root)?;
     let root = run_root(alloc, tables, root, push)?;
     let marks = marks_of(alloc, &root, over)?;
-    match finished(rt, alloc, tables, root, pivot) {
+    match finished(rt, alloc, tables, root, pivot, exec) {
         Ok(lines) => Ok(marked(alloc, lines, marks)?),
         Err(fault) => Err(fault),
     }
@@ -370,13 +384,13 @@ pub fn plan_lines(
     alloc: Global,
     texts: Vec<NamedText>,
     call: PlanCall,
-    options: &CsvOptions,
+    options: &TextOptions,
 ) -> Result<Vec<NodeLine>, FrontFault>
     ensures { Gives (λ v. lines_view v.items) result
-        (plan_lines options.now (given_texts texts.items) (plan_asked call)) }
+        (plan_lines options.now.csv (given_texts texts.items) (plan_asked call)) }
 {
-    match tables_of(rt, alloc, options, texts) {
-        Ok(tables) => explained_plan(rt, alloc, &tables, call),
+    match tables_of(rt, alloc, &options.csv, texts) {
+        Ok(tables) => explained_plan(rt, alloc, &tables, call, &options.exec),
         Err(fault) => Err(fault),
     }
 }

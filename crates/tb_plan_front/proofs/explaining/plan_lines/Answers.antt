@@ -11,7 +11,7 @@ use Rattle.tb_plan_front.proofs.explaining.plan_lines.Goals as goal
 
 pub returns-in-Ok : goal.returns-in-Ok
 returns-in-Ok g c =
-    let o = c.args.options.now in
+    let o = c.args.options.now.csv in
     let texts = given_texts c.args.texts.items in
     let a = plan_asked c.args.call in
     gives_as (λ v. lines_view v.items) c.explained_plan.result (plan_lines o texts a) (explained_plan (given_tables c.deref.result.now) a)
