@@ -1,4 +1,4 @@
-//! Parts that are claimed by a seat and by workers, and windows and portions of lists.
+//! Parts that are claimed by a seat and by workers.
 ghost use Rattle.std.specs.Prelude.{◌≡◌};
 ghost use Rattle.tb_pool.specs.Running.{IsSeatOf};
 
@@ -7,8 +7,7 @@ use std::alloc::Global;
 use std::process::Abort;
 use std::test::Fail;
 use std::thread::Threads;
-use tb_chunk::slice_offsets;
-use tb_pool::{ClaimSeat, Claims, Exec, OpenGate, portions, run_parts};
+use tb_pool::{ClaimSeat, Claims, Exec, OpenGate, run_parts};
 
 // The number that the seat draws next, where it is a part. A seat that is past draws none.
 fn drawn(claims: &Claims, seat: &mut ClaimSeat) -> Option<u32>
@@ -49,26 +48,4 @@ fn check_three_parts(rt: &(impl Threads + Abort + Sync), alloc: Global) -> Resul
 #[test]
 fn three_workers_claim_each_part_once(rt: HostRuntime) -> Result<(), Fail> {
     check_three_parts(&rt, rt.alloc())
-}
-
-// The portions of so many items, cut in four.
-fn check_portions(
-    rt: &impl Abort,
-    alloc: Global,
-    len: usize,
-    wanted: &[(usize, usize)],
-) -> Result<(), Fail> {
-    assert_eq!(rt; portions(alloc, len, 4)?.as_slice(), wanted);
-    Ok(())
-}
-
-// The last portion takes the rest. Windows may begin before the first row and end behind the last.
-#[test]
-fn portions_and_windows(rt: HostRuntime) -> Result<(), Fail> {
-    check_portions(&rt, rt.alloc(), 10, &[(0, 2), (2, 2), (4, 2), (6, 4)])?;
-    check_portions(&rt, rt.alloc(), 3, &[(0, 0), (0, 0), (0, 0), (0, 3)])?;
-    assert!(rt; slice_offsets(-5, 3, 3) == (0, 1));
-    assert!(rt; slice_offsets(2, 9, 3) == (2, 1));
-    assert!(rt; slice_offsets(5, 1, 3) == (3, 0));
-    Ok(())
 }

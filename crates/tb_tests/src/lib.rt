@@ -6,8 +6,6 @@ mod claims;
 #[cfg(test)]
 mod columns;
 #[cfg(test)]
-mod merging;
-#[cfg(test)]
 mod pivoting;
 #[cfg(test)]
 mod reshaping;

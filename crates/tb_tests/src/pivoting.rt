@@ -1,69 +1,83 @@
 //! A table made wide by an object of the caller's.
+ghost use Rattle.std.specs.Prelude.{◌≡◌, length, MatchResult};
+ghost use Rattle.tb_chunk.specs.Promise.Col.{values};
+ghost use Rattle.tb_frame.specs.Promise.Table.{plain_column};
+ghost use Rattle.tb_agg.specs.Grouped.{AreGroupsOf};
+ghost use Rattle.tb_tests.specs.Sums.{column_sums};
 
-use crate::texts::{check_text, dummies_asked, given, pivot_asked};
+use crate::texts::{check_text, given, pivot_asked};
 use std::alloc::Global;
 use std::process::Abort;
 use std::test::Fail;
+use tb_agg::{Aggregate, aggregated};
 use tb_frame::DataFrame;
-use tb_pivot::{ExprFault, PhysicalAggExpr, PivotAgg, pivot_stable};
+use tb_pivot::{ExprFault, PhysicalAggExpr, PivotAgg, pivot};
 use tb_request::PivotRequest;
 use tb_rows::Groups;
 use tb_store::{PlSmallStr, Series};
-use tb_value::{ComputeCause, PolarsError, PolarsResult};
+use tb_value::PolarsResult;
 
-// Answers a column of its own, whatever it is asked.
-#[derive(Drop)]
-struct Given {
-    column: Series,
+// The sums of a column by groups. Where `aggregated` refuses, this says that memory is wanting.
+#[tactic(auto, using(crate::proofs::Sums::are_sums))]
+fn sums_by(alloc: Global, column: &Series, groups: &Groups) -> Result<Series, ExprFault>
+    requires { AreGroupsOf (length (values column.now)) groups.now }
+    ensures { MatchResult result
+        (λ s. plain_column s
+        ≡ column_sums (plain_column column.now) groups.now.firsts.items groups.now.numbers.items)
+        (λ e. e ≡ ExprFault.OutOfMemory) }
+{
+    match aggregated(alloc, column, groups, Aggregate::Sum) {
+        Ok(sums) => Ok(sums),
+        Err(_) => Err(ExprFault::OutOfMemory),
+    }
 }
 
-impl PhysicalAggExpr for Given {
+// Sums the first column of the table that it is handed, by the groups that it is handed.
+#[derive(Drop)]
+struct Sums {
+    name: PlSmallStr,
+}
+
+impl PhysicalAggExpr for Sums {
     ghost use Rattle.std.specs.Prelude.{Ok};
-    ghost use Rattle.tb_frame.specs.Promise.Table.{plain_column};
+    ghost use Rattle.tb_tests.specs.Sums.{sums};
 
-    ghost named = { λ given. Ok given.column.name };
+    ghost named = { λ s. Ok s.name };
 
-    ghost answers = { λ given table firsts numbers. Ok (plain_column given.column) };
+    ghost answers = { λ _ table firsts numbers. sums table firsts numbers };
 
     fn root_name(&self) -> Result<&PlSmallStr, ExprFault> {
-        Ok(self.column.name())
+        Ok(&self.name)
     }
 
     fn evaluate(
         &self,
         alloc: Global,
-        _df: &DataFrame,
-        _groups: &Groups,
+        df: &DataFrame,
+        groups: &Groups,
     ) -> Result<Series, ExprFault> {
-        match self.column.copy(alloc) {
-            Ok(column) => Ok(column),
-            Err(_) => Err(ExprFault::OutOfMemory),
+        match df.get_columns().first() {
+            Some(column) => sums_by(alloc, column.as_materialized_series(), groups),
+            None => Err(ExprFault::Refused(0)),
         }
     }
 }
 
-// Answers the column `x` of a table.
-fn answering(alloc: Global, text: &str) -> Result<Given, Fail> {
-    let request = dummies_asked(alloc, text)?;
-    let column = request.table.column(alloc, "x")?;
-    Ok(Given {
-        column: column.as_materialized_series().copy(alloc)?,
-    })
+fn boxed(alloc: Global) -> Result<PivotAgg, Fail> {
+    let sums = Sums {
+        name: PlSmallStr::from_str(alloc, "x")?,
+    };
+    Ok(PivotAgg::Expr(Box::new(alloc, sums)?))
 }
 
-fn boxed(alloc: Global, text: &str) -> Result<PivotAgg, Fail> {
-    let given = answering(alloc, text)?;
-    Ok(PivotAgg::Expr(Box::new(alloc, given)?))
-}
-
-// Two rows of the first index and one of the second, with three cells.
-const THREE_CELLS: &str =
-    r#"{"table":{"columns":[{"name":"i","type":"i64","chunks":[[1,1,2]]},{"name":"o","type":"i64","chunks":[[5,6,5]]},{"name":"v","type":"i64","chunks":[[7,8,9]]}]},"on":["o"],"index":["i"]}"#;
+// Two rows of one cell, one of another beside it and one below.
+const FOUR_ROWS: &str =
+    r#"{"table":{"columns":[{"name":"i","type":"i64","chunks":[[1,1,2,1]]},{"name":"o","type":"i64","chunks":[[5,6,5,5]]},{"name":"v","type":"i64","chunks":[[7,8,9,10]]}]},"on":["o"],"index":["i"]}"#;
 
 // The table made wide by an object.
 fn wide(alloc: Global, request: &PivotRequest, agg: &PivotAgg) -> PolarsResult<DataFrame> {
     let (table, on, index) = (&request.table, &request.on, given(&request.index));
-    pivot_stable(alloc, table, on, index, None, false, Some(agg), None)
+    pivot(alloc, table, on, index, None, false, Some(agg), None)
 }
 
 fn check_wide(
@@ -74,37 +88,17 @@ fn check_wide(
 ) -> Result<(), Fail> {
     let table = wide(alloc, request, agg)?;
     let line =
-        r#"{"columns":[{"name":"i","type":"i64","values":[1,2]},{"name":"5","type":"i64","values":[70,90]},{"name":"6","type":"i64","values":[80,null]}],"height":2}"#;
+        r#"{"columns":[{"name":"i","type":"i64","values":[1,2]},{"name":"5","type":"i64","values":[17,9]},{"name":"6","type":"i64","values":[8,null]}],"height":2}"#;
     check_text(rt, alloc, &table, line)
 }
 
-// Whether two values for three cells are refused.
-fn is_refused(alloc: Global, request: &PivotRequest, agg: &PivotAgg) -> bool {
-    matches!(
-        wide(alloc, request, agg),
-        Err(PolarsError::ComputeError(ComputeCause::EvaluateLength {
-            groups: 3,
-            values: 2
-        }))
-    )
+fn check_sums(rt: &impl Abort, alloc: Global, request: &PivotRequest) -> Result<(), Fail> {
+    let agg = boxed(alloc)?;
+    check_wide(rt, alloc, request, &agg)
 }
 
-const THREE_VALUES: &str =
-    r#"{"table":{"columns":[{"name":"x","type":"i64","chunks":[[70,80,90]]}]}}"#;
-
 #[test]
-fn the_values_of_an_object_stand_in_their_cells(rt: HostRuntime) -> Result<(), Fail> {
-    let request = pivot_asked(rt.alloc(), THREE_CELLS)?;
-    let agg = boxed(rt.alloc(), THREE_VALUES)?;
-    check_wide(&rt, rt.alloc(), &request, &agg)
-}
-
-const TWO_VALUES: &str = r#"{"table":{"columns":[{"name":"x","type":"i64","chunks":[[70,80]]}]}}"#;
-
-#[test]
-fn two_values_for_three_cells(rt: HostRuntime) -> Result<(), Fail> {
-    let request = pivot_asked(rt.alloc(), THREE_CELLS)?;
-    let agg = boxed(rt.alloc(), TWO_VALUES)?;
-    assert!(rt; is_refused(rt.alloc(), &request, &agg));
-    Ok(())
+fn an_object_sums_the_groups_that_it_is_handed(rt: HostRuntime) -> Result<(), Fail> {
+    let request = pivot_asked(rt.alloc(), FOUR_ROWS)?;
+    check_sums(&rt, rt.alloc(), &request)
 }

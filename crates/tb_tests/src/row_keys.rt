@@ -33,14 +33,9 @@ fn is_key_column(column: &Series, rows: usize) -> bool
 // Whether the columns are of key types and of this length.
 fn are_keys(columns: &[Series], rows: usize) -> bool
     ensures { IsTrue result
-        → All (λ c. IsTrue (is_key c.kind) × (length (values c) ≡ rows)) columns.now }
+        ↔ All (λ c. IsTrue (is_key c.kind) × (length (values c) ≡ rows)) columns.now }
 {
-    for column in columns {
-        if !is_key_column(column, rows) {
-            return false;
-        }
-    }
-    true
+    columns.iter().all(|column| is_key_column(column, rows))
 }
 
 // The columns, lent one by one.
