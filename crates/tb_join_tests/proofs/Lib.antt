@@ -1,1 +1,2 @@
+mod Rising
 mod Sides

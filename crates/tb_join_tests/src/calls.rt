@@ -1,14 +1,15 @@
-// Tests of the calls beside the join.
+//! The calls beside the join.
 ghost use Rattle.std.specs.Prelude.{◌≡◌, ◌≤◌, ◌∷◌, [], All, IfOk, IsSome, IsTrue, codes, length};
+ghost use Rattle.tb_value.specs.declared.sorted.IsSorted.TheVariants.{Ascending};
 ghost use Rattle.tb_chunk.specs.Promise.Col.{values};
 ghost use Rattle.tb_frame.specs.Promise.Table.{height, table_of};
 ghost use Rattle.tb_gather.specs.Gathered.{NameRows};
-ghost use Rattle.tb_gather.specs.Ids.{Id};
+ghost use Rattle.tb_gather.specs.Ids.{Id, StandInOrder};
 ghost use Rattle.tb_dispatch.specs.Given.{AreKeys, StandBeside};
 ghost use Rattle.tb_join_tests.specs.Tables.{HasBothKeys};
 
-use crate::columns::{column, table_with, three_keys};
-use crate::gathers::two_ids;
+use crate::columns::{column, table_with, three_numbers};
+use crate::gathers::rising_ids;
 use crate::texts::{check_text, join_asked};
 use std::alloc::Global;
 use std::process::Abort;
@@ -16,8 +17,7 @@ use std::slice;
 use std::test::Fail;
 use std::thread::Threads;
 use tb_dispatch::{
-    _coalesce_full_join, _finish_join, _join_suffix_name, GivenJoin, JoinDispatch,
-    materialize_left_join_from_series,
+    _coalesce_full_join, _finish_join, GivenJoin, JoinDispatch, materialize_left_join_from_series,
 };
 use tb_frame::{DataFrame, JoinArgs, JoinType};
 use tb_pool::Exec;
@@ -25,20 +25,18 @@ use tb_store::Series;
 use tb_value::equality::same_types;
 use tb_value::{MAX_ROWS, OutOfMemory, PlSmallStr, PolarsResult, StandardChunkId};
 
-// The table of a key column, and the column.
-fn with_table(alloc: Global, key: Series) -> Result<(DataFrame, Series), Fail>
+// The table of a column, and the column.
+fn with_table(alloc: Global, column: Series) -> Result<(DataFrame, Series), Fail>
     ensures { IfOk result (λ s. s.0 ≡ s.1 ∷ []) }
 {
-    let table = table_with(alloc, key.copy(alloc)?.into_column())?;
-    Ok((table, key))
+    let table = table_with(alloc, column.copy(alloc)?.into_column())?;
+    Ok((table, column))
 }
 
 // The key of a table.
 fn one_key(alloc: Global, table: &DataFrame) -> Result<Vec<Series>, Fail> {
     let key = table.column(alloc, "k")?.as_materialized_series();
-    let mut keys = Vec::new(alloc);
-    keys.push(key.copy(alloc)?)?;
-    Ok(keys)
+    Ok(vec![in alloc; key.copy(alloc)?]?)
 }
 
 // Two sides by their keys alone: in two chunks, with a Null, and with one that matches twice.
@@ -74,12 +72,12 @@ fn check_halves(
     requires { StandBeside left right.now left_key.now right_key.now }
 {
     let (args, exec) = (JoinArgs::new(JoinType::Left), Exec::standard());
-    let (left, right) = materialize_left_join_from_series(
+    let halves = materialize_left_join_from_series(
         rt, alloc, left, right, left_key, right_key, &args, None, &exec,
     )?;
-    assert!(rt; right.width() == 0);
+    assert!(rt; halves.1.width() == 0);
     let line = r#"{"columns":[{"name":"k","type":"i64","values":[1,1,null,2]}],"height":4}"#;
-    check_text(rt, alloc, &left, line)
+    check_text(rt, alloc, &halves.0, line)
 }
 
 // The left rows that have a match.
@@ -165,15 +163,25 @@ fn by_given_columns(
     Ok(joined_by(rt, alloc, left, right, left_keys, right_keys)?)
 }
 
+fn check_given(
+    rt: &(impl Threads + Sync + Abort),
+    alloc: Global,
+    left: &DataFrame,
+    right: &DataFrame,
+) -> Result<(), Fail> {
+    let joined = by_given_columns(rt, alloc, left, right)?;
+    let line = r#"{"columns":[{"name":"k","type":"i64","values":[1,1]}],"height":2}"#;
+    check_text(rt, alloc, &joined, line)
+}
+
 #[test]
 fn a_join_by_given_columns(rt: HostRuntime) -> Result<(), Fail> {
     let request = join_asked(rt.alloc(), SIDES)?;
-    let joined = by_given_columns(&rt, rt.alloc(), &request.left, &request.right)?;
-    let line = r#"{"columns":[{"name":"k","type":"i64","values":[1,1]}],"height":2}"#;
-    check_text(&rt, rt.alloc(), &joined, line)
+    check_given(&rt, rt.alloc(), &request.left, &request.right)
 }
 
-fn named_rows(
+// The rows of a table that ids name, as a Left join takes them: the ids ascend.
+fn left_rows(
     rt: &(impl Threads + Sync),
     alloc: Global,
     table: &DataFrame,
@@ -181,37 +189,39 @@ fn named_rows(
 ) -> Result<DataFrame, OutOfMemory>
     requires named { All (NameRows ids.now) table.now }
     requires present { All (λ (id : Id). IsSome id) ids.now }
+    requires in_order { StandInOrder Ascending ids.now }
     requires few { length ids.now ≤ MAX_ROWS }
 {
-    table.create_left_df_chunked(rt, alloc, ids, false, false)
+    table.create_left_df_chunked(rt, alloc, ids, true, false)
 }
 
-// Rows that ids name in any order.
-fn turned_rows(
+// Rows of the table of a column.
+fn rising_rows(
     rt: &(impl Threads + Sync),
     alloc: Global,
     table: &DataFrame,
-    key: &Series,
+    column: &Series,
 ) -> Result<DataFrame, Fail>
-    requires { table.now ≡ key.now ∷ [] }
+    requires { table.now ≡ column.now ∷ [] }
 {
-    let ids = two_ids(alloc, key)?;
-    Ok(named_rows(rt, alloc, table, &ids)?)
+    let ids = rising_ids(alloc, column)?;
+    Ok(left_rows(rt, alloc, table, &ids)?)
 }
 
-fn check_named(
+fn check_rising(
     rt: &(impl Threads + Sync + Abort),
     alloc: Global,
     table: &DataFrame,
-    key: &Series,
+    column: &Series,
 ) -> Result<(), Fail>
-    requires { table.now ≡ key.now ∷ [] }
+    requires { table.now ≡ column.now ∷ [] }
 {
-    let line = r#"{"columns":[{"name":"k","type":"i64","values":[2,1]}],"height":2}"#;
-    check_text(rt, alloc, &turned_rows(rt, alloc, table, key)?, line)
+    let line = r#"{"columns":[{"name":"a","type":"i64","values":[10,10,20,30]}],"height":4}"#;
+    check_text(rt, alloc, &rising_rows(rt, alloc, table, column)?, line)
 }
 
-fn check_numbered(
+// The whole table, by the numbers of its rows.
+fn check_whole(
     rt: &(impl Threads + Sync + Abort),
     alloc: Global,
     table: &DataFrame,
@@ -220,50 +230,53 @@ fn check_numbered(
         return Err(Fail::from("another height"));
     }
     let whole = table._create_left_df_from_slice(rt, alloc, &[0, 1, 2], true, false, true)?;
-    let line = r#"{"columns":[{"name":"k","type":"i64","values":[1,null,2]}],"height":3}"#;
-    check_text(rt, alloc, &whole, line)?;
+    assert!(rt; whole.equals_missing(table));
+    Ok(())
+}
+
+// Two rows, of which the first is cut off.
+fn check_cut(
+    rt: &(impl Threads + Sync + Abort),
+    alloc: Global,
+    table: &DataFrame,
+) -> Result<(), Fail> {
+    if table.height() != 3 {
+        return Err(Fail::from("another height"));
+    }
     let kept = table._finish_anti_semi_join(rt, alloc, &[0, 2], Some((1, 1)))?;
-    let line = r#"{"columns":[{"name":"k","type":"i64","values":[2]}],"height":1}"#;
+    let line = r#"{"columns":[{"name":"a","type":"i64","values":[30]}],"height":1}"#;
     check_text(rt, alloc, &kept, line)
 }
 
 #[test]
 fn rows_that_were_found_before(rt: HostRuntime) -> Result<(), Fail> {
-    let (table, key) = with_table(rt.alloc(), three_keys(rt.alloc())?)?;
-    check_named(&rt, rt.alloc(), &table, &key)?;
-    check_numbered(&rt, rt.alloc(), &table)
-}
-
-// A table of two columns, of which the first is called x.
-fn with_x(alloc: Global, other: &str) -> Result<DataFrame, Fail> {
-    let mut columns = Vec::new(alloc);
-    columns.push(column(alloc, "x", &[Some(1)], &[])?.into_column())?;
-    columns.push(column(alloc, other, &[None], &[])?.into_column())?;
-    Ok(DataFrame::new(alloc, columns)?)
+    let (table, column) = with_table(rt.alloc(), three_numbers(rt.alloc())?)?;
+    check_rising(&rt, rt.alloc(), &table, &column)?;
+    check_whole(&rt, rt.alloc(), &table)?;
+    check_cut(&rt, rt.alloc(), &table)
 }
 
 // Two tables of one height side by side.
-fn side_by_side(alloc: Global) -> Result<DataFrame, Fail> {
-    let (left, right) = (with_x(alloc, "y")?, with_x(alloc, "z")?);
+fn side_by_side(alloc: Global, left: DataFrame, right: DataFrame) -> Result<DataFrame, Fail> {
     if left.height() != right.height() {
         return Err(Fail::from("other heights"));
     }
     Ok(_finish_join(alloc, left, right, None)?)
 }
 
-#[test]
-fn tables_side_by_side(rt: HostRuntime) -> Result<(), Fail> {
-    let table = side_by_side(rt.alloc())?;
-    let line =
-        r#"{"columns":[{"name":"x","type":"i64","values":[1]},{"name":"y","type":"i64","values":[null]},{"name":"x_right","type":"i64","values":[1]},{"name":"z","type":"i64","values":[null]}],"height":1}"#;
-    check_text(&rt, rt.alloc(), &table, line)
+// A table beside itself.
+fn twice(alloc: Global, column: Series) -> Result<DataFrame, Fail> {
+    let table = table_with(alloc, column.into_column())?;
+    let copy = table.copy(alloc)?;
+    side_by_side(alloc, table, copy)
 }
 
 #[test]
-fn a_name_with_a_suffix(rt: HostRuntime) -> Result<(), Fail> {
-    let name = _join_suffix_name(rt.alloc(), "x", "_b")?;
-    assert_eq!(rt; name.as_str(), "x_b");
-    Ok(())
+fn tables_side_by_side(rt: HostRuntime) -> Result<(), Fail> {
+    let table = twice(rt.alloc(), three_numbers(rt.alloc())?)?;
+    let line =
+        r#"{"columns":[{"name":"a","type":"i64","values":[10,20,30]},{"name":"a_right","type":"i64","values":[10,20,30]}],"height":3}"#;
+    check_text(&rt, rt.alloc(), &table, line)
 }
 
 // The columns of a Full join, whose keys stand side by side.
@@ -271,9 +284,8 @@ fn with_both_keys(alloc: Global) -> Result<DataFrame, Fail>
     ensures { IfOk result HasBothKeys }
 {
     let mut columns = Vec::new(alloc);
-    columns.push(column(alloc, "k", &[Some(1), None], &[])?.into_column())?;
-    columns.push(column(alloc, "v", &[Some(7), Some(8)], &[])?.into_column())?;
-    columns.push(column(alloc, "k_right", &[None, Some(2)], &[])?.into_column())?;
+    columns.push(column(alloc, "k", &[&[Some(1), None]])?.into_column())?;
+    columns.push(column(alloc, "k_right", &[&[None, Some(2)]])?.into_column())?;
     Ok(DataFrame::new(alloc, columns)?)
 }
 
@@ -298,11 +310,17 @@ fn with_one_key(alloc: Global, left: &DataFrame) -> Result<DataFrame, Fail> {
     Ok(merged_keys(alloc, joined, &key, left)?)
 }
 
+fn check_one_key(rt: &impl Abort, alloc: Global, left: &DataFrame) -> Result<(), Fail> {
+    let merged = with_one_key(alloc, left)?;
+    let line = r#"{"columns":[{"name":"k","type":"i64","values":[1,2]}],"height":2}"#;
+    check_text(rt, alloc, &merged, line)
+}
+
 #[test]
 fn keys_of_a_joined_table(rt: HostRuntime) -> Result<(), Fail> {
-    let request = join_asked(rt.alloc(), SIDES)?;
-    let merged = with_one_key(rt.alloc(), &request.left)?;
-    let line =
-        r#"{"columns":[{"name":"k","type":"i64","values":[1,2]},{"name":"v","type":"i64","values":[7,8]}],"height":2}"#;
-    check_text(&rt, rt.alloc(), &merged, line)
+    let left = table_with(
+        rt.alloc(),
+        column(rt.alloc(), "k", &[&[Some(1)]])?.into_column(),
+    )?;
+    check_one_key(&rt, rt.alloc(), &left)
 }

@@ -19,26 +19,21 @@ fn chunk_of(alloc: Global, keys: &[Option<i64>]) -> Result<Vec<AnyValue>, Fail> 
     Ok(chunk)
 }
 
-// A column of these numbers, in two chunks.
-pub(crate) fn column(
-    alloc: Global,
-    name: &str,
-    front: &[Option<i64>],
-    back: &[Option<i64>],
-) -> Result<Series, Fail>
+// A column of these chunks of numbers.
+pub(crate) fn column(alloc: Global, name: &str, chunks: &[&[Option<i64>]]) -> Result<Series, Fail>
     ensures name { IfOk result (λ s. s.name ≡ name.now) }
     ensures kind { IfOk result (λ s. s.kind ≡ int64) }
 {
-    let mut chunks = Vec::new(alloc);
-    for keys in [front, back] {
-        chunks.push(chunk_of(alloc, keys)?)?;
+    let mut made = Vec::new(alloc);
+    for keys in chunks {
+        made.push(chunk_of(alloc, keys)?)?;
     }
-    Ok(Series::from_chunks(alloc, name, DataType::Int64, chunks)?)
+    Ok(Series::from_chunks(alloc, name, DataType::Int64, made)?)
 }
 
-// Three keys in two chunks, with a Null.
-pub(crate) fn three_keys(alloc: Global) -> Result<Series, Fail> {
-    column(alloc, "k", &[Some(1), None], &[Some(2)])
+// Three numbers in two chunks.
+pub(crate) fn three_numbers(alloc: Global) -> Result<Series, Fail> {
+    column(alloc, "a", &[&[Some(10), Some(20)], &[Some(30)]])
 }
 
 // The table of one column.

@@ -1,10 +1,12 @@
-// Tests of gathers by ids of rows in chunks, each through its bound.
+//! Gathers by ids of rows in chunks, each through its bound.
 ghost use Rattle.std.specs.Prelude.{◌≡◌, ◌≤◌, ◌↔◌, ◌∷◌, [], All, IfOk, IsSome, IsTrue, length, map};
+ghost use Rattle.tb_value.specs.declared.sorted.IsSorted.{IsSorted};
+ghost use Rattle.tb_value.specs.declared.sorted.IsSorted.TheVariants.{Ascending};
 ghost use Rattle.tb_chunk.specs.Rows.{IsRowOf};
-ghost use Rattle.tb_gather.specs.Ids.{Id};
+ghost use Rattle.tb_gather.specs.Ids.{Id, RowsStandInOrder, StandInOrder};
 ghost use Rattle.tb_gather.specs.Gathered.{NameRows, opt_gathered_column};
 
-use crate::columns::{table_with, three_keys};
+use crate::columns::{table_with, three_numbers};
 use std::alloc::Global;
 use std::process::Abort;
 use std::test::Fail;
@@ -42,6 +44,8 @@ pub(crate) fn ids_in(
     rows: &[NullableIdxSize],
 ) -> Result<Vec<StandardChunkId>, Fail>
     ensures named { IfOk result (λ v. NameRows v.items column.now) }
+    ensures in_order { IfOk result (λ v.
+        (sorted : IsSorted) → RowsStandInOrder sorted rows.now → StandInOrder sorted v.items) }
     ensures few { IfOk result (λ v. length v.items ≤ MAX_ROWS) }
 {
     if column.n_chunks() > 3 || !are_rows(rows, column.len()) {
@@ -54,18 +58,24 @@ pub(crate) fn ids_in(
     Ok(ids)
 }
 
-// The ids of two rows of the column.
-pub(crate) fn two_ids(alloc: Global, column: &Series) -> Result<Vec<StandardChunkId>, Fail>
+// The ids of four rows, which ascend.
+pub(crate) fn rising_ids(alloc: Global, column: &Series) -> Result<Vec<StandardChunkId>, Fail>
     ensures named { IfOk result (λ v. All (NameRows v.items) (column.now ∷ [])) }
     ensures present { IfOk result (λ v. All (λ (id : Id). IsSome id) v.items) }
+    ensures in_order { IfOk result (λ v. StandInOrder Ascending v.items) }
     ensures few { IfOk result (λ v. length v.items ≤ MAX_ROWS) }
 {
-    let rows = [NullableIdxSize::some(2), NullableIdxSize::some(0)];
+    let rows = [
+        NullableIdxSize::some(0),
+        NullableIdxSize::some(0),
+        NullableIdxSize::some(1),
+        NullableIdxSize::some(2),
+    ];
     let ids = ids_in(alloc, column, &rows)?;
-    if ids.len() == 2 && are_present(&ids) {
+    if ids.len() == 4 && are_present(&ids) {
         Ok(ids)
     } else {
-        Err(Fail::from("two ids"))
+        Err(Fail::from("four ids"))
     }
 }
 
@@ -92,11 +102,9 @@ fn side_by_side<T: TakeChunkedHorPar<24>>(
     by: &[StandardChunkId],
 ) -> Result<DataFrame, OutOfMemory>
     requires named { All (NameRows by.now) (T.frame from.now) }
-    requires present { All (λ (id : Id). IsSome id) by.now }
     requires few { length by.now ≤ MAX_ROWS }
     ensures { IfOk result (λ t. t ≡ map (opt_gathered_column by.now) (T.frame from.now)) }
 {
-    from._take_chunked_unchecked_hor_par(rt, alloc, by, IsSorted::Not)?;
     from._take_opt_chunked_unchecked_hor_par(rt, alloc, by)
 }
 
@@ -111,7 +119,7 @@ fn check_column(
     requires present { All (λ (id : Id). IsSome id) by.now }
     requires few { length by.now ≤ MAX_ROWS }
 {
-    assert!(rt; gathered(alloc, column, by)?.len() == 2);
+    assert!(rt; gathered(alloc, column, by)?.len() == 4);
     Ok(())
 }
 
@@ -126,44 +134,52 @@ fn check_table(
     requires present { All (λ (id : Id). IsSome id) by.now }
     requires few { length by.now ≤ MAX_ROWS }
 {
-    assert!(rt; gathered(alloc, table, by)?.height() == 2);
-    assert!(rt; side_by_side(rt, alloc, table, by)?.height() == 2);
+    assert!(rt; gathered(alloc, table, by)?.height() == 4);
+    assert!(rt; side_by_side(rt, alloc, table, by)?.height() == 4);
     Ok(())
 }
 
-// Two rows of an array.
+// Four rows of an array.
 fn rows_of_array<T: PolarsDataType>(
     alloc: Global,
     series: Series,
 ) -> Result<ChunkedArray<T>, Fail> {
-    let by = two_ids(alloc, &series)?;
+    let by = rising_ids(alloc, &series)?;
     let array: ChunkedArray<T> = ChunkedArray::from_series(series)?;
     Ok(gathered(alloc, &array, &by)?)
 }
 
-// Two rows of a column.
+// Four rows of a column.
 fn rows_of_column(rt: &impl Abort, alloc: Global, series: Series) -> Result<(), Fail> {
     let column = series.into_column();
-    let by = two_ids(alloc, column.as_materialized_series())?;
+    let by = rising_ids(alloc, column.as_materialized_series())?;
     check_column(rt, alloc, &column, &by)
 }
 
-// Two rows of the table of a column, by one thread and by several.
+// Four rows of the table of a column, by one thread and by several.
 fn rows_of_table(
     rt: &(impl Threads + Sync + Abort),
     alloc: Global,
     series: Series,
 ) -> Result<(), Fail> {
-    let by = two_ids(alloc, &series)?;
+    let by = rising_ids(alloc, &series)?;
     let table = table_with(alloc, series.into_column())?;
     check_table(rt, alloc, &table, &by)
 }
 
 #[test]
-fn rows_of_keys(rt: HostRuntime) -> Result<(), Fail> {
-    let alloc = rt.alloc();
-    let array = rows_of_array::<Int64Type>(alloc, three_keys(alloc)?)?;
-    assert!(rt; array.len() == 2);
-    rows_of_column(&rt, alloc, three_keys(alloc)?)?;
-    rows_of_table(&rt, alloc, three_keys(alloc)?)
+fn rows_of_an_array(rt: HostRuntime) -> Result<(), Fail> {
+    let series = three_numbers(rt.alloc())?;
+    assert!(rt; rows_of_array::<Int64Type>(rt.alloc(), series)?.len() == 4);
+    Ok(())
+}
+
+#[test]
+fn rows_of_a_column(rt: HostRuntime) -> Result<(), Fail> {
+    rows_of_column(&rt, rt.alloc(), three_numbers(rt.alloc())?)
+}
+
+#[test]
+fn rows_of_a_table(rt: HostRuntime) -> Result<(), Fail> {
+    rows_of_table(&rt, rt.alloc(), three_numbers(rt.alloc())?)
 }

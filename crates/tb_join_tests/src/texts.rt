@@ -4,17 +4,11 @@ use std::alloc::Global;
 use std::process::Abort;
 use std::test::Fail;
 use tb_frame::DataFrame;
-use tb_group_request::{GroupRequest, group_request_of};
 use tb_json::text_of;
 use tb_request::{DummiesRequest, JoinRequest, dummies_request_of, join_request_of};
 
 pub(crate) fn join_asked(alloc: Global, text: &str) -> Result<JoinRequest, Fail> {
     let request = join_request_of(alloc, text.as_bytes().to_vec(alloc)?).ok();
-    Ok(request.ok_or("no request")?)
-}
-
-pub(crate) fn group_asked(alloc: Global, text: &str) -> Result<GroupRequest, Fail> {
-    let request = group_request_of(alloc, text.as_bytes().to_vec(alloc)?).ok();
     Ok(request.ok_or("no request")?)
 }
 

@@ -1,16 +1,15 @@
 //! What no contract says of a join and a grouping by two workers: that both are at work in each phase at once, and that parts
 //! are grouped in a phase of their own.
 use crate::meeting::Meeting;
-use crate::texts::{group_asked, join_asked};
+use crate::texts::join_asked;
 use std::alloc::Global;
 use std::process::Abort;
 use std::test::Fail;
 use std::thread::Threads;
 use tb_build::scatter;
 use tb_group::group_by;
-use tb_group_request::GroupRequest;
 use tb_join::{DataFrameJoinOps, JoinTrace};
-use tb_pool::Exec;
+use tb_pool::{Exec, Gate};
 use tb_request::JoinRequest;
 
 // Eight rows of two columns.
@@ -25,15 +24,15 @@ fn request_of(alloc: Global, how: &str, keys: &str) -> Result<JoinRequest, Fail>
     join_asked(alloc, &text)
 }
 
-// Whether the keys of the request are hashed.
-fn is_hashed(
+// How the join of a request goes behind the gate.
+pub(crate) fn trace_of<G: Gate>(
     rt: &(impl Threads + Sync),
     alloc: Global,
     request: &JoinRequest,
-    gate: &Meeting,
-) -> Result<bool, Fail> {
+    gate: &G,
+) -> Result<JoinTrace, Fail> {
     let args = request.args.copy(alloc)?;
-    let (_table, trace) = request.left.join_traced(
+    let joined = request.left.join_traced(
         rt,
         alloc,
         &request.right,
@@ -43,7 +42,7 @@ fn is_hashed(
         &request.exec,
         gate,
     )?;
-    Ok(matches!(trace, JoinTrace::Hash(_)))
+    Ok(joined.1)
 }
 
 // Both parts enter as often, in the scatter, the build and the probe, and none waits in vain.
@@ -53,37 +52,36 @@ fn meet(
     request: &JoinRequest,
 ) -> Result<(), Fail> {
     let gate = Meeting::new();
-    assert!(rt; is_hashed(rt, alloc, request, &gate)?);
+    assert!(rt; matches!(trace_of(rt, alloc, request, &gate)?, JoinTrace::Hash(_)));
     assert!(rt; gate.meetings().is_some_and(|entries| entries >= 3));
     Ok(())
+}
+
+fn check_phases(
+    rt: &(impl Threads + Sync + Abort),
+    alloc: Global,
+    how: &str,
+    keys: &str,
+) -> Result<(), Fail> {
+    let request = request_of(alloc, how, keys)?;
+    meet(rt, alloc, &request)
 }
 
 #[test]
 fn both_workers_enter_each_phase(rt: HostRuntime) -> Result<(), Fail> {
     for how in ["inner", "left", "right", "full", "semi", "anti"] {
         for keys in [r#"["a"]"#, r#"["a","b"]"#] {
-            meet(&rt, rt.alloc(), &request_of(rt.alloc(), how, keys)?)?;
+            check_phases(&rt, rt.alloc(), how, keys)?;
         }
     }
     Ok(())
 }
 
-// Eight rows with a key of their own each, counted by two workers in two partitions.
-const COUNTED: &str =
-    r#"{"table":{"columns":[{"name":"k","type":"i64","chunks":[[0,1,2,3,4,5,6,7]]}]},"by":["k"],"aggs":[{"agg":"count","column":"k","name":"n"}],"exec":{"workers":2,"partitions":2,"small":0,"num":1,"den":1}}"#;
-
-// How often both parts enter where the rows are grouped.
-fn grouped(rt: &(impl Threads + Sync), alloc: Global, request: &GroupRequest) -> Result<u64, Fail> {
+// How often both parts enter where rows with a key of their own each are grouped.
+fn grouped(rt: &(impl Threads + Sync), alloc: Global, request: &JoinRequest) -> Result<u64, Fail> {
     let gate = Meeting::new();
-    group_by(
-        rt,
-        alloc,
-        &request.table,
-        &request.by,
-        &request.aggs,
-        &request.exec,
-        &gate,
-    )?;
+    let (table, by) = (&request.left, &request.left_on);
+    group_by(rt, alloc, table, by, &[], &request.exec, &gate)?;
     Ok(gate.meetings().ok_or("a part came late")?)
 }
 
@@ -105,10 +103,18 @@ fn scattered(rt: &(impl Threads + Sync), alloc: Global, exec: &Exec) -> Result<u
     Ok(gate.meetings().ok_or("a part came late")?)
 }
 
+fn check_grouped(
+    rt: &(impl Threads + Sync + Abort),
+    alloc: Global,
+    request: &JoinRequest,
+) -> Result<(), Fail> {
+    let alone = scattered(rt, alloc, &request.exec)?;
+    assert!(rt; alone > 0 && grouped(rt, alloc, request)? > alone);
+    Ok(())
+}
+
 #[test]
 fn both_enter_more_often_than_in_a_scatter(rt: HostRuntime) -> Result<(), Fail> {
-    let request = group_asked(rt.alloc(), COUNTED)?;
-    let alone = scattered(&rt, rt.alloc(), &request.exec)?;
-    assert!(rt; alone > 0 && grouped(&rt, rt.alloc(), &request)? > alone);
-    Ok(())
+    let request = request_of(rt.alloc(), "left", r#"["a"]"#)?;
+    check_grouped(&rt, rt.alloc(), &request)
 }
