@@ -21,7 +21,7 @@ use Rattle.tb_frame.specs.declared.args.MaintainOrderJoin.TheVariants as order
 use Rattle.tb_frame.specs.Promise.Join.{listing_of, IsOrdered}
 use Rattle.tb_frame.proofs.InOrder.{left_way, right_way, in_order-ordered}
 use Rattle.tb_row_join.specs.Promise.Rooms.{left_numbers, right_numbers, row_order, ArePairsHandedOver, IsHandedOver}
-use Rattle.tb_row_join.specs.Lists.{beside, concatenated, no_row, not_in, or_alone, repeated, seen, unlisted}
+use Rattle.tb_row_join.specs.Lists.{beside, concatenated, no_row, not_in, or_alone, repeated, seen, is_bare, unlisted, unmatched}
 use Rattle.tb_row_join.specs.Written.{built_numbers, is_right, probed_numbers, AreWritten}
 
 -- THE LISTS THAT ARE LENT
@@ -305,3 +305,24 @@ rows-written how rows n b lists behind bb pb ba pa count is rest many built prob
       built = subst (λ (ns : List ℕ). IsHandedOver ns bb ba) lists_are built;
       probed = subst (λ (ns : List ℕ). IsHandedOver ns pb pa) numbers_are probed;
     }
+
+-- the built rows without a probed one stand in none of the lists
+bare-kept : (q : ℕ → Bool) (js : List ℕ) → is_bare (filter q js) ≡ not (list_any q js)
+bare-kept q [] = refl
+bare-kept q (j ∷ js) = at (q j) (bare-kept q js)
+  where
+    at : (b : Bool) → is_bare (filter q js) ≡ not (list_any q js) → is_bare (cond b (j ∷ filter q js) (filter q js)) ≡ not (b || list_any q js)
+    at true h = refl
+    at false h = h
+
+pub unmatched-unlisted : (how : JoinType) (n b : ℕ) (m t : ℕ → ℕ → Bool) → ((k i : ℕ) → t k i ≡ m i k) → b ≤ 4294967294
+    → unmatched how (λ k. filter (t k) (row_numbers n)) b ≡ unlisted how b (map (λ p. beside how (filter (m p) (row_numbers b))) (row_numbers n))
+unmatched-unlisted Inner n b m t turns few = refl
+unmatched-unlisted Left n b m t turns few = refl
+unmatched-unlisted Right n b m t turns few = refl
+unmatched-unlisted Full n b m t turns few =
+    ap (λ (p : ℕ → Bool). filter p (row_numbers b)) (λ x k. bare-kept (t k) (row_numbers n) x)
+    ∙ ap (λ (f : ℕ → ℕ → Bool). filter (λ k. not (list_any (f k) (row_numbers n))) (row_numbers b)) (λ x k i. turns k i x)
+    ∙ unmet-is n b m few
+unmatched-unlisted Semi n b m t turns few = refl
+unmatched-unlisted Anti n b m t turns few = refl

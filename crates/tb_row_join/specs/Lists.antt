@@ -57,3 +57,17 @@ unlisted Right len lists = []
 unlisted Full len lists = not_in lists len
 unlisted Semi len lists = []
 unlisted Anti len lists = []
+
+-- there are no rows
+abbrev pub is_bare : List ℕ → Bool
+is_bare [] = true
+is_bare (row ∷ rows) = false
+
+-- the built rows, of so many, that match no probed row, of which rows gives those of each; only a Full join lists them
+abbrev pub unmatched : JoinType → (ℕ → List ℕ) → ℕ → List ℕ
+unmatched Inner rows len = []
+unmatched Left rows len = []
+unmatched Right rows len = []
+unmatched Full rows len = filter (λ k. is_bare (rows k)) (row_numbers len)
+unmatched Semi rows len = []
+unmatched Anti rows len = []

@@ -33,10 +33,10 @@ fn probe_rows<K: KeyCode, B: KeyList<K>, P: KeyList<K>>(
     ensures built_kept { OnErr result (built_room.new ≡ built_room.old) }
     ensures probed_kept { OnErr result (probed_room.new ≡ probed_room.old) }
 {
+    let behind = unlisted_rows(alloc, how, join_nulls, built, probed)?;
     let none = [IdxSize::MAX];
     let tables = one_part_tables(alloc, built, join_nulls, false)?;
     let lists = listed_rows(alloc, how, &tables, probed, &none)?;
-    let behind = unlisted_rows(alloc, how, tables.built_len(), &lists)?;
     let many = count(&lists, &behind);
     hand_over_lists(built_room, many, &lists, &behind);
     hand_over_numbers(probed_room, many, &lists, behind.len());

@@ -1,74 +1,76 @@
-//! The built rows that stand beside no probed row.
-ghost use Rattle.std.specs.Prelude.{◌≡◌, ◌<◌, ◌≤◌, ◌||◌, ℕ, [], false, not, nat_eq, filter, length, replicate, slice_index_or, IfOk};
-ghost use Rattle.std.specs.List.{list_any};
+//! The built rows that match no probed row.
+ghost use Rattle.std.specs.Prelude.{◌≡◌, ◌≤◌, None, filter, length, slice_index_or, IfOk};
 ghost use Rattle.tb_value.specs.Promise.Pairs.{row_numbers};
-ghost use Rattle.tb_row_join.specs.Lists.{seen, unlisted};
+ghost use Rattle.tb_build.specs.Keys.{rows_with};
+ghost use Rattle.tb_build.specs.TableView.{rows_at};
+ghost use Rattle.tb_row_join.specs.Lists.{is_bare, unmatched};
 
 use std::alloc::Global;
+use tb_build::{KeyCode, KeyList, Tables, one_part_tables};
 use tb_frame::JoinType;
 use tb_value::{IdxSize, MAX_ROWS, OutOfMemory};
 
-// Marks these rows, as far as they are rows.
-fn mark(marks: &mut [bool], rows: &[IdxSize])
-    ensures len { length marks.new ≡ length marks.old }
-    ensures marks { (k : ℕ) → k < length marks.old
-        → slice_index_or marks.new k false
-        ≡ (slice_index_or marks.old k false || list_any (nat_eq k) rows.now) }
+fn is_bare(rows: &[IdxSize]) -> bool
+    ensures { result ≡ is_bare rows.now }
 {
-    for row in rows {
-        if (*row as usize) < marks.len() {
-            marks[*row as usize] = true;
-        }
-    }
+    rows.is_empty()
 }
 
-fn unmarked(alloc: Global, len: usize) -> Result<Vec<bool>, OutOfMemory>
-    ensures { IfOk result (λ v. v.items ≡ replicate len false) }
-{
-    Ok(vec![in alloc; false; len]?)
-}
-
-// Which of so many rows stand in one of the lists.
-fn marks_of(alloc: Global, len: usize, lists: &[&[IdxSize]]) -> Result<Vec<bool>, OutOfMemory>
-    ensures count { IfOk result (λ v. length v.items ≡ len) }
-    ensures marks { IfOk result (λ v. (k : ℕ) → k < len
-        → slice_index_or v.items k false
-        ≡ list_any (λ list. list_any (nat_eq k) list) (seen lists.now)) }
-{
-    let mut marks = unmarked(alloc, len)?;
-    for list in lists {
-        mark(marks.as_mut_slice(), list);
-    }
-    Ok(marks)
-}
-
-// The rows without a mark.
-fn rows_without(alloc: Global, marks: &[bool]) -> Result<Vec<IdxSize>, OutOfMemory>
-    requires { length marks.now ≤ MAX_ROWS }
-    ensures { IfOk result (λ v. v.items
-        ≡ filter (λ k. not (slice_index_or marks.now k false)) (row_numbers (length marks.now))) }
+// The rows at whose keys the tables have no row.
+fn rows_without<K: KeyCode, B: KeyList<K>>(
+    alloc: Global,
+    tables: &Tables<K>,
+    built: &B,
+) -> Result<Vec<IdxSize>, OutOfMemory>
+    requires { length (B.list built.now) ≤ MAX_ROWS }
+    ensures { IfOk result (λ v. v.items ≡ filter (λ k. is_bare
+        (rows_at K.eq K.code tables.now (slice_index_or (B.list built.now) k None)))
+        (row_numbers (length (B.list built.now)))) }
 {
     let mut rows = Vec::new(alloc);
-    for (row, is_marked) in marks.iter().enumerate() {
-        if !*is_marked {
+    for row in 0..built.len() {
+        if is_bare(tables.rows_of(built, row)) {
             rows.push(row as IdxSize)?;
         }
     }
     Ok(rows)
 }
 
-/// The rows, of so many, that stand in none of the lists, where a join of this kind lists them.
-pub(crate) fn unlisted_rows(
+// The built rows that match no probed row. They are looked up among the probed ones, since there may be far more pairs
+// than rows.
+fn unmatched_rows<K: KeyCode, B: KeyList<K>, P: KeyList<K>>(
+    alloc: Global,
+    join_nulls: bool,
+    built: &B,
+    probed: &P,
+) -> Result<Vec<IdxSize>, OutOfMemory>
+    requires few_built { length (B.list built.now) ≤ MAX_ROWS }
+    requires few_probed { length (P.list probed.now) ≤ MAX_ROWS }
+    ensures { IfOk result (λ v. v.items ≡ filter (λ k. is_bare
+        (rows_with K.eq join_nulls (P.list probed.now) (slice_index_or (B.list built.now) k None)
+        (length (P.list probed.now)))) (row_numbers (length (B.list built.now)))) }
+{
+    let tables = one_part_tables(alloc, probed, join_nulls, true)?;
+    let rows = rows_without(alloc, &tables, built)?;
+    Ok(rows)
+}
+
+/// The built rows that match no probed row, where a join of this kind lists them.
+pub(crate) fn unlisted_rows<K: KeyCode, B: KeyList<K>, P: KeyList<K>>(
     alloc: Global,
     how: JoinType,
-    len: usize,
-    lists: &[&[IdxSize]],
+    join_nulls: bool,
+    built: &B,
+    probed: &P,
 ) -> Result<Vec<IdxSize>, OutOfMemory>
-    requires { len ≤ MAX_ROWS }
-    ensures { IfOk result (λ v. v.items ≡ unlisted how len (seen lists.now)) }
+    requires few_built { length (B.list built.now) ≤ MAX_ROWS }
+    requires few_probed { length (P.list probed.now) ≤ MAX_ROWS }
+    ensures { IfOk result (λ v. v.items ≡ unmatched how
+        (λ k. rows_with K.eq join_nulls (P.list probed.now) (slice_index_or (B.list built.now) k None)
+        (length (P.list probed.now))) (length (B.list built.now))) }
 {
     match how {
-        JoinType::Full => rows_without(alloc, &marks_of(alloc, len, lists)?),
+        JoinType::Full => unmatched_rows(alloc, join_nulls, built, probed),
         JoinType::Inner | JoinType::Left | JoinType::Right | JoinType::Semi | JoinType::Anti => {
             Ok(Vec::new(alloc))
         }
