@@ -60,9 +60,15 @@ fn are_another(alloc: Global, table: &DataFrame) -> Result<bool, Fail> {
     Ok(taken.height() == 2 && !taken.should_rechunk() && !taken.equals_missing(table))
 }
 
+// How high a part of a table is that is one row long.
+fn part_height(alloc: Global, table: &DataFrame) -> Result<usize, Fail> {
+    Ok(table.slice(alloc, -2, 1)?.height())
+}
+
 #[test]
 fn rows_of_a_table(rt: HostRuntime) -> Result<(), Fail> {
     let request = dummies_asked(rt.alloc(), KEYED)?;
+    assert!(rt; part_height(rt.alloc(), &request.table)? == 1);
     assert!(rt; are_another(rt.alloc(), &request.table)?);
     Ok(())
 }
