@@ -66,7 +66,8 @@ pub(crate) fn unlisted_rows<K: KeyCode, B: KeyList<K>, P: KeyList<K>>(
     requires few_built { length (B.list built.now) ≤ MAX_ROWS }
     requires few_probed { length (P.list probed.now) ≤ MAX_ROWS }
     ensures { IfOk result (λ v. v.items ≡ unmatched how
-        (λ k. rows_with K.eq join_nulls (P.list probed.now) (slice_index_or (B.list built.now) k None)
+        (λ k. rows_with K.eq join_nulls (P.list probed.now)
+        (slice_index_or (B.list built.now) k None)
         (length (P.list probed.now))) (length (B.list built.now))) }
 {
     match how {
