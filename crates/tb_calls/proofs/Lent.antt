@@ -22,6 +22,7 @@ use Rattle.tb_pivot.specs.Lent as borrowed
 use Rattle.tb_pivot.specs.Promise.Pivot.{pivot_table}
 use Rattle.tb_pivot.specs.Promise.Refusal.{pivot_refusal}
 use Rattle.tb_pivot.specs.Promise.Request.{way_of}
+use Rattle.tb_label.specs.Promise.Label.{separator_or}
 use Rattle.tb_pivot.specs.Promise.Request as wide
 use Rattle.tb_calls.specs.declared.arguments.DummiesCall.{DummiesCall}
 use Rattle.tb_calls.specs.declared.arguments.JoinCall.{JoinCall}
@@ -54,7 +55,7 @@ module _ (c : JoinCall) (left right : List Col) (left_on right_on : List Name) (
 
 module _ (c : DummiesCall) (cs : List Col) (columns : Option (List Name)) (separator : Option (Bor Name)) (names : columns ≡ names_in c.columns) (given : option_copied separator ≡ c.separator) where
   marked_is : lent.lent_request cs columns separator c.drop_first ≡ marked_of c (table_of cs)
-  marked_is = λ t. record { table = table_of cs; columns = names t; separator = marked.separator_or (given t); drop_first = c.drop_first }
+  marked_is = λ t. record { table = table_of cs; columns = names t; separator = separator_or (given t); drop_first = c.drop_first }
 
   pub dummies_settle : (result : Result (List Col) PolarsError) → Settles result (dummies_refusal (lent.lent_request cs columns separator c.drop_first))
       → Settles result (dummies_refusal (marked_of c (table_of cs)))
@@ -69,7 +70,7 @@ module _ (c : DummiesCall) (cs : List Col) (columns : Option (List Name)) (separ
 module _ (c : PivotCall) (cs : List Col) (on : List Name) (index values : Option (List Name)) (separator : Option (Bor Name))
     (keys : on ≡ c.on.items) (rows : index ≡ names_in c.index) (others : values ≡ names_in c.values) (given : option_copied separator ≡ c.separator) where
   wide_is : borrowed.lent_request cs on index values c.sort_columns (way_of c.agg) separator ≡ wide_of c (table_of cs)
-  wide_is = λ t. record { table = table_of cs; on = keys t; index = rows t; values = others t; sorts = c.sort_columns; way = way_of c.agg; separator = wide.separator_or (given t) }
+  wide_is = λ t. record { table = table_of cs; on = keys t; index = rows t; values = others t; sorts = c.sort_columns; way = way_of c.agg; separator = separator_or (given t) }
 
   pub pivot_settles : (result : Result (List Col) PolarsError) → Settles result (pivot_refusal (borrowed.lent_request cs on index values c.sort_columns (way_of c.agg) separator))
       → Settles result (pivot_refusal (wide_of c (table_of cs)))

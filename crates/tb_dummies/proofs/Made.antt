@@ -10,10 +10,10 @@ use Rattle.tb_value.specs.Promise.Kind as kind
 use Rattle.tb_value.specs.Promise.Names.{Name}
 use Rattle.tb_value.specs.Promise.Typed.{HasType}
 use Rattle.tb_chunk.specs.Chunk.{or_null}
-use Rattle.tb_frame.specs.Promise.Table.{TableColumn, Table}
+use Rattle.tb_frame.specs.Promise.Table.{Table, TableColumn, by_name}
 use Rattle.tb_rows.specs.Promise.Rows.{row_value}
 use Rattle.tb_rows.proofs.InOrder.{in_order-all}
-use Rattle.tb_dummies.specs.Promise.Dummies.{by_name, dummies_of, dummy, in_place_of, mark, value_rows}
+use Rattle.tb_dummies.specs.Promise.Dummies.{dummies_of, dummy, in_place_of, mark, value_rows}
 use Rattle.tb_dummies.specs.Lent.{mark_in}
 
 -- MARKS AS A COLUMN

@@ -8,7 +8,8 @@ use Rattle.tb_chunk.specs.Promise.Col.{Col}
 use Rattle.tb_frame.specs.NameSets.{has_name}
 use Rattle.tb_frame.specs.Promise.Table.{table_of}
 use Rattle.tb_frame.specs.declared.names.NameSet.{NameSet}
-use Rattle.tb_dummies.specs.Promise.Dummies.{Request, separator_or}
+use Rattle.tb_dummies.specs.Promise.Dummies.{Request}
+use Rattle.tb_label.specs.Promise.Label.{separator_or}
 
 -- the request of columns and a separator that are lent
 abbrev pub lent_request : List Col → Option (List Name) → Option (Bor Name) → Bool → Request

@@ -3,13 +3,14 @@ ghost use Rattle.std.specs.Prelude.{◌≡◌, IfOk, Some, None};
 ghost use Rattle.std.specs.Option.{option_copied};
 ghost use Rattle.tb_value.specs.Refusals.{Settles};
 ghost use Rattle.tb_frame.specs.Promise.Table.{table_of};
-ghost use Rattle.tb_dummies.specs.Promise.Dummies.{dummies_refusal, dummies_table, separator_or};
+ghost use Rattle.tb_dummies.specs.Promise.Dummies.{dummies_refusal, dummies_table};
 ghost use Rattle.tb_dummies.specs.Lent.{lent_request};
 
 use crate::columns::columns_in_place;
 use crate::replaced::Replaced;
 use std::alloc::Global;
 use tb_frame::{DataFrame, IntoDf};
+use tb_label::given_separator;
 use tb_value::{PlSmallStr, PolarsResult};
 
 /// Tables whose columns are replaced by dummies.
@@ -93,15 +94,6 @@ pub trait DataFrameOps: IntoDf {
 }
 
 impl<T: IntoDf> DataFrameOps for T {}
-
-fn given_separator<'a>(separator: Option<&'a str>) -> &'a str
-    ensures { result.now ≡ separator_or (option_copied separator.entry) }
-{
-    match separator {
-        Some(separator) => separator,
-        None => "_",
-    }
-}
 
 // The table with the columns of these names replaced.
 fn dummies(

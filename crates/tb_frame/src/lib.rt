@@ -24,7 +24,7 @@ pub use equality::same_type;
 pub use frame::{DataFrame, IntoDf, column_name_set};
 pub use joined_names::{answer_names, check_joined_names};
 pub use lookup::{NamedColumns, lend_columns};
-pub use names::{NameSet, check_distinct, check_repeated, name_set};
+pub use names::{NameSet, check_distinct, check_repeated, copy_names, name_set, push_names};
 pub use null_flags::{Flags, JoinNulls};
 pub use order::direction_of;
 pub use right_columns::{

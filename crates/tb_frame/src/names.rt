@@ -69,7 +69,7 @@ pub fn check_distinct(alloc: Global, names: &[&PlSmallStr]) -> PolarsResult<()>
 }
 
 /// Puts the names behind the others.
-pub(crate) fn push_names<'a>(
+pub fn push_names<'a>(
     names: &mut Vec<&'a PlSmallStr>,
     more: &'a [PlSmallStr],
 ) -> Result<(), OutOfMemory>
@@ -80,6 +80,17 @@ pub(crate) fn push_names<'a>(
         names.push(name)?;
     }
     Ok(())
+}
+
+/// The names once more, in their order.
+pub fn copy_names(alloc: Global, names: &[PlSmallStr]) -> Result<Vec<PlSmallStr>, OutOfMemory>
+    ensures { IfOk result (λ v. v.items ≡ names.now) }
+{
+    let mut copies = Vec::with_capacity(alloc, names.len())?;
+    for name in names {
+        copies.push(name.copy(alloc)?)?;
+    }
+    Ok(copies)
 }
 
 pub(crate) fn lend_names(

@@ -1,9 +1,10 @@
 //! The text of a value.
 ghost use Rattle.std.specs.Prelude.{◌≡◌, IfOk};
+ghost use Rattle.std.specs.Option.{option_copied};
 ghost use Rattle.tb_value.specs.Promise.Datum.{int};
 ghost use Rattle.tb_value.specs.See.{lent_value, IsText};
 ghost use Rattle.tb_value.specs.SeeKind.{kind_of};
-ghost use Rattle.tb_label.specs.Promise.Label.{truth_text, value_text, is_header};
+ghost use Rattle.tb_label.specs.Promise.Label.{is_header, separator_or, truth_text, value_text};
 
 use std::alloc::Global;
 use tb_value::{DataType, OutOfMemory, PlSmallStr, ValueRef, copy_text};
@@ -66,5 +67,15 @@ pub fn value_text(alloc: Global, value: ValueRef<'_>) -> Result<PlSmallStr, OutO
         ValueRef::Binary(_) | ValueRef::List(_) | ValueRef::Struct(_) => {
             PlSmallStr::from_str(alloc, "")
         }
+    }
+}
+
+/// What stands between the parts of a column's name: the given separator, else `_`.
+pub fn given_separator<'a>(separator: Option<&'a str>) -> &'a str
+    ensures { result.now ≡ separator_or (option_copied separator.entry) }
+{
+    match separator {
+        Some(separator) => separator,
+        None => "_",
     }
 }

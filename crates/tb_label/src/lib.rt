@@ -12,5 +12,5 @@ mod label;
 pub mod laws;
 mod numerals;
 
-pub use label::{is_header_type, truth_text, value_text};
+pub use label::{given_separator, is_header_type, truth_text, value_text};
 pub use numerals::whole_in;

@@ -20,7 +20,8 @@ use Rattle.tb_frame.proofs.Selected.{selected-table}
 use Rattle.tb_agg.specs.Promise.Aggregates.{result_kind}
 use Rattle.tb_pivot.specs.Made.{takes}
 use Rattle.tb_pivot.specs.Promise.Refusal.{agg_cause, brace_taken, column_causes, has_no_kind, header_cause}
-use Rattle.tb_pivot.specs.Promise.Request.{Way, one_row, aggregated, asked, columns_named}
+use Rattle.tb_pivot.specs.Promise.Request.{Way, one_row, aggregated, asked}
+use Rattle.tb_frame.specs.Promise.Join.{columns_named}
 
 -- a cause that holds is the first
 pub stops : (e : PolarsError) (a : Option PolarsError) (rest : List (Option PolarsError)) → (e ≡ OutOfMemory) ⊎ (a ≡ Some e) → (e ≡ OutOfMemory) ⊎ (first_cause (a ∷ rest) ≡ Some e)

@@ -24,7 +24,7 @@ use Rattle.tb_chunk.specs.Lent.{in_one_chunk, lent_columns}
 use Rattle.tb_chunk.specs.Rows.{value_or_null}
 use Rattle.tb_frame.specs.Frame.{frame_refusal, taken_rows}
 use Rattle.tb_frame.specs.Promise.Refusal.{repeated_among}
-use Rattle.tb_frame.specs.Promise.Table.{TableColumn, Table, names_of, plain_column, table_of}
+use Rattle.tb_frame.specs.Promise.Table.{Table, TableColumn, by_name, names_of, plain_column, table_of}
 use Rattle.tb_frame.proofs.Frames.{level_refusal}
 use Rattle.tb_rows.specs.Promise.InOrder.{in_order}
 use Rattle.tb_rows.specs.Promise.Rows.{row_value}
@@ -33,7 +33,7 @@ use Rattle.tb_pivot.specs.Cells.{cells_under}
 use Rattle.tb_pivot.specs.Promise.Headers.{block_name, header_text}
 use Rattle.tb_pivot.specs.Layout.{answer_names, block_names, header_column, header_columns, index_and_blocks, laid_block, laid_out, IsLayout}
 use Rattle.tb_pivot.specs.Made.{made_cause, takes, IsMade}
-use Rattle.tb_pivot.specs.Promise.Pivot.{answer_rows, block, block_column, by_name, cell, header_at, header_rows, index_column, way_kind, wide, with_blocks}
+use Rattle.tb_pivot.specs.Promise.Pivot.{answer_rows, block, block_column, cell, header_at, header_rows, index_column, way_kind, wide, with_blocks}
 use Rattle.tb_pivot.specs.Promise.Refusal.{answer_cause, is_out_of_range, many_cause, range_cause, value_causes, way_cause}
 use Rattle.tb_pivot.specs.Promise.Request.{Chosen, Way, one_row, aggregated, asked}
 use Rattle.tb_pivot.specs.declared.blocks.GroupValues.{GroupValues}

@@ -20,8 +20,10 @@ use Rattle.tb_pivot.specs.Lent.{lent_request, name_causes}
 use Rattle.tb_pivot.specs.Lookup.{AreAsHigh, AreFound, chosen_of}
 use Rattle.tb_pivot.specs.Made.{takes}
 use Rattle.tb_pivot.specs.Promise.Refusal.{agg_cause, column_causes, has_no_kind, pivot_refusal, value_causes}
-use Rattle.tb_pivot.specs.Promise.Request.{Request, Way, chosen, columns_named, given_or_rest, index_names, separator_or, value_names}
-use Rattle.tb_pivot.specs.declared.lookup.RequestColumns.{RequestColumns}
+use Rattle.tb_pivot.specs.Promise.Request.{Request, Way, chosen, given_or_rest, index_names, value_names}
+use Rattle.tb_label.specs.Promise.Label.{separator_or}
+use Rattle.tb_frame.specs.Promise.Join.{columns_named}
+use Rattle.tb_pivot.specs.declared.lookup.WideColumns.{WideColumns}
 use Rattle.tb_pivot.proofs.Causes.{columns_found, goes_on, not_taken, onward, stops}
 
 -- one column more of which the name may be kept
@@ -52,7 +54,7 @@ as_high cs names rs table found =
     lent_each P rs (subst (λ (t : Table). All P t) (sym (columns_found cs cs names rs refl found)) (selected_hold P (table_of cs) table.one_height names))
 
 -- columns of a table have as many rows as the table
-pub are_as_high : (cs : List Col) (on index vs : List Name) (f : RequestColumns) → IsTable (table_of cs) → AreFound cs on index vs f → AreAsHigh (height (table_of cs)) f
+pub are_as_high : (cs : List Col) (on index vs : List Name) (f : WideColumns) → IsTable (table_of cs) → AreFound cs on index vs f → AreAsHigh (height (table_of cs)) f
 are_as_high cs on index vs f table found = record {
   on = as_high cs on f.on.items table found.on;
   index = as_high cs index f.index.items table found.index;
@@ -101,7 +103,7 @@ module _ (q : Request) (enough : first_cause (name_causes q.table q.on q.index q
 -- the columns that were found are those that the request chooses
 pub chosen_is : (cs : List Col) (on : List Name) (index values : Option (List Name)) (sorts : Bool) (way : Way) (separator : Option (Bor Name)) (is vs : List Name)
     → is ≡ given_or_rest (table_of cs) on index values → vs ≡ given_or_rest (table_of cs) on values index
-    → (f : RequestColumns) → AreFound cs on is vs f → (h : ℕ) → h ≡ height (table_of cs) → (s : Name) → s ≡ separator_or (option_copied separator)
+    → (f : WideColumns) → AreFound cs on is vs f → (h : ℕ) → h ≡ height (table_of cs) → (s : Name) → s ≡ separator_or (option_copied separator)
     → chosen_of h f sorts way s ≡ chosen (lent_request cs on index values sorts way separator)
 chosen_is cs on index values sorts way separator is vs i v f found h high s between =
     let keys : table_of (lent_columns f.on.items) ≡ columns_named (table_of cs) on = columns_found cs cs on f.on.items refl found.on in

@@ -11,7 +11,7 @@ use Rattle.tb_frame.specs.Promise.Table.{TableColumn, plain_column, table_of}
 use Rattle.tb_frame.proofs.Cuts.{table-whole}
 use Rattle.tb_pivot.specs.Lookup.{AreAsHigh, chosen_of}
 use Rattle.tb_pivot.specs.Promise.Request.{Way}
-use Rattle.tb_pivot.specs.declared.lookup.RequestColumns.{RequestColumns}
+use Rattle.tb_pivot.specs.declared.lookup.WideColumns.{WideColumns}
 use Rattle.tb_pivot.proofs.Texts.{map_twice}
 
 lent_plain : (cs : List (Bor Col)) → table_of (lent_columns cs) ≡ map (λ (c : Bor Col). plain_column c.now) cs
@@ -28,7 +28,7 @@ all_plain P cs ds same all = λ k d low.
 pub whole_table : (cs ws ks : List Col) → cs ≡ ws → ws ≡ map in_one_chunk ks → table_of cs ≡ table_of ks
 whole_table cs ws ks same whole = ap table_of (same ∙ whole) ∙ table-whole ks
 
-module _ (f g : RequestColumns) (on : table_of (lent_columns f.on.items) ≡ table_of (lent_columns g.on.items)) (index : table_of (lent_columns f.index.items) ≡ table_of (lent_columns g.index.items)) (vals : table_of (lent_columns f.values.items) ≡ table_of (lent_columns g.values.items)) where
+module _ (f g : WideColumns) (on : table_of (lent_columns f.on.items) ≡ table_of (lent_columns g.on.items)) (index : table_of (lent_columns f.index.items) ≡ table_of (lent_columns g.index.items)) (vals : table_of (lent_columns f.values.items) ≡ table_of (lent_columns g.values.items)) where
   pub as_high : (h : ℕ) → AreAsHigh h g → AreAsHigh h f
   as_high h high =
       let P : TableColumn → Type 0 = λ c. length c.values ≡ h in

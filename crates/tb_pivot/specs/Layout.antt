@@ -10,13 +10,13 @@ use Rattle.tb_value.specs.declared.limits.TheConstants.{MAX_ROWS}
 use Rattle.tb_chunk.specs.Promise.Col.{Col, values}
 use Rattle.tb_chunk.specs.Lent.{lent_columns}
 use Rattle.tb_chunk.specs.Rows.{value_or_null}
-use Rattle.tb_frame.specs.Promise.Table.{TableColumn, Table, table_of}
+use Rattle.tb_frame.specs.Promise.Table.{Table, TableColumn, by_name, table_of}
 use Rattle.tb_rows.specs.Promise.InOrder.{in_order}
 use Rattle.tb_rows.specs.Promise.Rows.{row_value}
 use Rattle.tb_pivot.specs.Cells.{AreCells, cells_under}
 use Rattle.tb_pivot.specs.Promise.Headers.{block_name, header_text}
 use Rattle.tb_pivot.specs.Lookup.{AreAsHigh, chosen_of}
-use Rattle.tb_pivot.specs.Promise.Pivot.{block, by_name, index_column}
+use Rattle.tb_pivot.specs.Promise.Pivot.{block, index_column}
 use Rattle.tb_pivot.specs.Promise.Request.{Chosen, Way}
 use Rattle.tb_pivot.specs.declared.blocks.Layout.{Layout}
 

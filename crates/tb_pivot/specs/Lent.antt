@@ -11,7 +11,8 @@ use Rattle.tb_value.specs.declared.error.PolarsError.TheVariants.{ComputeError, 
 use Rattle.tb_chunk.specs.Promise.Col.{Col}
 use Rattle.tb_frame.specs.Promise.Table.{Table, table_of}
 use Rattle.tb_pivot.specs.Promise.Refusal.{none_named}
-use Rattle.tb_pivot.specs.Promise.Request.{Request, Way, given_or_rest, separator_or}
+use Rattle.tb_pivot.specs.Promise.Request.{Request, Way, given_or_rest}
+use Rattle.tb_label.specs.Promise.Label.{separator_or}
 
 -- the request of columns, names and a separator that are lent
 abbrev pub lent_request : List Col → List Name → Option (List Name) → Option (List Name) → Bool

@@ -9,19 +9,18 @@ ghost use Rattle.tb_chunk.specs.Promise.Col.{Col, values};
 ghost use Rattle.tb_chunk.specs.Lent.{lent_columns};
 ghost use Rattle.tb_frame.specs.Frame.{taken_rows};
 ghost use Rattle.tb_frame.specs.Promise.Refusal.{repeated_among};
-ghost use Rattle.tb_frame.specs.Promise.Table.{plain_column, table_of};
+ghost use Rattle.tb_frame.specs.Promise.Table.{by_name, plain_column, table_of};
 ghost use Rattle.tb_rows.specs.Promise.InOrder.{in_order};
 ghost use Rattle.tb_pivot.specs.Cells.{cell_grid};
 ghost use Rattle.tb_pivot.specs.Layout.{answer_names, block_names, header_column, header_columns, laid_block, laid_out, texts_at, IsLayout};
 ghost use Rattle.tb_pivot.specs.Lookup.{AreAsHigh, chosen_of};
 ghost use Rattle.tb_pivot.specs.Made.{made_cause, IsMade};
-ghost use Rattle.tb_pivot.specs.Promise.Pivot.{by_name};
 ghost use Rattle.tb_pivot.specs.Promise.Refusal.{is_one_row, many_cause};
 ghost use Rattle.tb_pivot.specs.Promise.Request.{Way};
 
 use crate::cells::Cells;
 use crate::headers::{block_name, header_text};
-use crate::lookup::RequestColumns;
+use crate::lookup::WideColumns;
 use crate::maker::CellMaker;
 use std::alloc::Global;
 use tb_frame::check_repeated;
@@ -36,7 +35,7 @@ use tb_value::{
 #[derive(Drop)]
 pub(crate) struct Layout<'a, 'b> {
     height: usize,
-    columns: &'a RequestColumns<'b>,
+    columns: &'a WideColumns<'b>,
     sorts: bool,
     separator: &'a str,
     cells: Cells,
@@ -119,7 +118,7 @@ impl<'a, 'b> Layout<'a, 'b> {
     pub(crate) fn of(
         alloc: Global,
         height: usize,
-        columns: &'a RequestColumns<'b>,
+        columns: &'a WideColumns<'b>,
         sorts: bool,
         separator: &'a str,
     ) -> Result<Layout<'a, 'b>, OutOfMemory>

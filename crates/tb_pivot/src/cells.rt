@@ -7,7 +7,7 @@ ghost use Rattle.tb_frame.specs.Promise.Table.{table_of};
 ghost use Rattle.tb_pivot.specs.Cells.{AreCells, cell_grid, cells_under};
 
 use crate::grid::grid_of;
-use crate::lookup::RequestColumns;
+use crate::lookup::WideColumns;
 use std::alloc::Global;
 use tb_rows::{Groups, group_both, group_rows};
 use tb_store::Series;
@@ -26,7 +26,7 @@ impl Cells {
     pub(crate) fn of(
         alloc: Global,
         height: usize,
-        columns: &RequestColumns<'_>,
+        columns: &WideColumns<'_>,
     ) -> Result<Cells, OutOfMemory>
         requires { height ≤ MAX_ROWS }
         ensures { IfOk result
@@ -48,7 +48,7 @@ impl Cells {
         &self,
         alloc: Global,
         height: usize,
-        columns: &RequestColumns<'_>,
+        columns: &WideColumns<'_>,
     ) -> Result<Vec<NullableIdxSize>, OutOfMemory>
         requires few { height ≤ MAX_ROWS }
         requires cells { AreCells height (table_of (lent_columns columns.now.index.items))

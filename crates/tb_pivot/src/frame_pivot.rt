@@ -13,7 +13,7 @@ ghost use Rattle.tb_pivot.specs.AggWay.{agg_way, way_or_row};
 ghost use Rattle.tb_pivot.specs.Answered.{Gives};
 ghost use Rattle.tb_frame.specs.Promise.Table.{plain_column};
 ghost use Rattle.tb_pivot.specs.Promise.Pivot.{answer_of};
-ghost use Rattle.tb_pivot.specs.Promise.Request.{asked, separator_or, way_of};
+ghost use Rattle.tb_pivot.specs.Promise.Request.{asked, way_of};
 
 use crate::asking::{Asked, Told, answer_to};
 use crate::expr::{PhysicalAggExpr, PivotAgg};
@@ -25,18 +25,10 @@ use std::alloc::Global;
 use std::marker::{Brand, PhantomData};
 use tb_agg::Aggregate;
 use tb_frame::DataFrame;
+use tb_label::given_separator;
 use tb_rows::Groups;
 use tb_store::Series;
 use tb_value::{PlSmallStr, PolarsResult};
-
-fn given_separator<'a>(separator: Option<&'a str>) -> &'a str
-    ensures { result.now ≡ separator_or (option_copied separator.entry) }
-{
-    match separator {
-        Some(separator) => separator,
-        None => "_",
-    }
-}
 
 /// The table made wide: a row for each distinct row of the index columns, and for each value column a column for each
 /// distinct row of the columns `on`, in the order in which these rows stand first. A cell is what `maker` makes of the

@@ -49,7 +49,7 @@ fn group_cell(groups: &Groups, rows: &Groups, headers: &Groups, group: usize) ->
 /// # Errors
 ///
 /// `OutOfMemory` where memory is wanting.
-pub fn grid_of(
+pub(crate) fn grid_of(
     alloc: Global,
     groups: &Groups,
     rows: &Groups,

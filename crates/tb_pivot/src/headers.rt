@@ -90,7 +90,7 @@ fn field_texts(
 /// # Errors
 ///
 /// `OutOfMemory` where memory is wanting.
-pub fn header_text(
+pub(crate) fn header_text(
     alloc: Global,
     columns: &[&Series],
     row: usize,
@@ -110,7 +110,7 @@ pub fn header_text(
 /// # Errors
 ///
 /// `OutOfMemory` where memory is wanting.
-pub fn brace_name(alloc: Global, names: &[PlSmallStr]) -> Result<PlSmallStr, OutOfMemory>
+pub(crate) fn brace_name(alloc: Global, names: &[PlSmallStr]) -> Result<PlSmallStr, OutOfMemory>
     ensures { IfOk result (λ s. s ≡ brace_name names.now) }
 {
     let mut texts = Vec::with_capacity(alloc, names.len())?;
@@ -126,7 +126,7 @@ pub fn brace_name(alloc: Global, names: &[PlSmallStr]) -> Result<PlSmallStr, Out
 /// # Errors
 ///
 /// `OutOfMemory` where memory is wanting.
-pub fn block_name(
+pub(crate) fn block_name(
     alloc: Global,
     value_columns: usize,
     separator: &str,

@@ -17,8 +17,5 @@ mod wide;
 
 pub use expr::{ExprFault, PhysicalAggExpr, PivotAgg};
 pub use frame_pivot::{pivot, pivot_by, pivot_stable};
-pub use grid::grid_of;
-pub use headers::{block_name, brace_name, header_text};
-pub use lookup::{RequestColumns, found};
 pub use maker::CellMaker;
 pub use tb_agg::Aggregate;

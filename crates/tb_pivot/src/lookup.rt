@@ -15,34 +15,20 @@ ghost use Rattle.tb_pivot.specs.Promise.Refusal.{agg_cause, brace_taken, column_
 use crate::headers::brace_name;
 use crate::maker::CellMaker;
 use std::alloc::Global;
-use tb_frame::{DataFrame, check_distinct, check_repeated, lend_columns};
+use tb_frame::{DataFrame, check_distinct, check_repeated, lend_columns, push_names};
 use tb_label::is_header_type;
 use tb_store::Series;
 use tb_value::{ComputeCause, InvalidCause, OutOfMemory, PlSmallStr, PolarsError, PolarsResult};
 
 /// The columns that are named, in the order of their names.
 #[derive(Drop)]
-pub struct RequestColumns<'a> {
+pub(crate) struct WideColumns<'a> {
     /// The columns whose rows become headers.
-    pub on: Vec<&'a Series>,
+    pub(crate) on: Vec<&'a Series>,
     /// The columns of the index.
-    pub index: Vec<&'a Series>,
+    pub(crate) index: Vec<&'a Series>,
     /// The columns of whose values cells are made.
-    pub values: Vec<&'a Series>,
-}
-
-// Puts the names behind the others.
-fn push_names<'a>(
-    names: &mut Vec<&'a PlSmallStr>,
-    more: &'a [PlSmallStr],
-) -> Result<(), OutOfMemory>
-    ensures { OnOk result
-        (map (λ n. n.now) names.new.items ≡ map (λ n. n.now) names.old.items ++ more.now) }
-{
-    for name in more {
-        names.push(name)?;
-    }
-    Ok(())
+    pub(crate) values: Vec<&'a Series>,
 }
 
 // The names of both lists, lent.
@@ -131,14 +117,14 @@ fn check_values<M: CellMaker>(alloc: Global, columns: &[&Series], maker: &M) -> 
 /// 3. `BraceName`: `on` has several names, and a column is called by them in quotes and braces;
 /// 4. `HeaderType`: values of a column of `on` have no header texts;
 /// 5. `AggType`: `maker` doesn't take the type of a column of `values`.
-pub fn found<'a, M: CellMaker>(
+pub(crate) fn found<'a, M: CellMaker>(
     alloc: Global,
     table: &'a DataFrame,
     on: &[PlSmallStr],
     index: &[PlSmallStr],
     values: &[PlSmallStr],
     maker: &M,
-) -> PolarsResult<RequestColumns<'a>>
+) -> PolarsResult<WideColumns<'a>>
     ensures settles { Settles result
         (first_cause
         (column_causes (table_of table.now) on.now index.now values.now (M.way maker.now))) }
@@ -156,7 +142,7 @@ pub fn found<'a, M: CellMaker>(
     check_brace_name(alloc, table, on)?;
     check_headers(alloc, &on_columns)?;
     check_values(alloc, &value_columns, maker)?;
-    Ok(RequestColumns {
+    Ok(WideColumns {
         on: on_columns,
         index: index_columns,
         values: value_columns,

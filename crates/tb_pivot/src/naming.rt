@@ -12,7 +12,7 @@ ghost use Rattle.tb_pivot.specs.Promise.Refusal.{none_named};
 ghost use Rattle.tb_pivot.specs.Promise.Request.{given_or_rest, outside};
 
 use std::alloc::Global;
-use tb_frame::{DataFrame, NameSet, name_set};
+use tb_frame::{DataFrame, NameSet, copy_names, name_set};
 use tb_value::{ComputeCause, InvalidCause, OutOfMemory, PlSmallStr, PolarsError, PolarsResult};
 
 /// The names of the columns of the index and of the values.
@@ -20,16 +20,6 @@ use tb_value::{ComputeCause, InvalidCause, OutOfMemory, PlSmallStr, PolarsError,
 pub(crate) struct RequestNames {
     pub(crate) index: Vec<PlSmallStr>,
     pub(crate) values: Vec<PlSmallStr>,
-}
-
-fn copies(alloc: Global, names: &[PlSmallStr]) -> Result<Vec<PlSmallStr>, OutOfMemory>
-    ensures { IfOk result (λ v. v.items ≡ names.now) }
-{
-    let mut copies = Vec::with_capacity(alloc, names.len())?;
-    for name in names {
-        copies.push(name.copy(alloc)?)?;
-    }
-    Ok(copies)
 }
 
 fn is_in_neither(names: &NameSet<'_>, others: &NameSet<'_>, name: &PlSmallStr) -> bool
@@ -82,7 +72,7 @@ fn given_or_rest(
         (option_copied others.entry)) }
 {
     match names {
-        Some(names) => copies(alloc, names),
+        Some(names) => copy_names(alloc, names),
         None => outside(alloc, table, on, names_or_none(others)),
     }
 }

@@ -10,7 +10,7 @@ ghost use Rattle.tb_pivot.specs.Made.{takes};
 ghost use Rattle.tb_pivot.specs.Promise.Pivot.{wide};
 ghost use Rattle.tb_pivot.specs.Promise.Refusal.{value_causes};
 
-use crate::lookup::RequestColumns;
+use crate::lookup::WideColumns;
 use crate::maker::CellMaker;
 use crate::wide::wide;
 use std::alloc::Global;
@@ -37,7 +37,7 @@ fn lend_again<'a>(alloc: Global, columns: &[&'a Series]) -> Result<Vec<&'a Serie
 }
 
 impl WholeKeys {
-    fn of(alloc: Global, columns: &RequestColumns<'_>) -> Result<WholeKeys, OutOfMemory>
+    fn of(alloc: Global, columns: &WideColumns<'_>) -> Result<WholeKeys, OutOfMemory>
         ensures on { IfOk result (λ k.
             k.on.items ≡ map in_one_chunk (lent_columns columns.now.on.items)) }
         ensures index { IfOk result (λ k.
@@ -54,12 +54,12 @@ impl WholeKeys {
         &'a self,
         alloc: Global,
         values: &[&'a Series],
-    ) -> Result<RequestColumns<'a>, OutOfMemory>
+    ) -> Result<WideColumns<'a>, OutOfMemory>
         ensures on { IfOk result (λ r. lent_columns r.on.items ≡ self.now.on.items) }
         ensures index { IfOk result (λ r. lent_columns r.index.items ≡ self.now.index.items) }
         ensures values { IfOk result (λ r. lent_columns r.values.items ≡ lent_columns values.now) }
     {
-        Ok(RequestColumns {
+        Ok(WideColumns {
             on: lend(alloc, &self.on)?,
             index: lend(alloc, &self.index)?,
             values: lend_again(alloc, values)?,
@@ -76,7 +76,7 @@ impl WholeKeys {
 pub(crate) fn wide_of_chunks<M: CellMaker>(
     alloc: Global,
     height: usize,
-    columns: &RequestColumns<'_>,
+    columns: &WideColumns<'_>,
     maker: &M,
     sorts: bool,
     separator: &str,

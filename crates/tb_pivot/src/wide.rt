@@ -11,7 +11,7 @@ ghost use Rattle.tb_pivot.specs.Promise.Pivot.{wide};
 ghost use Rattle.tb_pivot.specs.Promise.Refusal.{value_causes};
 
 use crate::blocks::Layout;
-use crate::lookup::RequestColumns;
+use crate::lookup::WideColumns;
 use crate::maker::CellMaker;
 use std::alloc::Global;
 use tb_frame::DataFrame;
@@ -50,7 +50,7 @@ fn laid_table<M: CellMaker>(
 pub(crate) fn wide<M: CellMaker>(
     alloc: Global,
     height: usize,
-    columns: &RequestColumns<'_>,
+    columns: &WideColumns<'_>,
     maker: &M,
     sorts: bool,
     separator: &str,

@@ -11,7 +11,8 @@ use Rattle.tb_frame.specs.Promise.Table.{Table, table_of}
 use Rattle.tb_pivot.specs.Lent.{lent_request}
 use Rattle.tb_pivot.specs.Promise.Pivot.{pivot_table}
 use Rattle.tb_pivot.specs.Promise.Refusal.{pivot_refusal}
-use Rattle.tb_pivot.specs.Promise.Request.{Request, Way, separator_or}
+use Rattle.tb_pivot.specs.Promise.Request.{Request, Way}
+use Rattle.tb_label.specs.Promise.Label.{separator_or}
 use Rattle.tb_plan.specs.declared.faults.PlanFault.{PlanFault}
 use Rattle.tb_plan.specs.declared.faults.PlanFault.TheVariants.{OutOfMemory}
 use Rattle.tb_plan.specs.Gives.{fault_at}

@@ -4,7 +4,7 @@ use Rattle.std.specs.Option.{option_map}
 use Rattle.tb_value.specs.Promise.Names.{Name}
 use Rattle.tb_frame.specs.Promise.Table.{Table, TableColumn}
 use Rattle.tb_pivot.specs.AggWay.{agg_way, way_or_row}
-use Rattle.tb_pivot.specs.Promise.Request.{separator_or}
+use Rattle.tb_label.specs.Promise.Label.{separator_or}
 use Rattle.tb_plan.specs.declared.pivoting.PivotArgs.{PivotArgs}
 use Rattle.tb_plan.specs.Promise.Outcome.{Pivot}
 

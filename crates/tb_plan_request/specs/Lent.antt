@@ -2,7 +2,8 @@
 use Rattle.std.specs.Prelude.{List, map, option_map}
 use Rattle.tb_value.specs.Promise.Names.{Name}
 use Rattle.tb_chunk.specs.Promise.Col.{Col}
-use Rattle.tb_pivot.specs.Promise.Request.{separator_or, way_of}
+use Rattle.tb_pivot.specs.Promise.Request.{way_of}
+use Rattle.tb_label.specs.Promise.Label.{separator_or}
 use Rattle.tb_calls.specs.Promise.Asked.{names_in}
 use Rattle.tb_calls.specs.declared.arguments.PivotCall.{PivotCall}
 use Rattle.tb_node.specs.declared.tables.NamedTable.{NamedTable}

@@ -19,14 +19,14 @@ use Rattle.tb_value.specs.declared.error.PolarsError.TheVariants.{ColumnNotFound
 use Rattle.tb_value.specs.declared.error.ComputeCause.TheVariants.{EmptyIndex, ManyInGroup, TooManyRows}
 use Rattle.tb_value.specs.declared.error.InvalidCause.TheVariants.{NoSupertype}
 use Rattle.tb_value.specs.declared.limits.TheConstants.{MAX_ROWS}
-use Rattle.tb_frame.specs.Promise.Join.{column_named}
+use Rattle.tb_frame.specs.Promise.Join.{column_named, columns_named}
 use Rattle.tb_frame.specs.Promise.Naming.{is_among}
 use Rattle.tb_frame.specs.Promise.Refusal.{repeated_among, unknown_key}
 use Rattle.tb_frame.specs.Promise.Table.{TableColumn, Table, height, names_of, IsTyped}
 use Rattle.tb_frame.proofs.Causes.{unrepeated_names}
 use Rattle.tb_frame.proofs.Selected.{unnamed-is}
 use Rattle.tb_rows.specs.Promise.Rows.{first_rows, is_first}
-use Rattle.tb_unpivot.specs.Promise.Unpivot.{asked_causes, columns_named, common_kind, failed_at, kind_or_null, long_table, no_supertype, repeated, too_many_values, value_column, variable_column}
+use Rattle.tb_unpivot.specs.Promise.Unpivot.{asked_causes, common_kind, failed_at, kind_or_null, long_table, no_supertype, repeated, too_many_values, value_column, variable_column}
 use Rattle.tb_pivot.specs.Promise.Pivot.{are_alike, distinct_rows, key_columns, wide}
 use Rattle.tb_pivot.specs.Promise.Refusal.{agg_cause, header_cause, many_cause, none_named, pivot_refusal, value_causes}
 use Rattle.tb_pivot.specs.Promise.Request.{Chosen, chosen, one_row}

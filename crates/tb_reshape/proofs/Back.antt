@@ -14,7 +14,8 @@ use Rattle.tb_frame.specs.Promise.Table.{TableColumn, Table, height, names_of, I
 use Rattle.tb_frame.proofs.Causes.{selected_hold}
 use Rattle.tb_label.specs.Promise.Label.{value_text}
 use Rattle.tb_rows.specs.Promise.Rows.{row_value}
-use Rattle.tb_unpivot.specs.Promise.Unpivot.{columns_named, common_kind, kind_or_null, long_table, repeated, value_column, variable_column}
+use Rattle.tb_unpivot.specs.Promise.Unpivot.{common_kind, kind_or_null, long_table, repeated, value_column, variable_column}
+use Rattle.tb_frame.specs.Promise.Join.{columns_named}
 use Rattle.tb_pivot.specs.Promise.Pivot.{are_alike, answer_rows, block_column, cell, cell_of, header_at, header_rows, index_column, wide}
 use Rattle.tb_pivot.specs.Promise.Request.{Chosen, one_row}
 use Rattle.tb_pivot.proofs.Texts.{map_twice}

@@ -5,7 +5,8 @@ use Rattle.tb_value.specs.Promise.Kind.{Kind}
 use Rattle.tb_value.specs.Promise.Names.{Name}
 use Rattle.tb_value.specs.declared.limits.TheConstants.{MAX_ROWS}
 use Rattle.tb_frame.specs.Promise.Table.{TableColumn, Table, height, names_of, IsTable}
-use Rattle.tb_unpivot.specs.Promise.Unpivot.{columns_named, unpivot_refusal, unpivot_table}
+use Rattle.tb_unpivot.specs.Promise.Unpivot.{unpivot_refusal, unpivot_table}
+use Rattle.tb_frame.specs.Promise.Join.{columns_named}
 use Rattle.tb_unpivot.specs.Promise.Unpivot as long
 use Rattle.tb_pivot.specs.Promise.Pivot.{are_alike, pivot_table}
 use Rattle.tb_pivot.specs.Promise.Refusal.{pivot_refusal}

@@ -4,7 +4,7 @@ ghost use Rattle.tb_value.specs.Refusals.{Settles};
 ghost use Rattle.tb_frame.specs.Promise.Refusal.{unknown_key};
 ghost use Rattle.tb_frame.specs.Promise.Table.{height, table_of};
 ghost use Rattle.tb_pivot.specs.Promise.Pivot.{are_alike};
-ghost use Rattle.tb_pivot.specs.Promise.Request.{columns_named};
+ghost use Rattle.tb_frame.specs.Promise.Join.{columns_named};
 ghost use Rattle.tb_rows.specs.Grouped.{AreGroups};
 
 use std::alloc::Global;

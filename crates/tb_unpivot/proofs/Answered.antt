@@ -24,8 +24,9 @@ use Rattle.tb_frame.proofs.Selected.{selected-table}
 use Rattle.tb_supertype.specs.Promise.Cast.{cast}
 use Rattle.tb_supertype.specs.Columns.{CastsTo}
 use Rattle.tb_unpivot.specs.Asked.{IsAsked}
-use Rattle.tb_unpivot.specs.Promise.Unpivot.{Request, asked_causes, columns_named, common_kind, kind_or_null, long_table, no_supertype, on_columns, on_names, repeated, table_causes, too_many_values, unpivot_refusal, unpivot_table, value_column, value_kind, variable_column}
-use Rattle.tb_unpivot.specs.declared.lookup.RequestColumns.{RequestColumns}
+use Rattle.tb_unpivot.specs.Promise.Unpivot.{Request, asked_causes, common_kind, kind_or_null, long_table, no_supertype, on_columns, on_names, repeated, table_causes, too_many_values, unpivot_refusal, unpivot_table, value_column, value_kind, variable_column}
+use Rattle.tb_frame.specs.Promise.Join.{columns_named}
+use Rattle.tb_unpivot.specs.declared.lookup.LongColumns.{LongColumns}
 use Rattle.tb_unpivot.proofs.Causes.{goes_on}
 use Rattle.tb_unpivot.proofs.CommonKinds.{casts_all}
 use Rattle.tb_unpivot.proofs.Lists.{level_values, lent_values, selected-none, un_lent}
@@ -102,7 +103,7 @@ columns_causes cs on rs rows high found =
     let many : length rs ≡ length (table_of (selected_columns on cs)) = sym (length-map rs (λ (r : Bor Col). r.now)) ∙ ap length found ∙ sym (length-map (selected_columns on cs) plain_column) in
     λ t. first_cause (no_supertype (table_of (found t)) ∷ too_many_values (high t) (many t) ∷ [])
 
-pub are_asked : (cs : List Col) (on index : List Name) (a : RequestColumns) (rs : List (Bor Col)) (rows : ℕ) → rows ≡ height (table_of cs) → rs ≡ a.on.items
+pub are_asked : (cs : List Col) (on index : List Name) (a : LongColumns) (rs : List (Bor Col)) (rows : ℕ) → rows ≡ height (table_of cs) → rs ≡ a.on.items
     → lent_columns a.on.items ≡ selected_columns on cs → lent_columns a.index.items ≡ selected_columns index cs → common_kind kind.null (table_of (lent_columns rs)) ≡ Ok (kind_of a.dtype)
     → rows * length rs ≤ MAX_ROWS → IsAsked cs on index a
 are_asked cs on index a rs rows high same found there common few =
@@ -119,7 +120,7 @@ are_asked cs on index a rs rows high same found there common few =
 pub none_asked : (cs columns : List Col) (on index : List Name) → length cs ≡ 0 → first_cause (table_causes (table_of cs) (table_of columns) on index) ≡ None
 none_asked cs columns on index e = ap (λ (ds : List Col). first_cause (table_causes (table_of ds) (table_of columns) on index)) (nil_from_length cs e)
 
-pub nothing_asked : (cs : List Col) (on index : List Name) (a : RequestColumns) → length cs ≡ 0 → a.on.items ≡ [] → a.index.items ≡ [] → kind_of a.dtype ≡ kind.null → IsAsked cs on index a
+pub nothing_asked : (cs : List Col) (on index : List Name) (a : LongColumns) → length cs ≡ 0 → a.on.items ≡ [] → a.index.items ≡ [] → kind_of a.dtype ≡ kind.null → IsAsked cs on index a
 nothing_asked cs on index a e no_on no_index no_type =
     let empty : (names : List Name) → [] ≡ selected_columns names cs = λ names. sym (ap (selected_columns names) (nil_from_length cs e) ∙ selected-none names) in
     record {
@@ -146,7 +147,7 @@ module _ (cs : List Col) (on index names : List Name) (variable value : Name) (i
   pub asked_for : first_cause (table_causes (table_of cs) (table_of (selected_columns names cs)) names index) ≡ first_cause (table_causes (table_of cs) (on_columns (asked_of cs on index variable value)) (on_names (table_of cs) on index) index)
   asked_for = λ t. first_cause (table_causes (table_of cs) (named_columns t) (is t) index)
 
-  pub long_is : (a : RequestColumns) (ons ins : List (Bor Col)) → IsAsked cs names index a → ons ≡ a.on.items → ins ≡ a.index.items
+  pub long_is : (a : LongColumns) (ons ins : List (Bor Col)) → IsAsked cs names index a → ons ≡ a.on.items → ins ≡ a.index.items
       → long_table (kind_of a.dtype) (table_of (lent_columns ons)) (table_of (lent_columns ins)) variable value ≡ unpivot_table (asked_of cs on index variable value)
   long_is a ons ins asked same there =
       let columns : table_of (lent_columns ons) ≡ on_columns (asked_of cs on index variable value) = ap (λ (rs : List (Bor Col)). table_of (lent_columns rs)) same ∙ ap table_of asked.on ∙ named_columns in

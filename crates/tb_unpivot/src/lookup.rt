@@ -17,23 +17,13 @@ ghost use Rattle.tb_unpivot.specs.Promise.Unpivot.{asked_causes, common_kind, fa
 ghost use Rattle.tb_unpivot.specs.Asked.{IsAsked};
 
 use std::alloc::Global;
-use tb_frame::{DataFrame, check_repeated, lend_columns, name_set};
+use tb_frame::{DataFrame, check_repeated, copy_names, lend_columns, name_set};
 use tb_store::{Column, Series};
 use tb_supertype::supertype;
 use tb_value::{
     ComputeCause, DataType, InvalidCause, MAX_ROWS, OutOfMemory, PlSmallStr, PolarsError,
     PolarsResult,
 };
-
-fn copies(alloc: Global, names: &[PlSmallStr]) -> Result<Vec<PlSmallStr>, OutOfMemory>
-    ensures { IfOk result (λ v. v.items ≡ names.now) }
-{
-    let mut copies = Vec::with_capacity(alloc, names.len())?;
-    for name in names {
-        copies.push(name.copy(alloc)?)?;
-    }
-    Ok(copies)
-}
 
 // The names of the columns that are not in the index.
 fn other_names(
@@ -66,7 +56,7 @@ pub(crate) fn on_names(
     if on.is_empty() {
         return other_names(alloc, columns, index);
     }
-    copies(alloc, on)
+    copy_names(alloc, on)
 }
 
 // The columns of these names, lent. Refuses the first name that no column has (ColumnNotFound).
@@ -141,7 +131,7 @@ fn check_columns(alloc: Global, rows: usize, columns: &[&Series]) -> PolarsResul
 
 /// The columns that are named, and their common type.
 #[derive(Drop)]
-pub(crate) struct RequestColumns<'a> {
+pub(crate) struct LongColumns<'a> {
     pub(crate) on: Vec<&'a Series>,
     pub(crate) index: Vec<&'a Series>,
     pub(crate) dtype: DataType,
@@ -153,7 +143,7 @@ fn found<'a>(
     table: &'a DataFrame,
     on: &[PlSmallStr],
     index: &[PlSmallStr],
-) -> PolarsResult<RequestColumns<'a>>
+) -> PolarsResult<LongColumns<'a>>
     ensures settles { Settles result
         (first_cause
         (asked_causes (table_of table.now) (table_of (selected_columns on.now table.now)) on.now
@@ -164,7 +154,7 @@ fn found<'a>(
     let index_columns = named_columns(alloc, table, index)?;
     check_repeated(alloc, index)?;
     let dtype = check_columns(alloc, table.height(), &on_columns)?;
-    Ok(RequestColumns {
+    Ok(LongColumns {
         on: on_columns,
         index: index_columns,
         dtype,
@@ -186,7 +176,7 @@ pub(crate) fn asked<'a>(
     table: &'a DataFrame,
     on: &[PlSmallStr],
     index: &[PlSmallStr],
-) -> PolarsResult<RequestColumns<'a>>
+) -> PolarsResult<LongColumns<'a>>
     ensures settles { Settles result
         (first_cause
         (table_causes (table_of table.now) (table_of (selected_columns on.now table.now)) on.now
@@ -194,7 +184,7 @@ pub(crate) fn asked<'a>(
     ensures asked { IfOk result (IsAsked table.now on.now index.now) }
 {
     if table.width() == 0 {
-        return Ok(RequestColumns {
+        return Ok(LongColumns {
             on: Vec::new(alloc),
             index: Vec::new(alloc),
             dtype: null_type(),

@@ -12,6 +12,7 @@ use Rattle.tb_unpivot.specs.Promise.Unpivot as long
 use Rattle.tb_unpivot.specs.declared.frame_unpivot.UnpivotArgsIR.{UnpivotArgsIR}
 use Rattle.tb_dummies.specs.Promise.Dummies as marked
 use Rattle.tb_pivot.specs.Promise.Request.{way_of}
+use Rattle.tb_label.specs.Promise.Label.{separator_or}
 use Rattle.tb_pivot.specs.Promise.Request as wide
 use Rattle.tb_calls.specs.declared.arguments.DummiesCall.{DummiesCall}
 use Rattle.tb_calls.specs.declared.arguments.JoinCall.{JoinCall}
@@ -27,7 +28,7 @@ long_request t on index variable value = record
 -- of a table whose columns are replaced: which, what stands between a name and a text, and whether a value is left out
 abbrev pub dummies_request : Table → Option (List Name) → Option Name → Bool → marked.Request
 dummies_request t columns separator drop_first = record
-    { table = t; columns = columns; separator = marked.separator_or separator; drop_first = drop_first }
+    { table = t; columns = columns; separator = separator_or separator; drop_first = drop_first }
 
 -- of a table that is made wide: the names of the columns of headers, of rows and of cells, whether columns are sorted, the aggregate,
 -- and what stands between a name and a header
@@ -40,7 +41,7 @@ wide_request t on index values sorts agg separator = record {
   values = values;
   sorts = sorts;
   way = way_of agg;
-  separator = wide.separator_or separator;
+  separator = separator_or separator;
 }
 
 -- BY A CALL

@@ -1,10 +1,7 @@
 -- Dummies: a column replaced by one column for each of its values, which says in which rows the value stands.
-use Rattle.std.specs.Prelude.{ℕ, pos, ◌==◌, Bool, true, ◌&&◌, not, if◌then◌else◌, List, [], ◌∷◌, ◌++◌, length, map, filter, Option, Some, None, unwrap_or, codes}
+use Rattle.std.specs.Prelude.{ℕ, pos, ◌==◌, Bool, true, ◌&&◌, not, if◌then◌else◌, List, [], ◌∷◌, ◌++◌, length, map, filter, Option, Some, None}
 use Rattle.std.specs.Option.{option_map}
 use Rattle.std.specs.List.{find, flat_map}
-use Rattle.std.specs.Cmp.Lexicographic.{slice_cmp}
-use Rattle.std.specs.Ordering.{nat_cmp}
-use Rattle.std.specs.declared.cmp.Ordering.{Ordering}
 use Rattle.tb_value.specs.Promise.Datum.{Datum, int}
 use Rattle.tb_value.specs.Promise.Kind as kind
 use Rattle.tb_value.specs.Promise.Names.{Name}
@@ -15,7 +12,7 @@ use Rattle.tb_value.specs.declared.error.PolarsError.{PolarsError}
 use Rattle.tb_value.specs.declared.error.PolarsError.TheVariants.{InvalidOperation}
 use Rattle.tb_frame.specs.Promise.Naming.{is_among}
 use Rattle.tb_frame.specs.Promise.Refusal.{repeated_among}
-use Rattle.tb_frame.specs.Promise.Table.{TableColumn, Table, names_of}
+use Rattle.tb_frame.specs.Promise.Table.{TableColumn, Table, by_name, names_of}
 use Rattle.tb_label.specs.Promise.Label.{is_header, value_text}
 use Rattle.tb_rows.specs.Promise.InOrder.{in_order}
 use Rattle.tb_rows.specs.Promise.Rows.{first_rows, same_rows, row_value}
@@ -27,10 +24,6 @@ pub record Request : Type 0 where
   pub columns : Option (List Name)
   pub separator : Name
   pub drop_first : Bool
-
--- the separator where none is given
-abbrev pub separator_or : Option Name → Name
-separator_or s = unwrap_or s (codes "_")
 
 -- whether a column of this name is replaced: all are where no names are given
 abbrev pub is_replaced : Option (List Name) → Name → Bool
@@ -52,10 +45,6 @@ dummy separator c v = record
 abbrev pub value_rows : Bool → List Datum → List ℕ
 value_rows drop_first vs =
     filter (λ i. not (drop_first && i == 0)) (first_rows (same_rows (vs ∷ [])) (length vs))
-
--- columns compared by the bytes of their names
-abbrev pub by_name : TableColumn → TableColumn → Ordering
-by_name c d = slice_cmp nat_cmp c.name d.name
 
 -- the columns for the values of a column, by the bytes of their names
 abbrev pub dummies_of : Name → Bool → TableColumn → List TableColumn

@@ -36,6 +36,10 @@ pub record Request : Type 0 where
 abbrev pub column_named : Table → Name → Option TableColumn
 column_named t n = find (λ (c : TableColumn). same_name c.name n) t
 
+-- the columns of these names, in the order of the names
+abbrev pub columns_named : Table → List Name → List TableColumn
+columns_named t names = filter_map (column_named t) names
+
 -- the request of `join`, whose keys are the tables' columns of these names
 abbrev pub by_names : Table → Table → List Name → List Name → JoinArgs → Request
 by_names left right left_on right_on args = record {
@@ -43,8 +47,8 @@ by_names left right left_on right_on args = record {
   right = right;
   left_on = left_on;
   right_on = right_on;
-  left_keys = filter_map (column_named left) left_on;
-  right_keys = filter_map (column_named right) right_on;
+  left_keys = columns_named left left_on;
+  right_keys = columns_named right right_on;
   args = args;
 }
 

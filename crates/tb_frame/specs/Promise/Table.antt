@@ -1,5 +1,8 @@
 -- Tables: what a column and a table are to a join. Chunks and flags don't show.
 use Rattle.std.specs.Prelude.{◌≡◌, ◌≢◌, ℕ, List, [], ◌∷◌, length, map, All, AllPairs, slice_index_or}
+use Rattle.std.specs.Cmp.Lexicographic.{slice_cmp}
+use Rattle.std.specs.Ordering.{nat_cmp}
+use Rattle.std.specs.declared.cmp.Ordering.{Ordering}
 use Rattle.tb_value.specs.Promise.Datum.{Datum, null}
 use Rattle.tb_value.specs.Promise.Kind.{Kind}
 use Rattle.tb_value.specs.Promise.Names.{Name}
@@ -31,6 +34,10 @@ height (c ∷ cs) = length c.values
 
 abbrev pub names_of : Table → List Name
 names_of t = map (λ (c : TableColumn). c.name) t
+
+-- columns compared by the bytes of their names
+abbrev pub by_name : TableColumn → TableColumn → Ordering
+by_name c d = slice_cmp nat_cmp c.name d.name
 
 -- each value is of the column's type
 abbrev pub IsTyped : TableColumn → Type 0

@@ -1,9 +1,10 @@
 -- The texts of values, by which columns are named.
-use Rattle.std.specs.Prelude.{ℕ, Bool, true, false, List, [], codes}
+use Rattle.std.specs.Prelude.{ℕ, Bool, true, false, List, [], Option, unwrap_or, codes}
 use Rattle.std.specs.Fmt.{signed_decimal}
 use Rattle.tb_value.specs.Promise.Datum.{Datum, null, boolean, int, string, binary, list, struct}
 use Rattle.tb_value.specs.Promise.Kind.{Kind}
 use Rattle.tb_value.specs.Promise.Kind as kind
+use Rattle.tb_value.specs.Promise.Names.{Name}
 
 abbrev pub truth_text : Bool → List ℕ
 truth_text true = codes "true"
@@ -34,3 +35,7 @@ is_header kind.uint32 = true
 is_header kind.uint64 = true
 is_header kind.string = true
 is_header _ = false
+
+-- what stands between the parts of a column's name, and `_` where nothing is given
+abbrev pub separator_or : Option Name → Name
+separator_or s = unwrap_or s (codes "_")

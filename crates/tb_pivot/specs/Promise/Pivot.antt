@@ -2,9 +2,6 @@
 -- columns that become headers.
 use Rattle.std.specs.Prelude.{ℕ, ◌==◌, Bool, ◌&&◌, if◌then◌else◌, List, [], ◌∷◌, ◌++◌, length, map, filter, Result, Ok, Err, unwrap_or}
 use Rattle.std.specs.List.{flat_map}
-use Rattle.std.specs.Cmp.Lexicographic.{slice_cmp}
-use Rattle.std.specs.Ordering.{nat_cmp}
-use Rattle.std.specs.declared.cmp.Ordering.{Ordering}
 use Rattle.tb_value.specs.Promise.Datum.{Datum, null}
 use Rattle.tb_value.specs.Promise.Kind.{Kind}
 use Rattle.tb_value.specs.Promise.Kind as kind
@@ -13,7 +10,7 @@ use Rattle.tb_value.specs.Promise.Pairs.{row_numbers}
 use Rattle.tb_value.specs.declared.error.ComputeCause.TheVariants.{Evaluate, EvaluateLength}
 use Rattle.tb_value.specs.declared.error.PolarsError.{PolarsError}
 use Rattle.tb_value.specs.declared.error.PolarsError.TheVariants.{ComputeError}
-use Rattle.tb_frame.specs.Promise.Table.{TableColumn, Table}
+use Rattle.tb_frame.specs.Promise.Table.{TableColumn, Table, by_name}
 use Rattle.tb_rows.specs.Promise.InOrder.{in_order}
 use Rattle.tb_rows.specs.Promise.Rows.{first_rows, group_of, same_rows, row_value}
 use Rattle.tb_agg.specs.Promise.Aggregates.{aggregate, result_kind}
@@ -109,9 +106,6 @@ block_column q v y = record {
   kind = way_kind q v q.way;
   values = map (λ x. cell q v x y) (answer_rows q);
 }
-
-abbrev pub by_name : TableColumn → TableColumn → Ordering
-by_name c d = slice_cmp nat_cmp c.name d.name
 
 abbrev pub block : Chosen → TableColumn → List TableColumn
 block q v = (if q.sorts

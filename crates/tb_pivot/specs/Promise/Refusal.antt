@@ -19,7 +19,8 @@ use Rattle.tb_agg.specs.Promise.Outcome.{are_in_range}
 use Rattle.tb_agg.specs.declared.table.Aggregate.TheVariants.{Sum}
 use Rattle.tb_pivot.specs.Promise.Headers.{brace_name}
 use Rattle.tb_pivot.specs.Promise.Pivot.{are_alike, answered_column, distinct_rows, key_columns, wide}
-use Rattle.tb_pivot.specs.Promise.Request.{Chosen, Request, Way, one_row, aggregated, asked, chosen, columns_named, index_names, value_names}
+use Rattle.tb_pivot.specs.Promise.Request.{Chosen, Request, Way, one_row, aggregated, asked, chosen, index_names, value_names}
+use Rattle.tb_frame.specs.Promise.Join.{columns_named}
 
 -- NAMES
 

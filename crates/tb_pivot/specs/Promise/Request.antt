@@ -1,8 +1,7 @@
 -- What is asked of a pivot.
-use Rattle.std.specs.Prelude.{ℕ, Bool, ◌||◌, not, List, [], filter, Option, Some, None, unwrap_or, codes, Result}
-use Rattle.std.specs.List.{filter_map}
+use Rattle.std.specs.Prelude.{ℕ, Bool, ◌||◌, not, List, [], filter, Option, Some, None, unwrap_or, Result}
 use Rattle.tb_value.specs.Promise.Names.{Name}
-use Rattle.tb_frame.specs.Promise.Join.{column_named}
+use Rattle.tb_frame.specs.Promise.Join.{columns_named}
 use Rattle.tb_frame.specs.Promise.Naming.{is_among}
 use Rattle.tb_frame.specs.Promise.Table.{TableColumn, Table, height, names_of}
 use Rattle.tb_agg.specs.declared.table.Aggregate.{Aggregate}
@@ -31,9 +30,6 @@ pub record Request : Type 0 where
   pub way : Way
   pub separator : Name
 
-abbrev pub separator_or : Option Name → Name
-separator_or s = unwrap_or s (codes "_")
-
 -- the names of the columns of a table that are in neither of two lists
 abbrev pub outside : Table → List Name → List Name → List Name
 outside t names others = filter (λ n. not (is_among names n || is_among others n)) (names_of t)
@@ -48,10 +44,6 @@ index_names q = given_or_rest q.table q.on q.index q.values
 
 abbrev pub value_names : Request → List Name
 value_names q = given_or_rest q.table q.on q.values q.index
-
--- the columns of these names
-abbrev pub columns_named : Table → List Name → List TableColumn
-columns_named t names = filter_map (column_named t) names
 
 -- what a request chooses of its table: how many rows there are, the columns whose rows become headers, those of the index and of
 -- the values, and what is made of them

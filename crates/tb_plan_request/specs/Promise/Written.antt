@@ -8,7 +8,8 @@ use Rattle.tb_value.specs.Promise.Datum as value
 use Rattle.tb_value.specs.Promise.Datum.{Datum}
 use Rattle.tb_value.specs.Promise.Names.{Name}
 use Rattle.tb_pool.specs.Promise.ExecView.{ExecView}
-use Rattle.tb_pivot.specs.Promise.Request.{separator_or, way_of}
+use Rattle.tb_pivot.specs.Promise.Request.{way_of}
+use Rattle.tb_label.specs.Promise.Label.{separator_or}
 use Rattle.tb_frame.specs.declared.args.JoinArgs.{JoinArgs}
 use Rattle.tb_filter.specs.Promise.Filtered.{Check, is_absent, is_there, equals, less}
 use Rattle.tb_node.specs.Promise.Trees.{Tree, table, join, filter}

@@ -1,7 +1,7 @@
 -- A table made long: for each of some columns all rows once more, with the column's name and its value.
 use Rattle.std.specs.Prelude.{ℕ, ◌*◌, nat_lt, not, List, [], ◌∷◌, ◌++◌, length, map, replicate, filter, Option, Some, None, Result, Ok, Err, unwrap_or, codes}
 use Rattle.std.specs.Option.{option_map}
-use Rattle.std.specs.List.{filter_map, flat_map}
+use Rattle.std.specs.List.{flat_map}
 use Rattle.tb_value.specs.Promise.Datum.{Datum, string}
 use Rattle.tb_value.specs.Promise.Kind.{Kind}
 use Rattle.tb_value.specs.Promise.Kind as kind
@@ -13,7 +13,7 @@ use Rattle.tb_value.specs.declared.error.ComputeCause.TheVariants.{TooManyRows}
 use Rattle.tb_value.specs.declared.error.PolarsError.{PolarsError}
 use Rattle.tb_value.specs.declared.error.PolarsError.TheVariants.{InvalidOperation, ComputeError}
 use Rattle.tb_chunk.specs.Promise.Col.{concatenation}
-use Rattle.tb_frame.specs.Promise.Join.{column_named}
+use Rattle.tb_frame.specs.Promise.Join.{columns_named}
 use Rattle.tb_frame.specs.Promise.Naming.{is_among}
 use Rattle.tb_frame.specs.Promise.Refusal.{repeated_among, unknown_key}
 use Rattle.tb_frame.specs.Promise.Table.{TableColumn, Table, height, names_of}
@@ -42,9 +42,6 @@ value_or n = unwrap_or n (codes "value")
 abbrev pub on_names : Table → List Name → List Name → List Name
 on_names t [] index = filter (λ n. not (is_among index n)) (names_of t)
 on_names t (n ∷ ns) index = n ∷ ns
-
-abbrev pub columns_named : Table → List Name → List TableColumn
-columns_named t names = filter_map (column_named t) names
 
 abbrev pub on_columns : Request → List TableColumn
 on_columns q = columns_named q.table (on_names q.table q.on q.index)

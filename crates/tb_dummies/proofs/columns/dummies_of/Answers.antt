@@ -1,10 +1,9 @@
 use Rattle.std.proofs.Common.{◌∙◌, ap, rules}
 use Rattle.std.specs.Cmp.Lexicographic.{on_texts}
 use Rattle.tb_chunk.specs.Promise.Col.{Col}
-use Rattle.tb_frame.specs.Promise.Table.{plain_column, table_of}
+use Rattle.tb_frame.specs.Promise.Table.{by_name, plain_column, table_of}
 use Rattle.tb_rows.specs.Promise.InOrder.{in_order}
 use Rattle.tb_rows.proofs.InOrder.{in_order-map, sorted_in_order}
-use Rattle.tb_dummies.specs.Promise.Dummies.{by_name}
 use Rattle.tb_dummies.proofs.columns.dummies_of.Goals as goal
 
 pub returns : goal.returns

@@ -1,9 +1,8 @@
 use Rattle.std.proofs.Common.{◌∙◌, ap, rules}
 use Rattle.std.specs.Cmp.Lexicographic.{on_texts}
 use Rattle.tb_chunk.specs.Promise.Col.{Col}
-use Rattle.tb_frame.specs.Promise.Table.{plain_column, table_of}
+use Rattle.tb_frame.specs.Promise.Table.{by_name, plain_column, table_of}
 use Rattle.tb_rows.proofs.InOrder.{in_order-map, sorted_in_order}
-use Rattle.tb_pivot.specs.Promise.Pivot.{by_name}
 use Rattle.tb_pivot.proofs.blocks.columns_by_name.Goals as goal
 
 pub returns : goal.returns

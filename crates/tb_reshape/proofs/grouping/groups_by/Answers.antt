@@ -2,7 +2,7 @@ use Rattle.std.proofs.Common.{List, subst}
 use Rattle.tb_rows.specs.Grouped.{AreGroups}
 use Rattle.tb_frame.specs.Promise.Table.{TableColumn, table_of}
 use Rattle.tb_pivot.specs.Promise.Pivot.{are_alike}
-use Rattle.tb_pivot.specs.Promise.Request.{columns_named}
+use Rattle.tb_frame.specs.Promise.Join.{columns_named}
 use Rattle.tb_pivot.proofs.Alike.{lent_groups}
 use Rattle.tb_pivot.proofs.Causes.{columns_found}
 use Rattle.tb_reshape.proofs.grouping.groups_by.Goals as goal

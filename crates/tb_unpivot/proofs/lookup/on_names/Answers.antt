@@ -14,4 +14,4 @@ returns-then-is_empty c =
 pub returns : goal.returns
 returns c =
     let some : 0 < length c.args.on.now = search rules in
-    subst (λ (ns : List Name). IfOk c.copies.result (λ v. v.items ≡ ns)) (sym (some_named (table_of c.args.columns.now) c.args.on.now c.args.index.now some)) c.copies.ensures
+    subst (λ (ns : List Name). IfOk c.copy_names.result (λ v. v.items ≡ ns)) (sym (some_named (table_of c.args.columns.now) c.args.on.now c.args.index.now some)) c.copy_names.ensures

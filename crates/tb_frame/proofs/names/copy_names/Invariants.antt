@@ -1,5 +1,5 @@
 use Rattle.std.proofs.Common.{◌≡◌, take}
-use Rattle.tb_unpivot.proofs.lookup.copies.Given as goal
+use Rattle.tb_frame.proofs.names.copy_names.Given as goal
 
 abbrev pub invariant-loop-name : goal.invariant-loop-name
 invariant-loop-name l = l.copies.items ≡ take l.name-index l.names
