@@ -18,7 +18,7 @@ use Rattle.tb_value.proofs.RowNumbers.{row_numbers_more}
 use Rattle.tb_value.specs.Promise.Pairs.{row_numbers}
 use Rattle.tb_value.specs.Proved.ValueTests.{pulled}
 use Rattle.tb_chunk.specs.Promise.Col.{Col}
-use Rattle.tb_rows.specs.Coded.{coded_row, coded_rows, leader, no_row, row_in, same_code, same_values, AreAsLed, AreCoded, AreLeaders}
+use Rattle.tb_rows.specs.Coded.{coded_row, coded_rows, leader, named_code, no_row, row_in, same_code, same_values, AreAsLed, AreCoded, AreLeaders}
 use Rattle.tb_rows.specs.Fields.{fields_at, row_code, same_at}
 use Rattle.tb_rows.specs.InGroups.{named_rows}
 use Rattle.tb_rows.specs.Proved.KeyTests.{fields-Decides}
@@ -96,46 +96,34 @@ module _ (code : ℕ → ℕ) where
 -- THE ROWS OF COLUMNS
 
 -- leaders by codes are leaders where each row has the values of its own
-module _ (cs : List (Bor Col)) (rows : List CodedRow) (coded : AreCoded cs rows) (leaders : List ℕ) (led : AreLeaders (same_code rows) (length rows) leaders)
-    (as_led : AreAsLed cs rows leaders (length rows)) where
-  abbrev code_of : ℕ → ℕ
-  code_of i = (get_or rows i no_row).code
-
-  code_is : (j : ℕ) → j < length rows → code_of j ≡ row_code (fields_at cs (row_in rows j))
-  code_is j low =
-      ap (λ (rs : List CodedRow). (get_or rs j no_row).code) coded
-      ∙ ap (λ (r : CodedRow). r.code) (get_or-map-range_with_len (coded_row cs (row_in rows)) 0 (length rows) j j no_row low (omega arith))
+module _ (cs : List (Bor Col)) (name : ℕ → ℕ) (n : ℕ) (leaders : List ℕ) (led : AreLeaders (same_code cs name) n leaders) where
+  -- a leader is a row
+  pub leads_low : (j : ℕ) → j < n → get_or leaders j 0 < n
+  leads_low j low =
+      let no_later = leader_low (same_code cs name) (test_equiv (named_code cs name)) n j low in
+      omega (arith, led.each j low, no_later, low)
 
   -- rows of the same values have one code
-  one_code : (i j : ℕ) → i < length rows → j < length rows → same_values cs rows i j ≡ true → same_code rows i j ≡ true
-  one_code i j low high e =
-      eq-eqb (code_of i) (code_of j)
-      (code_is i low ∙ ap row_code ((fields-Decides (fields_at cs (row_in rows i)) (fields_at cs (row_in rows j))).0 e) ∙ sym (code_is j high))
+  one_code : (i j : ℕ) → named_rows name (same_at cs) i j ≡ true → same_code cs name i j ≡ true
+  one_code i j e = eq-eqb (named_code cs name i) (named_code cs name j) (ap row_code ((fields-Decides (fields_at cs (name i)) (fields_at cs (name j))).0 e))
 
-  leader_is : (j : ℕ) → j < length rows → get_or leaders j 0 ≡ leader (same_values cs rows) (length rows) j
-  leader_is j low =
-      let n : ℕ = length rows in
-      let test : ℕ → ℕ → Bool = same_values cs rows in
-      let l : ℕ = leader (same_code rows) n j in
+  leader_is : AreAsLed cs name leaders n → (j : ℕ) → j < n → get_or leaders j 0 ≡ leader (named_rows name (same_at cs)) n j
+  leader_is as_led j low =
+      let test : ℕ → ℕ → Bool = named_rows name (same_at cs) in
+      let l : ℕ = leader (same_code cs name) n j in
       let is : get_or leaders j 0 ≡ l = led.each j low in
-      let no_later : l ≤ j = leader_low (same_code rows) (test_equiv code_of) n j low in
+      let no_later : l ≤ j = leader_low (same_code cs name) (test_equiv (named_code cs name)) n j low in
       let there : l < n = omega (arith, no_later, low) in
       let own : test l j ≡ true = sym (ap (λ k. test k j) is) ∙ as_led j low in
       is ∙ sym (position_or_len_is (λ i. test i j) (row_numbers n) l 0 (omega (arith, there, length-range_with_len 0 n))
       (λ k before.
       let under : k < n = omega (arith, before, there) in
-      let not : same_code rows k j ≡ false = not_before (same_code rows) (test_equiv code_of) n j k under before in
-      ap (λ i. test i j) (row_at n k 0 under) ∙ false_from_ne_true (test k j) (λ e. both_ways (same_code rows k j) not (one_code k j under low e)))
+      let not : same_code cs name k j ≡ false = not_before (same_code cs name) (test_equiv (named_code cs name)) n j k under before in
+      ap (λ i. test i j) (row_at n k 0 under) ∙ false_from_ne_true (test k j) (λ e. both_ways (same_code cs name k j) not (one_code k j e)))
       (λ within. ap (λ i. test i j) (row_at n l 0 there) ∙ own))
 
-  pub are_leaders : AreLeaders (same_values cs rows) (length rows) leaders
-  are_leaders = record { count = led.count; each = leader_is }
-
--- a leader is a row
-pub leads_low : (rows : List CodedRow) (leaders : List ℕ) → AreLeaders (same_code rows) (length rows) leaders → (j : ℕ) → j < length rows → get_or leaders j 0 < length rows
-leads_low rows leaders led j low =
-    let no_later = leader_low (same_code rows) (test_equiv (λ i. (get_or rows i no_row).code)) (length rows) j low in
-    omega (arith, led.each j low, no_later, low)
+  pub are_leaders : AreAsLed cs name leaders n → AreLeaders (named_rows name (same_at cs)) n leaders
+  are_leaders as_led = record { count = led.count; each = leader_is as_led }
 
 -- ROWS BY THEIR NAMES
 

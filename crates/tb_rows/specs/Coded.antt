@@ -80,13 +80,15 @@ pub record AreLeaders (test : ℕ → ℕ → Bool) (n : ℕ) (leaders : List �
 abbrev pub led_alike : List ℕ → ℕ → ℕ → Bool
 led_alike leaders i j = slice_index_or leaders i 0 == slice_index_or leaders j 0
 
--- whether two of the rows have one code
-abbrev pub same_code : List CodedRow → ℕ → ℕ → Bool
-same_code rows i j = (slice_index_or rows i no_row).code == (slice_index_or rows j no_row).code
+-- the code of the row of a place
+abbrev pub named_code : List (Bor Col) → (ℕ → ℕ) → ℕ → ℕ
+named_code cs name j = row_code (fields_at cs (name j))
 
--- the first n rows have the values of their leaders
-abbrev pub AreAsLed : List (Bor Col) → List CodedRow → List ℕ → ℕ → Type 0
-AreAsLed cs rows leaders n = (j : ℕ) → j < n
-    → same_at cs (slice_index_or rows (slice_index_or leaders j 0) no_row).row
-    (slice_index_or rows j no_row).row
-    ≡ true
+-- whether the rows of two places have one code
+abbrev pub same_code : List (Bor Col) → (ℕ → ℕ) → ℕ → ℕ → Bool
+same_code cs name i j = named_code cs name i == named_code cs name j
+
+-- the rows of the first n places have the values of their leaders
+abbrev pub AreAsLed : List (Bor Col) → (ℕ → ℕ) → List ℕ → ℕ → Type 0
+AreAsLed cs name leaders n =
+    (j : ℕ) → j < n → same_at cs (name (slice_index_or leaders j 0)) (name j) ≡ true

@@ -6,5 +6,6 @@ pub mod InGroups
 pub mod Laws
 pub mod Names
 pub mod Order
+pub mod Places
 pub mod Proved
 pub mod Promise

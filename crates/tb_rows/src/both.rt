@@ -82,5 +82,5 @@ pub fn group_both(alloc: Global, first: &Groups, second: &Groups) -> Result<Grou
         (AreGroups (in_both first.now second.now) (length first.now.numbers.items)) }
 {
     let leaders = both_leaders(alloc, first, second)?;
-    led_groups(alloc, leaders.as_slice())
+    led_groups(alloc, leaders)
 }

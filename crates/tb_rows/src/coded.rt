@@ -1,17 +1,17 @@
 //! Rows sorted by their codes and values, and the first row of the same values.
-ghost use Rattle.std.specs.Prelude.{◌≡◌, ◌==◌, ◌<◌, ◌≤◌, true, if◌then◌else◌, length, slice_index_or, IfOk, IfSome, OnOk};
+ghost use Rattle.std.specs.Prelude.{◌≡◌, ◌==◌, ◌<◌, true, if◌then◌else◌, length, slice_index_or, IfOk, OnOk};
 ghost use Rattle.tb_rows.specs.Coded.{code_cmp, coded_cmp, coded_rows, goes_on, no_row, same_coded, same_values, AreCoded, AreLeaders, AreSorted, AreToldByCodes};
 ghost use Rattle.tb_rows.specs.Fields.{same_at};
 ghost use Rattle.tb_rows.specs.InGroups.{named_rows};
 ghost use Rattle.tb_rows.specs.Names.{name_of, AreNamed};
 
-use crate::by_code::{are_as_led, code_leaders};
+use crate::by_code::few_leaders;
 use crate::fields::{code_at, compare_fields, same_fields};
 use crate::names::RowNames;
 use std::alloc::Global;
 use std::cmp::Ordering;
 use tb_store::Series;
-use tb_value::{IdxSize, MAX_ROWS, OutOfMemory};
+use tb_value::{IdxSize, OutOfMemory};
 
 /// The row of a place, with the code of its values.
 #[derive(Clone, Copy)]
@@ -158,27 +158,8 @@ fn sorted_leaders(
     Ok(leaders)
 }
 
-// The same by a map of codes, or none where there are many codes, or where they don't tell the rows apart.
-fn few_leaders(
-    alloc: Global,
-    columns: &[&Series],
-    rows: &[CodedRow],
-) -> Result<Option<Vec<IdxSize>>, OutOfMemory>
-    requires coded { AreCoded columns.now rows.now }
-    requires few { length rows.now ≤ MAX_ROWS }
-    ensures { IfOk result (λ o.
-        IfSome o (λ v. AreLeaders (same_values columns.now rows.now) (length rows.now) v.items)) }
-{
-    if let Some(leaders) = code_leaders(alloc, rows)? {
-        if are_as_led(columns, rows, leaders.as_slice()) {
-            return Ok(Some(leaders));
-        }
-    }
-    Ok(None)
-}
-
 /// For each place the first one whose row has the same values. Where codes are few and tell the rows apart, a map of codes
-/// finds it; else it takes no more comparisons of rows than a sort.
+/// finds it, and nothing else is kept of a row; else it takes no more comparisons of rows than a sort.
 pub(crate) fn leaders(
     alloc: Global,
     columns: &[&Series],
@@ -189,9 +170,9 @@ pub(crate) fn leaders(
     ensures { IfOk result (λ v.
         AreLeaders (named_rows (name_of names.entry) (same_at columns.now)) len v.items) }
 {
-    let rows = coded_rows(alloc, columns, names, len)?;
-    if let Some(leaders) = few_leaders(alloc, columns, rows.as_slice())? {
+    if let Some(leaders) = few_leaders(alloc, columns, names, len)? {
         return Ok(leaders);
     }
+    let rows = coded_rows(alloc, columns, names, len)?;
     sorted_leaders(alloc, columns, rows)
 }

@@ -5,7 +5,8 @@ ghost use Rattle.tb_rows.specs.Coded.{led_alike, AreLeaders};
 ghost use Rattle.tb_rows.specs.Grouped.{AreGroups};
 ghost use Rattle.tb_rows.specs.InGroups.{listed_test, named_rows};
 ghost use Rattle.tb_rows.specs.Names.{name_of, AreNamed};
-ghost use Rattle.tb_rows.specs.Promise.Rows.{same_rows};
+ghost use Rattle.tb_rows.specs.Promise.Rows.{first_rows, group_of, same_rows};
+ghost use Rattle.tb_value.specs.Promise.Pairs.{row_numbers};
 
 use crate::coded::leaders;
 use crate::groups::Groups;
@@ -38,11 +39,23 @@ fn number_of(firsts: &[IdxSize], numbers: &[IdxSize], leader: usize, is_first: b
     numbers[leader]
 }
 
-// Rows of one leader in groups.
-pub(crate) fn led_groups(alloc: Global, leaders: &[IdxSize]) -> Result<Groups, OutOfMemory>
+// The first row of each group, and for each row the number of its group.
+#[derive(Drop)]
+struct LedNumbers {
+    firsts: Vec<IdxSize>,
+    numbers: Vec<IdxSize>,
+}
+
+// Those of rows in groups of one leader.
+fn led_numbers(alloc: Global, leaders: &[IdxSize]) -> Result<LedNumbers, OutOfMemory>
     requires leaders { AreLeaders (led_alike leaders.now) (length leaders.now) leaders.now }
     requires few { length leaders.now ≤ MAX_ROWS }
-    ensures { IfOk result (AreGroups (led_alike leaders.now) (length leaders.now)) }
+    ensures firsts { IfOk result (λ n.
+        n.firsts.items ≡ first_rows (led_alike leaders.now) (length leaders.now)) }
+    ensures numbers { IfOk result (λ n.
+        n.numbers.items
+        ≡ map (group_of (led_alike leaders.now) (length leaders.now))
+        (row_numbers (length leaders.now))) }
 {
     let mut firsts = Vec::new(alloc);
     let mut numbers = Vec::with_capacity(alloc, leaders.len())?;
@@ -53,6 +66,17 @@ pub(crate) fn led_groups(alloc: Global, leaders: &[IdxSize]) -> Result<Groups, O
         push_first(&mut firsts, place as IdxSize, is_first)?;
         numbers.push(number)?;
     }
+    Ok(LedNumbers { firsts, numbers })
+}
+
+// Rows of one leader in groups.
+pub(crate) fn led_groups(alloc: Global, leaders: Vec<IdxSize>) -> Result<Groups, OutOfMemory>
+    requires leaders { AreLeaders (led_alike leaders.items) (length leaders.items) leaders.items }
+    requires few { length leaders.items ≤ MAX_ROWS }
+    ensures { IfOk result (AreGroups (led_alike leaders.items) (length leaders.items)) }
+{
+    let LedNumbers { firsts, numbers } = led_numbers(alloc, &leaders)?;
+    drop(leaders);
     Groups::of_numbers(alloc, firsts, numbers)
 }
 
@@ -70,7 +94,7 @@ fn group_named(
         len) }
 {
     let leaders = leaders(alloc, columns, names, len)?;
-    led_groups(alloc, leaders.as_slice())
+    led_groups(alloc, leaders)
 }
 
 /// Rows `0..height` in groups of the same values of the columns, Null the same as Null; past the end of a column its

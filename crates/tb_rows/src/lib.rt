@@ -10,6 +10,7 @@ mod groups;
 pub mod laws;
 mod names;
 mod order;
+mod places;
 
 pub use both::group_both;
 pub use grouping::{group_listed, group_rows};

@@ -1,5 +1,6 @@
 use Rattle.tb_rows.specs.Coded.{AreAsLed}
+use Rattle.tb_rows.specs.Names.{name_of}
 use Rattle.tb_rows.proofs.by_code.are_as_led.Given as goal
 
-abbrev pub invariant-loop-at : goal.invariant-loop-at
-invariant-loop-at l = AreAsLed l.columns l.rows l.leaders l.at
+abbrev pub invariant-loop-place : goal.invariant-loop-place
+invariant-loop-place l = AreAsLed l.columns (name_of l.names) l.leaders l.place

@@ -1,67 +1,25 @@
-use Rattle.std.proofs.Common.{◌≡◌, ◌∙◌, ◌<◌, ◌==◌, ap, get_or, length, sym, arith}
-use Rattle.std.specs.Prelude.{if◌then◌else◌}
-use Rattle.tb_rows.specs.Coded.{leader, led_alike}
+use Rattle.std.proofs.Common.{◌≡◌, ap, length, arith}
+use Rattle.tb_rows.specs.Coded.{led_alike}
 use Rattle.tb_rows.proofs.Agreeing.{led_equiv}
-use Rattle.tb_rows.proofs.Numbered.{firsts-step, firsts_few, groups_made, leads_before, numbers-step, numbers_fit, numbers_long}
+use Rattle.tb_rows.proofs.Numbered.{firsts_few, numbers_fit, numbers_long}
 use Rattle.tb_rows.proofs.grouping.led_groups.Goals as goal
-
-pub number_of-number-requires-clause-few : goal.number_of-number-requires-clause-few
-number_of-number-requires-clause-few c =
-    let so_far = c.loop-place.invariant in
-    let few = firsts_few (led_alike c.args.leaders.now) (led_equiv c.args.leaders.now) c.loop-place.place c.loop-place.firsts.items c.loop-place.numbers.items so_far.firsts so_far.numbers in
-    omega (arith, few, ap length c.as_slice.ensures.value, c.requires.few)
-
-pub number_of-number-requires-clause-there : goal.number_of-number-requires-clause-there
-number_of-number-requires-clause-there c = λ e.
-    let so_far = c.loop-place.invariant in
-    let n = length c.args.leaders.now in
-    let m = c.loop-place.place in
-    let low : m < n = omega arith in
-    let is : get_or c.args.leaders.now m 0 ≡ leader (led_alike c.args.leaders.now) n m = c.requires.leaders.each m low in
-    let before = leads_before (led_alike c.args.leaders.now) (led_equiv c.args.leaders.now) n m low (ap (λ l. l == m) (sym is) ∙ e) in
-    omega (arith, is, before, ap length c.as_slice-in-loop-place.ensures.value, numbers_long (led_alike c.args.leaders.now) (led_equiv c.args.leaders.now) m c.loop-place.firsts.items c.loop-place.numbers.items so_far.firsts so_far.numbers)
-
-pub loop-place-preserved : goal.loop-place-preserved
-loop-place-preserved c =
-    let test = led_alike c.args.leaders.now in
-    let same = led_equiv c.args.leaders.now in
-    let n = length c.args.leaders.now in
-    let so_far = c.loop-place.invariant in
-    let m = c.loop-place.place in
-    let l = get_or c.args.leaders.now m 0 in
-    let low : m < n = omega arith in
-    let is : l ≡ leader test n m = c.requires.leaders.each m low in
-    let told : (l == m) ≡ (leader test n m == m) = ap (λ k. k == m) is in
-    let firsts_are = c.as_slice.ensures.value in
-    let numbers_are = c.as_slice-in-loop-place.ensures.value in
-    let number : c.number_of-number.result ≡ (if l == m then length c.loop-place.firsts.items else get_or c.loop-place.numbers.items (leader test n m) 0)
-    = c.number_of-number.ensures ∙ (λ t. if l == m then length (firsts_are t) else get_or (numbers_are t) (is t) 0) in
-    record {
-      firsts = firsts-step test same n m low c.loop-place.firsts.items _ (l == m) told c.in_ok-push_first.ensures so_far.firsts;
-      numbers = numbers-step test same n m low c.loop-place.firsts.items c.loop-place.numbers.items _ (l == m) c.number_of-number.result told number
-          c.in_ok-push.ensures.items so_far.firsts so_far.numbers;
-    }
 
 pub of_numbers-requires-clause-below : goal.of_numbers-requires-clause-below
 of_numbers-requires-clause-below c =
-    let so_far = c.loop-place.invariant in
-    numbers_fit (led_alike c.args.leaders.now) (led_equiv c.args.leaders.now) c.loop-place.place c.loop-place.firsts.items c.loop-place.numbers.items so_far.firsts so_far.numbers
+    let ls = c.deref.result.now in
+    let made = c.in_ok-firsts.ensures in
+    numbers_fit (led_alike ls) (led_equiv ls) (length ls) c.in_ok-firsts.field-0.firsts.items c.in_ok-firsts.field-0.numbers.items made.firsts made.numbers
 
 pub of_numbers-requires-clause-few : goal.of_numbers-requires-clause-few
 of_numbers-requires-clause-few c =
-    let so_far = c.loop-place.invariant in
-    let long = numbers_long (led_alike c.args.leaders.now) (led_equiv c.args.leaders.now) c.loop-place.place c.loop-place.firsts.items c.loop-place.numbers.items so_far.firsts so_far.numbers in
-    omega (arith, long, c.requires.few)
+    let ls = c.deref.result.now in
+    let made = c.in_ok-firsts.ensures in
+    let long = numbers_long (led_alike ls) (led_equiv ls) (length ls) c.in_ok-firsts.field-0.firsts.items c.in_ok-firsts.field-0.numbers.items made.firsts made.numbers in
+    omega (arith, long, ap length c.deref.ensures.value, c.requires.few)
 
 pub of_numbers-requires-clause-fewer : goal.of_numbers-requires-clause-fewer
 of_numbers-requires-clause-fewer c =
-    let so_far = c.loop-place.invariant in
-    let few = firsts_few (led_alike c.args.leaders.now) (led_equiv c.args.leaders.now) c.loop-place.place c.loop-place.firsts.items c.loop-place.numbers.items so_far.firsts so_far.numbers in
-    omega (arith, few, c.requires.few)
-
-pub returns : goal.returns
-returns c =
-    let done : c.loop-place.place ≡ length c.args.leaders.now = omega arith in
-    let so_far = c.loop-place.invariant in
-    groups_made (led_alike c.args.leaders.now) (led_equiv c.args.leaders.now) c.loop-place.place c.loop-place.firsts.items c.loop-place.numbers.items so_far.firsts so_far.numbers c.of_numbers.result _ done
-    c.of_numbers.ensures.firsts c.of_numbers.ensures.numbers
+    let ls = c.deref.result.now in
+    let made = c.in_ok-firsts.ensures in
+    let few = firsts_few (led_alike ls) (led_equiv ls) (length ls) c.in_ok-firsts.field-0.firsts.items c.in_ok-firsts.field-0.numbers.items made.firsts made.numbers in
+    omega (arith, few, ap length c.deref.ensures.value, c.requires.few)

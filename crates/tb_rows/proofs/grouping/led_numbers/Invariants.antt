@@ -2,7 +2,7 @@ use Rattle.std.proofs.Common.{◌≡◌, map}
 use Rattle.tb_value.specs.Promise.Pairs.{row_numbers}
 use Rattle.tb_rows.specs.Coded.{led_alike}
 use Rattle.tb_rows.specs.Promise.Rows.{first_rows, group_of}
-use Rattle.tb_rows.proofs.grouping.led_groups.Given as goal
+use Rattle.tb_rows.proofs.grouping.led_numbers.Given as goal
 
 -- the rows so far
 abbrev pub invariant-loop-place : goal.invariant-loop-place
