@@ -9,6 +9,7 @@ ghost use Rattle.tb_merge.specs.RowPairs.{pairs_of};
 use crate::ascend::Ascend;
 use crate::by_portion::{left_portions, merge_portions};
 use crate::fault::MergeFault;
+use crate::pushing::list_for;
 use crate::steps::Steps;
 use std::alloc::Global;
 use std::marker::Model;
@@ -86,7 +87,7 @@ fn merge<K: Ascend, L: Ledger>(
     let left_len = keys.left_len();
     let right_len = keys.right_len();
     let cuts = left_portions(alloc, left_len, exec.workers())?;
-    let mut pairs = Vec::new(alloc);
+    let mut pairs = list_for(alloc, keep_unmatched, left_len)?;
     let end = merge_portions(keys, keep_unmatched, cuts.as_slice(), &mut pairs, steps)?;
     Ok((
         pairs,

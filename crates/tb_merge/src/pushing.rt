@@ -1,12 +1,36 @@
-//! The pairs of one left row, put behind others.
-ghost use Rattle.std.specs.Prelude.{◌≡◌, ◌+◌, ◌-◌, ◌<◌, ◌≤◌, ◌++◌, ◌∷◌, [], length, map, OnOk};
+//! Pairs put behind others: those of one left row.
+ghost use Rattle.std.specs.Prelude.{◌≡◌, ◌+◌, ◌-◌, ◌<◌, ◌≤◌, ◌++◌, ◌∷◌, [], length, map, IfOk, OnOk};
 ghost use Rattle.std.specs.List.{range_with_len};
 ghost use Rattle.tb_value.specs.Promise.Pairs.{both};
 ghost use Rattle.tb_merge.specs.Faults.{SettlesCount};
 ghost use Rattle.tb_merge.specs.RowPairs.{row_pairs};
 
 use crate::fault::MergeFault;
+use std::alloc::Global;
 use tb_value::{IdxSize, JoinPair, MAX_ROWS, OutOfMemory};
+
+/// An empty list, with room for a pair of each left row where unmatched rows are kept.
+pub fn list_for(
+    alloc: Global,
+    keep_unmatched: bool,
+    left_len: usize,
+) -> Result<Vec<JoinPair>, OutOfMemory>
+    ensures { IfOk result (λ v. v.items ≡ []) }
+{
+    if keep_unmatched {
+        Ok(Vec::with_capacity(alloc, left_len)?)
+    } else {
+        Ok(Vec::new(alloc))
+    }
+}
+
+// Puts a pair behind the others.
+fn append_pair(pairs: &mut Vec<JoinPair>, pair: JoinPair) -> Result<(), OutOfMemory>
+    ensures { OnOk result (pairs.new.items ≡ pairs.old.items ++ pair ∷ []) }
+{
+    pairs.push(pair)?;
+    Ok(())
+}
 
 // Puts a pair behind the others, where there is room.
 fn push_pair(pairs: &mut Vec<JoinPair>, pair: JoinPair) -> Result<(), MergeFault>
@@ -17,11 +41,12 @@ fn push_pair(pairs: &mut Vec<JoinPair>, pair: JoinPair) -> Result<(), MergeFault
     if pairs.len() >= MAX_ROWS {
         return Err(MergeFault::TooManyRows);
     }
-    pairs.push(pair).map_err(OutOfMemory::from)?;
+    append_pair(pairs, pair)?;
     Ok(())
 }
 
-// Puts a left row beside each right row from `start` to before `end` behind the others.
+// Puts a left row beside each right row from `start` to before `end` behind the others. The limit is looked at once for
+// all of them.
 fn push_matched(
     pairs: &mut Vec<JoinPair>,
     left: IdxSize,
@@ -37,8 +62,11 @@ fn push_matched(
         (pairs.new.items
         ≡ pairs.old.items ++ map (both left) (range_with_len start (end - start))) }
 {
+    if end - start > MAX_ROWS - pairs.len() {
+        return Err(MergeFault::TooManyRows);
+    }
     for right in start..end {
-        push_pair(pairs, JoinPair::both(left, right as IdxSize))?;
+        append_pair(pairs, JoinPair::both(left, right as IdxSize))?;
     }
     Ok(())
 }
