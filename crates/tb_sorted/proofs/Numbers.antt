@@ -1,5 +1,5 @@
 -- Stored keys, their values and the whole numbers that they are.
-use Rattle.std.proofs.Common.{◌≡◌, ℕ, zero, suc, ◌+◌, ◌<◌, Bool, true, false, cond, ◌||◌, List, [], ◌∷◌, length, get_or, map, refl, sym, ap, ap₂, ◌∙◌, subst, arith, append-nil, ℤ, pos, Option, Some, None, Result}
+use Rattle.std.proofs.Common.{◌≡◌, ℕ, zero, suc, ◌+◌, ◌<◌, ◌≤◌, Bool, true, false, cond, ◌||◌, List, [], ◌∷◌, length, get_or, map, refl, sym, ap, ap₂, ◌∙◌, subst, arith, append-nil, ℤ, pos, Option, Some, None, Result}
 use Rattle.std.specs.Prelude.{IfOk, IsPermutation, IsSorted}
 use Rattle.std.specs.List.{Contains}
 use Rattle.std.proofs.lemmas.Option.{none-some}
@@ -12,6 +12,7 @@ use Rattle.tb_value.specs.Refusals.{Settles}
 use Rattle.tb_value.specs.Promise.Same.{agrees}
 use Rattle.tb_value.specs.declared.error.PolarsError.{PolarsError}
 use Rattle.tb_value.specs.declared.index.JoinPair.{JoinPair}
+use Rattle.tb_value.specs.declared.limits.TheConstants.{MAX_ROWS}
 use Rattle.tb_chunk.specs.Chunk.{or_null}
 use Rattle.tb_chunk.specs.Promise.Col.{concatenation}
 use Rattle.tb_cell.specs.Promise.Flag.{datum_cmp, nulls}
@@ -25,7 +26,7 @@ use Rattle.tb_sorted.specs.Promise.Columns.{value_sizes}
 use Rattle.tb_keys.specs.Promise.Listing.{value_listing}
 use Rattle.tb_sorted.specs.Columns.{AreMergeKeys, DoOthersAscend, MayMerge}
 use Rattle.tb_sorted.specs.Promise.Keys.{MergeSizes}
-use Rattle.tb_sorted.specs.Keys.{kind_of_merge, number_listing, number_sizes}
+use Rattle.tb_sorted.specs.Keys.{AreListsToMerge, kind_of_merge, number_listing, number_sizes}
 use Rattle.tb_keys.specs.Causes.{too_many}
 use Rattle.tb_sorted.specs.Listed.{AreKeysMerged, AreValuesMerged, IsMergeWithin}
 use Rattle.tb_sorted.specs.Path.{order_after}
@@ -114,8 +115,16 @@ module _ {N : Type 0} (shows : N → Datum) (number : N → ℤ) (law : (x : N) 
   others_ascend : (here : SortedFirst) → first ≡ here → DoOthersAscend here keep (map shows ls) (map shows rs)
   others_ascend here is = subst (λ (f : SortedFirst). DoOthersAscend f keep (map shows ls) (map shows rs)) is may.ascend
 
-  pub both_ascend : first ≡ the.Neither → IsSorted int_cmp (map number ls) × IsSorted int_cmp (map number rs)
-  both_ascend is = (numbers_ascend shows number law ls (others_ascend the.Neither is).0, numbers_ascend shows number law rs (others_ascend the.Neither is).1)
+  as_few : (xs : List N) → AreMergeKeys (map shows xs) → length (map number xs) ≤ MAX_ROWS
+  as_few xs keys = omega (arith, length-map xs shows, length-map xs number, keys.few)
+
+  pub lists_to_merge : first ≡ the.Neither → AreListsToMerge (map number ls) (map number rs)
+  lists_to_merge is = record {
+    left_sorted = numbers_ascend shows number law ls (others_ascend the.Neither is).0;
+    right_sorted = numbers_ascend shows number law rs (others_ascend the.Neither is).1;
+    left_few = as_few ls may.left;
+    right_few = as_few rs may.right;
+  }
 
   pub left_ascends : first ≡ the.Right → IsSorted int_cmp (map number ls)
   left_ascends is = numbers_ascend shows number law ls (others_ascend the.Right is)

@@ -1,11 +1,10 @@
 //! Two ascending lists of keys, merged.
 ghost use Rattle.std.specs.Prelude.{◌≡◌, ◌+◌, ◌*◌, ◌<◌, ◌≤◌, length, IfOk, IsSorted, IsPermutation};
-ghost use Rattle.std.specs.Ordering.{int_cmp};
 ghost use Rattle.tb_value.specs.Promise.Pairs.{left_first};
 ghost use Rattle.tb_frame.specs.declared.args.Direction.TheVariants.{ByLeft};
 ghost use Rattle.tb_merge.specs.Faults.{SettlesCount};
 ghost use Rattle.tb_merge.specs.MergedView.{IsMergeOf};
-ghost use Rattle.tb_sorted.specs.Keys.{number_listing, refusal_of};
+ghost use Rattle.tb_sorted.specs.Keys.{AreListsToMerge, number_listing, refusal_of};
 ghost use Rattle.tb_sorted.specs.Listed.{AreKeysMerged};
 
 use crate::cells::WholeCell;
@@ -16,7 +15,7 @@ use std::marker::{Brand, PhantomData, Sync};
 use std::sync::ledger::{Blank, Ledger};
 use tb_merge::{Ascend, MergeFault, Merged, Steps, merge_inner, merge_left};
 use tb_pool::Exec;
-use tb_value::{ComputeCause, JoinPair, MAX_ROWS, PolarsError, PolarsResult};
+use tb_value::{ComputeCause, JoinPair, PolarsError, PolarsResult};
 
 fn refused(fault: MergeFault) -> PolarsError
     ensures { result ≡ refusal_of fault }
@@ -39,10 +38,7 @@ fn counted_pairs<N: WholeCell, A: NumberList<N>, B: NumberList<N>, L: Ledger + S
     requires name { blank.name ≡ L.name }
     requires parts { blank.parts ≡ L.parts }
     requires some { 0 < blank.parts }
-    requires left_sorted { IsSorted int_cmp (A.keys left.now) }
-    requires right_sorted { IsSorted int_cmp (B.keys right.now) }
-    requires left_few { length (A.keys left.now) ≤ MAX_ROWS }
-    requires right_few { length (B.keys right.now) ≤ MAX_ROWS }
+    requires keys { AreListsToMerge (A.keys left.now) (B.keys right.now) }
     ensures settles { SettlesCount result
         (length (number_listing keep_unmatched (A.keys left.now) (B.keys right.now))) }
     ensures pairs { IfOk result (λ r.
@@ -75,10 +71,7 @@ pub(crate) fn merged_lists<N: WholeCell, A: NumberList<N>, B: NumberList<N>>(
     right: &B,
     exec: &Exec,
 ) -> PolarsResult<(Vec<JoinPair>, Merged)>
-    requires left_sorted { IsSorted int_cmp (A.keys left.now) }
-    requires right_sorted { IsSorted int_cmp (B.keys right.now) }
-    requires left_few { length (A.keys left.now) ≤ MAX_ROWS }
-    requires right_few { length (B.keys right.now) ≤ MAX_ROWS }
+    requires keys { AreListsToMerge (A.keys left.now) (B.keys right.now) }
     ensures { AreKeysMerged ByLeft keep_unmatched (A.keys left.now) (B.keys right.now) result }
 {
     let counted = counted_pairs::<N, A, B, Brand>(

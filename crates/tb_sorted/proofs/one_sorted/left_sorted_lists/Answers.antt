@@ -12,13 +12,18 @@ use Rattle.tb_sorted.proofs.Places.{as_many_keys, left_many, left_places, left_s
 use Rattle.tb_keys.specs.Causes.{too_many}
 use Rattle.tb_sorted.proofs.one_sorted.left_sorted_lists.Goals as goal
 
-pub merged_lists-requires-clause-left_few : goal.merged_lists-requires-clause-left_few
-merged_lists-requires-clause-left_few g c κs within =
+pub merged_lists-requires-clause-keys : goal.merged_lists-requires-clause-keys
+merged_lists-requires-clause-keys g c κs within =
     let number = g.N.WholeCell.number in
     let keys = g.A.NumberList.keys c.args.left.now in
     let sorted = lent_rows number keys c.in_ok-rows.rows.items c.deref.result.now c.deref.ensures.value c.in_ok-rows.ensures in
     let many = as_many_keys keys (numbered_keys number c.deref.result.now) sorted in
-    omega (arith, many, c.requires.left_few)
+    record {
+      right_sorted = c.requires.right_sorted;
+      left_sorted = sorted.ascends;
+      right_few = c.requires.right_few;
+      left_few = omega (arith, many, c.requires.left_few);
+    }
 
 pub returns-in_err-pairs : goal.returns-in_err-pairs
 returns-in_err-pairs g c =

@@ -13,13 +13,18 @@ use Rattle.tb_sorted.proofs.Places.{as_many_keys, lent_rows, right_many, right_p
 use Rattle.tb_keys.specs.Causes.{too_many}
 use Rattle.tb_sorted.proofs.one_sorted.right_sorted_lists.Goals as goal
 
-pub merged_lists-requires-clause-right_few : goal.merged_lists-requires-clause-right_few
-merged_lists-requires-clause-right_few g c κs within =
+pub merged_lists-requires-clause-keys : goal.merged_lists-requires-clause-keys
+merged_lists-requires-clause-keys g c κs within =
     let number = g.N.WholeCell.number in
     let keys = g.B.NumberList.keys c.args.right.now in
     let sorted = lent_rows number keys c.in_ok-rows.rows.items c.deref.result.now c.deref.ensures.value c.in_ok-rows.ensures in
     let many = as_many_keys keys (numbered_keys number c.deref.result.now) sorted in
-    omega (arith, many, c.requires.right_few)
+    record {
+      left_sorted = c.requires.left_sorted;
+      right_sorted = sorted.ascends;
+      left_few = c.requires.left_few;
+      right_few = omega (arith, many, c.requires.right_few);
+    }
 
 pub returns-in_err-pairs : goal.returns-in_err-pairs
 returns-in_err-pairs g c =

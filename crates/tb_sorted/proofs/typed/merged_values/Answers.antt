@@ -2,18 +2,13 @@ use Rattle.std.proofs.Common.{Bool, map, subst, sym}
 use Rattle.tb_frame.specs.declared.args.Direction.TheVariants.{Free}
 use Rattle.tb_sorted.specs.Listed.{AreKeysMerged}
 use Rattle.tb_sorted.specs.declared.path.SortedFirst.TheVariants as the
-use Rattle.tb_sorted.proofs.Numbers.{both_ascend, left_ascends, none_kept, right_ascends, shown_merged}
+use Rattle.tb_sorted.proofs.Numbers.{left_ascends, lists_to_merge, none_kept, right_ascends, shown_merged}
 use Rattle.tb_sorted.proofs.typed.merged_values.Goals as goal
 
-pub merged_lists-requires-clause-left_sorted : goal.merged_lists-requires-clause-left_sorted
-merged_lists-requires-clause-left_sorted g c κs within =
+pub merged_lists-requires-clause-keys : goal.merged_lists-requires-clause-keys
+merged_lists-requires-clause-keys g c κs within =
     let law = (g.met.N.WholeCell g.world.𝓛 g.world.𝓜 g.world.𝓡 ((λ s x. x), (λ x. x), (λ x. x), λ x. x)).shown in
-    (both_ascend g.N.Cell.shows g.N.WholeCell.number law c.args.left.now.values.now c.args.right.now.values.now c.args.first c.args.keep_unmatched c.requires.may c.in-Neither.is).0
-
-pub merged_lists-requires-clause-right_sorted : goal.merged_lists-requires-clause-right_sorted
-merged_lists-requires-clause-right_sorted g c κs within =
-    let law = (g.met.N.WholeCell g.world.𝓛 g.world.𝓜 g.world.𝓡 ((λ s x. x), (λ x. x), (λ x. x), λ x. x)).shown in
-    (both_ascend g.N.Cell.shows g.N.WholeCell.number law c.args.left.now.values.now c.args.right.now.values.now c.args.first c.args.keep_unmatched c.requires.may c.in-Neither.is).1
+    lists_to_merge g.N.Cell.shows g.N.WholeCell.number law c.args.left.now.values.now c.args.right.now.values.now c.args.first c.args.keep_unmatched c.requires.may c.in-Neither.is
 
 pub right_sorted_lists-requires-clause-left_sorted : goal.right_sorted_lists-requires-clause-left_sorted
 right_sorted_lists-requires-clause-left_sorted g c κs within =
