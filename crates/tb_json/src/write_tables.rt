@@ -1,5 +1,5 @@
 //! The texts of tables, written item by item behind one another.
-ghost use Rattle.std.specs.Prelude.{◌≡◌, ◌≤ℤ◌, ◌++◌, false, IfOk, OnOk, codes, map, negsuc, pos, string_bytes};
+ghost use Rattle.std.specs.Prelude.{◌≡◌, ◌<◌, ◌≤ℤ◌, ◌++◌, false, IfOk, OnOk, codes, decimal, map, negsuc, pos, string_bytes};
 ghost use Rattle.std.specs.List.{All, list_all};
 ghost use Rattle.std.specs.Str.{IsUtf8};
 ghost use Rattle.json.specs.Print.{quoted};
@@ -47,6 +47,16 @@ fn push_value(alloc: Global, text: &mut String, value: &Value) -> Result<(), Out
     Ok(())
 }
 
+// A number of one digit, which needs no buffer.
+fn push_digit(text: &mut String, digit: u8) -> Result<(), OutOfMemory>
+    requires { digit < 10 }
+    ensures { OnOk result
+        (string_bytes text.new ≡ string_bytes text.old ++ decimal digit) }
+{
+    text.push(char::from(b'0' + digit))?;
+    Ok(())
+}
+
 // A whole number of at most 64 bits.
 fn push_number(text: &mut String, integer: i128) -> Result<(), OutOfMemory>
     requires low { negsuc 9223372036854775807 ≤ℤ integer }
@@ -55,6 +65,9 @@ fn push_number(text: &mut String, integer: i128) -> Result<(), OutOfMemory>
         (string_bytes text.new
         ≡ string_bytes text.old ++ compact_text (number (of_integer integer))) }
 {
+    if (0..10).contains(&integer) {
+        return push_digit(text, integer as u8);
+    }
     let mut buffer = Buffer::new();
     if integer < 0 {
         text.push_str(buffer.format(integer as i64))?;
