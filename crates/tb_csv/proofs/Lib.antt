@@ -15,6 +15,7 @@ pub mod InPieces
 pub mod RunWalks
 pub mod TextWalks
 pub mod RowPieces
+pub mod ColumnWalks
 pub mod ReadColumns
 pub mod LinesBack
 pub mod ClosedQuotes

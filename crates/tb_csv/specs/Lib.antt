@@ -3,6 +3,7 @@ pub mod Faults
 pub mod Texts
 pub mod Left
 pub mod Read
+pub mod Fields
 pub mod Places
 pub mod Laws
 pub mod Promise

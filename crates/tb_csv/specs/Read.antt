@@ -73,12 +73,9 @@ pub record IsLevel (r : Records) : Type 0 where
   pub height : r.height ≡ rows_in r.runs.items
   pub few : r.height ≤ MAX_ROWS
 
--- fields that are lent
+-- a field that is lent
 abbrev pub lent_field : Option (Bor (List ℕ)) → Field
 lent_field f = option_map (λ s. s.now) f
-
-abbrev pub lent_fields : List (Option (Bor (List ℕ))) → List Field
-lent_fields fs = map lent_field fs
 
 -- what comes of reading column j: the column, or why there is none
 abbrev pub IsReadColumn : List TypeOf → List Name → List Record → ℕ → Result Column CsvFault → Type 0

@@ -1,21 +1,24 @@
 //! The fields of a column, read into typed chunks.
-ghost use Rattle.std.specs.Prelude.{◌≡◌, ◌∷◌, [], map, option_map, IfOk, IfSome};
+ghost use Rattle.std.specs.Prelude.{◌≡◌, ◌≤◌, ◌+◌, ◌++◌, ◌∷◌, [], map, option_map, IfOk, IfSome, OnOk};
 ghost use Rattle.std.specs.List.{All, list_all};
 ghost use Rattle.tb_value.specs.Promise.Datum.{string};
 ghost use Rattle.tb_value.specs.Promise.Kind.{Kind};
 ghost use Rattle.tb_value.specs.Promise.Kind as kind;
 ghost use Rattle.tb_value.specs.Promise.Typed.{HasType};
+ghost use Rattle.tb_value.specs.declared.limits.TheConstants.{MAX_ROWS};
 ghost use Rattle.tb_chunk.specs.Chunk.{or_null};
 ghost use Rattle.tb_chunk.specs.Seen.{chunk_lists, storage};
 ghost use Rattle.tb_csv.specs.Promise.Faults.{column_fault};
 ghost use Rattle.tb_csv.specs.Faults.{Settles};
 ghost use Rattle.tb_chunk.specs.Col.{physical};
-ghost use Rattle.tb_csv.specs.Read.{lent_field, lent_fields};
+ghost use Rattle.tb_csv.specs.Fields.{fields_in, part_fields};
+ghost use Rattle.tb_csv.specs.Read.{lent_field};
 ghost use Rattle.tb_csv.specs.Promise.Types.{cell_of, cell_value, is_of, kind_at};
 
 use crate::fault::CsvFault;
 use crate::field_type::FieldType;
 use crate::fields::ReadField;
+use crate::lent::{Fields, RunColumn};
 use std::alloc::Global;
 use tb_store::{Cells, Chunk, Chunks, Stored, StringBuilder, StringChunk};
 use tb_value::{PlSmallStr, TOO_LONG};
@@ -33,79 +36,6 @@ fn cell_in<N: ReadField>(field_type: FieldType, field: Option<&str>) -> Option<O
     }
 }
 
-/// Whether all fields are values of the type, or have no byte.
-pub(crate) fn are_of<N: ReadField>(field_type: FieldType, fields: &[Option<&str>]) -> bool
-    requires { physical (kind_at field_type) ≡ N.stored }
-    ensures { result ≡ list_all (is_of field_type) (lent_fields fields.now) }
-{
-    for field in fields {
-        if cell_in::<N>(field_type, *field).is_none() {
-            return false;
-        }
-    }
-    true
-}
-
-// Whether all fields are texts that are not too long to be values, or absent.
-fn are_short(fields: &[Option<&str>]) -> bool
-    ensures { result ≡ list_all (is_of FieldType.String) (lent_fields fields.now) }
-{
-    for field in fields {
-        if !is_short(*field) {
-            return false;
-        }
-    }
-    true
-}
-
-/// Whether all fields are values of this type, or have no byte.
-pub(crate) fn are_all(field_type: FieldType, fields: &[Option<&str>]) -> bool
-    ensures { result ≡ list_all (is_of field_type) (lent_fields fields.now) }
-{
-    match field_type {
-        FieldType::Boolean => are_of::<bool>(field_type, fields),
-        FieldType::Int8 => are_of::<i8>(field_type, fields),
-        FieldType::Int16 => are_of::<i16>(field_type, fields),
-        FieldType::Int32 => are_of::<i32>(field_type, fields),
-        FieldType::Int64 => are_of::<i64>(field_type, fields),
-        FieldType::Int128 => are_of::<i128>(field_type, fields),
-        FieldType::UInt8 => are_of::<u8>(field_type, fields),
-        FieldType::UInt16 => are_of::<u16>(field_type, fields),
-        FieldType::UInt32 => are_of::<u32>(field_type, fields),
-        FieldType::UInt64 => are_of::<u64>(field_type, fields),
-        FieldType::String => are_short(fields),
-        FieldType::Date => are_of::<i32>(field_type, fields),
-    }
-}
-
-// The cells of the fields of a column, or the first field that is none of the type.
-fn cells_of<N: ReadField>(
-    alloc: Global,
-    name: &PlSmallStr,
-    field_type: FieldType,
-    fields: &[Option<&str>],
-) -> Result<Cells<N>, CsvFault>
-    requires { physical (kind_at field_type) ≡ N.stored }
-    ensures settles { Settles result (column_fault name.now field_type 1 (lent_fields fields.now)) }
-    ensures cells { IfOk result (λ c.
-        map (or_null N.shows) c ≡ map (cell_of field_type) (lent_fields fields.now)) }
-    ensures typed { IfOk result (λ c.
-        All (HasType (kind_at field_type)) (map (or_null N.shows) c)) }
-{
-    let mut cells = Cells::with_capacity(alloc, fields.len())?;
-    for i in 0..fields.len() {
-        let Some(cell) = cell_in(field_type, fields[i]) else {
-            return Err(CsvFault::NotOfType {
-                record: i as u64 + 1,
-                column: name.copy(alloc)?,
-                expected: field_type,
-            });
-        };
-        cells.push(cell)?;
-    }
-    Ok(cells)
-}
-
 // Whether a field is absent, or a text that is not too long to be a value.
 fn is_short(field: Option<&str>) -> bool
     ensures { result ≡ is_of FieldType.String (lent_field field.entry) }
@@ -116,30 +46,158 @@ fn is_short(field: Option<&str>) -> bool
     }
 }
 
-// The texts of the fields of a column, or the first field that is too long for one.
-fn texts_of(
+fn is_cell<N: ReadField>(field_type: FieldType, field: Option<&str>) -> bool
+    requires { physical (kind_at field_type) ≡ N.stored }
+    ensures { result ≡ is_of field_type (lent_field field.entry) }
+{
+    cell_in::<N>(field_type, field).is_some()
+}
+
+// Whether a field is a value of the type, or has no byte.
+fn is_of(field_type: FieldType, field: Option<&str>) -> bool
+    ensures { result ≡ is_of field_type (lent_field field.entry) }
+{
+    match field_type {
+        FieldType::Boolean => is_cell::<bool>(field_type, field),
+        FieldType::Int8 => is_cell::<i8>(field_type, field),
+        FieldType::Int16 => is_cell::<i16>(field_type, field),
+        FieldType::Int32 => is_cell::<i32>(field_type, field),
+        FieldType::Int64 => is_cell::<i64>(field_type, field),
+        FieldType::Int128 => is_cell::<i128>(field_type, field),
+        FieldType::UInt8 => is_cell::<u8>(field_type, field),
+        FieldType::UInt16 => is_cell::<u16>(field_type, field),
+        FieldType::UInt32 => is_cell::<u32>(field_type, field),
+        FieldType::UInt64 => is_cell::<u64>(field_type, field),
+        FieldType::String => is_short(field),
+        FieldType::Date => is_cell::<i32>(field_type, field),
+    }
+}
+
+// Whether all fields of a run are values of the type, or have no byte.
+fn are_of_run(field_type: FieldType, part: RunColumn) -> bool
+    ensures { result ≡ list_all (is_of field_type) (part_fields part.entry) }
+{
+    for row in 0..part.run.height {
+        if !is_of(field_type, part.get(row)) {
+            return false;
+        }
+    }
+    true
+}
+
+/// Whether all fields are values of the type, or have no byte.
+pub(crate) fn are_of(field_type: FieldType, fields: Fields) -> bool
+    ensures { result ≡ list_all (is_of field_type) (fields_in fields.entry) }
+{
+    for run in &fields.records.runs {
+        if !are_of_run(field_type, fields.of_run(run)) {
+            return false;
+        }
+    }
+    true
+}
+
+// Appends the cells of the fields of a run, which stand behind so many rows, or tells the first that is none of the type.
+fn push_cells<N: ReadField>(
+    alloc: Global,
+    cells: &mut Cells<N>,
+    name: &PlSmallStr,
+    field_type: FieldType,
+    part: RunColumn,
+    before: usize,
+) -> Result<(), CsvFault>
+    requires stored { physical (kind_at field_type) ≡ N.stored }
+    requires typed { All (HasType (kind_at field_type)) (map (or_null N.shows) cells.old) }
+    requires few { before + part.run.now.height ≤ MAX_ROWS }
+    ensures settles { Settles result
+        (column_fault name.now field_type (before + 1) (part_fields part.entry)) }
+    ensures cells { OnOk result (map (or_null N.shows) cells.new
+        ≡ map (or_null N.shows) cells.old ++ map (cell_of field_type) (part_fields part.entry)) }
+    ensures typed { OnOk result
+        (All (HasType (kind_at field_type)) (map (or_null N.shows) cells.new)) }
+{
+    for row in 0..part.run.height {
+        let Some(cell) = cell_in(field_type, part.get(row)) else {
+            return Err(CsvFault::NotOfType {
+                record: (before + row) as u64 + 1,
+                column: name.copy(alloc)?,
+                expected: field_type,
+            });
+        };
+        cells.push(cell)?;
+    }
+    Ok(())
+}
+
+// The cells of the fields of a column, or the first field that is none of the type.
+fn cells_of<N: ReadField>(
     alloc: Global,
     name: &PlSmallStr,
-    fields: &[Option<&str>],
-) -> Result<StringChunk, CsvFault>
+    field_type: FieldType,
+    fields: Fields,
+) -> Result<Cells<N>, CsvFault>
+    requires { physical (kind_at field_type) ≡ N.stored }
     ensures settles { Settles result
-        (column_fault name.now FieldType.String 1 (lent_fields fields.now)) }
-    ensures texts { IfOk result (λ c. ⟦<StringChunk as Chunk>⟧.shown c
-        ≡ map (cell_of FieldType.String) (lent_fields fields.now)) }
+        (column_fault name.now field_type 1 (fields_in fields.entry)) }
+    ensures cells { IfOk result (λ c.
+        map (or_null N.shows) c ≡ map (cell_of field_type) (fields_in fields.entry)) }
     ensures typed { IfOk result (λ c.
-        All (HasType kind.string) (⟦<StringChunk as Chunk>⟧.shown c)) }
+        All (HasType (kind_at field_type)) (map (or_null N.shows) c)) }
 {
-    let mut builder = StringBuilder::with_capacity(alloc, fields.len())?;
-    for i in 0..fields.len() {
-        let field = fields[i];
+    let mut cells = Cells::with_capacity(alloc, fields.records.height)?;
+    let mut before = 0;
+    for run in &fields.records.runs {
+        let part = fields.of_run(run);
+        push_cells(alloc, &mut cells, name, field_type, part, before)?;
+        before += run.height;
+    }
+    Ok(cells)
+}
+
+// Appends the texts of the fields of a run, which stand behind so many rows, or tells the first that is too long for one.
+fn push_texts(
+    alloc: Global,
+    builder: &mut StringBuilder,
+    name: &PlSmallStr,
+    part: RunColumn,
+    before: usize,
+) -> Result<(), CsvFault>
+    requires few { before + part.run.now.height ≤ MAX_ROWS }
+    ensures settles { Settles result
+        (column_fault name.now FieldType.String (before + 1) (part_fields part.entry)) }
+    ensures texts { OnOk result (map (or_null string) builder.new.rows
+        ≡ map (or_null string) builder.old.rows
+        ++ map (cell_of FieldType.String) (part_fields part.entry)) }
+{
+    for row in 0..part.run.height {
+        let field = part.get(row);
         if !is_short(field) {
             return Err(CsvFault::NotOfType {
-                record: i as u64 + 1,
+                record: (before + row) as u64 + 1,
                 column: name.copy(alloc)?,
                 expected: FieldType::String,
             });
         }
         builder.push_option(alloc, field)?;
+    }
+    Ok(())
+}
+
+// The texts of the fields of a column, or the first field that is too long for one.
+fn texts_of(alloc: Global, name: &PlSmallStr, fields: Fields) -> Result<StringChunk, CsvFault>
+    ensures settles { Settles result
+        (column_fault name.now FieldType.String 1 (fields_in fields.entry)) }
+    ensures texts { IfOk result (λ c. ⟦<StringChunk as Chunk>⟧.shown c
+        ≡ map (cell_of FieldType.String) (fields_in fields.entry)) }
+    ensures typed { IfOk result (λ c.
+        All (HasType kind.string) (⟦<StringChunk as Chunk>⟧.shown c)) }
+{
+    let mut builder = StringBuilder::with_capacity(alloc, fields.records.height)?;
+    let mut before = 0;
+    for run in &fields.records.runs {
+        let part = fields.of_run(run);
+        push_texts(alloc, &mut builder, name, part, before)?;
+        before += run.height;
     }
     Ok(builder.finish(alloc)?)
 }
@@ -153,13 +211,13 @@ trait ReadChunk: Chunk {
         alloc: Global,
         name: &PlSmallStr,
         field_type: FieldType,
-        fields: &[Option<&str>],
+        fields: Fields,
     ) -> Result<Self, CsvFault>
         requires { physical (kind_at field_type) ≡ stored }
         ensures settles { Settles result
-            (column_fault name.now field_type 1 (lent_fields fields.now)) }
+            (column_fault name.now field_type 1 (fields_in fields.entry)) }
         ensures values { IfOk result (λ c.
-            Self.shown c ≡ map (cell_of field_type) (lent_fields fields.now)) }
+            Self.shown c ≡ map (cell_of field_type) (fields_in fields.entry)) }
         ensures typed { IfOk result (λ c. All (HasType (kind_at field_type)) (Self.shown c)) };
 }
 
@@ -170,7 +228,7 @@ impl<N: ReadField> ReadChunk for Cells<N> {
         alloc: Global,
         name: &PlSmallStr,
         field_type: FieldType,
-        fields: &[Option<&str>],
+        fields: Fields,
     ) -> Result<Cells<N>, CsvFault> {
         cells_of(alloc, name, field_type, fields)
     }
@@ -183,7 +241,7 @@ impl ReadChunk for StringChunk {
         alloc: Global,
         name: &PlSmallStr,
         field_type: FieldType,
-        fields: &[Option<&str>],
+        fields: Fields,
     ) -> Result<StringChunk, CsvFault> {
         texts_of(alloc, name, fields)
     }
@@ -194,14 +252,14 @@ fn read_stored<C: ReadChunk + Stored>(
     alloc: Global,
     name: &PlSmallStr,
     field_type: FieldType,
-    fields: &[Option<&str>],
+    fields: Fields,
 ) -> Result<Chunks, CsvFault>
     requires { physical (kind_at field_type) ≡ C.stored }
-    ensures settles { Settles result (column_fault name.now field_type 1 (lent_fields fields.now)) }
+    ensures settles { Settles result (column_fault name.now field_type 1 (fields_in fields.entry)) }
     ensures lists { IfOk result (λ c.
-        chunk_lists c ≡ map (cell_of field_type) (lent_fields fields.now) ∷ []) }
+        chunk_lists c ≡ map (cell_of field_type) (fields_in fields.entry) ∷ []) }
     ensures typed { IfOk result (λ c.
-        All (HasType (kind_at field_type)) (map (cell_of field_type) (lent_fields fields.now))) }
+        All (HasType (kind_at field_type)) (map (cell_of field_type) (fields_in fields.entry))) }
     ensures stored { IfOk result (λ c. storage c ≡ C.kind) }
 {
     let chunk = C::read(alloc, name, field_type, fields)?;
@@ -215,13 +273,13 @@ pub(crate) fn read_chunk(
     alloc: Global,
     name: &PlSmallStr,
     field_type: FieldType,
-    fields: &[Option<&str>],
+    fields: Fields,
 ) -> Result<Chunks, CsvFault>
-    ensures settles { Settles result (column_fault name.now field_type 1 (lent_fields fields.now)) }
+    ensures settles { Settles result (column_fault name.now field_type 1 (fields_in fields.entry)) }
     ensures lists { IfOk result (λ c.
-        chunk_lists c ≡ map (cell_of field_type) (lent_fields fields.now) ∷ []) }
+        chunk_lists c ≡ map (cell_of field_type) (fields_in fields.entry) ∷ []) }
     ensures typed { IfOk result (λ c.
-        All (HasType (kind_at field_type)) (map (cell_of field_type) (lent_fields fields.now))) }
+        All (HasType (kind_at field_type)) (map (cell_of field_type) (fields_in fields.entry))) }
     ensures stored { IfOk result (λ c. storage c ≡ physical (kind_at field_type)) }
 {
     match field_type {

@@ -1,12 +1,12 @@
 //! The columns of what was read.
-ghost use Rattle.std.specs.Prelude.{◌≡◌, ◌≤◌, ◌<◌, List, length, true, false, IfOk, MatchOption};
+ghost use Rattle.std.specs.Prelude.{◌≡◌, ◌<◌, List, length, true, false, IfOk, MatchOption};
 ghost use Rattle.std.specs.List.{AllZip, list_all};
 ghost use Rattle.tb_value.specs.Promise.Pairs.{row_numbers};
-ghost use Rattle.tb_value.specs.declared.limits.TheConstants.{MAX_ROWS};
 ghost use Rattle.tb_frame.specs.Promise.Table.{plain_column, table_of};
 ghost use Rattle.tb_csv.specs.Promise.Faults.{column_fault, columns_fault};
 ghost use Rattle.tb_csv.specs.Faults.{Settles};
-ghost use Rattle.tb_csv.specs.Read.{AreRows, IsLevel, IsReadColumn, lent_fields};
+ghost use Rattle.tb_csv.specs.Fields.{fields_in};
+ghost use Rattle.tb_csv.specs.Read.{AreRows, IsLevel, IsReadColumn};
 ghost use Rattle.tb_csv.specs.Promise.Records.{Record};
 ghost use Rattle.tb_csv.specs.Promise.Tables.{csv_columns, typed_column};
 ghost use Rattle.tb_csv.specs.Promise.Types.{given_type, is_of, told_type};
@@ -14,6 +14,7 @@ ghost use Rattle.tb_csv.specs.Promise.Types.{given_type, is_of, told_type};
 use crate::cells::{are_of, read_chunk};
 use crate::fault::CsvFault;
 use crate::field_type::FieldType;
+use crate::lent::Fields;
 use crate::options::TypeOf;
 use crate::records::Records;
 use rayon::prelude::*;
@@ -33,10 +34,10 @@ pub(crate) fn given_type(types: &[TypeOf], name: &PlSmallStr) -> Option<FieldTyp
 }
 
 /// The type that the fields tell.
-pub(crate) fn told_type(fields: &[Option<&str>]) -> FieldType
-    ensures { result ≡ told_type (lent_fields fields.now) }
+pub(crate) fn told_type(fields: Fields) -> FieldType
+    ensures { result ≡ told_type (fields_in fields.entry) }
 {
-    if are_of::<i64>(FieldType::Int64, fields) {
+    if are_of(FieldType::Int64, fields) {
         FieldType::Int64
     } else {
         told_otherwise(fields)
@@ -44,13 +45,13 @@ pub(crate) fn told_type(fields: &[Option<&str>]) -> FieldType
 }
 
 // The type that fields tell of which one at least is no whole number.
-fn told_otherwise(fields: &[Option<&str>]) -> FieldType
-    ensures { list_all (is_of FieldType.Int64) (lent_fields fields.now) ≡ false
-        → result ≡ told_type (lent_fields fields.now) }
+fn told_otherwise(fields: Fields) -> FieldType
+    ensures { list_all (is_of FieldType.Int64) (fields_in fields.entry) ≡ false
+        → result ≡ told_type (fields_in fields.entry) }
 {
-    if are_of::<bool>(FieldType::Boolean, fields) {
+    if are_of(FieldType::Boolean, fields) {
         FieldType::Boolean
-    } else if are_of::<i32>(FieldType::Date, fields) {
+    } else if are_of(FieldType::Date, fields) {
         FieldType::Date
     } else {
         FieldType::String
@@ -62,12 +63,11 @@ fn read_column(
     alloc: Global,
     name: &PlSmallStr,
     field_type: FieldType,
-    fields: &[Option<&str>],
+    fields: Fields,
 ) -> Result<Column, CsvFault>
-    requires { length fields.now ≤ MAX_ROWS }
-    ensures settles { Settles result (column_fault name.now field_type 1 (lent_fields fields.now)) }
+    ensures settles { Settles result (column_fault name.now field_type 1 (fields_in fields.entry)) }
     ensures column { IfOk result (λ c.
-        plain_column c ≡ typed_column name.now field_type (lent_fields fields.now)) }
+        plain_column c ≡ typed_column name.now field_type (fields_in fields.entry)) }
 {
     let chunks = read_chunk(alloc, name, field_type, fields)?;
     let name = name.copy(alloc)?;
@@ -79,13 +79,12 @@ fn read_column(
 fn whole_numbers(
     alloc: Global,
     name: &PlSmallStr,
-    fields: &[Option<&str>],
+    fields: Fields,
 ) -> Result<Option<Column>, OutOfMemory>
-    requires { length fields.now ≤ MAX_ROWS }
     ensures { IfOk result (λ o. MatchOption o
-        (list_all (is_of FieldType.Int64) (lent_fields fields.now) ≡ false)
-        (λ c. (list_all (is_of FieldType.Int64) (lent_fields fields.now) ≡ true)
-        × (plain_column c ≡ typed_column name.now FieldType.Int64 (lent_fields fields.now)))) }
+        (list_all (is_of FieldType.Int64) (fields_in fields.entry) ≡ false)
+        (λ c. (list_all (is_of FieldType.Int64) (fields_in fields.entry) ≡ true)
+        × (plain_column c ≡ typed_column name.now FieldType.Int64 (fields_in fields.entry)))) }
 {
     match read_column(alloc, name, FieldType::Int64, fields) {
         Ok(column) => Ok(Some(column)),
@@ -95,16 +94,11 @@ fn whole_numbers(
 }
 
 // The column of this name, of the type that its fields tell. Most columns are whole numbers, which are read as they are told.
-fn told_column(
-    alloc: Global,
-    name: &PlSmallStr,
-    fields: &[Option<&str>],
-) -> Result<Column, CsvFault>
-    requires { length fields.now ≤ MAX_ROWS }
+fn told_column(alloc: Global, name: &PlSmallStr, fields: Fields) -> Result<Column, CsvFault>
     ensures settles { Settles result
-        (column_fault name.now (told_type (lent_fields fields.now)) 1 (lent_fields fields.now)) }
+        (column_fault name.now (told_type (fields_in fields.entry)) 1 (fields_in fields.entry)) }
     ensures column { IfOk result (λ c. plain_column c
-        ≡ typed_column name.now (told_type (lent_fields fields.now)) (lent_fields fields.now)) }
+        ≡ typed_column name.now (told_type (fields_in fields.entry)) (fields_in fields.entry)) }
 {
     match whole_numbers(alloc, name, fields)? {
         Some(column) => Ok(column),
@@ -124,11 +118,11 @@ fn csv_column(
     ensures { (rows : List Record) → AreRows records.now rows
         → IsReadColumn types.now records.now.names.items rows column result }
 {
-    let fields = records.column(alloc, column)?;
+    let fields = records.column(column);
     let name = &records.names[column];
     match given_type(types, name) {
-        Some(given) => read_column(alloc, name, given, &fields),
-        None => told_column(alloc, name, &fields),
+        Some(given) => read_column(alloc, name, given, fields),
+        None => told_column(alloc, name, fields),
     }
 }
 

@@ -1,50 +1,59 @@
 //! The types of the keys of a text that is joined with another.
 ghost use Rattle.std.specs.Prelude.{◌≡◌, List, IfOk, option_map, option_to_list, position};
+ghost use Rattle.std.specs.List.{list_all};
 ghost use Rattle.tb_value.specs.Promise.Names.{same_name};
 ghost use Rattle.tb_csv.specs.Promise.Keys.{fields_named, key_type, told_of, types_with_keys};
 ghost use Rattle.tb_csv.specs.Promise.Records.{Record};
-ghost use Rattle.tb_csv.specs.Promise.Types.{given_type, told_type};
-ghost use Rattle.tb_csv.specs.Read.{IsLevel, IsRead, lent_fields};
+ghost use Rattle.tb_csv.specs.Promise.Types.{given_type, is_of, told_type};
+ghost use Rattle.tb_csv.specs.Fields.{fields_in};
+ghost use Rattle.tb_csv.specs.Read.{IsLevel, IsRead};
 ghost use Rattle.std.specs.Prelude.{◌++◌};
 
-use crate::cells::{are_all, are_of};
+use crate::cells::are_of;
 use crate::columns::{given_type, told_type};
 use crate::field_type::FieldType;
+use crate::lent::Fields;
 use crate::options::TypeOf;
 use crate::records::Records;
 use std::alloc::Global;
 use tb_value::{OutOfMemory, PlSmallStr};
 
 // The type that the fields of two columns tell together.
-fn told_together(fields: &[Option<&str>], others: &[Option<&str>]) -> FieldType
-    ensures { result ≡ told_type (lent_fields fields.now ++ lent_fields others.now) }
+fn told_together(fields: Fields, others: Fields) -> FieldType
+    ensures { result ≡ told_type (fields_in fields.entry ++ fields_in others.entry) }
 {
-    if are_of::<i64>(FieldType::Int64, fields) && are_of::<i64>(FieldType::Int64, others) {
+    if are_both(FieldType::Int64, fields, others) {
         FieldType::Int64
-    } else if are_of::<bool>(FieldType::Boolean, fields)
-        && are_of::<bool>(FieldType::Boolean, others)
-    {
+    } else if are_both(FieldType::Boolean, fields, others) {
         FieldType::Boolean
-    } else if are_of::<i32>(FieldType::Date, fields) && are_of::<i32>(FieldType::Date, others) {
+    } else if are_both(FieldType::Date, fields, others) {
         FieldType::Date
     } else {
         FieldType::String
     }
 }
 
+// Whether the fields of both columns are values of this type, or have no byte.
+fn are_both(field_type: FieldType, fields: Fields, others: Fields) -> bool
+    ensures { result
+        ≡ list_all (is_of field_type) (fields_in fields.entry ++ fields_in others.entry) }
+{
+    are_of(field_type, fields) && are_of(field_type, others)
+}
+
 // The type of a key, by the types that are given for it and for the other text's key, and by the fields of both.
 fn key_type(
     given: Option<FieldType>,
     beside: Option<FieldType>,
-    fields: &[Option<&str>],
-    others: &[Option<&str>],
+    fields: Fields,
+    others: Fields,
 ) -> FieldType
-    ensures { result ≡ key_type given beside (lent_fields fields.now) (lent_fields others.now) }
+    ensures { result ≡ key_type given beside (fields_in fields.entry) (fields_in others.entry) }
 {
     match given {
         Some(field_type) => field_type,
         None => match beside {
-            Some(field_type) if are_all(field_type, fields) => field_type,
+            Some(field_type) if are_of(field_type, fields) => field_type,
             Some(_) => told_type(fields),
             None => told_together(fields, others),
         },
@@ -58,18 +67,14 @@ fn place_of(names: &[PlSmallStr], name: &PlSmallStr) -> Option<usize>
 }
 
 // The fields of the column of this name, if there is one.
-fn fields_named<'a>(
-    alloc: Global,
-    records: &'a Records,
-    name: &PlSmallStr,
-) -> Result<Option<Vec<Option<&'a str>>>, OutOfMemory>
+fn fields_named<'a>(records: &'a Records, name: &PlSmallStr) -> Option<Fields<'a>>
     requires level { IsLevel records.now }
     ensures fields { (rs : List Record) → IsRead records.now rs
-        → IfOk result (λ found. option_map (λ v. lent_fields v.items) found ≡ fields_named rs name.now) }
+        → option_map fields_in result ≡ fields_named rs name.now }
 {
     match place_of(&records.names, name) {
-        Some(place) => Ok(Some(records.column(alloc, place)?)),
-        None => Ok(None),
+        Some(place) => Some(records.column(place)),
+        None => None,
     }
 }
 
@@ -87,17 +92,17 @@ fn told_key(
     ensures told { (rs os : List Record) → IsRead records.now rs → IsRead others.now os
         → IfOk result (λ told. option_to_list told ≡ told_of types.now name.now other.now (fields_named rs name.now) (fields_named os other.now)) }
 {
-    let Some(fields) = fields_named(alloc, records, name)? else {
+    let Some(fields) = fields_named(records, name) else {
         return Ok(None);
     };
-    let Some(beside) = fields_named(alloc, others, other)? else {
+    let Some(beside) = fields_named(others, other) else {
         return Ok(None);
     };
     let field_type = key_type(
         given_type(types, name),
         given_type(types, other),
-        &fields,
-        &beside,
+        fields,
+        beside,
     );
     let name = name.copy(alloc)?;
     Ok(Some(TypeOf { name, field_type }))

@@ -10,6 +10,7 @@ mod fields;
 mod in_pieces;
 mod keys;
 pub mod laws;
+mod lent;
 mod line_numbers;
 mod lines;
 mod marks;

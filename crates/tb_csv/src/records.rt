@@ -1,11 +1,12 @@
 //! The names and the fields of a text.
-ghost use Rattle.std.specs.Prelude.{◌≡◌, ◌<◌, ◌∷◌, List, length, IfOk};
-ghost use Rattle.tb_csv.specs.Read.{AreRows, IsLevel, IsRead, lent_fields};
+ghost use Rattle.std.specs.Prelude.{◌≡◌, ◌<◌, ◌∷◌, List, length};
+ghost use Rattle.tb_csv.specs.Fields.{fields_in, part_fields};
+ghost use Rattle.tb_csv.specs.Read.{AreRows, IsFull, IsLevel, IsRead, run_column};
 ghost use Rattle.tb_csv.specs.Promise.Records.{Record, column_fields, line_of};
 
+use crate::lent::{Fields, RunColumn};
 use crate::run::Run;
-use std::alloc::Global;
-use tb_value::{OutOfMemory, PlSmallStr};
+use tb_value::PlSmallStr;
 
 /// The records of a text, of which the first has the names. Their fields are not read as values yet.
 #[derive(Drop)]
@@ -26,22 +27,31 @@ impl Records {
     }
 
     /// The fields of a column, lent.
-    pub(crate) fn column(
-        &self,
-        alloc: Global,
-        column: usize,
-    ) -> Result<Vec<Option<&str>>, OutOfMemory>
+    pub(crate) fn column(&self, column: usize) -> Fields<'_>
         requires column { column < length self.now.names.items }
         requires level { IsLevel self.now }
-        ensures height { IfOk result (λ v. length v.items ≡ self.now.height) }
-        ensures fields { (rows : List Record) → AreRows self.now rows
-            → IfOk result (λ v. lent_fields v.items ≡ column_fields rows column) }
+        ensures { (rows : List Record) → AreRows self.now rows
+            → fields_in result ≡ column_fields rows column }
     {
-        let width = self.names.len();
-        let mut fields = Vec::with_capacity(alloc, self.height)?;
-        for run in &self.runs {
-            run.push_column(width, column, &mut fields)?;
+        Fields {
+            records: self,
+            column,
         }
-        Ok(fields)
+    }
+}
+
+impl<'a> Fields<'a> {
+    /// Those of a run of the records.
+    pub(crate) fn of_run(self, run: &'a Run) -> RunColumn<'a>
+        requires { IsFull (length self.records.now.names.items) run.now }
+        ensures fields { part_fields result ≡ run_column
+            (length self.entry.records.now.names.items) self.entry.column run.now }
+        ensures run { result.run.now ≡ run.now }
+    {
+        RunColumn {
+            run,
+            width: self.records.names.len(),
+            column: self.column,
+        }
     }
 }

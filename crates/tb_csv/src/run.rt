@@ -1,15 +1,16 @@
 //! The rows of a piece of a text.
-ghost use Rattle.std.specs.Prelude.{◌≡◌, ◌++◌, ◌<◌, slice_index_or, false, IfOk, OnOk};
-ghost use Rattle.tb_csv.specs.Read.{IsFull, IsRunOf, lent_field, lent_fields, run_column};
+ghost use Rattle.std.specs.Prelude.{◌≡◌, ◌<◌, None, slice_index_or, false, IfOk};
+ghost use Rattle.tb_csv.specs.Fields.{part_fields};
+ghost use Rattle.tb_csv.specs.Read.{IsRunOf, lent_field};
 ghost use Rattle.tb_csv.specs.Promise.Records.{field};
 
 use crate::fault::CsvFault;
+use crate::lent::RunColumn;
 use crate::lines::read_rows;
 use crate::marks::marks_of;
 use crate::reading::open_reader;
 use csv::{ByteRecord, StringRecord};
 use std::alloc::Global;
-use tb_value::OutOfMemory;
 
 /// Rows that stand one behind another in a text.
 #[derive(Drop)]
@@ -63,27 +64,17 @@ fn mark_at(marks: &[bool], place: usize) -> bool
     marks.get(place).copied().unwrap_or(false)
 }
 
-impl Run {
-    /// Appends the fields of a column of rows of this width, lent.
-    pub(crate) fn push_column<'a>(
-        &'a self,
-        width: usize,
-        column: usize,
-        fields: &mut Vec<Option<&'a str>>,
-    ) -> Result<(), OutOfMemory>
-        requires column { column < width }
-        requires full { IsFull width self.now }
-        ensures fields { OnOk result (lent_fields fields.new.items
-            ≡ lent_fields fields.old.items ++ run_column width column self.now) }
+impl<'a> RunColumn<'a> {
+    /// The field of this row, lent.
+    pub(crate) fn get(self, row: usize) -> Option<&'a str>
+        requires { row < self.run.now.height }
+        ensures { lent_field result ≡ slice_index_or (part_fields self.entry) row None }
     {
-        let _count = self.fields.len();
-        for row in 0..self.height {
-            let place = row * width + column;
-            let Some(text) = self.fields.get(place) else {
-                unreachable!()
-            };
-            fields.push(field(mark_at(&self.marks, place), text))?;
-        }
-        Ok(())
+        let _count = self.run.fields.len();
+        let place = row * self.width + self.column;
+        let Some(text) = self.run.fields.get(place) else {
+            unreachable!()
+        };
+        field(mark_at(&self.run.marks, place), text)
     }
 }

@@ -1,25 +1,73 @@
-use Rattle.std.proofs.Common.{◌∙◌, ◌+◌, ap, sym, inr, Some}
+use Rattle.std.proofs.Common.{◌≡◌, ◌≤◌, ◌+◌, ◌∙◌, List, ap, arith, length, map, sym, take, ℕ}
+use Rattle.std.specs.List.{flat_map}
+use Rattle.std.proofs.lemmas.List.{drop_all, take_all}
+use Rattle.std.proofs.lemmas.Result.{err_from_is_err_and}
+use Rattle.tb_value.specs.declared.limits.TheConstants.{MAX_ROWS}
 use Rattle.tb_value.specs.Promise.Datum.{string}
-use Rattle.tb_value.specs.Promise.Names.{Name}
-use Rattle.tb_csv.specs.declared.fault.CsvFault.TheVariants.{NotOfType}
+use Rattle.tb_chunk.specs.Chunk.{or_null}
 use Rattle.tb_csv.specs.declared.field_type.FieldType.TheVariants as field
-use Rattle.tb_csv.proofs.FieldWalks.{cells_more, fault_here, fault_more, text_held}
+use Rattle.tb_csv.specs.Fields.{part_fields}
+use Rattle.tb_csv.specs.Promise.Faults.{column_fault}
+use Rattle.tb_csv.specs.Promise.Types.{cell_of}
+use Rattle.tb_csv.specs.Read.{rows_in, run_column}
+use Rattle.tb_csv.specs.declared.run.Run.{Run}
+use Rattle.tb_csv.proofs.ColumnWalks.{cells_over, fault_next, fault_stops, part_height, rows_fit, rows_more}
 use Rattle.tb_csv.proofs.cells.texts_of.Goals as goal
 
-pub returns-then-not-is_short-clause-settles : goal.returns-then-not-is_short-clause-settles
-returns-then-not-is_short-clause-settles c =
-    inr (
-    c.loop-i.invariant.fault
-    ∙ fault_here c.args.name.now field.String (c.loop-i.i + 1) c.args.fields.now c.loop-i.i _ c.loop-i-test.true (sym c.if-not-is_short.ensures)
-    ∙ ap (λ (n : Name). Some (NotOfType (c.loop-i.i + 1) n field.String)) (sym c.in_ok-copy.ensures)
-    )
+pub push_texts-requires : goal.push_texts-requires
+push_texts-requires c =
+    let fields = c.args.fields in
+    let fit : rows_in (take c.loop-run.run-index c.deref-run-items.result.now) + c.run-item.result.height ≤ MAX_ROWS =
+    rows_fit (length fields.records.now.names.items) fields.column c.deref-run-items.result.now c.loop-run.run-index c.run-item.result c.loop-run-test.true c.run-item.is fields c.deref-run-items.ensures.value in
+    let high : c.of_run-part.result.run.now.height ≡ c.run-item.result.height = ap (λ (r : Run). r.height) c.of_run-part.ensures.run in
+    omega (arith, fit, high, c.loop-run.invariant.before)
 
-pub loop-i-preserved : goal.loop-i-preserved
-loop-i-preserved c =
-    let held = sym c.if-not-is_short.ensures in
+pub overflow_add-before : goal.overflow_add-before
+overflow_add-before c =
+    let fields = c.args.fields in
+    let fit : rows_in (take c.loop-run.run-index c.deref-run-items.result.now) + c.run-item.result.height ≤ MAX_ROWS =
+    rows_fit (length fields.records.now.names.items) fields.column c.deref-run-items.result.now c.loop-run.run-index c.run-item.result c.loop-run-test.true c.run-item.is fields c.deref-run-items.ensures.value in
+    omega (arith, fit, c.loop-run.invariant.before)
+
+pub returns-in_err-push_texts-clause-settles : goal.returns-in_err-push_texts-clause-settles
+returns-in_err-push_texts-clause-settles c =
+    let fields = c.args.fields in
+    let w = length fields.records.now.names.items in
+    let runs = c.deref-run-items.result.now in
+    let whole = ap (λ (rs : List Run). column_fault c.args.name.now field.String 1 (flat_map (run_column w fields.column) rs)) (sym c.deref-run-items.ensures.value) in
+    let p = err_from_is_err_and c.from_residual-in_err-push_texts.result c.from_residual-in_err-push_texts.ensures.1 in
+    rw (p.1, p.2) (fault_stops w fields.column runs c.loop-run.run-index c.run-item.result c.loop-run-test.true c.run-item.is c.args.name.now field.String c.loop-run.before
+    (part_fields c.of_run-part.result) (flat_map (run_column w fields.column) fields.records.now.runs.items) c.in_err-push_texts.field-0.0 c.of_run-part.ensures.fields c.in_err-push_texts.ensures.settles (whole ∙ c.loop-run.invariant.fault))
+
+pub loop-run-preserved : goal.loop-run-preserved
+loop-run-preserved c =
+    let fields = c.args.fields in
+    let w = length fields.records.now.names.items in
+    let runs = c.deref-run-items.result.now in
+    let high = part_height c.of_run-part.result ∙ ap (λ (r : Run). r.height) c.of_run-part.ensures.run in
     record {
-      fault = c.loop-i.invariant.fault ∙ fault_more c.args.name.now field.String (c.loop-i.i + 1) c.args.fields.now c.loop-i.i _ c.loop-i-test.true held;
-      texts =
-          rw (ap (λ b. b.rows) c.in_ok-push_option.ensures.ok)
-          (cells_more string field.String c.args.fields.now c.loop-i.i _ c.loop-i.builder.rows _ c.loop-i-test.true (text_held _ held) c.loop-i.invariant.texts);
+      fault = fault_next w fields.column runs c.loop-run.run-index c.run-item.result c.loop-run-test.true c.run-item.is c.args.name.now field.String c.loop-run.before
+          (part_fields c.of_run-part.result) (flat_map (run_column w fields.column) runs) c.of_run-part.ensures.fields high c.in_ok-push_texts.ensures.settles c.loop-run.invariant.fault;
+      before = ap (λ (n : ℕ). n + c.run-item.result.height) c.loop-run.invariant.before
+          ∙ sym (rows_more w fields.column runs c.loop-run.run-index c.run-item.result c.loop-run-test.true c.run-item.is);
+      texts = cells_over w fields.column runs c.loop-run.run-index c.run-item.result c.loop-run-test.true c.run-item.is field.String
+          (part_fields c.of_run-part.result) (map (or_null string) c.loop-run.builder.rows) (map (or_null string) c.push_texts.new.builder.rows) c.of_run-part.ensures.fields c.in_ok-push_texts.ensures.texts c.loop-run.invariant.texts;
     }
+
+pub returns-clause-settles : goal.returns-clause-settles
+returns-clause-settles c =
+    let fields = c.args.fields in
+    let w = length fields.records.now.names.items in
+    let runs = c.deref-run-items.result.now in
+    let past : length runs ≤ c.loop-run.run-index = omega arith in
+    ap (λ (rs : List Run). column_fault c.args.name.now field.String 1 (flat_map (run_column w fields.column) rs)) (sym c.deref-run-items.ensures.value) ∙ c.loop-run.invariant.fault
+    ∙ ap (λ (rs : List Run). column_fault c.args.name.now field.String (c.loop-run.before + 1) (flat_map (run_column w fields.column) rs)) (drop_all c.loop-run.run-index runs past)
+
+pub returns-clause-texts : goal.returns-clause-texts
+returns-clause-texts c =
+    let fields = c.args.fields in
+    let w = length fields.records.now.names.items in
+    let runs = c.deref-run-items.result.now in
+    let past : length runs ≤ c.loop-run.run-index = omega arith in
+    ap (map (or_null string)) c.in_ok-finish.ensures.texts ∙ c.loop-run.invariant.texts
+    ∙ ap (λ (rs : List Run). map (cell_of field.String) (flat_map (run_column w fields.column) rs)) (take_all c.loop-run.run-index runs past ∙ c.deref-run-items.ensures.value)
