@@ -16,6 +16,8 @@ pub mod RunWalks
 pub mod TextWalks
 pub mod RowPieces
 pub mod ColumnWalks
+pub mod NumberTexts
+pub mod PieceWalks
 pub mod ReadColumns
 pub mod LinesBack
 pub mod ClosedQuotes

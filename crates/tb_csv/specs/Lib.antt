@@ -1,6 +1,7 @@
 pub mod Types
 pub mod Faults
 pub mod Texts
+pub mod PieceColumns
 pub mod Left
 pub mod Read
 pub mod Fields

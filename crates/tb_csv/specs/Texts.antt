@@ -1,6 +1,9 @@
 -- The text of a table.
-use Rattle.std.specs.Prelude.{◌==◌, ◌*◌, ◌-◌, ℕ, List, [], ◌∷◌, map, min, if◌then◌else◌}
+use Rattle.std.specs.Prelude.{◌==◌, ◌||◌, ◌*◌, ◌-◌, ℕ, Bool, List, [], ◌∷◌, map, min, if◌then◌else◌}
 use Rattle.std.specs.List.{range_with_len}
+use Rattle.tb_value.specs.Promise.Kind.{Kind}
+use Rattle.tb_value.specs.Promise.Kind as kind
+use Rattle.tb_label.specs.Promise.Numerals.{is_digit}
 use Rattle.tb_frame.specs.Promise.Table.{Table}
 use Rattle.tb_csv.specs.Promise.Texts.{records_text, row_fields}
 use Rattle.tb_csv.specs.declared.pieces.TheConstants.{ROWS_OF_A_PIECE}
@@ -19,3 +22,11 @@ abbrev pub piece_text : ℕ → Table → ℕ → ℕ → List ℕ
 piece_text separator t height p =
     let first = p * ROWS_OF_A_PIECE in
     rows_text separator t first (min ROWS_OF_A_PIECE (height - first))
+
+-- a byte that may stand in the digits of a number
+abbrev pub stands_in_numbers : ℕ → Bool
+stands_in_numbers byte = (byte == 45) || is_digit byte
+
+-- a type of days, or of no days
+abbrev pub kind_by_day : Bool → Kind
+kind_by_day is_day = if is_day then kind.date else kind.null

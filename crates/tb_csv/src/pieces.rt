@@ -67,9 +67,9 @@ fn row_pieces(
         .collect(rt, alloc)?
 }
 
-// One text behind the other ones.
-fn joined(alloc: Global, first: &[u8], pieces: &[Vec<u8>]) -> Result<Vec<u8>, OutOfMemory>
-    ensures { IfOk result (λ v. v.items ≡ first.now ++ flat_map (λ p. p.items) pieces.now) }
+// The pieces behind a first text. Each is let go once it is joined.
+fn joined(alloc: Global, first: &[u8], pieces: Vec<Vec<u8>>) -> Result<Vec<u8>, OutOfMemory>
+    ensures { IfOk result (λ v. v.items ≡ first.now ++ flat_map (λ p. p.items) pieces.items) }
 {
     let total = pieces
         .iter()
@@ -77,7 +77,7 @@ fn joined(alloc: Global, first: &[u8], pieces: &[Vec<u8>]) -> Result<Vec<u8>, Ou
     let mut text = Vec::with_capacity(alloc, total)?;
     text.extend_from_slice(first)?;
     for piece in pieces {
-        text.extend_from_slice(piece)?;
+        text.extend_from_slice(&piece)?;
     }
     Ok(text)
 }
@@ -97,5 +97,5 @@ pub(crate) fn records_text(
 {
     let names = names_text(alloc, separator, columns)?;
     let pieces = row_pieces(rt, alloc, separator, columns, height)?;
-    joined(alloc, &names, &pieces)
+    joined(alloc, &names, pieces)
 }

@@ -2,28 +2,26 @@
 ghost use Rattle.std.specs.Prelude.{◌≡◌, ◌++◌, ◌∷◌, ◌<◌, ◌≤◌, ◌-◌, [], ℕ, Some, length, map, is_none, if◌then◌else◌, IfOk, OnOk};
 ghost use Rattle.std.specs.List.{All, find};
 ghost use Rattle.std.specs.Option.{option_copied};
-ghost use Rattle.csv.specs.Writing.{escaped, needs_quotes, quoted};
 ghost use Rattle.tb_value.specs.Promise.Pairs.{row_numbers};
-ghost use Rattle.tb_value.specs.See.{lent_value};
-ghost use Rattle.tb_value.specs.SeeKind.{kind_of};
 ghost use Rattle.tb_chunk.specs.Promise.Col.{Col, values};
 ghost use Rattle.tb_frame.specs.Promise.Table.{height, names_of, table_of};
 ghost use Rattle.tb_csv.specs.Faults.{Settles};
-ghost use Rattle.tb_date.specs.Promise.Dates.{number_text};
 ghost use Rattle.tb_csv.specs.Promise.Texts.{csv_text, field_among, field_text, field_type, record_text, records_text, row_fields, style, text_refusal};
 ghost use Rattle.tb_csv.specs.Texts.{gap, rows_text};
 
 use crate::fault::CsvFault;
+use crate::field_text::push_field;
 use crate::field_type::FieldType;
+use crate::piece_columns::PieceColumn;
 use crate::pieces::records_text;
-use itoa::Buffer;
 use std::alloc::Global;
 use std::thread::Threads;
-use tb_date::{date_text, dated, is_date};
 use tb_frame::DataFrame;
-use tb_label::truth_text;
 use tb_store::Column;
-use tb_value::{DataType, OutOfMemory, ValueRef};
+use tb_value::OutOfMemory;
+
+// How many bytes are reserved at most before a piece is written.
+const MOST_ROOM: usize = 1 << 20;
 
 // The first column of a type without a text form.
 fn without_text(columns: &[Column]) -> Option<&Column>
@@ -46,93 +44,6 @@ fn check_columns(alloc: Global, columns: &[Column]) -> Result<(), CsvFault>
     }
 }
 
-// Whether a field of these bytes stands in quotes.
-fn needs_quotes(separator: u8, field: &[u8]) -> bool
-    ensures { result ≡ needs_quotes (style separator) field.now }
-{
-    field.iter().any(|byte| *byte == separator || *byte == b'"' || *byte == b'\r' || *byte == b'\n')
-}
-
-// Appends the bytes, with each quote among them twice.
-fn push_escaped(text: &mut Vec<u8>, field: &[u8]) -> Result<(), OutOfMemory>
-    ensures { (separator : ℕ)
-        → OnOk result (text.new.items ≡ text.old.items ++ escaped (style separator) field.now) }
-{
-    for byte in field {
-        if *byte == b'"' {
-            text.push(b'"')?;
-        }
-        text.push(*byte)?;
-    }
-    Ok(())
-}
-
-fn push_quoted(text: &mut Vec<u8>, field: &[u8]) -> Result<(), OutOfMemory>
-    ensures { (separator : ℕ)
-        → OnOk result (text.new.items ≡ text.old.items ++ quoted (style separator) field.now) }
-{
-    text.push(b'"')?;
-    push_escaped(text, field)?;
-    Ok(text.push(b'"')?)
-}
-
-// Appends a field that is a text of these bytes.
-fn push_field(text: &mut Vec<u8>, separator: u8, field: &[u8]) -> Result<(), OutOfMemory>
-    ensures { OnOk result
-        (text.new.items ≡ text.old.items ++ field_text separator (Some field.now)) }
-{
-    if field.is_empty() || needs_quotes(separator, field) {
-        push_quoted(text, field)
-    } else {
-        Ok(text.extend_from_slice(field)?)
-    }
-}
-
-// Appends the field of a number, which may be a day.
-fn push_number(
-    text: &mut Vec<u8>,
-    separator: u8,
-    is_day: bool,
-    number: i128,
-) -> Result<(), OutOfMemory>
-    ensures { OnOk result
-        (text.new.items
-        ≡ text.old.items ++ field_text separator (Some (number_text is_day number))) }
-{
-    if is_day && let Some(date) = dated(number) {
-        return push_field(text, separator, &date_text(date));
-    }
-    push_field(text, separator, Buffer::new().format(number).as_bytes())
-}
-
-// Appends the field of a value of a column of this type, in a record of so many fields.
-fn push_value(
-    text: &mut Vec<u8>,
-    separator: u8,
-    width: usize,
-    dtype: &DataType,
-    value: ValueRef<'_>,
-) -> Result<(), OutOfMemory>
-    ensures { OnOk result
-        (text.new.items
-        ≡ text.old.items
-        ++ field_text separator
-        (field_among width (kind_of dtype.now) (lent_value value.entry))) }
-{
-    match value {
-        ValueRef::Boolean(b) => push_field(text, separator, truth_text(b).as_bytes()),
-        ValueRef::Int(number) => push_number(text, separator, is_date(dtype), number),
-        ValueRef::String(s) => push_field(text, separator, s),
-        ValueRef::Null | ValueRef::Binary(_) | ValueRef::List(_) | ValueRef::Struct(_) => {
-            if width == 1 {
-                push_field(text, separator, b"")
-            } else {
-                Ok(())
-            }
-        }
-    }
-}
-
 // Appends what stands before the field at this place of a record.
 fn push_gap(text: &mut Vec<u8>, separator: u8, place: usize) -> Result<(), OutOfMemory>
     ensures { OnOk result (text.new.items ≡ text.old.items ++ gap separator place) }
@@ -148,7 +59,7 @@ fn push_gap(text: &mut Vec<u8>, separator: u8, place: usize) -> Result<(), OutOf
 fn push_row(
     text: &mut Vec<u8>,
     separator: u8,
-    columns: &[Column],
+    columns: &[PieceColumn<'_>],
     index: usize,
 ) -> Result<(), OutOfMemory>
     requires { All (λ (c : Col). index < length (values c)) columns.now }
@@ -158,14 +69,7 @@ fn push_row(
 {
     for place in 0..columns.len() {
         push_gap(text, separator, place)?;
-        let column = &columns[place];
-        push_value(
-            text,
-            separator,
-            columns.len(),
-            column.dtype(),
-            column.get(index),
-        )?;
+        columns[place].push_field(text, separator, columns.len(), index)?;
     }
     Ok(text.push(b'\n')?)
 }
@@ -198,6 +102,26 @@ pub(crate) fn names_text(
     Ok(text)
 }
 
+// The columns, for the rows from one on.
+fn piece_columns(
+    alloc: Global,
+    columns: &[Column],
+    row: usize,
+) -> Result<Vec<PieceColumn<'_>>, OutOfMemory>
+    ensures { IfOk result (λ v. v.items ≡ columns.now) }
+{
+    let mut lent = Vec::with_capacity(alloc, columns.len())?;
+    for column in columns {
+        lent.push(PieceColumn::new(column, row))?;
+    }
+    Ok(lent)
+}
+
+// Room for the text of so many rows, if their fields aren't long. No contract rests on it.
+fn room_for(rows: usize, width: usize) -> usize {
+    rows.saturating_mul(width).saturating_mul(8).min(MOST_ROOM)
+}
+
 /// The records of the rows from one number up to another.
 pub(crate) fn rows_text(
     alloc: Global,
@@ -210,9 +134,10 @@ pub(crate) fn rows_text(
     ensures { IfOk result (λ v.
         v.items ≡ rows_text separator (table_of columns.now) start (end - start)) }
 {
-    let mut text = Vec::new(alloc);
+    let lent = piece_columns(alloc, columns, start)?;
+    let mut text = Vec::with_capacity(alloc, room_for(end.saturating_sub(start), columns.len()))?;
     for index in start..end {
-        push_row(&mut text, separator, columns, index)?;
+        push_row(&mut text, separator, &lent, index)?;
     }
     Ok(text)
 }

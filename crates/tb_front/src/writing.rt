@@ -15,6 +15,9 @@ use tb_json::text_of;
 use tb_layout::layout_of_table;
 use tb_value::{OutOfMemory, PolarsError, PolarsResult};
 
+// How many rows a chunk has on average that is written as it is.
+const ROWS_OF_A_CHUNK: usize = 16_384;
+
 fn has_many_chunks(table: &DataFrame) -> bool {
     table
         .get_columns()
@@ -34,6 +37,25 @@ fn in_single_chunks(alloc: Global, table: DataFrame) -> Result<DataFrame, OutOfM
     Ok(single)
 }
 
+// Whether a column has chunks that are short on average.
+fn has_short_chunks(table: &DataFrame) -> bool {
+    table
+        .get_columns()
+        .iter()
+        .any(|column| column.n_chunks() > 1 + column.len() / ROWS_OF_A_CHUNK)
+}
+
+// The same table. This writer finds the chunk of a row again for each run of rows, so it goes over long chunks as they are.
+fn in_long_chunks(alloc: Global, table: DataFrame) -> Result<DataFrame, OutOfMemory>
+    ensures { IfOk result (λ t. table_of t ≡ table_of table) }
+{
+    if has_short_chunks(&table) {
+        in_single_chunks(alloc, table)
+    } else {
+        Ok(table)
+    }
+}
+
 fn write_csv(
     rt: &(impl Threads + Sync),
     alloc: Global,
@@ -43,7 +65,7 @@ fn write_csv(
     ensures settles { Settles result (writing_fault TextForm.Csv (table_of table)) }
     ensures text { IfOk result (λ v. v.items ≡ text_in TextForm.Csv separator (table_of table)) }
 {
-    let table = in_single_chunks(alloc, table)?;
+    let table = in_long_chunks(alloc, table)?;
     match csv_of_table(rt, alloc, &table, separator) {
         Ok(text) => Ok(text),
         Err(CsvFault::OutOfMemory) => Err(FrontFault::OutOfMemory),

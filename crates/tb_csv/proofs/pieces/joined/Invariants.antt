@@ -1,6 +1,9 @@
-use Rattle.std.proofs.Common.{◌≡◌, ◌++◌, take}
+use Rattle.std.proofs.Common.{◌≡◌, ◌++◌, length}
 use Rattle.std.specs.List.{flat_map}
 use Rattle.tb_csv.proofs.pieces.joined.Given as goal
 
 abbrev pub invariant-loop-piece : goal.invariant-loop-piece
-invariant-loop-piece l = l.text.items ≡ l.first ++ flat_map (λ p. p.items) (take l.piece-index l.pieces)
+invariant-loop-piece l = record {
+  text : l.text.items ++ flat_map (λ p. p.items) l.piece-iterator.rest.items ≡ l.first ++ flat_map (λ p. p.items) l.initial.piece-iterator.rest.items;
+  rest_len : l.piece-iterator.rest.len ≡ length l.piece-iterator.rest.items;
+}

@@ -1,17 +1,25 @@
-use Rattle.std.proofs.Common.{◌≡◌, ◌-◌, ◌≤◌, ◌∙◌, ap, arith, inl, inr, refl, ⊎_elim}
+use Rattle.std.proofs.Common.{◌≡◌, ◌-◌, ◌<◌, ◌≤◌, ◌++◌, ◌∙◌, List, ap, arith, inl, inr, length, refl, subst, sym, ⊎_elim}
+use Rattle.std.specs.List.{All}
+use Rattle.tb_chunk.specs.Promise.Col.{Col, values}
 use Rattle.tb_frame.specs.Promise.Table.{table_of}
+use Rattle.tb_csv.specs.Promise.Texts.{record_text, row_fields}
 use Rattle.tb_csv.specs.Texts.{rows_text}
 use Rattle.tb_csv.proofs.RowPieces.{rows_more}
 use Rattle.tb_csv.proofs.text.rows_text.Goals as goal
 
+pub push_row-requires : goal.push_row-requires
+push_row-requires c = subst (λ (cs : List Col). All (λ (k : Col). c.loop-index.index < length (values k)) cs) (sym (c.deref.ensures.value ∙ c.in_ok-lent.ensures)) (λ i d low. omega (arith, c.loop-index-test.true, c.requires i d low))
+
 pub loop-index-init : goal.loop-index-init
-loop-index-init c = record { from = omega arith; to = inr refl; text = let none : c.args.start - c.args.start ≡ 0 = omega arith in rw none c.new-text.ensures.items }
+loop-index-init c = record { from = omega arith; to = inr refl; text = let none : c.args.start - c.args.start ≡ 0 = omega arith in rw none c.in_ok-text.ensures.items }
 
 pub loop-index-preserved : goal.loop-index-preserved
 loop-index-preserved c = record {
   from = omega (arith, c.loop-index.invariant.from);
   to = inl (omega (arith, c.loop-index-test.true));
-  text = rows_more c.args.separator (table_of c.args.columns.now) c.args.start c.loop-index.index _ _ c.loop-index.invariant.from c.in_ok-push_row.ensures c.loop-index.invariant.text;
+  text = rows_more c.args.separator (table_of c.args.columns.now) c.args.start c.loop-index.index _ _ c.loop-index.invariant.from
+      (subst (λ (cs : List Col). c.push_row.new.text.items ≡ c.loop-index.text.items ++ record_text c.args.separator (row_fields (table_of cs) c.loop-index.index)) (c.deref.ensures.value ∙ c.in_ok-lent.ensures) c.in_ok-push_row.ensures)
+      c.loop-index.invariant.text;
 }
 
 pub returns : goal.returns

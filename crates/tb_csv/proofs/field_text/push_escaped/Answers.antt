@@ -1,7 +1,7 @@
 use Rattle.std.proofs.Common.{arith}
 use Rattle.tb_csv.proofs.EscapeWalks.{escaped_byte, escaped_end, escaped_none, escaped_quote}
-use Rattle.tb_csv.proofs.text.push_escaped.Goals as goal
-use Rattle.tb_csv.proofs.text.push_escaped.Goals.{else-byte-eq34, then-byte-eq34+in_ok-push}
+use Rattle.tb_csv.proofs.field_text.push_escaped.Goals as goal
+use Rattle.tb_csv.proofs.field_text.push_escaped.Goals.{else-byte-eq34, then-byte-eq34+in_ok-push}
 
 pub loop-byte-init : goal.loop-byte-init
 loop-byte-init c separator = escaped_none separator c.args.text.now.items
