@@ -1,5 +1,5 @@
 -- What is given comes out again: the tables of the rows that were taken up, and the place of a key.
-use Rattle.std.proofs.Common.{◌≡◌, ℕ, suc, ◌+◌, ◌<◌, Bool, true, false, cond, not, nat_lt, List, [], ◌∷◌, ◌++◌, length, get_or, map, ◌⊎◌, Option, Some, None, is_none, Err, refl, ap, arith, sym, ◌∙◌, subst}
+use Rattle.std.proofs.Common.{◌≡◌, ℕ, suc, ◌+◌, ◌<◌, Bool, true, false, cond, not, nat_lt, List, [], ◌∷◌, ◌++◌, length, get_or, map, ◌⊎◌, Option, Some, None, is_none, refl, ap, arith, sym, ◌∙◌, subst}
 use Rattle.std.specs.Prelude.{All, AllPairs, option_map, position}
 use Rattle.std.specs.List.{enumerate_from, find, position_or_len}
 use Rattle.std.proofs.lemmas.List.{ext_get_or, get_or-map, length-map, map-append}
@@ -16,7 +16,6 @@ use Rattle.tb_value.specs.declared.error.Side.{Side}
 use Rattle.tb_value.specs.declared.error.Side.TheVariants as side
 use Rattle.tb_value.proofs.Loops.{map-map}
 use Rattle.tb_value.proofs.RowNumbers.{row_numbers_more}
-use Rattle.tb_value.specs.declared.limits.TheConstants.{MAX_ROWS}
 use Rattle.tb_chunk.specs.Promise.Col.{Col, values}
 use Rattle.tb_frame.specs.Promise.Join.{by_names}
 use Rattle.tb_frame.specs.Promise.Refusal.{unknown_key}
@@ -24,14 +23,11 @@ use Rattle.tb_frame.specs.Promise.Table.{IsTable, IsTyped, Table, TableColumn, h
 use Rattle.tb_frame.proofs.Selected.{found, unknown, unknown-is}
 use Rattle.tb_frame.proofs.Taking.{all_plain}
 use Rattle.tb_frame.proofs.Tables.{field_is, length-rows_of, row_is}
-use Rattle.tb_delta.specs.Groups.{ids_at}
-use Rattle.tb_delta.specs.Inside.{AreGrouped, AreRows, IsKept, given_columns, place_of, with_first}
+use Rattle.tb_value.specs.See.{datum}
+use Rattle.tb_delta.specs.Inside.{AreGrouped, AreRows, IsKept, agreeing, place_of}
+use Rattle.tb_delta.specs.TakenUp.{with_first}
 use Rattle.tb_delta.specs.Promise.Now.{column_now, columns_refusal, kept_args, table_now, view_refusal}
-use Rattle.tb_delta.specs.Promise.State.{Row, State, appended, given, of_side, on_side, side_of}
-use Rattle.tb_delta.specs.Stepped.{IsInserted}
-use Rattle.tb_delta.specs.declared.fault.DeltaFault.{DeltaFault}
-use Rattle.tb_delta.specs.declared.fault.DeltaFault.TheVariants as fault
-use Rattle.tb_delta.specs.declared.groups.Groups.{Groups}
+use Rattle.tb_delta.specs.Promise.State.{Row, SideState, appended, given, side_of}
 use Rattle.tb_delta.specs.declared.key.RowKey.{RowKey}
 use Rattle.tb_delta.proofs.Partners.{position_step}
 use Rattle.tb_delta.proofs.Schemas.{rowless}
@@ -80,7 +76,7 @@ module _ (t : Table) (level : All (λ (c : TableColumn). length c.values ≡ hei
   abbrev rows : List Row
   rows = enumerate_from 0 (rows_of t)
 
-  column_back : (p : ℕ) (d : TableColumn) → p < length t → map (λ (r : Row). get_or r.1 p null) rows ≡ (get_or t p d).values
+  pub column_back : (p : ℕ) (d : TableColumn) → p < length t → map (λ (r : Row). get_or r.1 p null) rows ≡ (get_or t p d).values
   column_back p d low =
       let field : Row → Datum = λ r. get_or r.1 p null in
       let vs : List Datum = (get_or t p d).values in
@@ -114,28 +110,30 @@ module _ (t : Table) (level : All (λ (c : TableColumn). length c.values ≡ hei
 pub given_refusal : (l r : Table) (a b : Name) (nulls : Bool) → IsTable l → IsTable r → view_refusal (given l r a b nulls) ≡ columns_refusal (by_names l r (a ∷ []) (b ∷ []) (kept_args nulls))
 given_refusal l r a b nulls x y = λ t. columns_refusal (by_names (table_back l x.one_height a t) (table_back r y.one_height b t) (a ∷ []) (b ∷ []) (kept_args nulls))
 
--- a view without rows
-pub kept_none : (l r : Table) (a b : Name) (nulls : Bool) (gs : Groups) → IsTable l → IsTable r → ((d : Side) (k : RowKey) → ids_at gs d k ≡ [])
-    → columns_refusal (by_names l r (a ∷ []) (b ∷ []) (kept_args nulls)) ≡ None → IsKept (given_columns l r a b nulls) (ids_at gs)
-kept_none l r a b nulls gs x y none valid = record {
-  left = empty l a x;
-  right = empty r b y;
+-- a side without rows
+pub no_rows_kept : (t : Table) (n : Name) → IsTable t → AreRows (record { columns = schema_of t; key = n; rows = []; ever = 0 })
+no_rows_kept t n is = record {
+  ascend = λ i j d less low. absurd (omega (arith, low));
+  below = λ k d low. absurd (omega (arith, low));
+  few = omega arith;
+  typed = λ k d low. absurd (omega (arith, low));
+  distinct = subst (λ (ns : List Name). AllPairs (λ (p q : Name). p ≡ q → ⊥) ns) (sym (map-map (λ (c : Name × Kind). c.0) (λ (c : TableColumn). (c.name, c.kind)) t)) is.distinct;
+}
+
+-- the sides of two tables, and the ids of their rows under their keys
+pub kept_given : (l r : Table) (a b : Name) (nulls : Bool) (ids : Side → RowKey → List ℕ) → IsTable l → IsTable r → AreRows (side_of l a) → AreRows (side_of r b)
+    → ((k : RowKey) → ids side.Left k ≡ agreeing nulls (side_of l a) (datum k.value)) → ((k : RowKey) → ids side.Right k ≡ agreeing nulls (side_of r b) (datum k.value))
+    → columns_refusal (by_names l r (a ∷ []) (b ∷ []) (kept_args nulls)) ≡ None → IsKept (given l r a b nulls) ids
+kept_given l r a b nulls ids x y left right in_left in_right valid = record {
+  left = left;
+  right = right;
   grouped = grouped;
   valid = sym (rowless (given l r a b nulls)) ∙ given_refusal l r a b nulls x y ∙ valid;
 }
   where
-    empty : (t : Table) (n : Name) → IsTable t → AreRows (record { columns = schema_of t; key = n; rows = []; ever = 0 })
-    empty t n is = record {
-      ascend = λ i j d less low. absurd (omega (arith, low));
-      below = λ k d low. absurd (omega (arith, low));
-      few = omega arith;
-      typed = λ k d low. absurd (omega (arith, low));
-      distinct = subst (λ (ns : List Name). AllPairs (λ (p q : Name). p ≡ q → ⊥) ns) (sym (map-map (λ (c : Name × Kind). c.0) (λ (c : TableColumn). (c.name, c.kind)) t)) is.distinct;
-    }
-
-    grouped : AreGrouped (given_columns l r a b nulls) (ids_at gs)
-    grouped side.Left k = none side.Left k
-    grouped side.Right k = none side.Right k
+    grouped : AreGrouped (given l r a b nulls) ids
+    grouped side.Left k = in_left k
+    grouped side.Right k = in_right k
 
 pub as_cause : (a b : Option PolarsError) (e : PolarsError) → a ≡ b → (e ≡ OutOfMemory) ⊎ (b ≡ Some e) → (e ≡ OutOfMemory) ⊎ (a ≡ Some e)
 as_cause a b e is h = subst (λ (o : Option PolarsError). (e ≡ OutOfMemory) ⊎ (o ≡ Some e)) (sym is) h
@@ -172,22 +170,6 @@ rows_more t i =
 pub long_cells : (cs : List Col) (i : ℕ) → IsTable (table_of cs) → i < height (table_of cs) → All (λ (c : Col). i < length (values c)) cs
 long_cells cs i x low = all_plain (λ (c : TableColumn). i < length c.values) cs (long_columns (table_of cs) i x low)
 
-pub same_columns : (d : Side) (t : Table) (i : ℕ) (s : State) → (of_side d (on_side d (with_first t i) s)).columns ≡ (of_side d s).columns
-same_columns side.Left t i s = refl
-same_columns side.Right t i s = refl
-
-pub ever_first : (d : Side) (t : Table) (i : ℕ) (s : State) → (of_side d (on_side d (with_first t i) s)).ever ≡ i
-ever_first side.Left t i s = refl
-ever_first side.Right t i s = refl
-
--- a row that fits is refused for want of memory alone, where there is room
-pub wants_memory : (s : State) (d : Side) (row : List Datum) (n : State) (f : DeltaFault) → IsInserted s d row n (Err f) → FitsFields (of_side d s).columns row → (of_side d s).ever < MAX_ROWS → f ≡ fault.OutOfMemory
-wants_memory s d row n fault.Schema is fits room = absurd (is.0 fits)
-wants_memory s d row n fault.Full is fits room = absurd (omega (arith, is.1, room))
-wants_memory s d row n fault.NoRow is fits room = absurd is
-wants_memory s d row n fault.OutOfMemory is fits room = refl
-
 -- one row more is taken up
-pub taken_more : (d : Side) (t : Table) (i : ℕ) (s : State) → on_side d (appended (row_at t i)) (on_side d (with_first t i) s) ≡ on_side d (with_first t (i + 1)) s
-taken_more side.Left t i s = ap (λ (l : List Row). record s { left = record s.left { rows = l; ever = i + 1 } }) (rows_more t i)
-taken_more side.Right t i s = ap (λ (l : List Row). record s { right = record s.right { rows = l; ever = i + 1 } }) (rows_more t i)
+pub taken_more : (t : Table) (i : ℕ) (s : SideState) → appended (row_at t i) (with_first t i s) ≡ with_first t (i + 1) s
+taken_more t i s = ap (λ (l : List Row). record s { rows = l; ever = i + 1 }) (rows_more t i)

@@ -3,6 +3,7 @@ mod Changed
 mod Counted
 mod Given
 mod Gone
+mod KeyGroups
 mod Grouped
 mod KeptViews
 mod LateGroups
@@ -13,5 +14,6 @@ mod PulledViews
 mod RowLists
 mod Runs
 mod Schemas
+mod TakenUp
 mod TablesNow
 mod Without

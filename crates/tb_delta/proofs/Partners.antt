@@ -96,7 +96,7 @@ shifted a zero = refl
 shifted a (suc n) = let next : suc a + 1 ≡ suc (a + 1) = omega arith in
     ap (λ (l : List ℕ). suc a ∷ l) (ap (λ b. range_with_len b n) next ∙ shifted (a + 1) n)
 
-picked : (f : Row → ℕ) (g : Row → Datum) (t : Datum → Bool) (ps : List Row)
+pub picked : (f : Row → ℕ) (g : Row → Datum) (t : Datum → Bool) (ps : List Row)
     → map (λ i. get_or (map f ps) i 0) (filter (λ i. t (get_or (map g ps) i null)) (row_numbers (length ps))) ≡ map f (filter (λ p. t (g p)) ps)
 picked f g t [] = refl
 picked f g t (p ∷ ps) =

@@ -1,17 +1,14 @@
 -- What a view keeps, and what it stands for.
 use Rattle.std.specs.Prelude.{◌≢◌, ◌≡◌, ◌<◌, ◌≤◌, ℕ, Bool, false, ◌||◌, List, [], All, AllPairs, filter, map, position, slice_index_or, unwrap_or, Option, Some, None}
-use Rattle.std.specs.List.{enumerate_from}
 use Rattle.tb_value.specs.Promise.Datum.{Datum, null, is_present}
 use Rattle.tb_value.specs.Promise.Kind.{Kind}
 use Rattle.tb_value.specs.Promise.Names.{Name, same_name}
-use Rattle.tb_value.specs.Promise.Pairs.{row_numbers}
 use Rattle.tb_value.specs.Promise.Same.{agrees}
 use Rattle.tb_value.specs.Promise.Typed.{FitsFields}
 use Rattle.tb_value.specs.See.{datum, data_of}
 use Rattle.tb_value.specs.SeeKind.{part}
 use Rattle.tb_value.specs.declared.error.Side.{Side}
 use Rattle.tb_value.specs.declared.limits.TheConstants.{MAX_ROWS}
-use Rattle.tb_frame.specs.Promise.Table.{Table, row_at, schema_of}
 use Rattle.tb_delta.specs.Promise.Now.{view_refusal}
 use Rattle.tb_delta.specs.Promise.State.{Row, SideState, State, of_side}
 use Rattle.tb_delta.specs.Groups.{ids_at}
@@ -102,17 +99,3 @@ pub record IsView (left right : SideRows) (join_nulls : Bool) (gs : Groups) : Ty
   pub kept : IsKept (state_of left right join_nulls) (ids_at gs)
   pub left_placed : IsPlaced left
   pub right_placed : IsPlaced right
-
--- WHAT IS TAKEN UP
-
--- the sides of two tables without their rows
-abbrev pub given_columns : Table → Table → Name → Name → Bool → State
-given_columns left right left_on right_on join_nulls = record {
-  left = record { columns = schema_of left; key = left_on; rows = []; ever = 0 };
-  right = record { columns = schema_of right; key = right_on; rows = []; ever = 0 };
-  join_nulls = join_nulls;
-}
-
--- a side with the first n rows of a table
-abbrev pub with_first : Table → ℕ → SideState → SideState
-with_first t n s = record s { rows = enumerate_from 0 (map (row_at t) (row_numbers n)); ever = n }

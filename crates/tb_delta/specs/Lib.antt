@@ -2,6 +2,7 @@ pub mod Keys
 pub mod Groups
 pub mod Late
 pub mod Inside
+pub mod TakenUp
 pub mod Changing
 pub mod Stepped
 pub mod Running

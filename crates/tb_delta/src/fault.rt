@@ -1,7 +1,4 @@
 //! Why a step is refused.
-ghost use Rattle.std.specs.Prelude.{◌≡◌};
-
-use tb_value::OutOfMemory;
 
 /// Why a step is refused.
 #[derive(Clone, Copy, PartialEq, Eq, Debug)]
@@ -13,14 +10,4 @@ pub enum DeltaFault {
     /// No row of the side has the id.
     NoRow,
     OutOfMemory,
-}
-
-/// The want of memory that a fault is.
-pub(crate) fn only_memory(fault: DeltaFault) -> OutOfMemory
-    requires { fault ≡ DeltaFault.OutOfMemory }
-{
-    match fault {
-        DeltaFault::OutOfMemory => OutOfMemory,
-        DeltaFault::Schema | DeltaFault::Full | DeltaFault::NoRow => unreachable!(),
-    }
 }

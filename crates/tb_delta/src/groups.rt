@@ -124,6 +124,41 @@ impl Group {
         Ok(())
     }
 
+    // The group of the ids of a side.
+    fn of_ids(alloc: Global, side: Side, ids: &[u32]) -> Result<Group, OutOfMemory>
+        ensures { IfOk result (λ g.
+            (s : Side) → side_ids s g ≡ (if is_side side s then ids.now else [])) }
+    {
+        let own = Vec::from_slice(alloc, ids)?;
+        let others = Vec::new(alloc);
+        match side {
+            Side::Left => Ok(Group {
+                left: own,
+                right: others,
+            }),
+            Side::Right => Ok(Group {
+                left: others,
+                right: own,
+            }),
+        }
+    }
+
+    // Puts ids behind those of their side.
+    fn extend(&mut self, side: Side, ids: &[u32]) -> Result<(), OutOfMemory>
+        ensures { OnOk result
+            ((s : Side)
+            → side_ids s self.new
+            ≡ (if is_side side s
+            then side_ids s self.old ++ ids.now
+            else side_ids s self.old)) }
+    {
+        match side {
+            Side::Left => self.left.extend_from_slice(ids)?,
+            Side::Right => self.right.extend_from_slice(ids)?,
+        }
+        Ok(())
+    }
+
     // Puts an id behind those of its side, and answers those of the other side, where they are told.
     fn put(
         &mut self,
@@ -271,6 +306,29 @@ impl Groups {
                 let key = RowKey::of(alloc, &key.value)?;
                 self.groups.insert(key, group)?;
                 Ok(Vec::new(alloc))
+            }
+        }
+    }
+
+    /// Puts ids behind those of their side under the key.
+    pub(crate) fn add_all(
+        &mut self,
+        alloc: Global,
+        side: Side,
+        key: RowKey,
+        ids: &[u32],
+    ) -> Result<(), OutOfMemory>
+        ensures { OnOk result ((s : Side) → (k : RowKey) → ids_at self.new s k
+            ≡ (if is_side side s && ties (datum key.value) (datum k.value)
+            then ids_at self.old s k ++ ids.now
+            else ids_at self.old s k)) }
+    {
+        match self.groups.get_mut(&key) {
+            Some(group) => group.extend(side, ids),
+            None => {
+                let group = Group::of_ids(alloc, side, ids)?;
+                self.groups.insert(key, group)?;
+                Ok(())
             }
         }
     }

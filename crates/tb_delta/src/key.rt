@@ -1,5 +1,6 @@
 //! Keys of rows, in an order in which only equal ones tie.
 ghost use Rattle.std.specs.Prelude.{◌≡◌, IfOk};
+ghost use Rattle.tb_rows.specs.Order.{value_cmp};
 ghost use Rattle.tb_value.specs.See.{datum};
 
 use std::alloc::Global;
@@ -21,6 +22,16 @@ impl RowKey {
         Ok(RowKey {
             value: value.as_ref().to_value(alloc)?,
         })
+    }
+}
+
+// How two keys compare. Most keys are whole numbers, and each search compares many.
+fn order_of_keys(first: &AnyValue, second: &AnyValue) -> Ordering
+    ensures { result ≡ value_cmp (datum first.now) (datum second.now) }
+{
+    match (first, second) {
+        (AnyValue::Int(a), AnyValue::Int(b)) => a.cmp(b),
+        _ => order_of_values(first.as_ref(), second.as_ref()),
     }
 }
 
@@ -61,7 +72,7 @@ impl Ord for RowKey {
     ghost matches_eq = { λ a b. same-ties (datum a.value) (datum b.value) };
 
     fn cmp(&self, other: &RowKey) -> Ordering {
-        order_of_values(self.value.as_ref(), other.value.as_ref())
+        order_of_keys(&self.value, &other.value)
     }
 }
 

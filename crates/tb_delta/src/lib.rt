@@ -16,6 +16,7 @@ mod running;
 mod side_rows;
 mod steps;
 mod tables;
+mod taking_up;
 mod view;
 
 pub use fault::DeltaFault;

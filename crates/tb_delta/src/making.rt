@@ -45,8 +45,8 @@ fn fields_of(alloc: Global, columns: &[Column]) -> Result<Vec<Field>, OutOfMemor
     Ok(fields)
 }
 
-// The place of a column that the table has.
-fn place_of(frame: &DataFrame, name: &PlSmallStr) -> usize
+/// The place of a column that the table has.
+pub(crate) fn place_of(frame: &DataFrame, name: &PlSmallStr) -> usize
     requires { unknown_key (table_of frame.now) (name.now ∷ []) ≡ None }
     ensures { position (λ (c : Col). same_name c.name name.now) frame.now ≡ Some result }
 {

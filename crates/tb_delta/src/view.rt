@@ -1,29 +1,27 @@
 //! The view.
-ghost use Rattle.std.specs.Prelude.{◌≡◌, ◌<◌, ◌∷◌, [], IfOk, OnOk, None};
+ghost use Rattle.std.specs.Prelude.{◌≡◌, ◌∷◌, [], IfOk, None};
 ghost use Rattle.std.specs.Option.{option_copied};
 ghost use Rattle.tb_value.specs.Refusals.{Settles};
 ghost use Rattle.tb_value.specs.See.{data_of};
-ghost use Rattle.tb_value.specs.declared.limits.TheConstants.{MAX_ROWS};
 ghost use Rattle.tb_frame.specs.Join.{lent_request};
 ghost use Rattle.tb_frame.specs.Promise.Join.{IsAnswer};
 ghost use Rattle.tb_frame.specs.Promise.Refusal.{too_many_rows};
-ghost use Rattle.tb_frame.specs.Promise.Table.{IsTable, height, row_at, schema_of, table_of};
-ghost use Rattle.tb_delta.specs.Inside.{given_columns, with_first};
+ghost use Rattle.tb_frame.specs.Promise.Table.{IsTable, table_of};
 ghost use Rattle.tb_delta.specs.Promise.Now.{columns_refusal, kept_args, now, partners, view_refusal};
-ghost use Rattle.tb_delta.specs.Promise.State.{appended, given, of_side, on_side};
+ghost use Rattle.tb_delta.specs.Promise.State.{given};
 ghost use Rattle.tb_delta.specs.Running.{IsRun, steps_of};
 ghost use Rattle.tb_delta.specs.Stepped.{IsInserted, IsRemoved};
 
 use crate::checking::{check_tables, kept_args};
 use crate::counting::are_too_many;
-use crate::fault::{DeltaFault, only_memory};
+use crate::fault::DeltaFault;
 use crate::groups::Groups;
 use crate::late::LateGroups;
-use crate::making::{row_at, side_without_rows};
 use crate::running::{Step, StepFault, run_steps};
 use crate::side_rows::SideRows;
 use crate::steps::{check, partners_of, pull_row, push_row};
 use crate::tables::table_now;
+use crate::taking_up::{add_keys, side_rows};
 use std::alloc::Global;
 use std::marker::Model;
 use std::mem;
@@ -31,7 +29,6 @@ use std::thread::Threads;
 use tb_frame::DataFrame;
 use tb_join::DataFrameJoinOps;
 use tb_pool::Exec;
-use tb_store::Column;
 use tb_value::{AnyValue, ComputeCause, OutOfMemory, PlSmallStr, PolarsError, PolarsResult, Side};
 
 /// The rows of two tables under ids, kept for the Inner join by one key of each: for each key the ids of the rows of both
@@ -58,8 +55,8 @@ impl Model for JoinView {
     ghost invariant = { λ v. IsView v.left v.right v.join_nulls v.groups };
 }
 
-// A view of the columns of two tables, without rows.
-fn without_rows(
+// A view of two tables that can be joined by these keys.
+fn taken_up(
     alloc: Global,
     left: &DataFrame,
     right: &DataFrame,
@@ -73,59 +70,26 @@ fn without_rows(
         (lent_request left.now right.now (left_on ∷ []) (right_on ∷ []) (kept_args join_nulls))
         ≡ None }
     ensures { IfOk result (λ v.
-        v ≡ given_columns (table_of left.now) (table_of right.now) left_on right_on join_nulls) }
+        v ≡ given (table_of left.now) (table_of right.now) left_on right_on join_nulls) }
 {
-    let left = side_without_rows(alloc, left, left_on)?;
-    let right = side_without_rows(alloc, right, right_on)?;
+    let mut groups = Groups::new(alloc);
+    add_keys(alloc, &mut groups, Side::Left, join_nulls, left, &left_on)?;
+    add_keys(
+        alloc,
+        &mut groups,
+        Side::Right,
+        join_nulls,
+        right,
+        &right_on,
+    )?;
+    let left = side_rows(alloc, left, left_on)?;
+    let right = side_rows(alloc, right, right_on)?;
     Ok(JoinView {
         left,
         right,
         join_nulls,
-        groups: Groups::new(alloc),
+        groups,
     })
-}
-
-// Takes up the row of a table.
-fn take_up_row(
-    alloc: Global,
-    view: &mut JoinView,
-    side: Side,
-    columns: &[Column],
-    row: usize,
-) -> Result<(), OutOfMemory>
-    requires table { IsTable (table_of columns.now) }
-    requires columns { (of_side side view.old).columns ≡ schema_of (table_of columns.now) }
-    requires row { row < height (table_of columns.now) }
-    requires few { (of_side side view.old).ever < MAX_ROWS }
-    ensures { OnOk result
-        (view.new ≡ on_side side (appended (row_at (table_of columns.now) row)) view.old) }
-{
-    let row = row_at(alloc, columns, row)?;
-    match view.insert(alloc, side, row) {
-        Ok(_) => Ok(()),
-        Err(fault) => Err(only_memory(fault)),
-    }
-}
-
-// Takes up the rows of a table, under the ids 0, 1, 2 and so on.
-fn take_up(
-    alloc: Global,
-    view: &mut JoinView,
-    side: Side,
-    frame: &DataFrame,
-) -> Result<(), OutOfMemory>
-    requires columns { (of_side side view.old).columns ≡ schema_of (table_of frame.now) }
-    requires no_rows { on_side side (with_first (table_of frame.now) 0) view.old ≡ view.old }
-    ensures { OnOk result
-        (view.new
-        ≡ on_side side (with_first (table_of frame.now) (height (table_of frame.now)))
-        view.old) }
-{
-    let columns = frame.get_columns();
-    for row in 0..frame.height() {
-        take_up_row(alloc, view, side, columns, row)?;
-    }
-    Ok(())
 }
 
 impl JoinView {
@@ -161,10 +125,7 @@ impl JoinView {
         let left_on = PlSmallStr::from_str(alloc, left_on)?;
         let right_on = PlSmallStr::from_str(alloc, right_on)?;
         check_tables(alloc, left, right, &left_on, &right_on, join_nulls)?;
-        let mut view = without_rows(alloc, left, right, left_on, right_on, join_nulls)?;
-        take_up(alloc, &mut view, Side::Left, left)?;
-        take_up(alloc, &mut view, Side::Right, right)?;
-        Ok(view)
+        Ok(taken_up(alloc, left, right, left_on, right_on, join_nulls)?)
     }
 
     /// The ids of the other side's rows that match the row of an id, ascending, or None where no row of the side has the id. It
