@@ -1,10 +1,13 @@
 -- The columns of the table of changes.
-use Rattle.std.specs.Prelude.{List, map, codes}
+use Rattle.std.specs.Prelude.{ℕ, List, map, codes, Option, Some}
 use Rattle.tb_value.specs.Promise.Datum.{Datum, string}
 use Rattle.tb_value.specs.Promise.Kind.{Kind}
 use Rattle.tb_value.specs.Promise.Kind as kind
 use Rattle.tb_value.specs.Promise.Names.{Name}
+use Rattle.tb_value.specs.declared.error.Side.{Side}
+use Rattle.tb_value.specs.declared.error.Side.TheVariants as side
 use Rattle.tb_frame.specs.Promise.Table.{TableColumn}
+use Rattle.tb_delta_front.specs.declared.change.Change as rust
 use Rattle.tb_delta_front.specs.declared.changes.ChangeColumn.{ChangeColumn}
 use Rattle.tb_delta_front.specs.declared.changes.ChangeColumn.TheVariants.{Step, Sign, Left, Right}
 use Rattle.tb_delta_front.specs.Promise.Deltas.{Change, number, sign_of}
@@ -29,3 +32,12 @@ value_at Right c = number c.right
 
 abbrev pub column_at : ChangeColumn → List Change → TableColumn
 column_at k cs = record { name = name_at k; kind = kind_at k; values = map (value_at k) cs }
+
+-- ---- what the program has of each change in a chunk
+
+abbrev pub id_on : Side → rust.Change → ℕ
+id_on side.Left c = c.left
+id_on side.Right c = c.right
+
+abbrev pub sign_cell : rust.Change → Option (List ℕ)
+sign_cell c = Some (sign_of c.comes)

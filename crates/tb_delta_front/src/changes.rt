@@ -1,13 +1,14 @@
 //! What steps change of a join that is kept, as a table.
-ghost use Rattle.std.specs.Prelude.{◌≡◌, ◌++◌, ◌∷◌, ◌≤◌, [], length, map, All, IfOk, OnOk, None};
+ghost use Rattle.std.specs.Prelude.{◌≡◌, ◌++◌, ◌∷◌, ◌≤◌, [], length, map, replicate, take, All, IfOk, OnOk, Some};
+ghost use Rattle.tb_value.specs.Promise.Kind as kind;
 ghost use Rattle.tb_value.specs.Promise.Typed.{HasType};
-ghost use Rattle.tb_value.specs.Refusals.{Settles};
-ghost use Rattle.tb_value.specs.See.{data_of, datum};
 ghost use Rattle.tb_value.specs.SeeKind.{kind_of};
 ghost use Rattle.tb_value.specs.declared.limits.TheConstants.{MAX_ROWS};
-ghost use Rattle.tb_chunk.specs.Made.{lists_of};
+ghost use Rattle.tb_chunk.specs.Col.{physical};
+ghost use Rattle.tb_chunk.specs.ChunkTexts.{texts_of};
+ghost use Rattle.tb_chunk.specs.Seen.{chunk_lists, storage};
 ghost use Rattle.tb_frame.specs.Promise.Table.{plain_column, table_of};
-ghost use Rattle.tb_delta_front.specs.Changes.{column_at, kind_at, name_at, value_at};
+ghost use Rattle.tb_delta_front.specs.Changes.{column_at, id_on, kind_at, name_at, sign_cell, value_at};
 ghost use Rattle.tb_delta_front.specs.Deltas.{change_view, changes_of};
 ghost use Rattle.tb_delta_front.specs.Promise.Deltas as due;
 ghost use Rattle.tb_delta_front.specs.Promise.Deltas.{changes_table, pair_with, sign_of};
@@ -18,10 +19,9 @@ use std::alloc::Global;
 use std::thread::Threads;
 use tb_frame::DataFrame;
 use tb_front::{FrontFault, TextOptions, text_of_table};
-use tb_store::Column;
+use tb_store::{Cells, Chunk, Chunks, Column, IsSorted, Series, StringBuilder, StringChunk};
 use tb_value::{
-    AnyValue, ComputeCause, DataType, MAX_ROWS, OutOfMemory, PlSmallStr, PolarsError, PolarsResult,
-    Side, only_memory,
+    ComputeCause, DataType, MAX_ROWS, OutOfMemory, PlSmallStr, PolarsError, Side, only_memory,
 };
 
 fn pair_with(step: u64, comes: bool, side: Side, id: u32, other: u32) -> Change
@@ -56,8 +56,9 @@ pub(crate) fn push_pairs(
         (changes_of changes.new.items
         ≡ changes_of changes.old.items ++ map (pair_with step comes side id) others.now) }
 {
+    changes.reserve(others.len())?;
     for other in others {
-        changes.push(pair_with(step, comes, side, id, *other))?;
+        changes.push_reserved(pair_with(step, comes, side, id, *other));
     }
     Ok(())
 }
@@ -98,61 +99,103 @@ fn sign_of(comes: bool) -> &'static str
     if comes { "+" } else { "-" }
 }
 
-fn value_at(alloc: Global, column: ChangeColumn, change: &Change) -> Result<AnyValue, OutOfMemory>
-    ensures { IfOk result (λ v. datum v ≡ value_at column (change_view change.now)) }
+// The numbers of the steps.
+fn step_numbers(alloc: Global, changes: &[Change]) -> Result<Vec<u64>, OutOfMemory>
+    ensures { IfOk result (λ v. v.items ≡ map (λ c. c.step) changes.now) }
+{
+    let mut steps = Vec::with_capacity(alloc, changes.len())?;
+    for change in changes {
+        steps.push_reserved(change.step);
+    }
+    Ok(steps)
+}
+
+fn id_on(side: Side, change: &Change) -> u32
+    ensures { result ≡ id_on side change.now }
+{
+    match side {
+        Side::Left => change.left,
+        Side::Right => change.right,
+    }
+}
+
+// The ids of the rows of a side.
+fn ids_on(alloc: Global, side: Side, changes: &[Change]) -> Result<Vec<u32>, OutOfMemory>
+    ensures { IfOk result (λ v. v.items ≡ map (id_on side) changes.now) }
+{
+    let mut ids = Vec::with_capacity(alloc, changes.len())?;
+    for change in changes {
+        ids.push_reserved(id_on(side, change));
+    }
+    Ok(ids)
+}
+
+// How many of the first changes all come, or all go.
+fn count_alike(comes: bool, changes: &[Change]) -> usize
+    ensures within { result ≤ length changes.now }
+    ensures alike { map sign_cell (take result changes.now)
+        ≡ replicate result (Some (sign_of comes)) }
+{
+    let mut count = 0;
+    for change in changes {
+        if change.comes != comes {
+            return count;
+        }
+        count += 1;
+    }
+    count
+}
+
+// The signs of the changes. Those of changes that are alike are put at once.
+fn sign_chunk(alloc: Global, changes: &[Change]) -> Result<StringChunk, OutOfMemory>
+    ensures texts { IfOk result (λ c. texts_of c ≡ map sign_cell changes.now) }
+    ensures typed { IfOk result (λ c.
+        All (HasType kind.string) (⟦<StringChunk as Chunk>⟧.shown c)) }
+{
+    let mut signs = StringBuilder::with_capacity(alloc, changes.len())?;
+    let mut rest = changes;
+    while let Some((first, behind)) = rest.split_first() {
+        let more = count_alike(first.comes, behind);
+        signs.push_times(alloc, sign_of(first.comes), more + 1)?;
+        rest = &behind[more..];
+    }
+    signs.finish(alloc)
+}
+
+// The only chunk of a column.
+fn chunks_of(alloc: Global, column: ChangeColumn, changes: &[Change]) -> Result<Chunks, OutOfMemory>
+    ensures lists { IfOk result (λ c.
+        chunk_lists c ≡ map (value_at column) (changes_of changes.now) ∷ []) }
+    ensures storage { IfOk result (λ c. storage c ≡ physical (kind_at column)) }
 {
     match column {
-        ChangeColumn::Step => Ok(AnyValue::Int(change.step as i128)),
-        ChangeColumn::Sign => {
-            let sign = PlSmallStr::from_str(alloc, sign_of(change.comes))?;
-            Ok(AnyValue::String(sign))
+        ChangeColumn::Step => {
+            let steps = Cells::from_vec(alloc, step_numbers(alloc, changes)?);
+            Ok(Chunks::UInt64Type(vec![in alloc; steps]?))
         }
-        ChangeColumn::Left => Ok(AnyValue::Int(change.left as i128)),
-        ChangeColumn::Right => Ok(AnyValue::Int(change.right as i128)),
+        ChangeColumn::Sign => {
+            let signs = sign_chunk(alloc, changes)?;
+            Ok(Chunks::StringType(vec![in alloc; signs]?))
+        }
+        ChangeColumn::Left => {
+            let ids = Cells::from_vec(alloc, ids_on(alloc, Side::Left, changes)?);
+            Ok(Chunks::UInt32Type(vec![in alloc; ids]?))
+        }
+        ChangeColumn::Right => {
+            let ids = Cells::from_vec(alloc, ids_on(alloc, Side::Right, changes)?);
+            Ok(Chunks::UInt32Type(vec![in alloc; ids]?))
+        }
     }
-}
-
-fn values_at(
-    alloc: Global,
-    column: ChangeColumn,
-    changes: &[Change],
-) -> Result<Vec<AnyValue>, OutOfMemory>
-    ensures { IfOk result (λ v. data_of v.items ≡ map (value_at column) (changes_of changes.now)) }
-{
-    let mut values = Vec::with_capacity(alloc, changes.len())?;
-    for change in changes {
-        values.push(value_at(alloc, column, change)?)?;
-    }
-    Ok(values)
-}
-
-// The values as the only list.
-fn one_list(alloc: Global, values: Vec<AnyValue>) -> Result<Vec<Vec<AnyValue>>, OutOfMemory>
-    ensures { IfOk result (λ v. lists_of v.items ≡ data_of values.items ∷ []) }
-{
-    Ok(vec![in alloc; values]?)
-}
-
-// The column of these values, which are of its type.
-fn column_of(alloc: Global, column: ChangeColumn, values: Vec<AnyValue>) -> PolarsResult<Column>
-    requires typed { All (HasType (kind_at column)) (data_of values.items) }
-    requires few { length (data_of values.items) ≤ MAX_ROWS }
-    ensures settles { Settles result None }
-    ensures column { IfOk result (λ c.
-        plain_column c
-        ≡ record
-        { name = name_at column; kind = kind_at column; values = data_of values.items }) }
-{
-    let chunks = one_list(alloc, values)?;
-    Column::from_chunks(alloc, name_at(column), type_at(column), chunks)
 }
 
 fn column_at(alloc: Global, column: ChangeColumn, changes: &[Change]) -> Result<Column, OutOfMemory>
     requires { length changes.now ≤ MAX_ROWS }
     ensures { IfOk result (λ c. plain_column c ≡ column_at column (changes_of changes.now)) }
 {
-    let values = values_at(alloc, column, changes)?;
-    only_memory(column_of(alloc, column, values))
+    let chunks = chunks_of(alloc, column, changes)?;
+    let name = PlSmallStr::from_str(alloc, name_at(column))?;
+    let series = Series::from_parts(name, type_at(column), chunks, IsSorted::Not);
+    Ok(series.into_column())
 }
 
 fn changes_columns(alloc: Global, changes: &[Change]) -> Result<Vec<Column>, OutOfMemory>
