@@ -3,3 +3,4 @@ pub mod Compared
 pub mod Faults
 pub mod Parted
 pub mod Sorts
+pub mod ByKeys

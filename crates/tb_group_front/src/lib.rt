@@ -4,6 +4,8 @@
 mod call;
 mod comparing;
 mod grouping;
+mod keyed;
+mod row_order;
 mod sorting;
 mod words;
 

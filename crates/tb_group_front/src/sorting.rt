@@ -1,43 +1,17 @@
 //! Rows in the order of their values.
 ghost use Rattle.std.specs.Prelude.{◌≡◌, ◌≤◌, IfOk, OnOk};
-ghost use Rattle.tb_value.specs.See.{lent_value};
 ghost use Rattle.tb_value.specs.declared.limits.TheConstants.{MAX_ROWS};
-ghost use Rattle.tb_chunk.specs.Promise.Col.{values};
 ghost use Rattle.tb_rows.specs.Promise.InOrder.{in_order};
-ghost use Rattle.tb_rows.specs.Promise.Rows.{row_value};
 ghost use Rattle.tb_frame.specs.Promise.Table.{table_of};
+ghost use Rattle.tb_group_front.specs.Keyed.{AreKeyed};
 ghost use Rattle.tb_group_front.specs.Promise.Sorted.{row_cmp, rows_by, sorted_table};
 
+use crate::keyed::{KeyedRow, keyed_rows, numbers_of, sort_keyed};
+use crate::row_order::compare_rows;
 use std::alloc::Global;
-use std::cmp::Ordering;
 use tb_frame::DataFrame;
-use tb_rows::order_of_values;
 use tb_store::Column;
-use tb_value::{IdxSize, MAX_ROWS, OutOfMemory, ValueRef};
-
-// The value of a row, and Null past the end.
-fn value_or_null(column: &Column, row: usize) -> ValueRef<'_>
-    ensures { lent_value result ≡ row_value (values column.now) row }
-{
-    if row < column.len() {
-        column.get(row)
-    } else {
-        ValueRef::Null
-    }
-}
-
-// How two rows compare by the first of their values that don't tie.
-fn compare_rows(columns: &[Column], first: usize, second: usize) -> Ordering
-    ensures { result ≡ row_cmp (table_of columns.now) first second }
-{
-    for column in columns {
-        let order = order_of_values(value_or_null(column, first), value_or_null(column, second));
-        if order.is_ne() {
-            return order;
-        }
-    }
-    Ordering::Equal
-}
+use tb_value::{IdxSize, MAX_ROWS, OutOfMemory};
 
 // Puts rows in the order of these columns.
 fn sort_rows(columns: &[Column], rows: &mut Vec<IdxSize>) -> Result<(), OutOfMemory>
@@ -48,8 +22,12 @@ fn sort_rows(columns: &[Column], rows: &mut Vec<IdxSize>) -> Result<(), OutOfMem
     Ok(())
 }
 
-// So many rows in the order of these columns.
-fn rows_by(alloc: Global, columns: &[Column], height: usize) -> Result<Vec<IdxSize>, OutOfMemory>
+// So many rows in the order of these columns, whose values are compared.
+fn rows_by_values(
+    alloc: Global,
+    columns: &[Column],
+    height: usize,
+) -> Result<Vec<IdxSize>, OutOfMemory>
     requires { height ≤ MAX_ROWS }
     ensures { IfOk result (λ v. v.items ≡ rows_by (table_of columns.now) height) }
 {
@@ -59,6 +37,31 @@ fn rows_by(alloc: Global, columns: &[Column], height: usize) -> Result<Vec<IdxSi
     }
     sort_rows(columns, &mut rows)?;
     Ok(rows)
+}
+
+// The same, whose first column's values stand beside the rows.
+fn rows_by_keys(
+    alloc: Global,
+    columns: &[Column],
+    height: usize,
+    mut rows: Vec<KeyedRow>,
+) -> Result<Vec<IdxSize>, OutOfMemory>
+    requires { AreKeyed height (table_of columns.now) rows.items }
+    ensures { IfOk result (λ v. v.items ≡ rows_by (table_of columns.now) height) }
+{
+    sort_keyed(columns, &mut rows)?;
+    numbers_of(alloc, &rows)
+}
+
+// The same. Where the values of the first column are whole numbers, these decide, and rows are looked up where they tie.
+fn rows_by(alloc: Global, columns: &[Column], height: usize) -> Result<Vec<IdxSize>, OutOfMemory>
+    requires { height ≤ MAX_ROWS }
+    ensures { IfOk result (λ v. v.items ≡ rows_by (table_of columns.now) height) }
+{
+    match keyed_rows(alloc, columns, height)? {
+        Some(rows) => rows_by_keys(alloc, columns, height, rows),
+        None => rows_by_values(alloc, columns, height),
+    }
 }
 
 /// The table with its rows in the order of so many of its first columns.

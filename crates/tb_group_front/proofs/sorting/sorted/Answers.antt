@@ -4,7 +4,7 @@ use Rattle.std.proofs.lemmas.List.{take_min, take-map}
 use Rattle.std.proofs.lemmas.Result.{IfOk-weaker}
 use Rattle.tb_chunk.specs.Promise.Col.{Col}
 use Rattle.tb_frame.specs.Frame.{taken_rows}
-use Rattle.tb_frame.specs.Promise.Table.{Table, height, plain_column, table_of}
+use Rattle.tb_frame.specs.Promise.Table.{height, plain_column, table_of}
 use Rattle.tb_group_front.specs.Promise.Sorted.{of_rows, rows_by, sorted_table}
 use Rattle.tb_group_front.proofs.Sorts.{rows_below, rows_many, taken_is}
 use Rattle.tb_group_front.proofs.sorting.sorted.Goals as goal

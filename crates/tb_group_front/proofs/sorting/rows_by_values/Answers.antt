@@ -3,7 +3,7 @@ use Rattle.tb_value.proofs.RowNumbers.{row_numbers_more}
 use Rattle.tb_rows.specs.Promise.InOrder.{in_order}
 use Rattle.tb_frame.specs.Promise.Table.{table_of}
 use Rattle.tb_group_front.specs.Promise.Sorted.{row_cmp, rows_by}
-use Rattle.tb_group_front.proofs.sorting.rows_by.Goals as goal
+use Rattle.tb_group_front.proofs.sorting.rows_by_values.Goals as goal
 
 pub loop-row-preserved : goal.loop-row-preserved
 loop-row-preserved c =

@@ -1,7 +1,7 @@
 use Rattle.std.proofs.Common.{◌≡◌, drop}
 use Rattle.tb_frame.specs.Promise.Table.{table_of}
 use Rattle.tb_group_front.specs.Promise.Sorted.{row_cmp}
-use Rattle.tb_group_front.proofs.sorting.compare_rows.Given as goal
+use Rattle.tb_group_front.proofs.row_order.compare_rows.Given as goal
 
 -- the values that are left decide
 abbrev pub invariant-loop-column : goal.invariant-loop-column
