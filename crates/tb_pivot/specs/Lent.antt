@@ -1,5 +1,5 @@
 -- A request as it is lent.
-use Rattle.std.specs.Prelude.{Bool, ◌&&◌, List, [], ◌∷◌, Option, is_none}
+use Rattle.std.specs.Prelude.{Bool, ◌&&◌, List, [], ◌∷◌, Option, is_none, option_map}
 use Rattle.std.specs.Borrow.{Bor}
 use Rattle.std.specs.Option.{option_copied}
 use Rattle.tb_value.specs.Promise.Names.{Name}
@@ -10,8 +10,11 @@ use Rattle.tb_value.specs.declared.error.PolarsError.{PolarsError}
 use Rattle.tb_value.specs.declared.error.PolarsError.TheVariants.{ComputeError, InvalidOperation}
 use Rattle.tb_chunk.specs.Promise.Col.{Col}
 use Rattle.tb_frame.specs.Promise.Table.{Table, table_of}
+use Rattle.tb_pivot.specs.AggWay.{agg_way, way_or_row}
 use Rattle.tb_pivot.specs.Promise.Refusal.{none_named}
 use Rattle.tb_pivot.specs.Promise.Request.{Request, Way, given_or_rest}
+use Rattle.tb_pivot.specs.declared.expr.PhysicalAggExpr.{Ghosts}
+use Rattle.tb_pivot.specs.declared.expr.PivotAgg.{PivotAgg}
 use Rattle.tb_label.specs.Promise.Label.{separator_or}
 
 -- the request of columns, names and a separator that are lent
@@ -26,6 +29,16 @@ lent_request cs on index values sorts way separator = record {
   way = way;
   separator = separator_or (option_copied separator);
 }
+
+-- the same of an aggregate or an object that is lent, or none: of an object it is what its calls
+-- answer
+abbrev pub stable_request : {D : Type 0} {H : D → Type 0} → ((d : D) → Ghosts (H d)) → List Col
+    → List Name → Option (Bor (List Name)) → Option (Bor (List Name)) → Bool
+    → Option (Bor (PivotAgg D H)) → Option (Bor Name) → Request
+stable_request of cs on index values sorts agg separator =
+    lent_request cs on (option_copied index) (option_copied values) sorts
+    (way_or_row (option_map (λ a. agg_way (λ d. (of d).named) (λ d. (of d).answers) a.now) agg))
+    separator
 
 -- 1 to 3 what is said of how many names there are
 abbrev pub name_causes : Table → List Name → Option (List Name) → Option (List Name)

@@ -1,15 +1,14 @@
 //! The calls by which a table is made wide.
-ghost use Rattle.std.specs.Prelude.{◌≡◌, ◌++◌, IfOk, length, option_map};
+ghost use Rattle.std.specs.Prelude.{◌≡◌, ◌++◌, IfOk, length};
 ghost use Rattle.std.specs.Option.{option_copied};
 ghost use Rattle.tb_value.specs.Promise.Refusals.{first_cause};
 ghost use Rattle.tb_value.specs.Refusals.{Settles};
 ghost use Rattle.tb_agg.specs.Grouped.{AreGroupsOf};
 ghost use Rattle.tb_chunk.specs.Promise.Col as columns;
 ghost use Rattle.tb_frame.specs.Promise.Table.{table_of};
-ghost use Rattle.tb_pivot.specs.Lent.{lent_request};
+ghost use Rattle.tb_pivot.specs.Lent.{lent_request, stable_request};
 ghost use Rattle.tb_pivot.specs.Promise.Pivot.{pivot_table};
 ghost use Rattle.tb_pivot.specs.Promise.Refusal.{pivot_refusal};
-ghost use Rattle.tb_pivot.specs.AggWay.{agg_way, way_or_row};
 ghost use Rattle.tb_pivot.specs.Answered.{Gives};
 ghost use Rattle.tb_frame.specs.Promise.Table.{plain_column};
 ghost use Rattle.tb_pivot.specs.Promise.Pivot.{answer_of};
@@ -68,10 +67,11 @@ pub fn pivot_by<M: CellMaker>(
 ) -> PolarsResult<DataFrame>
     requires { M.IsReady maker.now }
     ensures settles { Settles result (pivot_refusal
-        (lent_request table.now on.now (option_copied index.entry) (option_copied values.entry) sort_columns (M.way maker.now) separator.entry)) }
-    ensures table { IfOk result (λ t. table_of t
-        ≡ pivot_table (lent_request table.now on.now (option_copied index.entry) (option_copied values.entry) sort_columns
-        (M.way maker.now) separator.entry)) }
+        (lent_request table.now on.now (option_copied index.entry) (option_copied values.entry)
+        sort_columns (M.way maker.now) separator.entry)) }
+    ensures table { IfOk result (λ t. table_of t ≡ pivot_table
+        (lent_request table.now on.now (option_copied index.entry) (option_copied values.entry)
+        sort_columns (M.way maker.now) separator.entry)) }
 {
     let names = request_names(alloc, table, on, index, values)?;
     let columns = found(alloc, table, on, &names.index, &names.values, maker)?;
@@ -100,11 +100,11 @@ fn pivot_asked<K: Told>(
     requires name { K.told_name ≡ named expr.now }
     requires answers { K.told_answers ≡ answers expr.now }
     ensures settles { Settles result (pivot_refusal
-        (lent_request table.now on.now (option_copied index.entry) (option_copied values.entry) sort_columns
-        (asked K.told_name K.told_answers) separator.entry)) }
-    ensures table { IfOk result (λ t. table_of t
-        ≡ pivot_table (lent_request table.now on.now (option_copied index.entry) (option_copied values.entry) sort_columns
-        (asked K.told_name K.told_answers) separator.entry)) }
+        (lent_request table.now on.now (option_copied index.entry) (option_copied values.entry)
+        sort_columns (asked K.told_name K.told_answers) separator.entry)) }
+    ensures table { IfOk result (λ t. table_of t ≡ pivot_table
+        (lent_request table.now on.now (option_copied index.entry) (option_copied values.entry)
+        sort_columns (asked K.told_name K.told_answers) separator.entry)) }
 {
     let ask = |alloc: Global, column: &Series, groups: &Groups| -> PolarsResult<Series>
         requires { AreGroupsOf (length (columns.values column.now)) groups.now }
@@ -146,13 +146,12 @@ pub fn pivot_stable(
     agg_fn: Option<&PivotAgg>,
     separator: Option<&str>,
 ) -> PolarsResult<DataFrame>
-    ensures settles { let of = ⟦<dyn PhysicalAggExpr as PhysicalAggExpr>⟧ in
-        Settles result (pivot_refusal (lent_request pivot_df.now on.now (option_copied index.entry) (option_copied values.entry) sort_columns
-        (way_or_row (option_map (λ a. agg_way (λ d. (of d).named) (λ d. (of d).answers) a.now) agg_fn.entry)) separator.entry)) }
-    ensures table { let of = ⟦<dyn PhysicalAggExpr as PhysicalAggExpr>⟧ in
-        IfOk result (λ t. table_of t ≡ pivot_table
-        (lent_request pivot_df.now on.now (option_copied index.entry) (option_copied values.entry) sort_columns
-        (way_or_row (option_map (λ a. agg_way (λ d. (of d).named) (λ d. (of d).answers) a.now) agg_fn.entry)) separator.entry)) }
+    ensures settles { Settles result (pivot_refusal
+        (stable_request ⟦<dyn PhysicalAggExpr as PhysicalAggExpr>⟧ pivot_df.now on.now
+        index.entry values.entry sort_columns agg_fn.entry separator.entry)) }
+    ensures table { IfOk result (λ t. table_of t ≡ pivot_table
+        (stable_request ⟦<dyn PhysicalAggExpr as PhysicalAggExpr>⟧ pivot_df.now on.now
+        index.entry values.entry sort_columns agg_fn.entry separator.entry)) }
 {
     match agg_fn {
         Some(PivotAgg::Expr(expr)) => pivot_asked::<Brand>(
@@ -209,13 +208,12 @@ pub fn pivot(
     agg_fn: Option<&PivotAgg>,
     separator: Option<&str>,
 ) -> PolarsResult<DataFrame>
-    ensures settles { let of = ⟦<dyn PhysicalAggExpr as PhysicalAggExpr>⟧ in
-        Settles result (pivot_refusal (lent_request pivot_df.now on.now (option_copied index.entry) (option_copied values.entry) sort_columns
-        (way_or_row (option_map (λ a. agg_way (λ d. (of d).named) (λ d. (of d).answers) a.now) agg_fn.entry)) separator.entry)) }
-    ensures table { let of = ⟦<dyn PhysicalAggExpr as PhysicalAggExpr>⟧ in
-        IfOk result (λ t. table_of t ≡ pivot_table
-        (lent_request pivot_df.now on.now (option_copied index.entry) (option_copied values.entry) sort_columns
-        (way_or_row (option_map (λ a. agg_way (λ d. (of d).named) (λ d. (of d).answers) a.now) agg_fn.entry)) separator.entry)) }
+    ensures settles { Settles result (pivot_refusal
+        (stable_request ⟦<dyn PhysicalAggExpr as PhysicalAggExpr>⟧ pivot_df.now on.now
+        index.entry values.entry sort_columns agg_fn.entry separator.entry)) }
+    ensures table { IfOk result (λ t. table_of t ≡ pivot_table
+        (stable_request ⟦<dyn PhysicalAggExpr as PhysicalAggExpr>⟧ pivot_df.now on.now
+        index.entry values.entry sort_columns agg_fn.entry separator.entry)) }
 {
     pivot_stable(
         alloc,
