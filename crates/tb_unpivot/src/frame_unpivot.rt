@@ -31,7 +31,8 @@ pub trait UnpivotDF: IntoDf {
     ///
     /// # Errors
     ///
-    /// The first of these that holds, or `OutOfMemory`, which stands for a name of 2^32 bytes or more too; of a table without columns the last alone is looked at:
+    /// The first of these that holds, or `OutOfMemory`,
+    /// which stands for a name of 2^32 bytes or more too; of a table without columns the last alone is looked at:
     /// 1. `ColumnNotFound`: a name of `on` is of no column, and then a name of `index`;
     /// 2. `Duplicate`: `index` repeats a name;
     /// 3. `NoSupertype`: a column of `on` has no type in common with those before it;
