@@ -39,14 +39,24 @@ fn code_leaders(
 }
 
 // Whether the row of a place has the values of its leader, which may be the row itself.
-fn is_as_led(columns: &[&Series], names: RowNames<'_>, leader: usize, place: usize, len: usize) -> bool
+fn is_as_led(
+    columns: &[&Series],
+    names: RowNames<'_>,
+    leader: usize,
+    place: usize,
+    len: usize,
+) -> bool
     requires named { AreNamed names len }
     requires leader { leader < len }
     requires place { place < len }
     ensures { result ≡ true
         → same_at columns.now (name_of names.entry leader) (name_of names.entry place) ≡ true }
 {
-    same_fields(columns, names.name(leader) as usize, names.name(place) as usize)
+    same_fields(
+        columns,
+        names.name(leader) as usize,
+        names.name(place) as usize,
+    )
 }
 
 // Whether the row of each place has the values of its leader.
@@ -58,7 +68,13 @@ fn are_as_led(columns: &[&Series], names: RowNames<'_>, leaders: &[IdxSize]) -> 
         → AreAsLed columns.now (name_of names.entry) leaders.now (length leaders.now) }
 {
     for place in 0..leaders.len() {
-        if !is_as_led(columns, names, leaders[place] as usize, place, leaders.len()) {
+        if !is_as_led(
+            columns,
+            names,
+            leaders[place] as usize,
+            place,
+            leaders.len(),
+        ) {
             return false;
         }
     }
