@@ -12,7 +12,7 @@ ghost use Rattle.tb_group.specs.Promise.Request.{agg_names, agg_sources, lent_re
 
 use crate::request::GroupAgg;
 use std::alloc::Global;
-use tb_frame::{DataFrame, check_distinct, check_repeated, lend_columns};
+use tb_frame::{DataFrame, check_distinct, check_repeated, lend_columns, push_names};
 use tb_store::Series;
 use tb_value::{InvalidCause, OutOfMemory, PlSmallStr, PolarsError, PolarsResult};
 
@@ -101,20 +101,6 @@ fn check_types(alloc: Global, asked: &[AskedColumn<'_>]) -> PolarsResult<()>
                 one.asked.column.copy(alloc)?,
             )));
         }
-    }
-    Ok(())
-}
-
-// Puts the names behind the others.
-fn push_names<'a>(
-    names: &mut Vec<&'a PlSmallStr>,
-    more: &'a [PlSmallStr],
-) -> Result<(), OutOfMemory>
-    ensures { OnOk result
-        (map (λ n. n.now) names.new.items ≡ map (λ n. n.now) names.old.items ++ more.now) }
-{
-    for name in more {
-        names.push(name)?;
     }
     Ok(())
 }
