@@ -1,6 +1,6 @@
 //! The first row of each code, where codes are few, and whether rows of one code are the same.
-ghost use Rattle.std.specs.Prelude.{◌≡◌, ◌<◌, true, length, slice_index_or, IfOk, IfSome};
-ghost use Rattle.tb_rows.specs.Coded.{named_code, same_code, AreAsLed, AreLeaders};
+ghost use Rattle.std.specs.Prelude.{◌≡◌, true, length, IfOk, IfSome};
+ghost use Rattle.tb_rows.specs.Coded.{same_code, AreAsLed, AreLeaders};
 ghost use Rattle.tb_rows.specs.Fields.{same_at};
 ghost use Rattle.tb_rows.specs.InGroups.{named_rows};
 ghost use Rattle.tb_rows.specs.Names.{name_of, AreNamed};
@@ -38,27 +38,6 @@ fn code_leaders(
     Ok(Some(leaders))
 }
 
-// Whether the row of a place has the values of its leader, which may be the row itself.
-fn is_as_led(
-    columns: &[&Series],
-    names: RowNames<'_>,
-    leader: usize,
-    place: usize,
-    len: usize,
-) -> bool
-    requires named { AreNamed names len }
-    requires leader { leader < len }
-    requires place { place < len }
-    ensures { result ≡ true
-        → same_at columns.now (name_of names.entry leader) (name_of names.entry place) ≡ true }
-{
-    same_fields(
-        columns,
-        names.name(leader) as usize,
-        names.name(place) as usize,
-    )
-}
-
 // Whether the row of each place has the values of its leader.
 fn are_as_led(columns: &[&Series], names: RowNames<'_>, leaders: &[IdxSize]) -> bool
     requires named { AreNamed names (length leaders.now) }
@@ -68,13 +47,8 @@ fn are_as_led(columns: &[&Series], names: RowNames<'_>, leaders: &[IdxSize]) -> 
         → AreAsLed columns.now (name_of names.entry) leaders.now (length leaders.now) }
 {
     for place in 0..leaders.len() {
-        if !is_as_led(
-            columns,
-            names,
-            leaders[place] as usize,
-            place,
-            leaders.len(),
-        ) {
+        let leader = names.name(leaders[place] as usize);
+        if !same_fields(columns, leader as usize, names.name(place) as usize) {
             return false;
         }
     }

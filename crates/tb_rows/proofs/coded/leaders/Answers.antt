@@ -1,4 +1,3 @@
-use Rattle.std.proofs.Common.{ap, length}
 use Rattle.std.proofs.lemmas.Result.{IfOk-weaker}
 use Rattle.tb_rows.specs.Coded.{AreLeaders}
 use Rattle.tb_rows.specs.Fields.{same_at}

@@ -1,4 +1,4 @@
-use Rattle.std.proofs.Common.{◌≡◌, ap, length, arith}
+use Rattle.std.proofs.Common.{ap, length, arith}
 use Rattle.tb_rows.specs.Coded.{led_alike}
 use Rattle.tb_rows.proofs.Agreeing.{led_equiv}
 use Rattle.tb_rows.proofs.Numbered.{firsts_few, numbers_fit, numbers_long}
