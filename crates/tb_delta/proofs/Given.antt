@@ -1,5 +1,5 @@
 -- What is given comes out again: the tables of the rows that were taken up, and the place of a key.
-use Rattle.std.proofs.Common.{◌≡◌, ℕ, suc, ◌+◌, ◌<◌, Bool, true, false, cond, not, nat_lt, List, [], ◌∷◌, ◌++◌, length, get_or, map, ◌⊎◌, Option, Some, None, is_none, refl, ap, arith, sym, ◌∙◌, subst}
+use Rattle.std.proofs.Common.{◌≡◌, ℕ, zero, suc, ◌+◌, ◌<◌, ◌≤◌, Bool, true, false, cond, not, nat_lt, List, [], ◌∷◌, ◌++◌, length, get_or, map, ◌⊎◌, Option, Some, None, is_none, refl, ap, arith, sym, ◌∙◌, subst}
 use Rattle.std.specs.Prelude.{All, AllPairs, option_map, position}
 use Rattle.std.specs.List.{enumerate_from, find, position_or_len}
 use Rattle.std.proofs.lemmas.List.{ext_get_or, get_or-map, length-map, map-append}
@@ -24,11 +24,13 @@ use Rattle.tb_frame.proofs.Selected.{found, unknown, unknown-is}
 use Rattle.tb_frame.proofs.Taking.{all_plain}
 use Rattle.tb_frame.proofs.Tables.{field_is, length-rows_of, row_is}
 use Rattle.tb_value.specs.See.{datum}
+use Rattle.tb_value.specs.declared.limits.TheConstants.{MAX_ROWS}
 use Rattle.tb_delta.specs.Inside.{AreGrouped, AreRows, IsKept, agreeing, place_of}
 use Rattle.tb_delta.specs.TakenUp.{with_first}
 use Rattle.tb_delta.specs.Promise.Now.{column_now, columns_refusal, kept_args, table_now, view_refusal}
-use Rattle.tb_delta.specs.Promise.State.{Row, SideState, appended, given, side_of}
+use Rattle.tb_delta.specs.Promise.State.{Row, SideState, given, side_of}
 use Rattle.tb_delta.specs.declared.key.RowKey.{RowKey}
+use Rattle.tb_delta.proofs.KeptViews.{rows_appended}
 use Rattle.tb_delta.proofs.Partners.{position_step}
 use Rattle.tb_delta.proofs.Schemas.{rowless}
 
@@ -111,7 +113,10 @@ pub given_refusal : (l r : Table) (a b : Name) (nulls : Bool) → IsTable l → 
 given_refusal l r a b nulls x y = λ t. columns_refusal (by_names (table_back l x.one_height a t) (table_back r y.one_height b t) (a ∷ []) (b ∷ []) (kept_args nulls))
 
 -- a side without rows
-pub no_rows_kept : (t : Table) (n : Name) → IsTable t → AreRows (record { columns = schema_of t; key = n; rows = []; ever = 0 })
+abbrev no_rows_of : Table → Name → SideState
+no_rows_of t n = record { columns = schema_of t; key = n; rows = []; ever = 0 }
+
+no_rows_kept : (t : Table) (n : Name) → IsTable t → AreRows (no_rows_of t n)
 no_rows_kept t n is = record {
   ascend = λ i j d less low. absurd (omega (arith, low));
   below = λ k d low. absurd (omega (arith, low));
@@ -158,7 +163,7 @@ numbered_more k [] x = let same : k ≡ k + 0 = omega arith in ap (λ n. (n, x) 
 numbered_more {X} k (y ∷ xs) x = let same : (k + 1) + length xs ≡ k + suc (length xs) = omega arith in
     ap (λ (l : List (ℕ × X)). (k, y) ∷ l) (numbered_more (k + 1) xs x ∙ ap (λ n. enumerate_from (k + 1) xs ++ (n, x) ∷ []) same)
 
-rows_more : (t : Table) (i : ℕ) → enumerate_from 0 (map (row_at t) (row_numbers i)) ++ (i, row_at t i) ∷ [] ≡ enumerate_from 0 (map (row_at t) (row_numbers (i + 1)))
+pub rows_more : (t : Table) (i : ℕ) → enumerate_from 0 (map (row_at t) (row_numbers i)) ++ (i, row_at t i) ∷ [] ≡ enumerate_from 0 (map (row_at t) (row_numbers (i + 1)))
 rows_more t i =
     let some : List (List Datum) = map (row_at t) (row_numbers i) in
     let long : 0 + length some ≡ i = omega (arith, length-map (row_numbers i) (row_at t), length-range_with_len 0 i) in
@@ -167,9 +172,22 @@ rows_more t i =
     ∙ numbered_more 0 some (row_at t i)
     ∙ ap (λ n. enumerate_from 0 some ++ (n, row_at t i) ∷ []) long)
 
+pub row_long : (cs : List Col) (i : ℕ) → length (row_at (table_of cs) i) ≡ length cs
+row_long cs i = length-map (table_of cs) (λ (c : TableColumn). get_or c.values i null) ∙ length-map cs plain_column
+
 pub long_cells : (cs : List Col) (i : ℕ) → IsTable (table_of cs) → i < height (table_of cs) → All (λ (c : Col). i < length (values c)) cs
 long_cells cs i x low = all_plain (λ (c : TableColumn). i < length c.values) cs (long_columns (table_of cs) i x low)
 
--- one row more is taken up
-pub taken_more : (t : Table) (i : ℕ) (s : SideState) → appended (row_at t i) (with_first t i s) ≡ with_first t (i + 1) s
-taken_more t i s = ap (λ (l : List Row). record s { rows = l; ever = i + 1 }) (rows_more t i)
+-- a side with some rows of a table
+rows_kept : (t : Table) (n : Name) → IsTable t → (i : ℕ) → i ≤ height t → height t ≤ MAX_ROWS → AreRows (with_first t i (no_rows_of t n))
+rows_kept t n is zero low few = no_rows_kept t n is
+rows_kept t n is (suc i) low few =
+    let here : i < height t = omega (arith, low) in
+    let next : i + 1 ≡ suc i = omega arith in
+    subst (λ (j : ℕ). AreRows (with_first t j (no_rows_of t n))) next
+    (subst (λ (s : SideState). AreRows s) (ap (λ (l : List Row). record (no_rows_of t n) { rows = l; ever = i + 1 }) (rows_more t i))
+    (rows_appended (with_first t i (no_rows_of t n)) (row_at t i) (rows_kept t n is i (omega (arith, low)) few) (row_fits t i is here) (omega (arith, here, few))))
+
+-- a side with all of them
+pub given_rows_kept : (t : Table) (n : Name) → IsTable t → height t ≤ MAX_ROWS → AreRows (side_of t n)
+given_rows_kept t n is few = rows_kept t n is (height t) (omega arith) few

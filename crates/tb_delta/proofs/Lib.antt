@@ -1,5 +1,6 @@
 mod Agreeing
 mod Changed
+mod Collected
 mod Counted
 mod Given
 mod Gone

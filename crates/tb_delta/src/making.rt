@@ -6,12 +6,8 @@ ghost use Rattle.tb_value.specs.SeeKind.{part};
 ghost use Rattle.tb_chunk.specs.Promise.Col.{Col, values};
 ghost use Rattle.tb_frame.specs.Promise.Refusal.{unknown_key};
 ghost use Rattle.tb_frame.specs.Promise.Table.{row_at, schema_of, table_of};
-ghost use Rattle.tb_delta.specs.Inside.{IsPlaced, side_state};
-ghost use Rattle.tb_delta.specs.Promise.State.{SideState};
 
-use crate::side_rows::SideRows;
 use std::alloc::Global;
-use std::collections::BTreeMap;
 use tb_frame::DataFrame;
 use tb_store::Column;
 use tb_value::{AnyValue, Field, OutOfMemory, PlSmallStr};
@@ -32,8 +28,8 @@ pub(crate) fn row_at(
     Ok(fields)
 }
 
-// The names and types of the columns.
-fn fields_of(alloc: Global, columns: &[Column]) -> Result<Vec<Field>, OutOfMemory>
+/// The names and types of the columns.
+pub(crate) fn fields_of(alloc: Global, columns: &[Column]) -> Result<Vec<Field>, OutOfMemory>
     ensures { IfOk result (λ v. map part v.items ≡ schema_of (table_of columns.now)) }
 {
     let mut fields = Vec::with_capacity(alloc, columns.len())?;
@@ -54,27 +50,4 @@ pub(crate) fn place_of(frame: &DataFrame, name: &PlSmallStr) -> usize
         Some(place) => place,
         None => unreachable!(),
     }
-}
-
-/// A side with the columns of the table and without rows.
-pub(crate) fn side_without_rows(
-    alloc: Global,
-    frame: &DataFrame,
-    on: PlSmallStr,
-) -> Result<SideRows, OutOfMemory>
-    requires { unknown_key (table_of frame.now) (on ∷ []) ≡ None }
-    ensures state { IfOk result (λ s.
-        side_state s
-        ≡ record { columns = schema_of (table_of frame.now); key = on; rows = []; ever = 0 }) }
-    ensures placed { IfOk result (λ s. IsPlaced s) }
-{
-    let columns = fields_of(alloc, frame.get_columns())?;
-    let key = place_of(frame, &on);
-    Ok(SideRows {
-        columns,
-        on,
-        key,
-        rows: BTreeMap::new(alloc),
-        ever: 0,
-    })
 }

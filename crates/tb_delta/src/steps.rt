@@ -1,5 +1,5 @@
 //! What an insert and a removal do to the rows of a side and to the groups.
-ghost use Rattle.std.specs.Prelude.{◌≡◌, ◌<◌, ◌++◌, ◌∷◌, [], ◌&&◌, All, AllPairs, Bool, List, ℕ, length, IfErr, IfOk, IfSome, OnErr, OnOk, option_map, if◌then◌else◌};
+ghost use Rattle.std.specs.Prelude.{◌≡◌, ◌<◌, ◌++◌, ◌∷◌, [], ◌&&◌, All, AllPairs, Bool, List, ℕ, length, IfOk, IfSome, OnErr, OnOk, option_map, if◌then◌else◌};
 ghost use Rattle.tb_value.specs.Promise.Datum.{Datum};
 ghost use Rattle.tb_value.specs.Promise.Same.{agrees};
 ghost use Rattle.tb_value.specs.Promise.Typed.{FitsFields};
@@ -80,33 +80,6 @@ fn take_from_group(groups: &mut Groups, side: Side, join_nulls: bool, key: &RowK
     }
 }
 
-// Puts a row with its key last. After a refusal all are as they were, and the row is handed back.
-pub(crate) fn push_stored(rows: &mut SideRows, row: StoredRow) -> Result<(), StoredRow>
-    requires fits { FitsFields (side_state rows.old).columns (data_of row.values.items) }
-    requires keyed { datum row.key.value ≡ key_of (side_state rows.old) (data_of row.values.items) }
-    requires few { rows.old.ever < MAX_ROWS }
-    requires placed { IsPlaced rows.old }
-    requires kept { AreRows (side_state rows.old) }
-    ensures placed { IsPlaced rows.new }
-    ensures rows { OnOk result
-        (side_state rows.new ≡ appended (data_of row.values.items) (side_state rows.old)) }
-    ensures rows_stay { OnErr result (side_state rows.new ≡ side_state rows.old) }
-    ensures stays { OnOk result (AreRows (side_state rows.new)) }
-    ensures refused { IfErr result (λ r. r ≡ row) }
-{
-    let id = rows.ever;
-    match rows.rows.insert(id, row) {
-        Ok(_) => {
-            rows.ever = id + 1;
-            Ok(())
-        }
-        Err(refused) => {
-            let (_, row) = refused.value;
-            Err(row)
-        }
-    }
-}
-
 // Puts a row with its key last, and answers the ids of the other side under the key, where they are told. After a refusal all are
 // as they were.
 pub(crate) fn put_row(
@@ -142,9 +115,13 @@ pub(crate) fn put_row(
 {
     let id = rows.ever;
     let told = put_in_group(alloc, groups, side, join_nulls, &key, id, tells)?;
-    match push_stored(rows, StoredRow { key, values: row }) {
-        Ok(()) => Ok(told),
-        Err(row) => {
+    match rows.rows.insert(id, StoredRow { key, values: row }) {
+        Ok(_) => {
+            rows.ever = id + 1;
+            Ok(told)
+        }
+        Err(refused) => {
+            let (_, row) = refused.value;
             take_from_group(groups, side, join_nulls, &row.key, id);
             Err(OutOfMemory)
         }

@@ -1,30 +1,34 @@
 //! The rows of two tables, taken up: their ids under their keys, and then the rows themselves.
 //!
 //! Rows of one key are found together by a sort, so that its group is looked up once and not for each of them.
-ghost use Rattle.std.specs.Prelude.{◌≡◌, ◌<◌, ◌∷◌, [], ◌++◌, ◌&&◌, if◌then◌else◌, None, OnOk, IfOk, length, slice_index_or};
-ghost use Rattle.tb_value.specs.Promise.Datum.{null};
+ghost use Rattle.std.specs.Prelude.{◌≡◌, ◌<◌, ◌∷◌, [], ◌++◌, ◌&&◌, if◌then◌else◌, All, None, OnOk, IfOk, length, map, slice_index_or};
+ghost use Rattle.std.specs.BTreeMap.{IsFromIterResult};
+ghost use Rattle.std.specs.List.{enumerate_from};
+ghost use Rattle.std.specs.Map.{keys_of};
+ghost use Rattle.std.specs.Ordering.{nat_cmp};
+ghost use Rattle.tb_value.specs.Promise.Pairs.{row_numbers};
 ghost use Rattle.tb_value.specs.Promise.Same.{agrees};
-ghost use Rattle.tb_value.specs.See.{datum};
+ghost use Rattle.tb_value.specs.See.{data_of, datum};
 ghost use Rattle.tb_value.specs.declared.error.Side.{Side};
-ghost use Rattle.tb_value.specs.declared.limits.TheConstants.{MAX_ROWS};
 ghost use Rattle.tb_chunk.specs.Promise.Col.{values};
 ghost use Rattle.tb_frame.specs.Promise.Refusal.{unknown_key};
-ghost use Rattle.tb_frame.specs.Promise.Table.{IsTable, height, row_at, schema_of, table_of};
+ghost use Rattle.tb_frame.specs.Promise.Table.{IsTable, height, row_at, table_of};
 ghost use Rattle.tb_numbered.specs.Numbered.{numbered_rows};
 ghost use Rattle.tb_rows.specs.Grouped.{AreGroups};
 ghost use Rattle.tb_rows.specs.Promise.Rows.{same_rows};
 ghost use Rattle.tb_delta.specs.Groups.{ids_at, is_side};
-ghost use Rattle.tb_delta.specs.Inside.{agreeing, side_state, AreRows, IsPlaced};
-ghost use Rattle.tb_delta.specs.Promise.State.{appended, side_of};
-ghost use Rattle.tb_delta.specs.TakenUp.{rows_agreeing, value_at};
+ghost use Rattle.tb_delta.specs.Inside.{agreeing, side_state, stored, AreRows, IsPlaced};
+ghost use Rattle.tb_delta.specs.Promise.State.{side_of};
+ghost use Rattle.tb_delta.specs.TakenUp.{rows_agreeing, value_at, HasKeyAt};
 ghost use Rattle.tb_delta.specs.declared.key.RowKey.{RowKey};
 
 use crate::groups::Groups;
 use crate::key::RowKey;
-use crate::making::{place_of, row_at, side_without_rows};
+use crate::making::{fields_of, place_of, row_at};
 use crate::side_rows::{SideRows, StoredRow};
-use crate::steps::{is_grouped, push_stored};
-use std::alloc::Global;
+use crate::steps::is_grouped;
+use std::alloc::{AllocError, Global};
+use std::collections::BTreeMap;
 use tb_frame::DataFrame;
 use tb_rows::{Groups as EqualRows, group_rows};
 use tb_store::{Column, Series};
@@ -132,31 +136,65 @@ pub(crate) fn add_keys(
 
 // THE ROWS
 
-// Takes up the row of a table.
-fn take_up_row(
+// A row of a table, and beside it its key.
+fn stored_row(
     alloc: Global,
-    rows: &mut SideRows,
     columns: &[Column],
     row: usize,
-) -> Result<(), OutOfMemory>
+    key: usize,
+) -> Result<StoredRow, OutOfMemory>
     requires table { IsTable (table_of columns.now) }
-    requires columns { (side_state rows.old).columns ≡ schema_of (table_of columns.now) }
     requires row { row < height (table_of columns.now) }
-    requires few { rows.old.ever < MAX_ROWS }
-    requires placed { IsPlaced rows.old }
-    requires kept { AreRows (side_state rows.old) }
-    ensures placed { IsPlaced rows.new }
-    ensures rows { OnOk result
-        (side_state rows.new
-        ≡ appended (row_at (table_of columns.now) row) (side_state rows.old)) }
-    ensures stays { OnOk result (AreRows (side_state rows.new)) }
+    requires key { key < length columns.now }
+    ensures row { IfOk result (λ s.
+        data_of s.values.items ≡ row_at (table_of columns.now) row) }
+    ensures keyed { IfOk result (λ s. HasKeyAt key (row, s)) }
 {
     let values = row_at(alloc, columns, row)?;
-    let key = RowKey::of(alloc, &values[rows.key])?;
-    match push_stored(rows, StoredRow { key, values }) {
-        Ok(()) => Ok(()),
-        Err(_) => Err(OutOfMemory),
+    let key = RowKey::of(alloc, &values[key])?;
+    Ok(StoredRow { key, values })
+}
+
+// The rows of a table under the ids 0, 1, 2 and so on.
+fn listed_rows(
+    alloc: Global,
+    frame: &DataFrame,
+    key: usize,
+) -> Result<Vec<(u32, StoredRow)>, OutOfMemory>
+    requires { key < length frame.now }
+    ensures rows { IfOk result (λ v.
+        map stored v.items
+        ≡ enumerate_from 0 (map (row_at (table_of frame.now)) (row_numbers (height (table_of frame.now))))) }
+    ensures ids { IfOk result (λ v. keys_of v.items ≡ row_numbers (height (table_of frame.now))) }
+    ensures keyed { IfOk result (λ v. All (HasKeyAt key) v.items) }
+{
+    let columns = frame.get_columns();
+    let mut listed = Vec::with_capacity(alloc, frame.height())?;
+    for row in 0..frame.height() {
+        listed.push((row as u32, stored_row(alloc, columns, row, key)?))?;
     }
+    Ok(listed)
+}
+
+// The entries as a map.
+fn collected(
+    alloc: Global,
+    entries: Vec<(u32, StoredRow)>,
+) -> Result<BTreeMap<u32, StoredRow>, AllocError>
+    ensures { IfOk result (IsFromIterResult nat_cmp entries.items) }
+{
+    entries.into_iter().collect(alloc)
+}
+
+// The same entries as a map, whose nodes are full: it is made at once, and not row by row.
+fn map_of(
+    alloc: Global,
+    entries: Vec<(u32, StoredRow)>,
+) -> Result<BTreeMap<u32, StoredRow>, OutOfMemory>
+    requires { keys_of entries.items ≡ row_numbers (length entries.items) }
+    ensures { IfOk result (λ m. m.entries ≡ entries.items) }
+{
+    Ok(collected(alloc, entries)?)
 }
 
 /// The rows of a table under the ids 0, 1, 2 and so on.
@@ -170,10 +208,14 @@ pub(crate) fn side_rows(
     ensures placed { IfOk result (λ s. IsPlaced s) }
     ensures kept { IfOk result (λ s. AreRows (side_state s)) }
 {
-    let mut rows = side_without_rows(alloc, frame, on)?;
-    let columns = frame.get_columns();
-    for row in 0..frame.height() {
-        take_up_row(alloc, &mut rows, columns, row)?;
-    }
-    Ok(rows)
+    let columns = fields_of(alloc, frame.get_columns())?;
+    let key = place_of(frame, &on);
+    let rows = map_of(alloc, listed_rows(alloc, frame, key)?)?;
+    Ok(SideRows {
+        columns,
+        on,
+        key,
+        rows,
+        ever: frame.height() as u32,
+    })
 }

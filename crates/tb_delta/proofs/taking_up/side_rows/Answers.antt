@@ -1,51 +1,49 @@
-use Rattle.std.proofs.Common.{◌≡◌, ◌∙◌, List, ap, arith, sym, subst}
+use Rattle.std.proofs.Common.{◌≡◌, ◌∙◌, ◌≤◌, ℕ, Some, List, get_or, length, map, ap, sym, subst}
+use Rattle.std.specs.Prelude.{All, unwrap_or}
+use Rattle.std.proofs.lemmas.List.{length-map}
+use Rattle.std.proofs.lemmas.List.Elements.{All-weaker}
+use Rattle.std.proofs.lemmas.List.FromFn.{length-range_with_len}
+use Rattle.tb_value.specs.Promise.Datum.{null}
+use Rattle.tb_value.specs.Promise.Kind.{Kind}
+use Rattle.tb_value.specs.Promise.Names.{Name}
+use Rattle.tb_value.specs.Promise.Pairs.{row_numbers}
+use Rattle.tb_value.specs.See.{data_of}
+use Rattle.tb_value.specs.SeeKind.{part}
+use Rattle.tb_value.specs.declared.limits.TheConstants.{MAX_ROWS}
 use Rattle.tb_chunk.specs.Promise.Col.{Col}
-use Rattle.tb_frame.specs.Promise.Table.{height, row_at, schema_of, table_of}
-use Rattle.tb_delta.specs.Inside.{AreRows, side_state}
-use Rattle.tb_delta.specs.Promise.State.{SideState, appended}
-use Rattle.tb_delta.specs.TakenUp.{with_first}
-use Rattle.tb_delta.proofs.Given.{no_rows_kept, taken_more}
+use Rattle.tb_frame.specs.Promise.Table.{height, schema_of, table_of}
+use Rattle.tb_delta.specs.Inside.{AreRows, IsKeyed, place_of, side_state, stored}
+use Rattle.tb_delta.specs.Promise.State.{SideState, side_of}
+use Rattle.tb_delta.specs.TakenUp.{HasKeyAt}
+use Rattle.tb_delta.specs.declared.side_rows.SideRows.{SideRows}
+use Rattle.tb_delta.specs.declared.side_rows.StoredRow.{StoredRow}
+use Rattle.tb_delta.proofs.Given.{given_rows_kept, place_is}
 use Rattle.tb_delta.proofs.taking_up.side_rows.Goals as goal
 
-pub loop-row-init : goal.loop-row-init
-loop-row-init c = (
-  c.in_ok-rows.ensures.state ∙ sym (ap (with_first (table_of c.args.frame.now) 0) c.in_ok-rows.ensures.state),
-  c.in_ok-rows.ensures.placed,
-  subst (λ (s : SideState). AreRows s) (sym c.in_ok-rows.ensures.state) (no_rows_kept (table_of c.args.frame.now) c.args.on c.get_columns-columns.ensures.table),
-)
-
-pub take_up_row-requires-clause-columns : goal.take_up_row-requires-clause-columns
-take_up_row-requires-clause-columns c =
-    ap (λ (s : SideState). s.columns) (c.loop-row.invariant.0 ∙ ap (with_first (table_of c.args.frame.now) c.loop-row.row) c.in_ok-rows.ensures.state)
-    ∙ ap (λ (cs : List Col). schema_of (table_of cs)) (sym c.get_columns-columns.ensures.columns)
-
-pub take_up_row-requires-clause-few : goal.take_up_row-requires-clause-few
-take_up_row-requires-clause-few c =
-    let ever : c.loop-row.rows.ever ≡ c.loop-row.row = ap (λ (s : SideState). s.ever) c.loop-row.invariant.0 in
-    omega (arith, ever, c.loop-row-test.true, c.height-row-end.ensures.short)
-
-pub take_up_row-requires-clause-placed : goal.take_up_row-requires-clause-placed
-take_up_row-requires-clause-placed c = c.loop-row.invariant.1
-
-pub take_up_row-requires-clause-kept : goal.take_up_row-requires-clause-kept
-take_up_row-requires-clause-kept c = c.loop-row.invariant.2
-
-pub loop-row-preserved : goal.loop-row-preserved
-loop-row-preserved c = (
-  c.in_ok-take_up_row.ensures.rows
-      ∙ (λ i. appended (row_at (table_of (c.get_columns-columns.ensures.columns i)) c.loop-row.row) (c.loop-row.invariant.0 i))
-      ∙ taken_more (table_of c.args.frame.now) c.loop-row.row (side_state c.in_ok-rows.rows),
-  c.in_ok-take_up_row.ensures.placed,
-  c.in_ok-take_up_row.ensures.stays,
-)
-
-pub returns-clause-state : goal.returns-clause-state
-returns-clause-state c =
-    let all : c.loop-row.row ≡ height (table_of c.args.frame.now) = omega (arith, c.loop-row.auto.row-end, c.loop-row-test.false, c.height-row-end.ensures.height) in
-    c.loop-row.invariant.0 ∙ (λ i. with_first (table_of c.args.frame.now) (all i) (c.in_ok-rows.ensures.state i))
+pub map_of-requires : goal.map_of-requires
+map_of-requires c =
+    let rows : List (ℕ × StoredRow) = c.in_ok-listed_rows.field-0.items in
+    let long : length rows ≡ height (table_of c.args.frame.now) =
+    sym (length-map rows (λ (e : ℕ × StoredRow). e.0)) ∙ ap length c.in_ok-listed_rows.ensures.ids ∙ length-range_with_len 0 (height (table_of c.args.frame.now)) in
+    c.in_ok-listed_rows.ensures.ids ∙ ap row_numbers (sym long)
 
 pub returns-clause-placed : goal.returns-clause-placed
-returns-clause-placed c = c.loop-row.invariant.1
+returns-clause-placed c =
+    let made : SideRows = record { columns = c.in_ok-columns.columns; on = c.args.on; key = c.place_of-key.result; rows = c.in_ok-rows.rows; ever = c.height.result } in
+    let place : place_of (side_state made).columns made.on ≡ Some made.key =
+    ap (λ (cs : List (Name × Kind)). place_of cs c.args.on) (c.in_ok-columns.ensures ∙ ap (λ (cs : List Col). schema_of (table_of cs)) c.get_columns.ensures.columns)
+    ∙ place_is c.args.frame.now c.args.on ∙ c.place_of-key.ensures in
+    record {
+      place = place;
+      keyed = subst (λ (es : List (ℕ × StoredRow)). All (IsKeyed (side_state made)) es) (sym c.in_ok-rows.ensures)
+          (All-weaker (HasKeyAt made.key) (IsKeyed (side_state made)) (λ e h. h ∙ ap (λ o. get_or (data_of e.1.values.items) (unwrap_or o 0) null) (sym place)) c.in_ok-listed_rows.field-0.items c.in_ok-listed_rows.ensures.keyed);
+    }
 
 pub returns-clause-kept : goal.returns-clause-kept
-returns-clause-kept c = c.loop-row.invariant.2
+returns-clause-kept c =
+    let t = table_of c.args.frame.now in
+    let columns : map part c.in_ok-columns.columns.items ≡ schema_of t = c.in_ok-columns.ensures ∙ ap (λ (cs : List Col). schema_of (table_of cs)) c.get_columns.ensures.columns in
+    let rows = ap (map stored) c.in_ok-rows.ensures ∙ c.in_ok-listed_rows.ensures.rows in
+    let state : record { columns = map part c.in_ok-columns.columns.items; key = c.args.on; rows = map stored c.in_ok-rows.rows.entries; ever = c.height.result } ≡ side_of t c.args.on =
+    λ i. record { columns = columns i; key = c.args.on; rows = rows i; ever = c.height.ensures.height i } in
+    subst (λ (s : SideState). AreRows s) (sym state) (given_rows_kept t c.args.on c.get_columns.ensures.table (subst (λ n. n ≤ MAX_ROWS) c.height.ensures.height c.height.ensures.short))
