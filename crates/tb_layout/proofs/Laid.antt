@@ -1,19 +1,15 @@
 -- The text of a table, line by line.
-use Rattle.std.proofs.Common.{◌≡◌, ◌+◌, ◌∷◌, ◌++◌, ◌∙◌, [], ℕ, List, map, sym, ap, append-nil, append_assoc, arith, codes, drop, false, ◌==◌, encode_utf8, encode_utf8_all, ◌<◌, get_or, length, take}
+use Rattle.std.proofs.Common.{◌≡◌, ◌+◌, ◌∷◌, ◌++◌, ◌∙◌, [], ℕ, List, map, sym, ap, append-nil, append_assoc, arith, codes, drop, false, ◌==◌, encode_utf8, encode_utf8_all, length, take}
 use Rattle.std.proofs.lemmas.Str.{encodes-append}
-use Rattle.std.proofs.lemmas.List.{drop-map, take-map, take_more}
+use Rattle.std.proofs.lemmas.List.{drop-map, take-map}
 use Rattle.std.proofs.lemmas.Grind.{flat_map-append}
 use Rattle.std.proofs.lemmas.List.FromFn.{map-range_with_len_more}
 use Rattle.tb_value.specs.Promise.Pairs.{row_numbers}
 use Rattle.tb_chunk.specs.Promise.Col.{Col}
 use Rattle.tb_frame.specs.Promise.Table.{Table, height, names_of, plain_column, table_of}
-use Rattle.tb_layout.specs.Laid.{ended, laid}
+use Rattle.tb_layout.specs.Laid.{ended, laid, piece}
 use Rattle.tb_layout.specs.Promise.Characters.{cut, shown_text, trimmed_text}
 use Rattle.tb_layout.specs.Promise.Lines.{cell_in, cut_columns, dashes_in, fitting_columns, layout, left_out, name_in, note, note_text, shown, side_by_side, table_lines}
-
--- a line as it stands in the text
-abbrev pub piece : ℕ → List ℕ → List ℕ
-piece line l = trimmed_text (cut line l) ++ 10 ∷ []
 
 abbrev pub pieces : ℕ → List (List ℕ) → List ℕ
 pieces line ls = ended (map (λ l. trimmed_text (cut line l)) ls)
@@ -77,15 +73,6 @@ shown_columns line cs ks are = ap table_of are ∙ sym (take-map plain_column (f
 -- and the others the rest
 pub other_columns : (line n : ℕ) (cs ks : List Col) → n ≡ fitting_columns line (table_of cs) → ks ≡ drop n cs → table_of ks ≡ left_out line (table_of cs)
 other_columns line n cs ks count are = ap table_of (are ∙ ap (λ (m : ℕ). drop m cs) count) ∙ sym (drop-map plain_column (fitting_columns line (table_of cs)) cs)
-
--- one more character is written
-pub character_more : (cs : List ℕ) (i c : ℕ) (base old new : List ℕ) → i < length cs → c ≡ get_or cs i c → new ≡ old ++ encode_utf8 c → old ≡ base ++ encode_utf8_all (take i cs) → new ≡ base ++ encode_utf8_all (take (i + 1) cs)
-character_more cs i c base old new low is push so_far =
-    let before = encode_utf8_all (take i cs) in
-    push ∙ ap (λ (s : List ℕ). s ++ encode_utf8 c) so_far ∙ append_assoc base before (encode_utf8 c)
-    ∙ ap (λ (s : List ℕ). base ++ s) (ap (λ (s : List ℕ). before ++ s) (sym (append-nil (encode_utf8 c))) ∙ sym (encodes-append (take i cs) (c ∷ [])))
-    ∙ ap (λ (x : ℕ). base ++ encode_utf8_all (take i cs ++ x ∷ [])) is
-    ∙ ap (λ (l : List ℕ). base ++ encode_utf8_all l) (sym (take_more cs i c low))
 
 -- a line feed is written behind a line
 pub line_ended : (old mid new t line : List ℕ) → mid ≡ old ++ encode_utf8_all t → t ≡ line → new ≡ mid ++ encode_utf8 10 → new ≡ old ++ encode_utf8_all (line ++ 10 ∷ [])

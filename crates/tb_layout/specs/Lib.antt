@@ -2,3 +2,4 @@ pub mod Laid
 pub mod Laws
 pub mod Notes
 pub mod Promise
+pub mod Room

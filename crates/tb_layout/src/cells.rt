@@ -1,45 +1,68 @@
 //! The cells of a table and the widths of its columns.
-ghost use Rattle.std.specs.Prelude.{◌≡◌, ◌++◌, IfOk, OnOk, map};
+ghost use Rattle.std.specs.Prelude.{◌≡◌, ◌++◌, IfOk, string_bytes};
 ghost use Rattle.tb_value.specs.See.{lent_value, IsText};
 ghost use Rattle.tb_value.specs.SeeKind.{kind_of};
-ghost use Rattle.tb_frame.specs.Promise.Table.{plain_column, table_of};
-ghost use Rattle.tb_layout.specs.Promise.Lines.{blanks, cell_of, cell_text, column_width, is_cut, is_number, padded_cell};
+ghost use Rattle.tb_date.specs.Promise.Dates.{number_text};
+ghost use Rattle.tb_frame.specs.Promise.Table.{plain_column};
+ghost use Rattle.tb_layout.specs.Promise.Characters.{shown_text};
+ghost use Rattle.tb_layout.specs.Promise.Lines.{blanks, cell_text, column_width, is_cut, is_number, padded_cell};
+ghost use Rattle.tb_layout.specs.Room.{with_cut};
 
-use crate::characters::{is_wide, push_repeated, shown, width_within};
-use std::alloc::Global;
-use tb_date::{is_date, number_text};
-use tb_label::value_text;
+use crate::characters::{is_wide, push_repeated, push_shown, width_within};
+use itoa::Buffer;
+use std::str;
+use tb_date::{date_text, dated, is_date};
+use tb_label::truth_text;
 use tb_store::Column;
-use tb_value::{DataType, OutOfMemory, PlSmallStr, ValueRef};
+use tb_value::{DataType, OutOfMemory, ValueRef};
 
-fn cell_text(
-    alloc: Global,
-    dtype: &DataType,
-    value: ValueRef<'_>,
-) -> Result<PlSmallStr, OutOfMemory>
-    requires { IsText value }
-    ensures { IfOk result (λ s. s ≡ cell_text (kind_of dtype.now) (lent_value value.entry)) }
-{
-    match value {
-        ValueRef::Int(number) => number_text(alloc, is_date(dtype), number),
-        ValueRef::Binary(_) | ValueRef::List(_) | ValueRef::Struct(_) => {
-            PlSmallStr::from_str(alloc, "..")
-        }
-        _ => value_text(alloc, value),
+/// Room for the text of a number.
+#[derive(Drop)]
+pub(crate) struct Digits {
+    number: Buffer,
+    date: [u8; 10],
+}
+
+/// Room without a number.
+pub(crate) fn no_digits() -> Digits {
+    Digits {
+        number: Buffer::new(),
+        date: [0; 10],
     }
 }
 
-/// The characters by which the value of a column of this type is shown.
-pub(crate) fn cell_of(
-    alloc: Global,
-    dtype: &DataType,
-    value: ValueRef<'_>,
-) -> Result<Vec<char>, OutOfMemory>
-    requires { IsText value }
-    ensures { IfOk result (λ v. v.items ≡ cell_of (kind_of dtype.now) (lent_value value.entry)) }
+fn number_text(digits: &mut Digits, is_day: bool, number: i128) -> &str
+    ensures { result.now ≡ number_text is_day number }
 {
-    let text = cell_text(alloc, dtype, value)?;
-    shown(alloc, text.as_str())
+    if is_day && let Some(date) = dated(number) {
+        digits.date = date_text(date);
+        return match str::from_utf8(&digits.date) {
+            Ok(text) => text,
+            Err(_) => unreachable!(),
+        };
+    }
+    digits.number.format(number)
+}
+
+/// The text of a value of a column of this type, which may stand in the room that is given.
+pub(crate) fn cell_text<'a>(
+    digits: &'a mut Digits,
+    dtype: &DataType,
+    value: ValueRef<'a>,
+) -> &'a str
+    requires { IsText value }
+    ensures { result.now ≡ cell_text (kind_of dtype.now) (lent_value value.entry) }
+{
+    match value {
+        ValueRef::Null => "null",
+        ValueRef::Boolean(truth) => truth_text(truth),
+        ValueRef::Int(number) => number_text(digits, is_date(dtype), number),
+        ValueRef::String(bytes) => match str::from_utf8(bytes) {
+            Ok(text) => text,
+            Err(_) => unreachable!(),
+        },
+        ValueRef::Binary(_) | ValueRef::List(_) | ValueRef::Struct(_) => "..",
+    }
 }
 
 /// Whether the value stands at the right of its column.
@@ -49,66 +72,56 @@ pub(crate) fn is_number(value: ValueRef<'_>) -> bool
     matches!(value, ValueRef::Int(_))
 }
 
-/// Appends the cell, at the right of so many columns or at the left, and two blanks.
+/// Appends the cell, at the right of so many columns or at the left, and two blanks, as far as the room of the line goes. Answers
+/// the room behind them.
 pub(crate) fn push_cell(
-    line: &mut Vec<char>,
-    cell: &[char],
+    text: &mut String,
+    room: Option<usize>,
+    cell: &str,
     at_right: bool,
     width: usize,
-) -> Result<(), OutOfMemory>
-    ensures { OnOk result
-        (line.new.items ≡ line.old.items ++ (padded_cell at_right width cell.now ++ blanks 2)) }
+) -> Result<Option<usize>, OutOfMemory>
+    ensures { IfOk result (λ after.
+        (string_bytes text.new, after)
+        ≡ with_cut (string_bytes text.old, room) (padded_cell at_right width (shown_text cell.now) ++ blanks 2)) }
 {
     let missing = width - width_within(width, cell);
-    if at_right {
-        push_repeated(line, ' ', missing)?;
-        line.extend_from_slice(cell)?;
+    let room = if at_right {
+        let room = push_repeated(text, room, ' ', missing)?;
+        push_shown(text, room, cell)?
     } else {
-        line.extend_from_slice(cell)?;
-        push_repeated(line, ' ', missing)?;
-    }
-    push_repeated(line, ' ', 2)
+        let room = push_shown(text, room, cell)?;
+        push_repeated(text, room, ' ', missing)?
+    };
+    push_repeated(text, room, ' ', 2)
 }
 
-// The width of a column, which is at most that of the line.
-fn column_width(alloc: Global, column: &Column, line: usize) -> Result<usize, OutOfMemory>
-    ensures { IfOk result (λ w. w ≡ column_width line (plain_column column.now)) }
+/// The width of a column, which is at most that of the line.
+pub(crate) fn column_width(column: &Column, line: usize) -> usize
+    ensures { result ≡ column_width line (plain_column column.now) }
 {
-    let name = shown(alloc, column.name().as_str())?;
-    let mut widest = width_within(line, &name);
+    let mut digits = no_digits();
+    let mut widest = width_within(line, column.name().as_str());
     for row in 0..column.len() {
-        let cell = cell_of(alloc, column.dtype(), column.get(row))?;
-        widest = widest.max(width_within(line, &cell));
+        let cell = cell_text(&mut digits, column.dtype(), column.get(row));
+        widest = widest.max(width_within(line, cell));
     }
-    Ok(widest)
-}
-
-/// The widths of the columns.
-pub(crate) fn column_widths(
-    alloc: Global,
-    columns: &[Column],
-    line: usize,
-) -> Result<Vec<usize>, OutOfMemory>
-    ensures { IfOk result (λ v. v.items ≡ map (column_width line) (table_of columns.now)) }
-{
-    let mut widths = Vec::with_capacity(alloc, columns.len())?;
-    for column in columns {
-        widths.push(column_width(alloc, column, line)?)?;
-    }
-    Ok(widths)
+    widest
 }
 
 /// Whether the name of the column or a cell of it is wider than the line.
-pub(crate) fn is_cut(alloc: Global, column: &Column, line: usize) -> Result<bool, OutOfMemory>
-    ensures { IfOk result (λ is. is ≡ is_cut line (plain_column column.now)) }
+pub(crate) fn is_cut(column: &Column, line: usize) -> bool
+    ensures { result ≡ is_cut line (plain_column column.now) }
 {
-    if is_wide(line, &shown(alloc, column.name().as_str())?) {
-        return Ok(true);
+    if is_wide(line, column.name().as_str()) {
+        return true;
     }
+    let mut digits = no_digits();
     for row in 0..column.len() {
-        if is_wide(line, &cell_of(alloc, column.dtype(), column.get(row))?) {
-            return Ok(true);
+        let cell = cell_text(&mut digits, column.dtype(), column.get(row));
+        if is_wide(line, cell) {
+            return true;
         }
     }
-    Ok(false)
+    false
 }

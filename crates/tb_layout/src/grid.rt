@@ -1,9 +1,9 @@
 //! The columns of a table that are shown, and their widths.
 ghost use Rattle.std.specs.Prelude.{◌≡◌, ◌≤◌, IfOk, drop, length, map, take};
 ghost use Rattle.tb_frame.specs.Promise.Table.{table_of};
-ghost use Rattle.tb_layout.specs.Promise.Lines.{column_width, fitting, fitting_columns};
+ghost use Rattle.tb_layout.specs.Promise.Lines.{column_width, fitting_columns};
 
-use crate::cells::column_widths;
+use crate::cells::column_width;
 use std::alloc::Global;
 use tb_store::Column;
 use tb_value::OutOfMemory;
@@ -17,19 +17,25 @@ pub(crate) struct Grid<'a> {
     ghost wide: { widths.items ≡ map (column_width line) (table_of columns.now) },
 }
 
-// How many columns of these widths stand in the line.
-fn fitting(widths: &[usize], line: usize) -> usize
-    ensures count { result ≡ fitting line widths.now }
-    ensures few { result ≤ length widths.now }
+// The widths of the columns that stand in the line. The others are not measured, but for the first of them.
+fn fitting_widths(alloc: Global, columns: &[Column], line: usize) -> Result<Vec<usize>, OutOfMemory>
+    ensures widths { IfOk result (λ v.
+        v.items ≡ map (column_width line) (table_of (take (length v.items) columns.now))) }
+    ensures count { IfOk result (λ v.
+        length v.items ≡ fitting_columns line (table_of columns.now)) }
+    ensures few { IfOk result (λ v. length v.items ≤ length columns.now) }
 {
+    let mut widths = Vec::new(alloc);
     let mut room = line;
-    for k in 0..widths.len() {
-        if room < widths[k] {
-            return k;
+    for column in columns {
+        let width = column_width(column, line);
+        if room < width {
+            return Ok(widths);
         }
-        room = (room - widths[k]).saturating_sub(2);
+        widths.push(width)?;
+        room = (room - width).saturating_sub(2);
     }
-    widths.len()
+    Ok(widths)
 }
 
 /// Those of the columns that stand in the line.
@@ -45,11 +51,9 @@ pub(crate) fn shown_grid<'a>(
         length g.columns.now ≡ fitting_columns line (table_of columns.now)) }
     ensures few { IfOk result (λ g. length g.columns.now ≤ length columns.now) }
 {
-    let mut widths = column_widths(alloc, columns, line)?;
-    let count = fitting(&widths, line);
-    widths.truncate(count);
+    let widths = fitting_widths(alloc, columns, line)?;
     Ok(Grid {
-        columns: &columns[..count],
+        columns: &columns[..widths.len()],
         line,
         widths,
     })

@@ -1,42 +1,19 @@
 //! The text of a table.
-ghost use Rattle.std.specs.Prelude.{◌≡◌, ◌++◌, ◌∷◌, [], IfOk, OnOk, encode_utf8_all, length, string_bytes};
+ghost use Rattle.std.specs.Prelude.{◌≡◌, ◌++◌, IfOk, OnOk, encode_utf8_all, length, string_bytes};
 ghost use Rattle.std.specs.List.{All};
 ghost use Rattle.tb_chunk.specs.Promise.Col.{Col, values};
 ghost use Rattle.tb_frame.specs.Promise.Table.{names_of, table_of};
 ghost use Rattle.tb_layout.specs.Laid.{ended, laid};
-ghost use Rattle.tb_layout.specs.Promise.Characters.{cut, trimmed_text};
 ghost use Rattle.tb_layout.specs.Promise.Lines.{layout, note};
 
-use crate::characters::{cut, shown, trimmed};
+use crate::characters::push_whole;
 use crate::grid::{Grid, columns_behind, shown_grid};
-use crate::lines::{dashes_line, names_line, row_line};
+use crate::lines::{push_dashes_line, push_names_line, push_row_line};
 use crate::notes::{cut_columns, note_text};
 use std::alloc::Global;
 use tb_frame::DataFrame;
 use tb_store::Column;
 use tb_value::OutOfMemory;
-
-fn push_characters(text: &mut String, characters: &[char]) -> Result<(), OutOfMemory>
-    ensures { OnOk result
-        (string_bytes text.new ≡ string_bytes text.old ++ encode_utf8_all characters.now) }
-{
-    for c in characters {
-        text.push(*c)?;
-    }
-    Ok(())
-}
-
-// Appends the line, cut to the terminal and without blanks at its end, and a line feed.
-fn push_line(text: &mut String, line: &[char], width: usize) -> Result<(), OutOfMemory>
-    ensures { OnOk result
-        (string_bytes text.new
-        ≡ string_bytes text.old
-        ++ encode_utf8_all (trimmed_text (cut width line.now) ++ 10 ∷ [])) }
-{
-    push_characters(text, trimmed(cut(line, width)))?;
-    text.push('\n')?;
-    Ok(())
-}
 
 // The lines of the columns that are shown, with so many rows.
 fn table_text(alloc: Global, grid: &Grid<'_>, rows: usize) -> Result<String, OutOfMemory>
@@ -46,10 +23,10 @@ fn table_text(alloc: Global, grid: &Grid<'_>, rows: usize) -> Result<String, Out
         ≡ encode_utf8_all (laid grid.now.line (table_of grid.now.columns.now) rows)) }
 {
     let mut text = String::new(alloc);
-    push_line(&mut text, &names_line(alloc, grid)?, grid.line)?;
-    push_line(&mut text, &dashes_line(alloc, grid)?, grid.line)?;
+    push_names_line(&mut text, grid)?;
+    push_dashes_line(&mut text, grid)?;
     for row in 0..rows {
-        push_line(&mut text, &row_line(alloc, grid, row)?, grid.line)?;
+        push_row_line(&mut text, grid, row)?;
     }
     Ok(text)
 }
@@ -70,7 +47,7 @@ fn push_note(
         return Ok(());
     }
     let said = note_text(alloc, what, columns)?;
-    push_characters(text, &shown(alloc, said.as_str())?)?;
+    push_whole(text, said.as_str())?;
     text.push('\n')?;
     Ok(())
 }
@@ -106,7 +83,7 @@ pub fn layout_of_table(
     let columns = table.get_columns();
     let grid = shown_grid(alloc, columns, width)?;
     let mut text = table_text(alloc, &grid, table.height())?;
-    let cut = cut_columns(alloc, columns, width)?;
+    let cut = cut_columns(columns, width);
     push_note(alloc, &mut text, "cut", cut)?;
     let others = columns_behind(columns, grid.columns.len());
     push_note(alloc, &mut text, "left out", others)?;

@@ -1,54 +1,114 @@
-//! The lines of a table, before they are cut.
-ghost use Rattle.std.specs.Prelude.{◌≡◌, ◌<◌, IfOk, length};
+//! The lines of a table.
+ghost use Rattle.std.specs.Prelude.{◌≡◌, ◌<◌, ◌≤◌, ◌++◌, ◌∷◌, [], OnOk, drop, encode_utf8_all, length, string_bytes, take};
 ghost use Rattle.std.specs.List.{All};
 ghost use Rattle.tb_chunk.specs.Promise.Col.{Col, values};
 ghost use Rattle.tb_frame.specs.Promise.Table.{table_of};
+ghost use Rattle.tb_layout.specs.Laid.{piece};
+ghost use Rattle.tb_layout.specs.Promise.Characters.{cut, trimmed_text};
 ghost use Rattle.tb_layout.specs.Promise.Lines.{cell_in, dashes_in, name_in, side_by_side};
 
-use crate::cells::{cell_of, is_number, push_cell};
-use crate::characters::{push_repeated, shown};
+use crate::cells::{cell_text, is_number, no_digits, push_cell};
+use crate::characters::{blanks_at_end, push_repeated};
 use crate::grid::Grid;
-use std::alloc::Global;
 use tb_value::OutOfMemory;
 
-/// The names, each in its column.
-pub(crate) fn names_line(alloc: Global, grid: &Grid<'_>) -> Result<Vec<char>, OutOfMemory>
-    ensures { IfOk result (λ v.
-        v.items ≡ side_by_side (name_in grid.now.line) (table_of grid.now.columns.now)) }
+// Ends the line that begins at this place: takes the blanks at its end, and appends a line feed.
+fn end_line(text: &mut String, start: usize) -> Result<(), OutOfMemory>
+    requires { start ≤ length (string_bytes text.old) }
+    ensures { OnOk result
+        (string_bytes text.new
+        ≡ take start (string_bytes text.old)
+        ++ (trimmed_text (drop start (string_bytes text.old)) ++ 10 ∷ [])) }
 {
-    let mut text = Vec::new(alloc);
-    for k in 0..grid.columns.len() {
-        let name = shown(alloc, grid.columns[k].name().as_str())?;
-        push_cell(&mut text, &name, false, grid.widths[k])?;
-    }
-    Ok(text)
+    let blanks = blanks_at_end(&text.as_bytes()[start..]);
+    text.truncate(text.len() - blanks);
+    text.push('\n')?;
+    Ok(())
 }
 
-/// A dash for each character that the widest of a column's lines takes.
-pub(crate) fn dashes_line(alloc: Global, grid: &Grid<'_>) -> Result<Vec<char>, OutOfMemory>
-    ensures { IfOk result (λ v.
-        v.items ≡ side_by_side (dashes_in grid.now.line) (table_of grid.now.columns.now)) }
+fn push_names(text: &mut String, grid: &Grid<'_>) -> Result<(), OutOfMemory>
+    ensures { OnOk result
+        (string_bytes text.new
+        ≡ string_bytes text.old
+        ++ encode_utf8_all (cut grid.now.line (side_by_side (name_in grid.now.line) (table_of grid.now.columns.now)))) }
 {
-    let mut text = Vec::new(alloc);
+    let mut room = Some(grid.line);
     for k in 0..grid.columns.len() {
-        push_repeated(&mut text, '-', grid.widths[k])?;
-        push_repeated(&mut text, ' ', 2)?;
+        let name = grid.columns[k].name().as_str();
+        room = push_cell(text, room, name, false, grid.widths[k])?;
     }
-    Ok(text)
+    Ok(())
 }
 
-/// The values of a row, each in its column.
-pub(crate) fn row_line(alloc: Global, grid: &Grid<'_>, row: usize) -> Result<Vec<char>, OutOfMemory>
+fn push_dashes(text: &mut String, grid: &Grid<'_>) -> Result<(), OutOfMemory>
+    ensures { OnOk result
+        (string_bytes text.new
+        ≡ string_bytes text.old
+        ++ encode_utf8_all (cut grid.now.line (side_by_side (dashes_in grid.now.line) (table_of grid.now.columns.now)))) }
+{
+    let mut room = Some(grid.line);
+    for k in 0..grid.columns.len() {
+        room = push_repeated(text, room, '-', grid.widths[k])?;
+        room = push_repeated(text, room, ' ', 2)?;
+    }
+    Ok(())
+}
+
+fn push_cells(text: &mut String, grid: &Grid<'_>, row: usize) -> Result<(), OutOfMemory>
     requires { All (λ (c : Col). row < length (values c)) grid.now.columns.now }
-    ensures { IfOk result (λ v.
-        v.items ≡ side_by_side (cell_in grid.now.line row) (table_of grid.now.columns.now)) }
+    ensures { OnOk result
+        (string_bytes text.new
+        ≡ string_bytes text.old
+        ++ encode_utf8_all (cut grid.now.line (side_by_side (cell_in grid.now.line row) (table_of grid.now.columns.now)))) }
 {
-    let mut text = Vec::new(alloc);
+    let mut digits = no_digits();
+    let mut room = Some(grid.line);
     for k in 0..grid.columns.len() {
         let column = &grid.columns[k];
         let value = column.get(row);
-        let cell = cell_of(alloc, column.dtype(), value)?;
-        push_cell(&mut text, &cell, is_number(value), grid.widths[k])?;
+        let cell = cell_text(&mut digits, column.dtype(), value);
+        room = push_cell(text, room, cell, is_number(value), grid.widths[k])?;
     }
-    Ok(text)
+    Ok(())
+}
+
+/// Appends the line of the names, each in its column.
+pub(crate) fn push_names_line(text: &mut String, grid: &Grid<'_>) -> Result<(), OutOfMemory>
+    ensures { OnOk result
+        (string_bytes text.new
+        ≡ string_bytes text.old
+        ++ encode_utf8_all (piece grid.now.line (side_by_side (name_in grid.now.line) (table_of grid.now.columns.now)))) }
+{
+    let start = text.len();
+    push_names(text, grid)?;
+    end_line(text, start)
+}
+
+/// Appends the line of dashes, one for each character that the widest of a column's lines takes.
+pub(crate) fn push_dashes_line(text: &mut String, grid: &Grid<'_>) -> Result<(), OutOfMemory>
+    ensures { OnOk result
+        (string_bytes text.new
+        ≡ string_bytes text.old
+        ++ encode_utf8_all (piece grid.now.line (side_by_side (dashes_in grid.now.line) (table_of grid.now.columns.now)))) }
+{
+    let start = text.len();
+    push_dashes(text, grid)?;
+    end_line(text, start)
+}
+
+/// Appends the line of a row, its values each in its column.
+pub(crate) fn push_row_line(
+    text: &mut String,
+    grid: &Grid<'_>,
+    row: usize,
+) -> Result<(), OutOfMemory>
+    requires { All (λ (c : Col). row < length (values c)) grid.now.columns.now }
+    ensures { OnOk result
+        (string_bytes text.new
+        ≡ string_bytes text.old
+        ++ encode_utf8_all (piece grid.now.line (side_by_side (cell_in grid.now.line row) (table_of grid.now.columns.now)))) }
+{
+    let start = text.len();
+    push_cells(text, grid, row)?;
+    end_line(text, start)
 }

@@ -11,20 +11,12 @@ use tb_store::Column;
 use tb_value::{OutOfMemory, ValueRef};
 
 /// The first column, where its name or a cell of it is wider than the line, else none.
-pub(crate) fn cut_columns<'a>(
-    alloc: Global,
-    columns: &'a [Column],
-    line: usize,
-) -> Result<&'a [Column], OutOfMemory>
-    ensures { IfOk result (λ cs. table_of cs.now ≡ cut_columns line (table_of columns.now)) }
+pub(crate) fn cut_columns(columns: &[Column], line: usize) -> &[Column]
+    ensures { table_of result.now ≡ cut_columns line (table_of columns.now) }
 {
-    let Some(first) = columns.first() else {
-        return Ok(columns);
-    };
-    if is_cut(alloc, first, line)? {
-        Ok(&columns[..1])
-    } else {
-        Ok(&[])
+    match columns.first() {
+        Some(first) if is_cut(first, line) => &columns[..1],
+        _ => &[],
     }
 }
 

@@ -5,7 +5,7 @@ use Rattle.tb_layout.proofs.layout.push_note.Goals as goal
 
 pub returns : goal.returns
 returns c =
-    note_ended c.args.what.now c.args.columns.now (string_bytes c.args.text.now) (string_bytes c.push_characters.new.text) (string_bytes c.push.new.self) c.deref.result.now
+    note_ended c.args.what.now c.args.columns.now (string_bytes c.args.text.now) (string_bytes c.push_whole.new.text) (string_bytes c.push.new.self) (shown_text c.as_str.result.now)
     (sym c.is_empty.ensures ∙ c.if-is_empty.false)
-    (c.deref.ensures.value ∙ c.in_ok-shown.ensures ∙ ap shown_text (c.as_str.ensures.value ∙ c.in_ok-said.ensures))
-    c.in_ok-push_characters.ensures c.in_ok-push.ensures.bytes
+    (ap shown_text (c.as_str.ensures.value ∙ c.in_ok-said.ensures))
+    c.in_ok-push_whole.ensures c.in_ok-push.ensures.bytes

@@ -1,7 +1,0 @@
-use Rattle.std.proofs.Common.{string_bytes}
-use Rattle.tb_layout.proofs.Laid.{character_more}
-use Rattle.tb_layout.proofs.layout.push_characters.Goals as goal
-
-pub loop-c-preserved : goal.loop-c-preserved
-loop-c-preserved c =
-    character_more c.args.characters.now c.loop-c.c-index c.c-item.result (string_bytes c.args.text.now) (string_bytes c.loop-c.text) (string_bytes c.push.new.self) c.loop-c-test.true c.c-item.is c.in_ok-push.ensures.bytes c.loop-c.invariant
