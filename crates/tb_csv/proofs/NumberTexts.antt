@@ -1,5 +1,5 @@
 -- The digits of a number stand in no quotes.
-use Rattle.std.proofs.Common.{◌≡◌, ◌≤◌, ◌<◌, ◌==◌, ◌^◌, ◌∷◌, ◌∙◌, [], ℕ, ℤ, pos, negsuc, suc, List, Bool, Some, true, false, length, refl, sym, ap, arith, ne_eqb, true≢false, FitsSigned}
+use Rattle.std.proofs.Common.{◌≡◌, ◌≤◌, ◌<◌, ◌==◌, ◌∷◌, ◌∙◌, [], ℕ, ℤ, pos, negsuc, suc, List, Some, true, false, length, refl, sym, ap, arith, ne_eqb, true≢false, FitsSigned}
 use Rattle.std.specs.Int.{w128}
 use Rattle.std.specs.Fmt.{decimal, signed_decimal}
 use Rattle.std.specs.List.{list_any}

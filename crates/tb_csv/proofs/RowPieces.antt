@@ -1,5 +1,5 @@
 -- Rows that are written in pieces.
-use Rattle.std.proofs.Common.{◌≡◌, ◌≤◌, ◌<◌, ◌+◌, ◌*◌, ◌-◌, ◌/◌, ◌∙◌, ◌∷◌, ◌++◌, [], ℕ, zero, suc, List, map, min, refl, sym, ap, subst, arith}
+use Rattle.std.proofs.Common.{◌≡◌, ◌≤◌, ◌+◌, ◌*◌, ◌-◌, ◌/◌, ◌∙◌, ◌∷◌, ◌++◌, [], ℕ, zero, suc, List, map, min, refl, sym, ap, subst, arith, append_assoc}
 use Rattle.std.proofs.Common.{Ok, Err}
 use Rattle.std.specs.List.{AllZip, Contains, flat_map, range_with_len}
 use Rattle.std.specs.Result.{IfOk, MatchResult}
@@ -9,7 +9,6 @@ use Rattle.std.proofs.lemmas.Grind.{flat_map-append}
 use Rattle.tb_value.specs.Promise.Pairs.{row_numbers}
 use Rattle.tb_value.proofs.RowNumbers.{range_cut, row_numbers_more}
 use Rattle.tb_frame.specs.Promise.Table.{Table}
-use Rattle.tb_csv.specs.Promise.Records.{Record}
 use Rattle.tb_csv.specs.Promise.Texts.{record_text, records_text, row_fields}
 use Rattle.tb_csv.specs.Texts.{piece_text, rows_text}
 use Rattle.tb_csv.specs.declared.pieces.TheConstants.{ROWS_OF_A_PIECE}
@@ -66,15 +65,6 @@ flat_of_map : {X : Type 0} (f : X → List ℕ) (xs : List X) → flat_map f xs 
 flat_of_map f [] = refl
 flat_of_map f (x ∷ xs) = ap (λ s. f x ++ s) (flat_of_map f xs)
 
--- the texts of all pieces are the text of all rows
-pub joined_pieces : {V : Type 0} (separator : ℕ) (t : Table) (height : ℕ) (items : V → List ℕ) (ps : List V)
-    → map items ps ≡ map (piece_text separator t height) (row_numbers (height / ROWS_OF_A_PIECE + 1))
-    → flat_map items ps ≡ records_text separator (map (row_fields t) (row_numbers height))
-joined_pieces separator t height items ps are =
-    flat_of_map items ps ∙ ap (flat_map (λ s. s)) are
-    ∙ sym (flat_of_map (piece_text separator t height) (row_numbers (height / ROWS_OF_A_PIECE + 1)))
-    ∙ all_pieces separator t height
-
 -- what is made of the answers of threads by number, each of which is a text or want of memory
 answered : {V : Type 0} (E : Type 0) (items : V → List ℕ) (f : ℕ → List ℕ) (ks : List ℕ) (ys : List V)
     → AllZip (λ k (u : Result V E). IfOk u (λ y. items y ≡ f k)) ks (map Ok ys) → map items ys ≡ map f ks
@@ -89,3 +79,15 @@ pub chained : {V W E : Type 0} (items : V → List ℕ) (all : W → List V) (f 
 chained items all f ks us (Err e) zipped made = tt
 chained items all f ks us (Ok w) zipped made =
     ap (map items) made.2 ∙ answered _ items f ks made.0 (subst (AllZip (λ k u. IfOk u (λ y. items y ≡ f k)) ks) made.1 zipped)
+
+-- the text grows by the pieces of a round
+pub round_more : {V : Type 0} (items : V → List ℕ) (f : ℕ → List ℕ) (vs : List V) (a b : ℕ) (old so_far new : List ℕ) → a ≤ b → map items vs ≡ map f (range_with_len a (b - a))
+    → so_far ≡ old ++ flat_map f (row_numbers a) → new ≡ so_far ++ flat_map items vs → new ≡ old ++ flat_map f (row_numbers b)
+round_more items f vs a b old so_far new low are before push =
+    let from : 0 + a ≡ a = omega arith in
+    let all : a + (b - a) ≡ b = omega (arith, low) in
+    let made : flat_map items vs ≡ flat_map f (range_with_len a (b - a)) = flat_of_map items vs ∙ ap (flat_map (λ s. s)) are ∙ sym (flat_of_map f (range_with_len a (b - a))) in
+    push ∙ ap (λ s. s ++ flat_map items vs) before
+    ∙ append_assoc old (flat_map f (row_numbers a)) (flat_map items vs)
+    ∙ ap (λ s. old ++ (flat_map f (row_numbers a) ++ s)) (made ∙ ap (λ k. flat_map f (range_with_len k (b - a))) (sym from))
+    ∙ ap (λ s. old ++ s) (sym (flat_map-append f (row_numbers a) (range_with_len (0 + a) (b - a))) ∙ ap (flat_map f) (sym (range_cut 0 a (b - a)) ∙ ap row_numbers all))

@@ -1,6 +1,6 @@
 //! The rows of a table, written in pieces side by side.
-ghost use Rattle.std.specs.Prelude.{◌≡◌, ◌∷◌, ◌++◌, ◌+◌, ◌*◌, ◌/◌, ◌≤◌, ℕ, Some, length, map, IfOk};
-ghost use Rattle.std.specs.List.{All, flat_map};
+ghost use Rattle.std.specs.Prelude.{◌≡◌, ◌∷◌, ◌++◌, ◌+◌, ◌*◌, ◌/◌, ◌-◌, ◌≤◌, ℕ, Some, length, map, IfOk, OnOk};
+ghost use Rattle.std.specs.List.{All, flat_map, range_with_len};
 ghost use Rattle.tb_value.specs.Promise.Pairs.{row_numbers};
 ghost use Rattle.tb_chunk.specs.Promise.Col.{Col, values};
 ghost use Rattle.tb_frame.specs.Promise.Table.{names_of, table_of};
@@ -17,6 +17,11 @@ use tb_value::OutOfMemory;
 
 /// How many rows are written as one piece.
 pub(crate) const ROWS_OF_A_PIECE: usize = 16_384;
+
+/// How many pieces are written before they are put together.
+pub(crate) const PIECES_OF_A_ROUND: usize = 32;
+
+pub(crate) const ROWS_OF_A_ROUND: usize = 524_288;
 
 // The records of the rows of the piece of this number.
 fn piece_text(
@@ -41,20 +46,23 @@ fn piece_text(
     rows_text(alloc, separator, columns, start, end)
 }
 
-// The records of all rows, in pieces.
+// The records of the rows of the pieces from one number up to another.
 fn row_pieces(
     rt: &(impl Threads + Sync),
     alloc: Global,
     separator: u8,
     columns: &[Column],
     height: usize,
+    first: usize,
+    last: usize,
 ) -> Result<Vec<Vec<u8>>, OutOfMemory>
     requires level { All (λ (c : Col). length (values c) ≡ height) columns.now }
+    requires last { last ≤ height / ROWS_OF_A_PIECE + 1 }
     ensures { IfOk result (λ v. map (λ p. p.items) v.items
         ≡ map (piece_text separator (table_of columns.now) height)
-        (row_numbers (height / ROWS_OF_A_PIECE + 1))) }
+        (range_with_len first (last - first))) }
 {
-    (0..height / ROWS_OF_A_PIECE + 1)
+    (first..last)
         .into_par_iter()
         .map(
             |piece: usize| -> Result<Vec<u8>, OutOfMemory>
@@ -67,22 +75,30 @@ fn row_pieces(
         .collect(rt, alloc)?
 }
 
-// The pieces behind a first text. Each is let go once it is joined.
-fn joined(alloc: Global, first: &[u8], pieces: Vec<Vec<u8>>) -> Result<Vec<u8>, OutOfMemory>
-    ensures { IfOk result (λ v. v.items ≡ first.now ++ flat_map (λ p. p.items) pieces.items) }
+// Makes room for these pieces and for so many that follow, if they are about as long. Where there is less, the text grows as it must.
+fn reserve_pieces(text: &mut Vec<u8>, pieces: &[Vec<u8>], following: usize)
+    ensures { text.new.items ≡ text.old.items }
 {
-    let total = pieces
+    let len = pieces
         .iter()
-        .fold(first.len(), |sum, piece| sum.saturating_add(piece.len()));
-    let mut text = Vec::with_capacity(alloc, total)?;
-    text.extend_from_slice(first)?;
+        .fold(0, |sum: usize, piece| sum.saturating_add(piece.len()));
+    if !pieces.is_empty() && text.capacity() - text.len() < len {
+        let rest = (len / pieces.len()).saturating_mul(following);
+        let _ = text.reserve(len.saturating_add(rest).saturating_add(rest / 8));
+    }
+}
+
+// Appends the pieces. Each is let go once it is there.
+fn push_pieces(text: &mut Vec<u8>, pieces: Vec<Vec<u8>>) -> Result<(), OutOfMemory>
+    ensures { OnOk result (text.new.items ≡ text.old.items ++ flat_map (λ p. p.items) pieces.items) }
+{
     for piece in pieces {
         text.extend_from_slice(&piece)?;
     }
-    Ok(text)
+    Ok(())
 }
 
-/// The names and all rows.
+/// The names and all rows, of which some pieces at a time stand beside the text.
 pub(crate) fn records_text(
     rt: &(impl Threads + Sync),
     alloc: Global,
@@ -95,7 +111,14 @@ pub(crate) fn records_text(
         ≡ records_text separator (map (λ n. Some n) (names_of (table_of columns.now))
         ∷ map (row_fields (table_of columns.now)) (row_numbers height))) }
 {
-    let names = names_text(alloc, separator, columns)?;
-    let pieces = row_pieces(rt, alloc, separator, columns, height)?;
-    joined(alloc, &names, pieces)
+    let count = height / ROWS_OF_A_PIECE + 1;
+    let mut text = names_text(alloc, separator, columns)?;
+    for round in 0..height / ROWS_OF_A_ROUND + 1 {
+        let first = round * PIECES_OF_A_ROUND;
+        let last = count.min(first + PIECES_OF_A_ROUND);
+        let pieces = row_pieces(rt, alloc, separator, columns, height, first, last)?;
+        reserve_pieces(&mut text, &pieces, count - last);
+        push_pieces(&mut text, pieces)?;
+    }
+    Ok(text)
 }

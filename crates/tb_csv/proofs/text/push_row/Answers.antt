@@ -1,5 +1,4 @@
 use Rattle.std.proofs.Common.{length, refl}
-use Rattle.tb_csv.specs.Promise.Texts.{field_among}
 use Rattle.tb_csv.proofs.TextWalks.{field_in, line_end, line_more, row_in}
 use Rattle.tb_csv.proofs.text.push_row.Goals as goal
 
