@@ -24,7 +24,8 @@ rows_agreeing nulls vs k = filter (λ i. agrees nulls (value_at vs i) k) (row_nu
 -- those of them that have a number below p
 abbrev pub led : Bool → List Datum → List ℕ → ℕ → Datum → List ℕ
 led nulls vs numbers p k =
-    filter (λ i. agrees nulls (value_at vs i) k && nat_lt (slice_index_or numbers i 0) p) (row_numbers (length vs))
+    filter (λ i. agrees nulls (value_at vs i) k && nat_lt (slice_index_or numbers i 0) p)
+    (row_numbers (length vs))
 
 -- the key that stands beside a row is its value at a place
 abbrev pub HasKeyAt : ℕ → ℕ × StoredRow → Type 0

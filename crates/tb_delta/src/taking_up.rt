@@ -164,7 +164,8 @@ fn listed_rows(
     requires { key < length frame.now }
     ensures rows { IfOk result (λ v.
         map stored v.items
-        ≡ enumerate_from 0 (map (row_at (table_of frame.now)) (row_numbers (height (table_of frame.now))))) }
+        ≡ enumerate_from 0
+        (map (row_at (table_of frame.now)) (row_numbers (height (table_of frame.now))))) }
     ensures ids { IfOk result (λ v. keys_of v.items ≡ row_numbers (height (table_of frame.now))) }
     ensures keyed { IfOk result (λ v. All (HasKeyAt key) v.items) }
 {

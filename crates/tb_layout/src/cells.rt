@@ -83,7 +83,8 @@ pub(crate) fn push_cell(
 ) -> Result<Option<usize>, OutOfMemory>
     ensures { IfOk result (λ after.
         (string_bytes text.new, after)
-        ≡ with_cut (string_bytes text.old, room) (padded_cell at_right width (shown_text cell.now) ++ blanks 2)) }
+        ≡ with_cut (string_bytes text.old, room)
+        (padded_cell at_right width (shown_text cell.now) ++ blanks 2)) }
 {
     let missing = width - width_within(width, cell);
     let room = if at_right {

@@ -30,7 +30,9 @@ fn push_names(text: &mut String, grid: &Grid<'_>) -> Result<(), OutOfMemory>
     ensures { OnOk result
         (string_bytes text.new
         ≡ string_bytes text.old
-        ++ encode_utf8_all (cut grid.now.line (side_by_side (name_in grid.now.line) (table_of grid.now.columns.now)))) }
+        ++ encode_utf8_all
+        (cut grid.now.line
+        (side_by_side (name_in grid.now.line) (table_of grid.now.columns.now)))) }
 {
     let mut room = Some(grid.line);
     for k in 0..grid.columns.len() {
@@ -44,7 +46,9 @@ fn push_dashes(text: &mut String, grid: &Grid<'_>) -> Result<(), OutOfMemory>
     ensures { OnOk result
         (string_bytes text.new
         ≡ string_bytes text.old
-        ++ encode_utf8_all (cut grid.now.line (side_by_side (dashes_in grid.now.line) (table_of grid.now.columns.now)))) }
+        ++ encode_utf8_all
+        (cut grid.now.line
+        (side_by_side (dashes_in grid.now.line) (table_of grid.now.columns.now)))) }
 {
     let mut room = Some(grid.line);
     for k in 0..grid.columns.len() {
@@ -59,7 +63,9 @@ fn push_cells(text: &mut String, grid: &Grid<'_>, row: usize) -> Result<(), OutO
     ensures { OnOk result
         (string_bytes text.new
         ≡ string_bytes text.old
-        ++ encode_utf8_all (cut grid.now.line (side_by_side (cell_in grid.now.line row) (table_of grid.now.columns.now)))) }
+        ++ encode_utf8_all
+        (cut grid.now.line
+        (side_by_side (cell_in grid.now.line row) (table_of grid.now.columns.now)))) }
 {
     let mut digits = no_digits();
     let mut room = Some(grid.line);
@@ -77,7 +83,9 @@ pub(crate) fn push_names_line(text: &mut String, grid: &Grid<'_>) -> Result<(), 
     ensures { OnOk result
         (string_bytes text.new
         ≡ string_bytes text.old
-        ++ encode_utf8_all (piece grid.now.line (side_by_side (name_in grid.now.line) (table_of grid.now.columns.now)))) }
+        ++ encode_utf8_all
+        (piece grid.now.line
+        (side_by_side (name_in grid.now.line) (table_of grid.now.columns.now)))) }
 {
     let start = text.len();
     push_names(text, grid)?;
@@ -89,7 +97,9 @@ pub(crate) fn push_dashes_line(text: &mut String, grid: &Grid<'_>) -> Result<(),
     ensures { OnOk result
         (string_bytes text.new
         ≡ string_bytes text.old
-        ++ encode_utf8_all (piece grid.now.line (side_by_side (dashes_in grid.now.line) (table_of grid.now.columns.now)))) }
+        ++ encode_utf8_all
+        (piece grid.now.line
+        (side_by_side (dashes_in grid.now.line) (table_of grid.now.columns.now)))) }
 {
     let start = text.len();
     push_dashes(text, grid)?;
@@ -106,7 +116,9 @@ pub(crate) fn push_row_line(
     ensures { OnOk result
         (string_bytes text.new
         ≡ string_bytes text.old
-        ++ encode_utf8_all (piece grid.now.line (side_by_side (cell_in grid.now.line row) (table_of grid.now.columns.now)))) }
+        ++ encode_utf8_all
+        (piece grid.now.line
+        (side_by_side (cell_in grid.now.line row) (table_of grid.now.columns.now)))) }
 {
     let start = text.len();
     push_cells(text, grid, row)?;

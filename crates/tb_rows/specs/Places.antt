@@ -9,4 +9,5 @@ use Rattle.tb_rows.specs.declared.places.CodePlaces.{CodePlaces}
 abbrev pub AreRecent : CodePlaces → Type 0
 AreRecent p =
     (length p.recent.items ≡ 8192)
-    × All (λ (r : CodePlace). IfSome r.place (λ i. get nat_cmp p.kept r.code ≡ Some i)) p.recent.items
+    × All (λ (r : CodePlace). IfSome r.place (λ i. get nat_cmp p.kept r.code ≡ Some i))
+    p.recent.items
