@@ -5,6 +5,7 @@ mod change;
 mod changes;
 mod deltas;
 mod lines;
+mod side_columns;
 mod step_reading;
 
 pub use deltas::{DeltaCall, delta_table_text, delta_text};

@@ -19,6 +19,7 @@ ghost use Rattle.tb_delta_front.specs.Promise.Steps as due;
 ghost use Rattle.tb_delta_front.specs.Promise.Steps.{dated, field_at, field_in, fields_in, insert_in, remove_in, row_in, step_in, steps_in, unknown_field, Fits};
 
 use crate::lines::first_line;
+use crate::side_columns::SideColumns;
 use std::alloc::Global;
 use tb_date::{date_in, is_date};
 use tb_delta::Step;
@@ -134,22 +135,28 @@ fn fields_in(
     Ok(fields)
 }
 
+fn side_columns(alloc: Global, columns: &[Column]) -> Result<SideColumns<'_>, OutOfMemory>
+    ensures { IfOk result (λ s. s.columns.now ≡ columns.now) }
+{
+    let names = column_name_set(alloc, columns)?;
+    Ok(SideColumns { columns, names })
+}
+
 // The first name of a member that is no column's.
 fn unknown_field(
     alloc: Global,
-    columns: &[Column],
+    side: &SideColumns<'_>,
     row: &Value,
 ) -> Result<Option<PlSmallStr>, OutOfMemory>
     ensures { IfOk result (λ o.
-        o ≡ unknown_field (schema_of (table_of columns.now)) (view row.now)) }
+        o ≡ unknown_field (schema_of (table_of side.now.columns.now)) (view row.now)) }
 {
     let Some(members) = row.as_object() else {
         return Ok(None);
     };
-    let known = column_name_set(alloc, columns)?;
     for name in members.keys() {
         let field = PlSmallStr::from_str(alloc, name.as_str())?;
-        if !known.contains(&field) {
+        if !side.names.contains(&field) {
             return Ok(Some(field));
         }
     }
@@ -167,28 +174,32 @@ fn no_step(line: usize) -> FrontFault
 #[tactic(auto, unfolding(crate::specs::Promise::Steps::row_in))]
 fn row_in(
     alloc: Global,
-    columns: &[Column],
+    side: &SideColumns<'_>,
     line: usize,
     row: &Value,
 ) -> Result<Vec<AnyValue>, FrontFault>
     ensures value { Gives (λ v. data_of v.items) result
-        (row_in line (schema_of (table_of columns.now)) (view row.now)) }
+        (row_in line (schema_of (table_of side.now.columns.now)) (view row.now)) }
     ensures typed { IfOk result (λ v.
-        FitsFields (schema_of (table_of columns.now)) (data_of v.items)) }
+        FitsFields (schema_of (table_of side.now.columns.now)) (data_of v.items)) }
 {
     if row.as_object().is_none() {
         return Err(no_step(line));
     }
-    match unknown_field(alloc, columns, row)? {
+    match unknown_field(alloc, side, row)? {
         Some(name) => {
             let cause = StepCause::UnknownColumn(name);
             Err(FrontFault::Step { line, cause })
         }
-        None => fields_in(alloc, columns, line, row),
+        None => fields_in(alloc, side.columns, line, row),
     }
 }
 
-fn columns_on<'a>(side: Side, left: &'a [Column], right: &'a [Column]) -> &'a [Column]
+fn columns_on<'a, 'b>(
+    side: Side,
+    left: &'a SideColumns<'b>,
+    right: &'a SideColumns<'b>,
+) -> &'a SideColumns<'b>
     ensures { result.now ≡ of_two side left.now right.now }
 {
     match side {
@@ -215,18 +226,18 @@ fn insert_line_members() -> &'static [Known]
 }
 
 #[tactic(auto, unfolding(crate::specs::Promise::Steps::insert_in))]
-fn insert_in(
+fn insert_in<'a>(
     alloc: Global,
-    left: &[Column],
-    right: &[Column],
+    left: &SideColumns<'a>,
+    right: &SideColumns<'a>,
     line: usize,
     value: &Value,
 ) -> Result<Step, FrontFault>
     ensures value { Gives step_of result
-        (insert_in (schema_of (table_of left.now)) (schema_of (table_of right.now)) line
+        (insert_in (schema_of (table_of left.now.columns.now)) (schema_of (table_of right.now.columns.now)) line
         (view value.now)) }
     ensures fits { IfOk result (λ s.
-        Fits (schema_of (table_of left.now)) (schema_of (table_of right.now)) (step_of s)) }
+        Fits (schema_of (table_of left.now.columns.now)) (schema_of (table_of right.now.columns.now)) (step_of s)) }
 {
     if !has_only(value, insert_line_members()) {
         return Err(no_step(line));
@@ -260,18 +271,18 @@ fn remove_in(line: usize, value: &Value) -> Result<Step, FrontFault>
     Ok(Step::Remove { side, id })
 }
 
-fn step_in(
+fn step_in<'a>(
     alloc: Global,
-    left: &[Column],
-    right: &[Column],
+    left: &SideColumns<'a>,
+    right: &SideColumns<'a>,
     line: usize,
     value: &Value,
 ) -> Result<Step, FrontFault>
     ensures value { Gives step_of result
-        (step_in (schema_of (table_of left.now)) (schema_of (table_of right.now)) line
+        (step_in (schema_of (table_of left.now.columns.now)) (schema_of (table_of right.now.columns.now)) line
         (view value.now)) }
     ensures fits { IfOk result (λ s.
-        Fits (schema_of (table_of left.now)) (schema_of (table_of right.now)) (step_of s)) }
+        Fits (schema_of (table_of left.now.columns.now)) (schema_of (table_of right.now.columns.now)) (step_of s)) }
 {
     match value.get("insert") {
         Some(_) => insert_in(alloc, left, right, line, value),
@@ -280,18 +291,18 @@ fn step_in(
 }
 
 // The step that a line is.
-fn step_of(
+fn step_of<'a>(
     alloc: Global,
-    left: &[Column],
-    right: &[Column],
+    left: &SideColumns<'a>,
+    right: &SideColumns<'a>,
     line: usize,
     text: &[u8],
 ) -> Result<Step, FrontFault>
     ensures value { Gives step_of result
-        (due.step_of (schema_of (table_of left.now)) (schema_of (table_of right.now)) line
+        (due.step_of (schema_of (table_of left.now.columns.now)) (schema_of (table_of right.now.columns.now)) line
         text.now) }
     ensures fits { IfOk result (λ s.
-        Fits (schema_of (table_of left.now)) (schema_of (table_of right.now)) (step_of s)) }
+        Fits (schema_of (table_of left.now.columns.now)) (schema_of (table_of right.now.columns.now)) (step_of s)) }
 {
     match json_value(alloc, text)? {
         Some(value) => step_in(alloc, left, right, line, &value),
@@ -300,6 +311,32 @@ fn step_of(
             Err(FrontFault::Step { line, cause })
         }
     }
+}
+
+// The steps that the lines of a text are.
+fn steps_on<'a>(
+    alloc: Global,
+    left: &SideColumns<'a>,
+    right: &SideColumns<'a>,
+    text: &[u8],
+) -> Result<Vec<Step>, FrontFault>
+    ensures value { Gives (λ v. steps_of v.items) result
+        (steps_in (schema_of (table_of left.now.columns.now)) (schema_of (table_of right.now.columns.now)) text.now) }
+    ensures fit { IfOk result (λ v.
+        All (Fits (schema_of (table_of left.now.columns.now)) (schema_of (table_of right.now.columns.now)))
+        (steps_of v.items)) }
+{
+    let mut steps = Vec::new(alloc);
+    let mut rest = text;
+    while !rest.is_empty() {
+        let (line, behind) = first_line(rest);
+        match step_of(alloc, left, right, steps.len() + 1, line) {
+            Ok(step) => steps.push(step)?,
+            Err(fault) => return Err(fault),
+        }
+        rest = behind;
+    }
+    Ok(steps)
 }
 
 /// The steps that the lines of a text are, of sides with these columns.
@@ -315,15 +352,7 @@ pub(crate) fn steps_of(
         All (Fits (schema_of (table_of left.now)) (schema_of (table_of right.now)))
         (steps_of v.items)) }
 {
-    let mut steps = Vec::new(alloc);
-    let mut rest = text;
-    while !rest.is_empty() {
-        let (line, behind) = first_line(rest);
-        match step_of(alloc, left, right, steps.len() + 1, line) {
-            Ok(step) => steps.push(step)?,
-            Err(fault) => return Err(fault),
-        }
-        rest = behind;
-    }
-    Ok(steps)
+    let left = side_columns(alloc, left)?;
+    let right = side_columns(alloc, right)?;
+    steps_on(alloc, &left, &right, text)
 }

@@ -7,4 +7,4 @@ use Rattle.tb_delta_front.proofs.step_reading.unknown_field.Given as goal
 
 -- the members that are left decide
 abbrev pub invariant-loop-name : goal.invariant-loop-name
-invariant-loop-name l = unknown_field (schema_of (table_of l.columns)) (view l.row) ≡ first_unknown (names_of (table_of l.columns)) l.name-iterator
+invariant-loop-name l = unknown_field (schema_of (table_of l.side.columns.now)) (view l.row) ≡ first_unknown (names_of (table_of l.side.columns.now)) l.name-iterator
