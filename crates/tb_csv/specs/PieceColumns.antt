@@ -6,7 +6,7 @@ use Rattle.tb_chunk.specs.declared.chunks.Chunks.{Chunks}
 use Rattle.tb_date.specs.Promise.Dates.{is_date}
 
 -- the column has these chunks and is one of days or not, and so many of its rows stand before its chunk of this number
-pub record IsSeenFrom (first : ℕ) (before : ℕ) (is_day : Bool) (chunks : Chunks) (c : Col) : Type 0 where
+pub record IsSeenFrom (first before : ℕ) (is_day : Bool) (chunks : Chunks) (c : Col) : Type 0 where
   pub lists : chunk_lists chunks ≡ c.chunks
   pub day : is_date c.kind ≡ is_day
   pub chunk : first ≤ length c.chunks

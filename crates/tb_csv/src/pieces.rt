@@ -90,7 +90,8 @@ fn reserve_pieces(text: &mut Vec<u8>, pieces: &[Vec<u8>], following: usize)
 
 // Appends the pieces. Each is let go once it is there.
 fn push_pieces(text: &mut Vec<u8>, pieces: Vec<Vec<u8>>) -> Result<(), OutOfMemory>
-    ensures { OnOk result (text.new.items ≡ text.old.items ++ flat_map (λ p. p.items) pieces.items) }
+    ensures { OnOk result
+        (text.new.items ≡ text.old.items ++ flat_map (λ p. p.items) pieces.items) }
 {
     for piece in pieces {
         text.extend_from_slice(&piece)?;

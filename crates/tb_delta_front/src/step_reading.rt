@@ -234,10 +234,12 @@ fn insert_in<'a>(
     value: &Value,
 ) -> Result<Step, FrontFault>
     ensures value { Gives step_of result
-        (insert_in (schema_of (table_of left.now.columns.now)) (schema_of (table_of right.now.columns.now)) line
+        (insert_in (schema_of (table_of left.now.columns.now))
+        (schema_of (table_of right.now.columns.now)) line
         (view value.now)) }
     ensures fits { IfOk result (λ s.
-        Fits (schema_of (table_of left.now.columns.now)) (schema_of (table_of right.now.columns.now)) (step_of s)) }
+        Fits (schema_of (table_of left.now.columns.now))
+        (schema_of (table_of right.now.columns.now)) (step_of s)) }
 {
     if !has_only(value, insert_line_members()) {
         return Err(no_step(line));
@@ -279,10 +281,12 @@ fn step_in<'a>(
     value: &Value,
 ) -> Result<Step, FrontFault>
     ensures value { Gives step_of result
-        (step_in (schema_of (table_of left.now.columns.now)) (schema_of (table_of right.now.columns.now)) line
+        (step_in (schema_of (table_of left.now.columns.now))
+        (schema_of (table_of right.now.columns.now)) line
         (view value.now)) }
     ensures fits { IfOk result (λ s.
-        Fits (schema_of (table_of left.now.columns.now)) (schema_of (table_of right.now.columns.now)) (step_of s)) }
+        Fits (schema_of (table_of left.now.columns.now))
+        (schema_of (table_of right.now.columns.now)) (step_of s)) }
 {
     match value.get("insert") {
         Some(_) => insert_in(alloc, left, right, line, value),
@@ -299,10 +303,12 @@ fn step_of<'a>(
     text: &[u8],
 ) -> Result<Step, FrontFault>
     ensures value { Gives step_of result
-        (due.step_of (schema_of (table_of left.now.columns.now)) (schema_of (table_of right.now.columns.now)) line
+        (due.step_of (schema_of (table_of left.now.columns.now))
+        (schema_of (table_of right.now.columns.now)) line
         text.now) }
     ensures fits { IfOk result (λ s.
-        Fits (schema_of (table_of left.now.columns.now)) (schema_of (table_of right.now.columns.now)) (step_of s)) }
+        Fits (schema_of (table_of left.now.columns.now))
+        (schema_of (table_of right.now.columns.now)) (step_of s)) }
 {
     match json_value(alloc, text)? {
         Some(value) => step_in(alloc, left, right, line, &value),
@@ -321,9 +327,11 @@ fn steps_on<'a>(
     text: &[u8],
 ) -> Result<Vec<Step>, FrontFault>
     ensures value { Gives (λ v. steps_of v.items) result
-        (steps_in (schema_of (table_of left.now.columns.now)) (schema_of (table_of right.now.columns.now)) text.now) }
+        (steps_in (schema_of (table_of left.now.columns.now))
+        (schema_of (table_of right.now.columns.now)) text.now) }
     ensures fit { IfOk result (λ v.
-        All (Fits (schema_of (table_of left.now.columns.now)) (schema_of (table_of right.now.columns.now)))
+        All (Fits (schema_of (table_of left.now.columns.now))
+        (schema_of (table_of right.now.columns.now)))
         (steps_of v.items)) }
 {
     let mut steps = Vec::new(alloc);
