@@ -10,6 +10,8 @@ mod gathers;
 #[cfg(test)]
 mod hashing;
 #[cfg(test)]
+mod kept;
+#[cfg(test)]
 mod meeting;
 #[cfg(test)]
 mod program;
