@@ -10,10 +10,9 @@ room_left (Some room) n = if nat_le n room then Some (room - n) else None
 
 abbrev pub within : List ℕ → Option ℕ → ℕ → List ℕ × Option ℕ
 within s None c = (s, None)
-within s (Some room) c =
-    (if nat_le (columns_of c) room
+within s (Some room) c = if nat_le (columns_of c) room
     then (s ++ encode_utf8 c, Some (room - columns_of c))
-    else (s, None))
+    else (s, None)
 
 -- the text and the room behind characters, of which the front is written that fits
 abbrev pub with_cut : List ℕ × Option ℕ → List ℕ → List ℕ × Option ℕ

@@ -23,11 +23,12 @@ pub(crate) struct Digits {
     date: [u8; 10],
 }
 
-/// Room without a number.
-pub(crate) fn no_digits() -> Digits {
-    Digits {
-        number: Buffer::new(),
-        date: [0; 10],
+impl Digits {
+    pub(crate) fn new() -> Digits {
+        Digits {
+            number: Buffer::new(),
+            date: [0; 10],
+        }
     }
 }
 
@@ -101,7 +102,7 @@ pub(crate) fn push_cell(
 pub(crate) fn column_width(column: &Column, line: usize) -> usize
     ensures { result ≡ column_width line (plain_column column.now) }
 {
-    let mut digits = no_digits();
+    let mut digits = Digits::new();
     let mut widest = width_within(line, column.name().as_str());
     for row in 0..column.len() {
         let cell = cell_text(&mut digits, column.dtype(), column.get(row));
@@ -117,7 +118,7 @@ pub(crate) fn is_cut(column: &Column, line: usize) -> bool
     if is_wide(line, column.name().as_str()) {
         return true;
     }
-    let mut digits = no_digits();
+    let mut digits = Digits::new();
     for row in 0..column.len() {
         let cell = cell_text(&mut digits, column.dtype(), column.get(row));
         if is_wide(line, cell) {

@@ -7,7 +7,7 @@ ghost use Rattle.tb_layout.specs.Laid.{piece};
 ghost use Rattle.tb_layout.specs.Promise.Characters.{cut, trimmed_text};
 ghost use Rattle.tb_layout.specs.Promise.Lines.{cell_in, dashes_in, name_in, side_by_side};
 
-use crate::cells::{cell_text, is_number, no_digits, push_cell};
+use crate::cells::{Digits, cell_text, is_number, push_cell};
 use crate::characters::{blanks_at_end, push_repeated};
 use crate::grid::Grid;
 use tb_value::OutOfMemory;
@@ -30,8 +30,7 @@ fn push_names(text: &mut String, grid: &Grid<'_>) -> Result<(), OutOfMemory>
     ensures { OnOk result
         (string_bytes text.new
         ≡ string_bytes text.old
-        ++ encode_utf8_all
-        (cut grid.now.line
+        ++ encode_utf8_all (cut grid.now.line
         (side_by_side (name_in grid.now.line) (table_of grid.now.columns.now)))) }
 {
     let mut room = Some(grid.line);
@@ -46,8 +45,7 @@ fn push_dashes(text: &mut String, grid: &Grid<'_>) -> Result<(), OutOfMemory>
     ensures { OnOk result
         (string_bytes text.new
         ≡ string_bytes text.old
-        ++ encode_utf8_all
-        (cut grid.now.line
+        ++ encode_utf8_all (cut grid.now.line
         (side_by_side (dashes_in grid.now.line) (table_of grid.now.columns.now)))) }
 {
     let mut room = Some(grid.line);
@@ -63,11 +61,10 @@ fn push_cells(text: &mut String, grid: &Grid<'_>, row: usize) -> Result<(), OutO
     ensures { OnOk result
         (string_bytes text.new
         ≡ string_bytes text.old
-        ++ encode_utf8_all
-        (cut grid.now.line
+        ++ encode_utf8_all (cut grid.now.line
         (side_by_side (cell_in grid.now.line row) (table_of grid.now.columns.now)))) }
 {
-    let mut digits = no_digits();
+    let mut digits = Digits::new();
     let mut room = Some(grid.line);
     for k in 0..grid.columns.len() {
         let column = &grid.columns[k];
@@ -83,8 +80,7 @@ pub(crate) fn push_names_line(text: &mut String, grid: &Grid<'_>) -> Result<(), 
     ensures { OnOk result
         (string_bytes text.new
         ≡ string_bytes text.old
-        ++ encode_utf8_all
-        (piece grid.now.line
+        ++ encode_utf8_all (piece grid.now.line
         (side_by_side (name_in grid.now.line) (table_of grid.now.columns.now)))) }
 {
     let start = text.len();
@@ -97,8 +93,7 @@ pub(crate) fn push_dashes_line(text: &mut String, grid: &Grid<'_>) -> Result<(),
     ensures { OnOk result
         (string_bytes text.new
         ≡ string_bytes text.old
-        ++ encode_utf8_all
-        (piece grid.now.line
+        ++ encode_utf8_all (piece grid.now.line
         (side_by_side (dashes_in grid.now.line) (table_of grid.now.columns.now)))) }
 {
     let start = text.len();
@@ -116,8 +111,7 @@ pub(crate) fn push_row_line(
     ensures { OnOk result
         (string_bytes text.new
         ≡ string_bytes text.old
-        ++ encode_utf8_all
-        (piece grid.now.line
+        ++ encode_utf8_all (piece grid.now.line
         (side_by_side (cell_in grid.now.line row) (table_of grid.now.columns.now)))) }
 {
     let start = text.len();
