@@ -39,10 +39,7 @@ fn in_single_chunks(alloc: Global, table: DataFrame) -> Result<DataFrame, OutOfM
 
 // Whether a column has chunks that are short on average.
 fn has_short_chunks(table: &DataFrame) -> bool {
-    table
-        .get_columns()
-        .iter()
-        .any(|column| column.n_chunks() > 1 + column.len() / ROWS_OF_A_CHUNK)
+    table.get_columns().iter().any(|column| column.n_chunks() > 1 + column.len() / ROWS_OF_A_CHUNK)
 }
 
 // The same table. This writer finds the chunk of a row again for each run of rows, so it goes over long chunks as they are.
