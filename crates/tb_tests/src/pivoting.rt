@@ -1,4 +1,4 @@
-//! A table made wide by an object of the caller's.
+//! A table made wide by an object of the caller's, by an aggregate, and by neither.
 ghost use Rattle.std.specs.Prelude.{◌≡◌, length, MatchResult};
 ghost use Rattle.tb_chunk.specs.Promise.Col.{values};
 ghost use Rattle.tb_frame.specs.Promise.Table.{plain_column};
@@ -15,7 +15,7 @@ use tb_pivot::{ExprFault, PhysicalAggExpr, PivotAgg, pivot};
 use tb_request::PivotRequest;
 use tb_rows::Groups;
 use tb_store::{PlSmallStr, Series};
-use tb_value::PolarsResult;
+use tb_value::{ComputeCause, PolarsError, PolarsResult};
 
 // The sums of a column by groups. Where `aggregated` refuses, this says that memory is wanting.
 #[tactic(auto, using(crate::proofs::Sums::are_sums))]
@@ -74,10 +74,10 @@ fn boxed(alloc: Global) -> Result<PivotAgg, Fail> {
 const FOUR_ROWS: &str =
     r#"{"table":{"columns":[{"name":"i","type":"i64","chunks":[[1,1,2,1]]},{"name":"o","type":"i64","chunks":[[5,6,5,5]]},{"name":"v","type":"i64","chunks":[[7,8,9,10]]}]},"on":["o"],"index":["i"]}"#;
 
-// The table made wide by an object.
-fn wide(alloc: Global, request: &PivotRequest, agg: &PivotAgg) -> PolarsResult<DataFrame> {
+// The table made wide by an object, an aggregate, or neither.
+fn wide(alloc: Global, request: &PivotRequest, agg: Option<&PivotAgg>) -> PolarsResult<DataFrame> {
     let (table, on, index) = (&request.table, &request.on, given(&request.index));
-    pivot(alloc, table, on, index, None, false, Some(agg), None)
+    pivot(alloc, table, on, index, None, false, agg, None)
 }
 
 fn check_wide(
@@ -86,7 +86,7 @@ fn check_wide(
     request: &PivotRequest,
     agg: &PivotAgg,
 ) -> Result<(), Fail> {
-    let table = wide(alloc, request, agg)?;
+    let table = wide(alloc, request, Some(agg))?;
     let line =
         r#"{"columns":[{"name":"i","type":"i64","values":[1,2]},{"name":"5","type":"i64","values":[17,9]},{"name":"6","type":"i64","values":[8,null]}],"height":2}"#;
     check_text(rt, alloc, &table, line)
@@ -101,4 +101,25 @@ fn check_sums(rt: &impl Abort, alloc: Global, request: &PivotRequest) -> Result<
 fn an_object_sums_the_groups_that_it_is_handed(rt: HostRuntime) -> Result<(), Fail> {
     let request = pivot_asked(rt.alloc(), FOUR_ROWS)?;
     check_sums(&rt, rt.alloc(), &request)
+}
+
+#[test]
+fn an_aggregate_sums_the_groups(rt: HostRuntime) -> Result<(), Fail> {
+    let request = pivot_asked(rt.alloc(), FOUR_ROWS)?;
+    check_wide(&rt, rt.alloc(), &request, &PivotAgg::Sum)
+}
+
+// Whether the table is refused for its cell of two rows, where nothing makes one value of them.
+fn has_many_rows(alloc: Global, request: &PivotRequest) -> bool {
+    matches!(
+        wide(alloc, request, None),
+        Err(PolarsError::ComputeError(ComputeCause::ManyInGroup))
+    )
+}
+
+#[test]
+fn a_cell_of_two_rows_has_no_value(rt: HostRuntime) -> Result<(), Fail> {
+    let request = pivot_asked(rt.alloc(), FOUR_ROWS)?;
+    assert!(rt; has_many_rows(rt.alloc(), &request));
+    Ok(())
 }

@@ -1,28 +1,38 @@
-//! Tables made long, columns replaced by dummies, and rows in groups, by each of the calls that no program makes.
+//! Tables made long and wide again, columns replaced by dummies, and rows in groups, by each of the calls that no program
+//! makes.
 
 use crate::texts::{check_text, dummies_asked, unpivot_asked};
 use std::alloc::Global;
 use std::process::Abort;
 use std::slice;
 use std::test::Fail;
-use tb_dummies::DataFrameOps;
+use tb_frame::DataFrame;
 use tb_request::{DummiesRequest, UnpivotRequest};
-use tb_reshape::GroupBy;
-use tb_rows::Groups;
-use tb_unpivot::UnpivotDF;
+use tb_reshape::{DataFrameOps, GroupBy, Groups, UnpivotDF, pivot};
 
 const INDEXED: &str =
     r#"{"table":{"columns":[{"name":"i","type":"str","chunks":[["x","y"]]},{"name":"v1","type":"i64","chunks":[[1,2]]},{"name":"v2","type":"i64","chunks":[[3,4]]}]},"on":["v1","v2"],"index":["i"]}"#;
+
+// Whether the long table, made wide again, is the table that it was made of.
+fn is_wide_again(alloc: Global, request: &UnpivotRequest, long: &DataFrame) -> Result<bool, Fail> {
+    let on = slice::from_ref(long.column(alloc, "variable")?.name());
+    let values = slice::from_ref(long.column(alloc, "value")?.name());
+    let index = Some(request.index.as_slice());
+    let wide = pivot(alloc, long, on, index, Some(values), false, None, None)?;
+    Ok(wide.equals_missing(&request.table))
+}
 
 fn check_long(rt: &impl Abort, alloc: Global, request: &UnpivotRequest) -> Result<(), Fail> {
     let long = request.table.unpivot(alloc, &request.on, &request.index)?;
     let line =
         r#"{"columns":[{"name":"i","type":"str","values":["x","y","x","y"]},{"name":"variable","type":"str","values":["v1","v1","v2","v2"]},{"name":"value","type":"i64","values":[1,2,3,4]}],"height":4}"#;
-    check_text(rt, alloc, &long, line)
+    check_text(rt, alloc, &long, line)?;
+    assert!(rt; is_wide_again(alloc, request, &long)?);
+    Ok(())
 }
 
 #[test]
-fn a_table_made_long(rt: HostRuntime) -> Result<(), Fail> {
+fn a_table_made_long_and_wide_again(rt: HostRuntime) -> Result<(), Fail> {
     let request = unpivot_asked(rt.alloc(), INDEXED)?;
     check_long(&rt, rt.alloc(), &request)
 }
