@@ -68,12 +68,13 @@ fn check_halves(
     right: &DataFrame,
     left_key: &Series,
     right_key: &Series,
+    exec: &Exec,
 ) -> Result<(), Fail>
     requires { StandBeside left right.now left_key.now right_key.now }
 {
-    let (args, exec) = (JoinArgs::new(JoinType::Left), Exec::standard());
+    let args = JoinArgs::new(JoinType::Left);
     let halves = materialize_left_join_from_series(
-        rt, alloc, left, right, left_key, right_key, &args, None, &exec,
+        rt, alloc, left, right, left_key, right_key, &args, None, exec,
     )?;
     assert!(rt; halves.1.width() == 0);
     let line = r#"{"columns":[{"name":"k","type":"i64","values":[1,1,null,2]}],"height":4}"#;
@@ -87,13 +88,13 @@ fn check_met(
     left: &DataFrame,
     left_key: &Series,
     right_key: &Series,
+    exec: &Exec,
 ) -> Result<(), Fail>
     requires keys { AreKeys left_key.now right_key.now }
     requires rows { length (values left_key.now) ≡ height (table_of left.now) }
 {
-    let exec = Exec::standard();
     let met = left._semi_anti_join_from_series(
-        rt, alloc, left_key, right_key, None, false, false, &exec,
+        rt, alloc, left_key, right_key, None, false, false, exec,
     )?;
     let line = r#"{"columns":[{"name":"k","type":"i64","values":[1]}],"height":1}"#;
     check_text(rt, alloc, &met, line)
@@ -107,11 +108,12 @@ fn full_rows(
     right: &DataFrame,
     left_key: &Series,
     right_key: &Series,
+    exec: &Exec,
 ) -> Result<usize, Fail>
     requires { StandBeside left.now right.now left_key.now right_key.now }
 {
-    let (args, exec) = (JoinArgs::new(JoinType::Full), Exec::standard());
-    let full = left._full_join_from_series(rt, alloc, right, left_key, right_key, args, &exec)?;
+    let args = JoinArgs::new(JoinType::Full);
+    let full = left._full_join_from_series(rt, alloc, right, left_key, right_key, args, exec)?;
     Ok(full.height())
 }
 
@@ -121,21 +123,32 @@ fn check_joins(
     alloc: Global,
     left: &DataFrame,
     right: &DataFrame,
+    exec: &Exec,
 ) -> Result<(), Fail> {
     let left_key = left.column(alloc, "k")?.as_materialized_series();
     let right_key = right.column(alloc, "k")?.as_materialized_series();
     assert!(rt; are_keys(left_key, right_key));
     assert!(rt; left_key.len() == left.height());
-    check_met(rt, alloc, left, left_key, right_key)?;
+    check_met(rt, alloc, left, left_key, right_key, exec)?;
     assert!(rt; stand_beside(left, right, left_key, right_key));
-    assert!(rt; full_rows(rt, alloc, left, right, left_key, right_key)? == 4);
-    check_halves(rt, alloc, left.copy(alloc)?, right, left_key, right_key)
+    assert!(rt; full_rows(rt, alloc, left, right, left_key, right_key, exec)? == 4);
+    check_halves(
+        rt,
+        alloc,
+        left.copy(alloc)?,
+        right,
+        left_key,
+        right_key,
+        exec,
+    )
 }
 
 #[test]
 fn joins_by_one_column_of_each_side(rt: HostRuntime) -> Result<(), Fail> {
     let request = join_asked(rt.alloc(), SIDES)?;
-    check_joins(&rt, rt.alloc(), &request.left, &request.right)
+    let (left, right) = (&request.left, &request.right);
+    check_joins(&rt, rt.alloc(), left, right, &Exec::standard())?;
+    check_joins(&rt, rt.alloc(), left, right, &Exec::new(2, 2, 0, 1, 1)?)
 }
 
 // The Inner join of two tables by columns that are given beside each.
@@ -146,9 +159,10 @@ fn joined_by(
     right: &DataFrame,
     left_keys: Vec<Series>,
     right_keys: Vec<Series>,
+    exec: &Exec,
 ) -> PolarsResult<DataFrame> {
-    let (args, exec) = (JoinArgs::new(JoinType::Inner), Exec::standard());
-    left._join_impl(rt, alloc, right, left_keys, right_keys, args, &exec)
+    let args = JoinArgs::new(JoinType::Inner);
+    left._join_impl(rt, alloc, right, left_keys, right_keys, args, exec)
 }
 
 // The join of two tables by their keys, which are given.
@@ -157,10 +171,11 @@ fn by_given_columns(
     alloc: Global,
     left: &DataFrame,
     right: &DataFrame,
+    exec: &Exec,
 ) -> Result<DataFrame, Fail> {
     let left_keys = one_key(alloc, left)?;
     let right_keys = one_key(alloc, right)?;
-    Ok(joined_by(rt, alloc, left, right, left_keys, right_keys)?)
+    Ok(joined_by(rt, alloc, left, right, left_keys, right_keys, exec)?)
 }
 
 fn check_given(
@@ -168,8 +183,9 @@ fn check_given(
     alloc: Global,
     left: &DataFrame,
     right: &DataFrame,
+    exec: &Exec,
 ) -> Result<(), Fail> {
-    let joined = by_given_columns(rt, alloc, left, right)?;
+    let joined = by_given_columns(rt, alloc, left, right, exec)?;
     let line = r#"{"columns":[{"name":"k","type":"i64","values":[1,1]}],"height":2}"#;
     check_text(rt, alloc, &joined, line)
 }
@@ -177,7 +193,9 @@ fn check_given(
 #[test]
 fn a_join_by_given_columns(rt: HostRuntime) -> Result<(), Fail> {
     let request = join_asked(rt.alloc(), SIDES)?;
-    check_given(&rt, rt.alloc(), &request.left, &request.right)
+    let (left, right) = (&request.left, &request.right);
+    check_given(&rt, rt.alloc(), left, right, &Exec::standard())?;
+    check_given(&rt, rt.alloc(), left, right, &Exec::new(2, 2, 0, 1, 1)?)
 }
 
 // The rows of a table that ids name, as a Left join takes them: the ids ascend.

@@ -90,12 +90,13 @@ fn check_inner(
     alloc: Global,
     left: &Series,
     right: &Series,
+    exec: &Exec,
 ) -> Result<(), Fail>
     requires left { left.now.kind ≡ int64 }
     requires right { right.now.kind ≡ int64 }
 {
-    let (exec, many) = (Exec::standard(), JoinValidation::ManyToMany);
-    let (ids, right_built) = left.hash_join_inner(rt, alloc, right, many, false, &exec)?;
+    let many = JoinValidation::ManyToMany;
+    let (ids, right_built) = left.hash_join_inner(rt, alloc, right, many, false, exec)?;
     assert!(rt; right_built && are_inner(&ids));
     Ok(())
 }
@@ -116,12 +117,13 @@ fn check_left(
     alloc: Global,
     left: &Series,
     right: &Series,
+    exec: &Exec,
 ) -> Result<(), Fail>
     requires left { left.now.kind ≡ int64 }
     requires right { right.now.kind ≡ int64 }
 {
-    let (exec, many) = (Exec::standard(), JoinValidation::ManyToMany);
-    let ids = left.hash_join_left(rt, alloc, right, many, false, &exec)?;
+    let many = JoinValidation::ManyToMany;
+    let ids = left.hash_join_left(rt, alloc, right, many, false, exec)?;
     assert!(rt; are_left(&ids));
     Ok(())
 }
@@ -133,23 +135,39 @@ fn check_full(
     alloc: Global,
     left: &Series,
     right: &Series,
+    exec: &Exec,
 ) -> Result<(), Fail>
     requires left { left.now.kind ≡ int64 }
     requires right { right.now.kind ≡ int64 }
 {
-    let (exec, many) = (Exec::standard(), JoinValidation::ManyToMany);
-    let rows = left.hash_join_outer(rt, alloc, right, many, false, &exec)?;
+    let many = JoinValidation::ManyToMany;
+    let rows = left.hash_join_outer(rt, alloc, right, many, false, exec)?;
     assert!(rt; rows.0.len() == 5 && rows.1.len() == 5);
     Ok(())
+}
+
+// The pairs of each kind of join, by so many workers.
+fn check_kinds(
+    rt: &(impl Threads + Sync + Abort),
+    alloc: Global,
+    left: &Series,
+    right: &Series,
+    exec: &Exec,
+) -> Result<(), Fail>
+    requires left { left.now.kind ≡ int64 }
+    requires right { right.now.kind ≡ int64 }
+{
+    check_inner(rt, alloc, left, right, exec)?;
+    check_left(rt, alloc, left, right, exec)?;
+    check_full(rt, alloc, left, right, exec)
 }
 
 #[test]
 fn pairs_of_two_columns(rt: HostRuntime) -> Result<(), Fail> {
     let left = column(rt.alloc(), "k", &[&[Some(1), Some(2), Some(1)]])?;
     let right = column(rt.alloc(), "k", &[&[Some(1)], &[Some(1)]])?;
-    check_inner(&rt, rt.alloc(), &left, &right)?;
-    check_left(&rt, rt.alloc(), &left, &right)?;
-    check_full(&rt, rt.alloc(), &left, &right)
+    check_kinds(&rt, rt.alloc(), &left, &right, &Exec::standard())?;
+    check_kinds(&rt, rt.alloc(), &left, &right, &Exec::new(2, 2, 0, 1, 1)?)
 }
 
 // A table of two key columns.
@@ -180,12 +198,12 @@ fn check_left_pairs(
     alloc: Global,
     left: &DataFrame,
     right: &DataFrame,
+    exec: &Exec,
 ) -> Result<(), Fail>
     requires left { map (λ (c : Col). c.kind) left.now ≡ int64 ∷ int64 ∷ [] }
     requires right { map (λ (c : Col). c.kind) right.now ≡ int64 ∷ int64 ∷ [] }
 {
-    let exec = Exec::standard();
-    let ids = private_left_join_multiple_keys(rt, alloc, left, right, false, &exec)?;
+    let ids = private_left_join_multiple_keys(rt, alloc, left, right, false, exec)?;
     assert!(rt; are_met(&ids));
     Ok(())
 }
@@ -195,5 +213,6 @@ fn left_pairs_by_two_columns(rt: HostRuntime) -> Result<(), Fail> {
     let alloc = rt.alloc();
     let left = two_keys(alloc, &[Some(1), Some(2)], &[Some(7), Some(8)])?;
     let right = two_keys(alloc, &[Some(2)], &[Some(8)])?;
-    check_left_pairs(&rt, alloc, &left, &right)
+    check_left_pairs(&rt, alloc, &left, &right, &Exec::standard())?;
+    check_left_pairs(&rt, alloc, &left, &right, &Exec::new(3, 2, 0, 1, 1)?)
 }
