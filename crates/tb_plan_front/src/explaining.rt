@@ -15,7 +15,7 @@ ghost use Rattle.tb_plan_front.specs.Promise.Plans.{planned_table};
 
 use crate::marks::{marks_of, over_of};
 use crate::named::{NamedText, tables_of};
-use crate::planning::{planned_table, run_root};
+use crate::planning::planned_table;
 use crate::plans::PlanCall;
 use crate::titles::join_title;
 use std::alloc::Global;
@@ -25,6 +25,7 @@ use tb_filter::Test;
 use tb_frame::{DataFrame, JoinArgs};
 use tb_front::{FrontFault, NodeTitle, TextOptions, next_number};
 use tb_node::{NamedTable, Names, Node, TableMap};
+use tb_plan_request::run_root;
 use tb_pool::Exec;
 use tb_value::{OutOfMemory, PlSmallStr};
 

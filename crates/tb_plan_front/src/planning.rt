@@ -1,8 +1,6 @@
 //! Plans over texts.
-ghost use Rattle.std.specs.Prelude.{◌≡◌, if◌then◌else◌, option_map, IfOk};
+ghost use Rattle.std.specs.Prelude.{option_map};
 ghost use Rattle.tb_frame.specs.Promise.Table.{table_of};
-ghost use Rattle.tb_node.specs.Promise.Pushed.{pushed};
-ghost use Rattle.tb_node.specs.Promise.Tables.{table_named};
 ghost use Rattle.tb_node.specs.Seen.{given_tables, tree_of};
 ghost use Rattle.tb_plan.specs.Gives as plan;
 ghost use Rattle.tb_plan.specs.Promise.Outcome.{plan_outcome};
@@ -19,31 +17,10 @@ use std::thread::Threads;
 use tb_calls::PivotCall;
 use tb_frame::DataFrame;
 use tb_front::{FrontFault, TextOptions, text_of_table};
-use tb_node::{NamedTable, Node, push_filters};
+use tb_node::{NamedTable, Node};
 use tb_plan::PlanFault;
-use tb_plan_request::{PlanRequest, planned};
+use tb_plan_request::{PlanRequest, planned, run_root};
 use tb_pool::Exec;
-use tb_value::OutOfMemory;
-
-/// The tree that is run: with its filters put before joins, where that is asked.
-pub(crate) fn run_root(
-    alloc: Global,
-    tables: &[NamedTable],
-    root: Node,
-    push: bool,
-) -> Result<Node, OutOfMemory>
-    ensures { IfOk result (λ n.
-        tree_of n
-        ≡ (if push
-        then pushed (table_named (given_tables tables.now)) (tree_of root)
-        else tree_of root)) }
-{
-    if push {
-        push_filters(alloc, tables, root)
-    } else {
-        Ok(root)
-    }
-}
 
 // What the plan of a tree and a pivot makes of tables, which are let go.
 fn outcome_of(

@@ -20,6 +20,6 @@ pub use known::{
 pub use pivots::pivot_of;
 pub use reading::{plan_in, plan_request_of};
 pub use request::PlanRequest;
-pub use running::planned;
+pub use running::{planned, run_root};
 pub use texts::text_of_fault;
 pub use trees::tree_of;

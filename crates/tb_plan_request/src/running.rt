@@ -17,8 +17,8 @@ use tb_node::{NamedTable, Node, push_filters};
 use tb_plan::{Plan, PlanFault, run_plan};
 use tb_value::OutOfMemory;
 
-// The tree that is run: with its filters pushed, where that is asked.
-fn run_root(
+/// The tree that is run: with its filters pushed, where that is asked.
+pub fn run_root(
     alloc: Global,
     tables: &[NamedTable],
     root: Node,
