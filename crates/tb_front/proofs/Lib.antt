@@ -7,6 +7,8 @@ pub mod Joined
 pub mod NoClash
 pub mod OneTable
 pub mod Outcomes
+mod Read
 pub mod Steps
 pub mod TextFaults
 pub mod Undecimal
+mod Untyped

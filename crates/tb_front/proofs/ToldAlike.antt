@@ -72,7 +72,7 @@ first_at p (x ∷ xs) zero d low here before = rw here refl
 first_at p (x ∷ xs) (suc i) d low here before = rw (before zero (omega arith)) (first_at p xs i d (omega (arith, low)) here (λ k less. before (suc k) (omega (arith, less))))
 
 -- what holds of all holds of the first that passes, which passes
-first_holds : {X : Type 0} (P : X → Type 0) (p : X → Bool) (xs : List X) → All P xs → (x : X) → find p xs ≡ Some x → P x × (p x ≡ true)
+pub first_holds : {X : Type 0} (P : X → Type 0) (p : X → Bool) (xs : List X) → All P xs → (x : X) → find p xs ≡ Some x → P x × (p x ≡ true)
 first_holds P p [] h x e = absurd (cc e)
 first_holds {X} P p (y ∷ ys) h x e = at (p y) refl e (first_holds P p ys (All-tail P y ys h) x)
   where
@@ -97,7 +97,7 @@ given_front (t ∷ ts) more n = at (same_name t.name n) (given_front ts more n)
 
 -- COLUMNS OF A NAME
 
-same_is : (m n : Name) → same_name m n ≡ true → m ≡ n
+pub same_is : (m n : Name) → same_name m n ≡ true → m ≡ n
 same_is m n h = (bytes_eq-Decides m n).0 h
 
 numbered : (n i : ℕ) → i < n → get_or (row_numbers n) i 0 ≡ i
@@ -154,7 +154,7 @@ typed_named types (names ∷ rows) n fs e = at (position (λ m. same_name m n) (
         let same : column_fields rows p ≡ fs = cc found in
         ap (option_map (λ (c : TableColumn). c.kind)) there.2 ∙ (λ i. Some (kind_at (column_type types (there.1 i) (same i))))
 
-same_place : (names : List Name) → AllPairs (λ (a b : Name). a ≢ b) names → (p j : ℕ) → p < length names → j < length names → name_at names p ≡ name_at names j → p ≡ j
+pub same_place : (names : List Name) → AllPairs (λ (a b : Name). a ≢ b) names → (p j : ℕ) → p < length names → j < length names → name_at names p ≡ name_at names j → p ≡ j
 same_place [] apart p j low high e = absurd (omega (arith, low))
 same_place (n ∷ ns) apart zero zero low high e = refl
 same_place (n ∷ ns) apart zero (suc j) low high e = absurd (apart zero (suc j) [] (omega arith) high e)
@@ -168,7 +168,7 @@ same_place (n ∷ ns) apart (suc p) (suc j) low high e =
 abbrev pub Agree : Table → Table → List Name → List Name → Type 0
 Agree l r on others = (i : ℕ) (t u : Kind) → i < min (length on) (length others) → kind_named l (name_at on i) ≡ Some t → kind_named r (name_at others i) ≡ Some u → t ≡ u
 
-all_of : {X : Type 0} (P : X → Type 0) (f : ℕ → List X) (a n : ℕ) → ((i : ℕ) → a ≤ i → i < a + n → All P (f i)) → All P (flat_map f (range_with_len a n))
+pub all_of : {X : Type 0} (P : X → Type 0) (f : ℕ → List X) (a n : ℕ) → ((i : ℕ) → a ≤ i → i < a + n → All P (f i)) → All P (flat_map f (range_with_len a n))
 all_of P f a zero h = All-nil P
 all_of P f a (suc n) h =
     All-append P (f a) (flat_map f (range_with_len (a + 1) n)) (h a (omega arith) (omega arith)) (all_of P f (a + 1) n (λ i low high. h i (omega (arith, low)) (omega (arith, high))))

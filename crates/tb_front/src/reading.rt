@@ -1,5 +1,5 @@
 //! The tables that texts are.
-ghost use Rattle.std.specs.Prelude.{◌≡◌, List, None, IfOk, IfSome};
+ghost use Rattle.std.specs.Prelude.{◌≡◌, ℕ, List, None, true, IfOk, IfSome};
 ghost use Rattle.std.specs.Thread.{IsSync};
 ghost use Rattle.tb_value.specs.Promise.Names.{Name};
 ghost use Rattle.tb_value.specs.Promise.Refusals.{first_cause};
@@ -13,9 +13,9 @@ ghost use Rattle.tb_csv.specs.Read.{IsLevel, IsRead};
 ghost use Rattle.tb_front.specs.Promise.Asked.{table_fault, tables_faults};
 ghost use Rattle.tb_front.specs.Promise.Due.{Gives};
 ghost use Rattle.tb_front.specs.Promise.Faults.{Settles, names_in, no_records, no_table, unknown_type};
-ghost use Rattle.tb_front.specs.Promise.Texts.{joined_table, table_at, table_in};
+ghost use Rattle.tb_front.specs.Promise.Texts.{joined_table, joined_types, table_at, table_in};
 ghost use Rattle.tb_front.specs.Tables.{AreJoined, IsMade};
-ghost use Rattle.tb_front.specs.Texts.{fault_in, AreRecordsAt};
+ghost use Rattle.tb_front.specs.Texts.{fault_in, AreRecordsAt, AreTold, IsKept};
 
 use crate::fault::{FrontFault, Place};
 use crate::keys::check_keys;
@@ -26,7 +26,7 @@ use tb_csv::{
     types_with_keys,
 };
 use tb_frame::{DataFrame, name_set};
-use tb_value::PlSmallStr;
+use tb_value::{PlSmallStr, TOO_LONG};
 
 // The fault of the text at this place, with its line.
 fn fault_in(separator: u8, place: Place, text: &[u8], fault: CsvFault) -> FrontFault
@@ -82,25 +82,72 @@ fn read_both<R: Threads + Sync>(
     )
 }
 
-// The table of the records of the text at this place.
+// Whether each field of two texts is of the type of its column, since that is told from the fields.
+fn are_told(types: &[TypeOf], left: &[u8], right: &[u8]) -> bool
+    ensures { result ≡ true → AreTold types.now left.now right.now }
+{
+    types.is_empty() && left.len() < TOO_LONG && right.len() < TOO_LONG
+}
+
+// The text, which is let go where no fault of a field can be told of it.
+fn kept_alone(options: &CsvOptions, text: Vec<u8>) -> Option<Vec<u8>>
+    ensures { IsKept result text.items (types_fault options.now.types.items
+        (records_of options.now.separator text.items)) }
+{
+    if are_told(&options.types, &text, &[]) {
+        None
+    } else {
+        Some(text)
+    }
+}
+
+// The same of two texts that are joined, whatever their keys are.
+fn kept_both(
+    options: &CsvOptions,
+    left: Vec<u8>,
+    right: Vec<u8>,
+) -> (Option<Vec<u8>>, Option<Vec<u8>>)
+    ensures left { (left_on right_on : List Name)
+        → first_repeated (names_in (records_of options.now.separator left.items)) ≡ None
+        → IsKept result.0 left.items (types_fault
+        (joined_types options.now left.items right.items left_on right_on)
+        (records_of options.now.separator left.items)) }
+    ensures right { (left_on right_on : List Name)
+        → first_repeated (names_in (records_of options.now.separator right.items)) ≡ None
+        → IsKept result.1 right.items (types_fault
+        (joined_types options.now right.items left.items right_on left_on)
+        (records_of options.now.separator right.items)) }
+{
+    if are_told(&options.types, &left, &right) {
+        (None, None)
+    } else {
+        (Some(left), Some(right))
+    }
+}
+
+// The table of the records of the text at this place, which is kept if a fault of a field can be told of it.
 fn make_table(
     rt: &(impl Threads + Sync),
     alloc: Global,
     separator: u8,
     place: Place,
-    text: &[u8],
+    text: &Option<Vec<u8>>,
     records: &Records,
     types: &[TypeOf],
 ) -> Result<DataFrame, FrontFault>
     requires level { IsLevel records.now }
-    ensures settles { (rs : List Record) → IsRead records.now rs
-        → Settles result (no_table separator place text.now (types_fault types.now rs)) }
+    ensures settles { (rs : List Record) (bytes : List ℕ) → IsRead records.now rs
+        → IsKept text.now bytes (types_fault types.now rs)
+        → Settles result (no_table separator place bytes (types_fault types.now rs)) }
     ensures table { (rs : List Record) → IsRead records.now rs
         → IfOk result (λ t. table_of t ≡ csv_table types.now rs) }
 {
     match table_of_records(rt, alloc, records, types) {
         Ok(table) => Ok(table),
-        Err(fault) => Err(fault_in(separator, place, text, fault)),
+        Err(fault) => match text {
+            Some(text) => Err(fault_in(separator, place, text, fault)),
+            None => Err(FrontFault::OutOfMemory),
+        },
     }
 }
 
@@ -150,6 +197,7 @@ pub fn read_table(
 {
     let records = read_records(rt, alloc, options, Place::First, &text)?;
     check_types(alloc, &options.types, names_of(&records), &[])?;
+    let text = kept_alone(options, text);
     make_table(
         rt,
         alloc,
@@ -177,7 +225,10 @@ pub fn read_at(
 {
     let separator = options.separator;
     match read_records(rt, alloc, options, place, &text) {
-        Ok(records) => make_table(rt, alloc, separator, place, &text, &records, &options.types),
+        Ok(records) => {
+            let text = kept_alone(options, text);
+            make_table(rt, alloc, separator, place, &text, &records, &options.types)
+        }
         Err(fault) => Err(fault),
     }
 }
@@ -271,6 +322,7 @@ pub fn read_tables(
     let (first, second) = (first?, second?);
     let given = options.types.as_slice();
     check_types(alloc, given, names_of(&first), names_of(&second))?;
+    let (left, right) = kept_both(options, left, right);
     let alike = tables_alike(rt, alloc, &first, &second, given, left_on, right_on);
     if let Some(tables) = alike {
         return Ok(tables);
