@@ -1,5 +1,5 @@
 //! The names and the bytes of the fields of a text.
-ghost use Rattle.std.specs.Prelude.{◌≡◌, ◌≤◌, ◌*◌, ◌++◌, ℕ, List, length, not, nat_lt, true, false, IfOk, IfSome, IfNone, OnOk};
+ghost use Rattle.std.specs.Prelude.{[], ◌≡◌, ◌≤◌, ◌*◌, ◌++◌, ℕ, List, length, not, nat_lt, true, false, IfOk, IfSome, IfNone, OnOk};
 ghost use Rattle.std.specs.List.{list_all};
 ghost use Rattle.std.specs.Str.{is_utf8};
 ghost use Rattle.csv.specs.Records.{fields_of};
@@ -58,6 +58,25 @@ fn check_names(alloc: Global, names: &[PlSmallStr]) -> Result<(), CsvFault>
         Err(PolarsError::Duplicate(name)) => Err(CsvFault::RepeatedName(name)),
         Err(_) => Err(CsvFault::OutOfMemory),
     }
+}
+
+// About how many fields a text has: one ends at each separator and each line feed, or with the text. No contract rests on it.
+fn likely_fields(text: &[u8], separator: u8) -> usize {
+    text.iter().fold(1, |count: usize, byte| {
+        count.wrapping_add(usize::from(*byte == separator || *byte == b'\n'))
+    })
+}
+
+/// No fields, with room for those of a text.
+pub(crate) fn room_for_fields(
+    alloc: Global,
+    text: &[u8],
+    separator: u8,
+) -> Result<StringRecord, OutOfMemory>
+    ensures { IfOk result (λ r. fields_of r ≡ []) }
+{
+    let fields = likely_fields(text, separator);
+    Ok(StringRecord::with_capacity(alloc, text.len(), fields)?)
 }
 
 // Appends the fields of a record, and says whether all are UTF-8. If not, some may have been appended.
@@ -149,7 +168,7 @@ pub(crate) fn read_lines(alloc: Global, text: &[u8], separator: u8) -> Result<Li
     }
     let names = names_in(alloc, &row)?;
     check_names(alloc, &names)?;
-    let mut fields = StringRecord::new(alloc);
+    let mut fields = room_for_fields(alloc, text, separator)?;
     let height = read_rows(&mut reader, &mut row, &mut fields, names.len(), text.len())?;
     check_height(height)?;
     Ok(Lines {

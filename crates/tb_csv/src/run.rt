@@ -6,7 +6,7 @@ ghost use Rattle.tb_csv.specs.Promise.Records.{field};
 
 use crate::fault::CsvFault;
 use crate::lent::RunColumn;
-use crate::lines::read_rows;
+use crate::lines::{read_rows, room_for_fields};
 use crate::marks::marks_of;
 use crate::reading::open_reader;
 use csv::{ByteRecord, StringRecord};
@@ -38,7 +38,7 @@ pub(crate) fn run_of(
     }
     let mut reader = open_reader(alloc, piece, separator);
     let mut row = ByteRecord::new(alloc);
-    let mut fields = StringRecord::new(alloc);
+    let mut fields = room_for_fields(alloc, piece, separator)?;
     let height = read_rows(&mut reader, &mut row, &mut fields, width, piece.len() + 1)?;
     Ok(Run {
         fields,

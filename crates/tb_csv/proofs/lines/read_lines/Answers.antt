@@ -75,7 +75,7 @@ returns-clause-read c =
     let rows = c.in_ok-height.ensures.rows c.args.separator n.0 n.2 in
     let sound = sym (ap (λ (w : ℕ). rows_fault w 1 n.0) width) ∙ c.in_ok-height.ensures.settles c.args.separator n.0 n.2 in
     let level = level_rows (length (fields_of c.next_record.new.row)) 1 n.0 sound in
-    rw n.1 (c.in_ok-names.ensures.names, rows.1 ∙ rw c.new-fields.ensures.fields refl, rows.0, rw (sym rows.0) c.in_ok-check_height.ensures.few, level)
+    rw n.1 (c.in_ok-names.ensures.names, rows.1 ∙ rw c.in_ok-fields.ensures refl, rows.0, rw (sym rows.0) c.in_ok-check_height.ensures.few, level)
 
 pub returns-clause-full : goal.returns-clause-full
 returns-clause-full c =
@@ -86,7 +86,7 @@ returns-clause-full c =
     let rows = c.in_ok-height.ensures.rows c.args.separator n.0 n.2 in
     let sound = sym (ap (λ (w : ℕ). rows_fault w 1 n.0) width) ∙ c.in_ok-height.ensures.settles c.args.separator n.0 n.2 in
     let level = level_rows (length (fields_of c.next_record.new.row)) 1 n.0 sound in
-    rw (rows.1, c.new-fields.ensures.fields, rows.0, c.in_ok-names.ensures.names) (full_rows n.0 (length (fields_of c.next_record.new.row)) level)
+    rw (rows.1, c.in_ok-fields.ensures, rows.0, c.in_ok-names.ensures.names) (full_rows n.0 (length (fields_of c.next_record.new.row)) level)
 
 pub returns-clause-few : goal.returns-clause-few
 returns-clause-few c = c.in_ok-check_height.ensures.few

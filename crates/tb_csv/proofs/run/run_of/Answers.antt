@@ -9,4 +9,4 @@ returns c =
     let lines = lines_of separator c.args.piece.now in
     let rows = c.in_ok-height.ensures.rows separator lines c.open_reader-reader.ensures in
     run_read separator c.args.width c.args.piece.now _ (sym c.in_ok-marks.ensures.open ∙ c.if-marks.false) c.in_ok-marks.ensures.marks
-    (c.in_ok-height.ensures.settles separator lines c.open_reader-reader.ensures) rows.0 (rows.1 ∙ rw c.new-fields.ensures.fields refl)
+    (c.in_ok-height.ensures.settles separator lines c.open_reader-reader.ensures) rows.0 (rows.1 ∙ rw c.in_ok-fields.ensures refl)
