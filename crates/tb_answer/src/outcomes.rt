@@ -6,7 +6,7 @@ use crate::status::Status;
 use serde_json::Value;
 use std::alloc::Global;
 use tb_frame::DataFrame;
-use tb_json::{text_of, text_of_refusal, traced_text_of};
+use tb_json::{into_text, text_of_refusal, traced_text_of};
 use tb_request::{Reason, RequestFault, bad_request_text};
 use tb_value::{OutOfMemory, PolarsError, PolarsResult};
 
@@ -27,7 +27,7 @@ pub(crate) fn answered(
     match outcome {
         Ok(table) => Ok(Answer {
             status: Status::Done,
-            text: text_of(alloc, &table)?,
+            text: into_text(alloc, table)?,
         }),
         Err(error) => refused(alloc, error),
     }

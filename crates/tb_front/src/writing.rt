@@ -11,7 +11,7 @@ use std::alloc::Global;
 use std::thread::Threads;
 use tb_csv::{CsvFault, csv_of_table};
 use tb_frame::DataFrame;
-use tb_json::text_of;
+use tb_json::into_text;
 use tb_layout::layout_of_table;
 use tb_value::{OutOfMemory, PolarsError, PolarsResult};
 
@@ -75,7 +75,7 @@ fn write_json(alloc: Global, table: DataFrame) -> Result<Vec<u8>, FrontFault>
     ensures settles { Settles result (writing_fault TextForm.Json (table_of table)) }
     ensures text { IfOk result (λ v. v.items ≡ text_in TextForm.Json 0 (table_of table)) }
 {
-    match text_of(alloc, &table) {
+    match into_text(alloc, table) {
         Ok(text) => Ok(text.into_bytes()),
         Err(OutOfMemory) => Err(FrontFault::OutOfMemory),
     }

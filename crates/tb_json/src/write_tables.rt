@@ -255,6 +255,21 @@ fn push_columns(alloc: Global, text: &mut String, columns: &[Column]) -> Result<
     Ok(())
 }
 
+// The same of columns that are let go as they are written.
+fn write_columns(alloc: Global, text: &mut String, columns: Vec<Column>) -> Result<(), OutOfMemory>
+    ensures { OnOk result (string_bytes text.new
+        ≡ (with_items (string_bytes text.old, false)
+        (map column_data (table_of columns.items))).0) }
+{
+    let mut later = false;
+    for column in columns {
+        push_comma(text, later)?;
+        push_column(alloc, text, &column)?;
+        later = true;
+    }
+    Ok(())
+}
+
 /// The members of a table, in an object that is left open for further ones.
 pub fn open_table(alloc: Global, table: &DataFrame) -> Result<String, OutOfMemory>
     ensures { IfOk result (λ s. string_bytes s ≡ open_table (table_of table.now)) }
@@ -276,7 +291,21 @@ pub fn text_of(alloc: Global, table: &DataFrame) -> Result<String, OutOfMemory>
     Ok(text)
 }
 
-/// The same, with the member `trace` behind the others: how the table was made.
+/// The same of a table whose columns are let go as they are written.
+pub fn into_text(alloc: Global, table: DataFrame) -> Result<String, OutOfMemory>
+    ensures { IfOk result (λ s. string_bytes s ≡ text_of (table_of table)) }
+{
+    let height = table.height();
+    let mut text = String::new(alloc);
+    text.push_str("{\"columns\":[")?;
+    write_columns(alloc, &mut text, table.into_columns())?;
+    text.push_str("],\"height\":")?;
+    push_value(alloc, &mut text, &Value::from(height))?;
+    text.push_str("}\n")?;
+    Ok(text)
+}
+
+/// The text of a lent table, with the member `trace` behind the others: how the table was made.
 pub fn traced_text_of(
     alloc: Global,
     table: &DataFrame,

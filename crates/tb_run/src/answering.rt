@@ -18,7 +18,7 @@ use tb_calls::{
     made_wide, with_dummies,
 };
 use tb_frame::DataFrame;
-use tb_json::{text_of, text_of_refusal};
+use tb_json::{into_text, text_of_refusal};
 use tb_request::{
     DummiesRequest, JoinRequest, PivotRequest, Reason, RequestFault, UnpivotRequest,
     bad_request_text, dummies_request_of, join_request_of, pivot_request_of, unpivot_request_of,
@@ -217,7 +217,7 @@ fn answered(alloc: Global, outcome: PolarsResult<DataFrame>) -> Result<Answer, O
     match outcome {
         Ok(table) => Ok(Answer {
             status: Status::Done,
-            text: text_of(alloc, &table)?,
+            text: into_text(alloc, table)?,
         }),
         Err(error) => refused(alloc, error),
     }

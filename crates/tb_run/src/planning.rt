@@ -11,7 +11,7 @@ use crate::status::Status;
 use std::alloc::Global;
 use std::thread::Threads;
 use tb_frame::DataFrame;
-use tb_json::text_of;
+use tb_json::into_text;
 use tb_plan::PlanFault;
 use tb_plan_request::{PlanRequest, plan_request_of, planned, text_of_fault};
 use tb_value::OutOfMemory;
@@ -53,7 +53,7 @@ fn plan_answered(
     match outcome {
         Ok(table) => Ok(Answer {
             status: Status::Done,
-            text: text_of(alloc, &table)?,
+            text: into_text(alloc, table)?,
         }),
         Err(fault) => plan_refused(alloc, fault),
     }
