@@ -1,0 +1,2 @@
+pub mod Takes
+mod Fills
