@@ -24,3 +24,4 @@ pub mod ClosedQuotes
 pub mod RecordsBack
 pub mod CellsBack
 pub mod TableBack
+pub mod StackedRows

@@ -61,6 +61,12 @@ module _ (separator : ℕ) (t : Table) where
       let all : min ((height / ROWS_OF_A_PIECE + 1) * ROWS_OF_A_PIECE) height ≡ height = omega arith in
       first_pieces height (height / ROWS_OF_A_PIECE + 1) low ∙ ap (rows_text separator t 0) all
 
+  -- the first piece is all rows, where they are few
+  pub one_piece : (height : ℕ) → height ≤ ROWS_OF_A_PIECE → piece_text separator t height 0 ≡ records_text separator (map (row_fields t) (row_numbers height))
+  one_piece height few =
+      let all : min ROWS_OF_A_PIECE (height - 0) ≡ height = omega (arith, few) in
+      ap (rows_text separator t 0) all
+
 flat_of_map : {X : Type 0} (f : X → List ℕ) (xs : List X) → flat_map f xs ≡ flat_map (λ s. s) (map f xs)
 flat_of_map f [] = refl
 flat_of_map f (x ∷ xs) = ap (λ s. f x ++ s) (flat_of_map f xs)
@@ -80,14 +86,6 @@ chained items all f ks us (Err e) zipped made = tt
 chained items all f ks us (Ok w) zipped made =
     ap (map items) made.2 ∙ answered _ items f ks made.0 (subst (AllZip (λ k u. IfOk u (λ y. items y ≡ f k)) ks) made.1 zipped)
 
--- the text grows by the pieces of a round
-pub round_more : {V : Type 0} (items : V → List ℕ) (f : ℕ → List ℕ) (vs : List V) (a b : ℕ) (old so_far new : List ℕ) → a ≤ b → map items vs ≡ map f (range_with_len a (b - a))
-    → so_far ≡ old ++ flat_map f (row_numbers a) → new ≡ so_far ++ flat_map items vs → new ≡ old ++ flat_map f (row_numbers b)
-round_more items f vs a b old so_far new low are before push =
-    let from : 0 + a ≡ a = omega arith in
-    let all : a + (b - a) ≡ b = omega (arith, low) in
-    let made : flat_map items vs ≡ flat_map f (range_with_len a (b - a)) = flat_of_map items vs ∙ ap (flat_map (λ s. s)) are ∙ sym (flat_of_map f (range_with_len a (b - a))) in
-    push ∙ ap (λ s. s ++ flat_map items vs) before
-    ∙ append_assoc old (flat_map f (row_numbers a)) (flat_map items vs)
-    ∙ ap (λ s. old ++ (flat_map f (row_numbers a) ++ s)) (made ∙ ap (λ k. flat_map f (range_with_len k (b - a))) (sym from))
-    ∙ ap (λ s. old ++ s) (sym (flat_map-append f (row_numbers a) (range_with_len (0 + a) (b - a))) ∙ ap (flat_map f) (sym (range_cut 0 a (b - a)) ∙ ap row_numbers all))
+-- pieces one behind another
+pub in_pieces : {V : Type 0} (items : V → List ℕ) (f : ℕ → List ℕ) (ks : List ℕ) (vs : List V) → map items vs ≡ map f ks → flat_map items vs ≡ flat_map f ks
+in_pieces items f ks vs are = flat_of_map items vs ∙ ap (flat_map (λ s. s)) are ∙ sym (flat_of_map f ks)

@@ -13,7 +13,7 @@ use Rattle.tb_value.specs.Promise.Pairs.{row_numbers}
 use Rattle.tb_chunk.specs.Promise.Col.{Col, values}
 use Rattle.tb_frame.specs.Promise.Table.{Table, TableColumn, height, names_of, plain_column, table_of}
 use Rattle.tb_csv.specs.Promise.Records.{Field, Record}
-use Rattle.tb_csv.specs.Promise.Texts.{csv_text, field_among, field_text, field_type, line_text, no_column, no_text, record_text, records_text, row_fields}
+use Rattle.tb_csv.specs.Promise.Texts.{body_text, csv_text, field_among, field_text, field_type, line_text, no_column, no_text, record_text, records_text, row_fields}
 use Rattle.tb_csv.specs.Texts.{gap}
 use Rattle.tb_csv.specs.declared.fault.CsvFault.TheVariants.{NoText}
 
@@ -83,28 +83,20 @@ no_text_of (c ∷ cs) = picked (is_none (field_type c.kind)) c _ _ (no_text_of c
 pub level_columns : (cs : List Col) (h : ℕ) → All (λ (c : TableColumn). length c.values ≡ h) (table_of cs) → All (λ (c : Col). length (values c) ≡ h) cs
 level_columns cs h all = λ k d low. subst (λ (c : TableColumn). length c.values ≡ h) (get_or-map plain_column cs k d) (all k (plain_column d) (rw (length-map cs plain_column) low))
 
--- the text grows by that of a row
-pub grown : (separator : ℕ) (names : Record) (f : ℕ → Record) (i : ℕ) (so_far new : List ℕ) → new ≡ so_far ++ record_text separator (f i)
-    → so_far ≡ records_text separator (names ∷ map f (row_numbers i)) → new ≡ records_text separator (names ∷ map f (row_numbers (i + 1)))
-grown separator names f i so_far new push before =
-    let next : 0 + i ≡ i = omega arith in
-    push ∙ ap (λ (s : List ℕ). s ++ record_text separator (f i)) before
-    ∙ sym (text_more separator (names ∷ map f (row_numbers i)) (f i))
-    ∙ ap (λ (l : List Record). records_text separator (names ∷ l)) (sym (map-range_with_len_more f 0 i i next))
-
 pub columns_there : (cs : List Col) → false ≡ (length cs == 0) → no_column (table_of cs) ≡ None
 columns_there [] e = cc e
 columns_there (c ∷ cs) e = refl
 
-abbrev names_fields : Table → Record
+abbrev pub names_fields : Table → Record
 names_fields t = map (λ (n : Name). Some n) (names_of t)
 
-text_of_records : (separator : ℕ) (t : Table) → records_text separator (names_fields t ∷ map (row_fields t) (row_numbers (height t))) ≡ csv_text separator t
+-- the names and the rows
+pub names_and_rows : (separator : ℕ) (t : Table) → record_text separator (names_fields t) ++ body_text separator t ≡ csv_text separator t
 unfolding csv_text
-text_of_records separator t = refl
+names_and_rows separator t = refl
 
-pub text_of_columns : (separator : ℕ) (columns cs : List Col) (h : ℕ) → columns ≡ cs → h ≡ height (table_of cs)
-    → records_text separator (names_fields (table_of columns) ∷ map (row_fields (table_of columns)) (row_numbers h)) ≡ csv_text separator (table_of cs)
-text_of_columns separator columns cs h same high =
-    let text = λ (ks : List Col) (n : ℕ). records_text separator (names_fields (table_of ks) ∷ map (row_fields (table_of ks)) (row_numbers n)) in
-    ap (λ (ks : List Col). text ks h) same ∙ ap (λ (n : ℕ). text cs n) high ∙ text_of_records separator (table_of cs)
+pub body_of_columns : (separator : ℕ) (columns cs : List Col) (h : ℕ) → columns ≡ cs → h ≡ height (table_of cs)
+    → records_text separator (map (row_fields (table_of columns)) (row_numbers h)) ≡ body_text separator (table_of cs)
+body_of_columns separator columns cs h same high =
+    ap (λ (ks : List Col). records_text separator (map (row_fields (table_of ks)) (row_numbers h))) same
+    ∙ ap (λ (n : ℕ). records_text separator (map (row_fields (table_of cs)) (row_numbers n))) high

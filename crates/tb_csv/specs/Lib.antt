@@ -7,4 +7,5 @@ pub mod Read
 pub mod Fields
 pub mod Places
 pub mod Laws
+pub mod Stacked
 pub mod Promise

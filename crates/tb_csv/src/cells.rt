@@ -53,36 +53,49 @@ fn is_cell<N: ReadField>(field_type: FieldType, field: Option<&str>) -> bool
     cell_in::<N>(field_type, field).is_some()
 }
 
-// Whether a field is a value of the type, or has no byte.
-fn is_of(field_type: FieldType, field: Option<&str>) -> bool
-    ensures { result ≡ is_of field_type (lent_field field.entry) }
+// Whether all fields of a run are cells of the type.
+fn are_cells<N: ReadField>(field_type: FieldType, part: RunColumn) -> bool
+    requires { physical (kind_at field_type) ≡ N.stored }
+    ensures { result ≡ list_all (is_of field_type) (part_fields part.entry) }
 {
-    match field_type {
-        FieldType::Boolean => is_cell::<bool>(field_type, field),
-        FieldType::Int8 => is_cell::<i8>(field_type, field),
-        FieldType::Int16 => is_cell::<i16>(field_type, field),
-        FieldType::Int32 => is_cell::<i32>(field_type, field),
-        FieldType::Int64 => is_cell::<i64>(field_type, field),
-        FieldType::Int128 => is_cell::<i128>(field_type, field),
-        FieldType::UInt8 => is_cell::<u8>(field_type, field),
-        FieldType::UInt16 => is_cell::<u16>(field_type, field),
-        FieldType::UInt32 => is_cell::<u32>(field_type, field),
-        FieldType::UInt64 => is_cell::<u64>(field_type, field),
-        FieldType::String => is_short(field),
-        FieldType::Date => is_cell::<i32>(field_type, field),
+    for row in 0..part.run.height {
+        if !is_cell::<N>(field_type, part.get(row)) {
+            return false;
+        }
     }
+    true
+}
+
+// Whether no field of a run is too long to be a value.
+fn are_short(part: RunColumn) -> bool
+    ensures { result ≡ list_all (is_of FieldType.String) (part_fields part.entry) }
+{
+    for row in 0..part.run.height {
+        if !is_short(part.get(row)) {
+            return false;
+        }
+    }
+    true
 }
 
 // Whether all fields of a run are values of the type, or have no byte.
 fn are_of_run(field_type: FieldType, part: RunColumn) -> bool
     ensures { result ≡ list_all (is_of field_type) (part_fields part.entry) }
 {
-    for row in 0..part.run.height {
-        if !is_of(field_type, part.get(row)) {
-            return false;
-        }
+    match field_type {
+        FieldType::Boolean => are_cells::<bool>(field_type, part),
+        FieldType::Int8 => are_cells::<i8>(field_type, part),
+        FieldType::Int16 => are_cells::<i16>(field_type, part),
+        FieldType::Int32 => are_cells::<i32>(field_type, part),
+        FieldType::Int64 => are_cells::<i64>(field_type, part),
+        FieldType::Int128 => are_cells::<i128>(field_type, part),
+        FieldType::UInt8 => are_cells::<u8>(field_type, part),
+        FieldType::UInt16 => are_cells::<u16>(field_type, part),
+        FieldType::UInt32 => are_cells::<u32>(field_type, part),
+        FieldType::UInt64 => are_cells::<u64>(field_type, part),
+        FieldType::String => are_short(part),
+        FieldType::Date => are_cells::<i32>(field_type, part),
     }
-    true
 }
 
 /// Whether all fields are values of the type, or have no byte.

@@ -31,6 +31,7 @@ pub use field_type::FieldType;
 pub use keys::types_with_keys;
 pub use line_numbers::fault_line;
 pub use options::{CsvOptions, TypeOf};
+pub use pieces::push_rows;
 pub use read::{records_of_csv, records_of_two};
 pub use records::Records;
 pub use table::{table_of_csv, table_of_records};

@@ -6,18 +6,19 @@ ghost use Rattle.tb_value.specs.Promise.Pairs.{row_numbers};
 ghost use Rattle.tb_chunk.specs.Promise.Col.{Col, values};
 ghost use Rattle.tb_frame.specs.Promise.Table.{height, names_of, table_of};
 ghost use Rattle.tb_csv.specs.Faults.{Settles};
-ghost use Rattle.tb_csv.specs.Promise.Texts.{csv_text, field_among, field_text, field_type, record_text, records_text, row_fields, style, text_refusal};
+ghost use Rattle.tb_csv.specs.Promise.Texts.{csv_text, field_among, field_text, field_type, record_text, row_fields, style, text_refusal};
 ghost use Rattle.tb_csv.specs.Texts.{gap, rows_text};
 
 use crate::fault::CsvFault;
 use crate::field_text::push_field;
 use crate::field_type::FieldType;
 use crate::piece_columns::PieceColumn;
-use crate::pieces::records_text;
+use crate::pieces::push_rows;
 use std::alloc::Global;
 use std::thread::Threads;
 use tb_frame::DataFrame;
 use tb_store::Column;
+use tb_text::Text;
 use tb_value::OutOfMemory;
 
 // How many bytes are reserved at most before a piece is written.
@@ -88,12 +89,8 @@ fn push_names(text: &mut Vec<u8>, separator: u8, columns: &[Column]) -> Result<(
     Ok(text.push(b'\n')?)
 }
 
-/// The record of the names of the columns.
-pub(crate) fn names_text(
-    alloc: Global,
-    separator: u8,
-    columns: &[Column],
-) -> Result<Vec<u8>, OutOfMemory>
+// The record of the names of the columns.
+fn names_text(alloc: Global, separator: u8, columns: &[Column]) -> Result<Vec<u8>, OutOfMemory>
     ensures { IfOk result (λ v.
         v.items ≡ record_text separator (map (λ n. Some n) (names_of (table_of columns.now)))) }
 {
@@ -156,11 +153,15 @@ pub fn csv_of_table(
     alloc: Global,
     table: &DataFrame,
     separator: u8,
-) -> Result<Vec<u8>, CsvFault>
+) -> Result<Text, CsvFault>
     ensures settles { Settles result (text_refusal (table_of table.now)) }
-    ensures text { IfOk result (λ v. v.items ≡ csv_text separator (table_of table.now)) }
+    ensures text { IfOk result (λ t. t ≡ csv_text separator (table_of table.now)) }
 {
     let columns = table.get_columns();
     check_columns(alloc, columns)?;
-    Ok(records_text(rt, alloc, separator, columns, table.height())?)
+    let mut text = Text::new(alloc);
+    let names = names_text(alloc, separator, columns)?;
+    text.push(names)?;
+    push_rows(rt, alloc, &mut text, table, separator)?;
+    Ok(text)
 }

@@ -83,6 +83,10 @@ record_text separator r = line_text separator r ++ line_feed ∷ []
 abbrev pub records_text : ℕ → List Record → List ℕ
 records_text separator rs = flat_map (record_text separator) rs
 
+-- the text of the rows of a table, without their names
+abbrev pub body_text : ℕ → Table → List ℕ
+body_text separator t = records_text separator (map (row_fields t) (row_numbers (height t)))
+
 -- the text of a table
 unfoldable pub csv_text : ℕ → Table → List ℕ
 csv_text separator t = records_text separator (table_records t)

@@ -4,6 +4,6 @@ use Rattle.tb_csv.proofs.pieces.push_pieces.Given as goal
 
 abbrev pub invariant-loop-piece : goal.invariant-loop-piece
 invariant-loop-piece l = record {
-  text : l.text.items ++ flat_map (λ p. p.items) l.piece-iterator.rest.items ≡ l.initial.text.items ++ flat_map (λ p. p.items) l.initial.piece-iterator.rest.items;
+  text : l.text ++ flat_map (λ p. p.items) l.piece-iterator.rest.items ≡ l.initial.text ++ flat_map (λ p. p.items) l.initial.piece-iterator.rest.items;
   rest_len : l.piece-iterator.rest.len ≡ length l.piece-iterator.rest.items;
 }

@@ -1,6 +1,7 @@
-use Rattle.std.proofs.Common.{◌≡◌, ℕ, ◌*◌, ◌≤◌, ◌∙◌, Vec, Global, map, ap, arith, subst}
+use Rattle.std.proofs.Common.{◌≡◌, ℕ, ◌+◌, ◌*◌, ◌-◌, ◌/◌, ◌≤◌, ◌∙◌, Vec, Global, map, ap, arith, subst}
 use denote.Param.Send.{sendable}
 use Rattle.std.proofs.Crossing.{crosses}
+use Rattle.std.specs.List.{range_with_len}
 use Rattle.std.specs.Result.{IfOk}
 use Rattle.tb_frame.specs.Promise.Table.{table_of}
 use Rattle.rayon.specs.Numbers.{nat_range}
@@ -23,8 +24,8 @@ collect-requires-send-Self g c κs within = search (Column-sync, crosses, sendab
 pub collect-requires-clause-ready : goal.collect-requires-clause-ready
 collect-requires-clause-ready g c κs within =
     let ends = c.into_par_iter.ensures in
-    let inside = nat_range-All (λ i. i * ROWS_OF_A_PIECE ≤ c.args.height) c.args.first c.args.last (λ i low high. omega (arith, high, c.requires.last)) in
-    rw (c.map.ensures.base, c.map.ensures.f, ends.0, ends.1) (λ k d lt. ((c.requires.level, inside k d lt), λ y h. tt))
+    let inside = nat_range-All (λ i. i * ROWS_OF_A_PIECE ≤ c.args.height) 0 (c.args.height / ROWS_OF_A_PIECE + 1) (λ i low high. omega (arith, high)) in
+    rw (c.map.ensures.base, c.map.ensures.f, ends.0, ends.1) (λ k d lt. ((c.requires, inside k d lt), λ y h. tt))
 
 pub returns : goal.returns
 returns g c =
@@ -33,7 +34,8 @@ returns g c =
     let columns = ap (λ f. f.2.now) c.map.ensures.f in
     let first = ap (λ r. r.start) c.map.ensures.base ∙ ends.0 in
     let last = ap (λ r. r.end) c.map.ensures.base ∙ ends.1 in
-    let places = h.1.1 ∙ (λ i. nat_range (first i) (last i)) in
+    let all : (c.args.height / ROWS_OF_A_PIECE + 1) - 0 ≡ c.args.height / ROWS_OF_A_PIECE + 1 = omega arith in
+    let places = h.1.1 ∙ (λ i. nat_range (first i) (last i)) ∙ ap (range_with_len 0) all in
     let text = piece_text c.args.separator (table_of c.args.columns.now) c.args.height in
     let separator = ap (λ f. f.1.now) c.map.ensures.f in
     let height = ap (λ f. f.3.now) c.map.ensures.f in

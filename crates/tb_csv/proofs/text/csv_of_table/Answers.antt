@@ -1,11 +1,15 @@
-use Rattle.std.proofs.Common.{◌∙◌}
-use Rattle.tb_frame.specs.Promise.Table.{height, table_of}
-use Rattle.tb_csv.proofs.TextWalks.{level_columns, text_of_columns}
+use Rattle.std.proofs.Common.{◌++◌, ◌∙◌, ℕ, List, ap}
+use Rattle.tb_chunk.specs.Promise.Col.{Col}
+use Rattle.tb_frame.specs.Promise.Table.{table_of}
+use Rattle.tb_csv.specs.Promise.Texts.{body_text, record_text}
+use Rattle.tb_csv.proofs.TextWalks.{names_and_rows, names_fields}
 use Rattle.tb_csv.proofs.text.csv_of_table.Goals as goal
 
-pub records_text-requires : goal.records_text-requires
-records_text-requires g c =
-    (search, rw (c.get_columns-columns.ensures.columns, c.height.ensures.height) (level_columns c.args.table.now (height (table_of c.args.table.now)) c.get_columns-columns.ensures.table.one_height))
-
 pub returns-clause-text : goal.returns-clause-text
-returns-clause-text g c = c.in_ok-records_text.ensures ∙ text_of_columns c.args.separator c.get_columns-columns.result.now c.args.table.now c.height.result c.get_columns-columns.ensures.columns c.height.ensures.height
+returns-clause-text g c =
+    let t = table_of c.args.table.now in
+    let names = c.in_ok-push.ensures.grown
+    ∙ ap (λ (s : List ℕ). s ++ c.in_ok-names.names.items) c.new-text.ensures
+    ∙ c.in_ok-names.ensures
+    ∙ ap (λ (cs : List Col). record_text c.args.separator (names_fields (table_of cs))) c.get_columns-columns.ensures.columns in
+    c.in_ok-push_rows.ensures ∙ ap (λ (s : List ℕ). s ++ body_text c.args.separator t) names ∙ names_and_rows c.args.separator t
