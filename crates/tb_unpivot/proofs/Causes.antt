@@ -1,5 +1,5 @@
 -- Causes that are looked at one after another.
-use Rattle.std.proofs.Common.{◌≡◌, List, ◌∷◌, Option, Some, None, Result, inl, inr, subst, ◌∙◌}
+use Rattle.std.proofs.Common.{◌≡◌, List, [], ◌∷◌, Option, Some, None, Result, inl, inr, refl, subst, ◌∙◌}
 use Rattle.std.specs.Prelude.{◌⊎◌}
 use Rattle.tb_value.specs.Promise.Refusals.{first_cause}
 use Rattle.tb_value.specs.Refusals.{Settles}
@@ -21,3 +21,7 @@ goes_on a rest none = λ t. first_cause (none t ∷ rest)
 pub onward : (e : PolarsError) (a b : Option PolarsError) → b ≡ a → (e ≡ OutOfMemory) ⊎ (a ≡ Some e) → (e ≡ OutOfMemory) ⊎ (b ≡ Some e)
 onward e a b same (inl h) = inl h
 onward e a b same (inr h) = inr (same ∙ h)
+
+pub first_of_one : (a : Option PolarsError) → first_cause (a ∷ []) ≡ a
+first_of_one None = refl
+first_of_one (Some e) = refl

@@ -2,3 +2,5 @@ pub mod Answered
 pub mod Causes
 pub mod CommonKinds
 pub mod Lists
+pub mod LongParts
+pub mod LongTables

@@ -171,6 +171,16 @@ long_made t times on index v w cs more all c d many first one two names values =
     ∙ append_assoc (table_of cs) (plain_column c ∷ []) (plain_column d ∷ [])
     ∙ (λ j. (first ∙ ap (λ (n : ℕ). map (repeated n) index) many) j ++ names j ∷ values j ∷ [])
 
+-- THE NAMES
+
+pub name_more : (names more : List Name) (rs : List (Bor Col)) (i : ℕ) (r : Bor Col) (n : Name) → i < length rs → r ≡ get_or rs i r → n ≡ r.now.name → more ≡ names ++ n ∷ []
+    → names ≡ names_of (table_of (lent_columns (take i rs))) → more ≡ names_of (table_of (lent_columns (take (i + 1) rs)))
+name_more names more rs i r n low is named e so_far =
+    e ∙ (λ j. so_far j ++ named j ∷ [])
+    ∙ sym (ap (λ (cs : List Col). names_of (table_of cs)) (lent_more rs i r low is)
+    ∙ ap names_of (map_push plain_column (lent_columns (take i rs)) r.now)
+    ∙ map_push (λ (c : TableColumn). c.name) (table_of (lent_columns (take i rs))) (plain_column r.now))
+
 -- THE COLUMNS THAT ARE NAMED
 
 -- the names outside the index

@@ -2,10 +2,10 @@
 ghost use Rattle.std.specs.Prelude.{◌≡◌, IfOk, None, unwrap_or};
 ghost use Rattle.tb_value.specs.Refusals.{Settles};
 ghost use Rattle.tb_frame.specs.Promise.Table.{table_of};
+ghost use Rattle.tb_unpivot.specs.Blocks.{parts_of};
 ghost use Rattle.tb_unpivot.specs.Promise.Unpivot.{unpivot_refusal, unpivot_table, value_or, variable_or};
 
-use crate::columns::long_columns;
-use crate::lookup::{asked, on_names};
+use crate::blocks::{LongBlocks, blocks_of};
 use std::alloc::Global;
 use tb_frame::{DataFrame, IntoDf};
 use tb_value::{PlSmallStr, PolarsResult};
@@ -112,14 +112,53 @@ fn unpivoted(
     variable: &str,
     value: &str,
 ) -> PolarsResult<DataFrame>
-    ensures settles { Settles result
-        (unpivot_refusal record
-        { table = table_of table.now; on = on.now; index = index.now; variable = variable.now; value = value.now }) }
+    ensures settles { Settles result (unpivot_refusal record {
+      table = table_of table.now;
+      on = on.now;
+      index = index.now;
+      variable = variable.now;
+      value = value.now;
+    }) }
     ensures table { IfOk result (λ t. table_of t
-        ≡ unpivot_table record { table = table_of table.now; on = on.now; index = index.now; variable = variable.now; value = value.now }) }
+        ≡ unpivot_table record {
+          table = table_of table.now;
+          on = on.now;
+          index = index.now;
+          variable = variable.now;
+          value = value.now;
+        }) }
 {
-    let on = on_names(alloc, table.get_columns(), on, index)?;
-    let asked = asked(alloc, table, &on, index)?;
-    let columns = long_columns(alloc, asked.dtype, &asked.on, &asked.index, variable, value)?;
-    DataFrame::new(alloc, columns)
+    let blocks = blocks_of(alloc, table, on, index, variable, value)?;
+    Ok(blocks.block(alloc, 0, blocks.len())?)
+}
+
+/// The table as one that is to be made long as `unpivot2` would, some columns at a time.
+///
+/// # Errors
+///
+/// Those of `unpivot2`.
+pub fn long_blocks<'a>(
+    alloc: Global,
+    table: &'a DataFrame,
+    args: UnpivotArgsIR,
+) -> PolarsResult<LongBlocks<'a>>
+    ensures settles { Settles result (unpivot_refusal record {
+      table = table_of table.now;
+      on = args.on.items;
+      index = args.index.items;
+      variable = variable_or args.variable_name;
+      value = value_or args.value_name;
+    }) }
+    ensures parts { IfOk result (λ b. b
+        ≡ parts_of record {
+          table = table_of table.now;
+          on = args.on.items;
+          index = args.index.items;
+          variable = variable_or args.variable_name;
+          value = value_or args.value_name;
+        }) }
+{
+    let variable = name_or(&args.variable_name, "variable");
+    let value = name_or(&args.value_name, "value");
+    blocks_of(alloc, table, &args.on, &args.index, variable, value)
 }
