@@ -5,7 +5,7 @@
 
 mod rows;
 
-ghost use Rattle.std.specs.Prelude.{◌≡◌, ◌≤◌, ◌<◌, ◌++◌, ◌==◌, IfOk, drop, length, not, string_bytes};
+ghost use Rattle.std.specs.Prelude.{◌≡◌, ◌≤◌, ◌<◌, ◌++◌, ◌==◌, IfOk, drop, length, not};
 ghost use Rattle.tb_answer.specs.Promise.Due.{DueOfDummies, DueOfJoin, DueOfPivot, DueOfUnpivot};
 ghost use Rattle.muigratu_c.specs.Promise.Calls.{HasAnswered};
 ghost use Rattle.muigratu_c.specs.Promise.Rows.{HasRows};
@@ -13,6 +13,7 @@ ghost use Rattle.muigratu_c.specs.Given.{IsGiven};
 
 use std::alloc::Global;
 use tb_answer::{Answer, answer_dummies, answer_join, answer_pivot, answer_unpivot};
+use tb_text::Text;
 use tb_value::OutOfMemory;
 
 // The status of a call that wanted memory, in the numbers of the JSON program.
@@ -28,15 +29,13 @@ pub struct MuigratuEnded {
 }
 
 // Puts the text at the front of the room, where there is room for all of it.
-fn hand_over(text: &[u8], room: &mut [u8])
+fn hand_over(text: &Text, room: &mut [u8])
     ensures whole { length text.now ≤ length room.old
         → room.new ≡ text.now ++ drop (length text.now) room.old }
     ensures short { length room.old < length text.now → room.new ≡ room.old }
 {
-    let length = text.len();
-    if length <= room.len() {
-        let (front, _) = room.split_at_mut(length);
-        front.copy_from_slice(text);
+    if text.len() <= room.len() {
+        text.copy_to(room);
     }
 }
 
@@ -46,11 +45,10 @@ fn given(answered: Result<Answer, OutOfMemory>, room: &mut [u8]) -> MuigratuEnde
 {
     match answered {
         Ok(answer) => {
-            let text = answer.text.as_bytes();
-            hand_over(text, room);
+            hand_over(&answer.text, room);
             MuigratuEnded {
                 status: answer.status.code(),
-                length: text.len(),
+                length: answer.text.len(),
             }
         }
         Err(OutOfMemory) => MuigratuEnded {
@@ -61,25 +59,25 @@ fn given(answered: Result<Answer, OutOfMemory>, room: &mut [u8]) -> MuigratuEnde
 }
 
 fn joined(alloc: Global, request: &[u8]) -> Result<Answer, OutOfMemory>
-    ensures { IfOk result (λ a. DueOfJoin request.now a.status (string_bytes a.text)) }
+    ensures { IfOk result (λ a. DueOfJoin request.now a.status a.text) }
 {
     answer_join(alloc, Vec::from_slice(alloc, request)?)
 }
 
 fn made_long(alloc: Global, request: &[u8]) -> Result<Answer, OutOfMemory>
-    ensures { IfOk result (λ a. DueOfUnpivot request.now a.status (string_bytes a.text)) }
+    ensures { IfOk result (λ a. DueOfUnpivot request.now a.status a.text) }
 {
     answer_unpivot(alloc, Vec::from_slice(alloc, request)?)
 }
 
 fn made_wide(alloc: Global, request: &[u8]) -> Result<Answer, OutOfMemory>
-    ensures { IfOk result (λ a. DueOfPivot request.now a.status (string_bytes a.text)) }
+    ensures { IfOk result (λ a. DueOfPivot request.now a.status a.text) }
 {
     answer_pivot(alloc, Vec::from_slice(alloc, request)?)
 }
 
 fn with_dummies(alloc: Global, request: &[u8]) -> Result<Answer, OutOfMemory>
-    ensures { IfOk result (λ a. DueOfDummies request.now a.status (string_bytes a.text)) }
+    ensures { IfOk result (λ a. DueOfDummies request.now a.status a.text) }
 {
     answer_dummies(alloc, Vec::from_slice(alloc, request)?)
 }

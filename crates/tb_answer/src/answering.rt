@@ -1,5 +1,5 @@
 //! A request that is read is answered.
-ghost use Rattle.std.specs.Prelude.{IfOk, string_bytes};
+ghost use Rattle.std.specs.Prelude.{IfOk};
 ghost use Rattle.tb_value.specs.Refusals.{Settles};
 ghost use Rattle.tb_frame.specs.Promise.Join.{IsAnswer};
 ghost use Rattle.tb_frame.specs.Promise.Refusal.{join_refusal};
@@ -28,7 +28,7 @@ use tb_value::{OutOfMemory, PolarsResult};
 ///
 /// `OutOfMemory` where memory is wanting.
 pub fn answer_join(alloc: Global, bytes: Vec<u8>) -> Result<Answer, OutOfMemory>
-    ensures { IfOk result (λ a. DueOfJoin bytes.items a.status (string_bytes a.text)) }
+    ensures { IfOk result (λ a. DueOfJoin bytes.items a.status a.text) }
 {
     match join_request_of(alloc, bytes) {
         Ok(request) => join_answer(alloc, request),
@@ -42,7 +42,7 @@ pub fn answer_join(alloc: Global, bytes: Vec<u8>) -> Result<Answer, OutOfMemory>
 ///
 /// `OutOfMemory` where memory is wanting.
 pub fn answer_unpivot(alloc: Global, bytes: Vec<u8>) -> Result<Answer, OutOfMemory>
-    ensures { IfOk result (λ a. DueOfUnpivot bytes.items a.status (string_bytes a.text)) }
+    ensures { IfOk result (λ a. DueOfUnpivot bytes.items a.status a.text) }
 {
     match unpivot_request_of(alloc, bytes) {
         Ok(request) => long_answer(alloc, request),
@@ -56,7 +56,7 @@ pub fn answer_unpivot(alloc: Global, bytes: Vec<u8>) -> Result<Answer, OutOfMemo
 ///
 /// `OutOfMemory` where memory is wanting.
 pub fn answer_dummies(alloc: Global, bytes: Vec<u8>) -> Result<Answer, OutOfMemory>
-    ensures { IfOk result (λ a. DueOfDummies bytes.items a.status (string_bytes a.text)) }
+    ensures { IfOk result (λ a. DueOfDummies bytes.items a.status a.text) }
 {
     match dummies_request_of(alloc, bytes) {
         Ok(request) => dummies_answer(alloc, request),
@@ -70,7 +70,7 @@ pub fn answer_dummies(alloc: Global, bytes: Vec<u8>) -> Result<Answer, OutOfMemo
 ///
 /// `OutOfMemory` where memory is wanting.
 pub fn answer_pivot(alloc: Global, bytes: Vec<u8>) -> Result<Answer, OutOfMemory>
-    ensures { IfOk result (λ a. DueOfPivot bytes.items a.status (string_bytes a.text)) }
+    ensures { IfOk result (λ a. DueOfPivot bytes.items a.status a.text) }
 {
     match pivot_request_of(alloc, bytes) {
         Ok(request) => wide_answer(alloc, request),
@@ -102,7 +102,7 @@ fn joined(
 
 fn join_answer(alloc: Global, request: JoinRequest) -> Result<Answer, OutOfMemory>
     ensures { IfOk result (λ a.
-        DueOfJoinRequest (request_view request) a.status (string_bytes a.text)) }
+        DueOfJoinRequest (request_view request) a.status a.text) }
 {
     let JoinRequest {
         left,
@@ -124,7 +124,7 @@ fn join_answer(alloc: Global, request: JoinRequest) -> Result<Answer, OutOfMemor
 
 fn long_answer(alloc: Global, request: UnpivotRequest) -> Result<Answer, OutOfMemory>
     ensures { IfOk result (λ a.
-        DueOfUnpivotRequest (unpivot_view request) a.status (string_bytes a.text)) }
+        DueOfUnpivotRequest (unpivot_view request) a.status a.text) }
 {
     let UnpivotRequest {
         table,
@@ -145,7 +145,7 @@ fn long_answer(alloc: Global, request: UnpivotRequest) -> Result<Answer, OutOfMe
 
 fn dummies_answer(alloc: Global, request: DummiesRequest) -> Result<Answer, OutOfMemory>
     ensures { IfOk result (λ a.
-        DueOfDummiesRequest (dummies_view request) a.status (string_bytes a.text)) }
+        DueOfDummiesRequest (dummies_view request) a.status a.text) }
 {
     let DummiesRequest {
         table,
@@ -164,7 +164,7 @@ fn dummies_answer(alloc: Global, request: DummiesRequest) -> Result<Answer, OutO
 
 fn wide_answer(alloc: Global, request: PivotRequest) -> Result<Answer, OutOfMemory>
     ensures { IfOk result (λ a.
-        DueOfPivotRequest (pivot_view request) a.status (string_bytes a.text)) }
+        DueOfPivotRequest (pivot_view request) a.status a.text) }
 {
     let PivotRequest {
         table,

@@ -16,6 +16,7 @@ use std::alloc::Global;
 use tb_delta::{DeltaFault, StepFault};
 use tb_frame::DataFrame;
 use tb_json::{open_table, push_comma, text_of_refusal};
+use tb_text::Text;
 use tb_value::OutOfMemory;
 
 fn push_id(text: &mut String, id: u32) -> Result<(), OutOfMemory>
@@ -77,20 +78,20 @@ fn push_partners(text: &mut String, lists: &[Vec<u32>]) -> Result<(), OutOfMemor
     Ok(())
 }
 
-/// The text of the joined table with the member `partners`, the ids that each step told, behind the others, and the newline
+/// The text of the joined table, which is let go, with the member `partners`, the ids that each step told, behind the others, and the newline
 /// that ends it.
 pub fn text_of_kept(
     alloc: Global,
-    table: &DataFrame,
+    table: DataFrame,
     partners: &[Vec<u32>],
-) -> Result<String, OutOfMemory>
-    ensures { IfOk result (λ s.
-        string_bytes s ≡ kept_text (table_of table.now) (lists_of partners.now)) }
+) -> Result<Text, OutOfMemory>
+    ensures { IfOk result (λ t. t ≡ kept_text (table_of table) (lists_of partners.now)) }
 {
     let mut text = open_table(alloc, table)?;
-    text.push_str(",\"partners\":")?;
-    push_partners(&mut text, partners)?;
-    text.push_str("}\n")?;
+    let mut told = String::from_str(alloc, ",\"partners\":")?;
+    push_partners(&mut told, partners)?;
+    told.push_str("}\n")?;
+    text.push(told.into_bytes())?;
     Ok(text)
 }
 

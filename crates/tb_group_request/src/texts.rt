@@ -1,5 +1,5 @@
 //! The texts of answers.
-ghost use Rattle.std.specs.Prelude.{◌≡◌, false, IfOk, map, string_bytes};
+ghost use Rattle.std.specs.Prelude.{◌≡◌, false, IfOk, map};
 ghost use Rattle.serde_json.specs.View.{items_of, items_view, view};
 ghost use Rattle.tb_frame.specs.Promise.Table.{table_of};
 ghost use Rattle.tb_json.specs.Promise.Text.{traced_text_of};
@@ -10,7 +10,8 @@ use serde_json::{Value, json};
 use std::alloc::Global;
 use tb_frame::DataFrame;
 use tb_group::Grouped;
-use tb_json::{text_of, traced_text_of};
+use tb_json::{into_text, traced_text_of};
+use tb_text::Text;
 use tb_value::OutOfMemory;
 
 fn count_values(alloc: Global, counts: &[usize]) -> Result<Vec<Value>, OutOfMemory>
@@ -42,22 +43,22 @@ fn parts_value(alloc: Global, parts: &Grouped) -> Result<Value, OutOfMemory>
     })?)
 }
 
-fn text_with_parts(alloc: Global, table: &DataFrame, parts: &Grouped) -> Result<String, OutOfMemory>
-    ensures { IfOk result (λ s. string_bytes s
-        ≡ traced_text_of (table_of table.now) (grouped_data parts.now)) }
+fn text_with_parts(alloc: Global, table: DataFrame, parts: &Grouped) -> Result<Text, OutOfMemory>
+    ensures { IfOk result (λ t.
+        t ≡ traced_text_of (table_of table) (grouped_data parts.now)) }
 {
     let parts = parts_value(alloc, parts)?;
     traced_text_of(alloc, table, &parts)
 }
 
-/// The text of the table, with the member `trace` behind the others where it was asked into which parts the work fell, and
+/// The text of the table, which is let go, with the member `trace` behind the others where it was asked into which parts the work fell, and
 /// the newline that ends it.
-pub fn text_of_grouped(alloc: Global, grouped: &GroupedTable) -> Result<String, OutOfMemory>
-    ensures { IfOk result (λ s. string_bytes s
-        ≡ grouped_text (table_of grouped.now.table) grouped.now.trace) }
+pub fn text_of_grouped(alloc: Global, grouped: GroupedTable) -> Result<Text, OutOfMemory>
+    ensures { IfOk result (λ t. t ≡ grouped_text (table_of grouped.table) grouped.trace) }
 {
-    match &grouped.trace {
-        Some(parts) => text_with_parts(alloc, &grouped.table, parts),
-        None => text_of(alloc, &grouped.table),
+    let GroupedTable { table, trace } = grouped;
+    match trace {
+        Some(parts) => text_with_parts(alloc, table, &parts),
+        None => into_text(alloc, table),
     }
 }

@@ -73,12 +73,12 @@ fn check_halves(
     requires { StandBeside left right.now left_key.now right_key.now }
 {
     let args = JoinArgs::new(JoinType::Left);
-    let halves = materialize_left_join_from_series(
+    let (rows, others) = materialize_left_join_from_series(
         rt, alloc, left, right, left_key, right_key, &args, None, exec,
     )?;
-    assert!(rt; halves.1.width() == 0);
+    assert!(rt; others.width() == 0);
     let line = r#"{"columns":[{"name":"k","type":"i64","values":[1,1,null,2]}],"height":4}"#;
-    check_text(rt, alloc, &halves.0, line)
+    check_text(rt, alloc, rows, line)
 }
 
 // The left rows that have a match.
@@ -97,7 +97,7 @@ fn check_met(
         rt, alloc, left_key, right_key, None, false, false, exec,
     )?;
     let line = r#"{"columns":[{"name":"k","type":"i64","values":[1]}],"height":1}"#;
-    check_text(rt, alloc, &met, line)
+    check_text(rt, alloc, met, line)
 }
 
 // How many rows a Full join has, whose order is free.
@@ -187,7 +187,7 @@ fn check_given(
 ) -> Result<(), Fail> {
     let joined = by_given_columns(rt, alloc, left, right, exec)?;
     let line = r#"{"columns":[{"name":"k","type":"i64","values":[1,1]}],"height":2}"#;
-    check_text(rt, alloc, &joined, line)
+    check_text(rt, alloc, joined, line)
 }
 
 #[test]
@@ -235,7 +235,7 @@ fn check_rising(
     requires { table.now ≡ column.now ∷ [] }
 {
     let line = r#"{"columns":[{"name":"a","type":"i64","values":[10,10,20,30]}],"height":4}"#;
-    check_text(rt, alloc, &rising_rows(rt, alloc, table, column)?, line)
+    check_text(rt, alloc, rising_rows(rt, alloc, table, column)?, line)
 }
 
 // The whole table, by the numbers of its rows.
@@ -263,7 +263,7 @@ fn check_cut(
     }
     let kept = table._finish_anti_semi_join(rt, alloc, &[0, 2], Some((1, 1)))?;
     let line = r#"{"columns":[{"name":"a","type":"i64","values":[30]}],"height":1}"#;
-    check_text(rt, alloc, &kept, line)
+    check_text(rt, alloc, kept, line)
 }
 
 #[test]
@@ -294,7 +294,7 @@ fn tables_side_by_side(rt: HostRuntime) -> Result<(), Fail> {
     let table = twice(rt.alloc(), three_numbers(rt.alloc())?)?;
     let line =
         r#"{"columns":[{"name":"a","type":"i64","values":[10,20,30]},{"name":"a_right","type":"i64","values":[10,20,30]}],"height":3}"#;
-    check_text(&rt, rt.alloc(), &table, line)
+    check_text(&rt, rt.alloc(), table, line)
 }
 
 // The columns of a Full join, whose keys stand side by side.
@@ -331,7 +331,7 @@ fn with_one_key(alloc: Global, left: &DataFrame) -> Result<DataFrame, Fail> {
 fn check_one_key(rt: &impl Abort, alloc: Global, left: &DataFrame) -> Result<(), Fail> {
     let merged = with_one_key(alloc, left)?;
     let line = r#"{"columns":[{"name":"k","type":"i64","values":[1,2]}],"height":2}"#;
-    check_text(rt, alloc, &merged, line)
+    check_text(rt, alloc, merged, line)
 }
 
 #[test]

@@ -39,5 +39,5 @@ fn a_row_comes_and_another_goes(rt: HostRuntime) -> Result<(), Fail> {
     check_remove(&rt, &mut view)?;
     let table = view.table(&rt, rt.alloc(), &Exec::standard())?;
     let line = r#"{"columns":[{"name":"k","type":"i64","values":[1,1]}],"height":2}"#;
-    check_text(&rt, rt.alloc(), &table, line)
+    check_text(&rt, rt.alloc(), table, line)
 }

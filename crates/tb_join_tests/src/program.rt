@@ -21,7 +21,7 @@ fn check_nested(rt: &impl Abort, alloc: Global, request: &JoinRequest) -> Result
     let (left_on, right_on) = (&request.left_on, &request.right_on);
     let table = nested_join(alloc, left, right, left_on, right_on, &request.args)?;
     let line = r#"{"columns":[{"name":"k","type":"i64","values":[1,1,null,2,null,3]}],"height":6}"#;
-    check_text(rt, alloc, &table, line)
+    check_text(rt, alloc, table, line)
 }
 
 fn check_left(
@@ -33,7 +33,7 @@ fn check_left(
     let (left_on, right_on) = (&request.left_on, &request.right_on);
     let table = left.left_join(rt, alloc, right, left_on, right_on, &request.exec)?;
     let line = r#"{"columns":[{"name":"k","type":"i64","values":[1,1,null,2]}],"height":4}"#;
-    check_text(rt, alloc, &table, line)
+    check_text(rt, alloc, table, line)
 }
 
 // The rows of a Full join stand in any order.

@@ -17,6 +17,10 @@ pub with_items-append : (s : List ℕ × Bool) (ds es : List Data) → with_item
 with_items-append s [] es = refl
 with_items-append s (d ∷ ds) es = with_items-append (s.0 ++ (comma_if s.1 ++ compact_text d), true) ds es
 
+-- what is written behind the last piece is written behind the whole
+pub behind_last : (full last more now whole : List ℕ) → now ≡ last ++ more → whole ≡ full ++ last → full ++ now ≡ whole ++ more
+behind_last full last more now whole n w = ap (λ l. full ++ l) n ∙ sym (append_assoc full last more) ∙ ap (λ l. l ++ more) (sym w)
+
 -- one item more is written, and is no longer left
 pub item_step : (ds : List Data) (i : ℕ) (d : Data) (s comma text : List ℕ) (later : Bool) (all : List ℕ × Bool) → i < length ds → d ≡ get_or ds i d → comma ≡ s ++ comma_if later → text ≡ comma ++ compact_text d → with_items (s, later) (drop i ds) ≡ all → with_items (text, true) (drop (i + 1) ds) ≡ all
 item_step ds i d s comma text later all h e c w so_far =

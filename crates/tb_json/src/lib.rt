@@ -2,6 +2,7 @@
 #![tactic(auto)]
 
 pub mod laws;
+mod open_text;
 mod read_any_cells;
 mod read_arrays;
 mod read_cell;
@@ -20,4 +21,4 @@ pub use read_arrays::{arrays_in, run_array_in};
 pub use read_kinds::type_of;
 pub use read_runs::lent_run;
 pub use write_refusals::{error_value, text_of_refusal};
-pub use write_tables::{into_text, open_table, push_comma, text_of, traced_text_of};
+pub use write_tables::{into_text, open_table, push_comma, traced_text_of};

@@ -17,6 +17,7 @@ ghost use Rattle.tb_frame.specs.Promise.Table.{plain_column, table_of};
 ghost use Rattle.tb_json.specs.Promise.Text.{value_data, column_data, text_of, traced_text_of};
 ghost use Rattle.tb_json.specs.Written.{heading, open_table, with_items};
 
+use crate::open_text::OpenText;
 use crate::write_cells::{cell_value, is_wide};
 use crate::write_kinds::type_value;
 use itoa::Buffer;
@@ -24,6 +25,7 @@ use serde_json::Value;
 use std::alloc::Global;
 use tb_frame::DataFrame;
 use tb_store::{Chunk, Chunks, Column};
+use tb_text::Text;
 use tb_value::{DataType, OutOfMemory, ValueRef};
 
 /// Appends a comma, where an item stands before.
@@ -139,19 +141,20 @@ fn push_cell(
 // does after them.
 fn push_chunk<C: Chunk>(
     alloc: Global,
-    text: &mut String,
+    text: &mut OpenText,
     later: bool,
     chunk: &C,
     dtype: &DataType,
 ) -> Result<bool, OutOfMemory>
     requires { All (HasType (kind_of dtype.now)) (C.shown chunk.now) }
-    ensures { IfOk result (λ after. (string_bytes text.new, after)
-        ≡ with_items (string_bytes text.old, later) (map (value_data (kind_of dtype.now)) (C.shown chunk.now))) }
+    ensures { IfOk result (λ after. (text.new, after)
+        ≡ with_items (text.old, later) (map (value_data (kind_of dtype.now)) (C.shown chunk.now))) }
 {
     let mut later = later;
     for row in 0..chunk.len() {
-        push_comma(text, later)?;
-        push_cell(alloc, text, chunk.value(row), dtype)?;
+        push_comma(&mut text.last, later)?;
+        push_cell(alloc, &mut text.last, chunk.value(row), dtype)?;
+        text.close_full(alloc)?;
         later = true;
     }
     Ok(later)
@@ -159,13 +162,13 @@ fn push_chunk<C: Chunk>(
 
 fn push_chunks<C: Chunk>(
     alloc: Global,
-    text: &mut String,
+    text: &mut OpenText,
     chunks: &[C],
     dtype: &DataType,
 ) -> Result<(), OutOfMemory>
     requires { All (HasType (kind_of dtype.now)) (concatenation (map C.shown chunks.now)) }
-    ensures { OnOk result (string_bytes text.new
-        ≡ (with_items (string_bytes text.old, false) (map (value_data (kind_of dtype.now)) (concatenation (map C.shown chunks.now)))).0) }
+    ensures { OnOk result (text.new
+        ≡ (with_items (text.old, false) (map (value_data (kind_of dtype.now)) (concatenation (map C.shown chunks.now)))).0) }
 {
     let mut later = false;
     for chunk in chunks {
@@ -177,13 +180,13 @@ fn push_chunks<C: Chunk>(
 // The values of a column, as items of an array.
 fn push_values(
     alloc: Global,
-    text: &mut String,
+    text: &mut OpenText,
     chunks: &Chunks,
     dtype: &DataType,
 ) -> Result<(), OutOfMemory>
     requires { All (HasType (kind_of dtype.now)) (concatenation (chunk_lists chunks.now)) }
-    ensures { OnOk result (string_bytes text.new
-        ≡ (with_items (string_bytes text.old, false) (map (value_data (kind_of dtype.now)) (concatenation (chunk_lists chunks.now)))).0) }
+    ensures { OnOk result (text.new
+        ≡ (with_items (text.old, false) (map (value_data (kind_of dtype.now)) (concatenation (chunk_lists chunks.now)))).0) }
 {
     match chunks {
         Chunks::BooleanType(chunks) => push_chunks(alloc, text, chunks, dtype),
@@ -205,15 +208,16 @@ fn push_values(
 }
 
 // The values of a column, as an array.
-fn push_array(alloc: Global, text: &mut String, column: &Column) -> Result<(), OutOfMemory>
-    ensures { OnOk result (string_bytes text.new
-        ≡ string_bytes text.old ++ compact_text (array (items_of (map (value_data column.now.kind) (values column.now))))) }
+fn push_array(alloc: Global, text: &mut OpenText, column: &Column) -> Result<(), OutOfMemory>
+    ensures { OnOk result (text.new
+        ≡ text.old ++ compact_text (array (items_of (map (value_data column.now.kind) (values column.now))))) }
 {
-    text.reserve(column.len())?;
+    // Its clauses say that the values are of the column's type.
+    let _len = column.len();
     let series = column.as_materialized_series();
-    text.push_str("[")?;
+    text.last.push_str("[")?;
     push_values(alloc, text, series.chunks(), series.dtype())?;
-    text.push_str("]")?;
+    text.last.push_str("]")?;
     Ok(())
 }
 
@@ -229,95 +233,68 @@ fn push_heading(alloc: Global, text: &mut String, column: &Column) -> Result<(),
     push_value(alloc, text, &dtype)
 }
 
-fn push_column(alloc: Global, text: &mut String, column: &Column) -> Result<(), OutOfMemory>
+fn push_column(alloc: Global, text: &mut OpenText, column: &Column) -> Result<(), OutOfMemory>
     ensures { OnOk result
-        (string_bytes text.new
-        ≡ string_bytes text.old ++ compact_text (column_data (plain_column column.now))) }
+        (text.new ≡ text.old ++ compact_text (column_data (plain_column column.now))) }
 {
-    push_heading(alloc, text, column)?;
-    text.push_str(",\"values\":")?;
+    push_heading(alloc, &mut text.last, column)?;
+    text.last.push_str(",\"values\":")?;
     push_array(alloc, text, column)?;
-    text.push_str("}")?;
-    Ok(())
+    text.last.push_str("}")?;
+    text.close_full(alloc)
 }
 
-// The columns of a table, as items of an array.
-fn push_columns(alloc: Global, text: &mut String, columns: &[Column]) -> Result<(), OutOfMemory>
-    ensures { OnOk result (string_bytes text.new
-        ≡ (with_items (string_bytes text.old, false) (map column_data (table_of columns.now))).0) }
+// The columns of a table, as items of an array. Each is let go once it is written.
+fn push_columns(alloc: Global, text: &mut OpenText, columns: Vec<Column>) -> Result<(), OutOfMemory>
+    ensures { OnOk result (text.new
+        ≡ (with_items (text.old, false) (map column_data (table_of columns.items))).0) }
 {
     let mut later = false;
     for column in columns {
-        push_comma(text, later)?;
-        push_column(alloc, text, column)?;
-        later = true;
-    }
-    Ok(())
-}
-
-// The same of columns that are let go as they are written.
-fn write_columns(alloc: Global, text: &mut String, columns: Vec<Column>) -> Result<(), OutOfMemory>
-    ensures { OnOk result (string_bytes text.new
-        ≡ (with_items (string_bytes text.old, false)
-        (map column_data (table_of columns.items))).0) }
-{
-    let mut later = false;
-    for column in columns {
-        push_comma(text, later)?;
+        push_comma(&mut text.last, later)?;
         push_column(alloc, text, &column)?;
         later = true;
     }
     Ok(())
 }
 
-/// The members of a table, in an object that is left open for further ones.
-pub fn open_table(alloc: Global, table: &DataFrame) -> Result<String, OutOfMemory>
-    ensures { IfOk result (λ s. string_bytes s ≡ open_table (table_of table.now)) }
-{
-    let mut text = String::new(alloc);
-    text.push_str("{\"columns\":[")?;
-    push_columns(alloc, &mut text, table.get_columns())?;
-    text.push_str("],\"height\":")?;
-    push_value(alloc, &mut text, &Value::from(table.height()))?;
-    Ok(text)
-}
-
-/// The text of a table, with the newline that ends it.
-pub fn text_of(alloc: Global, table: &DataFrame) -> Result<String, OutOfMemory>
-    ensures { IfOk result (λ s. string_bytes s ≡ text_of (table_of table.now)) }
-{
-    let mut text = open_table(alloc, table)?;
-    text.push_str("}\n")?;
-    Ok(text)
-}
-
-/// The same of a table whose columns are let go as they are written.
-pub fn into_text(alloc: Global, table: DataFrame) -> Result<String, OutOfMemory>
-    ensures { IfOk result (λ s. string_bytes s ≡ text_of (table_of table)) }
+// The members of a table, in an object that is left open.
+fn open_members(alloc: Global, table: DataFrame) -> Result<OpenText, OutOfMemory>
+    ensures { IfOk result (λ t. t ≡ open_table (table_of table)) }
 {
     let height = table.height();
-    let mut text = String::new(alloc);
-    text.push_str("{\"columns\":[")?;
-    write_columns(alloc, &mut text, table.into_columns())?;
-    text.push_str("],\"height\":")?;
-    push_value(alloc, &mut text, &Value::from(height))?;
-    text.push_str("}\n")?;
+    let mut text = OpenText::new(alloc)?;
+    text.last.push_str("{\"columns\":[")?;
+    push_columns(alloc, &mut text, table.into_columns())?;
+    text.last.push_str("],\"height\":")?;
+    push_value(alloc, &mut text.last, &Value::from(height))?;
     Ok(text)
 }
 
-/// The text of a lent table, with the member `trace` behind the others: how the table was made.
-pub fn traced_text_of(
-    alloc: Global,
-    table: &DataFrame,
-    trace: &Value,
-) -> Result<String, OutOfMemory>
-    requires { has_float (view trace.now) ≡ false }
-    ensures { IfOk result (λ s.
-        string_bytes s ≡ traced_text_of (table_of table.now) (view trace.now)) }
+/// The members of a table, in an object that is left open for further ones. Each column is let go once it is written.
+pub fn open_table(alloc: Global, table: DataFrame) -> Result<Text, OutOfMemory>
+    ensures { IfOk result (λ t. t ≡ open_table (table_of table)) }
 {
-    let mut text = open_table(alloc, table)?;
-    text.push_str(",\"trace\":")?;
-    push_value(alloc, &mut text, trace)?;
-    text.push_str("}\n")?;
-    Ok(text)
+    open_members(alloc, table)?.close()
+}
+
+/// The text of a table, with the newline that ends it. Each column is let go once it is written.
+pub fn into_text(alloc: Global, table: DataFrame) -> Result<Text, OutOfMemory>
+    ensures { IfOk result (λ t. t ≡ text_of (table_of table)) }
+{
+    let mut text = open_members(alloc, table)?;
+    text.last.push_str("}\n")?;
+    text.close()
+}
+
+/// The same with the member `trace` behind the others: how the table was made.
+pub fn traced_text_of(alloc: Global, table: DataFrame, trace: &Value) -> Result<Text, OutOfMemory>
+    requires { has_float (view trace.now) ≡ false }
+    ensures { IfOk result (λ t. t ≡ traced_text_of (table_of table) (view trace.now)) }
+{
+    let mut text = open_members(alloc, table)?;
+    text.last.push_str(",\"trace\":")?;
+    push_value(alloc, &mut text.last, trace)?;
+    text.last.push_str("}\n")?;
+    text.close()
 }

@@ -12,3 +12,4 @@ mod TwoForms
 mod Planned
 mod Kept
 mod GroupedTables
+mod Pieces

@@ -1,5 +1,5 @@
 //! A request that is read is answered: the one door to the commands.
-ghost use Rattle.std.specs.Prelude.{◌≡◌, Err, IfOk, string_bytes};
+ghost use Rattle.std.specs.Prelude.{◌≡◌, Err, IfOk};
 ghost use Rattle.tb_request.specs.Promise.Reading.{request_view, unpivot_view, dummies_view, pivot_view, join_request_of, unpivot_request_of, dummies_request_of, pivot_request_of};
 ghost use Rattle.tb_run.specs.Promise.Due.{DueOfReading, DueOfRequest};
 ghost use Rattle.tb_run.specs.Due.{IsJoinOutcome, IsOutcome, IsRefusal};
@@ -23,13 +23,14 @@ use tb_request::{
     DummiesRequest, JoinRequest, PivotRequest, Reason, RequestFault, UnpivotRequest,
     bad_request_text, dummies_request_of, join_request_of, pivot_request_of, unpivot_request_of,
 };
+use tb_text::Text;
 use tb_value::{OutOfMemory, PolarsError, PolarsResult};
 
 /// What is written, and the status that goes with it.
 #[derive(Drop)]
 pub struct Answer {
     pub status: Status,
-    pub text: String,
+    pub text: Text,
 }
 
 #[tactic(auto, unfolding(crate::specs::Promise::Requests::request_of))]
@@ -40,7 +41,7 @@ pub(crate) fn answer_request(
     bytes: Vec<u8>,
 ) -> Result<Answer, OutOfMemory>
     ensures { IfOk result (λ a.
-        DueOfReading (request_of command bytes.items) a.status (string_bytes a.text)) }
+        DueOfReading (request_of command bytes.items) a.status a.text) }
 {
     match command {
         Command::Join => answer_join(rt, alloc, bytes),
@@ -60,7 +61,7 @@ fn answer_join(
 ) -> Result<Answer, OutOfMemory>
     ensures { IfOk result (λ a.
         DueOfReading (as_request join (join_request_of bytes.items)) a.status
-        (string_bytes a.text)) }
+        a.text) }
 {
     match join_request_of(alloc, bytes) {
         Ok(request) => join_answer(rt, alloc, request),
@@ -71,7 +72,7 @@ fn answer_join(
 fn answer_unpivot(alloc: Global, bytes: Vec<u8>) -> Result<Answer, OutOfMemory>
     ensures { IfOk result (λ a.
         DueOfReading (as_request unpivot (unpivot_request_of bytes.items)) a.status
-        (string_bytes a.text)) }
+        a.text) }
 {
     match unpivot_request_of(alloc, bytes) {
         Ok(request) => long_answer(alloc, request),
@@ -82,7 +83,7 @@ fn answer_unpivot(alloc: Global, bytes: Vec<u8>) -> Result<Answer, OutOfMemory>
 fn answer_dummies(alloc: Global, bytes: Vec<u8>) -> Result<Answer, OutOfMemory>
     ensures { IfOk result (λ a.
         DueOfReading (as_request dummies (dummies_request_of bytes.items)) a.status
-        (string_bytes a.text)) }
+        a.text) }
 {
     match dummies_request_of(alloc, bytes) {
         Ok(request) => dummies_answer(alloc, request),
@@ -93,7 +94,7 @@ fn answer_dummies(alloc: Global, bytes: Vec<u8>) -> Result<Answer, OutOfMemory>
 fn answer_pivot(alloc: Global, bytes: Vec<u8>) -> Result<Answer, OutOfMemory>
     ensures { IfOk result (λ a.
         DueOfReading (as_request pivot (pivot_request_of bytes.items)) a.status
-        (string_bytes a.text)) }
+        a.text) }
 {
     match pivot_request_of(alloc, bytes) {
         Ok(request) => wide_answer(alloc, request),
@@ -107,7 +108,7 @@ fn join_answer(
     request: JoinRequest,
 ) -> Result<Answer, OutOfMemory>
     ensures { IfOk result (λ a.
-        DueOfRequest (join (request_view request)) a.status (string_bytes a.text)) }
+        DueOfRequest (join (request_view request)) a.status a.text) }
 {
     let JoinRequest {
         left,
@@ -129,7 +130,7 @@ fn join_answer(
 
 fn long_answer(alloc: Global, request: UnpivotRequest) -> Result<Answer, OutOfMemory>
     ensures { IfOk result (λ a.
-        DueOfRequest (unpivot (unpivot_view request)) a.status (string_bytes a.text)) }
+        DueOfRequest (unpivot (unpivot_view request)) a.status a.text) }
 {
     let UnpivotRequest {
         table,
@@ -150,7 +151,7 @@ fn long_answer(alloc: Global, request: UnpivotRequest) -> Result<Answer, OutOfMe
 
 fn dummies_answer(alloc: Global, request: DummiesRequest) -> Result<Answer, OutOfMemory>
     ensures { IfOk result (λ a.
-        DueOfRequest (dummies (dummies_view request)) a.status (string_bytes a.text)) }
+        DueOfRequest (dummies (dummies_view request)) a.status a.text) }
 {
     let DummiesRequest {
         table,
@@ -169,7 +170,7 @@ fn dummies_answer(alloc: Global, request: DummiesRequest) -> Result<Answer, OutO
 
 fn wide_answer(alloc: Global, request: PivotRequest) -> Result<Answer, OutOfMemory>
     ensures { IfOk result (λ a.
-        DueOfRequest (pivot (pivot_view request)) a.status (string_bytes a.text)) }
+        DueOfRequest (pivot (pivot_view request)) a.status a.text) }
 {
     let PivotRequest {
         table,
@@ -198,12 +199,12 @@ fn join_answered(
     asks_trace: bool,
     outcome: PolarsResult<(DataFrame, JoinTrace)>,
 ) -> Result<Answer, OutOfMemory>
-    ensures { IfOk result (λ a. IsJoinOutcome asks_trace outcome a.status (string_bytes a.text)) }
+    ensures { IfOk result (λ a. IsJoinOutcome asks_trace outcome a.status a.text) }
 {
     match outcome {
         Ok((table, trace)) if asks_trace => Ok(Answer {
             status: Status::Done,
-            text: text_with_trace(alloc, &table, &trace)?,
+            text: text_with_trace(alloc, table, &trace)?,
         }),
         Ok((table, _)) => answered(alloc, Ok(table)),
         Err(error) => refused(alloc, error),
@@ -212,7 +213,7 @@ fn join_answered(
 
 // The text of the table that an operation gave, or of why it gave none.
 fn answered(alloc: Global, outcome: PolarsResult<DataFrame>) -> Result<Answer, OutOfMemory>
-    ensures { IfOk result (λ a. IsOutcome outcome a.status (string_bytes a.text)) }
+    ensures { IfOk result (λ a. IsOutcome outcome a.status a.text) }
 {
     match outcome {
         Ok(table) => Ok(Answer {
@@ -226,13 +227,13 @@ fn answered(alloc: Global, outcome: PolarsResult<DataFrame>) -> Result<Answer, O
 /// Want of memory is handed on, and any other refusal has a text.
 #[tactic(auto, unfolding(crate::specs::Promise::Requests::text_of_refusal))]
 pub(crate) fn refused(alloc: Global, error: PolarsError) -> Result<Answer, OutOfMemory>
-    ensures { IfOk result (λ a. IsRefusal error a.status (string_bytes a.text)) }
+    ensures { IfOk result (λ a. IsRefusal error a.status a.text) }
 {
     match error {
         PolarsError::OutOfMemory => Err(OutOfMemory),
         error => Ok(Answer {
             status: Status::Refused,
-            text: text_of_refusal(alloc, &error)?,
+            text: Text::from_string(alloc, text_of_refusal(alloc, &error)?)?,
         }),
     }
 }
@@ -240,13 +241,13 @@ pub(crate) fn refused(alloc: Global, error: PolarsError) -> Result<Answer, OutOf
 /// Want of memory is handed on, and a reason has a text.
 pub(crate) fn no_request(alloc: Global, fault: RequestFault) -> Result<Answer, OutOfMemory>
     ensures { IfOk result (λ a. (reason : Reason) × (fault ≡ RequestFault.NoRequest reason)
-        × DueOfReading (Err reason) a.status (string_bytes a.text)) }
+        × DueOfReading (Err reason) a.status a.text) }
 {
     match fault {
         RequestFault::OutOfMemory => Err(OutOfMemory),
         RequestFault::NoRequest(reason) => Ok(Answer {
             status: Status::BadRequest,
-            text: bad_request_text(alloc, reason)?,
+            text: Text::from_string(alloc, bad_request_text(alloc, reason)?)?,
         }),
     }
 }

@@ -1,5 +1,5 @@
 //! A request to group a table is answered.
-ghost use Rattle.std.specs.Prelude.{◌≡◌, IfOk, string_bytes};
+ghost use Rattle.std.specs.Prelude.{◌≡◌, IfOk};
 ghost use Rattle.tb_group_request.specs.Promise.Reading.{group_request_of, group_view};
 ghost use Rattle.tb_run.specs.Promise.Due.{DueOfReading, DueOfRequest};
 ghost use Rattle.tb_run.specs.Due.{IsGroupOutcome};
@@ -18,7 +18,7 @@ pub(crate) fn answer_group(
     bytes: Vec<u8>,
 ) -> Result<Answer, OutOfMemory>
     ensures { IfOk result (λ a. DueOfReading (as_request group (group_request_of bytes.items))
-        a.status (string_bytes a.text)) }
+        a.status a.text) }
 {
     match group_request_of(alloc, bytes) {
         Ok(request) => group_answer(rt, alloc, request),
@@ -32,7 +32,7 @@ fn group_answer(
     request: GroupRequest,
 ) -> Result<Answer, OutOfMemory>
     ensures { IfOk result (λ a. DueOfRequest (group (group_view request))
-        a.status (string_bytes a.text)) }
+        a.status a.text) }
 {
     let outcome = grouped(rt, alloc, request);
     group_answered(alloc, outcome)
@@ -40,12 +40,12 @@ fn group_answer(
 
 // The text of the table that was grouped, or of why it was not.
 fn group_answered(alloc: Global, outcome: PolarsResult<GroupedTable>) -> Result<Answer, OutOfMemory>
-    ensures { IfOk result (λ a. IsGroupOutcome outcome a.status (string_bytes a.text)) }
+    ensures { IfOk result (λ a. IsGroupOutcome outcome a.status a.text) }
 {
     match outcome {
         Ok(grouped) => Ok(Answer {
             status: Status::Done,
-            text: text_of_grouped(alloc, &grouped)?,
+            text: text_of_grouped(alloc, grouped)?,
         }),
         Err(error) => refused(alloc, error),
     }

@@ -1,5 +1,5 @@
 //! A request to keep a join is answered.
-ghost use Rattle.std.specs.Prelude.{◌≡◌, IfOk, string_bytes};
+ghost use Rattle.std.specs.Prelude.{◌≡◌, IfOk};
 ghost use Rattle.tb_frame.specs.Promise.Table.{table_of};
 ghost use Rattle.tb_delta.specs.Running.{lists_of};
 ghost use Rattle.tb_delta_request.specs.Promise.Reading.{delta_request_of, delta_view, AreFitting};
@@ -15,6 +15,7 @@ use std::thread::Threads;
 use tb_delta_request::{
     DeltaRequest, KeptFault, KeptJoin, delta_request_of, kept, text_of_fault, text_of_kept,
 };
+use tb_text::Text;
 use tb_value::OutOfMemory;
 
 pub(crate) fn answer_delta(
@@ -24,7 +25,7 @@ pub(crate) fn answer_delta(
 ) -> Result<Answer, OutOfMemory>
     ensures { IfOk result (λ a.
         DueOfReading (as_request delta (delta_request_of bytes.items)) a.status
-        (string_bytes a.text)) }
+        a.text) }
 {
     match delta_request_of(alloc, bytes) {
         Ok(request) => delta_answer(rt, alloc, request),
@@ -39,7 +40,7 @@ fn delta_answer(
 ) -> Result<Answer, OutOfMemory>
     requires fitting { AreFitting (delta_view request) }
     ensures { IfOk result (λ a.
-        DueOfRequest (delta (delta_view request)) a.status (string_bytes a.text)) }
+        DueOfRequest (delta (delta_view request)) a.status a.text) }
 {
     match kept(rt, alloc, request) {
         Ok(join) => kept_answer(alloc, join),
@@ -51,21 +52,22 @@ fn delta_answer(
 fn kept_answer(alloc: Global, join: KeptJoin) -> Result<Answer, OutOfMemory>
     ensures { IfOk result (λ a.
         (a.status ≡ Status.Done)
-        × (string_bytes a.text
+        × (a.text
         ≡ kept_text (table_of join.table) (lists_of join.partners.items))) }
 {
+    let KeptJoin { table, partners } = join;
     Ok(Answer {
         status: Status::Done,
-        text: text_of_kept(alloc, &join.table, &join.partners)?,
+        text: text_of_kept(alloc, table, &partners)?,
     })
 }
 
 // Want of memory is handed on, and any other fault has a text.
 fn kept_refused(alloc: Global, fault: KeptFault) -> Result<Answer, OutOfMemory>
-    ensures { IfOk result (λ a. IsKeptRefusal fault a.status (string_bytes a.text)) }
+    ensures { IfOk result (λ a. IsKeptRefusal fault a.status a.text) }
 {
     Ok(Answer {
         status: Status::Refused,
-        text: text_of_fault(alloc, &fault)?,
+        text: Text::from_string(alloc, text_of_fault(alloc, &fault)?)?,
     })
 }

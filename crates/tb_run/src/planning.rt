@@ -1,5 +1,5 @@
 //! A request of a plan is answered.
-ghost use Rattle.std.specs.Prelude.{◌≡◌, IfOk, string_bytes};
+ghost use Rattle.std.specs.Prelude.{◌≡◌, IfOk};
 ghost use Rattle.tb_plan_request.specs.Lent.{plan_view};
 ghost use Rattle.tb_plan_request.specs.Promise.Reading.{plan_request_of};
 ghost use Rattle.tb_run.specs.Promise.Due.{DueOfReading, DueOfRequest};
@@ -14,6 +14,7 @@ use tb_frame::DataFrame;
 use tb_json::into_text;
 use tb_plan::PlanFault;
 use tb_plan_request::{PlanRequest, plan_request_of, planned, text_of_fault};
+use tb_text::Text;
 use tb_value::OutOfMemory;
 
 pub(crate) fn answer_plan(
@@ -23,7 +24,7 @@ pub(crate) fn answer_plan(
 ) -> Result<Answer, OutOfMemory>
     ensures { IfOk result (λ a.
         DueOfReading (as_request plan (plan_request_of bytes.items)) a.status
-        (string_bytes a.text)) }
+        a.text) }
 {
     match plan_request_of(alloc, bytes) {
         Ok(request) => plan_answer(rt, alloc, request),
@@ -37,7 +38,7 @@ fn plan_answer(
     request: PlanRequest,
 ) -> Result<Answer, OutOfMemory>
     ensures { IfOk result (λ a.
-        DueOfRequest (plan (plan_view request)) a.status (string_bytes a.text)) }
+        DueOfRequest (plan (plan_view request)) a.status a.text) }
 {
     let outcome = planned(rt, alloc, request);
     plan_answered(alloc, outcome)
@@ -48,7 +49,7 @@ fn plan_answered(
     alloc: Global,
     outcome: Result<DataFrame, PlanFault>,
 ) -> Result<Answer, OutOfMemory>
-    ensures { IfOk result (λ a. IsPlanOutcome outcome a.status (string_bytes a.text)) }
+    ensures { IfOk result (λ a. IsPlanOutcome outcome a.status a.text) }
 {
     match outcome {
         Ok(table) => Ok(Answer {
@@ -62,13 +63,13 @@ fn plan_answered(
 // Want of memory is handed on, and any other fault has a text.
 #[tactic(auto, unfolding(crate::specs::Promise::Requests::text_of_refusal))]
 fn plan_refused(alloc: Global, fault: PlanFault) -> Result<Answer, OutOfMemory>
-    ensures { IfOk result (λ a. IsPlanRefusal fault a.status (string_bytes a.text)) }
+    ensures { IfOk result (λ a. IsPlanRefusal fault a.status a.text) }
 {
     match fault {
         PlanFault::OutOfMemory => Err(OutOfMemory),
         fault => Ok(Answer {
             status: Status::Refused,
-            text: text_of_fault(alloc, &fault)?,
+            text: Text::from_string(alloc, text_of_fault(alloc, &fault)?)?,
         }),
     }
 }

@@ -17,10 +17,11 @@ use crate::never::{NeverSink, NeverSource};
 use crate::reading::{Input, ReadError, read_request};
 use crate::status::Status;
 use crate::words::{Command, Form, form_of};
-use crate::writing::write_text;
+use crate::writing::{write_pieces, write_text};
 use std::alloc::Global;
 use std::thread::Threads;
 use tb_sample::{sample, text_of_summary};
+use tb_text::Text;
 use tb_value::{OutOfMemory, PlSmallStr};
 
 const USAGE: &str = "{\"error\":\"Usage\"}\n";
@@ -89,7 +90,7 @@ pub fn run<S: Source, K: Sink>(
             Err(OutOfMemory) => Status::OutOfMemory,
         },
         Form::Reads(command) => match respond(rt, alloc, command, source) {
-            Ok(answer) => reply(sink, answer.status, answer.text.as_str()),
+            Ok(answer) => reply_text(sink, answer.status, &answer.text),
             Err(ReadError::Failed) => Status::ReadFault,
             Err(ReadError::OutOfMemory) => Status::OutOfMemory,
         },
@@ -105,14 +106,14 @@ fn respond<S: Source>(
 ) -> Result<Answer, ReadError>
     ensures due { IfOk result (λ a.
         IsDue (Form.Reads command) (S.left source.old) (S.left source.new) a.status
-        (string_bytes a.text)) }
+        a.text) }
     ensures count { CountsReads S.is_exact (S.faults source.old) (S.faults source.new) result }
 {
     match read_request(alloc, source)? {
         Input::Whole(bytes) => Ok(answer_request(rt, alloc, command, bytes)?),
         Input::TooLong => Ok(Answer {
             status: Status::TooLong,
-            text: String::from_str(alloc, TOO_LONG)?,
+            text: Text::from_string(alloc, String::from_str(alloc, TOO_LONG)?)?,
         }),
     }
 }
@@ -134,6 +135,18 @@ fn reply<K: Sink>(sink: &mut K, status: Status, text: &str) -> Status
     ensures kept { K.faults sink.old ≤ K.faults sink.new }
 {
     match write_text(sink, text.as_bytes()) {
+        Ok(()) => status,
+        Err(_) => Status::WriteFault,
+    }
+}
+
+// The same of a text in pieces.
+fn reply_text<K: Sink>(sink: &mut K, status: Status, text: &Text) -> Status
+    ensures ends { IsReply K.is_exact (K.written sink.old) (K.written sink.new) (K.faults sink.old)
+        (K.faults sink.new) status text.now result }
+    ensures kept { K.faults sink.old ≤ K.faults sink.new }
+{
+    match write_pieces(sink, text.pieces()) {
         Ok(()) => status,
         Err(_) => Status::WriteFault,
     }

@@ -1,5 +1,5 @@
 //! The text of a joined table, with how the join went.
-ghost use Rattle.std.specs.Prelude.{◌≡◌, false, IfOk, string_bytes};
+ghost use Rattle.std.specs.Prelude.{◌≡◌, false, IfOk};
 ghost use Rattle.serde_json.specs.View.{view};
 ghost use Rattle.serde_json.specs.Written.{has_float};
 ghost use Rattle.tb_frame.specs.Promise.Table.{table_of};
@@ -16,6 +16,7 @@ use tb_group_request::counts_value;
 use tb_join::JoinTrace;
 use tb_json::traced_text_of;
 use tb_merge::Merged;
+use tb_text::Text;
 use tb_value::OutOfMemory;
 
 fn built_value(alloc: Global, built: &Built) -> Result<Value, OutOfMemory>
@@ -54,11 +55,11 @@ fn trace_value(alloc: Global, trace: &JoinTrace) -> Result<Value, OutOfMemory>
 /// The text of a joined table with the trace of the join, and the newline that ends it.
 pub(crate) fn text_with_trace(
     alloc: Global,
-    table: &DataFrame,
+    table: DataFrame,
     trace: &JoinTrace,
-) -> Result<String, OutOfMemory>
-    ensures { IfOk result (λ s.
-        string_bytes s ≡ traced_text_of (table_of table.now) (trace_data (trace_told trace.now))) }
+) -> Result<Text, OutOfMemory>
+    ensures { IfOk result (λ t.
+        t ≡ traced_text_of (table_of table) (trace_data (trace_told trace.now))) }
 {
     let trace = trace_value(alloc, trace)?;
     traced_text_of(alloc, table, &trace)

@@ -89,7 +89,7 @@ fn check_wide(
     let table = wide(alloc, request, Some(agg))?;
     let line =
         r#"{"columns":[{"name":"i","type":"i64","values":[1,2]},{"name":"5","type":"i64","values":[17,9]},{"name":"6","type":"i64","values":[8,null]}],"height":2}"#;
-    check_text(rt, alloc, &table, line)
+    check_text(rt, alloc, table, line)
 }
 
 fn check_sums(rt: &impl Abort, alloc: Global, request: &PivotRequest) -> Result<(), Fail> {

@@ -26,9 +26,8 @@ fn check_long(rt: &impl Abort, alloc: Global, request: &UnpivotRequest) -> Resul
     let long = request.table.unpivot(alloc, &request.on, &request.index)?;
     let line =
         r#"{"columns":[{"name":"i","type":"str","values":["x","y","x","y"]},{"name":"variable","type":"str","values":["v1","v1","v2","v2"]},{"name":"value","type":"i64","values":[1,2,3,4]}],"height":4}"#;
-    check_text(rt, alloc, &long, line)?;
     assert!(rt; is_wide_again(alloc, request, &long)?);
-    Ok(())
+    check_text(rt, alloc, long, line)
 }
 
 #[test]
@@ -47,7 +46,7 @@ const MADE: &str =
 // Dummies of all columns.
 fn check_dummies(rt: &impl Abort, alloc: Global, request: &DummiesRequest) -> Result<(), Fail> {
     let made = request.table.to_dummies(alloc, None, false)?;
-    check_text(rt, alloc, &made, MADE)
+    check_text(rt, alloc, made, MADE)
 }
 
 // Dummies of the columns that are named, of which there is one.
@@ -56,7 +55,7 @@ fn check_named(rt: &impl Abort, alloc: Global, request: &DummiesRequest) -> Resu
     let made = request
         .table
         .columns_to_dummies(alloc, slice::from_ref(name), None, false)?;
-    check_text(rt, alloc, &made, MADE)
+    check_text(rt, alloc, made, MADE)
 }
 
 fn check_both(rt: &impl Abort, alloc: Global, request: &DummiesRequest) -> Result<(), Fail> {

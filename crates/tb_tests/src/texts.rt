@@ -4,7 +4,7 @@ use std::alloc::Global;
 use std::process::Abort;
 use std::test::Fail;
 use tb_frame::DataFrame;
-use tb_json::text_of;
+use tb_json::into_text;
 use tb_request::{
     DummiesRequest, PivotRequest, UnpivotRequest, dummies_request_of, pivot_request_of,
     unpivot_request_of,
@@ -34,14 +34,16 @@ pub(crate) fn given<'a>(names: &'a Option<Vec<PlSmallStr>>) -> Option<&'a [PlSma
     }
 }
 
-// The table has this text.
+// The table has this text, and a newline behind it.
 pub(crate) fn check_text(
     rt: &impl Abort,
     alloc: Global,
-    table: &DataFrame,
+    table: DataFrame,
     line: &str,
 ) -> Result<(), Fail> {
-    let text = text_of(alloc, table)?;
-    assert!(rt; text.trim_end() == line);
+    let text = into_text(alloc, table)?;
+    assert_eq!(rt; text.len(), line.len() + 1);
+    let piece = text.pieces().first().ok_or("no piece")?;
+    assert!(rt; piece.starts_with(line.as_bytes()));
     Ok(())
 }

@@ -1,6 +1,5 @@
-use Rattle.std.proofs.Common.{string_bytes}
 use Rattle.tb_answer.proofs.Answered.{fault_is_due}
 use Rattle.tb_answer.proofs.answering.answer_dummies.Goals as goal
 
 pub returns-in-Err : goal.returns-in-Err
-returns-in-Err c = fault_is_due _ _ _ _ (λ a. a.status) (λ a. string_bytes a.text) _ c.in-Err.ensures c.no_request.ensures
+returns-in-Err c = fault_is_due _ _ _ _ (λ a. a.status) (λ a. a.text) _ c.in-Err.ensures c.no_request.ensures

@@ -1,4 +1,4 @@
-use Rattle.std.proofs.Common.{◌≡◌, false, map, drop, string_bytes}
+use Rattle.std.proofs.Common.{◌≡◌, false, map, drop}
 use Rattle.std.specs.List.{All}
 use Rattle.tb_value.specs.SeeKind.{kind_of}
 use Rattle.tb_value.specs.Promise.Typed.{HasType}
@@ -10,6 +10,6 @@ use Rattle.tb_json.proofs.write_tables.push_chunks.Given as goal
 -- what is written, and what is left
 abbrev pub invariant-loop-chunk : goal.invariant-loop-chunk
 invariant-loop-chunk g l = record {
-  same : with_items (string_bytes l.text, l.later) (map (value_data (kind_of l.dtype)) (concatenation (map g.C.Chunk.shown (drop l.chunk-index l.chunks)))) ≡ with_items (string_bytes l.initial.text, false) (map (value_data (kind_of l.dtype)) (concatenation (map g.C.Chunk.shown l.chunks)));
+  same : with_items (l.text, l.later) (map (value_data (kind_of l.dtype)) (concatenation (map g.C.Chunk.shown (drop l.chunk-index l.chunks)))) ≡ with_items (l.initial.text, false) (map (value_data (kind_of l.dtype)) (concatenation (map g.C.Chunk.shown l.chunks)));
   typed : All (HasType (kind_of l.dtype)) (concatenation (map g.C.Chunk.shown (drop l.chunk-index l.chunks)));
 }

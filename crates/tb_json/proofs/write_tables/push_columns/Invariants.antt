@@ -1,4 +1,4 @@
-use Rattle.std.proofs.Common.{◌≡◌, false, map, drop, string_bytes}
+use Rattle.std.proofs.Common.{◌≡◌, false, length, map}
 use Rattle.tb_frame.specs.Promise.Table.{table_of}
 use Rattle.tb_json.specs.Promise.Text.{column_data}
 use Rattle.tb_json.specs.Written.{with_items}
@@ -6,4 +6,7 @@ use Rattle.tb_json.proofs.write_tables.push_columns.Given as goal
 
 -- what is written, and what is left
 abbrev pub invariant-loop-column : goal.invariant-loop-column
-invariant-loop-column l = with_items (string_bytes l.text, l.later) (drop l.column-index (map column_data (table_of l.columns))) ≡ with_items (string_bytes l.initial.text, false) (map column_data (table_of l.columns))
+invariant-loop-column l = record {
+  written : with_items (l.text, l.later) (map column_data (table_of l.column-iterator.rest.items)) ≡ with_items (l.initial.text, false) (map column_data (table_of l.initial.column-iterator.rest.items));
+  rest_len : l.column-iterator.rest.len ≡ length l.column-iterator.rest.items;
+}

@@ -1,8 +1,7 @@
-use Rattle.std.proofs.Common.{string_bytes}
 use Rattle.tb_group_request.specs.Promise.Reading.{group_view}
 use Rattle.tb_run.proofs.GroupedTables.{groups_are_due}
 use Rattle.tb_run.proofs.grouping.group_answer.Goals as goal
 
 pub returns : goal.returns
 returns g c =
-    groups_are_due (group_view c.args.request) _ (λ a. a.status) (λ a. string_bytes a.text) _ c.grouped-outcome.ensures.settles c.grouped-outcome.ensures.answer c.group_answered.ensures
+    groups_are_due (group_view c.args.request) _ (λ a. a.status) (λ a. a.text) _ c.grouped-outcome.ensures.settles c.grouped-outcome.ensures.answer c.group_answered.ensures

@@ -1,7 +1,6 @@
-use Rattle.std.proofs.Common.{string_bytes}
 use Rattle.tb_run.specs.Promise.Requests.{plan}
 use Rattle.tb_run.proofs.Answered.{fault_is_due}
 use Rattle.tb_run.proofs.planning.answer_plan.Goals as goal
 
 pub returns-in-Err : goal.returns-in-Err
-returns-in-Err g c = fault_is_due plan _ _ (λ a. a.status) (λ a. string_bytes a.text) _ c.in-Err.ensures c.no_request.ensures
+returns-in-Err g c = fault_is_due plan _ _ (λ a. a.status) (λ a. a.text) _ c.in-Err.ensures c.no_request.ensures

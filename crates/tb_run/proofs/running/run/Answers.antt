@@ -11,34 +11,34 @@ pub returns-in-Unknown-clause-write_fault : goal.returns-in-Unknown-clause-write
 returns-in-Unknown-clause-write_fault g c = replied_part g.K.Sink.is_exact _ _ _ _ _ _ _ _ _ _ (usage_is_due _ _ c.in-Unknown.ensures) c.reply.ensures.ends
 
 pub returns-in-Ok-respond-clause-answered : goal.returns-in-Ok-respond-clause-answered
-returns-in-Ok-respond-clause-answered g c = replied_whole g.K.Sink.is_exact _ _ _ _ _ _ _ _ _ _ (answer_is_due _ _ _ _ _ _ _ c.in-Reads.ensures c.as_str-in-Ok-respond.ensures.value c.in-Ok-respond.ensures.due) c.reply-in-Ok-respond.ensures.ends
+returns-in-Ok-respond-clause-answered g c = replied_whole g.K.Sink.is_exact _ _ _ _ _ _ _ _ _ _ (answer_is_due _ _ _ _ _ _ _ c.in-Reads.ensures refl c.in-Ok-respond.ensures.due) c.reply_text.ensures.ends
 
 pub returns-in-Ok-respond-clause-write_fault : goal.returns-in-Ok-respond-clause-write_fault
-returns-in-Ok-respond-clause-write_fault g c = replied_part g.K.Sink.is_exact _ _ _ _ _ _ _ _ _ _ (answer_is_due _ _ _ _ _ _ _ c.in-Reads.ensures c.as_str-in-Ok-respond.ensures.value c.in-Ok-respond.ensures.due) c.reply-in-Ok-respond.ensures.ends
+returns-in-Ok-respond-clause-write_fault g c = replied_part g.K.Sink.is_exact _ _ _ _ _ _ _ _ _ _ (answer_is_due _ _ _ _ _ _ _ c.in-Reads.ensures refl c.in-Ok-respond.ensures.due) c.reply_text.ensures.ends
 
 pub returns-in-Ok-respond-clause-read_fault : goal.returns-in-Ok-respond-clause-read_fault
-returns-in-Ok-respond-clause-read_fault g c fault = absurd (no_read_fault g.K.Sink.is_exact _ _ _ _ _ _ _ _ _ _ (answer_is_due _ _ _ _ _ _ _ c.in-Reads.ensures c.as_str-in-Ok-respond.ensures.value c.in-Ok-respond.ensures.due) c.reply-in-Ok-respond.ensures.ends fault)
+returns-in-Ok-respond-clause-read_fault g c fault = absurd (no_read_fault g.K.Sink.is_exact _ _ _ _ _ _ _ _ _ _ (answer_is_due _ _ _ _ _ _ _ c.in-Reads.ensures refl c.in-Ok-respond.ensures.due) c.reply_text.ensures.ends fault)
 
 pub returns-in-Ok-respond-clause-out_of_memory : goal.returns-in-Ok-respond-clause-out_of_memory
-returns-in-Ok-respond-clause-out_of_memory g c want = absurd (no_want g.K.Sink.is_exact _ _ _ _ _ _ _ _ _ _ (answer_is_due _ _ _ _ _ _ _ c.in-Reads.ensures c.as_str-in-Ok-respond.ensures.value c.in-Ok-respond.ensures.due) c.reply-in-Ok-respond.ensures.ends want)
+returns-in-Ok-respond-clause-out_of_memory g c want = absurd (no_want g.K.Sink.is_exact _ _ _ _ _ _ _ _ _ _ (answer_is_due _ _ _ _ _ _ _ c.in-Reads.ensures refl c.in-Ok-respond.ensures.due) c.reply_text.ensures.ends want)
 
 pub returns-in-Unknown-clause-writes_well : goal.returns-in-Unknown-clause-writes_well
 returns-in-Unknown-clause-writes_well g c = replied_well g.K.Sink.is_exact _ _ _ _ _ _ _ c.reply.ensures.ends
 
 pub returns-in-Ok-respond-clause-writes_well : goal.returns-in-Ok-respond-clause-writes_well
-returns-in-Ok-respond-clause-writes_well g c = replied_well g.K.Sink.is_exact _ _ _ _ _ _ _ c.reply-in-Ok-respond.ensures.ends
+returns-in-Ok-respond-clause-writes_well g c = replied_well g.K.Sink.is_exact _ _ _ _ _ _ _ c.reply_text.ensures.ends
 
 pub returns-in-Unknown-clause-complete : goal.returns-in-Unknown-clause-complete
 returns-in-Unknown-clause-complete g c valid read_calm calm = replied_done g.K.Sink.is_exact _ _ _ _ _ _ _ _ _ _ (usage_is_due _ _ c.in-Unknown.ensures) c.reply.ensures.ends valid calm
 
 pub returns-in-Ok-respond-clause-complete : goal.returns-in-Ok-respond-clause-complete
-returns-in-Ok-respond-clause-complete g c valid read_calm calm = replied_done g.K.Sink.is_exact _ _ _ _ _ _ _ _ _ _ (answer_is_due _ _ _ _ _ _ _ c.in-Reads.ensures c.as_str-in-Ok-respond.ensures.value c.in-Ok-respond.ensures.due) c.reply-in-Ok-respond.ensures.ends valid calm
+returns-in-Ok-respond-clause-complete g c valid read_calm calm = replied_done g.K.Sink.is_exact _ _ _ _ _ _ _ _ _ _ (answer_is_due _ _ _ _ _ _ _ c.in-Reads.ensures refl c.in-Ok-respond.ensures.due) c.reply_text.ensures.ends valid calm
 
 pub returns-in-Unknown-clause-done : goal.returns-in-Unknown-clause-done
 returns-in-Unknown-clause-done g c = replied_for g.K.Sink.is_exact _ _ _ _ _ _ _ _ _ _ (usage_is_due _ (g.S.Source.left c.args.source.now) c.in-Unknown.ensures) c.reply.ensures.ends
 
 pub returns-in-Ok-respond-clause-done : goal.returns-in-Ok-respond-clause-done
-returns-in-Ok-respond-clause-done g c = replied_for g.K.Sink.is_exact _ _ _ _ _ _ _ _ _ _ (answer_is_due _ _ _ _ _ _ _ c.in-Reads.ensures c.as_str-in-Ok-respond.ensures.value c.in-Ok-respond.ensures.due) c.reply-in-Ok-respond.ensures.ends
+returns-in-Ok-respond-clause-done g c = replied_for g.K.Sink.is_exact _ _ _ _ _ _ _ _ _ _ (answer_is_due _ _ _ _ _ _ _ c.in-Reads.ensures refl c.in-Ok-respond.ensures.due) c.reply_text.ensures.ends
 
 -- a sample reads nothing, and always has a text
 
@@ -71,7 +71,7 @@ returns-in-Unknown-clause-exactly g c =
 
 pub returns-in-Ok-respond-clause-exactly : goal.returns-in-Ok-respond-clause-exactly
 returns-in-Ok-respond-clause-exactly g c =
-    replied_exactly c.args.words.now _ _ _ _ g.S.Source.is_exact g.K.Sink.is_exact _ _ _ _ _ _ _ (answer_is_due _ _ _ _ _ _ _ c.in-Reads.ensures c.as_str-in-Ok-respond.ensures.value c.in-Ok-respond.ensures.due) c.reply-in-Ok-respond.ensures.ends
+    replied_exactly c.args.words.now _ _ _ _ g.S.Source.is_exact g.K.Sink.is_exact _ _ _ _ _ _ _ (answer_is_due _ _ _ _ _ _ _ c.in-Reads.ensures refl c.in-Ok-respond.ensures.due) c.reply_text.ensures.ends
     c.in-Ok-respond.ensures.count.1
 
 pub returns-in-Ok-clause-exactly : goal.returns-in-Ok-clause-exactly

@@ -1,4 +1,4 @@
-use Rattle.std.proofs.Common.{◌≡◌, ap, ◌∙◌, subst, string_bytes}
+use Rattle.std.proofs.Common.{◌≡◌, ap, ◌∙◌, subst}
 use Rattle.std.specs.Prelude.{IfOk}
 use Rattle.serde_json.specs.Data.{Data}
 use Rattle.serde_json.specs.Written.{has_float}
@@ -13,4 +13,4 @@ traced_text_of-requires c = ap has_float c.in_ok-trace.ensures ∙ no_float (tra
 
 pub returns : goal.returns
 returns c =
-    subst (λ (d : Data). IfOk c.traced_text_of.result (λ s. string_bytes s ≡ traced_text_of (table_of c.args.table.now) d)) c.in_ok-trace.ensures c.traced_text_of.ensures
+    subst (λ (d : Data). IfOk c.traced_text_of.result (λ t. t ≡ traced_text_of (table_of c.args.table) d)) c.in_ok-trace.ensures c.traced_text_of.ensures
