@@ -12,6 +12,7 @@ use tb_asked::delta_call;
 use tb_delta_front::{DeltaCall, delta_table_text, delta_text};
 use tb_front::{FrontFault, TextOptions};
 use tb_sentences::{Failure, text_or_failure};
+use tb_text::Text;
 use tb_words::{WordFault, needed};
 
 // Whether more than one of the files is standard input.
@@ -49,7 +50,7 @@ fn done(
     texts: Texts,
     call: &DeltaCall,
     table: bool,
-) -> Result<Vec<u8>, FrontFault> {
+) -> Result<Text, FrontFault> {
     let Texts { left, right, steps } = texts;
     if table {
         delta_table_text(rt, alloc, left, right, steps, call, options)
@@ -64,7 +65,7 @@ pub(crate) fn changed<'a>(
     alloc: Global,
     options: &TextOptions,
     matches: &ArgMatches<'a>,
-) -> Result<Vec<u8>, Failure<'a>> {
+) -> Result<Text, Failure<'a>> {
     let left = needed(matches, "LEFT")?;
     let right = needed(matches, "RIGHT")?;
     let steps = needed(matches, "steps")?;

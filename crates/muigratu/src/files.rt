@@ -5,6 +5,7 @@ use std::fs::{self, File, OpenFile, OpenOptions, Permissions};
 use std::io::{self, ErrorKind, Input, Read, Write};
 use std::rt::Files;
 use tb_sentences::Failure;
+use tb_text::Text;
 use tb_value::MAX_INPUT;
 
 // How many names a new file may be given, of which others may be taken.
@@ -89,16 +90,23 @@ fn open_beside<R: Files>(rt: &R, alloc: Global, file: &str) -> io::Result<NewFil
     Err(io::Error::from(ErrorKind::AlreadyExists))
 }
 
+fn write_pieces<W: Write>(writer: &mut W, text: &Text) -> io::Result<()> {
+    for piece in text.pieces() {
+        writer.write_all(piece)?;
+    }
+    Ok(())
+}
+
 // Writes the text, down to the disk.
 fn fill<F: Write + OpenFile>(
     opened: &mut F,
     permissions: Option<Permissions>,
-    text: &[u8],
+    text: &Text,
 ) -> io::Result<()> {
     if let Some(permissions) = permissions {
         opened.set_permissions(permissions)?;
     }
-    opened.write_all(text)?;
+    write_pieces(opened, text)?;
     opened.sync_all()
 }
 
@@ -108,7 +116,7 @@ fn replace(
     alloc: Global,
     file: &str,
     permissions: Option<Permissions>,
-    text: &[u8],
+    text: &Text,
 ) -> io::Result<()> {
     let mut beside = open_beside(rt, alloc, file)?;
     let outcome = match fill(&mut beside.opened, permissions, text) {
@@ -127,7 +135,7 @@ pub(crate) fn write_file(
     rt: &impl Files,
     alloc: Global,
     file: &str,
-    text: &[u8],
+    text: &Text,
 ) -> io::Result<()> {
     match fs::symlink_metadata(rt, file) {
         Ok(old) if old.is_file() => {
@@ -137,7 +145,7 @@ pub(crate) fn write_file(
         }
         Err(error) if error.kind() == ErrorKind::NotFound => replace(rt, alloc, file, None, text),
         // A link, a pipe or a device stays what it is.
-        _ => fs::write(rt, file, text),
+        _ => write_pieces(&mut File::create(rt, file)?, text),
     }
 }
 
@@ -150,16 +158,23 @@ pub(crate) fn write_failure<'a>(file: &'a str, error: io::Error) -> Failure<'a> 
     }
 }
 
+fn print_pieces(rt: &impl Print, text: &Text) -> io::Result<()> {
+    for piece in text.pieces() {
+        rt.write_all(piece)?;
+    }
+    Ok(())
+}
+
 /// Writes the text to the file of this name, or to standard output.
 pub(crate) fn write_text<'a>(
     rt: &(impl Files + Print),
     alloc: Global,
     output: Option<&'a str>,
-    text: &[u8],
+    text: &Text,
 ) -> Result<(), Failure<'a>> {
     let file = output.unwrap_or("-");
     let outcome = if file == "-" {
-        rt.write_all(text)
+        print_pieces(rt, text)
     } else {
         write_file(rt, alloc, file, text)
     };

@@ -10,6 +10,7 @@ use tb_asked::group_call;
 use tb_front::TextOptions;
 use tb_group_front::group_text;
 use tb_sentences::{Failure, text_or_failure};
+use tb_text::Text;
 use tb_words::needed;
 
 /// The text of the groups of the table that the words name.
@@ -18,7 +19,7 @@ pub(crate) fn grouped<'a>(
     alloc: Global,
     options: &TextOptions,
     matches: &ArgMatches<'a>,
-) -> Result<Vec<u8>, Failure<'a>> {
+) -> Result<Text, Failure<'a>> {
     let file = needed(matches, "TABLE")?;
     let call = group_call(alloc, matches)?;
     let text = read_text(rt, alloc, file)?;

@@ -10,6 +10,7 @@ use tb_asked::{NamedFile, named_files};
 use tb_front::TextOptions;
 use tb_plan_front::{NamedText, NodeLine, PlanCall, plan_lines, plan_of, plan_text};
 use tb_sentences::{Failure, TitleWords, front_failure, text_or_failure};
+use tb_text::Text;
 use tb_value::OutOfMemory;
 use tb_words::{WordFault, needed};
 
@@ -82,12 +83,12 @@ fn write_line(text: &mut String, line: &NodeLine) -> Result<(), OutOfMemory> {
 }
 
 // A line for each node, which stands behind its inputs and less far in.
-fn lines_text(alloc: Global, lines: &[NodeLine]) -> Result<Vec<u8>, OutOfMemory> {
+fn lines_text(alloc: Global, lines: &[NodeLine]) -> Result<Text, OutOfMemory> {
     let mut text = String::new(alloc);
     for line in lines {
         write_line(&mut text, line)?;
     }
-    Ok(text.into_bytes())
+    Text::from_string(alloc, text)
 }
 
 // The nodes of the tree as they are run.
@@ -98,7 +99,7 @@ fn explained<'a>(
     files: &[&'a str],
     texts: Vec<NamedText>,
     call: PlanCall,
-) -> Result<Vec<u8>, Failure<'a>> {
+) -> Result<Text, Failure<'a>> {
     match plan_lines(rt, alloc, texts, call, options) {
         Ok(lines) => Ok(lines_text(alloc, &lines)?),
         Err(fault) => Err(front_failure(files, fault)),
@@ -114,7 +115,7 @@ fn made<'a>(
     files: &[&'a str],
     call: PlanCall,
     explain: bool,
-) -> Result<Vec<u8>, Failure<'a>> {
+) -> Result<Text, Failure<'a>> {
     match read_tables(rt, alloc, tables) {
         Ok(texts) if explain => explained(rt, alloc, options, files, texts, call),
         Ok(texts) => text_or_failure(files, plan_text(rt, alloc, texts, call, options)),
@@ -128,7 +129,7 @@ pub(crate) fn planned<'a>(
     alloc: Global,
     options: &TextOptions,
     matches: &ArgMatches<'a>,
-) -> Result<Vec<u8>, Failure<'a>> {
+) -> Result<Text, Failure<'a>> {
     let plan = needed(matches, "PLAN")?;
     let tables = named_files(alloc, matches)?;
     check_inputs(plan, &tables)?;

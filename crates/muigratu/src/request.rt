@@ -8,6 +8,7 @@ use std::io::Input;
 use std::rt::Files;
 use tb_request::Format;
 use tb_sentences::Failure;
+use tb_text::Text;
 use tb_value::OutOfMemory;
 use tb_words::needed;
 
@@ -147,5 +148,6 @@ pub(crate) fn make_request<'a>(
             written = with_runs;
         }
     }
-    write_text(rt, alloc, matches.get_str("output"), written.as_bytes())
+    let text = Text::from_string(alloc, written)?;
+    write_text(rt, alloc, matches.get_str("output"), &text)
 }

@@ -14,6 +14,7 @@ use std::time::Clock;
 use tb_asked::{Host, text_options};
 use tb_front::TextOptions;
 use tb_sentences::Failure;
+use tb_text::Text;
 
 /// A command over tables.
 #[derive(Clone, Copy)]
@@ -51,7 +52,7 @@ fn answer<'a>(
     options: &TextOptions,
     command: TableCommand,
     matches: &ArgMatches<'a>,
-) -> Result<Vec<u8>, Failure<'a>> {
+) -> Result<Text, Failure<'a>> {
     match command {
         TableCommand::Join => joined(rt, alloc, attended, options, matches),
         TableCommand::Pivot => pivoted(rt, alloc, options, matches),
@@ -70,7 +71,7 @@ fn text_asked<'a>(
     host: Host,
     command: TableCommand,
     matches: &ArgMatches<'a>,
-) -> Result<Vec<u8>, Failure<'a>> {
+) -> Result<Text, Failure<'a>> {
     let output = matches.get_str("output").unwrap_or("-");
     let screen = host.screen.filter(|_| output == "-");
     let options = text_options(alloc, &Host { screen, ..host }, matches)?;

@@ -11,6 +11,7 @@ use std::time::Clock;
 use tb_asked::{dummies_call, join_call, pivot_call, unpivot_call};
 use tb_front::{TextOptions, dummies_text, join_texts, pivot_text, unpivot_text};
 use tb_sentences::{Failure, text_or_failure};
+use tb_text::Text;
 use tb_words::{WordFault, needed};
 
 // The texts of the files.
@@ -49,7 +50,7 @@ pub(crate) fn joined<'a>(
     attended: bool,
     options: &TextOptions,
     matches: &ArgMatches<'a>,
-) -> Result<Vec<u8>, Failure<'a>> {
+) -> Result<Text, Failure<'a>> {
     let first = needed(matches, "LEFT")?;
     let second = needed(matches, "RIGHT")?;
     if first == "-" && second == "-" {
@@ -71,7 +72,7 @@ pub(crate) fn unpivoted<'a>(
     alloc: Global,
     options: &TextOptions,
     matches: &ArgMatches<'a>,
-) -> Result<Vec<u8>, Failure<'a>> {
+) -> Result<Text, Failure<'a>> {
     let file = needed(matches, "TABLE")?;
     let call = unpivot_call(alloc, matches)?;
     let text = read_text(rt, alloc, file)?;
@@ -84,7 +85,7 @@ pub(crate) fn pivoted<'a>(
     alloc: Global,
     options: &TextOptions,
     matches: &ArgMatches<'a>,
-) -> Result<Vec<u8>, Failure<'a>> {
+) -> Result<Text, Failure<'a>> {
     let file = needed(matches, "TABLE")?;
     let call = pivot_call(alloc, matches)?;
     let text = read_text(rt, alloc, file)?;
@@ -97,7 +98,7 @@ pub(crate) fn marked<'a>(
     alloc: Global,
     options: &TextOptions,
     matches: &ArgMatches<'a>,
-) -> Result<Vec<u8>, Failure<'a>> {
+) -> Result<Text, Failure<'a>> {
     let file = needed(matches, "TABLE")?;
     let call = dummies_call(alloc, matches)?;
     let text = read_text(rt, alloc, file)?;

@@ -10,6 +10,7 @@ use std::thread::Threads;
 use tb_asked::{csv_options, split_call};
 use tb_sentences::{Failure, front_failure};
 use tb_split_front::split_text;
+use tb_text::Text;
 use tb_value::OutOfMemory;
 use tb_words::needed;
 
@@ -30,7 +31,7 @@ fn write_parts<'a>(
     rt: &impl Files,
     alloc: Global,
     folder: &'a str,
-    texts: &[Vec<u8>],
+    texts: &[Text],
 ) -> Result<(), Failure<'a>> {
     if let Err(error) = fs::create_dir_all(rt, folder) {
         return Err(write_failure(folder, error));
@@ -50,7 +51,7 @@ fn parts<'a>(
     rt: &(impl Files + Input + Threads + Sync),
     alloc: Global,
     matches: &ArgMatches<'a>,
-) -> Result<Vec<Vec<u8>>, Failure<'a>> {
+) -> Result<Vec<Text>, Failure<'a>> {
     let file = needed(matches, "TABLE")?;
     let options = csv_options(alloc, matches)?;
     let call = split_call(alloc, matches)?;

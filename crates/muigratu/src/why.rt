@@ -6,6 +6,7 @@ use std::alloc::Global;
 use std::io::Input;
 use std::rt::Files;
 use tb_sentences::Failure;
+use tb_text::Text;
 use tb_why::{command_named, why_not};
 use tb_why_told::FaultSentence;
 use tb_words::{Choice, WordFault, needed};
@@ -25,12 +26,12 @@ pub(crate) fn tell_why<'a>(
     match why_not(alloc, command, &text)? {
         Some(fault) => {
             let sentence = format!(in alloc; "not a request: {}\n", FaultSentence(&fault))?;
-            write_text(rt, alloc, None, sentence.as_bytes())?;
+            write_text(rt, alloc, None, &Text::from_string(alloc, sentence)?)?;
             Ok(3)
         }
         None => {
             let sentence = format!(in alloc; "a request of {word}\n")?;
-            write_text(rt, alloc, None, sentence.as_bytes())?;
+            write_text(rt, alloc, None, &Text::from_string(alloc, sentence)?)?;
             Ok(0)
         }
     }

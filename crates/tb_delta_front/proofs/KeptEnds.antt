@@ -1,8 +1,6 @@
 -- What a join that is kept ends in.
 use Rattle.std.proofs.Common.{◌≡◌, ◌∙◌, Bool, true, List, ℕ, Some, Result, Ok, Err, IfOk, refl, ap, sym, subst}
 use mathlib.Core.Logic.{◌⊎◌, inl, inr}
-use Rattle.std.specs.declared.vec.Vec.{Vec}
-use Rattle.std.specs.declared.alloc.Global.{Global}
 use Rattle.tb_delta.specs.Promise.Now.{now}
 use Rattle.tb_delta.specs.Promise.State.{State}
 use Rattle.tb_delta.specs.Promise.Steps.{Step}
@@ -33,10 +31,10 @@ module _ (o : TextOptions) (keeps : Bool) (due : Result (State × List Step) Fro
   pub end_settles : {T : Type 0} (r : Result T FrontFault) → Settles r (end_faults o.form (now k.view)) → Settles r (end_fault o.form due)
   end_settles r settles = subst (λ f. Settles r f) (sym end_is) settles
 
-  pub end_answers : (r : Result (Vec ℕ Global) FrontFault) → IfOk r (λ v. IsAnswerText o (now k.view) v.items) → IfOk r (λ v. IsEndText o due v.items)
+  pub end_answers : (r : Result (List ℕ) FrontFault) → IfOk r (IsAnswerText o (now k.view)) → IfOk r (IsEndText o due)
   end_answers r answer =
-      subst (λ (d : Result (State × List Step) FrontFault). IfOk r (λ v. IsEndText o d v.items)) (sym there.1)
-      (subst (λ (s : State). IfOk r (λ v. IsAnswerText o (now s) v.items)) there.2.state answer)
+      subst (λ (d : Result (State × List Step) FrontFault). IfOk r (IsEndText o d)) (sym there.1)
+      (subst (λ (s : State). IfOk r (IsAnswerText o (now s))) there.2.state answer)
 
 pub end_stops : (o : TextOptions) (due : Result (State × List Step) FrontFault) (e : FrontFault) → (e ≡ OutOfMemory) ⊎ (due ≡ Err e) → (e ≡ OutOfMemory) ⊎ (end_fault o.form due ≡ Some e)
 end_stops o due e (inl want) = inl want

@@ -20,6 +20,7 @@ use std::thread::Threads;
 use tb_frame::DataFrame;
 use tb_front::{FrontFault, TextOptions, text_of_table};
 use tb_store::{Cells, Chunk, Chunks, Column, IsSorted, Series, StringBuilder, StringChunk};
+use tb_text::Text;
 use tb_value::{
     ComputeCause, DataType, MAX_ROWS, OutOfMemory, PlSmallStr, PolarsError, Side, only_memory,
 };
@@ -223,8 +224,8 @@ pub(crate) fn changes_text(
     alloc: Global,
     changes: Vec<Change>,
     options: &TextOptions,
-) -> Result<Vec<u8>, FrontFault>
-    ensures { Gives (λ v. v.items) result
+) -> Result<Text, FrontFault>
+    ensures { Gives (λ t. t) result
         (due.changes_text options.now (changes_of changes.items)) }
 {
     if changes.len() > MAX_ROWS {

@@ -26,6 +26,7 @@ use tb_front::{
     FrontFault, StepCause, TextOptions, TwoTables, check_keys, next_number, read_tables, refused,
     written,
 };
+use tb_text::Text;
 use tb_value::{PlSmallStr, Side};
 
 /// What is asked of two tables whose join is kept.
@@ -278,8 +279,8 @@ fn changed_text(
     steps: &[u8],
     call: &DeltaCall,
     options: &TextOptions,
-) -> Result<Vec<u8>, FrontFault>
-    ensures { Gives (λ v. v.items) result
+) -> Result<Text, FrontFault>
+    ensures { Gives (λ t. t) result
         (changed_text options.now (asked_of call.now (tables_view tables) steps.now)) }
 {
     match kept(alloc, tables, steps, call, true) {
@@ -317,8 +318,8 @@ pub fn delta_text(
     steps: Vec<u8>,
     call: &DeltaCall,
     options: &TextOptions,
-) -> Result<Vec<u8>, FrontFault>
-    ensures { Gives (λ v. v.items) result
+) -> Result<Text, FrontFault>
+    ensures { Gives (λ t. t) result
         (due.delta_text options.now call.now left.items right.items steps.items) }
 {
     match kept_tables(rt, alloc, &options.csv, left, right, call) {
@@ -333,9 +334,9 @@ fn end_text(
     alloc: Global,
     view: JoinView,
     options: &TextOptions,
-) -> Result<Vec<u8>, FrontFault>
+) -> Result<Text, FrontFault>
     ensures settles { Settles result (end_faults options.now.form (now view)) }
-    ensures answer { IfOk result (λ v. IsAnswerText options.now (now view) v.items) }
+    ensures answer { IfOk result (IsAnswerText options.now (now view)) }
 {
     let outcome = view.table(rt, alloc, &options.exec);
     drop(view);
@@ -359,11 +360,11 @@ fn ended_text(
     steps: &[u8],
     call: &DeltaCall,
     options: &TextOptions,
-) -> Result<Vec<u8>, FrontFault>
+) -> Result<Text, FrontFault>
     ensures settles { Settles result
         (end_fault options.now.form (asked_of call.now (tables_view tables) steps.now)) }
-    ensures answer { IfOk result (λ v.
-        IsEndText options.now (asked_of call.now (tables_view tables) steps.now) v.items) }
+    ensures answer { IfOk result
+        (IsEndText options.now (asked_of call.now (tables_view tables) steps.now)) }
 {
     match kept(alloc, tables, steps, call, false) {
         Ok(kept) => end_text(rt, alloc, view_alone(kept), options),
@@ -386,13 +387,12 @@ pub fn delta_table_text(
     steps: Vec<u8>,
     call: &DeltaCall,
     options: &TextOptions,
-) -> Result<Vec<u8>, FrontFault>
+) -> Result<Text, FrontFault>
     ensures settles { Settles result
         (end_fault options.now.form
         (asked_steps options.now.csv call.now left.items right.items steps.items)) }
-    ensures answer { IfOk result (λ v.
-        IsEndText options.now
-        (asked_steps options.now.csv call.now left.items right.items steps.items) v.items) }
+    ensures answer { IfOk result (IsEndText options.now
+        (asked_steps options.now.csv call.now left.items right.items steps.items)) }
 {
     match kept_tables(rt, alloc, &options.csv, left, right, call) {
         Ok(tables) => ended_text(rt, alloc, tables, &steps, call, options),

@@ -1,8 +1,6 @@
 -- Joins of texts.
 use Rattle.std.proofs.Common.{◌≡◌, ◌∙◌, ℕ, Bool, true, false, List, [], ◌∷◌, if◌then◌else◌, Option, Some, None, option_map, is_none, Result, Ok, Err, IfOk, refl, sym, ap, subst}
 use Rattle.std.specs.List.{find}
-use Rattle.std.specs.declared.vec.Vec.{Vec}
-use Rattle.std.specs.declared.alloc.Global.{Global}
 use Rattle.tb_value.specs.Promise.Kind.{Kind}
 use Rattle.tb_value.specs.Promise.Names.{Name}
 use Rattle.tb_value.specs.Refusals as causes
@@ -56,7 +54,7 @@ same_no_text (c ∷ cs) =
 same_refusal : (t : Table) → text_refusal (empty_table (schema_of t)) ≡ text_refusal t
 same_refusal t = λ i. first_cause (same_no_column t i ∷ same_no_text t i ∷ [])
 
-same_written : (form : TextForm) (t : Table) (schema : List (Name × Kind)) → schema_of t ≡ schema → writing_fault form t ≡ writing_fault form (empty_table schema)
+pub same_written : (form : TextForm) (t : Table) (schema : List (Name × Kind)) → schema_of t ≡ schema → writing_fault form t ≡ writing_fault form (empty_table schema)
 same_written Csv t schema is = ap (λ (r : Option CsvFault). option_map (λ e. fault.NoText e) r) (sym (same_refusal t) ∙ ap (λ (s : List (Name × Kind)). text_refusal (empty_table s)) is)
 same_written Json t schema is = refl
 same_written (Layout width) t schema is = refl
@@ -69,13 +67,13 @@ module _ (form : TextForm) (separator : ℕ) (q : Request) where
   answers_written (Ok t) answer = same_written form (table_of t) (out_columns q) answer.columns
   answers_written (Err e) answer = tt
 
-  answer_settles : (outcome : Result (List Col) PolarsError) (result : Result (Vec ℕ Global) FrontFault)
+  answer_settles : (outcome : Result (List Col) PolarsError) (result : Result (List ℕ) FrontFault)
       → causes.Settles outcome (join_refusal q) → IfOk outcome (λ t. IsAnswer q (table_of t))
       → IsOutcome form separator outcome result → Settles result (first_cause (answer_faults form q))
   answer_settles outcome result settles answer is =
       outcome_settles form separator outcome result (join_refusal q) (writing_fault form (empty_table (out_columns q))) settles (answers_written outcome answer) is
 
-  pub joining_settles : (clash : Option FrontFault) (outcome : Result (List Col) PolarsError) (result : Result (Vec ℕ Global) FrontFault)
+  pub joining_settles : (clash : Option FrontFault) (outcome : Result (List Col) PolarsError) (result : Result (List ℕ) FrontFault)
       → clash ≡ None → causes.Settles outcome (join_refusal q) → IfOk outcome (λ t. IsAnswer q (table_of t))
       → IsOutcome form separator outcome result → Settles result (first_cause (clash ∷ answer_faults form q))
   joining_settles clash outcome result none settles answer is = passes result clash (answer_faults form q) none (answer_settles outcome result settles answer is)
@@ -105,6 +103,6 @@ module _ (o : TextOptions) (c : JoinCall) (l r : List ℕ) (left_on right_on : L
         passes result (first_cause faults) (joining ∷ []) (sym same_faults ∙ none)
         (subst (λ f. Settles result f) ((λ t. joining_fault o.form c (left_is t) (right_is t)) ∙ sym (first_of_one joining)) settles)
 
-    pub texts_answer : {E : Type 0} (result : Result (Vec ℕ Global) E)
-        → IfOk result (λ v. IsAnswerText o (joined_of c left right) v.items) → IfOk result (λ v. IsAnswerText o (asked_join o.csv c l r) v.items)
-    texts_answer result answer = subst (λ (q : Request). IfOk result (λ v. IsAnswerText o q v.items)) (λ t. joined_of c (left_is t) (right_is t)) answer
+    pub texts_answer : {E : Type 0} (result : Result (List ℕ) E)
+        → IfOk result (λ s. IsAnswerText o (joined_of c left right) s) → IfOk result (λ s. IsAnswerText o (asked_join o.csv c l r) s)
+    texts_answer result answer = subst (λ (q : Request). IfOk result (λ s. IsAnswerText o q s)) (λ t. joined_of c (left_is t) (right_is t)) answer

@@ -4,6 +4,7 @@ mod Alike
 pub mod Dues
 pub mod Each
 pub mod Joined
+pub mod LongTexts
 pub mod NoClash
 pub mod OneTable
 pub mod Outcomes

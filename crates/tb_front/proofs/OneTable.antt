@@ -1,7 +1,5 @@
 -- Operations on the table of a text.
 use Rattle.std.proofs.Common.{◌≡◌, List, ◌∷◌, Option, None, Result, IfOk, ℕ, subst}
-use Rattle.std.specs.declared.vec.Vec.{Vec}
-use Rattle.std.specs.declared.alloc.Global.{Global}
 use Rattle.tb_value.specs.Refusals as causes
 use Rattle.tb_value.specs.declared.error.PolarsError.{PolarsError}
 use Rattle.tb_chunk.specs.Promise.Col.{Col}
@@ -25,20 +23,20 @@ read_settles options text table faults result is none settles =
     passes result (table_fault options text) (faults (table_in options text)) none
     (subst (λ (t : Table). Settles result (first_cause (faults t))) is settles)
 
-pub read_answer : {E : Type 0} (form : TextForm) (options : CsvOptions) (text : List ℕ) (table : Table) (answer : Table → Table) (result : Result (Vec ℕ Global) E)
+pub read_answer : {E : Type 0} (form : TextForm) (options : CsvOptions) (text : List ℕ) (table : Table) (answer : Table → Table) (result : Result (List ℕ) E)
     → table ≡ table_in options text
-    → IfOk result (λ v. v.items ≡ text_in form options.separator (answer table)) → IfOk result (λ v. v.items ≡ text_in form options.separator (answer (table_in options text)))
+    → IfOk result (λ s. s ≡ text_in form options.separator (answer table)) → IfOk result (λ s. s ≡ text_in form options.separator (answer (table_in options text)))
 read_answer form options text table answer result is given =
-    subst (λ (t : Table). IfOk result (λ v. v.items ≡ text_in form options.separator (answer t))) is given
+    subst (λ (t : Table). IfOk result (λ s. s ≡ text_in form options.separator (answer t))) is given
 
 -- what is asked with names of columns, as it was asked without them
-module _ (form : TextForm) (separator : ℕ) (q r : marked.Request) (same : q ≡ r) (outcome : Result (List Col) PolarsError) (result : Result (Vec ℕ Global) FrontFault)
+module _ (form : TextForm) (separator : ℕ) (q r : marked.Request) (same : q ≡ r) (outcome : Result (List Col) PolarsError) (result : Result (List ℕ) FrontFault)
     (table : IfOk outcome (λ t. table_of t ≡ dummies_table q)) (is : IsOutcome form separator outcome result) where
   pub marked_settles : causes.Settles outcome (dummies_refusal q) → Settles result (first_cause (table_faults form (dummies_refusal r) (dummies_table r)))
   marked_settles settles =
       subst (λ (s : marked.Request). Settles result (first_cause (table_faults form (dummies_refusal s) (dummies_table s)))) same
       (table_settles form separator outcome result (dummies_refusal q) (dummies_table q) settles table is)
 
-  pub marked_written : IfOk result (λ v. v.items ≡ text_in form separator (dummies_table r))
+  pub marked_written : IfOk result (λ s. s ≡ text_in form separator (dummies_table r))
   marked_written =
-      subst (λ (s : marked.Request). IfOk result (λ v. v.items ≡ text_in form separator (dummies_table s))) same (table_text form separator outcome result (dummies_table q) table is)
+      subst (λ (q : marked.Request). IfOk result (λ s. s ≡ text_in form separator (dummies_table q))) same (table_text form separator outcome result (dummies_table q) table is)

@@ -12,8 +12,9 @@ ghost use Rattle.tb_front.specs.Promise.Texts.{table_in, text_in};
 
 use crate::fault::FrontFault;
 use crate::keys::check_keys;
+use crate::long::long_csv;
 use crate::marking::with_names;
-use crate::options::TextOptions;
+use crate::options::{TextForm, TextOptions};
 use crate::pivoting::check_decimals;
 use crate::reading::{TwoTables, read_table, read_tables};
 use crate::watch::Watch;
@@ -26,6 +27,7 @@ use tb_calls::{
 };
 use tb_frame::DataFrame;
 use tb_join::JoinTrace;
+use tb_text::Text;
 use tb_value::PolarsResult;
 
 // The table of a join, of which the watch is told.
@@ -51,12 +53,11 @@ fn join_tables<W: Watch>(
     call: JoinCall,
     options: &TextOptions,
     watch: &mut W,
-) -> Result<Vec<u8>, FrontFault>
+) -> Result<Text, FrontFault>
     ensures settles { Settles result
         (joining_fault options.now.form call (table_of tables.left) (table_of tables.right)) }
-    ensures answer { IfOk result (λ v.
-        IsAnswerText options.now (joined_of call (table_of tables.left) (table_of tables.right))
-        v.items) }
+    ensures answer { IfOk result (λ t. IsAnswerText options.now
+        (joined_of call (table_of tables.left) (table_of tables.right)) t) }
 {
     let TwoTables { left, right } = tables;
     check_keys(alloc, &left, &right, &call.left_on, &call.right_on)?;
@@ -85,10 +86,10 @@ pub fn join_texts<W: Watch>(
     call: JoinCall,
     options: &TextOptions,
     watch: &mut W,
-) -> Result<Vec<u8>, FrontFault>
+) -> Result<Text, FrontFault>
     ensures settles { Settles result (join_fault options.now call left.items right.items) }
-    ensures answer { IfOk result (λ v.
-        IsAnswerText options.now (asked_join options.now.csv call left.items right.items) v.items) }
+    ensures answer { IfOk result (λ t.
+        IsAnswerText options.now (asked_join options.now.csv call left.items right.items) t) }
 {
     let tables = read_tables(
         rt,
@@ -108,16 +109,20 @@ fn long_text(
     table: DataFrame,
     call: UnpivotArgsIR,
     options: &TextOptions,
-) -> Result<Vec<u8>, FrontFault>
+) -> Result<Text, FrontFault>
     ensures settles { Settles result
         (first_cause (unpivot_faults options.now.form call (table_of table))) }
-    ensures answer { IfOk result (λ v.
-        v.items
+    ensures answer { IfOk result (λ t. t
         ≡ text_in options.now.form options.now.csv.separator
         (unpivot_table (long_of call (table_of table)))) }
 {
-    let outcome = made_long(alloc, table, call);
-    written(rt, alloc, options.form, options.csv.separator, outcome)
+    match options.form {
+        TextForm::Csv => long_csv(rt, alloc, &table, call, options.csv.separator),
+        _ => {
+            let outcome = made_long(alloc, table, call);
+            written(rt, alloc, options.form, options.csv.separator, outcome)
+        }
+    }
 }
 
 /// Makes the table long that a text of comma-separated values is.
@@ -132,10 +137,9 @@ pub fn unpivot_text(
     text: Vec<u8>,
     call: UnpivotArgsIR,
     options: &TextOptions,
-) -> Result<Vec<u8>, FrontFault>
+) -> Result<Text, FrontFault>
     ensures settles { Settles result (unpivot_fault options.now call text.items) }
-    ensures answer { IfOk result (λ v.
-        v.items
+    ensures answer { IfOk result (λ t. t
         ≡ text_in options.now.form options.now.csv.separator
         (unpivot_table (long_of call (table_in options.now.csv text.items)))) }
 {
@@ -149,11 +153,10 @@ fn marked_text(
     table: DataFrame,
     call: DummiesCall,
     options: &TextOptions,
-) -> Result<Vec<u8>, FrontFault>
+) -> Result<Text, FrontFault>
     ensures settles { Settles result
         (first_cause (dummies_faults options.now.form call (table_of table))) }
-    ensures answer { IfOk result (λ v.
-        v.items
+    ensures answer { IfOk result (λ t. t
         ≡ text_in options.now.form options.now.csv.separator
         (dummies_table (marked_of call (table_of table)))) }
 {
@@ -175,10 +178,9 @@ pub fn dummies_text(
     text: Vec<u8>,
     call: DummiesCall,
     options: &TextOptions,
-) -> Result<Vec<u8>, FrontFault>
+) -> Result<Text, FrontFault>
     ensures settles { Settles result (dummies_fault options.now call text.items) }
-    ensures answer { IfOk result (λ v.
-        v.items
+    ensures answer { IfOk result (λ t. t
         ≡ text_in options.now.form options.now.csv.separator
         (dummies_table (marked_of call (table_in options.now.csv text.items)))) }
 {
@@ -192,11 +194,10 @@ fn wide_text(
     table: DataFrame,
     call: PivotCall,
     options: &TextOptions,
-) -> Result<Vec<u8>, FrontFault>
+) -> Result<Text, FrontFault>
     ensures settles { Settles result
         (first_cause (pivot_faults options.now call (table_of table))) }
-    ensures answer { IfOk result (λ v.
-        v.items
+    ensures answer { IfOk result (λ t. t
         ≡ text_in options.now.form options.now.csv.separator
         (pivot_table (wide_of call (table_of table)))) }
 {
@@ -221,10 +222,9 @@ pub fn pivot_text(
     text: Vec<u8>,
     call: PivotCall,
     options: &TextOptions,
-) -> Result<Vec<u8>, FrontFault>
+) -> Result<Text, FrontFault>
     ensures settles { Settles result (pivot_fault options.now call text.items) }
-    ensures answer { IfOk result (λ v.
-        v.items
+    ensures answer { IfOk result (λ t. t
         ≡ text_in options.now.form options.now.csv.separator
         (pivot_table (wide_of call (table_in options.now.csv text.items)))) }
 {

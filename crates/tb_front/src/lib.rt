@@ -5,6 +5,7 @@ mod asking;
 mod decimals;
 mod fault;
 mod keys;
+mod long;
 mod marking;
 mod nulls;
 mod numbers;

@@ -13,6 +13,7 @@ use tb_csv::{CsvFault, csv_of_table};
 use tb_frame::DataFrame;
 use tb_json::into_text;
 use tb_layout::layout_of_table;
+use tb_text::Text;
 use tb_value::{OutOfMemory, PolarsError, PolarsResult};
 
 // How many rows a chunk has on average that is written as it is.
@@ -53,14 +54,15 @@ fn in_long_chunks(alloc: Global, table: DataFrame) -> Result<DataFrame, OutOfMem
     }
 }
 
-fn write_csv(
+/// The text of comma-separated values of the table, which is let go.
+pub(crate) fn write_csv(
     rt: &(impl Threads + Sync),
     alloc: Global,
     separator: u8,
     table: DataFrame,
-) -> Result<Vec<u8>, FrontFault>
+) -> Result<Text, FrontFault>
     ensures settles { Settles result (writing_fault TextForm.Csv (table_of table)) }
-    ensures text { IfOk result (λ v. v.items ≡ text_in TextForm.Csv separator (table_of table)) }
+    ensures text { IfOk result (λ t. t ≡ text_in TextForm.Csv separator (table_of table)) }
 {
     let table = in_long_chunks(alloc, table)?;
     match csv_of_table(rt, alloc, &table, separator) {
@@ -71,25 +73,20 @@ fn write_csv(
 }
 
 // This writer goes over the chunks itself.
-fn write_json(alloc: Global, table: DataFrame) -> Result<Vec<u8>, FrontFault>
+fn write_json(alloc: Global, table: DataFrame) -> Result<Text, FrontFault>
     ensures settles { Settles result (writing_fault TextForm.Json (table_of table)) }
-    ensures text { IfOk result (λ v. v.items ≡ text_in TextForm.Json 0 (table_of table)) }
+    ensures text { IfOk result (λ t. t ≡ text_in TextForm.Json 0 (table_of table)) }
 {
-    match into_text(alloc, table) {
-        Ok(text) => Ok(text.into_bytes()),
-        Err(OutOfMemory) => Err(FrontFault::OutOfMemory),
-    }
+    Ok(into_text(alloc, table)?)
 }
 
-fn write_lines(alloc: Global, width: usize, table: DataFrame) -> Result<Vec<u8>, FrontFault>
+fn write_lines(alloc: Global, width: usize, table: DataFrame) -> Result<Text, FrontFault>
     ensures settles { Settles result (writing_fault (TextForm.Layout width) (table_of table)) }
-    ensures text { IfOk result (λ v. v.items ≡ text_in (TextForm.Layout width) 0 (table_of table)) }
+    ensures text { IfOk result (λ t. t ≡ text_in (TextForm.Layout width) 0 (table_of table)) }
 {
     let table = in_single_chunks(alloc, table)?;
-    match layout_of_table(alloc, &table, width) {
-        Ok(text) => Ok(text.into_bytes()),
-        Err(OutOfMemory) => Err(FrontFault::OutOfMemory),
-    }
+    let text = layout_of_table(alloc, &table, width)?;
+    Ok(Text::from_string(alloc, text)?)
 }
 
 fn write_table(
@@ -98,9 +95,9 @@ fn write_table(
     form: TextForm,
     separator: u8,
     table: DataFrame,
-) -> Result<Vec<u8>, FrontFault>
+) -> Result<Text, FrontFault>
     ensures settles { Settles result (writing_fault form (table_of table)) }
-    ensures text { IfOk result (λ v. v.items ≡ text_in form separator (table_of table)) }
+    ensures text { IfOk result (λ t. t ≡ text_in form separator (table_of table)) }
 {
     match form {
         TextForm::Csv => write_csv(rt, alloc, separator, table),
@@ -120,8 +117,8 @@ pub fn text_of_table(
     form: TextForm,
     separator: u8,
     table: DataFrame,
-) -> Result<Vec<u8>, FrontFault>
-    ensures { Gives (λ v. v.items) result (written form separator (table_of table)) }
+) -> Result<Text, FrontFault>
+    ensures { Gives (λ t. t) result (written form separator (table_of table)) }
 {
     write_table(rt, alloc, form, separator, table)
 }
@@ -147,7 +144,7 @@ pub fn written(
     form: TextForm,
     separator: u8,
     outcome: PolarsResult<DataFrame>,
-) -> Result<Vec<u8>, FrontFault>
+) -> Result<Text, FrontFault>
     ensures { IsOutcome form separator outcome result }
 {
     match outcome {

@@ -18,6 +18,7 @@ use tb_frame::DataFrame;
 use tb_front::{FrontFault, TextOptions, read_table, written};
 use tb_group::group_by;
 use tb_pool::{Exec, OpenGate};
+use tb_text::Text;
 use tb_value::{OutOfMemory, PolarsResult};
 
 // The groups of the table, which is let go.
@@ -75,11 +76,10 @@ fn grouped_text(
     table: DataFrame,
     call: &GroupCall,
     options: &TextOptions,
-) -> Result<Vec<u8>, FrontFault>
+) -> Result<Text, FrontFault>
     ensures settles { Settles result
         (first_cause (group_faults options.now call.now (table_of table))) }
-    ensures answer { IfOk result (λ v.
-        v.items
+    ensures answer { IfOk result (λ t. t
         ≡ text_in options.now.form options.now.csv.separator
         (grouped_table call.now (table_of table))) }
 {
@@ -106,10 +106,9 @@ pub fn group_text(
     text: Vec<u8>,
     call: &GroupCall,
     options: &TextOptions,
-) -> Result<Vec<u8>, FrontFault>
+) -> Result<Text, FrontFault>
     ensures settles { Settles result (group_fault options.now call.now text.items) }
-    ensures answer { IfOk result (λ v.
-        v.items
+    ensures answer { IfOk result (λ t. t
         ≡ text_in options.now.form options.now.csv.separator
         (grouped_table call.now (table_in options.now.csv text.items))) }
 {

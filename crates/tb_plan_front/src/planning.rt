@@ -21,6 +21,7 @@ use tb_node::{NamedTable, Node};
 use tb_plan::PlanFault;
 use tb_plan_request::{PlanRequest, planned, run_root};
 use tb_pool::Exec;
+use tb_text::Text;
 
 // What the plan of a tree and a pivot makes of tables, which are let go.
 fn outcome_of(
@@ -78,8 +79,8 @@ pub fn plan_text(
     texts: Vec<NamedText>,
     call: PlanCall,
     options: &TextOptions,
-) -> Result<Vec<u8>, FrontFault>
-    ensures { Gives (λ v. v.items) result
+) -> Result<Text, FrontFault>
+    ensures { Gives (λ t. t) result
         (plan_text options.now (given_texts texts.items) (plan_asked call)) }
 {
     match tables_of(rt, alloc, &options.csv, texts) {

@@ -4,6 +4,7 @@ ghost use Rattle.tb_sentences.specs.Statuses.{place_of};
 
 use crate::failure::{Failure, FrontFailure};
 use tb_front::{FrontFault, Place};
+use tb_text::Text;
 
 fn place_of(fault: &FrontFault) -> usize
     ensures { result ≡ place_of fault.now }
@@ -28,8 +29,8 @@ pub fn front_failure<'a>(files: &[&'a str], fault: FrontFault) -> Failure<'a> {
 /// The text, or the failure by its fault.
 pub fn text_or_failure<'a>(
     files: &[&'a str],
-    outcome: Result<Vec<u8>, FrontFault>,
-) -> Result<Vec<u8>, Failure<'a>> {
+    outcome: Result<Text, FrontFault>,
+) -> Result<Text, Failure<'a>> {
     match outcome {
         Ok(text) => Ok(text),
         Err(fault) => Err(front_failure(files, fault)),

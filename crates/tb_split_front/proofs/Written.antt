@@ -29,7 +29,7 @@ use Rattle.tb_front.specs.Promise.Texts.{fault_of}
 use Rattle.tb_front.proofs.Steps.{first_of_one, passes}
 use Rattle.tb_split_front.specs.declared.call.SplitCall.{SplitCall}
 use Rattle.tb_split_front.specs.Promise.Parts.{numbered, part_table, part_text, parting_refusal, split_faults}
-use Rattle.tb_split_front.specs.Texts.{texts_in, written_text}
+use Rattle.tb_split_front.specs.Texts.{written_text}
 
 -- some rows of a table have a text exactly where the table has one
 no_text_among : (rows : List ℕ) (t : Table) → no_text (table_among rows t) ≡ no_text t
@@ -98,17 +98,17 @@ module _ (separator : ℕ) (c : SplitCall) (t : Table) (tables : List (List Col)
       ∙ texts_due separator unwritten (map (part_table c t) (row_numbers c.parts)) (alike c t (row_numbers c.parts)) (subst (λ (ts : List Table). 0 < length ts) are (omega (arith, some, length-map tables table_of)))
       ∙ ap (λ (xs : List (List ℕ)). unless unwritten >>= λ _. Ok xs) (map-map (csv_text separator) (part_table c t) (row_numbers c.parts))
 
-  module _ (result : Result (Vec (Vec ℕ Global) Global) FrontFault) (gives : Gives (λ v. texts_in v.items) result (each_from (written_text separator) 0 (map table_of tables))) where
-    as_due : Gives (λ v. texts_in v.items) result (unless unwritten >>= λ _. Ok (map (part_text separator c t) (row_numbers c.parts)))
-    as_due = subst (Gives (λ v. texts_in v.items) result) due gives
+  module _ (result : Result (Vec (List ℕ) Global) FrontFault) (gives : Gives (λ v. v.items) result (each_from (written_text separator) 0 (map table_of tables))) where
+    as_due : Gives (λ v. v.items) result (unless unwritten >>= λ _. Ok (map (part_text separator c t) (row_numbers c.parts)))
+    as_due = subst (Gives (λ v. v.items) result) due gives
 
     pub texts_settle : parting_refusal c t ≡ None → Settles result (first_cause (split_faults c t))
     texts_settle none =
         passes result (refusal_fault (parting_refusal c t)) (unwritten ∷ []) (ap refusal_fault none)
-        (subst (Settles result) (sym (first_of_one unwritten)) (settled (λ v. texts_in v.items) result unwritten (map (part_text separator c t) (row_numbers c.parts)) as_due))
+        (subst (Settles result) (sym (first_of_one unwritten)) (settled (λ v. v.items) result unwritten (map (part_text separator c t) (row_numbers c.parts)) as_due))
 
-    pub texts_given : IfOk result (λ v. texts_in v.items ≡ map (part_text separator c t) (row_numbers c.parts))
-    texts_given = given (λ v. texts_in v.items) result unwritten (map (part_text separator c t) (row_numbers c.parts)) as_due
+    pub texts_given : IfOk result (λ v. v.items ≡ map (part_text separator c t) (row_numbers c.parts))
+    texts_given = given (λ v. v.items) result unwritten (map (part_text separator c t) (row_numbers c.parts)) as_due
 
 -- a table that has no parts is refused
 pub refused_settles : (c : SplitCall) (t : Table) (e : PolarsError) (f : FrontFault) → f ≡ fault_of e → (e ≡ cause.OutOfMemory) ⊎ (parting_refusal c t ≡ Some e)

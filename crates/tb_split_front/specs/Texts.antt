@@ -1,14 +1,9 @@
 -- The texts of tables, as the program has them.
-use Rattle.std.specs.Prelude.{ℕ, List, map, Result}
-use Rattle.std.specs.declared.vec.Vec.{Vec}
-use Rattle.std.specs.declared.alloc.Global.{Global}
+use Rattle.std.specs.Prelude.{ℕ, List, Result}
 use Rattle.tb_frame.specs.Promise.Table.{Table}
 use Rattle.tb_front.specs.declared.fault.FrontFault.{FrontFault}
 use Rattle.tb_front.specs.declared.options.TextForm.TheVariants.{Csv}
 use Rattle.tb_front.specs.Promise.Texts.{written}
-
-abbrev pub texts_in : List (Vec ℕ Global) → List (List ℕ)
-texts_in vs = map (λ (v : Vec ℕ Global). v.items) vs
 
 -- the text of a table of some number, whatever the number
 abbrev pub written_text : ℕ → ℕ → Table → Result (List ℕ) FrontFault

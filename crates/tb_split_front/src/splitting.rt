@@ -9,7 +9,7 @@ ghost use Rattle.tb_front.specs.Promise.Due.{Gives, each_from};
 ghost use Rattle.tb_front.specs.Promise.Faults.{Settles};
 ghost use Rattle.tb_front.specs.Promise.Texts.{table_in};
 ghost use Rattle.tb_split_front.specs.Promise.Parts.{part_table, part_text, parting_refusal, split_fault, split_faults};
-ghost use Rattle.tb_split_front.specs.Texts.{texts_in, written_text};
+ghost use Rattle.tb_split_front.specs.Texts.{written_text};
 
 use crate::call::SplitCall;
 use crate::numbering::numbered;
@@ -19,6 +19,7 @@ use tb_csv::CsvOptions;
 use tb_frame::DataFrame;
 use tb_front::{FrontFault, TextForm, read_table, refused, text_of_table};
 use tb_split::split;
+use tb_text::Text;
 use tb_value::PolarsResult;
 
 // The parts of the table, which is let go.
@@ -39,8 +40,8 @@ fn texts_of(
     alloc: Global,
     separator: u8,
     tables: Vec<DataFrame>,
-) -> Result<Vec<Vec<u8>>, FrontFault>
-    ensures { Gives (λ v. texts_in v.items) result
+) -> Result<Vec<Text>, FrontFault>
+    ensures { Gives (λ v. v.items) result
         (each_from (written_text separator) 0 (map table_of tables.items)) }
 {
     let mut texts = Vec::with_capacity(alloc, tables.len())?;
@@ -59,10 +60,9 @@ fn part_texts(
     table: DataFrame,
     call: &SplitCall,
     separator: u8,
-) -> Result<Vec<Vec<u8>>, FrontFault>
+) -> Result<Vec<Text>, FrontFault>
     ensures settles { Settles result (first_cause (split_faults call.now (table_of table))) }
-    ensures texts { IfOk result (λ v.
-        texts_in v.items
+    ensures texts { IfOk result (λ v. v.items
         ≡ map (part_text separator call.now (table_of table)) (row_numbers call.now.parts)) }
 {
     match parts_of(alloc, table, call) {
@@ -87,10 +87,9 @@ pub fn split_text(
     text: Vec<u8>,
     call: &SplitCall,
     options: &CsvOptions,
-) -> Result<Vec<Vec<u8>>, FrontFault>
+) -> Result<Vec<Text>, FrontFault>
     ensures settles { Settles result (split_fault options.now call.now text.items) }
-    ensures texts { IfOk result (λ v.
-        texts_in v.items
+    ensures texts { IfOk result (λ v. v.items
         ≡ map (part_text options.now.separator call.now (table_in options.now text.items))
         (row_numbers call.now.parts)) }
 {

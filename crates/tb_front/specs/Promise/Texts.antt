@@ -1,7 +1,5 @@
 -- The tables that texts are, and the texts of answers.
 use Rattle.std.specs.Prelude.{◌≡◌, ℕ, List, [], ◌∷◌, Result, Ok, Err, IfOk, encode_utf8_all}
-use Rattle.std.specs.declared.vec.Vec.{Vec}
-use Rattle.std.specs.declared.alloc.Global.{Global}
 use Rattle.tb_value.specs.Promise.Names.{Name}
 use Rattle.tb_value.specs.Promise.Refusals.{first_cause}
 use Rattle.tb_value.specs.declared.error.PolarsError.{PolarsError}
@@ -61,8 +59,8 @@ fault_of e = fault.Refused e
 
 -- what an operation answers is handed on: the text of its table, or its refusal
 abbrev pub IsOutcome : TextForm → ℕ → Result (List Col) PolarsError
-    → Result (Vec ℕ Global) FrontFault → Type 0
+    → Result (List ℕ) FrontFault → Type 0
 IsOutcome form separator (Ok t) result =
     Settles result (writing_fault form (table_of t))
-    × IfOk result (λ v. v.items ≡ text_in form separator (table_of t))
+    × IfOk result (λ s. s ≡ text_in form separator (table_of t))
 IsOutcome form separator (Err e) result = result ≡ Err (fault_of e)

@@ -10,7 +10,7 @@ pub returns-in-Ok : goal.returns-in-Ok
 returns-in-Ok g c =
     let o = c.args.options.now in
     let due = asked_of c.args.call.now (tables_view c.args.tables) c.args.steps.now in
-    gives_as (λ v. v.items) c.changes_text.result (changed_text o due) (changes_text o (changes_of c.changes_alone.result.items))
+    gives_as (λ t. t) c.changes_text.result (changed_text o due) (changes_text o (changes_of c.changes_alone.result.items))
     (changes_told o due c.in-Ok.kept c.in-Ok.ensures ∙ ap (λ v. changes_text o (changes_of v.items)) (sym c.changes_alone.ensures)) c.changes_text.ensures
 
 pub returns-in-Err : goal.returns-in-Err

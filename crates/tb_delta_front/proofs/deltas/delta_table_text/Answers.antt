@@ -34,4 +34,4 @@ returns-in-Ok-clause-answer g c =
     let tables = due.kept_tables o.csv call c.args.left.items c.args.right.items in
     let t = tables_view c.in-Ok.tables in
     let same = goes_on tables (λ t. asked_of call t text) t c.in-Ok.ensures ∙ ap (asked_of call t) (sym c.deref.ensures.value) in
-    subst (λ d. IfOk c.ended_text.result (λ v. IsEndText o d v.items)) (sym same) c.ended_text.ensures.answer
+    subst (λ d. IfOk c.ended_text.result (IsEndText o d)) (sym same) c.ended_text.ensures.answer

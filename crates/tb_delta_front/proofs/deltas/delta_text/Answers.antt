@@ -12,7 +12,7 @@ returns-in-Ok g c =
     let call = c.args.call.now in
     let text = c.args.steps.items in
     let tables = due.kept_tables o.csv call c.args.left.items c.args.right.items in
-    gives_as (λ v. v.items) c.changed_text.result (changed_text o (asked_steps o.csv call c.args.left.items c.args.right.items text)) (changed_text o (asked_of call (tables_view c.in-Ok.tables) c.deref.result.now))
+    gives_as (λ t. t) c.changed_text.result (changed_text o (asked_steps o.csv call c.args.left.items c.args.right.items text)) (changed_text o (asked_of call (tables_view c.in-Ok.tables) c.deref.result.now))
     (ap (changed_text o) (goes_on tables (λ t. asked_of call t text) (tables_view c.in-Ok.tables) c.in-Ok.ensures ∙ ap (asked_of call (tables_view c.in-Ok.tables)) (sym c.deref.ensures.value)))
     c.changed_text.ensures
 

@@ -19,7 +19,7 @@ pub returns-in-Ok-clause-answer : goal.returns-in-Ok-clause-answer
 returns-in-Ok-clause-answer g c =
     let o = c.args.options.now in
     end_answers o false (asked_of c.args.call.now (tables_view c.args.tables) c.args.steps.now) c.in-Ok.kept c.in-Ok.ensures c.end_text.result
-    (subst (λ (s : State). IfOk c.end_text.result (λ v. IsAnswerText o (now s) v.items)) c.view_alone.ensures c.end_text.ensures.answer)
+    (subst (λ (s : State). IfOk c.end_text.result (IsAnswerText o (now s))) c.view_alone.ensures c.end_text.ensures.answer)
 
 pub returns-in-Err-clause-settles : goal.returns-in-Err-clause-settles
 returns-in-Err-clause-settles g c =
