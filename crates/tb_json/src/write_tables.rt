@@ -115,7 +115,9 @@ fn push_text(alloc: Global, text: &mut String, bytes: &[u8]) -> Result<(), OutOf
     }
 }
 
-// Numbers, texts, truth values and Nulls, which are most of the cells, are written without a JSON value.
+// Numbers, texts, truth values and Nulls, which are most of the cells, are written without a JSON value. For each type of
+// chunk the compiler then knows which of these a cell can be.
+#[inline(always)]
 #[tactic(auto, using(crate::proofs::Narrow::narrow))]
 fn push_cell(
     alloc: Global,
