@@ -60,6 +60,7 @@ fn row_pieces(
 {
     (0..height / ROWS_OF_A_PIECE + 1)
         .into_par_iter()
+        .with_min_len(1)
         .map(
             |piece: usize| -> Result<Vec<u8>, OutOfMemory>
                 requires level { All (λ (c : Col). length (values c) ≡ height) columns.now }

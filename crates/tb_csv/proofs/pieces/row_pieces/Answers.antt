@@ -25,15 +25,16 @@ pub collect-requires-clause-ready : goal.collect-requires-clause-ready
 collect-requires-clause-ready g c κs within =
     let ends = c.into_par_iter.ensures in
     let inside = nat_range-All (λ i. i * ROWS_OF_A_PIECE ≤ c.args.height) 0 (c.args.height / ROWS_OF_A_PIECE + 1) (λ i low high. omega (arith, high)) in
-    rw (c.map.ensures.base, c.map.ensures.f, ends.0, ends.1) (λ k d lt. ((c.requires, inside k d lt), λ y h. tt))
+    rw (c.map.ensures.base, c.with_min_len.ensures.base, c.map.ensures.f, ends.0, ends.1) (λ k d lt. ((c.requires, inside k d lt), λ y h. tt))
 
 pub returns : goal.returns
 returns g c =
     let ends = c.into_par_iter.ensures in
     let h = c.in_ok-collect.ensures in
     let columns = ap (λ f. f.2.now) c.map.ensures.f in
-    let first = ap (λ r. r.start) c.map.ensures.base ∙ ends.0 in
-    let last = ap (λ r. r.end) c.map.ensures.base ∙ ends.1 in
+    let base = ap (λ it. it.base) c.map.ensures.base ∙ c.with_min_len.ensures.base in
+    let first = ap (λ r. r.start) base ∙ ends.0 in
+    let last = ap (λ r. r.end) base ∙ ends.1 in
     let all : (c.args.height / ROWS_OF_A_PIECE + 1) - 0 ≡ c.args.height / ROWS_OF_A_PIECE + 1 = omega arith in
     let places = h.1.1 ∙ (λ i. nat_range (first i) (last i)) ∙ ap (range_with_len 0) all in
     let text = piece_text c.args.separator (table_of c.args.columns.now) c.args.height in
