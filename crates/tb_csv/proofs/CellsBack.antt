@@ -65,14 +65,14 @@ value_of (c ∷ cs) d h =
     let r = digit_from_value c d.0 in
     rw (ne_eqb c 45 (λ e. omega (arith, r, e)), ne_eqb c 43 (λ e. omega (arith, r, e))) refl
 
-abbrev IsBelow : ℤ → Type 0
+abbrev pub IsBelow : ℤ → Type 0
 IsBelow z = (negsuc 170141183460469231731687303715884105727 ≤ℤ z) × (z ≤ℤ pos 170141183460469231731687303715884105727)
 
 fits_of : (z : ℤ) → IsBelow z → fits z ≡ true
 fits_of (pos n) h = grind (arith, nat_tests, ints)
 fits_of (negsuc n) h = grind (arith, nat_tests, ints)
 
-whole_back : (z : ℤ) → IsBelow z → whole_in (signed_decimal z) ≡ Some z
+pub whole_back : (z : ℤ) → IsBelow z → whole_in (signed_decimal z) ≡ Some z
 unfolding whole_in
 whole_back (pos zero) h = rw (decimal_digit 0 (omega arith)) refl
 whole_back (pos (suc n)) h =
@@ -86,13 +86,13 @@ whole_back (negsuc n) h =
     let is : signed_digits_value 10 (45 ∷ decimal (suc n)) ≡ negsuc n = ap (λ m. neg_ℤ (pos m)) k.1 in
     rw (counting (decimal (suc n)) (first_digit (suc n) (omega arith) small) k.0.1, is, fits_of (negsuc n) h) refl
 
-number_long : (z : ℤ) → IsBelow z → 0 < length (signed_decimal z)
+pub number_long : (z : ℤ) → IsBelow z → 0 < length (signed_decimal z)
 number_long (pos n) h = (decimal_is_IsNumeral_wide n (omega (arith, ints))).0.0
 number_long (negsuc n) h = omega arith
 
 -- CELLS
 
-present : (t : FieldType) (s : List ℕ) → 0 < length s → cell_value t (Some s) ≡ field_value t s
+pub present : (t : FieldType) (s : List ℕ) → 0 < length s → cell_value t (Some s) ≡ field_value t s
 present t [] h = absurd (omega (arith, h))
 present t (c ∷ cs) h = refl
 

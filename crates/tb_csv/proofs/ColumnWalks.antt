@@ -1,5 +1,5 @@
 -- The fields of a column, run by run.
-use Rattle.std.proofs.Common.{◌≡◌, ◌<◌, ◌≤◌, ◌+◌, ◌*◌, ◌++◌, ◌∷◌, ◌∙◌, [], ℕ, List, None, Some, append-nil, arith, drop, get_or, inl, inr, length, map, refl, subst, sym, take, ap, true, false, ◌⊎◌}
+use Rattle.std.proofs.Common.{◌≡◌, ◌<◌, ◌≤◌, ◌+◌, ◌*◌, ◌++◌, ◌∷◌, ◌∙◌, [], ℕ, List, None, Some, Vec, Global, append-nil, arith, drop, get_or, inl, inr, length, map, refl, subst, sym, take, ap, true, false, ◌⊎◌}
 use Rattle.std.specs.List.{flat_map, list_all}
 use Rattle.std.proofs.lemmas.Grind.{flat_map-append}
 use Rattle.std.specs.Prelude.{◌&&◌, Bool}
@@ -14,14 +14,20 @@ use Rattle.tb_csv.specs.Fields.{fields_in, part_fields}
 use Rattle.tb_csv.specs.Promise.Faults.{column_fault}
 use Rattle.tb_csv.specs.Promise.Records.{Field}
 use Rattle.tb_csv.specs.Promise.Types.{cell_of, is_of}
-use Rattle.tb_csv.specs.Read.{rows_in, run_column, run_fields}
+use Rattle.tb_csv.specs.Numbers.{number_fields}
+use Rattle.tb_csv.specs.Read.{HasFields, field_in, rows_in, run_column, text_fields}
 use Rattle.tb_csv.specs.declared.fault.CsvFault.{CsvFault}
 use Rattle.tb_csv.specs.declared.fault.CsvFault.TheVariants.{OutOfMemory}
 use Rattle.tb_csv.specs.declared.field_type.FieldType.{FieldType}
 use Rattle.tb_csv.specs.declared.lent.Fields.{Fields}
+use Rattle.tb_csv.specs.declared.numbers.Numbers.{Numbers}
 use Rattle.tb_csv.specs.declared.run.Run.{Run}
+use Rattle.tb_csv.specs.declared.run.RunFields.{RunFields}
+use Rattle.tb_csv.specs.declared.run.RunFields.TheVariants as held
+use Rattle.tb_csv.specs.declared.run.TextFields.{TextFields}
 use Rattle.tb_csv.specs.declared.lent.RunColumn.{RunColumn}
 use Rattle.tb_csv.proofs.FieldWalks.{fault_over, fault_stays}
+use Rattle.tb_csv.proofs.NumberWalks.{full_column}
 use Rattle.tb_csv.proofs.RunWalks.{column_height}
 
 and-false : (b : Bool) → (b && false) ≡ false
@@ -31,11 +37,27 @@ and-false false = refl
 -- A RUN
 
 pub part_height : (p : RunColumn) → length (part_fields p) ≡ p.run.now.height
-part_height p = length-map-range_with_len {X = Field} (λ i. get_or (run_fields p.run.now) (i * p.width + p.column) None) 0 p.run.now.height
+part_height p = length-map-range_with_len {X = Field} (field_in p.width p.column p.run.now.fields) 0 p.run.now.height
 
-pub part_at : (p : RunColumn) (i : ℕ) → i < p.run.now.height → get_or (part_fields p) i None ≡ get_or (run_fields p.run.now) (i * p.width + p.column) None
+pub part_at : (p : RunColumn) (i : ℕ) → i < p.run.now.height → get_or (part_fields p) i None ≡ field_in p.width p.column p.run.now.fields i
 part_at p i low =
-    let at : 0 + i ≡ i = omega arith in get_or-map-range_with_len (λ k. get_or (run_fields p.run.now) (k * p.width + p.column) None) 0 p.run.now.height i i None low at
+    let at : 0 + i ≡ i = omega arith in get_or-map-range_with_len (field_in p.width p.column p.run.now.fields) 0 p.run.now.height i i None low at
+
+-- where fields stand row by row
+pub text_at : (p : RunColumn) (t : TextFields) (i : ℕ) → p.run.now.fields ≡ held.Texts t → i < p.run.now.height
+    → get_or (text_fields t) (i * p.width + p.column) None ≡ get_or (part_fields p) i None
+text_at p t i is low = sym (part_at p i low ∙ ap (λ (fs : RunFields). field_in p.width p.column fs i) is)
+
+-- where numbers stand column by column
+module _ (p : RunColumn) (ns : Vec Numbers Global) (i : ℕ) (is : p.run.now.fields ≡ held.Numbers ns) (low : i < p.run.now.height) where
+  pub number_at : get_or (get_or (map number_fields ns.items) p.column []) i None ≡ get_or (part_fields p) i None
+  number_at = sym (part_at p i low ∙ ap (λ (fs : RunFields). field_in p.width p.column fs i) is)
+
+  full : HasFields p.width p.run.now.height (held.Numbers ns)
+  full = subst (HasFields p.width p.run.now.height) is p.full
+
+  pub number_row : i < length (get_or (map number_fields ns.items) p.column [])
+  number_row = omega (arith, low, full_column p.width p.run.now.height ns full p.column p.within)
 
 -- THE RUNS
 

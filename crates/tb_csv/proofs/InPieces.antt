@@ -12,41 +12,53 @@ use Rattle.csv.specs.Records.{fields_of}
 use Rattle.tb_value.specs.Promise.Refusals.{first_cause, when}
 use Rattle.tb_value.specs.declared.limits.TheConstants.{MAX_ROWS}
 use Rattle.tb_csv.specs.Places.{IsFromLineEnd, MarkAlike}
-use Rattle.tb_csv.specs.Read.{AreRunRows, IsFull, IsLevel, IsRead, IsRunOf, all_fields, rows_in}
+use Rattle.tb_csv.specs.Read.{AreRunRows, AreSameFields, IsFull, IsLevel, IsRead, IsRunOf, all_fields, rows_in, text_fields}
 use Rattle.tb_csv.specs.Promise.Faults.{records_fault, repeated_name, row_fault, rows_fault, text_fault}
 use Rattle.tb_csv.specs.Promise.LineNumbers.{has_open_quote, state_behind}
-use Rattle.tb_csv.specs.Promise.Records.{Line, Record, is_text, line_of, lines_of, marked_fields, marks_of, records_of}
+use Rattle.tb_csv.specs.Promise.Records.{Line, Record, is_text, line_of, lines_of, marked_fields, marked_records, marks_of, records_of}
 use Rattle.tb_csv.specs.declared.fault.CsvFault.{CsvFault}
 use Rattle.tb_csv.specs.declared.fault.CsvFault.TheVariants.{FieldCount, NotUtf8, OpenQuote, TooManyRows}
 use Rattle.tb_csv.specs.declared.records.Records.{Records}
 use Rattle.tb_csv.specs.declared.run.Run.{Run}
+use Rattle.tb_csv.specs.declared.run.RunFields.{RunFields}
+use Rattle.tb_csv.specs.declared.run.RunFields.TheVariants as held
+use Rattle.tb_csv.specs.declared.run.TextFields.{TextFields}
 use Rattle.tb_csv.proofs.Causes.{first_parts, none_later}
 use Rattle.tb_csv.proofs.CutText.{no_separator, open_two, records_two}
 use Rattle.tb_csv.proofs.MarkedFields.{marked_all, marked_height, marked_level}
 use Rattle.tb_csv.proofs.ReadRecords.{lines_read}
-use Rattle.tb_csv.proofs.RecordWalks.{full_rows, level_rows}
+use Rattle.tb_csv.proofs.RecordWalks.{column_of, full_rows, level_rows}
 
 -- ONE PIECE
 
 -- the rows that were read of a piece, and its marks
-pub run_read : (separator width : ℕ) (piece : List ℕ) (run : Run) → has_open_quote separator piece ≡ false → MarkAlike run.marks.items (marks_of separator piece)
-    → rows_fault width 1 (lines_of separator piece) ≡ None → run.height ≡ length (lines_of separator piece)
-    → fields_of run.fields ≡ all_fields (lines_of separator piece) → IsRunOf separator width piece run
-unfolding records_of
-run_read separator width piece run shut alike sound height fields =
-    let ls = lines_of separator piece in
-    let qs = marks_of separator piece in
-    let level = level_rows width 1 ls sound in
-    record {
-      shut = shut;
-      sound = sound;
-      rows = record {
-        fields = alike 0 (fields_of run.fields) ∙ ap (marked_fields qs) fields ∙ marked_all qs ls;
-        height = height ∙ sym (marked_height qs ls);
-        level = marked_level width qs ls level;
-      };
-      full = ap length fields ∙ full_rows ls width level ∙ ap (λ n. n * width) (sym height);
-    }
+module _ (separator width : ℕ) (piece : List ℕ) (t : TextFields) (height : ℕ) (sound : rows_fault width 1 (lines_of separator piece) ≡ None)
+    (tall : height ≡ length (lines_of separator piece)) (fields : fields_of t.fields ≡ all_fields (lines_of separator piece)) where
+  pub fields_fill : length (fields_of t.fields) ≡ height * width
+  fields_fill =
+      let ls = lines_of separator piece in
+      ap length fields ∙ full_rows ls width (level_rows width 1 ls sound) ∙ ap (λ n. n * width) (sym tall)
+
+  pub run_read : (same : RunFields) → has_open_quote separator piece ≡ false → MarkAlike t.marks.items (marks_of separator piece) → AreSameFields width height (held.Texts t) same
+      → IsRunOf separator width piece record { fields = same; height = height }
+  unfolding records_of
+  run_read same shut alike are =
+      let ls = lines_of separator piece in
+      let qs = marks_of separator piece in
+      let rows = marked_records qs ls in
+      let level = marked_level width qs ls (level_rows width 1 ls sound) in
+      let high = tall ∙ sym (marked_height qs ls) in
+      let all : text_fields t ≡ all_fields rows = alike 0 (fields_of t.fields) ∙ ap (marked_fields qs) fields ∙ marked_all qs ls in
+      record {
+        shut = shut;
+        sound = sound;
+        rows = record {
+          columns = λ j low. are.columns j low ∙ column_of (text_fields t) rows height width width j height all high level refl low refl;
+          height = high;
+          level = level;
+        };
+        full = are.full;
+      }
 
 -- FAULTS OF ROWS
 

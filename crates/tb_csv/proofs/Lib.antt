@@ -23,5 +23,7 @@ pub mod LinesBack
 pub mod ClosedQuotes
 pub mod RecordsBack
 pub mod CellsBack
+pub mod Spelled
+pub mod NumberWalks
 pub mod TableBack
 pub mod StackedRows

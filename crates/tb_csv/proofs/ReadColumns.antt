@@ -1,5 +1,5 @@
 -- Columns that were read, looked at one after another.
-use Rattle.std.proofs.Common.{◌≡◌, ◌≤◌, ◌<◌, ◌+◌, ◌-◌, ◌∷◌, [], ℕ, zero, suc, List, length, arith, refl, subst, ap}
+use Rattle.std.proofs.Common.{◌≡◌, ◌<◌, ◌+◌, ◌-◌, ◌∷◌, [], ℕ, zero, suc, List, length, arith, refl, subst}
 use Rattle.std.specs.List.{AllZip, range_with_len}
 
 module _ {Y : Type 0} (P : ℕ → Y → Type 0) where

@@ -4,7 +4,7 @@ use Rattle.std.specs.List.{All}
 use Rattle.csv.specs.Records.{field_at, fields_of}
 use Rattle.tb_value.specs.declared.limits.TheConstants.{MAX_ROWS}
 use Rattle.tb_csv.specs.Places.{MarkAlike}
-use Rattle.tb_csv.specs.Read.{AreLines, AreRunRows, IsRead, lent_field}
+use Rattle.tb_csv.specs.Read.{AreLines, AreRunRows, IsRead, all_fields, column_in, lent_field, text_fields}
 use Rattle.tb_value.specs.Promise.Refusals.{first_cause}
 use Rattle.tb_csv.specs.Promise.Faults.{records_fault, text_fault}
 use Rattle.tb_csv.specs.Promise.LineNumbers.{has_open_quote}
@@ -14,28 +14,35 @@ use Rattle.tb_csv.specs.Promise.Records.{Line, Record, field, line_of, lines_of,
 use Rattle.tb_csv.specs.declared.lines.Lines.{Lines}
 use Rattle.tb_csv.specs.declared.records.Records.{Records}
 use Rattle.tb_csv.specs.declared.run.Run.{Run}
+use Rattle.tb_csv.specs.declared.run.RunFields.TheVariants as held
+use Rattle.tb_csv.specs.declared.run.TextFields.{TextFields}
 use Rattle.tb_csv.proofs.MarkedFields.{line_back, lines_back, marked_all, marked_at, marked_height, marked_level}
-use Rattle.tb_csv.proofs.RecordWalks.{found, place}
+use Rattle.tb_csv.proofs.RecordWalks.{column_of, found, place}
 
 pub lines_read : (separator : ℕ) (text : List ℕ) → map line_of (records_of separator text) ≡ lines_of separator text
 unfolding records_of
 lines_read separator text = lines_back (marks_of separator text) (lines_of separator text)
 
 -- rows in one run, with the marks behind those of the names
-pub by_marks : (r : Records) (run : Run) (l : Lines) (ms qs : List Bool) (ls : List Line) → MarkAlike ms qs → AreLines l ls
+pub by_marks : (r : Records) (run : Run) (t : TextFields) (l : Lines) (ms qs : List Bool) (ls : List Line) → MarkAlike ms qs → AreLines l ls
     → r.names.items ≡ l.names.items → r.runs.items ≡ run ∷ [] → r.height ≡ l.height
-    → run.fields ≡ l.fields → run.marks.items ≡ drop (length l.names.items) ms → run.height ≡ l.height → IsRead r (marked_records qs ls)
-by_marks r run l ms qs [] alike h names runs height fields marks rows = absurd h
-by_marks r run l ms qs (first ∷ ls) alike h names runs height fields marks rows =
+    → run.fields ≡ held.Texts t → t.fields ≡ l.fields → t.marks.items ≡ drop (length l.names.items) ms → run.height ≡ l.height → IsRead r (marked_records qs ls)
+by_marks r run t l ms qs [] alike h names runs height texts fields marks rows = absurd h
+by_marks r run t l ms qs (first ∷ ls) alike h names runs height texts fields marks rows =
     let count : length l.names.items ≡ length first = ap length h.0 in
     let wide : length r.names.items ≡ length first = ap length names ∙ count in
     let rest = drop (length first) qs in
-    let here : AreRunRows (length r.names.items) run (marked_records rest ls) = record {
-      fields = ap (λ (ps : List Bool). marked_fields ps (fields_of run.fields)) marks ∙ ap (λ k. marked_fields (drop (length l.names.items) ms) (fields_of k)) fields
-          ∙ alike (length l.names.items) (fields_of l.fields) ∙ ap (λ (n : ℕ). marked_fields (drop n qs) (fields_of l.fields)) count
-          ∙ ap (marked_fields rest) h.1 ∙ marked_all rest ls;
-      height = rows ∙ h.2 ∙ sym (marked_height rest ls);
-      level = subst (λ (n : ℕ). All (λ (row : Record). length row ≡ n) (marked_records rest ls)) (sym wide) (marked_level (length first) rest ls h.4);
+    let w = length r.names.items in
+    let all : text_fields t ≡ all_fields (marked_records rest ls) =
+    ap (λ (ps : List Bool). marked_fields ps (fields_of t.fields)) marks ∙ ap (λ k. marked_fields (drop (length l.names.items) ms) (fields_of k)) fields
+    ∙ alike (length l.names.items) (fields_of l.fields) ∙ ap (λ (n : ℕ). marked_fields (drop n qs) (fields_of l.fields)) count
+    ∙ ap (marked_fields rest) h.1 ∙ marked_all rest ls in
+    let tall = rows ∙ h.2 ∙ sym (marked_height rest ls) in
+    let level = subst (λ (n : ℕ). All (λ (row : Record). length row ≡ n) (marked_records rest ls)) (sym wide) (marked_level (length first) rest ls h.4) in
+    let here : AreRunRows w run (marked_records rest ls) = record {
+      columns = λ j low. ap (column_in w run.height j) texts ∙ column_of (text_fields t) (marked_records rest ls) run.height w w j run.height all tall level refl low refl;
+      height = tall;
+      level = level;
     } in (
       names ∙ h.0 ∙ sym (line_back qs first),
       record {

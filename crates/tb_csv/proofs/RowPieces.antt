@@ -1,5 +1,5 @@
 -- Rows that are written in pieces.
-use Rattle.std.proofs.Common.{◌≡◌, ◌≤◌, ◌+◌, ◌*◌, ◌-◌, ◌/◌, ◌∙◌, ◌∷◌, ◌++◌, [], ℕ, zero, suc, List, map, min, refl, sym, ap, subst, arith, append_assoc}
+use Rattle.std.proofs.Common.{◌≡◌, ◌≤◌, ◌+◌, ◌*◌, ◌-◌, ◌/◌, ◌∙◌, ◌∷◌, ◌++◌, [], ℕ, zero, suc, List, map, min, refl, sym, ap, subst, arith}
 use Rattle.std.proofs.Common.{Ok, Err}
 use Rattle.std.specs.List.{AllZip, Contains, flat_map, range_with_len}
 use Rattle.std.specs.Result.{IfOk, MatchResult}
@@ -60,12 +60,6 @@ module _ (separator : ℕ) (t : Table) where
       let low : (height / ROWS_OF_A_PIECE + 1) * ROWS_OF_A_PIECE ≤ height + ROWS_OF_A_PIECE = omega arith in
       let all : min ((height / ROWS_OF_A_PIECE + 1) * ROWS_OF_A_PIECE) height ≡ height = omega arith in
       first_pieces height (height / ROWS_OF_A_PIECE + 1) low ∙ ap (rows_text separator t 0) all
-
-  -- the first piece is all rows, where they are few
-  pub one_piece : (height : ℕ) → height ≤ ROWS_OF_A_PIECE → piece_text separator t height 0 ≡ records_text separator (map (row_fields t) (row_numbers height))
-  one_piece height few =
-      let all : min ROWS_OF_A_PIECE (height - 0) ≡ height = omega (arith, few) in
-      ap (rows_text separator t 0) all
 
 flat_of_map : {X : Type 0} (f : X → List ℕ) (xs : List X) → flat_map f xs ≡ flat_map (λ s. s) (map f xs)
 flat_of_map f [] = refl

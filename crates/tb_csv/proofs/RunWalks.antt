@@ -1,5 +1,5 @@
 -- The runs of rows that were read, one after another.
-use Rattle.std.proofs.Common.{◌≡◌, ◌<◌, ◌+◌, ◌*◌, ◌++◌, ◌∷◌, ◌∙◌, [], ℕ, List, None, Ok, Err, get_or, length, map, refl, sym, ap, arith, subst}
+use Rattle.std.proofs.Common.{◌≡◌, ◌<◌, ◌++◌, ◌∷◌, ◌∙◌, [], ℕ, List, None, Ok, Err, get_or, length, map, refl, sym, ap, arith, subst}
 use Rattle.std.specs.Borrow.{Bor}
 use Rattle.std.specs.List.{AllZip, Contains, flat_map}
 use Rattle.std.specs.Result.{IfOk, MatchResult}
@@ -7,11 +7,10 @@ use Rattle.std.specs.declared.result.Result.{Result}
 use Rattle.std.proofs.lemmas.List.{length-append, map-append}
 use Rattle.std.proofs.lemmas.List.FromFn.{length-map-range_with_len}
 use Rattle.std.proofs.lemmas.List.Sums.{sum_by-cons}
-use Rattle.tb_csv.specs.Read.{AreRunRows, IsRead, all_fields, rows_in, run_column, run_fields}
+use Rattle.tb_csv.specs.Read.{AreRunRows, IsRead, all_fields, field_in, rows_in, run_column}
 use Rattle.tb_csv.specs.Promise.Records.{Field, Record, column_fields, line_of}
 use Rattle.tb_csv.specs.declared.records.Records.{Records}
 use Rattle.tb_csv.specs.declared.run.Run.{Run}
-use Rattle.tb_csv.proofs.RecordWalks.{column_of}
 
 -- A COLUMN
 
@@ -20,7 +19,7 @@ module _ (w j : ℕ) where
   column_height [] = refl
   column_height (run ∷ runs) =
       length-append (run_column w j run) (flat_map (run_column w j) runs)
-      ∙ omega (arith, length-map-range_with_len {X = Field} (λ i. get_or (run_fields run) (i * w + j) None) 0 run.height, column_height runs, sum_by-cons (λ (r : Run). r.height) run runs)
+      ∙ omega (arith, length-map-range_with_len {X = Field} (field_in w j run.fields) 0 run.height, column_height runs, sum_by-cons (λ (r : Run). r.height) run runs)
 
   pub column_rows : j < w → (runs : List Run) (parts : List (List Record)) → AllZip (AreRunRows w) runs parts → flat_map (run_column w j) runs ≡ column_fields (all_fields parts) j
   column_rows low [] [] zipped = refl
@@ -28,7 +27,7 @@ module _ (w j : ℕ) where
   column_rows low (run ∷ runs) [] zipped = absurd zipped
   column_rows low (run ∷ runs) (p ∷ ps) zipped =
       let here = zipped.0 in
-      ap (λ (fs : List Field). fs ++ flat_map (run_column w j) runs) (column_of (run_fields run) p run.height w w j run.height here.fields here.height here.level refl low refl)
+      ap (λ (fs : List Field). fs ++ flat_map (run_column w j) runs) (here.columns j low)
       ∙ ap (λ (fs : List Field). column_fields p j ++ fs) (column_rows low runs ps zipped.1)
       ∙ sym (map-append (λ (r : Record). get_or r j None) p (all_fields ps))
 

@@ -3,6 +3,7 @@ pub mod Faults
 pub mod Texts
 pub mod PieceColumns
 pub mod Left
+pub mod Numbers
 pub mod Read
 pub mod Fields
 pub mod Places

@@ -1,5 +1,5 @@
 -- What was read of a text.
-use Rattle.std.specs.Prelude.{◌≡◌, ◌≤◌, ◌+◌, ◌*◌, ℕ, List, [], ◌∷◌, false, length, map, slice_index_or, sum_by, Option, None, option_map}
+use Rattle.std.specs.Prelude.{◌≡◌, ◌≤◌, ◌<◌, ◌+◌, ◌*◌, ℕ, List, [], ◌∷◌, false, length, map, replicate, slice_index_or, sum_by, Option, None, option_map}
 use Rattle.std.specs.Borrow.{Bor}
 use Rattle.std.specs.List.{All, AllZip, flat_map}
 use Rattle.csv.specs.Records.{fields_of}
@@ -16,10 +16,14 @@ use Rattle.tb_csv.specs.Promise.LineNumbers.{has_open_quote}
 use Rattle.tb_csv.specs.Promise.Tables.{csv_column}
 use Rattle.tb_csv.specs.declared.fault.CsvFault.{CsvFault}
 use Rattle.tb_csv.specs.declared.options.TypeOf.{TypeOf}
-use Rattle.tb_csv.specs.Promise.Records.{Field, Line, Record, line_of, lines_of, marked_fields, records_of}
+use Rattle.tb_csv.specs.Promise.Records.{Field, Line, Record, column_fields, line_of, lines_of, marked_fields, records_of}
 use Rattle.tb_csv.specs.declared.lines.Lines.{Lines}
 use Rattle.tb_csv.specs.declared.records.Records.{Records}
+use Rattle.tb_csv.specs.Numbers.{number_fields}
 use Rattle.tb_csv.specs.declared.run.Run.{Run}
+use Rattle.tb_csv.specs.declared.run.RunFields.{RunFields}
+use Rattle.tb_csv.specs.declared.run.RunFields.TheVariants as held
+use Rattle.tb_csv.specs.declared.run.TextFields.{TextFields}
 
 -- the fields of records, one behind another
 abbrev pub all_fields : {X : Type 0} → List (List X) → List X
@@ -32,18 +36,29 @@ AreLines r (names ∷ lines) =
     (r.names.items ≡ names) × (fields_of r.fields ≡ all_fields lines) × (r.height ≡ length lines)
     × (length lines ≤ MAX_ROWS) × All (λ (l : Line). length l ≡ length names) lines
 
--- the fields of a run of rows, by their marks
-abbrev pub run_fields : Run → List Field
-run_fields run = marked_fields run.marks.items (fields_of run.fields)
+-- fields that stand row by row, by their marks
+abbrev pub text_fields : TextFields → List Field
+text_fields t = marked_fields t.marks.items (fields_of t.fields)
+
+-- the field of this column in a row of so many fields
+abbrev pub field_in : ℕ → ℕ → RunFields → ℕ → Field
+field_in width column (held.Texts t) row =
+    slice_index_or (text_fields t) (row * width + column) None
+field_in width column (held.Numbers ns) row =
+    slice_index_or (slice_index_or (map number_fields ns.items) column []) row None
+
+-- the field of this column in each of so many rows
+abbrev pub column_in : ℕ → ℕ → ℕ → RunFields → List Field
+column_in width height column fields = map (field_in width column fields) (row_numbers height)
 
 -- the field of this column in each row of a run
 abbrev pub run_column : ℕ → ℕ → Run → List Field
-run_column width column run =
-    map (λ i. slice_index_or (run_fields run) (i * width + column) None) (row_numbers run.height)
+run_column width column run = column_in width run.height column run.fields
 
 -- the rows of a run, each of so many fields
 pub record AreRunRows (width : ℕ) (run : Run) (rows : List Record) : Type 0 where
-  pub fields : run_fields run ≡ all_fields rows
+  pub columns : (column : ℕ) → column < width
+      → run_column width column run ≡ column_fields rows column
   pub height : run.height ≡ length rows
   pub level : All (λ (row : Record). length row ≡ width) rows
 
@@ -59,9 +74,29 @@ abbrev pub IsRead : Records → List Record → Type 0
 IsRead r [] = ⊥
 IsRead r (names ∷ rows) = (r.names.items ≡ line_of names) × AreRows r rows
 
--- as many fields as these rows make
+-- how many fields stand in one list: all of them, or those of a column
+abbrev pub counts : RunFields → List ℕ
+counts (held.Texts t) = length (fields_of t.fields) ∷ []
+counts (held.Numbers ns) = map (λ n. length (number_fields n)) ns.items
+
+-- and how many so many rows of so many fields make
+abbrev pub full_counts : ℕ → ℕ → RunFields → List ℕ
+full_counts width height (held.Texts t) = height * width ∷ []
+full_counts width height (held.Numbers ns) = replicate width height
+
+-- as many fields as so many rows make
+abbrev pub HasFields : ℕ → ℕ → RunFields → Type 0
+HasFields width height fields = counts fields ≡ full_counts width height fields
+
+-- as many fields as its rows make
 abbrev pub IsFull : ℕ → Run → Type 0
-IsFull width run = length (fields_of run.fields) ≡ run.height * width
+IsFull width run = HasFields width run.height run.fields
+
+-- the same fields of so many rows
+pub record AreSameFields (width height : ℕ) (fields same : RunFields) : Type 0 where
+  pub columns : (column : ℕ) → column < width
+      → column_in width height column same ≡ column_in width height column fields
+  pub full : HasFields width height same
 
 -- the rows of some runs
 abbrev pub rows_in : List Run → ℕ

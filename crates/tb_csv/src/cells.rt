@@ -1,7 +1,7 @@
 //! The fields of a column, read into typed chunks.
-ghost use Rattle.std.specs.Prelude.{◌≡◌, ◌≤◌, ◌+◌, ◌++◌, ◌∷◌, [], map, option_map, IfOk, IfSome, OnOk};
+ghost use Rattle.std.specs.Prelude.{◌≡◌, ◌<◌, ◌≤◌, ◌+◌, ◌++◌, ◌∷◌, [], None, map, option_map, slice_index_or, IfOk, IfSome, OnOk};
 ghost use Rattle.std.specs.List.{All, list_all};
-ghost use Rattle.tb_value.specs.Promise.Datum.{string};
+ghost use Rattle.tb_value.specs.Promise.Datum.{int, string};
 ghost use Rattle.tb_value.specs.Promise.Kind.{Kind};
 ghost use Rattle.tb_value.specs.Promise.Kind as kind;
 ghost use Rattle.tb_value.specs.Promise.Typed.{HasType};
@@ -12,6 +12,7 @@ ghost use Rattle.tb_csv.specs.Promise.Faults.{column_fault};
 ghost use Rattle.tb_csv.specs.Faults.{Settles};
 ghost use Rattle.tb_chunk.specs.Col.{physical};
 ghost use Rattle.tb_csv.specs.Fields.{fields_in, part_fields};
+ghost use Rattle.tb_csv.specs.Numbers.{number_field};
 ghost use Rattle.tb_csv.specs.Read.{lent_field};
 ghost use Rattle.tb_csv.specs.Promise.Types.{cell_of, cell_value, is_of, kind_at};
 
@@ -19,6 +20,9 @@ use crate::fault::CsvFault;
 use crate::field_type::FieldType;
 use crate::fields::ReadField;
 use crate::lent::{Fields, RunColumn};
+use crate::numbers::number_at;
+use crate::run::RunFields;
+use itoa::Buffer;
 use std::alloc::Global;
 use tb_store::{Cells, Chunk, Chunks, Stored, StringBuilder, StringChunk};
 use tb_value::{PlSmallStr, TOO_LONG};
@@ -36,6 +40,49 @@ fn cell_in<N: ReadField>(field_type: FieldType, field: Option<&str>) -> Option<O
     }
 }
 
+// The same of the text that a number is written as.
+fn whole_cell<N: ReadField>(field_type: FieldType, number: i64) -> Option<Option<N>>
+    requires { physical (kind_at field_type) ≡ N.stored }
+    ensures value { option_map (or_null N.shows) result
+        ≡ cell_value field_type (number_field (int number)) }
+    ensures typed { IfSome result (λ c. HasType (kind_at field_type) (or_null N.shows c)) }
+{
+    match N::of_number(field_type, number) {
+        Some(cell) => Some(Some(cell)),
+        None => None,
+    }
+}
+
+// The same of a field that is a number or absent.
+fn number_cell<N: ReadField>(field_type: FieldType, number: Option<i64>) -> Option<Option<N>>
+    requires { physical (kind_at field_type) ≡ N.stored }
+    ensures value { option_map (or_null N.shows) result
+        ≡ cell_value field_type (number_field (or_null int number)) }
+    ensures typed { IfSome result (λ c. HasType (kind_at field_type) (or_null N.shows c)) }
+{
+    match number {
+        Some(number) => whole_cell(field_type, number),
+        None => Some(None),
+    }
+}
+
+// The same of the field of a row of a run.
+fn cell_at<N: ReadField>(field_type: FieldType, part: RunColumn, row: usize) -> Option<Option<N>>
+    requires stored { physical (kind_at field_type) ≡ N.stored }
+    requires row { row < part.run.now.height }
+    ensures value { option_map (or_null N.shows) result
+        ≡ cell_value field_type (slice_index_or (part_fields part.entry) row None) }
+    ensures typed { IfSome result (λ c. HasType (kind_at field_type) (or_null N.shows c)) }
+{
+    match &part.run.fields {
+        RunFields::Texts(texts) => cell_in(field_type, texts.get(part.width, part.column, row)),
+        RunFields::Numbers(columns) => number_cell(
+            field_type,
+            number_at(columns, part.column, row),
+        ),
+    }
+}
+
 // Whether a field is absent, or a text that is not too long to be a value.
 fn is_short(field: Option<&str>) -> bool
     ensures { result ≡ is_of FieldType.String (lent_field field.entry) }
@@ -46,11 +93,24 @@ fn is_short(field: Option<&str>) -> bool
     }
 }
 
-fn is_cell<N: ReadField>(field_type: FieldType, field: Option<&str>) -> bool
-    requires { physical (kind_at field_type) ≡ N.stored }
-    ensures { result ≡ is_of field_type (lent_field field.entry) }
+fn number_text(digits: &mut Buffer, number: Option<i64>) -> Option<&str>
+    ensures { lent_field result ≡ number_field (or_null int number) }
 {
-    cell_in::<N>(field_type, field).is_some()
+    match number {
+        Some(number) => Some(digits.format(number)),
+        None => None,
+    }
+}
+
+// The field of a row of a run, which may stand in the room that is given.
+fn text_at<'a>(digits: &'a mut Buffer, part: RunColumn<'a>, row: usize) -> Option<&'a str>
+    requires { row < part.run.now.height }
+    ensures { lent_field result ≡ slice_index_or (part_fields part.entry) row None }
+{
+    match &part.run.fields {
+        RunFields::Texts(texts) => texts.get(part.width, part.column, row),
+        RunFields::Numbers(columns) => number_text(digits, number_at(columns, part.column, row)),
+    }
 }
 
 // Whether all fields of a run are cells of the type.
@@ -59,7 +119,7 @@ fn are_cells<N: ReadField>(field_type: FieldType, part: RunColumn) -> bool
     ensures { result ≡ list_all (is_of field_type) (part_fields part.entry) }
 {
     for row in 0..part.run.height {
-        if !is_cell::<N>(field_type, part.get(row)) {
+        if !cell_at::<N>(field_type, part, row).is_some() {
             return false;
         }
     }
@@ -70,8 +130,9 @@ fn are_cells<N: ReadField>(field_type: FieldType, part: RunColumn) -> bool
 fn are_short(part: RunColumn) -> bool
     ensures { result ≡ list_all (is_of FieldType.String) (part_fields part.entry) }
 {
+    let mut digits = Buffer::new();
     for row in 0..part.run.height {
-        if !is_short(part.get(row)) {
+        if !is_short(text_at(&mut digits, part, row)) {
             return false;
         }
     }
@@ -130,7 +191,7 @@ fn push_cells<N: ReadField>(
         (All (HasType (kind_at field_type)) (map (or_null N.shows) cells.new)) }
 {
     for row in 0..part.run.height {
-        let Some(cell) = cell_in(field_type, part.get(row)) else {
+        let Some(cell) = cell_at(field_type, part, row) else {
             return Err(CsvFault::NotOfType {
                 record: (before + row) as u64 + 1,
                 column: name.copy(alloc)?,
@@ -182,8 +243,9 @@ fn push_texts(
         ≡ map (or_null string) builder.old.rows
         ++ map (cell_of FieldType.String) (part_fields part.entry)) }
 {
+    let mut digits = Buffer::new();
     for row in 0..part.run.height {
-        let field = part.get(row);
+        let field = text_at(&mut digits, part, row);
         if !is_short(field) {
             return Err(CsvFault::NotOfType {
                 record: (before + row) as u64 + 1,

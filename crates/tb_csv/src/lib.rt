@@ -15,6 +15,8 @@ mod lent;
 mod line_numbers;
 mod lines;
 mod marks;
+mod number_columns;
+mod numbers;
 mod options;
 mod piece_columns;
 mod pieces;

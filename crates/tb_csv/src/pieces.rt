@@ -99,10 +99,6 @@ pub fn push_rows(
 {
     let columns = table.get_columns();
     let height = table.height();
-    if height <= ROWS_OF_A_PIECE {
-        let piece = piece_text(alloc, separator, columns, height, 0)?;
-        return text.push(piece);
-    }
     let pieces = row_pieces(rt, alloc, separator, columns, height)?;
     push_pieces(text, pieces)
 }

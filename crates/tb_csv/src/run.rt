@@ -1,24 +1,40 @@
 //! The rows of a piece of a text.
-ghost use Rattle.std.specs.Prelude.{◌≡◌, ◌<◌, None, slice_index_or, false, IfOk};
-ghost use Rattle.tb_csv.specs.Fields.{part_fields};
-ghost use Rattle.tb_csv.specs.Read.{IsRunOf, lent_field};
+ghost use Rattle.std.specs.Prelude.{◌≡◌, ◌<◌, ◌+◌, ◌*◌, None, length, slice_index_or, false, IfOk};
+ghost use Rattle.csv.specs.Records.{fields_of};
+ghost use Rattle.tb_csv.specs.Read.{IsRunOf, lent_field, text_fields};
 ghost use Rattle.tb_csv.specs.Promise.Records.{field};
 
 use crate::fault::CsvFault;
-use crate::lent::RunColumn;
 use crate::lines::{read_rows, room_for_fields};
 use crate::marks::marks_of;
+use crate::number_columns::in_numbers;
+use crate::numbers::Numbers;
 use crate::reading::open_reader;
 use csv::{ByteRecord, StringRecord};
 use std::alloc::Global;
 
+/// Fields that stand row by row.
+#[derive(Drop)]
+pub(crate) struct TextFields {
+    /// Their bytes.
+    pub(crate) fields: StringRecord,
+    /// Whether each stands in quotes. A field without a mark doesn't.
+    pub(crate) marks: Vec<bool>,
+}
+
+/// The fields of rows.
+#[derive(Drop)]
+pub(crate) enum RunFields {
+    /// Any fields.
+    Texts(TextFields),
+    /// Whole numbers, column by column.
+    Numbers(Vec<Numbers>),
+}
+
 /// Rows that stand one behind another in a text.
 #[derive(Drop)]
 pub(crate) struct Run {
-    /// The bytes of their fields, row by row.
-    pub(crate) fields: StringRecord,
-    /// Whether each field stands in quotes. A field without a mark doesn't.
-    pub(crate) marks: Vec<bool>,
+    pub(crate) fields: RunFields,
     /// How many rows there are.
     pub(crate) height: usize,
 }
@@ -40,11 +56,9 @@ pub(crate) fn run_of(
     let mut row = ByteRecord::new(alloc);
     let mut fields = room_for_fields(alloc, piece, separator)?;
     let height = read_rows(&mut reader, &mut row, &mut fields, width, piece.len() + 1)?;
-    Ok(Run {
-        fields,
-        marks: marks.marks,
-        height,
-    })
+    let marks = marks.marks;
+    let fields = in_numbers(alloc, TextFields { fields, marks }, width, height)?;
+    Ok(Run { fields, height })
 }
 
 // A field without a byte is absent, unless it stands in quotes.
@@ -64,17 +78,18 @@ fn mark_at(marks: &[bool], place: usize) -> bool
     marks.get(place).copied().unwrap_or(false)
 }
 
-impl<'a> RunColumn<'a> {
-    /// The field of this row, lent.
-    pub(crate) fn get(self, row: usize) -> Option<&'a str>
-        requires { row < self.run.now.height }
-        ensures { lent_field result ≡ slice_index_or (part_fields self.entry) row None }
+impl TextFields {
+    /// The field of this column in a row of so many fields, lent.
+    pub(crate) fn get(&self, width: usize, column: usize, row: usize) -> Option<&str>
+        requires { row * width + column < length (fields_of self.now.fields) }
+        ensures { lent_field result
+            ≡ slice_index_or (text_fields self.now) (row * width + column) None }
     {
-        let _count = self.run.fields.len();
-        let place = row * self.width + self.column;
-        let Some(text) = self.run.fields.get(place) else {
+        let _count = self.fields.len();
+        let place = row * width + column;
+        let Some(text) = self.fields.get(place) else {
             unreachable!()
         };
-        field(mark_at(&self.run.marks, place), text)
+        field(mark_at(&self.marks, place), text)
     }
 }

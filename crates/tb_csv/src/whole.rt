@@ -12,7 +12,7 @@ use crate::fault::CsvFault;
 use crate::lines::{Lines, read_lines};
 use crate::marks::marks_of;
 use crate::records::Records;
-use crate::run::Run;
+use crate::run::{Run, RunFields, TextFields};
 use std::alloc::Global;
 use tb_value::OutOfMemory;
 
@@ -42,11 +42,8 @@ fn marked_lines(alloc: Global, lines: Lines, marks: &[bool]) -> Result<Records, 
     } = lines;
     let marks = marks_behind(alloc, marks, names.len())?;
     let mut runs = Vec::with_capacity(alloc, 1)?;
-    runs.push(Run {
-        fields,
-        marks,
-        height,
-    })?;
+    let fields = RunFields::Texts(TextFields { fields, marks });
+    runs.push(Run { fields, height })?;
     Ok(Records {
         names,
         runs,

@@ -1,5 +1,5 @@
 -- The types of the keys of a text that is joined with another: told from both.
-use Rattle.std.specs.Prelude.{◌++◌, ℕ, List, [], ◌∷◌, length, map, min, position, Option, Some, None, option_map, if◌then◌else◌}
+use Rattle.std.specs.Prelude.{◌++◌, ℕ, List, [], ◌∷◌, length, min, position, Option, Some, None, option_map, if◌then◌else◌}
 use Rattle.std.specs.List.{flat_map, list_all}
 use Rattle.tb_value.specs.Promise.Names.{Name, same_name}
 use Rattle.tb_value.specs.Promise.Pairs.{row_numbers}

@@ -13,13 +13,13 @@ pub returns-then-not-is_short : goal.returns-then-not-is_short
 returns-then-not-is_short c =
     let fs = part_fields c.args.part in
     let low : c.loop-row.row < length fs = omega (arith, part_height c.args.part, c.loop-row-test.true) in
-    sym (all_fails field.String fs c.loop-row.row (lent_field c.get.result) low c.get.ensures (sym c.if-not-is_short.ensures))
+    sym (all_fails field.String fs c.loop-row.row (lent_field c.text_at.result) low c.text_at.ensures (sym c.if-not-is_short.ensures))
 
 pub loop-row-preserved : goal.loop-row-preserved
 loop-row-preserved c =
     let fs = part_fields c.args.part in
     let low : c.loop-row.row < length fs = omega (arith, part_height c.args.part, c.loop-row-test.true) in
-    all_more field.String fs c.loop-row.row (lent_field c.get.result) low c.get.ensures (sym c.if-not-is_short.ensures) c.loop-row.invariant
+    all_more field.String fs c.loop-row.row (lent_field c.text_at.result) low c.text_at.ensures (sym c.if-not-is_short.ensures) c.loop-row.invariant
 
 pub returns : goal.returns
 returns c =

@@ -1,4 +1,4 @@
-use Rattle.std.proofs.Common.{◌≡◌, ◌<◌, ◌≤◌, ◌+◌, ◌++◌, ◌∙◌, ap, append-nil, arith, drop, length, map, sym, inr, List, Some, ℕ}
+use Rattle.std.proofs.Common.{◌≡◌, ◌<◌, ◌≤◌, ◌+◌, ◌++◌, ◌∙◌, ap, append-nil, arith, drop, get_or, length, map, refl, sym, inr, List, None, Some, ℕ}
 use Rattle.std.proofs.lemmas.List.{drop_all, map_push, take_all}
 use Rattle.std.proofs.lemmas.List.Elements.{All-push}
 use Rattle.tb_value.specs.Promise.Names.{Name}
@@ -8,7 +8,6 @@ use Rattle.tb_csv.specs.Fields.{part_fields}
 use Rattle.tb_csv.specs.Promise.Faults.{column_fault}
 use Rattle.tb_csv.specs.Promise.Records.{Field}
 use Rattle.tb_csv.specs.Promise.Types.{cell_of, kind_at}
-use Rattle.tb_csv.specs.Read.{lent_field}
 use Rattle.tb_csv.specs.declared.fault.CsvFault.TheVariants.{NotOfType}
 use Rattle.tb_csv.proofs.ColumnWalks.{part_height}
 use Rattle.tb_csv.proofs.FieldWalks.{cells_more, fault_here, fault_more, read_none, read_some}
@@ -27,10 +26,10 @@ pub returns-in_default-clause-settles : goal.returns-in_default-clause-settles
 returns-in_default-clause-settles g c =
     let fs = part_fields c.args.part in
     let low : c.loop-row.row < length fs = omega (arith, part_height c.args.part, c.loop-row-test.true) in
-    let none = read_none (or_null g.N.Cell.shows) c.args.field_type _ c.cell_in.result c.cell_in.ensures.value c.in_default.is in
+    let none = read_none (or_null g.N.Cell.shows) c.args.field_type _ c.cell_at.result c.cell_at.ensures.value c.in_default.is in
     inr (
     c.loop-row.invariant.fault
-    ∙ fault_here c.args.name.now c.args.field_type ((c.args.before + c.loop-row.row) + 1) fs c.loop-row.row (lent_field c.get.result) low c.get.ensures none
+    ∙ fault_here c.args.name.now c.args.field_type ((c.args.before + c.loop-row.row) + 1) fs c.loop-row.row (get_or fs c.loop-row.row None) low refl none
     ∙ ap (λ (n : Name). Some (NotOfType ((c.args.before + c.loop-row.row) + 1) n c.args.field_type)) (sym c.in_ok-copy.ensures)
     )
 
@@ -38,15 +37,15 @@ pub loop-row-preserved : goal.loop-row-preserved
 loop-row-preserved g c =
     let fs = part_fields c.args.part in
     let low : c.loop-row.row < length fs = omega (arith, part_height c.args.part, c.loop-row-test.true) in
-    let some = read_some (or_null g.N.Cell.shows) c.args.field_type _ c.cell_in.result c.in-Some.cell c.cell_in.ensures.value c.in-Some.is in
+    let some = read_some (or_null g.N.Cell.shows) c.args.field_type _ c.cell_at.result c.in-Some.cell c.cell_at.ensures.value c.in-Some.is in
     let at : ((c.args.before + c.loop-row.row) + 1) + 1 ≡ (c.args.before + (c.loop-row.row + 1)) + 1 = omega arith in
     record {
       fault = c.loop-row.invariant.fault
-          ∙ fault_more c.args.name.now c.args.field_type ((c.args.before + c.loop-row.row) + 1) fs c.loop-row.row (lent_field c.get.result) low c.get.ensures some.0
+          ∙ fault_more c.args.name.now c.args.field_type ((c.args.before + c.loop-row.row) + 1) fs c.loop-row.row (get_or fs c.loop-row.row None) low refl some.0
           ∙ ap (λ (k : ℕ). column_fault c.args.name.now c.args.field_type k (drop (c.loop-row.row + 1) fs)) at;
-      cells = rw c.in_ok-push.ensures.ok (cells_more g.N.Cell.shows c.args.field_type fs c.loop-row.row (lent_field c.get.result) (map (or_null g.N.Cell.shows) c.args.cells.now)
-          c.loop-row.cells c.in-Some.cell low c.get.ensures some.1 c.loop-row.invariant.cells);
-      typed = rw (c.in_ok-push.ensures.ok, map_push) (All-push (HasType (kind_at c.args.field_type)) _ _ c.loop-row.invariant.typed (rw c.in-Some.is at c.cell_in.ensures.typed));
+      cells = rw c.in_ok-push.ensures.ok (cells_more g.N.Cell.shows c.args.field_type fs c.loop-row.row (get_or fs c.loop-row.row None) (map (or_null g.N.Cell.shows) c.args.cells.now)
+          c.loop-row.cells c.in-Some.cell low refl some.1 c.loop-row.invariant.cells);
+      typed = rw (c.in_ok-push.ensures.ok, map_push) (All-push (HasType (kind_at c.args.field_type)) _ _ c.loop-row.invariant.typed (rw c.in-Some.is at c.cell_at.ensures.typed));
     }
 
 pub returns-clause-settles : goal.returns-clause-settles

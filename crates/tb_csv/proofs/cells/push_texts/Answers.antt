@@ -28,7 +28,7 @@ returns-then-not-is_short-clause-settles c =
     let low : c.loop-row.row < length fs = omega (arith, part_height c.args.part, c.loop-row-test.true) in
     inr (
     c.loop-row.invariant.fault
-    ∙ fault_here c.args.name.now field.String ((c.args.before + c.loop-row.row) + 1) fs c.loop-row.row (lent_field c.get-field.result) low c.get-field.ensures (sym c.if-not-is_short.ensures)
+    ∙ fault_here c.args.name.now field.String ((c.args.before + c.loop-row.row) + 1) fs c.loop-row.row (lent_field c.text_at-field.result) low c.text_at-field.ensures (sym c.if-not-is_short.ensures)
     ∙ ap (λ (n : Name). Some (NotOfType ((c.args.before + c.loop-row.row) + 1) n field.String)) (sym c.in_ok-copy.ensures)
     )
 
@@ -40,11 +40,11 @@ loop-row-preserved c =
     let at : ((c.args.before + c.loop-row.row) + 1) + 1 ≡ (c.args.before + (c.loop-row.row + 1)) + 1 = omega arith in
     record {
       fault = c.loop-row.invariant.fault
-          ∙ fault_more c.args.name.now field.String ((c.args.before + c.loop-row.row) + 1) fs c.loop-row.row (lent_field c.get-field.result) low c.get-field.ensures held
+          ∙ fault_more c.args.name.now field.String ((c.args.before + c.loop-row.row) + 1) fs c.loop-row.row (lent_field c.text_at-field.result) low c.text_at-field.ensures held
           ∙ ap (λ (k : ℕ). column_fault c.args.name.now field.String k (drop (c.loop-row.row + 1) fs)) at;
       texts =
           rw (ap (λ b. b.rows) c.in_ok-push_option.ensures.ok)
-          (cells_more string field.String fs c.loop-row.row (lent_field c.get-field.result) (map (or_null string) c.args.builder.now.rows) c.loop-row.builder.rows _ low c.get-field.ensures (text_held _ held) c.loop-row.invariant.texts);
+          (cells_more string field.String fs c.loop-row.row (lent_field c.text_at-field.result) (map (or_null string) c.args.builder.now.rows) c.loop-row.builder.rows _ low c.text_at-field.ensures (text_held _ held) c.loop-row.invariant.texts);
     }
 
 pub returns-clause-settles : goal.returns-clause-settles

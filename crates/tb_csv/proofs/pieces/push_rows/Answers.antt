@@ -1,29 +1,16 @@
-use Rattle.std.proofs.Common.{◌≡◌, ◌+◌, ◌/◌, ◌++◌, ◌∙◌, ℕ, Vec, Global, List, ap, subst}
+use Rattle.std.proofs.Common.{◌≡◌, ◌+◌, ◌/◌, ◌++◌, ◌∙◌, ℕ, Vec, Global, List, subst}
 use Rattle.std.specs.Prelude.{OnOk}
 use Rattle.tb_value.specs.Promise.Pairs.{row_numbers}
 use Rattle.tb_frame.specs.Promise.Table.{height, table_of}
 use Rattle.tb_csv.specs.Texts.{piece_text}
 use Rattle.tb_csv.specs.declared.pieces.TheConstants.{ROWS_OF_A_PIECE}
-use Rattle.tb_csv.proofs.RowPieces.{all_pieces, in_pieces, one_piece}
+use Rattle.tb_csv.proofs.RowPieces.{all_pieces, in_pieces}
 use Rattle.tb_csv.proofs.TextWalks.{body_of_columns, level_columns}
 use Rattle.tb_csv.proofs.pieces.push_rows.Goals as goal
-
-pub piece_text-requires-clause-level : goal.piece_text-requires-clause-level
-piece_text-requires-clause-level g c =
-    rw (c.get_columns-columns.ensures.columns, c.height-height.ensures.height) (level_columns c.args.table.now (height (table_of c.args.table.now)) c.get_columns-columns.ensures.table.one_height)
 
 pub row_pieces-requires : goal.row_pieces-requires
 row_pieces-requires g c =
     (search, rw (c.get_columns-columns.ensures.columns, c.height-height.ensures.height) (level_columns c.args.table.now (height (table_of c.args.table.now)) c.get_columns-columns.ensures.table.one_height))
-
-pub returns-then-height-le-ROWS_OF_A_PIECE : goal.returns-then-height-le-ROWS_OF_A_PIECE
-returns-then-height-le-ROWS_OF_A_PIECE g c =
-    let columns = c.get_columns-columns.result.now in
-    let high = c.height-height.result in
-    let body = c.in_ok-piece.ensures
-    ∙ one_piece c.args.separator (table_of columns) high c.if-height-le-ROWS_OF_A_PIECE.true
-    ∙ body_of_columns c.args.separator columns c.args.table.now high c.get_columns-columns.ensures.columns c.height-height.ensures.height in
-    subst (λ (s : List ℕ). OnOk c.push.result (c.push.new.self ≡ c.args.text.now ++ s)) body c.push.ensures.grown
 
 pub returns : goal.returns
 returns g c =
