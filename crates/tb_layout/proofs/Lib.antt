@@ -2,6 +2,8 @@ pub mod Laid
 pub mod Noted
 pub mod Plain
 pub mod Room
+pub mod RowPieces
 pub mod Sides
 pub mod Trimmed
+pub mod WidthPieces
 pub mod Widths

@@ -5,7 +5,7 @@ use Rattle.std.proofs.lemmas.Bool.Decides.{nat_tests}
 use Rattle.std.proofs.lemmas.List.{drop-append-le, drop-take, drop_all, length-append, length-drop, reverse-append, reverse-reverse, take-append-drop, take-append-le, take-take, take_all}
 use Rattle.std.proofs.lemmas.Str.{encode_ascii, encodes-append}
 use lib.Utf8.{encode, next}
-use Rattle.tb_layout.specs.Laid.{piece}
+use Rattle.tb_layout.specs.Laid.{ended_line}
 use Rattle.tb_layout.specs.Promise.Characters.{cut, is_blank, trimmed_text}
 
 suffix_push : (xs : List ℕ) (x : ℕ) → suffix_len is_blank (xs ++ x ∷ []) ≡ cond (is_blank x) (1 + suffix_len is_blank xs) 0
@@ -78,7 +78,7 @@ trimmed_encodes cs =
 
 -- a line that was written behind a text is ended
 pub line_end : (line start : ℕ) (l old mid : List ℕ) → mid ≡ old ++ encode_utf8_all (cut line l) → start ≡ length old
-    → take start mid ++ (trimmed_text (drop start mid) ++ 10 ∷ []) ≡ old ++ encode_utf8_all (piece line l)
+    → take start mid ++ (trimmed_text (drop start mid) ++ 10 ∷ []) ≡ old ++ encode_utf8_all (ended_line line l)
 line_end line start l old mid written begins =
     let x = encode_utf8_all (cut line l) in
     let front : take start mid ≡ old = ap (λ (n : ℕ). take n mid) begins ∙ ap (take (length old)) written ∙ take-append-le (length old) old x (omega arith) ∙ take_all (length old) old (omega arith) in
@@ -89,12 +89,12 @@ line_end line start l old mid written begins =
     ∙ ap (λ (s : List ℕ). old ++ (encode_utf8_all (trimmed_text (cut line l)) ++ s)) (sym (encode_ascii 10 (omega arith)))
     ∙ ap (λ (s : List ℕ). old ++ s) (sym (encode_push (trimmed_text (cut line l)) 10))
 
-front_more : (start k : ℕ) (xs : List ℕ) → take (start + k) xs ≡ take start xs ++ take k (drop start xs)
+pub front_more : {X : Type 0} (start k : ℕ) (xs : List X) → take (start + k) xs ≡ take start xs ++ take k (drop start xs)
 front_more start k xs =
     let front : take start (take (start + k) xs) ≡ take start xs = take-take start (start + k) xs (omega arith) in
     sym (take-append-drop start (take (start + k) xs))
-    ∙ ap (λ (s : List ℕ). s ++ drop start (take (start + k) xs)) front
-    ∙ ap (λ (s : List ℕ). take start xs ++ s) (drop-take start k xs)
+    ∙ ap (λ ys. ys ++ drop start (take (start + k) xs)) front
+    ∙ ap (λ ys. take start xs ++ ys) (drop-take start k xs)
 
 -- the blanks go from the end of a line, and a line feed comes
 pub blanks_gone : (old short new : List ℕ) (start blanks n : ℕ) → start ≤ length old → blanks ≡ suffix_len is_blank (drop start old) → blanks ≤ length (drop start old)

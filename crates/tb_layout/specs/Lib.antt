@@ -3,3 +3,4 @@ pub mod Laws
 pub mod Notes
 pub mod Promise
 pub mod Room
+pub mod Widths

@@ -5,7 +5,7 @@ ghost use Rattle.tb_value.specs.SeeKind.{kind_of};
 ghost use Rattle.tb_date.specs.Promise.Dates.{number_text};
 ghost use Rattle.tb_frame.specs.Promise.Table.{plain_column};
 ghost use Rattle.tb_layout.specs.Promise.Characters.{shown_text};
-ghost use Rattle.tb_layout.specs.Promise.Lines.{blanks, cell_text, column_width, is_cut, is_number, padded_cell};
+ghost use Rattle.tb_layout.specs.Promise.Lines.{blanks, cell_text, is_cut, is_number, padded_cell};
 ghost use Rattle.tb_layout.specs.Room.{with_cut};
 
 use crate::characters::{is_wide, push_repeated, push_shown, width_within};
@@ -96,19 +96,6 @@ pub(crate) fn push_cell(
         push_repeated(text, room, ' ', missing)?
     };
     push_repeated(text, room, ' ', 2)
-}
-
-/// The width of a column, which is at most that of the line.
-pub(crate) fn column_width(column: &Column, line: usize) -> usize
-    ensures { result ≡ column_width line (plain_column column.now) }
-{
-    let mut digits = Digits::new();
-    let mut widest = width_within(line, column.name().as_str());
-    for row in 0..column.len() {
-        let cell = cell_text(&mut digits, column.dtype(), column.get(row));
-        widest = widest.max(width_within(line, cell));
-    }
-    widest
 }
 
 /// Whether the name of the column or a cell of it is wider than the line.

@@ -3,8 +3,9 @@ ghost use Rattle.std.specs.Prelude.{◌≡◌, ◌≤◌, IfOk, drop, length, ma
 ghost use Rattle.tb_frame.specs.Promise.Table.{table_of};
 ghost use Rattle.tb_layout.specs.Promise.Lines.{column_width, fitting_columns};
 
-use crate::cells::column_width;
+use crate::measured::column_width;
 use std::alloc::Global;
+use std::thread::Threads;
 use tb_store::Column;
 use tb_value::OutOfMemory;
 
@@ -18,7 +19,12 @@ pub(crate) struct Grid<'a> {
 }
 
 // The widths of the columns that stand in the line. The others are not measured, but for the first of them.
-fn fitting_widths(alloc: Global, columns: &[Column], line: usize) -> Result<Vec<usize>, OutOfMemory>
+fn fitting_widths(
+    rt: &(impl Threads + Sync),
+    alloc: Global,
+    columns: &[Column],
+    line: usize,
+) -> Result<Vec<usize>, OutOfMemory>
     ensures widths { IfOk result (λ v.
         v.items ≡ map (column_width line) (table_of (take (length v.items) columns.now))) }
     ensures count { IfOk result (λ v.
@@ -28,7 +34,7 @@ fn fitting_widths(alloc: Global, columns: &[Column], line: usize) -> Result<Vec<
     let mut widths = Vec::new(alloc);
     let mut room = line;
     for column in columns {
-        let width = column_width(column, line);
+        let width = column_width(rt, alloc, column, line)?;
         if room < width {
             return Ok(widths);
         }
@@ -40,6 +46,7 @@ fn fitting_widths(alloc: Global, columns: &[Column], line: usize) -> Result<Vec<
 
 /// Those of the columns that stand in the line.
 pub(crate) fn shown_grid<'a>(
+    rt: &(impl Threads + Sync),
     alloc: Global,
     columns: &'a [Column],
     line: usize,
@@ -51,7 +58,7 @@ pub(crate) fn shown_grid<'a>(
         length g.columns.now ≡ fitting_columns line (table_of columns.now)) }
     ensures few { IfOk result (λ g. length g.columns.now ≤ length columns.now) }
 {
-    let widths = fitting_widths(alloc, columns, line)?;
+    let widths = fitting_widths(rt, alloc, columns, line)?;
     Ok(Grid {
         columns: &columns[..widths.len()],
         line,

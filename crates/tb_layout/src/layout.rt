@@ -1,55 +1,52 @@
 //! The text of a table.
-ghost use Rattle.std.specs.Prelude.{◌≡◌, ◌++◌, IfOk, OnOk, encode_utf8_all, length, string_bytes};
-ghost use Rattle.std.specs.List.{All};
-ghost use Rattle.tb_chunk.specs.Promise.Col.{Col, values};
+ghost use Rattle.std.specs.Prelude.{◌≡◌, ◌++◌, IfOk, OnOk, encode_utf8_all, string_bytes};
 ghost use Rattle.tb_frame.specs.Promise.Table.{names_of, table_of};
-ghost use Rattle.tb_layout.specs.Laid.{ended, laid};
+ghost use Rattle.tb_layout.specs.Laid.{ended, head_text};
 ghost use Rattle.tb_layout.specs.Promise.Lines.{layout, note};
 
 use crate::characters::push_whole;
 use crate::grid::{Grid, columns_behind, shown_grid};
-use crate::lines::{push_dashes_line, push_names_line, push_row_line};
+use crate::lines::{push_dashes_line, push_names_line};
 use crate::notes::{cut_columns, note_text};
+use crate::pieces::push_rows;
 use std::alloc::Global;
+use std::thread::Threads;
 use tb_frame::DataFrame;
 use tb_store::Column;
+use tb_text::Text;
 use tb_value::OutOfMemory;
 
-// The lines of the columns that are shown, with so many rows.
-fn table_text(alloc: Global, grid: &Grid<'_>, rows: usize) -> Result<String, OutOfMemory>
-    requires { All (λ (c : Col). length (values c) ≡ rows) grid.now.columns.now }
+// The lines of the names and of the dashes.
+fn head_text(alloc: Global, grid: &Grid<'_>) -> Result<String, OutOfMemory>
     ensures { IfOk result (λ s.
         string_bytes s
-        ≡ encode_utf8_all (laid grid.now.line (table_of grid.now.columns.now) rows)) }
+        ≡ encode_utf8_all (head_text grid.now.line (table_of grid.now.columns.now))) }
 {
     let mut text = String::new(alloc);
     push_names_line(&mut text, grid)?;
     push_dashes_line(&mut text, grid)?;
-    for row in 0..rows {
-        push_row_line(&mut text, grid, row)?;
-    }
     Ok(text)
 }
 
 // Appends a line on what became of the columns, if there is one.
 fn push_note(
     alloc: Global,
-    text: &mut String,
+    text: &mut Text,
     what: &str,
     columns: &[Column],
 ) -> Result<(), OutOfMemory>
     ensures { OnOk result
-        (string_bytes text.new
-        ≡ string_bytes text.old
-        ++ encode_utf8_all (ended (note what.now (names_of (table_of columns.now))))) }
+        (text.new
+        ≡ text.old ++ encode_utf8_all (ended (note what.now (names_of (table_of columns.now))))) }
 {
     if columns.is_empty() {
         return Ok(());
     }
     let said = note_text(alloc, what, columns)?;
-    push_whole(text, said.as_str())?;
-    text.push('\n')?;
-    Ok(())
+    let mut line = String::new(alloc);
+    push_whole(&mut line, said.as_str())?;
+    line.push('\n')?;
+    text.push(line.into_bytes())
 }
 
 /// The text of a table for a terminal that is `width` columns wide: a line of the names, a line of dashes, and a line for each
@@ -73,16 +70,17 @@ fn push_note(
 ///
 /// `OutOfMemory` where memory is wanting.
 pub fn layout_of_table(
+    rt: &(impl Threads + Sync),
     alloc: Global,
     table: &DataFrame,
     width: usize,
-) -> Result<String, OutOfMemory>
-    ensures { IfOk result (λ s.
-        string_bytes s ≡ encode_utf8_all (layout width (table_of table.now))) }
+) -> Result<Text, OutOfMemory>
+    ensures { IfOk result (λ t. t ≡ encode_utf8_all (layout width (table_of table.now))) }
 {
     let columns = table.get_columns();
-    let grid = shown_grid(alloc, columns, width)?;
-    let mut text = table_text(alloc, &grid, table.height())?;
+    let grid = shown_grid(rt, alloc, columns, width)?;
+    let mut text = Text::from_string(alloc, head_text(alloc, &grid)?)?;
+    push_rows(rt, alloc, &mut text, &grid, table.height())?;
     let cut = cut_columns(columns, width);
     push_note(alloc, &mut text, "cut", cut)?;
     let others = columns_behind(columns, grid.columns.len());

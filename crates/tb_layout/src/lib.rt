@@ -10,6 +10,8 @@ mod grid;
 pub mod laws;
 mod layout;
 mod lines;
+mod measured;
 mod notes;
+mod pieces;
 
 pub use layout::layout_of_table;

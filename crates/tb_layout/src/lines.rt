@@ -3,7 +3,7 @@ ghost use Rattle.std.specs.Prelude.{◌≡◌, ◌<◌, ◌≤◌, ◌++◌, ◌
 ghost use Rattle.std.specs.List.{All};
 ghost use Rattle.tb_chunk.specs.Promise.Col.{Col, values};
 ghost use Rattle.tb_frame.specs.Promise.Table.{table_of};
-ghost use Rattle.tb_layout.specs.Laid.{piece};
+ghost use Rattle.tb_layout.specs.Laid.{ended_line, row_bytes};
 ghost use Rattle.tb_layout.specs.Promise.Characters.{cut, trimmed_text};
 ghost use Rattle.tb_layout.specs.Promise.Lines.{cell_in, dashes_in, name_in, side_by_side};
 
@@ -80,7 +80,7 @@ pub(crate) fn push_names_line(text: &mut String, grid: &Grid<'_>) -> Result<(), 
     ensures { OnOk result
         (string_bytes text.new
         ≡ string_bytes text.old
-        ++ encode_utf8_all (piece grid.now.line
+        ++ encode_utf8_all (ended_line grid.now.line
         (side_by_side (name_in grid.now.line) (table_of grid.now.columns.now)))) }
 {
     let start = text.len();
@@ -93,7 +93,7 @@ pub(crate) fn push_dashes_line(text: &mut String, grid: &Grid<'_>) -> Result<(),
     ensures { OnOk result
         (string_bytes text.new
         ≡ string_bytes text.old
-        ++ encode_utf8_all (piece grid.now.line
+        ++ encode_utf8_all (ended_line grid.now.line
         (side_by_side (dashes_in grid.now.line) (table_of grid.now.columns.now)))) }
 {
     let start = text.len();
@@ -111,8 +111,7 @@ pub(crate) fn push_row_line(
     ensures { OnOk result
         (string_bytes text.new
         ≡ string_bytes text.old
-        ++ encode_utf8_all (piece grid.now.line
-        (side_by_side (cell_in grid.now.line row) (table_of grid.now.columns.now)))) }
+        ++ row_bytes grid.now.line (table_of grid.now.columns.now) row) }
 {
     let start = text.len();
     push_cells(text, grid, row)?;

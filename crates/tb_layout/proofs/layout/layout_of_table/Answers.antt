@@ -1,20 +1,23 @@
-use Rattle.std.proofs.Common.{◌≡◌, ◌++◌, ◌∙◌, List, ap, codes, encode_utf8_all, length, string_bytes, take}
+use Rattle.std.proofs.Common.{◌≡◌, ◌++◌, ◌∙◌, List, ap, codes, encode_utf8_all, flat_map, length, take}
+use Rattle.tb_value.specs.Promise.Pairs.{row_numbers}
 use Rattle.tb_chunk.specs.Promise.Col.{Col}
 use Rattle.tb_frame.specs.Promise.Table.{Table, names_of, table_of}
-use Rattle.tb_layout.specs.Laid.{ended, laid}
+use Rattle.tb_layout.specs.Laid.{ended, head_text, row_bytes}
 use Rattle.tb_layout.specs.Promise.Lines.{cut_columns, fitting_columns, left_out, note, shown}
 use Rattle.tb_layout.proofs.Laid.{other_columns, shown_columns, written_whole}
 use Rattle.tb_layout.proofs.Sides.{shown_high}
 use Rattle.tb_layout.proofs.layout.layout_of_table.Goals as goal
 
-pub table_text-requires : goal.table_text-requires
-table_text-requires c =
-    let n = fitting_columns c.args.width (table_of c.get_columns-columns.result.now) in
-    shown_high c.args.table.now c.in_ok-grid.grid.columns.now n c.height.result (c.in_ok-grid.ensures.columns ∙ ap (take n) c.get_columns-columns.ensures.columns)
-    c.height.ensures.height c.get_columns-columns.ensures.table.one_height
+pub push_rows-requires : goal.push_rows-requires
+push_rows-requires g c =
+    let n = fitting_columns c.args.width (table_of c.get_columns-columns.result.now) in (
+      search,
+      shown_high c.args.table.now c.in_ok-grid.grid.columns.now n c.height.result (c.in_ok-grid.ensures.columns ∙ ap (take n) c.get_columns-columns.ensures.columns)
+          c.height.ensures.height c.get_columns-columns.ensures.table.one_height,
+    )
 
 pub returns : goal.returns
-returns c =
+returns g c =
     let width = c.args.width in
     let cs = c.get_columns-columns.result.now in
     let ks = c.in_ok-grid.grid.columns.now in
@@ -26,7 +29,8 @@ returns c =
     let line = c.in_ok-grid.ensures.line in
     let high = c.height.ensures.height in
     let said = λ (old what : List _) (u : Table). old ++ encode_utf8_all (ended (note what (names_of u))) in
-    written_whole width t (string_bytes c.in_ok-text.text) (string_bytes c.push_note.new.text) (string_bytes c.push_note-2.new.text)
-    (c.in_ok-text.ensures ∙ (λ i. encode_utf8_all (laid (line i) (columns i) (high i))))
-    (c.in_ok-push_note.ensures ∙ ap (said (string_bytes c.in_ok-text.text) (codes "cut")) cut)
-    (c.in_ok-push_note-2.ensures ∙ ap (said (string_bytes c.push_note.new.text) (codes "left out")) others)
+    written_whole width t c.in_ok-text.text c.push_rows.new.text c.push_note.new.text c.push_note-2.new.text
+    (c.in_ok-text.ensures ∙ c.in_ok-head_text.ensures ∙ (λ i. encode_utf8_all (head_text (line i) (columns i))))
+    (c.in_ok-push_rows.ensures ∙ (λ i. c.in_ok-text.text ++ flat_map (row_bytes (line i) (columns i)) (row_numbers (high i))))
+    (c.in_ok-push_note.ensures ∙ ap (said c.push_rows.new.text (codes "cut")) cut)
+    (c.in_ok-push_note-2.ensures ∙ ap (said c.push_note.new.text (codes "left out")) others)
