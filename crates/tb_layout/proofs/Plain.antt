@@ -7,6 +7,7 @@ use Rattle.std.proofs.lemmas.List.Sums.{sum_by-cons}
 use Rattle.std.proofs.lemmas.Str.{chars-IsAscii}
 use Rattle.unicode_width.specs.Width.{char_width}
 use Rattle.tb_layout.specs.Promise.Characters.{columns_of, shown_text, visible_text, width_of}
+use Rattle.tb_layout.specs.Promise.Lines.{blanks}
 use Rattle.tb_layout.specs.Room.{is_plain}
 
 plain_low : (c : ℕ) → is_plain c ≡ true → 32 ≤ c
@@ -64,6 +65,11 @@ width_plain (c ∷ cs) all =
     let rest = width_plain cs (rest_plain (is_plain c) (list_all is_plain cs) all) in
     let sum = sum_by-cons columns_of c cs in
     omega arith
+
+-- blanks are plain
+pub plain_blanks : (n : ℕ) → list_all is_plain (blanks n) ≡ true
+plain_blanks zero = refl
+plain_blanks (suc n) = plain_blanks n
 
 -- one more character is shown
 pub visible_more : (cs : List ℕ) (c : ℕ) → flat_map visible_text (cs ++ c ∷ []) ≡ flat_map visible_text cs ++ visible_text c

@@ -1,5 +1,5 @@
 -- Walks over the columns of a table that is laid out.
-use Rattle.std.proofs.Common.{◌≡◌, ◌<◌, ◌≤◌, ◌+◌, ◌∷◌, ◌++◌, ◌∙◌, [], ℕ, Bool, List, Option, Some, encode_utf8_all, length, map, take, get_or, refl, sym, ap, arith, subst, append-nil, append_assoc, replicate}
+use Rattle.std.proofs.Common.{◌≡◌, ◌<◌, ◌≤◌, ◌+◌, ◌-◌, ◌∷◌, ◌++◌, ◌∙◌, [], ℕ, Bool, true, false, List, Option, Some, encode_utf8_all, length, map, take, get_or, refl, sym, ap, arith, subst, append-nil, append_assoc, replicate}
 use Rattle.std.specs.List.{All}
 use Rattle.std.proofs.Math.ListN as listn
 use Rattle.std.proofs.lemmas.List.Elements.{All-take}
@@ -10,7 +10,7 @@ use Rattle.tb_value.specs.Promise.Kind.{Kind}
 use Rattle.tb_value.specs.declared.sorted.IsSorted.TheVariants.{Not}
 use Rattle.tb_chunk.specs.Promise.Col.{Col, values}
 use Rattle.tb_frame.specs.Promise.Table.{TableColumn, height, plain_column, table_of}
-use Rattle.tb_layout.specs.Promise.Characters.{cut}
+use Rattle.tb_layout.specs.Promise.Characters.{cut, width_of}
 use Rattle.tb_layout.specs.Promise.Lines.{blanks, cell_of, column_width, dashes_in, padded_cell, side_by_side}
 use Rattle.tb_layout.specs.Room.{with_cut}
 use Rattle.tb_layout.proofs.Room.{cut_more, cut_whole}
@@ -72,6 +72,24 @@ cut_dashes line cs ws k w p q m r are low at dashes gap so_far =
     cut_side (dashes_in line) cs k c p q r (replicate w 45) low is
     (ap (λ n. replicate n 45) (width_at line cs ws k c w are low is at))
     (gap ∙ ap (λ (t : List ℕ × Option ℕ). with_cut t (blanks 2)) dashes ∙ sym (cut_more q (replicate w 45) (blanks 2))) so_far
+
+-- a cell is written that is as wide as its text is long, behind blanks
+pub blanks_first : (right : Bool) (w m : ℕ) (text cell : List ℕ) (p q r : List ℕ × Option ℕ) → right ≡ true → m ≡ w - width_of cell → cell ≡ text
+    → q ≡ with_cut p (blanks m) → r ≡ with_cut q text → r ≡ with_cut p (padded_cell right w cell)
+blanks_first right w m text cell p q r is missing same before push =
+    push ∙ ap (λ (t : List ℕ × Option ℕ). with_cut t text) before ∙ sym (cut_more p (blanks m) text)
+    ∙ ap (λ n. with_cut p (blanks n ++ text)) missing
+    ∙ ap (λ (s : List ℕ). with_cut p (blanks (w - width_of cell) ++ s)) (sym same)
+    ∙ ap (λ b. with_cut p (padded_cell b w cell)) (sym is)
+
+-- or before them
+pub blanks_last : (right : Bool) (w m : ℕ) (text cell : List ℕ) (p q r : List ℕ × Option ℕ) → right ≡ false → m ≡ w - width_of cell → cell ≡ text
+    → q ≡ with_cut p text → r ≡ with_cut q (blanks m) → r ≡ with_cut p (padded_cell right w cell)
+blanks_last right w m text cell p q r is missing same before push =
+    push ∙ ap (λ (t : List ℕ × Option ℕ). with_cut t (blanks m)) before ∙ sym (cut_more p text (blanks m))
+    ∙ ap (λ n. with_cut p (text ++ blanks n)) missing
+    ∙ ap (λ (s : List ℕ). with_cut p (s ++ blanks (w - width_of cell))) (sym same)
+    ∙ ap (λ b. with_cut p (padded_cell b w cell)) (sym is)
 
 pub padded_same : (a b : Bool) (v w : ℕ) (s t : List ℕ) → a ≡ b → v ≡ w → s ≡ t → padded_cell a v s ≡ padded_cell b w t
 padded_same a b v w s t right wide same = ap (λ x. padded_cell x v s) right ∙ ap (λ x. padded_cell b x s) wide ∙ ap (λ x. padded_cell b w x) same

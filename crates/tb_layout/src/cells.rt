@@ -1,14 +1,15 @@
 //! The cells of a table and the widths of its columns.
-ghost use Rattle.std.specs.Prelude.{◌≡◌, ◌++◌, IfOk, string_bytes};
+ghost use Rattle.std.specs.Prelude.{◌≡◌, ◌++◌, IfOk, string_bytes, true};
+ghost use Rattle.std.specs.List.{list_all};
 ghost use Rattle.tb_value.specs.See.{lent_value, IsText};
 ghost use Rattle.tb_value.specs.SeeKind.{kind_of};
 ghost use Rattle.tb_date.specs.Promise.Dates.{number_text};
 ghost use Rattle.tb_frame.specs.Promise.Table.{plain_column};
 ghost use Rattle.tb_layout.specs.Promise.Characters.{shown_text};
 ghost use Rattle.tb_layout.specs.Promise.Lines.{blanks, cell_text, is_cut, is_number, padded_cell};
-ghost use Rattle.tb_layout.specs.Room.{with_cut};
+ghost use Rattle.tb_layout.specs.Room.{is_plain, with_cut};
 
-use crate::characters::{is_wide, push_repeated, push_shown, width_within};
+use crate::characters::{are_plain, is_wide, push_blanks, push_plain, push_shown, width_within};
 use itoa::Buffer;
 use std::str;
 use tb_date::{date_text, dated, is_date};
@@ -73,6 +74,31 @@ pub(crate) fn is_number(value: ValueRef<'_>) -> bool
     matches!(value, ValueRef::Int(_))
 }
 
+// Appends the cell and two blanks as `push_cell` does, where its characters take one column each.
+fn push_plain_cell(
+    text: &mut String,
+    room: Option<usize>,
+    cell: &str,
+    at_right: bool,
+    width: usize,
+) -> Result<Option<usize>, OutOfMemory>
+    requires { list_all is_plain cell.now ≡ true }
+    ensures { IfOk result (λ after.
+        (string_bytes text.new, after)
+        ≡ with_cut (string_bytes text.old, room)
+        (padded_cell at_right width (shown_text cell.now) ++ blanks 2)) }
+{
+    let missing = width.saturating_sub(cell.len());
+    let room = if at_right {
+        let room = push_blanks(text, room, missing)?;
+        push_plain(text, room, cell)?
+    } else {
+        let room = push_plain(text, room, cell)?;
+        push_blanks(text, room, missing)?
+    };
+    push_blanks(text, room, 2)
+}
+
 /// Appends the cell, at the right of so many columns or at the left, and two blanks, as far as the room of the line goes. Answers
 /// the room behind them.
 pub(crate) fn push_cell(
@@ -87,15 +113,18 @@ pub(crate) fn push_cell(
         ≡ with_cut (string_bytes text.old, room)
         (padded_cell at_right width (shown_text cell.now) ++ blanks 2)) }
 {
+    if are_plain(cell.as_bytes()) {
+        return push_plain_cell(text, room, cell, at_right, width);
+    }
     let missing = width - width_within(width, cell);
     let room = if at_right {
-        let room = push_repeated(text, room, ' ', missing)?;
+        let room = push_blanks(text, room, missing)?;
         push_shown(text, room, cell)?
     } else {
         let room = push_shown(text, room, cell)?;
-        push_repeated(text, room, ' ', missing)?
+        push_blanks(text, room, missing)?
     };
-    push_repeated(text, room, ' ', 2)
+    push_blanks(text, room, 2)
 }
 
 /// Whether the name of the column or a cell of it is wider than the line.

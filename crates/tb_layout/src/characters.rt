@@ -2,7 +2,7 @@
 ghost use Rattle.std.specs.Prelude.{◌≡◌, ◌∷◌, [], ◌++◌, ◌<◌, ◌≤◌, ◌-◌, true, IfOk, OnOk, Some, encode_utf8_all, length, min, option_to_list, replicate, slice_index, string_bytes};
 ghost use Rattle.std.specs.List.{list_all, suffix_len};
 ghost use Rattle.tb_layout.specs.Promise.Characters.{columns_of, is_blank, shown_text, visible_text, width_of};
-ghost use Rattle.tb_layout.specs.Promise.Lines.{is_wide};
+ghost use Rattle.tb_layout.specs.Promise.Lines.{blanks, is_wide};
 ghost use Rattle.tb_layout.specs.Room.{is_plain, room_left, with_cut, within};
 
 use tb_value::OutOfMemory;
@@ -44,8 +44,8 @@ fn is_plain(byte: u8) -> bool
     b' ' <= byte && byte < 0x7f
 }
 
-// Whether each byte is a character of one column, and is shown as it is.
-fn are_plain(bytes: &[u8]) -> bool
+/// Whether each byte is a character of one column, and is shown as it is.
+pub(crate) fn are_plain(bytes: &[u8]) -> bool
     ensures { result ≡ list_all is_plain bytes.now }
 {
     bytes.iter().all(|byte| is_plain(*byte))
@@ -126,7 +126,8 @@ fn push_visible(
     }
 }
 
-fn push_plain(
+/// Appends characters of one column each, as far as they fit into the room of their line. Answers the room behind them.
+pub(crate) fn push_plain(
     text: &mut String,
     room: Option<usize>,
     plain: &str,
@@ -207,6 +208,25 @@ pub(crate) fn push_repeated(
         room = push_within(text, room, c)?;
     }
     Ok(room)
+}
+
+// Of these the front is appended that is as long as is asked.
+const BLANKS: &str = "                                ";
+
+/// Appends so many blanks, as far as there is room. Answers the room behind them.
+pub(crate) fn push_blanks(
+    text: &mut String,
+    room: Option<usize>,
+    count: usize,
+) -> Result<Option<usize>, OutOfMemory>
+    ensures { IfOk result (λ after.
+        (string_bytes text.new, after) ≡ with_cut (string_bytes text.old, room) (blanks count)) }
+{
+    if count <= BLANKS.len() {
+        push_plain(text, room, &BLANKS[..count])
+    } else {
+        push_repeated(text, room, ' ', count)
+    }
 }
 
 /// How many blanks stand at the end.

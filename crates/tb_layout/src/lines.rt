@@ -8,7 +8,7 @@ ghost use Rattle.tb_layout.specs.Promise.Characters.{cut, trimmed_text};
 ghost use Rattle.tb_layout.specs.Promise.Lines.{cell_in, dashes_in, name_in, side_by_side};
 
 use crate::cells::{Digits, cell_text, is_number, push_cell};
-use crate::characters::{blanks_at_end, push_repeated};
+use crate::characters::{blanks_at_end, push_blanks, push_repeated};
 use crate::grid::Grid;
 use tb_value::OutOfMemory;
 
@@ -51,7 +51,7 @@ fn push_dashes(text: &mut String, grid: &Grid<'_>) -> Result<(), OutOfMemory>
     let mut room = Some(grid.line);
     for k in 0..grid.columns.len() {
         room = push_repeated(text, room, '-', grid.widths[k])?;
-        room = push_repeated(text, room, ' ', 2)?;
+        room = push_blanks(text, room, 2)?;
     }
     Ok(())
 }
