@@ -1,6 +1,7 @@
 -- The text of a table, line by line.
-use Rattle.std.proofs.Common.{◌≡◌, ◌∷◌, ◌++◌, ◌∙◌, [], ℕ, List, map, refl, sym, ap, append-nil, append_assoc, codes, drop, false, ◌==◌, encode_utf8, encode_utf8_all, length, take}
+use Rattle.std.proofs.Common.{◌≡◌, ◌∷◌, ◌++◌, ◌∙◌, [], ℕ, List, map, refl, sym, ap, append-nil, append_assoc, codes, drop, false, ◌==◌, encode_utf8, encode_utf8_all, length, nat_le, suc, take, true, arith, ◌+◌, ◌-◌}
 use Rattle.std.specs.List.{flat_map}
+use Rattle.std.proofs.lemmas.Bool.Decides.{nat_tests}
 use Rattle.std.proofs.lemmas.Str.{encodes-append}
 use Rattle.std.proofs.lemmas.List.{drop-map, take-map}
 use Rattle.std.proofs.lemmas.Grind.{flat_map-append}
@@ -9,7 +10,7 @@ use Rattle.tb_chunk.specs.Promise.Col.{Col}
 use Rattle.tb_frame.specs.Promise.Table.{Table, height, names_of, plain_column, table_of}
 use Rattle.tb_layout.specs.Laid.{ended, ended_line, head_text, row_bytes}
 use Rattle.tb_layout.specs.Promise.Characters.{cut, shown_text, trimmed_text}
-use Rattle.tb_layout.specs.Promise.Lines.{cell_in, cut_columns, dashes_in, fitting_columns, layout, left_out, name_in, note, note_text, shown, side_by_side, table_lines}
+use Rattle.tb_layout.specs.Promise.Lines.{cell_in, column_width, cut_columns, dashes_in, fitting, fitting_columns, layout, left_out, name_in, note, note_text, shown, side_by_side, table_lines}
 
 -- the lines of rows, each ended, in bytes
 rows_encoded : (g : ℕ → List ℕ) (ns : List ℕ) → flat_map (λ i. encode_utf8_all (g i)) ns ≡ encode_utf8_all (flat_map g ns)
@@ -66,6 +67,15 @@ written_whole line t s₀ s₁ s₂ s₃ head rows second third =
 -- the columns that are shown are those of the table
 pub shown_columns : (line : ℕ) (cs ks : List Col) → ks ≡ take (fitting_columns line (table_of cs)) cs → table_of ks ≡ shown line (table_of cs)
 shown_columns line cs ks are = ap table_of are ∙ sym (take-map plain_column (fitting_columns line (table_of cs)) cs)
+
+-- the first column is always shown
+pub cut_shown : (line : ℕ) (t : Table) → cut_columns line (shown line t) ≡ cut_columns line t
+cut_shown line [] = refl
+cut_shown line (c ∷ cs) =
+    let fits : nat_le (column_width line c) line ≡ true = grind (arith, nat_tests) in
+    let n = fitting (line - column_width line c - 2) (map (column_width line) cs) in
+    let more : 1 + n ≡ suc n = omega arith in
+    rw (fits, more) refl
 
 -- and the others the rest
 pub other_columns : (line n : ℕ) (cs ks : List Col) → n ≡ fitting_columns line (table_of cs) → ks ≡ drop n cs → table_of ks ≡ left_out line (table_of cs)

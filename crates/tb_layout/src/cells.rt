@@ -6,7 +6,7 @@ ghost use Rattle.tb_value.specs.SeeKind.{kind_of};
 ghost use Rattle.tb_date.specs.Promise.Dates.{number_text};
 ghost use Rattle.tb_frame.specs.Promise.Table.{plain_column};
 ghost use Rattle.tb_layout.specs.Promise.Characters.{shown_text};
-ghost use Rattle.tb_layout.specs.Promise.Lines.{blanks, cell_text, is_cut, is_number, padded_cell};
+ghost use Rattle.tb_layout.specs.Promise.Lines.{blanks, cell_text, column_width, is_cut, is_number, padded_cell};
 ghost use Rattle.tb_layout.specs.Room.{is_plain, with_cut};
 
 use crate::characters::{are_plain, is_wide, push_blanks, push_plain, push_shown, width_within};
@@ -127,10 +127,14 @@ pub(crate) fn push_cell(
     push_blanks(text, room, 2)
 }
 
-/// Whether the name of the column or a cell of it is wider than the line.
-pub(crate) fn is_cut(column: &Column, line: usize) -> bool
+/// Whether the name of the column, which is so wide, or a cell of it is wider than the line.
+pub(crate) fn is_cut(column: &Column, line: usize, width: usize) -> bool
+    requires { width ≡ column_width line (plain_column column.now) }
     ensures { result ≡ is_cut line (plain_column column.now) }
 {
+    if width < line {
+        return false;
+    }
     if is_wide(line, column.name().as_str()) {
         return true;
     }

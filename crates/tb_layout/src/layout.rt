@@ -81,7 +81,7 @@ pub fn layout_of_table(
     let grid = shown_grid(rt, alloc, columns, width)?;
     let mut text = Text::from_string(alloc, head_text(alloc, &grid)?)?;
     push_rows(rt, alloc, &mut text, &grid, table.height())?;
-    let cut = cut_columns(columns, width);
+    let cut = cut_columns(&grid);
     push_note(alloc, &mut text, "cut", cut)?;
     let others = columns_behind(columns, grid.columns.len());
     push_note(alloc, &mut text, "left out", others)?;

@@ -5,17 +5,18 @@ ghost use Rattle.tb_layout.specs.Notes.{gap};
 ghost use Rattle.tb_layout.specs.Promise.Lines.{columns_word, cut_columns, listed, note_text};
 
 use crate::cells::is_cut;
+use crate::grid::Grid;
 use std::alloc::Global;
 use tb_label::value_text;
 use tb_store::Column;
 use tb_value::{OutOfMemory, ValueRef};
 
-/// The first column, where its name or a cell of it is wider than the line, else none.
-pub(crate) fn cut_columns(columns: &[Column], line: usize) -> &[Column]
-    ensures { table_of result.now ≡ cut_columns line (table_of columns.now) }
+/// The first of the columns that are shown, where its name or a cell of it is wider than the line, else none.
+pub(crate) fn cut_columns<'a>(grid: &'a Grid<'_>) -> &'a [Column]
+    ensures { table_of result.now ≡ cut_columns grid.now.line (table_of grid.now.columns.now) }
 {
-    match columns.first() {
-        Some(first) if is_cut(first, line) => &columns[..1],
+    match grid.columns.first() {
+        Some(first) if is_cut(first, grid.line, grid.widths[0]) => &grid.columns[..1],
         _ => &[],
     }
 }

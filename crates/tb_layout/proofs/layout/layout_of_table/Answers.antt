@@ -4,7 +4,7 @@ use Rattle.tb_chunk.specs.Promise.Col.{Col}
 use Rattle.tb_frame.specs.Promise.Table.{Table, names_of, table_of}
 use Rattle.tb_layout.specs.Laid.{ended, head_text, row_bytes}
 use Rattle.tb_layout.specs.Promise.Lines.{cut_columns, fitting_columns, left_out, note, shown}
-use Rattle.tb_layout.proofs.Laid.{other_columns, shown_columns, written_whole}
+use Rattle.tb_layout.proofs.Laid.{cut_shown, other_columns, shown_columns, written_whole}
 use Rattle.tb_layout.proofs.Sides.{shown_high}
 use Rattle.tb_layout.proofs.layout.layout_of_table.Goals as goal
 
@@ -25,8 +25,8 @@ returns g c =
     let same = c.get_columns-columns.ensures.columns in
     let columns : table_of ks ≡ shown width t = shown_columns width cs ks c.in_ok-grid.ensures.columns ∙ ap (λ (ds : List Col). shown width (table_of ds)) same in
     let others : table_of c.columns_behind-others.result.now ≡ left_out width t = other_columns width (length ks) cs c.columns_behind-others.result.now c.in_ok-grid.ensures.count c.columns_behind-others.ensures ∙ ap (λ (ds : List Col). left_out width (table_of ds)) same in
-    let cut = c.cut_columns-cut.ensures ∙ ap (λ (ds : List Col). cut_columns width (table_of ds)) same in
     let line = c.in_ok-grid.ensures.line in
+    let cut = c.cut_columns-cut.ensures ∙ (λ i. cut_columns (line i) (columns i)) ∙ cut_shown width t in
     let high = c.height.ensures.height in
     let said = λ (old what : List _) (u : Table). old ++ encode_utf8_all (ended (note what (names_of u))) in
     written_whole width t c.in_ok-text.text c.push_rows.new.text c.push_note.new.text c.push_note-2.new.text
