@@ -80,13 +80,17 @@ fn write_json(alloc: Global, table: DataFrame) -> Result<Text, FrontFault>
     Ok(into_text(alloc, table)?)
 }
 
-fn write_lines(alloc: Global, width: usize, table: DataFrame) -> Result<Text, FrontFault>
+fn write_lines(
+    rt: &(impl Threads + Sync),
+    alloc: Global,
+    width: usize,
+    table: DataFrame,
+) -> Result<Text, FrontFault>
     ensures settles { Settles result (writing_fault (TextForm.Layout width) (table_of table)) }
     ensures text { IfOk result (λ t. t ≡ text_in (TextForm.Layout width) 0 (table_of table)) }
 {
     let table = in_single_chunks(alloc, table)?;
-    let text = layout_of_table(alloc, &table, width)?;
-    Ok(Text::from_string(alloc, text)?)
+    Ok(layout_of_table(rt, alloc, &table, width)?)
 }
 
 fn write_table(
@@ -102,7 +106,7 @@ fn write_table(
     match form {
         TextForm::Csv => write_csv(rt, alloc, separator, table),
         TextForm::Json => write_json(alloc, table),
-        TextForm::Layout(width) => write_lines(alloc, width, table),
+        TextForm::Layout(width) => write_lines(rt, alloc, width, table),
     }
 }
 
