@@ -14,20 +14,19 @@ use Rattle.tb_csv.specs.Fields.{fields_in, part_fields}
 use Rattle.tb_csv.specs.Promise.Faults.{column_fault}
 use Rattle.tb_csv.specs.Promise.Records.{Field}
 use Rattle.tb_csv.specs.Promise.Types.{cell_of, is_of}
-use Rattle.tb_csv.specs.Numbers.{number_fields}
-use Rattle.tb_csv.specs.Read.{HasFields, field_in, rows_in, run_column, text_fields}
+use Rattle.tb_csv.specs.Read.{HasFields, field_in, held_fields, rows_in, run_column, text_fields}
 use Rattle.tb_csv.specs.declared.fault.CsvFault.{CsvFault}
 use Rattle.tb_csv.specs.declared.fault.CsvFault.TheVariants.{OutOfMemory}
+use Rattle.tb_csv.specs.declared.field_column.FieldColumn.{FieldColumn}
 use Rattle.tb_csv.specs.declared.field_type.FieldType.{FieldType}
 use Rattle.tb_csv.specs.declared.lent.Fields.{Fields}
-use Rattle.tb_csv.specs.declared.numbers.Numbers.{Numbers}
 use Rattle.tb_csv.specs.declared.run.Run.{Run}
 use Rattle.tb_csv.specs.declared.run.RunFields.{RunFields}
 use Rattle.tb_csv.specs.declared.run.RunFields.TheVariants as held
 use Rattle.tb_csv.specs.declared.run.TextFields.{TextFields}
 use Rattle.tb_csv.specs.declared.lent.RunColumn.{RunColumn}
 use Rattle.tb_csv.proofs.FieldWalks.{fault_over, fault_stays}
-use Rattle.tb_csv.proofs.NumberWalks.{full_column}
+use Rattle.tb_csv.proofs.HeldColumns.{full_column, full_count}
 use Rattle.tb_csv.proofs.RunWalks.{column_height}
 
 and-false : (b : Bool) → (b && false) ≡ false
@@ -48,16 +47,19 @@ pub text_at : (p : RunColumn) (t : TextFields) (i : ℕ) → p.run.now.fields �
     → get_or (text_fields t) (i * p.width + p.column) None ≡ get_or (part_fields p) i None
 text_at p t i is low = sym (part_at p i low ∙ ap (λ (fs : RunFields). field_in p.width p.column fs i) is)
 
--- where numbers stand column by column
-module _ (p : RunColumn) (ns : Vec Numbers Global) (i : ℕ) (is : p.run.now.fields ≡ held.Numbers ns) (low : i < p.run.now.height) where
-  pub number_at : get_or (get_or (map number_fields ns.items) p.column []) i None ≡ get_or (part_fields p) i None
-  number_at = sym (part_at p i low ∙ ap (λ (fs : RunFields). field_in p.width p.column fs i) is)
+-- where they stand column by column
+module _ (p : RunColumn) (cs : Vec FieldColumn Global) (i : ℕ) (is : p.run.now.fields ≡ held.Columns cs) (low : i < p.run.now.height) where
+  pub held_at : get_or (get_or (map held_fields cs.items) p.column []) i None ≡ get_or (part_fields p) i None
+  held_at = sym (part_at p i low ∙ ap (λ (fs : RunFields). field_in p.width p.column fs i) is)
 
-  full : HasFields p.width p.run.now.height (held.Numbers ns)
+  full : HasFields p.width p.run.now.height (held.Columns cs)
   full = subst (HasFields p.width p.run.now.height) is p.full
 
-  pub number_row : i < length (get_or (map number_fields ns.items) p.column [])
-  number_row = omega (arith, low, full_column p.width p.run.now.height ns full p.column p.within)
+  pub held_column : p.column < length cs.items
+  held_column = omega (arith, p.within, full_count p.width p.run.now.height cs full)
+
+  pub held_row : i < length (get_or (map held_fields cs.items) p.column [])
+  held_row = omega (arith, low, full_column p.width p.run.now.height cs full p.column p.within)
 
 -- THE RUNS
 

@@ -1,6 +1,6 @@
 -- A text that is cut before a line feed outside quotes.
 use Rattle.std.proofs.Common.{◌≡◌, ◌≢◌, ◌==◌, ◌≤◌, ◌+◌, ◌-◌, ◌++◌, ◌∷◌, ◌∙◌, [], ℕ, zero, suc, List, Bool, true, false, Option, Some, None, cond, drop, length, refl, sym, ap, arith}
-use Rattle.std.specs.Prelude.{◌||◌, ◌&&◌, if◌then◌else◌}
+use Rattle.std.specs.Prelude.{◌||◌, ◌&&◌}
 use Rattle.std.proofs.lemmas.Bool.{eqb-true}
 use Rattle.std.proofs.lemmas.List.{length-append}
 use Rattle.csv.specs.Machine.{Read, ends_at_end, field_after, fields_after, in_field, is_end, line_feed, next_record, step}
@@ -10,6 +10,7 @@ use Rattle.csv.specs.declared.parser.Action.TheVariants as act
 use Rattle.csv.specs.declared.parser.Config.{Config}
 use Rattle.csv.specs.declared.parser.State.{State}
 use Rattle.csv.specs.declared.parser.State.TheVariants as st
+use Rattle.tb_csv.specs.LinesIn.{lines_in}
 use Rattle.tb_csv.specs.Read.{all_fields}
 use Rattle.tb_csv.specs.Promise.LineNumbers.{has_open_quote, is_open, state_behind}
 use Rattle.tb_csv.specs.Promise.Records.{Line, Record, ends_field, field, form, is_quoted, lines_of, marked_fields, marked_records, marks_from, marks_of, records_of}
@@ -63,14 +64,6 @@ step_keeps separator st.AfterCr c h = chosen_keeps false (c == 10) (st.StartReco
 
 -- LINES WITHOUT A COUNT OF TURNS
 
--- the lines that end from a state on, with the fields and the bytes of the field at hand
-unfoldable lines_in : Config → State → Line → List ℕ → List ℕ → List Line
-lines_in cfg s fields field [] = if ends_at_end s then (fields ++ field ∷ []) ∷ [] else []
-lines_in cfg s fields field (c ∷ rest) =
-    if is_end (step cfg s c).1
-    then fields_after (step cfg s c).1 fields field ∷ lines_in cfg (step cfg s c).0 [] [] rest
-    else lines_in cfg (step cfg s c).0 (fields_after (step cfg s c).1 fields field) (field_after (step cfg s c).1 c field) rest
-
 -- the next line, and those behind it
 abbrev from_next : Config → Option Read → List Line
 from_next cfg None = []
@@ -108,7 +101,7 @@ all_turns separator (suc n) s xs low h =
     turns_next (form separator) n (length xs - 1) (marks_from (form separator) s xs) (next_record (form separator) s [] [] xs) (omega (arith, low)) (λ t ys small outside. all_turns separator n t ys small outside) (fits separator s [] [] xs)
     ∙ sym (next_in (form separator) s [] [] xs)
 
-lines_are : (separator : ℕ) (text : List ℕ) → lines_of separator text ≡ lines_in (form separator) st.StartRecord [] [] (strip_bom text)
+pub lines_are : (separator : ℕ) (text : List ℕ) → lines_of separator text ≡ lines_in (form separator) st.StartRecord [] [] (strip_bom text)
 unfolding lines_of
 lines_are separator text = all_turns separator (length text + 1) st.StartRecord (strip_bom text) (omega (arith, stripped_length text)) refl
 

@@ -1,5 +1,5 @@
 -- A text that was read in pieces.
-use Rattle.std.proofs.Common.{◌≡◌, ◌≢◌, ◌==◌, ◌≤◌, ◌+◌, ◌*◌, ◌++◌, ◌∷◌, ◌∙◌, [], ℕ, List, Bool, true, false, None, length, map, refl, sym, ap, arith, subst}
+use Rattle.std.proofs.Common.{◌≡◌, ◌≢◌, ◌==◌, ◌<◌, ◌≤◌, ◌+◌, ◌*◌, ◌++◌, ◌∷◌, ◌∙◌, [], ℕ, List, Bool, true, false, None, length, map, refl, sym, ap, arith, subst}
 use Rattle.std.specs.Prelude.{not, nat_lt}
 use Rattle.std.specs.List.{All, AllZip, flat_map}
 use Rattle.std.proofs.lemmas.Bool.{le-ltb}
@@ -12,10 +12,10 @@ use Rattle.csv.specs.Records.{fields_of}
 use Rattle.tb_value.specs.Promise.Refusals.{first_cause, when}
 use Rattle.tb_value.specs.declared.limits.TheConstants.{MAX_ROWS}
 use Rattle.tb_csv.specs.Places.{IsFromLineEnd, MarkAlike}
-use Rattle.tb_csv.specs.Read.{AreRunRows, AreSameFields, IsFull, IsLevel, IsRead, IsRunOf, all_fields, rows_in, text_fields}
+use Rattle.tb_csv.specs.Read.{AreRunRows, AreSameFields, HasFields, IsFull, IsLevel, IsRead, IsRunOf, all_fields, column_in, fields_down, rows_in, text_fields}
 use Rattle.tb_csv.specs.Promise.Faults.{records_fault, repeated_name, row_fault, rows_fault, text_fault}
 use Rattle.tb_csv.specs.Promise.LineNumbers.{has_open_quote, state_behind}
-use Rattle.tb_csv.specs.Promise.Records.{Line, Record, is_text, line_of, lines_of, marked_fields, marked_records, marks_of, records_of}
+use Rattle.tb_csv.specs.Promise.Records.{Field, Line, Record, is_text, line_of, lines_of, marked_fields, marked_records, marks_of, records_of}
 use Rattle.tb_csv.specs.declared.fault.CsvFault.{CsvFault}
 use Rattle.tb_csv.specs.declared.fault.CsvFault.TheVariants.{FieldCount, NotUtf8, OpenQuote, TooManyRows}
 use Rattle.tb_csv.specs.declared.records.Records.{Records}
@@ -31,6 +31,29 @@ use Rattle.tb_csv.proofs.RecordWalks.{column_of, full_rows, level_rows}
 
 -- ONE PIECE
 
+-- the fields of the rows of a piece, one behind another
+module _ (separator width : ℕ) (piece : List ℕ) (flat : List Field) (height : ℕ) (sound : rows_fault width 1 (lines_of separator piece) ≡ None)
+    (tall : height ≡ length (lines_of separator piece)) (all : flat ≡ all_fields (records_of separator piece)) where
+  pub run_is : (same : RunFields) → has_open_quote separator piece ≡ false → ((j : ℕ) → j < width → column_in width height j same ≡ fields_down width height j flat)
+      → HasFields width height same → IsRunOf separator width piece record { fields = same; height = height }
+  unfolding records_of
+  run_is same shut down full =
+      let ls = lines_of separator piece in
+      let qs = marks_of separator piece in
+      let rows = marked_records qs ls in
+      let level = marked_level width qs ls (level_rows width 1 ls sound) in
+      let high = tall ∙ sym (marked_height qs ls) in
+      record {
+        shut = shut;
+        sound = sound;
+        rows = record {
+          columns = λ j low. down j low ∙ column_of flat rows height width width j height all high level refl low refl;
+          height = high;
+          level = level;
+        };
+        full = full;
+      }
+
 -- the rows that were read of a piece, and its marks
 module _ (separator width : ℕ) (piece : List ℕ) (t : TextFields) (height : ℕ) (sound : rows_fault width 1 (lines_of separator piece) ≡ None)
     (tall : height ≡ length (lines_of separator piece)) (fields : fields_of t.fields ≡ all_fields (lines_of separator piece)) where
@@ -45,20 +68,8 @@ module _ (separator width : ℕ) (piece : List ℕ) (t : TextFields) (height : �
   run_read same shut alike are =
       let ls = lines_of separator piece in
       let qs = marks_of separator piece in
-      let rows = marked_records qs ls in
-      let level = marked_level width qs ls (level_rows width 1 ls sound) in
-      let high = tall ∙ sym (marked_height qs ls) in
-      let all : text_fields t ≡ all_fields rows = alike 0 (fields_of t.fields) ∙ ap (marked_fields qs) fields ∙ marked_all qs ls in
-      record {
-        shut = shut;
-        sound = sound;
-        rows = record {
-          columns = λ j low. are.columns j low ∙ column_of (text_fields t) rows height width width j height all high level refl low refl;
-          height = high;
-          level = level;
-        };
-        full = are.full;
-      }
+      let all : text_fields t ≡ all_fields (marked_records qs ls) = alike 0 (fields_of t.fields) ∙ ap (marked_fields qs) fields ∙ marked_all qs ls in
+      run_is separator width piece (text_fields t) height sound tall all same shut are.columns are.full
 
 -- FAULTS OF ROWS
 

@@ -11,10 +11,12 @@ pub mod RecordWalks
 pub mod ReadRecords
 pub mod MarksFit
 pub mod CutText
+pub mod PlainBytes
+pub mod PlainWalks
+pub mod PlainLanes
 pub mod InPieces
 pub mod RunWalks
 pub mod TextWalks
-pub mod RowPieces
 pub mod ColumnWalks
 pub mod NumberTexts
 pub mod PieceWalks
@@ -24,6 +26,9 @@ pub mod ClosedQuotes
 pub mod RecordsBack
 pub mod CellsBack
 pub mod Spelled
+pub mod DigitWalks
 pub mod NumberWalks
+pub mod HeldColumns
+pub mod BareRows
 pub mod TableBack
 pub mod StackedRows

@@ -92,7 +92,7 @@ first_some : (a b : Option CsvFault) (e : CsvFault) → a ≡ Some e → first_c
 first_some None b e h = cc h
 first_some (Some x) b e h = h
 
-first_skip : (a b : Option CsvFault) → a ≡ None → first_cause (a ∷ b ∷ []) ≡ b
+pub first_skip : (a b : Option CsvFault) → a ≡ None → first_cause (a ∷ b ∷ []) ≡ b
 first_skip None None h = refl
 first_skip None (Some e) h = refl
 first_skip (Some x) b h = cc h

@@ -89,7 +89,7 @@ none_behind : (b : Bool) (x y z : ℕ) (rest : List ℕ) → list_any (λ y. y =
 none_behind true x y z rest h = (or_parts (z == 34) _ (or_parts (y == 34) _ (or_parts (x == 34) _ h).1).1).1
 none_behind false x y z rest h = h
 
-none_stripped : (xs : List ℕ) → list_any (λ y. y == 34) xs ≡ false → list_any (λ y. y == 34) (strip_bom xs) ≡ false
+pub none_stripped : (xs : List ℕ) → list_any (λ y. y == 34) xs ≡ false → list_any (λ y. y == 34) (strip_bom xs) ≡ false
 unfolding strip_bom
 none_stripped [] h = h
 none_stripped (x ∷ []) h = h

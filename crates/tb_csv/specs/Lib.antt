@@ -7,6 +7,9 @@ pub mod Numbers
 pub mod Read
 pub mod Fields
 pub mod Places
+pub mod LinesIn
+pub mod Spans
+pub mod Plain
 pub mod Laws
 pub mod Stacked
 pub mod Promise

@@ -1,10 +1,11 @@
 -- What was read of a text.
-use Rattle.std.specs.Prelude.{◌≡◌, ◌≤◌, ◌<◌, ◌+◌, ◌*◌, ℕ, List, [], ◌∷◌, false, length, map, replicate, slice_index_or, sum_by, Option, None, option_map}
+use Rattle.std.specs.Prelude.{◌≡◌, ◌≤◌, ◌<◌, ◌+◌, ◌*◌, ℕ, Bool, List, [], ◌∷◌, false, length, map, replicate, slice_index_or, sum_by, Option, None, option_map}
 use Rattle.std.specs.Borrow.{Bor}
 use Rattle.std.specs.List.{All, AllZip, flat_map}
 use Rattle.csv.specs.Records.{fields_of}
 use Rattle.tb_value.specs.declared.limits.TheConstants.{MAX_ROWS}
 use Rattle.std.specs.Result.{IfOk}
+use Rattle.std.specs.Str.{is_utf8}
 use Rattle.std.specs.declared.result.Result.{Result}
 use Rattle.tb_value.specs.Promise.Names.{Name}
 use Rattle.tb_value.specs.Promise.Pairs.{row_numbers}
@@ -16,11 +17,13 @@ use Rattle.tb_csv.specs.Promise.LineNumbers.{has_open_quote}
 use Rattle.tb_csv.specs.Promise.Tables.{csv_column}
 use Rattle.tb_csv.specs.declared.fault.CsvFault.{CsvFault}
 use Rattle.tb_csv.specs.declared.options.TypeOf.{TypeOf}
-use Rattle.tb_csv.specs.Promise.Records.{Field, Line, Record, column_fields, line_of, lines_of, marked_fields, records_of}
+use Rattle.tb_csv.specs.Promise.Records.{Field, Line, Record, bytes_of, column_fields, field, line_of, lines_of, marked_fields, records_of}
 use Rattle.tb_csv.specs.declared.lines.Lines.{Lines}
 use Rattle.tb_csv.specs.declared.records.Records.{Records}
 use Rattle.tb_csv.specs.Numbers.{number_fields}
 use Rattle.tb_csv.specs.declared.run.Run.{Run}
+use Rattle.tb_csv.specs.declared.field_column.FieldColumn.{FieldColumn}
+use Rattle.tb_csv.specs.declared.field_column.FieldColumn.TheVariants as stored
 use Rattle.tb_csv.specs.declared.run.RunFields.{RunFields}
 use Rattle.tb_csv.specs.declared.run.RunFields.TheVariants as held
 use Rattle.tb_csv.specs.declared.run.TextFields.{TextFields}
@@ -40,12 +43,30 @@ AreLines r (names ∷ lines) =
 abbrev pub text_fields : TextFields → List Field
 text_fields t = marked_fields t.marks.items (fields_of t.fields)
 
+-- fields that stand in no quotes
+abbrev pub bare_fields : Line → List Field
+bare_fields line = map (field false) line
+
+-- the fields of a column of rows
+abbrev pub held_fields : FieldColumn → List Field
+held_fields (stored.Numbers n) = number_fields n
+held_fields (stored.Texts r) = bare_fields (fields_of r)
+
+-- the fields of a column of so many rows, of fields that stand row by row, so many a row
+abbrev pub fields_down : ℕ → ℕ → ℕ → List Field → List Field
+fields_down width height column fields =
+    map (λ row. slice_index_or fields (row * width + column) None) (row_numbers height)
+
+-- the bytes of the field are UTF-8
+abbrev pub is_text_field : Field → Bool
+is_text_field f = is_utf8 (bytes_of f)
+
 -- the field of this column in a row of so many fields
 abbrev pub field_in : ℕ → ℕ → RunFields → ℕ → Field
 field_in width column (held.Texts t) row =
     slice_index_or (text_fields t) (row * width + column) None
-field_in width column (held.Numbers ns) row =
-    slice_index_or (slice_index_or (map number_fields ns.items) column []) row None
+field_in width column (held.Columns cs) row =
+    slice_index_or (slice_index_or (map held_fields cs.items) column []) row None
 
 -- the field of this column in each of so many rows
 abbrev pub column_in : ℕ → ℕ → ℕ → RunFields → List Field
@@ -77,12 +98,12 @@ IsRead r (names ∷ rows) = (r.names.items ≡ line_of names) × AreRows r rows
 -- how many fields stand in one list: all of them, or those of a column
 abbrev pub counts : RunFields → List ℕ
 counts (held.Texts t) = length (fields_of t.fields) ∷ []
-counts (held.Numbers ns) = map (λ n. length (number_fields n)) ns.items
+counts (held.Columns cs) = map (λ c. length (held_fields c)) cs.items
 
 -- and how many so many rows of so many fields make
 abbrev pub full_counts : ℕ → ℕ → RunFields → List ℕ
 full_counts width height (held.Texts t) = height * width ∷ []
-full_counts width height (held.Numbers ns) = replicate width height
+full_counts width height (held.Columns cs) = replicate width height
 
 -- as many fields as so many rows make
 abbrev pub HasFields : ℕ → ℕ → RunFields → Type 0

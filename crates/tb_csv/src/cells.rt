@@ -1,5 +1,5 @@
 //! The fields of a column, read into typed chunks.
-ghost use Rattle.std.specs.Prelude.{◌≡◌, ◌<◌, ◌≤◌, ◌+◌, ◌++◌, ◌∷◌, [], None, map, option_map, slice_index_or, IfOk, IfSome, OnOk};
+ghost use Rattle.std.specs.Prelude.{◌≡◌, ◌<◌, ◌≤◌, ◌+◌, ◌++◌, ◌∷◌, [], None, length, map, option_map, slice_index_or, IfOk, IfSome, OnOk};
 ghost use Rattle.std.specs.List.{All, list_all};
 ghost use Rattle.tb_value.specs.Promise.Datum.{int, string};
 ghost use Rattle.tb_value.specs.Promise.Kind.{Kind};
@@ -13,14 +13,14 @@ ghost use Rattle.tb_csv.specs.Faults.{Settles};
 ghost use Rattle.tb_chunk.specs.Col.{physical};
 ghost use Rattle.tb_csv.specs.Fields.{fields_in, part_fields};
 ghost use Rattle.tb_csv.specs.Numbers.{number_field};
-ghost use Rattle.tb_csv.specs.Read.{lent_field};
+ghost use Rattle.tb_csv.specs.Read.{held_fields, lent_field};
 ghost use Rattle.tb_csv.specs.Promise.Types.{cell_of, cell_value, is_of, kind_at};
 
 use crate::fault::CsvFault;
+use crate::field_column::{FieldColumn, bare_field, column_at};
 use crate::field_type::FieldType;
 use crate::fields::ReadField;
 use crate::lent::{Fields, RunColumn};
-use crate::numbers::number_at;
 use crate::run::RunFields;
 use itoa::Buffer;
 use std::alloc::Global;
@@ -66,6 +66,24 @@ fn number_cell<N: ReadField>(field_type: FieldType, number: Option<i64>) -> Opti
     }
 }
 
+// The same of the field of a row of a column.
+fn column_cell<N: ReadField>(
+    field_type: FieldType,
+    column: &FieldColumn,
+    row: usize,
+) -> Option<Option<N>>
+    requires stored { physical (kind_at field_type) ≡ N.stored }
+    requires row { row < length (held_fields column.now) }
+    ensures value { option_map (or_null N.shows) result
+        ≡ cell_value field_type (slice_index_or (held_fields column.now) row None) }
+    ensures typed { IfSome result (λ c. HasType (kind_at field_type) (or_null N.shows c)) }
+{
+    match column {
+        FieldColumn::Numbers(numbers) => number_cell(field_type, numbers.get(row)),
+        FieldColumn::Texts(texts) => cell_in(field_type, bare_field(texts, row)),
+    }
+}
+
 // The same of the field of a row of a run.
 fn cell_at<N: ReadField>(field_type: FieldType, part: RunColumn, row: usize) -> Option<Option<N>>
     requires stored { physical (kind_at field_type) ≡ N.stored }
@@ -76,9 +94,10 @@ fn cell_at<N: ReadField>(field_type: FieldType, part: RunColumn, row: usize) -> 
 {
     match &part.run.fields {
         RunFields::Texts(texts) => cell_in(field_type, texts.get(part.width, part.column, row)),
-        RunFields::Numbers(columns) => number_cell(
+        RunFields::Columns(columns) => column_cell(
             field_type,
-            number_at(columns, part.column, row),
+            column_at(columns, part.column),
+            row,
         ),
     }
 }
@@ -102,14 +121,25 @@ fn number_text(digits: &mut Buffer, number: Option<i64>) -> Option<&str>
     }
 }
 
-// The field of a row of a run, which may stand in the room that is given.
+// The field of a row of a column, which may stand in the room that is given.
+fn column_text<'a>(digits: &'a mut Buffer, column: &'a FieldColumn, row: usize) -> Option<&'a str>
+    requires { row < length (held_fields column.now) }
+    ensures { lent_field result ≡ slice_index_or (held_fields column.now) row None }
+{
+    match column {
+        FieldColumn::Numbers(numbers) => number_text(digits, numbers.get(row)),
+        FieldColumn::Texts(texts) => bare_field(texts, row),
+    }
+}
+
+// The same of a run.
 fn text_at<'a>(digits: &'a mut Buffer, part: RunColumn<'a>, row: usize) -> Option<&'a str>
     requires { row < part.run.now.height }
     ensures { lent_field result ≡ slice_index_or (part_fields part.entry) row None }
 {
     match &part.run.fields {
         RunFields::Texts(texts) => texts.get(part.width, part.column, row),
-        RunFields::Numbers(columns) => number_text(digits, number_at(columns, part.column, row)),
+        RunFields::Columns(columns) => column_text(digits, column_at(columns, part.column), row),
     }
 }
 
@@ -119,7 +149,7 @@ fn are_cells<N: ReadField>(field_type: FieldType, part: RunColumn) -> bool
     ensures { result ≡ list_all (is_of field_type) (part_fields part.entry) }
 {
     for row in 0..part.run.height {
-        if !cell_at::<N>(field_type, part, row).is_some() {
+        if cell_at::<N>(field_type, part, row).is_none() {
             return false;
         }
     }

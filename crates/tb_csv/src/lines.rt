@@ -27,8 +27,8 @@ pub(crate) struct Lines {
     pub(crate) height: usize,
 }
 
-// The bytes as a text, if they are UTF-8.
-fn utf8_text(field: &[u8]) -> Option<&str>
+/// The bytes as a text, if they are UTF-8.
+pub(crate) fn utf8_text(field: &[u8]) -> Option<&str>
     ensures text { IfSome result (λ s. (s.now ≡ field.now) × (is_utf8 field.now ≡ true)) }
     ensures none { IfNone result (is_utf8 field.now ≡ false) }
 {

@@ -146,7 +146,7 @@ fn marks_from_start(alloc: Global, text: &[u8], separator: u8) -> Result<Marks, 
     Ok(Marks { marks, is_open })
 }
 
-fn has_quote(text: &[u8]) -> bool
+pub(crate) fn has_quote(text: &[u8]) -> bool
     ensures { result ≡ has_quote text.now }
 {
     memchr(b'"', text).is_some()

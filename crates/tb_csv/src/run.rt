@@ -1,17 +1,23 @@
 //! The rows of a piece of a text.
-ghost use Rattle.std.specs.Prelude.{◌≡◌, ◌<◌, ◌+◌, ◌*◌, None, length, slice_index_or, false, IfOk};
+ghost use Rattle.std.specs.Prelude.{◌≡◌, ◌<◌, ◌+◌, ◌*◌, None, length, slice_index_or, false, IfOk, IfSome};
 ghost use Rattle.csv.specs.Records.{fields_of};
-ghost use Rattle.tb_csv.specs.Read.{IsRunOf, lent_field, text_fields};
+ghost use Rattle.tb_csv.specs.Read.{AreSameFields, IsRunOf, lent_field, text_fields};
 ghost use Rattle.tb_csv.specs.Promise.Records.{field};
+ghost use Rattle.tb_csv.specs.declared.run.RunFields.TheVariants as held;
 
 use crate::fault::CsvFault;
+use crate::field_column::FieldColumn;
+use crate::field_columns::field_columns;
 use crate::lines::{read_rows, room_for_fields};
-use crate::marks::marks_of;
-use crate::number_columns::in_numbers;
-use crate::numbers::Numbers;
+use crate::marks::{behind_mark, has_quote, marks_of};
+use crate::plain::plain_rows;
 use crate::reading::open_reader;
 use csv::{ByteRecord, StringRecord};
 use std::alloc::Global;
+use tb_value::OutOfMemory;
+
+// Columns of fewer rows take more room than fields that stand row by row.
+const ROWS_OF_A_COLUMN: usize = 64;
 
 /// Fields that stand row by row.
 #[derive(Drop)]
@@ -25,10 +31,10 @@ pub(crate) struct TextFields {
 /// The fields of rows.
 #[derive(Drop)]
 pub(crate) enum RunFields {
-    /// Any fields.
+    /// Row by row.
     Texts(TextFields),
-    /// Whole numbers, column by column.
-    Numbers(Vec<Numbers>),
+    /// Column by column.
+    Columns(Vec<FieldColumn>),
 }
 
 /// Rows that stand one behind another in a text.
@@ -39,13 +45,27 @@ pub(crate) struct Run {
     pub(crate) height: usize,
 }
 
-/// The rows of a piece of a text, which has no names, or a fault of it.
-pub(crate) fn run_of(
+// The fields of rows, column by column where they are many and can stand so.
+fn in_columns(
     alloc: Global,
-    piece: &[u8],
-    separator: u8,
+    texts: TextFields,
     width: usize,
-) -> Result<Run, CsvFault>
+    height: usize,
+) -> Result<RunFields, OutOfMemory>
+    requires full { length (fields_of texts.fields) ≡ height * width }
+    ensures { IfOk result (AreSameFields width height (held.Texts texts)) }
+{
+    if height < ROWS_OF_A_COLUMN {
+        return Ok(RunFields::Texts(texts));
+    }
+    match field_columns(alloc, &texts, width, height)? {
+        Some(columns) => Ok(RunFields::Columns(columns)),
+        None => Ok(RunFields::Texts(texts)),
+    }
+}
+
+// The rows of a piece of a text, which has no names, or a fault of it.
+fn marked_run(alloc: Global, piece: &[u8], separator: u8, width: usize) -> Result<Run, CsvFault>
     ensures { IfOk result (λ r. IsRunOf separator width piece.now r) }
 {
     let marks = marks_of(alloc, piece, separator)?;
@@ -57,12 +77,53 @@ pub(crate) fn run_of(
     let mut fields = room_for_fields(alloc, piece, separator)?;
     let height = read_rows(&mut reader, &mut row, &mut fields, width, piece.len() + 1)?;
     let marks = marks.marks;
-    let fields = in_numbers(alloc, TextFields { fields, marks }, width, height)?;
+    let fields = in_columns(alloc, TextFields { fields, marks }, width, height)?;
     Ok(Run { fields, height })
 }
 
-// A field without a byte is absent, unless it stands in quotes.
-fn field(in_quotes: bool, text: &str) -> Option<&str>
+// The same of a piece without a quote, whose rows are many. None where it is another, or some field isn't UTF-8, or a row has more
+// fields or fewer.
+fn bare_run(
+    alloc: Global,
+    piece: &[u8],
+    separator: u8,
+    width: usize,
+) -> Result<Option<Run>, OutOfMemory>
+    ensures { IfOk result (λ o. IfSome o (λ r. IsRunOf separator width piece.now r)) }
+{
+    if piece.len() / ROWS_OF_A_COLUMN < width || has_quote(piece) {
+        return Ok(None);
+    }
+    let Some(rows) = plain_rows(alloc, behind_mark(piece), separator, width)? else {
+        return Ok(None);
+    };
+    let height = rows.height;
+    match field_columns(alloc, &rows, width, height)? {
+        Some(columns) => Ok(Some(Run {
+            fields: RunFields::Columns(columns),
+            height,
+        })),
+        None => Ok(None),
+    }
+}
+
+/// The rows of a piece of a text, which has no names, or a fault of it.
+pub(crate) fn run_of(
+    alloc: Global,
+    piece: &[u8],
+    separator: u8,
+    width: usize,
+) -> Result<Run, CsvFault>
+    ensures { IfOk result (λ r. IsRunOf separator width piece.now r) }
+{
+    match bare_run(alloc, piece, separator, width)? {
+        Some(run) => Ok(run),
+        None => marked_run(alloc, piece, separator, width),
+    }
+}
+
+/// A field without a byte is absent, unless it stands in quotes.
+pub(crate) fn field(in_quotes: bool, text: &str) -> Option<&str>
     ensures { lent_field result ≡ field in_quotes text.now }
 {
     if text.is_empty() && !in_quotes {

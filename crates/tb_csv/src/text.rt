@@ -7,7 +7,8 @@ ghost use Rattle.tb_chunk.specs.Promise.Col.{Col, values};
 ghost use Rattle.tb_frame.specs.Promise.Table.{height, names_of, table_of};
 ghost use Rattle.tb_csv.specs.Faults.{Settles};
 ghost use Rattle.tb_csv.specs.Promise.Texts.{csv_text, field_among, field_text, field_type, record_text, row_fields, style, text_refusal};
-ghost use Rattle.tb_csv.specs.Texts.{gap, rows_text};
+ghost use Rattle.tb_pieces.specs.Rows.{rows_bytes};
+ghost use Rattle.tb_csv.specs.Texts.{gap, row_text};
 
 use crate::fault::CsvFault;
 use crate::field_text::push_field;
@@ -129,7 +130,7 @@ pub(crate) fn rows_text(
 ) -> Result<Vec<u8>, OutOfMemory>
     requires { All (λ (c : Col). end ≤ length (values c)) columns.now }
     ensures { IfOk result (λ v.
-        v.items ≡ rows_text separator (table_of columns.now) start (end - start)) }
+        v.items ≡ rows_bytes (row_text separator (table_of columns.now)) start (end - start)) }
 {
     let lent = piece_columns(alloc, columns, start)?;
     let mut text = Vec::with_capacity(alloc, room_for(end.saturating_sub(start), columns.len()))?;

@@ -8,17 +8,17 @@ use Rattle.tb_csv.proofs.ColumnWalks.{part_height}
 use Rattle.tb_csv.proofs.FieldWalks.{all_fails, all_more, read_is}
 use Rattle.tb_csv.proofs.cells.are_cells.Goals as goal
 
-pub returns-then-not-is_some : goal.returns-then-not-is_some
-returns-then-not-is_some g c =
+pub returns-then-is_none : goal.returns-then-is_none
+returns-then-is_none g c =
     let fs = part_fields c.args.part in
     let low : c.loop-row.row < length fs = omega (arith, part_height c.args.part, c.loop-row-test.true) in
-    sym (all_fails c.args.field_type fs c.loop-row.row (get_or fs c.loop-row.row None) low refl (read_is (or_null g.N.Cell.shows) c.args.field_type _ c.cell_at.result c.cell_at.ensures.value ∙ sym c.if-not-is_some.ensures))
+    sym (all_fails c.args.field_type fs c.loop-row.row (get_or fs c.loop-row.row None) low refl (read_is (or_null g.N.Cell.shows) c.args.field_type _ c.cell_at.result c.cell_at.ensures.value ∙ c.if-is_none.ensures))
 
 pub loop-row-preserved : goal.loop-row-preserved
 loop-row-preserved g c =
     let fs = part_fields c.args.part in
     let low : c.loop-row.row < length fs = omega (arith, part_height c.args.part, c.loop-row-test.true) in
-    all_more c.args.field_type fs c.loop-row.row (get_or fs c.loop-row.row None) low refl (read_is (or_null g.N.Cell.shows) c.args.field_type _ c.cell_at.result c.cell_at.ensures.value ∙ sym c.if-not-is_some.ensures) c.loop-row.invariant
+    all_more c.args.field_type fs c.loop-row.row (get_or fs c.loop-row.row None) low refl (read_is (or_null g.N.Cell.shows) c.args.field_type _ c.cell_at.result c.cell_at.ensures.value ∙ c.if-is_none.ensures) c.loop-row.invariant
 
 pub returns : goal.returns
 returns g c =

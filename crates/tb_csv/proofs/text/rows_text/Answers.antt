@@ -3,8 +3,9 @@ use Rattle.std.specs.List.{All}
 use Rattle.tb_chunk.specs.Promise.Col.{Col, values}
 use Rattle.tb_frame.specs.Promise.Table.{table_of}
 use Rattle.tb_csv.specs.Promise.Texts.{record_text, row_fields}
-use Rattle.tb_csv.specs.Texts.{rows_text}
-use Rattle.tb_csv.proofs.RowPieces.{rows_more}
+use Rattle.tb_pieces.specs.Rows.{rows_bytes}
+use Rattle.tb_csv.specs.Texts.{row_text}
+use Rattle.tb_pieces.proofs.RowPieces.{rows_more}
 use Rattle.tb_csv.proofs.text.rows_text.Goals as goal
 
 pub push_row-requires : goal.push_row-requires
@@ -17,7 +18,7 @@ pub loop-index-preserved : goal.loop-index-preserved
 loop-index-preserved c = record {
   from = omega (arith, c.loop-index.invariant.from);
   to = inl (omega (arith, c.loop-index-test.true));
-  text = rows_more c.args.separator (table_of c.args.columns.now) c.args.start c.loop-index.index _ _ c.loop-index.invariant.from
+  text = rows_more (row_text c.args.separator (table_of c.args.columns.now)) c.args.start c.loop-index.index _ _ c.loop-index.invariant.from
       (subst (λ (cs : List Col). c.push_row.new.text.items ≡ c.loop-index.text.items ++ record_text c.args.separator (row_fields (table_of cs) c.loop-index.index)) (c.deref.ensures.value ∙ c.in_ok-lent.ensures) c.in_ok-push_row.ensures)
       c.loop-index.invariant.text;
 }
@@ -30,4 +31,4 @@ returns c =
     (λ (le : c.loop-index.index ≤ c.args.end). omega (arith, le, past, from))
     (λ (e : c.loop-index.index ≡ c.args.start). omega (arith, e, past, from))
     c.loop-index.invariant.to in
-    c.loop-index.invariant.text ∙ ap (rows_text c.args.separator (table_of c.args.columns.now) c.args.start) all
+    c.loop-index.invariant.text ∙ ap (rows_bytes (row_text c.args.separator (table_of c.args.columns.now)) c.args.start) all
