@@ -1,8 +1,10 @@
+pub mod Days
 pub mod Laid
 pub mod Noted
+pub mod Numbers
+pub mod PieceWalks
 pub mod Plain
 pub mod Room
-pub mod RowPieces
 pub mod Sides
 pub mod Trimmed
 pub mod WidthPieces

@@ -1,5 +1,5 @@
 -- Texts without blanks at their end.
-use Rattle.std.proofs.Common.{◌≡◌, ◌≤◌, ◌<◌, ◌+◌, ◌-◌, ◌/◌, ◌∷◌, ◌++◌, ◌∙◌, [], ℕ, Bool, true, false, List, ap, sym, refl, arith, append-nil, append_assoc, cond, encode_utf8, encode_utf8_all, length, nat_lt, take, drop, reverse}
+use Rattle.std.proofs.Common.{◌≡◌, ◌≤◌, ◌<◌, ◌+◌, ◌-◌, ◌/◌, ◌∷◌, ◌++◌, ◌∙◌, [], ℕ, Bool, true, false, List, ap, sym, refl, arith, append-nil, append_assoc, cond, encode_utf8_all, length, nat_lt, take, drop, reverse}
 use Rattle.std.specs.List.{prefix_len, suffix_len}
 use Rattle.std.proofs.lemmas.Bool.Decides.{nat_tests}
 use Rattle.std.proofs.lemmas.List.{drop-append-le, drop-take, drop_all, length-append, length-drop, reverse-append, reverse-reverse, take-append-drop, take-append-le, take-take, take_all}
@@ -98,13 +98,12 @@ front_more start k xs =
 
 -- the blanks go from the end of a line, and a line feed comes
 pub blanks_gone : (old short new : List ℕ) (start blanks n : ℕ) → start ≤ length old → blanks ≡ suffix_len is_blank (drop start old) → blanks ≤ length (drop start old)
-    → n ≡ length old - blanks → short ≡ take n old → new ≡ short ++ encode_utf8 10 → new ≡ take start old ++ (trimmed_text (drop start old) ++ 10 ∷ [])
+    → n ≡ length old - blanks → short ≡ take n old → new ≡ short ++ 10 ∷ [] → new ≡ take start old ++ (trimmed_text (drop start old) ++ 10 ∷ [])
 blanks_gone old short new start blanks n low count few left cut_off push =
     let rest = drop start old in
     let k = length rest - blanks in
     let long = length-drop start old in
     let parts : n ≡ start + k = omega arith in
-    push ∙ ap (λ (s : List ℕ). s ++ encode_utf8 10) (cut_off ∙ ap (λ (m : ℕ). take m old) parts ∙ front_more start k old)
-    ∙ append_assoc (take start old) (take k rest) (encode_utf8 10)
-    ∙ ap (λ (m : ℕ). take start old ++ (take (length rest - m) rest ++ encode_utf8 10)) count
-    ∙ ap (λ (s : List ℕ). take start old ++ (trimmed_text rest ++ s)) (encode_ascii 10 (omega arith))
+    push ∙ ap (λ (s : List ℕ). s ++ 10 ∷ []) (cut_off ∙ ap (λ (m : ℕ). take m old) parts ∙ front_more start k old)
+    ∙ append_assoc (take start old) (take k rest) (10 ∷ [])
+    ∙ ap (λ (m : ℕ). take start old ++ (take (length rest - m) rest ++ 10 ∷ [])) count

@@ -10,7 +10,7 @@ use Rattle.tb_value.proofs.RowNumbers.{row_numbers_more}
 use Rattle.tb_layout.specs.Promise.Characters.{width_of}
 use Rattle.tb_layout.specs.Promise.Lines.{cell_of}
 use Rattle.tb_layout.specs.Widths.{widest_cell}
-use Rattle.tb_layout.specs.declared.pieces.TheConstants.{ROWS_OF_A_PIECE}
+use Rattle.tb_pieces.specs.declared.pieces.TheConstants.{ROWS_OF_A_PIECE}
 use Rattle.tb_layout.proofs.Trimmed.{front_more}
 
 abbrev wider : Kind → ℕ → Datum → ℕ

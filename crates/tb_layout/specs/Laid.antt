@@ -1,10 +1,9 @@
 -- Lines, one below the other.
-use Rattle.std.specs.Prelude.{ℕ, List, [], ◌∷◌, ◌++◌, ◌*◌, ◌-◌, encode_utf8_all, min}
-use Rattle.std.specs.List.{flat_map, range_with_len}
+use Rattle.std.specs.Prelude.{ℕ, List, [], ◌∷◌, ◌++◌, encode_utf8_all}
+use Rattle.std.specs.List.{flat_map}
 use Rattle.tb_frame.specs.Promise.Table.{Table}
 use Rattle.tb_layout.specs.Promise.Characters.{cut, trimmed_text}
 use Rattle.tb_layout.specs.Promise.Lines.{cell_in, dashes_in, name_in, side_by_side}
-use Rattle.tb_layout.specs.declared.pieces.TheConstants.{ROWS_OF_A_PIECE}
 
 -- lines, each ended by a line feed
 abbrev pub ended : List (List ℕ) → List ℕ
@@ -23,13 +22,3 @@ head_text line t =
 -- the line of a row, in bytes
 abbrev pub row_bytes : ℕ → Table → ℕ → List ℕ
 row_bytes line t i = encode_utf8_all (ended_line line (side_by_side (cell_in line i) t))
-
--- the bytes of so many rows from this one on, where each has its own
-abbrev pub rows_bytes : (ℕ → List ℕ) → ℕ → ℕ → List ℕ
-rows_bytes row first n = flat_map row (range_with_len first n)
-
--- the bytes of the rows of piece p of so many rows
-abbrev pub piece_bytes : (ℕ → List ℕ) → ℕ → ℕ → List ℕ
-piece_bytes row height p =
-    let first = p * ROWS_OF_A_PIECE in
-    rows_bytes row first (min ROWS_OF_A_PIECE (height - first))

@@ -6,7 +6,7 @@ use Rattle.tb_value.specs.Promise.Kind.{Kind}
 use Rattle.tb_frame.specs.Promise.Table.{TableColumn}
 use Rattle.tb_layout.specs.Promise.Characters.{width_of}
 use Rattle.tb_layout.specs.Promise.Lines.{cell_of}
-use Rattle.tb_layout.specs.declared.pieces.TheConstants.{ROWS_OF_A_PIECE}
+use Rattle.tb_pieces.specs.declared.pieces.TheConstants.{ROWS_OF_A_PIECE}
 
 -- the width of the widest cell of these values, or that of the line where it is less
 abbrev pub widest_cell : ℕ → Kind → List Datum → ℕ

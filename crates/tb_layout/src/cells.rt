@@ -1,21 +1,22 @@
 //! The cells of a table and the widths of its columns.
-ghost use Rattle.std.specs.Prelude.{◌≡◌, ◌++◌, IfOk, string_bytes, true};
+ghost use Rattle.std.specs.Prelude.{◌≡◌, ◌<◌, ◌≤◌, ◌^◌, ◌++◌, IfOk, IfSome, decimal, length, min, true};
 ghost use Rattle.std.specs.List.{list_all};
 ghost use Rattle.tb_value.specs.See.{lent_value, IsText};
-ghost use Rattle.tb_value.specs.SeeKind.{kind_of};
 ghost use Rattle.tb_date.specs.Promise.Dates.{number_text};
 ghost use Rattle.tb_frame.specs.Promise.Table.{plain_column};
-ghost use Rattle.tb_layout.specs.Promise.Characters.{shown_text};
-ghost use Rattle.tb_layout.specs.Promise.Lines.{blanks, cell_text, column_width, is_cut, is_number, padded_cell};
+ghost use Rattle.tb_layout.specs.Cells.{kind_by_day, padded_value};
+ghost use Rattle.tb_layout.specs.Promise.Characters.{shown_text, width_of};
+ghost use Rattle.tb_layout.specs.Promise.Lines.{blanks, cell_of, cell_text, column_width, is_cut, is_number, padded_cell};
 ghost use Rattle.tb_layout.specs.Room.{is_plain, with_cut};
+ghost use Rattle.tb_layout.specs.declared.cells.TheConstants.{END};
 
 use crate::characters::{are_plain, is_wide, push_blanks, push_plain, push_shown, width_within};
-use itoa::Buffer;
+use itoa::{Buffer, write_digits};
 use std::str;
 use tb_date::{date_text, dated, is_date};
 use tb_label::truth_text;
 use tb_store::Column;
-use tb_value::{DataType, OutOfMemory, ValueRef};
+use tb_value::{OutOfMemory, ValueRef};
 
 /// Room for the text of a number.
 #[derive(Drop)]
@@ -46,19 +47,16 @@ fn number_text(digits: &mut Digits, is_day: bool, number: i128) -> &str
     digits.number.format(number)
 }
 
-/// The text of a value of a column of this type, which may stand in the room that is given.
-pub(crate) fn cell_text<'a>(
-    digits: &'a mut Digits,
-    dtype: &DataType,
-    value: ValueRef<'a>,
-) -> &'a str
+/// The text of a value of a column, of days or not, which may stand in the room that is given.
+#[tactic(auto, using(crate::proofs::Days::day_of))]
+pub(crate) fn cell_text<'a>(digits: &'a mut Digits, is_day: bool, value: ValueRef<'a>) -> &'a str
     requires { IsText value }
-    ensures { result.now ≡ cell_text (kind_of dtype.now) (lent_value value.entry) }
+    ensures { result.now ≡ cell_text (kind_by_day is_day) (lent_value value.entry) }
 {
     match value {
         ValueRef::Null => "null",
         ValueRef::Boolean(truth) => truth_text(truth),
-        ValueRef::Int(number) => number_text(digits, is_date(dtype), number),
+        ValueRef::Int(number) => number_text(digits, is_day, number),
         ValueRef::String(bytes) => match str::from_utf8(bytes) {
             Ok(text) => text,
             Err(_) => unreachable!(),
@@ -74,18 +72,57 @@ pub(crate) fn is_number(value: ValueRef<'_>) -> bool
     matches!(value, ValueRef::Int(_))
 }
 
+// The number that the value is shown by, where it is one of digits alone.
+fn counting_number(is_day: bool, value: ValueRef<'_>) -> Option<u64>
+    ensures text { IfSome result (λ n.
+        cell_text (kind_by_day is_day) (lent_value value.entry) ≡ decimal n) }
+    ensures number { IfSome result (λ _. is_number (lent_value value.entry) ≡ true) }
+    ensures few { IfSome result (λ n. n < 2 ^ 64) }
+{
+    match value {
+        ValueRef::Int(number) if !is_day => u64::try_from(number).ok(),
+        _ => None,
+    }
+}
+
+// How many digits the number has.
+fn digit_count(number: u64) -> usize
+    ensures { result ≡ length (decimal number) }
+{
+    match number.checked_ilog10() {
+        Some(power) => power as usize + 1,
+        None => 1,
+    }
+}
+
+/// The columns that a value of a column, of days or not, takes, or `line` where it takes more.
+pub(crate) fn cell_width(
+    digits: &mut Digits,
+    is_day: bool,
+    value: ValueRef<'_>,
+    line: usize,
+) -> usize
+    requires { IsText value }
+    ensures { result ≡ min line (width_of (cell_of (kind_by_day is_day) (lent_value value.entry))) }
+{
+    match counting_number(is_day, value) {
+        Some(number) => line.min(digit_count(number)),
+        None => width_within(line, cell_text(digits, is_day, value)),
+    }
+}
+
 // Appends the cell and two blanks as `push_cell` does, where its characters take one column each.
 fn push_plain_cell(
-    text: &mut String,
+    text: &mut Vec<u8>,
     room: Option<usize>,
-    cell: &str,
+    cell: &[u8],
     at_right: bool,
     width: usize,
 ) -> Result<Option<usize>, OutOfMemory>
     requires { list_all is_plain cell.now ≡ true }
     ensures { IfOk result (λ after.
-        (string_bytes text.new, after)
-        ≡ with_cut (string_bytes text.old, room)
+        (text.new.items, after)
+        ≡ with_cut (text.old.items, room)
         (padded_cell at_right width (shown_text cell.now) ++ blanks 2)) }
 {
     let missing = width.saturating_sub(cell.len());
@@ -102,19 +139,20 @@ fn push_plain_cell(
 /// Appends the cell, at the right of so many columns or at the left, and two blanks, as far as the room of the line goes. Answers
 /// the room behind them.
 pub(crate) fn push_cell(
-    text: &mut String,
+    text: &mut Vec<u8>,
     room: Option<usize>,
     cell: &str,
     at_right: bool,
     width: usize,
 ) -> Result<Option<usize>, OutOfMemory>
     ensures { IfOk result (λ after.
-        (string_bytes text.new, after)
-        ≡ with_cut (string_bytes text.old, room)
+        (text.new.items, after)
+        ≡ with_cut (text.old.items, room)
         (padded_cell at_right width (shown_text cell.now) ++ blanks 2)) }
 {
-    if are_plain(cell.as_bytes()) {
-        return push_plain_cell(text, room, cell, at_right, width);
+    let bytes = cell.as_bytes();
+    if are_plain(bytes) {
+        return push_plain_cell(text, room, bytes, at_right, width);
     }
     let missing = width - width_within(width, cell);
     let room = if at_right {
@@ -127,7 +165,56 @@ pub(crate) fn push_cell(
     push_blanks(text, room, 2)
 }
 
+// The room for the digits of a number, with blanks before them and two behind.
+const ROOM: usize = 64;
+
+// Where the digits end in their room.
+const END: usize = ROOM - 2;
+
+// Appends the cell of a number that is shown by its digits, and two blanks, as `push_cell` does, but at once.
+fn push_number(
+    text: &mut Vec<u8>,
+    room: Option<usize>,
+    number: u64,
+    width: usize,
+) -> Result<Option<usize>, OutOfMemory>
+    requires { width ≤ END }
+    ensures { IfOk result (λ after.
+        (text.new.items, after)
+        ≡ with_cut (text.old.items, room) (padded_cell true width (decimal number) ++ blanks 2)) }
+{
+    let mut cell = [b' '; ROOM];
+    let start = write_digits(number, &mut cell, END);
+    push_plain(text, room, &cell[start.min(END - width)..])
+}
+
+/// Appends the cell of a value of a column, of days or not, which is so wide, and two blanks, as far as the room of the line goes.
+/// Answers the room behind them.
+pub(crate) fn push_value(
+    text: &mut Vec<u8>,
+    room: Option<usize>,
+    is_day: bool,
+    value: ValueRef<'_>,
+    width: usize,
+) -> Result<Option<usize>, OutOfMemory>
+    requires { IsText value }
+    ensures { IfOk result (λ after.
+        (text.new.items, after)
+        ≡ with_cut (text.old.items, room)
+        (padded_value (kind_by_day is_day) width (lent_value value.entry) ++ blanks 2)) }
+{
+    match counting_number(is_day, value) {
+        Some(number) if width <= END => push_number(text, room, number, width),
+        _ => {
+            let mut digits = Digits::new();
+            let cell = cell_text(&mut digits, is_day, value);
+            push_cell(text, room, cell, is_number(value), width)
+        }
+    }
+}
+
 /// Whether the name of the column, which is so wide, or a cell of it is wider than the line.
+#[tactic(auto, using(crate::proofs::Days::text_by_day))]
 pub(crate) fn is_cut(column: &Column, line: usize, width: usize) -> bool
     requires { width ≡ column_width line (plain_column column.now) }
     ensures { result ≡ is_cut line (plain_column column.now) }
@@ -138,9 +225,10 @@ pub(crate) fn is_cut(column: &Column, line: usize, width: usize) -> bool
     if is_wide(line, column.name().as_str()) {
         return true;
     }
+    let is_day = is_date(column.dtype());
     let mut digits = Digits::new();
     for row in 0..column.len() {
-        let cell = cell_text(&mut digits, column.dtype(), column.get(row));
+        let cell = cell_text(&mut digits, is_day, column.get(row));
         if is_wide(line, cell) {
             return true;
         }

@@ -94,28 +94,28 @@ pub(crate) fn is_wide(columns: usize, text: &str) -> bool
 
 // Appends the character if it fits into the room of its line, and answers the room behind it.
 fn push_within(
-    text: &mut String,
+    text: &mut Vec<u8>,
     room: Option<usize>,
     c: char,
 ) -> Result<Option<usize>, OutOfMemory>
     ensures { IfOk result (λ after.
-        (string_bytes text.new, after) ≡ within (string_bytes text.old) room c) }
+        (text.new.items, after) ≡ within text.old.items room c) }
 {
     let left = room_left(room, columns_of(c));
     if left.is_some() {
-        text.push(c)?;
+        text.extend_from_slice(c.encode_utf8(&mut [0; 4]).as_bytes())?;
     }
     Ok(left)
 }
 
 fn push_visible(
-    text: &mut String,
+    text: &mut Vec<u8>,
     room: Option<usize>,
     c: char,
 ) -> Result<Option<usize>, OutOfMemory>
     ensures { IfOk result (λ after.
-        (string_bytes text.new, after)
-        ≡ with_cut (string_bytes text.old, room) (visible_text c)) }
+        (text.new.items, after)
+        ≡ with_cut (text.old.items, room) (visible_text c)) }
 {
     match visible(c) {
         (Some(escape), letter) => {
@@ -128,21 +128,21 @@ fn push_visible(
 
 /// Appends characters of one column each, as far as they fit into the room of their line. Answers the room behind them.
 pub(crate) fn push_plain(
-    text: &mut String,
+    text: &mut Vec<u8>,
     room: Option<usize>,
-    plain: &str,
+    plain: &[u8],
 ) -> Result<Option<usize>, OutOfMemory>
     requires { list_all is_plain plain.now ≡ true }
     ensures { IfOk result (λ after.
-        (string_bytes text.new, after) ≡ with_cut (string_bytes text.old, room) plain.now) }
+        (text.new.items, after) ≡ with_cut (text.old.items, room) plain.now) }
 {
     match room {
         Some(room) if plain.len() <= room => {
-            text.push_str(plain)?;
+            text.extend_from_slice(plain)?;
             Ok(Some(room - plain.len()))
         }
         Some(room) => {
-            text.push_str(&plain[..room])?;
+            text.extend_from_slice(&plain[..room])?;
             Ok(None)
         }
         None => Ok(None),
@@ -151,16 +151,16 @@ pub(crate) fn push_plain(
 
 /// Appends the characters by which a text is shown, as far as they fit into the room of their line. Answers the room behind them.
 pub(crate) fn push_shown(
-    text: &mut String,
+    text: &mut Vec<u8>,
     room: Option<usize>,
     shown: &str,
 ) -> Result<Option<usize>, OutOfMemory>
     ensures { IfOk result (λ after.
-        (string_bytes text.new, after)
-        ≡ with_cut (string_bytes text.old, room) (shown_text shown.now)) }
+        (text.new.items, after)
+        ≡ with_cut (text.old.items, room) (shown_text shown.now)) }
 {
     if are_plain(shown.as_bytes()) {
-        return push_plain(text, room, shown);
+        return push_plain(text, room, shown.as_bytes());
     }
     let mut room = room;
     for c in shown.chars() {
@@ -194,14 +194,14 @@ pub(crate) fn push_whole(text: &mut String, shown: &str) -> Result<(), OutOfMemo
 
 /// Appends the character so many times, as far as there is room. Answers the room behind them.
 pub(crate) fn push_repeated(
-    text: &mut String,
+    text: &mut Vec<u8>,
     room: Option<usize>,
     c: char,
     count: usize,
 ) -> Result<Option<usize>, OutOfMemory>
     ensures { IfOk result (λ after.
-        (string_bytes text.new, after)
-        ≡ with_cut (string_bytes text.old, room) (replicate count c)) }
+        (text.new.items, after)
+        ≡ with_cut (text.old.items, room) (replicate count c)) }
 {
     let mut room = room;
     for _ in 0..count {
@@ -211,16 +211,16 @@ pub(crate) fn push_repeated(
 }
 
 // Of these the front is appended that is as long as is asked.
-const BLANKS: &str = "                                ";
+const BLANKS: [u8; 32] = [b' '; 32];
 
 /// Appends so many blanks, as far as there is room. Answers the room behind them.
 pub(crate) fn push_blanks(
-    text: &mut String,
+    text: &mut Vec<u8>,
     room: Option<usize>,
     count: usize,
 ) -> Result<Option<usize>, OutOfMemory>
     ensures { IfOk result (λ after.
-        (string_bytes text.new, after) ≡ with_cut (string_bytes text.old, room) (blanks count)) }
+        (text.new.items, after) ≡ with_cut (text.old.items, room) (blanks count)) }
 {
     if count <= BLANKS.len() {
         push_plain(text, room, &BLANKS[..count])

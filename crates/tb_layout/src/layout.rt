@@ -1,5 +1,5 @@
 //! The text of a table.
-ghost use Rattle.std.specs.Prelude.{◌≡◌, ◌++◌, IfOk, OnOk, encode_utf8_all, string_bytes};
+ghost use Rattle.std.specs.Prelude.{◌≡◌, ◌++◌, IfOk, OnOk, encode_utf8_all};
 ghost use Rattle.tb_frame.specs.Promise.Table.{names_of, table_of};
 ghost use Rattle.tb_layout.specs.Laid.{ended, head_text};
 ghost use Rattle.tb_layout.specs.Promise.Lines.{layout, note};
@@ -17,12 +17,12 @@ use tb_text::Text;
 use tb_value::OutOfMemory;
 
 // The lines of the names and of the dashes.
-fn head_text(alloc: Global, grid: &Grid<'_>) -> Result<String, OutOfMemory>
-    ensures { IfOk result (λ s.
-        string_bytes s
+fn head_text(alloc: Global, grid: &Grid<'_>) -> Result<Vec<u8>, OutOfMemory>
+    ensures { IfOk result (λ v.
+        v.items
         ≡ encode_utf8_all (head_text grid.now.line (table_of grid.now.columns.now))) }
 {
-    let mut text = String::new(alloc);
+    let mut text = Vec::new(alloc);
     push_names_line(&mut text, grid)?;
     push_dashes_line(&mut text, grid)?;
     Ok(text)
@@ -79,7 +79,9 @@ pub fn layout_of_table(
 {
     let columns = table.get_columns();
     let grid = shown_grid(rt, alloc, columns, width)?;
-    let mut text = Text::from_string(alloc, head_text(alloc, &grid)?)?;
+    let mut text = Text::new(alloc);
+    let head = head_text(alloc, &grid)?;
+    text.push(head)?;
     push_rows(rt, alloc, &mut text, &grid, table.height())?;
     let cut = cut_columns(&grid);
     push_note(alloc, &mut text, "cut", cut)?;

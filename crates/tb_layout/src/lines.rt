@@ -1,5 +1,5 @@
 //! The lines of a table.
-ghost use Rattle.std.specs.Prelude.{◌≡◌, ◌<◌, ◌≤◌, ◌++◌, ◌∷◌, [], OnOk, drop, encode_utf8_all, length, string_bytes, take};
+ghost use Rattle.std.specs.Prelude.{◌≡◌, ◌<◌, ◌≤◌, ◌++◌, ◌∷◌, [], OnOk, drop, encode_utf8_all, length, take};
 ghost use Rattle.std.specs.List.{All};
 ghost use Rattle.tb_chunk.specs.Promise.Col.{Col, values};
 ghost use Rattle.tb_frame.specs.Promise.Table.{table_of};
@@ -7,29 +7,30 @@ ghost use Rattle.tb_layout.specs.Laid.{ended_line, row_bytes};
 ghost use Rattle.tb_layout.specs.Promise.Characters.{cut, trimmed_text};
 ghost use Rattle.tb_layout.specs.Promise.Lines.{cell_in, dashes_in, name_in, side_by_side};
 
-use crate::cells::{Digits, cell_text, is_number, push_cell};
+use crate::cells::push_cell;
 use crate::characters::{blanks_at_end, push_blanks, push_repeated};
 use crate::grid::Grid;
+use crate::piece_columns::PieceColumn;
 use tb_value::OutOfMemory;
 
 // Ends the line that begins at this place: takes the blanks at its end, and appends a line feed.
-fn end_line(text: &mut String, start: usize) -> Result<(), OutOfMemory>
-    requires { start ≤ length (string_bytes text.old) }
+fn end_line(text: &mut Vec<u8>, start: usize) -> Result<(), OutOfMemory>
+    requires { start ≤ length text.old.items }
     ensures { OnOk result
-        (string_bytes text.new
-        ≡ take start (string_bytes text.old)
-        ++ (trimmed_text (drop start (string_bytes text.old)) ++ 10 ∷ [])) }
+        (text.new.items
+        ≡ take start text.old.items
+        ++ (trimmed_text (drop start text.old.items) ++ 10 ∷ [])) }
 {
-    let blanks = blanks_at_end(&text.as_bytes()[start..]);
+    let blanks = blanks_at_end(&text[start..]);
     text.truncate(text.len() - blanks);
-    text.push('\n')?;
+    text.push(b'\n')?;
     Ok(())
 }
 
-fn push_names(text: &mut String, grid: &Grid<'_>) -> Result<(), OutOfMemory>
+fn push_names(text: &mut Vec<u8>, grid: &Grid<'_>) -> Result<(), OutOfMemory>
     ensures { OnOk result
-        (string_bytes text.new
-        ≡ string_bytes text.old
+        (text.new.items
+        ≡ text.old.items
         ++ encode_utf8_all (cut grid.now.line
         (side_by_side (name_in grid.now.line) (table_of grid.now.columns.now)))) }
 {
@@ -41,10 +42,10 @@ fn push_names(text: &mut String, grid: &Grid<'_>) -> Result<(), OutOfMemory>
     Ok(())
 }
 
-fn push_dashes(text: &mut String, grid: &Grid<'_>) -> Result<(), OutOfMemory>
+fn push_dashes(text: &mut Vec<u8>, grid: &Grid<'_>) -> Result<(), OutOfMemory>
     ensures { OnOk result
-        (string_bytes text.new
-        ≡ string_bytes text.old
+        (text.new.items
+        ≡ text.old.items
         ++ encode_utf8_all (cut grid.now.line
         (side_by_side (dashes_in grid.now.line) (table_of grid.now.columns.now)))) }
 {
@@ -56,30 +57,32 @@ fn push_dashes(text: &mut String, grid: &Grid<'_>) -> Result<(), OutOfMemory>
     Ok(())
 }
 
-fn push_cells(text: &mut String, grid: &Grid<'_>, row: usize) -> Result<(), OutOfMemory>
-    requires { All (λ (c : Col). row < length (values c)) grid.now.columns.now }
+fn push_cells(
+    text: &mut Vec<u8>,
+    grid: &Grid<'_>,
+    columns: &[PieceColumn<'_>],
+    row: usize,
+) -> Result<(), OutOfMemory>
+    requires columns { columns.now ≡ grid.now.columns.now }
+    requires row { All (λ (c : Col). row < length (values c)) columns.now }
     ensures { OnOk result
-        (string_bytes text.new
-        ≡ string_bytes text.old
+        (text.new.items
+        ≡ text.old.items
         ++ encode_utf8_all (cut grid.now.line
-        (side_by_side (cell_in grid.now.line row) (table_of grid.now.columns.now)))) }
+        (side_by_side (cell_in grid.now.line row) (table_of columns.now)))) }
 {
-    let mut digits = Digits::new();
     let mut room = Some(grid.line);
-    for k in 0..grid.columns.len() {
-        let column = &grid.columns[k];
-        let value = column.get(row);
-        let cell = cell_text(&mut digits, column.dtype(), value);
-        room = push_cell(text, room, cell, is_number(value), grid.widths[k])?;
+    for k in 0..columns.len() {
+        room = columns[k].push_cell(text, room, grid.widths[k], row)?;
     }
     Ok(())
 }
 
 /// Appends the line of the names, each in its column.
-pub(crate) fn push_names_line(text: &mut String, grid: &Grid<'_>) -> Result<(), OutOfMemory>
+pub(crate) fn push_names_line(text: &mut Vec<u8>, grid: &Grid<'_>) -> Result<(), OutOfMemory>
     ensures { OnOk result
-        (string_bytes text.new
-        ≡ string_bytes text.old
+        (text.new.items
+        ≡ text.old.items
         ++ encode_utf8_all (ended_line grid.now.line
         (side_by_side (name_in grid.now.line) (table_of grid.now.columns.now)))) }
 {
@@ -89,10 +92,10 @@ pub(crate) fn push_names_line(text: &mut String, grid: &Grid<'_>) -> Result<(), 
 }
 
 /// Appends the line of dashes, one for each character that the widest of a column's lines takes.
-pub(crate) fn push_dashes_line(text: &mut String, grid: &Grid<'_>) -> Result<(), OutOfMemory>
+pub(crate) fn push_dashes_line(text: &mut Vec<u8>, grid: &Grid<'_>) -> Result<(), OutOfMemory>
     ensures { OnOk result
-        (string_bytes text.new
-        ≡ string_bytes text.old
+        (text.new.items
+        ≡ text.old.items
         ++ encode_utf8_all (ended_line grid.now.line
         (side_by_side (dashes_in grid.now.line) (table_of grid.now.columns.now)))) }
 {
@@ -101,19 +104,20 @@ pub(crate) fn push_dashes_line(text: &mut String, grid: &Grid<'_>) -> Result<(),
     end_line(text, start)
 }
 
-/// Appends the line of a row, its values each in its column.
+/// Appends the line of a row, the values of the grid's columns each in its column.
 pub(crate) fn push_row_line(
-    text: &mut String,
+    text: &mut Vec<u8>,
     grid: &Grid<'_>,
+    columns: &[PieceColumn<'_>],
     row: usize,
 ) -> Result<(), OutOfMemory>
-    requires { All (λ (c : Col). row < length (values c)) grid.now.columns.now }
+    requires columns { columns.now ≡ grid.now.columns.now }
+    requires row { All (λ (c : Col). row < length (values c)) columns.now }
     ensures { OnOk result
-        (string_bytes text.new
-        ≡ string_bytes text.old
-        ++ row_bytes grid.now.line (table_of grid.now.columns.now) row) }
+        (text.new.items
+        ≡ text.old.items ++ row_bytes grid.now.line (table_of columns.now) row) }
 {
     let start = text.len();
-    push_cells(text, grid, row)?;
+    push_cells(text, grid, columns, row)?;
     end_line(text, start)
 }

@@ -5,14 +5,14 @@ ghost use Rattle.tb_chunk.specs.Promise.Col.{values};
 ghost use Rattle.tb_frame.specs.Promise.Table.{plain_column};
 ghost use Rattle.tb_layout.specs.Promise.Lines.{column_width};
 ghost use Rattle.tb_layout.specs.Widths.{piece_width};
-ghost use Rattle.tb_layout.specs.declared.pieces.TheConstants.{ROWS_OF_A_PIECE};
+ghost use Rattle.tb_pieces.specs.declared.pieces.TheConstants.{ROWS_OF_A_PIECE};
 
-use crate::cells::{Digits, cell_text};
 use crate::characters::width_within;
-use crate::pieces::{ROWS_OF_A_PIECE, rows_of_piece};
+use crate::piece_columns::PieceColumn;
 use rayon::prelude::*;
 use std::alloc::Global;
 use std::thread::Threads;
+use tb_pieces::{ROWS_OF_A_PIECE, rows_of_piece};
 use tb_store::Column;
 use tb_value::OutOfMemory;
 
@@ -22,13 +22,7 @@ fn piece_width(column: &Column, line: usize, piece: usize) -> usize
     ensures { result ≡ piece_width line (plain_column column.now) piece }
 {
     let (start, end) = rows_of_piece(column.len(), piece);
-    let mut digits = Digits::new();
-    let mut widest = 0;
-    for row in start..end {
-        let cell = cell_text(&mut digits, column.dtype(), column.get(row));
-        widest = widest.max(width_within(line, cell));
-    }
-    widest
+    PieceColumn::new(column, start).widest_cell(line, start, end)
 }
 
 // The width of the widest cell of each piece.

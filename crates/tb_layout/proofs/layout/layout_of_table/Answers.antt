@@ -1,4 +1,4 @@
-use Rattle.std.proofs.Common.{◌≡◌, ◌++◌, ◌∙◌, List, ap, codes, encode_utf8_all, flat_map, length, take}
+use Rattle.std.proofs.Common.{◌≡◌, ◌++◌, ◌∙◌, List, ℕ, ap, codes, encode_utf8_all, flat_map, length, take}
 use Rattle.tb_value.specs.Promise.Pairs.{row_numbers}
 use Rattle.tb_chunk.specs.Promise.Col.{Col}
 use Rattle.tb_frame.specs.Promise.Table.{Table, names_of, table_of}
@@ -29,8 +29,8 @@ returns g c =
     let cut = c.cut_columns-cut.ensures ∙ (λ i. cut_columns (line i) (columns i)) ∙ cut_shown width t in
     let high = c.height.ensures.height in
     let said = λ (old what : List _) (u : Table). old ++ encode_utf8_all (ended (note what (names_of u))) in
-    written_whole width t c.in_ok-text.text c.push_rows.new.text c.push_note.new.text c.push_note-2.new.text
-    (c.in_ok-text.ensures ∙ c.in_ok-head_text.ensures ∙ (λ i. encode_utf8_all (head_text (line i) (columns i))))
-    (c.in_ok-push_rows.ensures ∙ (λ i. c.in_ok-text.text ++ flat_map (row_bytes (line i) (columns i)) (row_numbers (high i))))
+    written_whole width t c.push.new.self c.push_rows.new.text c.push_note.new.text c.push_note-2.new.text
+    (c.in_ok-push.ensures.grown ∙ ap (λ (s : List ℕ). s ++ c.in_ok-head.head.items) c.new-text.ensures ∙ c.in_ok-head.ensures ∙ (λ i. encode_utf8_all (head_text (line i) (columns i))))
+    (c.in_ok-push_rows.ensures ∙ (λ i. c.push.new.self ++ flat_map (row_bytes (line i) (columns i)) (row_numbers (high i))))
     (c.in_ok-push_note.ensures ∙ ap (said c.push_rows.new.text (codes "cut")) cut)
     (c.in_ok-push_note-2.ensures ∙ ap (said c.push_note.new.text (codes "left out")) others)

@@ -1,4 +1,4 @@
-use Rattle.std.proofs.Common.{◌≡◌, List, OnOk, ℕ, arith, length, string_bytes, subst}
+use Rattle.std.proofs.Common.{◌≡◌, List, OnOk, ℕ, arith, length, subst}
 use Rattle.tb_frame.specs.Promise.Table.{table_of}
 use Rattle.tb_layout.specs.Promise.Lines.{name_in, side_by_side}
 use Rattle.tb_layout.proofs.Trimmed.{line_end}
@@ -7,7 +7,7 @@ use Rattle.tb_layout.proofs.lines.push_names_line.Goals as goal
 pub returns : goal.returns
 returns c =
     let g = c.args.grid.now in
-    let begins : c.len-start.result ≡ length (string_bytes c.args.text.now) = omega arith in
-    subst (λ (s : List ℕ). OnOk c.end_line.result (string_bytes c.end_line.new.text ≡ s))
-    (line_end g.line c.len-start.result (side_by_side (name_in g.line) (table_of g.columns.now)) (string_bytes c.args.text.now) (string_bytes c.push_names.new.text) c.in_ok-push_names.ensures begins)
+    let begins : c.len-start.result ≡ length c.args.text.now.items = omega arith in
+    subst (λ (s : List ℕ). OnOk c.end_line.result (c.end_line.new.text.items ≡ s))
+    (line_end g.line c.len-start.result (side_by_side (name_in g.line) (table_of g.columns.now)) c.args.text.now.items c.push_names.new.text.items c.in_ok-push_names.ensures begins)
     c.end_line.ensures

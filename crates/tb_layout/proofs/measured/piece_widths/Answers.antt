@@ -9,7 +9,7 @@ use Rattle.rayon.specs.Numbers.{nat_range}
 use Rattle.rayon.proofs.ToStd.{nat_range-All}
 use Rattle.tb_store.proofs.Crossing.{Column-sync}
 use Rattle.tb_layout.specs.Widths.{piece_width}
-use Rattle.tb_layout.specs.declared.pieces.TheConstants.{ROWS_OF_A_PIECE}
+use Rattle.tb_pieces.specs.declared.pieces.TheConstants.{ROWS_OF_A_PIECE}
 use Rattle.tb_layout.proofs.measured.piece_widths.Goals as goal
 
 pub map-requires-send-F : goal.map-requires-send-F

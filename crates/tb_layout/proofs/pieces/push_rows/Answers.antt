@@ -1,16 +1,7 @@
-use Rattle.std.proofs.Common.{◌≡◌, ◌+◌, ◌/◌, ◌++◌, ◌∙◌, ℕ, Vec, Global, List, subst}
-use Rattle.std.specs.Prelude.{OnOk}
-use Rattle.tb_value.specs.Promise.Pairs.{row_numbers}
-use Rattle.tb_frame.specs.Promise.Table.{table_of}
-use Rattle.tb_layout.specs.Laid.{piece_bytes, row_bytes}
-use Rattle.tb_layout.specs.declared.pieces.TheConstants.{ROWS_OF_A_PIECE}
-use Rattle.tb_layout.proofs.RowPieces.{all_pieces, in_pieces}
+use denote.Param.Send.{sendable}
+use Rattle.std.proofs.Crossing.{crosses}
+use Rattle.tb_store.proofs.Crossing.{Column-sync}
 use Rattle.tb_layout.proofs.pieces.push_rows.Goals as goal
 
-pub returns : goal.returns
-returns g c =
-    let row = row_bytes c.args.grid.now.line (table_of c.args.grid.now.columns.now) in
-    let high = c.args.height in
-    let rows = in_pieces (λ (p : Vec ℕ Global). p.items) (piece_bytes row high) (row_numbers (high / ROWS_OF_A_PIECE + 1)) c.in_ok-pieces.pieces.items c.in_ok-pieces.ensures
-    ∙ all_pieces row high in
-    subst (λ (s : List ℕ). OnOk c.push_pieces.result (c.push_pieces.new.text ≡ c.args.text.now ++ s)) rows c.push_pieces.ensures
+pub push_row_pieces-requires-sync-F : goal.push_row_pieces-requires-sync-F
+push_row_pieces-requires-sync-F g c κs within = search (Column-sync, crosses, sendable) depth 60 fits 20000
