@@ -11,6 +11,7 @@ pub mod laws;
 mod names;
 mod order;
 mod places;
+mod row_values;
 
 pub use both::group_both;
 pub use grouping::{group_listed, group_rows};

@@ -24,23 +24,23 @@ each_more test n old new at now put long is each j under =
     (cases_lt j at)
 
 pub loop-place-preserved : goal.loop-place-preserved
-loop-place-preserved c =
-    let cs = c.args.columns.now in
+loop-place-preserved g c =
+    let cs = g.V.RowValues.columns c.args.rows.now in
     let name = name_of c.args.names in
     let at = c.loop-place.place in
     let low : at < c.args.len = omega arith in
     let code : ℕ → ℕ = named_code cs name in
-    let is : c.code_at-code.result ≡ code at = c.code_at-code.ensures ∙ ap (λ (i : ℕ). row_code (fields_at cs i)) c.name.ensures in
-    let now = c.in_ok-place_of.ensures.value ∙ ap (λ o. unwrap_or o at) (c.loop-place.invariant.kept c.code_at-code.result ∙ ap (first_with code at) is) ∙ first_leads code c.args.len at low in
+    let is : c.code-code.result ≡ code at = c.code-code.ensures ∙ ap (λ (i : ℕ). row_code (fields_at cs i)) c.name.ensures in
+    let now = c.in_ok-place_of.ensures.value ∙ ap (λ o. unwrap_or o at) (c.loop-place.invariant.kept c.code-code.result ∙ ap (first_with code at) is) ∙ first_leads code c.args.len at low in
     record {
       recent = c.in_ok-place_of.ensures.recent;
-      kept = kept_more code at c.code_at-code.result (λ q. get nat_cmp c.loop-place.places.kept q) (λ q. get nat_cmp c.place_of.new.self.kept q) is c.loop-place.invariant.kept c.in_ok-place_of.ensures.kept;
+      kept = kept_more code at c.code-code.result (λ q. get nat_cmp c.loop-place.places.kept q) (λ q. get nat_cmp c.place_of.new.self.kept q) is c.loop-place.invariant.kept c.in_ok-place_of.ensures.kept;
       count = ap length c.in_ok-push.ensures.items ∙ length-append c.loop-place.leaders.items (c.in_ok-place_of.field-0 ∷ []) ∙ omega (arith, c.loop-place.invariant.count);
       each = each_more (same_code cs name) c.args.len c.loop-place.leaders.items c.push.new.self.items at c.in_ok-place_of.field-0 c.in_ok-push.ensures.items c.loop-place.invariant.count now c.loop-place.invariant.each;
     }
 
 pub returns : goal.returns
-returns c =
+returns g c =
     let done : c.loop-place.place ≡ c.args.len = omega arith in
     record {
       count = c.loop-place.invariant.count ∙ done;
