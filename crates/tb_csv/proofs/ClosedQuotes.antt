@@ -11,7 +11,8 @@ use Rattle.csv.specs.declared.parser.State.TheVariants as st
 use Rattle.tb_csv.specs.Promise.LineNumbers.{has_open_quote, is_open, state_behind}
 use Rattle.tb_csv.specs.Promise.Records.{Field, Record}
 use Rattle.tb_csv.specs.Promise.Texts.{field_text, line_text, record_text, records_text}
-use Rattle.tb_csv.proofs.LinesBack.{Begins, Shows, begins, end_byte, end_state, or_parts, plain_byte, split_line}
+use Rattle.tb_csv.proofs.LinesBack.{Begins, Shows, begins, end_byte, end_state, plain_byte, split_line}
+use Rattle.tb_csv.proofs.Truth.{or_parts}
 
 -- one more byte
 more : (s t : State) (c : ℕ) (rest : List ℕ) → (step default_config s c).0 ≡ t → state_behind default_config s (c ∷ rest) ≡ state_behind default_config t rest

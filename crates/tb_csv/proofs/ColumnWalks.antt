@@ -43,7 +43,7 @@ part_at p i low =
     let at : 0 + i ≡ i = omega arith in get_or-map-range_with_len (field_in p.width p.column p.run.now.fields) 0 p.run.now.height i i None low at
 
 -- where fields stand row by row
-pub text_at : (p : RunColumn) (t : TextFields) (i : ℕ) → p.run.now.fields ≡ held.Texts t → i < p.run.now.height
+pub text_at : (p : RunColumn) (t : TextFields) (i : ℕ) → p.run.now.fields ≡ held.Rows t → i < p.run.now.height
     → get_or (text_fields t) (i * p.width + p.column) None ≡ get_or (part_fields p) i None
 text_at p t i is low = sym (part_at p i low ∙ ap (λ (fs : RunFields). field_in p.width p.column fs i) is)
 

@@ -15,6 +15,7 @@ use Rattle.tb_csv.specs.Read.{all_fields}
 use Rattle.tb_csv.specs.Promise.LineNumbers.{has_open_quote, is_open, state_behind}
 use Rattle.tb_csv.specs.Promise.Records.{Line, Record, ends_field, field, form, is_quoted, lines_of, marked_fields, marked_records, marks_from, marks_of, records_of}
 use Rattle.tb_csv.proofs.MarksFit.{Fits, fits, inside, marks_count, stripped_length}
+use Rattle.tb_csv.proofs.Truth.{not_true}
 
 -- WHERE A STEP LEADS
 
@@ -239,10 +240,6 @@ marked_cut qs rs (l ∷ ls) ms h =
     let low : length l ≤ length qs = omega (arith, size) in
     rw (fields_by qs rs l low, enough qs rs (length l) low)
     (ap (λ (k : List Record). marked_fields qs l ∷ k) (marked_cut (drop (length l) qs) rs ls ms (dropped qs (length l) (length (all_fields ls)) size)))
-
-not_true : (b : Bool) → (b ≡ true → ⊥) → b ≡ false
-not_true true h = absurd (h refl)
-not_true false h = refl
 
 pub no_separator : (separator : ℕ) → separator ≢ line_feed → (10 == separator) ≡ false
 no_separator separator other = not_true (10 == separator) (λ e. other (sym (eqb-true 10 separator e)))

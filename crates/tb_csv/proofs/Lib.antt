@@ -1,3 +1,4 @@
+pub mod Truth
 pub mod Causes
 pub mod FieldWalks
 pub mod Left
@@ -14,6 +15,9 @@ pub mod CutText
 pub mod PlainBytes
 pub mod PlainWalks
 pub mod PlainLanes
+pub mod HeldColumns
+pub mod JoinedColumns
+pub mod JoinedRuns
 pub mod InPieces
 pub mod RunWalks
 pub mod TextWalks
@@ -28,7 +32,6 @@ pub mod CellsBack
 pub mod Spelled
 pub mod DigitWalks
 pub mod NumberWalks
-pub mod HeldColumns
 pub mod BareRows
 pub mod TableBack
 pub mod StackedRows

@@ -12,6 +12,7 @@ use Rattle.csv.specs.declared.parser.State.{State}
 use Rattle.csv.specs.declared.parser.State.TheVariants as st
 use Rattle.tb_csv.specs.Promise.Records.{Field, Line, Record, bytes_of, field, line_of, marked_fields, marked_records, marks_from}
 use Rattle.tb_csv.specs.Promise.Texts.{field_text, line_text, record_text, records_text}
+use Rattle.tb_csv.proofs.Truth.{not_true, or_parts}
 
 -- a record whose line has a byte
 abbrev pub Shows : Record → Type 0
@@ -21,14 +22,6 @@ Shows (Some s ∷ []) = Unit {0}
 Shows (f ∷ g ∷ fs) = Unit {0}
 
 -- THE START OF A RECORD
-
-pub or_parts : (a b : Bool) → (a || b) ≡ false → (a ≡ false) × (b ≡ false)
-or_parts true b h = cc h
-or_parts false b h = (refl, h)
-
-not_true : (x : Bool) → (x ≡ true → ⊥) → x ≡ false
-not_true true n = absurd (n refl)
-not_true false n = refl
 
 -- a byte that calls for no quotes is no mark of the format
 pub plain_byte : (b : ℕ) → needs_byte default_writer b ≡ false → ((b == 44) ≡ false) × ((b == 34) ≡ false) × ((b == 13) ≡ false) × ((b == 10) ≡ false)

@@ -11,7 +11,7 @@ use Rattle.csv.specs.Writing.{needs_byte}
 use Rattle.tb_label.specs.Promise.Numerals.{is_digit}
 use Rattle.tb_csv.specs.Promise.Texts.{field_text, style}
 use Rattle.tb_csv.specs.Texts.{stands_in_numbers}
-use Rattle.tb_csv.proofs.LinesBack.{or_parts}
+use Rattle.tb_csv.proofs.Truth.{or_parts}
 
 digit_true : (c : ℕ) → 48 ≤ c → c ≤ 57 → is_digit c ≡ true
 digit_true c low high = grind (arith, nat_tests)

@@ -12,6 +12,7 @@ use Rattle.tb_csv.specs.LinesIn.{lines_in}
 use Rattle.tb_csv.specs.Places.{has_quote}
 use Rattle.tb_csv.specs.Plain.{is_field_end, is_line_end, plain_lines}
 use Rattle.tb_csv.specs.Promise.Records.{Line, form}
+use Rattle.tb_csv.proofs.Truth.{not_true, or_parts}
 
 -- the lines behind a step
 abbrev lines_behind : Config → State × Action → Line → List ℕ → ℕ → List ℕ → List Line
@@ -38,7 +39,7 @@ chosen_twice false true p q = refl
 chosen_twice false false p q = refl
 
 -- a line feed behind a carriage return is skipped like any other line end
-pub after_return : (separator : ℕ) (xs : List ℕ) → lines_in (form separator) st.AfterCr [] [] xs ≡ plain_lines separator xs
+after_return : (separator : ℕ) (xs : List ℕ) → lines_in (form separator) st.AfterCr [] [] xs ≡ plain_lines separator xs
 unfolding lines_in
 after_return separator [] = refl
 after_return separator (c ∷ rest) =
@@ -54,10 +55,6 @@ pub row_begins : (separator c : ℕ) (rest : List ℕ) → is_line_end c ≡ fal
 row_begins separator c rest is bare = same_step (form separator) st.StartRecord st.InField [] [] c rest (rw (is, bare) refl)
 
 -- IN A ROW
-
-pub or_parts : (a b : Bool) → (a || b) ≡ false → (a ≡ false) × (b ≡ false)
-or_parts true b h = cc h
-or_parts false b h = (refl, h)
 
 -- a byte of a field
 pub byte_joins : (separator : ℕ) (fields : Line) (field : List ℕ) (c : ℕ) (rest : List ℕ) → is_field_end separator c ≡ false
@@ -103,10 +100,6 @@ unfolding lines_in
 no_lines separator = refl
 
 -- BYTES OF A TEXT
-
-pub not_true : (b : Bool) → (b ≡ true → ⊥) → b ≡ false
-not_true true h = absurd (h refl)
-not_true false h = refl
 
 pub no_quote_at : (xs : List ℕ) (i : ℕ) → i < length xs → has_quote xs ≡ false → (get_or xs i 0 == 34) ≡ false
 no_quote_at xs i low none = not_true (get_or xs i 0 == 34) (λ is. let found = list_any_at (λ b. b == 34) xs i 0 low is in cc)

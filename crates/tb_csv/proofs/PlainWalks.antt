@@ -16,7 +16,8 @@ use Rattle.tb_csv.specs.Read.{all_fields}
 use Rattle.tb_csv.specs.Spans.{LiesIn, bytes_at}
 use Rattle.tb_csv.specs.declared.spans.PlainRows.{PlainRows}
 use Rattle.tb_csv.specs.declared.spans.Span.{Span}
-use Rattle.tb_csv.proofs.PlainBytes.{byte_joins, field_ends, line_end_skipped, no_lines, no_quote_at, no_quote_behind, not_true, row_begins, row_ends, text_ends}
+use Rattle.tb_csv.proofs.PlainBytes.{byte_joins, field_ends, line_end_skipped, no_lines, no_quote_at, no_quote_behind, row_begins, row_ends, text_ends}
+use Rattle.tb_csv.proofs.Truth.{not_true}
 
 -- RUNS OF BYTES
 
@@ -80,7 +81,7 @@ pub record IsRowTo (separator : ℕ) (text : List ℕ) (start place count : ℕ)
   pub onward : start ≤ place
   pub within : place ≤ length text
 
-pub no_field : (separator : ℕ) (text : List ℕ) (start : ℕ) (known : List Span) → start ≤ length text → All (LiesIn text) known → IsRowTo separator text start start 0 known known
+no_field : (separator : ℕ) (text : List ℕ) (start : ℕ) (known : List Span) → start ≤ length text → All (LiesIn text) known → IsRowTo separator text start start 0 known known
 no_field separator text start known within lie = record {
   line = [];
   lines = refl;

@@ -26,7 +26,7 @@ lines_read separator text = lines_back (marks_of separator text) (lines_of separ
 -- rows in one run, with the marks behind those of the names
 pub by_marks : (r : Records) (run : Run) (t : TextFields) (l : Lines) (ms qs : List Bool) (ls : List Line) → MarkAlike ms qs → AreLines l ls
     → r.names.items ≡ l.names.items → r.runs.items ≡ run ∷ [] → r.height ≡ l.height
-    → run.fields ≡ held.Texts t → t.fields ≡ l.fields → t.marks.items ≡ drop (length l.names.items) ms → run.height ≡ l.height → IsRead r (marked_records qs ls)
+    → run.fields ≡ held.Rows t → t.fields ≡ l.fields → t.marks.items ≡ drop (length l.names.items) ms → run.height ≡ l.height → IsRead r (marked_records qs ls)
 by_marks r run t l ms qs [] alike h names runs height texts fields marks rows = absurd h
 by_marks r run t l ms qs (first ∷ ls) alike h names runs height texts fields marks rows =
     let count : length l.names.items ≡ length first = ap length h.0 in

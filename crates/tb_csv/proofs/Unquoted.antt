@@ -13,6 +13,7 @@ use Rattle.csv.specs.declared.parser.State.TheVariants as st
 use Rattle.tb_csv.specs.Places.{MarkAlike, has_mark, has_quote}
 use Rattle.tb_csv.specs.Promise.LineNumbers.{has_open_quote, is_open, state_behind}
 use Rattle.tb_csv.specs.Promise.Records.{Line, ends_field, form, is_quoted, marked_fields, marks_from, marks_of}
+use Rattle.tb_csv.proofs.Truth.{or_parts}
 
 -- states outside quotes
 abbrev outside : State → Bool
@@ -58,10 +59,6 @@ AreBare (q ∷ qs) = (q ≡ false) × AreBare qs
 bare_after : (e : Bool) (q : Bool) (qs : List Bool) → q ≡ false → AreBare qs → AreBare (if e then q ∷ qs else qs)
 bare_after true q qs is bare = (is, bare)
 bare_after false q qs is bare = bare
-
-or_parts : (a b : Bool) → (a || b) ≡ false → (a ≡ false) × (b ≡ false)
-or_parts true b h = cc h
-or_parts false b h = (refl, h)
 
 bare_marks : (separator : ℕ) (s : State) (xs : List ℕ) → outside s ≡ true → list_any (λ y. y == 34) xs ≡ false → AreBare (marks_from (form separator) s xs)
 unfolding marks_from

@@ -1,7 +1,8 @@
 -- What was read of a text.
-use Rattle.std.specs.Prelude.{◌≡◌, ◌≤◌, ◌<◌, ◌+◌, ◌*◌, ℕ, Bool, List, [], ◌∷◌, false, length, map, replicate, slice_index_or, sum_by, Option, None, option_map}
+use Rattle.std.specs.Prelude.{◌≡◌, ◌≢◌, ◌≤◌, ◌<◌, ◌+◌, ◌*◌, ◌++◌, ℕ, Bool, List, [], ◌∷◌, false, length, map, replicate, slice_index_or, sum_by, Option, None, option_map}
 use Rattle.std.specs.Borrow.{Bor}
 use Rattle.std.specs.List.{All, AllZip, flat_map}
+use Rattle.csv.specs.Machine.{line_feed}
 use Rattle.csv.specs.Records.{fields_of}
 use Rattle.tb_value.specs.declared.limits.TheConstants.{MAX_ROWS}
 use Rattle.std.specs.Result.{IfOk}
@@ -21,6 +22,7 @@ use Rattle.tb_csv.specs.Promise.Records.{Field, Line, Record, bytes_of, column_f
 use Rattle.tb_csv.specs.declared.lines.Lines.{Lines}
 use Rattle.tb_csv.specs.declared.records.Records.{Records}
 use Rattle.tb_csv.specs.Numbers.{number_fields}
+use Rattle.tb_csv.specs.Places.{IsFromLineEnd}
 use Rattle.tb_csv.specs.declared.run.Run.{Run}
 use Rattle.tb_csv.specs.declared.field_column.FieldColumn.{FieldColumn}
 use Rattle.tb_csv.specs.declared.field_column.FieldColumn.TheVariants as stored
@@ -63,7 +65,7 @@ is_text_field f = is_utf8 (bytes_of f)
 
 -- the field of this column in a row of so many fields
 abbrev pub field_in : ℕ → ℕ → RunFields → ℕ → Field
-field_in width column (held.Texts t) row =
+field_in width column (held.Rows t) row =
     slice_index_or (text_fields t) (row * width + column) None
 field_in width column (held.Columns cs) row =
     slice_index_or (slice_index_or (map held_fields cs.items) column []) row None
@@ -83,6 +85,13 @@ pub record AreRunRows (width : ℕ) (run : Run) (rows : List Record) : Type 0 wh
   pub height : run.height ≡ length rows
   pub level : All (λ (row : Record). length row ≡ width) rows
 
+-- the columns of two runs, each of the second behind its own of the first
+pub record AreAppended (first second both : List FieldColumn) : Type 0 where
+  pub fields : (column : ℕ) → slice_index_or (map held_fields both) column []
+      ≡ slice_index_or (map held_fields first) column []
+      ++ slice_index_or (map held_fields second) column []
+  pub count : length both ≡ length first
+
 -- the rows, run by run, each with as many fields as there are names
 pub record AreRows (r : Records) (rows : List Record) : Type 0 where
   pub runs : (parts : List (List Record)) × (rows ≡ all_fields parts)
@@ -97,12 +106,12 @@ IsRead r (names ∷ rows) = (r.names.items ≡ line_of names) × AreRows r rows
 
 -- how many fields stand in one list: all of them, or those of a column
 abbrev pub counts : RunFields → List ℕ
-counts (held.Texts t) = length (fields_of t.fields) ∷ []
+counts (held.Rows t) = length (fields_of t.fields) ∷ []
 counts (held.Columns cs) = map (λ c. length (held_fields c)) cs.items
 
 -- and how many so many rows of so many fields make
 abbrev pub full_counts : ℕ → ℕ → RunFields → List ℕ
-full_counts width height (held.Texts t) = height * width ∷ []
+full_counts width height (held.Rows t) = height * width ∷ []
 full_counts width height (held.Columns cs) = replicate width height
 
 -- as many fields as so many rows make
@@ -122,6 +131,12 @@ pub record AreSameFields (width height : ℕ) (fields same : RunFields) : Type 0
 -- the rows of some runs
 abbrev pub rows_in : List Run → ℕ
 rows_in runs = sum_by (λ (run : Run). run.height) runs
+
+-- runs that have these rows, one behind another
+pub record HaveRows (width : ℕ) (runs : List Run) (rows : List Record) : Type 0 where
+  pub parts : (parts : List (List Record)) × (rows ≡ all_fields parts)
+      × AllZip (AreRunRows width) runs parts
+  pub full : All (IsFull width) runs
 
 -- as many fields as the rows and the names make, and no more rows than a table may have
 pub record IsLevel (r : Records) : Type 0 where
@@ -150,3 +165,14 @@ pub record IsRunOf (separator : ℕ) (width : ℕ) (piece : List ℕ) (run : Run
   pub sound : rows_fault width 1 (lines_of separator piece) ≡ None
   pub rows : AreRunRows width run (records_of separator piece)
   pub full : IsFull width run
+
+-- runs of the rows of a piece of a text, in which no fault is found and no quote stays open
+pub record AreRunsOf (separator : ℕ) (width : ℕ) (piece : List ℕ) (runs : List Run) : Type 0 where
+  pub shut : has_open_quote separator piece ≡ false
+  pub sound : rows_fault width 1 (lines_of separator piece) ≡ None
+  pub rows : HaveRows width runs (records_of separator piece)
+
+-- the same, where the piece begins at the end of a line
+abbrev pub AreRunsFrom : ℕ → ℕ → List ℕ → List Run → Type 0
+AreRunsFrom separator width piece runs =
+    separator ≢ line_feed → IsFromLineEnd piece → AreRunsOf separator width piece runs

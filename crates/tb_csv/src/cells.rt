@@ -17,7 +17,7 @@ ghost use Rattle.tb_csv.specs.Read.{held_fields, lent_field};
 ghost use Rattle.tb_csv.specs.Promise.Types.{cell_of, cell_value, is_of, kind_at};
 
 use crate::fault::CsvFault;
-use crate::field_column::{FieldColumn, bare_field, column_at};
+use crate::field_column::{FieldColumn, bare_field, column_at, column_text};
 use crate::field_type::FieldType;
 use crate::fields::ReadField;
 use crate::lent::{Fields, RunColumn};
@@ -93,7 +93,7 @@ fn cell_at<N: ReadField>(field_type: FieldType, part: RunColumn, row: usize) -> 
     ensures typed { IfSome result (λ c. HasType (kind_at field_type) (or_null N.shows c)) }
 {
     match &part.run.fields {
-        RunFields::Texts(texts) => cell_in(field_type, texts.get(part.width, part.column, row)),
+        RunFields::Rows(texts) => cell_in(field_type, texts.get(part.width, part.column, row)),
         RunFields::Columns(columns) => column_cell(
             field_type,
             column_at(columns, part.column),
@@ -112,33 +112,13 @@ fn is_short(field: Option<&str>) -> bool
     }
 }
 
-fn number_text(digits: &mut Buffer, number: Option<i64>) -> Option<&str>
-    ensures { lent_field result ≡ number_field (or_null int number) }
-{
-    match number {
-        Some(number) => Some(digits.format(number)),
-        None => None,
-    }
-}
-
-// The field of a row of a column, which may stand in the room that is given.
-fn column_text<'a>(digits: &'a mut Buffer, column: &'a FieldColumn, row: usize) -> Option<&'a str>
-    requires { row < length (held_fields column.now) }
-    ensures { lent_field result ≡ slice_index_or (held_fields column.now) row None }
-{
-    match column {
-        FieldColumn::Numbers(numbers) => number_text(digits, numbers.get(row)),
-        FieldColumn::Texts(texts) => bare_field(texts, row),
-    }
-}
-
-// The same of a run.
+// The field of a row of a run, which may stand in the room that is given.
 fn text_at<'a>(digits: &'a mut Buffer, part: RunColumn<'a>, row: usize) -> Option<&'a str>
     requires { row < part.run.now.height }
     ensures { lent_field result ≡ slice_index_or (part_fields part.entry) row None }
 {
     match &part.run.fields {
-        RunFields::Texts(texts) => texts.get(part.width, part.column, row),
+        RunFields::Rows(texts) => texts.get(part.width, part.column, row),
         RunFields::Columns(columns) => column_text(digits, column_at(columns, part.column), row),
     }
 }

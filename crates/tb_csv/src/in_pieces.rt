@@ -1,22 +1,23 @@
 //! The records of a text, of which each piece is read by a thread of its own.
 ghost use Rattle.std.specs.Prelude.{◌≡◌, ◌≢◌, ◌<◌, ◌≤◌, List, [], ◌∷◌, None, IfOk, OnOk};
-ghost use Rattle.std.specs.List.{AllZip};
+ghost use Rattle.std.specs.List.{AllZip, flat_map};
 ghost use Rattle.csv.specs.Machine.{line_feed};
 ghost use Rattle.tb_value.specs.declared.limits.TheConstants.{MAX_ROWS};
 ghost use Rattle.tb_csv.specs.Promise.Faults.{text_fault};
-ghost use Rattle.tb_csv.specs.Read.{IsLevel, IsRead, IsRunOf, rows_in};
+ghost use Rattle.tb_csv.specs.Read.{AreRunsFrom, IsLevel, IsRead, rows_in};
 ghost use Rattle.tb_csv.specs.Promise.Records.{Record, line_of, records_of};
 
 use crate::cuts::{cut, pieces_of};
 use crate::fault::CsvFault;
 use crate::lines::check_height;
 use crate::records::Records;
-use crate::run::{Run, run_of};
+use crate::run::Run;
+use crate::runs::runs_of;
 use crate::whole::records_of_whole;
 use rayon::prelude::*;
 use std::alloc::Global;
 use std::thread::Threads;
-use tb_value::PlSmallStr;
+use tb_value::{OutOfMemory, PlSmallStr};
 
 // The names that the line before the rows has, or a fault where it is no record of names.
 fn names_of(alloc: Global, line: &[u8], separator: u8) -> Result<Vec<PlSmallStr>, CsvFault>
@@ -33,25 +34,37 @@ fn names_of(alloc: Global, line: &[u8], separator: u8) -> Result<Vec<PlSmallStr>
 }
 
 // The rows of each piece, side by side.
-fn runs_of(
+fn runs_of_each(
     rt: &(impl Threads + Sync),
     alloc: Global,
     pieces: &[&[u8]],
     separator: u8,
     width: usize,
-) -> Result<Vec<Run>, CsvFault>
+) -> Result<Vec<Vec<Run>>, CsvFault>
     ensures { IfOk result (λ v.
-        AllZip (λ p r. IsRunOf separator width p.now r) pieces.now v.items) }
+        AllZip (λ p r. AreRunsFrom separator width p.now r.items) pieces.now v.items) }
 {
     pieces
         .par_iter()
         .with_min_len(1)
         .map(
-            |piece: &&[u8]| -> Result<Run, CsvFault>
-                ensures { IfOk result (λ r. IsRunOf separator width piece.now.now r) }
-            { run_of(alloc, piece, separator, width) },
+            |piece: &&[u8]| -> Result<Vec<Run>, CsvFault>
+                ensures { IfOk result (λ r.
+                    AreRunsFrom separator width piece.now.now r.items) }
+            { runs_of(alloc, piece, separator, width) },
         )
         .collect(rt, alloc)?
+}
+
+// The runs of all pieces, one behind another.
+fn in_one_list(alloc: Global, parts: Vec<Vec<Run>>) -> Result<Vec<Run>, OutOfMemory>
+    ensures { IfOk result (λ v. v.items ≡ flat_map (λ p. p.items) parts.items) }
+{
+    let mut runs = Vec::new(alloc);
+    for mut part in parts {
+        runs.append(&mut part)?;
+    }
+    Ok(runs)
 }
 
 // How many rows there are.
@@ -84,7 +97,8 @@ pub(crate) fn records_of_pieces(
     let (line, rows) = cut(text, 0);
     let names = names_of(alloc, line, separator)?;
     let pieces = pieces_of(alloc, rows, least)?;
-    let runs = runs_of(rt, alloc, &pieces, separator, names.len())?;
+    let runs = runs_of_each(rt, alloc, &pieces, separator, names.len())?;
+    let runs = in_one_list(alloc, runs)?;
     let height = height_of(&runs)?;
     Ok(Records {
         names,

@@ -28,6 +28,7 @@ mod reading;
 mod records;
 mod rows;
 mod run;
+mod runs;
 mod spans;
 mod table;
 mod text;

@@ -79,6 +79,27 @@ impl Numbers {
         Ok(())
     }
 
+    /// How many rows there are.
+    pub(crate) fn len(&self) -> usize
+        ensures { result ≡ length (numbers_in self.now) }
+    {
+        match self {
+            Numbers::Narrow(cells) => cells.len(),
+            Numbers::Wide(cells) => cells.len(),
+        }
+    }
+
+    /// Appends the numbers of another column.
+    pub(crate) fn append(&mut self, alloc: Global, other: &Numbers) -> Result<(), OutOfMemory>
+        ensures { OnOk result
+            (numbers_in self.new ≡ numbers_in self.old ++ numbers_in other.now) }
+    {
+        for row in 0..other.len() {
+            self.push(alloc, other.get(row))?;
+        }
+        Ok(())
+    }
+
     /// The number of this row.
     pub(crate) fn get(&self, row: usize) -> Option<i64>
         requires { row < length (numbers_in self.now) }

@@ -1,5 +1,5 @@
 //! The records of texts.
-ghost use Rattle.std.specs.Prelude.{IfOk};
+ghost use Rattle.std.specs.Prelude.{◌<◌, IfOk};
 ghost use Rattle.std.specs.Thread.{IsSync};
 ghost use Rattle.tb_csv.specs.Promise.Faults.{text_fault};
 ghost use Rattle.tb_csv.specs.Faults.{Settles};
@@ -10,11 +10,20 @@ use crate::fault::CsvFault;
 use crate::in_pieces::records_of_pieces;
 use crate::records::Records;
 use crate::whole::records_of_whole;
+use rayon::current_num_threads;
 use std::alloc::Global;
 use std::thread::{Threads, join};
 
 // Pieces of fewer bytes are read in less time than a thread takes to start.
 const BYTES_OF_A_PIECE: usize = 262_144;
+
+// How many bytes a piece has at least, where each thread that reads has one: two threads for each processor.
+fn bytes_of_a_piece(rt: &impl Threads, len: usize) -> usize
+    ensures { 0 < result }
+{
+    let pieces = current_num_threads(rt).saturating_mul(2);
+    (len / pieces).max(BYTES_OF_A_PIECE)
+}
 
 /// The records of a text of comma-separated values, as RFC 4180 has them. The first record has the names of the columns,
 /// and each other one the fields of a row. A byte-order mark before them is passed over, records end at a line feed, a
@@ -37,7 +46,8 @@ pub fn records_of_csv(
     if separator == b'\n' || text.len() < 2 * BYTES_OF_A_PIECE {
         return records_of_whole(alloc, text, separator);
     }
-    match records_of_pieces(rt, alloc, text, separator, BYTES_OF_A_PIECE) {
+    let least = bytes_of_a_piece(rt, text.len());
+    match records_of_pieces(rt, alloc, text, separator, least) {
         Ok(records) => Ok(records),
         Err(CsvFault::OutOfMemory) => Err(CsvFault::OutOfMemory),
         // One pass tells which fault is the first, and reads what can't be cut.

@@ -16,8 +16,13 @@ use csv::{ByteRecord, StringRecord};
 use std::alloc::Global;
 use tb_value::OutOfMemory;
 
-// Columns of fewer rows take more room than fields that stand row by row.
-const ROWS_OF_A_COLUMN: usize = 64;
+/// Columns of fewer bytes take more room than fields that stand row by row.
+pub(crate) const BYTES_OF_A_COLUMN: usize = 64;
+
+// Whether the rows of a piece are put into so many columns. No contract rests on it.
+fn has_columns(piece: &[u8], width: usize) -> bool {
+    piece.len() / BYTES_OF_A_COLUMN >= width
+}
 
 /// Fields that stand row by row.
 #[derive(Drop)]
@@ -32,7 +37,7 @@ pub(crate) struct TextFields {
 #[derive(Drop)]
 pub(crate) enum RunFields {
     /// Row by row.
-    Texts(TextFields),
+    Rows(TextFields),
     /// Column by column.
     Columns(Vec<FieldColumn>),
 }
@@ -45,22 +50,23 @@ pub(crate) struct Run {
     pub(crate) height: usize,
 }
 
-// The fields of rows, column by column where they are many and can stand so.
+// The fields of the rows of a piece, column by column where they can stand so.
 fn in_columns(
     alloc: Global,
+    piece: &[u8],
     texts: TextFields,
     width: usize,
     height: usize,
 ) -> Result<RunFields, OutOfMemory>
     requires full { length (fields_of texts.fields) ≡ height * width }
-    ensures { IfOk result (AreSameFields width height (held.Texts texts)) }
+    ensures { IfOk result (AreSameFields width height (held.Rows texts)) }
 {
-    if height < ROWS_OF_A_COLUMN {
-        return Ok(RunFields::Texts(texts));
+    if !has_columns(piece, width) {
+        return Ok(RunFields::Rows(texts));
     }
     match field_columns(alloc, &texts, width, height)? {
         Some(columns) => Ok(RunFields::Columns(columns)),
-        None => Ok(RunFields::Texts(texts)),
+        None => Ok(RunFields::Rows(texts)),
     }
 }
 
@@ -77,12 +83,12 @@ fn marked_run(alloc: Global, piece: &[u8], separator: u8, width: usize) -> Resul
     let mut fields = room_for_fields(alloc, piece, separator)?;
     let height = read_rows(&mut reader, &mut row, &mut fields, width, piece.len() + 1)?;
     let marks = marks.marks;
-    let fields = in_columns(alloc, TextFields { fields, marks }, width, height)?;
+    let fields = in_columns(alloc, piece, TextFields { fields, marks }, width, height)?;
     Ok(Run { fields, height })
 }
 
-// The same of a piece without a quote, whose rows are many. None where it is another, or some field isn't UTF-8, or a row has more
-// fields or fewer.
+// The same of a piece without a quote that is put into columns. None where it is another, or some field isn't UTF-8, or a row has
+// more fields or fewer.
 fn bare_run(
     alloc: Global,
     piece: &[u8],
@@ -91,7 +97,7 @@ fn bare_run(
 ) -> Result<Option<Run>, OutOfMemory>
     ensures { IfOk result (λ o. IfSome o (λ r. IsRunOf separator width piece.now r)) }
 {
-    if piece.len() / ROWS_OF_A_COLUMN < width || has_quote(piece) {
+    if !has_columns(piece, width) || has_quote(piece) {
         return Ok(None);
     }
     let Some(rows) = plain_rows(alloc, behind_mark(piece), separator, width)? else {

@@ -42,7 +42,7 @@ fn marked_lines(alloc: Global, lines: Lines, marks: &[bool]) -> Result<Records, 
     } = lines;
     let marks = marks_behind(alloc, marks, names.len())?;
     let mut runs = Vec::with_capacity(alloc, 1)?;
-    let fields = RunFields::Texts(TextFields { fields, marks });
+    let fields = RunFields::Rows(TextFields { fields, marks });
     runs.push(Run { fields, height })?;
     Ok(Records {
         names,

@@ -10,9 +10,9 @@ column_at-requires g c = rw c.deref.ensures.value (held_column c.args.part c.in-
 pub column_cell-requires-clause-row : goal.column_cell-requires-clause-row
 column_cell-requires-clause-row g c = rw (c.column_at.ensures, c.deref.ensures.value) (held_row c.args.part c.in-Columns.columns c.args.row c.in-Columns.is c.requires.row)
 
-pub returns-in-Texts-clause-value : goal.returns-in-Texts-clause-value
-returns-in-Texts-clause-value g c =
-    c.cell_in.ensures.value ∙ ap (cell_value c.args.field_type) (c.get.ensures ∙ text_at c.args.part c.in-Texts.texts c.args.row c.in-Texts.is c.requires.row)
+pub returns-in-Rows-clause-value : goal.returns-in-Rows-clause-value
+returns-in-Rows-clause-value g c =
+    c.cell_in.ensures.value ∙ ap (cell_value c.args.field_type) (c.get.ensures ∙ text_at c.args.part c.in-Rows.texts c.args.row c.in-Rows.is c.requires.row)
 
 pub returns-in-Columns-clause-value : goal.returns-in-Columns-clause-value
 returns-in-Columns-clause-value g c =

@@ -9,8 +9,8 @@ column_at-requires c = rw c.deref.ensures.value (held_column c.args.part c.in-Co
 pub column_text-requires : goal.column_text-requires
 column_text-requires c = rw (c.column_at.ensures, c.deref.ensures.value) (held_row c.args.part c.in-Columns.columns c.args.row c.in-Columns.is c.requires)
 
-pub returns-in-Texts : goal.returns-in-Texts
-returns-in-Texts c = search (rules, text_at)
+pub returns-in-Rows : goal.returns-in-Rows
+returns-in-Rows c = search (rules, text_at)
 
 pub returns-in-Columns : goal.returns-in-Columns
 returns-in-Columns c =

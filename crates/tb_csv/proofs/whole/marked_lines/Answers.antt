@@ -9,7 +9,7 @@ pub returns-clause-read : goal.returns-clause-read
 returns-clause-read c qs ls alike are =
     let lines = c.args.lines in
     let texts : TextFields = record { fields = lines.fields; marks = c.in_ok-marks.marks } in
-    let run : Run = record { fields = held.Texts texts; height = lines.height } in
+    let run : Run = record { fields = held.Rows texts; height = lines.height } in
     let one : c.push.new.self.items ≡ run ∷ [] = rw (c.in_ok-push.ensures.items, c.in_ok-runs.ensures.items) refl in
     let width : c.len.result ≡ length lines.names.items = omega (arith, c.len.ensures, lines.names.ok.0) in
     by_marks _ run texts lines c.args.marks.now qs ls alike are refl one refl refl refl (c.in_ok-marks.ensures ∙ ap (λ n. drop n c.args.marks.now) width) refl
