@@ -23,7 +23,7 @@ pub mod RunWalks
 pub mod TextWalks
 pub mod ColumnWalks
 pub mod NumberTexts
-pub mod PieceWalks
+pub mod Days
 pub mod ReadColumns
 pub mod LinesBack
 pub mod ClosedQuotes

@@ -1,7 +1,6 @@
 pub mod Types
 pub mod Faults
 pub mod Texts
-pub mod PieceColumns
 pub mod Left
 pub mod Numbers
 pub mod Read

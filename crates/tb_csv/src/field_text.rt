@@ -92,7 +92,7 @@ fn push_number(
 }
 
 /// Appends the field of a value of a column, of days or not, in a record of so many fields.
-#[tactic(auto, using(crate::proofs::PieceWalks::day_of))]
+#[tactic(auto, using(crate::proofs::Days::day_of))]
 pub(crate) fn push_value(
     text: &mut Vec<u8>,
     separator: u8,

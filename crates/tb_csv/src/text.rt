@@ -13,11 +13,12 @@ ghost use Rattle.tb_csv.specs.Texts.{gap, row_text};
 use crate::fault::CsvFault;
 use crate::field_text::push_field;
 use crate::field_type::FieldType;
-use crate::piece_columns::PieceColumn;
 use crate::pieces::push_rows;
+use crate::row_field::push_row_field;
 use std::alloc::Global;
 use std::thread::Threads;
 use tb_frame::DataFrame;
+use tb_pieces::{PieceColumn, piece_columns};
 use tb_store::Column;
 use tb_text::Text;
 use tb_value::OutOfMemory;
@@ -71,7 +72,7 @@ fn push_row(
 {
     for place in 0..columns.len() {
         push_gap(text, separator, place)?;
-        columns[place].push_field(text, separator, columns.len(), index)?;
+        push_row_field(text, separator, columns.len(), &columns[place], index)?;
     }
     Ok(text.push(b'\n')?)
 }
@@ -98,21 +99,6 @@ fn names_text(alloc: Global, separator: u8, columns: &[Column]) -> Result<Vec<u8
     let mut text = Vec::new(alloc);
     push_names(&mut text, separator, columns)?;
     Ok(text)
-}
-
-// The columns, for the rows from one on.
-fn piece_columns(
-    alloc: Global,
-    columns: &[Column],
-    row: usize,
-) -> Result<Vec<PieceColumn<'_>>, OutOfMemory>
-    ensures { IfOk result (λ v. v.items ≡ columns.now) }
-{
-    let mut lent = Vec::with_capacity(alloc, columns.len())?;
-    for column in columns {
-        lent.push(PieceColumn::new(column, row))?;
-    }
-    Ok(lent)
 }
 
 // Room for the text of so many rows, if their fields aren't long. No contract rests on it.

@@ -2,7 +2,6 @@ pub mod Days
 pub mod Laid
 pub mod Noted
 pub mod Numbers
-pub mod PieceWalks
 pub mod Plain
 pub mod Room
 pub mod Sides

@@ -1,9 +1,9 @@
 -- Widths that are measured in pieces.
-use Rattle.std.proofs.Common.{◌≡◌, ◌≤◌, ◌<◌, ◌+◌, ◌*◌, ◌-◌, ◌/◌, ◌∙◌, ◌∷◌, ◌++◌, [], ℕ, zero, suc, List, drop, get_or, length, map, max, min, refl, sym, ap, arith, take}
-use Rattle.std.specs.List.{fold}
-use Rattle.std.proofs.lemmas.List.{drop-drop, drop_more, map-append, take_all}
+use Rattle.std.proofs.Common.{◌≡◌, ◌≤◌, ◌+◌, ◌*◌, ◌/◌, ◌∙◌, ◌∷◌, ◌++◌, [], ℕ, zero, suc, List, drop, length, map, max, min, refl, sym, ap, arith, take}
+use Rattle.std.specs.List.{FoldsTo, fold}
+use Rattle.std.proofs.lemmas.List.{map-append, take_all}
 use Rattle.std.proofs.lemmas.List.Sums.{fold-append}
-use Rattle.tb_value.specs.Promise.Datum.{Datum, null}
+use Rattle.tb_value.specs.Promise.Datum.{Datum}
 use Rattle.tb_value.specs.Promise.Kind.{Kind}
 use Rattle.tb_value.specs.Promise.Pairs.{row_numbers}
 use Rattle.tb_value.proofs.RowNumbers.{row_numbers_more}
@@ -29,21 +29,17 @@ module _ (line : ℕ) (k : Kind) where
   widest_behind : (w : ℕ) (vs us : List Datum) → max (min line (fold (wider k) w vs)) (widest_cell line k us) ≡ min line (fold (wider k) w (vs ++ us))
   widest_behind w vs us = omega (arith, fold-append (wider k) w vs us, fold_wider k (fold (wider k) w vs) us)
 
-  -- the cell of one more row
-  pub widest_more : (vs : List Datum) (start i : ℕ) (v : Datum) (w new : ℕ) → start ≤ i → i < length vs → v ≡ get_or vs i null
-      → w ≡ widest_cell line k (take (i - start) (drop start vs)) → new ≡ max w (min line (width_of (cell_of k v))) → new ≡ widest_cell line k (take (i + 1 - start) (drop start vs))
-  widest_more vs start i v w new low within is so_far more =
-      let at : start + (i - start) ≡ i = omega (arith, low) in
-      let next : (i - start) + 1 ≡ i + 1 - start = omega (arith, low) in
-      let rest = drop start vs in
+  -- the widest of cells that are measured one after the other
+  pub widest_read : {S : Type 0} (width : S → ℕ) (vs : List Datum) (before after : S)
+      → FoldsTo (λ s v t. width t ≡ max (width s) (min line (width_of (cell_of k v)))) before vs after → width after ≡ max (width before) (widest_cell line k vs)
+  widest_read width [] before after done =
+      let same : width before ≡ width after = ap width done in
+      omega (arith, same)
+  widest_read width (v ∷ vs) before after (next, one, others) =
+      let there = widest_read width vs next after others in
       let wide = width_of (cell_of k v) in
-      let last : take 1 (drop (i - start) rest) ≡ v ∷ [] = ap (take 1) (drop-drop (i - start) start vs ∙ ap (λ n. drop n vs) at ∙ drop_more vs i null within) ∙ ap (λ u. u ∷ []) (sym is) in
-      let alone : max w (min line wide) ≡ max w (widest_cell line k (v ∷ [])) = omega arith in
-      more ∙ alone ∙ ap (λ n. max n (widest_cell line k (v ∷ []))) so_far
-      ∙ widest_behind 0 (take (i - start) rest) (v ∷ [])
-      ∙ ap (λ us. widest_cell line k (take (i - start) rest ++ us)) (sym last)
-      ∙ ap (widest_cell line k) (sym (front_more (i - start) 1 rest))
-      ∙ ap (λ n. widest_cell line k (take n rest)) next
+      let all = fold_wider k (max 0 wide) vs in
+      omega (arith, one, there, all)
 
   module _ (name : ℕ) (vs : List Datum) where
     abbrev piece : ℕ → ℕ

@@ -2,7 +2,6 @@ pub mod Cells
 pub mod Laid
 pub mod Laws
 pub mod Notes
-pub mod PieceColumns
 pub mod Promise
 pub mod Room
 pub mod Widths

@@ -6,14 +6,13 @@
 
 mod cells;
 mod characters;
-mod each;
+mod column_cells;
 mod grid;
 pub mod laws;
 mod layout;
 mod lines;
 mod measured;
 mod notes;
-mod piece_columns;
 mod pieces;
 
 pub use layout::layout_of_table;

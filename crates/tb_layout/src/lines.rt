@@ -9,8 +9,9 @@ ghost use Rattle.tb_layout.specs.Promise.Lines.{cell_in, dashes_in, name_in, sid
 
 use crate::cells::push_cell;
 use crate::characters::{blanks_at_end, push_blanks, push_repeated};
+use crate::column_cells::push_row_cell;
 use crate::grid::Grid;
-use crate::piece_columns::PieceColumn;
+use tb_pieces::PieceColumn;
 use tb_value::OutOfMemory;
 
 // Ends the line that begins at this place: takes the blanks at its end, and appends a line feed.
@@ -73,7 +74,7 @@ fn push_cells(
 {
     let mut room = Some(grid.line);
     for k in 0..columns.len() {
-        room = columns[k].push_cell(text, room, grid.widths[k], row)?;
+        room = push_row_cell(text, room, &columns[k], grid.widths[k], row)?;
     }
     Ok(())
 }

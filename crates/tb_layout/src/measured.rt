@@ -8,11 +8,11 @@ ghost use Rattle.tb_layout.specs.Widths.{piece_width};
 ghost use Rattle.tb_pieces.specs.declared.pieces.TheConstants.{ROWS_OF_A_PIECE};
 
 use crate::characters::width_within;
-use crate::piece_columns::PieceColumn;
+use crate::column_cells::widest_cell;
 use rayon::prelude::*;
 use std::alloc::Global;
 use std::thread::Threads;
-use tb_pieces::{ROWS_OF_A_PIECE, rows_of_piece};
+use tb_pieces::{PieceColumn, ROWS_OF_A_PIECE, rows_of_piece};
 use tb_store::Column;
 use tb_value::OutOfMemory;
 
@@ -22,7 +22,7 @@ fn piece_width(column: &Column, line: usize, piece: usize) -> usize
     ensures { result ≡ piece_width line (plain_column column.now) piece }
 {
     let (start, end) = rows_of_piece(column.len(), piece);
-    PieceColumn::new(column, start).widest_cell(line, start, end)
+    widest_cell(&PieceColumn::new(column, start), line, start, end)
 }
 
 // The width of the widest cell of each piece.

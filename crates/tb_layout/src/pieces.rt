@@ -9,28 +9,11 @@ ghost use Rattle.tb_layout.specs.Laid.{row_bytes};
 
 use crate::grid::Grid;
 use crate::lines::push_row_line;
-use crate::piece_columns::PieceColumn;
 use std::alloc::Global;
 use std::thread::Threads;
-use tb_pieces::push_row_pieces;
-use tb_store::Column;
+use tb_pieces::{piece_columns, push_row_pieces};
 use tb_text::Text;
 use tb_value::OutOfMemory;
-
-// The columns, for the rows from one on.
-fn piece_columns<'a>(
-    alloc: Global,
-    columns: &'a [Column],
-    row: usize,
-) -> Result<Vec<PieceColumn<'a>>, OutOfMemory>
-    ensures { IfOk result (λ v. v.items ≡ columns.now) }
-{
-    let mut lent = Vec::with_capacity(alloc, columns.len())?;
-    for column in columns {
-        lent.push(PieceColumn::new(column, row))?;
-    }
-    Ok(lent)
-}
 
 // The lines of the rows from one number up to another.
 fn rows_text(

@@ -1,1 +1,2 @@
+pub mod PieceWalks
 pub mod RowPieces
