@@ -105,7 +105,8 @@ impl FieldColumn {
 
     /// Appends the fields of another column. They stay numbers where both are.
     pub(crate) fn append(&mut self, alloc: Global, other: &FieldColumn) -> Result<(), OutOfMemory>
-        ensures { OnOk result (held_fields self.new ≡ held_fields self.old ++ held_fields other.now) }
+        ensures { OnOk result
+            (held_fields self.new ≡ held_fields self.old ++ held_fields other.now) }
     {
         match self {
             FieldColumn::Numbers(numbers) => match other {
