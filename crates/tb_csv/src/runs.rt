@@ -6,22 +6,27 @@ ghost use Rattle.tb_csv.specs.Read.{AreAppended, AreRunsFrom, HaveRows};
 use crate::cuts::cut;
 use crate::fault::CsvFault;
 use crate::field_column::FieldColumn;
+use crate::marks::has_quote;
 use crate::run::{BYTES_OF_A_COLUMN, Run, RunFields, run_of};
 use std::alloc::Global;
 use tb_value::OutOfMemory;
 
-// A part of so many bytes is read at once, and of more where it has many columns.
+// A part of so many bytes is read at once, and of more where it has many columns, or quotes, in which no part may end.
 const LEAST_OF_A_PART: usize = 65_536;
 
 const MOST_OF_A_PART: usize = 262_144;
 
-// How many bytes a part has at least, of rows of so many fields.
-fn bytes_of_a_part(width: usize) -> usize
+// How many bytes a part of a piece has at least, of rows of so many fields.
+fn bytes_of_a_part(piece: &[u8], width: usize) -> usize
     ensures { 0 < result }
 {
-    width
-        .saturating_mul(BYTES_OF_A_COLUMN)
-        .clamp(LEAST_OF_A_PART, MOST_OF_A_PART)
+    if has_quote(piece) {
+        MOST_OF_A_PART
+    } else {
+        width
+            .saturating_mul(BYTES_OF_A_COLUMN)
+            .clamp(LEAST_OF_A_PART, MOST_OF_A_PART)
+    }
 }
 
 // Appends to each column the one of the same place.
@@ -90,7 +95,7 @@ pub(crate) fn runs_of(
 ) -> Result<Vec<Run>, CsvFault>
     ensures { IfOk result (λ v. AreRunsFrom separator width piece.now v.items) }
 {
-    let least = bytes_of_a_part(width);
+    let least = bytes_of_a_part(piece, width);
     let mut runs = Vec::new(alloc);
     let mut rest = piece;
     while !rest.is_empty() {
