@@ -478,7 +478,7 @@ fn with_command<'a>(
 
 fn named_program<'a>(alloc: Global) -> Result<Command<'a>, AllocError> {
     Command::new(alloc, "muigratu")
-        .version("0.3.0")
+        .version("0.4.0")
         .propagate_version(true)
         .about("Joins and reshapes tables of comma-separated values")
         .subcommand_required(true)
