@@ -5,9 +5,10 @@
     names = [{"id": 10, "name": "Ada"}, {"id": 20, "name": "Grace"}]
     print(muigratu.join(orders, names, left_on="customer", right_on="id", how="left"))
 
-Tables are lists of dicts, dicts of lists, and frames of pandas or polars; an answer has the form of the (left) table that it is made of. The program
-`tb_app` does the work: its place is given by `program`, by the environment variable MUIGRATU (the file, or a folder with it), or by the path. Where
-the variable MUIGRATU_LIBRARY names the C library, or it lies in this folder, it does the joins and what is done to one table, without a process.
+Tables are lists of dicts, dicts of lists, and frames of pandas or polars; an answer has the form of the (left) table that it is made of. The JSON
+program does the work: its place is given by `program`, by the environment variable MUIGRATU (the file, or a folder with it), by this folder, or by
+the path. Where the variable MUIGRATU_LIBRARY names the C library, or it lies in this folder, it does the joins and what is done to one table, without
+a process.
 """
 from . import errors
 from .errors import CannotCross, MuigratuError, Refused

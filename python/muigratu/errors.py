@@ -13,7 +13,7 @@ class CannotCross(MuigratuError, TypeError):
 
 
 class ProgramNotFound(MuigratuError, FileNotFoundError):
-    """No program `tb_app` is where it was looked for."""
+    """No JSON program is where it was looked for."""
 
 
 class ProgramFailed(MuigratuError, RuntimeError):
@@ -226,7 +226,7 @@ class BadRequest(MuigratuError, ValueError):
 
     def __init__(self, reason: str, place: Optional[str] = None, expected: Optional[str] = None) -> None:
         self.reason, self.place, self.expected = reason, place, expected
-        at = f" at {place}" if place else " (where, the program `muigratu` tells, which isn't beside `tb_app`)"
+        at = f" at {place}" if place else " (where, the program `muigratu` tells, which isn't beside the JSON program)"
         super().__init__(f"{reason}{at}" + (f": expected {expected}" if expected else ""))
 
     def __reduce__(self) -> tuple[Any, ...]:

@@ -183,7 +183,7 @@ def join(
     maintain_order: None, "none", "left", "right", "left_right" or "right_left". A left, semi or anti join comes in the order of the left rows and
         a right join in that of the right rows where none is asked; others may come in any order.
     slice: (offset, length), the rows of the answer that are kept, from the end where the offset is negative.
-    program: where `tb_app` is; see `find_program`.
+    program: where the JSON program is; see `find_program`.
 
     Raises a `Refused` where there is no answer, and another `MuigratuError` where it couldn't be had.
     """

@@ -52,7 +52,7 @@ def find_library() -> Optional[pathlib.Path]:
 
 
 class Library(Program):
-    """The library for joins and one table reshaped, and the program `tb_app` for what else is asked."""
+    """The library for joins and one table reshaped, and the JSON program for what else is asked."""
 
     def __init__(self, place: Place, program: Optional[Place] = None) -> None:
         self.place = pathlib.Path(place)

@@ -13,6 +13,8 @@ from . import errors
 
 LIMIT = 67_108_864
 VARIABLE = "MUIGRATU"
+# the JSON program as it is installed, and as `rt ci` builds it
+NAMES = ("muigratu_json", "tb_app")
 BUILT = pathlib.Path("crates", "tb_app", "out", "tb_app")
 
 Place = Union[str, "os.PathLike[str]"]
@@ -23,22 +25,33 @@ def _is_program(path: pathlib.Path) -> bool:
 
 
 def find_program(given: Optional[Place] = None) -> pathlib.Path:
-    """Where the program `tb_app` is: what is given, else what the variable MUIGRATU names, else the first on the path.
+    """Where the JSON program is: what is given, else what the variable MUIGRATU names, else the one beside this package's modules, else the
+    first `muigratu_json` or `tb_app` on the path.
 
     What is named is the file, or a folder with it: the folder that it lies in, or that of the repository.
     """
     named = given if given is not None else os.environ.get(VARIABLE) or None
     if named is None:
-        found = shutil.which("tb_app")
-        if found is None:
-            raise errors.ProgramNotFound(f"no tb_app on the path: build it, and name it by `program` or by the variable {VARIABLE}")
-        return pathlib.Path(found).resolve()
+        return _found_program()
     path = pathlib.Path(named).expanduser()
-    for place in [path / "tb_app", path / BUILT] if path.is_dir() else [path]:
+    for place in [*(path / name for name in NAMES), path / BUILT] if path.is_dir() else [path]:
         if _is_program(place):
             return place.resolve()
     source = "`program`" if given is not None else VARIABLE
-    raise errors.ProgramNotFound(f"{source} names {os.fspath(named)!r}, and there is no program tb_app that can be run")
+    raise errors.ProgramNotFound(f"{source} names {os.fspath(named)!r}, and there is no program {' or '.join(NAMES)} that can be run")
+
+
+def _found_program() -> pathlib.Path:
+    beside = pathlib.Path(__file__).with_name(NAMES[0])
+    if _is_program(beside):
+        return beside.resolve()
+    found = next(filter(None, map(shutil.which, NAMES)), None)
+    if found is None:
+        raise errors.ProgramNotFound(
+            f"no {' or '.join(NAMES)} on the path: `pip install ./python` in a clone of the repository brings one along; "
+            f"else name one by `program` or by the variable {VARIABLE}"
+        )
+    return pathlib.Path(found).resolve()
 
 
 def _find_teller(program: pathlib.Path) -> Optional[pathlib.Path]:
@@ -61,7 +74,7 @@ def written(request: dict[str, Any]) -> bytes:
 
 
 class Program:
-    """The program `tb_app`, one process a request."""
+    """The JSON program, one process a request."""
 
     def __init__(self, place: Optional[Place] = None) -> None:
         self.path = find_program(place)
@@ -129,13 +142,13 @@ def program_ended(status: int, command: str) -> errors.MuigratuError:
 
 
 def program_of(given: Union[None, Place, Program]) -> Program:
-    """The program that an argument names; where none does, the library if it is found."""
+    """The program that an argument names; where none does, the library if it is found, and the variable MUIGRATU doesn't stand against it alone."""
     if isinstance(given, Program):
         return given
     if given is None:
         from . import library  # which stands on this module
 
         place = library.find_library()
-        if place is not None:
+        if place is not None and (os.environ.get(library.VARIABLE) or not os.environ.get(VARIABLE)):
             return library.Library(place)
     return Program(given)

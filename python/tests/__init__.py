@@ -1,6 +1,6 @@
 """Tests of the package: `python3 -m unittest discover python`, at the top of the repository.
 
-Those that need the program `tb_app` are skipped where it is neither on the path nor named by the variable MUIGRATU; if the
+Those that need the JSON program are skipped where it is neither installed nor on the path nor named by the variable MUIGRATU; if the
 variable names what is no program, they fail.
 """
 import os
@@ -17,4 +17,4 @@ def has_program():
     return True
 
 
-needs_program = unittest.skipUnless(has_program(), "no program: name tb_app by the variable MUIGRATU, or put it on the path")
+needs_program = unittest.skipUnless(has_program(), "no program: name the JSON program by the variable MUIGRATU, or put it on the path")

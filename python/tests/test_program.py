@@ -46,6 +46,29 @@ class Finding(Scripts):
         path = self.script("exit 0", "crates/tb_app/out/tb_app")
         self.assertEqual(self.find(self.folder), path)
 
+    def test_the_name_that_it_is_installed_by_comes_first(self):
+        self.script("exit 0")
+        path = self.script("exit 0", "muigratu_json")
+        self.assertEqual(self.find(self.folder), path)
+        self.assertEqual(self.find(PATH=str(self.folder)), path)
+
+    def test_the_one_beside_the_modules_comes_before_the_path(self):
+        path = self.script("exit 0", "package/muigratu_json")
+        other = self.script("exit 0", "path/muigratu_json")
+        with mock.patch.object(program, "__file__", str(path.with_name("program.py"))):
+            self.assertEqual(self.find(PATH=str(other.parent)), path)
+            self.assertEqual(self.find(MUIGRATU=str(other)), other)
+            self.assertEqual(self.find(other), other)
+
+    def test_the_variable_alone_stands_against_the_library(self):
+        path = self.script("exit 0")
+        with mock.patch.object(muigratu.library, "find_library", return_value=self.folder), mock.patch.object(muigratu.library, "Library") as made:
+            for variables in ({}, {"MUIGRATU_LIBRARY": "a"}, {"MUIGRATU_LIBRARY": "a", "MUIGRATU": str(path)}):
+                with mock.patch.dict(os.environ, variables, clear=True):
+                    self.assertIs(program.program_of(None), made.return_value)
+            with mock.patch.dict(os.environ, {"MUIGRATU": str(path)}, clear=True):
+                self.assertEqual(program.program_of(None).path, path)
+
     def test_the_argument_comes_before_the_variable(self):
         path = self.script("exit 0", "one/tb_app")
         other = self.script("exit 0", "two/tb_app")
